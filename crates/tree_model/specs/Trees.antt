@@ -1,0 +1,75 @@
+-- Plain trees: rows with their parts in order.
+use Rattle.std.specs.Prelude.{◌≡◌, ℕ, ◌+◌, max, List, [], ◌∷◌, ◌++◌}
+use Rattle.token_model.specs.Kinds.{Tok}
+use Rattle.tree_model.specs.Rows.{Row}
+
+-- from the first byte to the byte behind the last
+pub record Place : Type 0 where
+  pub start : ℕ
+  pub end : ℕ
+
+abbrev pub place : ℕ → ℕ → Place
+place s e = record { start = s; end = e }
+
+-- what a node tells of itself: where it stands, how many nodes and missing operands it has, itself included, and how high it is
+pub record Extent : Type 0 where
+  pub span : Place
+  pub size : ℕ
+  pub height : ℕ
+
+mutual
+  -- a row with its parts
+  pub data Tree : Type 0 where
+    node : Row → Extent → Forest → Tree
+
+  -- the slot of each part in its row, and the part
+  pub data Forest : Type 0 where
+    no_parts : Forest
+    part : ℕ → Part → Forest → Forest
+
+  pub data Part : Type 0 where
+    taken : Tok → Part
+    inner : Tree → Part
+    missing : Place → Part
+
+-- the taken tokens in order
+abbrev mutual
+  pub yield_of : Tree → List Tok
+  yield_of (node r x ps) = forest_yield ps
+
+  pub forest_yield : Forest → List Tok
+  forest_yield no_parts = []
+  forest_yield (part slot p ps) = part_yield p ++ forest_yield ps
+
+  pub part_yield : Part → List Tok
+  part_yield (taken t) = t ∷ []
+  part_yield (inner t) = yield_of t
+  part_yield (missing p) = []
+
+-- how many nodes and missing operands, itself included
+abbrev mutual
+  pub size_of : Tree → ℕ
+  size_of (node r x ps) = forest_size ps + 1
+
+  pub forest_size : Forest → ℕ
+  forest_size no_parts = 0
+  forest_size (part slot p ps) = part_size p + forest_size ps
+
+  pub part_size : Part → ℕ
+  part_size (taken t) = 0
+  part_size (inner t) = size_of t
+  part_size (missing p) = 1
+
+-- each node tells its true size
+abbrev mutual
+  pub IsSized : Tree → Type 0
+  IsSized (node r x ps) = (x.size ≡ forest_size ps + 1) × AreSized ps
+
+  pub AreSized : Forest → Type 0
+  AreSized no_parts = Unit {0}
+  AreSized (part slot p ps) = IsPartSized p × AreSized ps
+
+  pub IsPartSized : Part → Type 0
+  IsPartSized (taken t) = Unit {0}
+  IsPartSized (inner t) = IsSized t
+  IsPartSized (missing p) = Unit {0}
