@@ -17,6 +17,9 @@ pub record Extent : Type 0 where
   pub size : ℕ
   pub height : ℕ
 
+abbrev pub extent : Place → ℕ → ℕ → Extent
+extent p n h = record { span = p; size = n; height = h }
+
 mutual
   -- a row with its parts
   pub data Tree : Type 0 where
