@@ -1,5 +1,5 @@
 -- Plain trees: rows with their parts in order.
-use Rattle.std.specs.Prelude.{◌≡◌, ℕ, ◌+◌, max, List, [], ◌∷◌, ◌++◌}
+use Rattle.std.specs.Prelude.{◌≡◌, ℕ, ◌+◌, ◌<◌, ◌^◌, List, [], ◌∷◌, ◌++◌}
 use Rattle.token_model.specs.Kinds.{Tok}
 use Rattle.tree_model.specs.Rows.{Row}
 
@@ -76,3 +76,8 @@ abbrev mutual
   IsPartSized (taken t) = Unit {0}
   IsPartSized (inner t) = IsSized t
   IsPartSized (missing p) = Unit {0}
+
+-- each of these items tells its true sizes, and has fewer than 2^32 nodes and missing operands
+abbrev pub AreItemsSized : List Tree → Type 0
+AreItemsSized [] = Unit {0}
+AreItemsSized (t ∷ ts) = IsSized t × (size_of t < 2 ^ 32) × AreItemsSized ts
