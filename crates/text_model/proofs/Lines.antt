@@ -26,5 +26,5 @@ length_with_ends-lines_from line (b ∷ bs) =
     let P : List (List ℕ) → Type 0 = λ ls. length_with_ends ls ≡ length line + length (b ∷ bs) + 1 in
     subst P (sym (lines_from-cons line b bs))
     (cond_both (eqb b line_feed) (line ∷ lines_from [] bs) (lines_from (line ++ b ∷ []) bs) P
-        (λ e. omega (arith, length_with_ends-lines_from [] bs))
-        (λ e. omega (arith, length_with_ends-lines_from (line ++ b ∷ []) bs, length-append line (b ∷ []))))
+    (λ e. omega (arith, length_with_ends-lines_from [] bs))
+    (λ e. omega (arith, length_with_ends-lines_from (line ++ b ∷ []) bs, length-append line (b ∷ []))))

@@ -20,13 +20,13 @@ position_in-leads (l ∷ ls) line n h =
     cond_both (leb n (length l)) (line, n) (position_in (line + 1) ls (n - (length l + 1))) (Leads (l ∷ ls) line n)
     (λ e. record { below = zero; line_is = omega arith; back = cond-true (leb n (length l)) (Some n) None e })
     (λ e.
-        let far = leb-false n (length l) e in
-        let rest = position_in-leads ls (line + 1) (n - (length l + 1)) (omega arith) in
-        record {
-            below = suc rest.below;
-            line_is = omega arith;
-            back = ap (option_map (λ k. length l + 1 + k)) rest.back ∙ ap Some (omega arith)
-        })
+    let far = leb-false n (length l) e in
+    let rest = position_in-leads ls (line + 1) (n - (length l + 1)) (omega arith) in
+    record {
+      below = suc rest.below;
+      line_is = omega arith;
+      back = ap (option_map (λ k. length l + 1 + k)) rest.back ∙ ap Some (omega arith);
+    })
 
 -- A place in lines has the position that leads to it.
 pub position_in-offset_in : (ls : List (List ℕ)) (line below col n : ℕ) → offset_in ls below col ≡ Some n → position_in line ls n ≡ (line + below, col)
@@ -37,16 +37,17 @@ position_in-offset_in (l ∷ ls) line zero col n h =
     (cond-true (leb col (length l)) (line, col) (position_in (line + 1) ls (col - (length l + 1))) c.0 ∙ ap (λ k. (k, col)) (omega arith))
 position_in-offset_in (l ∷ ls) line (suc below) col n h =
     elim (offset_in ls below col)
-    as (λ o. offset_in ls below col ≡ o → option_map (λ k. length l + 1 + k) o ≡ Some n → position_in line (l ∷ ls) n ≡ (line + suc below, col))
-    [ None ↦ (λ e g. cc)
-    | Some m ↦ (λ e g.
-        let s : length l + 1 + m ≡ n = same_Some (length l + 1 + m) n g in
-        let far : leb n (length l) ≡ false = lt-leb n (length l) (omega arith) in
-        let rest : n - (length l + 1) ≡ m = omega arith in
-        cond-false (leb n (length l)) (line, n) (position_in (line + 1) ls (n - (length l + 1))) far
-        ∙ ap (position_in (line + 1) ls) rest
-        ∙ position_in-offset_in ls (line + 1) below col m e
-        ∙ ap (λ k. (k, col)) (omega arith)) ]
+    as (λ o. offset_in ls below col ≡ o → option_map (λ k. length l + 1 + k) o ≡ Some n → position_in line (l ∷ ls) n ≡ (line + suc below, col)) [
+      | None ↦ (λ e g. cc)
+      | Some m ↦ (λ e g.
+          let s : length l + 1 + m ≡ n = same_Some (length l + 1 + m) n g in
+          let far : leb n (length l) ≡ false = lt-leb n (length l) (omega arith) in
+          let rest : n - (length l + 1) ≡ m = omega arith in
+          cond-false (leb n (length l)) (line, n) (position_in (line + 1) ls (n - (length l + 1))) far
+          ∙ ap (position_in (line + 1) ls) rest
+          ∙ position_in-offset_in ls (line + 1) below col m e
+          ∙ ap (λ k. (k, col)) (omega arith))
+    ]
     refl h
 
 -- A position in lines has a place before their last end.
@@ -58,12 +59,13 @@ offset_in-lt (l ∷ ls) zero col n h =
     omega arith
 offset_in-lt (l ∷ ls) (suc below) col n h =
     elim (offset_in ls below col)
-    as (λ o. offset_in ls below col ≡ o → option_map (λ k. length l + 1 + k) o ≡ Some n → n < length_with_ends (l ∷ ls))
-    [ None ↦ (λ e g. absurd cc)
-    | Some m ↦ (λ e g.
-        let s : length l + 1 + m ≡ n = same_Some (length l + 1 + m) n g in
-        let rest = offset_in-lt ls below col m e in
-        omega arith) ]
+    as (λ o. offset_in ls below col ≡ o → option_map (λ k. length l + 1 + k) o ≡ Some n → n < length_with_ends (l ∷ ls)) [
+      | None ↦ (λ e g. absurd cc)
+      | Some m ↦ (λ e g.
+          let s : length l + 1 + m ≡ n = same_Some (length l + 1 + m) n g in
+          let rest = offset_in-lt ls below col m e in
+          omega arith)
+    ]
     refl h
 
 -- The position of an offset has that offset.

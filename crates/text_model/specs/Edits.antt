@@ -33,10 +33,10 @@ abbrev pub is_inside_char : List ℕ → ℕ → Bool
 is_inside_char text n = nat_le 128 (slice_index text n) && nat_lt (slice_index text n) 192
 
 -- What comes of an edit between two places; a place may be missing. The first refusal that applies, in this order, is the one given.
-abbrev pub edit_between : List ℕ → Option ℕ → Option ℕ → List ℕ → Outcome
-edit_between text None end bytes = refused (bad_position false)
-edit_between text (Some start) None bytes = refused (bad_position true)
-edit_between text (Some start) (Some end) bytes =
+abbrev pub outcome_between : List ℕ → Option ℕ → Option ℕ → List ℕ → Outcome
+outcome_between text None end bytes = refused (bad_position false)
+outcome_between text (Some start) None bytes = refused (bad_position true)
+outcome_between text (Some start) (Some end) bytes =
     if nat_lt end start then refused bad_range
     else if is_inside_char text start then refused (splits_char false)
     else if is_inside_char text end then refused (splits_char true)
@@ -44,5 +44,5 @@ edit_between text (Some start) (Some end) bytes =
     else changed start (apply text start end bytes)
 
 -- what comes of an edit of a text
-unfoldable pub edit : List ℕ → Edit → Outcome
-edit text e = edit_between text (offset text e.start.0 e.start.1) (offset text e.end.0 e.end.1) e.bytes
+unfoldable pub outcome_of : List ℕ → Edit → Outcome
+outcome_of text e = outcome_between text (offset text e.start.0 e.start.1) (offset text e.end.0 e.end.1) e.bytes
