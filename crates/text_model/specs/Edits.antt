@@ -28,7 +28,7 @@ pub data Outcome : Type 0 where
 abbrev pub apply : List ℕ → ℕ → ℕ → List ℕ → List ℕ
 apply text start end bytes = take start text ++ bytes ++ drop end text
 
--- whether a place stands inside a character: the byte there is none that begins one
+-- whether a place stands inside a character: the byte there, from 128 to 191, goes on with one
 abbrev pub is_inside_char : List ℕ → ℕ → Bool
 is_inside_char text n = nat_le 128 (slice_index text n) && nat_lt (slice_index text n) 192
 

@@ -1,6 +1,6 @@
 // What an edit is, and when a text refuses it.
 ghost use Rattle.std.specs.Prelude.{◌≡◌, ◌+◌, ◌<◌, ◌≤◌, length, MatchResult, Some};
-ghost use Rattle.text_model.specs.Edits.{apply, is_inside_char, changed, outcome_between, outcome_of};
+ghost use Rattle.text_model.specs.Edits.{apply, is_inside_char, text_limit, changed, outcome_between, outcome_of};
 ghost use Rattle.text_terms.specs.Bytes.{str_bytes};
 ghost use Rattle.text_store.specs.Edits.{edit_of, IsRefusal, IsMade};
 ghost use Rattle.text_store.specs.Starts.{HasStarts};
@@ -35,7 +35,7 @@ const TEXT_LIMIT: u64 = 1_048_576;
 
 /// The places of an edit's ends, in bytes from 0, or the first refusal that applies.
 pub fn places_of(text: &[u8], starts: &[u32], edit: &Edit) -> Result<(u32, u32), TextRefusal>
-    requires short { length text.now ≤ 1048576 }
+    requires short { length text.now ≤ text_limit }
     requires starts { HasStarts text.now starts.now }
     ensures { MatchResult result (λ p. IsMade text.now (edit_of edit.now) p.0 p.1) (λ r. IsRefusal (outcome_of text.now (edit_of edit.now)) r) }
 {
@@ -51,7 +51,7 @@ pub fn places_of(text: &[u8], starts: &[u32], edit: &Edit) -> Result<(u32, u32),
 
 // The refusals that apply to an edit between two places of the text.
 fn check_between(text: &[u8], start: u32, end: u32, piece: &[u8]) -> Result<(), TextRefusal>
-    requires short { length text.now ≤ 1048576 }
+    requires short { length text.now ≤ text_limit }
     requires start_within { start ≤ length text.now }
     requires end_within { end ≤ length text.now }
     ensures { MatchResult result (λ _. outcome_between text.now (Some start) (Some end) piece.now ≡ changed start (apply text.now start end piece.now)) (λ r. IsRefusal (outcome_between text.now (Some start) (Some end) piece.now) r) }

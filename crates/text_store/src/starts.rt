@@ -1,6 +1,6 @@
 // Where the lines start, behind each line feed, and how an edit changes that.
 ghost use Rattle.std.specs.Prelude.{◌≡◌, ℕ, ◌+◌, ◌-◌, ◌<◌, ◌≤◌, ◌^◌, ◌++◌, length, take, drop, map, vec_len, IfOk, MatchResult};
-ghost use Rattle.text_model.specs.Edits.{apply};
+ghost use Rattle.text_model.specs.Edits.{apply, text_limit};
 ghost use Rattle.text_store.specs.Starts.{starts_from, HasStarts, AllBehind, AllMovable};
 
 use crate::places::starts_until;
@@ -70,10 +70,10 @@ pub fn change_starts(
     piece: &[u8],
 ) -> Result<(), NoMemory>
     requires starts { HasStarts text.now starts.old.items }
-    requires short { length text.now ≤ 1048576 }
+    requires short { length text.now ≤ text_limit }
     requires order { start ≤ end }
     requires within { end ≤ length text.now }
-    requires room { length (apply text.now start end piece.now) ≤ 1048576 }
+    requires room { length (apply text.now start end piece.now) ≤ text_limit }
     ensures { MatchResult result (λ _. HasStarts (apply text.now start end piece.now) starts.new.items) (λ _. starts.new.items ≡ starts.old.items) }
 {
     let from = starts_until(starts.as_slice(), start);
