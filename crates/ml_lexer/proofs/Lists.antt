@@ -4,7 +4,7 @@ use Rattle.std.specs.Prelude.{if◌then◌else◌, ◌||◌, ◌&&◌, ◌==◌,
 use Rattle.std.proofs.lemmas.List.{drop-drop, map-append}
 use Rattle.syntax_tree.specs.View.{tok_of}
 use Rattle.syntax_tree.specs.declared.tree.Token.{Token}
-use Rattle.token_model.specs.Kinds.{Kind, Tok, int, op9, junk}
+use Rattle.token_model.specs.Kinds.{Kind, Tok, AllWithin, int, op9, junk}
 use Rattle.token_model.specs.Tokens.{is_blank, is_digit, begins_lower, goes_on, continues, run_length, quote_at, word_at, string_at, token_at, placed_at, first_token, lex_from}
 
 -- bytes that belong to the token before are passed
@@ -108,3 +108,8 @@ tokens_go_on text old new t at first is so_far =
     lex_some at (drop at text) (tok_of t) first ∙ ap (λ (l : List ℕ). tok_of t ∷ lex_from t.span.end 0 l) (drop-drop (t.span.end - at) at text ∙ ap (λ k. drop k text) place) in
     so_far ∙ ap (λ (l : List Tok). map tok_of old ++ l) rest ∙ sym (append_assoc (map tok_of old) (tok_of t ∷ []) (lex_from t.span.end 0 (drop t.span.end text)))
     ∙ ap (λ (l : List Tok). l ++ lex_from t.span.end 0 (drop t.span.end text)) (sym (map-append tok_of old (t ∷ [])) ∙ ap (map tok_of) (sym is))
+
+-- one more token within the text
+pub within_more : (n : ℕ) (ts : List Token) (t : Token) → AllWithin n (map tok_of ts) → t.span.start ≤ n → t.span.end ≤ n → AllWithin n (map tok_of (ts ++ t ∷ []))
+within_more n [] t all start end = (start, end, tt)
+within_more n (u ∷ ts) t all start end = (all.0, all.1, within_more n ts t all.2 start end)

@@ -2,6 +2,7 @@
 ghost use Rattle.std.specs.Prelude.{◌≡◌, ◌≤◌, ◌<◌, ◌+◌, ◌-◌, ◌^◌, true, false, ◌∷◌, ℕ, slice_index, length, take, drop, ◌++◌, map, string_bytes, IfOk, IfSome, OnErr, option_map};
 ghost use Rattle.std.specs.Str.{IsUtf8, IsCharBoundary};
 ghost use Rattle.token_model.specs.Tokens.{is_blank as is_blank_spec, begins_lower as begins_lower_spec, is_digit as is_digit_spec, goes_on as goes_on_spec, continues as continues_spec, run_length, quote_at, word_kind, token_at, first_token, Lex};
+ghost use Rattle.token_model.specs.Kinds.{AllWithin};
 ghost use Rattle.ml_lexer.specs.Kinds.{whole, tallied};
 ghost use Rattle.text_terms.specs.Bytes.{str_bytes};
 ghost use Rattle.syntax_tree.specs.Names.{kind_of};
@@ -243,7 +244,7 @@ pub fn lex_from<C: Counts>(
     requires text { IsUtf8 (left.now ++ right.now) }
     requires inside { IsCharBoundary (left.now ++ right.now) at }
     ensures token { IfOk result (λ o. option_map tok_of o ≡ first_token at (drop at (left.now ++ right.now))) }
-    ensures ahead { IfOk result (λ o. IfSome o (λ t. at < t.span.end)) }
+    ensures ahead { IfOk result (λ o. IfSome o (λ t. (at < t.span.end) × (t.span.start ≤ t.span.end))) }
     ensures end { IfOk result (λ o. IfSome o (λ t. IsCharBoundary (left.now ++ right.now) t.span.end)) }
     ensures counted { IfOk result (λ o. C.tallies counts.new ≡ tallied o (C.tallies counts.old)) }
     ensures refused { OnErr result (C.tallies counts.new ≡ C.tallies counts.old) }
@@ -270,21 +271,23 @@ pub fn lex_from<C: Counts>(
     }))
 }
 
-/// All tokens of a text, in order. Each is counted.
+/// All tokens of a text in two parts, in order. Each is counted.
 pub fn lex_all<C: Counts>(
     alloc: Global,
-    text: &[u8],
+    left: &[u8],
+    right: &[u8],
     counts: &mut C,
 ) -> Result<Vec<Token>, NoMemory>
-    requires short { length text.now < 2 ^ 32 - 1 }
-    requires text { IsUtf8 text.now }
-    ensures tokens { IfOk result (λ v. Lex text.now (map tok_of v.items)) }
-    ensures few { IfOk result (λ v. length v.items ≤ length text.now) }
+    requires short { length (left.now ++ right.now) < 2 ^ 32 - 1 }
+    requires text { IsUtf8 (left.now ++ right.now) }
+    ensures tokens { IfOk result (λ v. Lex (left.now ++ right.now) (map tok_of v.items)) }
+    ensures few { IfOk result (λ v. length v.items ≤ length (left.now ++ right.now)) }
+    ensures within { IfOk result (λ v. AllWithin (length (left.now ++ right.now)) (map tok_of v.items)) }
     ensures grows { Grows (C.tallies counts.old) (C.tallies counts.new) }
 {
     let mut tokens = Vec::new(alloc);
     let mut at: u32 = 0;
-    while let Some(token) = lex_from(alloc, text, &[], at, counts)? {
+    while let Some(token) = lex_from(alloc, left, right, at, counts)? {
         at = token.span.end;
         if tokens.push(token).is_err() {
             return Err(NoMemory);

@@ -1,5 +1,5 @@
 -- Plain texts: items `let Lower = V`, where V is an integer, a string, `true`, `false`, or a name that an earlier item binds.
-use Rattle.std.specs.Prelude.{ℕ, ◌+◌, ◌&&◌, ◌||◌, List, [], ◌∷◌, Bool, true, false, if◌then◌else◌, codes, Option, Some, None, option_map, option_and_then, is_some}
+use Rattle.std.specs.Prelude.{ℕ, ◌≤◌, ◌+◌, ◌&&◌, ◌||◌, List, [], ◌∷◌, Bool, true, false, if◌then◌else◌, codes, Option, Some, None, option_map, option_and_then, is_some}
 use Rattle.std.specs.Str.{bytes_eq}
 use Rattle.token_model.specs.Kinds.{Kind, Tok, lower, int, str, let_word, true_word, false_word, op9}
 use Rattle.tree_model.specs.Rows.{Row, let_row, binding_row, pname_row, econst_row, name_row}
@@ -117,3 +117,8 @@ abbrev pub type_text : Plain → List ℕ
 type_text int_type = codes "int"
 type_text str_type = codes "string"
 type_text bool_type = codes "bool"
+
+-- each of these typed nodes stands within so many bytes
+abbrev pub AllSeenWithin : ℕ → List Seen → Type 0
+AllSeenWithin n [] = Unit {0}
+AllSeenWithin n (s ∷ ss) = (s.span.start ≤ n) × (s.span.end ≤ n) × AllSeenWithin n ss

@@ -1,6 +1,7 @@
 -- The answer to a line at a text, and the text behind it.
 use Rattle.std.specs.Prelude.{◌≡◌, ◌⊎◌, ℕ, List, [], ◌∷◌, length, reverse, filter_map, find, ◌&&◌, nat_eq, nat_le, Bool, true, false, Option, Some, None, option_map}
 use Rattle.text_model.specs.Positions.{offset, position_of}
+use Rattle.text_model.specs.Edits.{text_limit}
 use Rattle.token_model.specs.Kinds.{Tok}
 use Rattle.token_model.specs.Tokens.{Lex}
 use Rattle.tree_model.specs.Trees.{Tree}
@@ -8,10 +9,6 @@ use Rattle.tree_model.specs.Nodes.{Id, nodes_at}
 use Rattle.plain_model.specs.Plain.{Seen, plain_text, type_text}
 use Rattle.service_model.specs.Requests.{Asked, tell, enclosing, Reading, asks, not_built, not_json, line_reading}
 use Rattle.service_model.specs.Replies as said
-
--- how many bytes a text may have
-abbrev pub text_limit : ℕ
-text_limit = 1048576
 
 -- What is proved of a request's piece: the exact bytes, or that it is a reply line.
 -- A request that is answered before its answer is proved stands here as `false`.
