@@ -1,13 +1,12 @@
 -- What line starts say of the places in lines.
 use Rattle.std.proofs.Common.{◌≡◌, ℕ, zero, suc, ◌+◌, ◌-◌, ◌<◌, ◌≤◌, true, false, cond, eqb, leb, ltb, List, [], ◌∷◌, ◌++◌, length, get_or, Option, Some, None, refl, sym, ◌∙◌, ap, subst, arith, length-append, ⊎_elim}
 use Rattle.std.specs.Option.{option_map}
-use Rattle.std.specs.List.Sorted.{IsPartitionPoint}
 use Rattle.std.proofs.lemmas.List.{get_or_past}
 use Rattle.std.proofs.lemmas.Bool.{cases_lt, cond_both, cond-true, cond-false, leb-true, leb-false, lt-ltb, le-ltb, le-leb, lt-leb}
 use Rattle.text_model.specs.Lines.{line_feed, lines_of}
 use Rattle.text_model.specs.Positions.{offset_in, offset}
 use Rattle.text_model.proofs.Lines.{lines_from, lines_from-cons}
-use Rattle.text_store.specs.Starts.{starts_from, HasStarts}
+use Rattle.text_store.specs.Starts.{starts_from, HasStarts, PartsAt}
 
 -- The place of a column in a line, where the first line starts at `first`, the later ones at `starts`, and the last one ends at `end`.
 abbrev place_in : ℕ → List ℕ → ℕ → ℕ → ℕ → Option ℕ
@@ -121,8 +120,8 @@ next_lt starts place below end lt high =
     ⊎_elim (λ g. high below end (omega arith) g) (λ g. let past = get_or_past starts below end g in omega arith) (cases_lt below (length starts))
 
 -- The line whose start is the last up to a place has the place in the column that lies behind its start.
-pub offset-back : (text starts : List ℕ) (place below : ℕ) → HasStarts text starts → place ≤ length text → below ≤ length starts → IsPartitionPoint (λ t. t ≤ place) (λ t. place < t) starts below → offset text (below + 1) (place - get_or (0 ∷ starts) below 0) ≡ Some place
-offset-back text starts place below h within le point =
-    let first : get_or (0 ∷ starts) below 0 ≤ place = start_le starts place below point.0 in
-    let next : place < get_or starts below (length text + 1) = next_lt starts place below (length text + 1) (omega arith) point.1 in
-    offset-some text starts (below + 1) below (place - get_or (0 ∷ starts) below 0) h refl le (omega arith) ∙ ap Some (omega arith)
+pub offset-back : (text starts : List ℕ) (place below : ℕ) → HasStarts text starts → place ≤ length text → PartsAt starts place below → offset text (below + 1) (place - get_or (0 ∷ starts) below 0) ≡ Some place
+offset-back text starts place below h within p =
+    let first : get_or (0 ∷ starts) below 0 ≤ place = start_le starts place below p.parts.0 in
+    let next : place < get_or starts below (length text + 1) = next_lt starts place below (length text + 1) (omega arith) p.parts.1 in
+    offset-some text starts (below + 1) below (place - get_or (0 ∷ starts) below 0) h refl p.bound (omega arith) ∙ ap Some (omega arith)

@@ -1,12 +1,12 @@
 -- Where lines start: bounds, order, and the starts of joined and of moved bytes.
 use Rattle.std.proofs.Common.{◌≡◌, ℕ, zero, suc, ◌+◌, ◌-◌, ◌<◌, ◌≤◌, true, false, cond, eqb, List, [], ◌∷◌, ◌++◌, length, get_or, take, drop, map, refl, sym, ◌∙◌, ap, subst, arith, length-append, length-drop, append_assoc, ⊎_elim}
-use Rattle.std.specs.List.Sorted.{IsNonDecreasing, IsPartitionPoint}
+use Rattle.std.specs.List.Sorted.{IsNonDecreasing}
 use Rattle.std.proofs.lemmas.Bool.{cond_both, cases_order}
 use Rattle.std.proofs.lemmas.List.{get_or_append_left, get_or-append_right, take-append-drop, length-take-le, take_at, drop_at}
 use Rattle.text_model.specs.Lines.{line_feed, lines_of}
 use Rattle.text_model.proofs.Lines.{lines_from, lines_from-cons}
-use Rattle.text_model.specs.Edits.{apply}
-use Rattle.text_store.specs.Starts.{starts_from, HasStarts}
+use Rattle.text_model.specs.Edits.{apply, text_limit}
+use Rattle.text_store.specs.Starts.{starts_from, HasStarts, PartsAt, AllBehind, AllMovable}
 
 -- that a number lies behind `low` and is at most `high`
 abbrev IsBetween : ℕ → ℕ → ℕ → Type 0
@@ -78,9 +78,11 @@ pub HasStarts-length : (text starts : List ℕ) → HasStarts text starts → le
 HasStarts-length text starts h = subst (λ ts. length ts ≤ length text) (sym h.starts_are) (length-starts_from 0 text)
 
 -- A list of numbers up to n and then of greater ones parts where the first end.
-parts_at : (xs ys : List ℕ) (n i : ℕ) → ((k d : ℕ) → k < length xs → get_or xs k d ≤ n) → ((k d : ℕ) → k < length ys → n < get_or ys k d) → i ≤ length (xs ++ ys) → IsPartitionPoint (λ t. t ≤ n) (λ t. n < t) (xs ++ ys) i → i ≡ length xs
-parts_at xs ys n i low high le point =
+parts_at : (xs ys : List ℕ) (n i : ℕ) → ((k d : ℕ) → k < length xs → get_or xs k d ≤ n) → ((k d : ℕ) → k < length ys → n < get_or ys k d) → PartsAt (xs ++ ys) n i → i ≡ length xs
+parts_at xs ys n i low high p =
     let joined = length-append xs ys in
+    let le = p.bound in
+    let point = p.parts in
     ⊎_elim (λ e. e)
     (⊎_elim
     (λ lt. let is = get_or_append_left xs ys 0 i lt in let a = low i 0 lt in let b = point.1 i 0 (omega arith) (omega arith) in absurd (omega arith))
@@ -88,8 +90,8 @@ parts_at xs ys n i low high le point =
     (cases_order i (length xs))
 
 -- The starts up to a place are those of the text before it, and the others those of the text from it on.
-pub parted_starts : (text starts : List ℕ) (place i : ℕ) → HasStarts text starts → place ≤ length text → i ≤ length starts → IsPartitionPoint (λ t. t ≤ place) (λ t. place < t) starts i → (take i starts ≡ starts_from 0 (take place text)) × (drop i starts ≡ starts_from place (drop place text))
-parted_starts text starts place i h within le point =
+pub parted_starts : (text starts : List ℕ) (place i : ℕ) → HasStarts text starts → place ≤ length text → PartsAt starts place i → (take i starts ≡ starts_from 0 (take place text)) × (drop i starts ≡ starts_from place (drop place text))
+parted_starts text starts place i h within p =
     let before = starts_from 0 (take place text) in
     let from = starts_from place (drop place text) in
     let len : length (take place text) ≡ place = length-take-le place text within in
@@ -99,16 +101,15 @@ parted_starts text starts place i h within le point =
     let cut : i ≡ length before = parts_at before from place i
     (λ k d g. let b = starts_from-bounds 0 (take place text) k d g in omega arith)
     (λ k d g. let b = starts_from-bounds place (drop place text) k d g in b.0)
-    (subst (λ ts. i ≤ length ts) is le)
-    (subst (λ ts. IsPartitionPoint (λ t. t ≤ place) (λ t. place < t) ts i) is point) in
+    (subst (λ ts. PartsAt ts place i) is p) in
     (ap (take i) is ∙ take_at before from i (sym cut), ap (drop i) is ∙ drop_at before from i (sym cut))
 
 -- The starts of an edited text: those up to the edit's start, those of its bytes, and those behind its end, moved.
-pub starts_from-apply : (text starts piece : List ℕ) (start end from to : ℕ) → HasStarts text starts → start ≤ end → end ≤ length text → from ≤ length starts → to ≤ length starts → IsPartitionPoint (λ t. t ≤ start) (λ t. start < t) starts from → IsPartitionPoint (λ t. t ≤ end) (λ t. end < t) starts to
+pub starts_from-apply : (text starts piece : List ℕ) (start end from to : ℕ) → HasStarts text starts → start ≤ end → end ≤ length text → PartsAt starts start from → PartsAt starts end to
     → starts_from 0 (apply text start end piece) ≡ (take from starts ++ starts_from start piece) ++ map (λ t. t - (end - start) + length piece) (drop to starts)
-starts_from-apply text starts piece start end from to h order within f t pf pt =
-    let a = parted_starts text starts start from h (omega arith) f pf in
-    let b = parted_starts text starts end to h within t pt in
+starts_from-apply text starts piece start end from to h order within pf pt =
+    let a = parted_starts text starts start from h (omega arith) pf in
+    let b = parted_starts text starts end to h within pt in
     let len : length (take start text) ≡ start = length-take-le start text (omega arith) in
     let both = length-append (take start text) piece in
     starts_from-append 0 (take start text ++ piece) (drop end text)
@@ -140,9 +141,9 @@ parts_of_put starts fresh now from to behind is le e =
     (ap (take behind) joined ∙ take_at front (drop to starts) behind len, ap (drop behind) joined ∙ drop_at front (drop to starts) behind len)
 
 -- The starts behind a place lie behind it, and within the text.
-pub starts_behind : (text starts : List ℕ) (place i : ℕ) → HasStarts text starts → place ≤ length text → i ≤ length starts → IsPartitionPoint (λ t. t ≤ place) (λ t. place < t) starts i → (k : ℕ) → k < length (drop i starts) → (place < get_or (drop i starts) k 0) × (get_or (drop i starts) k 0 ≤ length text)
-starts_behind text starts place i h within le point k lt =
-    let is = (parted_starts text starts place i h within le point).1 in
+pub starts_behind : (text starts : List ℕ) (place i : ℕ) → HasStarts text starts → place ≤ length text → PartsAt starts place i → (k : ℕ) → k < length (drop i starts) → (place < get_or (drop i starts) k 0) × (get_or (drop i starts) k 0 ≤ length text)
+starts_behind text starts place i h within p k lt =
+    let is = (parted_starts text starts place i h within p).1 in
     subst (λ ts. k < length ts → (place < get_or ts k 0) × (get_or ts k 0 ≤ length text)) (sym is)
     (λ g. let b = starts_from-bounds place (drop place text) k 0 g in let n = length-drop place text in (omega arith, omega arith))
     lt
@@ -153,3 +154,13 @@ length-apply text piece start end order within =
     let taken = length-take-le start text (omega arith) in
     let left = length-drop end text in
     length-append (take start text ++ piece) (drop end text) ∙ ap (λ n. n + length (drop end text)) (length-append (take start text) piece) ∙ omega arith
+
+-- Once an edit's starts are put in place of those that it cuts, the others behind them can be moved as it asks.
+pub movable_behind : (text starts piece fresh now : List ℕ) (start end from to behind : ℕ) → HasStarts text starts → start ≤ end → end ≤ length text → length (apply text start end piece) ≤ text_limit → PartsAt starts end to → from ≤ length starts → now ≡ take from starts ++ (fresh ++ drop to starts) → behind ≡ from + length fresh
+    → AllBehind (end - start) (drop behind now) × AllMovable (end - start) (length piece) (drop behind now)
+movable_behind text starts piece fresh now start end from to behind h order within room p le is e =
+    let rest = (parts_of_put starts fresh now from to behind is le e).1 in
+    let len = length-apply text piece start end order within in (
+      subst (AllBehind (end - start)) (sym rest) (λ k lt. let b = starts_behind text starts end to h within p k lt in omega arith),
+      subst (AllMovable (end - start) (length piece)) (sym rest) (λ k lt. let b = starts_behind text starts end to h within p k lt in omega arith),
+    )

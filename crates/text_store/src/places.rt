@@ -1,9 +1,9 @@
 // Places in a text by where its lines start. Nothing here walks over the bytes.
 ghost use Rattle.std.specs.Prelude.{◌≡◌, ◌+◌, ◌<◌, ◌≤◌, ◌∷◌, length, Some, slice_index_or};
-ghost use Rattle.std.specs.List.Sorted.{IsNonDecreasing, IsPartitionPoint};
+ghost use Rattle.std.specs.List.Sorted.{IsNonDecreasing};
 ghost use Rattle.text_model.specs.Positions.{offset};
 ghost use Rattle.text_model.specs.Edits.{text_limit};
-ghost use Rattle.text_store.specs.Starts.{HasStarts};
+ghost use Rattle.text_store.specs.Starts.{HasStarts, PartsAt};
 
 use text_terms::Pos;
 
@@ -61,8 +61,7 @@ fn next_start(text: &[u8], starts: &[u32], below: usize) -> u32
 /// How many of the starts are at most `place`.
 pub fn starts_until(starts: &[u32], place: u32) -> usize
     requires { IsNonDecreasing starts.now }
-    ensures bound { result ≤ length starts.now }
-    ensures parts { IsPartitionPoint (λ t. t ≤ place) (λ t. place < t) starts.now result }
+    ensures { PartsAt starts.now place result }
 {
     starts.partition_point(|start| *start <= place)
 }

@@ -17,4 +17,4 @@ pub returns : goal.returns
 returns c =
     let below = c.starts_until-below.result in
     subst (λ n. offset c.args.text.now (below + 1) (c.args.place - n) ≡ Some c.args.place) (sym c.line_start.ensures)
-    (offset-back c.args.text.now c.args.starts.now c.args.place below c.requires.starts c.requires.within c.starts_until-below.ensures.bound c.starts_until-below.ensures.parts)
+    (offset-back c.args.text.now c.args.starts.now c.args.place below c.requires.starts c.requires.within c.starts_until-below.ensures)
