@@ -22,11 +22,13 @@ token_in_part r x s (taken t) = refl
 token_in_part r x s (inner t) = refl
 token_in_part r x s (missing p) = refl
 
+-- a node without exactly one part has no token that is all of it
 token_in_others : (r : Row) (x : Extent) (cs : List Child) → (length cs ≡ 1 → ⊥) → None ≡ token_in (inner (node r x (forest_of (map child_view cs))))
 token_in_others r x [] h = refl
 token_in_others r x (c ∷ []) h = absurd (h refl)
 token_in_others r x (c ∷ d ∷ ds) h = token_in_more r x (child_view c).0 (child_view d).0 (child_view c).1 (child_view d).1 (forest_of (map child_view ds))
 
+-- the token of a node of one child is that of the child
 token_in_single : (r : Row) (x : Extent) (cs : List Child) (a : Child) → length cs ≡ 1 → a ≡ get_or cs 0 a → taken_in (part_view a.part) ≡ token_in (inner (node r x (forest_of (map child_view cs))))
 token_in_single r x [] a h p = absurd (omega arith)
 token_in_single r x (c ∷ []) a h p = rw (child_view_parts c, ← p) (token_in_part r x a.slot (part_view a.part))
@@ -40,6 +42,7 @@ token_in_other n cs e h = rw (node_view_parts n, ← e) (token_in_others (row_in
 pub token_in_one : (n : Node) (cs : List Child) (a : Child) → cs ≡ (out-Node n).children.items → length cs ≡ 1 → a ≡ get_or cs 0 a → taken_in (part_view a.part) ≡ token_in (inner (node_view n))
 token_in_one n cs a e h p = rw (node_view_parts n, ← e) (token_in_single (row_in n) (extent_in n) cs a h p)
 
+-- a node without exactly three parts is no binding
 bound_in_others : (r : Row) (x : Extent) (cs : List Child) → (length cs ≡ 3 → ⊥) → None ≡ bound_in (inner (node r x (forest_of (map child_view cs))))
 bound_in_others r x [] h = refl
 bound_in_others r x (c ∷ []) h = refl
@@ -51,6 +54,7 @@ bound_in_others r x (c ∷ d ∷ e ∷ f ∷ fs) h = refl
 abbrev between : Part → Part → Option (Tok × Tok)
 between a b = option_and_then (λ n. option_map (λ w. (n, w)) (token_in b)) (token_in a)
 
+-- the name and the value of a node of three children are those of its first and last
 bound_in_triple : (r : Row) (x : Extent) (cs : List Child) (a b : Child) → length cs ≡ 3 → a ≡ get_or cs 0 a → b ≡ get_or cs 2 b → between (part_view a.part) (part_view b.part) ≡ bound_in (inner (node r x (forest_of (map child_view cs))))
 bound_in_triple r x [] a b h p q = absurd (omega arith)
 bound_in_triple r x (c ∷ []) a b h p q = absurd (omega arith)
@@ -66,12 +70,14 @@ bound_in_other n cs e h = rw (node_view_parts n, ← e) (bound_in_others (row_in
 pub bound_in_three : (n : Node) (cs : List Child) (a b : Child) → cs ≡ (out-Node n).children.items → length cs ≡ 3 → a ≡ get_or cs 0 a → b ≡ get_or cs 2 b → between (part_view a.part) (part_view b.part) ≡ bound_in (inner (node_view n))
 bound_in_three n cs a b e h p q = rw (node_view_parts n, ← e) (bound_in_triple (row_in n) (extent_in n) cs a b h p q)
 
+-- a node without exactly two parts is no item
 item_of_others : (r : Row) (x : Extent) (cs : List Child) → (length cs ≡ 2 → ⊥) → None ≡ item_of (node r x (forest_of (map child_view cs)))
 item_of_others r x [] h = refl
 item_of_others r x (c ∷ []) h = refl
 item_of_others r x (c ∷ d ∷ []) h = absurd (h refl)
 item_of_others r x (c ∷ d ∷ e ∷ es) h = refl
 
+-- the name and the value of a node of two children are those of its second
 item_of_pair : (r : Row) (x : Extent) (cs : List Child) (b : Child) → length cs ≡ 2 → b ≡ get_or cs 1 b → bound_in (part_view b.part) ≡ item_of (node r x (forest_of (map child_view cs)))
 item_of_pair r x [] b h q = absurd (omega arith)
 item_of_pair r x (c ∷ []) b h q = absurd (omega arith)

@@ -43,14 +43,17 @@ abbrev Told : List Tok → Option (List Tree) → Type 0
 Told ts None = Unit {0}
 Told ts (Some trees) = AreItemsSized trees × (length trees * 4 ≡ length ts)
 
+-- an item in front is told of as well
 told_item : (a b c d : Tok) (rest : List Tok) (o : Option (List Tree)) → Told rest o → Told (a ∷ b ∷ c ∷ d ∷ rest) (option_map (λ ts. item_tree a b c d ∷ ts) o)
 told_item a b c d rest None h = tt
 told_item a b c d rest (Some ts) h = (((refl, (tt, ((refl, ((refl, (tt, tt)), (tt, ((refl, (tt, tt)), tt)))), tt))), omega arith, h.0), omega (arith, h.1))
 
+-- whether the first four tokens are an item or not
 told_test : (a b c d : Tok) (rest : List Tok) (test : Bool) → Told rest (plain_trees rest) → Told (a ∷ b ∷ c ∷ d ∷ rest) (if test then option_map (λ ts. item_tree a b c d ∷ ts) (plain_trees rest) else None)
 told_test a b c d rest true h = told_item a b c d rest (plain_trees rest) h
 told_test a b c d rest false h = tt
 
+-- so it holds of the trees of all tokens
 plain_told : (ts : List Tok) → Told ts (plain_trees ts)
 plain_told [] = (tt, refl)
 plain_told (a ∷ []) = tt

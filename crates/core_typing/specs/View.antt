@@ -13,11 +13,13 @@ use Rattle.core_typing.specs.declared.terms.PlainSeen.{PlainSeen}
 use Rattle.core_typing.specs.declared.bound.Bound.{Bound}
 use Rattle.core_typing.specs.declared.scope.Typed.{Typed}
 
+-- the type that is meant
 abbrev pub plain_of : Plain → plain.Plain
 plain_of code.Int = plain.int_type
 plain_of code.Str = plain.str_type
 plain_of code.Bool = plain.bool_type
 
+-- a typed node: which it is, where it stands, its type
 abbrev pub seen_of : PlainSeen → plain.Seen
 seen_of s = record { id = id_of s.id; span = place_of s.span; ty = plain_of s.ty }
 
@@ -25,6 +27,7 @@ seen_of s = record { id = id_of s.id; span = place_of s.span; ty = plain_of s.ty
 abbrev pub bound_of : Bound → Tok × Tok
 bound_of b = (tok_of b.name.now, tok_of b.value.now)
 
+-- a name by its bytes, with its type
 abbrev pub typed_of : Typed → List ℕ × plain.Plain
 typed_of t = (t.name.now, plain_of t.ty)
 

@@ -53,7 +53,8 @@ fn is_value(token: &Token) -> bool
 
 /// Whether the four tokens are an item.
 pub(crate) fn is_item(word: &Token, name: &Token, sign: &Token, value: &Token) -> bool
-    ensures { result ≡ plain.is_item (tok_of word.now) (tok_of name.now) (tok_of sign.now) (tok_of value.now) }
+    ensures { result ≡ plain.is_item
+        (tok_of word.now) (tok_of name.now) (tok_of sign.now) (tok_of value.now) }
 {
     is_let(word.kind) && is_lower(name.kind) && is_equal_sign(sign) && is_value(value)
 }

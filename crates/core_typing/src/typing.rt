@@ -36,7 +36,8 @@ pub fn type_plain(alloc: Global, tree: &Tree) -> Result<Option<Vec<PlainSeen>>, 
 
 fn note_item(seen: &mut Vec<PlainSeen>, item: u32, bound: Bound, ty: Plain) -> Result<(), NoMemory>
     ensures { OnOk result (map seen_of seen.new.items ≡ map seen_of seen.old.items
-        ++ plain.seen item 2 (bound_of bound.entry).0 (plain_of ty) ∷ plain.seen item 3 (bound_of bound.entry).1 (plain_of ty) ∷ []) }
+        ++ plain.seen item 2 (bound_of bound.entry).0 (plain_of ty)
+        ∷ plain.seen item 3 (bound_of bound.entry).1 (plain_of ty) ∷ []) }
 {
     note(seen, NodeId { item, pre: 2 }, bound.name, ty)?;
     note(seen, NodeId { item, pre: 3 }, bound.value, ty)

@@ -47,7 +47,9 @@ pub fn node_of(alloc: Global, row: RowName, children: Vec<Child>) -> Result<Rc<N
 }
 
 fn span_over(children: &[Child]) -> Span
-    ensures { place_of result ≡ span_or_place (forest_span (forest_of (map child_view children.now))) (forest_of (map child_view children.now)) }
+    ensures { place_of result ≡ span_or_place
+        (forest_span (forest_of (map child_view children.now)))
+        (forest_of (map child_view children.now)) }
 {
     match (tokens_span(children), children) {
         (Some(span), _) => span,
