@@ -1,5 +1,5 @@
 -- The list of tokens, by its first.
-use Rattle.std.proofs.Common.{◌≡◌, ◌+◌, ◌-◌, ◌<◌, ◌≤◌, ◌∷◌, [], ℕ, zero, suc, List, true, false, drop, length, refl, sym, ◌∙◌, ap, subst, arith, Some, None, map, ◌++◌, append_assoc}
+use Rattle.std.proofs.Common.{◌≡◌, ◌+◌, ◌-◌, ◌<◌, ◌≤◌, ◌∷◌, [], ℕ, zero, suc, List, true, false, drop, refl, sym, ◌∙◌, ap, subst, arith, Some, None, map, ◌++◌, append_assoc}
 use Rattle.std.specs.Prelude.{if◌then◌else◌, ◌||◌, ◌&&◌, ◌==◌, nat_le, Option}
 use Rattle.std.proofs.lemmas.List.{drop-drop, map-append}
 use Rattle.syntax_tree.specs.View.{tok_of}

@@ -1,6 +1,6 @@
 -- The typed nodes of a plain text stand within it.
 use Rattle.std.proofs.Common.{◌≡◌, ◌≤◌, ◌+◌, ℕ, List, [], ◌∷◌, true, false, Some, None, refl, sym, ap, subst}
-use Rattle.std.specs.Prelude.{Option, option_map, option_and_then, if◌then◌else◌, Bool}
+use Rattle.std.specs.Prelude.{Option, option_map, option_and_then, if◌then◌else◌, Bool, cond, find}
 use Rattle.token_model.specs.Kinds.{Tok, AllWithin}
 use Rattle.tree_model.specs.Trees.{Tree}
 use Rattle.plain_model.specs.Plain.{Plain, Seen, seen, is_item, item_tree, plain_trees, typed, typed_trees, type_of, plain_text, AllSeenWithin}
@@ -51,3 +51,12 @@ seen_within n ts trees ss all is =
     let types = map_some (λ (ss : List Seen). (read.0, ss)) (typed_trees read.0) (trees, ss) read.2 in
     let same : types.0 ≡ ss = ap (λ (p : List Tree × List Seen). p.1) types.2 in
     subst (AllSeenWithin n) same (trees_within n 1 [] ts read.0 types.0 all read.1 types.1)
+
+-- and so does one that is found among them
+pub found_within : (n : ℕ) (test : Seen → Bool) (ss : List Seen) (s : Seen) → find test ss ≡ Some s → AllSeenWithin n ss → (s.span.start ≤ n) × (s.span.end ≤ n)
+found_within n test [] s is all = cc
+found_within n test (t ∷ ss) s is all =
+    elim (test t) as (λ b. cond b (Some t) (find test ss) ≡ Some s → (s.span.start ≤ n) × (s.span.end ≤ n)) [
+      | true ↦ λ e. (let same : t ≡ s = cc in subst (λ (x : Seen). (x.span.start ≤ n) × (x.span.end ≤ n)) same (all.0, all.1))
+      | false ↦ λ e. found_within n test ss s e all.2
+    ] is

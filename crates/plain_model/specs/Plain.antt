@@ -3,7 +3,7 @@ use Rattle.std.specs.Prelude.{ℕ, ◌≤◌, ◌+◌, ◌&&◌, ◌||◌, List,
 use Rattle.std.specs.Str.{bytes_eq}
 use Rattle.token_model.specs.Kinds.{Kind, Tok, lower, int, str, let_word, true_word, false_word, op9}
 use Rattle.tree_model.specs.Rows.{Row, let_row, binding_row, pname_row, econst_row, name_row}
-use Rattle.tree_model.specs.Trees.{Place, place, Extent, extent, Tree, Part, Forest, node, no_parts, part, taken, inner}
+use Rattle.tree_model.specs.Trees.{Place, place, extent, Tree, Part, node, no_parts, part, taken, inner}
 use Rattle.tree_model.specs.Nodes.{Id, id}
 
 pub data Plain : Type 0 where

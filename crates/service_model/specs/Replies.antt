@@ -11,8 +11,8 @@ pub record Typed : Type 0 where
   pub type_text : List ℕ
 
 pub data Said : Type 0 where
-  size : ℕ → Said                -- how many bytes the new text has
-  types : List Typed → Said      -- innermost first
+  size : ℕ → Said  -- how many bytes the new text has
+  types : List Typed → Said  -- innermost first
   no_node : Said
   not_json : Said
   not_built : Said

@@ -1,11 +1,10 @@
-use Rattle.std.proofs.Common.{rules, arith, ◌≡◌, ◌≤◌, ◌<◌, ◌++◌, ◌∷◌, [], List, ℕ, map, drop, length, Some, None, option_map, refl, sym, ◌∙◌, ap, subst, append-nil, length-append, IfSome}
+use Rattle.std.proofs.Common.{rules, arith, ◌≡◌, ◌≤◌, ◌<◌, ◌++◌, ◌∷◌, [], List, map, drop, length, Some, None, option_map, refl, sym, ◌∙◌, ap, subst, append-nil, length-append, IfSome}
 use Rattle.std.specs.Str.{IsCharBoundary}
 use Rattle.std.proofs.lemmas.Str.{IsCharBoundary-start}
 use Rattle.token_model.specs.Kinds.{Tok, AllWithin}
 use Rattle.token_model.specs.Tokens.{first_token, lex_from, Lex}
 use Rattle.syntax_tree.specs.View.{tok_of}
 use Rattle.syntax_tree.specs.declared.tree.Token.{Token}
-use Rattle.syntax_tree.specs.Tallies.{Grows}
 use Rattle.ml_lexer.proofs.Lists.{lex_none, tokens_go_on, within_more}
 use Rattle.ml_lexer.proofs.scan.lex_all.Goals as goal
 

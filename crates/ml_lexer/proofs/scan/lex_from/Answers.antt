@@ -1,4 +1,4 @@
-use Rattle.std.proofs.Common.{rules, arith, ◌≡◌, ◌<◌, ◌++◌, ◌+◌, ◌-◌, ◌∙◌, ap, sym, length, take, drop, List, ℕ, Some}
+use Rattle.std.proofs.Common.{rules, ◌≡◌, ◌<◌, ◌++◌, ◌+◌, ◌∙◌, ap, sym, length, take, drop, List, ℕ, Some}
 use Rattle.text_terms.specs.Bytes.{str_bytes}
 use Rattle.token_model.specs.Kinds.{Tok}
 use Rattle.token_model.specs.Tokens.{placed_at}

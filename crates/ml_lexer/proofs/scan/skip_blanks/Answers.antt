@@ -1,4 +1,4 @@
-use Rattle.std.proofs.Common.{rules, arith, ◌≡◌, ◌<◌, ◌+◌, ◌∙◌, ap, sym, true, length, drop, get_or}
+use Rattle.std.proofs.Common.{arith, ◌<◌, ◌∙◌, ap, sym, length}
 use Rattle.std.proofs.lemmas.Str.{IsCharBoundary-after_ascii}
 use Rattle.token_model.specs.Tokens.{is_blank}
 use Rattle.ml_lexer.specs.Kinds.{whole}
