@@ -1,21 +1,102 @@
 -- What a reply of the code means.
-use Rattle.std.specs.Prelude.{ℕ, map}
+use Rattle.std.specs.Prelude.{ℕ, List, [], ◌∷◌, codes, map}
 use Rattle.text_terms.specs.Bytes.{str_bytes}
-use Rattle.text_terms.specs.declared.Pos.{Pos}
+use Rattle.service_model.specs.Requests as model
 use Rattle.service_model.specs.Replies as said
+use Rattle.json_lines.specs.Meets.{pair_of, key_text}
 use Rattle.json_lines.specs.declared.reply.Typed.{Typed}
+use Rattle.json_lines.specs.declared.reply.Entry.{Entry}
+use Rattle.json_lines.specs.declared.reply.EntryKind.{EntryKind}
+use Rattle.json_lines.specs.declared.reply.EntryKind.TheVariants as entry
+use Rattle.json_lines.specs.declared.reply.PosSpan.{PosSpan}
+use Rattle.json_lines.specs.declared.reply.File.{File}
+use Rattle.json_lines.specs.declared.reply.File.TheVariants.{Buffer, Prelude}
+use Rattle.json_lines.specs.declared.reply.Outlined.{Outlined, fold-Outlined}
+use Rattle.json_lines.specs.declared.reply.Outlined.TheOpen.{Outlined-F}
+use Rattle.json_lines.specs.declared.reply.OutlineKind.{OutlineKind}
+use Rattle.json_lines.specs.declared.reply.OutlineKind.TheVariants as member
+use Rattle.json_lines.specs.declared.reply.Listed.{Listed}
+use Rattle.json_lines.specs.declared.reply.Failure.{Failure}
+use Rattle.json_lines.specs.declared.reply.Failure.TheVariants.{NoNode, NotAName, Unbound, NothingToSplit, HiddenConstructor, WouldFault, NotAHole}
+use Rattle.json_lines.specs.declared.reply.RequestError.{RequestError}
+use Rattle.json_lines.specs.declared.reply.RequestError.TheVariants as error
 use Rattle.json_lines.specs.declared.reply.Reply.{Reply}
-use Rattle.json_lines.specs.declared.reply.Reply.TheVariants.{Size, Types, NoNode, NotJson, NotBuilt}
-
-abbrev pub pair_of : Pos → ℕ × ℕ
-pair_of p = (p.line, p.col)
+use Rattle.json_lines.specs.declared.reply.Reply.TheVariants as reply
 
 abbrev pub typed_of : Typed → said.Typed
 typed_of t = record { start = pair_of t.start; end = pair_of t.end; type_text = str_bytes t.ty }
 
+abbrev pub entry_kind_text : EntryKind → List ℕ
+entry_kind_text entry.Constructor = codes "Constructor"
+entry_kind_text entry.Label = codes "Label"
+entry_kind_text entry.Module = codes "Module"
+entry_kind_text entry.ModuleType = codes "ModuleType"
+entry_kind_text entry.Type = codes "Type"
+entry_kind_text entry.Value = codes "Value"
+
+abbrev pub entry_of : Entry → said.Entry
+entry_of e = record { desc = str_bytes e.desc; kind = entry_kind_text e.kind; name = str_bytes e.name }
+
+abbrev pub span_of : PosSpan → (ℕ × ℕ) × (ℕ × ℕ)
+span_of s = (pair_of s.start, pair_of s.end)
+
+abbrev pub file_text : File → List ℕ
+file_text Buffer = codes "buffer"
+file_text Prelude = codes "prelude"
+
+abbrev pub outline_kind_text : OutlineKind → List ℕ
+outline_kind_text member.Value = codes "Value"
+outline_kind_text member.TypeName = codes "Type"
+outline_kind_text member.Exception = codes "Exception"
+outline_kind_text member.Module = codes "Module"
+outline_kind_text member.ModuleType = codes "ModuleType"
+
+-- members, one after another
+abbrev pub outline_of : List said.Outlined → said.Outline
+outline_of [] = said.no_more
+outline_of (o ∷ os) = said.next o (outline_of os)
+
+-- one level, with what stands inside already seen
+abbrev pub outlined_step : Outlined-F said.Outlined → said.Outlined
+outlined_step o = said.outlined (pair_of o.start) (pair_of o.end) (outline_kind_text o.kind) (str_bytes o.name) (outline_of o.children.items)
+
+abbrev pub outlined_of : Outlined → said.Outlined
+outlined_of = fold-Outlined said.Outlined outlined_step
+
+abbrev pub fault_of : Listed → said.Fault
+fault_of f = record { start = pair_of f.start; end = pair_of f.end; kind = str_bytes f.kind; message = str_bytes f.message; source = str_bytes f.ty }
+
+abbrev pub failure_said : Failure → said.Said
+failure_said NoNode = said.no_node
+failure_said NotAName = said.not_a_name
+failure_said (Unbound ident) = said.unbound (str_bytes ident)
+failure_said NothingToSplit = said.nothing_to_split
+failure_said (HiddenConstructor name) = said.hidden_constructor (str_bytes name)
+failure_said (WouldFault at) = said.would_fault (pair_of at)
+failure_said NotAHole = said.not_a_hole
+
+abbrev pub error_said : RequestError → said.Said
+error_said error.LineTooLong = said.refused model.line_too_long
+error_said error.NotJson = said.refused model.not_json
+error_said error.NotARequest = said.refused model.not_a_request
+error_said error.UnknownQuery = said.refused model.unknown_query
+error_said (error.MissingKey key) = said.refused (model.missing_key (key_text key))
+error_said (error.BadNumber key) = said.refused (model.bad_number (key_text key))
+error_said (error.BadPosition key) = said.bad_position (key_text key)
+error_said error.BadRange = said.bad_range
+error_said (error.SplitsChar key) = said.splits_char (key_text key)
+error_said (error.TextTooLong bytes) = said.text_too_long bytes
+error_said error.NotBuilt = said.not_built
+
 abbrev pub said_of : Reply → said.Said
-said_of (Size n) = said.size n
-said_of (Types ts) = said.types (map typed_of ts.items)
-said_of NoNode = said.no_node
-said_of NotJson = said.not_json
-said_of NotBuilt = said.not_built
+said_of (reply.Size n) = said.size n
+said_of (reply.Types ts) = said.types (map typed_of ts.items)
+said_of (reply.Entries es more) = said.entries (map entry_of es.items) more
+said_of (reply.Place file pos) = said.place (file_text file) (pair_of pos)
+said_of (reply.Spans ss) = said.spans (map span_of ss.items)
+said_of (reply.Outline os) = said.outline (outline_of (map outlined_of os.items))
+said_of (reply.Faults fs more) = said.faults (map fault_of fs.items) more
+said_of (reply.Split start end text) = said.split (pair_of start) (pair_of end) (str_bytes text)
+said_of (reply.Terms start end texts) = said.terms (pair_of start) (pair_of end) (map str_bytes texts.items)
+said_of (reply.Failure f) = failure_said f
+said_of (reply.Error e) = error_said e

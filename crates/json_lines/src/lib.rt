@@ -4,8 +4,15 @@
 //! exactly the bytes of the reply's line; both want memory and may be refused it.
 #![tactic(auto)]
 
+mod key;
 mod reply;
 mod request;
+mod write;
 
-pub use reply::{MEMORY_LINE, Reply, Typed, memory_line, write_reply};
-pub use request::{Malformed, Request, read_request};
+pub use key::Key;
+pub use reply::{
+    Entry, EntryKind, Failure, File, Listed, OutlineKind, Outlined, PosSpan, Reply, RequestError,
+    Typed,
+};
+pub use request::{LINE_LIMIT, Malformed, Request, read_request};
+pub use write::{MEMORY_LINE, memory_line, write_reply};

@@ -1,12 +1,63 @@
-//! Replies and their lines.
-ghost use Rattle.std.specs.Prelude.{◌≡◌, ◌++◌, ◌∷◌, [], IfOk, map};
-ghost use Rattle.serde_json.specs.View.{view, items_view};
-ghost use Rattle.service_model.specs.Replies.{position_data, typed_data, typed_items, said_data, line_of, memory_line as memory_line_spec};
-ghost use Rattle.json_lines.specs.Means.{pair_of, typed_of, said_of};
+//! Replies: values, failures and errors.
+ghost use Rattle.std.specs.Prelude.{◌≡◌, codes, Some, option_map};
+ghost use Rattle.service_model.specs.Replies.{refused};
+ghost use Rattle.json_lines.specs.Meets.{refusal_of};
+ghost use Rattle.json_lines.specs.Means.{entry_kind_text, outline_kind_text, file_text, error_said};
 
-use serde_json::{Value, json};
-use std::alloc::{AllocError, Global};
+use crate::key::Key;
+use crate::request::Malformed;
 use text_terms::{Pos, RcStr};
+
+/// What a request is answered.
+#[derive(Drop)]
+pub enum Reply {
+    /// `tell`: how many bytes the new text has.
+    Size(u64),
+    /// `type-enclosing`: typed spans, innermost first.
+    Types(Vec<Typed>),
+    /// `complete-prefix`: the entries, and whether there are others.
+    Entries {
+        entries: Vec<Entry>,
+        more: bool,
+    },
+    /// `locate`: a position in a file.
+    Place {
+        file: File,
+        pos: Pos,
+    },
+    /// `occurrences`: spans, in text order.
+    Spans(Vec<PosSpan>),
+    /// `outline`: what the text binds, in text order.
+    Outline(Vec<Outlined>),
+    /// `errors`: the faults, and whether there are others.
+    Faults {
+        list: Vec<Listed>,
+        more: bool,
+    },
+    /// `case-analysis`: the text that goes from start to end.
+    Split {
+        start: Pos,
+        end: Pos,
+        text: RcStr,
+    },
+    /// `construct`: the texts that may go from start to end.
+    Terms {
+        start: Pos,
+        end: Pos,
+        texts: Vec<RcStr>,
+    },
+    /// The request is accepted and has no value.
+    Failure(Failure),
+    /// The line or the text doesn't have what is asked.
+    Error(RequestError),
+}
+
+/// From a start to an end, by line from 1 and column in bytes from 0.
+#[derive(Clone, Copy, Debug, PartialEq, Eq)]
+pub struct PosSpan {
+    pub start: Pos,
+    pub end: Pos,
+}
 
 /// A span with its type, as it is shown.
 #[derive(Drop)]
@@ -16,75 +67,168 @@ pub struct Typed {
     pub ty: RcStr,
 }
 
+/// A name that a prefix may become.
 #[derive(Drop)]
-pub enum Reply {
-    /// Class return: how many bytes the new text has.
-    Size(u64),
-    /// Class return: typed spans, innermost first.
-    Types(Vec<Typed>),
-    /// Class failure: no typed node holds the offset.
+pub struct Entry {
+    /// Its type; empty where it has none.
+    pub desc: RcStr,
+    pub kind: EntryKind,
+    pub name: RcStr,
+}
+
+#[derive(Clone, Copy, Debug, PartialEq, Eq)]
+pub enum EntryKind {
+    Constructor,
+    Label,
+    Module,
+    ModuleType,
+    Type,
+    Value,
+}
+
+impl EntryKind {
+    /// The kind as it is printed.
+    pub fn name(self) -> &'static str
+        ensures { result.now ≡ entry_kind_text self }
+    {
+        match self {
+            EntryKind::Constructor => "Constructor",
+            EntryKind::Label => "Label",
+            EntryKind::Module => "Module",
+            EntryKind::ModuleType => "ModuleType",
+            EntryKind::Type => "Type",
+            EntryKind::Value => "Value",
+        }
+    }
+}
+
+/// Where a name comes from.
+#[derive(Clone, Copy, Debug, PartialEq, Eq)]
+pub enum File {
+    /// The text itself.
+    Buffer,
+    /// What is there before the text.
+    Prelude,
+}
+
+impl File {
+    /// The file as it is printed.
+    pub fn name(self) -> &'static str
+        ensures { result.now ≡ file_text self }
+    {
+        match self {
+            File::Buffer => "buffer",
+            File::Prelude => "prelude",
+        }
+    }
+}
+
+/// What an item binds, with what stands inside it.
+#[cycle(outlined)]
+#[derive(Drop)]
+pub struct Outlined {
+    pub children: Vec<Outlined>,
+    pub start: Pos,
+    pub end: Pos,
+    pub kind: OutlineKind,
+    pub name: RcStr,
+}
+
+#[derive(Clone, Copy, Debug, PartialEq, Eq)]
+pub enum OutlineKind {
+    Value,
+    /// Printed `Type`.
+    TypeName,
+    Exception,
+    Module,
+    ModuleType,
+}
+
+impl OutlineKind {
+    /// The kind as it is printed.
+    pub fn name(self) -> &'static str
+        ensures { result.now ≡ outline_kind_text self }
+    {
+        match self {
+            OutlineKind::Value => "Value",
+            OutlineKind::TypeName => "Type",
+            OutlineKind::Exception => "Exception",
+            OutlineKind::Module => "Module",
+            OutlineKind::ModuleType => "ModuleType",
+        }
+    }
+}
+
+/// A fault of the text.
+#[derive(Drop)]
+pub struct Listed {
+    pub start: Pos,
+    pub end: Pos,
+    pub kind: RcStr,
+    pub message: RcStr,
+    /// What tells it: `parser`, `typer` or `warning`.
+    pub ty: RcStr,
+}
+
+/// Why an accepted request has no value.
+#[derive(Drop)]
+pub enum Failure {
+    /// No typed node holds the offset.
     NoNode,
-    /// Class error: the line is no JSON value.
+    /// There is no name token at the offset, or the prefix isn't of the form of a name.
+    NotAName,
+    /// What the identifier names isn't found.
+    Unbound { ident: RcStr },
+    /// The node has no cases.
+    NothingToSplit,
+    /// No path in scope reaches the constructor or label.
+    HiddenConstructor { constructor: RcStr },
+    /// The changed text would have a new fault at this place of the present one.
+    WouldFault { at: Pos },
+    /// The node is neither `_` nor missing.
+    NotAHole,
+}
+
+/// Why a line is refused. Nothing changes after it.
+#[derive(Clone, Copy, Debug, PartialEq, Eq)]
+pub enum RequestError {
+    /// The line has more than `LINE_LIMIT` bytes.
+    LineTooLong,
+    /// The line is no JSON value.
     NotJson,
-    /// Class error: the line is no request that is built.
+    /// The value is no object with a text `query`.
+    NotARequest,
+    /// No query has this name.
+    UnknownQuery,
+    /// The first key that is absent or of another kind.
+    MissingKey { key: Key },
+    /// The first line or column that isn't decimal digits alone with a value below 2^32.
+    BadNumber { key: Key },
+    /// The line doesn't exist, or the column is past its end.
+    BadPosition { key: Key },
+    /// The start stands behind the end.
+    BadRange,
+    /// The start or the end stands inside a character.
+    SplitsChar { key: Key },
+    /// How many bytes the new text would have.
+    TextTooLong { bytes: u64 },
+    /// The request isn't served.
     NotBuilt,
 }
 
-/// The line that stands for want of memory.
-pub const MEMORY_LINE: &[u8] = b"{\"class\":\"memory\"}\n";
-
-/// The line that stands for want of memory. It takes no memory.
-pub fn memory_line() -> &'static [u8]
-    ensures { result.now ≡ memory_line_spec }
-{
-    MEMORY_LINE
-}
-
-fn position_value(alloc: Global, at: Pos) -> Result<Value, AllocError>
-    ensures { IfOk result (λ v. view v ≡ position_data (pair_of at)) }
-{
-    json!(in alloc; {"line": at.line, "col": at.col})
-}
-
-fn typed_value(alloc: Global, typed: &Typed) -> Result<Value, AllocError>
-    ensures { IfOk result (λ v. view v ≡ typed_data (typed_of typed.now)) }
-{
-    let start = position_value(alloc, typed.start)?;
-    let end = position_value(alloc, typed.end)?;
-    let ty = typed.ty.as_str();
-    json!(in alloc; {"end": end, "start": start, "type": ty})
-}
-
-fn list_value(alloc: Global, list: &[Typed]) -> Result<Vec<Value>, AllocError>
-    ensures { IfOk result (λ v. items_view v.items ≡ typed_items (map typed_of list.now)) }
-{
-    let mut values = Vec::new(alloc);
-    for typed in list {
-        values.push(typed_value(alloc, typed)?)?;
-    }
-    Ok(values)
-}
-
-fn reply_value(alloc: Global, reply: &Reply) -> Result<Value, AllocError>
-    ensures { IfOk result (λ v. view v ≡ said_data (said_of reply.now)) }
-{
-    match reply {
-        Reply::Size(bytes) => json!(in alloc; {"class": "return", "value": *bytes}),
-        Reply::Types(list) => {
-            let list = Value::Array(list_value(alloc, list)?);
-            json!(in alloc; {"class": "return", "value": list})
+impl Malformed {
+    /// The error that is told of the line; None for want of memory.
+    pub fn error(self) -> Option<RequestError>
+        ensures { option_map error_said result ≡ option_map refused (refusal_of self) }
+    {
+        match self {
+            Malformed::LineTooLong => Some(RequestError::LineTooLong),
+            Malformed::NotJson => Some(RequestError::NotJson),
+            Malformed::NotARequest => Some(RequestError::NotARequest),
+            Malformed::UnknownQuery => Some(RequestError::UnknownQuery),
+            Malformed::MissingKey { key } => Some(RequestError::MissingKey { key }),
+            Malformed::BadNumber { key } => Some(RequestError::BadNumber { key }),
+            Malformed::NoMemory => None,
         }
-        Reply::NoNode => json!(in alloc; {"class": "failure", "value": {"name": "NoNode"}}),
-        Reply::NotJson => json!(in alloc; {"class": "error", "value": {"name": "NotJson"}}),
-        Reply::NotBuilt => json!(in alloc; {"class": "error", "value": {"name": "NotBuilt"}}),
     }
-}
-
-/// The line of a reply, its line feed included.
-pub fn write_reply(alloc: Global, reply: &Reply) -> Result<Vec<u8>, AllocError>
-    ensures { IfOk result (λ v. v.items ≡ line_of (said_of reply.now)) }
-{
-    let mut line = reply_value(alloc, reply)?.to_vec(alloc)?;
-    line.push(b'\n')?;
-    Ok(line)
 }

@@ -1,24 +1,52 @@
 -- The answer to a line at a text, and the text behind it.
-use Rattle.std.specs.Prelude.{◌≡◌, ◌⊎◌, ℕ, List, [], ◌∷◌, length, reverse, filter_map, find, ◌&&◌, nat_eq, nat_le, Bool, true, false, Option, Some, None, option_map}
+use Rattle.std.specs.Prelude.{◌≡◌, ◌⊎◌, ℕ, List, [], ◌∷◌, length, reverse, filter_map, find, ◌&&◌, nat_eq, nat_lt, Bool, true, false, Option, Some, None, option_map, codes, if◌then◌else◌}
 use Rattle.text_model.specs.Positions.{offset, position_of}
-use Rattle.text_model.specs.Edits.{text_limit}
+use Rattle.text_model.specs.Edits as edit
 use Rattle.token_model.specs.Kinds.{Tok}
 use Rattle.token_model.specs.Tokens.{Lex}
 use Rattle.tree_model.specs.Trees.{Tree}
 use Rattle.tree_model.specs.Nodes.{Id, nodes_at}
 use Rattle.plain_model.specs.Plain.{Seen, plain_text, type_text}
-use Rattle.service_model.specs.Requests.{Asked, tell, enclosing, Reading, asks, not_built, not_json, line_reading}
+use Rattle.service_model.specs.Requests.{Asked, tell, type_enclosing, complete_prefix, locate, occurrences, outline, errors, case_analysis, construct, Reading, asks, refused, reading}
 use Rattle.service_model.specs.Replies as said
 
 -- What is proved of a request's piece: the exact bytes, or that it is a reply line.
 -- A request that is answered before its answer is proved stands here as `false`.
 abbrev pub is_exact : Asked → Bool
-is_exact (tell new) = true
-is_exact (enclosing line col) = true
+is_exact a = true
 
 abbrev pub IsPieceBy : Bool → said.Said → List ℕ → Type 0
 IsPieceBy true s piece = piece ≡ said.line_of s
 IsPieceBy false s piece = said.IsReplyLine piece
+
+-- ---- edits
+
+-- the key of an edit's end, or of its start
+abbrev pub end_key : Bool → List ℕ
+end_key false = codes "start"
+end_key true = codes "end"
+
+abbrev pub edit_refusal : edit.Refusal → said.Said
+edit_refusal (edit.bad_position end) = said.bad_position (end_key end)
+edit_refusal edit.bad_range = said.bad_range
+edit_refusal (edit.splits_char end) = said.splits_char (end_key end)
+edit_refusal (edit.text_too_long n) = said.text_too_long n
+
+-- what comes of a new text in place of the whole
+abbrev pub whole_outcome : List ℕ → edit.Outcome
+whole_outcome new = if nat_lt edit.text_limit (length new) then edit.refused (edit.text_too_long (length new)) else edit.changed 0 new
+
+-- what comes of a `tell`, of a range or of the whole text
+abbrev pub tell_outcome : List ℕ → Option ((ℕ × ℕ) × (ℕ × ℕ)) → List ℕ → edit.Outcome
+tell_outcome text (Some range) bytes = edit.outcome_of text (record { start = range.0; end = range.1; bytes = bytes })
+tell_outcome text None bytes = whole_outcome bytes
+
+-- what is said to it, and the text behind it
+abbrev pub ToldIs : List ℕ → edit.Outcome → said.Said → List ℕ → Type 0
+ToldIs text (edit.changed first new) s after = (s ≡ said.size (length new)) × (after ≡ new)
+ToldIs text (edit.refused r) s after = (s ≡ edit_refusal r) × (after ≡ text)
+
+-- ---- types round an offset
 
 abbrev pub is_id : Id → Seen → Bool
 is_id i s = nat_eq s.id.item i.item && nat_eq s.id.pre i.pre
@@ -39,31 +67,40 @@ abbrev pub enclosing_said : List ℕ → ℕ → Option (List Tree × List Seen)
 enclosing_said text o None = said.not_built
 enclosing_said text o (Some p) = types_or_none (typed_among text p.1 (reverse (nodes_at o p.0)))
 
--- of a position that exists
-abbrev pub EnclosingIs : List ℕ → Option ℕ → said.Said → Type 0
-EnclosingIs text None s = s ≡ said.not_built
-EnclosingIs text (Some o) s = (tokens : List Tok) × Lex text tokens × (s ≡ enclosing_said text o (plain_text tokens))
+-- ---- queries
 
--- the reply to a new text, and the text behind it, where the new text is within the limit and of these tokens
-abbrev pub ToldIs : List ℕ → List ℕ → Option (List Tree × List Seen) → said.Said → List ℕ → Type 0
-ToldIs text new None s after = (s ≡ said.not_built) × (after ≡ text)
-ToldIs text new (Some p) s after = (s ≡ said.size (length new)) × (after ≡ new)
+-- a query of a position: the position exists, and this is said of its offset, or it doesn't
+abbrev pub PlacedIs : Option ℕ → (ℕ → said.Said → Type 0) → said.Said → Type 0
+PlacedIs None P s = s ≡ said.bad_position (codes "at")
+PlacedIs (Some o) P s = P o s
 
-abbrev pub TellIs : Bool → List ℕ → List ℕ → said.Said → List ℕ → Type 0
-TellIs true text new s after = (tokens : List Tok) × Lex new tokens × ToldIs text new (plain_text tokens) s after
-TellIs false text new s after = (s ≡ said.not_built) × (after ≡ text)
+abbrev pub QueryIs : List ℕ → ℕ × ℕ → (ℕ → said.Said → Type 0) → said.Said → List ℕ → Type 0
+QueryIs text at P s after = PlacedIs (offset text at.0 at.1) P s × (after ≡ text)
+
+abbrev pub EnclosingIs : List ℕ → ℕ → said.Said → Type 0
+EnclosingIs text o s = (tokens : List Tok) × Lex text tokens × (s ≡ enclosing_said text o (plain_text tokens))
+
+-- a query that isn't served yet
+abbrev pub IsNotBuilt : ℕ → said.Said → Type 0
+IsNotBuilt o s = s ≡ said.not_built
 
 -- What is said to a request at a text, and the text behind it: only a `tell` that is accepted changes it.
 abbrev pub Replies : List ℕ → Asked → said.Said → List ℕ → Type 0
-Replies text (tell new) s after = TellIs (nat_le (length new) text_limit) text new s after
-Replies text (enclosing line col) s after = EnclosingIs text (offset text line col) s × (after ≡ text)
+Replies text (tell range bytes) s after = ToldIs text (tell_outcome text range bytes) s after
+Replies text (type_enclosing at) s after = QueryIs text at (EnclosingIs text) s after
+Replies text (complete_prefix at prefix) s after = QueryIs text at IsNotBuilt s after
+Replies text (locate at) s after = QueryIs text at IsNotBuilt s after
+Replies text (occurrences at) s after = QueryIs text at IsNotBuilt s after
+Replies text outline s after = (s ≡ said.not_built) × (after ≡ text)
+Replies text errors s after = (s ≡ said.not_built) × (after ≡ text)
+Replies text (case_analysis at) s after = QueryIs text at IsNotBuilt s after
+Replies text (construct at) s after = QueryIs text at IsNotBuilt s after
 
 -- the piece that answers a line, and the text behind it
 abbrev pub Answered : List ℕ → Reading → List ℕ → List ℕ → Type 0
 Answered text (asks a) piece after = (s : said.Said) × Replies text a s after × IsPieceBy (is_exact a) s piece
-Answered text not_built piece after = (piece ≡ said.line_of said.not_built) × (after ≡ text)
-Answered text not_json piece after = (piece ≡ said.line_of said.not_json) × (after ≡ text)
+Answered text (refused r) piece after = (piece ≡ said.line_of (said.refused r)) × (after ≡ text)
 
 -- A line is answered with the piece and leaves the text `after`, or memory is short and the text stays.
 unfoldable pub Answers : List ℕ → List ℕ → List ℕ → List ℕ → Type 0
-Answers text line piece after = Answered text (line_reading line) piece after ⊎ ((piece ≡ said.memory_line) × (after ≡ text))
+Answers text line piece after = Answered text (reading line) piece after ⊎ ((piece ≡ said.memory_line) × (after ≡ text))

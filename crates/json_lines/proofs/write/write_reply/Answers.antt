@@ -3,7 +3,7 @@ use Rattle.serde_json.specs.Written.{compact_text, has_float}
 use Rattle.service_model.specs.Replies.{line_of}
 use Rattle.json_lines.specs.Means.{said_of}
 use Rattle.json_lines.proofs.Replies.{no_float}
-use Rattle.json_lines.proofs.reply.write_reply.Goals as goal
+use Rattle.json_lines.proofs.write.write_reply.Goals as goal
 
 pub returns : goal.returns
 unfolding line_of
