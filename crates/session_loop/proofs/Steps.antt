@@ -1,13 +1,13 @@
 -- A line is answered as its kept front is, and a run goes on by a byte.
-use Rattle.std.proofs.Common.{◌≡◌, ◌⊎◌, inl, inr, ℕ, List, [], ◌∷◌, ◌++◌, length, take, true, false, refl, sym, ◌∙◌, ap, subst, arith, append_assoc}
+use Rattle.std.proofs.Common.{◌≡◌, ◌⊎◌, inl, inr, ℕ, suc, List, [], ◌∷◌, ◌++◌, length, take, true, false, refl, sym, ◌∙◌, ap, subst, arith, append_assoc}
 use Rattle.std.specs.Prelude.{if◌then◌else◌, ◌==◌, Option, Result, Ok, Err, OnErr}
 use Rattle.std.specs.Io.KnownBytes.{Appends}
 use Rattle.std.proofs.KnownBytes.{Appends-nil, Appends-trans}
 use Rattle.std.proofs.lemmas.List.{append-nil, take_all, length-take}
-use Rattle.std.proofs.lemmas.Bool.{lt-leb}
+use Rattle.std.proofs.lemmas.Bool.{le-leb}
 use Rattle.std.proofs.lemmas.Bool.Decides.{leb_tells}
 use Rattle.text_model.specs.Lines.{ended_from, rest_from, line_feed}
-use Rattle.service_model.specs.Requests.{reading, not_built, line_reading, line_limit}
+use Rattle.service_model.specs.Requests.{reading, reading_of_json, refused, line_too_long, line_limit}
 use Rattle.service_model.specs.Replies as said
 use Rattle.service_model.specs.Answers.{Answers, Answered}
 use Rattle.service_model.specs.Runs.{is_blank_line, StepBy, Step, RunsTo, Run, last_line, request_lines}
@@ -18,18 +18,19 @@ use Rattle.session_loop.specs.declared.begun.Begun.{Begun}
 use Rattle.session_loop.proofs.Runs.{runs_more, ended_feed, rest_feed, ended_byte, rest_byte, ended_front}
 
 -- a line reads as its kept front does
-same_reading : (line : List ℕ) → line_reading (take kept_limit line) ≡ line_reading line
+same_reading : (line : List ℕ) → reading (take kept_limit line) ≡ reading line
+unfolding reading
 same_reading line = elim (leb_tells (length line) line_limit) [
-  | inl short ↦ ap line_reading (take_all kept_limit line (omega (arith, short.1)))
-  | inr long ↦ ap (λ b. if b then reading (take kept_limit line) else not_built) (lt-leb (length (take kept_limit line)) line_limit (omega (arith, long.1, length-take kept_limit line)))
-      ∙ sym (ap (λ b. if b then reading line else not_built) long.0)
+  | inl short ↦ ap reading (take_all kept_limit line (omega (arith, short.1)))
+  | inr long ↦ ap (λ b. if b then refused line_too_long else reading_of_json (take kept_limit line)) (le-leb (suc line_limit) (length (take kept_limit line)) (omega (arith, long.1, length-take kept_limit line)))
+      ∙ sym (ap (λ b. if b then refused line_too_long else reading_of_json line) (le-leb (suc line_limit) (length line) (omega (arith, long.1))))
 ]
 
 -- the answer to the kept front of a line that isn't blank is a step by the line
 pub step_answered : (text line piece after : List ℕ) (b : Begun) → Holds b line → b.blank ≡ false → Answers text b.bytes.items piece after → Step text line piece after
 unfolding Answers
 step_answered text line piece after b holds none answers =
-    let same : line_reading b.bytes.items ≡ line_reading line = ap line_reading holds.bytes ∙ same_reading line in
+    let same : reading b.bytes.items ≡ reading line = ap reading holds.bytes ∙ same_reading line in
     let whole : Answers text line piece after = subst (λ r. Answered text r piece after ⊎ ((piece ≡ said.memory_line) × (after ≡ text))) same answers in
     subst (λ t. StepBy t text line piece after) (sym none ∙ holds.blank) whole
 

@@ -1,8 +1,11 @@
 -- What an answer means.
 use Rattle.std.specs.Prelude.{◌≡◌, ℕ, List, Option, Some, None}
-use Rattle.service_model.specs.Requests.{Asked}
+use Rattle.text_model.specs.Edits as edit
+use Rattle.text_store.specs.declared.edits.TextRefusal.{TextRefusal}
+use Rattle.text_store.specs.declared.edits.TextRefusal.TheVariants as code
+use Rattle.service_model.specs.Requests.{Asked, Refusal}
 use Rattle.service_model.specs.Replies as said
-use Rattle.service_model.specs.Answers.{Replies, types_or_none}
+use Rattle.service_model.specs.Answers.{Replies, edit_refusal, types_or_none}
 use Rattle.session_loop.specs.declared.session.Line.{Line}
 use Rattle.session_loop.specs.declared.session.Line.TheVariants.{Written, Memory}
 
@@ -15,15 +18,33 @@ abbrev pub IsWritten : said.Said → Line → Type 0
 IsWritten s (Written v) = v.items ≡ said.line_of s
 IsWritten s Memory = Unit {0}
 
+-- the line of something of which P holds, unless memory is short
+abbrev pub Says : (said.Said → Type 0) → Line → Type 0
+Says P (Written v) = (s : said.Said) × P s × (v.items ≡ said.line_of s)
+Says P Memory = Unit {0}
+
 -- the line of what is said to a request at a text, and the text behind it; where memory is short the text stays
 abbrev pub RepliesBy : List ℕ → Asked → Line → List ℕ → Type 0
 RepliesBy text a (Written v) after = (s : said.Said) × Replies text a s after × (v.items ≡ said.line_of s)
 RepliesBy text a Memory after = after ≡ text
 
--- the line of the new text's length, and the new text; where memory is short the text stays
-abbrev pub ReplacesBy : List ℕ → ℕ → List ℕ → Line → List ℕ → Type 0
-ReplacesBy text size new (Written v) after = (v.items ≡ said.line_of (said.size size)) × (after ≡ new)
-ReplacesBy text size new Memory after = after ≡ text
+-- the line of a refusal; want of memory has no other line than its own
+abbrev pub RefusesBy : Option Refusal → Line → Type 0
+RefusesBy (Some r) l = IsWritten (said.refused r) l
+RefusesBy None l = l ≡ Memory
+
+-- why the store refuses an edit; want of memory is no refusal
+abbrev pub refusal_in : TextRefusal → Option edit.Refusal
+refusal_in (code.BadPosition end) = Some (edit.bad_position end)
+refusal_in code.BadRange = Some edit.bad_range
+refusal_in (code.SplitsChar end) = Some (edit.splits_char end)
+refusal_in (code.TextTooLong bytes) = Some (edit.text_too_long bytes)
+refusal_in code.NoMemory = None
+
+-- the line of the store's refusal of an edit
+abbrev pub RefusesEditBy : Option edit.Refusal → Line → Type 0
+RefusesEditBy (Some r) l = IsWritten (edit_refusal r) l
+RefusesEditBy None l = l ≡ Memory
 
 -- what is said of typed nodes, or of no plain text
 abbrev pub said_of_types : Option (List said.Typed) → said.Said

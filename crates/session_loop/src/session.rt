@@ -1,22 +1,26 @@
 //! One text, and the answers to request lines on it.
-ghost use Rattle.std.specs.Prelude.{◌≡◌, ◌≤◌, [], List, ℕ, length, map, option_map, IfOk};
+ghost use Rattle.std.specs.Prelude.{◌≡◌, [], List, ℕ, length, map, option_map, IfOk, Some};
 ghost use Rattle.text_terms.specs.Bytes.{str_bytes};
-ghost use Rattle.text_model.specs.Edits.{text_limit};
+ghost use Rattle.text_model.specs.Edits.{changed, outcome_of};
+ghost use Rattle.std.specs.Str.{IsUtf8};
+ghost use Rattle.text_model.specs.Positions.{offset, position_of};
 ghost use Rattle.token_model.specs.Kinds.{Tok};
 ghost use Rattle.token_model.specs.Tokens.{Lex};
 ghost use Rattle.plain_model.specs.Plain.{plain_text};
-ghost use Rattle.service_model.specs.Requests.{tell as tell_spec, enclosing as enclosing_spec};
-ghost use Rattle.service_model.specs.Answers.{Answers, enclosing_said, types_or_none};
+ghost use Rattle.service_model.specs.Requests.{tell as tell_spec};
+ghost use Rattle.service_model.specs.Answers.{Answers, PlacedIs, EnclosingIs, IsNotBuilt, tell_outcome, enclosing_said, end_key, types_or_none};
 ghost use Rattle.syntax_tree.specs.Tallies.{Grows};
+ghost use Rattle.text_store.specs.Edits.{edit_of};
+ghost use Rattle.json_lines.specs.Meets.{asked_of, key_text, range_of, refusal_of};
 ghost use Rattle.json_lines.specs.Means.{said_of, typed_of};
-ghost use Rattle.session_loop.specs.Lines.{line_bytes, IsWritten, RepliesBy, ReplacesBy, said_of_types};
+ghost use Rattle.session_loop.specs.Lines.{line_bytes, refusal_in, IsWritten, RefusesBy, RefusesEditBy, RepliesBy, Says, said_of_types};
 
 use crate::plain::{read_plain, typed_among};
-use json_lines::{Malformed, Reply, Request, Typed, memory_line, read_request, write_reply};
+use json_lines::{Failure, Key, Malformed, Reply, Request, RequestError, Typed, memory_line, read_request, write_reply};
 use std::alloc::Global;
 use std::marker::Model;
 use syntax_tree::{Counts, NoMemory, Pos, RcStr, enclosing};
-use text_store::{Edit, TextStore};
+use text_store::{Edit, TextRefusal, TextStore};
 
 /// The line that answers a request line.
 #[derive(Drop)]
@@ -39,12 +43,6 @@ impl Line {
     }
 }
 
-/// The most bytes that a request line may have.
-const LINE_LIMIT: usize = 8_388_608;
-
-/// The most bytes that a text may have.
-const TEXT_LIMIT: usize = 1_048_576;
-
 /// The line of a reply, or want of memory.
 fn written(alloc: Global, reply: &Reply) -> Line
     ensures { IsWritten (said_of reply.now) result }
@@ -55,12 +53,49 @@ fn written(alloc: Global, reply: &Reply) -> Line
     }
 }
 
+/// The line of an error, or want of memory.
+fn error_line(alloc: Global, error: RequestError) -> Line
+    ensures { IsWritten (said_of (Reply.Error error)) result }
+{
+    written(alloc, &Reply::Error(error))
+}
+
+/// The line of a line that is no request.
+fn malformed_line(alloc: Global, malformed: Malformed) -> Line
+    ensures { RefusesBy (refusal_of malformed) result }
+{
+    match malformed.error() {
+        Some(error) => error_line(alloc, error),
+        None => Line::Memory,
+    }
+}
+
+/// The key of an edit's end, or of its start.
+fn key_of(end: bool) -> Key
+    ensures { key_text result ≡ end_key end }
+{
+    if end { Key::End } else { Key::Start }
+}
+
+/// The line of an edit that the store refuses.
+fn refused_edit_line(alloc: Global, refusal: TextRefusal) -> Line
+    ensures { RefusesEditBy (refusal_in refusal) result }
+{
+    match refusal {
+        TextRefusal::BadPosition { end } => error_line(alloc, RequestError::BadPosition { key: key_of(end) }),
+        TextRefusal::BadRange => error_line(alloc, RequestError::BadRange),
+        TextRefusal::SplitsChar { end } => error_line(alloc, RequestError::SplitsChar { key: key_of(end) }),
+        TextRefusal::TextTooLong { bytes } => error_line(alloc, RequestError::TextTooLong { bytes }),
+        TextRefusal::NoMemory => Line::Memory,
+    }
+}
+
 /// The line of these types, or of none.
 fn types_line(alloc: Global, types: Vec<Typed>) -> Line
     ensures { IsWritten (types_or_none (map typed_of types.items)) result }
 {
     if types.is_empty() {
-        written(alloc, &Reply::NoNode)
+        written(alloc, &Reply::Failure(Failure::NoNode))
     } else {
         written(alloc, &Reply::Types(types))
     }
@@ -98,64 +133,110 @@ impl Session {
         ensures answers { Answers self.old line.now (line_bytes result) self.new }
         ensures counted { Grows (C.tallies counts.old) (C.tallies counts.new) }
     {
-        if line.len() > LINE_LIMIT {
-            return written(self.alloc, &Reply::NotBuilt);
-        }
         match read_request(self.alloc, line) {
-            Ok(Request::Tell(text)) => self.tell(text, counts),
-            Ok(Request::TypeEnclosing(at)) => self.type_enclosing(at, counts),
-            Err(Malformed::NotJson) => written(self.alloc, &Reply::NotJson),
-            Err(Malformed::NotBuilt) => written(self.alloc, &Reply::NotBuilt),
-            Err(Malformed::NoMemory) => Line::Memory,
+            Ok(request) => self.reply_to(request, counts),
+            Err(malformed) => malformed_line(self.alloc, malformed),
         }
     }
 
-    /// Replaces the text by a plain one.
-    fn tell<C: Counts>(&mut self, text: RcStr, counts: &mut C) -> Line
-        ensures replies { RepliesBy self.old (tell_spec (str_bytes text)) result self.new }
+    /// Answers a request.
+    fn reply_to<C: Counts>(&mut self, request: Request, counts: &mut C) -> Line
+        ensures replies { RepliesBy self.old (asked_of request) result self.new }
         ensures counted { Grows (C.tallies counts.old) (C.tallies counts.new) }
     {
-        if text.as_str().len() > TEXT_LIMIT {
-            return written(self.alloc, &Reply::NotBuilt);
-        }
-        match read_plain(self.alloc, text.as_str().as_bytes(), &[], counts) {
-            Ok(Some(_)) => self.replace(text),
-            Ok(None) => written(self.alloc, &Reply::NotBuilt),
-            Err(_) => Line::Memory,
+        match request {
+            Request::Tell { range, text } => self.tell(range, text),
+            Request::TypeEnclosing { at } => self.type_enclosing(at, counts),
+            Request::CompletePrefix { at, prefix: _ } => self.unserved(at),
+            Request::Locate { at } => self.unserved(at),
+            Request::Occurrences { at } => self.unserved(at),
+            Request::Outline => error_line(self.alloc, RequestError::NotBuilt),
+            Request::Errors => error_line(self.alloc, RequestError::NotBuilt),
+            Request::CaseAnalysis { at } => self.unserved(at),
+            Request::Construct { at } => self.unserved(at),
         }
     }
 
-    /// Replaces the text. The reply is made before the text is changed.
-    fn replace(&mut self, text: RcStr) -> Line
-        requires { length (str_bytes text) ≤ text_limit }
-        ensures { ReplacesBy self.old (length (str_bytes text)) (str_bytes text) result self.new }
+    /// Makes an edit, or replaces the whole text. The reply is made before the text is changed.
+    fn tell(&mut self, range: Option<(Pos, Pos)>, text: RcStr) -> Line
+        ensures { RepliesBy self.old (tell_spec (option_map range_of range) (str_bytes text)) result self.new }
     {
-        let reply = written(self.alloc, &Reply::Size(text.as_str().len() as u64));
-        let edit = Edit {
-            start: Pos { line: 1, col: 0 },
-            end: self.store.pos_of(self.store.len()),
-            text,
-        };
-        match reply {
+        let edit = self.edit_for(range, text);
+        match written(self.alloc, &Reply::Size(self.len_after(&edit))) {
             Line::Memory => Line::Memory,
             Line::Written(bytes) => match self.store.apply(&edit) {
                 Ok(_) => Line::Written(bytes),
-                Err(_) => Line::Memory,
+                Err(refusal) => refused_edit_line(self.alloc, refusal),
             },
+        }
+    }
+
+    /// The edit that a `tell` makes: without a range, one from the first place to the last.
+    fn edit_for(&self, range: Option<(Pos, Pos)>, text: RcStr) -> Edit
+        ensures { outcome_of self.now (edit_of result) ≡ tell_outcome self.now (option_map range_of range) (str_bytes text) }
+    {
+        match range {
+            Some((start, end)) => Edit { start, end, text },
+            None => Edit {
+                start: Pos { line: 1, col: 0 },
+                end: self.last_place(),
+                text,
+            },
+        }
+    }
+
+    /// The position behind the last byte.
+    fn last_place(&self) -> Pos
+        ensures place { (result.line, result.col) ≡ position_of self.now (length self.now) }
+        ensures utf8 { IsUtf8 self.now }
+    {
+        let (left, right) = self.store.slices();
+        self.store.pos_of((left.len() + right.len()) as u32)
+    }
+
+    /// How many bytes the text has once the edit is made; of an edit that is refused it tells nothing.
+    fn len_after(&self, edit: &Edit) -> u64
+        ensures { (first : ℕ) (new : List ℕ) → outcome_of self.now (edit_of edit.now) ≡ changed first new → result ≡ length new }
+    {
+        let Ok(start) = self.store.offset_of(edit.start) else {
+            return 0;
+        };
+        let Ok(end) = self.store.offset_of(edit.end) else {
+            return 0;
+        };
+        let cut = end.saturating_sub(start);
+        let kept = self.store.len().saturating_sub(cut);
+        (kept as u64).saturating_add(edit.text.as_str().len() as u64)
+    }
+
+    /// A query of a position that isn't served yet.
+    fn unserved(&self, at: Pos) -> Line
+        ensures { Says (PlacedIs (offset self.now at.line at.col) IsNotBuilt) result }
+    {
+        match self.store.offset_of(at) {
+            Ok(_) => error_line(self.alloc, RequestError::NotBuilt),
+            Err(_) => error_line(self.alloc, RequestError::BadPosition { key: Key::At }),
         }
     }
 
     /// The types round a position, innermost first.
     fn type_enclosing<C: Counts>(&self, at: Pos, counts: &mut C) -> Line
-        ensures replies { RepliesBy self.now (enclosing_spec at.line at.col) result self.now }
+        ensures says { Says (PlacedIs (offset self.now at.line at.col) (EnclosingIs self.now)) result }
         ensures counted { Grows (C.tallies counts.old) (C.tallies counts.new) }
     {
-        let Ok(offset) = self.store.offset_of(at) else {
-            return written(self.alloc, &Reply::NotBuilt);
-        };
+        match self.store.offset_of(at) {
+            Ok(offset) => self.enclosing_line(offset, counts),
+            Err(_) => error_line(self.alloc, RequestError::BadPosition { key: Key::At }),
+        }
+    }
+
+    fn enclosing_line<C: Counts>(&self, offset: u32, counts: &mut C) -> Line
+        ensures says { Says (EnclosingIs self.now offset) result }
+        ensures counted { Grows (C.tallies counts.old) (C.tallies counts.new) }
+    {
         match self.types_at(offset, counts) {
             Ok(Some(types)) => types_line(self.alloc, types),
-            Ok(None) => written(self.alloc, &Reply::NotBuilt),
+            Ok(None) => error_line(self.alloc, RequestError::NotBuilt),
             Err(_) => Line::Memory,
         }
     }
