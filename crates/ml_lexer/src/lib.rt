@@ -1,0 +1,13 @@
+//! Tokens of a text.
+#![tactic(auto)]
+
+mod brackets;
+mod comments;
+mod find;
+mod found;
+mod names;
+mod numerals;
+mod rest;
+mod signs;
+mod strings;
+mod words;
