@@ -164,6 +164,20 @@ pub fn len(text: Rest<'_>) -> usize
     text.left.len() + text.right.len() - text.at
 }
 
+/// What is left from a place on.
+pub fn ahead(text: Rest<'_>, by: usize) -> Rest<'_>
+    requires placed { IsPlaced text }
+    requires inside { by ≤ length (rest_of text) }
+    ensures rest { rest_of result ≡ drop by (rest_of text.entry) }
+    ensures placed { IsPlaced result }
+{
+    Rest {
+        left: text.left,
+        right: text.right,
+        at: text.at + by,
+    }
+}
+
 /// The byte at a place, and 0 behind the end, which no spelling goes on with.
 pub fn peek(text: Rest<'_>, i: usize) -> u8
     requires placed { IsPlaced text }
