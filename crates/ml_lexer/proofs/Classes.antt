@@ -150,7 +150,7 @@ literal_first w (inl (decimal run)) = run_first w run
 literal_first w (inl (based run)) = (48, _, refl, refl)
 literal_first w (inr (float_with ds f e run _ _ some)) = float_first ds f e run
 
-char_first : (w : List ℕ) → IsChar w → (bs : List ℕ) × (w ≡ 39 ∷ bs)
+pub char_first : (w : List ℕ) → IsChar w → (bs : List ℕ) × (w ≡ 39 ∷ bs)
 char_first w (plain p) = (_, refl)
 char_first w (escape p) = (_, refl)
 char_first w (decimal_code p) = (_, refl)
