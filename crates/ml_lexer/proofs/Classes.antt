@@ -70,8 +70,43 @@ IsOpName w = (a : List ℕ) × (o : List ℕ) × (z : List ℕ) × (AreBlanks a)
 abbrev pub IsNil : List ℕ → Type 0
 IsNil w = (a : List ℕ) × (AreBlanks a) × (w ≡ 91 ∷ a ++ codes "]")
 
-abbrev pub IsMark : List ℕ → Type 0
-IsMark w = (k : Kind) × Mark k w
+-- the marks of each class
+pub data ParenMark : List ℕ → Type 0 where
+  one_paren : ParenMark (codes "(")
+
+pub data BracketMark : List ℕ → Type 0 where
+  one_bracket : BracketMark (codes "[")
+  array : BracketMark (codes "[|")
+  less : BracketMark (codes "[<")
+  greater : BracketMark (codes "[>")
+  at_one : BracketMark (codes "[@")
+  at_two : BracketMark (codes "[@@")
+  at_three : BracketMark (codes "[@@@")
+  percent_one : BracketMark (codes "[%")
+  percent_two : BracketMark (codes "[%%")
+
+pub data BraceMark : List ℕ → Type 0 where
+  one_brace : BraceMark (codes "{")
+  object : BraceMark (codes "{<")
+
+pub data SignMark : List ℕ → Type 0 where
+  array_end : SignMark (codes "|]")
+  greater_end : SignMark (codes ">]")
+  object_end : SignMark (codes ">}")
+
+pub data PlainMark : List ℕ → Type 0 where
+  paren_end : PlainMark (codes ")")
+  bracket_end : PlainMark (codes "]")
+  brace_end : PlainMark (codes "}")
+  a_comma : PlainMark (codes ",")
+  one_semi : PlainMark (codes ";")
+  two_semis : PlainMark (codes ";;")
+  one_colon : PlainMark (codes ":")
+  two_colons : PlainMark (codes "::")
+  assign : PlainMark (codes ":=")
+  coercion : PlainMark (codes ":>")
+  one_dot : PlainMark (codes ".")
+  two_dots : PlainMark (codes "..")
 
 -- what is spelled where a class of bytes stands
 abbrev pub Of : Class → List ℕ → List ℕ → Type 0
@@ -79,12 +114,12 @@ Of word_class w rest = Run is_lower goes_on w ⊎ IsModuleType w rest
 Of upper_class w rest = Run is_upper goes_on w ⊎ IsQualifier w
 Of digit_class w rest = IsNumeral w
 Of tick_class w rest = IsChar w ⊎ IsTyVar w rest
-Of quote_class w rest = IsString w
-Of paren_class w rest = IsMark w ⊎ (IsUnit w ⊎ IsOpName w)
-Of bracket_class w rest = IsMark w ⊎ IsNil w
-Of brace_class w rest = IsMark w ⊎ IsString w
-Of sign_class w rest = IsMark w ⊎ Run begins_operator is_sign w
-Of mark_class w rest = IsMark w ⊎ Run (λ b. b == 35) is_sign w
+Of quote_class w rest = (e : List ℕ) × (EndsString e) × (w ≡ 34 ∷ e)
+Of paren_class w rest = ParenMark w ⊎ (IsUnit w ⊎ IsOpName w)
+Of bracket_class w rest = BracketMark w ⊎ IsNil w
+Of brace_class w rest = BraceMark w ⊎ IsQuoted w
+Of sign_class w rest = SignMark w ⊎ Run begins_operator is_sign w
+Of mark_class w rest = PlainMark w ⊎ Run (λ b. b == 35) is_sign w
 
 -- a spelling has a byte, and is of its first byte's class
 pub record Classed (w rest : List ℕ) : Type 0 where
@@ -100,33 +135,33 @@ run_classed test more c (b ∷ bs) rest byte run of = classed c (b ∷ bs) rest 
 
 mark_classed : {k : Kind} {w : List ℕ} (rest : List ℕ) → Mark k w → Classed w rest
 unfolding class_of
-mark_classed rest left_paren_mark = classed paren_class (codes "(") rest (omega arith) refl (inl (_, left_paren_mark))
-mark_classed rest right_paren_mark = classed mark_class (codes ")") rest (omega arith) refl (inl (_, right_paren_mark))
-mark_classed rest left_bracket_mark = classed bracket_class (codes "[") rest (omega arith) refl (inl (_, left_bracket_mark))
-mark_classed rest right_bracket_mark = classed mark_class (codes "]") rest (omega arith) refl (inl (_, right_bracket_mark))
-mark_classed rest left_brace_mark = classed brace_class (codes "{") rest (omega arith) refl (inl (_, left_brace_mark))
-mark_classed rest right_brace_mark = classed mark_class (codes "}") rest (omega arith) refl (inl (_, right_brace_mark))
-mark_classed rest comma_mark = classed mark_class (codes ",") rest (omega arith) refl (inl (_, comma_mark))
-mark_classed rest semi_mark = classed mark_class (codes ";") rest (omega arith) refl (inl (_, semi_mark))
-mark_classed rest semi_semi_mark = classed mark_class (codes ";;") rest (omega arith) refl (inl (_, semi_semi_mark))
-mark_classed rest colon_mark = classed mark_class (codes ":") rest (omega arith) refl (inl (_, colon_mark))
-mark_classed rest dot_mark = classed mark_class (codes ".") rest (omega arith) refl (inl (_, dot_mark))
-mark_classed rest colon_colon_mark = classed mark_class (codes "::") rest (omega arith) refl (inl (_, colon_colon_mark))
-mark_classed rest colon_equal_mark = classed mark_class (codes ":=") rest (omega arith) refl (inl (_, colon_equal_mark))
-mark_classed rest left_array_sign = classed bracket_class (codes "[|") rest (omega arith) refl (inl (_, left_array_sign))
-mark_classed rest right_array_sign = classed sign_class (codes "|]") rest (omega arith) refl (inl (_, right_array_sign))
-mark_classed rest left_less_sign = classed bracket_class (codes "[<") rest (omega arith) refl (inl (_, left_less_sign))
-mark_classed rest left_greater_sign = classed bracket_class (codes "[>") rest (omega arith) refl (inl (_, left_greater_sign))
-mark_classed rest right_greater_sign = classed sign_class (codes ">]") rest (omega arith) refl (inl (_, right_greater_sign))
-mark_classed rest left_object_sign = classed brace_class (codes "{<") rest (omega arith) refl (inl (_, left_object_sign))
-mark_classed rest right_object_sign = classed sign_class (codes ">}") rest (omega arith) refl (inl (_, right_object_sign))
-mark_classed rest attribute_sign = classed bracket_class (codes "[@") rest (omega arith) refl (inl (_, attribute_sign))
-mark_classed rest item_attribute_sign = classed bracket_class (codes "[@@") rest (omega arith) refl (inl (_, item_attribute_sign))
-mark_classed rest floating_attribute_sign = classed bracket_class (codes "[@@@") rest (omega arith) refl (inl (_, floating_attribute_sign))
-mark_classed rest extension_sign = classed bracket_class (codes "[%") rest (omega arith) refl (inl (_, extension_sign))
-mark_classed rest item_extension_sign = classed bracket_class (codes "[%%") rest (omega arith) refl (inl (_, item_extension_sign))
-mark_classed rest dots_sign = classed mark_class (codes "..") rest (omega arith) refl (inl (_, dots_sign))
-mark_classed rest coercion_sign = classed mark_class (codes ":>") rest (omega arith) refl (inl (_, coercion_sign))
+mark_classed rest left_paren_mark = classed paren_class (codes "(") rest (omega arith) refl (inl one_paren)
+mark_classed rest right_paren_mark = classed mark_class (codes ")") rest (omega arith) refl (inl paren_end)
+mark_classed rest left_bracket_mark = classed bracket_class (codes "[") rest (omega arith) refl (inl one_bracket)
+mark_classed rest right_bracket_mark = classed mark_class (codes "]") rest (omega arith) refl (inl bracket_end)
+mark_classed rest left_brace_mark = classed brace_class (codes "{") rest (omega arith) refl (inl one_brace)
+mark_classed rest right_brace_mark = classed mark_class (codes "}") rest (omega arith) refl (inl brace_end)
+mark_classed rest comma_mark = classed mark_class (codes ",") rest (omega arith) refl (inl a_comma)
+mark_classed rest semi_mark = classed mark_class (codes ";") rest (omega arith) refl (inl one_semi)
+mark_classed rest semi_semi_mark = classed mark_class (codes ";;") rest (omega arith) refl (inl two_semis)
+mark_classed rest colon_mark = classed mark_class (codes ":") rest (omega arith) refl (inl one_colon)
+mark_classed rest dot_mark = classed mark_class (codes ".") rest (omega arith) refl (inl one_dot)
+mark_classed rest colon_colon_mark = classed mark_class (codes "::") rest (omega arith) refl (inl two_colons)
+mark_classed rest colon_equal_mark = classed mark_class (codes ":=") rest (omega arith) refl (inl assign)
+mark_classed rest left_array_sign = classed bracket_class (codes "[|") rest (omega arith) refl (inl array)
+mark_classed rest right_array_sign = classed sign_class (codes "|]") rest (omega arith) refl (inl array_end)
+mark_classed rest left_less_sign = classed bracket_class (codes "[<") rest (omega arith) refl (inl less)
+mark_classed rest left_greater_sign = classed bracket_class (codes "[>") rest (omega arith) refl (inl greater)
+mark_classed rest right_greater_sign = classed sign_class (codes ">]") rest (omega arith) refl (inl greater_end)
+mark_classed rest left_object_sign = classed brace_class (codes "{<") rest (omega arith) refl (inl object)
+mark_classed rest right_object_sign = classed sign_class (codes ">}") rest (omega arith) refl (inl object_end)
+mark_classed rest attribute_sign = classed bracket_class (codes "[@") rest (omega arith) refl (inl at_one)
+mark_classed rest item_attribute_sign = classed bracket_class (codes "[@@") rest (omega arith) refl (inl at_two)
+mark_classed rest floating_attribute_sign = classed bracket_class (codes "[@@@") rest (omega arith) refl (inl at_three)
+mark_classed rest extension_sign = classed bracket_class (codes "[%") rest (omega arith) refl (inl percent_one)
+mark_classed rest item_extension_sign = classed bracket_class (codes "[%%") rest (omega arith) refl (inl percent_two)
+mark_classed rest dots_sign = classed mark_class (codes "..") rest (omega arith) refl (inl two_dots)
+mark_classed rest coercion_sign = classed mark_class (codes ":>") rest (omega arith) refl (inl coercion)
 
 run_first : (w : List ℕ) → Run is_digit is_decimal w → (b : ℕ) × (bs : List ℕ) × (is_digit b ≡ true) × (w ≡ b ∷ bs)
 run_first [] run = absurd run
@@ -173,8 +208,8 @@ qualifier_classed (b ∷ bs) rest run = classed upper_class (b ∷ bs ++ codes "
 
 string_classed : (w rest : List ℕ) → IsString w → Classed w rest
 unfolding class_of
-string_classed w rest (string ends) = classed quote_class _ _ (omega arith) refl (string ends)
-string_classed w rest (quoted_string is) = classed_at brace_class w rest 123 _ is.whole refl (inr (quoted_string is))
+string_classed w rest (string {bs = e} ends) = classed quote_class _ _ (omega arith) refl (e, ends, refl)
+string_classed w rest (quoted_string is) = classed_at brace_class w rest 123 _ is.whole refl (inr is)
 
 -- each spelling is of the class of its first byte
 pub by_class : {k : Kind} {w n rest : List ℕ} → Spells k w n rest → Classed w rest
