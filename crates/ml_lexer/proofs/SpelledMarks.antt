@@ -22,7 +22,7 @@ pub data FoundIs (c : Class) (bs : List ℕ) : Found → Type 0 where
   is_unclosed : IsUnclosed bs → FoundIs c bs (found junk (length bs))
 
 -- what is found is spelled there
-record IsThere (bs : List ℕ) (f : Found) : Type 0 where
+pub record IsThere (bs : List ℕ) (f : Found) : Type 0 where
   pub spelled : List ℕ
   pub rest : List ℕ
   pub whole : bs ≡ spelled ++ rest
@@ -30,7 +30,7 @@ record IsThere (bs : List ℕ) (f : Found) : Type 0 where
   pub named : take f.name_size (drop f.name_start bs) ≡ spelled
   pub spells : Spells f.kind spelled spelled rest
 
-there : (bs w rest : List ℕ) (k : Kind) (n : ℕ) → bs ≡ w ++ rest → n ≡ length w → Spells k w w rest → IsThere bs (found k n)
+pub there : (bs w rest : List ℕ) (k : Kind) (n : ℕ) → bs ≡ w ++ rest → n ≡ length w → Spells k w w rest → IsThere bs (found k n)
 there bs w rest k n whole size spells = record {
   spelled = w;
   rest = rest;
@@ -44,10 +44,10 @@ there bs w rest k n whole size spells = record {
     front [] v = refl
     front (x ∷ xs) v = ap (λ (l : List ℕ). x ∷ l) (front xs v)
 
-one : (bs : List ℕ) (b : ℕ) (k : Kind) → Mark k (b ∷ []) → 0 < b → (get_or bs 0 0 == b) ≡ true → IsThere bs (found k 1)
+pub one : (bs : List ℕ) (b : ℕ) (k : Kind) → Mark k (b ∷ []) → 0 < b → (get_or bs 0 0 == b) ≡ true → IsThere bs (found k 1)
 one bs b k mark some is = there bs (b ∷ []) (drop 1 bs) k 1 (first_known bs b (eqb-true (get_or bs 0 0) b is) some) refl (a_mark mark)
 
-two : (bs : List ℕ) (b c : ℕ) (k : Kind) → Mark k (b ∷ c ∷ []) → 0 < b → 0 < c → (get_or bs 0 0 == b) ≡ true → (get_or bs 1 0 == c) ≡ true → IsThere bs (found k 2)
+pub two : (bs : List ℕ) (b c : ℕ) (k : Kind) → Mark k (b ∷ c ∷ []) → 0 < b → 0 < c → (get_or bs 0 0 == b) ≡ true → (get_or bs 1 0 == c) ≡ true → IsThere bs (found k 2)
 two bs b c k mark some more is then_is = there bs (b ∷ c ∷ []) (drop 2 bs) k 2 (two_known b c bs (and_from (get_or bs 0 0 == b) (get_or bs 1 0 == c) is then_is) some more) refl (a_mark mark)
 
 mark_there : (bs : List ℕ) (b c : ℕ) (k d : Kind) → Mark k (b ∷ []) → Mark d (b ∷ c ∷ []) → 0 < b → 0 < c → (get_or bs 0 0 == b) ≡ true → IsThere bs (mark_found k c d bs)
@@ -69,7 +69,7 @@ hash_there (b ∷ bs) is =
     let n = run_length is_sign bs in
     there (b ∷ bs) (b ∷ take n bs) (drop n bs) outside (1 + n) (ap (λ (l : List ℕ). b ∷ l) (sym (take-append-drop n bs))) (omega (arith, run_le is_sign bs, length-take n bs)) (a_hash (is, run_passes is_sign bs))
 
-abbrev size_of : Found → ℕ
+abbrev pub size_of : Found → ℕ
 size_of f = f.size
 
 single_size : (k d : Kind) (c x : ℕ) → 1 ≤ size_of (if x == c then found d 2 else found k 1)

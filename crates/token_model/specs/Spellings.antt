@@ -112,6 +112,7 @@ pub data IsOperatorKind : Kind → Type 0 where
   kind8 : IsOperatorKind op8
   kind7 : IsOperatorKind op7
   prefix_kind : IsOperatorKind prefix
+  assignment_kind : IsOperatorKind colon_equal
 
 -- an operator that may stand in an OpName
 pub data IsOperator : List ℕ → Type 0 where
