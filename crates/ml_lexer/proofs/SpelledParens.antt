@@ -14,7 +14,7 @@ use Rattle.ml_lexer.specs.Scans.{Found, found, run_length, run_end, operator_end
 use Rattle.ml_lexer.proofs.Runs.{run_exact, run_passes, run_le}
 use Rattle.ml_lexer.proofs.Quoted.{first_known, split_at}
 use Rattle.ml_lexer.proofs.Inside.{two_known}
-use Rattle.ml_lexer.proofs.Classes.{Class, Of, IsUnit, IsOpName, ParenMark, one_paren, paren_class}
+use Rattle.ml_lexer.proofs.Classes.{by_class, Class, Of, IsUnit, IsOpName, ParenMark, one_paren, paren_class}
 use Rattle.ml_lexer.proofs.Spelled.{NoLonger, IsSpelled, run_all, run_front}
 use Rattle.ml_lexer.proofs.SpelledMarks.{FoundIs, is_spelled, size_of}
 use Rattle.ml_lexer.proofs.SpelledBrackets.{byte_behind, blanks_cut}
@@ -171,3 +171,150 @@ operator_found from l op =
   where
     long : (test : ℕ → Bool) (w : List ℕ) → run_length test w ≡ length (take (run_length test w) w)
     long test w = omega (arith, length-take (run_length test w) w, run_le test w)
+
+-- a byte behind a front
+seam_get : (a l : List ℕ) → get_or (a ++ l) (length a) 0 ≡ get_or l 0 0
+seam_get [] l = refl
+seam_get (x ∷ a) l = seam_get a l
+
+seam_drop : (a l : List ℕ) → drop (length a) (a ++ l) ≡ l
+seam_drop a l = drop-append_seam a l
+
+-- what is found is spelled there
+record IsNamed (bs : List ℕ) (f : Found) : Type 0 where
+  pub spelled : List ℕ
+  pub name : List ℕ
+  pub rest : List ℕ
+  pub whole : bs ≡ spelled ++ rest
+  pub size : f.size ≡ length spelled
+  pub named : take f.name_size (drop f.name_start bs) ≡ name
+  pub spells : Spells f.kind spelled name rest
+
+-- the parts of an operator in parentheses in one order
+canonical : (a o z rest : List ℕ) → (40 ∷ a ++ o ++ z ++ codes ")") ++ rest ≡ 40 ∷ (a ++ (o ++ (z ++ 41 ∷ rest)))
+canonical a o z rest =
+    append_assoc (40 ∷ a ++ o ++ z) (codes ")") rest ∙ append_assoc (40 ∷ a ++ o) z (41 ∷ rest) ∙ append_assoc (40 ∷ a) o (z ++ 41 ∷ rest)
+
+long : (a o z : List ℕ) → length (40 ∷ a ++ o ++ z ++ codes ")") ≡ suc (length a) + length o + length z + 1
+long a o z = omega (arith, length-append (40 ∷ a ++ o ++ z) (codes ")"), length-append (40 ∷ a ++ o) z, length-append (40 ∷ a) o)
+
+spelled_some : {k : Kind} {w n rest : List ℕ} → Spells k w n rest → 0 < length w
+spelled_some s = (by_class s).some
+
+unit_there : (b : ℕ) (cs : List ℕ) → b ≡ 40 → (get_or (b ∷ cs) (run_end is_blank 1 (b ∷ cs)) 0 == 41) ≡ true → IsNamed (b ∷ cs) (found unit (run_end is_blank 1 (b ∷ cs) + 1))
+unit_there b cs is e =
+    let n = run_length is_blank cs in
+    let last : get_or cs n 0 ≡ 41 = sym (byte_behind b cs) ∙ eqb-true (get_or (b ∷ cs) (run_end is_blank 1 (b ∷ cs)) 0) 41 e in
+    let a = take n cs in
+    let w = 40 ∷ a ++ codes ")" in
+    let whole : b ∷ cs ≡ w ++ drop (suc n) cs = ap (λ x. x ∷ cs) is ∙ ap (λ (l : List ℕ). 40 ∷ l) (blanks_cut cs 41 last (omega arith)) in
+    let size : 1 + n + 1 ≡ length w = omega (arith, length-append a (codes ")"), run_le is_blank cs, length-take n cs) in
+    record { spelled = w; name = w; rest = drop (suc n) cs; whole = whole; size = size; named = ap (λ (l : List ℕ). take (1 + n + 1) l) whole ∙ ap (λ k. take k (w ++ drop (suc n) cs)) size ∙ take-append_seam w (drop (suc n) cs); spells = a_unit a (run_passes is_blank cs) }
+
+left_there : (bs : List ℕ) → get_or bs 0 0 ≡ 40 → IsNamed bs (found left_paren 1)
+left_there bs is =
+    let whole = first_known bs 40 is (omega arith) in
+    record { spelled = codes "("; name = codes "("; rest = drop 1 bs; whole = whole; size = refl; named = ap (λ (l : List ℕ). take 1 l) whole; spells = a_mark left_paren_mark }
+
+op_there : (b : ℕ) (cs : List ℕ) (op : Kind × ℕ) → b ≡ 40 → operator_end (run_end is_blank 1 (b ∷ cs)) (b ∷ cs) ≡ Some op → is_operator_kind op.0 ≡ true → get_or (b ∷ cs) (run_end is_blank op.1 (b ∷ cs)) 0 ≡ 41
+    → IsNamed (b ∷ cs) (record { kind = op_name; size = run_end is_blank op.1 (b ∷ cs) + 1; name_start = run_end is_blank 1 (b ∷ cs); name_size = op.1 - run_end is_blank 1 (b ∷ cs) })
+op_there b cs op is some kind last =
+    let n = run_length is_blank cs in
+    let from = run_end is_blank 1 (b ∷ cs) in
+    let place : from ≡ suc n = omega arith in
+    let here : drop from (b ∷ cs) ≡ drop n cs = ap (λ k. drop k (b ∷ cs)) place in
+    let found_op = operator_found from (drop from (b ∷ cs)) op (sym (operator_end_is from (b ∷ cs)) ∙ some) kind in
+    let o = found_op.0 in
+    let tail = found_op.1 in
+    let e = op.1 in
+    let behind : drop e (b ∷ cs) ≡ tail = ap (λ k. drop k (b ∷ cs)) found_op.4 ∙ sym (drop-drop (length o) from (b ∷ cs)) ∙ ap (λ (l : List ℕ). drop (length o) l) found_op.2 ∙ seam_drop o tail in
+    let m = run_length is_blank tail in
+    let end : run_end is_blank e (b ∷ cs) ≡ e + m = ap (λ (l : List ℕ). e + run_length is_blank l) behind in
+    let closes : get_or tail m 0 ≡ 41 = ap (λ (l : List ℕ). get_or l m 0) (sym behind) ∙ get_or-drop e (b ∷ cs) m 0 ∙ ap (λ k. get_or (b ∷ cs) k 0) (sym end) ∙ last in
+    let a = take n cs in
+    let z = take m tail in
+    let rest = drop (suc m) tail in
+    let w = 40 ∷ a ++ o ++ z ++ codes ")" in
+    let inner : cs ≡ a ++ (o ++ (z ++ 41 ∷ rest)) = sym (take-append-drop n cs) ∙ ap (λ (l : List ℕ). a ++ l) (sym here ∙ found_op.2 ∙ ap (λ (l : List ℕ). o ++ l) (split_at tail m 41 closes (omega arith))) in
+    let whole : b ∷ cs ≡ w ++ rest = ap (λ x. x ∷ cs) is ∙ ap (λ (l : List ℕ). 40 ∷ l) inner ∙ sym (canonical a o z rest) in
+    let size : run_end is_blank e (b ∷ cs) + 1 ≡ length w = omega (arith, end, found_op.4, long a o z, run_le is_blank cs, length-take n cs, run_le is_blank tail, length-take m tail) in
+    let shown : e - from ≡ length o = omega (arith, found_op.4) in
+    record { spelled = w; name = o; rest = rest; whole = whole; size = size; named = ap (λ k. take k (drop from (b ∷ cs))) shown ∙ ap (λ (l : List ℕ). take (length o) l) found_op.2 ∙ take-append_seam o tail; spells = an_op_name a z (run_passes is_blank cs) found_op.3 (run_passes is_blank tail) }
+
+paren_or : (b : ℕ) (cs : List ℕ) (o : Option (Kind × ℕ)) → b ≡ 40 → operator_end (run_end is_blank 1 (b ∷ cs)) (b ∷ cs) ≡ o → IsNamed (b ∷ cs) (op_name_found (run_end is_blank 1 (b ∷ cs)) o (b ∷ cs))
+paren_or b cs None is eq = left_there (b ∷ cs) is
+paren_or b cs (Some op) is eq =
+    elim (is_operator_kind op.0 && get_or (b ∷ cs) (run_end is_blank op.1 (b ∷ cs)) 0 == 41) as (λ t. (is_operator_kind op.0 && get_or (b ∷ cs) (run_end is_blank op.1 (b ∷ cs)) 0 == 41) ≡ t → IsNamed (b ∷ cs) (if t then record { kind = op_name; size = run_end is_blank op.1 (b ∷ cs) + 1; name_start = run_end is_blank 1 (b ∷ cs); name_size = op.1 - run_end is_blank 1 (b ∷ cs) } else found left_paren 1)) [
+      | true ↦ λ e. let parts = and_parts (is_operator_kind op.0) (get_or (b ∷ cs) (run_end is_blank op.1 (b ∷ cs)) 0 == 41) e in op_there b cs op is eq parts.0 (eqb-true (get_or (b ∷ cs) (run_end is_blank op.1 (b ∷ cs)) 0) 41 parts.1)
+      | false ↦ λ e. left_there (b ∷ cs) is
+    ] refl
+
+paren_there : (bs : List ℕ) → get_or bs 0 0 ≡ 40 → IsNamed bs (paren_found bs)
+unfolding paren_found
+paren_there [] is = absurd (omega (arith, is))
+paren_there (b ∷ cs) is =
+    elim (get_or (b ∷ cs) (run_end is_blank 1 (b ∷ cs)) 0 == 41) as (λ t. (get_or (b ∷ cs) (run_end is_blank 1 (b ∷ cs)) 0 == 41) ≡ t → IsNamed (b ∷ cs) (if t then found unit (run_end is_blank 1 (b ∷ cs) + 1) else op_name_found (run_end is_blank 1 (b ∷ cs)) (operator_end (run_end is_blank 1 (b ∷ cs)) (b ∷ cs)) (b ∷ cs))) [
+      | true ↦ λ e. unit_there b cs is e
+      | false ↦ λ e. paren_or b cs (operator_end (run_end is_blank 1 (b ∷ cs)) (b ∷ cs)) is refl
+    ] refl
+
+-- a unit at the front is found
+unit_longest : (a behind : List ℕ) → AreBlanks a → (paren_found (40 ∷ a ++ 41 ∷ behind)).size ≡ suc (length a) + 1
+unfolding paren_found
+unit_longest a behind blanks =
+    let cs = a ++ 41 ∷ behind in
+    let bs = 40 ∷ cs in
+    let exact : run_length is_blank cs ≡ length a = run_exact is_blank a (41 ∷ behind) blanks refl in
+    let test : (get_or bs (run_end is_blank 1 bs) 0 == 41) ≡ true = eq-eqb (get_or bs (run_end is_blank 1 bs) 0) 41 (byte_behind 40 cs ∙ ap (λ k. get_or cs k 0) exact ∙ seam_get a (41 ∷ behind)) in
+    ap (λ t. size_of (if t then found unit (run_end is_blank 1 bs + 1) else op_name_found (run_end is_blank 1 bs) (operator_end (run_end is_blank 1 bs) bs) bs)) test ∙ omega (arith, exact)
+
+op_size : (from : ℕ) (k : Kind) (e : ℕ) (bs : List ℕ) → is_operator_kind k ≡ true → get_or bs (run_end is_blank e bs) 0 ≡ 41 → (op_name_found from (Some (k, e)) bs).size ≡ run_end is_blank e bs + 1
+op_size from k e bs kind last = ap (λ t. size_of (if t then record { kind = op_name; size = run_end is_blank e bs + 1; name_start = from; name_size = e - from } else found left_paren 1)) (and_from (is_operator_kind k) (get_or bs (run_end is_blank e bs) 0 == 41) kind (eq-eqb (get_or bs (run_end is_blank e bs) 0) 41 last))
+
+-- an operator in parentheses at the front is found
+op_longest : (a o z behind : List ℕ) → AreBlanks a → IsOperator o → AreBlanks z → (paren_found (40 ∷ a ++ (o ++ (z ++ 41 ∷ behind)))).size ≡ suc (length a) + length o + length z + 1
+unfolding paren_found
+op_longest a o z behind before is after =
+    let tail = z ++ 41 ∷ behind in
+    let cs = a ++ (o ++ tail) in
+    let bs = 40 ∷ cs in
+    let from = run_end is_blank 1 bs in
+    let first = operator_first o tail is in
+    let exact : run_length is_blank cs ≡ length a = run_exact is_blank a (o ++ tail) before first.0 in
+    let place : from ≡ suc (length a) = omega (arith, exact) in
+    let here : drop from bs ≡ o ++ tail = ap (λ k. drop k bs) place ∙ seam_drop a (o ++ tail) in
+    let test : (get_or bs from 0 == 41) ≡ false = ap (λ k. get_or bs k 0 == 41) place ∙ ap (λ k. k == 41) (seam_get a (o ++ tail)) ∙ first.1 in
+    let ends = blanks_end z behind after in
+    let scan = operator_scanned from o tail is ends.0 ends.1 in
+    let e = from + length o in
+    let found_op : operator_end from bs ≡ Some (scan.0, e) = operator_end_is from bs ∙ ap (operator_there from) here ∙ scan.1 in
+    let later : drop e bs ≡ tail = sym (drop-drop (length o) from bs) ∙ ap (λ (l : List ℕ). drop (length o) l) here ∙ seam_drop o tail in
+    let end : run_end is_blank e bs ≡ e + length z = ap (λ (l : List ℕ). e + run_length is_blank l) later ∙ ap (λ k. e + k) (run_exact is_blank z (41 ∷ behind) after refl) in
+    let last : get_or bs (run_end is_blank e bs) 0 ≡ 41 = ap (λ k. get_or bs k 0) end ∙ sym (get_or-drop e bs (length z) 0) ∙ ap (λ (l : List ℕ). get_or l (length z) 0) later ∙ seam_get z (41 ∷ behind) in
+    let chain : size_of (if get_or bs from 0 == 41 then found unit (from + 1) else op_name_found from (operator_end from bs) bs) ≡ run_end is_blank e bs + 1 =
+    ap (λ t. size_of (if t then found unit (from + 1) else op_name_found from (operator_end from bs) bs)) test ∙ ap (λ (x : Option (Kind × ℕ)). size_of (op_name_found from x bs)) found_op ∙ op_size from scan.0 e bs scan.2 last in
+    chain ∙ omega (arith, end, place)
+
+paren_longest : (bs : List ℕ) → get_or bs 0 0 ≡ 40 → NoLonger paren_class bs (paren_found bs).size
+paren_longest bs is front behind whole of = elim of [
+    | inl m ↦ omega (arith, mark_one m, some)
+    | inr r ↦ elim r [
+      | inl u ↦
+        let w = 40 ∷ u.0 ++ codes ")" in
+        let order : bs ≡ 40 ∷ u.0 ++ 41 ∷ behind = whole ∙ ap (λ (l : List ℕ). l ++ behind) u.2 ∙ append_assoc (40 ∷ u.0) (codes ")") behind in
+        omega (arith, ap (λ (l : List ℕ). (paren_found l).size) order ∙ unit_longest u.0 behind u.1, ap length u.2, length-append u.0 (codes ")"))
+      | inr p ↦
+        let order : bs ≡ 40 ∷ p.0 ++ (p.1 ++ (p.2 ++ 41 ∷ behind)) = whole ∙ ap (λ (l : List ℕ). l ++ behind) p.6 ∙ canonical p.0 p.1 p.2 behind in
+        omega (arith, ap (λ (l : List ℕ). (paren_found l).size) order ∙ op_longest p.0 p.1 p.2 behind p.3 p.4 p.5, ap length p.6, long p.0 p.1 p.2)
+    ]
+  ]
+  where
+    mark_one : {w : List ℕ} → ParenMark w → length w ≤ 1
+    mark_one one_paren = omega arith
+    some : 1 ≤ (paren_found bs).size
+    some = let t = paren_there bs is in omega (arith, t.size, spelled_some t.spells)
+
+pub paren_is : (bs : List ℕ) → get_or bs 0 0 ≡ 40 → FoundIs paren_class bs (paren_found bs)
+paren_is bs is =
+    let t = paren_there bs is in
+    is_spelled (record { spelled = t.spelled; name = t.name; rest = t.rest; whole = t.whole; size = t.size; named = t.named; spells = t.spells; longest = paren_longest bs is })
