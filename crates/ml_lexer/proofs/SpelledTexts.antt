@@ -36,6 +36,15 @@ head_same e = cc
 string_size : (bs e behind : List ℕ) → EndsString e → bs ≡ 34 ∷ e ++ behind → string_end false 1 (drop 1 bs) ≡ Some (1 + length e)
 string_size bs e behind ends whole = ap (λ (l : List ℕ). string_end false 1 (drop 1 l)) whole ∙ string_end_is e behind 1 ends
 
+string_not_there : (l spelled rest : List ℕ) → string_end false 1 l ≡ None → 34 ∷ l ≡ spelled ++ rest → IsString spelled → ⊥
+string_not_there l spelled rest none same (string {bs = e} ends) = none_not_some (sym none ∙ string_size (34 ∷ l) e rest ends same)
+string_not_there l spelled rest none same (quoted_string q) = absurd (omega (arith, ap (λ (x : List ℕ). get_or x 0 0) same ∙ (quoted_is spelled rest q).0))
+
+-- a string whose end isn't found has none
+pub string_unclosed : (bs : List ℕ) → get_or bs 0 0 ≡ 34 → string_end false 1 (drop 1 bs) ≡ None → IsUnclosed bs
+string_unclosed [] is none = absurd (omega (arith, is))
+string_unclosed (b ∷ bs) is none = subst (λ x. IsUnclosed (x ∷ bs)) (sym is) (unclosed_string (λ spelled rest same text. string_not_there bs spelled rest none same text))
+
 quote_by : (o : Option ℕ) (bs : List ℕ) → get_or bs 0 0 ≡ 34 → string_end false 1 (drop 1 bs) ≡ o → FoundIs quote_class bs (string_found o bs)
 quote_by o [] is eq = absurd (omega (arith, is))
 quote_by (Some n) (b ∷ bs) is eq =
@@ -43,13 +52,7 @@ quote_by (Some n) (b ∷ bs) is eq =
     let whole : b ∷ bs ≡ (34 ∷ f.0) ++ f.1 = ap (λ x. x ∷ bs) is ∙ ap (λ (l : List ℕ). 34 ∷ l) f.2 in
     is_spelled (plainly quote_class (b ∷ bs) (34 ∷ f.0) f.1 str n whole (omega (arith, f.4)) (a_string (string f.3)) (λ front behind same of.
       omega (arith, some_same (sym (string_size (b ∷ bs) of.0 behind of.1 (same ∙ ap (λ (l : List ℕ). l ++ behind) of.2)) ∙ eq), ap length of.2)))
-quote_by None (b ∷ bs) is eq =
-    let none : (spelled rest : List ℕ) → 34 ∷ bs ≡ spelled ++ rest → IsString spelled → ⊥ = λ spelled rest same text. not_there bs spelled rest eq same text in
-    subst (λ x. FoundIs quote_class (x ∷ bs) (found junk (length (b ∷ bs)))) (sym is) (is_unclosed (unclosed_string none))
-  where
-    not_there : (l spelled rest : List ℕ) → string_end false 1 l ≡ None → 34 ∷ l ≡ spelled ++ rest → IsString spelled → ⊥
-    not_there l spelled rest none same (string {bs = e} ends) = none_not_some (sym none ∙ string_size (34 ∷ l) e rest ends same)
-    not_there l spelled rest none same (quoted_string q) = absurd (omega (arith, ap (λ (x : List ℕ). get_or x 0 0) same ∙ (quoted_is spelled rest q).0))
+quote_by None (b ∷ bs) is eq = is_unclosed (string_unclosed (b ∷ bs) is eq)
 
 pub quote_is : (bs : List ℕ) → get_or bs 0 0 ≡ 34 → FoundIs quote_class bs (quote_found bs)
 unfolding quote_found
@@ -65,6 +68,14 @@ brace_short : {front : List ℕ} (bs behind : List ℕ) → bs ≡ front ++ behi
 brace_short bs behind whole opened one_brace = omega arith
 brace_short bs behind whole opened object = absurd (both_ways (opens_quoted bs) (ap opens_quoted whole) opened)
 
+quoted_not_there : (bs spelled rest : List ℕ) → get_or bs 0 0 ≡ 123 → quoted_end bs ≡ None → bs ≡ spelled ++ rest → IsString spelled → ⊥
+quoted_not_there bs spelled rest is none same (string {bs = e} ends) = absurd (omega (arith, is, ap (λ (x : List ℕ). get_or x 0 0) same))
+quoted_not_there bs spelled rest is none same (quoted_string q) = none_not_some (sym none ∙ ap quoted_end same ∙ (quoted_is spelled rest q).2)
+
+-- a quoted string whose end isn't found has none
+pub quoted_unclosed : (bs : List ℕ) → get_or bs 0 0 ≡ 123 → opens_quoted bs ≡ true → quoted_end bs ≡ None → IsUnclosed bs
+quoted_unclosed bs is opened none = unclosed_quoted (opens_from bs is opened) (λ spelled rest same text. quoted_not_there bs spelled rest is none same text)
+
 quoted_by : (o : Option ℕ) (bs : List ℕ) → get_or bs 0 0 ≡ 123 → opens_quoted bs ≡ true → quoted_end bs ≡ o → FoundIs brace_class bs (string_found o bs)
 quoted_by (Some n) bs is opened eq =
     let f = quoted_found bs n is opened eq in
@@ -73,11 +84,7 @@ quoted_by (Some n) bs is opened eq =
       | inl m ↦ omega (arith, brace_short bs behind whole opened m, f.4, long)
       | inr q ↦ omega (arith, some_same (sym (ap quoted_end whole ∙ (quoted_is front behind q).2) ∙ eq))
     ]))
-quoted_by None bs is opened eq = is_unclosed (unclosed_quoted (opens_from bs is opened) (λ spelled rest same text. not_there spelled rest same text))
-  where
-    not_there : (spelled rest : List ℕ) → bs ≡ spelled ++ rest → IsString spelled → ⊥
-    not_there spelled rest same (string {bs = e} ends) = absurd (omega (arith, is, ap (λ (x : List ℕ). get_or x 0 0) same))
-    not_there spelled rest same (quoted_string q) = none_not_some (sym eq ∙ ap quoted_end same ∙ (quoted_is spelled rest q).2)
+quoted_by None bs is opened eq = is_unclosed (quoted_unclosed bs is opened eq)
 
 -- a quoted string begins where one stands
 quoted_opens : (bs front behind : List ℕ) → bs ≡ front ++ behind → IsQuoted front → opens_quoted bs ≡ true

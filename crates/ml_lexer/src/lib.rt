@@ -5,6 +5,7 @@ mod brackets;
 mod comments;
 mod find;
 mod found;
+mod lexer;
 mod names;
 mod numerals;
 mod rest;
