@@ -73,9 +73,13 @@ octal_found a b c d e f g bs is back test =
     let p5 = and_parts (c == 111 && is_octal d && nat_lt d 52 && is_octal e) (is_octal f) parts.0 in
     let p4 = and_parts (c == 111 && is_octal d && nat_lt d 52) (is_octal e) p5.0 in
     let p3 = and_parts (c == 111 && is_octal d) (nat_lt d 52) p4.0 in
-    let p2 = and_parts (c == 111) (is_octal d) p3.0 in
-    (39 ∷ 92 ∷ 111 ∷ d ∷ e ∷ f ∷ 39 ∷ [], bs, ap (λ x. x ∷ b ∷ c ∷ d ∷ e ∷ f ∷ g ∷ bs) is ∙ ap (λ x. 39 ∷ x ∷ c ∷ d ∷ e ∷ f ∷ g ∷ bs) back ∙ ap (λ x. 39 ∷ 92 ∷ x ∷ d ∷ e ∷ f ∷ g ∷ bs) (eqb-true c 111 p2.0) ∙ ap (λ x. 39 ∷ 92 ∷ 111 ∷ d ∷ e ∷ f ∷ x ∷ bs) (eqb-true g 39 parts.1),
-    octal_code (and_from (is_octal d && nat_lt d 52 && is_octal e) (is_octal f) (and_from (is_octal d && nat_lt d 52) (is_octal e) (and_from (is_octal d) (nat_lt d 52) p2.1 p3.1) p4.1) p5.1), refl)
+    let p2 = and_parts (c == 111) (is_octal d) p3.0 in (
+      39 ∷ 92 ∷ 111 ∷ d ∷ e ∷ f ∷ 39 ∷ [],
+      bs,
+      ap (λ x. x ∷ b ∷ c ∷ d ∷ e ∷ f ∷ g ∷ bs) is ∙ ap (λ x. 39 ∷ x ∷ c ∷ d ∷ e ∷ f ∷ g ∷ bs) back ∙ ap (λ x. 39 ∷ 92 ∷ x ∷ d ∷ e ∷ f ∷ g ∷ bs) (eqb-true c 111 p2.0) ∙ ap (λ x. 39 ∷ 92 ∷ 111 ∷ d ∷ e ∷ f ∷ x ∷ bs) (eqb-true g 39 parts.1),
+      octal_code (and_from (is_octal d && nat_lt d 52 && is_octal e) (is_octal f) (and_from (is_octal d && nat_lt d 52) (is_octal e) (and_from (is_octal d) (nat_lt d 52) p2.1 p3.1) p4.1) p5.1),
+      refl,
+    )
 
 -- the size of an escape that is a number, by the bytes behind its first
 abbrev octals : ℕ → ℕ → List ℕ → ℕ

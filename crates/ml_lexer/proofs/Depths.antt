@@ -59,21 +59,24 @@ left w i there = omega (arith, length-drop i w)
 
 pub same_opens : (w : List ℕ) (from depth i : ℕ) → 0 < depth → i < length w → piece_of (drop i w) ≡ opens → Same w from depth i → Same w from (depth + 1) (i + 2)
 same_opens w from depth i some there is same =
-    let two : drop 2 (drop i w) ≡ drop (i + 2) w = drop-drop 2 i w in
-    (λ rest all. same.0 rest (undeeper depth (drop i w) rest some (left w i there) is (subst (λ (x : List ℕ). ClosesAll (depth + 1) x rest) (sym two) all)),
-    λ rest c. subst (λ (x : List ℕ). ClosesAll (depth + 1) x rest) two (deeper depth (drop i w) rest some is (same.1 rest c)))
+    let two : drop 2 (drop i w) ≡ drop (i + 2) w = drop-drop 2 i w in (
+      λ rest all. same.0 rest (undeeper depth (drop i w) rest some (left w i there) is (subst (λ (x : List ℕ). ClosesAll (depth + 1) x rest) (sym two) all)),
+      λ rest c. subst (λ (x : List ℕ). ClosesAll (depth + 1) x rest) two (deeper depth (drop i w) rest some is (same.1 rest c)),
+    )
 
 pub same_closes : (w : List ℕ) (from depth i : ℕ) → 0 < depth → i < length w → piece_of (drop i w) ≡ closes → Same w from depth i → Same w from (depth - 1) (i + 2)
 same_closes w from depth i some there is same =
-    let two : drop 2 (drop i w) ≡ drop (i + 2) w = drop-drop 2 i w in
-    (λ rest all. same.0 rest (unshallower depth (drop i w) rest some (left w i there) is (subst (λ (x : List ℕ). ClosesAll (depth - 1) x rest) (sym two) all)),
-    λ rest c. subst (λ (x : List ℕ). ClosesAll (depth - 1) x rest) two (shallower depth (drop i w) rest some is (same.1 rest c)))
+    let two : drop 2 (drop i w) ≡ drop (i + 2) w = drop-drop 2 i w in (
+      λ rest all. same.0 rest (unshallower depth (drop i w) rest some (left w i there) is (subst (λ (x : List ℕ). ClosesAll (depth - 1) x rest) (sym two) all)),
+      λ rest c. subst (λ (x : List ℕ). ClosesAll (depth - 1) x rest) two (shallower depth (drop i w) rest some is (same.1 rest c)),
+    )
 
 pub same_passes : (w : List ℕ) (from depth i n : ℕ) → 0 < depth → i < length w → piece_of (drop i w) ≡ passes n → Same w from depth i → Same w from depth (i + n)
 same_passes w from depth i n some there is same =
-    let later : drop n (drop i w) ≡ drop (i + n) w = drop-drop n i w in
-    (λ rest all. same.0 rest (unpassing depth n (drop i w) rest some (left w i there) is (subst (λ (x : List ℕ). ClosesAll depth x rest) (sym later) all)),
-    λ rest c. subst (λ (x : List ℕ). ClosesAll depth x rest) later (passing depth n (drop i w) rest some is (same.1 rest c)))
+    let later : drop n (drop i w) ≡ drop (i + n) w = drop-drop n i w in (
+      λ rest all. same.0 rest (unpassing depth n (drop i w) rest some (left w i there) is (subst (λ (x : List ℕ). ClosesAll depth x rest) (sym later) all)),
+      λ rest c. subst (λ (x : List ℕ). ClosesAll depth x rest) later (passing depth n (drop i w) rest some is (same.1 rest c)),
+    )
 
 -- the outermost comment's end
 pub same_ends : (w : List ℕ) (from depth i : ℕ) → depth ≡ 1 → i < length w → piece_of (drop i w) ≡ closes → Same w from depth i → Closes (drop from w) (drop (i + 2) w)

@@ -49,9 +49,9 @@ byte_piece_is l is =
     let b = get_or l 0 0 in
     let quoted : (b == 123 && opens_quoted l) ≡ false = refuted (b == 123 && opens_quoted l) (λ e. is.quoted (opens_from l (eqb-true b 123 (and_parts (b == 123) (opens_quoted l) e).0) (and_parts (b == 123) (opens_quoted l) e).1)) in
     let character : (b == 39 && nat_lt 0 (char_size l)) ≡ false = refuted (b == 39 && nat_lt 0 (char_size l)) (λ e.
-      let parts = and_parts (b == 39) (nat_lt 0 (char_size l)) e in
-      let found = char_found l (eqb-true b 39 parts.0) (ltb-true 0 (char_size l) parts.1) in
-      is.character found.0 found.1 found.2 found.3) in
+    let parts = and_parts (b == 39) (nat_lt 0 (char_size l)) e in
+    let found = char_found l (eqb-true b 39 parts.0) (ltb-true 0 (char_size l) parts.1) in
+    is.character found.0 found.1 found.2 found.3) in
     ap (λ t. if t then opens else (if two_are 42 41 l then closes else (if b == 34 then string_piece (string_end false 1 (drop 1 l)) else later_piece b l))) is.comment
     ∙ ap (λ t. if t then closes else (if b == 34 then string_piece (string_end false 1 (drop 1 l)) else later_piece b l)) is.end
     ∙ ap (λ t. if t then string_piece (string_end false 1 (drop 1 l)) else later_piece b l) is.quote
@@ -95,9 +95,9 @@ byte_is l comment closing quote quoted character = record {
   quote = quote;
   quoted = λ o. let open_is = opens_is l o in both_ways (get_or l 0 0 == 123 && opens_quoted l) quoted (and_from (get_or l 0 0 == 123) (opens_quoted l) (eq-eqb (get_or l 0 0) 123 open_is.0) open_is.1);
   character = λ w behind same is.
-    let size : char_size l ≡ length w = ap char_size same ∙ char_size_is w behind is in
-    let first : get_or l 0 0 ≡ 39 = ap (λ (x : List ℕ). get_or x 0 0) same ∙ ap (λ (x : List ℕ). get_or (x ++ behind) 0 0) (char_first w is).1 in
-    both_ways (get_or l 0 0 == 39 && nat_lt 0 (char_size l)) character (and_from (get_or l 0 0 == 39) (nat_lt 0 (char_size l)) (eq-eqb (get_or l 0 0) 39 first) (lt-ltb 0 (char_size l) (omega (arith, size, char_long w is))))
+      let size : char_size l ≡ length w = ap char_size same ∙ char_size_is w behind is in
+      let first : get_or l 0 0 ≡ 39 = ap (λ (x : List ℕ). get_or x 0 0) same ∙ ap (λ (x : List ℕ). get_or (x ++ behind) 0 0) (char_first w is).1 in
+      both_ways (get_or l 0 0 == 39 && nat_lt 0 (char_size l)) character (and_from (get_or l 0 0 == 39) (nat_lt 0 (char_size l)) (eq-eqb (get_or l 0 0) 39 first) (lt-ltb 0 (char_size l) (omega (arith, size, char_long w is))));
 }
 
 -- the piece that the tests give

@@ -57,8 +57,8 @@ string_end_found false at n (b ∷ bs) some =
     elim (b == 34) as (λ t. b == 34 ≡ t → (if t then Some (at + 1) else string_end (b == 92) (at + 1) bs) ≡ Some n → (e : List ℕ) × (rest : List ℕ) × (b ∷ bs ≡ e ++ rest) × (EndsString e) × (n ≡ at + length e)) [
       | true ↦ λ is. λ e. (b ∷ [], bs, refl, subst (λ x. EndsString (x ∷ [])) (sym (eqb-true b 34 is)) end_quote, omega (arith, some_same e))
       | false ↦ λ is. λ e.
-        let found = string_end_found (b == 92) (at + 1) n bs e in
-        (b ∷ found.0, found.1, ap (λ (l : List ℕ). b ∷ l) found.2, longer b found.0 found.3 is, omega (arith, found.4))
+          let found = string_end_found (b == 92) (at + 1) n bs e in
+          (b ∷ found.0, found.1, ap (λ (l : List ℕ). b ∷ l) found.2, longer b found.0 found.3 is, omega (arith, found.4))
     ] refl some
 
 -- a word that stands at the front
@@ -94,8 +94,8 @@ word_end_is (c ∷ cs) (b ∷ bs) rest at some first =
     let absent : front_is word (b ∷ tail) ≡ false =
     elim (front_is word (b ∷ tail)) as (λ t. front_is word (b ∷ tail) ≡ t → t ≡ false) [
       | true ↦ λ is. absurd (
-        let here : front_is word ((b ∷ bs) ++ word) ≡ true = sym (front_inside word ((b ∷ bs) ++ word) rest (omega (arith, length-append (b ∷ bs) word))) ∙ is in
-        omega (arith, first [] (drop (length word) ((b ∷ bs) ++ word)) (front_split word ((b ∷ bs) ++ word) here)))
+          let here : front_is word ((b ∷ bs) ++ word) ≡ true = sym (front_inside word ((b ∷ bs) ++ word) rest (omega (arith, length-append (b ∷ bs) word))) ∙ is in
+          omega (arith, first [] (drop (length word) ((b ∷ bs) ++ word)) (front_split word ((b ∷ bs) ++ word) here)))
       | false ↦ λ is. refl
     ] refl in
     let later : IsFirstWord word bs = λ before behind same. omega (arith, first (b ∷ before) behind (ap (λ (l : List ℕ). b ∷ l) same)) in
@@ -116,9 +116,9 @@ word_end_found word at n (b ∷ bs) some =
     elim (front_is word (b ∷ bs)) as (λ t. front_is word (b ∷ bs) ≡ t → (if t then Some (at + length word) else word_end word (at + 1) bs) ≡ Some n → (body : List ℕ) × (rest : List ℕ) × (b ∷ bs ≡ (body ++ word) ++ rest) × (IsFirstWord word body) × (n ≡ at + length body + length word)) [
       | true ↦ λ is. λ e. ([], drop (length word) (b ∷ bs), front_split word (b ∷ bs) is, λ before behind same. omega arith, omega (arith, some_same e))
       | false ↦ λ is. λ e.
-        let found = word_end_found word (at + 1) n bs e in
-        let whole : b ∷ bs ≡ b ∷ (found.0 ++ word) ++ found.1 = ap (λ (l : List ℕ). b ∷ l) found.2 in
-        (b ∷ found.0, found.1, whole, first_later b found.0 found.1 (sym (ap (λ (l : List ℕ). front_is word l) whole) ∙ is) found.3, omega (arith, found.4))
+          let found = word_end_found word (at + 1) n bs e in
+          let whole : b ∷ bs ≡ b ∷ (found.0 ++ word) ++ found.1 = ap (λ (l : List ℕ). b ∷ l) found.2 in
+          (b ∷ found.0, found.1, whole, first_later b found.0 found.1 (sym (ap (λ (l : List ℕ). front_is word l) whole) ∙ is) found.3, omega (arith, found.4))
     ] refl some
   where
     first_later : (c : ℕ) (body rest : List ℕ) → front_is word (c ∷ (body ++ word) ++ rest) ≡ false → IsFirstWord word body → IsFirstWord word (c ∷ body)

@@ -45,9 +45,10 @@ opens_split (c ∷ cs) is opened =
     let bar : get_or cs n 0 ≡ 124 = sym (ap (λ k. get_or (c ∷ cs) k 0) end) ∙ eqb-true (get_or (c ∷ cs) (1 + n) 0) 124 opened in
     let place : 1 + n + 1 ≡ suc (suc n) = omega arith in
     let tail : drop (suc n) cs ≡ drop (1 + n + 1) (c ∷ cs) = ap (λ k. drop k (c ∷ cs)) (sym place) in
-    let front : take n cs ≡ take (1 + n - 1) cs = ap (λ k. take k cs) (sym size) in
-    (ap (λ x. x ∷ cs) is ∙ ap (λ (l : List ℕ). 123 ∷ l) (split_at cs n 124 bar (omega arith) ∙ ap (λ (l : List ℕ). l ++ 124 ∷ drop (suc n) cs) front ∙ ap (λ (l : List ℕ). take (1 + n - 1) cs ++ 124 ∷ l) tail),
-    sym (ap (λ (l : List ℕ). list_all is_lower l) front) ∙ run_passes is_lower cs)
+    let front : take n cs ≡ take (1 + n - 1) cs = ap (λ k. take k cs) (sym size) in (
+      ap (λ x. x ∷ cs) is ∙ ap (λ (l : List ℕ). 123 ∷ l) (split_at cs n 124 bar (omega arith) ∙ ap (λ (l : List ℕ). l ++ 124 ∷ drop (suc n) cs) front ∙ ap (λ (l : List ℕ). take (1 + n - 1) cs ++ 124 ∷ l) tail),
+      sym (ap (λ (l : List ℕ). list_all is_lower l) front) ∙ run_passes is_lower cs,
+    )
 
 pub opens_from : (bs : List ℕ) → get_or bs 0 0 ≡ 123 → opens_quoted bs ≡ true → OpensQuoted bs
 opens_from bs is opened = let split = opens_split bs is opened in subst (λ (l : List ℕ). OpensQuoted l) (sym split.0) (opens (quoted_id bs) (drop (run_end is_lower 1 bs + 1) bs) split.1)

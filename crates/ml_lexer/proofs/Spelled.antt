@@ -39,7 +39,7 @@ plainly c bs w rest k n whole size spells longest = record {
   size = size;
   named = ap (λ (l : List ℕ). take n l) whole ∙ ap (λ k. take k (w ++ rest)) size ∙ take-append_seam w rest;
   spells = spells;
-  longest = longest
+  longest = longest;
 }
 
 -- a test that implies another at each byte does so for a list
@@ -80,29 +80,29 @@ upper_spelled bs some is =
     let run = run_front is_upper goes_on bs some is goes in
     let long : n ≡ length (take n bs) = take_long n bs (run_le goes_on bs) in
     let short : (front behind : List ℕ) → bs ≡ front ++ behind → Run is_upper goes_on front → length front ≤ n = λ front behind whole r.
-      subst (λ (l : List ℕ). length front ≤ run_length goes_on l) (sym whole) (front_in_run goes_on front behind (run_all is_upper goes_on front upper_goes_on r)) in
+    subst (λ (l : List ℕ). length front ≤ run_length goes_on l) (sym whole) (front_in_run goes_on front behind (run_all is_upper goes_on front upper_goes_on r)) in
     elim (get_or bs (run_end goes_on 0 bs) 0 == 46) as (λ t. (get_or bs (run_end goes_on 0 bs) 0 == 46) ≡ t → IsSpelled upper_class bs (if t then record { kind = qualifier; size = run_end goes_on 0 bs + 1; name_start = 0; name_size = run_end goes_on 0 bs } else found upper (run_end goes_on 0 bs))) [
       | true ↦ λ e.
-        let point : get_or bs n 0 ≡ 46 = ap (λ k. get_or bs k 0) (sym (end_is goes_on bs)) ∙ eqb-true (get_or bs (run_end goes_on 0 bs) 0) 46 e in
-        record {
-          spelled = take n bs ++ codes ".";
-          name = take n bs;
-          rest = drop (suc n) bs;
-          whole = split_at bs n 46 point (omega arith) ∙ sym (append_assoc (take n bs) (codes ".") (drop (suc n) bs));
-          size = omega (arith, long, length-append (take n bs) (codes "."));
-          named = ap (λ k. take k bs) (end_is goes_on bs);
-          spells = a_qualifier run;
-          longest = λ front behind whole of. elim of [
-            | inl r ↦ omega (arith, short front behind whole r)
-            | inr q ↦ omega (arith, short q.0 (codes "." ++ behind) (whole ∙ ap (λ (l : List ℕ). l ++ behind) q.2 ∙ append_assoc q.0 (codes ".") behind) q.1, ap length q.2, length-append q.0 (codes "."))
-          ]
-        }
+          let point : get_or bs n 0 ≡ 46 = ap (λ k. get_or bs k 0) (sym (end_is goes_on bs)) ∙ eqb-true (get_or bs (run_end goes_on 0 bs) 0) 46 e in
+          record {
+            spelled = take n bs ++ codes ".";
+            name = take n bs;
+            rest = drop (suc n) bs;
+            whole = split_at bs n 46 point (omega arith) ∙ sym (append_assoc (take n bs) (codes ".") (drop (suc n) bs));
+            size = omega (arith, long, length-append (take n bs) (codes "."));
+            named = ap (λ k. take k bs) (end_is goes_on bs);
+            spells = a_qualifier run;
+            longest = λ front behind whole of. elim of [
+              | inl r ↦ omega (arith, short front behind whole r)
+              | inr q ↦ omega (arith, short q.0 (codes "." ++ behind) (whole ∙ ap (λ (l : List ℕ). l ++ behind) q.2 ∙ append_assoc q.0 (codes ".") behind) q.1, ap length q.2, length-append q.0 (codes "."))
+            ];
+          }
       | false ↦ λ e. plainly upper_class bs (take n bs) (drop n bs) upper (run_end goes_on 0 bs) (sym (take-append-drop n bs)) (omega (arith, long)) (an_upper run) (λ front behind whole of. elim of [
-            | inl r ↦ omega (arith, short front behind whole r)
-            | inr q ↦ absurd (
-              let split : bs ≡ q.0 ++ 46 ∷ behind = whole ∙ ap (λ (l : List ℕ). l ++ behind) q.2 ∙ append_assoc q.0 (codes ".") behind in
-              let exact : n ≡ length q.0 = ap (run_length goes_on) split ∙ run_exact goes_on q.0 (46 ∷ behind) (run_all is_upper goes_on q.0 upper_goes_on q.1) refl in
-              let point : get_or bs (run_end goes_on 0 bs) 0 ≡ 46 = ap (λ k. get_or bs k 0) (end_is goes_on bs ∙ exact) ∙ ap (λ (l : List ℕ). get_or l (length q.0) 0) split ∙ get_or-append_seam q.0 46 behind 0 in
-              eqb-false (get_or bs (run_end goes_on 0 bs) 0) 46 e point)
-          ])
+        | inl r ↦ omega (arith, short front behind whole r)
+        | inr q ↦ absurd (
+            let split : bs ≡ q.0 ++ 46 ∷ behind = whole ∙ ap (λ (l : List ℕ). l ++ behind) q.2 ∙ append_assoc q.0 (codes ".") behind in
+            let exact : n ≡ length q.0 = ap (run_length goes_on) split ∙ run_exact goes_on q.0 (46 ∷ behind) (run_all is_upper goes_on q.0 upper_goes_on q.1) refl in
+            let point : get_or bs (run_end goes_on 0 bs) 0 ≡ 46 = ap (λ k. get_or bs k 0) (end_is goes_on bs ∙ exact) ∙ ap (λ (l : List ℕ). get_or l (length q.0) 0) split ∙ get_or-append_seam q.0 46 behind 0 in
+            eqb-false (get_or bs (run_end goes_on 0 bs) 0) 46 e point)
+      ])
     ] refl

@@ -33,9 +33,10 @@ nil_there b cs is e =
 nil_size : (a behind : List ℕ) → AreBlanks a → (run_end is_blank 1 ((91 ∷ a ++ codes "]") ++ behind) ≡ 1 + length a) × ((get_or ((91 ∷ a ++ codes "]") ++ behind) (run_end is_blank 1 ((91 ∷ a ++ codes "]") ++ behind)) 0 == 93) ≡ true)
 nil_size a behind blanks =
     let order : (a ++ codes "]") ++ behind ≡ a ++ 93 ∷ behind = append_assoc a (codes "]") behind in
-    let exact : run_length is_blank ((a ++ codes "]") ++ behind) ≡ length a = ap (run_length is_blank) order ∙ run_exact is_blank a (93 ∷ behind) blanks refl in
-    (omega (arith, exact),
-    eq-eqb (get_or ((91 ∷ a ++ codes "]") ++ behind) (run_end is_blank 1 ((91 ∷ a ++ codes "]") ++ behind)) 0) 93 (byte_behind 91 ((a ++ codes "]") ++ behind) ∙ ap (λ k. get_or ((a ++ codes "]") ++ behind) k 0) exact ∙ ap (λ (l : List ℕ). get_or l (length a) 0) order ∙ get_or-append_seam a 93 behind 0))
+    let exact : run_length is_blank ((a ++ codes "]") ++ behind) ≡ length a = ap (run_length is_blank) order ∙ run_exact is_blank a (93 ∷ behind) blanks refl in (
+      omega (arith, exact),
+      eq-eqb (get_or ((91 ∷ a ++ codes "]") ++ behind) (run_end is_blank 1 ((91 ∷ a ++ codes "]") ++ behind)) 0) 93 (byte_behind 91 ((a ++ codes "]") ++ behind) ∙ ap (λ k. get_or ((a ++ codes "]") ++ behind) k 0) exact ∙ ap (λ (l : List ℕ). get_or l (length a) 0) order ∙ get_or-append_seam a 93 behind 0),
+    )
 
 -- the marks that a bracket begins, from a test on
 abbrev percents : List ℕ → Found
@@ -68,7 +69,7 @@ ats_there : (bs : List ℕ) → get_or bs 0 0 ≡ 91 → IsThere bs (ats bs)
 ats_there bs is =
     elim (get_or bs 1 0 == 64 && get_or bs 2 0 == 64 && get_or bs 3 0 == 64) as (λ t. (get_or bs 1 0 == 64 && get_or bs 2 0 == 64 && get_or bs 3 0 == 64) ≡ t → IsThere bs (if t then found outside 4 else (if get_or bs 1 0 == 64 && get_or bs 2 0 == 64 then found outside 3 else percents bs))) [
       | true ↦ λ e. let parts = and_parts (get_or bs 1 0 == 64 && get_or bs 2 0 == 64) (get_or bs 3 0 == 64) e in let parts2 = and_parts (get_or bs 1 0 == 64) (get_or bs 2 0 == 64) parts.0 in
-        there bs (codes "[@@@") (drop 4 bs) outside 4 (four bs is (eqb-true (get_or bs 1 0) 64 parts2.0) (eqb-true (get_or bs 2 0) 64 parts2.1) (eqb-true (get_or bs 3 0) 64 parts.1)) refl (a_mark floating_attribute_sign)
+          there bs (codes "[@@@") (drop 4 bs) outside 4 (four bs is (eqb-true (get_or bs 1 0) 64 parts2.0) (eqb-true (get_or bs 2 0) 64 parts2.1) (eqb-true (get_or bs 3 0) 64 parts.1)) refl (a_mark floating_attribute_sign)
       | false ↦ λ e. elim (get_or bs 1 0 == 64 && get_or bs 2 0 == 64) as (λ t. (get_or bs 1 0 == 64 && get_or bs 2 0 == 64) ≡ t → IsThere bs (if t then found outside 3 else percents bs)) [
         | true ↦ λ e2. let parts = and_parts (get_or bs 1 0 == 64) (get_or bs 2 0 == 64) e2 in there bs (codes "[@@") (drop 3 bs) outside 3 (three bs is (eqb-true (get_or bs 1 0) 64 parts.0) (eqb-true (get_or bs 2 0) 64 parts.1)) refl (a_mark item_attribute_sign)
         | false ↦ λ e2. percents_there bs is
@@ -80,6 +81,7 @@ ats_there bs is =
     three (x ∷ []) e1 e2 e3 = absurd (omega (arith, e2))
     three (x ∷ y ∷ []) e1 e2 e3 = absurd (omega (arith, e3))
     three (x ∷ y ∷ z ∷ l) e1 e2 e3 = ap (λ k. k ∷ y ∷ z ∷ l) e1 ∙ ap (λ k. 91 ∷ k ∷ z ∷ l) e2 ∙ ap (λ k. 91 ∷ 64 ∷ k ∷ l) e3
+
     four : (l : List ℕ) → get_or l 0 0 ≡ 91 → get_or l 1 0 ≡ 64 → get_or l 2 0 ≡ 64 → get_or l 3 0 ≡ 64 → l ≡ (91 ∷ 64 ∷ 64 ∷ 64 ∷ []) ++ drop 4 l
     four [] e1 e2 e3 e4 = absurd (omega (arith, e1))
     four (x ∷ []) e1 e2 e3 e4 = absurd (omega (arith, e2))
@@ -140,9 +142,9 @@ nil_in_bracket a behind blanks =
 
 bracket_longest : (bs : List ℕ) → NoLonger bracket_class bs (bracket_found bs).size
 bracket_longest bs front behind whole of = elim of [
-    | inl m ↦ subst (λ (l : List ℕ). length front ≤ (bracket_found l).size) (sym whole) (mark_in_bracket behind m)
-    | inr i ↦ subst (λ (l : List ℕ). length front ≤ (bracket_found l).size) (sym whole) (subst (λ (w : List ℕ). length w ≤ (bracket_found (w ++ behind)).size) (sym i.2) (nil_in_bracket i.0 behind i.1))
-  ]
+  | inl m ↦ subst (λ (l : List ℕ). length front ≤ (bracket_found l).size) (sym whole) (mark_in_bracket behind m)
+  | inr i ↦ subst (λ (l : List ℕ). length front ≤ (bracket_found l).size) (sym whole) (subst (λ (w : List ℕ). length w ≤ (bracket_found (w ++ behind)).size) (sym i.2) (nil_in_bracket i.0 behind i.1))
+]
 
 pub bracket_is : (bs : List ℕ) → get_or bs 0 0 ≡ 91 → FoundIs bracket_class bs (bracket_found bs)
 bracket_is bs is =

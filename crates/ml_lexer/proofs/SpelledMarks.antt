@@ -37,7 +37,7 @@ there bs w rest k n whole size spells = record {
   whole = whole;
   size = size;
   named = ap (λ (l : List ℕ). take n l) whole ∙ ap (λ k. take k (w ++ rest)) size ∙ front w rest;
-  spells = spells
+  spells = spells;
 }
   where
     front : (u v : List ℕ) → take (length u) (u ++ v) ≡ u
@@ -77,9 +77,9 @@ single_size k d c x = elim (x == c) as (λ t. 1 ≤ size_of (if t then found d 2
 
 colon_size : (x : ℕ) → 1 ≤ size_of (if x == 58 then found colon_colon 2 else (if x == 61 then found colon_equal 2 else (if x == 62 then found outside 2 else found colon 1)))
 colon_size x = elim (x == 58) as (λ t. 1 ≤ size_of (if t then found colon_colon 2 else (if x == 61 then found colon_equal 2 else (if x == 62 then found outside 2 else found colon 1)))) [
-    | true ↦ omega arith
-    | false ↦ elim (x == 61) as (λ t. 1 ≤ size_of (if t then found colon_equal 2 else (if x == 62 then found outside 2 else found colon 1))) [ true ↦ omega arith | false ↦ single_size colon outside 62 x ]
-  ]
+  | true ↦ omega arith
+  | false ↦ elim (x == 61) as (λ t. 1 ≤ size_of (if t then found colon_equal 2 else (if x == 62 then found outside 2 else found colon 1))) [ true ↦ omega arith | false ↦ single_size colon outside 62 x ]
+]
 
 -- a mark at the front is no longer than what is found
 plain_longest : {front : List ℕ} (behind : List ℕ) → PlainMark front → length front ≤ (mark_or_stray (get_or (front ++ behind) 0 0) (front ++ behind)).size
@@ -184,6 +184,6 @@ mark_kept bs =
 
 pub mark_is : (bs : List ℕ) → FoundIs mark_class bs (mark_or_stray (get_or bs 0 0) bs)
 mark_is bs = elim (mark_kept bs) [
-    | inl t ↦ is_spelled (record { spelled = t.spelled; name = t.spelled; rest = t.rest; whole = t.whole; size = t.size; named = t.named; spells = t.spells; longest = mark_longest bs })
-    | inr s ↦ subst (λ (f : Found). FoundIs mark_class bs f) (sym s.0) (is_stray s.1)
-  ]
+  | inl t ↦ is_spelled (record { spelled = t.spelled; name = t.spelled; rest = t.rest; whole = t.whole; size = t.size; named = t.named; spells = t.spells; longest = mark_longest bs })
+  | inr s ↦ subst (λ (f : Found). FoundIs mark_class bs f) (sym s.0) (is_stray s.1)
+]

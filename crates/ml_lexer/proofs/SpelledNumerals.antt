@@ -47,10 +47,10 @@ fraction_there : (p : ℕ) (bs : List ℕ) → (f : List ℕ) × (rest : List �
 fraction_there p bs =
     elim (get_or bs p 0 == 46) as (λ t. (get_or bs p 0 == 46) ≡ t → (f : List ℕ) × (rest : List ℕ) × (drop p bs ≡ f ++ rest) × (IsFraction f) × ((if t then run_end is_decimal (p + 1) bs else p) ≡ p + length f)) [
       | true ↦ λ e.
-        let l = drop (p + 1) bs in
-        let n = run_length is_decimal l in
-        let point : drop p bs ≡ 46 ∷ l = pointed (drop p bs) (sym (get_here p bs) ∙ eqb-true (get_or bs p 0) 46 e) ∙ ap (λ (x : List ℕ). 46 ∷ x) (drop-drop 1 p bs) in
-        (46 ∷ take n l, drop n l, point ∙ ap (λ (x : List ℕ). 46 ∷ x) (sym (take-append-drop n l)), fraction (run_passes is_decimal l), omega (arith, run_le is_decimal l, length-take n l))
+          let l = drop (p + 1) bs in
+          let n = run_length is_decimal l in
+          let point : drop p bs ≡ 46 ∷ l = pointed (drop p bs) (sym (get_here p bs) ∙ eqb-true (get_or bs p 0) 46 e) ∙ ap (λ (x : List ℕ). 46 ∷ x) (drop-drop 1 p bs) in
+          (46 ∷ take n l, drop n l, point ∙ ap (λ (x : List ℕ). 46 ∷ x) (sym (take-append-drop n l)), fraction (run_passes is_decimal l), omega (arith, run_le is_decimal l, length-take n l))
       | false ↦ λ e. ([], drop p bs, refl, no_fraction, omega arith)
     ] refl
   where
@@ -73,27 +73,27 @@ exponent_there : (p : ℕ) (bs : List ℕ) → (e : List ℕ) × (rest : List �
 exponent_there p bs =
     elim (is_e (get_or bs p 0) && is_digit (get_or bs (p + 1) 0)) as (λ t. (is_e (get_or bs p 0) && is_digit (get_or bs (p + 1) 0)) ≡ t → (e : List ℕ) × (rest : List ℕ) × (drop p bs ≡ e ++ rest) × (IsExponent e) × ((if t then run_end is_decimal (p + 1) bs else (if is_e (get_or bs p 0) && is_plus_or_minus (get_or bs (p + 1) 0) && is_digit (get_or bs (p + 2) 0) then run_end is_decimal (p + 2) bs else p)) ≡ p + length e)) [
       | true ↦ λ e.
-        let parts = and_parts (is_e (get_or bs p 0)) (is_digit (get_or bs (p + 1) 0)) e in
-        let l = drop (p + 1) bs in
-        let n = run_length is_decimal l in
-        let c = get_or (drop p bs) 0 0 in
-        let is : is_e c ≡ true = ap is_e (sym (get_here p bs)) ∙ parts.0 in
-        let cut : drop p bs ≡ c ∷ l = begun is_e (drop p bs) refl is ∙ ap (λ (x : List ℕ). c ∷ x) (drop-drop 1 p bs) in
-        (c ∷ take n l, drop n l, cut ∙ ap (λ (x : List ℕ). c ∷ x) (sym (take-append-drop n l)), exponent is (digits_run l (ap is_digit (sym (get_here (p + 1) bs)) ∙ parts.1)), omega (arith, run_le is_decimal l, length-take n l))
-      | false ↦ λ none. elim (is_e (get_or bs p 0) && is_plus_or_minus (get_or bs (p + 1) 0) && is_digit (get_or bs (p + 2) 0)) as (λ t. (is_e (get_or bs p 0) && is_plus_or_minus (get_or bs (p + 1) 0) && is_digit (get_or bs (p + 2) 0)) ≡ t → (e : List ℕ) × (rest : List ℕ) × (drop p bs ≡ e ++ rest) × (IsExponent e) × ((if t then run_end is_decimal (p + 2) bs else p) ≡ p + length e)) [
-        | true ↦ λ e.
-          let parts2 = and_parts (is_e (get_or bs p 0) && is_plus_or_minus (get_or bs (p + 1) 0)) (is_digit (get_or bs (p + 2) 0)) e in
-          let parts = and_parts (is_e (get_or bs p 0)) (is_plus_or_minus (get_or bs (p + 1) 0)) parts2.0 in
-          let l = drop (p + 2) bs in
+          let parts = and_parts (is_e (get_or bs p 0)) (is_digit (get_or bs (p + 1) 0)) e in
+          let l = drop (p + 1) bs in
           let n = run_length is_decimal l in
           let c = get_or (drop p bs) 0 0 in
-          let s = get_or (drop (p + 1) bs) 0 0 in
           let is : is_e c ≡ true = ap is_e (sym (get_here p bs)) ∙ parts.0 in
-          let sign : is_plus_or_minus s ≡ true = ap is_plus_or_minus (sym (get_here (p + 1) bs)) ∙ parts.1 in
-          let place : p + 1 + 1 ≡ p + 2 = omega arith in
-          let cut2 : drop (p + 1) bs ≡ s ∷ l = begun is_plus_or_minus (drop (p + 1) bs) refl sign ∙ ap (λ (x : List ℕ). s ∷ x) (drop-drop 1 (p + 1) bs ∙ ap (λ k. drop k bs) place) in
-          let cut : drop p bs ≡ c ∷ s ∷ l = begun is_e (drop p bs) refl is ∙ ap (λ (x : List ℕ). c ∷ x) (drop-drop 1 p bs ∙ cut2) in
-          (c ∷ s ∷ take n l, drop n l, cut ∙ ap (λ (x : List ℕ). c ∷ s ∷ x) (sym (take-append-drop n l)), signed_exponent is sign (digits_run l (ap is_digit (sym (get_here (p + 2) bs)) ∙ parts2.1)), omega (arith, run_le is_decimal l, length-take n l))
+          let cut : drop p bs ≡ c ∷ l = begun is_e (drop p bs) refl is ∙ ap (λ (x : List ℕ). c ∷ x) (drop-drop 1 p bs) in
+          (c ∷ take n l, drop n l, cut ∙ ap (λ (x : List ℕ). c ∷ x) (sym (take-append-drop n l)), exponent is (digits_run l (ap is_digit (sym (get_here (p + 1) bs)) ∙ parts.1)), omega (arith, run_le is_decimal l, length-take n l))
+      | false ↦ λ none. elim (is_e (get_or bs p 0) && is_plus_or_minus (get_or bs (p + 1) 0) && is_digit (get_or bs (p + 2) 0)) as (λ t. (is_e (get_or bs p 0) && is_plus_or_minus (get_or bs (p + 1) 0) && is_digit (get_or bs (p + 2) 0)) ≡ t → (e : List ℕ) × (rest : List ℕ) × (drop p bs ≡ e ++ rest) × (IsExponent e) × ((if t then run_end is_decimal (p + 2) bs else p) ≡ p + length e)) [
+        | true ↦ λ e.
+            let parts2 = and_parts (is_e (get_or bs p 0) && is_plus_or_minus (get_or bs (p + 1) 0)) (is_digit (get_or bs (p + 2) 0)) e in
+            let parts = and_parts (is_e (get_or bs p 0)) (is_plus_or_minus (get_or bs (p + 1) 0)) parts2.0 in
+            let l = drop (p + 2) bs in
+            let n = run_length is_decimal l in
+            let c = get_or (drop p bs) 0 0 in
+            let s = get_or (drop (p + 1) bs) 0 0 in
+            let is : is_e c ≡ true = ap is_e (sym (get_here p bs)) ∙ parts.0 in
+            let sign : is_plus_or_minus s ≡ true = ap is_plus_or_minus (sym (get_here (p + 1) bs)) ∙ parts.1 in
+            let place : p + 1 + 1 ≡ p + 2 = omega arith in
+            let cut2 : drop (p + 1) bs ≡ s ∷ l = begun is_plus_or_minus (drop (p + 1) bs) refl sign ∙ ap (λ (x : List ℕ). s ∷ x) (drop-drop 1 (p + 1) bs ∙ ap (λ k. drop k bs) place) in
+            let cut : drop p bs ≡ c ∷ s ∷ l = begun is_e (drop p bs) refl is ∙ ap (λ (x : List ℕ). c ∷ x) (drop-drop 1 p bs ∙ cut2) in
+            (c ∷ s ∷ take n l, drop n l, cut ∙ ap (λ (x : List ℕ). c ∷ s ∷ x) (sym (take-append-drop n l)), signed_exponent is sign (digits_run l (ap is_digit (sym (get_here (p + 2) bs)) ∙ parts2.1)), omega (arith, run_le is_decimal l, length-take n l))
         | false ↦ λ none. ([], drop p bs, refl, no_exponent, omega arith)
       ] refl
     ] refl
@@ -229,6 +229,7 @@ base_letter c b is = base_cases c (letter_is c b is)
   where
     base_cases : (x : ℕ) → (x == 120 || x == 88 || x == 111 || x == 79 || x == 98 || x == 66) ≡ true → (is_decimal x ≡ false) × ((x == 46) ≡ false) × (is_e x ≡ false)
     base_cases x e = (grind (arith, nat_tests), grind (arith, nat_tests), grind (arith, nat_tests))
+
     letter_is : (x y : ℕ) → is_digit_of x y ≡ true → (x == 120 || x == 88 || x == 111 || x == 79 || x == 98 || x == 66) ≡ true
     letter_is x y e = grind (arith, nat_tests)
 
@@ -258,6 +259,7 @@ no_float c l ds f e more off is run frac expo some = clash f e frac expo some re
         let size : digits_end (48 ∷ c ∷ l) ≡ length ds = digits_exact ds x (48 ∷ c ∷ l) same run stops in
         let one : length ds ≡ 1 = sym size ∙ one_digit c l off.0 in
         ap (λ (y : List ℕ). get_or y 0 0) (ap (λ k. drop k (48 ∷ c ∷ l)) (sym one) ∙ ap (λ (y : List ℕ). drop (length ds) y) same ∙ drop-append_seam ds x)
+
     clash : (g h : List ℕ) → IsFraction g → IsExponent h → (g ++ h ≡ [] → ⊥) → g ++ (h ++ more) ≡ f ++ (e ++ more) → ⊥
     clash g h no_fraction no_exponent none same = none refl
     clash g h (fraction {ds = fs} all) expo2 none same = both_ways (c == 46) off.1 (eq-eqb c 46 (first_is (46 ∷ fs ++ (h ++ more)) (is ∙ ap (λ (x : List ℕ). ds ++ x) (sym same)) refl))
@@ -321,15 +323,15 @@ numeral_by : (bs : List ℕ) (k : Kind) (n : ℕ) → IsLongestLiteral bs k n �
 numeral_by bs k n lit =
     elim (nat_lt n (run_end goes_on n bs)) as (λ t. nat_lt n (run_end goes_on n bs) ≡ t → FoundIs digit_class bs (if t then found outside (run_end goes_on n bs) else found k n)) [
       | true ↦ λ e.
-        let l = drop n bs in
-        let m = run_length goes_on l in
-        let v = take m l in
-        let some : 0 < m = omega (arith, ltb-true n (run_end goes_on n bs) e) in
-        let u = lit.spelled in
-        let tail_is : lit.rest ≡ l = sym (drop-append_seam u lit.rest) ∙ ap (λ j. drop j (u ++ lit.rest)) (sym lit.size) ∙ ap (λ (x : List ℕ). drop n x) (sym lit.whole) in
-        let whole : bs ≡ (u ++ v) ++ drop m l = lit.whole ∙ ap (λ (x : List ℕ). u ++ x) (tail_is ∙ sym (take-append-drop m l)) ∙ sym (append_assoc u v (drop m l)) in
-        let size : n + m ≡ length (u ++ v) = omega (arith, lit.size, length-append u v, run_le goes_on l, length-take m l) in
-        is_spelled (plainly digit_class bs (u ++ v) (drop m l) outside (run_end goes_on n bs) whole size (a_broken_numeral u v lit.literal (name_run l some) (λ again. omega (arith, lit.longest (u ++ v) (drop m l) whole again, size))) (numeral_longest bs k n lit))
+          let l = drop n bs in
+          let m = run_length goes_on l in
+          let v = take m l in
+          let some : 0 < m = omega (arith, ltb-true n (run_end goes_on n bs) e) in
+          let u = lit.spelled in
+          let tail_is : lit.rest ≡ l = sym (drop-append_seam u lit.rest) ∙ ap (λ j. drop j (u ++ lit.rest)) (sym lit.size) ∙ ap (λ (x : List ℕ). drop n x) (sym lit.whole) in
+          let whole : bs ≡ (u ++ v) ++ drop m l = lit.whole ∙ ap (λ (x : List ℕ). u ++ x) (tail_is ∙ sym (take-append-drop m l)) ∙ sym (append_assoc u v (drop m l)) in
+          let size : n + m ≡ length (u ++ v) = omega (arith, lit.size, length-append u v, run_le goes_on l, length-take m l) in
+          is_spelled (plainly digit_class bs (u ++ v) (drop m l) outside (run_end goes_on n bs) whole size (a_broken_numeral u v lit.literal (name_run l some) (λ again. omega (arith, lit.longest (u ++ v) (drop m l) whole again, size))) (numeral_longest bs k n lit))
       | false ↦ λ e. is_spelled (plainly digit_class bs lit.spelled lit.rest k n lit.whole lit.size (lit.spells lit.rest) (λ front behind whole of. omega (arith, numeral_longest bs k n lit front behind whole of, ltb-false n (run_end goes_on n bs) e)))
     ] refl
 

@@ -87,22 +87,24 @@ sign_scanned : (from : ℕ) (o tail : List ℕ) → Run begins_operator is_sign 
 sign_scanned from [] tail run kind ends = absurd run
 sign_scanned from (b ∷ bs) tail run kind ends =
     let l = (b ∷ bs) ++ tail in
-    let exact : run_length is_sign l ≡ length (b ∷ bs) = run_exact is_sign (b ∷ bs) tail (run_all begins_operator is_sign (b ∷ bs) operator_is_sign run) ends in
-    (sign_kind (b ∷ bs),
-    ap (λ t. if t then Some (sign_kind (take (run_length is_sign l) l), from + run_length is_sign l) else (if is_lower b then Some (word_kind (take (run_length goes_on l) l), from + run_length goes_on l) else (if b == 58 && get_or l 1 0 == 61 then Some (colon_equal, from + 2) else None))) run.0
-    ∙ ap (λ n. Some (sign_kind (take n l), from + n)) exact ∙ ap (λ (w : List ℕ). Some (sign_kind w, from + length (b ∷ bs))) (take-append_seam (b ∷ bs) tail),
-    kind_to kind)
+    let exact : run_length is_sign l ≡ length (b ∷ bs) = run_exact is_sign (b ∷ bs) tail (run_all begins_operator is_sign (b ∷ bs) operator_is_sign run) ends in (
+      sign_kind (b ∷ bs),
+      ap (λ t. if t then Some (sign_kind (take (run_length is_sign l) l), from + run_length is_sign l) else (if is_lower b then Some (word_kind (take (run_length goes_on l) l), from + run_length goes_on l) else (if b == 58 && get_or l 1 0 == 61 then Some (colon_equal, from + 2) else None))) run.0
+          ∙ ap (λ n. Some (sign_kind (take n l), from + n)) exact ∙ ap (λ (w : List ℕ). Some (sign_kind w, from + length (b ∷ bs))) (take-append_seam (b ∷ bs) tail),
+      kind_to kind,
+    )
 
 word_scanned : (from : ℕ) (o tail : List ℕ) → Run is_lower goes_on o → IsOperatorKind (word_kind o) → begins goes_on tail ≡ false → IsScanned from o tail
 word_scanned from [] tail run kind ends = absurd run
 word_scanned from (b ∷ bs) tail run kind ends =
     let l = (b ∷ bs) ++ tail in
-    let exact : run_length goes_on l ≡ length (b ∷ bs) = run_exact goes_on (b ∷ bs) tail (run_all is_lower goes_on (b ∷ bs) lower_goes_on run) ends in
-    (word_kind (b ∷ bs),
-    ap (λ t. if t then Some (sign_kind (take (run_length is_sign l) l), from + run_length is_sign l) else (if is_lower b then Some (word_kind (take (run_length goes_on l) l), from + run_length goes_on l) else (if b == 58 && get_or l 1 0 == 61 then Some (colon_equal, from + 2) else None))) (lower_not_operator b run.0)
-    ∙ ap (λ t. if t then Some (word_kind (take (run_length goes_on l) l), from + run_length goes_on l) else (if b == 58 && get_or l 1 0 == 61 then Some (colon_equal, from + 2) else None)) run.0
-    ∙ ap (λ n. Some (word_kind (take n l), from + n)) exact ∙ ap (λ (w : List ℕ). Some (word_kind w, from + length (b ∷ bs))) (take-append_seam (b ∷ bs) tail),
-    kind_to kind)
+    let exact : run_length goes_on l ≡ length (b ∷ bs) = run_exact goes_on (b ∷ bs) tail (run_all is_lower goes_on (b ∷ bs) lower_goes_on run) ends in (
+      word_kind (b ∷ bs),
+      ap (λ t. if t then Some (sign_kind (take (run_length is_sign l) l), from + run_length is_sign l) else (if is_lower b then Some (word_kind (take (run_length goes_on l) l), from + run_length goes_on l) else (if b == 58 && get_or l 1 0 == 61 then Some (colon_equal, from + 2) else None))) (lower_not_operator b run.0)
+          ∙ ap (λ t. if t then Some (word_kind (take (run_length goes_on l) l), from + run_length goes_on l) else (if b == 58 && get_or l 1 0 == 61 then Some (colon_equal, from + 2) else None)) run.0
+          ∙ ap (λ n. Some (word_kind (take n l), from + n)) exact ∙ ap (λ (w : List ℕ). Some (word_kind w, from + length (b ∷ bs))) (take-append_seam (b ∷ bs) tail),
+      kind_to kind,
+    )
 
 operator_scanned : (from : ℕ) (o tail : List ℕ) → IsOperator o → begins is_sign tail ≡ false → begins goes_on tail ≡ false → IsScanned from o tail
 operator_scanned from o tail (sign_operator run kind) signs names = sign_scanned from o tail run kind signs
@@ -156,12 +158,12 @@ operator_found : (from : ℕ) (l : List ℕ) (op : Kind × ℕ) → operator_the
 operator_found from l op =
     elim (begins_operator (get_or l 0 0)) as (λ t. begins_operator (get_or l 0 0) ≡ t → (if t then Some (sign_kind (take (run_length is_sign l) l), from + run_length is_sign l) else names from l) ≡ Some op → is_operator_kind op.0 ≡ true → HasOperator from l op.1) [
       | true ↦ λ is. λ e. λ kind.
-        let same = pair_same e in
-        (take (run_length is_sign l) l, drop (run_length is_sign l) l, sym (take-append-drop (run_length is_sign l) l), sign_found_there from l is (ap (λ (p : Kind × ℕ). is_operator_kind p.0) same ∙ kind), sym (ap (λ (p : Kind × ℕ). p.1) same) ∙ ap (λ n. from + n) (long is_sign l))
+          let same = pair_same e in
+          (take (run_length is_sign l) l, drop (run_length is_sign l) l, sym (take-append-drop (run_length is_sign l) l), sign_found_there from l is (ap (λ (p : Kind × ℕ). is_operator_kind p.0) same ∙ kind), sym (ap (λ (p : Kind × ℕ). p.1) same) ∙ ap (λ n. from + n) (long is_sign l))
       | false ↦ λ none. elim (is_lower (get_or l 0 0)) as (λ t. is_lower (get_or l 0 0) ≡ t → (if t then Some (word_kind (take (run_length goes_on l) l), from + run_length goes_on l) else assigns from l) ≡ Some op → is_operator_kind op.0 ≡ true → HasOperator from l op.1) [
         | true ↦ λ is. λ e. λ kind.
-          let same = pair_same e in
-          (take (run_length goes_on l) l, drop (run_length goes_on l) l, sym (take-append-drop (run_length goes_on l) l), word_found_there from l is (ap (λ (p : Kind × ℕ). is_operator_kind p.0) same ∙ kind), sym (ap (λ (p : Kind × ℕ). p.1) same) ∙ ap (λ n. from + n) (long goes_on l))
+            let same = pair_same e in
+            (take (run_length goes_on l) l, drop (run_length goes_on l) l, sym (take-append-drop (run_length goes_on l) l), word_found_there from l is (ap (λ (p : Kind × ℕ). is_operator_kind p.0) same ∙ kind), sym (ap (λ (p : Kind × ℕ). p.1) same) ∙ ap (λ n. from + n) (long goes_on l))
         | false ↦ λ none. elim (get_or l 0 0 == 58 && get_or l 1 0 == 61) as (λ t. (get_or l 0 0 == 58 && get_or l 1 0 == 61) ≡ t → (if t then Some (colon_equal, from + 2) else None) ≡ Some op → is_operator_kind op.0 ≡ true → HasOperator from l op.1) [
           | true ↦ λ is. λ e. λ kind. (codes ":=", drop 2 l, two_known 58 61 l is (omega arith) (omega arith), assignment, sym (ap (λ (p : Kind × ℕ). p.1) (pair_same e)))
           | false ↦ λ none. λ e. λ kind. absurd (none_not_some e)
@@ -297,20 +299,21 @@ op_longest a o z behind before is after =
 
 paren_longest : (bs : List ℕ) → get_or bs 0 0 ≡ 40 → NoLonger paren_class bs (paren_found bs).size
 paren_longest bs is front behind whole of = elim of [
-    | inl m ↦ omega (arith, mark_one m, some)
-    | inr r ↦ elim r [
-      | inl u ↦
+  | inl m ↦ omega (arith, mark_one m, some)
+  | inr r ↦ elim r [
+    | inl u ↦
         let w = 40 ∷ u.0 ++ codes ")" in
         let order : bs ≡ 40 ∷ u.0 ++ 41 ∷ behind = whole ∙ ap (λ (l : List ℕ). l ++ behind) u.2 ∙ append_assoc (40 ∷ u.0) (codes ")") behind in
         omega (arith, ap (λ (l : List ℕ). (paren_found l).size) order ∙ unit_longest u.0 behind u.1, ap length u.2, length-append u.0 (codes ")"))
-      | inr p ↦
+    | inr p ↦
         let order : bs ≡ 40 ∷ p.0 ++ (p.1 ++ (p.2 ++ 41 ∷ behind)) = whole ∙ ap (λ (l : List ℕ). l ++ behind) p.6 ∙ canonical p.0 p.1 p.2 behind in
         omega (arith, ap (λ (l : List ℕ). (paren_found l).size) order ∙ op_longest p.0 p.1 p.2 behind p.3 p.4 p.5, ap length p.6, long p.0 p.1 p.2)
-    ]
   ]
+]
   where
     mark_one : {w : List ℕ} → ParenMark w → length w ≤ 1
     mark_one one_paren = omega arith
+
     some : 1 ≤ (paren_found bs).size
     some = let t = paren_there bs is in omega (arith, t.size, spelled_some t.spells)
 

@@ -51,7 +51,7 @@ quote_by (Some n) (b ∷ bs) is eq =
     let f = string_end_found false 1 n bs eq in
     let whole : b ∷ bs ≡ (34 ∷ f.0) ++ f.1 = ap (λ x. x ∷ bs) is ∙ ap (λ (l : List ℕ). 34 ∷ l) f.2 in
     is_spelled (plainly quote_class (b ∷ bs) (34 ∷ f.0) f.1 str n whole (omega (arith, f.4)) (a_string (string f.3)) (λ front behind same of.
-      omega (arith, some_same (sym (string_size (b ∷ bs) of.0 behind of.1 (same ∙ ap (λ (l : List ℕ). l ++ behind) of.2)) ∙ eq), ap length of.2)))
+    omega (arith, some_same (sym (string_size (b ∷ bs) of.0 behind of.1 (same ∙ ap (λ (l : List ℕ). l ++ behind) of.2)) ∙ eq), ap length of.2)))
 quote_by None (b ∷ bs) is eq = is_unclosed (string_unclosed (b ∷ bs) is eq)
 
 pub quote_is : (bs : List ℕ) → get_or bs 0 0 ≡ 34 → FoundIs quote_class bs (quote_found bs)
@@ -97,15 +97,15 @@ brace_is bs is =
       | true ↦ λ e. quoted_by (quoted_end bs) bs is e refl
       | false ↦ λ e. elim (get_or bs 1 0 == 60) as (λ t. (get_or bs 1 0 == 60) ≡ t → FoundIs brace_class bs (if t then found outside 2 else found left_brace 1)) [
         | true ↦ λ e2.
-          let known = two_known 123 60 bs (and_from (get_or bs 0 0 == 123) (get_or bs 1 0 == 60) (eq-eqb (get_or bs 0 0) 123 is) e2) (omega arith) (omega arith) in
-          is_spelled (plainly brace_class bs (123 ∷ 60 ∷ []) (drop 2 bs) outside 2 known refl (a_mark left_object_sign) (λ front behind whole of. elim of [
-            | inl m ↦ elim (brace_size bs behind whole m) [ inl one ↦ omega (arith, one) | inr two ↦ omega (arith, two.1) ]
-            | inr q ↦ absurd (both_ways (opens_quoted bs) e (quoted_opens bs front behind whole q))
-          ]))
+            let known = two_known 123 60 bs (and_from (get_or bs 0 0 == 123) (get_or bs 1 0 == 60) (eq-eqb (get_or bs 0 0) 123 is) e2) (omega arith) (omega arith) in
+            is_spelled (plainly brace_class bs (123 ∷ 60 ∷ []) (drop 2 bs) outside 2 known refl (a_mark left_object_sign) (λ front behind whole of. elim of [
+              | inl m ↦ elim (brace_size bs behind whole m) [ inl one ↦ omega (arith, one) | inr two ↦ omega (arith, two.1) ]
+              | inr q ↦ absurd (both_ways (opens_quoted bs) e (quoted_opens bs front behind whole q))
+            ]))
         | false ↦ λ e2. is_spelled (plainly brace_class bs (123 ∷ []) (drop 1 bs) left_brace 1 (first_known bs 123 is (omega arith)) refl (a_mark left_brace_mark) (λ front behind whole of. elim of [
-            | inl m ↦ elim (brace_size bs behind whole m) [ inl one ↦ one | inr two ↦ absurd (eqb-false (get_or bs 1 0) 60 e2 two.0) ]
-            | inr q ↦ absurd (both_ways (opens_quoted bs) e (quoted_opens bs front behind whole q))
-          ]))
+          | inl m ↦ elim (brace_size bs behind whole m) [ inl one ↦ one | inr two ↦ absurd (eqb-false (get_or bs 1 0) 60 e2 two.0) ]
+          | inr q ↦ absurd (both_ways (opens_quoted bs) e (quoted_opens bs front behind whole q))
+        ]))
       ] refl
     ] refl
 
@@ -156,13 +156,13 @@ tick_is (b ∷ bs) is =
     elim (nat_lt 0 (char_size (b ∷ bs))) as (λ t. nat_lt 0 (char_size (b ∷ bs)) ≡ t → FoundIs tick_class (b ∷ bs) (if t then found char (char_size (b ∷ bs)) else (if begins_name (get_or bs 0 0) then found ty_var (run_end goes_on 1 (b ∷ bs)) else stray_found (b ∷ bs)))) [
       | true ↦ λ e. no_name b bs is (ltb-true 0 (char_size (b ∷ bs)) e)
       | false ↦ λ e.
-        let none : (spelled behind : List ℕ) → b ∷ bs ≡ spelled ++ behind → IsChar spelled → ⊥ = λ spelled behind same i.
+          let none : (spelled behind : List ℕ) → b ∷ bs ≡ spelled ++ behind → IsChar spelled → ⊥ = λ spelled behind same i.
           both_ways (nat_lt 0 (char_size (b ∷ bs))) e (lt-ltb 0 (char_size (b ∷ bs)) (omega (arith, char_there (b ∷ bs) spelled behind same i, char_some spelled i))) in
-        elim (begins_name (get_or bs 0 0)) as (λ t. begins_name (get_or bs 0 0) ≡ t → FoundIs tick_class (b ∷ bs) (if t then found ty_var (run_end goes_on 1 (b ∷ bs)) else stray_found (b ∷ bs))) [
-          | true ↦ λ e2. name_there b bs is e2 none
-          | false ↦ λ e2. is_stray (λ front behind same of. elim of [
-            | inl i ↦ none front behind same i
-            | inr v ↦ both_ways (begins_name (get_or bs 0 0)) e2 (ty_var_first (b ∷ bs) front behind same v.0 v.1 v.2)
-          ])
-        ] refl
+          elim (begins_name (get_or bs 0 0)) as (λ t. begins_name (get_or bs 0 0) ≡ t → FoundIs tick_class (b ∷ bs) (if t then found ty_var (run_end goes_on 1 (b ∷ bs)) else stray_found (b ∷ bs))) [
+            | true ↦ λ e2. name_there b bs is e2 none
+            | false ↦ λ e2. is_stray (λ front behind same of. elim of [
+              | inl i ↦ none front behind same i
+              | inr v ↦ both_ways (begins_name (get_or bs 0 0)) e2 (ty_var_first (b ∷ bs) front behind same v.0 v.1 v.2)
+            ])
+          ] refl
     ] refl

@@ -137,11 +137,12 @@ module_type_is (x ∷ xs) behind run ends =
     let letters : (get_or bs (6 + length a) 0 == 116 && get_or bs (6 + length a + 1) 0 == 121 && get_or bs (6 + length a + 2) 0 == 112 && get_or bs (6 + length a + 3) 0 == 101) ≡ true =
     type_at (6 + length a) bs ∙ ap (λ (l : List ℕ). get_or l 0 0 == 116 && get_or l 1 0 == 121 && get_or l 2 0 == 112 && get_or l 3 0 == 101) there in
     let typed : is_type_word (6 + length a) (6 + length a + 4) bs ≡ true = type_word_from (6 + length a) bs letters in
-    let longer : nat_lt 6 (6 + length a) ≡ true = lt-ltb 6 (6 + length a) (omega arith) in
-    (ap (λ k. is_module_type k bs) end ∙ ap (λ k. is_module_word 6 bs && nat_lt 6 k && is_type_word k (run_end goes_on k bs) bs) gap
-    ∙ ap (λ k. is_module_word 6 bs && nat_lt 6 (6 + length a) && is_type_word (6 + length a) k bs) (sym (ap (λ k. run_end goes_on k bs) gap) ∙ last)
-    ∙ and_from (is_module_word 6 bs && nat_lt 6 (6 + length a)) (is_type_word (6 + length a) (6 + length a + 4) bs) (and_from (is_module_word 6 bs) (nat_lt 6 (6 + length a)) refl longer) typed,
-    ap (λ k. module_type_end k bs) end ∙ last)
+    let longer : nat_lt 6 (6 + length a) ≡ true = lt-ltb 6 (6 + length a) (omega arith) in (
+      ap (λ k. is_module_type k bs) end ∙ ap (λ k. is_module_word 6 bs && nat_lt 6 k && is_type_word k (run_end goes_on k bs) bs) gap
+          ∙ ap (λ k. is_module_word 6 bs && nat_lt 6 (6 + length a) && is_type_word (6 + length a) k bs) (sym (ap (λ k. run_end goes_on k bs) gap) ∙ last)
+          ∙ and_from (is_module_word 6 bs && nat_lt 6 (6 + length a)) (is_type_word (6 + length a) (6 + length a + 4) bs) (and_from (is_module_word 6 bs) (nat_lt 6 (6 + length a)) refl longer) typed,
+      ap (λ k. module_type_end k bs) end ∙ last,
+    )
 
 -- the words are spelled where the scan finds them
 module_type_there : (bs : List ℕ) → is_module_type (run_end goes_on 0 bs) bs ≡ true → (a : List ℕ) × (rest : List ℕ) × (bs ≡ (codes "module" ++ a ++ codes "type") ++ rest) × (Run is_blank is_blank a) × (begins goes_on rest ≡ false) × (module_type_end (run_end goes_on 0 bs) bs ≡ length (codes "module" ++ a ++ codes "type"))
@@ -173,25 +174,25 @@ word_is bs some is =
     let n = run_length goes_on bs in
     let end : run_end goes_on 0 bs ≡ n = omega arith in
     let short : (front behind : List ℕ) → bs ≡ front ++ behind → Run is_lower goes_on front → length front ≤ n = λ front behind whole r.
-      subst (λ (l : List ℕ). length front ≤ run_length goes_on l) (sym whole) (front_in_run goes_on front behind (run_all is_lower goes_on front lower_goes_on r)) in
+    subst (λ (l : List ℕ). length front ≤ run_length goes_on l) (sym whole) (front_in_run goes_on front behind (run_all is_lower goes_on front lower_goes_on r)) in
     let found_too : (front behind : List ℕ) → bs ≡ front ++ behind → IsModuleType front behind → (is_module_type (run_end goes_on 0 bs) bs ≡ true) × (module_type_end (run_end goes_on 0 bs) bs ≡ length front) = λ front behind whole m.
-      (let order : bs ≡ codes "module" ++ (m.0 ++ (codes "type" ++ behind)) = whole ∙ ap (λ (l : List ℕ). l ++ behind) m.2 ∙ ap (λ (l : List ℕ). codes "module" ++ l) (append_assoc m.0 (codes "type") behind) in
-      let there = module_type_is m.0 behind m.1 m.3 in
-      (ap (λ (l : List ℕ). is_module_type (run_end goes_on 0 l) l) order ∙ there.0, ap (λ (l : List ℕ). module_type_end (run_end goes_on 0 l) l) order ∙ there.1 ∙ omega (arith, ap length m.2, length-append m.0 (codes "type")))) in
+    (let order : bs ≡ codes "module" ++ (m.0 ++ (codes "type" ++ behind)) = whole ∙ ap (λ (l : List ℕ). l ++ behind) m.2 ∙ ap (λ (l : List ℕ). codes "module" ++ l) (append_assoc m.0 (codes "type") behind) in
+    let there = module_type_is m.0 behind m.1 m.3 in
+    (ap (λ (l : List ℕ). is_module_type (run_end goes_on 0 l) l) order ∙ there.0, ap (λ (l : List ℕ). module_type_end (run_end goes_on 0 l) l) order ∙ there.1 ∙ omega (arith, ap length m.2, length-append m.0 (codes "type")))) in
     elim (is_module_type (run_end goes_on 0 bs) bs) as (λ t. is_module_type (run_end goes_on 0 bs) bs ≡ t → FoundIs word_class bs (if t then found module_type (module_type_end (run_end goes_on 0 bs) bs) else found (word_kind (take (run_end goes_on 0 bs) bs)) (run_end goes_on 0 bs))) [
       | true ↦ λ e.
-        let m = module_type_there bs e in
-        is_spelled (plainly word_class bs (codes "module" ++ m.0 ++ codes "type") m.1 module_type (module_type_end (run_end goes_on 0 bs) bs) m.2 m.5 (a_module_type m.0 m.3 m.4) (λ front behind whole of. elim of [
-          | inl r ↦ omega (arith, short front behind whole r, end_before bs)
-          | inr x ↦ omega (arith, (found_too front behind whole x).1)
-        ]))
+          let m = module_type_there bs e in
+          is_spelled (plainly word_class bs (codes "module" ++ m.0 ++ codes "type") m.1 module_type (module_type_end (run_end goes_on 0 bs) bs) m.2 m.5 (a_module_type m.0 m.3 m.4) (λ front behind whole of. elim of [
+            | inl r ↦ omega (arith, short front behind whole r, end_before bs)
+            | inr x ↦ omega (arith, (found_too front behind whole x).1)
+          ]))
       | false ↦ λ e.
-        let kind : word_kind (take n bs) ≡ word_kind (take (run_end goes_on 0 bs) bs) = ap (λ k. word_kind (take k bs)) (sym end) in
-        let run = run_front is_lower goes_on bs some is (lower_goes_on (get_or bs 0 0) is) in
-        is_spelled (plainly word_class bs (take n bs) (drop n bs) (word_kind (take (run_end goes_on 0 bs) bs)) (run_end goes_on 0 bs) (sym (take-append-drop n bs)) (omega (arith, run_le goes_on bs, length-take n bs))
-        (subst (λ (k : Kind). Spells k (take n bs) (take n bs) (drop n bs)) kind (a_word run))
-        (λ front behind whole of. elim of [
-          | inl r ↦ omega (arith, short front behind whole r)
-          | inr x ↦ absurd (both_ways (is_module_type (run_end goes_on 0 bs) bs) e (found_too front behind whole x).0)
-        ]))
+          let kind : word_kind (take n bs) ≡ word_kind (take (run_end goes_on 0 bs) bs) = ap (λ k. word_kind (take k bs)) (sym end) in
+          let run = run_front is_lower goes_on bs some is (lower_goes_on (get_or bs 0 0) is) in
+          is_spelled (plainly word_class bs (take n bs) (drop n bs) (word_kind (take (run_end goes_on 0 bs) bs)) (run_end goes_on 0 bs) (sym (take-append-drop n bs)) (omega (arith, run_le goes_on bs, length-take n bs))
+          (subst (λ (k : Kind). Spells k (take n bs) (take n bs) (drop n bs)) kind (a_word run))
+          (λ front behind whole of. elim of [
+            | inl r ↦ omega (arith, short front behind whole r)
+            | inr x ↦ absurd (both_ways (is_module_type (run_end goes_on 0 bs) bs) e (found_too front behind whole x).0)
+          ]))
     ] refl

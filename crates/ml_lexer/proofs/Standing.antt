@@ -117,12 +117,14 @@ quote_ends (b ∷ bs) is = by_end (string_end false 1 bs) refl
   where
     none_same : {A : Type 0} {x : A} → None ≡ Some x → ⊥
     none_same e = cc
+
     closed : (n : ℕ) → string_end false 1 bs ≡ Some n → (l : List ℕ) → l ≡ b ∷ bs → IsUnclosed l → ⊥
     closed n eq l same (unclosed_comment none) = absurd (omega (arith, is, ap (λ (x : List ℕ). get_or x 0 0) same))
     closed n eq l same (unclosed_string {bs = cs} none) =
         let f = string_end_found false 1 n bs eq in
         none (34 ∷ f.0) f.1 (ap (λ (x : List ℕ). 34 ∷ drop 1 x) same ∙ ap (λ (x : List ℕ). 34 ∷ x) f.2) (string f.3)
     closed n eq l same (unclosed_quoted opened none) = absurd (omega (arith, is, (opens_is l opened).0, ap (λ (x : List ℕ). get_or x 0 0) same))
+
     by_end : (o : Option ℕ) → string_end false 1 bs ≡ o → Ends (b ∷ bs) (string_found o (b ∷ bs))
     by_end (Some n) eq = inr (λ u. closed n eq (b ∷ bs) refl u)
     by_end None eq = inl (string_unclosed (b ∷ bs) is eq, refl)
@@ -164,12 +166,12 @@ brace_scan bs is = ap (λ b. found_from b bs) is
 
 ends_is : (bs : List ℕ) → begins_comment bs ≡ false → Ends bs (found_from (get_or bs 0 0) bs)
 ends_is bs no_comment = elim (cases_eq (get_or bs 0 0) 34) [
-    | inl quote ↦ subst (λ (f : Found). Ends bs f) (sym (quote_scan bs quote)) (quote_ends bs quote)
-    | inr no_quote ↦ elim (cases_eq (get_or bs 0 0) 123) [
-      | inl brace ↦ subst (λ (f : Found). Ends bs f) (sym (brace_scan bs brace)) (brace_ends bs brace)
-      | inr no_brace ↦ inr (λ u. other_ends bs no_comment no_quote no_brace u)
-    ]
+  | inl quote ↦ subst (λ (f : Found). Ends bs f) (sym (quote_scan bs quote)) (quote_ends bs quote)
+  | inr no_quote ↦ elim (cases_eq (get_or bs 0 0) 123) [
+    | inl brace ↦ subst (λ (f : Found). Ends bs f) (sym (brace_scan bs brace)) (brace_ends bs brace)
+    | inr no_brace ↦ inr (λ u. other_ends bs no_comment no_quote no_brace u)
   ]
+]
 
 -- nothing is spelled but what is of the first byte's class
 of_class : (bs front shown behind : List ℕ) (k : Kind) → bs ≡ front ++ behind → Spells k front shown behind → Of (class_of (get_or bs 0 0)) front behind
@@ -195,7 +197,7 @@ spelled_stands : (bs : List ℕ) (f : Found) → begins_comment bs ≡ false →
 spelled_stands bs f no_comment ends s =
     at_front f bs s.spelled s.name s.rest s.whole s.size s.named (longest (λ u. ends (subst (λ (l : List ℕ). IsUnclosed l) (sym s.whole) u)) (ap begins_comment (sym s.whole) ∙ no_comment) (record {
       spelled = s.spells;
-      longest = λ k front shown behind same spells. let whole = s.whole ∙ same in omega (arith, s.longest front behind whole (of_class bs front shown behind k whole spells), s.size)
+      longest = λ k front shown behind same spells. let whole = s.whole ∙ same in omega (arith, s.longest front behind whole (of_class bs front shown behind k whole spells), s.size);
     }))
 
 stray_stands : (bs : List ℕ) → 0 < length bs → is_blank (get_or bs 0 0) ≡ false → begins_comment bs ≡ false → (IsUnclosed bs → ⊥) → ((front behind : List ℕ) → bs ≡ front ++ behind → Of (class_of (get_or bs 0 0)) front behind → ⊥) → StandsAt bs (stray_found bs)
@@ -222,9 +224,9 @@ by_find bs some no_blank no_comment ends (is_unclosed u) = absurd (ends u)
 -- the token that stands where neither a blank nor a comment begins is what the scan finds
 pub found_stands : (bs : List ℕ) → 0 < length bs → is_blank (get_or bs 0 0) ≡ false → begins_comment bs ≡ false → StandsAt bs (found_from (get_or bs 0 0) bs)
 found_stands bs some no_blank no_comment = elim (ends_is bs no_comment) [
-    | inl u ↦ subst (λ (f : Found). StandsAt bs f) (sym u.1) (whole_stands bs u.0)
-    | inr ends ↦ by_find bs some no_blank no_comment ends (found_is bs some)
-  ]
+  | inl u ↦ subst (λ (f : Found). StandsAt bs f) (sym u.1) (whole_stands bs u.0)
+  | inr ends ↦ by_find bs some no_blank no_comment ends (found_is bs some)
+]
 
 -- and what is unclosed stands up to the end
 pub unclosed_stands : (bs : List ℕ) → IsUnclosed bs → StandsAt bs (found junk (length bs))

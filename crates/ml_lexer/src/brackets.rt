@@ -5,8 +5,8 @@ ghost use Rattle.ml_lexer.specs.Places.{rest_of, IsPlaced};
 ghost use Rattle.ml_lexer.specs.Scans.{paren_found, bracket_found, op_name_found, operator_end as operator_end_of, is_operator_kind as is_operator_kind_of};
 ghost use Rattle.syntax_tree.specs.Names.{kind_of};
 
-use crate::found::{spelled, Found};
-use crate::rest::{begins_operator, copy, is_lower, peek, run, Rest, Sort};
+use crate::found::{Found, spelled};
+use crate::rest::{Rest, Sort, begins_operator, copy, is_lower, peek, run};
 use crate::words::{sign_kind, word_kind};
 use std::alloc::Global;
 use syntax_tree::{NoMemory, TokenKind};

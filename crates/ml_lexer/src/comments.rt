@@ -6,7 +6,7 @@ ghost use Rattle.ml_lexer.specs.Places.{rest_of, IsPlaced};
 ghost use Rattle.ml_lexer.specs.Scans.{piece_of, string_piece};
 
 use crate::names::char_size;
-use crate::rest::{ahead, len, peek, Rest};
+use crate::rest::{Rest, ahead, len, peek};
 use crate::strings::{opens_quoted, quoted_end, string_end};
 
 /// What stands at a place inside a comment.

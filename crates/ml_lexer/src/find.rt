@@ -8,7 +8,7 @@ use crate::brackets::{find_bracket, find_paren};
 use crate::found::Found;
 use crate::names::{find_tick, find_upper, find_word};
 use crate::numerals::find_numeral;
-use crate::rest::{begins_operator, is_digit, is_lower, is_upper, peek, Rest};
+use crate::rest::{Rest, begins_operator, is_digit, is_lower, is_upper, peek};
 use crate::signs::{find_mark_or_stray, find_sign};
 use crate::strings::{find_brace, find_string};
 use std::alloc::Global;

@@ -6,7 +6,7 @@ ghost use Rattle.ml_lexer.specs.Scans.{found, stray_found};
 ghost use Rattle.syntax_tree.specs.Names.{kind_of};
 ghost use Rattle.token_model.specs.Kinds.{junk};
 
-use crate::rest::{len, run, Rest, Sort};
+use crate::rest::{Rest, Sort, len, run};
 use syntax_tree::TokenKind;
 
 /// A token at the front: places count from there.

@@ -6,8 +6,8 @@ ghost use Rattle.ml_lexer.specs.Scans.{word_found, upper_found, tick_found, esca
 ghost use Rattle.token_model.specs.Bytes.{goes_on as goes_on_byte};
 ghost use Rattle.token_model.specs.Spellings.{is_plain as is_plain_byte, is_escaped as is_escaped_byte};
 
-use crate::found::{spelled, stray, Found};
-use crate::rest::{begins_name, copy, is_digit, is_hexadecimal, is_octal, peek, run, Rest, Sort};
+use crate::found::{Found, spelled, stray};
+use crate::rest::{Rest, Sort, begins_name, copy, is_digit, is_hexadecimal, is_octal, peek, run};
 use crate::words::word_kind;
 use std::alloc::Global;
 use syntax_tree::{NoMemory, TokenKind};

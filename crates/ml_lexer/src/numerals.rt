@@ -5,8 +5,8 @@ ghost use Rattle.ml_lexer.specs.Places.{rest_of, IsPlaced};
 ghost use Rattle.ml_lexer.specs.Scans.{literal_found, numeral_found, is_based as is_based_there, based_end as based_end_of, fraction_end as fraction_end_of, exponent_end as exponent_end_of, is_e as is_e_byte, is_plus_or_minus as is_plus_or_minus_byte};
 ghost use Rattle.token_model.specs.Bytes.{is_digit as is_digit_byte};
 
-use crate::found::{spelled, Found};
-use crate::rest::{is_digit, is_digit_of, peek, run, Rest, Sort};
+use crate::found::{Found, spelled};
+use crate::rest::{Rest, Sort, is_digit, is_digit_of, peek, run};
 use syntax_tree::TokenKind;
 
 fn is_e(b: u8) -> bool

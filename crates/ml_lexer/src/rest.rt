@@ -170,6 +170,7 @@ pub fn ahead(text: Rest<'_>, by: usize) -> Rest<'_>
     requires inside { by ≤ length (rest_of text) }
     ensures rest { rest_of result ≡ drop by (rest_of text.entry) }
     ensures placed { IsPlaced result }
+    ensures place { result.at ≡ text.entry.at + by }
 {
     Rest {
         left: text.left,

@@ -6,8 +6,8 @@ ghost use Rattle.ml_lexer.specs.Scans.{sign_found, is_closing_sign as is_closing
 ghost use Rattle.syntax_tree.specs.Names.{kind_of};
 ghost use Rattle.token_model.specs.Bytes.{is_sign};
 
-use crate::found::{spelled, stray, Found};
-use crate::rest::{copy, peek, run, Rest, Sort};
+use crate::found::{Found, spelled, stray};
+use crate::rest::{Rest, Sort, copy, peek, run};
 use crate::words::sign_kind;
 use std::alloc::Global;
 use syntax_tree::{NoMemory, TokenKind};

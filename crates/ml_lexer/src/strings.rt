@@ -6,8 +6,8 @@ ghost use Rattle.ml_lexer.specs.Scans.{string_end as string_end_of, quoted_end a
 ghost use Rattle.token_model.specs.Bytes.{is_lower};
 ghost use Rattle.token_model.specs.Spellings.{closing};
 
-use crate::found::{spelled, unclosed, Found};
-use crate::rest::{len, peek, run, Rest, Sort};
+use crate::found::{Found, spelled, unclosed};
+use crate::rest::{Rest, Sort, len, peek, run};
 use syntax_tree::TokenKind;
 
 /// The end of a string whose first quote stands before a place. None where it has no end.

@@ -33,18 +33,13 @@ fn is_outside_word(word: &[u8]) -> bool
 fn is_op14_word(word: &[u8]) -> bool
     ensures { result ≡ is_op14_word_spelling word.now }
 {
-    is(word, b"lsl")
-        || is(word, b"lsr")
-        || is(word, b"asr")
+    is(word, b"lsl") || is(word, b"lsr") || is(word, b"asr")
 }
 
 fn is_op13_word(word: &[u8]) -> bool
     ensures { result ≡ is_op13_word_spelling word.now }
 {
-    is(word, b"mod")
-        || is(word, b"land")
-        || is(word, b"lor")
-        || is(word, b"lxor")
+    is(word, b"mod") || is(word, b"land") || is(word, b"lor") || is(word, b"lxor")
 }
 
 #[tactic(auto, unfolding(syntax_tree::specs::Names::kind_of, token_model::specs::Words::other_word_kind))]
