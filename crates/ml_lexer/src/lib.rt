@@ -17,3 +17,6 @@ mod strings;
 mod words;
 
 pub use lexer::{lex_all, lex_from};
+
+#[cfg(test)]
+mod tests;
