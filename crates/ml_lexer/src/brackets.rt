@@ -80,7 +80,8 @@ fn find_op_name(text: Rest<'_>, from: usize, operator: Option<Ended>) -> Found
     ensures fits { Fits result (rest_of text.entry) }
 {
     let Some(operator) = operator else {
-        return spelled(TokenKind::LeftParen, 1, from);
+        let colon = peek(text, from) == b':';
+        return spelled(TokenKind::LeftParen, 1, if colon { from + 1 } else { from });
     };
     if !is_operator_kind(operator.kind) {
         return spelled(TokenKind::LeftParen, 1, operator.end);

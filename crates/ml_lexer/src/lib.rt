@@ -18,5 +18,3 @@ mod words;
 
 pub use lexer::{lex_all, lex_from};
 
-#[cfg(test)]
-mod tests;

@@ -7,7 +7,7 @@ ghost use Rattle.token_model.specs.Bytes.{goes_on as goes_on_byte};
 ghost use Rattle.token_model.specs.Spellings.{is_plain as is_plain_byte, is_escaped as is_escaped_byte};
 
 use crate::found::{Found, spelled, stray};
-use crate::rest::{Rest, Sort, begins_name, copy, is_digit, is_hexadecimal, is_octal, peek, run};
+use crate::rest::{Rest, Sort, begins_name, copy, is_digit, is_hexadecimal, is_octal, len, peek, run};
 use crate::words::word_kind;
 use std::alloc::Global;
 use syntax_tree::{NoMemory, TokenKind};
@@ -173,6 +173,44 @@ pub fn char_size(text: Rest<'_>) -> usize
     }
 }
 
+/// The end of the bytes that decide that a quote and a backslash begin no character literal.
+fn code_reach(text: Rest<'_>) -> usize
+    requires { IsPlaced text }
+    ensures near { (3 ≤ result) × (result ≤ 7) }
+{
+    match peek(text, 2) {
+        b'x' if !is_hexadecimal(peek(text, 3)) => 4,
+        b'x' if !is_hexadecimal(peek(text, 4)) => 5,
+        b'x' => 6,
+        b'o' if !(is_octal(peek(text, 3)) && peek(text, 3) < b'4') => 4,
+        b'o' if !is_octal(peek(text, 4)) => 5,
+        b'o' if !is_octal(peek(text, 5)) => 6,
+        b'o' => 7,
+        first if is_escaped(first) => 4,
+        first if !is_digit(first) => 3,
+        _ if !is_digit(peek(text, 3)) => 4,
+        _ if !is_digit(peek(text, 4)) => 5,
+        _ => 6,
+    }
+}
+
+/// The end of the bytes that decide that a quote begins nothing.
+fn tick_reach(text: Rest<'_>) -> usize
+    requires placed { IsPlaced text }
+    requires some { 0 < length (rest_of text) }
+    ensures near { (2 ≤ result) × (result ≤ length (rest_of text.entry) + 1) }
+{
+    let first = peek(text, 1);
+    let wanted = if first == b'\\' {
+        code_reach(text)
+    } else if is_plain(first) {
+        3
+    } else {
+        2
+    };
+    wanted.min(len(text) + 1)
+}
+
 /// What begins with a quote.
 #[tactic(auto, unfolding(syntax_tree::specs::Names::kind_of, crate::specs::Scans::tick_found))]
 pub fn find_tick(text: Rest<'_>) -> Found
@@ -188,5 +226,9 @@ pub fn find_tick(text: Rest<'_>) -> Found
     if begins_name(peek(text, 1)) {
         return spelled(TokenKind::TyVar, run(text, 1, Sort::Name), 1);
     }
-    stray(text)
+    let found = stray(text);
+    Found {
+        reach: found.reach.max(tick_reach(text)),
+        ..found
+    }
 }
