@@ -26,7 +26,7 @@ first_found text at i f inside there gap stands fits =
       gap = subst (λ (l : List ℕ). Gap (drop at text) l) (sym cut) gap;
       stands = stands;
       start = omega (arith, ap length cut, length-drop i (drop at text));
-      end = omega (arith, length-take f.size here)
+      end = omega (arith, length-take f.size here);
     }
 
 -- none is left behind a gap up to the end
@@ -60,7 +60,7 @@ lex_done text at tokens none so_far = subst (λ (l : List Tok). LexFrom text 0 l
 pub first_at : (text here : List ℕ) (at i place : ℕ) (f : Found) → at ≤ length text → i < length (drop at text) → Gap (drop at text) (drop i (drop at text)) → here ≡ drop i (drop at text) → place ≡ at + i → StandsAt here f → f.size ≤ length here → FirstToken text at (Some (placed_tok place f here))
 first_at text here at i place f inside there gap is at_place stands fits =
     subst (λ k. FirstToken text at (Some (placed_tok k f here))) (sym at_place) (subst (λ (l : List ℕ). FirstToken text at (Some (placed_tok (at + i) f l))) (sym is)
-      (first_found text at i f inside there gap (subst (λ (l : List ℕ). StandsAt l f) is stands) (subst (λ (l : List ℕ). f.size ≤ length l) is fits)))
+    (first_found text at i f inside there gap (subst (λ (l : List ℕ). StandsAt l f) is stands) (subst (λ (l : List ℕ). f.size ≤ length l) is fits)))
 
 pub end_at : (text here : List ℕ) (at i last : ℕ) (f : Found) → at ≤ length text → i < length (drop at text) → IsUtf8 here → here ≡ drop i (drop at text) → StandsAt here f → f.size ≤ length here → last ≡ at + i + f.size → IsCharBoundary text last
 end_at text here at i last f inside there utf8 is stands fits at_last =

@@ -18,3 +18,5 @@ mod words;
 
 pub use lexer::{lex_all, lex_from};
 
+#[cfg(test)]
+mod tests;

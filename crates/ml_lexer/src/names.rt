@@ -7,7 +7,9 @@ ghost use Rattle.token_model.specs.Bytes.{goes_on as goes_on_byte};
 ghost use Rattle.token_model.specs.Spellings.{is_plain as is_plain_byte, is_escaped as is_escaped_byte};
 
 use crate::found::{Found, spelled, stray};
-use crate::rest::{Rest, Sort, begins_name, copy, is_digit, is_hexadecimal, is_octal, len, peek, run};
+use crate::rest::{
+    Rest, Sort, begins_name, copy, is_digit, is_hexadecimal, is_octal, len, peek, run,
+};
 use crate::words::word_kind;
 use std::alloc::Global;
 use syntax_tree::{NoMemory, TokenKind};
