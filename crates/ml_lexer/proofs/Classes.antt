@@ -1,8 +1,8 @@
 -- What may be spelled where a byte stands: one sort of spelling for each class of first bytes.
-use Rattle.std.proofs.Common.{◌≡◌, ◌+◌, ◌-◌, ◌≤◌, ◌<◌, ◌++◌, ◌∷◌, [], ℕ, List, Bool, true, false, drop, length, get_or, sym, subst, arith, refl, inl, inr, ap, ◌∙◌, append-nil}
-use Rattle.std.specs.Prelude.{if◌then◌else◌, ◌⊎◌, ◌==◌, ◌||◌, codes}
+use Rattle.std.proofs.Common.{◌≡◌, ◌<◌, ◌++◌, ◌∷◌, [], ℕ, List, Bool, true, false, length, get_or, sym, subst, arith, refl, inl, inr, ap, ◌∙◌, append-nil}
+use Rattle.std.specs.Prelude.{if◌then◌else◌, ◌⊎◌, ◌==◌, codes}
 use Rattle.std.specs.List.{list_all}
-use Rattle.std.proofs.lemmas.Bool.{or_cases, eqb-true, and_from}
+use Rattle.std.proofs.lemmas.Bool.{eqb-true, and_from}
 use Rattle.std.proofs.lemmas.Bool.Decides.{nat_tests}
 use Rattle.token_model.specs.Kinds.{Kind}
 use Rattle.token_model.specs.Bytes.{is_blank, is_digit, is_lower, is_upper, begins_name, goes_on, is_decimal, begins_operator, is_sign, begins}

@@ -1,6 +1,6 @@
 -- How far a scan of nested comments has come.
-use Rattle.std.proofs.Common.{◌≡◌, ◌+◌, ◌-◌, ◌≤◌, ◌<◌, ◌++◌, ◌∷◌, [], ℕ, zero, suc, List, Bool, true, false, take, drop, length, get_or, sym, subst, arith, refl, ap, ◌∙◌, length-drop}
-use Rattle.std.proofs.lemmas.List.{drop-drop, drop_all}
+use Rattle.std.proofs.Common.{◌≡◌, ◌+◌, ◌-◌, ◌≤◌, ◌<◌, ℕ, zero, suc, List, drop, length, sym, subst, arith, refl, length-drop}
+use Rattle.std.proofs.lemmas.List.{drop-drop}
 use Rattle.token_model.specs.Comments.{Closes}
 use Rattle.ml_lexer.specs.Pieces.{ClosesAll}
 use Rattle.ml_lexer.specs.Scans.{Piece, opens, closes, passes, unclosed, piece_of}

@@ -1,10 +1,12 @@
 -- The first token of a text at or behind a place.
-use Rattle.std.proofs.Common.{◌≡◌, ◌+◌, ◌-◌, ◌≤◌, ◌<◌, ◌++◌, ◌∷◌, [], ℕ, List, Bool, true, false, take, drop, length, get_or, sym, subst, arith, refl, ap, ◌∙◌, append-nil, append_assoc, length-append, length-take, length-drop, Option, Some, None}
+use Rattle.std.proofs.Common.{◌≡◌, ◌+◌, ◌≤◌, ◌<◌, ◌++◌, ◌∷◌, [], ℕ, List, take, drop, length, sym, subst, arith, ap, ◌∙◌, append-nil, append_assoc, length-take, length-drop, Some, None, map}
 use Rattle.std.specs.Str.{IsUtf8, IsCharBoundary}
 use Rattle.std.proofs.lemmas.List.{take-append-drop, drop-drop}
 use Rattle.std.proofs.lemmas.Str.{IsUtf8-drop, IsCharBoundary-from_drop}
-use Rattle.token_model.specs.Kinds.{Tok}
-use Rattle.token_model.specs.Tokens.{Gap, Stands, IsFirst, FirstToken, LexFrom, Lex}
+use Rattle.token_model.specs.Kinds.{Tok, AllWithin}
+use Rattle.syntax_tree.specs.View.{tok_of}
+use Rattle.syntax_tree.specs.declared.tree.Token.{Token}
+use Rattle.token_model.specs.Tokens.{Gap, FirstToken, LexFrom, Lex}
 use Rattle.ml_lexer.specs.Founds.{placed_tok}
 use Rattle.ml_lexer.specs.Scans.{Found}
 use Rattle.ml_lexer.proofs.Standing.{StandsAt}
@@ -65,3 +67,8 @@ first_at text here at i place f inside there gap is at_place stands fits =
 pub end_at : (text here : List ℕ) (at i last : ℕ) (f : Found) → at ≤ length text → i < length (drop at text) → IsUtf8 here → here ≡ drop i (drop at text) → StandsAt here f → f.size ≤ length here → last ≡ at + i + f.size → IsCharBoundary text last
 end_at text here at i last f inside there utf8 is stands fits at_last =
     subst (λ k. IsCharBoundary text k) (sym at_last) (end_boundary text at i f inside there (subst (λ (l : List ℕ). IsUtf8 l) is utf8) (subst (λ (l : List ℕ). StandsAt l f) is stands) (subst (λ (l : List ℕ). f.size ≤ length l) is fits))
+
+-- one more token within the text
+pub within_more : (n : ℕ) (ts : List Token) (t : Token) → AllWithin n (map tok_of ts) → t.span.start ≤ n → t.span.end ≤ n → AllWithin n (map tok_of (ts ++ t ∷ []))
+within_more n [] t all start end = (start, end, tt)
+within_more n (u ∷ ts) t all start end = (all.0, all.1, within_more n ts t all.2 start end)

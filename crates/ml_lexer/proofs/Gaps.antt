@@ -1,9 +1,9 @@
 -- How far a scan of a gap has come.
-use Rattle.std.proofs.Common.{◌≡◌, ◌+◌, ◌-◌, ◌≤◌, ◌<◌, ◌++◌, ◌∷◌, [], ℕ, zero, suc, List, Bool, true, false, take, drop, length, get_or, sym, subst, arith, refl, ap, ◌∙◌, length-drop}
-use Rattle.std.proofs.lemmas.List.{drop-drop, drop_all}
+use Rattle.std.proofs.Common.{◌≡◌, ◌+◌, ◌<◌, ◌∷◌, [], ℕ, List, true, drop, length, get_or, sym, subst, arith, length-drop}
+use Rattle.std.proofs.lemmas.List.{drop-drop}
 use Rattle.token_model.specs.Bytes.{is_blank}
 use Rattle.token_model.specs.Comments.{begins_comment, Closes}
-use Rattle.token_model.specs.Tokens.{Gap, no_gap, blank, comment, IsUnclosed, unclosed_comment}
+use Rattle.token_model.specs.Tokens.{Gap, blank, comment, IsUnclosed, unclosed_comment}
 use Rattle.ml_lexer.proofs.Inside.{two_known}
 
 blank_first : (l rest : List ℕ) → 0 < length l → is_blank (get_or l 0 0) ≡ true → Gap (drop 1 l) rest → Gap l rest

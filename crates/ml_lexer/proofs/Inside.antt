@@ -1,13 +1,12 @@
 -- What stands inside a comment, piece by piece.
-use Rattle.std.proofs.Common.{◌≡◌, ◌+◌, ◌-◌, ◌≤◌, ◌<◌, ◌++◌, ◌∷◌, [], ℕ, zero, suc, List, Bool, true, false, take, drop, length, get_or, sym, subst, arith, refl, ap, ◌∙◌, Option, Some, None, length-append}
-use Rattle.std.specs.Prelude.{if◌then◌else◌, ◌&&◌, ◌||◌, ◌==◌, nat_lt}
+use Rattle.std.proofs.Common.{◌≡◌, ◌<◌, ◌++◌, ◌∷◌, [], ℕ, List, Bool, true, false, drop, length, get_or, sym, subst, arith, refl, ap, ◌∙◌, Option, Some, None, length-append}
+use Rattle.std.specs.Prelude.{if◌then◌else◌, ◌&&◌, ◌==◌, nat_lt}
 use Rattle.std.proofs.Math.Seq.{drop-append_seam}
-use Rattle.std.proofs.lemmas.Bool.{and_parts, and_from, and_cases, eqb-true, eq-eqb, both_ways, ltb-true, lt-ltb}
-use Rattle.token_model.specs.Comments.{begins_comment, begins_with, OpensQuoted, IsPlainInside, Closes, end, nested, string_inside, char_inside, byte_inside}
-use Rattle.token_model.specs.Spellings.{IsChar, EndsString, IsQuoted, IsString, string, quoted_string}
-use Rattle.ml_lexer.specs.Pieces.{ClosesAll}
+use Rattle.std.proofs.lemmas.Bool.{and_parts, and_from, eqb-true, eq-eqb, both_ways, ltb-true, lt-ltb}
+use Rattle.token_model.specs.Comments.{IsPlainInside, Closes, end, nested, string_inside, char_inside, byte_inside}
+use Rattle.token_model.specs.Spellings.{IsChar, string, quoted_string}
 use Rattle.ml_lexer.specs.Scans.{Piece, opens, closes, passes, unclosed, string_piece, two_are, piece_of, string_end, opens_quoted, quoted_end, char_size}
-use Rattle.ml_lexer.proofs.Chars.{char_size_is, char_found, HasChar}
+use Rattle.ml_lexer.proofs.Chars.{char_size_is, char_found}
 use Rattle.ml_lexer.proofs.Classes.{char_first}
 use Rattle.ml_lexer.proofs.Literals.{string_end_is, string_end_found}
 use Rattle.ml_lexer.proofs.Quoted.{quoted_is, quoted_found, opens_is, opens_from}

@@ -1,14 +1,9 @@
 -- Strings, quoted strings and character literals: where a scan finds one, it is spelled, and the other way round.
-use Rattle.std.proofs.Common.{◌≡◌, ◌+◌, ◌-◌, ◌≤◌, ◌<◌, ◌++◌, ◌∷◌, [], ℕ, zero, suc, List, Bool, true, false, take, drop, length, get_or, sym, subst, arith, refl, ap, ◌∙◌, append_assoc, append-nil, Option, Some, None, length-append}
-use Rattle.std.specs.Prelude.{if◌then◌else◌, ◌&&◌, ◌||◌, ◌==◌, nat_lt, not}
-use Rattle.std.specs.List.{list_all}
-use Rattle.std.proofs.Math.Seq.{drop-append_seam, take-append_seam}
-use Rattle.std.proofs.lemmas.Bool.{and_parts, and_from, eqb-true, eq-eqb, both_ways, ltb-true, lt-ltb}
-use Rattle.std.proofs.lemmas.Bool.Decides.{nat_tests}
-use Rattle.token_model.specs.Bytes.{begins, is_lower, is_digit, is_hexadecimal, is_octal}
-use Rattle.token_model.specs.Spellings.{is_plain, is_escaped, IsChar, plain, escape, decimal_code, hexadecimal_code, octal_code, EndsString, end_quote, string_byte, string_escape, closing, IsQuoted}
-use Rattle.ml_lexer.specs.Scans.{run_length, run_end, string_end, front_is, word_end, quoted_id, opens_quoted, quoted_end, char_size, escape_size}
-use Rattle.ml_lexer.proofs.Runs.{run_exact, run_passes, run_stops}
+use Rattle.std.proofs.Common.{◌≡◌, ◌+◌, ◌≤◌, ◌<◌, ◌++◌, ◌∷◌, [], ℕ, suc, List, Bool, true, false, drop, length, sym, subst, arith, refl, ap, ◌∙◌, append_assoc, Some, None, length-append}
+use Rattle.std.specs.Prelude.{if◌then◌else◌, ◌&&◌, ◌||◌, ◌==◌}
+use Rattle.std.proofs.lemmas.Bool.{and_parts, and_from, eqb-true, eq-eqb, both_ways}
+use Rattle.token_model.specs.Spellings.{EndsString, end_quote, string_byte, string_escape}
+use Rattle.ml_lexer.specs.Scans.{string_end, front_is, word_end}
 
 none_not_some : {A : Type 0} {x : A} → None ≡ Some x → ⊥
 none_not_some e = cc

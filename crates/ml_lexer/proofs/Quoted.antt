@@ -1,17 +1,14 @@
 -- Quoted strings and character literals: where a scan finds one, it is spelled, and the other way round.
-use Rattle.std.proofs.Common.{◌≡◌, ◌+◌, ◌-◌, ◌≤◌, ◌<◌, ◌++◌, ◌∷◌, [], ℕ, zero, suc, List, Bool, true, false, take, drop, length, get_or, sym, subst, arith, refl, ap, ◌∙◌, append_assoc, append-nil, Option, Some, None, length-append}
-use Rattle.std.specs.Prelude.{if◌then◌else◌, ◌&&◌, ◌||◌, ◌==◌, nat_lt, not}
+use Rattle.std.proofs.Common.{◌≡◌, ◌+◌, ◌-◌, ◌<◌, ◌++◌, ◌∷◌, [], ℕ, zero, suc, List, true, take, drop, length, get_or, sym, subst, arith, refl, ap, ◌∙◌, append_assoc, Some, length-append}
 use Rattle.std.specs.List.{list_all}
-use Rattle.std.proofs.Math.Seq.{drop-append_seam, take-append_seam, get_or-append_seam}
-use Rattle.std.proofs.lemmas.List.{take-append-drop, get_or-drop, drop-drop, drop_more}
-use Rattle.std.proofs.lemmas.Bool.{and_parts, and_from, eqb-true, eq-eqb, both_ways, ltb-true, lt-ltb}
-use Rattle.std.proofs.lemmas.Bool.Decides.{nat_tests}
-use Rattle.token_model.specs.Bytes.{begins, is_lower, is_digit, is_hexadecimal, is_octal}
+use Rattle.std.proofs.Math.Seq.{take-append_seam, get_or-append_seam}
+use Rattle.std.proofs.lemmas.Bool.{eqb-true, eq-eqb}
+use Rattle.token_model.specs.Bytes.{is_lower}
 use Rattle.token_model.specs.Comments.{OpensQuoted, opens}
-use Rattle.token_model.specs.Spellings.{is_plain, is_escaped, IsChar, plain, escape, decimal_code, hexadecimal_code, octal_code, closing, IsQuoted}
-use Rattle.ml_lexer.specs.Scans.{run_length, run_end, front_is, word_end, quoted_id, opens_quoted, quoted_end, char_size, escape_size}
-use Rattle.ml_lexer.proofs.Runs.{run_exact, run_passes, run_stops, run_le}
-use Rattle.ml_lexer.proofs.Literals.{IsFirstWord, word_end_is, word_end_found}
+use Rattle.token_model.specs.Spellings.{closing, IsQuoted}
+use Rattle.ml_lexer.specs.Scans.{run_length, run_end, word_end, quoted_id, opens_quoted, quoted_end}
+use Rattle.ml_lexer.proofs.Runs.{run_exact, run_passes}
+use Rattle.ml_lexer.proofs.Literals.{word_end_is, word_end_found}
 
 -- the end of the id of what opens a quoted string
 id_ends : (id bs : List ℕ) → list_all is_lower id ≡ true → run_end is_lower 1 (123 ∷ id ++ 124 ∷ bs) ≡ suc (length id)

@@ -1,6 +1,6 @@
 -- A part of a text that stands at another place.
-use Rattle.std.proofs.Common.{◌≡◌, ◌+◌, ◌-◌, ◌≤◌, ◌<◌, ◌∷◌, [], eq-eqb, length-take, length-drop, length-append, append_assoc, ℕ, zero, suc, List, Bool, true, false, take, drop, length, get_or, sym, ◌∙◌, ap, subst, arith, refl}
-use Rattle.std.specs.Prelude.{◌==◌, ◌&&◌, ◌++◌, if◌then◌else◌, Option, Some}
+use Rattle.std.proofs.Common.{◌≡◌, ◌+◌, ◌-◌, ◌≤◌, ◌<◌, ◌∷◌, [], eq-eqb, length-take, length-drop, length-append, ℕ, suc, List, Bool, true, false, take, drop, length, get_or, sym, ◌∙◌, ap, arith, refl}
+use Rattle.std.specs.Prelude.{◌==◌, ◌&&◌, ◌++◌, if◌then◌else◌, Some}
 use Rattle.std.proofs.lemmas.List.{drop_more, drop_all, get_or-drop, drop-drop}
 use Rattle.std.proofs.lemmas.Bool.{both_ways, ne_eqb, and_parts}
 use Rattle.token_model.specs.Spellings.{closing}

@@ -1,18 +1,18 @@
 -- What is found at the front is spelled there, and nothing longer is.
-use Rattle.std.proofs.Common.{◌≡◌, ◌+◌, ◌-◌, ◌≤◌, ◌<◌, ◌++◌, ◌∷◌, [], ℕ, zero, suc, List, Bool, true, false, take, drop, length, get_or, sym, subst, arith, refl, ap, ◌∙◌, append_assoc, append-nil, length-append, length-take, inl, inr}
-use Rattle.std.specs.Prelude.{if◌then◌else◌, ◌&&◌, ◌||◌, ◌==◌, nat_lt, codes, ◌⊎◌}
+use Rattle.std.proofs.Common.{◌≡◌, ◌+◌, ◌≤◌, ◌<◌, ◌++◌, ◌∷◌, [], ℕ, suc, List, Bool, true, false, take, drop, length, get_or, sym, subst, arith, refl, ap, ◌∙◌, append_assoc, length-append, length-take, inl, inr}
+use Rattle.std.specs.Prelude.{if◌then◌else◌, ◌==◌, codes}
 use Rattle.std.specs.List.{list_all}
-use Rattle.std.proofs.Math.Seq.{drop-append_seam, take-append_seam, get_or-append_seam}
-use Rattle.std.proofs.lemmas.List.{take-append-drop, drop-drop}
-use Rattle.std.proofs.lemmas.Bool.{and_parts, and_from, eqb-true, eqb-false, eq-eqb, both_ways}
+use Rattle.std.proofs.Math.Seq.{take-append_seam, get_or-append_seam}
+use Rattle.std.proofs.lemmas.List.{take-append-drop}
+use Rattle.std.proofs.lemmas.Bool.{and_parts, and_from, eqb-true, eqb-false}
 use Rattle.std.proofs.lemmas.Bool.Decides.{nat_tests}
 use Rattle.token_model.specs.Kinds.{Kind, upper, qualifier}
-use Rattle.token_model.specs.Bytes.{is_blank, is_digit, is_lower, is_upper, begins_name, goes_on, begins_operator, is_sign, begins}
-use Rattle.token_model.specs.Spellings.{Run, AreBlanks, Spells, a_word, an_upper, a_qualifier}
+use Rattle.token_model.specs.Bytes.{is_upper, goes_on, begins}
+use Rattle.token_model.specs.Spellings.{Run, Spells, an_upper, a_qualifier}
 use Rattle.ml_lexer.specs.Scans.{Found, found, run_length, run_end, upper_found}
-use Rattle.ml_lexer.proofs.Runs.{front_in_run, run_exact, run_passes, run_stops, run_le, run_some}
+use Rattle.ml_lexer.proofs.Runs.{front_in_run, run_exact, run_passes, run_le}
 use Rattle.ml_lexer.proofs.Quoted.{split_at}
-use Rattle.ml_lexer.proofs.Classes.{Class, class_of, Of, IsQualifier, by_class, upper_class}
+use Rattle.ml_lexer.proofs.Classes.{Class, Of, upper_class}
 
 -- nothing longer of a class is spelled at the front
 abbrev pub NoLonger : Class → List ℕ → ℕ → Type 0

@@ -1,17 +1,16 @@
 -- What begins with `[`.
-use Rattle.std.proofs.Common.{◌≡◌, ◌+◌, ◌-◌, ◌≤◌, ◌<◌, ◌++◌, ◌∷◌, [], ℕ, zero, suc, List, Bool, true, false, take, drop, length, get_or, sym, subst, arith, refl, ap, ◌∙◌, append_assoc, append-nil, length-append, length-take, inl, inr}
-use Rattle.std.specs.Prelude.{if◌then◌else◌, ◌&&◌, ◌||◌, ◌==◌, nat_lt, codes, ◌⊎◌}
+use Rattle.std.proofs.Common.{◌≡◌, ◌+◌, ◌≤◌, ◌<◌, ◌++◌, ◌∷◌, [], ℕ, suc, List, Bool, true, false, take, drop, length, get_or, sym, subst, arith, refl, ap, ◌∙◌, append_assoc, length-append, length-take, inl, inr}
+use Rattle.std.specs.Prelude.{if◌then◌else◌, ◌&&◌, ◌||◌, ◌==◌, codes}
 use Rattle.std.proofs.Math.Seq.{get_or-append_seam}
-use Rattle.std.proofs.lemmas.Bool.{and_parts, and_from, or_cases, eqb-true, eqb-false, eq-eqb, both_ways}
-use Rattle.token_model.specs.Kinds.{Kind, outside, nil, left_bracket}
+use Rattle.std.proofs.lemmas.Bool.{and_parts, or_cases, eqb-true, eq-eqb}
+use Rattle.token_model.specs.Kinds.{outside, nil, left_bracket}
 use Rattle.token_model.specs.Bytes.{is_blank}
-use Rattle.token_model.specs.Spellings.{AreBlanks, Spells, Mark, a_mark, a_nil, left_bracket_mark, left_array_sign, left_less_sign, left_greater_sign, attribute_sign, item_attribute_sign, floating_attribute_sign, extension_sign, item_extension_sign}
+use Rattle.token_model.specs.Spellings.{AreBlanks, a_mark, a_nil, left_bracket_mark, left_array_sign, left_less_sign, left_greater_sign, attribute_sign, item_attribute_sign, floating_attribute_sign, extension_sign, item_extension_sign}
 use Rattle.ml_lexer.specs.Scans.{Found, found, run_length, run_end, bracket_found}
 use Rattle.ml_lexer.proofs.Runs.{run_exact, run_passes, run_le}
-use Rattle.ml_lexer.proofs.Quoted.{first_known, split_at}
-use Rattle.ml_lexer.proofs.Inside.{two_known}
-use Rattle.ml_lexer.proofs.Classes.{Class, Of, IsNil, BracketMark, one_bracket, array, less, greater, at_one, at_two, at_three, percent_one, percent_two, bracket_class}
-use Rattle.ml_lexer.proofs.Spelled.{NoLonger, IsSpelled}
+use Rattle.ml_lexer.proofs.Quoted.{split_at}
+use Rattle.ml_lexer.proofs.Classes.{BracketMark, one_bracket, array, less, greater, at_one, at_two, at_three, percent_one, percent_two, bracket_class}
+use Rattle.ml_lexer.proofs.Spelled.{NoLonger}
 use Rattle.ml_lexer.proofs.SpelledMarks.{FoundIs, is_spelled, IsThere, there, one, two, size_of}
 
 -- a byte behind blanks, as the scan finds it

@@ -1,11 +1,10 @@
 -- What begins with a mark, or begins no token.
-use Rattle.std.proofs.Common.{◌≡◌, ◌+◌, ◌-◌, ◌≤◌, ◌<◌, ◌++◌, ◌∷◌, [], ℕ, zero, suc, List, Bool, true, false, take, drop, length, get_or, sym, subst, arith, refl, ap, ◌∙◌, append_assoc, append-nil, length-append, length-take, inl, inr}
-use Rattle.std.specs.Prelude.{if◌then◌else◌, ◌&&◌, ◌||◌, ◌==◌, nat_lt, codes, ◌⊎◌}
-use Rattle.std.specs.List.{list_all}
+use Rattle.std.proofs.Common.{◌≡◌, ◌+◌, ◌≤◌, ◌<◌, ◌++◌, ◌∷◌, [], ℕ, List, true, false, take, drop, length, get_or, sym, subst, arith, refl, ap, ◌∙◌, length-take, inl, inr}
+use Rattle.std.specs.Prelude.{if◌then◌else◌, ◌==◌, ◌⊎◌}
 use Rattle.std.proofs.lemmas.List.{take-append-drop}
-use Rattle.std.proofs.lemmas.Bool.{and_parts, and_from, or_cases, eqb-true, eqb-false, eq-eqb, both_ways}
+use Rattle.std.proofs.lemmas.Bool.{and_from, eqb-true, eqb-false}
 use Rattle.token_model.specs.Kinds.{Kind, junk, outside, right_paren, right_bracket, right_brace, comma, semi, semi_semi, dot, colon, colon_colon, colon_equal}
-use Rattle.token_model.specs.Bytes.{is_sign, continues}
+use Rattle.token_model.specs.Bytes.{is_sign}
 use Rattle.token_model.specs.Tokens.{IsUnclosed}
 use Rattle.token_model.specs.Spellings.{Run, Spells, Mark, a_mark, a_hash, right_paren_mark, right_bracket_mark, right_brace_mark, comma_mark, semi_mark, semi_semi_mark, colon_mark, dot_mark, colon_colon_mark, colon_equal_mark, dots_sign, coercion_sign}
 use Rattle.ml_lexer.specs.Scans.{Found, found, run_length, run_end, mark_found, colon_found, mark_or_stray, stray_found}

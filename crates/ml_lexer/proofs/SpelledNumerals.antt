@@ -1,18 +1,18 @@
 -- What begins with a digit.
-use Rattle.std.proofs.Common.{◌≡◌, ◌+◌, ◌-◌, ◌≤◌, ◌<◌, ◌++◌, ◌∷◌, [], ℕ, zero, suc, List, Bool, true, false, take, drop, length, get_or, sym, subst, arith, refl, ap, ◌∙◌, append_assoc, append-nil, length-append, length-take, length-drop, inl, inr}
-use Rattle.std.specs.Prelude.{if◌then◌else◌, ◌&&◌, ◌||◌, ◌==◌, nat_lt, codes, ◌⊎◌}
+use Rattle.std.proofs.Common.{◌≡◌, ◌+◌, ◌-◌, ◌≤◌, ◌<◌, ◌++◌, ◌∷◌, [], ℕ, suc, List, Bool, true, false, take, drop, length, get_or, sym, subst, arith, refl, ap, ◌∙◌, append_assoc, length-append, length-take, inl, inr}
+use Rattle.std.specs.Prelude.{if◌then◌else◌, ◌&&◌, ◌||◌, ◌==◌, nat_lt}
 use Rattle.std.specs.List.{list_all}
-use Rattle.std.proofs.Math.Seq.{drop-append_seam, take-append_seam}
+use Rattle.std.proofs.Math.Seq.{drop-append_seam}
 use Rattle.std.proofs.lemmas.List.{take-append-drop, drop-drop, get_or-drop}
-use Rattle.std.proofs.lemmas.Bool.{and_parts, and_from, and_cases, or_cases, eqb-true, eqb-false, eq-eqb, both_ways, ltb-true, ltb-false, lt-ltb, le-ltb}
+use Rattle.std.proofs.lemmas.Bool.{and_parts, and_from, eqb-true, eqb-false, eq-eqb, both_ways, ltb-true, ltb-false}
 use Rattle.std.proofs.lemmas.Bool.Decides.{nat_tests}
 use Rattle.token_model.specs.Kinds.{Kind, int, float, outside}
 use Rattle.token_model.specs.Bytes.{is_digit, is_decimal, is_digit_of, goes_on, begins}
-use Rattle.token_model.specs.Spellings.{Run, IsInt, decimal, based, IsFloat, float_with, IsFraction, no_fraction, fraction, IsExponent, no_exponent, exponent, signed_exponent, Spells, an_int, a_float, a_broken_numeral}
+use Rattle.token_model.specs.Spellings.{Run, decimal, based, float_with, IsFraction, no_fraction, fraction, IsExponent, no_exponent, exponent, signed_exponent, Spells, an_int, a_float, a_broken_numeral}
 use Rattle.ml_lexer.specs.Scans.{Found, found, run_length, run_end, is_based, based_end, is_e, is_plus_or_minus, fraction_end, exponent_end, literal_found, with_behind, numeral_found}
-use Rattle.ml_lexer.proofs.Runs.{front_in_run, run_exact, run_passes, run_le, run_later, run_some}
-use Rattle.ml_lexer.proofs.Classes.{Class, Of, IsLiteral, IsNumeral, digit_class}
-use Rattle.ml_lexer.proofs.Spelled.{NoLonger, IsSpelled, plainly, run_all, run_front}
+use Rattle.ml_lexer.proofs.Runs.{front_in_run, run_exact, run_passes, run_le, run_later}
+use Rattle.ml_lexer.proofs.Classes.{IsLiteral, digit_class}
+use Rattle.ml_lexer.proofs.Spelled.{NoLonger, plainly, run_all, run_front}
 use Rattle.ml_lexer.proofs.SpelledMarks.{FoundIs, is_spelled}
 
 digit_is_decimal : (b : ℕ) → is_digit b ≡ true → is_decimal b ≡ true

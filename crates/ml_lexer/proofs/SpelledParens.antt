@@ -1,21 +1,21 @@
 -- What begins with `(`, where no comment does.
-use Rattle.std.proofs.Common.{◌≡◌, ◌+◌, ◌-◌, ◌≤◌, ◌<◌, ◌++◌, ◌∷◌, [], ℕ, zero, suc, List, Bool, true, false, take, drop, length, get_or, sym, subst, arith, refl, ap, ◌∙◌, append_assoc, append-nil, length-append, length-take, length-drop, inl, inr, Option, Some, None}
-use Rattle.std.specs.Prelude.{if◌then◌else◌, ◌&&◌, ◌||◌, ◌==◌, nat_lt, codes, ◌⊎◌}
+use Rattle.std.proofs.Common.{◌≡◌, ◌+◌, ◌-◌, ◌≤◌, ◌<◌, ◌++◌, ◌∷◌, [], ℕ, suc, List, Bool, true, false, take, drop, length, get_or, sym, arith, refl, ap, ◌∙◌, append_assoc, length-append, length-take, inl, inr, Option, Some, None}
+use Rattle.std.specs.Prelude.{if◌then◌else◌, ◌&&◌, ◌==◌, codes}
 use Rattle.std.specs.List.{list_all}
-use Rattle.std.proofs.Math.Seq.{get_or-append_seam, drop-append_seam, take-append_seam}
+use Rattle.std.proofs.Math.Seq.{drop-append_seam, take-append_seam}
 use Rattle.std.proofs.lemmas.List.{take-append-drop, drop-drop, get_or-drop}
-use Rattle.std.proofs.lemmas.Bool.{and_parts, and_from, or_cases, eqb-true, eqb-false, eq-eqb, both_ways}
+use Rattle.std.proofs.lemmas.Bool.{and_parts, and_from, eqb-true, eq-eqb, both_ways}
 use Rattle.std.proofs.lemmas.Bool.Decides.{nat_tests}
 use Rattle.token_model.specs.Kinds.{Kind, unit, op_name, left_paren, colon_equal, op14, op13, op12, op10, op9, op8, op7, prefix}
 use Rattle.token_model.specs.Bytes.{is_blank, is_sign, is_lower, goes_on, begins_operator, begins}
 use Rattle.token_model.specs.Words.{sign_kind, word_kind}
-use Rattle.token_model.specs.Spellings.{Run, AreBlanks, Spells, Mark, a_mark, a_unit, an_op_name, left_paren_mark, IsOperatorKind, kind14, kind13, kind12, kind10, kind9, kind8, kind7, prefix_kind, assignment_kind, IsOperator, sign_operator, word_operator, assignment}
+use Rattle.token_model.specs.Spellings.{Run, AreBlanks, Spells, a_mark, a_unit, an_op_name, left_paren_mark, IsOperatorKind, kind14, kind13, kind12, kind10, kind9, kind8, kind7, prefix_kind, assignment_kind, IsOperator, sign_operator, word_operator, assignment}
 use Rattle.ml_lexer.specs.Scans.{Found, found, run_length, run_end, operator_end, is_operator_kind, op_name_found, paren_found}
 use Rattle.ml_lexer.proofs.Runs.{run_exact, run_passes, run_le}
 use Rattle.ml_lexer.proofs.Quoted.{first_known, split_at}
 use Rattle.ml_lexer.proofs.Inside.{two_known}
-use Rattle.ml_lexer.proofs.Classes.{by_class, Class, Of, IsUnit, IsOpName, ParenMark, one_paren, paren_class}
-use Rattle.ml_lexer.proofs.Spelled.{NoLonger, IsSpelled, run_all, run_front}
+use Rattle.ml_lexer.proofs.Classes.{by_class, ParenMark, one_paren, paren_class}
+use Rattle.ml_lexer.proofs.Spelled.{NoLonger, run_all, run_front}
 use Rattle.ml_lexer.proofs.SpelledMarks.{FoundIs, is_spelled, size_of}
 use Rattle.ml_lexer.proofs.SpelledBrackets.{byte_behind, blanks_cut}
 

@@ -1,20 +1,18 @@
 -- What begins with the sign of an operator, or is another mark.
-use Rattle.std.proofs.Common.{◌≡◌, ◌+◌, ◌-◌, ◌≤◌, ◌<◌, ◌++◌, ◌∷◌, [], ℕ, zero, suc, List, Bool, true, false, take, drop, length, get_or, sym, subst, arith, refl, ap, ◌∙◌, append_assoc, append-nil, length-append, length-take, inl, inr}
-use Rattle.std.specs.Prelude.{if◌then◌else◌, ◌&&◌, ◌||◌, ◌==◌, nat_lt, codes, ◌⊎◌}
-use Rattle.std.specs.List.{list_all}
+use Rattle.std.proofs.Common.{◌≡◌, ◌≤◌, ◌<◌, ◌++◌, ℕ, List, true, false, take, drop, length, get_or, sym, subst, arith, refl, ap, ◌∙◌, length-take, inl, inr}
+use Rattle.std.specs.Prelude.{if◌then◌else◌, ◌&&◌, ◌||◌, ◌==◌, codes}
 use Rattle.std.proofs.lemmas.List.{take-append-drop}
-use Rattle.std.proofs.lemmas.Bool.{and_parts, and_from, or_cases, eqb-true, eqb-false, eq-eqb, both_ways}
+use Rattle.std.proofs.lemmas.Bool.{and_parts, and_from, or_cases, both_ways}
 use Rattle.std.proofs.lemmas.Bool.Decides.{nat_tests}
-use Rattle.token_model.specs.Kinds.{Kind, outside, right_paren, right_bracket, right_brace, comma, semi, semi_semi, dot, colon, colon_colon, colon_equal}
+use Rattle.token_model.specs.Kinds.{Kind, outside}
 use Rattle.token_model.specs.Bytes.{begins_operator, is_sign}
 use Rattle.token_model.specs.Words.{sign_kind}
-use Rattle.token_model.specs.Spellings.{Run, Spells, Mark, a_mark, an_operator, a_hash, right_array_sign, right_greater_sign, right_object_sign, right_paren_mark, right_bracket_mark, right_brace_mark, comma_mark, semi_mark, semi_semi_mark, colon_mark, dot_mark, colon_colon_mark, colon_equal_mark, dots_sign, coercion_sign}
-use Rattle.ml_lexer.specs.Scans.{Found, found, run_length, run_end, two_are, is_closing_sign, sign_found, mark_found, colon_found}
-use Rattle.ml_lexer.proofs.Runs.{front_in_run, run_exact, run_passes, run_stops, run_le, run_some}
+use Rattle.token_model.specs.Spellings.{Run, Spells, Mark, a_mark, an_operator, right_array_sign, right_greater_sign, right_object_sign}
+use Rattle.ml_lexer.specs.Scans.{found, run_length, run_end, two_are, is_closing_sign, sign_found}
+use Rattle.ml_lexer.proofs.Runs.{front_in_run, run_le}
 use Rattle.ml_lexer.proofs.Inside.{two_known}
-use Rattle.ml_lexer.proofs.Quoted.{first_known}
-use Rattle.ml_lexer.proofs.Classes.{Class, Of, SignMark, array_end, greater_end, object_end, PlainMark, paren_end, bracket_end, brace_end, a_comma, one_semi, two_semis, one_colon, two_colons, assign, coercion, one_dot, two_dots, sign_class, mark_class}
-use Rattle.ml_lexer.proofs.Spelled.{NoLonger, IsSpelled, plainly, run_all, run_front}
+use Rattle.ml_lexer.proofs.Classes.{SignMark, array_end, greater_end, object_end, sign_class}
+use Rattle.ml_lexer.proofs.Spelled.{IsSpelled, plainly, run_all, run_front}
 
 operator_is_sign : (b : ℕ) → begins_operator b ≡ true → is_sign b ≡ true
 operator_is_sign b is = grind (arith, nat_tests)

@@ -1,23 +1,21 @@
 -- What begins with a quote of either kind, or with `{`.
-use Rattle.std.proofs.Common.{◌≡◌, ◌+◌, ◌-◌, ◌≤◌, ◌<◌, ◌++◌, ◌∷◌, [], ℕ, zero, suc, List, Bool, true, false, take, drop, length, get_or, sym, subst, arith, refl, ap, ◌∙◌, append_assoc, append-nil, length-append, length-take, inl, inr, Option, Some, None}
-use Rattle.std.specs.Prelude.{if◌then◌else◌, ◌&&◌, ◌||◌, ◌==◌, nat_lt, codes, ◌⊎◌}
-use Rattle.std.specs.List.{list_all}
+use Rattle.std.proofs.Common.{◌≡◌, ◌+◌, ◌≤◌, ◌<◌, ◌++◌, ◌∷◌, [], ℕ, List, true, false, take, drop, length, get_or, sym, subst, arith, refl, ap, ◌∙◌, length-append, length-take, inl, inr, Option, Some, None}
+use Rattle.std.specs.Prelude.{if◌then◌else◌, ◌==◌, nat_lt, ◌⊎◌}
 use Rattle.std.proofs.lemmas.List.{take-append-drop}
-use Rattle.std.proofs.lemmas.Bool.{and_parts, and_from, or_cases, eqb-true, eqb-false, eq-eqb, both_ways, ltb-true, lt-ltb}
+use Rattle.std.proofs.lemmas.Bool.{and_from, eqb-false, eq-eqb, both_ways, ltb-true, lt-ltb}
 use Rattle.std.proofs.lemmas.Bool.Decides.{nat_tests}
-use Rattle.token_model.specs.Kinds.{Kind, junk, outside, str, char, ty_var, left_brace}
-use Rattle.token_model.specs.Bytes.{is_sign, goes_on, begins_name}
-use Rattle.token_model.specs.Comments.{OpensQuoted}
+use Rattle.token_model.specs.Kinds.{outside, str, char, ty_var, left_brace}
+use Rattle.token_model.specs.Bytes.{goes_on, begins_name}
 use Rattle.token_model.specs.Tokens.{IsUnclosed, unclosed_string, unclosed_quoted}
-use Rattle.token_model.specs.Spellings.{Run, Spells, EndsString, IsQuoted, IsString, string, quoted_string, IsChar, Mark, a_mark, a_string, a_char, a_ty_var, left_brace_mark, left_object_sign}
-use Rattle.ml_lexer.specs.Scans.{Found, found, run_length, run_end, string_end, string_found, quote_found, opens_quoted, quoted_end, brace_found, char_size, tick_found, stray_found}
-use Rattle.ml_lexer.proofs.Runs.{front_in_run, run_passes, run_le}
+use Rattle.token_model.specs.Spellings.{Run, EndsString, IsQuoted, IsString, string, quoted_string, IsChar, a_mark, a_string, a_char, a_ty_var, left_brace_mark, left_object_sign}
+use Rattle.ml_lexer.specs.Scans.{found, run_length, run_end, string_end, string_found, quote_found, opens_quoted, quoted_end, brace_found, char_size, tick_found, stray_found}
+use Rattle.ml_lexer.proofs.Runs.{front_in_run, run_le}
 use Rattle.ml_lexer.proofs.Literals.{string_end_is, string_end_found}
-use Rattle.ml_lexer.proofs.Quoted.{first_known, quoted_is, quoted_found, opens_is, opens_from}
+use Rattle.ml_lexer.proofs.Quoted.{first_known, quoted_is, quoted_found, opens_from}
 use Rattle.ml_lexer.proofs.Chars.{char_size_is, char_found}
 use Rattle.ml_lexer.proofs.Inside.{two_known}
-use Rattle.ml_lexer.proofs.Classes.{Class, Of, IsTyVar, BraceMark, one_brace, object, char_first, quote_class, brace_class, tick_class}
-use Rattle.ml_lexer.proofs.Spelled.{NoLonger, IsSpelled, plainly, run_all, run_front}
+use Rattle.ml_lexer.proofs.Classes.{BraceMark, one_brace, object, char_first, quote_class, brace_class, tick_class}
+use Rattle.ml_lexer.proofs.Spelled.{plainly, run_all, run_front}
 use Rattle.ml_lexer.proofs.SpelledMarks.{FoundIs, is_spelled, is_stray, is_unclosed}
 
 some_same : {x y : ℕ} → Some x ≡ Some y → x ≡ y

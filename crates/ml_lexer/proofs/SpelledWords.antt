@@ -1,19 +1,19 @@
 -- What begins with a lower-case letter or `_`.
-use Rattle.std.proofs.Common.{◌≡◌, ◌+◌, ◌-◌, ◌≤◌, ◌<◌, ◌++◌, ◌∷◌, [], ℕ, zero, suc, List, Bool, true, false, take, drop, length, get_or, sym, subst, arith, refl, ap, ◌∙◌, append_assoc, append-nil, length-append, length-take, length-drop, inl, inr}
-use Rattle.std.specs.Prelude.{if◌then◌else◌, ◌&&◌, ◌||◌, ◌==◌, nat_lt, codes, ◌⊎◌}
+use Rattle.std.proofs.Common.{◌≡◌, ◌+◌, ◌≤◌, ◌<◌, ◌++◌, ◌∷◌, [], ℕ, suc, List, Bool, true, false, take, drop, length, get_or, sym, subst, arith, refl, ap, ◌∙◌, append_assoc, length-append, length-take, inl, inr}
+use Rattle.std.specs.Prelude.{if◌then◌else◌, ◌&&◌, ◌==◌, nat_lt, codes}
 use Rattle.std.specs.List.{list_all}
-use Rattle.std.proofs.Math.Seq.{drop-append_seam, take-append_seam}
+use Rattle.std.proofs.Math.Seq.{drop-append_seam}
 use Rattle.std.proofs.lemmas.List.{take-append-drop, drop-drop, get_or-drop}
-use Rattle.std.proofs.lemmas.Bool.{and_parts, and_from, eqb-true, eqb-false, eq-eqb, both_ways, ltb-true, lt-ltb}
+use Rattle.std.proofs.lemmas.Bool.{and_parts, and_from, eqb-true, eq-eqb, both_ways, ltb-true, lt-ltb}
 use Rattle.std.proofs.lemmas.Bool.Decides.{nat_tests}
 use Rattle.token_model.specs.Kinds.{Kind, module_type}
 use Rattle.token_model.specs.Bytes.{is_blank, is_lower, goes_on, begins}
 use Rattle.token_model.specs.Words.{word_kind}
 use Rattle.token_model.specs.Spellings.{Run, Spells, a_word, a_module_type}
-use Rattle.ml_lexer.specs.Scans.{Found, found, run_length, run_end, is_type_word, is_module_word, module_type_end, is_module_type, word_found}
+use Rattle.ml_lexer.specs.Scans.{found, run_length, run_end, is_type_word, is_module_word, module_type_end, is_module_type, word_found}
 use Rattle.ml_lexer.proofs.Runs.{front_in_run, run_exact, run_passes, run_stops, run_le}
-use Rattle.ml_lexer.proofs.Classes.{Class, Of, IsModuleType, word_class}
-use Rattle.ml_lexer.proofs.Spelled.{NoLonger, IsSpelled, plainly, run_all, run_front}
+use Rattle.ml_lexer.proofs.Classes.{IsModuleType, word_class}
+use Rattle.ml_lexer.proofs.Spelled.{plainly, run_all, run_front}
 use Rattle.ml_lexer.proofs.SpelledMarks.{FoundIs, is_spelled}
 
 lower_goes_on : (b : ℕ) → is_lower b ≡ true → goes_on b ≡ true

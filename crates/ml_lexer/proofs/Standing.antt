@@ -1,19 +1,19 @@
 -- What the scan finds where neither a blank nor a comment begins is the token that stands there.
-use Rattle.std.proofs.Common.{◌≡◌, ◌+◌, ◌-◌, ◌≤◌, ◌<◌, ◌++◌, ◌∷◌, [], ℕ, zero, suc, List, Bool, true, false, take, drop, length, get_or, sym, subst, arith, refl, ap, ◌∙◌, length-append, length-take, append-nil, inl, inr, Option, Some, None}
-use Rattle.std.specs.Prelude.{if◌then◌else◌, ◌&&◌, ◌||◌, ◌==◌, ◌⊎◌}
+use Rattle.std.proofs.Common.{◌≡◌, ◌+◌, ◌<◌, ◌++◌, ◌∷◌, [], ℕ, List, true, false, take, drop, length, get_or, sym, subst, arith, refl, ap, ◌∙◌, length-take, append-nil, inl, inr, Option, Some, None}
+use Rattle.std.specs.Prelude.{if◌then◌else◌, ◌==◌, ◌⊎◌}
 use Rattle.std.proofs.Math.Seq.{drop-append_seam, take-append_seam}
 use Rattle.std.proofs.lemmas.List.{take-append-drop}
-use Rattle.std.proofs.lemmas.Bool.{eqb-true, eqb-false, eq-eqb, both_ways, cases_eq}
-use Rattle.token_model.specs.Kinds.{Kind, junk, str, outside, left_brace}
+use Rattle.std.proofs.lemmas.Bool.{eqb-true, both_ways, cases_eq}
+use Rattle.token_model.specs.Kinds.{Kind, junk, outside, left_brace}
 use Rattle.token_model.specs.Bytes.{is_blank, is_digit, is_lower, is_upper, begins_operator, continues}
-use Rattle.token_model.specs.Comments.{begins_comment, OpensQuoted}
+use Rattle.token_model.specs.Comments.{begins_comment}
 use Rattle.token_model.specs.Spellings.{Spells, IsQuoted, string, quoted_string}
-use Rattle.token_model.specs.Tokens.{IsUnclosed, unclosed_comment, unclosed_string, unclosed_quoted, IsLongest, Stands, unclosed, longest, stray}
-use Rattle.ml_lexer.specs.Scans.{Found, found, run_length, run_end, string_end, string_found, quote_found, opens_quoted, quoted_end, brace_found, stray_found, found_from, word_found, upper_found, numeral_found, tick_found, paren_found, bracket_found, sign_found, mark_or_stray}
+use Rattle.token_model.specs.Tokens.{IsUnclosed, unclosed_comment, unclosed_string, unclosed_quoted, Stands, unclosed, longest, stray}
+use Rattle.ml_lexer.specs.Scans.{Found, found, run_length, string_end, string_found, quote_found, opens_quoted, quoted_end, brace_found, stray_found, found_from, word_found, upper_found, numeral_found, tick_found, paren_found, bracket_found, sign_found, mark_or_stray}
 use Rattle.ml_lexer.proofs.Runs.{run_passes, run_stops, run_le}
 use Rattle.ml_lexer.proofs.Literals.{string_end_found}
 use Rattle.ml_lexer.proofs.Quoted.{quoted_found, opens_is}
-use Rattle.ml_lexer.proofs.Classes.{Class, class_of, Of, Classed, by_class, word_class, upper_class, digit_class, tick_class, quote_class, paren_class, bracket_class, brace_class, sign_class, mark_class}
+use Rattle.ml_lexer.proofs.Classes.{Class, class_of, Of, by_class, word_class, upper_class, digit_class, tick_class, quote_class, paren_class, bracket_class, brace_class, sign_class, mark_class}
 use Rattle.ml_lexer.proofs.Spelled.{IsSpelled, upper_spelled}
 use Rattle.ml_lexer.proofs.SpelledBrackets.{bracket_is}
 use Rattle.ml_lexer.proofs.SpelledMarks.{FoundIs, is_spelled, is_stray, is_unclosed, mark_is}

@@ -1,5 +1,5 @@
 -- What stands at a place inside a comment.
-use Rattle.std.specs.Prelude.{◌≡◌, ℕ, zero, suc, ◌<◌, ◌≤◌, List, drop}
+use Rattle.std.specs.Prelude.{◌≡◌, ℕ, zero, suc, ◌<◌, ◌≤◌, List}
 use Rattle.token_model.specs.Comments.{Closes}
 use Rattle.ml_lexer.specs.declared.comments.Piece.{Piece}
 use Rattle.ml_lexer.specs.declared.comments.Piece.TheVariants.{Begins, Ends, Passes, Unclosed}

@@ -1,5 +1,5 @@
 -- What is left of a text from a place on, and how the sorts of bytes are tested.
-use Rattle.std.specs.Prelude.{ℕ, ◌+◌, ◌-◌, ◌^◌, ◌<◌, ◌≤◌, ◌==◌, ◌||◌, List, ◌++◌, Bool, drop, take, length, Option, Some, None, get_or}
+use Rattle.std.specs.Prelude.{ℕ, ◌-◌, ◌^◌, ◌<◌, ◌≤◌, ◌==◌, ◌||◌, List, ◌++◌, Bool, drop, length, Option, Some, None}
 use Rattle.syntax_tree.specs.Tallies.{Tallies, lexed_more}
 use Rattle.syntax_tree.specs.declared.tree.Token.{Token}
 use Rattle.ml_lexer.specs.declared.rest.Rest.{Rest}

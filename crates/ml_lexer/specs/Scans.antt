@@ -1,8 +1,7 @@
 -- What each scan gives at the front of some bytes.
-use Rattle.std.specs.Prelude.{ℕ, zero, suc, ◌+◌, ◌-◌, ◌==◌, ◌&&◌, ◌||◌, List, [], ◌∷◌, ◌++◌, take, drop, length, Bool, true, false, not, nat_le, nat_lt, if◌then◌else◌, get_or, codes, Option, Some, None}
-use Rattle.std.specs.Str.{bytes_eq}
+use Rattle.std.specs.Prelude.{ℕ, ◌+◌, ◌-◌, ◌==◌, ◌&&◌, ◌||◌, List, [], ◌∷◌, take, drop, length, Bool, true, false, nat_lt, if◌then◌else◌, get_or, Option, Some, None}
 use Rattle.token_model.specs.Bytes.{is_blank, is_digit, is_lower, is_upper, begins_name, goes_on, is_decimal, is_hexadecimal, is_octal, is_digit_of, begins_operator, is_sign, continues}
-use Rattle.token_model.specs.Kinds.{Kind, lower, upper, qualifier, ty_var, op_name, unit, nil, module_type, int, float, char, str, left_paren, right_paren, left_bracket, right_bracket, left_brace, right_brace, comma, semi, semi_semi, colon, dot, colon_colon, colon_equal, op14, op13, op12, op10, op9, op8, op7, prefix, outside, junk}
+use Rattle.token_model.specs.Kinds.{Kind, upper, qualifier, ty_var, op_name, unit, nil, module_type, int, float, char, str, left_paren, right_paren, left_bracket, right_bracket, left_brace, right_brace, comma, semi, semi_semi, colon, dot, colon_colon, colon_equal, op14, op13, op12, op10, op9, op8, op7, prefix, outside, junk}
 use Rattle.token_model.specs.Spellings.{is_plain, is_escaped, closing}
 use Rattle.token_model.specs.Words.{word_kind, sign_kind}
 

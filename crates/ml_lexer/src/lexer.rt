@@ -2,11 +2,12 @@
 ghost use Rattle.std.specs.Prelude.{◌≡◌, true, ◌≤◌, ◌<◌, ◌+◌, ◌-◌, ◌^◌, ◌++◌, map, take, drop, length, IfOk, IfSome, OnErr, option_map};
 ghost use Rattle.std.specs.Str.{IsUtf8, IsCharBoundary};
 ghost use Rattle.token_model.specs.Comments.{begins_comment as begins_comment_there};
+ghost use Rattle.token_model.specs.Kinds.{AllWithin};
 ghost use Rattle.token_model.specs.Tokens.{FirstToken, Lex};
 ghost use Rattle.ml_lexer.specs.Founds.{found_of, Fits, placed_tok};
 ghost use Rattle.ml_lexer.specs.Nexts.{IsNext};
 ghost use Rattle.ml_lexer.specs.Places.{rest_of, IsPlaced, tallied};
-ghost use Rattle.syntax_tree.specs.Tallies.{lexed_more};
+ghost use Rattle.syntax_tree.specs.Tallies.{lexed_more, Grows};
 ghost use Rattle.syntax_tree.specs.View.{tok_of};
 ghost use Rattle.text_terms.specs.Bytes.{str_bytes};
 
@@ -117,10 +118,11 @@ pub fn lex_from<C: Counts>(
     requires text { IsUtf8 (left.now ++ right.now) }
     requires inside { IsCharBoundary (left.now ++ right.now) at }
     ensures token { IfOk result (λ o. FirstToken (left.now ++ right.now) at (option_map tok_of o)) }
-    ensures span { IfOk result (λ o. IfSome o (λ t. (at < t.span.end) × (IsCharBoundary (left.now ++ right.now) t.span.end))) }
+    ensures span { IfOk result (λ o. IfSome o (λ t. (at < t.span.end) × (t.span.start ≤ t.span.end) × IsCharBoundary (left.now ++ right.now) t.span.end)) }
     ensures reach { IfOk result (λ o. IfSome o (λ t. (t.span.end ≤ t.reach) × (t.reach ≤ length (left.now ++ right.now) + 1))) }
     ensures counted { IfOk result (λ o. C.tallies counts.new ≡ tallied o (C.tallies counts.old)) }
     ensures refused { OnErr result (C.tallies counts.new ≡ C.tallies counts.old) }
+    ensures grows { Grows (C.tallies counts.old) (C.tallies counts.new) }
 {
     let text = Rest {
         left,
@@ -143,19 +145,23 @@ pub fn lex_from<C: Counts>(
     }
 }
 
-/// All tokens of a text, each of which is counted.
+/// All tokens of a text in two parts, each of which is counted.
 pub fn lex_all<C: Counts>(
     alloc: Global,
-    text: &[u8],
+    left: &[u8],
+    right: &[u8],
     counts: &mut C,
 ) -> Result<Vec<Token>, NoMemory>
-    requires short { length text.now < 2 ^ 32 - 1 }
-    requires text { IsUtf8 text.now }
-    ensures { IfOk result (λ v. Lex text.now (map tok_of v.items)) }
+    requires short { length (left.now ++ right.now) < 2 ^ 32 - 1 }
+    requires text { IsUtf8 (left.now ++ right.now) }
+    ensures tokens { IfOk result (λ v. Lex (left.now ++ right.now) (map tok_of v.items)) }
+    ensures few { IfOk result (λ v. length v.items ≤ length (left.now ++ right.now)) }
+    ensures within { IfOk result (λ v. AllWithin (length (left.now ++ right.now)) (map tok_of v.items)) }
+    ensures grows { Grows (C.tallies counts.old) (C.tallies counts.new) }
 {
     let mut tokens = Vec::new(alloc);
     let mut at: u32 = 0;
-    while let Some(token) = lex_from(alloc, text, &[], at, counts)? {
+    while let Some(token) = lex_from(alloc, left, right, at, counts)? {
         at = token.span.end;
         if tokens.push(token).is_err() {
             return Err(NoMemory);

@@ -48,7 +48,7 @@ fn lexes(alloc: Global, text: &str, wanted: &[(TokenKind, u32, u32)]) -> bool
     requires { length text.now < 2 ^ 32 - 1 }
 {
     let mut counts = Lexed { tokens: 0 };
-    let Ok(tokens) = lex_all(alloc, text.as_bytes(), &mut counts) else {
+    let Ok(tokens) = lex_all(alloc, text.as_bytes(), &[], &mut counts) else {
         return false;
     };
     tokens.len() == wanted.len()

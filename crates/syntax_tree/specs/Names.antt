@@ -1,7 +1,10 @@
 -- The kinds of tokens and the rows, as the definitions name them.
 use Rattle.token_model.specs.Kinds as kind
+use Rattle.tree_model.specs.Rows as row
 use Rattle.syntax_tree.specs.declared.kinds.TokenKind.{TokenKind}
 use Rattle.syntax_tree.specs.declared.kinds.TokenKind.TheVariants as code
+use Rattle.syntax_tree.specs.declared.rows.RowName.{RowName}
+use Rattle.syntax_tree.specs.declared.rows.RowName.TheVariants as name
 
 -- the kind of a token
 unfoldable pub kind_of : TokenKind → kind.Kind
@@ -81,3 +84,84 @@ kind_of code.Prefix = kind.prefix
 kind_of code.Outside = kind.outside
 kind_of code.Junk = kind.junk
 
+-- the row of a node
+unfoldable pub row_of : RowName → row.Row
+row_of name.Program = row.program_row
+row_of name.Let = row.let_row
+row_of name.TypeRow = row.type_row
+row_of name.Exception = row.exception_row
+row_of name.Module = row.module_row
+row_of name.Modtype = row.modtype_row
+row_of name.Open = row.open_row
+row_of name.Include = row.include_row
+row_of name.Break = row.break_row
+row_of name.Val = row.val_row
+row_of name.Gmodule = row.gmodule_row
+row_of name.Decl = row.decl_row
+row_of name.Head = row.head_row
+row_of name.Alias = row.alias_row
+row_of name.Variant = row.variant_row
+row_of name.Record = row.record_row
+row_of name.Con = row.con_row
+row_of name.LabelRow = row.label_row
+row_of name.WithRow = row.with_row
+row_of name.Tvar = row.tvar_row
+row_of name.Tcon = row.tcon_row
+row_of name.Tparen = row.tparen_row
+row_of name.Tapp = row.tapp_row
+row_of name.Ttuple = row.ttuple_row
+row_of name.Tarrow = row.tarrow_row
+row_of name.Pname = row.pname_row
+row_of name.Pany = row.pany_row
+row_of name.Pconst = row.pconst_row
+row_of name.Pneg = row.pneg_row
+row_of name.Pcon = row.pcon_row
+row_of name.Pparen = row.pparen_row
+row_of name.Plist = row.plist_row
+row_of name.Precord = row.precord_row
+row_of name.Papp = row.papp_row
+row_of name.Pcons = row.pcons_row
+row_of name.Ptuple = row.ptuple_row
+row_of name.Por = row.por_row
+row_of name.Pas = row.pas_row
+row_of name.Qfield = row.qfield_row
+row_of name.Binding = row.binding_row
+row_of name.Case = row.case_row
+row_of name.Ffield = row.ffield_row
+row_of name.Name = row.name_row
+row_of name.Econ = row.econ_row
+row_of name.Epath = row.epath_row
+row_of name.Econst = row.econst_row
+row_of name.Hole = row.hole_row
+row_of name.Eparen = row.eparen_row
+row_of name.Ebegin = row.ebegin_row
+row_of name.Elist = row.elist_row
+row_of name.Erecord = row.erecord_row
+row_of name.Prefix = row.prefix_row
+row_of name.Field = row.field_row
+row_of name.Eapp = row.eapp_row
+row_of name.Eassert = row.eassert_row
+row_of name.Ewhile = row.ewhile_row
+row_of name.Efor = row.efor_row
+row_of name.Eneg = row.eneg_row
+row_of name.Infix = row.infix_row
+row_of name.Econs = row.econs_row
+row_of name.Etuple = row.etuple_row
+row_of name.Eset = row.eset_row
+row_of name.Eif = row.eif_row
+row_of name.Eseq = row.eseq_row
+row_of name.Elet = row.elet_row
+row_of name.Ematch = row.ematch_row
+row_of name.Etry = row.etry_row
+row_of name.Efun = row.efun_row
+row_of name.Efunction = row.efunction_row
+row_of name.Mpath = row.mpath_row
+row_of name.Mstruct = row.mstruct_row
+row_of name.Mparen = row.mparen_row
+row_of name.Mapp = row.mapp_row
+row_of name.Mfunctor = row.mfunctor_row
+row_of name.Ypath = row.ypath_row
+row_of name.Ysig = row.ysig_row
+row_of name.Yparen = row.yparen_row
+row_of name.Ywith = row.ywith_row
+row_of name.Yfunctor = row.yfunctor_row

@@ -1,11 +1,103 @@
-//! Stub.
+//! Trees of a text with shared nodes, their tokens, the nodes at an offset, and the counter that is lent to every layer.
+//! It stands on `text_terms`, and on the definitions of `token_model` and `tree_model`.
+//! Above, a contract sees a node as a plain tree (`node_view`), a token as a `Tok` (`tok_of`),
+//! a text's tree as the list of its items (`trees_of`), and a counter as three numbers (`Tallies`).
 #![tactic(auto)]
 
+mod around;
+mod at;
+mod build;
 mod counts;
 mod kinds;
+mod rows;
 mod tree;
 
+pub use around::enclosing;
+pub use at::node_at;
+pub use build::{leaf, node_of};
 pub use counts::Counts;
 pub use kinds::TokenKind;
+pub use rows::RowName;
 pub use text_terms::{NoMemory, Pos, RcStr, Span};
-pub use tree::Token;
+pub use tree::{Child, Node, NodeId, Part, Token, Tree};
+
+#[cfg(test)]
+mod tests {
+    use super::*;
+    use std::alloc::Global;
+    use std::rc::Rc;
+    use std::test::Fail;
+
+    fn token(alloc: Global, kind: TokenKind, start: u32, end: u32) -> Result<Token, NoMemory> {
+        Ok(Token {
+            kind,
+            span: Span { start, end },
+            reach: end,
+            name: RcStr::from_str(alloc, "x")?,
+        })
+    }
+
+    /// `;;` at byte 3.
+    #[test]
+    fn a_leaf_from_its_start_to_its_end(rt: HostRuntime) -> Result<(), Fail> {
+        let alloc = rt.alloc();
+        let item = leaf(
+            alloc,
+            RowName::Break,
+            0,
+            token(alloc, TokenKind::SemiSemi, 3, 5)?,
+        )?;
+        let tree = Tree {
+            items: vec![in alloc; item]?,
+        };
+        let at = Some(NodeId { item: 1, pre: 0 });
+        for (offset, want) in [(2, None), (3, at), (4, at), (5, None)] {
+            assert_eq!(rt; node_at(&tree, offset), want, "at {offset}");
+        }
+        Ok(())
+    }
+
+    /// `+ 1`: the missing left operand is the node 1, and `1` the node 2.
+    #[test]
+    fn a_missing_operand_has_a_number(rt: HostRuntime) -> Result<(), Fail> {
+        let alloc = rt.alloc();
+        let missing = Child {
+            slot: 0,
+            part: Part::Missing(Span { start: 0, end: 0 }),
+        };
+        let sign = Child {
+            slot: 1,
+            part: Part::Taken(token(alloc, TokenKind::Op12, 0, 1)?),
+        };
+        let one = leaf(
+            alloc,
+            RowName::Econst,
+            0,
+            token(alloc, TokenKind::Int, 2, 3)?,
+        )?;
+        let right = Child {
+            slot: 2,
+            part: Part::Inner(one),
+        };
+        let children = vec![in alloc; missing, sign, right]?;
+        let item = node_of(alloc, RowName::Infix, children)?;
+        assert_eq!(rt;
+            (item.span, item.size, item.height),
+            (Span { start: 0, end: 3 }, 3, 2)
+        );
+        let tree = Tree {
+            items: vec![in alloc; item]?,
+        };
+        let at = |pre: u32| NodeId { item: 1, pre };
+        assert_eq!(rt;
+            enclosing(alloc, &tree, 0)?.as_slice(),
+            [at(1), at(0)].as_slice()
+        );
+        assert_eq!(rt; enclosing(alloc, &tree, 1)?.as_slice(), [at(0)].as_slice());
+        assert_eq!(rt;
+            enclosing(alloc, &tree, 2)?.as_slice(),
+            [at(2), at(0)].as_slice()
+        );
+        Ok(())
+    }
+}

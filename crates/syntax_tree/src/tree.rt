@@ -1,6 +1,7 @@
 //! Tokens, and the trees that are made of them.
 
-use crate::{RcStr, Span, TokenKind};
+use crate::{RcStr, RowName, Span, TokenKind};
+use std::rc::Rc;
 
 /// A token at its place.
 #[derive(Drop)]
@@ -11,4 +12,49 @@ pub struct Token {
     pub reach: u32,
     /// Its spelling; of a Qualifier without the point, of an OpName the operator alone.
     pub name: RcStr,
+}
+
+/// A part of a row.
+#[cycle(tree)]
+#[derive(Drop)]
+pub enum Part {
+    Taken(Token),
+    Inner(Rc<Node>),
+    /// A part that must be there and isn't, at the end of the last token before it.
+    Missing(Span),
+}
+
+/// A part, and its number in the row.
+#[cycle(tree)]
+#[derive(Drop)]
+pub struct Child {
+    pub slot: u8,
+    pub part: Part,
+}
+
+/// A row with its parts in order.
+#[cycle(tree)]
+#[derive(Drop)]
+pub struct Node {
+    pub row: RowName,
+    /// From the first to the last token.
+    pub span: Span,
+    /// One more than the largest height of the nodes among the parts.
+    pub height: u16,
+    /// The number of nodes and missing operands, itself included.
+    pub size: u32,
+    pub children: Vec<Child>,
+}
+
+/// The tree of a whole text: its items in order.
+#[derive(Drop)]
+pub struct Tree {
+    pub items: Vec<Rc<Node>>,
+}
+
+/// A node or missing operand of a text: its item, from 1, and its number in preorder, from 0.
+#[derive(Clone, Copy, Debug, PartialEq, Eq)]
+pub struct NodeId {
+    pub item: u32,
+    pub pre: u32,
 }

@@ -1,5 +1,5 @@
 -- Tokens: kinds, and a token at its place.
-use Rattle.std.specs.Prelude.{ℕ, List}
+use Rattle.std.specs.Prelude.{ℕ, ◌≤◌, List, [], ◌∷◌}
 
 -- The kinds of tokens: names and literals, words, marks, operators by their level, and what is no part of the language.
 pub data Kind : Type 0 where
@@ -85,3 +85,8 @@ pub record Tok : Type 0 where
   pub start : ℕ
   pub end : ℕ
   pub name : List ℕ
+
+-- each of these tokens stands within so many bytes
+abbrev pub AllWithin : ℕ → List Tok → Type 0
+AllWithin n [] = Unit {0}
+AllWithin n (t ∷ ts) = (t.start ≤ n) × (t.end ≤ n) × AllWithin n ts

@@ -31,8 +31,8 @@ pub data Stands : Kind → List ℕ → List ℕ → List ℕ → Type 0 where
   longest : {kind : Kind} {bytes name rest : List ℕ} → (IsUnclosed (bytes ++ rest) → ⊥) → begins_comment (bytes ++ rest) ≡ false → IsLongest kind bytes name rest → Stands kind bytes name rest
   -- one character, where neither a blank nor a token nor a comment begins
   stray : {b : ℕ} {bs rest : List ℕ} → (IsUnclosed (b ∷ bs ++ rest) → ⊥) → begins_comment (b ∷ bs ++ rest) ≡ false → is_blank b ≡ false
-    → ((other : Kind) (front shown behind : List ℕ) → b ∷ bs ++ rest ≡ front ++ behind → Spells other front shown behind → ⊥)
-    → list_all continues bs ≡ true → begins continues rest ≡ false → Stands junk (b ∷ bs) (b ∷ bs) rest
+      → ((other : Kind) (front shown behind : List ℕ) → b ∷ bs ++ rest ≡ front ++ behind → Spells other front shown behind → ⊥)
+      → list_all continues bs ≡ true → begins continues rest ≡ false → Stands junk (b ∷ bs) (b ∷ bs) rest
 
 -- The first token of bytes that stand at a place, behind a gap.
 pub record IsFirst (at : ℕ) (bytes : List ℕ) (token : Tok) : Type 0 where

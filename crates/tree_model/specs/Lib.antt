@@ -1,3 +1,5 @@
 pub mod Rows
 pub mod Trees
 pub mod Nodes
+pub mod Extents
+pub mod Lasts

@@ -1,6 +1,6 @@
 -- The nodes at an offset. Nodes and missing operands are numbered in preorder, from 0 within each item of a text; items are numbered from 1.
 use Rattle.std.specs.Prelude.{ℕ, ◌+◌, List, [], ◌∷◌, ◌++◌, map, Bool, ◌||◌, ◌&&◌, ◌==◌, nat_le, nat_lt, Option, Some, None, if◌then◌else◌}
-use Rattle.tree_model.specs.Trees.{Place, Tree, Forest, Part, node, no_parts, part, taken, inner, missing, size_of, part_size}
+use Rattle.tree_model.specs.Trees.{Place, Tree, Forest, Part, node, no_parts, part, taken, inner, missing, part_size}
 
 -- A place holds an offset where it starts at or before it and ends behind it, or is empty there.
 abbrev pub holds : ℕ → Place → Bool

@@ -1,5 +1,5 @@
 -- Plain trees: rows with their parts in order.
-use Rattle.std.specs.Prelude.{◌≡◌, ℕ, ◌+◌, max, List, [], ◌∷◌, ◌++◌}
+use Rattle.std.specs.Prelude.{◌≡◌, ℕ, ◌+◌, ◌<◌, ◌^◌, List, [], ◌∷◌, ◌++◌}
 use Rattle.token_model.specs.Kinds.{Tok}
 use Rattle.tree_model.specs.Rows.{Row}
 
@@ -16,6 +16,9 @@ pub record Extent : Type 0 where
   pub span : Place
   pub size : ℕ
   pub height : ℕ
+
+abbrev pub extent : Place → ℕ → ℕ → Extent
+extent p n h = record { span = p; size = n; height = h }
 
 mutual
   -- a row with its parts
@@ -73,3 +76,8 @@ abbrev mutual
   IsPartSized (taken t) = Unit {0}
   IsPartSized (inner t) = IsSized t
   IsPartSized (missing p) = Unit {0}
+
+-- each of these items tells its true sizes, and has fewer than 2^32 nodes and missing operands
+abbrev pub AreItemsSized : List Tree → Type 0
+AreItemsSized [] = Unit {0}
+AreItemsSized (t ∷ ts) = IsSized t × (size_of t < 2 ^ 32) × AreItemsSized ts

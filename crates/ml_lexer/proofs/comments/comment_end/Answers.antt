@@ -1,6 +1,6 @@
 use Rattle.std.proofs.Common.{rules, ◌≡◌, ◌≤◌, ◌<◌, ◌+◌, ap, sym, ◌∙◌, arith, drop, length, length-drop}
 use Rattle.ml_lexer.specs.Places.{rest_of}
-use Rattle.ml_lexer.specs.Scans.{Piece, opens, closes, passes, unclosed, piece_of}
+use Rattle.ml_lexer.specs.Scans.{opens, closes, passes, unclosed, piece_of}
 use Rattle.ml_lexer.proofs.Depths.{same_starts, same_opens, same_closes, same_passes, same_ends, same_unclosed, same_past}
 use Rattle.ml_lexer.proofs.comments.comment_end.Goals as goal
 

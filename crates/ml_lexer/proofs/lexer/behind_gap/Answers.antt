@@ -1,8 +1,8 @@
-use Rattle.std.proofs.Common.{rules, ◌≡◌, ◌≤◌, ◌<◌, ◌+◌, ap, sym, subst, ◌∙◌, arith, List, ℕ, [], drop, length, length-drop, get_or, true, false}
+use Rattle.std.proofs.Common.{rules, ◌≡◌, ◌<◌, ap, sym, subst, ◌∙◌, arith, List, ℕ, [], drop, length, length-drop, get_or, true, false}
 use Rattle.std.proofs.lemmas.List.{drop_all}
 use Rattle.token_model.specs.Bytes.{is_blank}
 use Rattle.token_model.specs.Comments.{begins_comment, Closes}
-use Rattle.token_model.specs.Tokens.{Gap, no_gap, IsUnclosed}
+use Rattle.token_model.specs.Tokens.{Gap, no_gap}
 use Rattle.ml_lexer.specs.Places.{rest_of}
 use Rattle.ml_lexer.proofs.Gaps.{gap_blank, gap_comment, unclosed_there}
 use Rattle.ml_lexer.proofs.lexer.behind_gap.Goals as goal

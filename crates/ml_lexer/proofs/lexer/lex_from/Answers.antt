@@ -1,14 +1,12 @@
-use Rattle.std.proofs.Common.{rules, ◌≡◌, ◌≤◌, ◌<◌, ◌+◌, ◌++◌, ap, sym, subst, ◌∙◌, arith, List, ℕ, [], drop, take, length, get_or, Some, None, false}
-use Rattle.std.specs.Prelude.{Option}
-use Rattle.std.specs.Str.{IsUtf8, IsCharBoundary}
-use Rattle.token_model.specs.Kinds.{Tok, junk}
+use Rattle.std.proofs.Common.{rules, ◌≡◌, ◌≤◌, ◌<◌, ◌+◌, ◌++◌, ap, sym, subst, ◌∙◌, arith, List, ℕ, length, get_or, Some, false}
+use Rattle.std.specs.Str.{IsUtf8}
+use Rattle.token_model.specs.Kinds.{Tok}
 use Rattle.token_model.specs.Bytes.{is_blank}
 use Rattle.token_model.specs.Comments.{begins_comment}
 use Rattle.token_model.specs.Tokens.{FirstToken, IsUnclosed}
-use Rattle.syntax_tree.specs.View.{tok_of}
 use Rattle.ml_lexer.specs.Founds.{found_of}
 use Rattle.ml_lexer.specs.Places.{rest_of}
-use Rattle.ml_lexer.specs.Scans.{Found, found, found_from}
+use Rattle.ml_lexer.specs.Scans.{Found}
 use Rattle.ml_lexer.proofs.Firsts.{first_at, none_found, here_text, found_name, end_at}
 use Rattle.ml_lexer.proofs.Standing.{StandsAt, found_stands, unclosed_stands}
 use Rattle.ml_lexer.proofs.lexer.lex_from.Goals as goal
@@ -81,4 +79,6 @@ returns-in_ok-token-in-Token-clause-span g c =
     let stands : StandsAt here f = subst (λ (x : Found). StandsAt here x) (sym c.in_ok-found-in-Token.ensures.value) (found_stands here some no_blank no_comment) in
     let last : c.in_ok-token-in-Token.token.span.end ≡ c.args.at + c.in-Token.i + f.size = ap (λ (t : Tok). t.end) c.in_ok-token-in-Token.ensures.value ∙ ap (λ k. k + f.size) c.ahead-here-in-Token.ensures.place in
     let fits = c.in_ok-found-in-Token.ensures.fits in
-    (omega (arith, last, fits.some), end_at text here c.args.at c.in-Token.i c.in_ok-token-in-Token.token.span.end f c.requires.inside.0 next.0 utf8 is stands fits.within last)
+    let first : c.in_ok-token-in-Token.token.span.start ≡ c.args.at + c.in-Token.i = ap (λ (t : Tok). t.start) c.in_ok-token-in-Token.ensures.value ∙ c.ahead-here-in-Token.ensures.place in
+    let order : c.in_ok-token-in-Token.token.span.start ≤ c.in_ok-token-in-Token.token.span.end = omega (arith, first, last) in
+    (omega (arith, last, fits.some), order, end_at text here c.args.at c.in-Token.i c.in_ok-token-in-Token.token.span.end f c.requires.inside.0 next.0 utf8 is stands fits.within last)

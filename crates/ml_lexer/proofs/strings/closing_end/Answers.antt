@@ -1,6 +1,5 @@
-use Rattle.std.proofs.Common.{rules, ◌≡◌, ◌≤◌, ◌<◌, ◌+◌, ◌-◌, take, drop, length, sym, ◌∙◌, ap, Some, arith, subst, true, false, Option, ℕ}
+use Rattle.std.proofs.Common.{◌≡◌, ◌<◌, ◌+◌, ◌-◌, take, drop, length, sym, ◌∙◌, ap, Some, arith, ℕ}
 use Rattle.ml_lexer.specs.Places.{rest_of}
-use Rattle.ml_lexer.specs.Scans.{front_is, word_end}
 use Rattle.token_model.specs.Spellings.{closing}
 use Rattle.std.proofs.lemmas.List.{length-drop}
 use Rattle.ml_lexer.proofs.Repeats.{word_here, word_later, length-id, length-closing, front_fits}

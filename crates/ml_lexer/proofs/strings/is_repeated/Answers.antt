@@ -1,5 +1,4 @@
-use Rattle.std.proofs.Common.{rules, ◌≡◌, ◌+◌, ◌-◌, ◌≤◌, ◌<◌, false, length, get_or, sym, ◌∙◌, ap, take, drop, true, refl, arith}
-use Rattle.std.specs.Prelude.{◌==◌, ◌&&◌}
+use Rattle.std.proofs.Common.{rules, ◌≡◌, ◌+◌, ◌-◌, get_or, sym, ◌∙◌, take, drop, arith}
 use Rattle.ml_lexer.specs.Places.{rest_of}
 use Rattle.ml_lexer.specs.Scans.{front_is}
 use Rattle.ml_lexer.proofs.Repeats.{repeated_more, repeated_past, other_front, same_front}

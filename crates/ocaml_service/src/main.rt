@@ -1,0 +1,39 @@
+//! The program: a session over standard input and standard output.
+//! It stands on `session_loop`, makes the real ends and the counter, and ends with the number of the status.
+#![tactic(auto)]
+
+mod tally;
+
+use session_loop::{ReadEnd, Status, WriteEnd, serve};
+use std::process::ExitCode;
+use std::{env, io};
+use tally::Tally;
+
+/// The program's exit status for the way in which a run ended.
+fn code_of(status: Status) -> u8 {
+    match status {
+        Status::Done => 0,
+        Status::BadWords => 2,
+        Status::ReadFault => 3,
+        Status::WriteFault => 4,
+        Status::InputTooLong => 5,
+        Status::NoMemory => 6,
+    }
+}
+
+fn main(rt: HostRuntime) -> ExitCode {
+    let alloc = rt.alloc();
+    let words = match env::args(&rt) {
+        Ok(words) => words,
+        Err(e) if e.kind() == io::ErrorKind::OutOfMemory => return ExitCode::from(6),
+        Err(_) => return ExitCode::from(2),
+    };
+    let Ok(words): Result<Vec<String>, _> = words.skip(1).collect(alloc) else {
+        return ExitCode::from(6);
+    };
+    let mut src = ReadEnd::new(rt.stdin());
+    let mut sink = WriteEnd::new(rt.stdout());
+    let mut counts = Tally::new();
+    let report = serve(alloc, &words, &mut src, &mut sink, &mut counts);
+    ExitCode::from(code_of(report.status))
+}

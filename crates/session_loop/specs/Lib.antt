@@ -1,0 +1,9 @@
+pub mod Begun
+pub mod Causes
+pub mod Lines
+pub mod ListEnds
+pub mod Outcomes
+pub mod PlainTexts
+pub mod Progress
+pub mod SureEnds
+pub mod Turns

@@ -1,0 +1,84 @@
+//! One byte, one chunk, and the line that has ended.
+ghost use Rattle.std.specs.Prelude.{◌≡◌, ◌++◌, ◌∷◌, [], false, List, ℕ, take, OnOk, OnErr, Option};
+ghost use Rattle.std.specs.Io.KnownBytes.{Appends};
+ghost use Rattle.text_model.specs.Lines.{ended_from};
+ghost use Rattle.syntax_tree.specs.Tallies.{Grows};
+ghost use Rattle.service_model.specs.Runs.{Step, is_blank_line};
+ghost use Rattle.session_loop.specs.Begun.{Holds};
+ghost use Rattle.session_loop.specs.Causes.{HasCause};
+ghost use Rattle.session_loop.specs.Progress.{SoFar, CutShort};
+
+use crate::begun::Begun;
+use crate::{Failed, Session, Sink};
+use syntax_tree::Counts;
+
+/// Answers the line that has ended by one `put`, unless it is blank.
+pub fn answer_line<K: Sink, C: Counts>(
+    session: &mut Session,
+    begun: &Begun,
+    sink: &mut K,
+    counts: &mut C,
+) -> Result<(), Failed>
+    ensures done { OnOk result ((line : List ℕ) → Holds begun.now line
+        → (piece : List ℕ) × Step session.old line piece session.new
+        × Appends (K.held sink.old) (K.held sink.new) piece) }
+    ensures cut { OnErr result ((line : List ℕ) → Holds begun.now line
+        → (is_blank_line line ≡ false) × (piece : List ℕ) × Step session.old line piece session.new
+        × (n : ℕ) × Appends (K.held sink.old) (K.held sink.new) (take n piece)) }
+    ensures cause { HasCause (K.faults sink.old) (K.faults sink.new) result }
+    ensures counted { Grows (C.tallies counts.old) (C.tallies counts.new) }
+{
+    if begun.blank {
+        return Ok(());
+    }
+    sink.put(session.answer(&begun.bytes, counts).bytes())
+}
+
+/// Takes the next byte of the input.
+fn take_byte<K: Sink, C: Counts>(
+    session: &mut Session,
+    begun: &mut Begun,
+    byte: u8,
+    sink: &mut K,
+    counts: &mut C,
+) -> Result<(), Failed>
+    ensures done { OnOk result ((before : Option (List ℕ)) (taken : List ℕ)
+        → SoFar before (K.held sink.old) taken session.old begun.old
+        → SoFar before (K.held sink.new) (taken ++ byte ∷ []) session.new begun.new) }
+    ensures cut { OnErr result ((before : Option (List ℕ)) (taken : List ℕ)
+        → SoFar before (K.held sink.old) taken session.old begun.old
+        → CutShort before (K.held sink.new) (ended_from [] (taken ++ byte ∷ []))) }
+    ensures cause { HasCause (K.faults sink.old) (K.faults sink.new) result }
+    ensures counted { Grows (C.tallies counts.old) (C.tallies counts.new) }
+{
+    if byte == b'\n' {
+        answer_line(session, begun, sink, counts)?;
+        begun.clear();
+    } else {
+        begun.push(byte);
+    }
+    Ok(())
+}
+
+/// Takes the bytes of a chunk one by one.
+pub fn take_chunk<K: Sink, C: Counts>(
+    session: &mut Session,
+    begun: &mut Begun,
+    chunk: &[u8],
+    sink: &mut K,
+    counts: &mut C,
+) -> Result<(), Failed>
+    ensures done { OnOk result ((before : Option (List ℕ)) (taken : List ℕ)
+        → SoFar before (K.held sink.old) taken session.old begun.old
+        → SoFar before (K.held sink.new) (taken ++ chunk.now) session.new begun.new) }
+    ensures cut { OnErr result ((before : Option (List ℕ)) (taken : List ℕ)
+        → SoFar before (K.held sink.old) taken session.old begun.old
+        → (n : ℕ) × CutShort before (K.held sink.new) (ended_from [] (taken ++ take n chunk.now))) }
+    ensures cause { HasCause (K.faults sink.old) (K.faults sink.new) result }
+    ensures counted { Grows (C.tallies counts.old) (C.tallies counts.new) }
+{
+    for byte in chunk {
+        take_byte(session, begun, *byte, sink, counts)?;
+    }
+    Ok(())
+}

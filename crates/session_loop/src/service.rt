@@ -1,0 +1,141 @@
+//! The top call: lines in, reply lines out.
+ghost use Rattle.std.specs.Prelude.{◌≡◌, ◌≤◌, ◌<◌, ◌+◌, ◌^◌, ◌++◌, ◌∷◌, [], List, ℕ, length, IfSome, Option, ◌≢◌, ◌↔◌};
+ghost use Rattle.syntax_tree.specs.Tallies.{Grows};
+ghost use Rattle.session_loop.specs.Causes.{Rose};
+ghost use Rattle.session_loop.specs.Outcomes.{Outcome};
+ghost use Rattle.session_loop.specs.Progress.{SoFar};
+
+use crate::begun::Begun;
+use crate::turns::{Turn, finish, take_turn};
+use crate::{Session, Sink, Source};
+use std::alloc::Global;
+use syntax_tree::Counts;
+
+/// How a run ended.
+#[derive(Clone, Copy, Debug, PartialEq, Eq)]
+pub enum Status {
+    /// The input was read to its end, and every line answered.
+    Done,
+    /// The words were refused; nothing was read or put.
+    BadWords,
+    /// A read failed.
+    ReadFault,
+    /// A write failed.
+    WriteFault,
+    /// 2^40 bytes were taken.
+    InputTooLong,
+    /// Memory was short before the first line was read; nothing was read or put.
+    NoMemory,
+}
+
+/// How a run ended, and by how much it made the counter that it was lent grow.
+#[derive(Clone, Copy, Debug, PartialEq, Eq)]
+pub struct Report {
+    pub status: Status,
+    pub lexed: u64,
+    pub shifted: u64,
+    pub typed: u64,
+}
+
+/// How many bytes a run may take: fewer than this.
+const INPUT_LIMIT: u64 = 1 << 40;
+
+const BUFFER_LEN: usize = 65_536;
+
+/// Reads lines and answers them until the input ends.
+fn read_lines<S: Source, K: Sink, C: Counts>(
+    session: &mut Session,
+    begun: &mut Begun,
+    buf: &mut [u8],
+    src: &mut S,
+    sink: &mut K,
+    counts: &mut C,
+) -> Status
+    requires room { length buf.old ≡ 65536 }
+    requires starts { SoFar (K.held sink.old) (K.held sink.old) [] session.old begun.old }
+    ensures outcome { Outcome result (S.left src.old) (S.left src.new) (K.held sink.old) (K.held sink.new) }
+    ensures read { result ≡ Status.ReadFault → Rose (S.faults src.old) (S.faults src.new) }
+    ensures write { result ≡ Status.WriteFault → Rose (K.faults sink.old) (K.faults sink.new) }
+    ensures no_words { result ≢ Status.BadWords }
+    ensures memory { result ≢ Status.NoMemory }
+    ensures counted { Grows (C.tallies counts.old) (C.tallies counts.new) }
+{
+    let mut total: u64 = 0;
+    while total < INPUT_LIMIT {
+        let most = (INPUT_LIMIT - total).min(BUFFER_LEN as u64) as usize;
+        match take_turn(session, begun, buf, most, src, sink, counts) {
+            Turn::Took(count) => total += count,
+            Turn::End => {
+                return match finish(session, begun, sink, counts) {
+                    Ok(()) => Status::Done,
+                    Err(_) => Status::WriteFault,
+                };
+            }
+            Turn::ReadFault => return Status::ReadFault,
+            Turn::WriteFault => return Status::WriteFault,
+        }
+    }
+    Status::InputTooLong
+}
+
+/// Runs a session in the room that it is given.
+fn run<S: Source, K: Sink, C: Counts>(
+    alloc: Global,
+    src: &mut S,
+    sink: &mut K,
+    counts: &mut C,
+) -> Status
+    ensures outcome { Outcome result (S.left src.old) (S.left src.new) (K.held sink.old) (K.held sink.new) }
+    ensures read { result ≡ Status.ReadFault → Rose (S.faults src.old) (S.faults src.new) }
+    ensures write { result ≡ Status.WriteFault → Rose (K.faults sink.old) (K.faults sink.new) }
+    ensures no_words { result ≢ Status.BadWords }
+    ensures memory { result ≡ Status.NoMemory → (src.new ≡ src.old) × (sink.new ≡ sink.old) }
+    ensures counted { Grows (C.tallies counts.old) (C.tallies counts.new) }
+{
+    let Ok(mut begun) = Begun::new(alloc) else {
+        return Status::NoMemory;
+    };
+    let Ok(mut buf) = vec![in alloc; 0u8; BUFFER_LEN] else {
+        return Status::NoMemory;
+    };
+    let mut session = Session::new(alloc);
+    read_lines(&mut session, &mut begun, &mut buf, src, sink, counts)
+}
+
+/// Without words, reads request lines from the source until it ends, and puts a reply line for each into the sink, by one
+/// `put` each. Words are refused. After any list of request lines each line has the answer that the present text alone
+/// determines, or the line that stands for want of memory.
+pub fn serve<S: Source, K: Sink, C: Counts>(
+    alloc: Global,
+    words: &[String],
+    src: &mut S,
+    sink: &mut K,
+    counts: &mut C,
+) -> Report
+    // What was taken and put, by the status.
+    ensures outcome { Outcome result.status (S.left src.old) (S.left src.new) (K.held sink.old) (K.held sink.new) }
+    // Each status has its cause.
+    ensures bad_words { (result.status ≡ Status.BadWords) ↔ (0 < length words.now) }
+    ensures read { result.status ≡ Status.ReadFault → Rose (S.faults src.old) (S.faults src.new) }
+    ensures write { result.status ≡ Status.WriteFault → Rose (K.faults sink.old) (K.faults sink.new) }
+    ensures memory { result.status ≡ Status.NoMemory → (src.new ≡ src.old) × (sink.new ≡ sink.old) }
+    // The report is the growth of the counter.
+    ensures lexed { (C.tallies counts.new).lexed ≡ (C.tallies counts.old).lexed + result.lexed }
+    ensures shifted { (C.tallies counts.new).shifted ≡ (C.tallies counts.old).shifted + result.shifted }
+    ensures typed { (C.tallies counts.new).typed ≡ (C.tallies counts.old).typed + result.typed }
+{
+    let lexed = counts.lexed();
+    let shifted = counts.shifted();
+    let typed = counts.typed();
+    let status = if words.is_empty() {
+        run(alloc, src, sink, counts)
+    } else {
+        Status::BadWords
+    };
+    Report {
+        status,
+        lexed: counts.lexed() - lexed,
+        shifted: counts.shifted() - shifted,
+        typed: counts.typed() - typed,
+    }
+}

@@ -1,0 +1,3 @@
+pub mod LineStarts
+pub mod LinePlaces
+pub mod Outcomes
