@@ -1,9 +1,22 @@
 //! The tokens of a text: the first one at or behind a place, and all of them.
-//! It reads a text in two parts, as a gap buffer holds it, and keeps nothing.
-//! It stands on `token_model`, which says what the tokens are, and on the tokens of `syntax_tree`.
-//! The layer above uses `lex_from` and `lex_all`; each token given is counted as lexed.
+//! It stands on `text_terms` and `syntax_tree`, and on the definitions of `token_model`.
+//! Above, `lex_from` gives the token that `FirstToken` names, counts it, and ends where lexing goes on;
+//! `lex_all` gives the whole list, which is the text's (`Lex`).
 #![tactic(auto)]
 
-mod scan;
+mod brackets;
+mod comments;
+mod find;
+mod found;
+mod lexer;
+mod names;
+mod numerals;
+mod rest;
+mod signs;
+mod strings;
+mod words;
 
-pub use scan::{lex_all, lex_from};
+pub use lexer::{lex_all, lex_from};
+
+#[cfg(test)]
+mod tests;

@@ -1,65 +1,62 @@
--- The tokens of a plain text: each the longest spelling at its place, with blanks between. (OCaml manual, "Lexical conventions".)
-use Rattle.std.specs.Prelude.{◌≡◌, ℕ, zero, suc, ◌+◌, ◌-◌, ◌==◌, ◌&&◌, ◌||◌, List, [], ◌∷◌, take, Bool, if◌then◌else◌, nat_le, codes, Option, Some, None, option_map}
-use Rattle.std.specs.Str.{bytes_eq}
-use Rattle.token_model.specs.Kinds.{Kind, Tok, lower, int, str, let_word, true_word, false_word, op9, junk}
+-- The tokens of a text: each the longest spelling at its place, with blanks and closed comments between. (OCaml manual, "Lexical conventions".)
+use Rattle.std.specs.Prelude.{◌≡◌, ℕ, ◌+◌, ◌-◌, ◌==◌, ◌≤◌, List, [], ◌∷◌, ◌++◌, length, drop, Bool, true, false, Option, Some, None, get_or}
+use Rattle.std.specs.List.{list_all}
+use Rattle.token_model.specs.Bytes.{is_blank, continues, begins}
+use Rattle.token_model.specs.Kinds.{Kind, Tok, junk}
+use Rattle.token_model.specs.Spellings.{IsString, Spells}
+use Rattle.token_model.specs.Comments.{begins_comment, OpensQuoted, Closes}
 
--- space, tab, line feed, carriage return and form feed
-abbrev pub is_blank : ℕ → Bool
-is_blank b = b == 32 || b == 9 || b == 10 || b == 13 || b == 12
+-- from these bytes to the second ones stand only blanks and closed comments
+pub data Gap : List ℕ → List ℕ → Type 0 where
+  no_gap : {bs : List ℕ} → Gap bs bs
+  blank : {b : ℕ} {bs rest : List ℕ} → is_blank b ≡ true → Gap bs rest → Gap (b ∷ bs) rest
+  comment : {bs : List ℕ} (middle : List ℕ) {rest : List ℕ} → Closes bs middle → Gap middle rest → Gap (40 ∷ 42 ∷ bs) rest
 
-abbrev pub is_digit : ℕ → Bool
-is_digit b = nat_le 48 b && nat_le b 57
+-- a comment, a string or a quoted string begins here and has no end
+pub data IsUnclosed : List ℕ → Type 0 where
+  unclosed_comment : {bs : List ℕ} → ((rest : List ℕ) → Closes bs rest → ⊥) → IsUnclosed (40 ∷ 42 ∷ bs)
+  unclosed_string : {bs : List ℕ} → ((spelled rest : List ℕ) → 34 ∷ bs ≡ spelled ++ rest → IsString spelled → ⊥) → IsUnclosed (34 ∷ bs)
+  unclosed_quoted : {bs : List ℕ} → OpensQuoted bs → ((spelled rest : List ℕ) → bs ≡ spelled ++ rest → IsString spelled → ⊥) → IsUnclosed bs
 
-abbrev pub begins_lower : ℕ → Bool
-begins_lower b = nat_le 97 b && nat_le b 122 || b == 95
+-- what is spelled before what follows, and no longer front of both spells a token
+pub record IsLongest (kind : Kind) (bytes name rest : List ℕ) : Type 0 where
+  pub spelled : Spells kind bytes name rest
+  pub longest : (other : Kind) (front shown behind : List ℕ) → bytes ++ rest ≡ front ++ behind → Spells other front shown behind → length front ≤ length bytes
 
--- an identifier goes on with letters, digits, `_` and `'`
-abbrev pub goes_on : ℕ → Bool
-goes_on b = begins_lower b || nat_le 65 b && nat_le b 90 || is_digit b || b == 39
+-- The token that stands here, of these bytes before those that follow.
+pub data Stands : Kind → List ℕ → List ℕ → List ℕ → Type 0 where
+  -- an unclosed comment, string or quoted string up to the end
+  unclosed : {bytes : List ℕ} → IsUnclosed bytes → Stands junk bytes bytes []
+  -- the longest spelling
+  longest : {kind : Kind} {bytes name rest : List ℕ} → (IsUnclosed (bytes ++ rest) → ⊥) → begins_comment (bytes ++ rest) ≡ false → IsLongest kind bytes name rest → Stands kind bytes name rest
+  -- one character, where neither a blank nor a token nor a comment begins
+  stray : {b : ℕ} {bs rest : List ℕ} → (IsUnclosed (b ∷ bs ++ rest) → ⊥) → begins_comment (b ∷ bs ++ rest) ≡ false → is_blank b ≡ false
+      → ((other : Kind) (front shown behind : List ℕ) → b ∷ bs ++ rest ≡ front ++ behind → Spells other front shown behind → ⊥)
+      → list_all continues bs ≡ true → begins continues rest ≡ false → Stands junk (b ∷ bs) (b ∷ bs) rest
 
--- a byte that isn't the first of its character
-abbrev pub continues : ℕ → Bool
-continues b = nat_le 128 b && nat_le b 191
+-- The first token of bytes that stand at a place, behind a gap.
+pub record IsFirst (at : ℕ) (bytes : List ℕ) (token : Tok) : Type 0 where
+  pub spelled : List ℕ
+  pub rest : List ℕ
+  pub gap : Gap bytes (spelled ++ rest)
+  pub stands : Stands token.kind spelled token.name rest
+  pub start : token.start + length (spelled ++ rest) ≡ at + length bytes
+  pub end : token.end ≡ token.start + length spelled
 
--- how many bytes at the front pass the test
-abbrev pub run_length : (ℕ → Bool) → List ℕ → ℕ
-run_length test [] = 0
-run_length test (b ∷ bs) = if test b then run_length test bs + 1 else 0
+-- the first token of bytes that stand at a place; none, where only a gap is left
+abbrev pub First : ℕ → List ℕ → Option Tok → Type 0
+First at bytes None = Gap bytes []
+First at bytes (Some token) = IsFirst at bytes token
 
--- the place of the first quote, where no backslash stands before it
-abbrev pub quote_at : List ℕ → Option ℕ
-quote_at [] = None
-quote_at (b ∷ bs) = if b == 34 then Some 0 else (if b == 92 then None else option_map (λ n. n + 1) (quote_at bs))
+-- the first token of a text at or behind a place
+unfoldable pub FirstToken : List ℕ → ℕ → Option Tok → Type 0
+FirstToken text at token = First at (drop at text) token
 
-abbrev pub word_kind : List ℕ → Kind
-word_kind word = if bytes_eq word (codes "let") then let_word else (if bytes_eq word (codes "true") then true_word else (if bytes_eq word (codes "false") then false_word else (if bytes_eq word (codes "_") then junk else lower)))
-
--- a kind and a length
-abbrev pub word_at : List ℕ → Kind × ℕ
-word_at bs = (word_kind (take (run_length goes_on bs) bs), run_length goes_on bs)
-
-abbrev pub string_at : Option ℕ → Kind × ℕ
-string_at (Some n) = (str, n + 2)
-string_at None = (junk, 1)
-
--- the kind and the length of the token that begins with b, before the bytes bs; what begins no token is a junk of one character
-abbrev pub token_at : ℕ → List ℕ → Kind × ℕ
-token_at b bs = if begins_lower b then word_at (b ∷ bs) else (if is_digit b then (int, run_length is_digit (b ∷ bs)) else (if b == 34 then string_at (quote_at bs) else (if b == 61 then (op9, 1) else (junk, run_length continues bs + 1))))
-
-abbrev pub placed_at : ℕ → List ℕ → Kind × ℕ → Tok
-placed_at at bytes t = record { kind = t.0; start = at; end = at + t.1; name = take t.1 bytes }
-
--- the first token of bytes that stand at a place
-unfoldable pub first_token : ℕ → List ℕ → Option Tok
-first_token at [] = None
-first_token at (b ∷ bs) = if is_blank b then first_token (at + 1) bs else Some (placed_at at (b ∷ bs) (token_at b bs))
-
--- the tokens of bytes that stand at a place, the first `passed` of which belong to the token before
-unfoldable pub lex_from : ℕ → ℕ → List ℕ → List Tok
-lex_from at passed [] = []
-lex_from at (suc passed) (b ∷ bs) = lex_from (at + 1) passed bs
-lex_from at zero (b ∷ bs) = if is_blank b then lex_from (at + 1) zero bs else placed_at at (b ∷ bs) (token_at b bs) ∷ lex_from (at + 1) ((token_at b bs).1 - 1) bs
+-- these are the tokens of a text from a place on
+abbrev pub LexFrom : List ℕ → ℕ → List Tok → Type 0
+LexFrom text at [] = FirstToken text at None
+LexFrom text at (t ∷ ts) = FirstToken text at (Some t) × LexFrom text t.end ts
 
 -- these are the tokens of a text
 unfoldable pub Lex : List ℕ → List Tok → Type 0
-Lex text tokens = tokens ≡ lex_from 0 0 text
+Lex text tokens = LexFrom text 0 tokens

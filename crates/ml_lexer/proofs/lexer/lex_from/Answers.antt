@@ -1,0 +1,84 @@
+use Rattle.std.proofs.Common.{rules, ◌≡◌, ◌≤◌, ◌<◌, ◌+◌, ◌++◌, ap, sym, subst, ◌∙◌, arith, List, ℕ, length, get_or, Some, false}
+use Rattle.std.specs.Str.{IsUtf8}
+use Rattle.token_model.specs.Kinds.{Tok}
+use Rattle.token_model.specs.Bytes.{is_blank}
+use Rattle.token_model.specs.Comments.{begins_comment}
+use Rattle.token_model.specs.Tokens.{FirstToken, IsUnclosed}
+use Rattle.ml_lexer.specs.Founds.{found_of}
+use Rattle.ml_lexer.specs.Places.{rest_of}
+use Rattle.ml_lexer.specs.Scans.{Found}
+use Rattle.ml_lexer.proofs.Firsts.{first_at, none_found, here_text, found_name, end_at}
+use Rattle.ml_lexer.proofs.Standing.{StandsAt, found_stands, unclosed_stands}
+use Rattle.ml_lexer.proofs.lexer.lex_from.Goals as goal
+
+pub token_at-requires-clause-text : goal.token_at-requires-clause-text
+token_at-requires-clause-text g c =
+    let text = c.args.left.now ++ c.args.right.now in
+    let next = c.in-Comment.ensures in
+    let here = rest_of c.ahead-here.result in
+    let is = c.ahead-here.ensures.rest in
+    let utf8 : IsUtf8 here = subst (λ (l : List ℕ). IsUtf8 l) (sym is) (here_text text c.args.at c.in-Comment.i c.requires.text c.requires.inside next.1) in
+    let open_end : IsUnclosed here = subst (λ (l : List ℕ). IsUnclosed l) (sym is) next.2 in
+    let stands : StandsAt here (found_of c.unclosed.result) = subst (λ (f : Found). StandsAt here f) (sym c.unclosed.ensures.value) (unclosed_stands here open_end) in
+    found_name here (found_of c.unclosed.result) utf8 stands
+
+pub token_at-requires-in-Token-clause-text : goal.token_at-requires-in-Token-clause-text
+token_at-requires-in-Token-clause-text g c =
+    let text = c.args.left.now ++ c.args.right.now in
+    let next = c.in-Token.ensures in
+    let here = rest_of c.ahead-here-in-Token.result in
+    let is = c.ahead-here-in-Token.ensures.rest in
+    let f = found_of c.in_ok-found-in-Token.found in
+    let utf8 : IsUtf8 here = subst (λ (l : List ℕ). IsUtf8 l) (sym is) (here_text text c.args.at c.in-Token.i c.requires.text c.requires.inside next.1) in
+    let some : 0 < length here = search rules in
+    let no_blank : is_blank (get_or here 0 0) ≡ false = ap (λ (l : List ℕ). is_blank (get_or l 0 0)) is ∙ next.2 in
+    let no_comment : begins_comment here ≡ false = ap begins_comment is ∙ next.3 in
+    let stands : StandsAt here f = subst (λ (x : Found). StandsAt here x) (sym c.in_ok-found-in-Token.ensures.value) (found_stands here some no_blank no_comment) in
+    found_name here f utf8 stands
+
+pub returns-in-End-clause-token : goal.returns-in-End-clause-token
+returns-in-End-clause-token g c = none_found (c.args.left.now ++ c.args.right.now) c.args.at c.in-End.ensures
+
+pub returns-in_ok-token-in-Comment-clause-token : goal.returns-in_ok-token-in-Comment-clause-token
+returns-in_ok-token-in-Comment-clause-token g c =
+    let text = c.args.left.now ++ c.args.right.now in
+    let next = c.in-Comment.ensures in
+    let here = rest_of c.ahead-here.result in
+    let is = c.ahead-here.ensures.rest in
+    let f = found_of c.unclosed.result in
+    let open_end : IsUnclosed here = subst (λ (l : List ℕ). IsUnclosed l) (sym is) next.2 in
+    let stands : StandsAt here f = subst (λ (x : Found). StandsAt here x) (sym c.unclosed.ensures.value) (unclosed_stands here open_end) in
+    subst (λ (t : Tok). FirstToken text c.args.at (Some t)) (sym c.in_ok-token-in-Comment.ensures.value)
+    (first_at text here c.args.at c.in-Comment.i c.ahead-here.result.at f c.requires.inside.0 next.0 next.1 is c.ahead-here.ensures.place stands c.unclosed.ensures.fits.within)
+
+pub returns-in_ok-token-in-Token-clause-token : goal.returns-in_ok-token-in-Token-clause-token
+returns-in_ok-token-in-Token-clause-token g c =
+    let text = c.args.left.now ++ c.args.right.now in
+    let next = c.in-Token.ensures in
+    let here = rest_of c.ahead-here-in-Token.result in
+    let is = c.ahead-here-in-Token.ensures.rest in
+    let f = found_of c.in_ok-found-in-Token.found in
+    let some : 0 < length here = search rules in
+    let no_blank : is_blank (get_or here 0 0) ≡ false = ap (λ (l : List ℕ). is_blank (get_or l 0 0)) is ∙ next.2 in
+    let no_comment : begins_comment here ≡ false = ap begins_comment is ∙ next.3 in
+    let stands : StandsAt here f = subst (λ (x : Found). StandsAt here x) (sym c.in_ok-found-in-Token.ensures.value) (found_stands here some no_blank no_comment) in
+    subst (λ (t : Tok). FirstToken text c.args.at (Some t)) (sym c.in_ok-token-in-Token.ensures.value)
+    (first_at text here c.args.at c.in-Token.i c.ahead-here-in-Token.result.at f c.requires.inside.0 next.0 next.1 is c.ahead-here-in-Token.ensures.place stands c.in_ok-found-in-Token.ensures.fits.within)
+
+pub returns-in_ok-token-in-Token-clause-span : goal.returns-in_ok-token-in-Token-clause-span
+returns-in_ok-token-in-Token-clause-span g c =
+    let text = c.args.left.now ++ c.args.right.now in
+    let next = c.in-Token.ensures in
+    let here = rest_of c.ahead-here-in-Token.result in
+    let is = c.ahead-here-in-Token.ensures.rest in
+    let f = found_of c.in_ok-found-in-Token.found in
+    let utf8 : IsUtf8 here = subst (λ (l : List ℕ). IsUtf8 l) (sym is) (here_text text c.args.at c.in-Token.i c.requires.text c.requires.inside next.1) in
+    let some : 0 < length here = search rules in
+    let no_blank : is_blank (get_or here 0 0) ≡ false = ap (λ (l : List ℕ). is_blank (get_or l 0 0)) is ∙ next.2 in
+    let no_comment : begins_comment here ≡ false = ap begins_comment is ∙ next.3 in
+    let stands : StandsAt here f = subst (λ (x : Found). StandsAt here x) (sym c.in_ok-found-in-Token.ensures.value) (found_stands here some no_blank no_comment) in
+    let last : c.in_ok-token-in-Token.token.span.end ≡ c.args.at + c.in-Token.i + f.size = ap (λ (t : Tok). t.end) c.in_ok-token-in-Token.ensures.value ∙ ap (λ k. k + f.size) c.ahead-here-in-Token.ensures.place in
+    let fits = c.in_ok-found-in-Token.ensures.fits in
+    let first : c.in_ok-token-in-Token.token.span.start ≡ c.args.at + c.in-Token.i = ap (λ (t : Tok). t.start) c.in_ok-token-in-Token.ensures.value ∙ c.ahead-here-in-Token.ensures.place in
+    let order : c.in_ok-token-in-Token.token.span.start ≤ c.in_ok-token-in-Token.token.span.end = omega (arith, first, last) in
+    (omega (arith, last, fits.some), order, end_at text here c.args.at c.in-Token.i c.in_ok-token-in-Token.token.span.end f c.requires.inside.0 next.0 utf8 is stands fits.within last)
