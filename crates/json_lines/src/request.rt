@@ -11,6 +11,7 @@ use crate::key::{Key, Place};
 use serde_json::{Number, Value};
 use std::alloc::Global;
 use text_terms::{Pos, RcStr};
+use thiserror::Error;
 
 /// How many bytes a line may have, its line feed not counted.
 pub const LINE_LIMIT: usize = 8388608;
@@ -55,21 +56,28 @@ pub enum Request {
 }
 
 /// Why a line is no request. The first that applies is told.
-#[derive(Clone, Copy, Debug, PartialEq, Eq)]
+#[derive(Clone, Copy, Debug, PartialEq, Eq, Error)]
 pub enum Malformed {
     /// The line has more than `LINE_LIMIT` bytes.
+    #[error("the line has more than {LINE_LIMIT} bytes")]
     LineTooLong,
     /// The line is no JSON value: it isn't UTF-8, or nests deeper than 127, or breaks the grammar.
+    #[error("the line is no JSON value")]
     NotJson,
     /// The value is no object, or its key `query` is absent or no string.
+    #[error("the value is no object with a text `query`")]
     NotARequest,
     /// No query has this name.
+    #[error("no query has this name")]
     UnknownQuery,
     /// The first key that is absent or of another kind of JSON value.
+    #[error("the key `{key}` is absent or of another kind")]
     MissingKey { key: Key },
     /// The first line or column that isn't decimal digits alone with a value below 2^32.
+    #[error("the number `{key}` isn't decimal digits alone, below 2^32")]
     BadNumber { key: Key },
     /// Want of memory; nothing is told of the line.
+    #[error("want of memory")]
     NoMemory,
 }
 
@@ -167,7 +175,7 @@ fn edit(alloc: Global, value: &Value) -> Result<Request, Malformed>
 }
 
 /// A text in place of the whole.
-#[tactic(auto, using(crate::proofs::Keys::missing_append, crate::proofs::Keys::bad_append, crate::proofs::Keys::text_not_bad))]
+#[tactic(auto, using(crate::proofs::Keys::text_not_bad))]
 fn whole(alloc: Global, value: &Value) -> Result<Request, Malformed>
     ensures { Reads result (reading_of_whole (view value.now)) }
 {
@@ -226,18 +234,13 @@ fn request_of(alloc: Global, value: &Value) -> Result<Request, Malformed>
 
 /// What a line asks, whatever its length.
 #[tactic(auto, using(crate::proofs::Readings::reading_json, crate::proofs::Readings::reading_other))]
-fn within(alloc: Global, line: &[u8]) -> Result<Request, Malformed>
+fn read_json(alloc: Global, line: &[u8]) -> Result<Request, Malformed>
     ensures { Reads result (reading_of_json line.now) }
 {
     match Value::from_slice(alloc, line) {
         Ok(value) => request_of(alloc, &value),
-        Err(e) => {
-            if e.is_memory() {
-                Err(Malformed::NoMemory)
-            } else {
-                Err(Malformed::NotJson)
-            }
-        }
+        Err(e) if e.is_memory() => Err(Malformed::NoMemory),
+        Err(_) => Err(Malformed::NotJson),
     }
 }
 
@@ -249,5 +252,5 @@ pub fn read_request(alloc: Global, line: &[u8]) -> Result<Request, Malformed>
     if line.len() > LINE_LIMIT {
         return Err(Malformed::LineTooLong);
     }
-    within(alloc, line)
+    read_json(alloc, line)
 }
