@@ -84,7 +84,8 @@ pub enum Malformed {
 /// The object at a name.
 fn object<'a>(value: &'a Value, name: &str) -> Option<&'a Value>
     ensures { MatchOption result (is_missing (view value.now) (object_key name.now) ≡ true)
-        (λ v. (is_missing (view value.now) (object_key name.now) ≡ false) × (get name.now (view value.now) ≡ Some (view v.now))) }
+        (λ v. (is_missing (view value.now) (object_key name.now) ≡ false)
+        × (get name.now (view value.now) ≡ Some (view v.now))) }
 {
     let found = value.get(name)?;
     if found.is_object() { Some(found) } else { None }
@@ -133,7 +134,8 @@ fn position(value: &Value, place: Place) -> Result<Result<Pos, Malformed>, Malfo
 #[tactic(auto, unfolding(service_model::specs::Requests::first_missing, service_model::specs::Requests::text_keys))]
 fn text_of<'a>(value: &'a Value, key: Key) -> Result<&'a str, Malformed>
     ensures { MatchResult result
-        (λ s. (first_missing (text_keys (key_text key)) (view value.now) ≡ None) × (s.now ≡ text_at (key_text key) (view value.now)))
+        (λ s. (first_missing (text_keys (key_text key)) (view value.now) ≡ None)
+        × (s.now ≡ text_at (key_text key) (view value.now)))
         (λ e. IsMissing e (first_missing (text_keys (key_text key)) (view value.now))) }
 {
     match value.get(key.name()).and_then(Value::as_str) {
@@ -152,10 +154,11 @@ fn owned(alloc: Global, text: &str) -> Result<RcStr, Malformed>
     }
 }
 
-/// The position that a query asks of, the query's only key.
+/// The position of a query that has no other key.
 fn at(value: &Value) -> Result<Pos, Malformed>
     ensures { MatchResult result
-        (λ p. (refusal_of (position_keys (codes "at")) (view value.now) ≡ None) × (pair_of p ≡ position_at (codes "at") (view value.now)))
+        (λ p. (refusal_of (position_keys (codes "at")) (view value.now) ≡ None)
+        × (pair_of p ≡ position_at (codes "at") (view value.now)))
         (λ e. IsRefusalIn e (refusal_of (position_keys (codes "at")) (view value.now))) }
 {
     position(value, Place::At)?
@@ -183,6 +186,7 @@ fn whole(alloc: Global, value: &Value) -> Result<Request, Malformed>
     Ok(Request::Tell { range: None, text })
 }
 
+/// A new text: an edit where one of `start` and `end` is there.
 fn tell(alloc: Global, value: &Value) -> Result<Request, Malformed>
     ensures { Reads result (reading_of_tell (view value.now)) }
 {
@@ -223,6 +227,7 @@ fn query_named(alloc: Global, name: &str, value: &Value) -> Result<Request, Malf
     }
 }
 
+/// A request, by its name.
 fn request_of(alloc: Global, value: &Value) -> Result<Request, Malformed>
     ensures { Reads result (reading_of_value (Some (view value.now))) }
 {
@@ -232,7 +237,7 @@ fn request_of(alloc: Global, value: &Value) -> Result<Request, Malformed>
     }
 }
 
-/// What a line asks, whatever its length.
+/// What a line asks, its length aside.
 #[tactic(auto, using(crate::proofs::Readings::reading_json, crate::proofs::Readings::reading_other))]
 fn read_json(alloc: Global, line: &[u8]) -> Result<Request, Malformed>
     ensures { Reads result (reading_of_json line.now) }
@@ -244,7 +249,7 @@ fn read_json(alloc: Global, line: &[u8]) -> Result<Request, Malformed>
     }
 }
 
-/// What a line asks.
+/// What a line asks; its line feed is no part of it. Of several refusals the first is told, in the order of `Malformed`.
 #[tactic(auto, unfolding(service_model::specs::Requests::reading))]
 pub fn read_request(alloc: Global, line: &[u8]) -> Result<Request, Malformed>
     ensures { Reads result (reading line.now) }
