@@ -1,8 +1,8 @@
 -- Lists as JSON, and that no reply has a float.
-use Rattle.std.proofs.Common.{◌≡◌, List, [], ◌∷◌, ℕ, true, false, ◌||◌, map, refl, ap, ◌∙◌}
+use Rattle.std.proofs.Common.{◌≡◌, List, [], ◌∷◌, false, ◌||◌, map, refl, ap, ◌∙◌}
 use Rattle.serde_json.specs.Data.{Data, item, string, array}
 use Rattle.serde_json.specs.View.{items_of}
-use Rattle.serde_json.specs.Written.{has_float, items_have_float, members_have_float}
+use Rattle.serde_json.specs.Written.{has_float, items_have_float}
 use Rattle.service_model.specs.Requests as model
 use Rattle.service_model.specs.Replies as said
 use Rattle.text_terms.specs.Bytes.{str_bytes}

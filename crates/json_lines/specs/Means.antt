@@ -23,9 +23,11 @@ use Rattle.json_lines.specs.declared.reply.RequestError.TheVariants as error
 use Rattle.json_lines.specs.declared.reply.Reply.{Reply}
 use Rattle.json_lines.specs.declared.reply.Reply.TheVariants as reply
 
+-- a typed span, its parts as plain data; so for the others
 abbrev pub typed_of : Typed → said.Typed
 typed_of t = record { start = pair_of t.start; end = pair_of t.end; type_text = str_bytes t.ty }
 
+-- a kind as it is printed; so for the others
 abbrev pub entry_kind_text : EntryKind → List ℕ
 entry_kind_text entry.Constructor = codes "Constructor"
 entry_kind_text entry.Label = codes "Label"
@@ -60,12 +62,14 @@ outline_of (o ∷ os) = said.next o (outline_of os)
 abbrev pub outlined_step : Outlined-F said.Outlined → said.Outlined
 outlined_step o = said.outlined (pair_of o.start) (pair_of o.end) (outline_kind_text o.kind) (str_bytes o.name) (outline_of o.children.items)
 
+-- a member of an outline, with what stands inside
 abbrev pub outlined_of : Outlined → said.Outlined
 outlined_of = fold-Outlined said.Outlined outlined_step
 
 abbrev pub fault_of : Listed → said.Fault
 fault_of f = record { start = pair_of f.start; end = pair_of f.end; kind = str_bytes f.kind; message = str_bytes f.message; source = str_bytes f.ty }
 
+-- a failure as what is said
 abbrev pub failure_said : Failure → said.Said
 failure_said NoNode = said.no_node
 failure_said NotAName = said.not_a_name
@@ -75,6 +79,7 @@ failure_said (HiddenConstructor name) = said.hidden_constructor (str_bytes name)
 failure_said (WouldFault at) = said.would_fault (pair_of at)
 failure_said NotAHole = said.not_a_hole
 
+-- an error as what is said
 abbrev pub error_said : RequestError → said.Said
 error_said error.LineTooLong = said.refused model.line_too_long
 error_said error.NotJson = said.refused model.not_json
@@ -88,6 +93,7 @@ error_said (error.SplitsChar key) = said.splits_char (key_text key)
 error_said (error.TextTooLong bytes) = said.text_too_long bytes
 error_said error.NotBuilt = said.not_built
 
+-- a reply as what is said
 abbrev pub said_of : Reply → said.Said
 said_of (reply.Size n) = said.size n
 said_of (reply.Types ts) = said.types (map typed_of ts.items)

@@ -1,4 +1,4 @@
--- What the reader of requests answers, against the definition.
+-- What the reader of requests answers, in the words of the definition.
 use Rattle.std.specs.Prelude.{◌≡◌, ℕ, List, codes, Option, Some, None, Result, option_map, MatchResult}
 use Rattle.text_terms.specs.Bytes.{str_bytes}
 use Rattle.text_terms.specs.declared.Pos.{Pos}
@@ -13,6 +13,7 @@ use Rattle.json_lines.specs.declared.request.Request.TheVariants.{Tell, TypeEncl
 use Rattle.json_lines.specs.declared.request.Malformed.{Malformed}
 use Rattle.json_lines.specs.declared.request.Malformed.TheVariants.{LineTooLong, NotJson, NotARequest, UnknownQuery, MissingKey, BadNumber, NoMemory}
 
+-- the name of a key in a refusal
 abbrev pub key_text : Key → List ℕ
 key_text At = codes "at"
 key_text AtLine = codes "at.line"
@@ -26,17 +27,21 @@ key_text EndLine = codes "end.line"
 key_text EndCol = codes "end.col"
 key_text Text = codes "text"
 
+-- the key at which a position stands
 abbrev pub place_name : Place → List ℕ
 place_name place.At = codes "at"
 place_name place.Start = codes "start"
 place_name place.End = codes "end"
 
+-- a position as its line and its column
 abbrev pub pair_of : Pos → ℕ × ℕ
 pair_of p = (p.line, p.col)
 
+-- the two ends of a range
 abbrev pub range_of : Pos × Pos → (ℕ × ℕ) × (ℕ × ℕ)
 range_of r = (pair_of r.0, pair_of r.1)
 
+-- what a request of the code asks
 abbrev pub asked_of : Request → model.Asked
 asked_of (Tell range text) = model.tell (option_map range_of range) (str_bytes text)
 asked_of (TypeEnclosing at) = model.type_enclosing (pair_of at)
@@ -63,6 +68,7 @@ abbrev pub IsToldOf : Option model.Refusal → model.Reading → Type 0
 IsToldOf (Some r) reading = reading ≡ model.refused r
 IsToldOf None reading = Unit {0}
 
+-- the line reads as the refusal, or memory is short
 abbrev pub IsRefusalOf : Malformed → model.Reading → Type 0
 IsRefusalOf e reading = IsToldOf (refusal_of e) reading
 
@@ -90,5 +96,6 @@ PositionIs r name d =
     (λ e. IsBad e (model.first_bad (model.position_keys name) d)))
     (λ e. IsMissing e (model.first_missing (model.position_keys name) d))
 
+-- The line reads as the request, or as the refusal, or memory is short.
 abbrev pub Reads : Result Request Malformed → model.Reading → Type 0
 Reads r reading = MatchResult r (λ q. reading ≡ model.asks (asked_of q)) (λ e. IsRefusalOf e reading)

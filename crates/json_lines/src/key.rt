@@ -3,6 +3,8 @@ ghost use Rattle.std.specs.Prelude.{◌≡◌, codes, [], ◌∷◌};
 ghost use Rattle.service_model.specs.Requests.{dotted};
 ghost use Rattle.json_lines.specs.Meets.{key_text, place_name};
 
+use std::fmt;
+
 /// A key of a request, as a refusal names it.
 #[derive(Clone, Copy, Debug, PartialEq, Eq)]
 pub enum Key {
@@ -48,6 +50,12 @@ impl Key {
             Key::EndCol => "end.col",
             Key::Text => "text",
         }
+    }
+}
+
+impl fmt::Display for Key {
+    fn fmt<W: fmt::Write>(&self, f: &mut fmt::Formatter<W>) -> fmt::Result {
+        f.write_str(self.name())
     }
 }
 

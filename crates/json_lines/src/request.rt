@@ -11,6 +11,7 @@ use crate::key::{Key, Place};
 use serde_json::{Number, Value};
 use std::alloc::Global;
 use text_terms::{Pos, RcStr};
+use thiserror::Error;
 
 /// How many bytes a line may have, its line feed not counted.
 pub const LINE_LIMIT: usize = 8388608;
@@ -55,28 +56,36 @@ pub enum Request {
 }
 
 /// Why a line is no request. The first that applies is told.
-#[derive(Clone, Copy, Debug, PartialEq, Eq)]
+#[derive(Clone, Copy, Debug, PartialEq, Eq, Error)]
 pub enum Malformed {
     /// The line has more than `LINE_LIMIT` bytes.
+    #[error("the line has more than {LINE_LIMIT} bytes")]
     LineTooLong,
     /// The line is no JSON value: it isn't UTF-8, or nests deeper than 127, or breaks the grammar.
+    #[error("the line is no JSON value")]
     NotJson,
     /// The value is no object, or its key `query` is absent or no string.
+    #[error("the value is no object with a text `query`")]
     NotARequest,
     /// No query has this name.
+    #[error("no query has this name")]
     UnknownQuery,
     /// The first key that is absent or of another kind of JSON value.
+    #[error("the key `{key}` is absent or of another kind")]
     MissingKey { key: Key },
     /// The first line or column that isn't decimal digits alone with a value below 2^32.
+    #[error("the number `{key}` isn't decimal digits alone, below 2^32")]
     BadNumber { key: Key },
     /// Want of memory; nothing is told of the line.
+    #[error("want of memory")]
     NoMemory,
 }
 
 /// The object at a name.
 fn object<'a>(value: &'a Value, name: &str) -> Option<&'a Value>
     ensures { MatchOption result (is_missing (view value.now) (object_key name.now) ≡ true)
-        (λ v. (is_missing (view value.now) (object_key name.now) ≡ false) × (get name.now (view value.now) ≡ Some (view v.now))) }
+        (λ v. (is_missing (view value.now) (object_key name.now) ≡ false)
+        × (get name.now (view value.now) ≡ Some (view v.now))) }
 {
     let found = value.get(name)?;
     if found.is_object() { Some(found) } else { None }
@@ -125,7 +134,8 @@ fn position(value: &Value, place: Place) -> Result<Result<Pos, Malformed>, Malfo
 #[tactic(auto, unfolding(service_model::specs::Requests::first_missing, service_model::specs::Requests::text_keys))]
 fn text_of<'a>(value: &'a Value, key: Key) -> Result<&'a str, Malformed>
     ensures { MatchResult result
-        (λ s. (first_missing (text_keys (key_text key)) (view value.now) ≡ None) × (s.now ≡ text_at (key_text key) (view value.now)))
+        (λ s. (first_missing (text_keys (key_text key)) (view value.now) ≡ None)
+        × (s.now ≡ text_at (key_text key) (view value.now)))
         (λ e. IsMissing e (first_missing (text_keys (key_text key)) (view value.now))) }
 {
     match value.get(key.name()).and_then(Value::as_str) {
@@ -144,10 +154,11 @@ fn owned(alloc: Global, text: &str) -> Result<RcStr, Malformed>
     }
 }
 
-/// The position that a query asks of, the query's only key.
+/// The position of a query that has no other key.
 fn at(value: &Value) -> Result<Pos, Malformed>
     ensures { MatchResult result
-        (λ p. (refusal_of (position_keys (codes "at")) (view value.now) ≡ None) × (pair_of p ≡ position_at (codes "at") (view value.now)))
+        (λ p. (refusal_of (position_keys (codes "at")) (view value.now) ≡ None)
+        × (pair_of p ≡ position_at (codes "at") (view value.now)))
         (λ e. IsRefusalIn e (refusal_of (position_keys (codes "at")) (view value.now))) }
 {
     position(value, Place::At)?
@@ -167,7 +178,7 @@ fn edit(alloc: Global, value: &Value) -> Result<Request, Malformed>
 }
 
 /// A text in place of the whole.
-#[tactic(auto, using(crate::proofs::Keys::missing_append, crate::proofs::Keys::bad_append, crate::proofs::Keys::text_not_bad))]
+#[tactic(auto, using(crate::proofs::Keys::text_not_bad))]
 fn whole(alloc: Global, value: &Value) -> Result<Request, Malformed>
     ensures { Reads result (reading_of_whole (view value.now)) }
 {
@@ -175,6 +186,7 @@ fn whole(alloc: Global, value: &Value) -> Result<Request, Malformed>
     Ok(Request::Tell { range: None, text })
 }
 
+/// A new text: an edit where one of `start` and `end` is there.
 fn tell(alloc: Global, value: &Value) -> Result<Request, Malformed>
     ensures { Reads result (reading_of_tell (view value.now)) }
 {
@@ -215,6 +227,7 @@ fn query_named(alloc: Global, name: &str, value: &Value) -> Result<Request, Malf
     }
 }
 
+/// A request, by its name.
 fn request_of(alloc: Global, value: &Value) -> Result<Request, Malformed>
     ensures { Reads result (reading_of_value (Some (view value.now))) }
 {
@@ -224,24 +237,19 @@ fn request_of(alloc: Global, value: &Value) -> Result<Request, Malformed>
     }
 }
 
-/// What a line asks, whatever its length.
+/// What a line asks, its length aside.
 #[tactic(auto, using(crate::proofs::Readings::reading_json, crate::proofs::Readings::reading_other))]
-fn within(alloc: Global, line: &[u8]) -> Result<Request, Malformed>
+fn read_json(alloc: Global, line: &[u8]) -> Result<Request, Malformed>
     ensures { Reads result (reading_of_json line.now) }
 {
     match Value::from_slice(alloc, line) {
         Ok(value) => request_of(alloc, &value),
-        Err(e) => {
-            if e.is_memory() {
-                Err(Malformed::NoMemory)
-            } else {
-                Err(Malformed::NotJson)
-            }
-        }
+        Err(e) if e.is_memory() => Err(Malformed::NoMemory),
+        Err(_) => Err(Malformed::NotJson),
     }
 }
 
-/// What a line asks.
+/// What a line asks; its line feed is no part of it. Of several refusals the first is told, in the order of `Malformed`.
 #[tactic(auto, unfolding(service_model::specs::Requests::reading))]
 pub fn read_request(alloc: Global, line: &[u8]) -> Result<Request, Malformed>
     ensures { Reads result (reading line.now) }
@@ -249,5 +257,5 @@ pub fn read_request(alloc: Global, line: &[u8]) -> Result<Request, Malformed>
     if line.len() > LINE_LIMIT {
         return Err(Malformed::LineTooLong);
     }
-    within(alloc, line)
+    read_json(alloc, line)
 }

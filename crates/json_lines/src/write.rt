@@ -105,7 +105,8 @@ fn member_value(
     kind: OutlineKind,
     name: &RcStr,
 ) -> Result<Value, AllocError>
-    ensures { IfOk result (λ v. view v ≡ member_data (array (items_view children.items)) (pair_of span.start) (pair_of span.end) (outline_kind_text kind) (str_bytes name.now)) }
+    ensures { IfOk result (λ v. view v ≡ member_data (array (items_view children.items)) (pair_of span.start) (pair_of span.end)
+        (outline_kind_text kind) (str_bytes name.now)) }
 {
     let start = position_value(alloc, span.start)?;
     let end = position_value(alloc, span.end)?;

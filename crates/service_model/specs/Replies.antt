@@ -1,6 +1,6 @@
 -- Replies, as JSON values and as lines of bytes.
 use Rattle.std.specs.Prelude.{◌≡◌, ◌⊎◌, ℕ, Bool, List, [], ◌∷◌, ◌++◌, codes, map}
-use Rattle.serde_json.specs.Data.{Data, boolean, number, unsigned, string, array, object, Items, no_items, item, Members, member, no_members}
+use Rattle.serde_json.specs.Data.{Data, boolean, number, unsigned, string, array, object, Items, no_items, item, member, no_members}
 use Rattle.serde_json.specs.View.{items_of}
 use Rattle.serde_json.specs.Written.{compact_text}
 use Rattle.service_model.specs.Requests.{Refusal, line_too_long, not_json, not_a_request, unknown_query, missing_key, bad_number}
@@ -34,6 +34,7 @@ mutual
     no_more : Outline
     next : Outlined → Outline → Outline
 
+-- What is said to a line.
 pub data Said : Type 0 where
   -- class return
   size : ℕ → Said  -- how many bytes the new text has
@@ -65,6 +66,7 @@ pub data Said : Type 0 where
 
 -- ---- parts of replies
 
+-- a number, in decimal digits
 abbrev pub natural : ℕ → Data
 natural n = number (unsigned n)
 
@@ -96,6 +98,7 @@ member_data children start end kind name =
     object (member (codes "children") children (member (codes "end") (position_data end) (member (codes "kind") (string kind)
     (member (codes "name") (string name) (member (codes "start") (position_data start) no_members)))))
 
+-- an outline as a list of its members, and they in the same way
 abbrev mutual
   pub outlined_data : Outlined → Data
   outlined_data (outlined start end kind name inner) = member_data (array (outline_items inner)) start end kind name
@@ -104,6 +107,7 @@ abbrev mutual
   outline_items no_more = no_items
   outline_items (next o os) = item (outlined_data o) (outline_items os)
 
+-- [D,..]
 abbrev pub list_data : List Data → Data
 list_data ds = array (items_of ds)
 
@@ -129,6 +133,7 @@ terms_data start end texts = object (member (codes "end") (position_data end) (m
 abbrev pub classed : List ℕ → Data → Data
 classed class value = object (member (codes "class") (string class) (member (codes "value") value no_members))
 
+-- {"class":"return","value":V}
 abbrev pub returned : Data → Data
 returned value = classed (codes "return") value
 
@@ -140,12 +145,15 @@ named name = object (member (codes "name") (string name) no_members)
 abbrev pub keyed : List ℕ → List ℕ → Data
 keyed name key = object (member (codes "key") (string key) (member (codes "name") (string name) no_members))
 
+-- {"class":"failure","value":V}
 abbrev pub failed : Data → Data
 failed value = classed (codes "failure") value
 
+-- {"class":"error","value":V}
 abbrev pub wrong : Data → Data
 wrong value = classed (codes "error") value
 
+-- the value that tells a refusal
 abbrev pub refusal_data : Refusal → Data
 refusal_data line_too_long = named (codes "LineTooLong")
 refusal_data not_json = named (codes "NotJson")
@@ -154,6 +162,7 @@ refusal_data unknown_query = named (codes "UnknownQuery")
 refusal_data (missing_key key) = keyed (codes "MissingKey") key
 refusal_data (bad_number key) = keyed (codes "BadNumber") key
 
+-- the value that a reply is
 abbrev pub said_data : Said → Data
 said_data (size n) = returned (natural n)
 said_data (types ts) = returned (list_data (map typed_data ts))

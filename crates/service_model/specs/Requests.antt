@@ -55,10 +55,12 @@ dotted (n ∷ m ∷ ns) = n ++ 46 ∷ dotted (m ∷ ns)
 abbrev pub key_name : Key → List ℕ
 key_name k = dotted k.path
 
+-- the value that the names lead to, one inside the other
 abbrev pub value_at : List (List ℕ) → Data → Option Data
 value_at [] d = Some d
 value_at (n ∷ ns) d = option_and_then (value_at ns) (get n d)
 
+-- the value is of the kind
 abbrev pub is_of_kind : Kind → Data → Bool
 is_of_kind an_object d = is_some (as_object d)
 is_of_kind a_number d = is_some (as_number d)
@@ -73,14 +75,15 @@ has_kind kind (Some d) = is_of_kind kind d
 abbrev pub is_missing : Data → Key → Bool
 is_missing d k = not (has_kind k.kind (value_at k.path d))
 
--- decimal digits alone, below 2^32
+-- a number below 2^32
 abbrev pub small : ℕ → Option ℕ
 small n = if nat_lt n (2 ^ 32) then Some n else None
 
+-- a number that is written in decimal digits alone, below 2^32
 abbrev pub small_number : Num → Option ℕ
 small_number n = option_and_then small (as_u64 n)
 
--- the number at a path, where it is decimal digits alone, below 2^32
+-- the number that a value is, where it is decimal digits alone, below 2^32
 abbrev pub number_in : Option Data → Option ℕ
 number_in v = option_and_then small_number (option_and_then as_number v)
 
@@ -106,6 +109,7 @@ first_bad keys d = option_map key_name (find (is_bad d) keys)
 abbrev pub refusal_of : List Key → Data → Option Refusal
 refusal_of keys d = option_or (option_map missing_key (first_missing keys d)) (option_map bad_number (first_bad keys d))
 
+-- the key of an object
 abbrev pub object_key : List ℕ → Key
 object_key name = record { path = name ∷ []; kind = an_object }
 
@@ -113,6 +117,7 @@ object_key name = record { path = name ∷ []; kind = an_object }
 abbrev pub number_key : List ℕ → List ℕ → Key
 number_key name inner = record { path = name ∷ inner ∷ []; kind = a_number }
 
+-- the key of a text
 abbrev pub text_key : List ℕ → Key
 text_key name = record { path = name ∷ []; kind = a_string }
 
@@ -120,7 +125,7 @@ text_key name = record { path = name ∷ []; kind = a_string }
 unfoldable pub position_keys : List ℕ → List Key
 position_keys name = object_key name ∷ number_key name (codes "line") ∷ number_key name (codes "col") ∷ []
 
--- the key of a text
+-- the keys of a text: itself alone
 unfoldable pub text_keys : List ℕ → List Key
 text_keys name = text_key name ∷ []
 
@@ -143,6 +148,7 @@ abbrev pub unless : Option Refusal → Asked → Reading
 unless (Some r) a = refused r
 unless None a = asks a
 
+-- the key is there, whatever its value
 abbrev pub has : List ℕ → Data → Bool
 has name d = is_some (get name d)
 
@@ -164,6 +170,7 @@ reading_of_tell d = if has (codes "start") d || has (codes "end") d then reading
 abbrev pub reading_of_place : (ℕ × ℕ → Asked) → Data → Reading
 reading_of_place query d = unless (refusal_of (position_keys (codes "at")) d) (query (position_at (codes "at") d))
 
+-- a query of the position `at` and the text `prefix`
 abbrev pub reading_of_prefix : Data → Reading
 reading_of_prefix d =
     unless (refusal_of (position_keys (codes "at") ++ text_keys (codes "prefix")) d)
@@ -188,6 +195,7 @@ abbrev pub reading_of_name : Option (List ℕ) → Data → Reading
 reading_of_name (Some name) d = reading_of_query name d
 reading_of_name None d = refused not_a_request
 
+-- a value, where the line is one
 abbrev pub reading_of_value : Option Data → Reading
 reading_of_value (Some d) = reading_of_name (option_and_then as_str (get (codes "query") d)) d
 reading_of_value None = refused not_json

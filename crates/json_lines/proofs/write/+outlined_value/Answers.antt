@@ -3,7 +3,7 @@ use Rattle.std.proofs.lemmas.List.{take_all}
 use Rattle.serde_json.specs.View.{view, items_of}
 use Rattle.service_model.specs.Replies.{outlined_data, outline_items}
 use Rattle.json_lines.specs.Means.{outlined_of, outline_of}
-use Rattle.json_lines.specs.declared.reply.Outlined.{Outlined, out-Outlined}
+use Rattle.json_lines.specs.declared.reply.Outlined.{out-Outlined}
 use Rattle.json_lines.proofs.Replies.{outlined_parts, outline_items_map}
 use Rattle.json_lines.proofs.write.+outlined_value.Goals as goal
 
