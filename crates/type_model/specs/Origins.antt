@@ -1,0 +1,54 @@
+-- Origins: when a type constructor was made, and types in place of constructors.
+use Rattle.std.specs.Prelude.{ℕ, ◌^◌, Bool, true, false, ◌&&◌, ◌||◌, ◌==◌, nat_le, nat_lt, List, [], ◌∷◌, Option, Some, None, if◌then◌else◌}
+use Rattle.type_model.specs.Types.{Path, Typ, Typs, Var, Arrow, Tuple, Con, Nil, Cons}
+use Rattle.type_model.specs.Substitutions.{apply, with_arguments}
+
+-- whether two paths are equal
+abbrev pub same_path : Path → Path → Bool
+same_path [] [] = true
+same_path [] (j ∷ q) = false
+same_path (i ∷ p) [] = false
+same_path (i ∷ p) (j ∷ q) = i == j && same_path p q
+
+-- the first numbers of the paths of built-in types
+abbrev pub is_built_in : ℕ → Bool
+is_built_in k = nat_le (2 ^ 63) k && nat_lt k (2 ^ 64)
+
+-- whether an origin was made before a point; a built-in type was made before everything
+abbrev pub made_before : ℕ → Path → Bool
+made_before point [] = true
+made_before point (k ∷ path) = is_built_in k || nat_lt k point
+
+-- a rigid variable, as a constructor whose path no origin has
+abbrev pub rigid : ℕ → Typ
+rigid j = Con ((2 ^ 64) ∷ j ∷ []) Nil
+
+-- a type for some origins, over the variables 0, 1 and so on for the constructor's arguments
+abbrev pub Replacements : Type 0
+Replacements = List (Path × Typ)
+
+-- the first one for an origin
+abbrev pub replacement_for : Path → Replacements → Option Typ
+replacement_for o [] = None
+replacement_for o ((p, t) ∷ rest) = if same_path o p then Some t else replacement_for o rest
+
+abbrev pub list_of : Typs → List Typ
+list_of Nil = []
+list_of (Cons t ts) = t ∷ list_of ts
+
+-- a constructor with these arguments, or what stands in its place
+abbrev pub put_for : Path → Option Typ → Typs → Typ
+put_for o None ts = Con o ts
+put_for o (Some body) ts = apply (with_arguments (list_of ts)) body
+
+-- a type with the replacements in place of their origins; what they put in isn't looked through again
+abbrev mutual
+  pub replaced : Replacements → Typ → Typ
+  replaced m (Var v) = Var v
+  replaced m (Arrow a b) = Arrow (replaced m a) (replaced m b)
+  replaced m (Tuple ts) = Tuple (replaced_all m ts)
+  replaced m (Con o ts) = put_for o (replacement_for o m) (replaced_all m ts)
+
+  pub replaced_all : Replacements → Typs → Typs
+  replaced_all m Nil = Nil
+  replaced_all m (Cons t ts) = Cons (replaced m t) (replaced_all m ts)
