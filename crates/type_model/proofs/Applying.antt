@@ -1,7 +1,7 @@
 -- Substitutions: which variables they look at, how two of them follow one another, and which variables they leave.
-use Rattle.std.proofs.Common.{◌≡◌, ℕ, Bool, true, false, ◌||◌, eqb, refl, ◌∙◌, ap, ◌⊎◌, inl, inr}
+use Rattle.std.proofs.Common.{◌≡◌, ℕ, Bool, true, false, ◌||◌, eqb, List, [], ◌∷◌, map, refl, ◌∙◌, ap, ◌⊎◌, inl, inr}
 use Rattle.std.proofs.lemmas.Bool.{eq-eqb, eqb-true}
-use Rattle.type_model.specs.Types.{Typ, Typs, Var, Arrow, Tuple, Con, Nil, Cons, occurs, occurs_any}
+use Rattle.type_model.specs.Types.{Typ, Typs, Var, Arrow, Tuple, Con, Nil, Cons, occurs, occurs_any, types_of}
 use Rattle.type_model.specs.Substitutions.{Subst, apply, apply_all, after}
 
 -- either side of a disjunction makes it true
@@ -110,3 +110,8 @@ mutual
         | inl i ↦ let (u, p, q) = occurs_from s v t i in (u, or_left (occurs u t) (occurs_any u ts) p, q)
         | inr i ↦ let (u, p, q) = occurs_any_from s v ts i in (u, or_right (occurs u t) (occurs_any u ts) p, q)
       ]
+
+-- a substitution of a list of types is that of each
+pub apply_all-types_of : (s : Subst) (ts : List Typ) → apply_all s (types_of ts) ≡ types_of (map (apply s) ts)
+apply_all-types_of s [] = refl
+apply_all-types_of s (t ∷ ts) = ap (Cons (apply s t)) (apply_all-types_of s ts)

@@ -1,10 +1,10 @@
 -- Arguments of schemes and types in place of origins.
-use Rattle.std.proofs.Common.{◌≡◌, ℕ, ◌≤◌, false, ltb, length, List, [], ◌∷◌, refl, ap, arith, zero, suc}
+use Rattle.std.proofs.Common.{◌≡◌, ℕ, ◌≤◌, false, ltb, length, List, [], ◌∷◌, map, refl, ap, arith, zero, suc}
 use Rattle.std.specs.Prelude.{slice_get, unwrap_or}
 use Rattle.type_model.specs.Types.{Typ, Typs, Var, Arrow, Tuple, Con, Nil, Cons, types_of}
 use Rattle.type_model.specs.Substitutions.{apply, with_arguments}
 use Rattle.type_model.specs.Schemes.{HasInstance}
-use Rattle.type_model.specs.Origins.{replaced, replaced_all, list_of}
+use Rattle.type_model.specs.Origins.{Replacements, replaced, replaced_all, list_of}
 
 -- a variable behind the arguments is itself
 pub behind_arguments : (ts : List Typ) (v w : ℕ) → length ts ≤ v → unwrap_or (slice_get ts v) (Var w) ≡ Var w
@@ -39,3 +39,8 @@ mutual
   pub all_replaced_by_none : (ts : Typs) → replaced_all [] ts ≡ ts
   all_replaced_by_none Nil = refl
   all_replaced_by_none (Cons t ts) = let p = replaced_by_none t in let q = all_replaced_by_none ts in cc
+
+-- the replacements in a list of types are those in each
+pub replaced_all-types_of : (m : Replacements) (ts : List Typ) → replaced_all m (types_of ts) ≡ types_of (map (replaced m) ts)
+replaced_all-types_of m [] = refl
+replaced_all-types_of m (t ∷ ts) = ap (Cons (replaced m t)) (replaced_all-types_of m ts)

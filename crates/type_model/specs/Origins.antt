@@ -1,14 +1,12 @@
 -- Origins: when a type constructor was made, and types in place of constructors.
 use Rattle.std.specs.Prelude.{ℕ, ◌^◌, Bool, true, false, ◌&&◌, ◌||◌, ◌==◌, nat_le, nat_lt, List, [], ◌∷◌, Option, Some, None, if◌then◌else◌}
+use Rattle.std.specs.Str.{bytes_eq}
 use Rattle.type_model.specs.Types.{Path, Typ, Typs, Var, Arrow, Tuple, Con, Nil, Cons}
 use Rattle.type_model.specs.Substitutions.{apply, with_arguments}
 
--- whether two paths are equal
+-- whether two paths are the same list of numbers
 abbrev pub same_path : Path → Path → Bool
-same_path [] [] = true
-same_path [] (j ∷ q) = false
-same_path (i ∷ p) [] = false
-same_path (i ∷ p) (j ∷ q) = i == j && same_path p q
+same_path = bytes_eq
 
 -- the first numbers of the paths of built-in types
 abbrev pub is_built_in : ℕ → Bool
