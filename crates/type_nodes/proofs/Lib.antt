@@ -1,0 +1,5 @@
+pub mod Lists
+pub mod Trails
+pub mod Places
+pub mod Ranks
+pub mod Undo
