@@ -1,6 +1,15 @@
 //! The cells of a store, and the writes that its trail keeps.
+ghost use Rattle.std.specs.Prelude.{◌≡◌, ◌<◌, length, IfOk, OnOk, OnErr};
+ghost use Rattle.type_nodes.specs.Nodes.{IsSound};
+ghost use Rattle.type_nodes.specs.Links.{root};
+ghost use Rattle.type_nodes.specs.Changes.{Added, Replaced};
+ghost use Rattle.type_nodes.specs.Views.{node_of, nodes_of, state_of};
+
+use std::mem;
+use type_terms::NoMemory;
 use type_terms::NodeRef;
 use type_terms::Origin;
+use undo_trail::Trail;
 use undo_trail::Undo;
 
 /// What stands at a node. `Link` is another node's type; a rigid variable's number is the node's own.
@@ -57,4 +66,51 @@ impl Undo for Cells {
             }
         }
     }
+}
+
+/// The level that is kept for bound variables.
+pub const BOUND: u32 = 4_294_967_295;
+
+/// Adds a cell behind the others. After `NoMemory` nothing has changed.
+pub fn make(cells: &mut Cells, trail: &mut Trail<Write>, cell: Cell) -> Result<NodeRef, NoMemory>
+    ensures made { IfOk result (λ n. Added (state_of cells.old trail.old) (state_of cells.new trail.new) n.0 (node_of cell)) }
+    ensures failed { OnErr result (state_of cells.new trail.new ≡ state_of cells.old trail.old) }
+{
+    let number = cells.list.len() as u64;
+    cells.list.reserve(1).map_err(|_| NoMemory)?;
+    trail.push(Write::Made).map_err(|_| NoMemory)?;
+    match cells.list.push(cell) {
+        Ok(()) => Ok(NodeRef(number)),
+        Err(_) => unreachable!(),
+    }
+}
+
+/// Puts a cell in the place of another, which moves into the trail. After `NoMemory` nothing has changed.
+pub fn replace(cells: &mut Cells, trail: &mut Trail<Write>, n: NodeRef, cell: Cell) -> Result<(), NoMemory>
+    requires { n.0 < length (nodes_of cells.old) }
+    ensures done { OnOk result (Replaced (state_of cells.old trail.old) (state_of cells.new trail.new) n.0 (node_of cell)) }
+    ensures failed { OnErr result (state_of cells.new trail.new ≡ state_of cells.old trail.old) }
+{
+    trail.reserve().map_err(|_| NoMemory)?;
+    let before = mem::replace(&mut cells.list[n.0 as usize], cell);
+    match trail.push(Write::Was(n, before)) {
+        Ok(()) => Ok(()),
+        Err(_) => unreachable!(),
+    }
+}
+
+/// The node at the end of the links from `n`.
+pub fn root_of(cells: &Cells, n: NodeRef) -> NodeRef
+    requires inside { n.0 < length (nodes_of cells.now) }
+    requires sound { IsSound (nodes_of cells.now) }
+    ensures { result.0 ≡ root (nodes_of cells.now) n.0 }
+{
+    let mut at = n;
+    for _turn in 0..cells.list.len() {
+        match &cells.list[at.0 as usize] {
+            Cell::Link(m) => at = *m,
+            _ => return at,
+        }
+    }
+    unreachable!()
 }
