@@ -6,3 +6,4 @@ pub mod Undo
 pub mod Roots
 pub mod Writes
 pub mod Walks
+pub mod Answered

@@ -3,7 +3,7 @@ use Rattle.std.proofs.Common.{◌≡◌, ◌≢◌, ℕ, zero, suc, ◌+◌, ◌
 use Rattle.std.specs.Prelude.{slice_get, All}
 use Rattle.std.proofs.lemmas.List.{length-set}
 use Rattle.type_nodes.specs.Nodes.{Node, Var, Link, parts, IsSound, Apart}
-use Rattle.type_nodes.specs.Links.{next, root, reading, IsNoLink, IsFree}
+use Rattle.type_nodes.specs.Links.{next, root, reading, IsNoLink, IsFree, IsVariable}
 use Rattle.type_nodes.specs.States.{State, IsStore}
 use Rattle.type_nodes.specs.Changes.{Added, Replaced, Makes, Redirects, Relevels}
 use Rattle.type_nodes.proofs.Lists.{same_or_other, get-set_same, get-set_other, get-append_left, get-append_last}
@@ -31,14 +31,8 @@ makes old new n c store is a =
 pub makes_store : (old new : State) (n : ℕ) (c : Node) → IsStore old → All (λ m. m < length old.nodes) (parts c) → Added old new n c → IsStore new
 makes_store old new n c store inside a = added_store old new n c a store (added_sound old.nodes c inside (sound_now old store))
 
--- a variable at its root
-pub record VariableAt (nodes : List Node) (v : ℕ) : Type 0 where
-  pub level : ℕ
-  pub scope : ℕ
-  pub reads : reading nodes v ≡ Some (Var level scope)
-
 -- a level and a scope that were written are those of the variable, and the others are as before
-pub relevels : (old new : State) (v level scope : ℕ) → IsStore old → VariableAt old.nodes v → Replaced old new (root old.nodes v) (Var level scope) → Relevels old new v level scope
+pub relevels : (old new : State) (v level scope : ℕ) → IsStore old → IsVariable old.nodes v → Replaced old new (root old.nodes v) (Var level scope) → Relevels old new v level scope
 relevels old new v level scope store var w =
     let r = root old.nodes v in
     let ends : (m : ℕ) → root new.nodes m ≡ root old.nodes m =
@@ -99,5 +93,5 @@ redirects_store old new a b store b_in apart w =
     replaced_store old new (root old.nodes a) (Link (root old.nodes b)) w store (redirected_is_sound old new a b store b_in apart w)
 
 -- a node that isn't bound is a variable at its root
-pub free_variable : (nodes : List Node) (v : ℕ) → IsFree nodes v → VariableAt nodes v
+pub free_variable : (nodes : List Node) (v : ℕ) → IsFree nodes v → IsVariable nodes v
 free_variable nodes v f = record { level = f.level; scope = f.scope; reads = f.reads }

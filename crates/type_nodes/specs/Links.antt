@@ -37,6 +37,12 @@ IsNoLink (Arrow a b) = Unit {0}
 IsNoLink (Tuple ms) = Unit {0}
 IsNoLink (Con path name ms) = Unit {0}
 
+-- a node reads as a variable
+pub record IsVariable (nodes : List Node) (n : ℕ) : Type 0 where
+  pub level : ℕ
+  pub scope : ℕ
+  pub reads : reading nodes n ≡ Some (Var level scope)
+
 -- a node of the store reads as a variable that isn't bound
 pub record IsFree (nodes : List Node) (n : ℕ) : Type 0 where
   pub inside : n < length nodes

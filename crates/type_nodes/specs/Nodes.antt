@@ -21,6 +21,10 @@ pub data Node : Type 0 where
 abbrev pub bound_level : ℕ
 bound_level = 2 ^ 32 - 1
 
+-- a number is that of a node
+abbrev pub IsNode : List Node → ℕ → Type 0
+IsNode nodes n = n < length nodes
+
 -- the nodes that a node leads to
 abbrev pub parts : Node → List ℕ
 parts (Var level scope) = []

@@ -1,6 +1,6 @@
 //! The cells of a store, and the writes that its trail keeps.
-ghost use Rattle.std.specs.Prelude.{◌≡◌, ◌<◌, length, IfOk, OnOk, OnErr};
-ghost use Rattle.type_nodes.specs.Nodes.{IsSound};
+ghost use Rattle.std.specs.Prelude.{◌≡◌, ◌<◌, length, IfOk, OnOk, OnErr, ℕ, slice_get};
+ghost use Rattle.type_nodes.specs.Nodes.{Node as plain, IsSound};
 ghost use Rattle.type_nodes.specs.Links.{root};
 ghost use Rattle.type_nodes.specs.Changes.{Added, Replaced};
 ghost use Rattle.type_nodes.specs.Views.{node_of, nodes_of, state_of};
@@ -113,4 +113,15 @@ pub fn root_of(cells: &Cells, n: NodeRef) -> NodeRef
         }
     }
     unreachable!()
+}
+
+/// The scope of a variable.
+pub fn scope_of(cells: &Cells, var: NodeRef) -> u64
+    requires { (level : ℕ) × (scope : ℕ) × (slice_get (nodes_of cells.now) var.0 ≡ Some (plain.Var level scope)) }
+    ensures { (level : ℕ) × (slice_get (nodes_of cells.now) var.0 ≡ Some (plain.Var level result)) }
+{
+    match &cells.list[var.0 as usize] {
+        Cell::Var { scope, .. } => *scope,
+        _ => unreachable!(),
+    }
 }

@@ -4,7 +4,9 @@
 //! and that the states at earlier marks stay (`Keeps`). A chain of links is as long as the number of times that its end was linked on.
 #![tactic(auto)]
 
+mod building;
 mod cells;
+mod changing;
 mod store;
 mod view;
 
