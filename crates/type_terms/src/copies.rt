@@ -3,8 +3,7 @@ ghost use Rattle.std.specs.Prelude.{◌≡◌, IfOk, map};
 ghost use Rattle.text_terms.specs.Bytes.{str_bytes};
 ghost use Rattle.type_terms.specs.Views.{type_of};
 
-use crate::types::Origin;
-use crate::types::Ty;
+use crate::types::{Origin, Ty};
 use std::alloc::Global;
 use text_terms::NoMemory;
 
@@ -15,7 +14,10 @@ impl Origin {
         ensures name { IfOk result (λ o. str_bytes o.name ≡ str_bytes self.now.name) }
     {
         match self.path.iter().copied().collect(alloc) {
-            Ok(path) => Ok(Origin { path, name: self.name.share()? }),
+            Ok(path) => Ok(Origin {
+                path,
+                name: self.name.share()?,
+            }),
             Err(_) => Err(NoMemory),
         }
     }

@@ -5,12 +5,8 @@ ghost use Rattle.type_model.specs.Substitutions.{apply, with_arguments};
 ghost use Rattle.type_model.specs.Origins.{replaced, replacement_for, same_path};
 ghost use Rattle.type_terms.specs.Views.{type_of, replacements_of};
 
-use crate::copies::boxed;
-use crate::copies::copy_of;
-use crate::types::Origin;
-use crate::types::OriginMap;
-use crate::types::Scheme;
-use crate::types::Ty;
+use crate::copies::{boxed, copy_of};
+use crate::types::{Origin, OriginMap, Scheme, Ty};
 use std::alloc::Global;
 use text_terms::NoMemory;
 
@@ -35,7 +31,10 @@ fn filled(alloc: Global, ty: &Ty, args: &[Ty]) -> Result<Ty, NoMemory>
             Ok(Ty::Arrow(from, to))
         }
         Ty::Tuple(parts) => Ok(Ty::Tuple(all_filled(alloc, parts, args)?)),
-        Ty::Con(origin, parts) => Ok(Ty::Con(origin.copied(alloc)?, all_filled(alloc, parts, args)?)),
+        Ty::Con(origin, parts) => Ok(Ty::Con(
+            origin.copied(alloc)?,
+            all_filled(alloc, parts, args)?,
+        )),
     }
 }
 

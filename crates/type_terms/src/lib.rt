@@ -6,14 +6,11 @@
 mod copies;
 mod instances;
 mod sameness;
+#[cfg(test)]
+mod tests;
 mod types;
 
-pub use instances::instance_of;
-pub use instances::replace_origins;
+pub use instances::{instance_of, replace_origins};
 pub use sameness::same_type;
 pub use text_terms::NoMemory;
-pub use types::NodeRef;
-pub use types::Origin;
-pub use types::OriginMap;
-pub use types::Scheme;
-pub use types::Ty;
+pub use types::{NodeRef, Origin, OriginMap, Scheme, Ty};

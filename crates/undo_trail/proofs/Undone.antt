@@ -49,5 +49,5 @@ undo_one undone mark writes' cells' writes cells w h e e' =
     record {
       fits = le;
       kept = sym (ap (take mark) e ∙ take-append-le mark writes' (w ∷ []) le);
-      rest = sym (ap (λ t. all_undone undone (drop mark t) cells) e ∙ undone-push undone mark writes' w (undone w cells) cells le refl ∙ ap (all_undone undone (drop mark writes')) (sym e'))
+      rest = sym (ap (λ t. all_undone undone (drop mark t) cells) e ∙ undone-push undone mark writes' w (undone w cells) cells le refl ∙ ap (all_undone undone (drop mark writes')) (sym e'));
     }

@@ -43,7 +43,9 @@ impl<W: Drop> Trail<W> {
     pub fn new(alloc: Global) -> Trail<W>
         ensures { writes_of result ≡ [] }
     {
-        Trail { writes: Vec::new(alloc) }
+        Trail {
+            writes: Vec::new(alloc),
+        }
     }
 
     /// Makes room for one write, so that the next `push` succeeds.
@@ -81,5 +83,51 @@ impl<W: Drop> Trail<W> {
                 on.undo(w);
             }
         }
+    }
+}
+
+#[cfg(test)]
+mod tests {
+    use super::*;
+    use std::test::Fail;
+
+    /// A number; a write is the number before it.
+    #[derive(Drop)]
+    struct Counter {
+        value: u8,
+    }
+
+    impl Undo for Counter {
+        ghost use Rattle.std.specs.Prelude.{ℕ};
+
+        type Write = u8;
+
+        ghost Cells = { ℕ };
+
+        ghost cells = { λ c. c.value };
+
+        ghost undone = { λ w c. w };
+
+        fn undo(&mut self, w: u8) {
+            self.value = w;
+        }
+    }
+
+    #[test]
+    fn undoes_the_writes_behind_the_mark(rt: HostRuntime) -> Result<(), Fail> {
+        let mut trail = Trail::new(rt.alloc());
+        let mut counter = Counter { value: 2 };
+        trail.push(1)?;
+        let mark = trail.mark();
+        trail.reserve()?;
+        trail.push(2)?;
+        counter.value = 3;
+        trail.push(3)?;
+        counter.value = 4;
+        assert_eq!(rt; trail.mark(), Mark(3));
+        trail.undo_to(mark, &mut counter);
+        assert_eq!(rt; counter.value, 2);
+        assert_eq!(rt; trail.mark(), mark);
+        Ok(())
     }
 }
