@@ -1,12 +1,13 @@
 -- What one write does to a store, told by the nodes that read otherwise.
-use Rattle.std.proofs.Common.{◌≡◌, ◌≢◌, ℕ, zero, suc, ◌+◌, ◌<◌, ◌≤◌, List, [], ◌∷◌, ◌++◌, length, set, Option, Some, None, refl, sym, ◌∙◌, ap, subst, arith, ◌⊎◌, inl, inr}
+use Rattle.std.proofs.Common.{◌≡◌, ◌≢◌, ℕ, zero, suc, ◌+◌, ◌<◌, ◌≤◌, Bool, true, false, eqb, List, [], ◌∷◌, ◌++◌, length, set, Option, Some, None, refl, sym, ◌∙◌, ap, subst, arith, ◌⊎◌, inl, inr}
+use Rattle.std.proofs.lemmas.Bool.{eq-eqb, eqb-true}
 use Rattle.std.specs.Prelude.{slice_get, All}
 use Rattle.std.proofs.lemmas.List.{length-set}
 use Rattle.type_nodes.specs.Nodes.{Node, Var, Link, parts, IsSound, Apart}
 use Rattle.type_nodes.specs.Links.{next, root, reading, IsNoLink, IsFree, IsVariable}
 use Rattle.type_nodes.specs.States.{State, IsStore}
 use Rattle.type_nodes.specs.Changes.{Added, Replaced, Makes, Redirects, Relevels}
-use Rattle.type_nodes.proofs.Lists.{same_or_other, get-set_same, get-set_other, get-append_left, get-append_last}
+use Rattle.type_nodes.proofs.Lists.{same_or_other, get-set_same, get-set_other, get-append_left, get-append_last, one_element, length-snoc}
 use Rattle.type_nodes.proofs.Trails.{sound_now, added_store, replaced_store}
 use Rattle.type_nodes.proofs.Ranks.{added_sound, relevelled_sound, redirected_sound}
 use Rattle.type_nodes.proofs.Roots.{root_settled, root_inside, root_here, root_no_link, closed_root, apart_root, apart_other, relevelled_root, added_root, added_own, EndsAfter, redirected_root}
@@ -95,3 +96,22 @@ redirects_store old new a b store b_in apart w =
 -- a node that isn't bound is a variable at its root
 pub free_variable : (nodes : List Node) (v : ℕ) → IsFree nodes v → IsVariable nodes v
 free_variable nodes v f = record { level = f.level; scope = f.scope; reads = f.reads }
+
+-- a node that was made is there, and so are those from before
+pub made_inside : (old new : State) (n : ℕ) (c : Node) → Added old new n c → n < length new.nodes
+made_inside old new n c a = let e = ap length a.nodes ∙ length-snoc old.nodes c in let f = a.number in omega arith
+
+pub still_inside : (old new : State) (n : ℕ) (c : Node) → Added old new n c → (m : ℕ) → m < length old.nodes → m < length new.nodes
+still_inside old new n c a m h = let e = ap length a.nodes ∙ length-snoc old.nodes c in omega arith
+
+-- a node without parts has nothing occurring in it but itself
+pub apart_leaf : (nodes : List Node) (v n : ℕ) (c : Node) → slice_get nodes n ≡ Some c → parts c ≡ [] → v ≢ n → Apart nodes v n
+apart_leaf nodes v n c at none other = ((λ m. eqb m n), record { each = each }, eq-eqb n n refl, not_it (eqb v n) refl)
+  where
+    not_it : (b : Bool) → eqb v n ≡ b → eqb v n ≡ false
+    not_it true e = absurd (other (eqb-true v n e))
+    not_it false e = e
+    each : (m : ℕ) (x : Node) → eqb m n ≡ true → slice_get nodes m ≡ Some x → All (λ k. eqb k n ≡ true) (parts x)
+    each m x h e =
+        let same : c ≡ x = one_element c x (slice_get nodes n) at (subst (λ k. slice_get nodes k ≡ Some x) (eqb-true m n h) e) in
+        subst (λ y. All (λ k. eqb k n ≡ true) (parts y)) same (subst (λ ms. All (λ k. eqb k n ≡ true) ms) (sym none) (λ k d lt. absurd (omega arith)))

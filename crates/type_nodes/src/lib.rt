@@ -10,6 +10,9 @@ mod changing;
 mod store;
 mod view;
 
+#[cfg(test)]
+mod tests;
+
 pub use store::Store;
 pub use type_terms::NoMemory;
 pub use type_terms::NodeRef;

@@ -3,6 +3,7 @@ use type_terms::NodeRef;
 use type_terms::Origin;
 
 /// A node as a reader sees it, behind all links.
+#[derive(Clone, Copy)]
 pub enum View<'a> {
     /// 'a. A variable of the level 4,294,967,295 is bound.
     Var { level: u32, scope: u64 },
