@@ -36,17 +36,19 @@ how_many_less : (p q : ℕ → Bool) (k m : ℕ) → ((m : ℕ) → p m ≡ true
 how_many_less p q zero m h lt lacks has = absurd (omega arith)
 how_many_less p q (suc k) m h lt lacks has =
     elim (same_or_other m k) [
-      inl e ↦ let i = how_many_mono p q k h in
+      | inl e ↦ let i = how_many_mono p q k h in
           let a : one_if (p k) ≡ 0 = rw (← e, lacks) refl in let b : one_if (q k) ≡ 1 = rw (← e, has) refl in omega arith
-      | inr o ↦ let lt' : m < k = omega arith in let i = how_many_less p q k m h lt' lacks has in let j = one_if_mono (p k) (q k) (h k) in omega arith ]
+      | inr o ↦ let lt' : m < k = omega arith in let i = how_many_less p q k m h lt' lacks has in let j = one_if_mono (p k) (q k) (h k) in omega arith
+    ]
 
 -- a number that fails keeps the count from being full
 how_many_full : (p : ℕ → Bool) (k m : ℕ) → m < k → p m ≡ false → how_many p k < k
 how_many_full p zero m lt lacks = absurd (omega arith)
 how_many_full p (suc k) m lt lacks =
     elim (same_or_other m k) [
-      inl e ↦ let i = how_many_le p k in let a : one_if (p k) ≡ 0 = rw (← e, lacks) refl in omega arith
-      | inr o ↦ let lt' : m < k = omega arith in let i = how_many_full p k m lt' lacks in let j = one_if_le (p k) in omega arith ]
+      | inl e ↦ let i = how_many_le p k in let a : one_if (p k) ≡ 0 = rw (← e, lacks) refl in omega arith
+      | inr o ↦ let lt' : m < k = omega arith in let i = how_many_full p k m lt' lacks in let j = one_if_le (p k) in omega arith
+    ]
 
 -- how many nodes stand lower
 abbrev pub place : (ℕ → ℕ) → ℕ → ℕ → ℕ

@@ -58,15 +58,17 @@ link_down nodes rank ranked n m e = of_link (λ k. (k < length nodes) × (rank k
 settles : (nodes : List Node) (rank : ℕ → ℕ) → IsRanked nodes rank → (k n : ℕ) → n < length nodes → place rank (length nodes) n ≤ k →
     next nodes (follow k nodes n) ≡ follow k nodes n
 settles nodes rank ranked zero n lt h = elim (link_or_stays nodes n) [
-    inl stays ↦ stays
-    | inr (m, e) ↦ absurd (let down = link_down nodes rank ranked n m e in let p = place_lower rank (length nodes) m n down.0 down.1 in omega arith) ]
+  | inl stays ↦ stays
+  | inr (m, e) ↦ absurd (let down = link_down nodes rank ranked n m e in let p = place_lower rank (length nodes) m n down.0 down.1 in omega arith)
+]
 settles nodes rank ranked (suc k) n lt h = elim (link_or_stays nodes n) [
-    inl stays ↦ let f = follow_stays nodes (suc k) n stays in ap (next nodes) f ∙ stays ∙ sym f
-    | inr (m, e) ↦
-        let down = link_down nodes rank ranked n m e in
-        let p = place_lower rank (length nodes) m n down.0 down.1 in
-        let f : follow (suc k) nodes n ≡ follow k nodes m = ap (follow k nodes) (next_link nodes n m e) in
-        ap (next nodes) f ∙ settles nodes rank ranked k m down.0 (omega arith) ∙ sym f ]
+  | inl stays ↦ let f = follow_stays nodes (suc k) n stays in ap (next nodes) f ∙ stays ∙ sym f
+  | inr (m, e) ↦
+      let down = link_down nodes rank ranked n m e in
+      let p = place_lower rank (length nodes) m n down.0 down.1 in
+      let f : follow (suc k) nodes n ≡ follow k nodes m = ap (follow k nodes) (next_link nodes n m e) in
+      ap (next nodes) f ∙ settles nodes rank ranked k m down.0 (omega arith) ∙ sym f
+]
 
 -- links end at the root
 pub root_settled : (nodes : List Node) → IsSound nodes → (n : ℕ) → n < length nodes → next nodes (root nodes n) ≡ root nodes n
@@ -86,8 +88,9 @@ root_link nodes sound n m lt e = root_next nodes sound n lt ∙ ap (root nodes) 
 
 next_inside : (nodes : List Node) (rank : ℕ → ℕ) → IsRanked nodes rank → (n : ℕ) → n < length nodes → next nodes n < length nodes
 next_inside nodes rank ranked n lt = elim (link_or_stays nodes n) [
-    inl stays ↦ subst (λ k. k < length nodes) (sym stays) lt
-    | inr (m, e) ↦ subst (λ k. k < length nodes) (sym (next_link nodes n m e)) (link_down nodes rank ranked n m e).0 ]
+  | inl stays ↦ subst (λ k. k < length nodes) (sym stays) lt
+  | inr (m, e) ↦ subst (λ k. k < length nodes) (sym (next_link nodes n m e)) (link_down nodes rank ranked n m e).0
+]
 
 follow_inside : (nodes : List Node) (rank : ℕ → ℕ) → IsRanked nodes rank → (k n : ℕ) → n < length nodes → follow k nodes n < length nodes
 follow_inside nodes rank ranked zero n lt = lt
@@ -119,8 +122,10 @@ closed_root nodes A closed n h = at (length nodes) n h
   where
     one : (m : ℕ) → A m ≡ true → A (next nodes m) ≡ true
     one m i = elim (link_or_stays nodes m) [
-        inl stays ↦ ap A stays ∙ i
-        | inr (j, e) ↦ ap A (next_link nodes m j e) ∙ of_link (λ k. A k ≡ true) j (closed.each m (Link j) i e) ]
+      | inl stays ↦ ap A stays ∙ i
+      | inr (j, e) ↦ ap A (next_link nodes m j e) ∙ of_link (λ k. A k ≡ true) j (closed.each m (Link j) i e)
+    ]
+
     at : (k m : ℕ) → A m ≡ true → A (follow k nodes m) ≡ true
     at zero m i = i
     at (suc k) m i = at k (next nodes m) (one m i)
@@ -144,11 +149,12 @@ relevelled_root nodes r b c at was is n =
   where
     each : (m : ℕ) → next (set nodes r c) m ≡ next nodes m
     each m = elim (same_or_other m r) [
-        inl same ↦
-            let e : slice_get (set nodes r c) m ≡ Some c = subst (λ k. slice_get (set nodes r c) k ≡ Some c) (sym same) (get-set_same nodes r b c at) in
-            let f : slice_get nodes m ≡ Some b = subst (λ k. slice_get nodes k ≡ Some b) (sym same) at in
-            next_stays (set nodes r c) m c e is ∙ sym (next_stays nodes m b f was)
-        | inr other ↦ ap (linked_from m) (get-set_other nodes r m c other) ]
+      | inl same ↦
+          let e : slice_get (set nodes r c) m ≡ Some c = subst (λ k. slice_get (set nodes r c) k ≡ Some c) (sym same) (get-set_same nodes r b c at) in
+          let f : slice_get nodes m ≡ Some b = subst (λ k. slice_get nodes k ≡ Some b) (sym same) at in
+          next_stays (set nodes r c) m c e is ∙ sym (next_stays nodes m b f was)
+      | inr other ↦ ap (linked_from m) (get-set_other nodes r m c other)
+    ]
 
 -- one node more changes no root
 pub added_root : (nodes : List Node) (c : Node) → IsSound nodes → (n : ℕ) → n < length nodes → root (nodes ++ c ∷ []) n ≡ root nodes n
@@ -176,26 +182,33 @@ redirected_root nodes r s b (rank, ranked) sound' at r_ends s_ends other n lt = 
   where
     s_stays : next (set nodes r (Link s)) s ≡ s
     s_stays = ap (linked_from s) (get-set_other nodes r s (Link s) (λ e. other (sym e))) ∙ s_ends
+
     inside : (m : ℕ) → m < length nodes → m < length (set nodes r (Link s))
     inside m h = subst (λ l. m < l) (sym (length-set nodes r (Link s))) h
+
     ends : (k m : ℕ) → m < length nodes → rank m < k → EndsAfter nodes (set nodes r (Link s)) r s m
     ends zero m h low = absurd (omega arith)
     ends (suc k) m h low = elim (same_or_other m r) [
-        inl same ↦
-            let e : slice_get (set nodes r (Link s)) m ≡ Some (Link s) = subst (λ j. slice_get (set nodes r (Link s)) j ≡ Some (Link s)) (sym same) (get-set_same nodes r b (Link s) at) in
-            inl (ap (root nodes) same ∙ root_here nodes r r_ends,
-                 root_link (set nodes r (Link s)) sound' m s (inside m h) e ∙ root_here (set nodes r (Link s)) s s_stays)
-        | inr away ↦
-            let e : slice_get (set nodes r (Link s)) m ≡ slice_get nodes m = get-set_other nodes r m (Link s) away in
-            elim (link_or_stays nodes m) [
-              inl stays ↦
+      | inl same ↦
+          let e : slice_get (set nodes r (Link s)) m ≡ Some (Link s) = subst (λ j. slice_get (set nodes r (Link s)) j ≡ Some (Link s)) (sym same) (get-set_same nodes r b (Link s) at) in
+          inl (
+            ap (root nodes) same ∙ root_here nodes r r_ends,
+            root_link (set nodes r (Link s)) sound' m s (inside m h) e ∙ root_here (set nodes r (Link s)) s s_stays,
+          )
+      | inr away ↦
+          let e : slice_get (set nodes r (Link s)) m ≡ slice_get nodes m = get-set_other nodes r m (Link s) away in
+          elim (link_or_stays nodes m) [
+            | inl stays ↦
                 let here = root_here nodes m stays in
                 let there = root_here (set nodes r (Link s)) m (ap (linked_from m) e ∙ stays) in
                 inr ((λ f. away (sym here ∙ f)), there ∙ sym here)
-              | inr (j, f) ↦
+            | inr (j, f) ↦
                 let down = link_down nodes rank ranked m j f in
                 let old_root = root_link nodes (rank, ranked) m j h f in
                 let new_root = root_link (set nodes r (Link s)) sound' m j (inside m h) (e ∙ f) in
                 elim (ends k j down.0 (let d = down.1 in omega arith)) [
-                  inl (p, q) ↦ inl (old_root ∙ p, new_root ∙ q)
-                  | inr (p, q) ↦ inr ((λ g. p (sym old_root ∙ g)), new_root ∙ q ∙ sym old_root) ] ] ]
+                  | inl (p, q) ↦ inl (old_root ∙ p, new_root ∙ q)
+                  | inr (p, q) ↦ inr ((λ g. p (sym old_root ∙ g)), new_root ∙ q ∙ sym old_root)
+                ]
+          ]
+    ]

@@ -36,10 +36,10 @@ pushed_states old new w t u mark h =
 
 pub pushed_keeps : (old new : State) (w : Change) → new.trail ≡ old.trail ++ w ∷ [] → undone w new.nodes ≡ old.nodes → Keeps old new
 pushed_keeps old new w t u = record {
-    longer = let n = ap length t ∙ length-snoc old.trail w in omega arith;
-    before = ap (take (length old.trail)) t ∙ take-append_seam old.trail (w ∷ []);
-    states = pushed_states old new w t u
-  }
+  longer = let n = ap length t ∙ length-snoc old.trail w in omega arith;
+  before = ap (take (length old.trail)) t ∙ take-append_seam old.trail (w ∷ []);
+  states = pushed_states old new w t u;
+}
 
 le_cases : (m n : ℕ) → m ≤ suc n → (m ≤ n) ⊎ (m ≡ suc n)
 le_cases m n h = grind arith
@@ -50,12 +50,14 @@ pushed_store old new w t u store sound = record { sound = at }
   where
     len : length new.trail ≡ suc (length old.trail)
     len = ap length t ∙ length-snoc old.trail w
+
     at : (mark : ℕ) → mark ≤ length new.trail → IsSound (state_at new mark)
     at mark h =
         let n = len in
         elim (le_cases mark (length old.trail) (omega arith)) [
-            inl le ↦ subst IsSound (sym (pushed_states old new w t u mark le)) (store.sound mark le)
-            | inr eq ↦ subst IsSound (sym (state_now new) ∙ ap (state_at new) (len ∙ sym eq)) sound ]
+          | inl le ↦ subst IsSound (sym (pushed_states old new w t u mark le)) (store.sound mark le)
+          | inr eq ↦ subst IsSound (sym (state_now new) ∙ ap (state_at new) (len ∙ sym eq)) sound
+        ]
 
 pub added_keeps : (old new : State) (n : ℕ) (c : Node) → Added old new n c → Keeps old new
 added_keeps old new n c a = pushed_keeps old new Made a.trail (ap (undone Made) a.nodes ∙ undone_added old.nodes c)
@@ -86,18 +88,19 @@ all_undone-map f (w ∷ ws) nodes = ap (undone (f w)) (all_undone-map f ws nodes
 -- the state after undoing to a mark
 pub restored_at : (old new : State) (mark : ℕ) → new.nodes ≡ state_at old mark → new.trail ≡ take mark old.trail → Restored old new mark
 restored_at old new mark p q = record {
-    nodes = p; trail = q;
-    states = λ m h.
-        (λ i. all_undone undone (drop m (q i)) (p i)) ∙ undone_in_steps undone m mark old.trail old.nodes h
-  }
+  nodes = p;
+  trail = q;
+  states = λ m h.
+      (λ i. all_undone undone (drop m (q i)) (p i)) ∙ undone_in_steps undone m mark old.trail old.nodes h;
+}
 
 pub restored_store : (old new : State) (mark : ℕ) → mark ≤ length old.trail → Restored old new mark → IsStore old → IsStore new
 restored_store old new mark h r store = record {
-    sound = λ m k.
-        let n : length new.trail ≡ mark = ap length r.trail ∙ length-take_le mark old.trail h in
-        let le : m ≤ mark = omega arith in
-        subst IsSound (sym (r.states m le)) (store.sound m (omega arith))
-  }
+  sound = λ m k.
+      let n : length new.trail ≡ mark = ap length r.trail ∙ length-take_le mark old.trail h in
+      let le : m ≤ mark = omega arith in
+      subst IsSound (sym (r.states m le)) (store.sound m (omega arith));
+}
 
 -- a store without nodes
 pub empty_store : IsStore (state [] [])

@@ -30,8 +30,8 @@ pub replaced_view : (cells : Cells) (list' : List Cell) (trail trail' : Trail Wr
     slice_get cells.list.items n.0 ≡ Some b → list' ≡ set cells.list.items n.0 c → writes_of trail' ≡ writes_of trail ++ Was n b ∷ [] →
     Replaced (state_of cells trail) (state (map node_of list') (map change_of (writes_of trail'))) n.0 (node_of c)
 replaced_view cells list' trail trail' n b c at put pushed = record {
-    before = node_of b;
-    was = slice_get-map node_of cells.list.items n.0 ∙ ap (option_map node_of) at;
-    nodes = ap (map node_of) put ∙ map-set node_of cells.list.items n.0 c;
-    trail = ap (map change_of) pushed ∙ map-append change_of (writes_of trail) (Was n b ∷ [])
-  }
+  before = node_of b;
+  was = slice_get-map node_of cells.list.items n.0 ∙ ap (option_map node_of) at;
+  nodes = ap (map node_of) put ∙ map-set node_of cells.list.items n.0 c;
+  trail = ap (map change_of) pushed ∙ map-append change_of (writes_of trail) (Was n b ∷ []);
+}

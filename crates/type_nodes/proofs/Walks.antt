@@ -22,16 +22,23 @@ pub record Walked (nodes : List Node) (n at turn : ℕ) : Type 0 where
 
 pub walk_start : (nodes : List Node) (n : ℕ) → n < length nodes → IsSound nodes → Walked nodes n n 0
 walk_start nodes n lt (rank, ranked) = record {
-    rank = rank; ranked = ranked; inside = lt; room = let h = place_below rank (length nodes) n lt in omega arith; same = refl }
+  rank = rank;
+  ranked = ranked;
+  inside = lt;
+  room = let h = place_below rank (length nodes) n lt in omega arith;
+  same = refl;
+}
 
 -- one link further
 pub walk_on : (nodes : List Node) (n at turn m : ℕ) → slice_get nodes at ≡ Some (plain.Link m) → Walked nodes n at turn → Walked nodes n m (turn + 1)
 walk_on nodes n at turn m e w =
     let down = link_down nodes w.rank w.ranked at m e in
     record {
-      rank = w.rank; ranked = w.ranked; inside = down.0;
+      rank = w.rank;
+      ranked = w.ranked;
+      inside = down.0;
       room = let h = place_lower w.rank (length nodes) m at down.0 down.1 in let r = w.room in omega arith;
-      same = w.same ∙ root_link nodes (w.rank, w.ranked) at m w.inside e
+      same = w.same ∙ root_link nodes (w.rank, w.ranked) at m w.inside e;
     }
 
 -- where no link stands, the walk is at the root

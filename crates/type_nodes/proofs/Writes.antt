@@ -26,7 +26,7 @@ makes old new n c store is a =
       others = same;
       others_read = λ m lt.
           ap (slice_get new.nodes) (same m lt) ∙ ap (λ ns. slice_get ns (root old.nodes m)) a.nodes
-          ∙ get-append_left old.nodes (c ∷ []) (root old.nodes m) (root_inside old.nodes sound m lt)
+          ∙ get-append_left old.nodes (c ∷ []) (root old.nodes m) (root_inside old.nodes sound m lt);
     }
 
 pub makes_store : (old new : State) (n : ℕ) (c : Node) → IsStore old → All (λ m. m < length old.nodes) (parts c) → Added old new n c → IsStore new
@@ -37,7 +37,7 @@ pub relevels : (old new : State) (v level scope : ℕ) → IsStore old → IsVar
 relevels old new v level scope store var w =
     let r = root old.nodes v in
     let ends : (m : ℕ) → root new.nodes m ≡ root old.nodes m =
-        λ m. ap (λ ns. root ns m) w.nodes ∙ relevelled_root old.nodes r (Var var.level var.scope) (Var level scope) var.reads tt tt m in
+    λ m. ap (λ ns. root ns m) w.nodes ∙ relevelled_root old.nodes r (Var var.level var.scope) (Var level scope) var.reads tt tt m in
     record {
       written = w;
       ends = ends;
@@ -45,7 +45,7 @@ relevels old new v level scope store var w =
           ap (slice_get new.nodes) (ends m ∙ same) ∙ ap (λ ns. slice_get ns r) w.nodes ∙ get-set_same old.nodes r (Var var.level var.scope) (Var level scope) var.reads;
       others_read = λ m other.
           ap (slice_get new.nodes) (ends m) ∙ ap (λ ns. slice_get ns (root old.nodes m)) w.nodes
-          ∙ get-set_other old.nodes r (root old.nodes m) (Var level scope) other
+          ∙ get-set_other old.nodes r (root old.nodes m) (Var level scope) other;
     }
 
 pub relevels_store : (old new : State) (v level scope : ℕ) → IsStore old → Replaced old new (root old.nodes v) (Var level scope) → IsStore new
@@ -76,16 +76,16 @@ redirects old new a b store a_in b_in apart w =
     let s = root old.nodes b in
     let other : r ≢ s = apart_other old.nodes r s (apart_root old.nodes r b apart) in
     let there : (m : ℕ) → m < length old.nodes → root old.nodes m ≡ r → root new.nodes m ≡ s =
-        λ m lt same. elim (ends_after old new a b store a_in b_in apart w m lt) [ inl (p, q) ↦ ap (λ ns. root ns m) w.nodes ∙ q | inr (p, q) ↦ absurd (p same) ] in
+    λ m lt same. elim (ends_after old new a b store a_in b_in apart w m lt) [ inl (p, q) ↦ ap (λ ns. root ns m) w.nodes ∙ q | inr (p, q) ↦ absurd (p same) ] in
     let away : (m : ℕ) → m < length old.nodes → root old.nodes m ≢ r → root new.nodes m ≡ root old.nodes m =
-        λ m lt not. elim (ends_after old new a b store a_in b_in apart w m lt) [ inl (p, q) ↦ absurd (not p) | inr (p, q) ↦ ap (λ ns. root ns m) w.nodes ∙ q ] in
+    λ m lt not. elim (ends_after old new a b store a_in b_in apart w m lt) [ inl (p, q) ↦ absurd (not p) | inr (p, q) ↦ ap (λ ns. root ns m) w.nodes ∙ q ] in
     record {
       written = w;
       ends = there;
       reads = λ m lt same. ap (slice_get new.nodes) (there m lt same) ∙ ap (λ ns. slice_get ns s) w.nodes ∙ get-set_other old.nodes r s (Link s) (λ e. other (sym e));
       others = away;
       others_read = λ m lt not.
-          ap (slice_get new.nodes) (away m lt not) ∙ ap (λ ns. slice_get ns (root old.nodes m)) w.nodes ∙ get-set_other old.nodes r (root old.nodes m) (Link s) not
+          ap (slice_get new.nodes) (away m lt not) ∙ ap (λ ns. slice_get ns (root old.nodes m)) w.nodes ∙ get-set_other old.nodes r (root old.nodes m) (Link s) not;
     }
 
 pub redirects_store : (old new : State) (a b : ℕ) → IsStore old → b < length old.nodes → Apart old.nodes (root old.nodes a) b →
@@ -111,6 +111,7 @@ apart_leaf nodes v n c at none other = ((λ m. eqb m n), record { each = each },
     not_it : (b : Bool) → eqb v n ≡ b → eqb v n ≡ false
     not_it true e = absurd (other (eqb-true v n e))
     not_it false e = e
+
     each : (m : ℕ) (x : Node) → eqb m n ≡ true → slice_get nodes m ≡ Some x → All (λ k. eqb k n ≡ true) (parts x)
     each m x h e =
         let same : c ≡ x = one_element c x (slice_get nodes n) at (subst (λ k. slice_get nodes k ≡ Some x) (eqb-true m n h) e) in

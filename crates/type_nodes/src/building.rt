@@ -9,9 +9,7 @@ ghost use Rattle.type_nodes.specs.Views.{numbers};
 use crate::cells::Cell;
 use crate::store::Store;
 use std::alloc::Global;
-use type_terms::NoMemory;
-use type_terms::NodeRef;
-use type_terms::Origin;
+use type_terms::{NoMemory, NodeRef, Origin};
 
 fn copied(alloc: Global, nodes: &[NodeRef]) -> Result<Vec<NodeRef>, NoMemory>
     ensures { IfOk result (λ v. v.items ≡ nodes.now) }

@@ -6,11 +6,8 @@ ghost use Rattle.type_nodes.specs.Changes.{Added, Replaced};
 ghost use Rattle.type_nodes.specs.Views.{node_of, nodes_of, state_of};
 
 use std::mem;
-use type_terms::NoMemory;
-use type_terms::NodeRef;
-use type_terms::Origin;
-use undo_trail::Trail;
-use undo_trail::Undo;
+use type_terms::{NoMemory, NodeRef, Origin};
+use undo_trail::{Trail, Undo};
 
 /// What stands at a node. `Link` is another node's type; a rigid variable's number is the node's own.
 #[derive(Drop)]
@@ -86,7 +83,12 @@ pub fn make(cells: &mut Cells, trail: &mut Trail<Write>, cell: Cell) -> Result<N
 }
 
 /// Puts a cell in the place of another, which moves into the trail. After `NoMemory` nothing has changed.
-pub fn replace(cells: &mut Cells, trail: &mut Trail<Write>, n: NodeRef, cell: Cell) -> Result<(), NoMemory>
+pub fn replace(
+    cells: &mut Cells,
+    trail: &mut Trail<Write>,
+    n: NodeRef,
+    cell: Cell,
+) -> Result<(), NoMemory>
     requires { n.0 < length (nodes_of cells.old) }
     ensures done { OnOk result (Replaced (state_of cells.old trail.old) (state_of cells.new trail.new) n.0 (node_of cell)) }
     ensures failed { OnErr result (state_of cells.new trail.new ≡ state_of cells.old trail.old) }

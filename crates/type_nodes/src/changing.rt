@@ -5,12 +5,9 @@ ghost use Rattle.type_nodes.specs.Links.{root, IsFree, ReadsAsComposite};
 ghost use Rattle.type_nodes.specs.States.{Keeps};
 ghost use Rattle.type_nodes.specs.Changes.{Redirects, Relevels, Quantifies};
 
-use crate::cells::root_of;
-use crate::cells::scope_of;
-use crate::cells::BOUND;
+use crate::cells::{BOUND, root_of, scope_of};
 use crate::store::Store;
-use type_terms::NoMemory;
-use type_terms::NodeRef;
+use type_terms::{NoMemory, NodeRef};
 
 // After `NoMemory` the store is as before.
 impl Store {

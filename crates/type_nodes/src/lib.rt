@@ -8,14 +8,11 @@ mod building;
 mod cells;
 mod changing;
 mod store;
-mod view;
-
 #[cfg(test)]
 mod tests;
+mod view;
 
 pub use store::Store;
-pub use type_terms::NoMemory;
-pub use type_terms::NodeRef;
-pub use type_terms::Origin;
+pub use type_terms::{NoMemory, NodeRef, Origin};
 pub use undo_trail::Mark;
 pub use view::View;

@@ -6,19 +6,12 @@ ghost use Rattle.type_nodes.specs.States.{state, Restored, Keeps};
 ghost use Rattle.type_nodes.specs.Views.{node_of, nodes_of, Shows};
 ghost use Rattle.type_nodes.specs.Changes.{Makes, Redirects, Relevels};
 
-use crate::cells::make;
-use crate::cells::replace;
-use crate::cells::root_of;
-use crate::cells::Cell;
-use crate::cells::Cells;
-use crate::cells::Write;
+use crate::cells::{Cell, Cells, Write, make, replace, root_of};
 use crate::view::View;
 use std::alloc::Global;
 use std::marker::Model;
-use type_terms::NoMemory;
-use type_terms::NodeRef;
-use undo_trail::Mark;
-use undo_trail::Trail;
+use type_terms::{NoMemory, NodeRef};
+use undo_trail::{Mark, Trail};
 
 /// Type nodes, and what undoes each change of them.
 #[derive(Drop)]
@@ -44,7 +37,13 @@ impl Store {
     pub fn new(alloc: Global) -> Store
         ensures { result ≡ state [] [] }
     {
-        Store { alloc, cells: Cells { list: Vec::new(alloc) }, trail: Trail::new(alloc) }
+        Store {
+            alloc,
+            cells: Cells {
+                list: Vec::new(alloc),
+            },
+            trail: Trail::new(alloc),
+        }
     }
 
     /// A mark of the present state.
@@ -84,7 +83,12 @@ impl Store {
         ensures keeps { Keeps self.old self.new }
     {
         let var = root_of(&self.cells, var);
-        replace(&mut self.cells, &mut self.trail, var, Cell::Var { level, scope })
+        replace(
+            &mut self.cells,
+            &mut self.trail,
+            var,
+            Cell::Var { level, scope },
+        )
     }
 
     // Links root to root, so a way to a root grows only by links of that root itself.
@@ -116,7 +120,10 @@ fn view_of(cells: &Cells, n: NodeRef) -> View<'_>
     ensures { Shows result n.0 (slice_get (nodes_of cells.now) n.0) }
 {
     match &cells.list[n.0 as usize] {
-        Cell::Var { level, scope } => View::Var { level: *level, scope: *scope },
+        Cell::Var { level, scope } => View::Var {
+            level: *level,
+            scope: *scope,
+        },
         Cell::Rigid => View::Rigid(n.0),
         Cell::Arrow(from, to) => View::Arrow(*from, *to),
         Cell::Tuple(parts) => View::Tuple(parts),

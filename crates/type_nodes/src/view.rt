@@ -1,6 +1,5 @@
 //! What a node reads as.
-use type_terms::NodeRef;
-use type_terms::Origin;
+use type_terms::{NodeRef, Origin};
 
 /// A node as a reader sees it, behind all links.
 #[derive(Clone, Copy)]

@@ -17,7 +17,7 @@ returns-clause-done c =
     let read = slice_get_read c.args.cells.now.list.items (length c.args.cells.now.list.items) c.args.n.0 c.index_mut.result.now refl inside c.index_mut.ensures.value in
     let at : slice_get c.args.cells.now.list.items c.args.n.0 ≡ Some b = read ∙ ap (λ (x : Cell). Some x) (sym c.replace-before.ensures.value) in
     let put : set c.args.cells.now.list.items c.args.n.0 c.replace-before.new.dest ≡ set c.args.cells.now.list.items c.args.n.0 c.args.cell =
-        ap (set c.args.cells.now.list.items c.args.n.0) c.replace-before.ensures.after in
+    ap (set c.args.cells.now.list.items c.args.n.0) c.replace-before.ensures.after in
     let pushed : writes_of c.push.new.self ≡ writes_of c.args.trail.now ++ Was c.args.n b ∷ [] =
-        c.in-Ok.ensures.ok ∙ ap (λ ws. ws ++ Was c.args.n b ∷ []) c.reserve.ensures.same in
+    c.in-Ok.ensures.ok ∙ ap (λ ws. ws ++ Was c.args.n b ∷ []) c.reserve.ensures.same in
     replaced_view c.args.cells.now (set c.args.cells.now.list.items c.args.n.0 c.replace-before.new.dest) c.args.trail.now c.push.new.self c.args.n b c.args.cell at put pushed

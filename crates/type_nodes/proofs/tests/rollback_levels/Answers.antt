@@ -13,7 +13,7 @@ bind-requires-clause-apart g c =
     let a_first = made_inside c.new-store.result c.var.new.self c.in_ok-a.a.0 _ made_a.added in
     let a_second = still_inside c.var.new.self c.var-2.new.self c.in_ok-b.b.0 _ made_b.added c.in_ok-a.a.0 a_first in
     let a_root : root c.con.new.self.nodes c.in_ok-a.a.0 ≡ c.in_ok-a.a.0 =
-        made_int.others c.in_ok-a.a.0 a_second ∙ made_b.others c.in_ok-a.a.0 a_first ∙ made_a.own in
+    made_int.others c.in_ok-a.a.0 a_second ∙ made_b.others c.in_ok-a.a.0 a_first ∙ made_a.own in
     let last = made_int.added.number in
     let other : root c.con.new.self.nodes c.in_ok-a.a.0 ≢ c.in_ok-int.int.0 = λ e. omega arith in
     apart_leaf c.con.new.self.nodes (root c.con.new.self.nodes c.in_ok-a.a.0) c.in_ok-int.int.0 _
