@@ -4,11 +4,13 @@ use Rattle.std.specs.Prelude.{All, Result, Ok, Err, IfOk, OnOk, OnErr}
 use Rattle.text_terms.specs.declared.NoMemory.{NoMemory}
 use Rattle.type_terms.specs.declared.types.NodeRef.{NodeRef}
 use Rattle.type_nodes.specs.Nodes.{Node, Var, Link, IsNode, Apart, parts}
-use Rattle.type_nodes.specs.Links.{root, IsNoLink, IsVariable}
+use Rattle.type_nodes.specs.Links.{root, IsNoLink, IsVariable, ReadsAsComposite}
+use Rattle.type_nodes.specs.Readings.{ReadAlike, SameReadings}
 use Rattle.type_nodes.specs.States.{State, IsStore, Keeps}
 use Rattle.type_nodes.specs.Changes.{Added, Replaced, Makes, Redirects, Relevels}
-use Rattle.type_nodes.proofs.Trails.{added_keeps, replaced_keeps, keeps_same}
-use Rattle.type_nodes.proofs.Writes.{makes, makes_store, relevels, relevels_store, redirects, redirects_store}
+use Rattle.type_nodes.proofs.Trails.{sound_now, added_keeps, replaced_keeps, keeps_same}
+use Rattle.type_nodes.proofs.Writes.{makes, makes_store, relevels, relevels_store, redirects, redirects_store, redirected_is_sound}
+use Rattle.type_nodes.proofs.LinkedReadings.{same_readings, roots_alike}
 
 abbrev pub Made : Type 0
 Made = Result NodeRef NoMemory
@@ -60,3 +62,13 @@ pub redirected_roots : (r : Done) (old new : State) (a b r_a r_b : ℕ) → r_a 
     OnOk r (Replaced old new r_a (Link r_b)) → OnOk r (Replaced old new (root old.nodes a) (Link (root old.nodes b)))
 redirected_roots r old new a b r_a r_b e e' h =
     subst (λ k. OnOk r (Replaced old new k (Link (root old.nodes b)))) e (subst (λ k. OnOk r (Replaced old new r_a (Link k))) e' h)
+
+-- a link of a composite to a node that every reading gives its type leaves the readings
+pub redirected_readings : (r : Done) (old new : State) (a b : ℕ) → IsStore old → IsNode old.nodes b → Apart old.nodes (root old.nodes a) b →
+    OnOk r (Replaced old new (root old.nodes a) (Link (root old.nodes b))) →
+    OnOk r (ReadsAsComposite old.nodes a → ReadAlike old.nodes a b → SameReadings old.nodes new.nodes)
+redirected_readings (Ok u) old new a b store b_in apart ok = λ whole alike.
+    subst (SameReadings old.nodes) (sym ok.nodes)
+    (same_readings old.nodes (root old.nodes a) (root old.nodes b) whole.node (sound_now old store) (redirected_is_sound old new a b store b_in apart ok)
+    whole.reads whole.composite (roots_alike old.nodes a b alike))
+redirected_readings (Err e) old new a b store b_in apart ok = ok

@@ -7,3 +7,5 @@ pub mod Roots
 pub mod Writes
 pub mod Walks
 pub mod Answered
+pub mod Identity
+pub mod LinkedReadings

@@ -73,3 +73,10 @@ length-take_le (suc n) (x ∷ xs) h = ap suc (length-take_le n xs (omega arith))
 pub take_whole : {A : Type 0} (xs : List A) → take (length xs) xs ≡ xs
 take_whole [] = refl
 take_whole (x ∷ xs) = ap (λ l. x ∷ l) (take_whole xs)
+
+-- the beginning of a beginning
+pub take-take : {A : Type 0} (m n : ℕ) (xs : List A) → m ≤ n → take m (take n xs) ≡ take m xs
+take-take zero n xs h = refl
+take-take (suc m) zero xs h = absurd (omega arith)
+take-take (suc m) (suc n) [] h = refl
+take-take (suc m) (suc n) (x ∷ xs) h = ap (λ l. x ∷ l) (take-take m n xs (omega arith))

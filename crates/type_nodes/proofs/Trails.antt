@@ -7,7 +7,7 @@ use Rattle.undo_trail.proofs.Undone.{undone-push, undone_in_steps}
 use Rattle.type_nodes.specs.Nodes.{Node, IsSound}
 use Rattle.type_nodes.specs.States.{Change, Made, Was, State, state, undone, state_at, IsStore, Keeps, Restored}
 use Rattle.type_nodes.specs.Changes.{Added, Replaced}
-use Rattle.type_nodes.proofs.Lists.{set-set_back, drop_all, length-snoc, length-take_le, take_whole}
+use Rattle.type_nodes.proofs.Lists.{set-set_back, drop_all, length-snoc, length-take_le, take_whole, take-take}
 
 -- undoing the making of a node
 pub undone_added : (nodes : List Node) (c : Node) → undone Made (nodes ++ c ∷ []) ≡ nodes
@@ -109,3 +109,18 @@ empty_store = record { sound = λ mark h. at mark h }
     at : (mark : ℕ) → mark ≤ 0 → IsSound (all_undone undone (drop mark []) [])
     at zero h = ((λ n. 0), record { each = λ n c e. absurd (cc) })
     at (suc m) h = absurd (omega arith)
+
+-- rolling back to where a change began, which kept the states, gives the store before it
+pub restored_whole : (old mid new : State) → Keeps old mid → Restored mid new (length old.trail) → new ≡ old
+restored_whole old mid new keeps back =
+    let nodes : new.nodes ≡ old.nodes = back.nodes ∙ keeps.states (length old.trail) (omega arith) ∙ state_now old in
+    let trail : new.trail ≡ old.trail = back.trail ∙ keeps.before in
+    λ i. record { nodes = nodes i; trail = trail i }
+
+-- one change after another keeps the states
+pub keeps_trans : (a b c : State) → Keeps a b → Keeps b c → Keeps a c
+keeps_trans a b c p q = record {
+    longer = let x = p.longer in let y = q.longer in omega arith;
+    before = sym (take-take (length a.trail) (length b.trail) c.trail p.longer) ∙ ap (take (length a.trail)) q.before ∙ p.before;
+    states = λ m h. q.states m (let x = p.longer in omega arith) ∙ p.states m h
+  }

@@ -3,3 +3,4 @@ pub mod Links
 pub mod States
 pub mod Views
 pub mod Changes
+pub mod Readings

@@ -2,6 +2,7 @@
 ghost use Rattle.std.specs.Prelude.{◌≡◌, ◌<◌, OnOk, OnErr};
 ghost use Rattle.type_nodes.specs.Nodes.{IsNode, Apart, bound_level};
 ghost use Rattle.type_nodes.specs.Links.{root, IsFree, ReadsAsComposite};
+ghost use Rattle.type_nodes.specs.Readings.{ReadAlike, SameReadings};
 ghost use Rattle.type_nodes.specs.States.{Keeps};
 ghost use Rattle.type_nodes.specs.Changes.{Redirects, Relevels, Quantifies};
 
@@ -23,12 +24,13 @@ impl Store {
         self.redirect(var, to)
     }
 
-    /// From now on `from` reads as `to`.
+    /// From now on `from` reads as `to`. Where every reading gave both one type, the readings stay.
     pub fn link(&mut self, from: NodeRef, to: NodeRef) -> Result<(), NoMemory>
         requires from { ReadsAsComposite self.old.nodes from.0 }
         requires to { ReadsAsComposite self.old.nodes to.0 }
         requires apart { Apart self.old.nodes (root self.old.nodes from.0) to.0 }
         ensures done { OnOk result (Redirects self.old self.new from.0 to.0) }
+        ensures readings { OnOk result (ReadAlike self.old.nodes from.0 to.0 → SameReadings self.old.nodes self.new.nodes) }
         ensures failed { OnErr result (self.new ≡ self.old) }
         ensures keeps { Keeps self.old self.new }
     {

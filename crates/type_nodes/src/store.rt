@@ -1,7 +1,8 @@
 //! The store.
 ghost use Rattle.std.specs.Prelude.{◌≡◌, ◌≤◌, ◌<◌, [], length, slice_get, All, IfOk, OnOk, OnErr};
 ghost use Rattle.type_nodes.specs.Nodes.{Node, IsNode, Apart, parts};
-ghost use Rattle.type_nodes.specs.Links.{root, reading, IsNoLink, IsVariable};
+ghost use Rattle.type_nodes.specs.Links.{root, reading, IsNoLink, IsVariable, ReadsAsComposite};
+ghost use Rattle.type_nodes.specs.Readings.{ReadAlike, SameReadings};
 ghost use Rattle.type_nodes.specs.States.{state, Restored, Keeps};
 ghost use Rattle.type_nodes.specs.Views.{node_of, nodes_of, Shows};
 ghost use Rattle.type_nodes.specs.Changes.{Makes, Redirects, Relevels};
@@ -97,12 +98,28 @@ impl Store {
         requires to { IsNode self.old.nodes to.0 }
         requires apart { Apart self.old.nodes (root self.old.nodes from.0) to.0 }
         ensures done { OnOk result (Redirects self.old self.new from.0 to.0) }
+        ensures readings { OnOk result (ReadsAsComposite self.old.nodes from.0 → ReadAlike self.old.nodes from.0 to.0 → SameReadings self.old.nodes self.new.nodes) }
         ensures failed { OnErr result (self.new ≡ self.old) }
         ensures keeps { Keeps self.old self.new }
     {
         let from = root_of(&self.cells, from);
         let to = root_of(&self.cells, to);
         replace(&mut self.cells, &mut self.trail, from, Cell::Link(to))
+    }
+
+    /// How many nodes there are. Their numbers are those below.
+    pub fn len(&self) -> usize
+        ensures { result ≡ length self.now.nodes }
+    {
+        self.cells.list.len()
+    }
+
+    /// The node at the end of the links from `n`. Nodes that are linked to one variable have one root.
+    pub fn root(&self, n: NodeRef) -> NodeRef
+        requires { IsNode self.now.nodes n.0 }
+        ensures { result.0 ≡ root self.now.nodes n.0 }
+    {
+        root_of(&self.cells, n)
     }
 
     /// What the node reads as, behind all links.
