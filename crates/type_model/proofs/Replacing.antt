@@ -1,10 +1,10 @@
 -- Arguments of schemes and types in place of origins.
-use Rattle.std.proofs.Common.{◌≡◌, ℕ, ◌≤◌, false, ltb, length, List, [], ◌∷◌, map, refl, ap, arith, zero, suc}
+use Rattle.std.proofs.Common.{Option, None, ◌≡◌, ℕ, ◌≤◌, false, ltb, length, List, [], ◌∷◌, map, refl, ap, arith, zero, suc}
 use Rattle.std.specs.Prelude.{slice_get, unwrap_or}
-use Rattle.type_model.specs.Types.{Typ, Typs, Var, Arrow, Tuple, Con, Nil, Cons, types_of}
+use Rattle.type_model.specs.Types.{Path, Typ, Typs, Var, Arrow, Tuple, Con, Nil, Cons, types_of}
 use Rattle.type_model.specs.Substitutions.{apply, with_arguments}
 use Rattle.type_model.specs.Schemes.{HasInstance}
-use Rattle.type_model.specs.Origins.{Replacements, replaced, replaced_all, list_of}
+use Rattle.type_model.specs.Origins.{list_of, replaced_by, all_replaced_by}
 
 -- a variable behind the arguments is itself
 pub behind_arguments : (ts : List Typ) (v w : ℕ) → length ts ≤ v → unwrap_or (slice_get ts v) (Var w) ≡ Var w
@@ -28,19 +28,19 @@ pub list_of-types_of : (ts : List Typ) → list_of (types_of ts) ≡ ts
 list_of-types_of [] = refl
 list_of-types_of (t ∷ ts) = ap (λ l. t ∷ l) (list_of-types_of ts)
 
--- no replacements leave every type
+-- where nothing is found, every type stays
 mutual
-  pub replaced_by_none : (t : Typ) → replaced [] t ≡ t
-  replaced_by_none (Var v) = refl
-  replaced_by_none (Arrow a b) = let p = replaced_by_none a in let q = replaced_by_none b in cc
-  replaced_by_none (Tuple ts) = ap Tuple (all_replaced_by_none ts)
-  replaced_by_none (Con o ts) = ap (Con o) (all_replaced_by_none ts)
+  pub replaced_by_nothing : (t : Typ) → replaced_by (λ o. None) t ≡ t
+  replaced_by_nothing (Var v) = refl
+  replaced_by_nothing (Arrow a b) = let p = replaced_by_nothing a in let q = replaced_by_nothing b in cc
+  replaced_by_nothing (Tuple ts) = ap Tuple (all_replaced_by_nothing ts)
+  replaced_by_nothing (Con o ts) = ap (Con o) (all_replaced_by_nothing ts)
 
-  pub all_replaced_by_none : (ts : Typs) → replaced_all [] ts ≡ ts
-  all_replaced_by_none Nil = refl
-  all_replaced_by_none (Cons t ts) = let p = replaced_by_none t in let q = all_replaced_by_none ts in cc
+  pub all_replaced_by_nothing : (ts : Typs) → all_replaced_by (λ o. None) ts ≡ ts
+  all_replaced_by_nothing Nil = refl
+  all_replaced_by_nothing (Cons t ts) = let p = replaced_by_nothing t in let q = all_replaced_by_nothing ts in cc
 
 -- the replacements in a list of types are those in each
-pub replaced_all-types_of : (m : Replacements) (ts : List Typ) → replaced_all m (types_of ts) ≡ types_of (map (replaced m) ts)
-replaced_all-types_of m [] = refl
-replaced_all-types_of m (t ∷ ts) = ap (Cons (replaced m t)) (replaced_all-types_of m ts)
+pub all_replaced_by-types_of : (find : Path → Option Typ) (ts : List Typ) → all_replaced_by find (types_of ts) ≡ types_of (map (replaced_by find) ts)
+all_replaced_by-types_of find [] = refl
+all_replaced_by-types_of find (t ∷ ts) = ap (Cons (replaced_by find t)) (all_replaced_by-types_of find ts)

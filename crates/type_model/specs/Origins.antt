@@ -1,5 +1,5 @@
 -- Origins: when a type constructor was made, and types in place of constructors.
-use Rattle.std.specs.Prelude.{ℕ, ◌^◌, Bool, true, false, ◌&&◌, ◌||◌, ◌==◌, nat_le, nat_lt, List, [], ◌∷◌, Option, Some, None, if◌then◌else◌}
+use Rattle.std.specs.Prelude.{ℕ, ◌^◌, Bool, true, ◌&&◌, ◌||◌, nat_le, nat_lt, List, [], ◌∷◌, Option, Some, None, if◌then◌else◌}
 use Rattle.std.specs.Str.{bytes_eq}
 use Rattle.type_model.specs.Types.{Path, Typ, Typs, Var, Arrow, Tuple, Con, Nil, Cons}
 use Rattle.type_model.specs.Substitutions.{apply, with_arguments}
@@ -39,14 +39,18 @@ abbrev pub put_for : Path → Option Typ → Typs → Typ
 put_for o None ts = Con o ts
 put_for o (Some body) ts = apply (with_arguments (list_of ts)) body
 
--- a type with the replacements in place of their origins; what they put in isn't looked through again
+-- a type with what `find` has in place of the constructors; what it puts in isn't looked through again
 abbrev mutual
-  pub replaced : Replacements → Typ → Typ
-  replaced m (Var v) = Var v
-  replaced m (Arrow a b) = Arrow (replaced m a) (replaced m b)
-  replaced m (Tuple ts) = Tuple (replaced_all m ts)
-  replaced m (Con o ts) = put_for o (replacement_for o m) (replaced_all m ts)
+  pub replaced_by : (Path → Option Typ) → Typ → Typ
+  replaced_by find (Var v) = Var v
+  replaced_by find (Arrow a b) = Arrow (replaced_by find a) (replaced_by find b)
+  replaced_by find (Tuple ts) = Tuple (all_replaced_by find ts)
+  replaced_by find (Con o ts) = put_for o (find o) (all_replaced_by find ts)
 
-  pub replaced_all : Replacements → Typs → Typs
-  replaced_all m Nil = Nil
-  replaced_all m (Cons t ts) = Cons (replaced m t) (replaced_all m ts)
+  pub all_replaced_by : (Path → Option Typ) → Typs → Typs
+  all_replaced_by find Nil = Nil
+  all_replaced_by find (Cons t ts) = Cons (replaced_by find t) (all_replaced_by find ts)
+
+-- a type with the replacements in place of their origins
+abbrev pub replaced : Replacements → Typ → Typ
+replaced m = replaced_by (λ o. replacement_for o m)

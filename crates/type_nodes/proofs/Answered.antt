@@ -1,5 +1,5 @@
 -- What a call's answer says of the store after it, whatever the answer is.
-use Rattle.std.proofs.Common.{◌≡◌, ◌<◌, ℕ, length, sym, subst}
+use Rattle.std.proofs.Common.{◌≡◌, ℕ, sym, subst}
 use Rattle.std.specs.Prelude.{All, Result, Ok, Err, IfOk, OnOk, OnErr}
 use Rattle.text_terms.specs.declared.NoMemory.{NoMemory}
 use Rattle.type_terms.specs.declared.types.NodeRef.{NodeRef}

@@ -1,14 +1,13 @@
 -- Sound nodes have a most general reading, in which each variable is itself, and what fits comes from it by one substitution.
-use Rattle.std.proofs.Common.{◌≡◌, ◌≢◌, ℕ, zero, suc, ◌+◌, ◌<◌, ◌≤◌, Bool, true, false, eqb, List, [], ◌∷◌, length, map, set, get_or, Option, Some, None, refl, sym, ◌∙◌, ap, subst, arith, ◌⊎◌, inl, inr}
+use Rattle.std.proofs.Common.{◌≡◌, ◌≢◌, ℕ, zero, suc, ◌<◌, Bool, true, false, eqb, List, [], ◌∷◌, map, get_or, Option, Some, None, refl, sym, ◌∙◌, ap, subst, arith}
 use Rattle.std.specs.Prelude.{slice_get, All}
 use Rattle.std.proofs.lemmas.Bool.{eqb-true}
-use Rattle.type_model.specs.Types.{Typ, Typs, Nil, Cons, types_of, occurs}
+use Rattle.type_model.specs.Types.{Typ, Cons, types_of, occurs}
 use Rattle.type_model.specs.Types.{Typ as type}
-use Rattle.type_model.specs.Substitutions.{Subst, apply, apply_all}
+use Rattle.type_model.specs.Substitutions.{apply, apply_all}
 use Rattle.type_model.specs.Origins.{rigid}
 use Rattle.type_model.specs.Limits.{IsInScope}
-use Rattle.type_model.proofs.Applying.{apply_all-types_of}
-use Rattle.type_nodes.specs.Nodes.{Node, Var, Rigid, Link, Arrow, Tuple, Con, parts, bound_level, IsRanked, IsSound}
+use Rattle.type_nodes.specs.Nodes.{Node, Var, Rigid, Link, Arrow, Tuple, Con, parts, bound_level, IsRanked}
 use Rattle.type_nodes.specs.Readings.{Types, FitsNode, Fits, IsReading}
 use Rattle.type_nodes.proofs.Lists.{one_element}
 use Rattle.type_nodes.proofs.Roots.{of_link}
@@ -57,8 +56,8 @@ read_same nodes rank ranked (suc k) zero n h h' = absurd (omega arith)
 read_same nodes rank ranked (suc k) (suc k') n h h' =
     built_option_same (read_in k nodes) (read_in k' nodes) n (slice_get nodes n)
     (λ c e j d lt.
-      let down = ranked.each n c e j d lt in let low = down.1 in
-      read_same nodes rank ranked k k' (get_or (parts c) j d) (omega arith) (omega arith))
+    let down = ranked.each n c e j d lt in let low = down.1 in
+    read_same nodes rank ranked k k' (get_or (parts c) j d) (omega arith) (omega arith))
 
 -- the most general reading
 abbrev pub identity : (ℕ → ℕ) → List Node → Types
@@ -70,8 +69,8 @@ pub identity_built : (nodes : List Node) (rank : ℕ → ℕ) → IsRanked nodes
 identity_built nodes rank ranked n c e =
     ap (built_from (read_in (rank n) nodes) n) e
     ∙ built_same (read_in (rank n) nodes) (identity rank nodes) n c
-      (λ j d lt. let down = ranked.each n c e j d lt in let low = down.1 in
-        read_same nodes rank ranked (rank n) (suc (rank (get_or (parts c) j d))) (get_or (parts c) j d) low (omega arith))
+    (λ j d lt. let down = ranked.each n c e j d lt in let low = down.1 in
+    read_same nodes rank ranked (rank n) (suc (rank (get_or (parts c) j d))) (get_or (parts c) j d) low (omega arith))
 
 pub identity_fits : (nodes : List Node) (rank : ℕ → ℕ) → IsRanked nodes rank → Fits nodes (identity rank nodes)
 identity_fits nodes rank ranked = record { each = λ n c e. at n c (identity_built nodes rank ranked n c e) }
@@ -90,12 +89,12 @@ level_same level scope scope' e = cc
 -- it is a reading
 pub identity_reads : (nodes : List Node) (rank : ℕ → ℕ) → IsRanked nodes rank → IsReading nodes (identity rank nodes)
 identity_reads nodes rank ranked = record {
-    fits = identity_fits nodes rank ranked;
-    own = λ n scope e. identity_built nodes rank ranked n (Var bound_level scope) e;
-    apart = λ n level scope b scope' e free e'.
-        let v : identity rank nodes n ≡ type.Var n = identity_built nodes rank ranked n (Var level scope) e in
-        ap (occurs b) v ∙ other n level scope b scope' e free e' (eqb b n) refl
-  }
+  fits = identity_fits nodes rank ranked;
+  own = λ n scope e. identity_built nodes rank ranked n (Var bound_level scope) e;
+  apart = λ n level scope b scope' e free e'.
+      let v : identity rank nodes n ≡ type.Var n = identity_built nodes rank ranked n (Var level scope) e in
+      ap (occurs b) v ∙ other n level scope b scope' e free e' (eqb b n) refl;
+}
   where
     other : (n level scope b scope' : ℕ) → slice_get nodes n ≡ Some (Var level scope) → level ≢ bound_level → slice_get nodes b ≡ Some (Var bound_level scope') →
         (t : Bool) → eqb b n ≡ t → eqb b n ≡ false

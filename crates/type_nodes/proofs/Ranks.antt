@@ -1,10 +1,10 @@
 -- Sound nodes stay sound by each write.
-use Rattle.std.proofs.Common.{◌≡◌, ◌≢◌, ℕ, zero, suc, ◌+◌, ◌-◌, ◌<◌, ◌≤◌, Bool, true, false, cond, ltb, List, [], ◌∷◌, ◌++◌, length, set, get_or, Option, Some, None, refl, sym, ◌∙◌, ap, subst, arith, ◌⊎◌, inl, inr}
+use Rattle.std.proofs.Common.{◌≡◌, ℕ, zero, suc, ◌+◌, ◌<◌, ◌≤◌, Bool, true, false, cond, ltb, List, [], ◌∷◌, ◌++◌, length, set, get_or, Some, refl, sym, ◌∙◌, ap, subst, arith, inl, inr}
 use Rattle.std.specs.Prelude.{slice_get, All}
 use Rattle.std.proofs.lemmas.Bool.{lt-ltb, le-ltb}
 use Rattle.std.proofs.lemmas.List.{length-set}
 use Rattle.std.proofs.lemmas.Option.{slice_get_within}
-use Rattle.type_nodes.specs.Nodes.{Node, Var, Link, parts, IsRanked, IsSound, IsClosed, Apart}
+use Rattle.type_nodes.specs.Nodes.{Node, Var, Link, parts, IsRanked, IsSound, Apart}
 use Rattle.type_nodes.proofs.Lists.{same_or_other, one_element, get-set_same, get-set_other, get-append_cases, length-snoc}
 
 -- more than the ranks of some nodes

@@ -1,10 +1,9 @@
 -- Where links end: every way of links does, and what each write changes of it.
-use Rattle.std.proofs.Common.{◌≡◌, ◌≢◌, ℕ, zero, suc, ◌+◌, ◌-◌, ◌<◌, ◌≤◌, Bool, true, false, List, [], ◌∷◌, ◌++◌, length, set, get_or, Option, Some, None, refl, sym, ◌∙◌, ap, subst, arith, ◌⊎◌, inl, inr}
+use Rattle.std.proofs.Common.{◌≡◌, ◌≢◌, ℕ, zero, suc, ◌<◌, ◌≤◌, Bool, true, List, [], ◌∷◌, ◌++◌, length, set, Option, Some, None, refl, sym, ◌∙◌, ap, subst, arith, ◌⊎◌, inl, inr}
 use Rattle.std.specs.Prelude.{slice_get, All}
 use Rattle.std.proofs.lemmas.List.{length-set}
-use Rattle.std.proofs.lemmas.Option.{slice_get_within}
-use Rattle.type_nodes.specs.Nodes.{Node, Var, Rigid, Link, Arrow, Tuple, Con, parts, IsRanked, IsSound, IsClosed, Apart}
-use Rattle.type_nodes.specs.Links.{linked_from, next, follow, root, reading, IsNoLink}
+use Rattle.type_nodes.specs.Nodes.{Node, Var, Rigid, Link, Arrow, Tuple, Con, IsRanked, IsSound, IsClosed, Apart}
+use Rattle.type_nodes.specs.Links.{linked_from, next, follow, root, IsNoLink}
 use Rattle.type_nodes.proofs.Lists.{same_or_other, get-set_same, get-set_other, get-append_left, get-append_last, length-snoc}
 use Rattle.type_nodes.proofs.Places.{place, place_below, place_lower}
 

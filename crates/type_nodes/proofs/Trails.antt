@@ -1,5 +1,5 @@
 -- The trail of a store: what one more write keeps, and what rolling back brings back.
-use Rattle.std.proofs.Common.{◌≡◌, ◌≢◌, ℕ, zero, suc, ◌+◌, ◌-◌, ◌<◌, ◌≤◌, List, [], ◌∷◌, ◌++◌, length, take, drop, map, set, Some, refl, sym, ◌∙◌, ap, subst, arith, ◌⊎◌, inl, inr}
+use Rattle.std.proofs.Common.{◌≡◌, ℕ, zero, suc, ◌-◌, ◌≤◌, List, [], ◌∷◌, ◌++◌, length, take, drop, map, set, Some, refl, sym, ◌∙◌, ap, subst, arith, ◌⊎◌, inl, inr}
 use Rattle.std.specs.Prelude.{slice_get}
 use Rattle.std.proofs.Math.Seq.{take-append_seam}
 use Rattle.undo_trail.specs.Undoing.{all_undone}
@@ -120,7 +120,7 @@ restored_whole old mid new keeps back =
 -- one change after another keeps the states
 pub keeps_trans : (a b c : State) → Keeps a b → Keeps b c → Keeps a c
 keeps_trans a b c p q = record {
-    longer = let x = p.longer in let y = q.longer in omega arith;
-    before = sym (take-take (length a.trail) (length b.trail) c.trail p.longer) ∙ ap (take (length a.trail)) q.before ∙ p.before;
-    states = λ m h. q.states m (let x = p.longer in omega arith) ∙ p.states m h
-  }
+  longer = let x = p.longer in let y = q.longer in omega arith;
+  before = sym (take-take (length a.trail) (length b.trail) c.trail p.longer) ∙ ap (take (length a.trail)) q.before ∙ p.before;
+  states = λ m h. q.states m (let x = p.longer in omega arith) ∙ p.states m h;
+}

@@ -1,16 +1,15 @@
 -- What one write does to a store, told by the nodes that read otherwise.
-use Rattle.std.proofs.Common.{◌≡◌, ◌≢◌, ℕ, zero, suc, ◌+◌, ◌<◌, ◌≤◌, Bool, true, false, eqb, List, [], ◌∷◌, ◌++◌, length, set, Option, Some, None, refl, sym, ◌∙◌, ap, subst, arith, ◌⊎◌, inl, inr}
+use Rattle.std.proofs.Common.{◌≡◌, ◌≢◌, ℕ, ◌<◌, Bool, true, false, eqb, List, [], ◌∷◌, ◌++◌, length, set, Some, refl, sym, ◌∙◌, ap, subst, arith, inl, inr}
 use Rattle.std.proofs.lemmas.Bool.{eq-eqb, eqb-true}
 use Rattle.std.specs.Prelude.{slice_get, All}
-use Rattle.std.proofs.lemmas.List.{length-set}
 use Rattle.type_nodes.specs.Nodes.{Node, Var, Link, parts, IsSound, Apart}
-use Rattle.type_nodes.specs.Links.{next, root, reading, IsNoLink, IsFree, IsVariable}
+use Rattle.type_nodes.specs.Links.{root, reading, IsNoLink, IsFree, IsVariable}
 use Rattle.type_nodes.specs.States.{State, IsStore}
 use Rattle.type_nodes.specs.Changes.{Added, Replaced, Makes, Redirects, Relevels}
-use Rattle.type_nodes.proofs.Lists.{same_or_other, get-set_same, get-set_other, get-append_left, get-append_last, one_element, length-snoc}
+use Rattle.type_nodes.proofs.Lists.{get-set_same, get-set_other, get-append_left, get-append_last, one_element, length-snoc}
 use Rattle.type_nodes.proofs.Trails.{sound_now, added_store, replaced_store}
 use Rattle.type_nodes.proofs.Ranks.{added_sound, relevelled_sound, redirected_sound}
-use Rattle.type_nodes.proofs.Roots.{root_settled, root_inside, root_here, root_no_link, closed_root, apart_root, apart_other, relevelled_root, added_root, added_own, EndsAfter, redirected_root}
+use Rattle.type_nodes.proofs.Roots.{root_settled, root_inside, apart_root, apart_other, relevelled_root, added_root, added_own, EndsAfter, redirected_root}
 
 -- a node that was made reads as itself, and the others as before
 pub makes : (old new : State) (n : ℕ) (c : Node) → IsStore old → IsNoLink c → Added old new n c → Makes old new n c

@@ -1,5 +1,5 @@
 -- What each call does to a store.
-use Rattle.std.specs.Prelude.{◌≡◌, ◌≢◌, ℕ, ◌<◌, List, [], ◌∷◌, ◌++◌, length, slice_get, slice_set, Some}
+use Rattle.std.specs.Prelude.{◌≡◌, ◌≢◌, ℕ, ◌<◌, [], ◌∷◌, ◌++◌, length, slice_get, slice_set, Some}
 use Rattle.type_nodes.specs.Nodes.{Node, Var, Link, bound_level}
 use Rattle.type_nodes.specs.Links.{root, reading}
 use Rattle.type_nodes.specs.States.{State, Made, Was}

@@ -1,6 +1,5 @@
 -- Following links: what a node reads as.
 use Rattle.std.specs.Prelude.{◌≡◌, ◌≢◌, ℕ, zero, suc, ◌<◌, List, length, slice_get, Option, Some, None}
-use Rattle.type_model.specs.Types.{Path}
 use Rattle.type_nodes.specs.Nodes.{Node, Var, Rigid, Link, Arrow, Tuple, Con, bound_level}
 
 -- where a node leads by one link; any other node stays

@@ -1,5 +1,5 @@
 -- Type nodes that share and link, as plain lists, and when no node stands in itself.
-use Rattle.std.specs.Prelude.{◌≡◌, ℕ, ◌<◌, ◌^◌, ◌-◌, Bool, true, false, List, [], ◌∷◌, All, length, slice_get, Option, Some, None}
+use Rattle.std.specs.Prelude.{◌≡◌, ℕ, ◌<◌, ◌^◌, ◌-◌, Bool, true, false, List, [], ◌∷◌, All, length, slice_get, Some}
 use Rattle.type_model.specs.Types.{Path}
 
 -- A node names its parts by their numbers.

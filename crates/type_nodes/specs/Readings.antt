@@ -1,5 +1,5 @@
 -- Readings: the types that the nodes of a store may have.
-use Rattle.std.specs.Prelude.{◌≡◌, ◌≢◌, ℕ, Bool, false, List, map, slice_get, Some}
+use Rattle.std.specs.Prelude.{◌≡◌, ◌≢◌, ℕ, false, List, map, slice_get, Some}
 use Rattle.type_model.specs.Types.{Typ, types_of, occurs}
 use Rattle.type_model.specs.Types.{Typ as type}
 use Rattle.type_model.specs.Origins.{rigid}

@@ -1,5 +1,5 @@
 -- The store: its nodes and its trail, and the states that the trail leads back to.
-use Rattle.std.specs.Prelude.{◌≡◌, ℕ, ◌-◌, ◌≤◌, List, [], ◌∷◌, length, take, drop, slice_set}
+use Rattle.std.specs.Prelude.{◌≡◌, ℕ, ◌-◌, ◌≤◌, List, length, take, drop, slice_set}
 use Rattle.undo_trail.specs.Undoing.{all_undone}
 use Rattle.type_nodes.specs.Nodes.{Node, IsSound}
 

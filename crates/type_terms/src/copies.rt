@@ -1,7 +1,7 @@
 //! Copies of types.
 ghost use Rattle.std.specs.Prelude.{◌≡◌, IfOk, map};
 ghost use Rattle.text_terms.specs.Bytes.{str_bytes};
-ghost use Rattle.type_terms.specs.Views.{type_of};
+ghost use Rattle.type_terms.specs.Views.{type_of, spelled};
 
 use crate::types::{Origin, Ty};
 use std::alloc::Global;
@@ -33,7 +33,8 @@ pub fn boxed(alloc: Global, ty: Ty) -> Result<Box<Ty>, NoMemory>
 /// The same type once more.
 #[cycle(copying)]
 pub fn copy_of(alloc: Global, ty: &Ty) -> Result<Ty, NoMemory>
-    ensures { IfOk result (λ t. type_of t ≡ type_of ty.now) }
+    ensures meaning { IfOk result (λ t. type_of t ≡ type_of ty.now) }
+    ensures names { IfOk result (λ t. spelled t ≡ spelled ty.now) }
 {
     match ty {
         Ty::Var(v) => Ok(Ty::Var(*v)),
@@ -49,7 +50,8 @@ pub fn copy_of(alloc: Global, ty: &Ty) -> Result<Ty, NoMemory>
 
 #[cycle(copying)]
 fn copies_of(alloc: Global, types: &[Ty]) -> Result<Vec<Ty>, NoMemory>
-    ensures { IfOk result (λ ts. map type_of ts.items ≡ map type_of types.now) }
+    ensures meaning { IfOk result (λ ts. map type_of ts.items ≡ map type_of types.now) }
+    ensures names { IfOk result (λ ts. map spelled ts.items ≡ map spelled types.now) }
 {
     let mut copies = Vec::new(alloc);
     for ty in types {

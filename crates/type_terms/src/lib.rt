@@ -1,6 +1,6 @@
 //! Types as the code keeps them: finite trees with variables by number and constructors by origin.
 //! It stands on the definitions of `type_model` and the words of `text_terms`.
-//! Above, a contract sees a type as the plain type that it means (`type_of`), and its origins' names by `has_names`.
+//! Above, a contract sees a type as the plain type that it means (`type_of`), and as that with the names of its origins (`spelled`).
 #![tactic(auto)]
 
 mod copies;

@@ -1,5 +1,5 @@
 -- A trail as the list of its writes.
-use Rattle.std.specs.Prelude.{ℕ, ◌<◌, List, length, vec_capacity}
+use Rattle.std.specs.Prelude.{◌<◌, List, length, vec_capacity}
 use Rattle.undo_trail.specs.declared.Trail.{Trail}
 
 -- the writes, oldest first

@@ -1,5 +1,5 @@
 -- What undoing the writes of a trail gives.
-use Rattle.std.specs.Prelude.{◌≡◌, ℕ, List, [], ◌∷◌, ◌++◌}
+use Rattle.std.specs.Prelude.{◌≡◌, List, [], ◌∷◌, ◌++◌}
 
 -- the cells after undoing all writes of a list, the last one first
 abbrev pub all_undone : {W : Type 0} → {C : Type 0} → (W → C → C) → List W → C → C

@@ -1,10 +1,9 @@
-use Rattle.std.proofs.Common.{rules, ◌≡◌, ◌∙◌, ◌++◌, ◌∷◌, [], Some, sym, ap, length, set, map, arith, refl, ◌<◌, subst}
+use Rattle.std.proofs.Common.{◌≡◌, ◌∙◌, ◌++◌, ◌∷◌, [], Some, sym, ap, length, set, refl, ◌<◌, subst}
 use Rattle.std.specs.Prelude.{slice_get}
 use Rattle.std.proofs.lemmas.List.{length-map}
 use Rattle.std.proofs.lemmas.Option.{slice_get_read}
 use Rattle.undo_trail.specs.Trails.{writes_of}
 use Rattle.type_nodes.specs.declared.cells.Cell.{Cell}
-use Rattle.type_nodes.specs.declared.cells.Write.{Write}
 use Rattle.type_nodes.specs.declared.cells.Write.TheVariants.{Was}
 use Rattle.type_nodes.specs.Views.{node_of}
 use Rattle.type_nodes.proofs.Undo.{replaced_view}

@@ -1,7 +1,5 @@
-use Rattle.std.proofs.Common.{rules, ◌≡◌, ◌<◌, ◌∙◌, ap, Some, length, map, arith}
-use Rattle.std.specs.Prelude.{slice_get, vec_len}
+use Rattle.std.proofs.Common.{◌<◌, ◌∙◌, ap, Some, length, arith}
 use Rattle.std.proofs.lemmas.List.{length-map}
-use Rattle.type_nodes.specs.Nodes.{Node as plain}
 use Rattle.type_nodes.specs.Views.{node_of, nodes_of}
 use Rattle.type_nodes.proofs.Walks.{walk_start, walk_on, walk_end, cell_inside, read_at, not_link}
 use Rattle.type_nodes.proofs.cells.root_of.Goals as goal

@@ -1,4 +1,4 @@
-use Rattle.std.proofs.Common.{◌≡◌, ◌∙◌, ap, Some, refl, sym, subst}
+use Rattle.std.proofs.Common.{◌∙◌, ap, Some, refl, sym, subst}
 use Rattle.text_terms.specs.Bytes.{str_bytes}
 use Rattle.type_nodes.specs.Nodes.{Node as plain}
 use Rattle.type_nodes.specs.Links.{IsNoLink}

@@ -1,4 +1,4 @@
-use Rattle.std.proofs.Common.{rules, ◌≡◌, ◌≢◌, length, map, sym, ◌∙◌, arith}
+use Rattle.std.proofs.Common.{◌≢◌, length, map, sym, ◌∙◌}
 use Rattle.std.proofs.lemmas.List.{length-map}
 use Rattle.type_terms.specs.Views.{type_of}
 use Rattle.type_terms.proofs.Comparing.{other_lengths}

@@ -1,4 +1,3 @@
-use Rattle.std.proofs.Common.{◌∙◌, sym}
 use Rattle.type_terms.specs.Views.{type_of}
 use Rattle.type_terms.proofs.Comparing.{told}
 use Rattle.type_terms.proofs.sameness.same_type.Goals as goal

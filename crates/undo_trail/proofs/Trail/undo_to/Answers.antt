@@ -1,4 +1,4 @@
-use Rattle.std.proofs.Common.{◌≡◌, ◌<◌, ◌∙◌, length, arith}
+use Rattle.std.proofs.Common.{◌<◌, ◌∙◌, length, arith}
 use Rattle.undo_trail.proofs.Undone.{UndoneTo, undo_one}
 use Rattle.undo_trail.proofs.Trail.undo_to.Goals as goal
 

@@ -1,4 +1,4 @@
-use Rattle.std.proofs.Common.{rules, ◌≡◌, map, sym, ◌∙◌, ap}
+use Rattle.std.proofs.Common.{sym, ◌∙◌, ap}
 use Rattle.std.proofs.lemmas.List.{map-set}
 use Rattle.type_nodes.specs.Views.{node_of, nodes_of, change_of}
 use Rattle.type_nodes.specs.States.{undone}

@@ -1,7 +1,7 @@
-use Rattle.std.proofs.Common.{◌≡◌, sym, subst}
+use Rattle.std.proofs.Common.{sym, subst}
 use Rattle.std.specs.Prelude.{All, IfOk}
 use Rattle.type_nodes.specs.Nodes.{IsNode, parts}
-use Rattle.type_nodes.specs.States.{State, Keeps}
+use Rattle.type_nodes.specs.States.{Keeps}
 use Rattle.type_nodes.specs.Changes.{Makes}
 use Rattle.type_nodes.specs.Views.{node_of, state_of}
 use Rattle.type_nodes.proofs.Answered.{made_store, made_makes, made_keeps}

@@ -1,5 +1,5 @@
-use Rattle.std.proofs.Common.{rules, ◌≡◌, List, [], map, sym, ap, subst}
-use Rattle.type_nodes.specs.States.{State, state, IsStore}
+use Rattle.std.proofs.Common.{map, sym, subst}
+use Rattle.type_nodes.specs.States.{state, IsStore}
 use Rattle.type_nodes.specs.Views.{node_of, change_of}
 use Rattle.type_nodes.proofs.Trails.{empty_store}
 use Rattle.type_nodes.proofs.store.Store.new.Goals as goal

@@ -1,4 +1,4 @@
-use Rattle.std.proofs.Common.{◌≡◌, ◌<◌, ◌∙◌, Some, length, sym, ap, subst}
+use Rattle.std.proofs.Common.{◌<◌, ◌∙◌, length, sym, ap, subst}
 use Rattle.std.specs.Prelude.{slice_get}
 use Rattle.type_nodes.specs.Nodes.{IsNode}
 use Rattle.type_nodes.specs.States.{State}

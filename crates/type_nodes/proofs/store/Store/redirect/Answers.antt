@@ -1,11 +1,11 @@
-use Rattle.std.proofs.Common.{◌≡◌, ◌<◌, ◌∙◌, length, sym, subst}
+use Rattle.std.proofs.Common.{◌<◌, length, sym, subst}
 use Rattle.std.specs.Prelude.{OnOk}
 use Rattle.type_nodes.specs.Nodes.{Link, IsNode, Apart}
 use Rattle.type_nodes.specs.Links.{root, ReadsAsComposite}
 use Rattle.type_nodes.specs.Readings.{ReadAlike, SameReadings}
 use Rattle.type_nodes.specs.States.{State, Keeps}
-use Rattle.type_nodes.specs.Changes.{Replaced, Redirects}
-use Rattle.type_nodes.specs.Views.{state_of, nodes_of}
+use Rattle.type_nodes.specs.Changes.{Redirects}
+use Rattle.type_nodes.specs.Views.{state_of}
 use Rattle.type_nodes.proofs.Trails.{sound_now}
 use Rattle.type_nodes.proofs.Roots.{root_inside}
 use Rattle.type_nodes.proofs.Answered.{redirected_store, redirected, done_keeps, redirected_roots, redirected_readings}

@@ -1,7 +1,7 @@
-use Rattle.std.proofs.Common.{◌≡◌, sym, subst}
+use Rattle.std.proofs.Common.{sym, subst}
 use Rattle.std.specs.Prelude.{OnOk}
 use Rattle.type_nodes.specs.Nodes.{Var}
-use Rattle.type_nodes.specs.Links.{root, IsVariable}
+use Rattle.type_nodes.specs.Links.{IsVariable}
 use Rattle.type_nodes.specs.States.{State, Keeps}
 use Rattle.type_nodes.specs.Changes.{Replaced, Relevels}
 use Rattle.type_nodes.specs.Views.{state_of}

@@ -1,4 +1,4 @@
-use Rattle.std.proofs.Common.{◌≡◌, ◌≤◌, length, take, drop, map, sym, ◌∙◌, ap, subst}
+use Rattle.std.proofs.Common.{◌≤◌, length, sym, subst}
 use Rattle.type_nodes.specs.States.{State, Restored}
 use Rattle.type_nodes.specs.Views.{state_of}
 use Rattle.type_nodes.proofs.Trails.{restored_store}
