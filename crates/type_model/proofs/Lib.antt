@@ -1,0 +1,4 @@
+pub mod Applying
+pub mod Generalising
+pub mod Limiting
+pub mod Replacing

@@ -1,0 +1,5 @@
+pub mod Types
+pub mod Substitutions
+pub mod Schemes
+pub mod Origins
+pub mod Limits

@@ -1,0 +1,6 @@
+pub mod Nodes
+pub mod Links
+pub mod States
+pub mod Views
+pub mod Changes
+pub mod Readings

@@ -1,0 +1,133 @@
+//! A trail: the writes to some cells, so that they can be undone, newest first.
+//! It keeps the writes alone and stands on nothing of the repository.
+//! Above, a contract sees a trail as the list of its writes (`writes_of`), and what undoing gives as `all_undone`.
+#![tactic(auto)]
+
+ghost use Rattle.std.specs.Prelude.{◌≡◌, ◌+◌, ◌≤◌, ◌<◌, [], ◌∷◌, ◌++◌, length, take, drop, OnOk, OnErr, IsOk};
+ghost use Rattle.undo_trail.specs.Undoing.{all_undone};
+ghost use Rattle.undo_trail.specs.Trails.{writes_of, HasRoom};
+
+use std::alloc::Global;
+
+/// Want of memory.
+#[derive(Clone, Copy, Debug, PartialEq, Eq)]
+pub struct NoMemory;
+
+/// Cells whose writes can be undone.
+pub trait Undo {
+    /// What a write overwrote.
+    type Write;
+
+    ghost Cells: { Type 0 };
+
+    ghost cells: { Self → Cells };
+
+    ghost undone: { Self.Write → Cells → Cells };
+
+    /// Makes the cells as they were before the write.
+    fn undo(&mut self, w: Self::Write)
+        ensures { cells self.new ≡ undone w (cells self.old) };
+}
+
+/// A place in a trail: how many writes stand before it.
+#[derive(Clone, Copy, Debug, PartialEq, Eq)]
+pub struct Mark(pub u64);
+
+/// The writes, oldest first.
+#[derive(Drop)]
+pub struct Trail<W> {
+    writes: Vec<W>,
+}
+
+impl<W: Drop> Trail<W> {
+    pub fn new(alloc: Global) -> Trail<W>
+        ensures { writes_of result ≡ [] }
+    {
+        Trail {
+            writes: Vec::new(alloc),
+        }
+    }
+
+    /// Makes room for one write, so that the next `push` succeeds.
+    pub fn reserve(&mut self) -> Result<(), NoMemory>
+        ensures same { writes_of self.new ≡ writes_of self.old }
+        ensures room { OnOk result (HasRoom self.new) }
+    {
+        self.writes.reserve(1).map_err(|_| NoMemory)
+    }
+
+    /// Adds a write behind the others. `NoMemory` only where there is no room for it.
+    pub fn push(&mut self, w: W) -> Result<(), NoMemory>
+        ensures ok { OnOk result (writes_of self.new ≡ writes_of self.old ++ w ∷ []) }
+        ensures err { OnErr result (writes_of self.new ≡ writes_of self.old) }
+        ensures room { HasRoom self.old → IsOk result }
+    {
+        self.writes.push(w).map_err(|_| NoMemory)
+    }
+
+    /// The end of the trail.
+    pub fn mark(&self) -> Mark
+        ensures { result.0 ≡ length (writes_of self.now) }
+    {
+        Mark(self.writes.len() as u64)
+    }
+
+    /// Undoes the writes behind the mark, newest first, and cuts the trail there.
+    pub fn undo_to<T: Undo<Write = W>>(&mut self, mark: Mark, on: &mut T)
+        requires { mark.0 ≤ length (writes_of self.old) }
+        ensures cells { T.cells on.new ≡ all_undone T.undone (drop mark.0 (writes_of self.old)) (T.cells on.old) }
+        ensures trail { writes_of self.new ≡ take mark.0 (writes_of self.old) }
+    {
+        while self.writes.len() as u64 > mark.0 {
+            if let Some(w) = self.writes.pop() {
+                on.undo(w);
+            }
+        }
+    }
+}
+
+#[cfg(test)]
+mod tests {
+    use super::*;
+    use std::test::Fail;
+
+    /// A number; a write is the number before it.
+    #[derive(Drop)]
+    struct Counter {
+        value: u8,
+    }
+
+    impl Undo for Counter {
+        ghost use Rattle.std.specs.Prelude.{ℕ};
+
+        type Write = u8;
+
+        ghost Cells = { ℕ };
+
+        ghost cells = { λ c. c.value };
+
+        ghost undone = { λ w c. w };
+
+        fn undo(&mut self, w: u8) {
+            self.value = w;
+        }
+    }
+
+    #[test]
+    fn undoes_the_writes_behind_the_mark(rt: HostRuntime) -> Result<(), Fail> {
+        let mut trail = Trail::new(rt.alloc());
+        let mut counter = Counter { value: 2 };
+        trail.push(1)?;
+        let mark = trail.mark();
+        trail.reserve()?;
+        trail.push(2)?;
+        counter.value = 3;
+        trail.push(3)?;
+        counter.value = 4;
+        assert_eq!(rt; trail.mark(), Mark(3));
+        trail.undo_to(mark, &mut counter);
+        assert_eq!(rt; counter.value, 2);
+        assert_eq!(rt; trail.mark(), mark);
+        Ok(())
+    }
+}
