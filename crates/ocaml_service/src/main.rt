@@ -2,6 +2,9 @@
 //! It stands on `session_loop`, makes the real ends and the counter, and ends with the number of the status.
 #![tactic(auto)]
 
+ghost use Rattle.std.specs.Prelude.{◌≡◌};
+ghost use Rattle.ocaml_service.specs.Numbers.{number_of};
+
 mod tally;
 
 use session_loop::{ReadEnd, Status, WriteEnd, serve};
@@ -10,7 +13,9 @@ use std::{env, io};
 use tally::Tally;
 
 /// The program's exit status for the way in which a run ended.
-fn code_of(status: Status) -> u8 {
+fn code_of(status: Status) -> u8
+    ensures { result ≡ number_of status }
+{
     match status {
         Status::Done => 0,
         Status::BadWords => 2,

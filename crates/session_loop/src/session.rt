@@ -16,7 +16,10 @@ ghost use Rattle.json_lines.specs.Means.{said_of, typed_of};
 ghost use Rattle.session_loop.specs.Lines.{line_bytes, refusal_in, IsWritten, RefusesBy, RefusesEditBy, RepliesBy, Says, said_of_types};
 
 use crate::plain::{read_plain, typed_among};
-use json_lines::{Failure, Key, Malformed, Reply, Request, RequestError, Typed, memory_line, read_request, write_reply};
+use json_lines::{
+    Failure, Key, Malformed, Reply, Request, RequestError, Typed, memory_line, read_request,
+    write_reply,
+};
 use std::alloc::Global;
 use std::marker::Model;
 use syntax_tree::{Counts, NoMemory, Pos, RcStr, enclosing};
@@ -82,10 +85,19 @@ fn refused_edit_line(alloc: Global, refusal: TextRefusal) -> Line
     ensures { RefusesEditBy (refusal_in refusal) result }
 {
     match refusal {
-        TextRefusal::BadPosition { end } => error_line(alloc, RequestError::BadPosition { key: key_of(end) }),
+        TextRefusal::BadPosition { end } => error_line(
+            alloc,
+            RequestError::BadPosition { key: key_of(end) },
+        ),
         TextRefusal::BadRange => error_line(alloc, RequestError::BadRange),
-        TextRefusal::SplitsChar { end } => error_line(alloc, RequestError::SplitsChar { key: key_of(end) }),
-        TextRefusal::TextTooLong { bytes } => error_line(alloc, RequestError::TextTooLong { bytes }),
+        TextRefusal::SplitsChar { end } => error_line(
+            alloc,
+            RequestError::SplitsChar { key: key_of(end) },
+        ),
+        TextRefusal::TextTooLong { bytes } => error_line(
+            alloc,
+            RequestError::TextTooLong { bytes },
+        ),
         TextRefusal::NoMemory => Line::Memory,
     }
 }

@@ -18,7 +18,10 @@ const TYPED: &[u8] =
 
 const NOT_JSON: &[u8] = b"{\"class\":\"error\",\"value\":{\"name\":\"NotJson\"}}\n";
 
-const NOT_BUILT: &[u8] = b"{\"class\":\"error\",\"value\":{\"name\":\"NotBuilt\"}}\n";
+const TOO_LONG: &[u8] = b"{\"class\":\"error\",\"value\":{\"name\":\"LineTooLong\"}}\n";
+
+const BAD_POSITION: &[u8] =
+    b"{\"class\":\"error\",\"value\":{\"key\":\"end\",\"name\":\"BadPosition\"}}\n";
 
 /// A counter of its own.
 #[derive(Drop)]
@@ -105,13 +108,14 @@ fn plain_text_is_answered(rt: HostRuntime) -> Result<(), Fail> {
 fn refusals_leave_the_text(rt: HostRuntime) -> Result<(), Fail> {
     let alloc = rt.alloc();
     let long = vec![in alloc; b'x'; 8_388_609]?;
-    let unfinished = b"{\"query\":\"tell\",\"text\":\"let a =\"}\n";
-    let input = joined(alloc, &[TELL, b"{\n \t\n", unfinished, &long, b"\n", ASK])?;
+    let misplaced =
+        b"{\"query\":\"tell\",\"start\":{\"line\":1,\"col\":0},\"end\":{\"line\":3,\"col\":0},\"text\":\"\"}\n";
+    let input = joined(alloc, &[TELL, b"{\n \t\n", misplaced, &long, b"\n", ASK])?;
     let (report, output) = run(alloc, input, Vec::new(alloc), Vec::new(alloc))?;
     assert_eq!(rt; report.status, Status::Done);
     assert_eq!(rt;
         output.as_slice(),
-        joined(alloc, &[TOLD, NOT_JSON, NOT_BUILT, NOT_BUILT, TYPED])?.as_slice()
+        joined(alloc, &[TOLD, NOT_JSON, BAD_POSITION, TOO_LONG, TYPED])?.as_slice()
     );
     Ok(())
 }

@@ -25,5 +25,19 @@ returns c = λ first new is.
     let made = made_of text (edit_of c.args.edit.now) first new is in
     let from : c.in-Ok.start ≡ made.from = (let there = made.start_is in let here = c.in-Ok.ensures.value in cc) in
     let to : c.in-Ok-offset_of.end ≡ made.to = (let there = made.end_is in let here = c.in-Ok-offset_of.ensures.value in cc) in
-    omega (arith, from, to, made.order, made.short, ap (λ (l : List ℕ). length l) made.text_is, length_apply text bytes made.from made.to made.order (omega (arith, to, c.in-Ok-offset_of.ensures.within, ap (λ (l : List ℕ). length l) c.self.view_is)), ap (λ (l : List ℕ). length l) c.self.view_is,
-    c.saturating_add.ensures, c.saturating_sub-kept.ensures, c.saturating_sub-cut.ensures, c.len.ensures, ap (λ (l : List ℕ). length l) c.as_str.ensures, c.in-Ok-offset_of.ensures.within)
+    omega (
+      arith,
+      from,
+      to,
+      made.order,
+      made.short,
+      ap (λ (l : List ℕ). length l) made.text_is,
+      length_apply text bytes made.from made.to made.order (omega (arith, to, c.in-Ok-offset_of.ensures.within, ap (λ (l : List ℕ). length l) c.self.view_is)),
+      ap (λ (l : List ℕ). length l) c.self.view_is,
+      c.saturating_add.ensures,
+      c.saturating_sub-kept.ensures,
+      c.saturating_sub-cut.ensures,
+      c.len.ensures,
+      ap (λ (l : List ℕ). length l) c.as_str.ensures,
+      c.in-Ok-offset_of.ensures.within,
+    )

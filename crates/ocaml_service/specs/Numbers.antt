@@ -1,0 +1,12 @@
+-- The program's exit status for the way in which a run ended.
+use Rattle.std.specs.Prelude.{ℕ}
+use Rattle.session_loop.specs.declared.service.Status.{Status}
+use Rattle.session_loop.specs.declared.service.Status.TheVariants.{Done, BadWords, ReadFault, WriteFault, InputTooLong, NoMemory}
+
+abbrev pub number_of : Status → ℕ
+number_of Done = 0
+number_of BadWords = 2
+number_of ReadFault = 3
+number_of WriteFault = 4
+number_of InputTooLong = 5
+number_of NoMemory = 6
