@@ -1,5 +1,5 @@
 //! The keys of requests.
-ghost use Rattle.std.specs.Prelude.{◌≡◌, codes, [], ◌∷◌};
+ghost use Rattle.std.specs.Prelude.{◌≡◌, codes, [], ◌∷◌, Some};
 ghost use Rattle.service_model.specs.Requests.{dotted};
 ghost use Rattle.json_lines.specs.Meets.{key_text, place_name};
 
@@ -54,6 +54,8 @@ impl Key {
 }
 
 impl fmt::Display for Key {
+    ghost output = { λ key. Some (key_text key) };
+
     fn fmt<W: fmt::Write>(&self, f: &mut fmt::Formatter<W>) -> fmt::Result {
         f.write_str(self.name())
     }
