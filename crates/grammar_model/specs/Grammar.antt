@@ -18,6 +18,7 @@ abbrev pub MayCome : List Edge → Last → ℕ → Type 0
 MayCome [] last p = ⊥
 MayCome (e ∷ es) last p = ((e.spot ≡ p) × (allowed e.behind last ≡ true)) ⊎ MayCome es last p
 
+-- the part may stand at such a spot: a token with one of its keys, an operand of its sort and level, or a missing part
 abbrev pub StandsIn : Table → What → Part → Type 0
 StandsIn G (token ks) (taken t) = has ks (key_of t) ≡ true
 StandsIn G (token ks) (missing place) = Unit {0}
@@ -27,6 +28,7 @@ StandsIn G (operand s n) (missing place) = Unit {0}
 StandsIn G (operand s n) (taken t) = ⊥
 StandsIn G nothing c = ⊥
 
+-- what a left operand is as the last part
 abbrev pub left_last : Part → Last
 left_last (inner t) = row (row_of t)
 left_last (missing place) = hole
@@ -56,10 +58,12 @@ abbrev mutual
   IsPartFormed G (inner t) = WellFormed G t
   IsPartFormed G (missing place) = Unit {0}
 
+-- no part is left
 abbrev pub is_end : Forest → Bool
 is_end no_parts = true
 is_end (part p c f) = false
 
+-- a condition that is asked only in one case
 abbrev pub OnlyIf : Bool → Type 0 → Type 0
 OnlyIf true P = P
 OnlyIf false P = Unit {0}

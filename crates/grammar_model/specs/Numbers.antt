@@ -3,6 +3,7 @@ use Rattle.std.specs.Prelude.{ℕ, zero, suc, [], ◌∷◌, if◌then◌else◌
 use Rattle.grammar_model.specs.Tables.{Table, What, nothing, token, operand, Last, plain, row, Place, nowhere, growth, at_spot, first_place}
 use Rattle.grammar_model.specs.Machine.{Stack}
 
+-- what an operand of this row is as the last part
 abbrev pub last_row : What → ℕ → Last
 last_row (operand s n) r = row r
 last_row (token ks) r = plain
@@ -13,10 +14,12 @@ pub data Found : Type 0 where
   none : Found
   found : ℕ → Place → Found
 
+-- one frame more is closed
 abbrev pub further : Found → Found
 further none = none
 further (found k p) = found (suc k) p
 
+-- a place in this frame, and otherwise another finding
 abbrev pub here : Place → Found → Found
 here nowhere other = other
 here growth other = found zero growth

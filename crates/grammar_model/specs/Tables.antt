@@ -22,6 +22,7 @@ pub data Last : Type 0 where
   hole : Last
   row : ℕ → Last
 
+-- what the grammar asks of a table of rows
 pub record Table : Type 0 where
   pub root : ℕ                         -- the row of a whole text
   pub sort : ℕ → ℕ                     -- of a row
@@ -34,10 +35,12 @@ pub record Table : Type 0 where
   pub chain : ℕ → ℕ → List ℕ           -- the rows that a key begins in an operand of a sort, from the outermost; none: []
   pub grower : ℕ → ℕ → Option ℕ        -- the row by which a key grows an operand of a sort
 
+-- the key is one of these
 abbrev pub has : List ℕ → ℕ → Bool
 has [] k = false
 has (x ∷ xs) k = if nat_eq x k then true else has xs k
 
+-- the first of these rows may stand in slots of the level
 abbrev pub begins_by : Table → ℕ → List ℕ → Bool
 begins_by G n [] = false
 begins_by G n (r ∷ rs) = nat_le n (G.stand r)
@@ -48,6 +51,7 @@ takes G nothing k = false
 takes G (token ks) k = has ks k
 takes G (operand s n) k = begins_by G n (G.chain s k)
 
+-- the row may stand in slots of the level and have the operand on its left
 abbrev pub grows_by : Table → ℕ → Last → Option ℕ → Bool
 grows_by G n last None = false
 grows_by G n last (Some g) = if nat_le n (G.stand g) then G.left_ok g last else false
@@ -58,6 +62,7 @@ grows G (operand s n) last k = grows_by G n last (G.grower s k)
 grows G (token ks) last k = false
 grows G nothing last k = false
 
+-- the spot may come behind this operand
 abbrev pub allowed : Option ℕ → Last → Bool
 allowed None last = true
 allowed (Some r) (row q) = nat_eq r q
@@ -70,6 +75,7 @@ pub data Place : Type 0 where
   growth : Place
   at_spot : ℕ → Place
 
+-- the first of these spots that takes the key
 abbrev pub first_spot : Table → ℕ → Last → ℕ → List Edge → Place
 first_spot G r last k [] = nowhere
 first_spot G r last k (e ∷ es) = if allowed e.behind last then (if takes G (G.what r e.spot) k then at_spot e.spot else first_spot G r last k es) else first_spot G r last k es

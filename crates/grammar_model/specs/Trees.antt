@@ -3,6 +3,7 @@ use Rattle.std.specs.Prelude.{ℕ, ◌+◌, max, List, [], ◌∷◌, ◌++◌}
 use Rattle.token_model.specs.Kinds.{Tok}
 
 mutual
+  -- a row with its parts
   pub data Tree : Type 0 where
     node : ℕ → Forest → Tree
 
@@ -11,6 +12,7 @@ mutual
     no_parts : Forest
     part : ℕ → Part → Forest → Forest
 
+  -- a token, a node, or a part that is missing, at a place of the text
   pub data Part : Type 0 where
     taken : Tok → Part
     inner : Tree → Part
