@@ -1,0 +1,51 @@
+-- What the code's parts, frames and stacks are as plain ones.
+use Rattle.std.specs.Prelude.{ℕ, List, [], ◌∷◌, Option, Some, None}
+use Rattle.std.specs.declared.rc.Rc.{Rc}
+use Rattle.std.specs.declared.alloc.Global.{Global}
+use Rattle.tree_model.specs.Trees.{Part}
+use Rattle.grammar_model.specs.Tables as table
+use Rattle.syntax_tree.specs.View.{part_view}
+use Rattle.parse_frames.specs.Frames.{Frame, frame}
+use Rattle.parse_frames.specs.declared.frames.Last.{Last}
+use Rattle.parse_frames.specs.declared.frames.Last.TheVariants as code
+use Rattle.parse_frames.specs.declared.frames.Cell.{Cell, fold-Cell}
+use Rattle.parse_frames.specs.declared.frames.Cell.TheOpen.{Cell-F}
+use Rattle.parse_frames.specs.declared.frames.Level.{Level, fold-Level}
+use Rattle.parse_frames.specs.declared.frames.Level.TheOpen.{Level-F}
+
+-- what the newest part is as an operand
+abbrev pub last_view : Last → table.Last
+last_view code.Plain = table.plain
+last_view code.Hole = table.hole
+last_view (code.Row r) = table.row r
+
+-- a list behind a shared pointer
+abbrev pub shared : {A : Type 0} → Option (Rc (List A) Global) → List A
+shared None = []
+shared (Some r) = r.value
+
+-- one cell, with those before it already seen
+abbrev pub cell_step : Cell-F (List (ℕ × Part)) → List (ℕ × Part)
+cell_step c = (c.slot, part_view c.part) ∷ shared c.before
+
+-- the parts of a cell and those before it, the newest first
+abbrev pub cell_view : Cell → List (ℕ × Part)
+cell_view = fold-Cell (List (ℕ × Part)) cell_step
+
+-- the parts of a frame, the newest first
+abbrev pub parts_view : Option (Rc Cell Global) → List (ℕ × Part)
+parts_view None = []
+parts_view (Some r) = cell_view r.value
+
+-- one frame, with those below it already seen
+abbrev pub level_step : Level-F (List Frame) → List Frame
+level_step l = frame l.number l.spot (parts_view l.parts) ∷ shared l.below
+
+-- a frame that waits and those below it
+abbrev pub level_view : Level → List Frame
+level_view = fold-Level (List Frame) level_step
+
+-- frames that wait, the innermost first
+abbrev pub frames_view : Option (Rc Level Global) → List Frame
+frames_view None = []
+frames_view (Some r) = level_view r.value

@@ -1,0 +1,79 @@
+//! Parts, frames and stacks, and how they are let go.
+use std::rc::Rc;
+use syntax_tree::Part;
+
+/// What the newest part of a frame is as an operand.
+#[derive(Clone, Copy, Debug, PartialEq, Eq)]
+pub enum Last {
+    /// no operand: a token, a missing token, or no part
+    Plain,
+    /// a missing operand
+    Hole,
+    /// a node of the row of this number
+    Row(u8),
+}
+
+/// The parts of a frame, the newest first.
+pub type Parts = Option<Rc<Cell>>;
+
+/// A part of a frame, its slot in the row, and the parts before it.
+pub struct Cell {
+    pub slot: u8,
+    pub part: Part,
+    pub before: Parts,
+}
+
+// A frame may have as many parts as the text has tokens, so no call is made for each.
+impl Drop for Cell {
+    fn drop(mut self) {
+        loop {
+            match self {
+                Cell {
+                    slot: _,
+                    part: _,
+                    before,
+                } => match before {
+                    None => return,
+                    Some(cell) => match Rc::into_inner(cell) {
+                        None => return,
+                        Some(rest) => self = rest,
+                    },
+                },
+            }
+        }
+    }
+}
+
+/// Frames that wait for an operand, the innermost first.
+pub type Frames = Option<Rc<Level>>;
+
+/// A row in progress that waits for the operand at its spot, on the frames below it.
+pub struct Level {
+    /// The number of the row.
+    pub number: u8,
+    /// The spot of the operand that it waits for.
+    pub spot: u8,
+    pub parts: Parts,
+    pub below: Frames,
+}
+
+impl Drop for Level {
+    fn drop(mut self) {
+        loop {
+            match self {
+                Level {
+                    number: _,
+                    spot: _,
+                    parts: _,
+                    below,
+                } => match below {
+                    None => return,
+                    Some(level) => match Rc::into_inner(level) {
+                        None => return,
+                        Some(rest) => self = rest,
+                    },
+                },
+            }
+        }
+    }
+}
