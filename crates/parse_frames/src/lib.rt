@@ -5,6 +5,7 @@
 #![tactic(auto)]
 
 mod frames;
+mod nodes;
 mod share;
 mod stack;
 

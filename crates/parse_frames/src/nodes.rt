@@ -1,0 +1,103 @@
+//! Nodes made of the parts of a frame.
+ghost use Rattle.std.specs.Prelude.{◌≡◌, ◌<◌, ◌-◌, ◌^◌, ◌&&◌, nat_lt, map, min, IfOk};
+ghost use Rattle.tree_model.specs.Extents.{node_over, told_height, told_size};
+ghost use Rattle.tree_model.specs.Trees as plain;
+ghost use Rattle.syntax_tree.specs.Names.{row_of};
+ghost use Rattle.syntax_tree.specs.View.{child_view, forest_of, node_view, part_view};
+ghost use Rattle.parse_frames.specs.Frames.{heights_in, onto, sizes_in};
+ghost use Rattle.parse_frames.specs.View.{parts_view};
+
+use crate::Parts;
+use crate::share::share_part;
+use std::alloc::Global;
+use std::rc::Rc;
+use syntax_tree::{Child, NoMemory, Node, Part, RowName, node_of};
+
+/// The parts in order, shared.
+fn children_of(alloc: Global, parts: &Parts) -> Result<Vec<Child>, NoMemory>
+    ensures { IfOk result (λ r. forest_of (map child_view r.items) ≡ onto (parts_view parts.now) plain.no_parts) }
+{
+    let mut children: Vec<Child> = Vec::new(alloc);
+    let mut rest = parts;
+    while let Some(cell) = rest {
+        let child = Child {
+            slot: cell.slot,
+            part: share_part(&cell.part)?,
+        };
+        if children.push(child).is_err() {
+            return Err(NoMemory);
+        }
+        rest = &cell.before;
+    }
+    children.reverse();
+    Ok(children)
+}
+
+/// The node of a row of this name over the parts.
+#[tactic(auto, using(crate::proofs::Parts::told_sizes_onto, crate::proofs::Parts::told_heights_onto))]
+pub(crate) fn node_over_parts(
+    alloc: Global,
+    name: RowName,
+    parts: &Parts,
+) -> Result<Rc<Node>, NoMemory>
+    requires size { sizes_in (parts_view parts.now) < 2 ^ 32 - 1 }
+    requires height { heights_in (parts_view parts.now) < 2 ^ 16 - 1 }
+    ensures { IfOk result (λ r. node_view r.value ≡ node_over (row_of name) (onto (parts_view parts.now) plain.no_parts)) }
+{
+    let children = children_of(alloc, parts)?;
+    node_of(alloc, name, children)
+}
+
+/// Whether a node over the parts can tell its size and its height.
+pub(crate) fn has_room(parts: &Parts) -> bool
+    ensures { result ≡ (nat_lt (sizes_in (parts_view parts.now)) (2 ^ 32 - 1) && nat_lt (heights_in (parts_view parts.now)) (2 ^ 16 - 1)) }
+{
+    size_of_parts(parts) < u32::MAX && height_of_parts(parts) < u16::MAX
+}
+
+/// The sum of the sizes that the parts tell, or 2^32 - 1 where it is more.
+fn size_of_parts(parts: &Parts) -> u32
+    ensures { result ≡ min (sizes_in (parts_view parts.now)) (2 ^ 32 - 1) }
+{
+    let mut size: u32 = 0;
+    let mut rest = parts;
+    while let Some(cell) = rest {
+        size = size.saturating_add(size_of_part(&cell.part));
+        rest = &cell.before;
+    }
+    size
+}
+
+fn size_of_part(part: &Part) -> u32
+    ensures { result ≡ told_size (part_view part.now) }
+{
+    match part {
+        Part::Taken(_) => 0,
+        Part::Inner(node) => node.size,
+        Part::Missing(_) => 1,
+    }
+}
+
+/// The largest of the heights that the parts tell.
+fn height_of_parts(parts: &Parts) -> u16
+    ensures { result ≡ heights_in (parts_view parts.now) }
+{
+    let mut height = 0;
+    let mut rest = parts;
+    while let Some(cell) = rest {
+        height = height_of_part(&cell.part).max(height);
+        rest = &cell.before;
+    }
+    height
+}
+
+/// The height that a part tells; tokens and missing parts have none.
+pub(crate) fn height_of_part(part: &Part) -> u16
+    ensures { result ≡ told_height (part_view part.now) }
+{
+    match part {
+        Part::Taken(_) => 0,
+        Part::Inner(node) => node.height,
+        Part::Missing(_) => 0,
+    }
+}
