@@ -49,6 +49,11 @@ with_missing p last s = stack (with_part p (missing (place s.place s.place)) s.t
 abbrev pub opened : ℕ → ℕ → ℕ → Stack → Stack
 opened p r first s = stack (frame r first []) (frame s.top.number p s.top.done ∷ s.below) plain s.place
 
+-- the same for each of these rows, of which each begins at its own spot: the next one is the operand there
+abbrev pub opened_chain : ℕ → List (ℕ × ℕ) → Stack → Stack
+opened_chain p [] s = s
+opened_chain p (o ∷ os) s = opened_chain o.1 os (opened p o.0 o.1 s)
+
 -- parts, the newest first, put before others
 abbrev pub onto : List (ℕ × Part) → Forest → Forest
 onto [] ps = ps
@@ -58,15 +63,23 @@ onto (d ∷ ds) ps = onto ds (part d.0 d.1 ps)
 abbrev pub node_of : Row → Frame → Tree
 node_of r f = node_over r (onto f.done no_parts)
 
--- the innermost frame is closed: its node is the operand for which the frame below it waits
-abbrev pub closed : Row → Frame → Last → ℕ → List Frame → Option Stack
-closed r f last p [] = None
-closed r f last p (g ∷ fs) = Some (stack (with_part g.spot (inner (node_of r f)) g) fs (row f.number) p)
+-- of the frames below, the first takes the node of the innermost frame as the operand for which it waits
+abbrev pub closed_on : Row → Stack → List Frame → Option Stack
+closed_on r s [] = None
+closed_on r s (g ∷ fs) = Some (stack (with_part g.spot (inner (node_of r s.top)) g) fs (row s.top.number) s.place)
+
+-- the innermost frame, whose row has this name, is closed
+abbrev pub closed : Row → Stack → Option Stack
+closed r s = closed_on r s s.below
+
+-- of the innermost frame, the newest part is the left operand of a row, and the others are left
+abbrev pub grown_by : ℕ → Stack → List (ℕ × Part) → Option Stack
+grown_by r s [] = None
+grown_by r s (d ∷ ds) = Some (stack (frame r 0 ((0, d.1) ∷ [])) (frame s.top.number s.top.spot ds ∷ s.below) plain s.place)
 
 -- the newest part of the innermost frame becomes the left operand of a row
-abbrev pub grown : ℕ → Frame → List (ℕ × Part) → List Frame → ℕ → Option Stack
-grown r f [] fs p = None
-grown r f (d ∷ ds) fs p = Some (stack (frame r 0 ((0, d.1) ∷ [])) (frame f.number f.spot ds ∷ fs) plain p)
+abbrev pub grown : ℕ → Stack → Option Stack
+grown r s = grown_by r s s.top.done
 
 -- the sum of the sizes that parts tell
 abbrev pub sizes_in : List (ℕ × Part) → ℕ

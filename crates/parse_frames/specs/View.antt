@@ -8,6 +8,7 @@ use Rattle.syntax_tree.specs.View.{part_view}
 use Rattle.parse_frames.specs.Frames.{Frame, frame}
 use Rattle.parse_frames.specs.declared.frames.Last.{Last}
 use Rattle.parse_frames.specs.declared.frames.Last.TheVariants as code
+use Rattle.parse_frames.specs.declared.frames.Opening.{Opening}
 use Rattle.parse_frames.specs.declared.frames.Cell.{Cell, fold-Cell}
 use Rattle.parse_frames.specs.declared.frames.Cell.TheOpen.{Cell-F}
 use Rattle.parse_frames.specs.declared.frames.Level.{Level, fold-Level}
@@ -49,3 +50,7 @@ level_view = fold-Level (List Frame) level_step
 abbrev pub frames_view : Option (Rc Level Global) → List Frame
 frames_view None = []
 frames_view (Some r) = level_view r.value
+
+-- a row's number and the spot that it begins with
+abbrev pub opening_view : Opening → ℕ × ℕ
+opening_view o = (o.number, o.first)

@@ -77,3 +77,10 @@ impl Drop for Level {
         }
     }
 }
+
+/// A row that a token begins: its number, and the spot that it begins with.
+#[derive(Clone, Copy, Debug, PartialEq, Eq)]
+pub struct Opening {
+    pub number: u8,
+    pub first: u8,
+}

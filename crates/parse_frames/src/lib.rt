@@ -9,6 +9,6 @@ mod nodes;
 mod share;
 mod stack;
 
-pub use frames::{Cell, Frames, Last, Level, Parts};
+pub use frames::{Cell, Frames, Last, Level, Opening, Parts};
 pub use stack::Stack;
 pub use syntax_tree::{NoMemory, Node, Part, RowName, Span, Token};

@@ -1,12 +1,14 @@
 //! Stacks of frames.
 ghost use Rattle.std.specs.Prelude.{◌≡◌, length};
-ghost use Rattle.parse_frames.specs.Frames as spots;
+ghost use Rattle.parse_frames.specs.Frames as plain;
 ghost use Rattle.parse_frames.specs.View.{frames_view};
 
-use crate::share::{push_frame, push_part, share_frames, share_parts, share_token};
-use crate::{Frames, Last, Parts};
+use crate::nodes::{has_room, node_over_parts};
+use crate::share::{push_frame, push_part, share_frames, share_part, share_parts, share_token};
+use crate::{Frames, Last, Opening, Parts};
 use std::alloc::Global;
-use syntax_tree::{NoMemory, Part, Span, Token};
+use std::rc::Rc;
+use syntax_tree::{NoMemory, Node, Part, RowName, Span, Token};
 
 /// The innermost frame, those that wait below it, and the end of the last token taken.
 /// It is never written: a call that takes a token or closes a frame makes a new stack,
@@ -24,11 +26,12 @@ pub struct Stack {
 }
 
 impl Stack {
-    ghost use Rattle.std.specs.Prelude.{◌<◌, ◌-◌, ◌^◌, IfOk};
-    ghost use Rattle.grammar_model.specs.Tables.{plain, hole};
-    ghost use Rattle.syntax_tree.specs.View.{tok_of};
-    ghost use Rattle.parse_frames.specs.Frames.{started, with_token, with_missing, opened};
-    ghost use Rattle.parse_frames.specs.View.{last_view};
+    ghost use Rattle.std.specs.Prelude.{◌<◌, ◌+◌, ◌-◌, ◌^◌, ◌&&◌, nat_lt, map, option_map, IfOk};
+    ghost use Rattle.grammar_model.specs.Tables.{plain as no_operand, hole};
+    ghost use Rattle.syntax_tree.specs.Names.{row_of};
+    ghost use Rattle.syntax_tree.specs.View.{node_view, tok_of};
+    ghost use Rattle.parse_frames.specs.Frames.{started, with_token, with_missing, opened, opened_chain, heights_in, sizes_in};
+    ghost use Rattle.parse_frames.specs.View.{last_view, opening_view};
     ghost use Rattle.parse_frames.specs.Stacks.{stack_view};
 
     /// The stack of a text without tokens: one frame, of the row of a whole text.
@@ -106,7 +109,7 @@ impl Stack {
 
     /// The token at a spot of the innermost frame is missing.
     pub fn miss_token(&self, alloc: Global, spot: u8) -> Result<Stack, NoMemory>
-        ensures { IfOk result (λ r. stack_view r ≡ with_missing spot plain (stack_view self.now)) }
+        ensures { IfOk result (λ r. stack_view r ≡ with_missing spot no_operand (stack_view self.now)) }
     {
         self.miss(alloc, spot, Last::Plain)
     }
@@ -158,11 +161,106 @@ impl Stack {
             place: self.place,
         })
     }
+
+    /// The innermost frame waits at a spot for the first of these rows, and each of them but the last
+    /// waits at its own first spot for the next: the rows that one token begins, from the outermost.
+    pub fn open_chain(&self, alloc: Global, spot: u8, chain: &[Opening]) -> Result<Stack, NoMemory>
+        requires room { length (stack_view self.now).below + length chain.now < 2 ^ 32 - 1 }
+        ensures { IfOk result (λ r. stack_view r ≡ opened_chain spot (map opening_view chain.now) (stack_view self.now)) }
+    {
+        let mut stack = self.share()?;
+        let mut at = spot;
+        for opening in chain {
+            stack = stack.open(alloc, at, opening.number, opening.first)?;
+            at = opening.first;
+        }
+        Ok(stack)
+    }
+
+    /// One more owner of the same frames.
+    pub fn share(&self) -> Result<Stack, NoMemory>
+        ensures { IfOk result (λ r. stack_view r ≡ stack_view self.now) }
+    {
+        Ok(Stack {
+            number: self.number,
+            spot: self.spot,
+            last: self.last,
+            parts: share_parts(&self.parts)?,
+            below: share_frames(&self.below)?,
+            waiting: self.waiting,
+            place: self.place,
+        })
+    }
+
+    /// Whether a node over the innermost frame's parts can tell its size and its height.
+    pub fn has_room(&self) -> bool
+        ensures { result ≡ (nat_lt (sizes_in (stack_view self.now).top.done) (2 ^ 32 - 1) && nat_lt (heights_in (stack_view self.now).top.done) (2 ^ 16 - 1)) }
+    {
+        has_room(&self.parts)
+    }
+
+    /// The node of the innermost frame, whose row has this name.
+    pub fn node(&self, alloc: Global, name: RowName) -> Result<Rc<Node>, NoMemory>
+        requires size { sizes_in (stack_view self.now).top.done < 2 ^ 32 - 1 }
+        requires height { heights_in (stack_view self.now).top.done < 2 ^ 16 - 1 }
+        ensures { IfOk result (λ r. node_view r.value ≡ plain.node_of (row_of name) (stack_view self.now).top) }
+    {
+        node_over_parts(alloc, name, &self.parts)
+    }
+
+    /// The innermost frame, whose row has this name, is closed: its node is the operand for which
+    /// the frame below waits. None exactly where there is no frame below.
+    pub fn close(&self, alloc: Global, name: RowName) -> Result<Option<Stack>, NoMemory>
+        requires size { sizes_in (stack_view self.now).top.done < 2 ^ 32 - 1 }
+        requires height { heights_in (stack_view self.now).top.done < 2 ^ 16 - 1 }
+        ensures { IfOk result (λ r. option_map stack_view r ≡ plain.closed (row_of name) (stack_view self.now)) }
+    {
+        let Some(level) = &self.below else {
+            return Ok(None);
+        };
+        let node = Part::Inner(self.node(alloc, name)?);
+        Ok(Some(Stack {
+            number: level.number,
+            spot: level.spot,
+            last: Last::Row(self.number),
+            parts: push_part(alloc, share_parts(&level.parts)?, slot_of(level.spot), node)?,
+            below: share_frames(&level.below)?,
+            waiting: self.waiting - 1,
+            place: self.place,
+        }))
+    }
+
+    /// The innermost frame's newest part becomes the left operand of a row, which is the new
+    /// innermost frame. None exactly where the innermost frame has no part.
+    pub fn grow(&self, alloc: Global, number: u8) -> Result<Option<Stack>, NoMemory>
+        requires room { length (stack_view self.now).below < 2 ^ 32 - 1 }
+        ensures { IfOk result (λ r. option_map stack_view r ≡ plain.grown number (stack_view self.now)) }
+    {
+        let Some(cell) = &self.parts else {
+            return Ok(None);
+        };
+        let below = push_frame(
+            alloc,
+            self.number,
+            self.spot,
+            share_parts(&cell.before)?,
+            share_frames(&self.below)?,
+        )?;
+        Ok(Some(Stack {
+            number,
+            spot: 0,
+            last: Last::Plain,
+            parts: push_part(alloc, None, 0, share_part(&cell.part)?)?,
+            below,
+            waiting: self.waiting + 1,
+            place: self.place,
+        }))
+    }
 }
 
 /// The slot of a spot: one less; the left operand, at spot 0, has slot 0.
 fn slot_of(spot: u8) -> u8
-    ensures { result ≡ spots.slot_of spot }
+    ensures { result ≡ plain.slot_of spot }
 {
     spot.saturating_sub(1)
 }
