@@ -54,6 +54,10 @@ abbrev pub opened_chain : ℕ → List (ℕ × ℕ) → Stack → Stack
 opened_chain p [] s = s
 opened_chain p (o ∷ os) s = opened_chain o.1 os (opened p o.0 o.1 s)
 
+-- the innermost frame waits at a spot for the first of these rows, and a token is taken at the spot that the last one begins with
+abbrev pub begun : ℕ → List (ℕ × ℕ) → Tok → Stack → Stack
+begun p os t s = let u = opened_chain p os s in with_token u.top.spot t u
+
 -- parts, the newest first, put before others
 abbrev pub onto : List (ℕ × Part) → Forest → Forest
 onto [] ps = ps

@@ -1,5 +1,5 @@
 -- The named form of the trees and frames of the grammar's machine: each node has the name of its row and tells its span, size and height.
-use Rattle.std.specs.Prelude.{ℕ, List, [], ◌∷◌, map}
+use Rattle.std.specs.Prelude.{◌≡◌, ℕ, List, [], ◌∷◌, map}
 use Rattle.tree_model.specs.Rows.{Row}
 use Rattle.tree_model.specs.Trees as plain
 use Rattle.tree_model.specs.Trees.{place}
@@ -7,7 +7,7 @@ use Rattle.tree_model.specs.Extents.{node_over}
 use Rattle.grammar_model.specs.Trees.{Tree, Forest, Part, node, no_parts, part, taken, inner, missing}
 use Rattle.grammar_model.specs.Tables.{Table}
 use Rattle.grammar_model.specs.Machine as machine
-use Rattle.grammar_model.specs.Machine.{last_done}
+use Rattle.grammar_model.specs.Machine.{last_done, first_of}
 use Rattle.parse_frames.specs.Frames.{Frame, frame, Stack, stack, slot_of}
 
 -- trees with the names of their rows, where each row's number has a name
@@ -36,3 +36,13 @@ named_frame name f = frame f.number f.at (named_done name f.done)
 -- the innermost frame and those below it, behind a token that ends at this place
 abbrev pub named_stack : Table → (ℕ → Row) → machine.Frame → machine.Stack → ℕ → Stack
 named_stack G name f S p = stack (named_frame name f) (map (named_frame name) S) (last_done (G.what f.number f.at) f.done) p
+
+-- the stack is the named form of the machine's, behind a token that ends at this place
+abbrev pub IsNamed : Table → (ℕ → Row) → machine.Stack → ℕ → Stack → Type 0
+IsNamed G name [] p s = ⊥
+IsNamed G name (f ∷ S) p s = named_stack G name f S p ≡ s
+
+-- rows with the spots that they begin with
+abbrev pub openings : Table → List ℕ → List (ℕ × ℕ)
+openings G [] = []
+openings G (r ∷ rs) = (r, first_of G r) ∷ openings G rs

@@ -30,7 +30,7 @@ impl Stack {
     ghost use Rattle.grammar_model.specs.Tables.{plain as no_operand, hole};
     ghost use Rattle.syntax_tree.specs.Names.{row_of};
     ghost use Rattle.syntax_tree.specs.View.{node_view, tok_of};
-    ghost use Rattle.parse_frames.specs.Frames.{started, with_token, with_missing, opened, opened_chain, heights_in, sizes_in};
+    ghost use Rattle.parse_frames.specs.Frames.{started, with_token, with_missing, opened, opened_chain, begun, heights_in, sizes_in};
     ghost use Rattle.parse_frames.specs.View.{last_view, opening_view};
     ghost use Rattle.parse_frames.specs.Stacks.{stack_view};
 
@@ -175,6 +175,16 @@ impl Stack {
             at = opening.first;
         }
         Ok(stack)
+    }
+
+    /// A token begins the operand at a spot: the rows of the chain, from the outermost, of which the
+    /// last one has the token at its first spot.
+    pub fn begin(&self, alloc: Global, spot: u8, chain: &[Opening], token: &Token) -> Result<Stack, NoMemory>
+        requires room { length (stack_view self.now).below + length chain.now < 2 ^ 32 - 1 }
+        ensures { IfOk result (λ r. stack_view r ≡ begun spot (map opening_view chain.now) (tok_of token.now) (stack_view self.now)) }
+    {
+        let opened = self.open_chain(alloc, spot, chain)?;
+        opened.take_token(alloc, opened.spot, token)
     }
 
     /// One more owner of the same frames.
