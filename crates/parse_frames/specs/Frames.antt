@@ -94,3 +94,13 @@ sizes_in (d ∷ ds) = told_size d.1 + sizes_in ds
 abbrev pub heights_in : List (ℕ × Part) → ℕ
 heights_in [] = 0
 heights_in (d ∷ ds) = max (told_height d.1) (heights_in ds)
+
+-- for each part, the largest height of the part and those before it
+abbrev pub running_heights : List (ℕ × Part) → List ℕ
+running_heights [] = []
+running_heights (d ∷ ds) = heights_in (d ∷ ds) ∷ running_heights ds
+
+-- the same for each of these frames
+abbrev pub frames_running : List Frame → List (List ℕ)
+frames_running [] = []
+frames_running (f ∷ fs) = running_heights f.done ∷ frames_running fs

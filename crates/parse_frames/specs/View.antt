@@ -38,6 +38,19 @@ abbrev pub parts_view : Option (Rc Cell Global) → List (ℕ × Part)
 parts_view None = []
 parts_view (Some r) = cell_view r.value
 
+-- one cell's height, with those before it already seen
+abbrev pub heights_step : Cell-F (List ℕ) → List ℕ
+heights_step c = c.height ∷ shared c.before
+
+-- the heights that the cells of a frame tell, the newest first
+abbrev pub cell_heights : Cell → List ℕ
+cell_heights = fold-Cell (List ℕ) heights_step
+
+-- the heights that the cells of a frame tell, the newest first
+abbrev pub parts_heights : Option (Rc Cell Global) → List ℕ
+parts_heights None = []
+parts_heights (Some r) = cell_heights r.value
+
 -- one frame, with those below it already seen
 abbrev pub level_step : Level-F (List Frame) → List Frame
 level_step l = frame l.number l.spot (parts_view l.parts) ∷ shared l.below
@@ -54,3 +67,16 @@ frames_view (Some r) = level_view r.value
 -- a row's number and the spot that it begins with
 abbrev pub opening_view : Opening → ℕ × ℕ
 opening_view o = (o.number, o.first)
+
+-- the heights that one frame tells, with those below it already seen
+abbrev pub level_heights_step : Level-F (List (List ℕ)) → List (List ℕ)
+level_heights_step l = parts_heights l.parts ∷ shared l.below
+
+-- the heights that a frame that waits and those below it tell
+abbrev pub level_heights : Level → List (List ℕ)
+level_heights = fold-Level (List (List ℕ)) level_heights_step
+
+-- the heights that frames that wait tell, the innermost first
+abbrev pub frames_heights : Option (Rc Level Global) → List (List ℕ)
+frames_heights None = []
+frames_heights (Some r) = level_heights r.value

@@ -20,6 +20,8 @@ pub type Parts = Option<Rc<Cell>>;
 pub struct Cell {
     pub slot: u8,
     pub part: Part,
+    /// The largest height of a node among this part and those before it, 0 where there is none.
+    pub height: u16,
     pub before: Parts,
 }
 
@@ -31,6 +33,7 @@ impl Drop for Cell {
                 Cell {
                     slot: _,
                     part: _,
+                    height: _,
                     before,
                 } => match before {
                     None => return,

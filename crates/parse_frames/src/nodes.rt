@@ -4,8 +4,8 @@ ghost use Rattle.tree_model.specs.Extents.{node_over, told_height, told_size};
 ghost use Rattle.tree_model.specs.Trees as plain;
 ghost use Rattle.syntax_tree.specs.Names.{row_of};
 ghost use Rattle.syntax_tree.specs.View.{child_view, forest_of, node_view, part_view};
-ghost use Rattle.parse_frames.specs.Frames.{heights_in, onto, sizes_in};
-ghost use Rattle.parse_frames.specs.View.{parts_view};
+ghost use Rattle.parse_frames.specs.Frames.{heights_in, onto, running_heights, sizes_in};
+ghost use Rattle.parse_frames.specs.View.{parts_heights, parts_view};
 
 use crate::Parts;
 use crate::share::share_part;
@@ -50,6 +50,7 @@ pub(crate) fn node_over_parts(
 
 /// Whether a node over the parts can tell its size and its height.
 pub(crate) fn has_room(parts: &Parts) -> bool
+    requires told { parts_heights parts.now ≡ running_heights (parts_view parts.now) }
     ensures { result ≡ (nat_lt (sizes_in (parts_view parts.now)) (2 ^ 32 - 1) && nat_lt (heights_in (parts_view parts.now)) (2 ^ 16 - 1)) }
 {
     size_of_parts(parts) < u32::MAX && height_of_parts(parts) < u16::MAX
@@ -78,17 +79,15 @@ fn size_of_part(part: &Part) -> u32
     }
 }
 
-/// The largest of the heights that the parts tell.
-fn height_of_parts(parts: &Parts) -> u16
+/// The largest of the heights that the parts tell; 0 where there is no node among them.
+pub fn height_of_parts(parts: &Parts) -> u16
+    requires told { parts_heights parts.now ≡ running_heights (parts_view parts.now) }
     ensures { result ≡ heights_in (parts_view parts.now) }
 {
-    let mut height = 0;
-    let mut rest = parts;
-    while let Some(cell) = rest {
-        height = height_of_part(&cell.part).max(height);
-        rest = &cell.before;
+    match parts {
+        None => 0,
+        Some(cell) => cell.height,
     }
-    height
 }
 
 /// The height that a part tells; tokens and missing parts have none.

@@ -1,10 +1,13 @@
 //! Stacks of frames.
 ghost use Rattle.std.specs.Prelude.{◌≡◌, length};
 ghost use Rattle.parse_frames.specs.Frames as plain;
-ghost use Rattle.parse_frames.specs.View.{frames_view};
+ghost use Rattle.parse_frames.specs.Frames.{frames_running, running_heights};
+ghost use Rattle.parse_frames.specs.View.{frames_heights, frames_view, parts_heights, parts_view};
 
 use crate::nodes::{has_room, node_over_parts};
-use crate::share::{push_frame, push_part, share_frames, share_part, share_parts, share_token};
+use crate::share::{
+    push_frame, push_part, share_below, share_frames, share_part, share_parts, share_token,
+};
 use crate::{Frames, Last, Opening, Parts};
 use std::alloc::Global;
 use std::rc::Rc;
@@ -23,6 +26,8 @@ pub struct Stack {
     waiting: u32,
     place: u32,
     ghost counted: { waiting ≡ length (frames_view below) },
+    ghost told: { parts_heights parts ≡ running_heights (parts_view parts) },
+    ghost below_told: { frames_heights below ≡ frames_running (frames_view below) },
 }
 
 impl Stack {
@@ -72,7 +77,8 @@ impl Stack {
 
     /// The frames that wait below the innermost one.
     pub fn below(&self) -> &Frames
-        ensures { frames_view result.now ≡ (stack_view self.now).below }
+        ensures frames { frames_view result.now ≡ (stack_view self.now).below }
+        ensures told { frames_heights result.now ≡ frames_running (frames_view result.now) }
     {
         &self.below
     }
@@ -179,7 +185,13 @@ impl Stack {
 
     /// A token begins the operand at a spot: the rows of the chain, from the outermost, of which the
     /// last one has the token at its first spot.
-    pub fn begin(&self, alloc: Global, spot: u8, chain: &[Opening], token: &Token) -> Result<Stack, NoMemory>
+    pub fn begin(
+        &self,
+        alloc: Global,
+        spot: u8,
+        chain: &[Opening],
+        token: &Token,
+    ) -> Result<Stack, NoMemory>
         requires room { length (stack_view self.now).below + length chain.now < 2 ^ 32 - 1 }
         ensures { IfOk result (λ r. stack_view r ≡ begun spot (map opening_view chain.now) (tok_of token.now) (stack_view self.now)) }
     {
@@ -234,7 +246,7 @@ impl Stack {
             spot: level.spot,
             last: Last::Row(self.number),
             parts: push_part(alloc, share_parts(&level.parts)?, slot_of(level.spot), node)?,
-            below: share_frames(&level.below)?,
+            below: share_below(level)?,
             waiting: self.waiting - 1,
             place: self.place,
         }))
