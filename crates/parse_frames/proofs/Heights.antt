@@ -1,5 +1,5 @@
 -- The heights that frames tell.
-use Rattle.std.proofs.Common.{◌≡◌, refl, sym, ap, ◌∙◌, Option, Some, None, List, [], ◌∷◌, ℕ}
+use Rattle.std.proofs.Common.{◌≡◌, refl, sym, ap, ◌∙◌, Option, Some, None, List, ◌∷◌, ℕ}
 use Rattle.std.specs.declared.rc.Rc.{Rc}
 use Rattle.std.specs.declared.alloc.Global.{Global}
 use Rattle.parse_frames.specs.declared.frames.Cell.{Cell}
@@ -29,6 +29,16 @@ level_view_parts l = fold_out-Level (List Frame) level_step l ∙ frames_step (o
 -- all but the first of lists that are equal are equal
 tails : {A : Type 0} (x y : A) (xs ys : List A) → x ∷ xs ≡ y ∷ ys → xs ≡ ys
 tails x y xs ys e = cc
+
+-- the first of lists that are equal are equal
+heads : {A : Type 0} (x y : A) (xs ys : List A) → x ∷ xs ≡ y ∷ ys → x ≡ y
+heads x y xs ys e = cc
+
+-- where a frame and those below it tell their heights, its own parts do
+pub parts_told : (l : Level) → level_heights l ≡ frames_running (level_view l) → parts_heights (out-Level l).parts ≡ running_heights (parts_view (out-Level l).parts)
+parts_told l h =
+    heads (parts_heights (out-Level l).parts) (running_heights (parts_view (out-Level l).parts)) (frames_heights (out-Level l).below) (frames_running (frames_view (out-Level l).below))
+    (sym (level_heights_parts l) ∙ h ∙ ap frames_running (level_view_parts l))
 
 -- where a frame and those below it tell their heights, those below do
 pub below_told : (l : Level) → level_heights l ≡ frames_running (level_view l) → frames_heights (out-Level l).below ≡ frames_running (frames_view (out-Level l).below)

@@ -1,18 +1,19 @@
 -- What is done with a stack is the named form of what the machine does with its frames.
-use Rattle.std.proofs.Common.{◌≡◌, ℕ, List, [], ◌∷◌, map, refl, sym, ◌∙◌, ap, subst, Option, Some, None}
+use Rattle.std.proofs.Common.{◌≡◌, ℕ, List, [], ◌∷◌, ◌+◌, suc, length, map, arith, refl, ap, Some}
 use Rattle.token_model.specs.Kinds.{Tok}
 use Rattle.tree_model.specs.Rows.{Row}
 use Rattle.tree_model.specs.Trees as plain
-use Rattle.tree_model.specs.Extents.{node_over}
+use Rattle.tree_model.specs.Extents.{node_over, extent_of, told_height, told_heights}
 use Rattle.grammar_model.specs.Keys.{key_of}
-use Rattle.grammar_model.specs.Trees.{Tree, Forest, Part, node, no_parts, part, taken, inner, missing}
-use Rattle.grammar_model.specs.Tables.{Table, What, nothing, token, operand, Last, plain as no_operand, hole, row}
+use Rattle.grammar_model.specs.Trees.{Tree, Forest, Part, node, no_parts, part, taken, inner, missing, height_of, forest_height, part_height}
+use Rattle.grammar_model.specs.Tables.{Table, What, nothing, token, operand, plain as no_operand, hole}
 use Rattle.grammar_model.specs.Grammar.{last_in}
 use Rattle.grammar_model.specs.Machine as machine
 use Rattle.grammar_model.specs.Machine.{frame, node_of, put, first_of, opened, start_in, start_at}
 use Rattle.grammar_model.specs.Recovery.{missing_at}
 use Rattle.parse_frames.specs.Frames as frames
-use Rattle.parse_frames.specs.Frames.{Stack, started, with_token, with_missing, begun, closed, grown, onto}
+use Rattle.parse_frames.specs.Frames.{Stack, started, with_token, with_missing, begun, closed, grown, onto, heights_in}
+use Rattle.parse_frames.proofs.Parts.{told_heights_onto}
 use Rattle.parse_frames.specs.Named.{named, named_parts, named_part, named_done, named_frame, named_stack, IsNamed, openings}
 
 -- a token is no operand
@@ -72,3 +73,32 @@ pub grown_named : (G : Table) (name : ℕ → Row) (g : ℕ) (f : machine.Frame)
     → G.what g 0 ≡ nothing → f.done ≡ d ∷ ds → IsNamed G name (f ∷ S) at s
     → grown g s ≡ Some (named_stack G name (frame g 0 ((0, d.1) ∷ [])) (frame f.number f.at ds ∷ S) at)
 grown_named G name g f d ds S at s e k h = rw (← h) (rw e (rw k refl))
+
+-- a named tree, parts and part tell the heights that they have
+mutual
+  pub tree_height_named : (name : ℕ → Row) (T : Tree) → (extent_of (named name T)).height ≡ height_of T
+  tree_height_named name (node r f) = let e : told_heights (named_parts name f) ≡ forest_height f = forest_height_named name f in omega arith
+
+  pub forest_height_named : (name : ℕ → Row) (f : Forest) → told_heights (named_parts name f) ≡ forest_height f
+  forest_height_named name no_parts = refl
+  forest_height_named name (part p c f) =
+      let d : told_height (named_part name c) ≡ part_height c = part_height_named name c in
+      let e : told_heights (named_parts name f) ≡ forest_height f = forest_height_named name f in omega arith
+
+  pub part_height_named : (name : ℕ → Row) (c : Part) → told_height (named_part name c) ≡ part_height c
+  part_height_named name (taken t) = refl
+  part_height_named name (inner T) = tree_height_named name T
+  part_height_named name (missing p) = refl
+
+-- the node of a frame is one higher than the highest of its parts
+pub node_height_named : (name : ℕ → Row) (f : machine.Frame) → height_of (node_of f) ≡ heights_in (named_done name f.done) + 1
+node_height_named name f =
+    let e : (extent_of (named name (node_of f))).height ≡ height_of (node_of f) = tree_height_named name (node_of f) in
+    let d : (extent_of (named name (node_of f))).height ≡ told_heights (onto (named_done name f.done) plain.no_parts) + 1 = ap (λ T. (extent_of T).height) (node_named name f) in
+    let h : told_heights (onto (named_done name f.done) plain.no_parts) ≡ heights_in (named_done name f.done) = told_heights_onto (named_done name f.done) in
+    omega arith
+
+-- as many frames wait as the machine has below its innermost one
+pub waiting_named : (name : ℕ → Row) (S : machine.Stack) → length (map (named_frame name) S) ≡ length S
+waiting_named name [] = refl
+waiting_named name (f ∷ S) = ap suc (waiting_named name S)

@@ -1,10 +1,10 @@
 -- The frames of the parser as the code keeps them: a finished operand has the name of its row and no number.
-use Rattle.std.specs.Prelude.{ℕ, ◌+◌, ◌-◌, max, List, [], ◌∷◌, length, Option, Some, None}
+use Rattle.std.specs.Prelude.{ℕ, ◌+◌, ◌-◌, max, List, [], ◌∷◌, Option, Some, None}
 use Rattle.token_model.specs.Kinds.{Tok}
 use Rattle.tree_model.specs.Rows.{Row}
-use Rattle.tree_model.specs.Trees.{Place, place, Tree, Forest, Part, no_parts, part, taken, inner, missing}
+use Rattle.tree_model.specs.Trees.{place, Tree, Forest, Part, no_parts, part, taken, inner, missing}
 use Rattle.tree_model.specs.Extents.{node_over, told_size, told_height}
-use Rattle.grammar_model.specs.Tables.{Last, plain, hole, row}
+use Rattle.grammar_model.specs.Tables.{Last, plain, row}
 
 -- a row in progress: its number, the spot of its newest part, and its parts with their slots, the newest first
 pub record Frame : Type 0 where
@@ -94,6 +94,11 @@ sizes_in (d ∷ ds) = told_size d.1 + sizes_in ds
 abbrev pub heights_in : List (ℕ × Part) → ℕ
 heights_in [] = 0
 heights_in (d ∷ ds) = max (told_height d.1) (heights_in ds)
+
+-- the height that the newest part tells
+abbrev pub newest_height : List (ℕ × Part) → ℕ
+newest_height [] = 0
+newest_height (d ∷ ds) = told_height d.1
 
 -- for each part, the largest height of the part and those before it
 abbrev pub running_heights : List (ℕ × Part) → List ℕ

@@ -10,5 +10,9 @@ mod share;
 mod stack;
 
 pub use frames::{Cell, Frames, Last, Level, Opening, Parts};
+pub use nodes::height_of_level;
 pub use stack::Stack;
 pub use syntax_tree::{NoMemory, Node, Part, RowName, Span, Token};
+
+#[cfg(test)]
+mod tests;

@@ -4,11 +4,12 @@ ghost use Rattle.tree_model.specs.Extents.{node_over, told_height, told_size};
 ghost use Rattle.tree_model.specs.Trees as plain;
 ghost use Rattle.syntax_tree.specs.Names.{row_of};
 ghost use Rattle.syntax_tree.specs.View.{child_view, forest_of, node_view, part_view};
-ghost use Rattle.parse_frames.specs.Frames.{heights_in, onto, running_heights, sizes_in};
-ghost use Rattle.parse_frames.specs.View.{parts_heights, parts_view};
+ghost use Rattle.parse_frames.specs.Frames.{frames_running, heights_in, onto, running_heights, sizes_in};
+ghost use Rattle.parse_frames.specs.View.{level_heights, level_view, parts_heights, parts_view};
+ghost use Rattle.parse_frames.specs.declared.frames.Level.{out-Level};
 
-use crate::Parts;
 use crate::share::share_part;
+use crate::{Level, Parts};
 use std::alloc::Global;
 use std::rc::Rc;
 use syntax_tree::{Child, NoMemory, Node, Part, RowName, node_of};
@@ -79,8 +80,17 @@ fn size_of_part(part: &Part) -> u32
     }
 }
 
+/// The largest of the heights that the parts of a frame that waits tell; 0 where there is no node among them.
+#[tactic(auto, using(crate::proofs::Heights::parts_told))]
+pub fn height_of_level(level: &Level) -> u16
+    requires told { level_heights level.now ≡ frames_running (level_view level.now) }
+    ensures { result ≡ heights_in (parts_view (out-Level level.now).parts) }
+{
+    height_of_parts(&level.parts)
+}
+
 /// The largest of the heights that the parts tell; 0 where there is no node among them.
-pub fn height_of_parts(parts: &Parts) -> u16
+pub(crate) fn height_of_parts(parts: &Parts) -> u16
     requires told { parts_heights parts.now ≡ running_heights (parts_view parts.now) }
     ensures { result ≡ heights_in (parts_view parts.now) }
 {

@@ -4,7 +4,7 @@ ghost use Rattle.parse_frames.specs.Frames as plain;
 ghost use Rattle.parse_frames.specs.Frames.{frames_running, running_heights};
 ghost use Rattle.parse_frames.specs.View.{frames_heights, frames_view, parts_heights, parts_view};
 
-use crate::nodes::{has_room, node_over_parts};
+use crate::nodes::{has_room, height_of_part, height_of_parts, node_over_parts};
 use crate::share::{
     push_frame, push_part, share_below, share_frames, share_part, share_parts, share_token,
 };
@@ -35,7 +35,7 @@ impl Stack {
     ghost use Rattle.grammar_model.specs.Tables.{plain as no_operand, hole};
     ghost use Rattle.syntax_tree.specs.Names.{row_of};
     ghost use Rattle.syntax_tree.specs.View.{node_view, tok_of};
-    ghost use Rattle.parse_frames.specs.Frames.{started, with_token, with_missing, opened, opened_chain, begun, heights_in, sizes_in};
+    ghost use Rattle.parse_frames.specs.Frames.{started, with_token, with_missing, opened, opened_chain, begun, heights_in, newest_height, sizes_in};
     ghost use Rattle.parse_frames.specs.View.{last_view, opening_view};
     ghost use Rattle.parse_frames.specs.Stacks.{stack_view};
 
@@ -212,6 +212,23 @@ impl Stack {
             waiting: self.waiting,
             place: self.place,
         })
+    }
+
+    /// The largest height of a node among the innermost frame's parts; 0 where there is none.
+    pub fn height(&self) -> u16
+        ensures { result ≡ heights_in (stack_view self.now).top.done }
+    {
+        height_of_parts(&self.parts)
+    }
+
+    /// The height of the innermost frame's newest part; 0 where it is no node, or there is none.
+    pub fn newest_height(&self) -> u16
+        ensures { result ≡ newest_height (stack_view self.now).top.done }
+    {
+        match &self.parts {
+            None => 0,
+            Some(cell) => height_of_part(&cell.part),
+        }
     }
 
     /// Whether a node over the innermost frame's parts can tell its size and its height.

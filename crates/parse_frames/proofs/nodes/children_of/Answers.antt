@@ -1,4 +1,4 @@
-use Rattle.std.proofs.Common.{◌≡◌, ◌∙◌, ap, map, reverse}
+use Rattle.std.proofs.Common.{◌∙◌, ap, map}
 use Rattle.syntax_tree.specs.View.{child_view, forest_of}
 use Rattle.syntax_tree.proofs.Lists.{map_reverse}
 use Rattle.parse_frames.specs.View.{parts_view}
