@@ -149,18 +149,18 @@ abbrev pub op7_key : ℕ
 op7_key = 71
 abbrev pub prefix_key : ℕ
 prefix_key = 72
-abbrev pub star_key : ℕ
-star_key = 73
-abbrev pub minus_key : ℕ
-minus_key = 74
-abbrev pub minus_point_key : ℕ
-minus_point_key = 75
-abbrev pub equal_key : ℕ
-equal_key = 76
 abbrev pub outside_key : ℕ
-outside_key = 77
+outside_key = 73
 abbrev pub junk_key : ℕ
-junk_key = 78
+junk_key = 74
+abbrev pub star_key : ℕ
+star_key = 75
+abbrev pub minus_key : ℕ
+minus_key = 76
+abbrev pub minus_point_key : ℕ
+minus_point_key = 77
+abbrev pub equal_key : ℕ
+equal_key = 78
 
 -- the literals that are constants: numerals, characters, strings, `()`, `[]`, `true` and `false`
 abbrev pub constants : List ℕ
