@@ -1,5 +1,5 @@
 -- What holds of recovered trees and of the trees in the grammar of a text.
-use Rattle.std.proofs.Common.{◌≡◌, ℕ, List, [], refl}
+use Rattle.std.proofs.Common.{◌≡◌, ℕ, List, Some, [], refl}
 use Rattle.token_model.specs.Kinds.{Tok}
 use Rattle.grammar_model.specs.Trees.{Tree, yield_of, holes_of}
 use Rattle.grammar_model.specs.Grammar.{InGrammar}
