@@ -63,7 +63,7 @@ step_growth G F g p c [] z U S e h = absurd h
 step_growth G F g p c (t ∷ y) z U S e h =
     let a = h.0 ∙ take_fits G (frame F.number F.at ((F.at, c) ∷ F.done)) S t growth h.1 (λ z. cc) in
     let b : grown G (grower_in G (G.what F.number F.at) (key_of t)) (frame F.number F.at ((F.at, c) ∷ F.done)) ((F.at, c) ∷ F.done) t S
-          ≡ within (length S + 2 + part_height c) (start_at G (frame g 0 ((0, c) ∷ [])) p t (F ∷ S)) = rw (h.2, e) refl in
+    ≡ within (length S + 2 + part_height c) (start_at G (frame g 0 ((0, c) ∷ [])) p t (F ∷ S)) = rw (h.2, e) refl in
     ap (λ F. on_fit F (play G (y ++ z))) (a ∙ b)
 
 last_left : (s n : ℕ) (c : Part) → last_in (operand s n) c ≡ left_last c
@@ -159,7 +159,7 @@ mutual
   enter_left G L r (inner T) e ok wf pr ne F S room n w le X =
       let (same, more) = L.left_fits r (row_of T) e ok in
       subst (λ s. begun G s (yield_of T ++ X) (F ∷ S) ≡ play G X (open_tree T (F ∷ S))) same
-        (enter G L T wf pr (ap is_text same ∙ ne) F S room n (w ∙ ap (λ s. operand s n) (sym same)) (omega arith) X)
+      (enter G L T wf pr (ap is_text same ∙ ne) F S room n (w ∙ ap (λ s. operand s n) (sym same)) (omega arith) X)
 
   -- the parts behind the left operand
   enter_behind : (G : Table) → Separate G → (r : ℕ) → G.has_left r ≡ true → (f : Forest) (before : Part) → G.left_ok r (left_last before) ≡ true → Follows G r 0 plain f → Grows G r before f →
@@ -170,17 +170,17 @@ mutual
   enter_behind G L r e (part p c f) before ok fol own ne F S high room n w le U V reach ts =
       let can = part_takes G L r p c fol.1 fol.2 own.1 in
       let by : Leads (part_yield c) (λ t. Reaches G t F.number F.at ((F.at, before) ∷ F.done) U S × (place_in G (frame F.number F.at ((F.at, before) ∷ F.done)) t ≡ growth) × (grower_in G (G.what F.number F.at) (key_of t) ≡ Some r)) =
-        leads_map (λ t. PartFree G (key_of t) before × (takes G (G.what r p) (key_of t) ≡ true))
-          (λ t. Reaches G t F.number F.at ((F.at, before) ∷ F.done) U S × (place_in G (frame F.number F.at ((F.at, before) ∷ F.done)) t ≡ growth) × (grower_in G (G.what F.number F.at) (key_of t) ≡ Some r))
-          (part_yield c)
-          (λ t h. let g = L.grower_is r p (key_of t) e fol.0 h.1 in
-            (reach t h.0, place_growth G r F.number F.at n (key_of t) before w le ok g, grower_waits G (G.what F.number F.at) (G.sort r) n (key_of t) r w g))
-          (leads_both (λ t. PartFree G (key_of t) before) (λ t. takes G (G.what r p) (key_of t) ≡ true) (part_yield c) own.0 can) in
+      leads_map (λ t. PartFree G (key_of t) before × (takes G (G.what r p) (key_of t) ≡ true))
+      (λ t. Reaches G t F.number F.at ((F.at, before) ∷ F.done) U S × (place_in G (frame F.number F.at ((F.at, before) ∷ F.done)) t ≡ growth) × (grower_in G (G.what F.number F.at) (key_of t) ≡ Some r))
+      (part_yield c)
+      (λ t h. let g = L.grower_is r p (key_of t) e fol.0 h.1 in
+      (reach t h.0, place_growth G r F.number F.at n (key_of t) before w le ok g, grower_waits G (G.what F.number F.at) (G.sort r) n (key_of t) r w g))
+      (leads_both (λ t. PartFree G (key_of t) before) (λ t. takes G (G.what r p) (key_of t) ≡ true) (part_yield c) own.0 can) in
       let lt : length (F ∷ S) + 1 ≤ 512 = omega arith in
       let one = step_growth G F r p before (part_yield c) (forest_yield f ++ ts) U S (L.first_only r p fol.0) by in
       let two = enter_part G L r p c fol.1 fol.2 own.1 (length S + 2 + part_height before) high (F ∷ S) lt room.0 0 ((0, before) ∷ []) (forest_yield f ++ ts) in
       let three = go_on G L r p c (last_in (G.what r p) c) f fol.3 own.2 (F ∷ S) lt room.1 ((0, before) ∷ []) (open_part r ((0, before) ∷ []) p c (F ∷ S))
-          (λ t free. reached G t r p c fol.2 free ((0, before) ∷ []) (F ∷ S)) ts in
+      (λ t free. reached G t r p c fol.2 free ((0, before) ∷ []) (F ∷ S)) ts in
       rw (append_assoc (part_yield c) (forest_yield f) ts) (one ∙ two ∙ three)
 
   -- the first part of a row without a left operand
@@ -197,10 +197,10 @@ mutual
       let is' = waits_for G r p s m T is same in
       let lead = leads G L m T wf pr ne fits in
       let one = begun_inner G r p (G.sort (row_of T)) m (G.sort r) (yield_of T) X S
-          (leads_map (λ t. begins_by G m (G.chain (G.sort (row_of T)) (key_of t)) ≡ true) (λ t. (G.chain (G.sort r) (key_of t) ≡ r ∷ G.chain (G.sort (row_of T)) (key_of t)) × Begun G m (G.chain (G.sort (row_of T)) (key_of t))) (yield_of T)
-            (λ t h. let b = begun_by G m (G.chain (G.sort (row_of T)) (key_of t)) h in
-              (L.chain_operand r p (key_of t) (G.sort (row_of T)) m b.head b.rest e may is' b.is b.stands ∙ ap (λ xs. r ∷ xs) (sym b.is), b)) lead)
-          (L.first_only r p may) in
+      (leads_map (λ t. begins_by G m (G.chain (G.sort (row_of T)) (key_of t)) ≡ true) (λ t. (G.chain (G.sort r) (key_of t) ≡ r ∷ G.chain (G.sort (row_of T)) (key_of t)) × Begun G m (G.chain (G.sort (row_of T)) (key_of t))) (yield_of T)
+      (λ t h. let b = begun_by G m (G.chain (G.sort (row_of T)) (key_of t)) h in
+      (L.chain_operand r p (key_of t) (G.sort (row_of T)) m b.head b.rest e may is' b.is b.stands ∙ ap (λ xs. r ∷ xs) (sym b.is), b)) lead)
+      (L.first_only r p may) in
       one ∙ enter G L T wf pr ne (frame r p []) S room m is' fits X
 
   -- a part whose first token stands at, or begins, its spot
@@ -223,9 +223,9 @@ mutual
   go_on G L r at before last no_parts fol own S lt room done U reach ts = refl
   go_on G L r at before last (part p c f) fol own S lt room done U reach ts =
       let by = leads_map (λ t. PartFree G (key_of t) before × (first_place G r at (last_in (G.what r at) before) (key_of t) ≡ at_spot p))
-          (λ t. Reaches G t r at ((at, before) ∷ done) U S × (first_place G r at (last_in (G.what r at) before) (key_of t) ≡ at_spot p)) (part_yield c) (λ t h. (reach t h.0, h.1)) own.0 in
+      (λ t. Reaches G t r at ((at, before) ∷ done) U S × (first_place G r at (last_in (G.what r at) before) (key_of t) ≡ at_spot p)) (part_yield c) (λ t h. (reach t h.0, h.1)) own.0 in
       let one = step_to G r at p before done (part_yield c) (forest_yield f ++ ts) U S by in
       let two = enter_part G L r p c fol.1 fol.2 own.1 0 (omega arith) S lt room.0 at ((at, before) ∷ done) (forest_yield f ++ ts) in
       let three = go_on G L r p c (last_in (G.what r p) c) f fol.3 own.2 S lt room.1 ((at, before) ∷ done) (open_part r ((at, before) ∷ done) p c S)
-          (λ t free. reached G t r p c fol.2 free ((at, before) ∷ done) S) ts in
+      (λ t free. reached G t r p c fol.2 free ((at, before) ∷ done) S) ts in
       rw (append_assoc (part_yield c) (forest_yield f) ts) (one ∙ two ∙ three)

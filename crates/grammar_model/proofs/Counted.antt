@@ -41,19 +41,22 @@ pub record Moved (S U : Stack) (ts : List Tok) (h : ℕ) : Type 0 where
 
 moved_on : (S U V : Stack) (ts : List Tok) (h k : ℕ) → Moved S U [] h → Moved U V ts k → Moved S V ts (h + k)
 moved_on S U V ts h k a b = record {
-    yields = b.yields ∙ ap (λ y. y ++ ts) (a.yields ∙ append-nil (stack_yield S));
-    holes = let x = a.holes in let y = b.holes in omega arith }
+  yields = b.yields ∙ ap (λ y. y ++ ts) (a.yields ∙ append-nil (stack_yield S));
+  holes = let x = a.holes in let y = b.holes in omega arith;
+}
 
 moved_after : (S U V : Stack) (ts : List Tok) (k : ℕ) → Moved S U [] 0 → Moved U V ts k → Moved S V ts k
 moved_after S U V ts k a b = record {
-    yields = b.yields ∙ ap (λ y. y ++ ts) (a.yields ∙ append-nil (stack_yield S));
-    holes = let x = a.holes in let y = b.holes in omega arith }
+  yields = b.yields ∙ ap (λ y. y ++ ts) (a.yields ∙ append-nil (stack_yield S));
+  holes = let x = a.holes in let y = b.holes in omega arith;
+}
 
 moved_put : (f g : Frame) (S : Stack) → Moved (f ∷ g ∷ S) (put f g ∷ S) [] 0
 moved_put f g S = record {
-    yields = ap (λ y. stack_yield S ++ (rev_yield g.done ++ y)) (onto_yield f.done no_parts ∙ append-nil (rev_yield f.done)) ∙ sym (append_assoc (stack_yield S) (rev_yield g.done) (rev_yield f.done))
-        ∙ sym (append-nil ((stack_yield S ++ rev_yield g.done) ++ rev_yield f.done));
-    holes = let h = onto_holes f.done no_parts in omega arith }
+  yields = ap (λ y. stack_yield S ++ (rev_yield g.done ++ y)) (onto_yield f.done no_parts ∙ append-nil (rev_yield f.done)) ∙ sym (append_assoc (stack_yield S) (rev_yield g.done) (rev_yield f.done))
+      ∙ sym (append-nil ((stack_yield S ++ rev_yield g.done) ++ rev_yield f.done));
+  holes = let h = onto_holes f.done no_parts in omega arith;
+}
 
 moved_missing : (f : Frame) (p place : ℕ) (S : Stack) → Moved (f ∷ S) (missing_at f p place ∷ S) [] 1
 moved_missing f p place S = record { yields = ap (λ y. stack_yield S ++ y) (append-nil (rev_yield f.done)) ∙ sym (append-nil (stack_yield S ++ rev_yield f.done)); holes = omega arith }
@@ -63,15 +66,15 @@ moved_opened G [] t S ne = absurd (ne refl)
 moved_opened G (r ∷ []) t S ne = record { yields = refl; holes = omega arith }
 moved_opened G (r ∷ q ∷ qs) t S ne =
     moved_on S (frame r (first_of G r) [] ∷ S) (opened G (q ∷ qs) t (frame r (first_of G r) [] ∷ S)) (t ∷ []) 0 0
-      (record { yields = refl; holes = omega arith }) (moved_opened G (q ∷ qs) t (frame r (first_of G r) [] ∷ S) (λ z. cc))
+    (record { yields = refl; holes = omega arith }) (moved_opened G (q ∷ qs) t (frame r (first_of G r) [] ∷ S) (λ z. cc))
 
 moved_start : (G : Table) (w : What) (f : Frame) (p : ℕ) (t : Tok) (S : Stack) → takes G w (key_of t) ≡ true → Moved (f ∷ S) (start_in G w f p t S) (t ∷ []) 0
 moved_start G nothing f p t S h = absurd (cc)
 moved_start G (token ks) f p t S h = record { yields = sym (append_assoc (stack_yield S) (rev_yield f.done) (t ∷ [])); holes = omega arith }
 moved_start G (operand s n) f p t S h =
     moved_on (f ∷ S) (frame f.number p f.done ∷ S) (opened G (G.chain s (key_of t)) t (frame f.number p f.done ∷ S)) (t ∷ []) 0 0
-      (record { yields = sym (append-nil (stack_yield S ++ rev_yield f.done)); holes = omega arith })
-      (moved_opened G (G.chain s (key_of t)) t (frame f.number p f.done ∷ S) (λ z. let x : begins_by G n [] ≡ true = subst (λ xs. begins_by G n xs ≡ true) z h in cc))
+    (record { yields = sym (append-nil (stack_yield S ++ rev_yield f.done)); holes = omega arith })
+    (moved_opened G (G.chain s (key_of t)) t (frame f.number p f.done ∷ S) (λ z. let x : begins_by G n [] ≡ true = subst (λ xs. begins_by G n xs ≡ true) z h in cc))
 
 pub grower_operand : (G : Table) (w : What) (k g : ℕ) → grower_in G w k ≡ Some g → (s : ℕ) × (G.grower s k ≡ Some g)
 grower_operand G nothing k g h = absurd (cc)
@@ -87,7 +90,8 @@ moved_grown G L (Some g) r at (d ∷ ds) t S U can h =
     let m = moved_start G (G.what g (first_of G g)) (frame g 0 ((0, d.1) ∷ [])) (first_of G g) t (frame r at ds ∷ S) (can g refl) in
     subst (λ U. Moved (frame r at (d ∷ ds) ∷ S) U (t ∷ []) 0) same (record {
       yields = m.yields ∙ ap (λ y. y ++ (t ∷ [])) (append_assoc (stack_yield S) (rev_yield ds) (part_yield d.1));
-      holes = let x = m.holes in omega arith })
+      holes = let x = m.holes in omega arith;
+    })
 
 moved_take : (G : Table) → Found G → (place : Place) (f : Frame) (S : Stack) (t : Tok) (U : Stack) → place_in G f t ≡ place → take_at G place f S t no_fit ≡ fit U → Moved (f ∷ S) U (t ∷ []) 0
 moved_take G L nowhere f S t U e h = absurd (cc)
@@ -136,7 +140,9 @@ moved_past G L f S t place h n (e ∷ es) U i =
         (if b then at_frame G (place_in G (missing_at f e.spot place) t) (missing_at f e.spot place) S t (h + 1) (past_operand G f S t place h es) else past_operand G f S t place h es) ≡ reached (fit U) n → Reached (f ∷ S) t U h n
     by false go i = go i
     by true go i = elim (moved_at G L (place_in G (missing_at f e.spot place) t) (missing_at f e.spot place) S t (h + 1) n (past_operand G f S t place h es) U refl i) [
-        inl r ↦ after_missing f e.spot place S t U h n r | inr o ↦ go o ]
+      | inl r ↦ after_missing f e.spot place S t U h n r
+      | inr o ↦ go o
+    ]
 
 pub moved_or : (A : Type 0) (a b : Reach) (U : Stack) (n : ℕ) → or_reach a b ≡ reached (fit U) n → (a ≡ reached (fit U) n → A) → (b ≡ reached (fit U) n → A) → A
 moved_or A unreached b U n h f g = g h
@@ -146,10 +152,11 @@ moved_in : (G : Table) → Found G → (fuel : ℕ) (f : Frame) (S : Stack) (t :
 moved_in G L zero f S t place h n U i = absurd (cc)
 moved_in G L (suc fuel) f S t place h n U i =
     elim (moved_at G L (place_in G f t) f S t h n (or_reach (past_operand G f S t place h (G.next f.number f.at)) (on_edge (must_of G f) unreached (λ e. reach_in fuel G (missing_at f e.spot place) S t place (h + 1)))) U refl i) [
-      inl r ↦ r
+      | inl r ↦ r
       | inr o ↦ moved_or (Reached (f ∷ S) t U h n) (past_operand G f S t place h (G.next f.number f.at)) (on_edge (must_of G f) unreached (λ e. reach_in fuel G (missing_at f e.spot place) S t place (h + 1))) U n o
           (moved_past G L f S t place h n (G.next f.number f.at) U)
-          (must (must_of G f) (λ e. moved_in G L fuel (missing_at f e.spot place) S t place (h + 1) n U)) ]
+          (must (must_of G f) (λ e. moved_in G L fuel (missing_at f e.spot place) S t place (h + 1) n U))
+    ]
   where
     must : (o : Option Edge) → ((e : Edge) → reach_in fuel G (missing_at f e.spot place) S t place (h + 1) ≡ reached (fit U) n → Reached (missing_at f e.spot place ∷ S) t U (h + 1) n) →
         on_edge o unreached (λ e. reach_in fuel G (missing_at f e.spot place) S t place (h + 1)) ≡ reached (fit U) n → Reached (f ∷ S) t U h n
@@ -164,19 +171,21 @@ moved_filled G (suc fuel) f place S = must (must_of G f) (λ e. moved_filled G f
         Moved (f ∷ S) ((on_edge o (f, 0) (λ e. one_more (filled fuel G (missing_at f e.spot place) place))).0 ∷ S) [] (on_edge o (f, 0) (λ e. one_more (filled fuel G (missing_at f e.spot place) place))).1
     must None go = record { yields = sym (append-nil (stack_yield S ++ rev_yield f.done)); holes = omega arith }
     must (Some e) go =
-      let m = moved_on (f ∷ S) (missing_at f e.spot place ∷ S) ((filled fuel G (missing_at f e.spot place) place).0 ∷ S) [] 1 (filled fuel G (missing_at f e.spot place) place).1 (moved_missing f e.spot place S) (go e) in
-      record { yields = m.yields; holes = let x = m.holes in omega arith }
+        let m = moved_on (f ∷ S) (missing_at f e.spot place ∷ S) ((filled fuel G (missing_at f e.spot place) place).0 ∷ S) [] 1 (filled fuel G (missing_at f e.spot place) place).1 (moved_missing f e.spot place S) (go e) in
+        record { yields = m.yields; holes = let x = m.holes in omega arith }
 
 moved_out : (G : Table) → Found G → (t : Tok) (place : ℕ) (S : Stack) (f : Frame) (h n : ℕ) (U : Stack) → reach_out G f S t place h ≡ reached (fit U) n → Reached (f ∷ S) t U h n
 moved_out G L t place [] f h n U i = moved_in G L most_parts f [] t place h n U i
 moved_out G L t place (g ∷ S) f h n U i =
     let r = filled most_parts G f place in
     moved_or (Reached (f ∷ g ∷ S) t U h n) (reach_in most_parts G f (g ∷ S) t place h) (reach_out G (put (filled most_parts G f place).0 g) S t place (h + (filled most_parts G f place).1)) U n i
-      (moved_in G L most_parts f (g ∷ S) t place h n U)
-      (λ o. let (m, e, k) = moved_out G L t place S (put (filled most_parts G f place).0 g) (h + (filled most_parts G f place).1) n U o in
-        ((filled most_parts G f place).1 + m, omega arith,
-         moved_on (f ∷ g ∷ S) ((filled most_parts G f place).0 ∷ g ∷ S) U (t ∷ []) (filled most_parts G f place).1 m (moved_filled G most_parts f place (g ∷ S))
-           (moved_after ((filled most_parts G f place).0 ∷ g ∷ S) (put (filled most_parts G f place).0 g ∷ S) U (t ∷ []) m (moved_put (filled most_parts G f place).0 g S) k)))
+    (moved_in G L most_parts f (g ∷ S) t place h n U)
+    (λ o. let (m, e, k) = moved_out G L t place S (put (filled most_parts G f place).0 g) (h + (filled most_parts G f place).1) n U o in (
+      (filled most_parts G f place).1 + m,
+      omega arith,
+      moved_on (f ∷ g ∷ S) ((filled most_parts G f place).0 ∷ g ∷ S) U (t ∷ []) (filled most_parts G f place).1 m (moved_filled G most_parts f place (g ∷ S))
+          (moved_after ((filled most_parts G f place).0 ∷ g ∷ S) (put (filled most_parts G f place).0 g ∷ S) U (t ∷ []) m (moved_put (filled most_parts G f place).0 g S) k),
+    ))
 
 -- one token: it is taken, or it is left out by its fault; the fault counts the missing parts
 pub record Took (S : Stack) (t : Tok) (r : Stepped) : Type 0 where
@@ -189,14 +198,17 @@ took G L S place t = subst (Took S t) (sym (step_is G S place t)) (by (fits G S 
     fitted : (S U : Stack) → fits G S t ≡ fit U → Moved S U (t ∷ []) 0
     fitted [] U h = absurd (cc)
     fitted (f ∷ S) U h = moved_fits G L t S f U h
+
     from : (S : Stack) (U : Stack) (n : ℕ) → reach_from G S t place ≡ reached (fit U) n → Reached S t U 0 n
     from [] U n h = absurd (cc)
     from (f ∷ S) U n h = moved_out G L t place S f 0 n U h
+
     out : (x : Reach) → reach_from G S t place ≡ x → Took S t (after_reach S place t x)
     out unreached e = record { token = inr (refl, refl, refl) }
     out (reached no_fit n) e = record { token = inr (refl, refl, refl) }
     out (reached deep n) e = record { token = inr (refl, refl, refl) }
     out (reached (fit U) n) e = let (m, is, r) = from S U n e in record { token = inl (subst (λ k. Moved S U (t ∷ []) k) (omega arith) r, refl) }
+
     by : (x : Fit) → fits G S t ≡ x → Took S t (after_fit G S place t x)
     by (fit U) e = record { token = inl (fitted S U e, refl) }
     by deep e = record { token = inr (refl, refl, refl) }
@@ -212,14 +224,16 @@ closed_counts G place [] f =
     let m = moved_filled G most_parts f place [] in
     record {
       yields = onto_yield (filled most_parts G f place).0.done no_parts ∙ append-nil (rev_yield (filled most_parts G f place).0.done) ∙ m.yields ∙ append-nil (rev_yield f.done);
-      holes = let h = onto_holes (filled most_parts G f place).0.done no_parts in let x = m.holes in omega arith }
+      holes = let h = onto_holes (filled most_parts G f place).0.done no_parts in let x = m.holes in omega arith;
+    }
 closed_counts G place (g ∷ S) f =
     let m = moved_filled G most_parts f place (g ∷ S) in
     let p = moved_put (filled most_parts G f place).0 g S in
     let w = closed_counts G place S (put (filled most_parts G f place).0 g) in
     record {
       yields = w.yields ∙ p.yields ∙ append-nil (stack_yield ((filled most_parts G f place).0 ∷ g ∷ S)) ∙ m.yields ∙ append-nil (stack_yield (f ∷ g ∷ S));
-      holes = let x = m.holes in let y = p.holes in let z = w.holes in omega arith }
+      holes = let x = m.holes in let y = p.holes in let z = w.holes in omega arith;
+    }
 
 close_counts : (G : Table) (S : Stack) (place : ℕ) → Whole S (close_up G S place)
 close_counts G [] place = record { yields = refl; holes = refl }
@@ -247,24 +261,29 @@ run_lossless G L (t ∷ ts) S place = by (step G S place t) (took G L S place t)
     outs (Some (added p n)) fs = refl
     outs (Some (skipped u)) fs = refl
     outs (Some (too_deep u)) fs = refl
+
     adds : (x : Option Fault) (fs : List Fault) → added_in (some_fault x fs) ≡ added_in (some_fault x []) + added_in fs
     adds None fs = omega arith
     adds (Some (added p n)) fs = omega arith
     adds (Some (skipped u)) fs = omega arith
     adds (Some (too_deep u)) fs = omega arith
+
     by : (r : Stepped) → Took S t r → Lossless r.stack ts (recovered G ts r.stack r.place) →
         Lossless S (t ∷ ts) (let q = recovered G ts r.stack r.place in (q.0, some_fault r.fault q.1))
     by r k l = elim (k.token) [
-        inl (m, none) ↦ record {
-          more = t ∷ l.more;
-          yields = l.yields ∙ ap (λ y. y ++ l.more) m.yields ∙ append_assoc (stack_yield S) (t ∷ []) l.more;
-          merged = inl (l.more, refl, subst (λ z. Merged ts l.more z) (sym (outs r.fault (recovered G ts r.stack r.place).1 ∙ ap (λ z. z ++ left_out (recovered G ts r.stack r.place).1) none)) l.merged);
-          holes = let a = m.holes in let b = l.holes in let c = adds r.fault (recovered G ts r.stack r.place).1 in omega arith }
-        | inr (same, one, no_more) ↦ record {
-          more = l.more;
-          yields = l.yields ∙ ap (λ U. stack_yield U ++ l.more) same;
-          merged = inr (left_out (recovered G ts r.stack r.place).1, outs r.fault (recovered G ts r.stack r.place).1 ∙ ap (λ z. z ++ left_out (recovered G ts r.stack r.place).1) one, l.merged);
-          holes = let a = ap stack_holes same in let b = l.holes in let c = adds r.fault (recovered G ts r.stack r.place).1 in omega arith } ]
+      | inl (m, none) ↦ record {
+        more = t ∷ l.more;
+        yields = l.yields ∙ ap (λ y. y ++ l.more) m.yields ∙ append_assoc (stack_yield S) (t ∷ []) l.more;
+        merged = inl (l.more, refl, subst (λ z. Merged ts l.more z) (sym (outs r.fault (recovered G ts r.stack r.place).1 ∙ ap (λ z. z ++ left_out (recovered G ts r.stack r.place).1) none)) l.merged);
+        holes = let a = m.holes in let b = l.holes in let c = adds r.fault (recovered G ts r.stack r.place).1 in omega arith;
+      }
+      | inr (same, one, no_more) ↦ record {
+        more = l.more;
+        yields = l.yields ∙ ap (λ U. stack_yield U ++ l.more) same;
+        merged = inr (left_out (recovered G ts r.stack r.place).1, outs r.fault (recovered G ts r.stack r.place).1 ∙ ap (λ z. z ++ left_out (recovered G ts r.stack r.place).1) one, l.merged);
+        holes = let a = ap stack_holes same in let b = l.holes in let c = adds r.fault (recovered G ts r.stack r.place).1 in omega arith;
+      }
+    ]
 
 -- the text's tokens are those of the tree and those left out, and the faults count the missing parts
 pub lossless : (G : Table) → Found G → (ts : List Tok) → Merged ts (yield_of (recover G ts).0) (left_out (recover G ts).1) × (holes_of (recover G ts).0 ≡ added_in (recover G ts).1)

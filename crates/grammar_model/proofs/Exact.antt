@@ -33,7 +33,7 @@ play_root G L (part p c f) wf pr room =
     let two = enter_part G L G.root p c first.1 wf.1 own.0 0 (omega arith) [] (omega arith) rm.1 0 [] (forest_yield f ++ []) in
     let three = go_on G L G.root p c (last_in (G.what G.root p) c) f wf.2 own.1 [] (omega arith) rm.2 [] (open_part G.root [] p c []) (λ t free. reached G t G.root p c wf.1 free [] []) [] in
     let four : play G (part_yield c ++ forest_yield f) (frame G.root 0 [] ∷ []) ≡ Some (open_forest G.root ((p, c) ∷ []) f (open_part G.root [] p c []) []) =
-      subst (λ y. play G (part_yield c ++ y) (frame G.root 0 [] ∷ []) ≡ Some (open_forest G.root ((p, c) ∷ []) f (open_part G.root [] p c []) [])) (append-nil (forest_yield f)) (one ∙ two ∙ three) in
+    subst (λ y. play G (part_yield c ++ y) (frame G.root 0 [] ∷ []) ≡ Some (open_forest G.root ((p, c) ∷ []) f (open_part G.root [] p c []) [])) (append-nil (forest_yield f)) (one ∙ two ∙ three) in
     ap (close_all G) four ∙ root_closes G G.root p (last_in (G.what G.root p) c) f wf.2 [] c (open_part G.root [] p c []) (closes_part G G.root p c wf.1 [] [])
 
 -- the machine gives the tree that is in the grammar

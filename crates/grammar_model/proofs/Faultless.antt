@@ -23,10 +23,10 @@ filled_none G L f place h = by (G.ends f.number f.at) refl
     by : (b : Bool) → G.ends f.number f.at ≡ b → G.ends f.number f.at ≡ true
     by true e = e
     by false e =
-      let (d, is) = L.next_must f.number f.at e in
-      let m : must_of G f ≡ Some d = rw e is in
-      let z : (filled 15 G (missing_at f d.spot place) place).1 + 1 ≡ 0 = subst (λ o. (on_edge o (f, 0) (λ e. one_more (filled 15 G (missing_at f e.spot place) place))).1 ≡ 0) m h in
-      absurd (omega arith)
+        let (d, is) = L.next_must f.number f.at e in
+        let m : must_of G f ≡ Some d = rw e is in
+        let z : (filled 15 G (missing_at f d.spot place) place).1 + 1 ≡ 0 = subst (λ o. (on_edge o (f, 0) (λ e. one_more (filled 15 G (missing_at f e.spot place) place))).1 ≡ 0) m h in
+        absurd (omega arith)
 
 closes_up : (G : Table) (place : ℕ) (S : Stack) (f : Frame) (T : Tree) → closed_at G f S ≡ Some T → closed_up G f S place ≡ (T, 0)
 closes_up G place [] f T h = by (G.ends f.number f.at) refl h
@@ -76,6 +76,7 @@ gives_run G L (t ∷ ts) S place h =
     not_reached (reached no_fit n) h = cc
     not_reached (reached deep n) h = cc
     not_reached (reached (fit U) n) h = cc
+
     by : (x : Fit) → fits G S t ≡ x → ((W : Stack) → (recovered G ts W t.end).1 ≡ [] → close_all G (play G ts W) ≡ Some (recovered G ts W t.end).0) →
         some_fault (after_fit G S place t (fits G S t)).fault (recovered G ts (after_fit G S place t (fits G S t)).stack (after_fit G S place t (fits G S t)).place).1 ≡ [] →
         close_all G (on_fit (fits G S t) (play G ts)) ≡ Some (recovered G ts (step G S place t).stack (step G S place t).place).0

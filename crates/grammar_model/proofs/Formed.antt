@@ -64,8 +64,10 @@ first_waits : (G : Table) (r p : ℕ) → G.has_left r ≡ false → MayCome (G.
 first_waits G r p e may = record { filled = λ c st fm f fol. (subst (λ b. BeginsWith G r b p c) (sym e) (may, st), fm, fol) }
 
 left_waits : (G : Table) → Found G → (r p : ℕ) (l : Part) → G.has_left r ≡ true → G.left_ok r (left_last l) ≡ true → IsPartFormed G l → MayCome (G.next r 0) plain p → Awaits G r p ((0, l) ∷ [])
-left_waits G L r p l e ok lf may = record { filled = λ c st fm f fol.
-    (subst (λ b. BeginsWith G r b 0 l) (sym e) (refl, ok), lf, subst (λ w. Follows G r 0 (last_in w l) (part p c f)) (sym (L.start r)) (may, st, fm, fol)) }
+left_waits G L r p l e ok lf may = record {
+  filled = λ c st fm f fol.
+      (subst (λ b. BeginsWith G r b 0 l) (sym e) (refl, ok), lf, subst (λ w. Follows G r 0 (last_in w l) (part p c f)) (sym (L.start r)) (may, st, fm, fol));
+}
 
 top_opened : (G : Table) → Found G → (t : Tok) (s n : ℕ) (F : Frame) (S : Stack) (xs : List ℕ) → G.chain s (key_of t) ≡ xs → begins_by G n xs ≡ true → G.what F.number F.at ≡ operand s n → Awaits G F.number F.at F.done →
     AllLow (length S + 1) F.done → Below G F.number S → length (opened G xs t (F ∷ S)) ≤ 512 → TopOf G (opened G xs t (F ∷ S))
@@ -108,7 +110,7 @@ top_grown G L t r at (operand s n) is (x ∷ ds) S U top g h =
     let (same, high, few) = within_parts (length S + 2 + part_height x.1) (start_at G (frame q 0 ((0, x.1) ∷ [])) (first_of G q) t (frame r at ds ∷ S)) U h' in
     let (w, st, fm) = top.newest in
     subst (TopOf G) same (top_start G L t q 0 (first_of G q) ((0, x.1) ∷ []) (frame r at ds ∷ S) (G.what q (first_of G q)) refl takes
-      (left_waits G L q (first_of G q) x.1 lefty (subst (λ l. G.left_ok q l ≡ true) (last_left s n x.1) ok) fm may) (omega arith, tt) (s, n, is, sort, le, w, top.low.1, top.below) few)
+    (left_waits G L q (first_of G q) x.1 lefty (subst (λ l. G.left_ok q l ≡ true) (last_left s n x.1) ok) fm may) (omega arith, tt) (s, n, is, sort, le, w, top.low.1, top.below) few)
 
 top_take : (G : Table) → Found G → (place : Place) (r at : ℕ) (done : List (ℕ × Part)) (S : Stack) (t : Tok) (U : Stack) → Top G r at done S → place_in G (frame r at done) t ≡ place → take_at G place (frame r at done) S t no_fit ≡ fit U → TopOf G U
 top_take G L nowhere r at done S t U top e h = absurd (cc)
@@ -164,12 +166,12 @@ top_past G L P r at done S t place h n (e ∷ es) U top inc i =
   where
     by : (b : Bool) → (is_operand (G.what r e.spot) && allowed e.behind (last_done (G.what r at) done)) ≡ b → (past_operand G (frame r at done) S t place h es ≡ reached (fit U) n → TopOf G U) →
         (if b then at_frame G (place_in G (missing_at (frame r at done) e.spot place) t) (missing_at (frame r at done) e.spot place) S t (h + 1) (past_operand G (frame r at done) S t place h es)
-          else past_operand G (frame r at done) S t place h es) ≡ reached (fit U) n → TopOf G U
+        else past_operand G (frame r at done) S t place h es) ≡ reached (fit U) n → TopOf G U
     by false eb go i = go i
     by true eb go i =
-      let may = inc e.spot (inl (refl, and_both (is_operand (G.what r e.spot)) (allowed e.behind (last_done (G.what r at) done)) eb)) in
-      elim (top_at G L (place_in G (missing_at (frame r at done) e.spot place) t) r e.spot ((e.spot, missing place) ∷ done) S t (h + 1) n (past_operand G (frame r at done) S t place h es) U
-          (top_missing G P r at e.spot place done S top may) refl i) [ inl a ↦ a | inr o ↦ go o ]
+        let may = inc e.spot (inl (refl, and_both (is_operand (G.what r e.spot)) (allowed e.behind (last_done (G.what r at) done)) eb)) in
+        elim (top_at G L (place_in G (missing_at (frame r at done) e.spot place) t) r e.spot ((e.spot, missing place) ∷ done) S t (h + 1) n (past_operand G (frame r at done) S t place h es) U
+        (top_missing G P r at e.spot place done S top may) refl i) [ inl a ↦ a | inr o ↦ go o ]
 
 must_may : (G : Table) → Passes G → (r at : ℕ) (last : Last) (done : List (ℕ × Part)) (e : Edge) → must_of G (frame r at done) ≡ Some e → (G.ends r at ≡ false) × (last_edge (G.next r at) ≡ Some e) × MayCome (G.next r at) last e.spot
 must_may G P r at last done e h = by (G.ends r at) refl h
@@ -182,11 +184,12 @@ top_in : (G : Table) → Found G → Passes G → (fuel : ℕ) (r at : ℕ) (don
 top_in G L P zero r at done S t place h n U top i = absurd (cc)
 top_in G L P (suc fuel) r at done S t place h n U top i =
     elim (top_at G L (place_in G (frame r at done) t) r at done S t h n
-        (or_reach (past_operand G (frame r at done) S t place h (G.next r at)) (on_edge (must_of G (frame r at done)) unreached (λ e. reach_in fuel G (missing_at (frame r at done) e.spot place) S t place (h + 1)))) U top refl i) [
-      inl a ↦ a
+    (or_reach (past_operand G (frame r at done) S t place h (G.next r at)) (on_edge (must_of G (frame r at done)) unreached (λ e. reach_in fuel G (missing_at (frame r at done) e.spot place) S t place (h + 1)))) U top refl i) [
+      | inl a ↦ a
       | inr o ↦ moved_or (TopOf G U) (past_operand G (frame r at done) S t place h (G.next r at)) (on_edge (must_of G (frame r at done)) unreached (λ e. reach_in fuel G (missing_at (frame r at done) e.spot place) S t place (h + 1))) U n o
           (top_past G L P r at done S t place h n (G.next r at) U top (λ p m. m))
-          (must (must_of G (frame r at done)) refl (λ e may. top_in G L P fuel r e.spot ((e.spot, missing place) ∷ done) S t place (h + 1) n U (top_missing G P r at e.spot place done S top may))) ]
+          (must (must_of G (frame r at done)) refl (λ e may. top_in G L P fuel r e.spot ((e.spot, missing place) ∷ done) S t place (h + 1) n U (top_missing G P r at e.spot place done S top may)))
+    ]
   where
     must : (o : Option Edge) → must_of G (frame r at done) ≡ o → ((e : Edge) → MayCome (G.next r at) (last_done (G.what r at) done) e.spot → reach_in fuel G (missing_at (frame r at done) e.spot place) S t place (h + 1) ≡ reached (fit U) n → TopOf G U) →
         on_edge o unreached (λ e. reach_in fuel G (missing_at (frame r at done) e.spot place) S t place (h + 1)) ≡ reached (fit U) n → TopOf G U
@@ -205,9 +208,11 @@ top_filled G P (suc fuel) r at done S place e top = by (must_of G (frame r at do
     ended : (b : Bool) → G.ends r at ≡ b → (if b then None else last_edge (G.next r at)) ≡ None → (if b then true else on_edge (last_edge (G.next r at)) false (λ e. ends_within fuel G r e.spot)) ≡ true → G.ends r at ≡ true
     ended true en h e = en
     ended false en h e = let x : on_edge None false (λ e. ends_within fuel G r e.spot) ≡ true = subst (λ o. on_edge o false (λ e. ends_within fuel G r e.spot) ≡ true) h e in absurd (cc)
+
     goes_on : (d : Edge) (b : Bool) → G.ends r at ≡ b → b ≡ false → last_edge (G.next r at) ≡ Some d → (if b then true else on_edge (last_edge (G.next r at)) false (λ e. ends_within fuel G r e.spot)) ≡ true → ends_within fuel G r d.spot ≡ true
     goes_on d true en b h e = absurd (cc)
     goes_on d false en b h e = subst (λ o. on_edge o false (λ e. ends_within fuel G r e.spot) ≡ true) h e
+
     by : (o : Option Edge) → must_of G (frame r at done) ≡ o → ((d : Edge) → MayCome (G.next r at) (last_done (G.what r at) done) d.spot → ends_within fuel G r d.spot ≡ true → Full G S (filled fuel G (missing_at (frame r at done) d.spot place) place).0) →
         Full G S (on_edge o (frame r at done, 0) (λ e. one_more (filled fuel G (missing_at (frame r at done) e.spot place) place))).0
     by None is go = record { top = top; ends = ended (G.ends r at) refl is e }
@@ -223,9 +228,9 @@ top_out : (G : Table) → Found G → Passes G → (t : Tok) (place : ℕ) (S : 
 top_out G L P t place [] f h n U top i = top_in G L P most_parts f.number f.at f.done [] t place h n U top i
 top_out G L P t place (F ∷ S) f h n U top i =
     moved_or (TopOf G U) (reach_in most_parts G f (F ∷ S) t place h) (reach_out G (put (filled most_parts G f place).0 F) S t place (h + (filled most_parts G f place).1)) U n i
-      (top_in G L P most_parts f.number f.at f.done (F ∷ S) t place h n U top)
-      (top_out G L P t place S (put (filled most_parts G f place).0 F) (h + (filled most_parts G f place).1) n U
-        (filled_put G (filled most_parts G f place).0 F S (top_filled G P most_parts f.number f.at f.done (F ∷ S) place (P.soon f.number f.at) top)))
+    (top_in G L P most_parts f.number f.at f.done (F ∷ S) t place h n U top)
+    (top_out G L P t place S (put (filled most_parts G f place).0 F) (h + (filled most_parts G f place).1) n U
+    (filled_put G (filled most_parts G f place).0 F S (top_filled G P most_parts f.number f.at f.done (F ∷ S) place (P.soon f.number f.at) top)))
 
 top_step : (G : Table) → Found G → Passes G → (S : Stack) (place : ℕ) (t : Tok) → TopOf G S → TopOf G (step G S place t).stack
 top_step G L P S place t top = subst (λ r. TopOf G r.stack) (sym (step_is G S place t)) (by (fits G S t) refl)
@@ -233,14 +238,17 @@ top_step G L P S place t top = subst (λ r. TopOf G r.stack) (sym (step_is G S p
     fitted : (S U : Stack) → TopOf G S → fits G S t ≡ fit U → TopOf G U
     fitted [] U top h = absurd top
     fitted (f ∷ S) U top h = top_fits G L t S f.number f.at f.done U top h
+
     from : (S U : Stack) (n : ℕ) → TopOf G S → reach_from G S t place ≡ reached (fit U) n → TopOf G U
     from [] U n top h = absurd top
     from (f ∷ S) U n top h = top_out G L P t place S f 0 n U top h
+
     out : (x : Reach) → reach_from G S t place ≡ x → TopOf G (after_reach S place t x).stack
     out unreached e = top
     out (reached no_fit n) e = top
     out (reached deep n) e = top
     out (reached (fit U) n) e = from S U n top e
+
     by : (x : Fit) → fits G S t ≡ x → TopOf G (after_fit G S place t x).stack
     by (fit U) e = fitted S U top e
     by deep e = top
@@ -248,14 +256,16 @@ top_step G L P S place t top = subst (λ r. TopOf G r.stack) (sym (step_is G S p
 
 full_tree : (G : Table) (f : Frame) → Full G [] f → IsRecovered G (node_of f)
 full_tree G f full = record {
-    root = full.top.below; formed = full.top.shaped no_parts full.ends;
-    low = let h = onto_low 1 f.done no_parts full.top.low (omega arith) in omega arith }
+  root = full.top.below;
+  formed = full.top.shaped no_parts full.ends;
+  low = let h = onto_low 1 f.done no_parts full.top.low (omega arith) in omega arith;
+}
 
 closed_formed : (G : Table) → Passes G → (place : ℕ) (S : Stack) (f : Frame) → top_frame G f S → IsRecovered G (closed_up G f S place).0
 closed_formed G P place [] f top = full_tree G (filled most_parts G f place).0 (top_filled G P most_parts f.number f.at f.done [] place (P.soon f.number f.at) top)
 closed_formed G P place (F ∷ S) f top =
     closed_formed G P place S (put (filled most_parts G f place).0 F)
-      (filled_put G (filled most_parts G f place).0 F S (top_filled G P most_parts f.number f.at f.done (F ∷ S) place (P.soon f.number f.at) top))
+    (filled_put G (filled most_parts G f place).0 F S (top_filled G P most_parts f.number f.at f.done (F ∷ S) place (P.soon f.number f.at) top))
 
 run_formed : (G : Table) → Found G → Passes G → (ts : List Tok) (S : Stack) (place : ℕ) → TopOf G S → IsRecovered G (recovered G ts S place).0
 run_formed G L P [] [] place top = absurd top

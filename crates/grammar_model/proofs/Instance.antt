@@ -146,15 +146,16 @@ spot_parts : (root : ℕ) (z : Sizes) (R : List Row) → Tested root z R → (r 
 spot_parts root z R t r p =
     let h = spot_of_row root z R t r p in
     let (ab, c) = and_parts (no_text ((table_of root z R).what r p) && each_edge ((table_of root z R).next r p) (λ q. not (is_nothing ((table_of root z R).what r q))))
-        (if (table_of root z R).ends r p then true else must_fine ((table_of root z R).next r p) && ends_within most_parts (table_of root z R) r p) h in
+    (if (table_of root z R).ends r p then true else must_fine ((table_of root z R).next r p) && ends_within most_parts (table_of root z R) r p) h in
     let (a, b) = and_parts (no_text ((table_of root z R).what r p)) (each_edge ((table_of root z R).next r p) (λ q. not (is_nothing ((table_of root z R).what r q)))) ab in
     (a, b, c)
 
 root_spot : (G : Table) (p k : ℕ) (es : List Edge) → one_or_none es ≡ true → MayCome es plain p → takes G (G.what G.root p) k ≡ true → first_spot G G.root plain k es ≡ at_spot p
 root_spot G p k [] h m can = absurd m
 root_spot G p k (e ∷ []) h m can = elim m [
-    inl x ↦ let c : takes G (G.what G.root e.spot) k ≡ true = subst (λ q. takes G (G.what G.root q) k ≡ true) (sym x.0) can in rw (x.1, c) (ap at_spot x.0)
-    | inr x ↦ absurd x ]
+  | inl x ↦ let c : takes G (G.what G.root e.spot) k ≡ true = subst (λ q. takes G (G.what G.root q) k ≡ true) (sym x.0) can in rw (x.1, c) (ap at_spot x.0)
+  | inr x ↦ absurd x
+]
 root_spot G p k (e ∷ f ∷ es) h m can = absurd (cc)
 
 root_place : (G : Table) (p k : ℕ) → G.what G.root 0 ≡ nothing → one_or_none (G.next G.root 0) ≡ true → MayCome (G.next G.root 0) plain p → takes G (G.what G.root p) k ≡ true → first_place G G.root 0 plain k ≡ at_spot p
@@ -169,26 +170,27 @@ each_some test (v ∷ R) i (suc r) j w e h g = each_some test R (i + 1) r j w (o
 
 pub separate : (root : ℕ) (z : Sizes) (R : List Row) → Tested root z R → Separate (table_of root z R)
 separate root z R t = let G : Table = table_of root z R in record {
-    chain_token = λ r p k ks left may wh m.
-        let a = else_of (is_left (row_at R r).left) (grows_alone G z.keys r (G.sort r) (first_what (row_at R r))) (begins_alone G z.keys r (G.sort r) (first_what (row_at R r))) left (alone_of root z R t r) in
-        let b : begins_alone G z.keys r (G.sort r) (token ks) ≡ true = subst (λ w. begins_alone G z.keys r (G.sort r) w ≡ true) (first_what_is root z R t r p may ∙ wh) a in
-        same_is (G.chain (G.sort r) k) (r ∷ []) (all_get (λ k. same (G.chain (G.sort r) k) (r ∷ [])) ks k b m);
-    chain_operand = λ r p k s n q qs left may wh e le.
-        let a = else_of (is_left (row_at R r).left) (grows_alone G z.keys r (G.sort r) (first_what (row_at R r))) (begins_alone G z.keys r (G.sort r) (first_what (row_at R r))) left (alone_of root z R t r) in
-        let b : begins_alone G z.keys r (G.sort r) (operand s n) ≡ true = subst (λ w. begins_alone G z.keys r (G.sort r) w ≡ true) (first_what_is root z R t r p may ∙ wh) a in
-        longer_is G r n q qs (G.chain s k) (G.chain (G.sort r) k) e le (below_get (λ k. longer G r n (G.chain s k) (G.chain (G.sort r) k)) z.keys b k (bounded_chain z R s k q qs e).1);
-    first_only = λ r p may. (first_spot_is (G.next r 0) plain p (starts_of root z R t r).1 may).0;
-    grower_is = λ r p k left may can.
-        let a = if_of (is_left (row_at R r).left) (grows_alone G z.keys r (G.sort r) (first_what (row_at R r))) (begins_alone G z.keys r (G.sort r) (first_what (row_at R r))) left (alone_of root z R t r) in
-        let b : grows_alone G z.keys r (G.sort r) (G.what r p) ≡ true = subst (λ w. grows_alone G z.keys r (G.sort r) w ≡ true) (first_what_is root z R t r p may) a in
-        grower_from (G.what r p) r k (G.sort r) b can;
-    left_fits = λ r q left ok. (left_sort R (row_at R r).left (G.sort r) q ok, stands_from r q left ok);
-    left_plain = λ r h. left_never_plain R (row_at R r).left (row_at R r).sort h;
-    start = λ r. nothing_is (G.what r 0) (starts_of root z R t r).0;
-    never_empty = λ r e. then_of (G.ends r 0) (is_text (G.sort r)) e (each_row is_never_empty R t.never_empty (λ j. refl) r);
-    slots = λ r p s n e. text_not (G.what r p) s n (spot_parts root z R t r p).0 e;
-    root_left = t.whole;
-    root_takes = λ p k may can. root_place G p k (nothing_is (G.what G.root 0) (starts_of root z R t root).0) (starts_of root z R t root).1 may can }
+  chain_token = λ r p k ks left may wh m.
+      let a = else_of (is_left (row_at R r).left) (grows_alone G z.keys r (G.sort r) (first_what (row_at R r))) (begins_alone G z.keys r (G.sort r) (first_what (row_at R r))) left (alone_of root z R t r) in
+      let b : begins_alone G z.keys r (G.sort r) (token ks) ≡ true = subst (λ w. begins_alone G z.keys r (G.sort r) w ≡ true) (first_what_is root z R t r p may ∙ wh) a in
+      same_is (G.chain (G.sort r) k) (r ∷ []) (all_get (λ k. same (G.chain (G.sort r) k) (r ∷ [])) ks k b m);
+  chain_operand = λ r p k s n q qs left may wh e le.
+      let a = else_of (is_left (row_at R r).left) (grows_alone G z.keys r (G.sort r) (first_what (row_at R r))) (begins_alone G z.keys r (G.sort r) (first_what (row_at R r))) left (alone_of root z R t r) in
+      let b : begins_alone G z.keys r (G.sort r) (operand s n) ≡ true = subst (λ w. begins_alone G z.keys r (G.sort r) w ≡ true) (first_what_is root z R t r p may ∙ wh) a in
+      longer_is G r n q qs (G.chain s k) (G.chain (G.sort r) k) e le (below_get (λ k. longer G r n (G.chain s k) (G.chain (G.sort r) k)) z.keys b k (bounded_chain z R s k q qs e).1);
+  first_only = λ r p may. (first_spot_is (G.next r 0) plain p (starts_of root z R t r).1 may).0;
+  grower_is = λ r p k left may can.
+      let a = if_of (is_left (row_at R r).left) (grows_alone G z.keys r (G.sort r) (first_what (row_at R r))) (begins_alone G z.keys r (G.sort r) (first_what (row_at R r))) left (alone_of root z R t r) in
+      let b : grows_alone G z.keys r (G.sort r) (G.what r p) ≡ true = subst (λ w. grows_alone G z.keys r (G.sort r) w ≡ true) (first_what_is root z R t r p may) a in
+      grower_from (G.what r p) r k (G.sort r) b can;
+  left_fits = λ r q left ok. (left_sort R (row_at R r).left (G.sort r) q ok, stands_from r q left ok);
+  left_plain = λ r h. left_never_plain R (row_at R r).left (row_at R r).sort h;
+  start = λ r. nothing_is (G.what r 0) (starts_of root z R t r).0;
+  never_empty = λ r e. then_of (G.ends r 0) (is_text (G.sort r)) e (each_row is_never_empty R t.never_empty (λ j. refl) r);
+  slots = λ r p s n e. text_not (G.what r p) s n (spot_parts root z R t r p).0 e;
+  root_left = t.whole;
+  root_takes = λ p k may can. root_place G p k (nothing_is (G.what G.root 0) (starts_of root z R t root).0) (starts_of root z R t root).1 may can;
+}
   where
     grower_from : (w : What) (r k s : ℕ) → grows_alone (table_of root z R) z.keys r s w ≡ true → takes (table_of root z R) w k ≡ true → (table_of root z R).grower s k ≡ Some r
     grower_from nothing r k s h can = absurd (cc)
@@ -196,11 +198,12 @@ separate root z R t = let G : Table = table_of root z R in record {
     grower_from (operand s' n) r k s h can =
         let b = begun_by (table_of root z R) n ((table_of root z R).chain s' k) can in
         is_row_is ((table_of root z R).grower s k) r (then_of (begins_by (table_of root z R) n ((table_of root z R).chain s' k)) (is_row ((table_of root z R).grower s k) r) can
-          (below_get (λ k. if begins_by (table_of root z R) n ((table_of root z R).chain s' k) then is_row ((table_of root z R).grower s k) r else true) z.keys h k (bounded_chain z R s' k b.head b.rest b.is).1))
+        (below_get (λ k. if begins_by (table_of root z R) n ((table_of root z R).chain s' k) then is_row ((table_of root z R).grower s k) r else true) z.keys h k (bounded_chain z R s' k b.head b.rest b.is).1))
+
     stands_from : (r q : ℕ) → is_left (row_at R r).left ≡ true → left_takes R (row_at R r).left (row_at R r).sort (row q) ≡ true → (row_at R r).stand ≤ (row_at R q).stand
     stands_from r q left ok =
         let a = if_of (is_left (row_at R r).left) (not (nat_eq (row_at R r).sort 0) && each 0 R (λ q v. if left_takes R (row_at R r).left (row_at R r).sort (row q) then nat_le (row_at R r).stand v.stand else true)) true left
-            (each_row (left_stands R) R t.lefts (λ j. refl) r) in
+        (each_row (left_stands R) R t.lefts (λ j. refl) r) in
         let (not_zero, all) = and_parts (not (nat_eq (row_at R r).sort 0)) (each 0 R (λ q v. if left_takes R (row_at R r).left (row_at R r).sort (row q) then nat_le (row_at R r).stand v.stand else true)) a in
         by (slice_get R q) refl not_zero all
       where
@@ -258,33 +261,35 @@ more_what G k q qs (operand s n) h = let (a, b) = and_parts (same (G.chain s k) 
 
 pub found : (root : ℕ) (z : Sizes) (R : List Row) → Tested root z R → Found (table_of root z R)
 found root z R t = let G : Table = table_of root z R in record {
-    chain_one = λ s k r e. let (a, b, c, d) = chain_facts root z R t s k r [] e in (a, b, c, one_what G k (G.what r (first_of G r)) d);
-    chain_more = λ s k r q qs e. let (a, b, c, d) = chain_facts root z R t s k r (q ∷ qs) e in (a, b, c, more_what G k q qs (G.what r (first_of G r)) d);
-    grower_left = λ s k g e.
-        let (ls, lk) = bounded_grower z R s k g e in
-        let a = below_get (λ k. grower_fine G s k (G.grower s k)) z.keys (below_get (λ s. each_below z.keys (λ k. grower_fine G s k (G.grower s k))) z.sorts t.growers s ls) k lk in
-        let b : grower_fine G s k (Some g) ≡ true = subst (λ o. grower_fine G s k o ≡ true) e a in
-        let (c, can) = and_parts (nat_eq (G.sort g) s && G.has_left g && one_edge (G.next g 0)) (takes G (G.what g (spot_of (G.next g 0))) k) b in
-        let (d, one) = and_parts (nat_eq (G.sort g) s && G.has_left g) (one_edge (G.next g 0)) c in
-        let (sort, left) = and_parts (nat_eq (G.sort g) s) (G.has_left g) d in
-        (eqb-true (G.sort g) s sort, left, one_may (G.next g 0) one, can);
-    left_plain = λ r h. left_never_plain R (row_at R r).left (row_at R r).sort h;
-    start = λ r. nothing_is (G.what r 0) (starts_of root z R t r).0;
-    root_left = t.whole }
+  chain_one = λ s k r e. let (a, b, c, d) = chain_facts root z R t s k r [] e in (a, b, c, one_what G k (G.what r (first_of G r)) d);
+  chain_more = λ s k r q qs e. let (a, b, c, d) = chain_facts root z R t s k r (q ∷ qs) e in (a, b, c, more_what G k q qs (G.what r (first_of G r)) d);
+  grower_left = λ s k g e.
+      let (ls, lk) = bounded_grower z R s k g e in
+      let a = below_get (λ k. grower_fine G s k (G.grower s k)) z.keys (below_get (λ s. each_below z.keys (λ k. grower_fine G s k (G.grower s k))) z.sorts t.growers s ls) k lk in
+      let b : grower_fine G s k (Some g) ≡ true = subst (λ o. grower_fine G s k o ≡ true) e a in
+      let (c, can) = and_parts (nat_eq (G.sort g) s && G.has_left g && one_edge (G.next g 0)) (takes G (G.what g (spot_of (G.next g 0))) k) b in
+      let (d, one) = and_parts (nat_eq (G.sort g) s && G.has_left g) (one_edge (G.next g 0)) c in
+      let (sort, left) = and_parts (nat_eq (G.sort g) s) (G.has_left g) d in
+      (eqb-true (G.sort g) s sort, left, one_may (G.next g 0) one, can);
+  left_plain = λ r h. left_never_plain R (row_at R r).left (row_at R r).sort h;
+  start = λ r. nothing_is (G.what r 0) (starts_of root z R t r).0;
+  root_left = t.whole;
+}
 
 must_parts : (root : ℕ) (z : Sizes) (R : List Row) → Tested root z R → (r p : ℕ) → (table_of root z R).ends r p ≡ false → (must_fine ((table_of root z R).next r p) ≡ true) × (ends_within most_parts (table_of root z R) r p ≡ true)
 must_parts root z R t r p e =
     and_parts (must_fine ((table_of root z R).next r p)) (ends_within most_parts (table_of root z R) r p)
-      (else_of ((table_of root z R).ends r p) true (must_fine ((table_of root z R).next r p) && ends_within most_parts (table_of root z R) r p) e (spot_parts root z R t r p).2)
+    (else_of ((table_of root z R).ends r p) true (must_fine ((table_of root z R).next r p) && ends_within most_parts (table_of root z R) r p) e (spot_parts root z R t r p).2)
 
 pub ends : (root : ℕ) (z : Sizes) (R : List Row) → Tested root z R → Ends (table_of root z R)
 ends root z R t = record { next_must = λ r p e. must_some ((table_of root z R).next r p) (must_parts root z R t r p e).0 }
 
 pub passes : (root : ℕ) (z : Sizes) (R : List Row) → Tested root z R → Passes (table_of root z R)
 passes root z R t = record {
-    must_open = λ r p last e no_end is. must_may ((table_of root z R).next r p) last e (must_parts root z R t r p no_end).0 is;
-    edge_some = λ r at p last may. not_nothing ((table_of root z R).what r p) (edge_get (λ q. not (is_nothing ((table_of root z R).what r q))) ((table_of root z R).next r at) last p (spot_parts root z R t r at).1 may);
-    soon = λ r at. by r at ((table_of root z R).ends r at) refl }
+  must_open = λ r p last e no_end is. must_may ((table_of root z R).next r p) last e (must_parts root z R t r p no_end).0 is;
+  edge_some = λ r at p last may. not_nothing ((table_of root z R).what r p) (edge_get (λ q. not (is_nothing ((table_of root z R).what r q))) ((table_of root z R).next r at) last p (spot_parts root z R t r at).1 may);
+  soon = λ r at. by r at ((table_of root z R).ends r at) refl;
+}
   where
     by : (r at : ℕ) (b : Bool) → (table_of root z R).ends r at ≡ b → ends_within most_parts (table_of root z R) r at ≡ true
     by r at true e = rw e refl

@@ -104,5 +104,5 @@ mutual
       let (same, fits) = subst (λ w. StandsIn G w (inner T)) is st in
       let ih = subst (λ s. LeadsIn G s m (yield_of T)) same (leads G L m T wf pr (ap is_text same ∙ L.slots r p s m is) fits) in
       leads_map (λ t. begins_by G m (G.chain s (key_of t)) ≡ true) (λ t. begins_by G n (G.chain (G.sort r) (key_of t)) ≡ true) (yield_of T)
-        (λ t h. let b = begun_by G m (G.chain s (key_of t)) h in
-          rw (L.chain_operand r p (key_of t) s m b.head b.rest e may is b.is b.stands) (le-leb n (G.stand r) le)) ih
+      (λ t h. let b = begun_by G m (G.chain s (key_of t)) h in
+      rw (L.chain_operand r p (key_of t) s m b.head b.rest e may is b.is b.stands) (le-leb n (G.stand r) le)) ih

@@ -7,5 +7,6 @@ pub mod Faultless
 pub mod Counted
 pub mod Formed
 pub mod Instance
+pub mod Separated
 pub mod Promises
 pub mod ByNumbers

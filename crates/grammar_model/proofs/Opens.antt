@@ -46,8 +46,8 @@ mutual
   closing_node G t r no_parts wf free F S = ended G t (frame r 0 []) F S (none G r t free) wf.1
   closing_node G t r (part p c f) wf free F S =
       closing_rest G t r p (last_in (G.what r p) c) f wf.2 free.1 [] c F S (open_part r [] p c (F ∷ S))
-        (only_if (is_end f) (PartFree G (key_of t) c × (first_place G r p (last_in (G.what r p) c) (key_of t) ≡ nowhere)) (Reaches G t r p ((p, c) ∷ []) (open_part r [] p c (F ∷ S)) (F ∷ S) × (first_place G r p (last_in (G.what r p) c) (key_of t) ≡ nowhere))
-          (λ h. (reached G t r p c wf.1 h.0 [] (F ∷ S), h.1)) free.0)
+      (only_if (is_end f) (PartFree G (key_of t) c × (first_place G r p (last_in (G.what r p) c) (key_of t) ≡ nowhere)) (Reaches G t r p ((p, c) ∷ []) (open_part r [] p c (F ∷ S)) (F ∷ S) × (first_place G r p (last_in (G.what r p) c) (key_of t) ≡ nowhere))
+      (λ h. (reached G t r p c wf.1 h.0 [] (F ∷ S), h.1)) free.0)
 
   closing_rest : (G : Table) (t : Tok) (r p : ℕ) (last : Last) (f : Forest) → Follows G r p last f → ForestFree G (key_of t) r f → (done : List (ℕ × Part)) (c : Part) (F : Frame) (S : Stack) (U : Stack) →
       OnlyIf (is_end f) (Reaches G t r p ((p, c) ∷ done) U (F ∷ S) × (first_place G r p (last_in (G.what r p) c) (key_of t) ≡ nowhere)) →
@@ -55,9 +55,9 @@ mutual
   closing_rest G t r p last no_parts fol free done c F S U h = h.0 ∙ ended G t (frame r p ((p, c) ∷ done)) F S h.1 fol
   closing_rest G t r p last (part p' c' f) fol free done c F S U h =
       closing_rest G t r p' (last_in (G.what r p') c') f fol.3 free.1 ((p, c) ∷ done) c' F S (open_part r ((p, c) ∷ done) p' c' (F ∷ S))
-        (only_if (is_end f) (PartFree G (key_of t) c' × (first_place G r p' (last_in (G.what r p') c') (key_of t) ≡ nowhere))
-          (Reaches G t r p' ((p', c') ∷ (p, c) ∷ done) (open_part r ((p, c) ∷ done) p' c' (F ∷ S)) (F ∷ S) × (first_place G r p' (last_in (G.what r p') c') (key_of t) ≡ nowhere))
-          (λ h. (reached G t r p' c' fol.2 h.0 ((p, c) ∷ done) (F ∷ S), h.1)) free.0)
+      (only_if (is_end f) (PartFree G (key_of t) c' × (first_place G r p' (last_in (G.what r p') c') (key_of t) ≡ nowhere))
+      (Reaches G t r p' ((p', c') ∷ (p, c) ∷ done) (open_part r ((p, c) ∷ done) p' c' (F ∷ S)) (F ∷ S) × (first_place G r p' (last_in (G.what r p') c') (key_of t) ≡ nowhere))
+      (λ h. (reached G t r p' c' fol.2 h.0 ((p, c) ∷ done) (F ∷ S), h.1)) free.0)
 
   -- the same for a part
   pub reached : (G : Table) (t : Tok) (r p : ℕ) (c : Part) → IsPartFormed G c → PartFree G (key_of t) c → (done : List (ℕ × Part)) (S : Stack) → Reaches G t r p ((p, c) ∷ done) (open_part r done p c S) S

@@ -75,34 +75,36 @@ pub record Fresh (G : Table) (all : List Tok) (U : Stack) : Type 0 where
 push : (G : Table) (r at p d : ℕ) (c c' : Part) (ds : List (ℕ × Part)) (ts us : List Tok) → Going G r at c ds d ts → MayCome (G.next r at) (last_in (G.what r at) c) p → StandsIn G (G.what r p) c' → IsPartFormed G c' →
     ProperPart G c' → RoomyPart G (d + 1) c' → Leads (part_yield c') (λ t. PartFree G (key_of t) c × (first_place G r at (last_in (G.what r at) c) (key_of t) ≡ at_spot p)) → part_yield c' ≡ us → Going G r p c' ((at, c) ∷ ds) d (ts ++ us)
 push G r at p d c c' ds ts us g may st formed proper room lead is = record {
-    whole = λ f fol pr ro. g.whole (part p c' f) (may, st, formed, fol) (lead, proper, pr) (room, ro);
-    tokens = λ f. g.tokens (part p c' f) ∙ ap (λ y. ts ++ (y ++ forest_yield f)) is ∙ sym (append_assoc ts us (forest_yield f));
-    free = λ k f h. g.free k (part p c' f) (tt, h)
-  }
+  whole = λ f fol pr ro. g.whole (part p c' f) (may, st, formed, fol) (lead, proper, pr) (room, ro);
+  tokens = λ f. g.tokens (part p c' f) ∙ ap (λ y. ts ++ (y ++ forest_yield f)) is ∙ sym (append_assoc ts us (forest_yield f));
+  free = λ k f h. g.free k (part p c' f) (tt, h);
+}
 
 -- the first part of a row without a left operand
 first_part : (G : Table) (r p d : ℕ) (c : Part) (ts : List Tok) → G.has_left r ≡ false → MayCome (G.next r 0) plain p → StandsIn G (G.what r p) c → IsPartFormed G c → ProperPart G c → d ≤ 512 → RoomyPart G (d + 1) c → part_yield c ≡ ts →
     Going G r p c [] d ts
 first_part G r p d c ts e may st formed proper le room is = record {
-    whole = λ f fol pr ro. record {
-      formed = (subst (λ b. BeginsWith G r b p c) (sym e) (may, st), formed, fol);
-      proper = subst (λ b. ProperNode G r b (part p c f)) (sym e) (proper, pr);
-      roomy = subst (λ b. RoomyNode G d b (part p c f)) (sym e) (le, room, ro) };
-    tokens = λ f. ap (λ y. y ++ forest_yield f) is;
-    free = λ k f h. h
-  }
+  whole = λ f fol pr ro. record {
+    formed = (subst (λ b. BeginsWith G r b p c) (sym e) (may, st), formed, fol);
+    proper = subst (λ b. ProperNode G r b (part p c f)) (sym e) (proper, pr);
+    roomy = subst (λ b. RoomyNode G d b (part p c f)) (sym e) (le, room, ro);
+  };
+  tokens = λ f. ap (λ y. y ++ forest_yield f) is;
+  free = λ k f h. h;
+}
 
 -- the first part behind a left operand
 left_part : (G : Table) → Found G → (r p d : ℕ) (l c : Part) (ts us : List Tok) → G.has_left r ≡ true → G.left_ok r (left_last l) ≡ true → IsPartFormed G l → ProperPart G l → d + part_height l ≤ 512 → RoomyPart G d l → part_yield l ≡ ts →
     MayCome (G.next r 0) plain p → StandsIn G (G.what r p) c → IsPartFormed G c → ProperPart G c → RoomyPart G (d + 1) c → Leads (part_yield c) (λ t. PartFree G (key_of t) l) → part_yield c ≡ us → Going G r p c ((0, l) ∷ []) d (ts ++ us)
 left_part G L r p d l c ts us e ok lf lp high lr lis may st formed proper room lead is = record {
-    whole = λ f fol pr ro. record {
-      formed = (subst (λ b. BeginsWith G r b 0 l) (sym e) (refl, ok), lf, subst (λ w. Follows G r 0 (last_in w l) (part p c f)) (sym (L.start r)) (may, st, formed, fol));
-      proper = subst (λ b. ProperNode G r b (part 0 l (part p c f))) (sym e) (lp, (lead, proper, pr));
-      roomy = subst (λ b. RoomyNode G d b (part 0 l (part p c f))) (sym e) (high, lr, (room, ro)) };
-    tokens = λ f. ap (λ y. y ++ (part_yield c ++ forest_yield f)) lis ∙ ap (λ y. ts ++ (y ++ forest_yield f)) is ∙ sym (append_assoc ts us (forest_yield f));
-    free = λ k f h. (tt, h)
-  }
+  whole = λ f fol pr ro. record {
+    formed = (subst (λ b. BeginsWith G r b 0 l) (sym e) (refl, ok), lf, subst (λ w. Follows G r 0 (last_in w l) (part p c f)) (sym (L.start r)) (may, st, formed, fol));
+    proper = subst (λ b. ProperNode G r b (part 0 l (part p c f))) (sym e) (lp, (lead, proper, pr));
+    roomy = subst (λ b. RoomyNode G d b (part 0 l (part p c f))) (sym e) (high, lr, (room, ro));
+  };
+  tokens = λ f. ap (λ y. y ++ (part_yield c ++ forest_yield f)) lis ∙ ap (λ y. ts ++ (y ++ forest_yield f)) is ∙ sym (append_assoc ts us (forest_yield f));
+  free = λ k f h. (tt, h);
+}
 
 pub within_parts : (n : ℕ) (S U : Stack) → within n S ≡ fit U → (S ≡ U) × (n ≤ 512) × (length S ≤ 512)
 within_parts n S U e = at (nat_le n 512) (nat_le (length S) 512) refl refl e
@@ -124,18 +126,29 @@ opens G L all t s n F S own outer [] e b w under split le = absurd (cc)
 opens G L all t s n F S own outer (r ∷ []) e b w under split le =
     let (is, left, may, (ks, wh, has)) = L.chain_one s (key_of t) r e in
     record {
-      number = r; at = first_of G r; last = t; ds = []; below = F ∷ S; is = refl;
+      number = r;
+      at = first_of G r;
+      last = t;
+      ds = [];
+      below = F ∷ S;
+      is = refl;
       state = record {
-        first = t; more = []; before = all; tokens = refl;
+        first = t;
+        more = [];
+        before = all;
+        tokens = refl;
         going = first_part G r (first_of G r) (length (F ∷ S) + 1) (taken t) (t ∷ []) left may (rw wh has) tt tt (omega arith) tt refl;
         under = (s, n, own, outer, is, leb-true n (G.stand r) b, split, w, under);
-        back = tt } }
+        back = tt;
+      };
+    }
 opens G L all t s n F S own outer (r ∷ q ∷ qs) e b w under split le =
     let (is, left, may, (s', n', wh, deeper, b')) = L.chain_more s (key_of t) r q qs e in
     let high : length (F ∷ S) + 1 ≤ 512 = opened_le G (q ∷ qs) t (frame r (first_of G r) []) (F ∷ S) le in
     let w' : Waiting G r (first_of G r) [] (length (F ∷ S) + 1) [] s' n' t = record {
-        is = wh;
-        filled = λ T u ok same stands. first_part G r (first_of G r) (length (F ∷ S) + 1) (inner T) (t ∷ u) left may (rw wh (same, stands)) ok.formed ok.proper high ok.roomy ok.tokens } in
+      is = wh;
+      filled = λ T u ok same stands. first_part G r (first_of G r) (length (F ∷ S) + 1) (inner T) (t ∷ u) left may (rw wh (same, stands)) ok.formed ok.proper high ok.roomy ok.tokens;
+    } in
     opens G L all t s' n' (frame r (first_of G r) []) (F ∷ S) [] all (q ∷ qs) deeper b' w' (s, n, own, outer, is, leb-true n (G.stand r) b, split, w, under) (sym (append-nil all)) le
 
 -- what a place tells
@@ -189,13 +202,26 @@ starts : (G : Table) → Found G → (all : List Tok) (t : Tok) (r at p : ℕ) (
     Under G r (first_or own t) outer S → all ≡ outer ++ own → length (start_in G w (frame r at ds) p t S) ≤ 512 → Fresh G (all ++ (t ∷ [])) (start_in G w (frame r at ds) p t S)
 starts G L all t r at p ds S own outer nothing is h one more under split le = absurd (cc)
 starts G L all t r at p ds S own outer (token ks) is h one more under split le = record {
-    number = r; at = p; last = t; ds = ds; below = S; is = refl;
-    state = stated own (one (rw is h)) under split }
+  number = r;
+  at = p;
+  last = t;
+  ds = ds;
+  below = S;
+  is = refl;
+  state = stated own (one (rw is h)) under split;
+}
   where
     stated : (own : List Tok) → Going G r p (taken t) ds (length S + 1) (own ++ (t ∷ [])) → Under G r (first_or own t) outer S → all ≡ outer ++ own → State G (all ++ (t ∷ [])) r p (taken t) ds S
     stated [] g under split = record { first = t; more = []; before = outer; tokens = ap (λ a. a ++ (t ∷ [])) (split ∙ append-nil outer); going = g; under = under; back = tt }
     stated (x ∷ xs) g under split = record {
-        first = x; more = xs ++ (t ∷ []); before = outer; tokens = ap (λ a. a ++ (t ∷ [])) split ∙ append_assoc outer (x ∷ xs) (t ∷ []); going = g; under = under; back = tt }
+      first = x;
+      more = xs ++ (t ∷ []);
+      before = outer;
+      tokens = ap (λ a. a ++ (t ∷ [])) split ∙ append_assoc outer (x ∷ xs) (t ∷ []);
+      going = g;
+      under = under;
+      back = tt;
+    }
 starts G L all t r at p ds S own outer (operand s n) is h one more under split le =
     opens G L all t s n (frame r p ds) S own outer (G.chain s (key_of t)) refl h (record { is = is; filled = more s n refl }) under split le
 
@@ -210,17 +236,34 @@ finish G all r at c ds F S st e =
     let (s, n, own, outer, is, le, split, w, under) = st.under in
     let h = st.going.whole no_parts e tt tt in
     let ok : TreeOk G (length S + 1 + 1) (node r (onto ((at, c) ∷ ds) no_parts)) (st.first ∷ st.more) = record {
-        formed = h.formed; proper = h.proper; roomy = subst (λ d. RoomyNode G d (G.has_left r) (onto ((at, c) ∷ ds) no_parts)) (omega arith) h.roomy;
-        tokens = st.going.tokens no_parts ∙ append-nil (st.first ∷ st.more) } in
+      formed = h.formed;
+      proper = h.proper;
+      roomy = subst (λ d. RoomyNode G d (G.has_left r) (onto ((at, c) ∷ ds) no_parts)) (omega arith) h.roomy;
+      tokens = st.going.tokens no_parts ∙ append-nil (st.first ∷ st.more);
+    } in
     stated s n outer own w (w.filled (node r (onto ((at, c) ∷ ds) no_parts)) st.more ok is le) under (st.tokens ∙ ap (λ b. b ++ (st.first ∷ st.more)) split ∙ append_assoc outer own (st.first ∷ st.more)) ok is le
   where
     stated : (s n : ℕ) (outer : List Tok) (own : List Tok) → Waiting G F.number F.at F.done (length S + 1) own s n st.first → Going G F.number F.at (inner (node r (onto ((at, c) ∷ ds) no_parts))) F.done (length S + 1) (own ++ (st.first ∷ st.more)) →
         Under G F.number (first_or own st.first) outer S → all ≡ outer ++ (own ++ (st.first ∷ st.more)) → TreeOk G (length S + 1 + 1) (node r (onto ((at, c) ∷ ds) no_parts)) (st.first ∷ st.more) → G.sort r ≡ s → n ≤ G.stand r →
         State G all F.number F.at (inner (node r (onto ((at, c) ∷ ds) no_parts))) F.done S
     stated s n outer [] w g under split ok is le = record {
-        first = st.first; more = st.more; before = outer; tokens = split; going = g; under = under; back = (s, n, [], st.first, st.more, w, ok, is, le, refl) }
+      first = st.first;
+      more = st.more;
+      before = outer;
+      tokens = split;
+      going = g;
+      under = under;
+      back = (s, n, [], st.first, st.more, w, ok, is, le, refl);
+    }
     stated s n outer (x ∷ xs) w g under split ok is le = record {
-        first = x; more = xs ++ (st.first ∷ st.more); before = outer; tokens = split; going = g; under = under; back = (s, n, x ∷ xs, st.first, st.more, w, ok, is, le, refl) }
+      first = x;
+      more = xs ++ (st.first ∷ st.more);
+      before = outer;
+      tokens = split;
+      going = g;
+      under = under;
+      back = (s, n, x ∷ xs, st.first, st.more, w, ok, is, le, refl);
+    }
 
 spotted : (G : Table) → Found G → (t : Tok) (all : List Tok) (r at p : ℕ) (c : Part) (ds : List (ℕ × Part)) (S U : Stack) → State G all r at c ds S → PartFree G (key_of t) c →
     first_place G r at (last_in (G.what r at) c) (key_of t) ≡ at_spot p → within 0 (start_at G (frame r at ((at, c) ∷ ds)) p t S) ≡ fit U → Fresh G (all ++ (t ∷ [])) U
@@ -228,11 +271,11 @@ spotted G L t all r at p c ds S U st free e h =
     let (same, low, le) = within_parts 0 (start_at G (frame r at ((at, c) ∷ ds)) p t S) U h in
     let (may, can) = place_may G r at (key_of t) p (last_in (G.what r at) c) e in
     subst (Fresh G (all ++ (t ∷ []))) same
-      (starts G L all t r at p ((at, c) ∷ ds) S (st.first ∷ st.more) st.before (G.what r p) refl can
-        (λ stands. push G r at p (length S + 1) c (taken t) ds (st.first ∷ st.more) (t ∷ []) st.going may stands tt tt tt (free, e) refl)
-        (λ s n is T u ok sort stands. push G r at p (length S + 1) c (inner T) ds (st.first ∷ st.more) (t ∷ u) st.going may (rw is (sort, stands)) ok.formed ok.proper ok.roomy
-            (subst (λ y. Leads y (λ t. PartFree G (key_of t) c × (first_place G r at (last_in (G.what r at) c) (key_of t) ≡ at_spot p))) (sym ok.tokens) (free, e)) ok.tokens)
-        st.under st.tokens le)
+    (starts G L all t r at p ((at, c) ∷ ds) S (st.first ∷ st.more) st.before (G.what r p) refl can
+    (λ stands. push G r at p (length S + 1) c (taken t) ds (st.first ∷ st.more) (t ∷ []) st.going may stands tt tt tt (free, e) refl)
+    (λ s n is T u ok sort stands. push G r at p (length S + 1) c (inner T) ds (st.first ∷ st.more) (t ∷ u) st.going may (rw is (sort, stands)) ok.formed ok.proper ok.roomy
+    (subst (λ y. Leads y (λ t. PartFree G (key_of t) c × (first_place G r at (last_in (G.what r at) c) (key_of t) ≡ at_spot p))) (sym ok.tokens) (free, e)) ok.tokens)
+    st.under st.tokens le)
 
 grew : (G : Table) → Found G → (t : Tok) (all : List Tok) (r at : ℕ) (c : Part) (ds : List (ℕ × Part)) (S U : Stack) → State G all r at c ds S → PartFree G (key_of t) c →
     first_place G r at (last_in (G.what r at) c) (key_of t) ≡ growth → grown G (grower_in G (G.what r at) (key_of t)) (frame r at ((at, c) ∷ ds)) ((at, c) ∷ ds) t S ≡ fit U → Fresh G (all ++ (t ∷ [])) U
@@ -249,17 +292,17 @@ grew G L t all r at (inner T) ds S U st free e h =
     let (g, by, le, left) = grows_parts G n (row (row_of T)) (G.grower s (key_of t)) can in
     let (sort, lefty, may, takes) = L.grower_left s (key_of t) g by in
     let h' : within (length S + 2 + height_of T) (start_at G (frame g 0 ((0, inner T) ∷ [])) (first_of G g) t (frame r at ds ∷ S)) ≡ fit U =
-        subst (λ o. grown G o (frame r at ((at, inner T) ∷ ds)) ((at, inner T) ∷ ds) t S ≡ fit U) by (subst (λ w. grown G (grower_in G w (key_of t)) (frame r at ((at, inner T) ∷ ds)) ((at, inner T) ∷ ds) t S ≡ fit U) w.is h) in
+    subst (λ o. grown G o (frame r at ((at, inner T) ∷ ds)) ((at, inner T) ∷ ds) t S ≡ fit U) by (subst (λ w. grown G (grower_in G w (key_of t)) (frame r at ((at, inner T) ∷ ds)) ((at, inner T) ∷ ds) t S ≡ fit U) w.is h) in
     let (same, high, few) = within_parts (length S + 2 + height_of T) (start_at G (frame g 0 ((0, inner T) ∷ [])) (first_of G g) t (frame r at ds ∷ S)) U h' in
     let room : Roomy G (length (frame r at ds ∷ S) + 1) T = subst (λ d. Roomy G d T) (omega arith) ok.roomy in
     let high' : length (frame r at ds ∷ S) + 1 + height_of T ≤ 512 = omega arith in
     let under : Under G r (first_or own t1) st.before S = subst (λ x. Under G r x st.before S) (first_is own t1 st.first st.more u toks) st.under in
     subst (Fresh G (all ++ (t ∷ []))) same
-      (starts G L all t g 0 (first_of G g) ((0, inner T) ∷ []) (frame r at ds ∷ S) (t1 ∷ u) (st.before ++ own) (G.what g (first_of G g)) refl takes
-        (λ stands. left_part G L g (first_of G g) (length (frame r at ds ∷ S) + 1) (inner T) (taken t) (t1 ∷ u) (t ∷ []) lefty left ok.formed ok.proper high' room ok.tokens may stands tt tt tt free refl)
-        (λ s' n' is' T' u' ok' sort' stands'. left_part G L g (first_of G g) (length (frame r at ds ∷ S) + 1) (inner T) (inner T') (t1 ∷ u) (t ∷ u') lefty left ok.formed ok.proper high' room ok.tokens may (rw is' (sort', stands')) ok'.formed ok'.proper ok'.roomy
-            (subst (λ y. Leads y (λ t. Free G (key_of t) T)) (sym ok'.tokens) free) ok'.tokens)
-        (s, n, own, st.before, sort, le, refl, w, under) (st.tokens ∙ ap (λ y. st.before ++ y) toks ∙ sym (append_assoc st.before own (t1 ∷ u))) few)
+    (starts G L all t g 0 (first_of G g) ((0, inner T) ∷ []) (frame r at ds ∷ S) (t1 ∷ u) (st.before ++ own) (G.what g (first_of G g)) refl takes
+    (λ stands. left_part G L g (first_of G g) (length (frame r at ds ∷ S) + 1) (inner T) (taken t) (t1 ∷ u) (t ∷ []) lefty left ok.formed ok.proper high' room ok.tokens may stands tt tt tt free refl)
+    (λ s' n' is' T' u' ok' sort' stands'. left_part G L g (first_of G g) (length (frame r at ds ∷ S) + 1) (inner T) (inner T') (t1 ∷ u) (t ∷ u') lefty left ok.formed ok.proper high' room ok.tokens may (rw is' (sort', stands')) ok'.formed ok'.proper ok'.roomy
+    (subst (λ y. Leads y (λ t. Free G (key_of t) T)) (sym ok'.tokens) free) ok'.tokens)
+    (s, n, own, st.before, sort, le, refl, w, under) (st.tokens ∙ ap (λ y. st.before ++ y) toks ∙ sym (append_assoc st.before own (t1 ∷ u))) few)
 
 step : (G : Table) → Found G → (t : Tok) (all : List Tok) (S : Stack) (r at : ℕ) (c : Part) (ds : List (ℕ × Part)) (U : Stack) → State G all r at c ds S → PartFree G (key_of t) c →
     fits_at G (frame r at ((at, c) ∷ ds)) S t ≡ fit U → Fresh G (all ++ (t ∷ [])) U
@@ -271,7 +314,7 @@ step G L t all [] r at c ds U st free h = by (first_place G r at (last_in (G.wha
     by (at_spot p) e h = spotted G L t all r at p c ds [] U st free e h
 step G L t all (F ∷ S) r at c ds U st free h =
     by (first_place G r at (last_in (G.what r at) c) (key_of t)) refl (G.ends r at) refl
-      (λ e nowhere. step G L t all S F.number F.at (inner (node r (onto ((at, c) ∷ ds) no_parts))) F.done U (finish G all r at c ds F S st e) (st.going.free (key_of t) no_parts ((free, nowhere), tt))) h
+    (λ e nowhere. step G L t all S F.number F.at (inner (node r (onto ((at, c) ∷ ds) no_parts))) F.done U (finish G all r at c ds F S st e) (st.going.free (key_of t) no_parts ((free, nowhere), tt))) h
   where
     by : (place : Place) → first_place G r at (last_in (G.what r at) c) (key_of t) ≡ place → (b : Bool) → G.ends r at ≡ b →
         (G.ends r at ≡ true → first_place G r at (last_in (G.what r at) c) (key_of t) ≡ nowhere → fits_at G (put (frame r at ((at, c) ∷ ds)) F) S t ≡ fit U → Fresh G (all ++ (t ∷ [])) U) →
@@ -305,10 +348,10 @@ root_step G L t V h = by (first_place G G.root 0 (last_done (G.what G.root 0) []
         let (same, low, le) = within_parts 0 (start_at G (frame G.root 0 []) p t []) V h in
         let (may, can) = place_may G G.root 0 (key_of t) p plain e in
         subst (Fresh G (t ∷ [])) same
-          (starts G L [] t G.root 0 p [] [] [] [] (G.what G.root p) refl can
-            (λ stands. first_part G G.root p 1 (taken t) (t ∷ []) L.root_left may stands tt tt (omega arith) tt refl)
-            (λ s n is T u ok sort stands. first_part G G.root p 1 (inner T) (t ∷ u) L.root_left may (rw is (sort, stands)) ok.formed ok.proper (omega arith) ok.roomy ok.tokens)
-            (refl, refl) refl le)
+        (starts G L [] t G.root 0 p [] [] [] [] (G.what G.root p) refl can
+        (λ stands. first_part G G.root p 1 (taken t) (t ∷ []) L.root_left may stands tt tt (omega arith) tt refl)
+        (λ s n is T u ok sort stands. first_part G G.root p 1 (inner T) (t ∷ u) L.root_left may (rw is (sort, stands)) ok.formed ok.proper (omega arith) ok.roomy ok.tokens)
+        (refl, refl) refl le)
 
 mutual
   whole_tree : (G : Table) (T : Tree) → Proper G T → holes_of T ≡ 0
@@ -342,8 +385,13 @@ closes_in G all [] r at c ds T st h = by (G.ends r at) refl h
         let w = st.going.whole no_parts e tt tt in
         let same : node r (onto ((at, c) ∷ ds) no_parts) ≡ T = cc in
         subst (InGrammar G all) same (record {
-          root = st.under.0; formed = w.formed; proper = w.proper; roomy = w.roomy; whole = whole_tree G (node r (onto ((at, c) ∷ ds) no_parts)) w.proper;
-          tokens = st.going.tokens no_parts ∙ append-nil (st.first ∷ st.more) ∙ sym (st.tokens ∙ ap (λ b. b ++ (st.first ∷ st.more)) st.under.1) })
+          root = st.under.0;
+          formed = w.formed;
+          proper = w.proper;
+          roomy = w.roomy;
+          whole = whole_tree G (node r (onto ((at, c) ∷ ds) no_parts)) w.proper;
+          tokens = st.going.tokens no_parts ∙ append-nil (st.first ∷ st.more) ∙ sym (st.tokens ∙ ap (λ b. b ++ (st.first ∷ st.more)) st.under.1);
+        })
 closes_in G all (F ∷ S) r at c ds T st h =
     by (G.ends r at) refl (λ e i. closes_in G all S F.number F.at (inner (node r (onto ((at, c) ∷ ds) no_parts))) F.done T (finish G all r at c ds F S st e) i) h
   where
@@ -371,6 +419,7 @@ sound G L (t ∷ ts) T h = by (fits G (frame G.root 0 [] ∷ []) t) refl h
     ends : (o : Option Stack) → close_all G o ≡ Some T → (V : Stack) × (o ≡ Some V) × (closed G V ≡ Some T)
     ends None i = absurd (cc)
     ends (Some V) i = (V, refl, i)
+
     by : (x : Fit) → fits G (frame G.root 0 [] ∷ []) t ≡ x → close_all G (on_fit x (play G ts)) ≡ Some T → InGrammar G (t ∷ ts) T
     by no_fit e i = absurd (cc)
     by deep e i = absurd (cc)

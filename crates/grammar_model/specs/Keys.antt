@@ -5,162 +5,240 @@ use Rattle.token_model.specs.Kinds.{Tok, Kind, lower, upper, qualifier, ty_var, 
 -- the keys by their words; the last four are spellings
 abbrev pub lower_key : ℕ
 lower_key = 0
+
 abbrev pub upper_key : ℕ
 upper_key = 1
+
 abbrev pub qualifier_key : ℕ
 qualifier_key = 2
+
 abbrev pub ty_var_key : ℕ
 ty_var_key = 3
+
 abbrev pub op_name_key : ℕ
 op_name_key = 4
+
 abbrev pub unit_key : ℕ
 unit_key = 5
+
 abbrev pub nil_key : ℕ
 nil_key = 6
+
 abbrev pub module_type_key : ℕ
 module_type_key = 7
+
 abbrev pub int_key : ℕ
 int_key = 8
+
 abbrev pub float_key : ℕ
 float_key = 9
+
 abbrev pub char_key : ℕ
 char_key = 10
+
 abbrev pub str_key : ℕ
 str_key = 11
+
 abbrev pub and_key : ℕ
 and_key = 12
+
 abbrev pub as_key : ℕ
 as_key = 13
+
 abbrev pub assert_key : ℕ
 assert_key = 14
+
 abbrev pub begin_key : ℕ
 begin_key = 15
+
 abbrev pub do_key : ℕ
 do_key = 16
+
 abbrev pub done_key : ℕ
 done_key = 17
+
 abbrev pub downto_key : ℕ
 downto_key = 18
+
 abbrev pub else_key : ℕ
 else_key = 19
+
 abbrev pub end_key : ℕ
 end_key = 20
+
 abbrev pub exception_key : ℕ
 exception_key = 21
+
 abbrev pub false_key : ℕ
 false_key = 22
+
 abbrev pub for_key : ℕ
 for_key = 23
+
 abbrev pub fun_key : ℕ
 fun_key = 24
+
 abbrev pub function_key : ℕ
 function_key = 25
+
 abbrev pub functor_key : ℕ
 functor_key = 26
+
 abbrev pub if_key : ℕ
 if_key = 27
+
 abbrev pub in_key : ℕ
 in_key = 28
+
 abbrev pub include_key : ℕ
 include_key = 29
+
 abbrev pub let_key : ℕ
 let_key = 30
+
 abbrev pub match_key : ℕ
 match_key = 31
+
 abbrev pub module_key : ℕ
 module_key = 32
+
 abbrev pub mutable_key : ℕ
 mutable_key = 33
+
 abbrev pub of_key : ℕ
 of_key = 34
+
 abbrev pub open_key : ℕ
 open_key = 35
+
 abbrev pub rec_key : ℕ
 rec_key = 36
+
 abbrev pub sig_key : ℕ
 sig_key = 37
+
 abbrev pub struct_key : ℕ
 struct_key = 38
+
 abbrev pub then_key : ℕ
 then_key = 39
+
 abbrev pub to_key : ℕ
 to_key = 40
+
 abbrev pub true_key : ℕ
 true_key = 41
+
 abbrev pub try_key : ℕ
 try_key = 42
+
 abbrev pub type_key : ℕ
 type_key = 43
+
 abbrev pub val_key : ℕ
 val_key = 44
+
 abbrev pub when_key : ℕ
 when_key = 45
+
 abbrev pub while_key : ℕ
 while_key = 46
+
 abbrev pub with_key : ℕ
 with_key = 47
+
 abbrev pub left_paren_key : ℕ
 left_paren_key = 48
+
 abbrev pub right_paren_key : ℕ
 right_paren_key = 49
+
 abbrev pub left_bracket_key : ℕ
 left_bracket_key = 50
+
 abbrev pub right_bracket_key : ℕ
 right_bracket_key = 51
+
 abbrev pub left_brace_key : ℕ
 left_brace_key = 52
+
 abbrev pub right_brace_key : ℕ
 right_brace_key = 53
+
 abbrev pub comma_key : ℕ
 comma_key = 54
+
 abbrev pub semi_key : ℕ
 semi_key = 55
+
 abbrev pub semi_semi_key : ℕ
 semi_semi_key = 56
+
 abbrev pub colon_key : ℕ
 colon_key = 57
+
 abbrev pub dot_key : ℕ
 dot_key = 58
+
 abbrev pub underscore_key : ℕ
 underscore_key = 59
+
 abbrev pub bar_key : ℕ
 bar_key = 60
+
 abbrev pub arrow_key : ℕ
 arrow_key = 61
+
 abbrev pub left_arrow_key : ℕ
 left_arrow_key = 62
+
 abbrev pub colon_colon_key : ℕ
 colon_colon_key = 63
+
 abbrev pub colon_equal_key : ℕ
 colon_equal_key = 64
+
 abbrev pub op14_key : ℕ
 op14_key = 65
+
 abbrev pub op13_key : ℕ
 op13_key = 66
+
 abbrev pub op12_key : ℕ
 op12_key = 67
+
 abbrev pub op10_key : ℕ
 op10_key = 68
+
 abbrev pub op9_key : ℕ
 op9_key = 69
+
 abbrev pub op8_key : ℕ
 op8_key = 70
+
 abbrev pub op7_key : ℕ
 op7_key = 71
+
 abbrev pub prefix_key : ℕ
 prefix_key = 72
-abbrev pub star_key : ℕ
-star_key = 73
-abbrev pub minus_key : ℕ
-minus_key = 74
-abbrev pub minus_point_key : ℕ
-minus_point_key = 75
-abbrev pub equal_key : ℕ
-equal_key = 76
+
 abbrev pub outside_key : ℕ
-outside_key = 77
+outside_key = 73
+
 abbrev pub junk_key : ℕ
-junk_key = 78
+junk_key = 74
+
+abbrev pub star_key : ℕ
+star_key = 75
+
+abbrev pub minus_key : ℕ
+minus_key = 76
+
+abbrev pub minus_point_key : ℕ
+minus_point_key = 77
+
+abbrev pub equal_key : ℕ
+equal_key = 78
 
 -- the literals that are constants: numerals, characters, strings, `()`, `[]`, `true` and `false`
 abbrev pub constants : List ℕ

@@ -7,6 +7,7 @@ pub mod Machine
 pub mod Recovery
 pub mod Rows
 pub mod Checks
+pub mod Separate
 pub mod Tested
 pub mod Ocaml
 pub mod Parts

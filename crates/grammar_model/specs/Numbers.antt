@@ -29,4 +29,3 @@ here (at_spot p) other = found zero (at_spot p)
 abbrev pub find_fit : Table → ℕ → ℕ → Last → Stack → ℕ → Found
 find_fit G r at last [] k = here (first_place G r at last k) none
 find_fit G r at last (F ∷ S) k = here (first_place G r at last k) (if G.ends r at then further (find_fit G F.number F.at (last_row (G.what F.number F.at) r) S k) else none)
-

@@ -124,9 +124,9 @@ rows =
     row yfunctor_name module_type no_left 0 (key 0 functor_key ▸ key 1 left_paren_key ▸ key 2 upper_key ▸ key 3 colon_key ▸ operand 4 module_type 0 ▸ key 5 right_paren_key ▸ repeated (key 1 left_paren_key ▸ key 2 upper_key ▸ key 3 colon_key ▸ operand 4 module_type 0 ▸ key 5 right_paren_key ▸ stop) ▸ key 6 arrow_key ▸ operand 7 module_type 0 ▸ stop) ∷
     row ysig_name signature_text no_left 0 (repeated (operand 1 signature_item 0 ▸ stop) ▸ stop) ∷ []
 
--- the sorts and the keys that the rows name have lower numbers than these
+-- the sorts and the keys have lower numbers than these
 abbrev pub sizes : Sizes
-sizes = record { sorts = 20; keys = 77 }
+sizes = record { sorts = 20; keys = 79 }
 
 -- the texts that are read: a program, and a signature, which is read as the row `sig` without its two words
 pub data Text : Type 0 where

@@ -5,7 +5,6 @@ use Rattle.grammar_model.specs.Tables as what
 use Rattle.grammar_model.specs.Rows.{Left, Spot, Row, edge, edge_behind, spot, a_row, no_spot}
 
 infixr 50 ◌▸◌
-
 mutual
   -- a part as it is written, with the number of its slot: `keys slot keys`, a token with one of the keys; `operand slot sort level`; `optional`, `either` and `repeated` parts, which begin with a token or an operand of their own; `parameters slot sort level row`, operands that may stand behind an operand of this row alone; `separated slot sort level slot key`, operands with the key between them, of which the last may have one behind it; `maybe_separated`, the same or none
   pub data Piece : Type 0 where

@@ -66,7 +66,7 @@ abbrev pub reach_in : ℕ → Table → Frame → Stack → Tok → ℕ → ℕ 
 reach_in zero G f S t place h = unreached
 reach_in (suc fuel) G f S t place h =
     at_frame G (place_in G f t) f S t h
-      (or_reach (past_operand G f S t place h (G.next f.number f.at)) (on_edge (must_of G f) unreached (λ e. reach_in fuel G (missing_at f e.spot place) S t place (h + 1))))
+    (or_reach (past_operand G f S t place h (G.next f.number f.at)) (on_edge (must_of G f) unreached (λ e. reach_in fuel G (missing_at f e.spot place) S t place (h + 1))))
 
 -- one missing part more
 abbrev pub one_more : Frame × ℕ → Frame × ℕ

@@ -135,13 +135,14 @@ grower_of z rows s k = if nat_lt s z.sorts && nat_lt k z.keys then grower_in row
 -- the table of rows of which one is the row of a whole text
 abbrev pub table_of : ℕ → Sizes → List Row → Table
 table_of root z rows = record {
-    root = root;
-    sort = λ r. (row_at rows r).sort;
-    stand = λ r. (row_at rows r).stand;
-    has_left = λ r. is_left (row_at rows r).left;
-    left_ok = λ r last. left_takes rows (row_at rows r).left (row_at rows r).sort last;
-    what = λ r p. (spot_at (row_at rows r) p).what;
-    next = λ r p. (spot_at (row_at rows r) p).next;
-    ends = λ r p. (spot_at (row_at rows r) p).ends;
-    chain = chain_of z rows;
-    grower = grower_of z rows }
+  root = root;
+  sort = λ r. (row_at rows r).sort;
+  stand = λ r. (row_at rows r).stand;
+  has_left = λ r. is_left (row_at rows r).left;
+  left_ok = λ r last. left_takes rows (row_at rows r).left (row_at rows r).sort last;
+  what = λ r p. (spot_at (row_at rows r) p).what;
+  next = λ r p. (spot_at (row_at rows r) p).next;
+  ends = λ r p. (spot_at (row_at rows r) p).ends;
+  chain = chain_of z rows;
+  grower = grower_of z rows;
+}

@@ -7,9 +7,9 @@ is_text s = nat_lt s 2
 
 -- what stands at a spot of a row
 pub data What : Type 0 where
-  nothing : What                       -- the row's start, or behind its left operand
-  token : List ℕ → What                -- one token with one of these keys
-  operand : ℕ → ℕ → What               -- an operand of this sort and level
+  nothing : What  -- the row's start, or behind its left operand
+  token : List ℕ → What  -- one token with one of these keys
+  operand : ℕ → ℕ → What  -- an operand of this sort and level
 
 -- a spot that may come next; `behind` is the row that the operand before it must have, if any
 pub record Edge : Type 0 where
@@ -24,16 +24,16 @@ pub data Last : Type 0 where
 
 -- what the grammar asks of a table of rows
 pub record Table : Type 0 where
-  pub root : ℕ                         -- the row of a whole text
-  pub sort : ℕ → ℕ                     -- of a row
-  pub stand : ℕ → ℕ                    -- the highest level of a slot in which the row may stand
+  pub root : ℕ  -- the row of a whole text
+  pub sort : ℕ → ℕ  -- of a row
+  pub stand : ℕ → ℕ  -- the highest level of a slot in which the row may stand
   pub has_left : ℕ → Bool
-  pub left_ok : ℕ → Last → Bool        -- may the row have this left operand
-  pub what : ℕ → ℕ → What              -- at a spot of a row
-  pub next : ℕ → ℕ → List Edge         -- behind a spot of a row, in order
-  pub ends : ℕ → ℕ → Bool              -- may the row end behind the spot
-  pub chain : ℕ → ℕ → List ℕ           -- the rows that a key begins in an operand of a sort, from the outermost; none: []
-  pub grower : ℕ → ℕ → Option ℕ        -- the row by which a key grows an operand of a sort
+  pub left_ok : ℕ → Last → Bool  -- may the row have this left operand
+  pub what : ℕ → ℕ → What  -- at a spot of a row
+  pub next : ℕ → ℕ → List Edge  -- behind a spot of a row, in order
+  pub ends : ℕ → ℕ → Bool  -- may the row end behind the spot
+  pub chain : ℕ → ℕ → List ℕ  -- the rows that a key begins in an operand of a sort, from the outermost; none: []
+  pub grower : ℕ → ℕ → Option ℕ  -- the row by which a key grows an operand of a sort
 
 -- the key is one of these
 abbrev pub has : List ℕ → ℕ → Bool

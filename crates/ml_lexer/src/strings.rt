@@ -59,10 +59,12 @@ fn closes_quoted(text: Rest<'_>, id_end: usize, at: usize) -> bool
     requires near { at < length (rest_of text) }
     ensures { result ≡ front_is (closing (take (id_end - 1) (drop 1 (rest_of text.entry)))) (drop at (rest_of text.entry)) }
 {
-    let first = peek(text, at) == b'|';
+    if peek(text, at) != b'|' {
+        return false;
+    }
     let same = is_repeated(text, 1, id_end, at + 1);
     let last = peek(text, at + id_end) == b'}';
-    first && (same && last)
+    same && last
 }
 
 /// The end of a quoted string whose `|` stands at the end of its id. None where it has no end.

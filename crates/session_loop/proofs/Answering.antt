@@ -5,7 +5,7 @@ use Rattle.text_model.specs.Edits as edit
 use Rattle.text_store.specs.Edits.{IsRefusal}
 use Rattle.text_store.specs.declared.edits.TextRefusal.{TextRefusal}
 use Rattle.text_store.specs.declared.edits.TextRefusal.TheVariants as code
-use Rattle.service_model.specs.Requests.{Asked, tell, Refusal, Reading, asks, refused, reading}
+use Rattle.service_model.specs.Requests.{Asked, tell, Refusal, asks, refused, reading}
 use Rattle.service_model.specs.Replies as said
 use Rattle.service_model.specs.Answers.{Answers, Answered, Replies, ToldIs, tell_outcome, edit_refusal}
 use Rattle.json_lines.specs.Meets.{IsToldOf}

@@ -96,7 +96,7 @@ fn plain_text_is_answered(rt: HostRuntime) -> Result<(), Fail> {
     let input = joined(alloc, &[TELL, ASK])?;
     let (report, output) = run(alloc, input, Vec::new(alloc), Vec::new(alloc))?;
     assert_eq!(rt; report.status, Status::Done);
-    assert_eq!(rt; report.lexed, 16);
+    assert_eq!(rt; report.lexed, 8);
     assert_eq!(rt;
         output.as_slice(),
         joined(alloc, &[TOLD, TYPED])?.as_slice()
@@ -170,7 +170,7 @@ fn sure_ends_never_fail(rt: HostRuntime) -> Result<(), Fail> {
     let mut src = SureSource::new(joined(alloc, &[TELL, ASK])?);
     let report = serve(alloc, &[], &mut src, &mut SureSink::new(), &mut zero());
     assert_eq!(rt; report.status, Status::Done);
-    assert_eq!(rt; report.lexed, 16);
+    assert_eq!(rt; report.lexed, 8);
     Ok(())
 }
 

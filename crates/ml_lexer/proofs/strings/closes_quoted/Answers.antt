@@ -11,7 +11,7 @@ returns-then-same c =
     let at = c.args.at in
     let n = c.args.id_end in
     let id = take (n - 1) (drop 1 w) in
-    let bar : (get_or w at 0 == 124) ≡ true = eq-eqb (get_or w at 0) 124 (sym c.peek-first.ensures ∙ c.if-first.true) in
+    let bar : (get_or w at 0 == 124) ≡ true = eq-eqb (get_or w at 0) 124 (sym c.peek.ensures ∙ c.if-peek-ne124.false) in
     let same : front_is id (drop (at + 1) w) ≡ true = sym c.is_repeated-same.ensures ∙ c.if-same.true in
     sym (front_closing id w at n (search rules) (length-id w n (search rules) (search rules)) ∙ ap (λ t. t && (front_is id (drop (at + 1) w) && get_or w (at + n) 0 == 125)) bar
     ∙ ap (λ t. t && get_or w (at + n) 0 == 125) same ∙ ap (λ k. k == 125) (sym c.peek-last.ensures))
@@ -22,7 +22,7 @@ returns-else-same c =
     let at = c.args.at in
     let n = c.args.id_end in
     let id = take (n - 1) (drop 1 w) in
-    let bar : (get_or w at 0 == 124) ≡ true = eq-eqb (get_or w at 0) 124 (sym c.peek-first.ensures ∙ c.if-first.true) in
+    let bar : (get_or w at 0 == 124) ≡ true = eq-eqb (get_or w at 0) 124 (sym c.peek.ensures ∙ c.if-peek-ne124.false) in
     let other : front_is id (drop (at + 1) w) ≡ false = sym c.is_repeated-same.ensures ∙ c.if-same.false in
     c.if-same.false ∙ sym (front_closing id w at n (search rules) (length-id w n (search rules) (search rules)) ∙ ap (λ t. t && (front_is id (drop (at + 1) w) && get_or w (at + n) 0 == 125)) bar
     ∙ ap (λ t. t && get_or w (at + n) 0 == 125) other)

@@ -1,4 +1,4 @@
-use Rattle.std.proofs.Common.{rules, arith, ◌≡◌, ◌∙◌, Some, None, ap, sym, subst, length, List, ℕ}
+use Rattle.std.proofs.Common.{arith, ◌≡◌, ap, length, List, ℕ}
 use Rattle.text_model.proofs.Whole.{made_of, length_apply}
 use Rattle.text_store.specs.Edits.{edit_of}
 use Rattle.text_terms.specs.Bytes.{str_bytes}

@@ -1,4 +1,4 @@
-use Rattle.std.proofs.Common.{◌≡◌, ◌∙◌, ap, refl, sym, subst, codes, List, ℕ}
+use Rattle.std.proofs.Common.{◌∙◌, ap, refl, sym, subst, codes, List, ℕ}
 use Rattle.text_model.specs.Positions.{offset}
 use Rattle.service_model.specs.Replies as said
 use Rattle.service_model.specs.Answers.{PlacedIs, EnclosingIs}

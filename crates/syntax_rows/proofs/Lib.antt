@@ -1,0 +1,4 @@
+pub mod KindsApart
+pub mod Bounds
+pub mod Chains
+pub mod Named

@@ -1,0 +1,5 @@
+pub mod Gaps
+pub mod Stops
+pub mod Sorts
+pub mod OneKind
+pub mod Ones
