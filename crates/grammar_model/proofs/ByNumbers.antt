@@ -13,7 +13,7 @@ take_found G (found zero p) f S t = take_at G p f S t no_fit
 take_found G (found (suc k) p) f [] t = no_fit
 take_found G (found (suc k) p) f (g ∷ S) t = take_found G (found k p) (put f g) S t
 
-last_closed : (w : What) (f : Frame) (ds : List (ℕ × Part)) (at : ℕ) → last_done w ((at, inner (node_of f)) ∷ ds) ≡ last_row w f.number
+pub last_closed : (w : What) (f : Frame) (ds : List (ℕ × Part)) (at : ℕ) → last_done w ((at, inner (node_of f)) ∷ ds) ≡ last_row w f.number
 last_closed nothing f ds at = refl
 last_closed (token ks) f ds at = refl
 last_closed (operand s n) f ds at = refl

@@ -10,3 +10,4 @@ pub mod Instance
 pub mod Separated
 pub mod Promises
 pub mod ByNumbers
+pub mod ReachByNumbers

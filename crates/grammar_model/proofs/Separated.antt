@@ -1,9 +1,7 @@
 -- There is at most one row of a sort and a key at one place, and `row_for` is the one.
 use Rattle.std.proofs.Common.{◌≡◌, ℕ, Bool, true, false, List, [], ◌∷◌, Option, Some, None, refl, sym, ◌∙◌, ap, subst, if◌then◌else◌}
-use Rattle.std.specs.Prelude.{nat_eq}
 use Rattle.std.proofs.lemmas.Bool.{eqb-true, eq-eqb}
-use Rattle.grammar_model.specs.Tables.{Table, What, nothing, token, operand, plain, takes}
-use Rattle.grammar_model.specs.Grammar.{MayCome}
+use Rattle.grammar_model.specs.Tables.{Table, What, nothing, token, operand, takes}
 use Rattle.grammar_model.specs.Machine.{first_of}
 use Rattle.grammar_model.specs.Rows.{Left, no_left, level, named, Row, row_at, is_left, Sizes, table_of, chain_of, grower_of}
 use Rattle.grammar_model.specs.Separate.{StartsWith, AreSeparate, IsRowFor, head_of, is_same_left, with_left, row_for}

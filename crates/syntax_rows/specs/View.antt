@@ -3,6 +3,7 @@ use Rattle.std.specs.Prelude.{◌≡◌, ℕ, List, map, take, drop, Option, Som
 use Rattle.grammar_model.specs.Tables as t
 use Rattle.grammar_model.specs.Rows as w
 use Rattle.grammar_model.specs.Ocaml as o
+use Rattle.grammar_model.specs.Numbers as n
 use Rattle.grammar_model.specs.Separate.{IsRowFor}
 use Rattle.syntax_tree.specs.Names as names
 use Rattle.syntax_tree.specs.declared.rows.RowName.{RowName}
@@ -20,6 +21,7 @@ use Rattle.syntax_rows.specs.declared.places.Last.{Last}
 use Rattle.syntax_rows.specs.declared.places.Last.TheVariants as last
 use Rattle.syntax_rows.specs.declared.places.Place.{Place}
 use Rattle.syntax_rows.specs.declared.places.Place.TheVariants.{Nowhere, Growth, AtSpot}
+use Rattle.syntax_rows.specs.declared.ways.Way.{Way}
 use Rattle.syntax_rows.specs.declared.ocaml.Text.{Text}
 use Rattle.syntax_rows.specs.declared.ocaml.Text.TheVariants as text
 
@@ -76,6 +78,10 @@ abbrev pub place_of : Place → t.Place
 place_of Nowhere = t.nowhere
 place_of Growth = t.growth
 place_of (AtSpot p) = t.at_spot p
+
+-- a way in a row
+abbrev pub way_of : Way → n.Way
+way_of w = n.way w.musts w.past (place_of w.place)
 
 -- a kind of text
 abbrev pub text_of : Text → o.Text

@@ -10,6 +10,7 @@ mod ocaml;
 mod places;
 mod rows;
 mod starts;
+mod ways;
 
 pub use keys::Key;
 pub use lookup::{row_for, rows_are_separate};
@@ -17,6 +18,7 @@ pub use ocaml::{ROWS, Text, grammar};
 pub use places::{Last, Place, first_place};
 pub use rows::{Edge, Left, Row, Sort, Spot, Table, What, ends_at, name_at, what_at};
 pub use starts::{begins, grower, start_of};
+pub use ways::{Way, find_way, must_at};
 
 #[cfg(test)]
 mod tests {
@@ -177,6 +179,38 @@ mod tests {
                 kind(TokenKind::Val)
             ),
             Place::AtSpot(2)
+        );
+        Ok(())
+    }
+
+    /// `let x = + 1` grows a missing operand; `if e else` misses `then` (spot 3) and what stands behind it (spot 4).
+    #[test]
+    fn ways_past_missing_parts(rt: HostRuntime) -> Result<(), Fail> {
+        let table = grammar(Text::Program);
+        let plus = Key::Kind(TokenKind::Op12);
+        assert_eq!(rt;
+            find_way(table, 56, 5, Last::Plain, plus),
+            Some(Way {
+                musts: 0,
+                past: Some(6),
+                place: Place::Growth
+            })
+        );
+        assert_eq!(rt;
+            find_way(table, 88, 2, Last::Row(60), Key::Kind(TokenKind::Else)),
+            Some(Way {
+                musts: 1,
+                past: Some(4),
+                place: Place::AtSpot(5)
+            })
+        );
+        assert_eq!(rt;
+            find_way(table, 88, 2, Last::Row(60), Key::Kind(TokenKind::In)),
+            None
+        );
+        assert_eq!(rt;
+            (must_at(table, 88, 2), must_at(table, 88, 4)),
+            (Some(3), None)
         );
         Ok(())
     }
