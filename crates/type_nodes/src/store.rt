@@ -1,6 +1,6 @@
 //! The store.
 ghost use Rattle.std.specs.Prelude.{◌≡◌, ◌≤◌, ◌<◌, [], length, slice_get, All, IfOk, OnOk, OnErr};
-ghost use Rattle.type_nodes.specs.Nodes.{Node, IsNode, Apart, parts};
+ghost use Rattle.type_nodes.specs.Nodes.{Node, IsNode, IsSound, Apart, parts};
 ghost use Rattle.type_nodes.specs.Links.{root, reading, IsNoLink, IsVariable, ReadsAsComposite};
 ghost use Rattle.type_nodes.specs.Readings.{ReadAlike, SameReadings};
 ghost use Rattle.type_nodes.specs.States.{state, Restored, Keeps};
@@ -109,7 +109,8 @@ impl Store {
 
     /// How many nodes there are. Their numbers are those below.
     pub fn len(&self) -> usize
-        ensures { result ≡ length self.now.nodes }
+        ensures count { result ≡ length self.now.nodes }
+        ensures sound { IsSound self.now.nodes }
     {
         self.cells.list.len()
     }
@@ -117,7 +118,8 @@ impl Store {
     /// The node at the end of the links from `n`. Nodes that are linked to one variable have one root.
     pub fn root(&self, n: NodeRef) -> NodeRef
         requires { IsNode self.now.nodes n.0 }
-        ensures { result.0 ≡ root self.now.nodes n.0 }
+        ensures root { result.0 ≡ root self.now.nodes n.0 }
+        ensures sound { IsSound self.now.nodes }
     {
         root_of(&self.cells, n)
     }
