@@ -1,0 +1,90 @@
+-- What unification answers, from what its parts answered.
+use Rattle.std.proofs.Common.{◌≡◌, ◌≢◌, ◌↔◌, ℕ, zero, suc, ◌<◌, Bool, true, false, List, [], ◌∷◌, length, Some, sym, ◌∙◌, ap, subst, arith, inl, inr}
+use Rattle.std.specs.Prelude.{slice_get, All, IsTrue}
+use Rattle.std.proofs.lemmas.Option.{slice_get_within}
+use Rattle.type_terms.specs.declared.types.NodeRef.{NodeRef}
+use Rattle.type_nodes.specs.Nodes.{Node, Var, Rigid, Link, Arrow, Tuple, Con, parts, bound_level, IsSound, IsClosed}
+use Rattle.type_nodes.specs.Links.{root, IsNoLink}
+use Rattle.type_nodes.proofs.Roots.{root_no_link, root_inside, closed_root, root_here, root_settled, root_link, next_stays}
+use Rattle.level_unify.specs.declared.fault.ClashKind.TheVariants.{Shape, Cycle, Scope}
+use Rattle.level_unify.specs.declared.fault.Clash.{Clash}
+use Rattle.level_unify.specs.Walks.{StandsIn}
+use Rattle.level_unify.specs.Solutions.{Solved, Tracked, HaveNoBound, NeverOne, Cap, IsListed}
+use Rattle.level_unify.specs.Limits.{CappedTo, NeverCapped}
+use Rattle.level_unify.specs.Unification.{IsInside, IsCyclic, HasKind, Clashes, Unified}
+use Rattle.level_unify.proofs.Steps.{cell_at, never_turned}
+use Rattle.level_unify.proofs.Sizes.{never_inside}
+use Rattle.level_unify.proofs.Solving.{loose_root}
+use Rattle.level_unify.proofs.Unified.{never_one, never_scoped, unified}
+
+-- a root that stands in a node stands in the node's root
+stands_at_root : (nodes : List Node) (a b : ℕ) → IsSound nodes → a < length nodes → StandsIn nodes (root nodes a) b → StandsIn nodes (root nodes a) (root nodes b)
+stands_at_root nodes a b sound lt stands = record { each = λ F closed has. own F (stands.each (λ n. F (root nodes n)) (by_roots F closed) has) }
+  where
+    own : (F : ℕ → Bool) → F (root nodes (root nodes a)) ≡ true → F (root nodes a) ≡ true
+    own F h = ap F (sym (root_here nodes (root nodes a) (root_settled nodes sound a lt))) ∙ h
+
+    one : (F : ℕ → Bool) (m : ℕ) → F (root nodes m) ≡ true → All (λ k. F (root nodes k) ≡ true) (m ∷ [])
+    one F m has zero d l = has
+    one F m has (suc k) d l = absurd (omega arith)
+
+    no_link : (F : ℕ → Bool) → IsClosed nodes F → (n : ℕ) (c : Node) → slice_get nodes n ≡ Some c → IsNoLink c → F (root nodes n) ≡ true → All (λ m. F (root nodes m) ≡ true) (parts c)
+    no_link F closed n c e is has = λ k d l. closed_root nodes F closed _ (closed.each n c (ap F (sym (root_here nodes n (next_stays nodes n c e is))) ∙ has) e k d l)
+
+    each : (F : ℕ → Bool) → IsClosed nodes F → (n : ℕ) (c : Node) → slice_get nodes n ≡ Some c → F (root nodes n) ≡ true → All (λ m. F (root nodes m) ≡ true) (parts c)
+    each F closed n (Var level scope) e has = no_link F closed n (Var level scope) e tt has
+    each F closed n Rigid e has = no_link F closed n Rigid e tt has
+    each F closed n (Link m) e has = one F m (ap F (sym (root_link nodes sound n m (slice_get_within nodes n (Link m) e) e)) ∙ has)
+    each F closed n (Arrow x y) e has = no_link F closed n (Arrow x y) e tt has
+    each F closed n (Tuple ms) e has = no_link F closed n (Tuple ms) e tt has
+    each F closed n (Con p name ms) e has = no_link F closed n (Con p name ms) e tt has
+
+    by_roots : (F : ℕ → Bool) → IsClosed nodes F → IsClosed nodes (λ n. F (root nodes n))
+    by_roots F closed = record { each = λ n c has e. each F closed n c e has }
+
+-- where a stands inside b nothing that fits gives both one type
+pub never_cyclic : (nodes : List Node) (a b : ℕ) → IsSound nodes → b < length nodes → IsInside nodes a b → NeverOne nodes a b
+never_cyclic nodes a b sound lt (free, other, stands) =
+    let (c, at) = cell_at nodes (root nodes b) (root_inside nodes sound b lt) in
+    let h = never_inside nodes (root nodes a) (root nodes b) c at (root_no_link nodes sound b c lt at) other (stands_at_root nodes a b sound free.inside stands) in
+    record { never = λ V fits same. h.never V fits (sym (loose_root nodes V fits a) ∙ same ∙ loose_root nodes V fits b) }
+
+never_either : (nodes : List Node) (a b : ℕ) → IsSound nodes → a < length nodes → b < length nodes → IsCyclic nodes a b → NeverOne nodes a b
+never_either nodes a b sound a_in b_in (inl h) = never_cyclic nodes a b sound b_in h
+never_either nodes a b sound a_in b_in (inr h) = never_turned nodes a b (never_cyclic nodes b a sound a_in h)
+
+is_true : (res : Bool) → res ≡ true → IsTrue res
+is_true res e = e
+
+is_false : (res : Bool) → res ≡ false → IsTrue res → ⊥
+is_false res e h = absurd (cc)
+
+pub cyclic_clash : (nodes : List Node) (a b : NodeRef) (clash : Clash) → {res : Bool} → IsSound nodes → a.0 < length nodes → b.0 < length nodes → IsTrue res ↔ IsCyclic nodes a.0 b.0 → res ≡ true →
+    clash.left ≡ a → clash.right ≡ b → clash.kind ≡ Cycle → Clashes nodes a b clash
+cyclic_clash nodes a b clash {res} sound a_in b_in test e l r k =
+    let cyclic = test.0 (is_true res e) in
+    let n = never_one nodes a.0 b.0 (never_either nodes a.0 b.0 sound a_in b_in cyclic) in
+    record { left = l; right = r; never = n.0; kind = subst (HasKind nodes a.0 b.0) (sym k) (cyclic, n.1) }
+
+pub shape_clash : (nodes : List Node) (a b : NodeRef) (clash : Clash) → {res : Bool} → IsTrue res ↔ IsCyclic nodes a.0 b.0 → res ≡ false → NeverOne nodes a.0 b.0 →
+    clash.left ≡ a → clash.right ≡ b → clash.kind ≡ Shape → Clashes nodes a b clash
+shape_clash nodes a b clash {res} test e never l r k =
+    let n = never_one nodes a.0 b.0 never in
+    record { left = l; right = r; never = n.0; kind = subst (HasKind nodes a.0 b.0) (sym k) ((λ h. is_false res e (test.1 h)), n.1) }
+
+pub scope_clash : (old mid : List Node) (a b : NodeRef) (clash : Clash) (caps caps' : List Cap) → caps' ≡ caps → {res : Bool} → IsTrue res ↔ IsCyclic old a.0 b.0 → res ≡ false →
+    IsSound mid → HaveNoBound old a.0 b.0 → Solved old mid a.0 b.0 → Tracked old mid a.0 b.0 caps → NeverCapped mid caps' →
+    clash.left ≡ a → clash.right ≡ b → clash.kind ≡ Scope → Clashes old a b clash
+scope_clash old mid a b clash caps caps' same {res} test e sound none s t never l r k =
+    let n = never_scoped old mid a.0 b.0 caps sound none s t (subst (NeverCapped mid) same never) in
+    record { left = l; right = r; never = n.0; kind = subst (HasKind old a.0 b.0) (sym k) ((λ h. is_false res e (test.1 h)), n.1) }
+
+pub caps_inside : (old mid : List Node) (a b : ℕ) (caps : List Cap) → Solved old mid a b → Tracked old mid a b caps → (x : Cap) → IsListed caps x → (x.0 < length mid) × (x.1 ≢ bound_level)
+caps_inside old mid a b caps s t x h =
+    let w = t.was x h in
+    let l = slice_get_within old x.0 (Var x.1 x.2) w.0 in
+    let e = s.len in (omega arith, w.1)
+
+pub all_unified : (old mid new : List Node) (a b : ℕ) (caps caps' : List Cap) → caps' ≡ caps → IsSound mid → HaveNoBound old a b → Solved old mid a b → Tracked old mid a b caps →
+    CappedTo mid new caps' (length caps') → Unified old new a b
+all_unified old mid new a b caps caps' same sound none s t c = unified old mid new a b caps sound none s t (subst (λ x. CappedTo mid new x (length x)) same c)

@@ -1,0 +1,6 @@
+pub mod Walks
+pub mod Plans
+pub mod Solutions
+pub mod Limits
+pub mod Unification
+pub mod Generalising

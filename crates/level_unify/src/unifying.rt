@@ -1,0 +1,95 @@
+//! Unification.
+ghost use Rattle.std.specs.Prelude.{◌≡◌, ◌↔◌, ℕ, length, IsTrue, IfOk, IfErr, OnOk, OnErr};
+ghost use Rattle.level_unify.specs.declared.fault.UnifyFault.{UnifyFault};
+ghost use Rattle.level_unify.specs.declared.fault.Clash.{Clash};
+ghost use Rattle.level_unify.specs.declared.solve.Stop.{Stop};
+ghost use Rattle.type_nodes.specs.Nodes.{IsNode, IsSound};
+ghost use Rattle.type_nodes.specs.States.{Keeps};
+ghost use Rattle.level_unify.specs.Solutions.{HaveNoBound};
+ghost use Rattle.level_unify.specs.Unification.{IsInside, IsCyclic, Clashes, Unified};
+
+use crate::fault::{Clash, ClashKind, UnifyFault};
+use crate::limits::lower_all;
+use crate::plan::is_free;
+use crate::solve::{Stop, solve};
+use crate::walk::occurs;
+use std::alloc::Global;
+use type_nodes::{NoMemory, NodeRef, Store};
+
+// Whether `inner` reads as a free variable that stands inside `outer` and isn't `outer`.
+fn stands_inside(
+    alloc: Global,
+    store: &Store,
+    inner: NodeRef,
+    outer: NodeRef,
+) -> Result<bool, NoMemory>
+    requires inner { IsNode store.now.nodes inner.0 }
+    requires outer { IsNode store.now.nodes outer.0 }
+    ensures inside { IfOk result (λ yes. IsTrue yes ↔ IsInside store.now.nodes inner.0 outer.0) }
+    ensures sound { IsSound store.now.nodes }
+{
+    let var = store.root(inner);
+    if var.0 == store.root(outer).0 || !is_free(&store.read(var)) {
+        return Ok(false);
+    }
+    occurs(alloc, store, var, outer)
+}
+
+// A clash of the two nodes is of this kind.
+fn fault(stop: Stop, left: NodeRef, right: NodeRef, kind: ClashKind) -> UnifyFault
+    ensures { (clash : Clash) → result ≡ UnifyFault.Clash clash → (stop ≡ Stop.Clash) × (clash.left ≡ left) × (clash.right ≡ right) × (clash.kind ≡ kind) }
+{
+    match stop {
+        Stop::Clash => UnifyFault::Clash(Clash { left, right, kind }),
+        Stop::NoMemory => UnifyFault::NoMemory,
+    }
+}
+
+fn is_cyclic(alloc: Global, store: &Store, a: NodeRef, b: NodeRef) -> Result<bool, NoMemory>
+    requires a { IsNode store.now.nodes a.0 }
+    requires b { IsNode store.now.nodes b.0 }
+    ensures cyclic { IfOk result (λ yes. IsTrue yes ↔ IsCyclic store.now.nodes a.0 b.0) }
+    ensures sound { IsSound store.now.nodes }
+{
+    Ok(stands_inside(alloc, store, a, b)? || stands_inside(alloc, store, b, a)?)
+}
+
+// The parts of unification in order; after an error some of the changes are made.
+fn attempt(alloc: Global, store: &mut Store, a: NodeRef, b: NodeRef) -> Result<(), UnifyFault>
+    requires a { IsNode store.old.nodes a.0 }
+    requires b { IsNode store.old.nodes b.0 }
+    requires unbound { HaveNoBound store.old.nodes a.0 b.0 }
+    ensures unified { OnOk result (Unified store.old.nodes store.new.nodes a.0 b.0) }
+    ensures clash { IfErr result (λ e. (clash : Clash) → e ≡ UnifyFault.Clash clash → Clashes store.old.nodes a b clash) }
+    ensures keeps { Keeps store.old store.new }
+{
+    if is_cyclic(alloc, store, a, b)? {
+        return Err(fault(Stop::Clash, a, b, ClashKind::Cycle));
+    }
+    let mut limits = Vec::new(alloc);
+    if let Err(stop) = solve(alloc, store, &mut limits, a, b) {
+        return Err(fault(stop, a, b, ClashKind::Shape));
+    }
+    if let Err(stop) = lower_all(alloc, store, &limits) {
+        return Err(fault(stop, a, b, ClashKind::Scope));
+    }
+    Ok(())
+}
+
+/// Makes two nodes one, where some reading gives them one type. After an error the store is as before.
+pub fn unify(alloc: Global, store: &mut Store, a: NodeRef, b: NodeRef) -> Result<(), UnifyFault>
+    requires a { IsNode store.old.nodes a.0 }
+    requires b { IsNode store.old.nodes b.0 }
+    requires unbound { HaveNoBound store.old.nodes a.0 b.0 }
+    ensures unified { OnOk result (Unified store.old.nodes store.new.nodes a.0 b.0) }
+    ensures clash { IfErr result (λ e. (clash : Clash) → e ≡ UnifyFault.Clash clash → Clashes store.old.nodes a b clash) }
+    ensures failed { OnErr result (store.new ≡ store.old) }
+    ensures keeps { Keeps store.old store.new }
+{
+    let mark = store.snapshot();
+    let result = attempt(alloc, store, a, b);
+    if result.is_err() {
+        store.rollback(mark);
+    }
+    result
+}
