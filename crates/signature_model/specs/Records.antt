@@ -1,11 +1,11 @@
--- Which record type some labels belong to (OCaml manual, 11.7.7).
-use Rattle.std.specs.Prelude.{Bool, true, false, ◌&&◌, List, [], ◌∷◌, find, Option, Some, None, if◌then◌else◌}
+-- Which record type some labels belong to (OCaml manual, 11.7.7), over any entries of which some are labels.
+use Rattle.std.specs.Prelude.{Bool, true, false, ◌&&◌, List, [], ◌∷◌, Option, Some, None, if◌then◌else◌}
 use Rattle.type_model.specs.Types.{Path, Typ, Var, Arrow, Tuple, Con}
 use Rattle.type_model.specs.Origins.{same_path}
-use Rattle.signature_model.specs.Declarations.{Name, Declaration, type_of}
+use Rattle.signature_model.specs.Declarations.{Name, type_of}
 use Rattle.signature_model.specs.Components.{same_name}
 use Rattle.signature_model.specs.Entries.{Referent, a_value, a_constructor, an_exception, a_label, a_type, a_module, a_module_type, Entry, Environment}
-use Rattle.signature_model.specs.Lookups.{Found, a_hole, nothing, found, Scope, known, unknown_scope, no_scope, scope_behind}
+use Rattle.signature_model.specs.Lookups.{FoundAmong, a_hole, nothing, found, newest_by, ScopeOf, known, unknown_scope, no_scope, Found, scope_behind}
 
 -- a label as it is written: the modules in front of it, and its name
 pub record Written : Type 0 where
@@ -21,9 +21,73 @@ first_path (l ∷ ls) = elim l.modules [ [] ↦ first_path ls | m ∷ ms ↦ m �
 abbrev pub path_for : List Written → Written → List Name
 path_for ls l = elim l.modules [ [] ↦ first_path ls | m ∷ ms ↦ m ∷ ms ]
 
--- the names among which a label is looked for
-abbrev pub scope_for : Environment → List Written → Written → Scope
-scope_for env ls l = scope_behind env (path_for ls l)
+-- what an entry is as a label: its name, and the origin of the record type that it belongs to, or none where it is no label
+pub record Labelled (E : Type 0) : Type 0 where
+  pub name_of : E → Name
+  pub record_type : E → Option Path
+
+abbrev pub is_of_type : Path → Option Path → Bool
+is_of_type o None = false
+is_of_type o (Some p) = same_path o p
+
+-- whether an entry is a label of this name, of the record type of this origin
+abbrev pub is_label_of : {E : Type 0} → Labelled E → Path → Name → E → Bool
+is_label_of L o n e = same_name n (L.name_of e) && is_of_type o (L.record_type e)
+
+abbrev pub is_some : {A : Type 0} → Option A → Bool
+is_some None = false
+is_some (Some a) = true
+
+-- whether a label of this name, of the record type of this origin, stands in a scope
+abbrev pub has_label : {E : Type 0} → Labelled E → Path → Name → ScopeOf E → Bool
+has_label L o n (known env) = is_some (newest_by (is_label_of L o n) env)
+has_label L o n unknown_scope = false
+has_label L o n no_scope = false
+
+-- whether a record type has each of these labels, each of which is looked for in a scope of its own
+abbrev pub has_each : {E : Type 0} → Labelled E → (Written → ScopeOf E) → Path → List Written → Bool
+has_each L scope o [] = true
+has_each L scope o (l ∷ ls) = has_label L o l.name (scope l) && has_each L scope o ls
+
+abbrev pub belongs_to : {E : Type 0} → Labelled E → (Written → ScopeOf E) → List Written → Option Path → Bool
+belongs_to L scope all None = false
+belongs_to L scope all (Some o) = has_each L scope o all
+
+abbrev pub has_name : Option Name → Name → Bool
+has_name None m = true
+has_name (Some n) m = same_name n m
+
+-- the newest label in a scope, of the name where one is asked, whose record type has each of the labels
+abbrev pub newest_label : {E : Type 0} → Labelled E → (Written → ScopeOf E) → List Written → Option Name → ScopeOf E → FoundAmong E
+newest_label L scope all n (known env) = found (newest_by (λ e. has_name n (L.name_of e) && belongs_to L scope all (L.record_type e)) env)
+newest_label L scope all n unknown_scope = a_hole
+newest_label L scope all n no_scope = nothing
+
+-- whether the modules of a label are there, and whether what is in them is known
+abbrev pub is_there : {E : Type 0} → ScopeOf E → Bool
+is_there (known env) = true
+is_there unknown_scope = true
+is_there no_scope = false
+
+abbrev pub is_known : {E : Type 0} → ScopeOf E → Bool
+is_known (known env) = true
+is_known unknown_scope = false
+is_known no_scope = true
+
+abbrev pub each_scope : {E : Type 0} → (ScopeOf E → Bool) → (Written → ScopeOf E) → List Written → Bool
+each_scope test scope [] = true
+each_scope test scope (l ∷ ls) = test (scope l) && each_scope test scope ls
+
+abbrev pub first_label : {E : Type 0} → Labelled E → List E → (Written → ScopeOf E) → List Written → List Written → FoundAmong E
+first_label L env scope all [] = newest_label L scope all None (known env)
+first_label L env scope all (l ∷ ls) = newest_label L scope all (Some l.name) (scope l)
+
+-- The newest record type that has every label, told by the entry of the first label in it; without labels the newest record type in scope.
+-- It is nothing where a label's module isn't there, and otherwise a hole where one isn't known.
+abbrev pub record_by : {E : Type 0} → Labelled E → List E → (Written → ScopeOf E) → List Written → FoundAmong E
+record_by L env scope ls = if each_scope is_there scope ls then (if each_scope is_known scope ls then first_label L env scope ls ls else a_hole) else nothing
+
+-- the same for the entries of an environment
 
 -- the origin of a type that is a constructor
 abbrev pub origin_of : Typ → Option Path
@@ -32,76 +96,20 @@ origin_of (Arrow a b) = None
 origin_of (Tuple ts) = None
 origin_of (Con o ts) = Some o
 
-abbrev pub same_origin : Option Path → Option Path → Bool
-same_origin None o = false
-same_origin (Some o) None = false
-same_origin (Some o) (Some p) = same_path o p
+abbrev pub record_of_label : Referent → Option Path
+record_of_label (a_value s) = None
+record_of_label (a_constructor d k) = None
+record_of_label (an_exception o) = None
+record_of_label (a_label d l) = origin_of (type_of d)
+record_of_label (a_type d) = None
+record_of_label (a_module s) = None
+record_of_label (a_module_type t) = None
 
--- whether an entry is a label of this name, of the type of this declaration
-abbrev pub is_label_in : Declaration → Name → Referent → Name → Bool
-is_label_in d n (a_value s) m = false
-is_label_in d n (a_constructor c k) m = false
-is_label_in d n (an_exception o) m = false
-is_label_in d n (a_label c l) m = same_name n m && same_origin (origin_of (type_of d)) (origin_of (type_of c))
-is_label_in d n (a_type c) m = false
-is_label_in d n (a_module s) m = false
-is_label_in d n (a_module_type t) m = false
+abbrev pub label_entries : Labelled Entry
+label_entries = record { name_of = λ e. e.name; record_type = λ e. record_of_label e.stands_for }
 
-abbrev pub is_label_of : Declaration → Name → Entry → Bool
-is_label_of d n e = is_label_in d n e.stands_for e.name
+abbrev pub scope_for : Environment → List Written → Written → ScopeOf Entry
+scope_for env ls l = scope_behind env (path_for ls l)
 
--- whether a label of this name, of the type of this declaration, stands in a scope
-abbrev pub has_label : Declaration → Name → Scope → Bool
-has_label d n (known env) = elim (find (is_label_of d n) env) [ None ↦ false | Some e ↦ true ]
-has_label d n unknown_scope = false
-has_label d n no_scope = false
-
--- whether the type of a declaration has each of these labels
-abbrev pub has_each : Environment → List Written → Declaration → List Written → Bool
-has_each env all d [] = true
-has_each env all d (l ∷ ls) = has_label d l.name (scope_for env all l) && has_each env all d ls
-
--- whether an entry is a label, of the name where one is asked, of a record type that has each of these labels
-abbrev pub belongs : Environment → List Written → Referent → Bool
-belongs env all (a_value s) = false
-belongs env all (a_constructor d k) = false
-belongs env all (an_exception o) = false
-belongs env all (a_label d l) = has_each env all d all
-belongs env all (a_type d) = false
-belongs env all (a_module s) = false
-belongs env all (a_module_type t) = false
-
-abbrev pub has_name : Option Name → Name → Bool
-has_name None m = true
-has_name (Some n) m = same_name n m
-
--- the newest label in a scope that belongs to such a type
-abbrev pub newest_in : Environment → List Written → Option Name → Scope → Found
-newest_in env all n (known inner) = found (find (λ e. has_name n e.name && belongs env all e.stands_for) inner)
-newest_in env all n unknown_scope = a_hole
-newest_in env all n no_scope = nothing
-
--- whether each label has modules that are there, and whether what is in them is known
-abbrev pub is_there : Scope → Bool
-is_there (known env) = true
-is_there unknown_scope = true
-is_there no_scope = false
-
-abbrev pub is_known : Scope → Bool
-is_known (known env) = true
-is_known unknown_scope = false
-is_known no_scope = true
-
-abbrev pub each_scope : (Scope → Bool) → Environment → List Written → List Written → Bool
-each_scope test env all [] = true
-each_scope test env all (l ∷ ls) = test (scope_for env all l) && each_scope test env all ls
-
-abbrev pub first_label : Environment → List Written → List Written → Found
-first_label env all [] = newest_in env all None (known env)
-first_label env all (l ∷ ls) = newest_in env all (Some l.name) (scope_for env all l)
-
--- The newest record type that has every label, told by the entry of the first label in it; without labels the newest record type in scope.
--- It is nothing where a label's module isn't there, and otherwise a hole where one isn't known.
 abbrev pub record_of : Environment → List Written → Found
-record_of env ls =
-    if each_scope is_there env ls ls then (if each_scope is_known env ls ls then first_label env ls ls else a_hole) else nothing
+record_of env ls = record_by label_entries env (scope_for env ls) ls

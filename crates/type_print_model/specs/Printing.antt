@@ -1,10 +1,10 @@
 -- The text of a type, for given names of its variables and constructors.
-use Rattle.std.specs.Prelude.{◌≡◌, ℕ, nat_le, Bool, true, false, List, [], ◌++◌, codes, length, take, if◌then◌else◌}
+use Rattle.std.specs.Prelude.{◌≡◌, ℕ, nat_le, Bool, true, false, ◌||◌, List, [], ◌++◌, codes, length, take, if◌then◌else◌}
 use Rattle.type_model.specs.Types.{Path, Typ, Typs, Var, Arrow, Tuple, Con, Nil, Cons}
+use Rattle.type_model.specs.Origins.{same_path}
 use Rattle.signature_model.specs.Declarations.{Name}
-use Rattle.signature_model.specs.Entries.{Environment}
 use Rattle.type_print_model.specs.Variables.{variables_of, variable_name}
-use Rattle.type_print_model.specs.Paths.{IsNameOf}
+use Rattle.type_print_model.specs.Paths.{Naming, IsNameOf}
 
 -- where a type stands in another: by itself, left of an arrow, or as a part of a tuple or the one argument of a constructor
 pub data Within : Type 0 where
@@ -64,17 +64,29 @@ most_shown = 4096
 abbrev pub cut : List ℕ → List ℕ
 cut text = if nat_le (length text) most_shown then text else take most_shown text ++ codes "..."
 
+-- whether an origin stands in a type
+abbrev mutual
+  pub mentions : Path → Typ → Bool
+  mentions o (Var v) = false
+  mentions o (Arrow a b) = mentions o a || mentions o b
+  mentions o (Tuple ts) = mentions_any o ts
+  mentions o (Con p ts) = same_path o p || mentions_any o ts
+
+  pub mentions_any : Path → Typs → Bool
+  mentions_any o Nil = false
+  mentions_any o (Cons t ts) = mentions o t || mentions_any o ts
+
 -- what a type is printed as in an environment, among types with these variables, in order, of which some are weak
-pub record PrintsAmong (env : Environment) (declared : Path → Name) (weak all : List ℕ) (t : Typ) (shown : List ℕ) : Type 0 where
+pub record PrintsAmong {E : Type 0} (N : Naming E) (env : List E) (declared : Path → Name) (weak all : List ℕ) (t : Typ) (shown : List ℕ) : Type 0 where
   pub origin : Path → List ℕ
-  pub named : (o : Path) → IsNameOf env declared o (origin o)
+  pub named : (o : Path) → mentions o t ≡ true → IsNameOf N env declared o (origin o)
   pub text : shown ≡ cut (text_of (record { variable = variable_name weak all; origin = origin }) alone t)
 
 -- what a type is printed as in an environment; the weak variables have names of their own
-abbrev pub Prints : Environment → (Path → Name) → List ℕ → Typ → List ℕ → Type 0
-Prints env declared weak t shown = PrintsAmong env declared weak (variables_of t) t shown
+abbrev pub Prints : {E : Type 0} → Naming E → List E → (Path → Name) → List ℕ → Typ → List ℕ → Type 0
+Prints N env declared weak t shown = PrintsAmong N env declared weak (variables_of t) t shown
 
 -- what the two types of a message are printed as: their variables share their names, the first type first
-abbrev pub PrintsTwo : Environment → (Path → Name) → Typ → Typ → List ℕ → List ℕ → Type 0
-PrintsTwo env declared t u first second =
-    PrintsAmong env declared [] (variables_of t ++ variables_of u) t first × PrintsAmong env declared [] (variables_of t ++ variables_of u) u second
+abbrev pub PrintsTwo : {E : Type 0} → Naming E → List E → (Path → Name) → Typ → Typ → List ℕ → List ℕ → Type 0
+PrintsTwo N env declared t u first second =
+    PrintsAmong N env declared [] (variables_of t ++ variables_of u) t first × PrintsAmong N env declared [] (variables_of t ++ variables_of u) u second
