@@ -6,7 +6,8 @@ use Rattle.type_model.specs.Schemes.{Scheme, HasInstance}
 use Rattle.type_model.specs.Limits.{IsInScope}
 use Rattle.signature_model.specs.Declarations.{Name, Shape}
 use Rattle.signature_model.specs.Changes.{change_scheme}
-use Rattle.signature_model.specs.Matching.{filling, MeetsShape}
+use Rattle.signature_model.specs.Matching.{filling, MeetsShape, Matches}
+use Rattle.signature_model.specs.Signatures.{Signature, Template}
 use Rattle.signature_model.specs.Entries.{Environment}
 
 -- a demand by the number of the node that makes it and its own number in the row
@@ -52,12 +53,19 @@ pub data Complaint : Type 0 where
   cyclic : Name → Complaint
   -- This definition differs from that of X
   differs : Name → Complaint
+  -- This module is not a functor
+  no_functor : Complaint
+  -- The signature has no abstract type X with N parameters
+  no_abstract_type : Name → ℕ → Complaint
 
--- a demand: that a found type is the wanted one, that a test on names holds, or that two declarations over so many parameters tell the same
+-- a demand: that a found type is the wanted one, that a test on names holds, that two declarations over so many parameters tell the same, that a signature matches a template,
+-- or that a body leaves no type open in its environment, which asks nothing of the types
 pub data Demand : Type 0 where
   equal : Typ → Typ → Demand
   test : Complaint → Bool → Demand
   agrees : Complaint → ℕ → Shape → Shape → Demand
+  matches : Signature → Template → Demand
+  closes : Environment → Signature → Demand
 
 -- what a row asks: that two types are one, that a type is an instance of a scheme, that its origins were made before a node, or a demand, which stands at a place of the text.
 -- Beside these it tells in which environment a node is treated, which asks nothing.
@@ -78,6 +86,8 @@ abbrev pub IsMet : Demand → Type 0
 IsMet (equal found wanted) = found ≡ wanted
 IsMet (test c b) = b ≡ true
 IsMet (agrees c n actual wanted) = MeetsShape n actual wanted
+IsMet (matches A t) = Matches 0 A t.made t.signature
+IsMet (closes env s) = Unit {0}
 
 -- a condition holds under a set of kept demands: a demand that isn't kept asks nothing
 abbrev pub Holds : (Site → Bool) → Condition → Type 0

@@ -10,7 +10,7 @@ pub mod Bindings
 pub mod Expressions
 pub mod Declarations
 pub mod Items
+pub mod Modules
 pub mod Meanings
-pub mod Nodes
 pub mod Typings
 pub mod Faults

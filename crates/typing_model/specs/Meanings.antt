@@ -1,15 +1,16 @@
 -- What the trees of a text mean: each node by its row, over what its parts mean.
 use Rattle.std.specs.Prelude.{ℕ, ◌+◌, ◌*◌, ◌^◌, List, [], ◌∷◌, ◌++◌, Option, Some, None}
-use Rattle.tree_model.specs.Rows.{Row, binding_row, case_row, ffield_row, qfield_row, head_row, con_row, label_row, decl_row}
+use Rattle.tree_model.specs.Rows.{Row, binding_row, case_row, ffield_row, qfield_row, head_row, con_row, label_row, decl_row, with_row}
 use Rattle.tree_model.specs.Trees.{Place, Tree, Forest, Part, node, no_parts, part, taken, inner, missing, part_size, part_yield}
 use Rattle.typing_model.specs.Contexts.{tell}
-use Rattle.typing_model.specs.Parts.{Expression, Pattern, TypeExpression, Binding, Case, Field, FieldPattern, Head, ConstructorPart, LabelPart, DeclarationPart, Item, Child, path_in, no_expression_at, no_pattern_at, no_type_at, expressions_in, expression_in, patterns_in, pattern_in, types_in, first_of, place_of}
+use Rattle.typing_model.specs.Names.{then_by}
+use Rattle.typing_model.specs.Parts.{Expression, Pattern, TypeExpression, Binding, Case, Field, FieldPattern, Head, ConstructorPart, LabelPart, DeclarationPart, Item, ModuleExpression, ModuleType, WithClause, no_module_at, no_module_type_at, Child, in_slot, type_in, path_in, no_expression_at, no_pattern_at, no_type_at, expressions_in, expression_in, patterns_in, pattern_in, types_in, first_of, place_of}
 use Rattle.typing_model.specs.Patterns.{pattern_row}
 use Rattle.typing_model.specs.TypeExpressions.{type_row}
 use Rattle.typing_model.specs.Expressions.{expression_row}
 use Rattle.typing_model.specs.Declarations as declarations
 use Rattle.typing_model.specs.Declarations.{told_row, right_side_row, declaration_row}
-use Rattle.typing_model.specs.Items.{item_row}
+use Rattle.typing_model.specs.Modules.{item_row, signature_item_row, module_expression_row, module_type_row}
 
 abbrev pub binding_of : Row → ℕ → List Child → Option Binding
 binding_of binding_row n cs = Some (record { node = n; pattern = pattern_in 0 cs; parameters = patterns_in 1 cs; annotation = first_of (types_in 3 cs); body = expression_in 5 cs })
@@ -57,6 +58,16 @@ abbrev pub recorded_item : ℕ → Option Item → Option Item
 recorded_item n None = None
 recorded_item n (Some i) = Some (record i { asks = λ c seen. tell n c ++ i.asks c seen })
 
+abbrev pub recorded_module : ℕ → ModuleExpression → ModuleExpression
+recorded_module n m = record m { asks = λ c. tell n c ++ m.asks c }
+
+abbrev pub recorded_module_type : ℕ → ModuleType → ModuleType
+recorded_module_type n y = record y { asks = λ c. tell n c ++ y.asks c }
+
+abbrev pub with_clause_of : Row → ℕ → List Child → Option WithClause
+with_clause_of with_row n cs = Some (record { node = n; head = elim (then_by (first_of (in_slot 1 cs)) (λ k. k.head)) [ None ↦ record { parameters = []; name = None } | Some h ↦ h ]; body = type_in 3 cs })
+with_clause_of _ n cs = None
+
 -- the node of a row in a slot, with this number, at this place, over these parts
 abbrev pub node_child : ℕ → Part → Row → ℕ → Place → List Child → Child
 node_child slot p r n at cs = record {
@@ -75,7 +86,11 @@ node_child slot p r n at cs = record {
   told = told_row r cs;
   right_side = right_side_row r n cs;
   declaration = declaration_of r n cs;
-  item = recorded_item n (item_row r n (part_yield p) cs);
+  item = recorded_item n (item_row r n at (part_yield p) cs);
+  signature_item = recorded_item n (signature_item_row r n at (part_yield p) cs);
+  module_expression = recorded_module n (module_expression_row r n at cs);
+  module_type = recorded_module_type n (module_type_row r n cs);
+  with_clause = with_clause_of r n cs;
 }
 
 -- a token or a missing part in a slot, which has the number if it is an operand
@@ -97,6 +112,10 @@ leaf_child slot p n at = record {
   right_side = None;
   declaration = None;
   item = None;
+  signature_item = None;
+  module_expression = recorded_module n (no_module_at n at);
+  module_type = recorded_module_type n (no_module_type_at n);
+  with_clause = None;
 }
 
 -- the parts of a row, where the first has the number n

@@ -1,9 +1,11 @@
 -- What the parts of a program mean by their sorts: an expression, a pattern, a type expression, a binding, a case, a field.
-use Rattle.std.specs.Prelude.{ℕ, Bool, true, ◌==◌, List, [], ◌∷◌, map, filter_map, Option, Some, None, if◌then◌else◌}
+use Rattle.std.specs.Prelude.{ℕ, Bool, true, ◌==◌, List, [], ◌∷◌, ◌++◌, map, filter_map, Option, Some, None, if◌then◌else◌}
+use Rattle.type_model.specs.Types.{Path}
 use Rattle.token_model.specs.Kinds.{Tok}
 use Rattle.tree_model.specs.Trees.{Place, place, Part, taken, inner, missing}
 use Rattle.signature_model.specs.Declarations.{Name, Label}
 use Rattle.signature_model.specs.Entries.{Entry}
+use Rattle.signature_model.specs.Signatures.{Signature, Hole, Components, Template, template}
 use Rattle.typing_model.specs.Demands.{Condition}
 use Rattle.typing_model.specs.Contexts.{Context, Bound, unresolved}
 
@@ -120,12 +122,45 @@ pub record DeclarationPart : Type 0 where
   pub head : Head
   pub right : Option RightSide
 
--- an item: its node, what it asks where these names of types stand in the structure before it, the entries that it adds, the newest first, and the names of its types
+-- a module expression: its node, where it stands, what it asks, its signature, and the origins that it makes
+pub record ModuleExpression : Type 0 where
+  pub node : ℕ
+  pub at : Place
+  pub asks : Context → List Condition
+  pub signature : Context → Signature
+  pub makes : Context → List Path
+
+-- a module type: its node, what it asks, and its template
+pub record ModuleType : Type 0 where
+  pub node : ℕ
+  pub asks : Context → List Condition
+  pub template : Context → Template
+
+-- type h = t, behind `with`
+pub record WithClause : Type 0 where
+  pub node : ℕ
+  pub head : Head
+  pub body : TypeExpression
+
+-- (X : S)
+pub record Parameter : Type 0 where
+  pub name : Option Tok
+  pub module_type : ModuleType
+
+-- the names of types, modules and module types that stand in a structure or signature
+pub record Seen : Type 0 where
+  pub types : List Name
+  pub modules : List Name
+  pub module_types : List Name
+
+-- an item of a structure or a signature: its node, what it asks where these names stand before it, the entries that it adds, the newest first, the components that it adds, in order, the names of its kinds, and the origins that it makes
 pub record Item : Type 0 where
   pub node : ℕ
-  pub asks : Context → List Name → List Condition
+  pub asks : Context → Seen → List Condition
   pub adds : Context → List Entry
-  pub type_names : List Name
+  pub components : Context → Components
+  pub named : Context → Seen
+  pub makes : Context → List Path
 
 -- a part of a row: its slot, and what it is as each sort; a part that is missing, or of another sort, is none of those that may be none
 pub record Child : Type 0 where
@@ -145,6 +180,10 @@ pub record Child : Type 0 where
   pub right_side : Option RightSide
   pub declaration : Option DeclarationPart
   pub item : Option Item
+  pub signature_item : Option Item
+  pub module_expression : ModuleExpression
+  pub module_type : ModuleType
+  pub with_clause : Option WithClause
 
 -- the parts in a slot, in order
 abbrev pub in_slot : ℕ → List Child → List Child
@@ -210,3 +249,28 @@ pattern_in s cs = elim (first_of (patterns_in s cs)) [ None ↦ no_pattern_at 0 
 
 abbrev pub type_in : ℕ → List Child → TypeExpression
 type_in s cs = elim (first_of (types_in s cs)) [ None ↦ no_type_at 0 (place 0 0) | Some t ↦ t ]
+
+-- a missing module or module type is a hole
+abbrev pub no_module_at : ℕ → Place → ModuleExpression
+no_module_at n at = record { node = n; at = at; asks = λ c. []; signature = λ c. Hole; makes = λ c. [] }
+
+abbrev pub no_module_type_at : ℕ → ModuleType
+no_module_type_at n = record { node = n; asks = λ c. []; template = λ c. template [] Hole }
+
+abbrev pub modules_in : ℕ → List Child → List ModuleExpression
+modules_in s cs = map (λ c. c.module_expression) (in_slot s cs)
+
+abbrev pub module_types_in : ℕ → List Child → List ModuleType
+module_types_in s cs = map (λ c. c.module_type) (in_slot s cs)
+
+abbrev pub module_in : ℕ → List Child → ModuleExpression
+module_in s cs = elim (first_of (modules_in s cs)) [ None ↦ no_module_at 0 (place 0 0) | Some m ↦ m ]
+
+abbrev pub module_type_in : ℕ → List Child → ModuleType
+module_type_in s cs = elim (first_of (module_types_in s cs)) [ None ↦ no_module_type_at 0 | Some y ↦ y ]
+
+abbrev pub no_names : Seen
+no_names = record { types = []; modules = []; module_types = [] }
+
+abbrev pub seen_too : Seen → Seen → Seen
+seen_too a b = record { types = a.types ++ b.types; modules = a.modules ++ b.modules; module_types = a.module_types ++ b.module_types }
