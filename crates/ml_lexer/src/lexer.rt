@@ -7,6 +7,7 @@ ghost use Rattle.token_model.specs.Tokens.{FirstToken, Lex};
 ghost use Rattle.ml_lexer.specs.Founds.{found_of, Fits, placed_tok};
 ghost use Rattle.ml_lexer.specs.Nexts.{IsNext};
 ghost use Rattle.ml_lexer.specs.Places.{rest_of, IsPlaced, tallied};
+ghost use Rattle.ml_lexer.specs.Reaches.{reach_at, IsStable};
 ghost use Rattle.syntax_tree.specs.Tallies.{lexed_more, Grows};
 ghost use Rattle.syntax_tree.specs.View.{tok_of};
 ghost use Rattle.text_terms.specs.Bytes.{str_bytes};
@@ -119,7 +120,9 @@ pub fn lex_from<C: Counts>(
     requires inside { IsCharBoundary (left.now ++ right.now) at }
     ensures token { IfOk result (λ o. FirstToken (left.now ++ right.now) at (option_map tok_of o)) }
     ensures span { IfOk result (λ o. IfSome o (λ t. (at < t.span.end) × (t.span.start ≤ t.span.end) × IsCharBoundary (left.now ++ right.now) t.span.end)) }
-    ensures reach { IfOk result (λ o. IfSome o (λ t. (t.span.end ≤ t.reach) × (t.reach ≤ length (left.now ++ right.now) + 1))) }
+    ensures reach { IfOk result (λ o. IfSome o (λ t. t.reach ≡ reach_at (left.now ++ right.now) t.span.start)) }
+    ensures near { IfOk result (λ o. IfSome o (λ t. (t.span.end ≤ t.reach) × (t.reach ≤ length (left.now ++ right.now) + 1))) }
+    ensures stable { IfOk result (λ o. IfSome o (λ t. IsStable (left.now ++ right.now) at (tok_of t) t.reach)) }
     ensures counted { IfOk result (λ o. C.tallies counts.new ≡ tallied o (C.tallies counts.old)) }
     ensures refused { OnErr result (C.tallies counts.new ≡ C.tallies counts.old) }
     ensures grows { Grows (C.tallies counts.old) (C.tallies counts.new) }
