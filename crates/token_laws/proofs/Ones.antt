@@ -7,8 +7,8 @@ use Rattle.token_model.specs.Spellings.{Spells}
 use Rattle.token_model.specs.Tokens.{Gap, IsUnclosed, Stands, unclosed, longest, stray, IsFirst, FirstToken, LexFrom, Lex}
 use Rattle.ml_lexer.specs.Scans.{run_length}
 use Rattle.ml_lexer.proofs.Runs.{run_exact}
-use Rattle.token_laws.proofs.Gaps.{IsStop, gap_one, tail_same}
-use Rattle.token_laws.proofs.Stops.{stands_stop, stands_some}
+use Rattle.ml_lexer.proofs.OneGap.{IsStop, gap_one, tail_same}
+use Rattle.ml_lexer.proofs.Stops.{stands_stop, stands_some}
 use Rattle.token_laws.proofs.OneKind.{kind_one}
 
 -- the first bytes of one list are one
