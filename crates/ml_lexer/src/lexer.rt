@@ -107,6 +107,8 @@ fn token_at<C: Counts>(
 
 /// The first token of a text in two parts at or behind a place, which is 0 or a token's end.
 /// None where only blanks and closed comments are left. Each token given is counted.
+/// A token's reach is the end of the bytes that decided it, where the end of the text counts as one byte:
+/// an edit behind the reach leaves the token as it is.
 /// After `NoMemory` the counter is as before.
 pub fn lex_from<C: Counts>(
     alloc: Global,

@@ -1,3 +1,4 @@
 pub mod Sorts
 pub mod OneKind
 pub mod Ones
+pub mod Steadies
