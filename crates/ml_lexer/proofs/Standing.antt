@@ -73,7 +73,7 @@ abbrev f2 : ℕ → List ℕ → Found
 f2 b bs = if is_upper b then upper_found bs else f3 b bs
 
 -- what the scan finds, by the class of the first byte
-found_is : (bs : List ℕ) → 0 < length bs → FoundIs (class_of (get_or bs 0 0)) bs (found_from (get_or bs 0 0) bs)
+pub found_is : (bs : List ℕ) → 0 < length bs → FoundIs (class_of (get_or bs 0 0)) bs (found_from (get_or bs 0 0) bs)
 unfolding class_of found_from
 found_is bs some =
     let b = get_or bs 0 0 in

@@ -16,52 +16,52 @@ use Rattle.ml_lexer.proofs.SteadyBrackets.{bracket_steady, paren_steady, paren_l
 use Rattle.ml_lexer.proofs.SteadyMarks.{sign_steady, mark_steady}
 
 -- the scans and the reaches, from a test on
-abbrev f9 : ℕ → List ℕ → Found
+abbrev pub f9 : ℕ → List ℕ → Found
 f9 b bs = if begins_operator b then sign_found bs else mark_or_stray b bs
 
-abbrev f8 : ℕ → List ℕ → Found
+abbrev pub f8 : ℕ → List ℕ → Found
 f8 b bs = if b == 123 then brace_found bs else f9 b bs
 
-abbrev f7 : ℕ → List ℕ → Found
+abbrev pub f7 : ℕ → List ℕ → Found
 f7 b bs = if b == 91 then bracket_found bs else f8 b bs
 
-abbrev f6 : ℕ → List ℕ → Found
+abbrev pub f6 : ℕ → List ℕ → Found
 f6 b bs = if b == 40 then paren_found bs else f7 b bs
 
-abbrev f5 : ℕ → List ℕ → Found
+abbrev pub f5 : ℕ → List ℕ → Found
 f5 b bs = if b == 34 then quote_found bs else f6 b bs
 
-abbrev f4 : ℕ → List ℕ → Found
+abbrev pub f4 : ℕ → List ℕ → Found
 f4 b bs = if b == 39 then tick_found bs else f5 b bs
 
-abbrev f3 : ℕ → List ℕ → Found
+abbrev pub f3 : ℕ → List ℕ → Found
 f3 b bs = if is_digit b then numeral_found bs else f4 b bs
 
-abbrev f2 : ℕ → List ℕ → Found
+abbrev pub f2 : ℕ → List ℕ → Found
 f2 b bs = if is_upper b then upper_found bs else f3 b bs
 
-abbrev r9 : ℕ → List ℕ → ℕ
+abbrev pub r9 : ℕ → List ℕ → ℕ
 r9 b bs = if begins_operator b then sign_reach bs else mark_reach b bs
 
-abbrev r8 : ℕ → List ℕ → ℕ
+abbrev pub r8 : ℕ → List ℕ → ℕ
 r8 b bs = if b == 123 then brace_reach bs else r9 b bs
 
-abbrev r7 : ℕ → List ℕ → ℕ
+abbrev pub r7 : ℕ → List ℕ → ℕ
 r7 b bs = if b == 91 then bracket_reach bs else r8 b bs
 
-abbrev r6 : ℕ → List ℕ → ℕ
+abbrev pub r6 : ℕ → List ℕ → ℕ
 r6 b bs = if b == 40 then paren_reach bs else r7 b bs
 
-abbrev r5 : ℕ → List ℕ → ℕ
+abbrev pub r5 : ℕ → List ℕ → ℕ
 r5 b bs = if b == 34 then quote_reach bs else r6 b bs
 
-abbrev r4 : ℕ → List ℕ → ℕ
+abbrev pub r4 : ℕ → List ℕ → ℕ
 r4 b bs = if b == 39 then tick_reach bs else r5 b bs
 
-abbrev r3 : ℕ → List ℕ → ℕ
+abbrev pub r3 : ℕ → List ℕ → ℕ
 r3 b bs = if is_digit b then numeral_reach bs else r4 b bs
 
-abbrev r2 : ℕ → List ℕ → ℕ
+abbrev pub r2 : ℕ → List ℕ → ℕ
 r2 b bs = if is_upper b then upper_reach bs else r3 b bs
 
 operator_is_sign : (b : ℕ) → begins_operator b ≡ true → is_sign b ≡ true

@@ -134,12 +134,12 @@ closed {rest = rest} (byte_inside {b = b} {bs = bs} is more) =
     }
 
 -- a gap is one whatever stands behind it
-record GapBy (bs rest : List ℕ) : Type 0 where
-  bytes : List ℕ
-  whole : bs ≡ bytes ++ rest
-  any : (other : List ℕ) → Gap (bytes ++ other) other
+pub record GapBy (bs rest : List ℕ) : Type 0 where
+  pub bytes : List ℕ
+  pub whole : bs ≡ bytes ++ rest
+  pub any : (other : List ℕ) → Gap (bytes ++ other) other
 
-gap_by : {bs rest : List ℕ} → Gap bs rest → GapBy bs rest
+pub gap_by : {bs rest : List ℕ} → Gap bs rest → GapBy bs rest
 gap_by no_gap = record { bytes = []; whole = refl; any = λ other. no_gap }
 gap_by (blank {b = b} is gap) = let x = gap_by gap in record { bytes = b ∷ x.bytes; whole = ap (λ (l : List ℕ). b ∷ l) x.whole; any = λ other. blank is (x.any other) }
 gap_by {rest = rest} (comment {bs = bs} middle c gap) =

@@ -42,12 +42,38 @@ hash_steady bs cs e = let same = agree_end is_sign 1 (run_end is_sign 1 bs + 1) 
 stray_steady : (bs : List ℕ) → Steady stray_found (λ l. run_end continues 1 l + 1) bs
 stray_steady bs cs e = let same = agree_end continues 1 (run_end continues 1 bs + 1) bs cs e (omega arith) in (ap (λ k. found junk k) same, ap (λ k. k + 1) same)
 
--- what is steady at one byte is so at the byte that is equal
+-- what holds of each byte that begins a mark, and of a byte that begins none
+pub by_mark : (P : ℕ → Type 0) (b : ℕ) → P 41 × P 93 × P 125 × P 44 → P 59 × P 46 × P 58 × P 35
+    → ((b == 41) ≡ false → (b == 93) ≡ false → (b == 125) ≡ false → (b == 44) ≡ false → (b == 59) ≡ false → (b == 46) ≡ false → (b == 58) ≡ false → (b == 35) ≡ false → P b) → P b
+by_mark P b ones twos none = elim (cases_Bool (b == 41)) [
+  | inl e ↦ at_byte 41 e ones.0
+  | inr e1 ↦ elim (cases_Bool (b == 93)) [
+    | inl e ↦ at_byte 93 e ones.1
+    | inr e2 ↦ elim (cases_Bool (b == 125)) [
+      | inl e ↦ at_byte 125 e ones.2
+      | inr e3 ↦ elim (cases_Bool (b == 44)) [
+        | inl e ↦ at_byte 44 e ones.3
+        | inr e4 ↦ elim (cases_Bool (b == 59)) [
+          | inl e ↦ at_byte 59 e twos.0
+          | inr e5 ↦ elim (cases_Bool (b == 46)) [
+            | inl e ↦ at_byte 46 e twos.1
+            | inr e6 ↦ elim (cases_Bool (b == 58)) [
+              | inl e ↦ at_byte 58 e twos.2
+              | inr e7 ↦ elim (cases_Bool (b == 35)) [ inl e ↦ at_byte 35 e twos.3 | inr e8 ↦ none e1 e2 e3 e4 e5 e6 e7 e8 ]
+            ]
+          ]
+        ]
+      ]
+    ]
+  ]
+]
+  where
+    at_byte : (c : ℕ) → (b == c) ≡ true → P c → P b
+    at_byte c is p = subst P (sym (eqb-true b c is)) p
+
+-- the byte that a mark begins with
 abbrev MarkSteady : ℕ → List ℕ → Type 0
 MarkSteady b bs = Steady (mark_or_stray b) (mark_reach b) bs
-
-at_byte : (b c : ℕ) (bs : List ℕ) → (b == c) ≡ true → MarkSteady c bs → MarkSteady b bs
-at_byte b c bs is steady = subst (λ x. MarkSteady x bs) (sym (eqb-true b c is)) steady
 
 known_one : (bs : List ℕ) → MarkSteady 41 bs × MarkSteady 93 bs × MarkSteady 125 bs × MarkSteady 44 bs
 unfolding mark_or_stray mark_reach
@@ -68,25 +94,4 @@ unfolding mark_or_stray mark_reach
 none_of b bs e1 e2 e3 e4 e5 e6 e7 e8 = simp (e1, e2, e3, e4, e5, e6, e7, e8) (stray_steady bs)
 
 pub mark_steady : (b : ℕ) (bs : List ℕ) → Steady (mark_or_stray b) (mark_reach b) bs
-mark_steady b bs = elim (cases_Bool (b == 41)) [
-  | inl e ↦ at_byte b 41 bs e (known_one bs).0
-  | inr e1 ↦ elim (cases_Bool (b == 93)) [
-    | inl e ↦ at_byte b 93 bs e (known_one bs).1
-    | inr e2 ↦ elim (cases_Bool (b == 125)) [
-      | inl e ↦ at_byte b 125 bs e (known_one bs).2
-      | inr e3 ↦ elim (cases_Bool (b == 44)) [
-        | inl e ↦ at_byte b 44 bs e (known_one bs).3
-        | inr e4 ↦ elim (cases_Bool (b == 59)) [
-          | inl e ↦ at_byte b 59 bs e (known_two bs).0
-          | inr e5 ↦ elim (cases_Bool (b == 46)) [
-            | inl e ↦ at_byte b 46 bs e (known_two bs).1
-            | inr e6 ↦ elim (cases_Bool (b == 58)) [
-              | inl e ↦ at_byte b 58 bs e (known_two bs).2
-              | inr e7 ↦ elim (cases_Bool (b == 35)) [ inl e ↦ at_byte b 35 bs e (known_two bs).3 | inr e8 ↦ none_of b bs e1 e2 e3 e4 e5 e6 e7 e8 ]
-            ]
-          ]
-        ]
-      ]
-    ]
-  ]
-]
+mark_steady b bs = by_mark (λ x. MarkSteady x bs) b (known_one bs) (known_two bs) (none_of b bs)

@@ -12,7 +12,7 @@ use Rattle.ml_lexer.proofs.Agree.{agree_get, agree_end, Keeps, Steady, byte_keep
 use Rattle.ml_lexer.proofs.SteadyTicks.{first_passes, first_fails}
 
 -- the byte at a place is the first from there on
-there : (p : ℕ) (l : List ℕ) → get_or (drop p l) 0 0 ≡ get_or l p 0
+pub there : (p : ℕ) (l : List ℕ) → get_or (drop p l) 0 0 ≡ get_or l p 0
 there p l = let same : p + 0 ≡ p = omega arith in get_or-drop p l 0 0 ∙ ap (λ k. get_or l k 0) same
 
 -- an `e` and a sign behind a literal
@@ -20,7 +20,7 @@ abbrev wants_more : ℕ → List ℕ → Bool
 wants_more n l = run_end goes_on n l == n + 1 && is_e (get_or l n 0) && is_plus_or_minus (get_or l (n + 1) 0)
 
 -- the byte behind the identifier characters is looked at
-behind_least : (f : Found) (l : List ℕ) → run_end goes_on f.size l + 1 ≤ behind_reach f l
+pub behind_least : (f : Found) (l : List ℕ) → run_end goes_on f.size l + 1 ≤ behind_reach f l
 behind_least f l = elim (wants_more f.size l) as (λ t. wants_more f.size l ≡ t → run_end goes_on f.size l + 1 ≤ (if t then f.size + 3 else run_end goes_on f.size l + 1)) [
   | true ↦ λ is.
       let parts = and_parts (run_end goes_on f.size l == f.size + 1 && is_e (get_or l f.size 0)) (is_plus_or_minus (get_or l (f.size + 1) 0)) is in

@@ -100,13 +100,13 @@ type_back p bs cs e is =
     ap (λ k. is_type_word p k bs) end ∙ type_keeps p (run_end goes_on p cs) (type_reach p bs) cs bs (omega (arith, whole.0, reach)) back ∙ is
 
 -- the ends of a word, of blanks and of a second word
-abbrev name_end : List ℕ → ℕ
+abbrev pub name_end : List ℕ → ℕ
 name_end l = run_end goes_on 0 l
 
-abbrev gap_end : List ℕ → ℕ
+abbrev pub gap_end : List ℕ → ℕ
 gap_end l = run_end is_blank (name_end l) l
 
-abbrev both_end : List ℕ → ℕ
+abbrev pub both_end : List ℕ → ℕ
 both_end l = module_type_end (name_end l) l
 
 name_same : (r : ℕ) (bs cs : List ℕ) → take r bs ≡ take r cs → name_end bs < r → name_end cs ≡ name_end bs
@@ -122,7 +122,7 @@ both_same r bs cs e h = ap (λ k. run_end goes_on k cs) (gap_same r bs cs e (ome
 abbrev typed : ℕ → ℕ → ℕ → List ℕ → Bool
 typed a b c l = is_module_word a l && nat_lt a b && is_type_word b c l
 
-abbrev is_both : List ℕ → Bool
+abbrev pub is_both : List ℕ → Bool
 is_both l = is_module_type (name_end l) l
 
 both_keeps : (bs : List ℕ) → Keeps is_both (both_end bs + 1) bs
@@ -135,10 +135,10 @@ both_keeps bs cs e =
     ∙ ap (λ t. is_module_word (name_end bs) bs && nat_lt (name_end bs) (gap_end bs) && t) (type_keeps (gap_end bs) (both_end bs) r bs cs (omega arith) e)
 
 -- the reach of one word
-abbrev type_there : List ℕ → ℕ
+abbrev pub type_there : List ℕ → ℕ
 type_there l = type_reach (gap_end l) l
 
-abbrev one_reach : List ℕ → ℕ
+abbrev pub one_reach : List ℕ → ℕ
 one_reach l = if is_module_word (name_end l) l then type_there l else name_end l + 1
 
 type_there_least : (l : List ℕ) → gap_end l + 1 ≤ type_there l
@@ -154,7 +154,7 @@ one_steady bs = steady_if (λ l. is_module_word (name_end l) l) type_there (λ l
     (λ _. λ cs e. let same : type_there cs ≡ type_there bs = ap (λ k. type_reach k cs) (gap_same (type_there bs) bs cs e (omega (arith, type_there_least bs))) ∙ (type_steady (gap_end bs) bs cs e).1 in (same, same))
     (λ _. λ cs e. let same : name_end cs + 1 ≡ name_end bs + 1 = ap (λ k. k + 1) (name_same (name_end bs + 1) bs cs e (omega arith)) in (same, same))
 
-one_least : (l : List ℕ) → name_end l + 1 ≤ one_reach l
+pub one_least : (l : List ℕ) → name_end l + 1 ≤ one_reach l
 one_least l = least_if (is_module_word (name_end l) l) (type_there l) (name_end l + 1) (name_end l + 1) (omega (arith, type_there_least l)) (omega arith)
 
 -- where one word stands, there is no `module type` in the other list either

@@ -1,10 +1,11 @@
 -- How far the bytes go that decide the token at the front of some bytes. The end of the text counts as one byte.
-use Rattle.std.specs.Prelude.{◌≡◌, ℕ, ◌+◌, ◌==◌, ◌&&◌, ◌||◌, List, length, take, drop, false, nat_lt, if◌then◌else◌, get_or, min, max, Option, Some, None}
+use Rattle.std.specs.Prelude.{◌≡◌, ℕ, ◌+◌, ◌≤◌, ◌==◌, ◌&&◌, ◌||◌, List, length, take, drop, false, nat_lt, if◌then◌else◌, get_or, min, max, Option, Some, None}
 use Rattle.token_model.specs.Bytes.{is_blank, is_digit, is_lower, is_upper, begins_name, goes_on, is_hexadecimal, is_octal, begins_operator, is_sign, continues}
 use Rattle.token_model.specs.Comments.{begins_comment}
 use Rattle.token_model.specs.Kinds.{Kind, Tok}
 use Rattle.token_model.specs.Spellings.{is_plain, is_escaped}
-use Rattle.token_model.specs.Tokens.{FirstToken}
+use Rattle.token_model.specs.Tokens.{FirstToken, LexFrom}
+use Rattle.ml_lexer.specs.Steady.{ends_before}
 use Rattle.ml_lexer.specs.Scans.{run_end, is_module_word, module_type_end, is_module_type, char_size, is_e, is_plus_or_minus, Found, literal_found, string_end, opens_quoted, quoted_end, operator_end, is_operator_kind, is_closing_sign}
 
 -- the letters of `type` that stand at a place, and the byte that ends them
@@ -95,3 +96,7 @@ reach_at text start = start + (if begins_comment (drop start text) then length (
 -- every text with the same bytes before the reach has this token, with this reach, as its first one at or behind the place
 abbrev pub IsStable : List ℕ → ℕ → Tok → ℕ → Type 0
 IsStable text at token reach = (other : List ℕ) → take reach text ≡ take reach other → FirstToken other at (Some token) × (reach_at other token.start ≡ reach)
+
+-- of the tokens behind this one, at most 31 end before its reach
+abbrev pub HasFew : List ℕ → Tok → ℕ → Type 0
+HasFew text token reach = (behind : List Tok) → LexFrom text token.end behind → ends_before (λ (t : Tok). t.end) reach behind ≤ 31

@@ -10,7 +10,7 @@ use Rattle.token_model.specs.Spellings.{Spells}
 use Rattle.token_model.specs.Tokens.{IsUnclosed, unclosed_comment, unclosed_string, unclosed_quoted, Stands, unclosed, longest, stray}
 use Rattle.ml_lexer.proofs.Quoted.{opens_is}
 use Rattle.ml_lexer.proofs.Classes.{Class, class_of, mark_class, Of, PlainMark, paren_end, bracket_end, brace_end, a_comma, one_semi, two_semis, one_colon, two_colons, assign, coercion, one_dot, two_dots, by_class}
-use Rattle.token_laws.proofs.Gaps.{IsStop, tail_same}
+use Rattle.ml_lexer.proofs.OneGap.{IsStop, tail_same}
 
 -- a blank is of the class of marks
 blank_byte : (b : ℕ) → is_blank b ≡ true → class_of b ≡ mark_class
