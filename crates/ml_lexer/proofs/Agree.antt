@@ -46,6 +46,7 @@ agree_run test (suc r) (b ∷ bs) (c ∷ cs) e h =
       | false ↦ λ is. λ less. ap (λ t. if t then run_length test cs + 1 else 0) (ap test same ∙ is)
     ] refl h
 
+-- and so does one from a later place on
 pub agree_end : (test : ℕ → Bool) (k r : ℕ) (bs cs : List ℕ) → take r bs ≡ take r cs → run_end test k bs < r → run_end test k cs ≡ run_end test k bs
 agree_end test k r bs cs e h =
     let cut : k + (r - k) ≡ r = omega (arith, h) in

@@ -13,8 +13,11 @@ use Rattle.ml_lexer.specs.Reaches.{type_reach, word_reach, upper_reach, hexadeci
 use Rattle.ml_lexer.proofs.Runs.{run_le, run_later, run_passes, front_in_run}
 use Rattle.ml_lexer.proofs.Inside.{two_known}
 use Rattle.ml_lexer.proofs.Spelled.{all_weaker, run_front}
-use Rattle.ml_lexer.proofs.Steadies.{front_found, front_reach, f2, f3, f4, f5, f6, f7, f8, f9, r2, r3, r4, r5, r6, r7, r8, r9}
+use Rattle.ml_lexer.proofs.Standing.{f2, f3, f4, f5, f6, f7, f8, f9}
+use Rattle.ml_lexer.proofs.Steadies.{front_found, front_reach, r2, r3, r4, r5, r6, r7, r8, r9}
 use Rattle.ml_lexer.proofs.SteadyTicks.{first_passes, first_fails}
+use Rattle.ml_lexer.proofs.SpelledMarks.{size_of}
+use Rattle.ml_lexer.proofs.SteadyBrackets.{signs, ats, arrays}
 use Rattle.ml_lexer.proofs.SteadyMarks.{by_mark}
 use Rattle.ml_lexer.proofs.SteadyNumerals.{there}
 use Rattle.ml_lexer.proofs.SteadyWords.{name_end, gap_end, both_end, is_both, type_there, one_reach}
@@ -24,40 +27,44 @@ pub data Near (l : List ℕ) (n r : ℕ) : Type 0 where
   behind_blanks : r ≤ run_end is_blank n l + 8 → Near l n r
   behind_token : (k : Kind) (w name rest : List ℕ) → drop (run_end is_blank n l) l ≡ w ++ rest → Spells k w name rest → is_blank (get_or w 0 0) ≡ false → (get_or w 0 0 == 40) ≡ false → r ≤ run_end is_blank (run_end is_blank n l + length w) l + 8 → Near l n r
 
+-- a reach near behind the token
 close : (l : List ℕ) (n r : ℕ) → r ≤ n + 8 → Near l n r
 close l n r h = behind_blanks (omega (arith, h))
-
-abbrev size_of : Found → ℕ
-size_of f = f.size
 
 -- one of two tokens with its reach
 near_if : (l : List ℕ) (t : Bool) (f g : Found) (r s : ℕ) → (t ≡ true → Near l f.size r) → (t ≡ false → Near l g.size s) → Near l (size_of (if t then f else g)) (if t then r else s)
 near_if l true f g r s first second = first refl
 near_if l false f g r s first second = second refl
 
+-- one of two tokens with one reach
 size_if : (l : List ℕ) (t : Bool) (f g : Found) (r : ℕ) → (t ≡ true → Near l f.size r) → (t ≡ false → Near l g.size r) → Near l (size_of (if t then f else g)) r
 size_if l true f g r first second = first refl
 size_if l false f g r first second = second refl
 
+-- an upper bound of both is one of the choice
 most_if : (t : Bool) (m n k : ℕ) → m ≤ k → n ≤ k → (if t then m else n) ≤ k
 most_if true m n k p q = p
 most_if false m n k p q = q
 
+-- a lower bound of both sizes is one of the choice
 size_least : (t : Bool) (f g : Found) (n : ℕ) → n ≤ f.size → n ≤ g.size → n ≤ size_of (if t then f else g)
 size_least true f g n p q = p
 size_least false f g n p q = q
 
+-- `type` has four letters
 type_most : (p : ℕ) (l : List ℕ) → type_reach p l ≤ p + 5
 type_most p l = most_if (get_or l p 0 == 116) (if get_or l (p + 1) 0 == 121 then (if get_or l (p + 2) 0 == 112 then (if get_or l (p + 3) 0 == 101 then p + 5 else p + 4) else p + 3) else p + 2) (p + 1) (p + 5)
     (most_if (get_or l (p + 1) 0 == 121) (if get_or l (p + 2) 0 == 112 then (if get_or l (p + 3) 0 == 101 then p + 5 else p + 4) else p + 3) (p + 2) (p + 5)
     (most_if (get_or l (p + 2) 0 == 112) (if get_or l (p + 3) 0 == 101 then p + 5 else p + 4) (p + 3) (p + 5) (most_if (get_or l (p + 3) 0 == 101) (p + 5) (p + 4) (p + 5) (omega arith) (omega arith)) (omega arith)) (omega arith)) (omega arith)
 
+-- a word
 word_near : (l : List ℕ) → Near l (word_found l).size (word_reach l)
 unfolding word_found word_reach
 word_near l = near_if l (is_both l) (found module_type (both_end l)) (found (word_kind (take (name_end l) l)) (name_end l)) (both_end l + 1) (one_reach l)
     (λ _. close l (both_end l) (both_end l + 1) (omega arith))
     (λ _. behind_blanks (most_if (is_module_word (name_end l) l) (type_there l) (name_end l + 1) (gap_end l + 8) (omega (arith, type_most (gap_end l) l)) (omega arith)))
 
+-- a name that begins with an upper-case letter
 upper_near : (l : List ℕ) → Near l (upper_found l).size (upper_reach l)
 unfolding upper_found upper_reach
 upper_near l = size_if l (get_or l (name_end l) 0 == 46) (record { kind = qualifier; size = name_end l + 1; name_start = 0; name_size = name_end l }) (found upper (name_end l)) (name_end l + 1) (λ _. close l (name_end l + 1) (name_end l + 1) (omega arith)) (λ _. close l (name_end l) (name_end l + 1) (omega arith))
@@ -87,9 +94,11 @@ char_most l =
     (most_if (get_or l 2 0 == 120) (hexadecimal_reach l) (if get_or l 2 0 == 111 then octal_reach l else (if is_escaped (get_or l 2 0) then 4 else (if is_digit (get_or l 2 0) then decimal_reach l else 3))) 7 three octal)
     (most_if (is_plain (get_or l 1 0)) 3 2 7 (omega arith) (omega arith))
 
+-- one character that begins no token
 stray_near : (l : List ℕ) → Near l (stray_found l).size (run_end continues 1 l + 1)
 stray_near l = close l (run_end continues 1 l) (run_end continues 1 l + 1) (omega arith)
 
+-- what begins with a quote
 tick_near : (l : List ℕ) → Near l (tick_found l).size (tick_reach l)
 unfolding tick_found tick_reach
 tick_near l = near_if l (nat_lt 0 (char_size l)) (found char (char_size l)) (if begins_name (get_or l 1 0) then found ty_var (run_end goes_on 1 l) else stray_found l) (char_size l) (if begins_name (get_or l 1 0) then run_end goes_on 1 l + 1 else lone_tick_reach l)
@@ -98,14 +107,17 @@ tick_near l = near_if l (nat_lt 0 (char_size l)) (found char (char_size l)) (if 
     (λ _. close l (run_end goes_on 1 l) (run_end goes_on 1 l + 1) (omega arith))
     (λ _. close l (run_end continues 1 l) (lone_tick_reach l) (omega (arith, char_most l))))
 
+-- a string, or what has no end
 string_near : (o : Option ℕ) (l : List ℕ) → Near l (string_found o l).size (string_reach o l)
 string_near (Some n) l = close l n n (omega arith)
 string_near None l = close l (length l) (length l + 1) (omega arith)
 
+-- what begins with the quote of a string
 quote_near : (l : List ℕ) → Near l (quote_found l).size (quote_reach l)
 unfolding quote_found quote_reach
 quote_near l = string_near (string_end false 1 (drop 1 l)) l
 
+-- a lower-case letter is neither a blank nor `(`, and goes on a name
 lower_byte : (b : ℕ) → is_lower b ≡ true → (is_blank b ≡ false) × ((b == 40) ≡ false) × (goes_on b ≡ true)
 lower_byte b is = (grind (arith, nat_tests), grind (arith, nat_tests), grind (arith, nat_tests))
 
@@ -145,6 +157,7 @@ name_between l n p end r at is within most =
     some_bytes : (x : List ℕ) → 0 < run_length goes_on x → 0 < length x
     some_bytes x h = omega (arith, h, run_le goes_on x)
 
+-- a brace before letters or none
 id_near : (l : List ℕ) → Near l 1 (run_end is_lower 1 l + 1)
 id_near l = elim (cases_lt 0 (run_length is_lower (drop 1 l))) [
   | inl some ↦
@@ -154,28 +167,22 @@ id_near l = elim (cases_lt 0 (run_length is_lower (drop 1 l))) [
   | inr none ↦ close l 1 (run_end is_lower 1 l + 1) (omega (arith, none))
 ]
 
+-- what begins with a brace
 brace_near : (l : List ℕ) → Near l (brace_found l).size (brace_reach l)
 unfolding brace_found brace_reach
 brace_near l = near_if l (opens_quoted l) (string_found (quoted_end l) l) (if get_or l 1 0 == 60 then found outside 2 else found left_brace 1) (string_reach (quoted_end l) l) (if get_or l 1 0 == 60 then 2 else run_end is_lower 1 l + 1)
     (λ _. string_near (quoted_end l) l)
     (λ _. near_if l (get_or l 1 0 == 60) (found outside 2) (found left_brace 1) 2 (run_end is_lower 1 l + 1) (λ _. close l 2 2 (omega arith)) (λ _. id_near l))
 
--- the signs that a bracket begins, from a test on
-abbrev signs : List ℕ → Found
-signs l = if get_or l 1 0 == 37 && get_or l 2 0 == 37 then found outside 3 else (if get_or l 1 0 == 64 || get_or l 1 0 == 37 then found outside 2 else found left_bracket 1)
-
-abbrev ats : List ℕ → Found
-ats l = if get_or l 1 0 == 64 && get_or l 2 0 == 64 && get_or l 3 0 == 64 then found outside 4 else (if get_or l 1 0 == 64 && get_or l 2 0 == 64 then found outside 3 else signs l)
-
-abbrev arrays : List ℕ → Found
-arrays l = if get_or l 1 0 == 124 || get_or l 1 0 == 60 || get_or l 1 0 == 62 then found outside 2 else ats l
-
+-- what a bracket finds has a byte
 signs_some : (l : List ℕ) → 1 ≤ (signs l).size
 signs_some l = size_least (get_or l 1 0 == 37 && get_or l 2 0 == 37) (found outside 3) (if get_or l 1 0 == 64 || get_or l 1 0 == 37 then found outside 2 else found left_bracket 1) 1 (omega arith) (size_least (get_or l 1 0 == 64 || get_or l 1 0 == 37) (found outside 2) (found left_bracket 1) 1 (omega arith) (omega arith))
 
+-- also from the first test on
 arrays_some : (l : List ℕ) → 1 ≤ (arrays l).size
 arrays_some l = size_least (get_or l 1 0 == 124 || get_or l 1 0 == 60 || get_or l 1 0 == 62) (found outside 2) (ats l) 1 (omega arith) (size_least (get_or l 1 0 == 64 && get_or l 2 0 == 64 && get_or l 3 0 == 64) (found outside 4) (if get_or l 1 0 == 64 && get_or l 2 0 == 64 then found outside 3 else signs l) 1 (omega arith) (size_least (get_or l 1 0 == 64 && get_or l 2 0 == 64) (found outside 3) (signs l) 1 (omega arith) (signs_some l)))
 
+-- what begins with a bracket
 bracket_near : (l : List ℕ) → Near l (bracket_found l).size (bracket_reach l)
 unfolding bracket_found bracket_reach
 bracket_near l =
@@ -201,12 +208,15 @@ with_spelled l p op at k w name rest whole spells no_blank no_paren end =
     (λ _. close l (last + 1) (operator_reach p (Some op) l) (omega (arith, most)))
     (λ _. behind_token k w name rest (ap (λ j. drop j l) at ∙ whole) spells no_blank no_paren (subst (λ j. operator_reach p (Some op) l ≤ run_end is_blank j l + 8) (sym place) (omega (arith, most))))
 
+-- the first sign of an operator is neither a blank nor `(`, and goes on an operator
 operator_byte : (b : ℕ) → begins_operator b ≡ true → (is_blank b ≡ false) × ((b == 40) ≡ false) × (is_sign b ≡ true)
 operator_byte b is = (grind (arith, nat_tests), grind (arith, nat_tests), grind (arith, nat_tests))
 
+-- a list with a run has a byte
 some_run : (test : ℕ → Bool) (l : List ℕ) → 0 < run_length test l → 0 < length l
 some_run test l h = omega (arith, h, run_le test l)
 
+-- a parenthesis before an operator or none
 operator_near : (l : List ℕ) (p : ℕ) → run_end is_blank 1 l ≡ p → WithOperator l p (operator_end p l)
 operator_near l p at =
     let tail = drop p l in
@@ -239,21 +249,25 @@ operator_near l p at =
       ] refl
     ] refl
 
+-- what begins with a parenthesis
 paren_near : (l : List ℕ) → Near l (paren_found l).size (paren_reach l)
 unfolding paren_found paren_reach
 paren_near l =
     let p = run_end is_blank 1 l in
     near_if l (get_or l p 0 == 41) (found unit (p + 1)) (op_name_found p (operator_end p l) l) (p + 1) (operator_reach p (operator_end p l) l) (λ _. close l (p + 1) (p + 1) (omega arith)) (λ _. operator_near l p refl)
 
+-- what begins with a sign
 sign_near : (l : List ℕ) → Near l (sign_found l).size (sign_reach l)
 unfolding sign_found sign_reach
 sign_near l =
     let n = run_end is_sign 0 l in
     near_if l (is_closing_sign l) (found outside 2) (found (sign_kind (take n l)) n) 2 (n + 1) (λ _. close l 2 2 (omega arith)) (λ _. close l n (n + 1) (omega arith))
 
+-- what begins with another byte
 abbrev MarkNear : ℕ → List ℕ → Type 0
 MarkNear b l = Near l (mark_or_stray b l).size (mark_reach b l)
 
+-- marks of one byte
 known_one : (l : List ℕ) → MarkNear 41 l × MarkNear 93 l × MarkNear 125 l × MarkNear 44 l
 unfolding mark_or_stray mark_reach
 known_one l = (close l 1 1 (omega arith), close l 1 1 (omega arith), close l 1 1 (omega arith), close l 1 1 (omega arith))
@@ -262,6 +276,7 @@ known_one l = (close l 1 1 (omega arith), close l 1 1 (omega arith), close l 1 1
 one_or_two : (l : List ℕ) (t : Bool) (f g : Found) → 0 < f.size → 0 < g.size → Near l (size_of (if t then f else g)) 2
 one_or_two l t f g p q = size_if l t f g 2 (λ _. close l f.size 2 (omega arith)) (λ _. close l g.size 2 (omega arith))
 
+-- marks of one byte or two, and `#`
 known_two : (l : List ℕ) → MarkNear 59 l × MarkNear 46 l × MarkNear 58 l × MarkNear 35 l
 unfolding mark_or_stray mark_reach
 known_two l =
@@ -272,10 +287,12 @@ known_two l =
       close l (run_end is_sign 1 l) (run_end is_sign 1 l + 1) (omega arith),
     )
 
+-- one character that begins no mark
 none_of : (b : ℕ) (l : List ℕ) → (b == 41) ≡ false → (b == 93) ≡ false → (b == 125) ≡ false → (b == 44) ≡ false → (b == 59) ≡ false → (b == 46) ≡ false → (b == 58) ≡ false → (b == 35) ≡ false → MarkNear b l
 unfolding mark_or_stray mark_reach
 none_of b l e1 e2 e3 e4 e5 e6 e7 e8 = simp (e1, e2, e3, e4, e5, e6, e7, e8) (stray_near l)
 
+-- what begins with any of these bytes
 mark_near : (b : ℕ) (l : List ℕ) → MarkNear b l
 mark_near b l = by_mark (λ x. MarkNear x l) b (known_one l) (known_two l) (none_of b l)
 

@@ -1,12 +1,13 @@
 -- What is found at the front, and how far it is looked at, are decided by the bytes before the reach.
-use Rattle.std.proofs.Common.{◌≡◌, ◌≤◌, ◌<◌, ℕ, List, true, false, take, get_or, ap, ◌∙◌, arith, refl, inl, inr}
+use Rattle.std.proofs.Common.{◌≡◌, ◌≤◌, ◌<◌, ℕ, List, false, take, get_or, ap, ◌∙◌, arith, refl, inl, inr}
 use Rattle.std.specs.Prelude.{if◌then◌else◌, ◌==◌, ◌&&◌}
 use Rattle.std.proofs.lemmas.Bool.{eqb-true, and_left, cases_Bool}
-use Rattle.std.proofs.lemmas.Bool.Decides.{nat_tests}
-use Rattle.token_model.specs.Bytes.{is_digit, is_lower, is_upper, is_sign, begins_operator}
+use Rattle.token_model.specs.Bytes.{is_digit, is_lower, is_upper, begins_operator}
 use Rattle.token_model.specs.Comments.{begins_comment}
 use Rattle.ml_lexer.specs.Scans.{Found, found_from, word_found, upper_found, numeral_found, tick_found, quote_found, paren_found, bracket_found, brace_found, sign_found, mark_or_stray}
 use Rattle.ml_lexer.specs.Reaches.{word_reach, upper_reach, numeral_reach, tick_reach, quote_reach, paren_reach, bracket_reach, brace_reach, sign_reach, mark_reach, reach_from}
+use Rattle.ml_lexer.proofs.SpelledSigns.{operator_is_sign}
+use Rattle.ml_lexer.proofs.Standing.{f2, f3, f4, f5, f6, f7, f8, f9}
 use Rattle.ml_lexer.proofs.Agree.{agree_get, Steady, steady_if}
 use Rattle.ml_lexer.proofs.SteadyWords.{word_steady, upper_steady}
 use Rattle.ml_lexer.proofs.SteadyNumerals.{numeral_steady}
@@ -15,31 +16,7 @@ use Rattle.ml_lexer.proofs.SteadyTexts.{quote_steady, brace_steady}
 use Rattle.ml_lexer.proofs.SteadyBrackets.{bracket_steady, paren_steady, paren_long}
 use Rattle.ml_lexer.proofs.SteadyMarks.{sign_steady, mark_steady}
 
--- the scans and the reaches, from a test on
-abbrev pub f9 : ℕ → List ℕ → Found
-f9 b bs = if begins_operator b then sign_found bs else mark_or_stray b bs
-
-abbrev pub f8 : ℕ → List ℕ → Found
-f8 b bs = if b == 123 then brace_found bs else f9 b bs
-
-abbrev pub f7 : ℕ → List ℕ → Found
-f7 b bs = if b == 91 then bracket_found bs else f8 b bs
-
-abbrev pub f6 : ℕ → List ℕ → Found
-f6 b bs = if b == 40 then paren_found bs else f7 b bs
-
-abbrev pub f5 : ℕ → List ℕ → Found
-f5 b bs = if b == 34 then quote_found bs else f6 b bs
-
-abbrev pub f4 : ℕ → List ℕ → Found
-f4 b bs = if b == 39 then tick_found bs else f5 b bs
-
-abbrev pub f3 : ℕ → List ℕ → Found
-f3 b bs = if is_digit b then numeral_found bs else f4 b bs
-
-abbrev pub f2 : ℕ → List ℕ → Found
-f2 b bs = if is_upper b then upper_found bs else f3 b bs
-
+-- the reaches, from a test on
 abbrev pub r9 : ℕ → List ℕ → ℕ
 r9 b bs = if begins_operator b then sign_reach bs else mark_reach b bs
 
@@ -64,9 +41,7 @@ r3 b bs = if is_digit b then numeral_reach bs else r4 b bs
 abbrev pub r2 : ℕ → List ℕ → ℕ
 r2 b bs = if is_upper b then upper_reach bs else r3 b bs
 
-operator_is_sign : (b : ℕ) → begins_operator b ≡ true → is_sign b ≡ true
-operator_is_sign b is = grind (arith, nat_tests)
-
+-- the scan of each byte is steady
 from_steady : (bs : List ℕ) → Steady (found_from (get_or bs 0 0)) (reach_from (get_or bs 0 0)) bs
 unfolding found_from reach_from
 from_steady bs =
@@ -86,9 +61,11 @@ from_steady bs =
 abbrev pub front_found : List ℕ → Found
 front_found l = found_from (get_or l 0 0) l
 
+-- and how far that is looked at
 abbrev pub front_reach : List ℕ → ℕ
 front_reach l = reach_from (get_or l 0 0) l
 
+-- both are the same in each list with the same bytes before the reach
 pub front_steady : (bs cs : List ℕ) → 0 < front_reach bs → take (front_reach bs) bs ≡ take (front_reach bs) cs → (front_found cs ≡ front_found bs) × (front_reach cs ≡ front_reach bs)
 front_steady bs cs some e =
     let first = agree_get (front_reach bs) 0 bs cs some e in

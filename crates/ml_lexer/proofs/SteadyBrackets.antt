@@ -16,22 +16,22 @@ abbrev pub blanks_end : List ℕ → ℕ
 blanks_end l = run_end is_blank 1 l
 
 -- the tests behind the one for a closing bracket, for the signs of an array, and for two at signs
-abbrev signs : List ℕ → Found
+abbrev pub signs : List ℕ → Found
 signs l = if get_or l 1 0 == 37 && get_or l 2 0 == 37 then found outside 3 else (if get_or l 1 0 == 64 || get_or l 1 0 == 37 then found outside 2 else found left_bracket 1)
 
-abbrev ats : List ℕ → Found
+abbrev pub ats : List ℕ → Found
 ats l = if get_or l 1 0 == 64 && get_or l 2 0 == 64 && get_or l 3 0 == 64 then found outside 4 else (if get_or l 1 0 == 64 && get_or l 2 0 == 64 then found outside 3 else signs l)
 
-abbrev arrays : List ℕ → Found
+abbrev pub arrays : List ℕ → Found
 arrays l = if get_or l 1 0 == 124 || get_or l 1 0 == 60 || get_or l 1 0 == 62 then found outside 2 else ats l
 
-abbrev signs_reach : List ℕ → ℕ
+abbrev pub signs_reach : List ℕ → ℕ
 signs_reach l = if get_or l 1 0 == 64 || get_or l 1 0 == 37 then 3 else blanks_end l + 1
 
-abbrev ats_reach : List ℕ → ℕ
+abbrev pub ats_reach : List ℕ → ℕ
 ats_reach l = if get_or l 1 0 == 64 && get_or l 2 0 == 64 then 4 else signs_reach l
 
-abbrev arrays_reach : List ℕ → ℕ
+abbrev pub arrays_reach : List ℕ → ℕ
 arrays_reach l = if get_or l 1 0 == 124 || get_or l 1 0 == 60 || get_or l 1 0 == 62 then 2 else ats_reach l
 
 -- the same choices in another order
@@ -43,16 +43,20 @@ other_order false true true x y z = refl
 other_order false true false x y z = refl
 other_order false false c x y z = refl
 
+-- a test that stands in two others may stand behind the one that they share
 third_later : (a b : Bool) (x y z : Found) → (if a && b then x else (if a then y else z)) ≡ (if a then (if b then x else y) else z)
 third_later true b x y z = refl
 third_later false b x y z = refl
 
+-- what is another scan at each list is as steady
 steady_as : (F G : List ℕ → Found) (R : List ℕ → ℕ) (bs : List ℕ) → ((l : List ℕ) → F l ≡ G l) → Steady G R bs → Steady F R bs
 steady_as F G R bs same steady cs e = (same cs ∙ (steady cs e).0 ∙ sym (same bs), (steady cs e).1)
 
+-- a test of two bytes before the reach
 two_bytes : (test : ℕ → ℕ → Bool) (j k r : ℕ) (bs : List ℕ) → j < r → k < r → Keeps (λ l. test (get_or l j 0) (get_or l k 0)) r bs
 two_bytes test j k r bs p q cs e = ap (λ b. test b (get_or cs k 0)) (agree_get r j bs cs p e) ∙ ap (λ b. test (get_or bs j 0) b) (agree_get r k bs cs q e)
 
+-- `@` and `%` behind a bracket
 signs_steady : (bs : List ℕ) → Steady signs signs_reach bs
 signs_steady bs =
     steady_as signs (λ l. if get_or l 1 0 == 64 || get_or l 1 0 == 37 then (if get_or l 1 0 == 37 && get_or l 2 0 == 37 then found outside 3 else found outside 2) else found left_bracket 1) signs_reach bs
@@ -63,9 +67,11 @@ signs_steady bs =
     (λ _. λ cs e. (ap (λ t. if t then found outside 3 else found outside 2) (two_bytes (λ b c. b == 37 && c == 37) 1 2 3 bs (omega arith) (omega arith) cs e), refl))
     (λ _. λ cs e. (refl, ap (λ k. k + 1) (agree_end is_blank 1 (blanks_end bs + 1) bs cs e (omega arith)))))
 
+-- the second byte is looked at
 signs_least : (l : List ℕ) → 2 ≤ signs_reach l
 signs_least l = least_if (get_or l 1 0 == 64 || get_or l 1 0 == 37) 3 (blanks_end l + 1) 2 (omega arith) (omega arith)
 
+-- two or three at signs behind a bracket
 ats_steady : (bs : List ℕ) → Steady ats ats_reach bs
 ats_steady bs =
     steady_as ats (λ l. if get_or l 1 0 == 64 && get_or l 2 0 == 64 then (if get_or l 3 0 == 64 then found outside 4 else found outside 3) else signs l) ats_reach bs
@@ -87,9 +93,11 @@ ats_steady bs =
               ap (λ t. t && get_or cs 2 0 == 64) there ∙ ap (λ t. t && get_or l 2 0 == 64) (sym is)
         ] refl e
 
+-- the second byte is looked at here too
 ats_least : (l : List ℕ) → 2 ≤ ats_reach l
 ats_least l = least_if (get_or l 1 0 == 64 && get_or l 2 0 == 64) 4 (signs_reach l) 2 (omega arith) (signs_least l)
 
+-- the signs behind a bracket
 arrays_steady : (bs : List ℕ) → Steady arrays arrays_reach bs
 arrays_steady bs = steady_if (λ l. get_or l 1 0 == 124 || get_or l 1 0 == 60 || get_or l 1 0 == 62) (λ _. found outside 2) ats (λ _. 2) ats_reach bs
     (λ _. byte_keeps (λ b. b == 124 || b == 60 || b == 62) 1 2 bs (omega arith))
@@ -97,12 +105,15 @@ arrays_steady bs = steady_if (λ l. get_or l 1 0 == 124 || get_or l 1 0 == 60 ||
     (λ _. λ cs e. (refl, refl))
     (λ _. ats_steady bs)
 
+-- a sign behind a bracket is no blank
 array_no_blank : (b : ℕ) → (b == 124 || b == 60 || b == 62) ≡ true → is_blank b ≡ false
 array_no_blank b is = grind (arith, nat_tests)
 
+-- nor is `@` or `%`
 sign_no_blank : (b : ℕ) → (b == 64 || b == 37) ≡ true → is_blank b ≡ false
 sign_no_blank b is = grind (arith, nat_tests)
 
+-- nor is `@` alone
 at_no_blank : (b : ℕ) → (b == 64) ≡ true → is_blank b ≡ false
 at_no_blank b is = grind (arith, nat_tests)
 
@@ -128,6 +139,7 @@ arrays_long l =
 behind_keeps : (b r : ℕ) (bs : List ℕ) → blanks_end bs < r → Keeps (λ l. get_or l (blanks_end l) 0 == b) r bs
 behind_keeps b r bs h cs e = ap (λ k. get_or cs k 0 == b) (agree_end is_blank 1 r bs cs e h) ∙ ap (λ x. x == b) (agree_get r (blanks_end bs) bs cs h e)
 
+-- what begins with a bracket
 pub bracket_steady : (bs : List ℕ) → Steady bracket_found bracket_reach bs
 unfolding bracket_found bracket_reach
 bracket_steady bs = steady_if (λ l. get_or l (blanks_end l) 0 == 93) (λ l. found nil (blanks_end l + 1)) arrays (λ l. blanks_end l + 1) arrays_reach bs
@@ -140,9 +152,11 @@ bracket_steady bs = steady_if (λ l. get_or l (blanks_end l) 0 == 93) (λ l. fou
 abbrev a_colon : ℕ → List ℕ → Option (Kind × ℕ)
 a_colon p l = if get_or l p 0 == 58 && get_or l (p + 1) 0 == 61 then Some (colon_equal, p + 2) else None
 
+-- the name of an operator, or else `:=`
 abbrev a_word : ℕ → List ℕ → Option (Kind × ℕ)
 a_word p l = if is_lower (get_or l p 0) then Some (word_kind (take (run_end goes_on p l - p) (drop p l)), run_end goes_on p l) else a_colon p l
 
+-- the signs of an operator
 abbrev a_sign : ℕ → List ℕ → Option (Kind × ℕ)
 a_sign p l = Some (sign_kind (take (run_end is_sign p l - p) (drop p l)), run_end is_sign p l)
 
@@ -150,9 +164,11 @@ a_sign p l = Some (sign_kind (take (run_end is_sign p l - p) (drop p l)), run_en
 operator_long : (p : ℕ) (op : Kind × ℕ) (l : List ℕ) → op.1 + 1 ≤ operator_reach p (Some op) l
 operator_long p op l = least_if (is_operator_kind op.0) (run_end is_blank op.1 l + 1) (op.1 + 1) (op.1 + 1) (omega arith) (omega arith)
 
+-- where no operator stands, the byte at the place is looked at
 none_long : (p : ℕ) (l : List ℕ) → p + 1 ≤ operator_reach p None l
 none_long p l = least_if (get_or l p 0 == 58) (p + 2) (p + 1) (p + 1) (omega arith) (omega arith)
 
+-- `:=` is the same
 colon_keeps : (p : ℕ) (bs : List ℕ) → Keeps (a_colon p) (operator_reach p (a_colon p bs) bs) bs
 colon_keeps p bs cs =
     elim (get_or bs p 0 == 58) as (λ t. (get_or bs p 0 == 58) ≡ t → take (operator_reach p (if t && get_or bs (p + 1) 0 == 61 then Some (colon_equal, p + 2) else None) bs) bs ≡ take (operator_reach p (if t && get_or bs (p + 1) 0 == 61 then Some (colon_equal, p + 2) else None) bs) cs → a_colon p cs ≡ (if t && get_or bs (p + 1) 0 == 61 then Some (colon_equal, p + 2) else None)) [
@@ -179,9 +195,11 @@ run_keeps test kind p r bs h cs e =
     let part = agree_part r p (run_end test p bs - p) bs cs (omega (arith, h)) e in
     ap (λ k. Some (kind (take (k - p) (drop p cs)), k)) same ∙ ap (λ (w : List ℕ). Some (kind w, run_end test p bs)) part
 
+-- the byte at the place is looked at, whatever stands there
 word_end_long : (p : ℕ) (l : List ℕ) → p + 1 ≤ operator_reach p (a_colon p l) l
 word_end_long p l = elim (get_or l p 0 == 58 && get_or l (p + 1) 0 == 61) as (λ t. p + 1 ≤ operator_reach p (if t then Some (colon_equal, p + 2) else None) l) [ true ↦ omega (arith, operator_long p (colon_equal, p + 2) l) | false ↦ none_long p l ]
 
+-- the name of an operator is the same
 word_keeps : (p : ℕ) (bs : List ℕ) → Keeps (a_word p) (operator_reach p (a_word p bs) bs) bs
 word_keeps p bs cs =
     elim (is_lower (get_or bs p 0)) as (λ t. is_lower (get_or bs p 0) ≡ t → take (operator_reach p (if t then Some (word_kind (take (run_end goes_on p bs - p) (drop p bs)), run_end goes_on p bs) else a_colon p bs) bs) bs ≡ take (operator_reach p (if t then Some (word_kind (take (run_end goes_on p bs - p) (drop p bs)), run_end goes_on p bs) else a_colon p bs) bs) cs → a_word p cs ≡ (if t then Some (word_kind (take (run_end goes_on p bs - p) (drop p bs)), run_end goes_on p bs) else a_colon p bs)) [
@@ -195,6 +213,7 @@ word_keeps p bs cs =
           ap (λ t. if t then Some (word_kind (take (run_end goes_on p cs - p) (drop p cs)), run_end goes_on p cs) else a_colon p cs) (byte_keeps is_lower p r bs (omega (arith, word_end_long p bs)) cs e ∙ is) ∙ colon_keeps p bs cs e
     ] refl
 
+-- the byte at the place is looked at, also before a name
 sign_end_long : (p : ℕ) (l : List ℕ) → p + 1 ≤ operator_reach p (a_word p l) l
 sign_end_long p l =
     let op : Kind × ℕ = (word_kind (take (run_end goes_on p l - p) (drop p l)), run_end goes_on p l) in
@@ -214,6 +233,7 @@ operator_keeps p bs cs =
           ap (λ t. if t then a_sign p cs else a_word p cs) (byte_keeps begins_operator p r bs (omega (arith, sign_end_long p bs)) cs e ∙ is) ∙ word_keeps p bs cs e
     ] refl
 
+-- and also before signs
 pub operator_some : (p : ℕ) (l : List ℕ) → p + 1 ≤ operator_reach p (operator_end p l) l
 operator_some p l =
     let op : Kind × ℕ = (sign_kind (take (run_end is_sign p l - p) (drop p l)), run_end is_sign p l) in
@@ -234,12 +254,15 @@ with_operator p (Some op) bs cs e =
       | false ↦ λ e. (refl, refl)
     ] e
 
+-- what is found with the operator behind the blanks
 abbrev operator_found : List ℕ → Found
 operator_found l = op_name_found (blanks_end l) (operator_end (blanks_end l) l) l
 
+-- and its reach
 abbrev operator_there : List ℕ → ℕ
 operator_there l = operator_reach (blanks_end l) (operator_end (blanks_end l) l) l
 
+-- both are the same
 operator_steady : (bs : List ℕ) → Steady operator_found operator_there bs
 operator_steady bs cs e =
     let p = blanks_end bs in
@@ -250,6 +273,7 @@ operator_steady bs cs e =
       ap (λ k. operator_reach k (operator_end k cs) cs) blanks ∙ ap (λ o. operator_reach p o cs) same ∙ x.1,
     )
 
+-- what begins with a parenthesis
 pub paren_steady : (bs : List ℕ) → Steady paren_found paren_reach bs
 unfolding paren_found paren_reach
 paren_steady bs = steady_if (λ l. get_or l (blanks_end l) 0 == 41) (λ l. found unit (blanks_end l + 1)) operator_found (λ l. blanks_end l + 1) operator_there bs
@@ -258,6 +282,7 @@ paren_steady bs = steady_if (λ l. get_or l (blanks_end l) 0 == 41) (λ l. found
     (λ _. λ cs e. let same = agree_end is_blank 1 (blanks_end bs + 1) bs cs e (omega arith) in (ap (λ k. found unit (k + 1)) same, ap (λ k. k + 1) same))
     (λ _. operator_steady bs)
 
+-- the byte behind the blanks is looked at
 pub paren_long : (l : List ℕ) → blanks_end l + 1 ≤ paren_reach l
 unfolding paren_reach
 paren_long l = least_if (get_or l (blanks_end l) 0 == 41) (blanks_end l + 1) (operator_there l) (blanks_end l + 1) (omega arith) (operator_some (blanks_end l) l)

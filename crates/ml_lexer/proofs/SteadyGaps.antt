@@ -15,12 +15,15 @@ use Rattle.ml_lexer.proofs.Agree.{agree_less, agree_get}
 use Rattle.ml_lexer.proofs.SteadyTicks.{front_there}
 use Rattle.ml_lexer.proofs.SteadyTexts.{opens_keeps}
 
+-- a digit is no `*`
 digit_not_star : (b : ℕ) → is_digit b ≡ true → b ≡ 42 → ⊥
 digit_not_star b is same = grind (arith, nat_tests)
 
+-- nor is one of base 16
 hexadecimal_not_star : (b : ℕ) → is_hexadecimal b ≡ true → b ≡ 42 → ⊥
 hexadecimal_not_star b is same = grind (arith, nat_tests)
 
+-- nor is one of base 8
 octal_not_star : (b : ℕ) → is_octal b ≡ true → b ≡ 42 → ⊥
 octal_not_star b is same = grind (arith, nat_tests)
 
@@ -51,6 +54,7 @@ no_star w (octal_code is) (suc (suc (suc (suc (suc k))))) behind some less star 
 abbrev closed_by : ℕ → List ℕ → List ℕ → List ℕ
 closed_by b v t = b ∷ v ++ 42 ∷ 41 ∷ t
 
+-- the part up to the end, and what stands behind it
 closed_front : (b : ℕ) (v t : List ℕ) → closed_by b v t ≡ (b ∷ v ++ 42 ∷ 41 ∷ []) ++ t
 closed_front b v t = sym (append_assoc (b ∷ v) (42 ∷ 41 ∷ []) t)
 
@@ -113,6 +117,7 @@ before w bs rest c more = record {
   any = λ other. subst (λ (l : List ℕ). Closes l other) (sym (append_assoc w c.inside (42 ∷ 41 ∷ other))) (more other (c.inside ++ 42 ∷ 41 ∷ other) (c.any other));
 }
 
+-- each comment that is closed is one
 closed : {bs rest : List ℕ} → Closes bs rest → ClosedBy bs rest
 closed end = record { inside = []; whole = refl; any = λ other. end }
 closed {rest = rest} (nested {bs = bs} middle inner outer) =
@@ -139,6 +144,7 @@ pub record GapBy (bs rest : List ℕ) : Type 0 where
   pub whole : bs ≡ bytes ++ rest
   pub any : (other : List ℕ) → Gap (bytes ++ other) other
 
+-- each gap is one
 pub gap_by : {bs rest : List ℕ} → Gap bs rest → GapBy bs rest
 gap_by no_gap = record { bytes = []; whole = refl; any = λ other. no_gap }
 gap_by (blank {b = b} is gap) = let x = gap_by gap in record { bytes = b ∷ x.bytes; whole = ap (λ (l : List ℕ). b ∷ l) x.whole; any = λ other. blank is (x.any other) }

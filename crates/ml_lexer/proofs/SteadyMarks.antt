@@ -10,14 +10,13 @@ use Rattle.ml_lexer.specs.Reaches.{sign_reach, mark_reach}
 use Rattle.ml_lexer.proofs.Agree.{agree_less, agree_get, agree_end, Keeps, Steady, steady_if}
 use Rattle.ml_lexer.proofs.SteadyTicks.{first_passes}
 
+-- a sign that closes a bracket is looked at with its two bytes
 closing_keeps : (r : ℕ) (bs : List ℕ) → 2 ≤ r → Keeps is_closing_sign r bs
 closing_keeps r bs h cs e =
     ap (λ b. b == 124 && get_or cs 1 0 == 93 || b == 62 && (get_or cs 1 0 == 93 || get_or cs 1 0 == 125)) (agree_get r 0 bs cs (omega arith) e)
     ∙ ap (λ b. get_or bs 0 0 == 124 && b == 93 || get_or bs 0 0 == 62 && (b == 93 || b == 125)) (agree_get r 1 bs cs (omega arith) e)
 
-first_is : (l : List ℕ) → get_or l 0 0 ≡ get_or l 0 0
-first_is l = refl
-
+-- what begins with a sign
 pub sign_steady : (bs : List ℕ) → is_sign (get_or bs 0 0) ≡ true → Steady sign_found sign_reach bs
 unfolding sign_found sign_reach
 sign_steady bs first =
@@ -36,9 +35,11 @@ sign_steady bs first =
 second_steady : (F : ℕ → Found) (bs : List ℕ) → Steady (λ l. F (get_or l 1 0)) (λ _. 2) bs
 second_steady F bs cs e = (ap F (agree_get 2 1 bs cs (omega arith) e), refl)
 
+-- `#` with the signs behind it
 hash_steady : (bs : List ℕ) → Steady (λ l. found outside (run_end is_sign 1 l)) (λ l. run_end is_sign 1 l + 1) bs
 hash_steady bs cs e = let same = agree_end is_sign 1 (run_end is_sign 1 bs + 1) bs cs e (omega arith) in (ap (λ k. found outside k) same, ap (λ k. k + 1) same)
 
+-- one character
 stray_steady : (bs : List ℕ) → Steady stray_found (λ l. run_end continues 1 l + 1) bs
 stray_steady bs cs e = let same = agree_end continues 1 (run_end continues 1 bs + 1) bs cs e (omega arith) in (ap (λ k. found junk k) same, ap (λ k. k + 1) same)
 
@@ -75,10 +76,12 @@ by_mark P b ones twos none = elim (cases_Bool (b == 41)) [
 abbrev MarkSteady : ℕ → List ℕ → Type 0
 MarkSteady b bs = Steady (mark_or_stray b) (mark_reach b) bs
 
+-- marks of one byte
 known_one : (bs : List ℕ) → MarkSteady 41 bs × MarkSteady 93 bs × MarkSteady 125 bs × MarkSteady 44 bs
 unfolding mark_or_stray mark_reach
 known_one bs = (λ cs e. (refl, refl), λ cs e. (refl, refl), λ cs e. (refl, refl), λ cs e. (refl, refl))
 
+-- marks of one byte or two, and `#`
 known_two : (bs : List ℕ) → MarkSteady 59 bs × MarkSteady 46 bs × MarkSteady 58 bs × MarkSteady 35 bs
 unfolding mark_or_stray mark_reach
 known_two bs = (
@@ -93,5 +96,6 @@ none_of : (b : ℕ) (bs : List ℕ) → (b == 41) ≡ false → (b == 93) ≡ fa
 unfolding mark_or_stray mark_reach
 none_of b bs e1 e2 e3 e4 e5 e6 e7 e8 = simp (e1, e2, e3, e4, e5, e6, e7, e8) (stray_steady bs)
 
+-- what begins with any of these bytes
 pub mark_steady : (b : ℕ) (bs : List ℕ) → Steady (mark_or_stray b) (mark_reach b) bs
 mark_steady b bs = by_mark (λ x. MarkSteady x bs) b (known_one bs) (known_two bs) (none_of b bs)

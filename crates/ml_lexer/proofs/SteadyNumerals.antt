@@ -8,6 +8,8 @@ use Rattle.token_model.specs.Kinds.{int, float, outside}
 use Rattle.token_model.specs.Bytes.{is_digit, is_decimal, is_digit_of, goes_on}
 use Rattle.ml_lexer.specs.Scans.{Found, found, run_length, run_end, is_based, based_end, is_e, is_plus_or_minus, fraction_end, exponent_end, literal_found, with_behind, numeral_found}
 use Rattle.ml_lexer.specs.Reaches.{behind_reach, numeral_reach}
+use Rattle.ml_lexer.proofs.SpelledMarks.{size_of}
+use Rattle.ml_lexer.proofs.SpelledNumerals.{digit_is_decimal}
 use Rattle.ml_lexer.proofs.Agree.{agree_get, agree_end, Keeps, Steady, byte_keeps}
 use Rattle.ml_lexer.proofs.SteadyTicks.{first_passes, first_fails}
 
@@ -39,6 +41,7 @@ wants_keeps n r bs h cs e =
       | false ↦ λ is. refl
     ] refl
 
+-- what the identifier characters make of a literal is the same
 behind_steady : (f : Found) (bs cs : List ℕ) → take (behind_reach f bs) bs ≡ take (behind_reach f bs) cs → (with_behind f cs ≡ with_behind f bs) × (behind_reach f cs ≡ behind_reach f bs)
 behind_steady f bs cs e =
     let r = behind_reach f bs in
@@ -52,18 +55,19 @@ behind_steady f bs cs e =
 abbrev is_base : ℕ → Bool
 is_base x = x == 120 || x == 88 || x == 111 || x == 79 || x == 98 || x == 66
 
+-- the letter of a base goes on a name
 base_letter : (x : ℕ) → is_base x ≡ true → goes_on x ≡ true
 base_letter x is = grind (arith, nat_tests)
 
+-- no other byte names a base
 no_base : (x b : ℕ) → is_base x ≡ false → is_digit_of x b ≡ false
 no_base x b is = grind (arith, nat_tests)
 
-digit_is_decimal : (b : ℕ) → is_digit b ≡ true → is_decimal b ≡ true
-digit_is_decimal b is = grind (arith, nat_tests)
-
+-- the letter of an exponent goes on a name
 e_goes_on : (b : ℕ) → is_e b ≡ true → goes_on b ≡ true
 e_goes_on b is = grind (arith, nat_tests)
 
+-- a sign of an exponent ends a name, and is no digit
 sign_ends : (b : ℕ) → is_plus_or_minus b ≡ true → (goes_on b ≡ false) × (is_digit b ≡ false)
 sign_ends b is = (grind (arith, nat_tests), grind (arith, nat_tests))
 
@@ -71,6 +75,7 @@ sign_ends b is = (grind (arith, nat_tests), grind (arith, nat_tests))
 run_one : (test : ℕ → Bool) (p : ℕ) (l : List ℕ) → test 0 ≡ false → test (get_or l p 0) ≡ true → p + 1 ≤ run_end test p l
 run_one test p l none is = omega (arith, first_passes test (drop p l) none (ap test (there p l) ∙ is))
 
+-- a run that the second byte ends has at most a byte
 just_one : (test : ℕ → Bool) (l : List ℕ) → test (get_or l 1 0) ≡ false → run_length test l ≤ 1
 just_one test [] is = omega arith
 just_one test (b ∷ l) is =
@@ -93,9 +98,7 @@ based l = found int (based_end (get_or l 1 0) l)
 abbrev decimals : List ℕ → Found
 decimals l = if decimal_end l == digits_end l then found int (digits_end l) else found float (decimal_end l)
 
-abbrev size_of : Found → ℕ
-size_of f = f.size
-
+-- a decimal literal ends where its exponent does
 decimals_size : (l : List ℕ) → (decimals l).size ≡ decimal_end l
 decimals_size l = elim (decimal_end l == digits_end l) as (λ t. (decimal_end l == digits_end l) ≡ t → size_of (if t then found int (digits_end l) else found float (decimal_end l)) ≡ decimal_end l) [
   | true ↦ λ is. sym (eqb-true (decimal_end l) (digits_end l) is)
@@ -106,6 +109,7 @@ decimals_size l = elim (decimal_end l == digits_end l) as (λ t. (decimal_end l 
 abbrev expo : Bool → Bool → Bool → Bool → ℕ → ℕ → ℕ → ℕ
 expo t d m f x y p = if t && d then x else (if t && m && f then y else p)
 
+-- an exponent is the same where its tests are, as far as each is asked
 expo_same : (t d m f : Bool) (x y p : ℕ) (s c n g : Bool) (u v : ℕ) → s ≡ t → (t ≡ true → (c ≡ d) × (n ≡ m)) → (t ≡ true → d ≡ false → m ≡ true → g ≡ f) → (t ≡ true → d ≡ true → u ≡ x) → (t ≡ true → d ≡ false → m ≡ true → f ≡ true → v ≡ y)
     → expo s c n g u v p ≡ expo t d m f x y p
 expo_same false d m f x y p s c n g u v e two third run later = ap (λ t. expo t c n g u v p) e
@@ -125,6 +129,7 @@ expo_long p l = least (is_e (get_or l p 0)) (is_digit (get_or l (p + 1) 0)) (is_
     least true false true true = omega arith
     least true false true false = omega arith
 
+-- an exponent without a digit behind the `e` has two bytes before its digits
 no_digit_long : (p : ℕ) (l : List ℕ) → is_digit (get_or l (p + 1) 0) ≡ false → p < exponent_end p l → p + 2 ≤ exponent_end p l
 no_digit_long p l none = subst (λ d. p < expo (is_e (get_or l p 0)) d (is_plus_or_minus (get_or l (p + 1) 0)) (is_digit (get_or l (p + 2) 0)) (run_end is_decimal (p + 1) l) (run_end is_decimal (p + 2) l) p
     → p + 2 ≤ expo (is_e (get_or l p 0)) d (is_plus_or_minus (get_or l (p + 1) 0)) (is_digit (get_or l (p + 2) 0)) (run_end is_decimal (p + 1) l) (run_end is_decimal (p + 2) l) p) (sym none) (least (is_e (get_or l p 0)) (is_plus_or_minus (get_or l (p + 1) 0)) (is_digit (get_or l (p + 2) 0)))
@@ -135,6 +140,7 @@ no_digit_long p l none = subst (λ d. p < expo (is_e (get_or l p 0)) d (is_plus_
     least true true true h = omega arith
     least true true false h = absurd (omega (arith, h))
 
+-- a fraction ends at its place or behind
 fraction_long : (p : ℕ) (l : List ℕ) → p ≤ fraction_end p l
 fraction_long p l = elim (get_or l p 0 == 46) as (λ t. p ≤ (if t then run_end is_decimal (p + 1) l else p)) [ true ↦ omega arith | false ↦ omega arith ]
 
@@ -162,6 +168,7 @@ exponent_keeps p r bs h one two cs e =
     (λ is digit. agree_end is_decimal (p + 1) r bs cs e (subst (λ k. k < r) (ap (λ b. expo b d m f x y p) is ∙ ap (λ b. expo true b m f x y p) digit) h))
     (λ is other sign digit. agree_end is_decimal (p + 2) r bs cs e (subst (λ k. k < r) (ap (λ b. expo b d m f x y p) is ∙ ap (λ b. expo true b m f x y p) other ∙ ap (λ b. expo true false b f x y p) sign ∙ ap (λ b. expo true false true b x y p) digit) h))
 
+-- a literal of a base is the same
 based_keeps : (bs : List ℕ) → is_based bs ≡ true → (cs : List ℕ) → take (behind_reach (based bs) bs) bs ≡ take (behind_reach (based bs) bs) cs → (is_based cs ≡ true) × (based cs ≡ based bs)
 based_keeps bs is cs e =
     let r = behind_reach (based bs) bs in
@@ -174,6 +181,7 @@ based_keeps bs is cs e =
       ap (λ b. found int (based_end b cs)) b1 ∙ ap (λ k. found int k) (agree_end (λ b. is_digit_of letter b || b == 95) 2 r bs cs e least),
     )
 
+-- a decimal literal is the same
 decimals_keep : (bs : List ℕ) → is_digit (get_or bs 0 0) ≡ true → is_based bs ≡ false → (cs : List ℕ) → take (behind_reach (decimals bs) bs) bs ≡ take (behind_reach (decimals bs) bs) cs → (is_based cs ≡ false) × (decimals cs ≡ decimals bs)
 decimals_keep bs first is cs e =
     let r = behind_reach (decimals bs) bs in
@@ -239,6 +247,7 @@ literal_keeps bs first cs =
       | false ↦ λ is. λ e. let x = decimals_keep bs first is cs e in ap (λ t. if t then based cs else decimals cs) x.0 ∙ x.1
     ] refl
 
+-- what begins with a digit
 pub numeral_steady : (bs : List ℕ) → is_digit (get_or bs 0 0) ≡ true → Steady numeral_found numeral_reach bs
 unfolding numeral_found numeral_reach
 numeral_steady bs first cs e =

@@ -23,6 +23,7 @@ string_steady end bs keeps cs =
           (ap (λ (l : List ℕ). string_found (end l) l) whole ∙ ap (λ o. string_found o bs) is, ap (λ (l : List ℕ). string_reach (end l) l) whole ∙ ap (λ o. string_reach o bs) is)
     ] refl
 
+-- the end of a string is the same
 end_keeps : (bs : List ℕ) (n : ℕ) → string_end false 1 (drop 1 bs) ≡ Some n → Keeps (λ l. string_end false 1 (drop 1 l)) n bs
 end_keeps bs n is cs e =
     let there = string_end_found false 1 n (drop 1 bs) is in
@@ -30,10 +31,12 @@ end_keeps bs n is cs e =
     let front = front_there there.0 there.1 (drop 1 bs) (drop 1 cs) there.2 (agree_drop 1 (length there.0) bs cs near) in
     ap (string_end false 1) front ∙ string_end_is there.0 (drop (length there.0) (drop 1 cs)) 1 there.3 ∙ ap (λ k. Some k) (sym there.4) ∙ sym is
 
+-- what begins with the quote of a string
 pub quote_steady : (bs : List ℕ) → Steady quote_found quote_reach bs
 unfolding quote_found quote_reach
 quote_steady bs = string_steady (λ l. string_end false 1 (drop 1 l)) bs (end_keeps bs)
 
+-- the end of a quoted string is the same
 pub quoted_keeps : (bs : List ℕ) → get_or bs 0 0 ≡ 123 → opens_quoted bs ≡ true → (n : ℕ) → quoted_end bs ≡ Some n → Keeps quoted_end n bs
 quoted_keeps bs first opened n is cs e =
     let there = quoted_found bs n first opened is in
@@ -44,9 +47,11 @@ quoted_keeps bs first opened n is cs e =
 abbrev id_end : List ℕ → ℕ
 id_end l = run_end is_lower 1 l
 
+-- these letters end in the list
 id_within : (l : List ℕ) → 0 < length l → id_end l ≤ length l
 id_within l some = omega (arith, run_le is_lower (drop 1 l), length-drop 1 l)
 
+-- whether a quoted string opens is decided by the letters and the byte behind them
 pub opens_keeps : (r : ℕ) (bs : List ℕ) → id_end bs < r → Keeps opens_quoted r bs
 opens_keeps r bs h cs e = ap (λ k. get_or cs k 0 == 124) (agree_end is_lower 1 r bs cs e h) ∙ ap (λ b. b == 124) (agree_get r (id_end bs) bs cs h e)
 
@@ -61,6 +66,7 @@ quoted_long l some = elim (quoted_end l) as (λ o. quoted_end l ≡ o → id_end
 abbrev bare_reach : List ℕ → ℕ
 bare_reach l = if get_or l 1 0 == 60 then 2 else id_end l + 1
 
+-- the byte behind the letters is looked at
 bare_long : (l : List ℕ) → id_end l + 1 ≤ bare_reach l
 bare_long l = elim (get_or l 1 0 == 60) as (λ t. (get_or l 1 0 == 60) ≡ t → id_end l + 1 ≤ (if t then 2 else id_end l + 1)) [
   | true ↦ λ is.
@@ -69,10 +75,12 @@ bare_long l = elim (get_or l 1 0 == 60) as (λ t. (get_or l 1 0 == 60) ≡ t →
   | false ↦ λ is. omega arith
 ] refl
 
+-- a list whose first byte is known has a byte
 some_first : (l : List ℕ) (b : ℕ) → get_or l 0 0 ≡ b → 0 < b → 0 < length l
 some_first [] b is some = absurd (omega (arith, is))
 some_first (c ∷ l) b is some = omega arith
 
+-- what begins with a brace
 pub brace_steady : (bs : List ℕ) → get_or bs 0 0 ≡ 123 → Steady brace_found brace_reach bs
 unfolding brace_found brace_reach
 brace_steady bs first =

@@ -10,8 +10,8 @@ use Rattle.token_model.specs.Bytes.{is_digit, is_hexadecimal, is_octal, begins_n
 use Rattle.token_model.specs.Spellings.{is_plain, is_escaped, IsChar, plain, escape, decimal_code, hexadecimal_code, octal_code}
 use Rattle.ml_lexer.specs.Scans.{Found, found, run_length, run_end, char_size, stray_found, tick_found}
 use Rattle.ml_lexer.specs.Reaches.{hexadecimal_reach, octal_reach, decimal_reach, escape_reach, char_reach, lone_tick_reach, tick_reach}
-use Rattle.ml_lexer.proofs.Chars.{char_size_is, char_found}
-use Rattle.ml_lexer.proofs.Classes.{char_first}
+use Rattle.ml_lexer.proofs.Chars.{plain_not, char_size_is, char_found}
+use Rattle.ml_lexer.proofs.Inside.{char_long}
 use Rattle.ml_lexer.proofs.Agree.{agree_less, agree_get, agree_end, agree_long, agree_whole, Keeps, Steady, steady_if, byte_keeps, least_if}
 
 -- the two last bytes of a number
@@ -27,24 +27,31 @@ two_octals l = if is_octal (get_or l 4 0) then three_octals l else 5
 abbrev two_digits : List ℕ → ℕ
 two_digits l = if is_digit (get_or l 4 0) then 6 else 5
 
+-- the byte behind the ones that pass is looked at
 two_hexadecimals_least : (l : List ℕ) → 5 ≤ two_hexadecimals l
 two_hexadecimals_least l = least_if (is_hexadecimal (get_or l 4 0)) 6 5 5 (omega arith) (omega arith)
 
+-- the same for the third digit of base 8
 three_octals_least : (l : List ℕ) → 6 ≤ three_octals l
 three_octals_least l = least_if (is_octal (get_or l 5 0)) 7 6 6 (omega arith) (omega arith)
 
+-- the same for the second
 two_octals_least : (l : List ℕ) → 5 ≤ two_octals l
 two_octals_least l = least_if (is_octal (get_or l 4 0)) (three_octals l) 5 5 (omega (arith, three_octals_least l)) (omega arith)
 
+-- the same for a second decimal digit
 two_digits_least : (l : List ℕ) → 5 ≤ two_digits l
 two_digits_least l = least_if (is_digit (get_or l 4 0)) 6 5 5 (omega arith) (omega arith)
 
+-- the first byte of a number is looked at
 hexadecimal_least : (l : List ℕ) → 4 ≤ hexadecimal_reach l
 hexadecimal_least l = least_if (is_hexadecimal (get_or l 3 0)) (two_hexadecimals l) 4 4 (omega (arith, two_hexadecimals_least l)) (omega arith)
 
+-- the same for base 8
 octal_least : (l : List ℕ) → 4 ≤ octal_reach l
 octal_least l = least_if (is_octal (get_or l 3 0) && nat_lt (get_or l 3 0) 52) (two_octals l) 4 4 (omega (arith, two_octals_least l)) (omega arith)
 
+-- the same for decimal digits
 decimal_least : (l : List ℕ) → 4 ≤ decimal_reach l
 decimal_least l = least_if (is_digit (get_or l 3 0)) (two_digits l) 4 4 (omega (arith, two_digits_least l)) (omega arith)
 
@@ -58,18 +65,23 @@ from_escaped l = if is_escaped (get_or l 2 0) then 4 else (if is_digit (get_or l
 abbrev from_digit : List ℕ → ℕ
 from_digit l = if is_digit (get_or l 2 0) then decimal_reach l else 3
 
+-- the byte behind the backslash is looked at
 from_digit_least : (l : List ℕ) → 3 ≤ from_digit l
 from_digit_least l = least_if (is_digit (get_or l 2 0)) (decimal_reach l) 3 3 (omega (arith, decimal_least l)) (omega arith)
 
+-- also before the test for a digit
 from_escaped_least : (l : List ℕ) → 3 ≤ from_escaped l
 from_escaped_least l = least_if (is_escaped (get_or l 2 0)) 4 (from_digit l) 3 (omega arith) (from_digit_least l)
 
+-- also before the test for an escape
 from_o_least : (l : List ℕ) → 3 ≤ from_o l
 from_o_least l = least_if (get_or l 2 0 == 111) (octal_reach l) (from_escaped l) 3 (omega (arith, octal_least l)) (from_escaped_least l)
 
+-- also before the test for o
 escape_least : (l : List ℕ) → 3 ≤ escape_reach l
 escape_least l = least_if (get_or l 2 0 == 120) (hexadecimal_reach l) (from_o l) 3 (omega (arith, hexadecimal_least l)) (from_o_least l)
 
+-- the byte behind the quote is looked at
 pub char_reach_least : (l : List ℕ) → 2 ≤ char_reach l
 char_reach_least l = least_if (get_or l 1 0 == 92) (escape_reach l) (if is_plain (get_or l 1 0) then 3 else 2) 2 (omega (arith, escape_least l)) (least_if (is_plain (get_or l 1 0)) 3 2 2 (omega arith) (omega arith))
 
@@ -81,18 +93,23 @@ by_byte test k m n bs p q = steady_if (λ l. test (get_or l k 0)) (λ _. m) (λ 
 by_more : (test : ℕ → Bool) (k n : ℕ) (R : List ℕ → ℕ) (bs : List ℕ) → k < R bs → k < n → Steady R R bs → Steady (λ l. if test (get_or l k 0) then R l else n) (λ l. if test (get_or l k 0) then R l else n) bs
 by_more test k n R bs p q more = steady_if (λ l. test (get_or l k 0)) R (λ _. n) R (λ _. n) bs (λ _. byte_keeps test k (R bs) bs p) (λ _. byte_keeps test k n bs q) (λ _. more) (λ _. λ cs e. (refl, refl))
 
+-- and so is one of two reaches that go on behind the byte
 by_either : (test : ℕ → Bool) (k : ℕ) (R S : List ℕ → ℕ) (bs : List ℕ) → k < R bs → k < S bs → Steady R R bs → Steady S S bs → Steady (λ l. if test (get_or l k 0) then R l else S l) (λ l. if test (get_or l k 0) then R l else S l) bs
 by_either test k R S bs p q first second = steady_if (λ l. test (get_or l k 0)) R S R S bs (λ _. byte_keeps test k (R bs) bs p) (λ _. byte_keeps test k (S bs) bs q) (λ _. first) (λ _. second)
 
+-- the digits of base 16
 hexadecimal_steady : (bs : List ℕ) → Steady hexadecimal_reach hexadecimal_reach bs
 hexadecimal_steady bs = by_more is_hexadecimal 3 4 two_hexadecimals bs (omega (arith, two_hexadecimals_least bs)) (omega arith) (by_byte is_hexadecimal 4 6 5 bs (omega arith) (omega arith))
 
+-- the digits of base 8
 octal_steady : (bs : List ℕ) → Steady octal_reach octal_reach bs
 octal_steady bs = by_more (λ b. is_octal b && nat_lt b 52) 3 4 two_octals bs (omega (arith, two_octals_least bs)) (omega arith) (by_more is_octal 4 5 three_octals bs (omega (arith, three_octals_least bs)) (omega arith) (by_byte is_octal 5 7 6 bs (omega arith) (omega arith)))
 
+-- decimal digits
 decimal_steady : (bs : List ℕ) → Steady decimal_reach decimal_reach bs
 decimal_steady bs = by_more is_digit 3 4 two_digits bs (omega (arith, two_digits_least bs)) (omega arith) (by_byte is_digit 4 6 5 bs (omega arith) (omega arith))
 
+-- an escape
 escape_steady : (bs : List ℕ) → Steady escape_reach escape_reach bs
 escape_steady bs =
     let digit : Steady from_digit from_digit bs = by_more is_digit 2 3 decimal_reach bs (omega (arith, decimal_least bs)) (omega arith) (decimal_steady bs) in
@@ -104,12 +121,11 @@ escape_steady bs =
 char_steady : (bs : List ℕ) → Steady char_reach char_reach bs
 char_steady bs = by_either (λ b. b == 92) 1 escape_reach (λ l. if is_plain (get_or l 1 0) then 3 else 2) bs (omega (arith, escape_least bs)) (least_if (is_plain (get_or bs 1 0)) 3 2 2 (omega arith) (omega arith)) (escape_steady bs) (by_byte is_plain 1 3 2 bs (omega arith) (omega arith))
 
-plain_not : (c : ℕ) → is_plain c ≡ true → (c == 92) ≡ false
-plain_not c is = grind (arith, nat_tests)
-
+-- what a backslash may stand before is neither x nor o
 escaped_not : (c : ℕ) → is_escaped c ≡ true → ((c == 120) ≡ false) × ((c == 111) ≡ false)
 escaped_not c is = (grind (arith, nat_tests), grind (arith, nat_tests))
 
+-- nor is a digit, and it is no escape
 digit_not : (c : ℕ) → is_digit c ≡ true → ((c == 120) ≡ false) × ((c == 111) ≡ false) × (is_escaped c ≡ false)
 digit_not c is = (grind (arith, nat_tests), grind (arith, nat_tests), grind (arith, nat_tests))
 
@@ -150,9 +166,6 @@ char_same bs is some cs e =
     let same : take (length has.0) bs ≡ take (length has.0) cs = subst (λ n. take n bs ≡ take n cs) has.4 e in
     ap char_size (front_there has.0 has.1 bs cs has.2 same) ∙ char_size_is has.0 (drop (length has.0) cs) has.3 ∙ sym has.4
 
-char_some : (w : List ℕ) → IsChar w → 0 < length w
-char_some w is = omega (arith, ap length (char_first w is).1)
-
 -- where there is none, there is none in the other list
 pub char_none : (bs : List ℕ) → get_or bs 0 0 ≡ 39 → nat_lt 0 (char_size bs) ≡ false → (cs : List ℕ) → take (char_reach bs) bs ≡ take (char_reach bs) cs → nat_lt 0 (char_size cs) ≡ false
 char_none bs is none cs e = false_from_ne_true (nat_lt 0 (char_size cs)) (λ there.
@@ -161,7 +174,7 @@ char_none bs is none cs e = false_from_ne_true (nat_lt 0 (char_size cs)) (λ the
     let reach : char_reach bs ≡ length has.0 = sym (char_steady bs cs e).0 ∙ ap char_reach has.2 ∙ char_reach_is has.0 has.1 has.3 in
     let same : take (length has.0) cs ≡ take (length has.0) bs = subst (λ n. take n cs ≡ take n bs) reach (sym e) in
     let size : char_size bs ≡ length has.0 = ap char_size (front_there has.0 has.1 cs bs has.2 same) ∙ char_size_is has.0 (drop (length has.0) bs) has.3 in
-    both_ways (nat_lt 0 (char_size bs)) none (lt-ltb 0 (char_size bs) (omega (arith, size, char_some has.0 has.3))))
+    both_ways (nat_lt 0 (char_size bs)) none (lt-ltb 0 (char_size bs) (omega (arith, size, char_long has.0 has.3))))
 
 -- up to a place or the end
 pub capped : (k : ℕ) (bs cs : List ℕ) → take (min k (length bs + 1)) bs ≡ take (min k (length bs + 1)) cs → take k bs ≡ take k cs
@@ -180,9 +193,11 @@ pub first_fails : (test : ℕ → Bool) (l : List ℕ) → test (get_or l 0 0) �
 first_fails test [] is = refl
 first_fails test (b ∷ l) is = ap (λ t. if t then run_length test l + 1 else 0) is
 
+-- the first byte of a name goes on it, and is no backslash
 name_byte : (b : ℕ) → begins_name b ≡ true → (goes_on b ≡ true) × ((b == 92) ≡ false)
 name_byte b is = (grind (arith, nat_tests), grind (arith, nat_tests))
 
+-- the second byte is the first one behind the first
 pub second_byte : (l : List ℕ) → get_or (drop 1 l) 0 0 ≡ get_or l 1 0
 second_byte [] = refl
 second_byte (b ∷ l) = refl
@@ -191,6 +206,7 @@ second_byte (b ∷ l) = refl
 abbrev name_found : List ℕ → Found
 name_found l = if begins_name (get_or l 1 0) then found ty_var (run_end goes_on 1 l) else stray_found l
 
+-- and its reach
 abbrev name_reach : List ℕ → ℕ
 name_reach l = if begins_name (get_or l 1 0) then run_end goes_on 1 l + 1 else lone_tick_reach l
 
@@ -207,6 +223,7 @@ var_long bs is =
     at_most true = omega arith
     at_most false = omega arith
 
+-- that no literal begins is decided by the bytes before the reach
 none_keeps : (bs : List ℕ) → get_or bs 0 0 ≡ 39 → nat_lt 0 (char_size bs) ≡ false → Keeps (λ l. nat_lt 0 (char_size l)) (name_reach bs) bs
 none_keeps bs first none cs e = elim (begins_name (get_or bs 1 0)) as (λ t. begins_name (get_or bs 1 0) ≡ t → take (if t then run_end goes_on 1 bs + 1 else lone_tick_reach bs) bs ≡ take (if t then run_end goes_on 1 bs + 1 else lone_tick_reach bs) cs → nat_lt 0 (char_size cs) ≡ nat_lt 0 (char_size bs)) [
   | true ↦ λ is. λ e. char_none bs first none cs (agree_less (run_end goes_on 1 bs + 1) (char_reach bs) bs cs (var_long bs is) e) ∙ sym none
@@ -229,6 +246,7 @@ lone_steady bs cs e =
     let reach : char_reach cs ≡ char_reach bs = (char_steady bs cs (capped (char_reach bs) bs cs near)).0 in
     (ap (λ k. found junk k) run, ap (λ k. max (k + 1) (min (char_reach cs) (length cs + 1))) run ∙ ap (λ k. max (run_end continues 1 bs + 1) (min k (length cs + 1))) reach ∙ ap (λ k. max (run_end continues 1 bs + 1) k) (same_cap (char_reach bs) bs cs near))
 
+-- what begins with a quote
 pub tick_steady : (bs : List ℕ) → get_or bs 0 0 ≡ 39 → Steady tick_found tick_reach bs
 unfolding tick_found tick_reach
 tick_steady bs first = steady_if (λ l. nat_lt 0 (char_size l)) (λ l. found char (char_size l)) name_found char_size name_reach bs

@@ -24,6 +24,7 @@ module_keeps to r bs cs h e =
       | false ↦ λ is. refl
     ] refl
 
+-- `type` is looked at up to its end
 type_keeps : (from to r : ℕ) (bs cs : List ℕ) → to < r → take r bs ≡ take r cs → is_type_word from to cs ≡ is_type_word from to bs
 type_keeps from to r bs cs h e =
     elim (to == from + 4) as (λ t. (to == from + 4) ≡ t → (t && get_or cs from 0 == 116 && get_or cs (from + 1) 0 == 121 && get_or cs (from + 2) 0 == 112 && get_or cs (from + 3) 0 == 101) ≡ (t && get_or bs from 0 == 116 && get_or bs (from + 1) 0 == 121 && get_or bs (from + 2) 0 == 112 && get_or bs (from + 3) 0 == 101)) [
@@ -40,32 +41,41 @@ type_keeps from to r bs cs h e =
 abbrev from_y : ℕ → List ℕ → ℕ
 from_y p l = if get_or l (p + 1) 0 == 121 then (if get_or l (p + 2) 0 == 112 then (if get_or l (p + 3) 0 == 101 then p + 5 else p + 4) else p + 3) else p + 2
 
+-- from the third letter on
 abbrev from_p : ℕ → List ℕ → ℕ
 from_p p l = if get_or l (p + 2) 0 == 112 then (if get_or l (p + 3) 0 == 101 then p + 5 else p + 4) else p + 3
 
+-- from the fourth letter on
 abbrev from_e : ℕ → List ℕ → ℕ
 from_e p l = if get_or l (p + 3) 0 == 101 then p + 5 else p + 4
 
+-- the letters before are looked at, and the one there
 least_e : (p : ℕ) (l : List ℕ) → p + 4 ≤ from_e p l
 least_e p l = least_if (get_or l (p + 3) 0 == 101) (p + 5) (p + 4) (p + 4) (omega arith) (omega arith)
 
+-- the same from the third letter on
 least_p : (p : ℕ) (l : List ℕ) → p + 3 ≤ from_p p l
 least_p p l = least_if (get_or l (p + 2) 0 == 112) (from_e p l) (p + 3) (p + 3) (omega (arith, least_e p l)) (omega arith)
 
+-- the same from the second
 least_y : (p : ℕ) (l : List ℕ) → p + 2 ≤ from_y p l
 least_y p l = least_if (get_or l (p + 1) 0 == 121) (from_p p l) (p + 2) (p + 2) (omega (arith, least_p p l)) (omega arith)
 
+-- the byte at the place is looked at
 pub type_least : (p : ℕ) (l : List ℕ) → p + 1 ≤ type_reach p l
 type_least p l = least_if (get_or l p 0 == 116) (from_y p l) (p + 1) (p + 1) (omega (arith, least_y p l)) (omega arith)
 
+-- the fourth letter
 e_steady : (p : ℕ) (bs : List ℕ) → Steady (from_e p) (from_e p) bs
 e_steady p bs = steady_if (λ l. get_or l (p + 3) 0 == 101) (λ _. p + 5) (λ _. p + 4) (λ _. p + 5) (λ _. p + 4) bs
     (λ _. byte_keeps (λ b. b == 101) (p + 3) (p + 5) bs (omega arith)) (λ _. byte_keeps (λ b. b == 101) (p + 3) (p + 4) bs (omega arith)) (λ _. λ cs e. (refl, refl)) (λ _. λ cs e. (refl, refl))
 
+-- the third letter and the fourth
 p_steady : (p : ℕ) (bs : List ℕ) → Steady (from_p p) (from_p p) bs
 p_steady p bs = steady_if (λ l. get_or l (p + 2) 0 == 112) (from_e p) (λ _. p + 3) (from_e p) (λ _. p + 3) bs
     (λ _. byte_keeps (λ b. b == 112) (p + 2) (from_e p bs) bs (omega (arith, least_e p bs))) (λ _. byte_keeps (λ b. b == 112) (p + 2) (p + 3) bs (omega arith)) (λ _. e_steady p bs) (λ _. λ cs e. (refl, refl))
 
+-- the letters behind the first
 y_steady : (p : ℕ) (bs : List ℕ) → Steady (from_y p) (from_y p) bs
 y_steady p bs = steady_if (λ l. get_or l (p + 1) 0 == 121) (from_p p) (λ _. p + 2) (from_p p) (λ _. p + 2) bs
     (λ _. byte_keeps (λ b. b == 121) (p + 1) (from_p p bs) bs (omega (arith, least_p p bs))) (λ _. byte_keeps (λ b. b == 121) (p + 1) (p + 2) bs (omega arith)) (λ _. p_steady p bs) (λ _. λ cs e. (refl, refl))
@@ -103,18 +113,23 @@ type_back p bs cs e is =
 abbrev pub name_end : List ℕ → ℕ
 name_end l = run_end goes_on 0 l
 
+-- the end of the blanks behind the word
 abbrev pub gap_end : List ℕ → ℕ
 gap_end l = run_end is_blank (name_end l) l
 
+-- the end of the word behind the blanks
 abbrev pub both_end : List ℕ → ℕ
 both_end l = module_type_end (name_end l) l
 
+-- a word that ends before the reach is the same
 name_same : (r : ℕ) (bs cs : List ℕ) → take r bs ≡ take r cs → name_end bs < r → name_end cs ≡ name_end bs
 name_same r bs cs e h = agree_end goes_on 0 r bs cs e h
 
+-- so are the blanks behind it
 gap_same : (r : ℕ) (bs cs : List ℕ) → take r bs ≡ take r cs → gap_end bs < r → gap_end cs ≡ gap_end bs
 gap_same r bs cs e h = ap (λ k. run_end is_blank k cs) (name_same r bs cs e (omega (arith, h))) ∙ agree_end is_blank (name_end bs) r bs cs e h
 
+-- and the word behind these
 both_same : (r : ℕ) (bs cs : List ℕ) → take r bs ≡ take r cs → both_end bs < r → both_end cs ≡ both_end bs
 both_same r bs cs e h = ap (λ k. run_end goes_on k cs) (gap_same r bs cs e (omega (arith, h))) ∙ agree_end goes_on (gap_end bs) r bs cs e h
 
@@ -122,9 +137,11 @@ both_same r bs cs e h = ap (λ k. run_end goes_on k cs) (gap_same r bs cs e (ome
 abbrev typed : ℕ → ℕ → ℕ → List ℕ → Bool
 typed a b c l = is_module_word a l && nat_lt a b && is_type_word b c l
 
+-- whether `module type` stands there
 abbrev pub is_both : List ℕ → Bool
 is_both l = is_module_type (name_end l) l
 
+-- where `module type` stands, it is decided with the byte behind it
 both_keeps : (bs : List ℕ) → Keeps is_both (both_end bs + 1) bs
 both_keeps bs cs e =
     let r = both_end bs + 1 in
@@ -138,15 +155,19 @@ both_keeps bs cs e =
 abbrev pub type_there : List ℕ → ℕ
 type_there l = type_reach (gap_end l) l
 
+-- the reach of a word alone
 abbrev pub one_reach : List ℕ → ℕ
 one_reach l = if is_module_word (name_end l) l then type_there l else name_end l + 1
 
+-- the byte behind the blanks is looked at
 type_there_least : (l : List ℕ) → gap_end l + 1 ≤ type_there l
 type_there_least l = type_least (gap_end l) l
 
+-- whether the word is `module` is decided with the byte behind it
 module_there : (r : ℕ) (bs : List ℕ) → name_end bs < r → Keeps (λ l. is_module_word (name_end l) l) r bs
 module_there r bs h cs e = ap (λ k. is_module_word k cs) (name_same r bs cs e h) ∙ module_keeps (name_end bs) r bs cs h e
 
+-- the reach of a word alone is the same
 one_steady : (bs : List ℕ) → Steady one_reach one_reach bs
 one_steady bs = steady_if (λ l. is_module_word (name_end l) l) type_there (λ l. name_end l + 1) type_there (λ l. name_end l + 1) bs
     (λ _. module_there (type_there bs) bs (omega (arith, type_there_least bs)))
@@ -154,6 +175,7 @@ one_steady bs = steady_if (λ l. is_module_word (name_end l) l) type_there (λ l
     (λ _. λ cs e. let same : type_there cs ≡ type_there bs = ap (λ k. type_reach k cs) (gap_same (type_there bs) bs cs e (omega (arith, type_there_least bs))) ∙ (type_steady (gap_end bs) bs cs e).1 in (same, same))
     (λ _. λ cs e. let same : name_end cs + 1 ≡ name_end bs + 1 = ap (λ k. k + 1) (name_same (name_end bs + 1) bs cs e (omega arith)) in (same, same))
 
+-- the byte behind the word is looked at
 pub one_least : (l : List ℕ) → name_end l + 1 ≤ one_reach l
 one_least l = least_if (is_module_word (name_end l) l) (type_there l) (name_end l + 1) (name_end l + 1) (omega (arith, type_there_least l)) (omega arith)
 
@@ -176,6 +198,7 @@ one_keeps bs none cs e =
           and_left (is_module_word (name_end cs) cs && nat_lt (name_end cs) (gap_end cs)) (is_type_word (gap_end cs) (both_end cs) cs) (and_left (is_module_word (name_end cs) cs) (nat_lt (name_end cs) (gap_end cs)) there) ∙ sym none
     ] refl e
 
+-- what begins with a lower-case letter
 pub word_steady : (bs : List ℕ) → Steady word_found word_reach bs
 unfolding word_found word_reach
 word_steady bs = steady_if is_both (λ l. found module_type (both_end l)) (λ l. found (word_kind (take (name_end l) l)) (name_end l)) (λ l. both_end l + 1) one_reach bs
@@ -187,6 +210,7 @@ word_steady bs = steady_if is_both (λ l. found module_type (both_end l)) (λ l.
     let word : take (name_end bs) cs ≡ take (name_end bs) bs = sym (agree_less (one_reach bs) (name_end bs) bs cs (omega (arith, one_least bs)) e) in
     (ap (λ k. found (word_kind (take k cs)) k) name ∙ ap (λ (w : List ℕ). found (word_kind w) (name_end bs)) word, (one_steady bs cs e).1))
 
+-- what begins with an upper-case letter
 pub upper_steady : (bs : List ℕ) → Steady upper_found upper_reach bs
 unfolding upper_found upper_reach
 upper_steady bs cs e =

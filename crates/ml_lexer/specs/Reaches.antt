@@ -24,9 +24,11 @@ upper_reach bs = run_end goes_on 0 bs + 1
 abbrev pub hexadecimal_reach : List ℕ → ℕ
 hexadecimal_reach bs = if is_hexadecimal (get_or bs 3 0) then (if is_hexadecimal (get_or bs 4 0) then 6 else 5) else 4
 
+-- the same for the digits of base 8, the first of which is at most 3
 abbrev pub octal_reach : List ℕ → ℕ
 octal_reach bs = if is_octal (get_or bs 3 0) && nat_lt (get_or bs 3 0) 52 then (if is_octal (get_or bs 4 0) then (if is_octal (get_or bs 5 0) then 7 else 6) else 5) else 4
 
+-- the same for decimal digits
 abbrev pub decimal_reach : List ℕ → ℕ
 decimal_reach bs = if is_digit (get_or bs 3 0) then (if is_digit (get_or bs 4 0) then 6 else 5) else 4
 
@@ -50,6 +52,7 @@ tick_reach bs = if nat_lt 0 (char_size bs) then char_size bs else (if begins_nam
 abbrev pub behind_reach : Found → List ℕ → ℕ
 behind_reach f bs = if run_end goes_on f.size bs == f.size + 1 && is_e (get_or bs f.size 0) && is_plus_or_minus (get_or bs (f.size + 1) 0) then f.size + 3 else run_end goes_on f.size bs + 1
 
+-- what begins with a digit
 unfoldable pub numeral_reach : List ℕ → ℕ
 numeral_reach bs = behind_reach (literal_found bs) bs
 
@@ -58,6 +61,7 @@ abbrev pub string_reach : Option ℕ → List ℕ → ℕ
 string_reach (Some end) bs = end
 string_reach None bs = length bs + 1
 
+-- what begins with the quote of a string
 unfoldable pub quote_reach : List ℕ → ℕ
 quote_reach bs = string_reach (string_end false 1 (drop 1 bs)) bs
 
@@ -74,6 +78,7 @@ abbrev pub operator_reach : ℕ → Option (Kind × ℕ) → List ℕ → ℕ
 operator_reach from None bs = if get_or bs from 0 == 58 then from + 2 else from + 1
 operator_reach from (Some op) bs = if is_operator_kind op.0 then run_end is_blank op.1 bs + 1 else op.1 + 1
 
+-- blanks and the byte behind them, or an operator behind them
 unfoldable pub paren_reach : List ℕ → ℕ
 paren_reach bs = if get_or bs (run_end is_blank 1 bs) 0 == 41 then run_end is_blank 1 bs + 1 else operator_reach (run_end is_blank 1 bs) (operator_end (run_end is_blank 1 bs) bs) bs
 
