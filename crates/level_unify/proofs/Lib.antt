@@ -16,3 +16,9 @@ mod Inside
 mod Clashing
 mod Binding
 mod AllFree
+mod Images
+mod Sources
+mod Variants
+mod Instances
+mod Instancing
+mod Freezing

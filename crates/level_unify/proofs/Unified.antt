@@ -52,7 +52,7 @@ loosely V n (Con p name ms) h = h
 pub fits_loosely : (nodes : List Node) (V : Types) → Fits nodes V → Loose nodes V
 fits_loosely nodes V fits = record { each = λ n c e. loosely V n c (fits.each n c e) }
 
-fits_under : (nodes : List Node) (V : Types) → Fits nodes V → FitsUnder (λ v. 0) nodes V
+pub fits_under : (nodes : List Node) (V : Types) → Fits nodes V → FitsUnder (λ v. 0) nodes V
 fits_under nodes V fits = record { loose = fits_loosely nodes V fits; under = λ n l o e free. scoped_under l o (V n) (fits.each n (Var l o) e free) }
 
 node_fits : (L : ℕ → ℕ) (nodes : List Node) (V : Types) (n : ℕ) (c : Node) → slice_get nodes n ≡ Some c → FitsUnder L nodes V → FitsNode V n c
@@ -63,7 +63,7 @@ node_fits L nodes V n (Arrow a b) e h = h.loose.each n (Arrow a b) e
 node_fits L nodes V n (Tuple ms) e h = h.loose.each n (Tuple ms) e
 node_fits L nodes V n (Con p name ms) e h = h.loose.each n (Con p name ms) e
 
-under_fits : (L : ℕ → ℕ) (nodes : List Node) (V : Types) → FitsUnder L nodes V → Fits nodes V
+pub under_fits : (L : ℕ → ℕ) (nodes : List Node) (V : Types) → FitsUnder L nodes V → Fits nodes V
 under_fits L nodes V h = record { each = λ n c e. node_fits L nodes V n c e h }
 
 -- the types that keep to the limits before, told by those between and the limits of the variables that were bound
