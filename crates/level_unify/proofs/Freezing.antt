@@ -1,5 +1,5 @@
 -- Instances with new rigid variables.
-use Rattle.std.proofs.Common.{◌≡◌, ℕ, ◌≤◌, true, false, List, length, sym, ◌∙◌, ap, subst, Result, Ok, Err}
+use Rattle.std.proofs.Common.{◌≡◌, ℕ, ◌≤◌, true, false, List, length, sym, ◌∙◌, ap, subst, Result, Ok, Err, refl}
 use Rattle.std.specs.Prelude.{slice_get, IfOk}
 use Rattle.text_terms.specs.declared.NoMemory.{NoMemory}
 use Rattle.type_terms.specs.declared.types.NodeRef.{NodeRef}
@@ -14,7 +14,7 @@ use Rattle.level_unify.specs.Copies.{image, Copied}
 use Rattle.level_unify.specs.Instances.{is_bound, IsVariant, rigid_for, Frozen}
 use Rattle.level_unify.proofs.Unified.{fits_under}
 use Rattle.level_unify.proofs.Variants.{bound_cell, free_there, reading_variant}
-use Rattle.level_unify.proofs.Instances.{bound_made, bound_copied, under_before, reading_before, extended, at_old, made_var, copies_once, copy_in}
+use Rattle.level_unify.proofs.Instances.{bound_made, bound_copied, under_before, reading_before, extended, at_old, made_var, copies_once, copy_in, copy_unbound}
 use Rattle.level_unify.proofs.Instancing.{for_bound, on_bound, on_free, general, general_bound, general_variant, bound_image, after_fits, after_reads, extended_reads, extended_under}
 
 rigid_no_var : (l o : ℕ) → Rigid ≡ Var l o → ⊥
@@ -32,6 +32,7 @@ frozen old new r m' c = record {
   inside = copy_in old new Rigid r m' c;
   extends = c.copied.extends;
   copies = copies_once old new Rigid r m' c;
+  unbound = copy_unbound old new Rigid r m' c refl (λ l o e. absurd (rigid_no_var l o e));
   image = image old c.table;
   made = λ b bound stands.
       let (m, t) = bound_copied old new Rigid r m' c b bound stands in

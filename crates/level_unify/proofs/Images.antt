@@ -80,7 +80,7 @@ images_inside nodes T sound inside [] h k d lt = absurd (omega arith)
 images_inside nodes T sound inside (m ∷ ms) h zero d lt = image_inside nodes T sound inside m (h zero zero (omega arith))
 images_inside nodes T sound inside (m ∷ ms) h (suc k) d lt = images_inside nodes T sound inside ms (λ j e l. h (suc j) e (omega arith)) k d (omega arith)
 
-parts_map : (f : ℕ → ℕ) (c : Node) → parts (with_parts f c) ≡ map f (parts c)
+pub parts_map : (f : ℕ → ℕ) (c : Node) → parts (with_parts f c) ≡ map f (parts c)
 parts_map f (Var l o) = refl
 parts_map f Rigid = refl
 parts_map f (Link m) = refl

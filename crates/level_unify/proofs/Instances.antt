@@ -1,18 +1,19 @@
 -- What a copy's types are: those of the node, with other types for the bound variables.
-use Rattle.std.proofs.Common.{◌≡◌, ◌≢◌, ℕ, zero, suc, ◌<◌, ◌≤◌, true, cond, ltb, List, length, get_or, Option, Some, None, refl, sym, ◌∙◌, ap, subst, arith, ◌⊎◌, inl, inr}
-use Rattle.std.specs.Prelude.{slice_get, All, unwrap_or}
+use Rattle.std.proofs.Common.{◌≡◌, ◌≢◌, ℕ, zero, suc, ◌<◌, ◌≤◌, Bool, true, false, cond, ltb, List, [], ◌∷◌, map, not, ◌&&◌, length, get_or, Option, Some, None, refl, sym, ◌∙◌, ap, subst, arith, ◌⊎◌, inl, inr}
+use Rattle.std.specs.Prelude.{slice_get, All, unwrap_or, is_some}
 use Rattle.std.proofs.lemmas.Bool.{lt-ltb, le-ltb}
 use Rattle.std.proofs.lemmas.Option.{slice_get_within}
 use Rattle.type_nodes.specs.Nodes.{Node, Var, Rigid, Link, Arrow, Tuple, Con, parts, bound_level}
-use Rattle.type_nodes.specs.Links.{root, IsComposite}
+use Rattle.type_nodes.specs.Links.{root, IsComposite, IsNoLink}
 use Rattle.type_nodes.specs.Readings.{Types, IsReading}
 use Rattle.type_nodes.proofs.Lists.{one_element}
-use Rattle.type_nodes.proofs.Roots.{root_here, next_stays, closed_root}
+use Rattle.type_nodes.proofs.Roots.{root_here, next_stays, root_link, closed_root}
 use Rattle.level_unify.specs.Walks.{StandsIn}
-use Rattle.level_unify.specs.Solutions.{Loose, FitsLoosely}
+use Rattle.level_unify.specs.Solutions.{Loose, FitsLoosely, HaveNoBound}
 use Rattle.level_unify.specs.Limits.{FitsUnder}
-use Rattle.level_unify.specs.Copies.{Table, image, with_parts, IsBoundVar, IsCopy, Extends, Copied}
+use Rattle.level_unify.specs.Copies.{Table, image, with_parts, IsBoundVar, IsCopy, Extends, Copied, IsShared}
 use Rattle.level_unify.specs.Instances.{is_bound, IsVariant, CopiesOnce}
+use Rattle.level_unify.proofs.Images.{parts_map}
 use Rattle.level_unify.proofs.Steps.{cell_at}
 use Rattle.level_unify.proofs.Solving.{loose_root}
 use Rattle.level_unify.proofs.Walking.{get_here, parts_inside}
@@ -334,3 +335,116 @@ copy_in old new made r m' c = at (c.table (root old r)) refl
     at : (o : Option ℕ) → c.table (root old r) ≡ o → m' < length new
     at None none = let is : m' ≡ root old r = c.is ∙ ap (λ o. unwrap_or o (root old r)) none in let l = c.copied.extends.longer in let i = inside in omega arith
     at (Some q) some = let is : m' ≡ q = c.is ∙ ap (λ o. unwrap_or o (root old r)) some in let h = (c.copied.sources (root old r) q some).1 in omega arith
+
+-- no bound variable stands in the copy
+pub copy_unbound : (old new : List Node) (made : Node) (r m' : ℕ) (c : Copied old new made r m') → parts made ≡ [] → ((l o : ℕ) → made ≡ Var l o → l ≢ bound_level) → HaveNoBound new m' m'
+copy_unbound old new made r m' c leaf free_made = record {
+  set = F;
+  closed = record { each = λ n x has e. elim (old_or_new n (length old)) [ inl lt ↦ of_old n x lt has (sym (c.copied.extends.node n lt) ∙ e) | inr le ↦ of_new n x le e ] };
+  left = has_copy;
+  right = has_copy;
+  free = λ n l o has e. elim (old_or_new n (length old)) [
+    | inl lt ↦ old_free n l o lt has (sym (c.copied.extends.node n lt) ∙ e)
+    | inr le ↦ free_made l o (made_var old new made r m' c n l o le e).0
+  ];
+}
+  where
+    -- the nodes of before that stand in r and have no copy, and all that was made
+    F : ℕ → Bool
+    F n = cond (ltb n (length old)) (c.reached.set n && not (is_some (c.table (root old n)))) true
+
+    uncopied : (o : Option ℕ) → not (is_some o) ≡ true → o ≡ None
+    uncopied None e = refl
+    uncopied (Some m) e = absurd (cc)
+
+    both : (a b : Bool) → (a && b) ≡ true → (a ≡ true) × (b ≡ true)
+    both true true e = (refl, refl)
+    both true false e = absurd (cc)
+    both false b e = absurd (cc)
+
+    in_old : (n : ℕ) → n < length old → F n ≡ true → (c.reached.set n ≡ true) × (c.table (root old n) ≡ None)
+    in_old n lt has =
+        let e = lt-ltb n (length old) lt in
+        let (a, b) = both (c.reached.set n) (not (is_some (c.table (root old n)))) (sym (ap (λ t. cond t (c.reached.set n && not (is_some (c.table (root old n)))) true) e) ∙ has) in
+        (a, uncopied (c.table (root old n)) b)
+
+    old_in : (n : ℕ) → n < length old → c.reached.set n ≡ true → c.table (root old n) ≡ None → F n ≡ true
+    old_in n lt a none =
+        let e = lt-ltb n (length old) lt in
+        ap (λ t. cond t (c.reached.set n && not (is_some (c.table (root old n)))) true) e ∙ (λ i. a i && not (is_some (none i)))
+
+    new_in : (n : ℕ) → length old ≤ n → F n ≡ true
+    new_in n le = let e = le-ltb n (length old) le in ap (λ t. cond t (c.reached.set n && not (is_some (c.table (root old n)))) true) e
+
+    -- the image of what stands in r
+    image_in : (p : ℕ) → c.reached.set p ≡ true → p < length old → F (image old c.table p) ≡ true
+    image_in p has lt = at (c.table (root old p)) refl
+      where
+        own : (root old p < length old) × (root old (root old p) ≡ root old p)
+        own = let (k, e) = c.reached.listed p has in let h = c.reached.roots k (root old p) e in (h.0, h.1)
+
+        at : (o : Option ℕ) → c.table (root old p) ≡ o → F (image old c.table p) ≡ true
+        at None none =
+            ap F (ap (λ o. unwrap_or o (root old p)) none)
+            ∙ old_in (root old p) own.0 (closed_root old c.reached.set c.reached.closed p has) (ap c.table own.1 ∙ none)
+        at (Some q) some = ap F (ap (λ o. unwrap_or o (root old p)) some) ∙ new_in q (c.copied.sources (root old p) q some).0
+
+    has_copy : F m' ≡ true
+    has_copy = ap F c.is ∙ image_in r c.reached.start inside
+      where
+        inside : r < length old
+        inside = c.inside
+
+    root_place : (n : ℕ) (x : Node) → n < length old → F n ≡ true → slice_get old n ≡ Some x → IsNoLink x → (k : ℕ) × (slice_get c.found k ≡ Some n) × (c.table n ≡ None)
+    root_place n x lt has e is =
+        let end = root_here old n (next_stays old n x e is) in
+        let (a, none) = in_old n lt has in
+        let (k, f) = c.reached.listed n a in
+        (k, f ∙ ap (λ j. Some j) end, sym (ap c.table end) ∙ none)
+
+    shared : (n : ℕ) (x : Node) → n < length old → F n ≡ true → slice_get old n ≡ Some x → IsNoLink x → IsShared old c.table x
+    shared n x lt has e is =
+        let (k, f, none) = root_place n x lt has e is in
+        elim (c.copied.images k n x (slice_get_within c.found k n f) f e) [
+          | inl (_, s) ↦ s
+          | inr (m, y, t, _, _) ↦ absurd (let g : Some m ≡ None = sym t ∙ none in cc)
+        ]
+
+    composite : (n : ℕ) (x : Node) → n < length old → F n ≡ true → slice_get old n ≡ Some x → IsNoLink x → All (λ p. F p ≡ true) (parts x)
+    composite n x lt has e is = λ j z within.
+        old_in (get_or (parts x) j z) (parts_inside old c.sound n x e j z within) (c.reached.closed.each n x (in_old n lt has).0 e j z within) ((shared n x lt has e is).1 j z within)
+
+    of_link : (n p : ℕ) → n < length old → F n ≡ true → slice_get old n ≡ Some (Link p) → All (λ q. F q ≡ true) (p ∷ [])
+    of_link n p lt has e zero z within =
+        let (a, none) = in_old n lt has in
+        old_in p (parts_inside old c.sound n (Link p) e zero zero (omega arith)) (c.reached.closed.each n (Link p) a e zero zero (omega arith)) (sym (ap c.table (root_link old c.sound n p lt e)) ∙ none)
+    of_link n p lt has e (suc j) z within = absurd (omega arith)
+
+    of_old : (n : ℕ) (x : Node) → n < length old → F n ≡ true → slice_get old n ≡ Some x → All (λ p. F p ≡ true) (parts x)
+    of_old n (Var l o) lt has e = λ j z within. absurd (omega arith)
+    of_old n Rigid lt has e = λ j z within. absurd (omega arith)
+    of_old n (Link p) lt has e = of_link n p lt has e
+    of_old n (Arrow a b) lt has e = composite n (Arrow a b) lt has e tt
+    of_old n (Tuple ms) lt has e = composite n (Tuple ms) lt has e tt
+    of_old n (Con p name ms) lt has e = composite n (Con p name ms) lt has e tt
+
+    images_in : (ms : List ℕ) → All (λ p. (c.reached.set p ≡ true) × (p < length old)) ms → All (λ p. F p ≡ true) (map (image old c.table) ms)
+    images_in [] h j z within = absurd (omega arith)
+    images_in (p ∷ ms) h zero z within = let a = h zero zero (omega arith) in image_in p a.0 a.1
+    images_in (p ∷ ms) h (suc j) z within = images_in ms (λ k d l. h (suc k) d (omega arith)) j z (omega arith)
+
+    of_copy : (n : ℕ) (a : CopyAt old new made c.found c.table (c.copied.source n) n) → IsCopy old c.table made a.node a.copy → All (λ p. F p ≡ true) (parts a.copy)
+    of_copy n a (inl (_, same)) = subst (λ ms. All (λ p. F p ≡ true) ms) (sym (ap parts same ∙ leaf)) (λ j z within. absurd (omega arith))
+    of_copy n a (inr (_, _, same)) =
+        let stands = (c.reached.roots a.place (c.copied.source n) a.listed).2 in
+        let has = stands.each c.reached.set c.reached.closed c.reached.start in
+        subst (λ ms. All (λ p. F p ≡ true) ms) (sym (ap parts same ∙ parts_map (image old c.table) a.node))
+        (images_in (parts a.node) (λ j z within. (c.reached.closed.each (c.copied.source n) a.node has a.node_at j z within, parts_inside old c.sound (c.copied.source n) a.node a.node_at j z within)))
+
+    of_new : (n : ℕ) (x : Node) → length old ≤ n → slice_get new n ≡ Some x → All (λ p. F p ≡ true) (parts x)
+    of_new n x le e =
+        let a = made_at old new made r m' c n le (slice_get_within new n x e) in
+        subst (λ y. All (λ p. F p ≡ true) (parts y)) (one_element a.copy x (slice_get new n) a.copy_at e) (of_copy n a a.is)
+
+    old_free : (n l o : ℕ) → n < length old → F n ≡ true → slice_get old n ≡ Some (Var l o) → l ≢ bound_level
+    old_free n l o lt has e b = (shared n (Var l o) lt has e tt).0 b

@@ -1,7 +1,9 @@
 -- The readings of a copy, and instances with new variables.
+use Rattle.type_model.specs.Schemes.{HasInstance}
 use Rattle.std.proofs.Common.{◌≡◌, ◌≢◌, ℕ, ◌<◌, Bool, true, false, if◌then◌else◌, List, length, Some, refl, sym, ◌∙◌, ap, subst, arith, inl, inr, Result, Ok, Err}
 use Rattle.std.specs.Prelude.{slice_get, IfOk}
 use Rattle.std.proofs.lemmas.Bool.{le-leb}
+use Rattle.std.proofs.lemmas.Option.{slice_get_within}
 use Rattle.text_terms.specs.declared.NoMemory.{NoMemory}
 use Rattle.type_terms.specs.declared.types.NodeRef.{NodeRef}
 use Rattle.type_model.specs.Types.{Path, Typ, Typs, occurs}
@@ -14,13 +16,13 @@ use Rattle.type_nodes.specs.Nodes.{Node, Var, bound_level}
 use Rattle.type_nodes.specs.Readings.{Types, IsReading}
 use Rattle.type_nodes.proofs.Identity.{identity, identity_built, identity_fits}
 use Rattle.level_unify.specs.Walks.{StandsIn}
-use Rattle.level_unify.specs.Solutions.{Loose, FitsLoosely}
+use Rattle.level_unify.specs.Solutions.{Loose, FitsLoosely, HaveNoBound}
 use Rattle.level_unify.specs.Limits.{FitsUnder}
 use Rattle.level_unify.specs.Copies.{image, Copied}
-use Rattle.level_unify.specs.Instances.{is_bound, HasNoBoundVar, IsVariant, KeepsLevel, Instantiated}
-use Rattle.level_unify.proofs.Unified.{fits_loosely, fits_under, under_fits}
+use Rattle.level_unify.specs.Instances.{is_bound, HasNoBoundVar, IsVariant, KeepsLevel, Instantiated, scheme_at}
+use Rattle.level_unify.proofs.Unified.{fits_loosely, fits_under, under_fits, apart_within}
 use Rattle.level_unify.proofs.Variants.{bound_cell, bound_there, loose_apply, reading_variant, stands_occurs}
-use Rattle.level_unify.proofs.Instances.{var_root, free_uncopied, bound_made, bound_copied, image_none, image_some, copy_typed, under_before, reading_before, extended, at_old, at_new, extended_loose, extended_copy, made_var, copies_once, copy_in, old_or_new}
+use Rattle.level_unify.proofs.Instances.{var_root, free_uncopied, bound_made, bound_copied, image_none, image_some, copy_typed, under_before, reading_before, extended, at_old, at_new, extended_loose, extended_copy, made_var, copies_once, copy_in, copy_unbound, old_or_new}
 
 -- a scope that limits nothing has every origin in it
 everything_in : (o : Path) → in_scope no_scope o ≡ true
@@ -93,6 +95,13 @@ after_reads old new made r m' c V s reads fixes puts =
     copy_typed old new made r m' c V (λ n. apply s (V n)) (fits_loosely new V reads.fits) variant.loose (λ n l o e free. sym (variant.free n l o e free))
     (λ n m t b. let (o, e) = bound_cell old n b in sym (ap (apply s) (before.own n o e) ∙ puts n m b t))
 
+-- no bound variable is in the copy's type
+pub unbound_type : (old new : List Node) (made : Node) (r m' : ℕ) (c : Copied old new made r m') (V : Types) → IsReading new V → HaveNoBound new m' m' → HasNoBoundVar old (V m')
+unbound_type old new made r m' c V reads none b bound =
+    let (o, e) = bound_cell old b bound in
+    let there : slice_get new b ≡ Some (Var bound_level o) = c.copied.extends.node b (slice_get_within old b (Var bound_level o) e) ∙ e in
+    apart_within new m' m' V c.sound_after none (fits_loosely new V reads.fits) b (λ n l scope at free. reads.apart n l scope b o at free there) m' (copy_in old new made r m' c) none.left
+
 -- a reading of before with other types for the bound variables, in which no variable is bound, is one after copying
 pub extended_reads : (old new : List Node) (made : Node) (r m' : ℕ) (c : Copied old new made r m') (V U : Types) → IsReading old V → FitsUnder (λ v. 0) new (extended old c.copied.source V U) → ((scope : ℕ) → made ≢ Var bound_level scope) →
     ((n b : ℕ) → is_bound old (c.copied.source n) ≡ true → StandsIn old (c.copied.source n) r → is_bound old b ≡ true → occurs b (U (c.copied.source n)) ≡ false) → IsReading new (extended old c.copied.source V U)
@@ -150,16 +159,16 @@ instantiated old new r level m' lt c = record {
   inside = copy_in old new (Var level no_scope) r m' c;
   extends = c.copied.extends;
   copies = copies_once old new (Var level no_scope) r m' c;
+  unbound = unbound;
   vars = λ n l o le e. same_level level l o (made_var old new (Var level no_scope) r m' c n l o le e).0;
-  reads = λ V reads. (
-    reading_before old new V c.copied.extends reads,
-    (
-      put V,
-      (λ v e. on_free old (λ b. V (image old c.table b)) type.Var v e),
-      after_reads old new (Var level no_scope) r m' c V (put V) reads (λ v e. on_free old (λ b. V (image old c.table b)) type.Var v e)
-          (λ b m bound t. on_bound old (λ v. V (image old c.table v)) type.Var b bound ∙ ap V (bound_image old new (Var level no_scope) r m' c b m bound t)),
-    ),
-  );
+  reads = λ V reads.
+      let instance : HasInstance (scheme_at old V r) (V m') = (
+        put V,
+        (λ v e. on_free old (λ b. V (image old c.table b)) type.Var v e),
+        after_reads old new (Var level no_scope) r m' c V (put V) reads (λ v e. on_free old (λ b. V (image old c.table b)) type.Var v e)
+            (λ b m bound t. on_bound old (λ v. V (image old c.table v)) type.Var b bound ∙ ap V (bound_image old new (Var level no_scope) r m' c b m bound t)),
+      ) in
+      (reading_before old new V c.copied.extends reads, instance, unbound_type old new (Var level no_scope) r m' c V reads unbound);
   read = λ V x reads (s, fixes, eq) none.
       let variant = reading_variant old s V fixes reads in
       let W = extended old c.copied.source V (λ n. apply s (V n)) in
@@ -186,6 +195,9 @@ instantiated old new r level m' lt c = record {
       (extended old c.copied.source V U, flexible_under old new r level m' c L V U fits variant keeps, (λ n within. at_old old c.copied.source V U n within), extended_copy old new (Var level no_scope) r m' c V U fits.loose variant);
 }
   where
+    unbound : HaveNoBound new m' m'
+    unbound = copy_unbound old new (Var level no_scope) r m' c refl (λ l o e b. below_free level lt (sym (same_level level l o e).0 ∙ b))
+
     put : Types → Subst
     put V = for_bound old (λ b. V (image old c.table b)) type.Var
 

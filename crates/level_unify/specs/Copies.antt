@@ -117,7 +117,9 @@ pub record CopiedTo (old new : List Node) (made : Node) (found : List ℕ) (T : 
 
 -- m is a copy of r
 pub record Copied (old new : List Node) (made : Node) (r m : ℕ) : Type 0 where
+  pub inside : r < length old
   pub sound : IsSound old
+  pub sound_after : IsSound new
   pub found : List ℕ
   pub table : Table
   pub reached : Reached old r found

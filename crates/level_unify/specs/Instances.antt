@@ -9,7 +9,7 @@ use Rattle.type_model.specs.Limits.{no_scope, IsUnder}
 use Rattle.type_nodes.specs.Nodes.{Node, Var, Rigid, Link, Arrow, Tuple, Con, bound_level}
 use Rattle.type_nodes.specs.Readings.{Types, IsReading}
 use Rattle.level_unify.specs.Walks.{StandsIn}
-use Rattle.level_unify.specs.Solutions.{Loose}
+use Rattle.level_unify.specs.Solutions.{Loose, HaveNoBound}
 use Rattle.level_unify.specs.Limits.{FitsUnder}
 use Rattle.level_unify.specs.Copies.{Extends}
 
@@ -54,14 +54,16 @@ pub record CopiesOnce (old new : List Node) (r : ℕ) : Type 0 where
   pub bound : (m : ℕ) → length old ≤ m → m < length new → (b : ℕ) × (is_bound old b ≡ true) × StandsIn old b (source m)
   pub once : (m m' : ℕ) → length old ≤ m → m < length new → length old ≤ m' → m' < length new → source m ≡ source m' → m ≡ m'
 
--- m is an instance of r with new variables of this level: it has, at each reading, exactly the instances of r's type in which no
--- variable is bound; and where types keep to the levels of variables, those whose new types keep to this one.
+-- m is an instance of r with new variables of this level, and no bound variable stands in it: it has, at each reading, exactly the
+-- instances of r's type in which no variable is bound; and where types keep to the levels of variables, those whose new types keep
+-- to this one.
 pub record Instantiated (old new : List Node) (r level m : ℕ) : Type 0 where
   pub inside : m < length new
   pub extends : Extends old new
   pub copies : CopiesOnce old new r
+  pub unbound : HaveNoBound new m m
   pub vars : (n l o : ℕ) → length old ≤ n → slice_get new n ≡ Some (Var l o) → (l ≡ level) × (o ≡ no_scope)
-  pub reads : (V : Types) → IsReading new V → IsReading old V × HasInstance (scheme_at old V r) (V m)
+  pub reads : (V : Types) → IsReading new V → IsReading old V × HasInstance (scheme_at old V r) (V m) × HasNoBoundVar old (V m)
   pub read : (V : Types) (x : Typ) → IsReading old V → HasInstance (scheme_at old V r) x → HasNoBoundVar old x → (W : Types) × IsReading new W × SameTypes old V W × (W m ≡ x)
   pub fits : (L : ℕ → ℕ) (V : Types) → FitsUnder L new V → FitsUnder L old V × ((U : Types) × IsVariant old V U × KeepsLevel L old r level U × (V m ≡ U r))
   pub fitted : (L : ℕ → ℕ) (V U : Types) → FitsUnder L old V → IsVariant old V U → KeepsLevel L old r level U → (W : Types) × FitsUnder L new W × SameTypes old V W × (W m ≡ U r)
@@ -74,11 +76,12 @@ rigid_for nodes image v = if is_bound nodes v then rigid (image v) else type.Var
 abbrev pub IsRigid : List Node → ℕ → (ℕ → ℕ) → Types → Type 0
 IsRigid nodes r image U = (b : ℕ) → is_bound nodes b ≡ true → StandsIn nodes b r → U b ≡ rigid (image b)
 
--- m is an instance of r with a new rigid variable for each bound variable: at each reading it is r's type with these in their places.
+-- m is an instance of r with a new rigid variable for each bound variable, and no bound variable stands in it: at each reading it is r's type with these in their places.
 pub record Frozen (old new : List Node) (r m : ℕ) : Type 0 where
   pub inside : m < length new
   pub extends : Extends old new
   pub copies : CopiesOnce old new r
+  pub unbound : HaveNoBound new m m
   pub image : ℕ → ℕ
   pub made : (b : ℕ) → is_bound old b ≡ true → StandsIn old b r → (length old ≤ image b) × (slice_get new (image b) ≡ Some Rigid)
   pub distinct : (b b' : ℕ) → is_bound old b ≡ true → StandsIn old b r → is_bound old b' ≡ true → StandsIn old b' r → image b ≡ image b' → b ≡ b'

@@ -33,7 +33,8 @@ enum Shape {
 // The copy of a node, or its root where that has none.
 fn image_of(store: &Store, copies: &HashMap<u64, NodeRef>, node: NodeRef) -> NodeRef
     requires { IsNode store.now.nodes node.0 }
-    ensures { result.0 ≡ image store.now.nodes (table_of copies.now) node.0 }
+    ensures image { result.0 ≡ image store.now.nodes (table_of copies.now) node.0 }
+    ensures sound { IsSound store.now.nodes }
 {
     let root = store.root(node);
     match copies.get(&root.0) {
