@@ -1,7 +1,4 @@
 //! Pairs of types, unified in the store and by substitution.
-ghost use Rattle.std.specs.Prelude.{OnOk};
-ghost use Rattle.level_unify.specs.Solutions.{AllFree};
-
 use super::are_nodes;
 use super::robinson::{arity, is_variable, part, renamed, unified};
 use crate::levels::NO_SCOPE;
@@ -60,20 +57,14 @@ fn origin_of(alloc: Global, head: u8) -> Result<Origin, Fail> {
     Ok(Origin { path, name })
 }
 
-fn named_node(store: &mut Store, name: u8) -> Result<NodeRef, Fail>
-    requires { AllFree store.old.nodes }
-    ensures { OnOk result (AllFree store.new.nodes) }
-{
+fn named_node(store: &mut Store, name: u8) -> Result<NodeRef, Fail> {
     if is_variable(name) {
         return Ok(store.var(1, scope_of(name))?);
     }
     Ok(store.rigid()?)
 }
 
-fn named_nodes(alloc: Global, store: &mut Store) -> Result<Vec<NodeRef>, Fail>
-    requires { AllFree store.old.nodes }
-    ensures { OnOk result (AllFree store.new.nodes) }
-{
+fn named_nodes(alloc: Global, store: &mut Store) -> Result<Vec<NodeRef>, Fail> {
     let mut nodes = Vec::new(alloc);
     for name in NAMED {
         nodes.push(named_node(store, *name)?)?;
@@ -87,10 +78,7 @@ fn make(
     named: &[NodeRef],
     head: u8,
     parts: &[NodeRef],
-) -> Result<NodeRef, Fail>
-    requires { AllFree store.old.nodes }
-    ensures { OnOk result (AllFree store.new.nodes) }
-{
+) -> Result<NodeRef, Fail> {
     if let Some(place) = NAMED.iter().position(|name| *name == head) {
         return match named.get(place) {
             Some(node) => Ok(*node),
@@ -135,10 +123,7 @@ fn build(
     named: &[NodeRef],
     term: &[u8],
     sharing: Sharing,
-) -> Result<Vec<NodeRef>, Fail>
-    requires { AllFree store.old.nodes }
-    ensures { OnOk result (AllFree store.new.nodes) }
-{
+) -> Result<Vec<NodeRef>, Fail> {
     let mut stack = Vec::new(alloc);
     let mut known = Vec::new(alloc);
     for at in (0..term.len()).rev() {
