@@ -98,7 +98,7 @@ fn binding_over(
 fn leaf_child(alloc: Global, slot: u8, row: RowName, token: &Token) -> Result<Child, NoMemory>
     ensures { IfOk result (λ c. child_view c ≡ (slot, plain.leaf (row_of row) (tok_of token.now))) }
 {
-    let token = share(token)?;
+    let token = token.share()?;
     Ok(inner_child(slot, leaf(alloc, row, 0, token)?))
 }
 
@@ -116,7 +116,7 @@ fn taken_child(slot: u8, token: &Token) -> Result<Child, NoMemory>
 {
     Ok(Child {
         slot,
-        part: Part::Taken(share(token)?),
+        part: Part::Taken(token.share()?),
     })
 }
 
@@ -128,16 +128,4 @@ fn value_row(value: &Token) -> RowName
     } else {
         RowName::Econst
     }
-}
-
-/// The same token, with one more owner of its name.
-fn share(token: &Token) -> Result<Token, NoMemory>
-    ensures { IfOk result (λ t. tok_of t ≡ tok_of token.now) }
-{
-    Ok(Token {
-        kind: token.kind,
-        span: token.span,
-        reach: token.reach,
-        name: token.name.share()?,
-    })
 }

@@ -19,10 +19,10 @@ each_get test (w ∷ R) i h zero none = let p = (and_parts (test i w) (each (i +
 each_get test (w ∷ R) i h (suc r) none =
     let p = each_get test R (i + 1) (and_parts (test i w) (each (i + 1) R test) h).1 r none in subst (λ j. test j (row_at R r) ≡ true) (omega arith) p
 
-each_row : (test : ℕ → Row → Bool) (R : List Row) → each 0 R test ≡ true → ((j : ℕ) → test j no_row ≡ true) → (r : ℕ) → test r (row_at R r) ≡ true
+pub each_row : (test : ℕ → Row → Bool) (R : List Row) → each 0 R test ≡ true → ((j : ℕ) → test j no_row ≡ true) → (r : ℕ) → test r (row_at R r) ≡ true
 each_row test R h none r = let p = each_get test R 0 h r none in subst (λ j. test j (row_at R r) ≡ true) (omega arith) p
 
-spot_get : (test : ℕ → Spot → Bool) (ss : List Spot) (i : ℕ) → each_spot i ss test ≡ true → (p : ℕ) → ((j : ℕ) → test j no_spot ≡ true) → test (i + p) (or_else no_spot (slice_get ss p)) ≡ true
+pub spot_get : (test : ℕ → Spot → Bool) (ss : List Spot) (i : ℕ) → each_spot i ss test ≡ true → (p : ℕ) → ((j : ℕ) → test j no_spot ≡ true) → test (i + p) (or_else no_spot (slice_get ss p)) ≡ true
 spot_get test [] i h p none = none (i + p)
 spot_get test (s ∷ ss) i h zero none = let q = (and_parts (test i s) (each_spot (i + 1) ss test) h).0 in subst (λ j. test j s ≡ true) (omega arith) q
 spot_get test (s ∷ ss) i h (suc p) none =

@@ -8,6 +8,7 @@ pub mod Counted
 pub mod Formed
 pub mod Instance
 pub mod Separated
+pub mod Slots
 pub mod Promises
 pub mod ByNumbers
 pub mod ReachByNumbers

@@ -12,3 +12,4 @@ pub mod Tested
 pub mod Ocaml
 pub mod Parts
 pub mod Numbers
+pub mod Named

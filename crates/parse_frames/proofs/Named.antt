@@ -14,7 +14,8 @@ use Rattle.grammar_model.specs.Recovery.{missing_at}
 use Rattle.parse_frames.specs.Frames as frames
 use Rattle.parse_frames.specs.Frames.{Stack, started, with_token, with_missing, begun, closed, grown, onto, heights_in}
 use Rattle.parse_frames.proofs.Parts.{told_heights_onto}
-use Rattle.parse_frames.specs.Named.{named, named_parts, named_part, named_done, named_frame, named_stack, IsNamed, openings}
+use Rattle.grammar_model.specs.Named.{named, named_parts, named_part}
+use Rattle.parse_frames.specs.Named.{named_done, named_frame, named_stack, IsNamed, openings}
 
 -- a token is no operand
 last_taken : (w : What) (t : Tok) → last_in w (taken t) ≡ no_operand

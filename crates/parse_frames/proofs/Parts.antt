@@ -3,6 +3,7 @@ use Rattle.std.proofs.Common.{◌≡◌, ℕ, ◌+◌, max, List, [], ◌∷◌,
 use Rattle.std.proofs.lemmas.List.{reverse-append}
 use Rattle.std.specs.declared.rc.Rc.{Rc}
 use Rattle.std.specs.declared.alloc.Global.{Global}
+use Rattle.tree_model.specs.Rows.{Row}
 use Rattle.tree_model.specs.Trees.{Forest, Part, no_parts, part}
 use Rattle.tree_model.specs.Extents.{told_size, told_sizes, told_height, told_heights}
 use Rattle.syntax_tree.specs.View.{forest_of}
@@ -23,13 +24,13 @@ turned xs zs rest none e =
     ap forest_of (sym (append-nil (reverse xs))) ∙ onto_is xs [] ∙ ap (λ xs. onto xs no_parts) same
 
 -- the sizes of parts in order are those of the parts and those of what they are put on
-sizes_onto : (ds : List (ℕ × Part)) (ps : Forest) → told_sizes (onto ds ps) ≡ sizes_in ds + told_sizes ps
-sizes_onto [] ps = omega arith
-sizes_onto (d ∷ ds) ps = let e : told_sizes (onto ds (part d.0 d.1 ps)) ≡ sizes_in ds + (told_size d.1 + told_sizes ps) = sizes_onto ds (part d.0 d.1 ps) in omega arith
+sizes_onto : (r : Row) (ds : List (ℕ × Part)) (ps : Forest) → told_sizes r (onto ds ps) ≡ sizes_in r ds + told_sizes r ps
+sizes_onto r [] ps = omega arith
+sizes_onto r (d ∷ ds) ps = let e : told_sizes r (onto ds (part d.0 d.1 ps)) ≡ sizes_in r ds + (told_size r d.0 d.1 + told_sizes r ps) = sizes_onto r ds (part d.0 d.1 ps) in omega arith
 
 -- the sizes of a frame's parts, put in order
-pub told_sizes_onto : (ds : List (ℕ × Part)) → told_sizes (onto ds no_parts) ≡ sizes_in ds
-told_sizes_onto ds = let e : told_sizes (onto ds no_parts) ≡ sizes_in ds + 0 = sizes_onto ds no_parts in omega arith
+pub told_sizes_onto : (r : Row) (ds : List (ℕ × Part)) → told_sizes r (onto ds no_parts) ≡ sizes_in r ds
+told_sizes_onto r ds = let e : told_sizes r (onto ds no_parts) ≡ sizes_in r ds + 0 = sizes_onto r ds no_parts in omega arith
 
 -- the largest height of parts in order is the larger of theirs and that of what they are put on
 heights_onto : (ds : List (ℕ × Part)) (ps : Forest) → told_heights (onto ds ps) ≡ max (heights_in ds) (told_heights ps)

@@ -1,9 +1,10 @@
 -- The frames of the parser as the code keeps them: a finished operand has the name of its row and no number.
-use Rattle.std.specs.Prelude.{ℕ, ◌+◌, ◌-◌, max, List, [], ◌∷◌, Option, Some, None}
+use Rattle.std.specs.Prelude.{ℕ, ◌+◌, max, List, [], ◌∷◌, Option, Some, None}
 use Rattle.token_model.specs.Kinds.{Tok}
 use Rattle.tree_model.specs.Rows.{Row}
 use Rattle.tree_model.specs.Trees.{place, Tree, Forest, Part, no_parts, part, taken, inner, missing}
 use Rattle.tree_model.specs.Extents.{node_over, told_size, told_height}
+use Rattle.grammar_model.specs.Named.{slot_of}
 use Rattle.grammar_model.specs.Tables.{Last, plain, row}
 
 -- a row in progress: its number, the spot of its newest part, and its parts with their slots, the newest first
@@ -24,10 +25,6 @@ pub record Stack : Type 0 where
 
 abbrev pub stack : Frame → List Frame → Last → ℕ → Stack
 stack f fs last p = record { top = f; below = fs; last = last; place = p }
-
--- the slot of a spot: one less, and 0 for the left operand, whose spot is 0
-abbrev pub slot_of : ℕ → ℕ
-slot_of p = p - 1
 
 -- no token, in a frame of the row of a whole text
 abbrev pub started : ℕ → Stack
@@ -85,10 +82,10 @@ grown_by r s (d ∷ ds) = Some (stack (frame r 0 ((0, d.1) ∷ [])) (frame s.top
 abbrev pub grown : ℕ → Stack → Option Stack
 grown r s = grown_by r s s.top.done
 
--- the sum of the sizes that parts tell
-abbrev pub sizes_in : List (ℕ × Part) → ℕ
-sizes_in [] = 0
-sizes_in (d ∷ ds) = told_size d.1 + sizes_in ds
+-- the sum of the sizes that the parts of a row of this name tell
+abbrev pub sizes_in : Row → List (ℕ × Part) → ℕ
+sizes_in r [] = 0
+sizes_in r (d ∷ ds) = told_size r d.0 d.1 + sizes_in r ds
 
 -- the largest of the heights that parts tell
 abbrev pub heights_in : List (ℕ × Part) → ℕ

@@ -1,28 +1,13 @@
--- The named form of the trees and frames of the grammar's machine: each node has the name of its row and tells its span, size and height.
+-- The named form of the frames of the grammar's machine.
 use Rattle.std.specs.Prelude.{◌≡◌, ℕ, List, [], ◌∷◌, map}
 use Rattle.tree_model.specs.Rows.{Row}
 use Rattle.tree_model.specs.Trees as plain
-use Rattle.tree_model.specs.Trees.{place}
-use Rattle.tree_model.specs.Extents.{node_over}
-use Rattle.grammar_model.specs.Trees.{Tree, Forest, Part, node, no_parts, part, taken, inner, missing}
+use Rattle.grammar_model.specs.Trees.{Part}
+use Rattle.grammar_model.specs.Named.{slot_of, named_part}
 use Rattle.grammar_model.specs.Tables.{Table}
 use Rattle.grammar_model.specs.Machine as machine
 use Rattle.grammar_model.specs.Machine.{last_done, first_of}
-use Rattle.parse_frames.specs.Frames.{Frame, frame, Stack, stack, slot_of}
-
--- trees with the names of their rows, where each row's number has a name
-abbrev mutual
-  pub named : (ℕ → Row) → Tree → plain.Tree
-  named name (node r f) = node_over (name r) (named_parts name f)
-
-  pub named_parts : (ℕ → Row) → Forest → plain.Forest
-  named_parts name no_parts = plain.no_parts
-  named_parts name (part p c f) = plain.part (slot_of p) (named_part name c) (named_parts name f)
-
-  pub named_part : (ℕ → Row) → Part → plain.Part
-  named_part name (taken t) = plain.taken t
-  named_part name (inner t) = plain.inner (named name t)
-  named_part name (missing p) = plain.missing (place p p)
+use Rattle.parse_frames.specs.Frames.{Frame, frame, Stack, stack}
 
 -- parts with their slots in place of their spots
 abbrev pub named_done : (ℕ → Row) → List (ℕ × Part) → List (ℕ × plain.Part)

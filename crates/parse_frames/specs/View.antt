@@ -3,22 +3,13 @@ use Rattle.std.specs.Prelude.{ℕ, List, [], ◌∷◌, Option, Some, None}
 use Rattle.std.specs.declared.rc.Rc.{Rc}
 use Rattle.std.specs.declared.alloc.Global.{Global}
 use Rattle.tree_model.specs.Trees.{Part}
-use Rattle.grammar_model.specs.Tables as table
 use Rattle.syntax_tree.specs.View.{part_view}
 use Rattle.parse_frames.specs.Frames.{Frame, frame}
-use Rattle.parse_frames.specs.declared.frames.Last.{Last}
-use Rattle.parse_frames.specs.declared.frames.Last.TheVariants as code
 use Rattle.parse_frames.specs.declared.frames.Opening.{Opening}
 use Rattle.parse_frames.specs.declared.frames.Cell.{Cell, fold-Cell}
 use Rattle.parse_frames.specs.declared.frames.Cell.TheOpen.{Cell-F}
 use Rattle.parse_frames.specs.declared.frames.Level.{Level, fold-Level}
 use Rattle.parse_frames.specs.declared.frames.Level.TheOpen.{Level-F}
-
--- what the newest part is as an operand
-abbrev pub last_view : Last → table.Last
-last_view code.Plain = table.plain
-last_view code.Hole = table.hole
-last_view (code.Row r) = table.row r
 
 -- a list behind a shared pointer
 abbrev pub shared : {A : Type 0} → Option (Rc (List A) Global) → List A

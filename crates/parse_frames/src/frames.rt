@@ -2,17 +2,6 @@
 use std::rc::Rc;
 use syntax_tree::Part;
 
-/// What the newest part of a frame is as an operand.
-#[derive(Clone, Copy, Debug, PartialEq, Eq)]
-pub enum Last {
-    /// no operand: a token, a missing token, or no part
-    Plain,
-    /// a missing operand
-    Hole,
-    /// a node of the row of this number
-    Row(u8),
-}
-
 /// The parts of a frame, the newest first.
 pub type Parts = Option<Rc<Cell>>;
 

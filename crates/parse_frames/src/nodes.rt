@@ -1,6 +1,6 @@
 //! Nodes made of the parts of a frame.
 ghost use Rattle.std.specs.Prelude.{◌≡◌, ◌<◌, ◌-◌, ◌^◌, ◌&&◌, nat_lt, map, min, IfOk};
-ghost use Rattle.tree_model.specs.Extents.{node_over, told_height, told_size};
+ghost use Rattle.tree_model.specs.Extents.{node_over, told_height};
 ghost use Rattle.tree_model.specs.Trees as plain;
 ghost use Rattle.syntax_tree.specs.Names.{row_of};
 ghost use Rattle.syntax_tree.specs.View.{child_view, forest_of, node_view, part_view};
@@ -12,7 +12,7 @@ use crate::share::share_part;
 use crate::{Level, Parts};
 use std::alloc::Global;
 use std::rc::Rc;
-use syntax_tree::{Child, NoMemory, Node, Part, RowName, node_of};
+use syntax_tree::{Child, NoMemory, Node, Part, RowName, node_of, told_size};
 
 /// The parts in order, shared.
 fn children_of(alloc: Global, parts: &Parts) -> Result<Vec<Child>, NoMemory>
@@ -41,7 +41,7 @@ pub(crate) fn node_over_parts(
     name: RowName,
     parts: &Parts,
 ) -> Result<Rc<Node>, NoMemory>
-    requires size { sizes_in (parts_view parts.now) < 2 ^ 32 - 1 }
+    requires size { sizes_in (row_of name) (parts_view parts.now) < 2 ^ 32 - 1 }
     requires height { heights_in (parts_view parts.now) < 2 ^ 16 - 1 }
     ensures { IfOk result (λ r. node_view r.value ≡ node_over (row_of name) (onto (parts_view parts.now) plain.no_parts)) }
 {
@@ -49,35 +49,25 @@ pub(crate) fn node_over_parts(
     node_of(alloc, name, children)
 }
 
-/// Whether a node over the parts can tell its size and its height.
-pub(crate) fn has_room(parts: &Parts) -> bool
+/// Whether a node of a row of this name over the parts can tell its size and its height.
+pub(crate) fn has_room(name: RowName, parts: &Parts) -> bool
     requires told { parts_heights parts.now ≡ running_heights (parts_view parts.now) }
-    ensures { result ≡ (nat_lt (sizes_in (parts_view parts.now)) (2 ^ 32 - 1) && nat_lt (heights_in (parts_view parts.now)) (2 ^ 16 - 1)) }
+    ensures { result ≡ (nat_lt (sizes_in (row_of name) (parts_view parts.now)) (2 ^ 32 - 1) && nat_lt (heights_in (parts_view parts.now)) (2 ^ 16 - 1)) }
 {
-    size_of_parts(parts) < u32::MAX && height_of_parts(parts) < u16::MAX
+    size_of_parts(name, parts) < u32::MAX && height_of_parts(parts) < u16::MAX
 }
 
-/// The sum of the sizes that the parts tell, or 2^32 - 1 where it is more.
-fn size_of_parts(parts: &Parts) -> u32
-    ensures { result ≡ min (sizes_in (parts_view parts.now)) (2 ^ 32 - 1) }
+/// The sum of the sizes that the parts of a row of this name tell, or 2^32 - 1 where it is more.
+fn size_of_parts(name: RowName, parts: &Parts) -> u32
+    ensures { result ≡ min (sizes_in (row_of name) (parts_view parts.now)) (2 ^ 32 - 1) }
 {
     let mut size: u32 = 0;
     let mut rest = parts;
     while let Some(cell) = rest {
-        size = size.saturating_add(size_of_part(&cell.part));
+        size = size.saturating_add(told_size(name, cell.slot, &cell.part));
         rest = &cell.before;
     }
     size
-}
-
-fn size_of_part(part: &Part) -> u32
-    ensures { result ≡ told_size (part_view part.now) }
-{
-    match part {
-        Part::Taken(_) => 0,
-        Part::Inner(node) => node.size,
-        Part::Missing(_) => 1,
-    }
 }
 
 /// The largest of the heights that the parts of a frame that waits tell; 0 where there is no node among them.

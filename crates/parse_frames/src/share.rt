@@ -1,6 +1,6 @@
 //! Parts and frames with one owner more, and on others.
 ghost use Rattle.std.specs.Prelude.{◌≡◌, ◌∷◌, IfOk};
-ghost use Rattle.syntax_tree.specs.View.{part_view, tok_of};
+ghost use Rattle.syntax_tree.specs.View.{part_view};
 ghost use Rattle.parse_frames.specs.Frames.{frame, frames_running, running_heights};
 ghost use Rattle.parse_frames.specs.declared.frames.Level.{out-Level};
 ghost use Rattle.parse_frames.specs.View.{frames_heights, frames_view, level_heights, level_view, parts_heights, parts_view};
@@ -9,27 +9,14 @@ use crate::nodes::{height_of_part, height_of_parts};
 use crate::{Cell, Frames, Level, Parts};
 use std::alloc::Global;
 use std::rc::Rc;
-use syntax_tree::{NoMemory, Part, Token};
-
-/// The same token, its spelling shared.
-pub(crate) fn share_token(token: &Token) -> Result<Token, NoMemory>
-    ensures token { IfOk result (λ r. tok_of r ≡ tok_of token.now) }
-    ensures reach { IfOk result (λ r. r.reach ≡ token.now.reach) }
-{
-    Ok(Token {
-        kind: token.kind,
-        span: token.span,
-        reach: token.reach,
-        name: token.name.share()?,
-    })
-}
+use syntax_tree::{NoMemory, Part};
 
 /// The same part, shared.
 pub(crate) fn share_part(part: &Part) -> Result<Part, NoMemory>
     ensures { IfOk result (λ r. part_view r ≡ part_view part.now) }
 {
     match part {
-        Part::Taken(token) => Ok(Part::Taken(share_token(token)?)),
+        Part::Taken(token) => Ok(Part::Taken(token.share()?)),
         Part::Inner(node) => match Rc::clone(node) {
             Ok(node) => Ok(Part::Inner(node)),
             Err(_) => Err(NoMemory),

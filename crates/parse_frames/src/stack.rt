@@ -1,16 +1,16 @@
 //! Stacks of frames.
 ghost use Rattle.std.specs.Prelude.{◌≡◌, length};
+ghost use Rattle.grammar_model.specs.Named.{slot_of};
 ghost use Rattle.parse_frames.specs.Frames as plain;
 ghost use Rattle.parse_frames.specs.Frames.{frames_running, running_heights};
 ghost use Rattle.parse_frames.specs.View.{frames_heights, frames_view, parts_heights, parts_view};
 
 use crate::nodes::{has_room, height_of_part, height_of_parts, node_over_parts};
-use crate::share::{
-    push_frame, push_part, share_below, share_frames, share_part, share_parts, share_token,
-};
-use crate::{Frames, Last, Opening, Parts};
+use crate::share::{push_frame, push_part, share_below, share_frames, share_part, share_parts};
+use crate::{Frames, Opening, Parts};
 use std::alloc::Global;
 use std::rc::Rc;
+use syntax_rows::Last;
 use syntax_tree::{NoMemory, Node, Part, RowName, Span, Token};
 
 /// The innermost frame, those that wait below it, and the end of the last token taken.
@@ -36,7 +36,8 @@ impl Stack {
     ghost use Rattle.syntax_tree.specs.Names.{row_of};
     ghost use Rattle.syntax_tree.specs.View.{node_view, tok_of};
     ghost use Rattle.parse_frames.specs.Frames.{started, with_token, with_missing, opened, opened_chain, begun, heights_in, newest_height, sizes_in};
-    ghost use Rattle.parse_frames.specs.View.{last_view, opening_view};
+    ghost use Rattle.syntax_rows.specs.View.{last_of};
+    ghost use Rattle.parse_frames.specs.View.{opening_view};
     ghost use Rattle.parse_frames.specs.Stacks.{stack_view};
 
     /// The stack of a text without tokens: one frame, of the row of a whole text.
@@ -70,7 +71,7 @@ impl Stack {
 
     /// What the innermost frame's newest part is as an operand.
     pub fn last(&self) -> Last
-        ensures { last_view result ≡ (stack_view self.now).last }
+        ensures { last_of result ≡ (stack_view self.now).last }
     {
         self.last
     }
@@ -101,7 +102,7 @@ impl Stack {
     pub fn take_token(&self, alloc: Global, spot: u8, token: &Token) -> Result<Stack, NoMemory>
         ensures { IfOk result (λ r. stack_view r ≡ with_token spot (tok_of token.now) (stack_view self.now)) }
     {
-        let taken = Part::Taken(share_token(token)?);
+        let taken = Part::Taken(token.share()?);
         Ok(Stack {
             number: self.number,
             spot,
@@ -128,7 +129,7 @@ impl Stack {
     }
 
     fn miss(&self, alloc: Global, spot: u8, last: Last) -> Result<Stack, NoMemory>
-        ensures { IfOk result (λ r. stack_view r ≡ with_missing spot (last_view last) (stack_view self.now)) }
+        ensures { IfOk result (λ r. stack_view r ≡ with_missing spot (last_of last) (stack_view self.now)) }
     {
         let missing = Part::Missing(Span {
             start: self.place,
@@ -231,16 +232,16 @@ impl Stack {
         }
     }
 
-    /// Whether a node over the innermost frame's parts can tell its size and its height.
-    pub fn has_room(&self) -> bool
-        ensures { result ≡ (nat_lt (sizes_in (stack_view self.now).top.done) (2 ^ 32 - 1) && nat_lt (heights_in (stack_view self.now).top.done) (2 ^ 16 - 1)) }
+    /// Whether a node of a row of this name over the innermost frame's parts can tell its size and its height.
+    pub fn has_room(&self, name: RowName) -> bool
+        ensures { result ≡ (nat_lt (sizes_in (row_of name) (stack_view self.now).top.done) (2 ^ 32 - 1) && nat_lt (heights_in (stack_view self.now).top.done) (2 ^ 16 - 1)) }
     {
-        has_room(&self.parts)
+        has_room(name, &self.parts)
     }
 
     /// The node of the innermost frame, whose row has this name.
     pub fn node(&self, alloc: Global, name: RowName) -> Result<Rc<Node>, NoMemory>
-        requires size { sizes_in (stack_view self.now).top.done < 2 ^ 32 - 1 }
+        requires size { sizes_in (row_of name) (stack_view self.now).top.done < 2 ^ 32 - 1 }
         requires height { heights_in (stack_view self.now).top.done < 2 ^ 16 - 1 }
         ensures { IfOk result (λ r. node_view r.value ≡ plain.node_of (row_of name) (stack_view self.now).top) }
     {
@@ -250,7 +251,7 @@ impl Stack {
     /// The innermost frame, whose row has this name, is closed: its node is the operand for which
     /// the frame below waits. None exactly where there is no frame below.
     pub fn close(&self, alloc: Global, name: RowName) -> Result<Option<Stack>, NoMemory>
-        requires size { sizes_in (stack_view self.now).top.done < 2 ^ 32 - 1 }
+        requires size { sizes_in (row_of name) (stack_view self.now).top.done < 2 ^ 32 - 1 }
         requires height { heights_in (stack_view self.now).top.done < 2 ^ 16 - 1 }
         ensures { IfOk result (λ r. option_map stack_view r ≡ plain.closed (row_of name) (stack_view self.now)) }
     {
@@ -299,7 +300,7 @@ impl Stack {
 
 /// The slot of a spot: one less; the left operand, at spot 0, has slot 0.
 fn slot_of(spot: u8) -> u8
-    ensures { result ≡ plain.slot_of spot }
+    ensures { result ≡ slot_of spot }
 {
     spot.saturating_sub(1)
 }

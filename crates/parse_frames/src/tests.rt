@@ -21,7 +21,7 @@ fn token(alloc: Global, kind: TokenKind, start: u32) -> Result<Token, NoMemory> 
 }
 
 fn closed(alloc: Global, stack: &Stack, name: RowName) -> Result<Stack, NoMemory> {
-    if !stack.has_room() {
+    if !stack.has_room(name) {
         return Err(NoMemory);
     }
     match stack.close(alloc, name)? {
@@ -71,7 +71,7 @@ fn frames_are_shared(rt: HostRuntime) -> Result<(), Fail> {
     let whole = closed(alloc, &with_constant(alloc, &sign, 3, 4)?, RowName::Infix)?;
     let short = closed(alloc, &sign.miss_operand(alloc, 3)?, RowName::Infix)?;
     for (stack, end) in [(&whole, 5), (&short, 3)] {
-        assert!(rt; stack.has_room());
+        assert!(rt; stack.has_room(RowName::Program));
         let program = stack.node(alloc, RowName::Program)?;
         assert_eq!(rt;
             (program.span, program.size, program.height),

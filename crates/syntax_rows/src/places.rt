@@ -16,7 +16,7 @@ use syntax_tree::RowName;
 /// What the newest part of a row in progress is.
 #[derive(Clone, Copy, Debug, PartialEq, Eq)]
 pub enum Last {
-    /// a token, or nothing
+    /// no operand: a token, taken or missing, or no part at all
     Plain,
     /// an operand that is missing
     Hole,

@@ -1,11 +1,13 @@
 //! All nodes at an offset.
-ghost use Rattle.std.specs.Prelude.{◌≡◌, ◌≤◌, ◌<◌, ◌+◌, ◌-◌, ◌^◌, ◌++◌, length, map, reverse, IfOk, OnOk};
+ghost use Rattle.std.specs.Prelude.{◌≡◌, ◌≤◌, ◌<◌, ◌+◌, ◌-◌, ◌^◌, ◌++◌, ◌&&◌, length, map, reverse, IfOk, OnOk};
 ghost use Rattle.tree_model.specs.Nodes.{holders, id, nodes_at, only_if, holds, part_holders};
 ghost use Rattle.tree_model.specs.Trees.{part_size, size_of, AreItemsSized, IsPartSized, IsSized};
+ghost use Rattle.tree_model.specs.Slots.{is_operand};
+ghost use Rattle.syntax_tree.specs.Names.{row_of};
 ghost use Rattle.syntax_tree.specs.View.{id_of, node_view, part_view, place_of, trees_of};
 
 use crate::at::{holds_offset, part_size_of};
-use crate::{NoMemory, Node, NodeId, Part, Span, Tree};
+use crate::{NoMemory, Node, NodeId, Part, RowName, Span, Tree, is_operand};
 use std::alloc::Global;
 
 fn keep_holder(span: Span, offset: u32, at: NodeId, out: &mut Vec<NodeId>) -> Result<(), NoMemory>
@@ -21,17 +23,43 @@ fn keep_holder(span: Span, offset: u32, at: NodeId, out: &mut Vec<NodeId>) -> Re
     }
 }
 
-#[cycle(around)]
-fn collect_part(part: &Part, offset: u32, at: NodeId, out: &mut Vec<NodeId>) -> Result<(), NoMemory>
-    requires sized { IsPartSized (part_view part.now) }
-    requires room { at.pre + part_size (part_view part.now) < 2 ^ 32 }
+fn keep_missing(
+    row: RowName,
+    slot: u8,
+    span: Span,
+    offset: u32,
+    at: NodeId,
+    out: &mut Vec<NodeId>,
+) -> Result<(), NoMemory>
     ensures { OnOk result (map id_of out.new.items
-        ≡ map id_of out.old.items ++ map (id at.item) (part_holders offset at.pre (part_view part.now))) }
+        ≡ map id_of out.old.items
+        ++ map (id at.item) (only_if (is_operand (row_of row) slot && holds offset (place_of span)) at.pre)) }
+{
+    if !is_operand(row, slot) {
+        return Ok(());
+    }
+    keep_holder(span, offset, at, out)
+}
+
+#[cycle(around)]
+fn collect_part(
+    row: RowName,
+    slot: u8,
+    part: &Part,
+    offset: u32,
+    at: NodeId,
+    out: &mut Vec<NodeId>,
+) -> Result<(), NoMemory>
+    requires sized { IsPartSized (part_view part.now) }
+    requires room { at.pre + part_size (row_of row) slot (part_view part.now) < 2 ^ 32 }
+    ensures { OnOk result (map id_of out.new.items
+        ≡ map id_of out.old.items
+        ++ map (id at.item) (part_holders offset at.pre (row_of row) slot (part_view part.now))) }
 {
     match part {
         Part::Taken(_) => Ok(()),
         Part::Inner(node) => collect_node(node, offset, at, out),
-        Part::Missing(span) => keep_holder(*span, offset, at, out),
+        Part::Missing(span) => keep_missing(row, slot, *span, offset, at, out),
     }
 }
 
@@ -46,8 +74,8 @@ fn collect_node(node: &Node, offset: u32, at: NodeId, out: &mut Vec<NodeId>) -> 
     let mut pre = at.pre + 1;
     for child in &node.children {
         let next = NodeId { item: at.item, pre };
-        collect_part(&child.part, offset, next, out)?;
-        pre += part_size_of(&child.part);
+        collect_part(node.row, child.slot, &child.part, offset, next, out)?;
+        pre += part_size_of(node.row, child.slot, &child.part);
     }
     Ok(())
 }

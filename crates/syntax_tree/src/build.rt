@@ -5,6 +5,7 @@ ghost use Rattle.tree_model.specs.Extents.{forest_span, node_over, joined, part_
 ghost use Rattle.syntax_tree.specs.Names.{row_of};
 ghost use Rattle.syntax_tree.specs.View.{child_view, forest_of, node_view, part_view, place_of, tok_of};
 
+use crate::slots::missing_size;
 use crate::{Child, NoMemory, Node, Part, RowName, Span, Token};
 use std::alloc::Global;
 use std::rc::Rc;
@@ -28,7 +29,7 @@ pub fn leaf(alloc: Global, row: RowName, slot: u8, token: Token) -> Result<Rc<No
 /// A node over parts, with the size and the height that follow from those that the parts tell.
 /// Its span goes from its first to its last token; without tokens it is the place of the first part.
 pub fn node_of(alloc: Global, row: RowName, children: Vec<Child>) -> Result<Rc<Node>, NoMemory>
-    requires size { told_sizes (forest_of (map child_view children.items)) < 2 ^ 32 - 1 }
+    requires size { told_sizes (row_of row) (forest_of (map child_view children.items)) < 2 ^ 32 - 1 }
     requires height { told_heights (forest_of (map child_view children.items)) < 2 ^ 16 - 1 }
     ensures { IfOk result (λ r. node_view r.value
         ≡ node_over (row_of row) (forest_of (map child_view children.items))) }
@@ -37,7 +38,7 @@ pub fn node_of(alloc: Global, row: RowName, children: Vec<Child>) -> Result<Rc<N
         row,
         span: span_over(&children),
         height: height_over(&children) + 1,
-        size: size_over(&children) + 1,
+        size: size_over(row, &children) + 1,
         children,
     };
     match Rc::new(alloc, node) {
@@ -103,25 +104,27 @@ fn part_place(part: &Part) -> Span
     }
 }
 
-/// The sum of the sizes that the parts tell.
-fn size_over(children: &[Child]) -> u32
-    requires { told_sizes (forest_of (map child_view children.now)) < 2 ^ 32 - 1 }
-    ensures { result ≡ told_sizes (forest_of (map child_view children.now)) }
+/// The sum of the sizes that the parts of a row tell.
+fn size_over(row: RowName, children: &[Child]) -> u32
+    requires { told_sizes (row_of row) (forest_of (map child_view children.now)) < 2 ^ 32 - 1 }
+    ensures { result ≡ told_sizes (row_of row) (forest_of (map child_view children.now)) }
 {
     let mut size = 0;
     for child in children {
-        size += part_size(&child.part);
+        size += told_size(row, child.slot, &child.part);
     }
     size
 }
 
-fn part_size(part: &Part) -> u32
-    ensures { result ≡ told_size (part_view part.now) }
+/// The size that a part in a slot of a row tells: the number of nodes and missing operands in it.
+/// A token has none, taken or missing.
+pub fn told_size(row: RowName, slot: u8, part: &Part) -> u32
+    ensures { result ≡ told_size (row_of row) slot (part_view part.now) }
 {
     match part {
         Part::Taken(_) => 0,
         Part::Inner(node) => node.size,
-        Part::Missing(_) => 1,
+        Part::Missing(_) => missing_size(row, slot),
     }
 }
 

@@ -10,14 +10,16 @@ mod build;
 mod counts;
 mod kinds;
 mod rows;
+mod slots;
 mod tree;
 
 pub use around::enclosing;
 pub use at::node_at;
-pub use build::{leaf, node_of};
+pub use build::{leaf, node_of, told_size};
 pub use counts::Counts;
 pub use kinds::TokenKind;
 pub use rows::RowName;
+pub use slots::is_operand;
 pub use text_terms::{NoMemory, Pos, RcStr, Span};
 pub use tree::{Child, Node, NodeId, Part, Token, Tree};
 
@@ -97,6 +99,34 @@ mod tests {
         assert_eq!(rt;
             enclosing(alloc, &tree, 2)?.as_slice(),
             [at(2), at(0)].as_slice()
+        );
+        Ok(())
+    }
+
+    /// `(` and a missing operand, without its `)`: the operand is the node 1, and the missing token has no number.
+    #[test]
+    fn a_missing_token_has_no_number(rt: HostRuntime) -> Result<(), Fail> {
+        let alloc = rt.alloc();
+        let missing = |slot: u8| Child {
+            slot,
+            part: Part::Missing(Span { start: 1, end: 1 }),
+        };
+        let open = Child {
+            slot: 0,
+            part: Part::Taken(token(alloc, TokenKind::LeftParen, 0, 1)?),
+        };
+        let children = vec![in alloc; open, missing(1), missing(4)]?;
+        let item = node_of(alloc, RowName::Eparen, children)?;
+        assert_eq!(rt; (item.size, item.height), (2, 1));
+        assert!(rt; is_operand(item.row, 1) && !is_operand(item.row, 4));
+        let tree = Tree {
+            items: vec![in alloc; item]?,
+        };
+        let operand = NodeId { item: 1, pre: 1 };
+        assert_eq!(rt; node_at(&tree, 1), Some(operand));
+        assert_eq!(rt;
+            enclosing(alloc, &tree, 1)?.as_slice(),
+            [operand].as_slice()
         );
         Ok(())
     }

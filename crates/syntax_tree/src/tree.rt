@@ -1,6 +1,8 @@
 //! Tokens, and the trees that are made of them.
+ghost use Rattle.std.specs.Prelude.{◌≡◌, IfOk};
+ghost use Rattle.syntax_tree.specs.View.{tok_of};
 
-use crate::{RcStr, RowName, Span, TokenKind};
+use crate::{NoMemory, RcStr, RowName, Span, TokenKind};
 use std::rc::Rc;
 
 /// A token at its place.
@@ -12,6 +14,21 @@ pub struct Token {
     pub reach: u32,
     /// Its spelling; of a Qualifier without the point, of an OpName the operator alone.
     pub name: RcStr,
+}
+
+impl Token {
+    /// The same token, with one more owner of its name.
+    pub fn share(&self) -> Result<Token, NoMemory>
+        ensures token { IfOk result (λ t. tok_of t ≡ tok_of self.now) }
+        ensures reach { IfOk result (λ t. t.reach ≡ self.now.reach) }
+    {
+        Ok(Token {
+            kind: self.kind,
+            span: self.span,
+            reach: self.reach,
+            name: self.name.share()?,
+        })
+    }
 }
 
 /// A part of a row.

@@ -1,6 +1,8 @@
 -- The last of lists that are joined, and of a list mapped.
-use Rattle.std.proofs.Common.{◌≡◌, List, [], ◌∷◌, ◌++◌, ◌+◌, refl, map, Option, Some, None, option_map, ℕ, Bool, true, false, if◌then◌else◌, arith}
+use Rattle.std.proofs.Common.{◌≡◌, List, [], ◌∷◌, ◌++◌, ◌+◌, refl, map, Option, Some, None, option_map, ℕ, Bool, true, false, ◌&&◌, if◌then◌else◌, arith}
 use Rattle.std.specs.Option.{option_or}
+use Rattle.tree_model.specs.Rows.{Row}
+use Rattle.tree_model.specs.Slots.{is_operand}
 use Rattle.tree_model.specs.Nodes.{holds, holders, forest_holders, part_holders, items_holders, id, last_of, only_if}
 use Rattle.tree_model.specs.Trees.{Tree, Forest, Part, node, no_parts, part, taken, inner, missing, part_size}
 use Rattle.tree_model.specs.Lasts.{last_holder, last_in, last_in_part, last_id}
@@ -36,16 +38,16 @@ last_of_map f (x ∷ y ∷ ys) = last_of_map f (y ∷ ys)
 -- The last of the holders is what a descent finds.
 mutual
   pub last_holder_lem : (o n : ℕ) (t : Tree) → last_holder o n t ≡ last_of (holders o n t)
-  last_holder_lem o n (node r x ps) = rw (last_of_append (only_if (holds o x.span) n) (forest_holders o (n + 1) ps), last_of_only_if (holds o x.span) n, ← last_in_lem o (n + 1) ps) refl
+  last_holder_lem o n (node r x ps) = rw (last_of_append (only_if (holds o x.span) n) (forest_holders o (n + 1) r ps), last_of_only_if (holds o x.span) n, ← last_in_lem o (n + 1) r ps) refl
 
-  pub last_in_lem : (o n : ℕ) (ps : Forest) → last_in o n ps ≡ last_of (forest_holders o n ps)
-  last_in_lem o n no_parts = refl
-  last_in_lem o n (part slot p ps) = rw (last_of_append (part_holders o n p) (forest_holders o (n + part_size p) ps), ← last_in_lem o (n + part_size p) ps, ← last_in_part_lem o n p) refl
+  pub last_in_lem : (o n : ℕ) (r : Row) (ps : Forest) → last_in o n r ps ≡ last_of (forest_holders o n r ps)
+  last_in_lem o n r no_parts = refl
+  last_in_lem o n r (part slot p ps) = rw (last_of_append (part_holders o n r slot p) (forest_holders o (n + part_size r slot p) r ps), ← last_in_lem o (n + part_size r slot p) r ps, ← last_in_part_lem o n r slot p) refl
 
-  pub last_in_part_lem : (o n : ℕ) (p : Part) → last_in_part o n p ≡ last_of (part_holders o n p)
-  last_in_part_lem o n (taken t) = refl
-  last_in_part_lem o n (inner t) = last_holder_lem o n t
-  last_in_part_lem o n (missing p) = rw (last_of_only_if (holds o p) n) refl
+  pub last_in_part_lem : (o n : ℕ) (r : Row) (slot : ℕ) (p : Part) → last_in_part o n r slot p ≡ last_of (part_holders o n r slot p)
+  last_in_part_lem o n r slot (taken t) = refl
+  last_in_part_lem o n r slot (inner t) = last_holder_lem o n t
+  last_in_part_lem o n r slot (missing p) = rw (last_of_only_if (is_operand r slot && holds o p) n) refl
 
 -- The same of the items of a text.
 pub last_id_lem : (o i : ℕ) (ts : List Tree) → last_id o i ts ≡ last_of (items_holders o i ts)

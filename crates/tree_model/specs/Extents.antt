@@ -1,6 +1,7 @@
 -- What a node over parts tells of itself: the span from its first to its last token, its size and its height.
 use Rattle.std.specs.Prelude.{ℕ, ◌+◌, max, Option, Some, None}
 use Rattle.tree_model.specs.Rows.{Row}
+use Rattle.tree_model.specs.Slots.{missing_size}
 use Rattle.tree_model.specs.Trees.{Place, place, Extent, extent, Tree, Forest, Part, node, no_parts, part, taken, inner, missing}
 
 -- what a node tells of itself
@@ -36,16 +37,16 @@ span_or_place (Some p) ps = p
 span_or_place None no_parts = place 0 0
 span_or_place None (part slot p ps) = place_at p
 
--- the size that a part tells: a missing part counts as a node, and a token doesn't
-abbrev pub told_size : Part → ℕ
-told_size (taken t) = 0
-told_size (inner t) = (extent_of t).size
-told_size (missing p) = 1
+-- the size that a part tells in its slot of a row: a missing operand counts as a node, and a token doesn't, taken or missing
+abbrev pub told_size : Row → ℕ → Part → ℕ
+told_size r slot (taken t) = 0
+told_size r slot (inner t) = (extent_of t).size
+told_size r slot (missing p) = missing_size r slot
 
--- the sum of the sizes that parts tell
-abbrev pub told_sizes : Forest → ℕ
-told_sizes no_parts = 0
-told_sizes (part slot p ps) = told_size p + told_sizes ps
+-- the sum of the sizes that a row's parts tell
+abbrev pub told_sizes : Row → Forest → ℕ
+told_sizes r no_parts = 0
+told_sizes r (part slot p ps) = told_size r slot p + told_sizes r ps
 
 -- the height that a part tells: tokens and missing parts have none
 abbrev pub told_height : Part → ℕ
@@ -60,4 +61,4 @@ told_heights (part slot p ps) = max (told_height p) (told_heights ps)
 
 -- the node of a row over these parts
 abbrev pub node_over : Row → Forest → Tree
-node_over r ps = node r (extent (span_or_place (forest_span ps) ps) (told_sizes ps + 1) (told_heights ps + 1)) ps
+node_over r ps = node r (extent (span_or_place (forest_span ps) ps) (told_sizes r ps + 1) (told_heights ps + 1)) ps

@@ -1,4 +1,5 @@
 pub mod Rows
+pub mod Slots
 pub mod Trees
 pub mod Nodes
 pub mod Extents

@@ -1,5 +1,7 @@
 -- The nodes at an offset. Nodes and missing operands are numbered in preorder, from 0 within each item of a text; items are numbered from 1.
 use Rattle.std.specs.Prelude.{ℕ, ◌+◌, List, [], ◌∷◌, ◌++◌, map, Bool, ◌||◌, ◌&&◌, ◌==◌, nat_le, nat_lt, Option, Some, None, if◌then◌else◌}
+use Rattle.tree_model.specs.Rows.{Row}
+use Rattle.tree_model.specs.Slots.{is_operand}
 use Rattle.tree_model.specs.Trees.{Place, Tree, Forest, Part, node, no_parts, part, taken, inner, missing, part_size}
 
 -- A place holds an offset where it starts at or before it and ends behind it, or is empty there.
@@ -12,16 +14,16 @@ only_if b n = if b then n ∷ [] else []
 -- the numbers of the nodes and missing operands that hold an offset, in preorder, where the first has the number n
 abbrev mutual
   pub holders : ℕ → ℕ → Tree → List ℕ
-  holders o n (node r x ps) = only_if (holds o x.span) n ++ forest_holders o (n + 1) ps
+  holders o n (node r x ps) = only_if (holds o x.span) n ++ forest_holders o (n + 1) r ps
 
-  pub forest_holders : ℕ → ℕ → Forest → List ℕ
-  forest_holders o n no_parts = []
-  forest_holders o n (part slot p ps) = part_holders o n p ++ forest_holders o (n + part_size p) ps
+  pub forest_holders : ℕ → ℕ → Row → Forest → List ℕ
+  forest_holders o n r no_parts = []
+  forest_holders o n r (part slot p ps) = part_holders o n r slot p ++ forest_holders o (n + part_size r slot p) r ps
 
-  pub part_holders : ℕ → ℕ → Part → List ℕ
-  part_holders o n (taken t) = []
-  part_holders o n (inner t) = holders o n t
-  part_holders o n (missing p) = only_if (holds o p) n
+  pub part_holders : ℕ → ℕ → Row → ℕ → Part → List ℕ
+  part_holders o n r slot (taken t) = []
+  part_holders o n r slot (inner t) = holders o n t
+  part_holders o n r slot (missing p) = only_if (is_operand r slot && holds o p) n
 
 -- a node of a text: its item, and its number in it
 pub record Id : Type 0 where

@@ -2,6 +2,7 @@
 use Rattle.std.specs.Prelude.{◌≡◌, ℕ, ◌+◌, ◌<◌, ◌^◌, List, [], ◌∷◌, ◌++◌}
 use Rattle.token_model.specs.Kinds.{Tok}
 use Rattle.tree_model.specs.Rows.{Row}
+use Rattle.tree_model.specs.Slots.{missing_size}
 
 -- from the first byte to the byte behind the last
 pub record Place : Type 0 where
@@ -49,24 +50,24 @@ abbrev mutual
   part_yield (inner t) = yield_of t
   part_yield (missing p) = []
 
--- how many nodes and missing operands, itself included
+-- how many nodes and missing operands, itself included; a missing token doesn't count
 abbrev mutual
   pub size_of : Tree → ℕ
-  size_of (node r x ps) = forest_size ps + 1
+  size_of (node r x ps) = forest_size r ps + 1
 
-  pub forest_size : Forest → ℕ
-  forest_size no_parts = 0
-  forest_size (part slot p ps) = part_size p + forest_size ps
+  pub forest_size : Row → Forest → ℕ
+  forest_size r no_parts = 0
+  forest_size r (part slot p ps) = part_size r slot p + forest_size r ps
 
-  pub part_size : Part → ℕ
-  part_size (taken t) = 0
-  part_size (inner t) = size_of t
-  part_size (missing p) = 1
+  pub part_size : Row → ℕ → Part → ℕ
+  part_size r slot (taken t) = 0
+  part_size r slot (inner t) = size_of t
+  part_size r slot (missing p) = missing_size r slot
 
 -- each node tells its true size
 abbrev mutual
   pub IsSized : Tree → Type 0
-  IsSized (node r x ps) = (x.size ≡ forest_size ps + 1) × AreSized ps
+  IsSized (node r x ps) = (x.size ≡ forest_size r ps + 1) × AreSized ps
 
   pub AreSized : Forest → Type 0
   AreSized no_parts = Unit {0}
