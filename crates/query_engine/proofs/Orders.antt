@@ -5,8 +5,8 @@ use Rattle.std.specs.List.{insert}
 use Rattle.query_model.specs.Faults.{Fault, front, is_before, place_before, parser, Source, placed, placed_among, ordered, page_limit, InOrder}
 use Rattle.query_model.proofs.Pages.{placed_in_order, taken_in_order, placed_among_taken, placed_behind, placed_at_front, front_within}
 use Rattle.query_engine.specs.Faults.{fault_of}
-use Rattle.query_engine.specs.declared.syntax_fault.SyntaxFault.{SyntaxFault}
-use Rattle.query_engine.specs.declared.syntax_fault.SyntaxFault.TheVariants.{Added, Skipped, TooDeep}
+use Rattle.frame_parser.specs.declared.stack.SyntaxFault.{SyntaxFault}
+use Rattle.frame_parser.specs.declared.stack.SyntaxFault.TheVariants.{Added, Skipped, TooDeep}
 
 by_parser : (f : SyntaxFault) → (fault_of f).source ≡ parser
 by_parser (Added p n) = refl

@@ -5,15 +5,20 @@ use Rattle.tree_model.specs.Trees.{Place}
 use Rattle.syntax_tree.specs.View.{place_of}
 use Rattle.query_model.specs.Faults as model
 use Rattle.query_model.specs.Faults.{Fault, parts_missing, token_skipped, token_too_deep}
-use Rattle.query_engine.specs.declared.syntax_fault.SyntaxFault.{SyntaxFault}
-use Rattle.query_engine.specs.declared.syntax_fault.SyntaxFault.TheVariants.{Added, Skipped, TooDeep}
+use Rattle.frame_parser.specs.Run.{Told, added, skipped, too_deep}
+use Rattle.frame_parser.specs.View as parser
+use Rattle.frame_parser.specs.declared.stack.SyntaxFault.{SyntaxFault}
 use Rattle.query_engine.specs.declared.faults.Listed.{Listed}
 
--- a fault of the parser as it is told
+-- what the parser tells, as it is listed
+abbrev pub told_as : Told → Fault
+told_as (added p n) = parts_missing p n
+told_as (skipped p) = token_skipped p
+told_as (too_deep p) = token_too_deep p
+
+-- a fault of the parser as it is listed
 abbrev pub fault_of : SyntaxFault → Fault
-fault_of (Added p n) = parts_missing p n
-fault_of (Skipped s) = token_skipped (place_of s)
-fault_of (TooDeep s) = token_too_deep (place_of s)
+fault_of f = told_as (parser.fault_of f)
 
 -- a listed fault
 abbrev pub listed_of : Listed → model.Listed

@@ -6,7 +6,7 @@ ghost use Rattle.syntax_tree.specs.View.{place_of};
 ghost use Rattle.query_engine.specs.Faults.{fault_of, listed_of, told_by_parser};
 
 use crate::order::{PAGE_LIMIT, first_faults, span_of};
-use crate::syntax_fault::SyntaxFault;
+use frame_parser::SyntaxFault;
 use std::alloc::Global;
 use syntax_tree::{NoMemory, RcStr, Span};
 

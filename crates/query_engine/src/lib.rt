@@ -8,9 +8,8 @@ mod names;
 mod order;
 mod outlines;
 mod slots;
-mod syntax_fault;
 
 pub use faults::{FaultPage, Listed, errors};
+pub use frame_parser::SyntaxFault;
 pub use outlines::{Outlined, outline};
 pub use slots::OutlineKind;
-pub use syntax_fault::SyntaxFault;

@@ -4,7 +4,7 @@ ghost use Rattle.query_model.specs.Faults.{front, is_before, ordered, page_limit
 ghost use Rattle.syntax_tree.specs.View.{place_of};
 ghost use Rattle.query_engine.specs.Faults.{fault_of};
 
-use crate::syntax_fault::SyntaxFault;
+use frame_parser::SyntaxFault;
 use std::alloc::Global;
 use syntax_tree::{NoMemory, Span};
 

@@ -1,7 +1,7 @@
 use Rattle.std.proofs.Common.{◌∙◌, ap, map, List}
 use Rattle.query_model.specs.Faults.{front}
 use Rattle.query_engine.specs.Faults.{fault_of}
-use Rattle.query_engine.specs.declared.syntax_fault.SyntaxFault.{SyntaxFault}
+use Rattle.frame_parser.specs.declared.stack.SyntaxFault.{SyntaxFault}
 use Rattle.query_engine.proofs.Orders.{kept}
 use Rattle.query_engine.proofs.order.keep.Goals as goal
 
