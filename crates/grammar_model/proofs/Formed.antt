@@ -232,7 +232,8 @@ top_out G L P t place (F ∷ S) f h n U top i =
     (top_out G L P t place S (put (filled most_parts G f place).0 F) (h + (filled most_parts G f place).1) n U
     (filled_put G (filled most_parts G f place).0 F S (top_filled G P most_parts f.number f.at f.done (F ∷ S) place (P.soon f.number f.at) top)))
 
-top_step : (G : Table) → Found G → Passes G → (S : Stack) (place : ℕ) (t : Tok) → TopOf G S → TopOf G (step G S place t).stack
+-- a step keeps the frames well formed
+pub top_step : (G : Table) → Found G → Passes G → (S : Stack) (place : ℕ) (t : Tok) → TopOf G S → TopOf G (step G S place t).stack
 top_step G L P S place t top = subst (λ r. TopOf G r.stack) (sym (step_is G S place t)) (by (fits G S t) refl)
   where
     fitted : (S U : Stack) → TopOf G S → fits G S t ≡ fit U → TopOf G U
@@ -272,10 +273,9 @@ run_formed G L P [] [] place top = absurd top
 run_formed G L P [] (f ∷ S) place top = closed_formed G P place S f top
 run_formed G L P (t ∷ ts) S place top = run_formed G L P ts (step G S place t).stack (step G S place t).place (top_step G L P S place t top)
 
--- every recovered tree is well formed but for its missing parts, and at most 512 high
-pub formed : (G : Table) → Found G → Passes G → (ts : List Tok) → IsRecovered G (recover G ts).0
-unfolding recover
-formed G L P ts = run_formed G L P ts (frame G.root 0 [] ∷ []) 0 (record { shaped = start; newest = tt; low = tt; few = omega arith; below = refl })
+-- the frames of a text without tokens are well formed
+pub top_begun : (G : Table) → Found G → TopOf G (frame G.root 0 [] ∷ [])
+top_begun G L = record { shaped = start; newest = tt; low = tt; few = omega arith; below = refl }
   where
     start : Shaped G G.root 0 []
     start no_parts fol = (L.root_left, fol)
@@ -283,3 +283,8 @@ formed G L P ts = run_formed G L P ts (frame G.root 0 [] ∷ []) 0 (record { sha
       where
         plain_start : (w : What) → w ≡ nothing → MayCome (G.next G.root 0) (last_done w []) p → MayCome (G.next G.root 0) plain p
         plain_start w e m = m
+
+-- every recovered tree is well formed but for its missing parts, and at most 512 high
+pub formed : (G : Table) → Found G → Passes G → (ts : List Tok) → IsRecovered G (recover G ts).0
+unfolding recover
+formed G L P ts = run_formed G L P ts (frame G.root 0 [] ∷ []) 0 (top_begun G L)

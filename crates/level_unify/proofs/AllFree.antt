@@ -1,7 +1,7 @@
 -- Stores without a bound variable.
 use Rattle.std.proofs.Common.{◌≡◌, ◌≢◌, ℕ, zero, suc, ◌+◌, true, List, [], ◌∷◌, length, refl, sym, ◌∙◌, ap, subst, arith, inl, inr}
 use Rattle.std.specs.Prelude.{All}
-use Rattle.type_nodes.specs.Nodes.{Node, Var, Arrow, Tuple, Con, bound_level}
+use Rattle.type_nodes.specs.Nodes.{Node, Var, Rigid, Arrow, Tuple, Con, bound_level}
 use Rattle.type_nodes.specs.States.{State, state}
 use Rattle.type_nodes.specs.Changes.{Makes}
 use Rattle.type_nodes.proofs.Lists.{get-append_cases, length-snoc}
@@ -33,6 +33,9 @@ longer old new n c made = let e = ap length made.added.nodes ∙ length-snoc old
 
 pub free_var : (old new : State) (n level scope : ℕ) → AllFree old.nodes → Makes old new n (Var level scope) → level ≢ bound_level → AllFree new.nodes
 free_var old new n level scope free made open' = free_more old new n (Var level scope) free made (λ l o e. let f : level ≡ l = cc in λ b. open' (f ∙ b))
+
+pub free_rigid : (old new : State) (n : ℕ) → AllFree old.nodes → Makes old new n Rigid → AllFree new.nodes
+free_rigid old new n free made = free_more old new n Rigid free made (λ l o e. absurd (cc))
 
 pub free_arrow : (old new : State) (n a b : ℕ) → AllFree old.nodes → Makes old new n (Arrow a b) → AllFree new.nodes
 free_arrow old new n a b free made = free_more old new n (Arrow a b) free made (λ l o e. absurd (cc))

@@ -15,4 +15,11 @@ mod Unified
 mod Inside
 mod Clashing
 mod Binding
-mod AllFree
+pub mod AllFree
+mod Images
+mod Sources
+mod Variants
+mod Instances
+mod Instancing
+mod Freezing
+pub mod Unbound

@@ -1,5 +1,5 @@
 -- Lists of nodes and of their numbers.
-use Rattle.std.proofs.Common.{◌≡◌, ◌≢◌, ℕ, zero, suc, ◌<◌, ◌+◌, subst, inl, inr, List, [], ◌∷◌, length, get_or, Some, refl, ap, arith}
+use Rattle.std.proofs.Common.{◌≡◌, ◌≢◌, ℕ, zero, suc, ◌<◌, ◌+◌, ◌-◌, ◌≤◌, subst, inl, inr, List, [], ◌∷◌, length, get_or, Some, refl, ap, arith}
 use Rattle.std.specs.Prelude.{slice_get, All}
 use Rattle.type_terms.specs.declared.types.NodeRef.{NodeRef}
 use Rattle.type_nodes.proofs.Lists.{same_or_other, one_element}
@@ -32,6 +32,19 @@ listed_other ns at n wanted e other before k lt = elim (same_or_other k at) [
   | inl same ↦ λ f. other (one_element n wanted (slice_get ns at) e (subst (λ j. slice_get ns j ≡ Some wanted) same f))
   | inr away ↦ before k (omega arith)
 ]
+
+-- one number more is below n
+pub below_more : (ns : List ℕ) (at m n : ℕ) → slice_get ns at ≡ Some m → m < n → ((k i : ℕ) → k < at → slice_get ns k ≡ Some i → i < n) → (k i : ℕ) → k < at + 1 → slice_get ns k ≡ Some i → i < n
+below_more ns at m n e lt before k i low f = elim (same_or_other k at) [
+  | inl same ↦ subst (λ j. j < n) (one_element m i (slice_get ns at) e (subst (λ j. slice_get ns j ≡ Some i) same f)) lt
+  | inr away ↦ before k i (omega arith) f
+]
+
+-- all numbers are below n
+pub all_below : (ns : List ℕ) (at n : ℕ) → length ns ≤ at → ((k i : ℕ) → k < at → slice_get ns k ≡ Some i → i < n) → All (λ i. i < n) ns
+all_below [] at n over h k d lt = absurd (omega arith)
+all_below (m ∷ ns) at n over h zero d lt = h zero m (omega arith) refl
+all_below (m ∷ ns) at n over h (suc k) d lt = all_below ns (at - 1) n (omega arith) (λ j i l e. h (suc j) i (omega arith) e) k d (omega arith)
 
 -- the number of a node of the list
 pub number_get : (ns : List NodeRef) (k : ℕ) (d : NodeRef) → k < length ns → slice_get (numbers ns) k ≡ Some (get_or ns k d).0

@@ -52,7 +52,7 @@ loosely V n (Con p name ms) h = h
 pub fits_loosely : (nodes : List Node) (V : Types) → Fits nodes V → Loose nodes V
 fits_loosely nodes V fits = record { each = λ n c e. loosely V n c (fits.each n c e) }
 
-fits_under : (nodes : List Node) (V : Types) → Fits nodes V → FitsUnder (λ v. 0) nodes V
+pub fits_under : (nodes : List Node) (V : Types) → Fits nodes V → FitsUnder (λ v. 0) nodes V
 fits_under nodes V fits = record { loose = fits_loosely nodes V fits; under = λ n l o e free. scoped_under l o (V n) (fits.each n (Var l o) e free) }
 
 node_fits : (L : ℕ → ℕ) (nodes : List Node) (V : Types) (n : ℕ) (c : Node) → slice_get nodes n ≡ Some c → FitsUnder L nodes V → FitsNode V n c
@@ -63,7 +63,7 @@ node_fits L nodes V n (Arrow a b) e h = h.loose.each n (Arrow a b) e
 node_fits L nodes V n (Tuple ms) e h = h.loose.each n (Tuple ms) e
 node_fits L nodes V n (Con p name ms) e h = h.loose.each n (Con p name ms) e
 
-under_fits : (L : ℕ → ℕ) (nodes : List Node) (V : Types) → FitsUnder L nodes V → Fits nodes V
+pub under_fits : (L : ℕ → ℕ) (nodes : List Node) (V : Types) → FitsUnder L nodes V → Fits nodes V
 under_fits L nodes V h = record { each = λ n c e. node_fits L nodes V n c e h }
 
 -- the types that keep to the limits before, told by those between and the limits of the variables that were bound
@@ -86,20 +86,17 @@ before old mid a b caps s t L V fits keep =
       h.1,
     )
 
--- no bound variable is in the type of what a and b lead to, where none is in a free variable's type
-apart_within : (old mid : List Node) (a b : ℕ) (V : Types) → IsSound mid → HaveNoBound old a b → Solved old mid a b → Loose mid V → (v : ℕ) →
-    ((n level scope : ℕ) → slice_get mid n ≡ Some (Var level scope) → level ≢ bound_level → occurs v (V n) ≡ false) → (none : HaveNoBound old a b) → (n : ℕ) → n < length mid → none.set n ≡ true → occurs v (V n) ≡ false
-apart_within old mid a b V (rank, ranked) x s fits v apart none n lt has = go (suc (rank n)) n (omega arith) lt has
+-- where no bound variable stands in a and b, one that is in no free variable's type is in the type of nothing that stands in them
+pub apart_within : (nodes : List Node) (a b : ℕ) (V : Types) → IsSound nodes → (none : HaveNoBound nodes a b) → Loose nodes V → (v : ℕ) →
+    ((n level scope : ℕ) → slice_get nodes n ≡ Some (Var level scope) → level ≢ bound_level → occurs v (V n) ≡ false) → (n : ℕ) → n < length nodes → none.set n ≡ true → occurs v (V n) ≡ false
+apart_within nodes a b V (rank, ranked) none fits v apart n lt has = go (suc (rank n)) n (omega arith) lt has
   where
-    closed : IsClosed mid none.set
-    closed = s.stays.closed none.set none.closed none.left none.right
-
     any : (ms : List ℕ) → All (λ m. occurs v (V m) ≡ false) ms → occurs_any v (types_of (map V ms)) ≡ false
     any [] h = refl
     any (m ∷ ms) h = let p = h zero zero (omega arith) in let q = any ms (λ k d l. h (suc k) d (omega arith)) in (λ i. p i || q i)
 
-    cell : (m : ℕ) (c : Node) → slice_get mid m ≡ Some c → none.set m ≡ true → All (λ k. occurs v (V k) ≡ false) (parts c) → occurs v (V m) ≡ false
-    cell m (Var l o) e h ps = apart m l o e (none.free m l o h (s.stays.links m (Var l o) e tt))
+    cell : (m : ℕ) (c : Node) → slice_get nodes m ≡ Some c → none.set m ≡ true → All (λ k. occurs v (V k) ≡ false) (parts c) → occurs v (V m) ≡ false
+    cell m (Var l o) e h ps = apart m l o e (none.free m l o h e)
     cell m Rigid e h ps = ap (occurs v) (fits.each m Rigid e)
     cell m (Link k) e h ps = ap (occurs v) (fits.each m (Link k) e) ∙ ps zero zero (omega arith)
     cell m (Arrow c d) e h ps =
@@ -108,17 +105,29 @@ apart_within old mid a b V (rank, ranked) x s fits v apart none n lt has = go (s
     cell m (Tuple ms) e h ps = ap (occurs v) (fits.each m (Tuple ms) e) ∙ any ms ps
     cell m (Con p name ms) e h ps = ap (occurs v) (fits.each m (Con p name ms) e) ∙ any ms ps
 
-    go : (k m : ℕ) → rank m < k → m < length mid → none.set m ≡ true → occurs v (V m) ≡ false
+    go : (k m : ℕ) → rank m < k → m < length nodes → none.set m ≡ true → occurs v (V m) ≡ false
     go zero m low inside h = absurd (omega arith)
     go (suc k) m low inside h =
-        let (c, e) = cell_at mid m inside in
+        let (c, e) = cell_at nodes m inside in
         let down = ranked.each m c e in
-        let more = closed.each m c h e in
+        let more = none.closed.each m c h e in
         cell m c e h (λ j d l. go k (get_or (parts c) j d) (let y = (down j d l).1 in omega arith) (down j d l).0 (more j d l))
 
 -- a bound variable stays one
 bound_stays : (old mid : List Node) (a b : ℕ) (caps : List Cap) → Tracked old mid a b caps → (n scope : ℕ) → slice_get old n ≡ Some (Var bound_level scope) → slice_get mid n ≡ Some (Var bound_level scope)
 bound_stays old mid a b caps t n scope e = elim (t.gone n bound_level scope e) [ inl there ↦ there | inr listed ↦ absurd ((t.was (n, bound_level, scope) listed).1 refl) ]
+
+-- each variable that was bound leads to no bound variable
+caps_free : (old mid : List Node) (a b : ℕ) (caps : List Cap) → HaveNoBound old a b → Solved old mid a b → Tracked old mid a b caps → (x : Cap) → IsListed caps x → HaveNoBound mid x.0 x.0
+caps_free old mid a b caps none s t x listed =
+    let has = t.within none.set none.closed none.left none.right x listed in
+    record {
+      set = none.set;
+      closed = s.stays.closed none.set none.closed none.left none.right;
+      left = has;
+      right = has;
+      free = λ n level scope h at. none.free n level scope h (s.stays.links n (Var level scope) at tt);
+    }
 
 -- the readings whatever the scopes, before and between
 unscoped_back : (old mid : List Node) (a b : ℕ) (caps : List Cap) (V : Types) → IsSound mid → HaveNoBound old a b → Solved old mid a b → Tracked old mid a b caps → IsUnscopedReading mid V →
@@ -133,9 +142,9 @@ unscoped_back old mid a b caps V sound none s t r =
             elim (t.gone n level scope e) [
               | inl still ↦ r.apart n level scope v scope' still free there
               | inr listed ↦
-                  apart_within old mid a b V sound none s r.loose v (λ m l o at f. r.apart m l o v scope' at f there) none n
-                  (let l = within old n (Var level scope) e in let k = s.len in omega arith)
-                  (t.within none.set none.closed none.left none.right (n, level, scope) listed)
+                  let no = caps_free old mid a b caps none s t (n, level, scope) listed in
+                  apart_within mid n n V sound no r.loose v (λ m l o at f. r.apart m l o v scope' at f there) n
+                  (let l = within old n (Var level scope) e in let k = s.len in omega arith) no.left
             ];
       },
       h.1,
@@ -191,18 +200,6 @@ unscoped_mid mid new V same loose r = record {
       let (l, o, at, f) = free_after mid new same n level scope e free in
       r.apart n l o v scope' at f (bound_after mid new same v scope' e');
 }
-
--- each variable that was bound leads to no bound variable
-caps_free : (old mid : List Node) (a b : ℕ) (caps : List Cap) → HaveNoBound old a b → Solved old mid a b → Tracked old mid a b caps → (x : Cap) → IsListed caps x → HaveNoBound mid x.0 x.0
-caps_free old mid a b caps none s t x listed =
-    let has = t.within none.set none.closed none.left none.right x listed in
-    record {
-      set = none.set;
-      closed = s.stays.closed none.set none.closed none.left none.right;
-      left = has;
-      right = has;
-      free = λ n level scope h at. none.free n level scope h (s.stays.links n (Var level scope) at tt);
-    }
 
 -- only a variable itself stands in it
 stands_in_var : (nodes : List Node) (n m level scope : ℕ) → slice_get nodes m ≡ Some (Var level scope) → StandsIn nodes n m → n ≡ m

@@ -1,172 +1,25 @@
 -- Where a walk through types stands, and what each step of it keeps.
-use Rattle.std.proofs.Common.{◌≡◌, ◌≢◌, ℕ, zero, suc, ◌+◌, ◌<◌, ◌≤◌, Bool, true, false, List, [], ◌∷◌, ◌++◌, length, map, set, replicate, Option, Some, None, if◌then◌else◌, refl, sym, ◌∙◌, ap, subst, arith, inl, inr}
-use Rattle.std.specs.Prelude.{slice_get, All}
-use Rattle.std.proofs.lemmas.List.{length-set, length-replicate}
+use Rattle.std.proofs.Common.{◌≡◌, ◌≢◌, ℕ, zero, suc, ◌+◌, ◌-◌, ◌*◌, ◌<◌, ◌≤◌, Bool, true, false, cond, ◌||◌, eqb, List, [], ◌∷◌, ◌++◌, length, get_or, Some, refl, sym, ◌∙◌, ap, subst, arith, ◌⊎◌, inl, inr}
+use Rattle.std.specs.Prelude.{slice_get, All, nat_eq}
+use Rattle.std.specs.List.{list_any}
+use Rattle.std.proofs.lemmas.Bool.Decides.{eqb_tells}
+use Rattle.std.proofs.lemmas.Map.Keys.{IsDistinct-from_apart}
+use Rattle.std.proofs.lemmas.Map.Steps.{length-le_from_distinct_below}
 use Rattle.std.proofs.lemmas.Option.{slice_get_within}
-use Rattle.type_nodes.specs.Nodes.{Node, Var, Rigid, Link, Arrow, Tuple, Con, parts, IsSound, Apart}
-use Rattle.type_nodes.specs.Links.{root, IsNoLink}
+use Rattle.type_nodes.specs.Nodes.{Node, Var, Rigid, Link, Arrow, Tuple, Con, parts, IsRanked, IsSound, Apart}
+use Rattle.type_nodes.specs.Links.{next, follow, root, IsNoLink}
 use Rattle.type_nodes.proofs.Lists.{same_or_other, one_element, get-append_left, get-append_last, get-append_cases, length-snoc}
-use Rattle.type_nodes.proofs.Roots.{next_stays, closed_root, root_inside, root_settled, root_here, root_link}
-use Rattle.level_unify.specs.Walks.{StandsIn, Reached, Seen, seen, is_marked, noted, all_noted, unmarked}
+use Rattle.type_nodes.proofs.Places.{place, place_below, place_lower}
+use Rattle.type_nodes.proofs.Roots.{link_or_stays, next_link, link_down, next_stays, closed_root, root_inside, root_settled, root_here, root_link}
+use Rattle.level_unify.proofs.Steps.{cell_at}
+use Rattle.level_unify.specs.Walks.{StandsIn, Reached, Stop, Course, course, AreDone, IsNext, Enters, Leaves}
 
--- a mark that was set
-pub marked_same : (marks : List Bool) (n : ℕ) → n < length marks → is_marked (set marks n true) n ≡ true
-marked_same [] n h = absurd (omega arith)
-marked_same (b ∷ marks) zero h = refl
-marked_same (b ∷ marks) (suc n) h = marked_same marks n (omega arith)
-
--- the other marks stay
-pub marked_other : (marks : List Bool) (n m : ℕ) → m ≢ n → is_marked (set marks n true) m ≡ is_marked marks m
-marked_other [] n m h = refl
-marked_other (b ∷ marks) zero zero h = absurd (h refl)
-marked_other (b ∷ marks) zero (suc m) h = refl
-marked_other (b ∷ marks) (suc n) zero h = refl
-marked_other (b ∷ marks) (suc n) (suc m) h = marked_other marks n m (λ e. h (ap suc e))
-
--- what is marked is among the marks
-pub marked_inside : (marks : List Bool) (n : ℕ) → is_marked marks n ≡ true → n < length marks
-marked_inside [] n h = absurd (cc)
-marked_inside (b ∷ marks) zero h = omega arith
-marked_inside (b ∷ marks) (suc n) h = let l = marked_inside marks n h in omega arith
-
--- a new mark is one less that isn't set
-pub unmarked_set : (marks : List Bool) (n : ℕ) → n < length marks → is_marked marks n ≡ false → unmarked (set marks n true) + 1 ≡ unmarked marks
-unmarked_set [] n lt h = absurd (omega arith)
-unmarked_set (true ∷ marks) zero lt h = absurd (cc)
-unmarked_set (false ∷ marks) zero lt h = refl
-unmarked_set (true ∷ marks) (suc n) lt h = unmarked_set marks n (omega arith) h
-unmarked_set (false ∷ marks) (suc n) lt h = let e = unmarked_set marks n (omega arith) h in omega arith
-
--- what a walk has seen stands in `from`, and is listed once
-pub record Seeing (nodes : List Node) (from : ℕ) (w : Seen) : Type 0 where
-  pub sized : length w.marks ≡ length nodes
-  pub roots : (n : ℕ) → is_marked w.marks n ≡ true → (root nodes n ≡ n) × StandsIn nodes n from
-  pub listed : (n : ℕ) → is_marked w.marks n ≡ true → (k : ℕ) × (slice_get w.found k ≡ Some n)
-  pub marked : (k n : ℕ) → slice_get w.found k ≡ Some n → is_marked w.marks n ≡ true
-  pub counted : length w.found + unmarked w.marks ≡ length nodes
-
--- a walk goes on: what was seen stays
-pub record Later (w w' : Seen) : Type 0 where
-  pub marks : (n : ℕ) → is_marked w.marks n ≡ true → is_marked w'.marks n ≡ true
-  pub found : (k : ℕ) → k < length w.found → slice_get w'.found k ≡ slice_get w.found k
-  pub longer : length w.found ≤ length w'.found
-
-later_same : (w w' : Seen) → w' ≡ w → Later w w'
-later_same w w' e = record {
-  marks = λ n h. subst (λ x. is_marked x.marks n ≡ true) (sym e) h;
-  found = λ k h. ap (λ x. slice_get x.found k) e;
-  longer = subst (λ x. length w.found ≤ length x.found) (sym e) (omega arith);
-}
-
-later_later : (a b c : Seen) → Later a b → Later b c → Later a c
-later_later a b c p q = record {
-  marks = λ n h. q.marks n (p.marks n h);
-  found = λ k h. q.found k (let l = p.longer in omega arith) ∙ p.found k h;
-  longer = let l = p.longer in let m = q.longer in omega arith;
-}
-
--- what one more node does to a walk
-pub record NotedOne (nodes : List Node) (from n : ℕ) (w w' : Seen) : Type 0 where
-  pub seeing : Seeing nodes from w'
-  pub later : Later w w'
-  pub has : is_marked w'.marks n ≡ true
-
-new_one : (nodes : List Node) (from n : ℕ) (w : Seen) → n < length nodes → root nodes n ≡ n → StandsIn nodes n from → Seeing nodes from w →
-    is_marked w.marks n ≡ false → NotedOne nodes from n w (seen (set w.marks n true) (w.found ++ n ∷ []))
-new_one nodes from n w lt end stands s new =
-    let inside : n < length w.marks = let e = s.sized in omega arith in
-    record {
-      seeing = record {
-        sized = length-set w.marks n true ∙ s.sized;
-        roots = λ m h. elim (same_or_other m n) [
-          | inl same ↦ (ap (root nodes) same ∙ end ∙ sym same, subst (λ k. StandsIn nodes k from) (sym same) stands)
-          | inr other ↦ s.roots m (sym (marked_other w.marks n m other) ∙ h)
-        ];
-        listed = λ m h. elim (same_or_other m n) [
-          | inl same ↦ (length w.found, get-append_last w.found n ∙ ap (λ k. Some k) (sym same))
-          | inr other ↦
-              let (k, e) = s.listed m (sym (marked_other w.marks n m other) ∙ h) in
-              (k, get-append_left w.found (n ∷ []) k (slice_get_within w.found k m e) ∙ e)
-        ];
-        marked = λ k m e. elim (same_or_other m n) [
-          | inl same ↦ subst (λ j. is_marked (set w.marks n true) j ≡ true) (sym same) (marked_same w.marks n inside)
-          | inr other ↦ marked_other w.marks n m other ∙ elim (get-append_cases w.found n k m e) [ inl h ↦ s.marked k m h | inr h ↦ absurd (other h.1) ]
-        ];
-        counted = let e = unmarked_set w.marks n inside new in let f = length-snoc w.found n in let g = s.counted in omega arith;
-      };
-      later = record {
-        marks = λ m h. elim (same_or_other m n) [
-          | inl same ↦ subst (λ j. is_marked (set w.marks n true) j ≡ true) (sym same) (marked_same w.marks n inside)
-          | inr other ↦ marked_other w.marks n m other ∙ h
-        ];
-        found = λ k h. get-append_left w.found (n ∷ []) k h;
-        longer = let f = length-snoc w.found n in omega arith;
-      };
-      has = marked_same w.marks n inside;
-    }
-
--- a walk that has noted a root
-pub noted_one : (nodes : List Node) (from n : ℕ) (w : Seen) → n < length nodes → root nodes n ≡ n → StandsIn nodes n from → Seeing nodes from w → NotedOne nodes from n w (noted n w)
-noted_one nodes from n w lt end stands s = at (is_marked w.marks n) refl
-  where
-    new : Seen
-    new = seen (set w.marks n true) (w.found ++ n ∷ [])
-
-    at : (b : Bool) → is_marked w.marks n ≡ b → NotedOne nodes from n w (noted n w)
-    at true e =
-        let same : noted n w ≡ w = ap (λ b. if b then w else new) e in
-        subst (NotedOne nodes from n w) (sym same) (record { seeing = s; later = later_same w w refl; has = e })
-    at false e =
-        let same : noted n w ≡ new = ap (λ b. if b then w else new) e in
-        subst (NotedOne nodes from n w) (sym same) (new_one nodes from n w lt end stands s e)
-
--- what more nodes do to a walk
-pub record NotedAll (nodes : List Node) (from : ℕ) (ns : List ℕ) (w w' : Seen) : Type 0 where
-  pub seeing : Seeing nodes from w'
-  pub later : Later w w'
-  pub has : All (λ n. is_marked w'.marks n ≡ true) ns
-
+-- a root that stands in `from`
 pub record IsRootIn (nodes : List Node) (from n : ℕ) : Type 0 where
   pub inside : n < length nodes
   pub end : root nodes n ≡ n
   pub stands : StandsIn nodes n from
 
-pub noted_all : (nodes : List Node) (from : ℕ) (ns : List ℕ) (w : Seen) → All (IsRootIn nodes from) ns → Seeing nodes from w → NotedAll nodes from ns w (all_noted ns w)
-noted_all nodes from [] w h s = record { seeing = s; later = later_same w w refl; has = λ k d lt. absurd (omega arith) }
-noted_all nodes from (n ∷ ns) w h s =
-    let first = h zero zero (omega arith) in
-    let one = noted_one nodes from n w first.inside first.end first.stands s in
-    let rest = noted_all nodes from ns (noted n w) (λ k d lt. h (suc k) d (omega arith)) one.seeing in
-    record {
-      seeing = rest.seeing;
-      later = later_later w (noted n w) (all_noted ns (noted n w)) one.later rest.later;
-      has = each rest.has (rest.later.marks n one.has);
-    }
-  where
-    each : All (λ m. is_marked (all_noted ns (noted n w)).marks m ≡ true) ns → is_marked (all_noted ns (noted n w)).marks n ≡ true →
-        All (λ m. is_marked (all_noted ns (noted n w)).marks m ≡ true) (n ∷ ns)
-    each p q zero d lt = q
-    each p q (suc k) d lt = p k d (omega arith)
-
--- where a walk stands: the parts of the first `at` nodes that it found are among those that it has seen
-pub record Walking (nodes : List Node) (from : ℕ) (w : Seen) (at : ℕ) : Type 0 where
-  pub seeing : Seeing nodes from w
-  pub start : is_marked w.marks (root nodes from) ≡ true
-  pub inside : at ≤ length w.found
-  pub closed : (k n : ℕ) (c : Node) → k < at → slice_get w.found k ≡ Some n → slice_get nodes n ≡ Some c → All (λ m. is_marked w.marks (root nodes m) ≡ true) (parts c)
-
--- nothing is marked
-pub none_marked : (marks : List Bool) → All (λ b. b ≡ false) marks → (n : ℕ) → is_marked marks n ≡ false
-none_marked [] h n = refl
-none_marked (b ∷ marks) h zero = h zero false (omega arith)
-none_marked (b ∷ marks) h (suc n) = none_marked marks (λ k d lt. h (suc k) d (omega arith)) n
-
-none_marked_count : (marks : List Bool) → All (λ b. b ≡ false) marks → unmarked marks ≡ length marks
-none_marked_count [] h = refl
-none_marked_count (true ∷ marks) h = absurd (let e : true ≡ false = h zero false (omega arith) in cc)
-none_marked_count (false ∷ marks) h = let e = none_marked_count marks (λ k d lt. h (suc k) d (omega arith)) in omega arith
-
--- a root that stands in from
 pub root_stands : (nodes : List Node) → IsSound nodes → (from n : ℕ) → n < length nodes → StandsIn nodes n from → IsRootIn nodes from (root nodes n)
 root_stands nodes sound from n lt stands = record {
   inside = root_inside nodes sound n lt;
@@ -174,107 +27,390 @@ root_stands nodes sound from n lt stands = record {
   stands = record { each = λ F closed has. closed_root nodes F closed n (stands.each F closed has) };
 }
 
-repeated_false : (n : ℕ) → All (λ b. b ≡ false) (replicate n false)
-repeated_false zero k d lt = absurd (omega arith)
-repeated_false (suc n) zero d lt = refl
-repeated_false (suc n) (suc k) d lt = repeated_false n k d (omega arith)
+-- what is read at a place of a list is there
+pub get_here : {A : Type 0} (xs : List A) (k : ℕ) (d : A) → k < length xs → slice_get xs k ≡ Some (get_or xs k d)
+get_here [] k d lt = absurd (omega arith)
+get_here (x ∷ xs) zero d lt = refl
+get_here (x ∷ xs) (suc k) d lt = get_here xs k d (omega arith)
+
+-- links lead down, so a root stands no higher than the node
+root_low : (nodes : List Node) (rank : ℕ → ℕ) → IsRanked nodes rank → (n : ℕ) → rank (root nodes n) ≤ rank n
+root_low nodes rank ranked n = at (length nodes) n
+  where
+    one : (m : ℕ) → rank (next nodes m) ≤ rank m
+    one m = elim (link_or_stays nodes m) [
+      | inl stays ↦ subst (λ k. rank k ≤ rank m) (sym stays) (omega arith)
+      | inr (j, e) ↦ subst (λ k. rank k ≤ rank m) (sym (next_link nodes m j e)) (let d = (link_down nodes rank ranked m j e).1 in omega arith)
+    ]
+
+    at : (k m : ℕ) → rank (follow k nodes m) ≤ rank m
+    at zero m = omega arith
+    at (suc k) m = let h = at k (next nodes m) in let i = one m in omega arith
+
+-- a stop of the way, so many stops from its start: it isn't done, but its first parts are
+pub record IsOpen (nodes : List Node) (from : ℕ) (rank : ℕ → ℕ) (done : ℕ → Bool) (i : ℕ) (x : Stop) : Type 0 where
+  pub is_root : IsRootIn nodes from x.0
+  pub new : done x.0 ≡ false
+  pub first : (c : Node) → slice_get nodes x.0 ≡ Some c → AreDone nodes done (parts c) 0 x.1
+  pub room : place rank (length nodes) x.0 + i < length nodes
+
+-- where a walk stands: what is done is listed behind its parts, and each stop of the way stands lower than those before
+pub record Walking (nodes : List Node) (from : ℕ) (w : Course) : Type 0 where
+  pub rank : ℕ → ℕ
+  pub ranked : IsRanked nodes rank
+  pub start : (w.done (root nodes from) ≡ true) ⊎ ((i : ℕ) × (x : Stop) × (slice_get w.way i ≡ Some x) × (x.0 ≡ root nodes from))
+  pub listed : (n : ℕ) → w.done n ≡ true → (k : ℕ) × (slice_get w.found k ≡ Some n)
+  pub known : (k n : ℕ) → slice_get w.found k ≡ Some n → (w.done n ≡ true) × IsRootIn nodes from n
+  pub behind : (k n : ℕ) (c : Node) → slice_get w.found k ≡ Some n → slice_get nodes n ≡ Some c → All (λ m. (j : ℕ) × (j < k) × (slice_get w.found j ≡ Some (root nodes m))) (parts c)
+  pub once : (j k n : ℕ) → slice_get w.found j ≡ Some n → slice_get w.found k ≡ Some n → j ≡ k
+  pub stops : (i : ℕ) (x : Stop) → slice_get w.way i ≡ Some x → IsOpen nodes from rank w.done i x
+  pub falls : (i j : ℕ) (x y : Stop) → i < j → slice_get w.way i ≡ Some x → slice_get w.way j ≡ Some y → rank y.0 < rank x.0
 
 -- a walk begins with the root of `from`
-pub walk_start : (nodes : List Node) → IsSound nodes → (from : ℕ) (marks : List Bool) → from < length nodes → length marks ≡ length nodes → All (λ b. b ≡ false) marks →
-    Walking nodes from (noted (root nodes from) (seen marks [])) 0
-walk_start nodes sound from marks lt len none =
-    let r = root_stands nodes sound from from lt (record { each = λ F closed has. has }) in
-    let empty : Seeing nodes from (seen marks []) = record {
-      sized = len;
-      roots = λ n h. absurd (let e = none_marked marks none n in cc);
-      listed = λ n h. absurd (let e = none_marked marks none n in cc);
-      marked = λ k n e. absurd (cc);
-      counted = let e = none_marked_count marks none in omega arith;
-    } in
-    let one = noted_one nodes from (root nodes from) (seen marks []) r.inside r.end r.stands empty in
-    record { seeing = one.seeing; start = one.has; inside = omega arith; closed = λ k n c lt e e'. absurd (omega arith) }
-
--- the roots of the parts of a node that stands in from
-part_roots : (nodes : List Node) (from n : ℕ) (c : Node) → IsSound nodes → slice_get nodes n ≡ Some c → StandsIn nodes n from → All (IsRootIn nodes from) (map (root nodes) (parts c))
-part_roots nodes from n c sound e stands =
-    each (parts c) (λ k d lt. (sound.1.each n c e k d lt).0) (λ k d lt. record { each = λ F closed has. closed.each n c (stands.each F closed has) e k d lt })
-  where
-    each : (ms : List ℕ) → All (λ m. m < length nodes) ms → All (λ m. StandsIn nodes m from) ms → All (IsRootIn nodes from) (map (root nodes) ms)
-    each [] p q k d lt = absurd (omega arith)
-    each (m ∷ ms) p q zero d lt = root_stands nodes sound from m (p zero zero (omega arith)) (q zero zero (omega arith))
-    each (m ∷ ms) p q (suc k) d lt = each ms (λ j e l. p (suc j) e (omega arith)) (λ j e l. q (suc j) e (omega arith)) k d (omega arith)
-
--- the marks of roots, told by the nodes
-of_roots : (nodes : List Node) (P : ℕ → Type 0) (ms : List ℕ) → All P (map (root nodes) ms) → All (λ m. P (root nodes m)) ms
-of_roots nodes P [] h k d lt = absurd (omega arith)
-of_roots nodes P (m ∷ ms) h zero d lt = h zero zero (omega arith)
-of_roots nodes P (m ∷ ms) h (suc k) d lt = of_roots nodes P ms (λ j e l. h (suc j) e (omega arith)) k d (omega arith)
-
--- a walk has seen the parts of the next node that it found
-pub walk_on : (nodes : List Node) → IsSound nodes → (from : ℕ) (w w' : Seen) (at n : ℕ) (c : Node) → slice_get w.found at ≡ Some n → slice_get nodes n ≡ Some c →
-    w' ≡ all_noted (map (root nodes) (parts c)) w → Walking nodes from w at → Walking nodes from w' (at + 1)
-walk_on nodes sound from w w' at n c found e same h =
-    let marked = h.seeing.marked at n found in
-    let all = noted_all nodes from (map (root nodes) (parts c)) w (part_roots nodes from n c sound e (h.seeing.roots n marked).1) h.seeing in
-    let more : Walking nodes from (all_noted (map (root nodes) (parts c)) w) (at + 1) = record {
-      seeing = all.seeing;
-      start = all.later.marks (root nodes from) h.start;
-      inside = let l = all.later.longer in let m = slice_get_within w.found at n found in omega arith;
-      closed = λ k m d lt f g. elim (same_or_other k at) [
-        | inl here ↦
-            let l = slice_get_within w.found at n found in
-            let same_node : n ≡ m = one_element n m (slice_get (all_noted (map (root nodes) (parts c)) w).found at) (all.later.found at l ∙ found) (subst (λ j. slice_get (all_noted (map (root nodes) (parts c)) w).found j ≡ Some m) here f) in
-            let same_cell : c ≡ d = one_element c d (slice_get nodes n) e (subst (λ j. slice_get nodes j ≡ Some d) (sym same_node) g) in
-            subst (λ x. All (λ j. is_marked (all_noted (map (root nodes) (parts c)) w).marks (root nodes j) ≡ true) (parts x)) same_cell
-            (of_roots nodes (λ j. is_marked (all_noted (map (root nodes) (parts c)) w).marks j ≡ true) (parts c) all.has)
-        | inr before ↦
-            let l = h.inside in
-            let old = h.closed k m d (omega arith) (sym (all.later.found k (omega arith)) ∙ f) g in
-            λ j x lt'. all.later.marks _ (old j x lt')
-      ];
-    } in
-    subst (λ x. Walking nodes from x (at + 1)) (sym same) more
-
--- the same, with the marks as they are made
-pub walk_begins : (nodes : List Node) → IsSound nodes → (from r : ℕ) (count : ℕ) (marks : List Bool) (found : List ℕ) (w : Seen) → from < length nodes → r ≡ root nodes from →
-    count ≡ length nodes → marks ≡ replicate count false → found ≡ [] → w ≡ noted r (seen marks found) → Walking nodes from w 0
-walk_begins nodes sound from r count marks found w lt is len made none same =
-    let begins = walk_start nodes sound from (replicate count false) lt (length-replicate count false ∙ len) (repeated_false count) in
-    let e : w ≡ noted (root nodes from) (seen (replicate count false) []) = same ∙ (λ i. noted (is i) (seen (made i) (none i))) in
-    subst (λ x. Walking nodes from x 0) (sym e) begins
-
--- a walk that has come to its end has found all that stands in from
-pub walk_end : (nodes : List Node) → IsSound nodes → (from : ℕ) (w : Seen) (at : ℕ) → length w.found ≤ at → Walking nodes from w at → Reached nodes from w.found
-walk_end nodes sound from w at end h = record {
-  set = λ n. is_marked w.marks (root nodes n);
-  closed = record { each = λ n c has e. each n c e has };
-  start = h.start;
-  listed = λ n has. h.seeing.listed (root nodes n) has;
-  roots = λ k n e.
-      let m = h.seeing.marked k n e in
-      let l = marked_inside w.marks n m in let s = h.seeing.sized in
-      (omega arith, (h.seeing.roots n m).0, (h.seeing.roots n m).1);
+pub walk_start : (nodes : List Node) → IsSound nodes → (from : ℕ) (w : Course) → from < length nodes → ((n : ℕ) → w.done n ≡ false) → w.found ≡ [] → w.way ≡ (root nodes from, 0) ∷ [] → Walking nodes from w
+walk_start nodes (rank, ranked) from w lt none empty one = record {
+  rank = rank;
+  ranked = ranked;
+  start = inr (0, (root nodes from, 0), ap (λ l. slice_get l 0) one, refl);
+  listed = λ n h. absurd (let e = none n in cc);
+  known = λ k n e. absurd (nothing k n e);
+  behind = λ k n c e. absurd (nothing k n e);
+  once = λ j k n e. absurd (nothing j n e);
+  stops = λ i x e. only i x (sym (ap (λ l. slice_get l i) one) ∙ e);
+  falls = λ i j x y lt' e e'. absurd (single i j y lt' (sym (ap (λ l. slice_get l j) one) ∙ e'));
 }
   where
-    one : (m : ℕ) → is_marked w.marks (root nodes m) ≡ true → All (λ k. is_marked w.marks (root nodes k) ≡ true) (m ∷ [])
+    nothing : (k n : ℕ) → slice_get w.found k ≡ Some n → ⊥
+    nothing k n e = let f : slice_get [] k ≡ Some n = sym (ap (λ l. slice_get l k) empty) ∙ e in cc
+
+    own : IsRootIn nodes from (root nodes from)
+    own = root_stands nodes (rank, ranked) from from lt (record { each = λ F closed has. has })
+
+    only : (i : ℕ) (x : Stop) → slice_get ((root nodes from, 0) ∷ []) i ≡ Some x → IsOpen nodes from rank w.done i x
+    only zero x e =
+        let same : (root nodes from, 0) ≡ x = one_element (root nodes from, 0) x (Some (root nodes from, 0)) refl e in
+        subst (IsOpen nodes from rank w.done 0) same (record {
+          is_root = own;
+          new = none (root nodes from);
+          first = λ c at. record { each = λ k m lo hi. absurd (omega arith) };
+          room = let p = place_below rank (length nodes) (root nodes from) own.inside in omega arith;
+        })
+    only (suc i) x e = absurd (cc)
+
+    single : (i j : ℕ) (y : Stop) → i < j → slice_get ((root nodes from, 0) ∷ []) j ≡ Some y → ⊥
+    single i zero y lt' e = omega arith
+    single i (suc j) y lt' e = cc
+
+-- done up to a place, and from there on
+done_on : (nodes : List Node) (done : ℕ → Bool) (ms : List ℕ) (from to : ℕ) → AreDone nodes done ms 0 from → AreDone nodes done ms from to → AreDone nodes done ms 0 to
+done_on nodes done ms from to p q = record {
+  each = λ k m lo hi e. elim (below_or k from) [ inl lt ↦ p.each k m lo lt e | inr le ↦ q.each k m le hi e ];
+}
+  where
+    below_or : (k n : ℕ) → (k < n) ⊎ (n ≤ k)
+    below_or k n = grind arith
+
+-- one part more
+pub done_more : (nodes : List Node) (done : ℕ → Bool) (ms : List ℕ) (from at m r : ℕ) → slice_get ms at ≡ Some m → r ≡ root nodes m → done r ≡ true → AreDone nodes done ms from at → AreDone nodes done ms from (at + 1)
+done_more nodes done ms from at m r here is has h = record {
+  each = λ k n lo hi e. elim (same_or_other k at) [
+    | inl same ↦
+        let f : m ≡ n = one_element m n (slice_get ms at) here (subst (λ j. slice_get ms j ≡ Some n) same e) in
+        subst (λ j. done (root nodes j) ≡ true) f (ap done (sym is) ∙ has)
+    | inr other ↦ h.each k n lo (omega arith) e
+  ];
+}
+
+-- a way with one stop changed in place has the same roots
+same_stop : (rest : List Stop) (x y : Stop) → y.0 ≡ x.0 → (i : ℕ) (z : Stop) → slice_get (rest ++ y ∷ []) i ≡ Some z → (z' : Stop) × (slice_get (rest ++ x ∷ []) i ≡ Some z') × (z'.0 ≡ z.0)
+same_stop rest x y e i z at = elim (get-append_cases rest y i z at) [
+  | inl f ↦ (z, get-append_left rest (x ∷ []) i (slice_get_within rest i z f) ∙ f, refl)
+  | inr (p, q) ↦ (x, ap (slice_get (rest ++ x ∷ [])) p ∙ get-append_last rest x, sym e ∙ sym (ap (λ (s : Stop). s.0) q))
+]
+
+-- the walk goes on to a part of its last stop
+pub entered : (nodes : List Node) (from : ℕ) (d : ℕ → Bool) (f : List ℕ) (rest : List Stop) (x : Stop) (at p : ℕ) → Walking nodes from (course d f (rest ++ x ∷ [])) →
+    ((c : Node) → slice_get nodes (root nodes x.0) ≡ Some c → IsNext nodes d (parts c) x.1 at p) → Walking nodes from (course d f ((rest ++ (x.0, at) ∷ []) ++ (p, 0) ∷ []))
+entered nodes from d f rest x at p h next = record {
+  rank = h.rank;
+  ranked = h.ranked;
+  start = elim h.start [
+    | inl e ↦ inl e
+    | inr (i, y, e, is) ↦ elim (get-append_cases rest x i y e) [
+      | inl g ↦ inr (i, y, in_longer i y (get-append_left rest ((x.0, at) ∷ []) i (slice_get_within rest i y g) ∙ g), is)
+      | inr (_, q) ↦ inr (length rest, (x.0, at), in_longer (length rest) (x.0, at) (get-append_last rest (x.0, at)), sym (ap (λ (s : Stop). s.0) q) ∙ is)
+    ]
+  ];
+  listed = h.listed;
+  known = h.known;
+  behind = h.behind;
+  once = h.once;
+  stops = λ i y e. elim (get-append_cases (rest ++ (x.0, at) ∷ []) (p, 0) i y e) [
+    | inl g ↦ elim (get-append_cases rest (x.0, at) i y g) [
+      | inl g' ↦ h.stops i y (get-append_left rest (x ∷ []) i (slice_get_within rest i y g') ∙ g')
+      | inr (is, q) ↦ subst (IsOpen nodes from h.rank d i) (sym q) (subst (λ j. IsOpen nodes from h.rank d j (x.0, at)) (sym is) changed)
+    ]
+    | inr (is, q) ↦ subst (IsOpen nodes from h.rank d i) (sym q) (subst (λ j. IsOpen nodes from h.rank d j (p, 0)) (sym is) last_stop)
+  ];
+  falls = λ i j y z lt e e'. elim (get-append_cases (rest ++ (x.0, at) ∷ []) (p, 0) j z e') [
+    | inl g ↦
+        let l = slice_get_within (rest ++ (x.0, at) ∷ []) j z g in
+        let (z', a, b) = same_stop rest x (x.0, at) refl j z g in
+        let (y', a', b') = same_stop rest x (x.0, at) refl i y (sym (get-append_left (rest ++ (x.0, at) ∷ []) ((p, 0) ∷ []) i (omega arith)) ∙ e) in
+        let low = h.falls i j y' z' lt a' a in
+        subst (λ k. h.rank k < h.rank y.0) b (subst (λ k. h.rank z'.0 < h.rank k) b' low)
+    | inr (is, q) ↦
+        let n = length-snoc rest (x.0, at) in
+        let g = sym (get-append_left (rest ++ (x.0, at) ∷ []) ((p, 0) ∷ []) i (omega arith)) ∙ e in
+        let (y', a', b') = same_stop rest x (x.0, at) refl i y g in
+        let low : h.rank p < h.rank y'.0 = elim (same_or_other i (length rest)) [
+          | inl last ↦
+              let s : x ≡ y' = one_element x y' (slice_get (rest ++ x ∷ []) (length rest)) (get-append_last rest x) (subst (λ k. slice_get (rest ++ x ∷ []) k ≡ Some y') last a') in
+              subst (λ (s : Stop). h.rank p < h.rank s.0) s lower
+          | inr other ↦
+              let low' = h.falls i (length rest) y' x (omega arith) a' (get-append_last rest x) in
+              let l = lower in
+              omega arith
+        ] in
+        subst (λ k. h.rank k < h.rank y.0) (sym (ap (λ (s : Stop). s.0) q)) (subst (λ k. h.rank p < h.rank k) b' low)
+  ];
+}
+  where
+    in_longer : (i : ℕ) (y : Stop) → slice_get (rest ++ (x.0, at) ∷ []) i ≡ Some y → slice_get ((rest ++ (x.0, at) ∷ []) ++ (p, 0) ∷ []) i ≡ Some y
+    in_longer i y e = get-append_left (rest ++ (x.0, at) ∷ []) ((p, 0) ∷ []) i (slice_get_within (rest ++ (x.0, at) ∷ []) i y e) ∙ e
+
+    own : IsOpen nodes from h.rank d (length rest) x
+    own = h.stops (length rest) x (get-append_last rest x)
+
+    cell : (c : Node) × (slice_get nodes x.0 ≡ Some c)
+    cell = cell_at nodes x.0 own.is_root.inside
+
+    here : IsNext nodes d (parts cell.0) x.1 at p
+    here = next cell.0 (ap (slice_get nodes) own.is_root.end ∙ cell.1)
+
+    down : (here.part < length nodes) × (h.rank here.part < h.rank x.0)
+    down = subst (λ m. (m < length nodes) × (h.rank m < h.rank x.0)) (one_element (get_or (parts cell.0) at 0) here.part (slice_get (parts cell.0) at) (get_here (parts cell.0) at 0 (slice_get_within (parts cell.0) at here.part here.here)) here.here)
+        (h.ranked.each x.0 cell.0 cell.1 at 0 (slice_get_within (parts cell.0) at here.part here.here))
+
+    stands : StandsIn nodes here.part from
+    stands = record {
+      each = λ F closed has.
+          let lt = slice_get_within (parts cell.0) at here.part here.here in
+          subst (λ m. F m ≡ true) (one_element (get_or (parts cell.0) at 0) here.part (slice_get (parts cell.0) at) (get_here (parts cell.0) at 0 lt) here.here)
+          (closed.each x.0 cell.0 (own.is_root.stands.each F closed has) cell.1 at 0 lt);
+    }
+
+    new_root : IsRootIn nodes from p
+    new_root = subst (IsRootIn nodes from) (sym here.end) (root_stands nodes (h.rank, h.ranked) from here.part down.0 stands)
+
+    lower : h.rank p < h.rank x.0
+    lower = let e = ap h.rank here.end in let l = root_low nodes h.rank h.ranked here.part in let g = down.1 in omega arith
+
+    changed : IsOpen nodes from h.rank d (length rest) (x.0, at)
+    changed = record {
+      is_root = own.is_root;
+      new = own.new;
+      first = λ c e.
+          done_on nodes d (parts c) x.1 at (own.first c e) (next c (ap (slice_get nodes) own.is_root.end ∙ e)).before;
+      room = own.room;
+    }
+
+    last_stop : IsOpen nodes from h.rank d (length (rest ++ (x.0, at) ∷ [])) (p, 0)
+    last_stop = record {
+      is_root = new_root;
+      new = here.new;
+      first = λ c e. record { each = λ k m lo hi. absurd (omega arith) };
+      room =
+          let n = length-snoc rest (x.0, at) in
+          let low = place_lower h.rank (length nodes) p x.0 new_root.inside lower in
+          let r = own.room in
+          omega arith;
+    }
+
+-- the walk is done with its last stop
+pub left : (nodes : List Node) (from : ℕ) (d d' : ℕ → Bool) (f : List ℕ) (rest : List Stop) (x : Stop) → Walking nodes from (course d f (rest ++ x ∷ [])) →
+    ((c : Node) → slice_get nodes (root nodes x.0) ≡ Some c → AreDone nodes d (parts c) x.1 (length (parts c))) → ((n : ℕ) → d' n ≡ cond (nat_eq x.0 n) true (d n)) →
+    Walking nodes from (course d' (f ++ x.0 ∷ []) rest)
+left nodes from d d' f rest x h all put = record {
+  rank = h.rank;
+  ranked = h.ranked;
+  start = elim h.start [
+    | inl e ↦ inl (still (root nodes from) e)
+    | inr (i, y, e, is) ↦ elim (get-append_cases rest x i y e) [
+      | inl g ↦ inr (i, y, g, is)
+      | inr (_, q) ↦ inl (subst (λ n. d' n ≡ true) (sym (ap (λ (s : Stop). s.0) q) ∙ is) own_done)
+    ]
+  ];
+  listed = λ n e. elim (cases n) [
+    | inl (same, _) ↦ (length f, get-append_last f x.0 ∙ ap (λ k. Some k) same)
+    | inr (_, g) ↦ let (k, at) = h.listed n (sym g ∙ e) in (k, get-append_left f (x.0 ∷ []) k (slice_get_within f k n at) ∙ at)
+  ];
+  known = λ k n e. elim (get-append_cases f x.0 k n e) [
+    | inl g ↦ let a = h.known k n g in (still n a.0, a.1)
+    | inr (_, q) ↦ subst (λ m. (d' m ≡ true) × IsRootIn nodes from m) (sym q) (own_done, own.is_root)
+  ];
+  behind = λ k n c e at. elim (get-append_cases f x.0 k n e) [
+    | inl g ↦ λ i z lt.
+        let (j, low, s) = h.behind k n c g at i z lt in
+        (j, low, get-append_left f (x.0 ∷ []) j (slice_get_within f j _ s) ∙ s)
+    | inr (is, q) ↦ λ i z lt.
+        let at' : slice_get nodes x.0 ≡ Some c = ap (slice_get nodes) (sym q) ∙ at in
+        let done = (done_on nodes d (parts c) x.1 (length (parts c)) (own.first c at') (all c (ap (slice_get nodes) own.is_root.end ∙ at'))).each i (get_or (parts c) i z) (omega arith) lt (get_here (parts c) i z lt) in
+        let (j, s) = h.listed (root nodes (get_or (parts c) i z)) done in
+        let l = slice_get_within f j (root nodes (get_or (parts c) i z)) s in
+        (j, (omega arith), get-append_left f (x.0 ∷ []) j l ∙ s)
+  ];
+  once = λ j k n e e'. elim (get-append_cases f x.0 j n e) [
+    | inl g ↦ elim (get-append_cases f x.0 k n e') [
+      | inl g' ↦ h.once j k n g g'
+      | inr (_, q) ↦ absurd (twice j n g q)
+    ]
+    | inr (is, q) ↦ elim (get-append_cases f x.0 k n e') [
+      | inl g' ↦ absurd (twice k n g' q)
+      | inr (is', _) ↦ is ∙ sym is'
+    ]
+  ];
+  stops = λ i y e.
+      let lt = slice_get_within rest i y e in
+      let old = h.stops i y (get-append_left rest (x ∷ []) i lt ∙ e) in
+      let low = h.falls i (length rest) y x lt (get-append_left rest (x ∷ []) i lt ∙ e) (get-append_last rest x) in
+      record {
+        is_root = old.is_root;
+        new = elim (cases y.0) [ inl (same, _) ↦ absurd (let r = ap h.rank same in omega arith) | inr (_, g) ↦ g ∙ old.new ];
+        first = λ c at. record { each = λ k m lo hi g. still (root nodes m) ((old.first c at).each k m lo hi g) };
+        room = old.room;
+      };
+  falls = λ i j y z lt e e'. h.falls i j y z lt (get-append_left rest (x ∷ []) i (slice_get_within rest i y e) ∙ e) (get-append_left rest (x ∷ []) j (slice_get_within rest j z e') ∙ e');
+}
+  where
+    cases : (n : ℕ) → ((x.0 ≡ n) × (d' n ≡ true)) ⊎ ((x.0 ≢ n) × (d' n ≡ d n))
+    cases n = elim (eqb_tells x.0 n) [
+      | inl (t, same) ↦ inl (same, put n ∙ ap (λ b. cond b true (d n)) t)
+      | inr (t, other) ↦ inr (other, put n ∙ ap (λ b. cond b true (d n)) t)
+    ]
+
+    still : (n : ℕ) → d n ≡ true → d' n ≡ true
+    still n e = elim (cases n) [ inl (_, g) ↦ g | inr (_, g) ↦ g ∙ e ]
+
+    own : IsOpen nodes from h.rank d (length rest) x
+    own = h.stops (length rest) x (get-append_last rest x)
+
+    own_done : d' x.0 ≡ true
+    own_done = elim (cases x.0) [ inl (_, g) ↦ g | inr (other, _) ↦ absurd (other refl) ]
+
+    twice : (j n : ℕ) → slice_get f j ≡ Some n → n ≡ x.0 → ⊥
+    twice j n e q = let a = (h.known j n e).0 in let b = own.new in let c = ap d q in cc
+
+-- numbers of a list in which each stands once, and which are below a number, are no more than that
+few : (xs : List ℕ) (n : ℕ) → ((j k m : ℕ) → slice_get xs j ≡ Some m → slice_get xs k ≡ Some m → j ≡ k) → ((k m : ℕ) → slice_get xs k ≡ Some m → m < n) → length xs ≤ n
+few xs n once below = length-le_from_distinct_below xs n (IsDistinct-from_apart eqb xs apart) (λ q h. let (k, e) = listed xs q h in below k q e)
+  where
+    apart : (i j d : ℕ) → i < j → j < length xs → eqb (get_or xs i d) (get_or xs j d) ≡ false
+    apart i j d lt lt' = elim (eqb_tells (get_or xs i d) (get_or xs j d)) [
+      | inl (t, same) ↦ absurd (let e = once i j (get_or xs j d) (get_here xs i d (omega arith) ∙ ap (λ m. Some m) same) (get_here xs j d lt') in omega arith)
+      | inr (t, other) ↦ t
+    ]
+
+    listed : (ys : List ℕ) (q : ℕ) → list_any (eqb q) ys ≡ true → (k : ℕ) × (slice_get ys k ≡ Some q)
+    listed [] q h = absurd (cc)
+    listed (y ∷ ys) q h = elim (eqb_tells q y) [
+      | inl (t, same) ↦ (0, ap (λ m. Some m) (sym same))
+      | inr (t, other) ↦ let (k, g) = listed ys q (sym (ap (λ b. b || list_any (eqb q) ys) t) ∙ h) in (suc k, g)
+    ]
+
+pub found_few : (nodes : List Node) (from : ℕ) (w : Course) → Walking nodes from w → length w.found ≤ length nodes
+found_few nodes from w h = few w.found (length nodes) h.once (λ k m e. (h.known k m e).1.inside)
+
+-- no more stops than nodes
+pub way_short : (nodes : List Node) (from : ℕ) (w : Course) → Walking nodes from w → length w.way ≤ length nodes
+way_short nodes from w h = at w.way (λ i x e. (h.stops i x e).room)
+  where
+    at : (way : List Stop) → ((i : ℕ) (x : Stop) → slice_get way i ≡ Some x → place h.rank (length nodes) x.0 + i < length nodes) → length way ≤ length nodes
+    at [] p = omega arith
+    at (x ∷ way) p =
+        let r = p (length way) (get_or (x ∷ way) (length way) x) (get_here (x ∷ way) (length way) x (omega arith)) in omega arith
+
+-- what is left of a walk: a row of stops for each node that isn't done
+abbrev pub left_of : List Node → Course → ℕ
+left_of nodes w = (length nodes - length w.found) * (length nodes + 1) + (length nodes - length w.way)
+
+entered_less : (n f s : ℕ) → suc (suc s) ≤ n → (n - f) * (n + 1) + (n - suc (suc s)) < (n - f) * (n + 1) + (n - suc s)
+entered_less n f s le = let e : n - suc (suc s) < n - suc s = omega arith in omega arith
+
+left_less : (n f s k : ℕ) → n - suc f ≡ k → suc f ≤ n → suc s ≤ n → (n - suc f) * (n + 1) + (n - s) < (n - f) * (n + 1) + (n - suc s)
+left_less n f s k e le le' =
+    let e' : n - f ≡ suc k = omega arith in
+    rw (e, e') (omega arith)
+
+-- what a step does: the walk goes on, and less of it is left
+pub record WalksOn (nodes : List Node) (from : ℕ) (w w' : Course) : Type 0 where
+  pub on : Walking nodes from w'
+  pub less : left_of nodes w' < left_of nodes w
+
+same_course : (w : Course) (d : ℕ → Bool) (f : List ℕ) (s : List Stop) → w.done ≡ d → w.found ≡ f → w.way ≡ s → w ≡ course d f s
+same_course w d f s p q r = λ i. course (p i) (q i) (r i)
+
+pub walk_on : (nodes : List Node) (from : ℕ) (w w' : Course) (rest : List Stop) (x : Stop) → w.way ≡ rest ++ x ∷ [] → Enters nodes (course w.done w.found rest) x w' ⊎ Leaves nodes (course w.done w.found rest) x w' →
+    Walking nodes from w → WalksOn nodes from w w'
+walk_on nodes from w w' rest x way step h =
+    let same : w ≡ course w.done w.found (rest ++ x ∷ []) = same_course w w.done w.found (rest ++ x ∷ []) refl refl way in
+    let h' : Walking nodes from (course w.done w.found (rest ++ x ∷ [])) = subst (Walking nodes from) same h in
+    let len : length w.way ≡ suc (length rest) = ap length way ∙ length-snoc rest x in
+    elim step [
+      | inl e ↦
+          let on : Walking nodes from w' = subst (Walking nodes from) (sym (same_course w' w.done w.found ((rest ++ (x.0, e.at) ∷ []) ++ (e.part, 0) ∷ []) e.done e.found e.way)) (entered nodes from w.done w.found rest x e.at e.part h' e.next) in
+          let len' : length w'.way ≡ suc (suc (length rest)) = ap length e.way ∙ length-snoc (rest ++ (x.0, e.at) ∷ []) (e.part, 0) ∙ ap suc (length-snoc rest (x.0, e.at)) in
+          let short = way_short nodes from w' on in
+          record {
+            on = on;
+            less = rw (ap length e.found, len, len') (entered_less (length nodes) (length w.found) (length rest) (omega arith));
+          }
+      | inr e ↦
+          let on : Walking nodes from w' = subst (Walking nodes from) (sym (same_course w' w'.done (w.found ++ x.0 ∷ []) rest refl e.found e.way)) (left nodes from w.done w'.done w.found rest x h' e.all e.done) in
+          let len' : length w'.found ≡ suc (length w.found) = ap length e.found ∙ length-snoc w.found x.0 in
+          let f = found_few nodes from w' on in
+          let s = way_short nodes from w h in
+          record {
+            on = on;
+            less = rw (len', len, ap length e.way) (left_less (length nodes) (length w.found) (length rest) (length nodes - suc (length w.found)) refl (omega arith) (omega arith));
+          }
+    ]
+
+-- the last stop of a walk is a node
+pub stop_inside : (nodes : List Node) (from : ℕ) (w : Course) (rest : List Stop) (x : Stop) → w.way ≡ rest ++ x ∷ [] → Walking nodes from w → x.0 < length nodes
+stop_inside nodes from w rest x e h = (h.stops (length rest) x (ap (λ l. slice_get l (length rest)) e ∙ get-append_last rest x)).is_root.inside
+
+-- a walk that has come to its end has found all that stands in `from`
+pub walk_end : (nodes : List Node) → IsSound nodes → (from : ℕ) (w : Course) → w.way ≡ [] → Walking nodes from w → Reached nodes from w.found
+walk_end nodes sound from w none h = record {
+  set = λ n. w.done (root nodes n);
+  closed = record { each = λ n c has e. each n c e has };
+  start = elim h.start [ inl e ↦ e | inr (i, x, e, is) ↦ absurd (let f : slice_get [] i ≡ Some x = sym (ap (λ l. slice_get l i) none) ∙ e in cc) ];
+  listed = λ n has. h.listed (root nodes n) has;
+  roots = λ k n e. let r = (h.known k n e).1 in (r.inside, r.end, r.stands);
+  behind = h.behind;
+  once = h.once;
+}
+  where
+    one : (m : ℕ) → w.done (root nodes m) ≡ true → All (λ k. w.done (root nodes k) ≡ true) (m ∷ [])
     one m has zero d lt = has
     one m has (suc k) d lt = absurd (omega arith)
 
-    of_root : (n : ℕ) (c : Node) → slice_get nodes n ≡ Some c → is_marked w.marks (root nodes n) ≡ true → root nodes n ≡ n → All (λ m. is_marked w.marks (root nodes m) ≡ true) (parts c)
-    of_root n c e has here =
-        let marked : is_marked w.marks n ≡ true = subst (λ k. is_marked w.marks k ≡ true) here has in
-        let (k, f) = h.seeing.listed n marked in
-        h.closed k n c (let l = slice_get_within w.found k n f in omega arith) f e
+    of_root : (n : ℕ) (c : Node) → slice_get nodes n ≡ Some c → w.done (root nodes n) ≡ true → root nodes n ≡ n → All (λ m. w.done (root nodes m) ≡ true) (parts c)
+    of_root n c e has here i z lt =
+        let (k, f) = h.listed n (subst (λ m. w.done m ≡ true) here has) in
+        let (j, low, s) = h.behind k n c f e i z lt in
+        (h.known j (root nodes (get_or (parts c) i z)) s).0
 
     no_link : (n : ℕ) (c : Node) → slice_get nodes n ≡ Some c → IsNoLink c → root nodes n ≡ n
     no_link n c e is = root_here nodes n (next_stays nodes n c e is)
 
-    each : (n : ℕ) (c : Node) → slice_get nodes n ≡ Some c → is_marked w.marks (root nodes n) ≡ true → All (λ m. is_marked w.marks (root nodes m) ≡ true) (parts c)
+    each : (n : ℕ) (c : Node) → slice_get nodes n ≡ Some c → w.done (root nodes n) ≡ true → All (λ m. w.done (root nodes m) ≡ true) (parts c)
     each n (Var level scope) e has = of_root n (Var level scope) e has (no_link n (Var level scope) e tt)
     each n Rigid e has = of_root n Rigid e has (no_link n Rigid e tt)
     each n (Link m) e has =
         let same = root_link nodes sound n m (slice_get_within nodes n (Link m) e) e in
-        one m (subst (λ k. is_marked w.marks k ≡ true) same has)
+        one m (subst (λ k. w.done k ≡ true) same has)
     each n (Arrow a b) e has = of_root n (Arrow a b) e has (no_link n (Arrow a b) e tt)
     each n (Tuple ms) e has = of_root n (Tuple ms) e has (no_link n (Tuple ms) e tt)
     each n (Con path name ms) e has = of_root n (Con path name ms) e has (no_link n (Con path name ms) e tt)
@@ -282,27 +418,6 @@ walk_end nodes sound from w at end h = record {
 -- the parts of what a node reads as are nodes
 pub parts_inside : (nodes : List Node) → IsSound nodes → (n : ℕ) (c : Node) → slice_get nodes n ≡ Some c → All (λ m. m < length nodes) (parts c)
 parts_inside nodes sound n c e k d lt = (sound.1.each n c e k d lt).0
-
-none_outside : (nodes : List Node) (n : ℕ) → slice_get nodes n ≡ None → n < length nodes → ⊥
-none_outside [] n e lt = omega arith
-none_outside (c ∷ nodes) zero e lt = cc
-none_outside (c ∷ nodes) (suc n) e lt = none_outside nodes n e (omega arith)
-
--- a root reads as itself
-pub root_reads : (nodes : List Node) (n : ℕ) → root nodes n ≡ n → slice_get nodes (root nodes n) ≡ slice_get nodes n
-root_reads nodes n e = ap (slice_get nodes) e
-
--- the same, with what the node reads as
-pub walk_next : (nodes : List Node) → IsSound nodes → (from : ℕ) (w w' : Seen) (at n : ℕ) → slice_get w.found at ≡ Some n →
-    ((c : Node) → slice_get nodes (root nodes n) ≡ Some c → w' ≡ all_noted (map (root nodes) (parts c)) w) → Walking nodes from w at → Walking nodes from w' (at + 1)
-walk_next nodes sound from w w' at n found noting h = go (slice_get nodes n) refl
-  where
-    marked : is_marked w.marks n ≡ true
-    marked = h.seeing.marked at n found
-
-    go : (o : Option Node) → slice_get nodes n ≡ o → Walking nodes from w' (at + 1)
-    go None e = absurd (let l = marked_inside w.marks n marked in let s = h.seeing.sized in none_outside nodes n e (omega arith))
-    go (Some c) e = walk_on nodes sound from w w' at n c found e (noting c (root_reads nodes n (h.seeing.roots n marked).0 ∙ e)) h
 
 -- what a walk from `to` found stands in it
 pub listed_stands : (nodes : List Node) (to v : ℕ) (found : List ℕ) → Reached nodes to found → (k : ℕ) × (slice_get found k ≡ Some v) → StandsIn nodes v to

@@ -4,3 +4,5 @@ pub mod Solutions
 pub mod Limits
 pub mod Unification
 pub mod Generalising
+pub mod Copies
+pub mod Instances

@@ -1,8 +1,10 @@
 -- Walks through types: the nodes that a node leads to.
-use Rattle.std.specs.Prelude.{◌≡◌, ℕ, ◌<◌, Bool, true, false, List, [], ◌∷◌, ◌++◌, length, slice_get, slice_set, slice_index_or, Some, ◌+◌, if◌then◌else◌}
-use Rattle.type_nodes.specs.Nodes.{Node, IsClosed}
+use Rattle.std.specs.Prelude.{◌≡◌, ℕ, ◌<◌, ◌≤◌, Bool, true, false, List, [], ◌∷◌, ◌++◌, All, cond, length, map, nat_eq, slice_get, Some}
+use Rattle.std.specs.HashSet.{contains}
+use Rattle.type_nodes.specs.Nodes.{Node, IsClosed, parts}
 use Rattle.type_nodes.specs.Links.{root}
 use Rattle.type_nodes.specs.Views.{numbers}
+use Rattle.level_unify.specs.declared.walk.Stop.{Stop as CodeStop}
 use Rattle.level_unify.specs.declared.walk.Walk.{Walk}
 
 -- v stands in n: each set that has n and the parts of its nodes has v
@@ -10,37 +12,62 @@ pub record StandsIn (nodes : List Node) (v n : ℕ) : Type 0 where
   pub each : (F : ℕ → Bool) → IsClosed nodes F → F n ≡ true → F v ≡ true
 
 -- The roots of `from` and of all that stands in it: a set that has the parts of its nodes, and no more than that.
+-- Each is listed once, behind the roots of its parts.
 pub record Reached (nodes : List Node) (from : ℕ) (found : List ℕ) : Type 0 where
   pub set : ℕ → Bool
   pub closed : IsClosed nodes set
   pub start : set from ≡ true
   pub listed : (n : ℕ) → set n ≡ true → (k : ℕ) × (slice_get found k ≡ Some (root nodes n))
   pub roots : (k n : ℕ) → slice_get found k ≡ Some n → (n < length nodes) × (root nodes n ≡ n) × StandsIn nodes n from
+  pub behind : (k n : ℕ) (c : Node) → slice_get found k ≡ Some n → slice_get nodes n ≡ Some c → All (λ m. (j : ℕ) × (j < k) × (slice_get found j ≡ Some (root nodes m))) (parts c)
+  pub once : (j k n : ℕ) → slice_get found j ≡ Some n → slice_get found k ≡ Some n → j ≡ k
 
--- a walk: the roots that were seen, and in what order
-pub record Seen : Type 0 where
-  pub marks : List Bool
+-- a root on the way, and how many of its parts are done
+abbrev pub Stop : Type 0
+Stop = ℕ × ℕ
+
+abbrev pub stop_of : CodeStop → Stop
+stop_of s = (s.node.0, s.done)
+
+abbrev pub stops_of : List CodeStop → List Stop
+stops_of ss = map stop_of ss
+
+-- where a walk stands: the roots that are done, their list, and the way to the root that is worked on
+pub record Course : Type 0 where
+  pub done : ℕ → Bool
   pub found : List ℕ
+  pub way : List Stop
 
-abbrev pub seen : List Bool → List ℕ → Seen
-seen marks found = record { marks = marks; found = found }
+abbrev pub course : (ℕ → Bool) → List ℕ → List Stop → Course
+course done found way = record { done = done; found = found; way = way }
 
-abbrev pub seen_of : Walk → Seen
-seen_of w = seen w.seen.items (numbers w.found.items)
+abbrev pub course_of : Walk → Course
+course_of w = course (contains nat_eq w.done) (numbers w.found.items) (stops_of w.way.items)
 
-abbrev pub is_marked : List Bool → ℕ → Bool
-is_marked marks n = slice_index_or marks n false
+-- the roots of the parts from one place on to another are done
+pub record AreDone (nodes : List Node) (done : ℕ → Bool) (ms : List ℕ) (from to : ℕ) : Type 0 where
+  pub each : (k m : ℕ) → from ≤ k → k < to → slice_get ms k ≡ Some m → done (root nodes m) ≡ true
 
--- a walk that has seen n
-abbrev pub noted : ℕ → Seen → Seen
-noted n w = if is_marked w.marks n then w else seen (slice_set w.marks n true) (w.found ++ n ∷ [])
+-- the first part, from a place on, whose root isn't done
+pub record IsNext (nodes : List Node) (done : ℕ → Bool) (ms : List ℕ) (from at r : ℕ) : Type 0 where
+  pub part : ℕ
+  pub here : slice_get ms at ≡ Some part
+  pub end : r ≡ root nodes part
+  pub new : done r ≡ false
+  pub before : AreDone nodes done ms from at
 
--- a walk that has seen them all
-abbrev pub all_noted : List ℕ → Seen → Seen
-all_noted [] w = w
-all_noted (n ∷ ns) w = all_noted ns (noted n w)
+-- a walk goes from a stop on to a part of it
+pub record Enters (nodes : List Node) (w : Course) (x : Stop) (w' : Course) : Type 0 where
+  pub at : ℕ
+  pub part : ℕ
+  pub next : (c : Node) → slice_get nodes (root nodes x.0) ≡ Some c → IsNext nodes w.done (parts c) x.1 at part
+  pub way : w'.way ≡ (w.way ++ (x.0, at) ∷ []) ++ (part, 0) ∷ []
+  pub found : w'.found ≡ w.found
+  pub done : w'.done ≡ w.done
 
-abbrev pub unmarked : List Bool → ℕ
-unmarked [] = 0
-unmarked (true ∷ marks) = unmarked marks
-unmarked (false ∷ marks) = unmarked marks + 1
+-- a walk is done with a stop
+pub record Leaves (nodes : List Node) (w : Course) (x : Stop) (w' : Course) : Type 0 where
+  pub all : (c : Node) → slice_get nodes (root nodes x.0) ≡ Some c → AreDone nodes w.done (parts c) x.1 (length (parts c))
+  pub way : w'.way ≡ w.way
+  pub found : w'.found ≡ w.found ++ x.0 ∷ []
+  pub done : (n : ℕ) → w'.done n ≡ cond (nat_eq x.0 n) true (w.done n)

@@ -12,16 +12,13 @@ ghost use Rattle.level_unify.specs.Walks.{Reached};
 ghost use Rattle.level_unify.specs.Solutions.{Cap, IsListed, cap_of, caps_of};
 ghost use Rattle.level_unify.specs.Limits.{Asks, IsAllowed, LoweredOne, Lowered, FitsUnder, Capped, CappedTo, NeverCapped};
 
+use crate::levels::{BOUND, NO_SCOPE};
 use crate::solve::{Limit, Stop};
 use crate::walk::reached;
 use std::alloc::Global;
 use type_nodes::{NoMemory, NodeRef, Origin, Store, View};
 
-const BOUND: u32 = 4_294_967_295;
-
 const BUILT_IN: u64 = 9_223_372_036_854_775_808;
-
-const NO_SCOPE: u64 = 18_446_744_073_709_551_615;
 
 // Whether an origin was made before the scope.
 fn is_in_scope(origin: &Origin, scope: u64) -> bool

@@ -3,6 +3,7 @@ ghost use Rattle.std.specs.Prelude.{◌≡◌, ◌↔◌, IsTrue, slice_index_or
 ghost use Rattle.type_nodes.specs.Nodes.{Node};
 ghost use Rattle.level_unify.specs.Plans.{IsFreeVar, IsOrdinary, SameHead, Plans, Views};
 
+use crate::levels::BOUND;
 use type_nodes::{Origin, View};
 
 /// Below the roots the parts are left: they are made one in pairs.
@@ -13,8 +14,6 @@ pub enum Plan {
     LinkParts,
     Clash,
 }
-
-const BOUND: u32 = 4_294_967_295;
 
 pub fn is_free(view: &View<'_>) -> bool
     ensures { (c : Node) → Views view.now c → IsTrue result ↔ IsFreeVar c }

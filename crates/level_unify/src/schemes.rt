@@ -1,18 +1,19 @@
-//! Generalisation by level.
-ghost use Rattle.std.specs.Prelude.{◌≡◌, ◌↔◌, ℕ, IsTrue, OnOk, OnErr};
-ghost use Rattle.type_nodes.specs.Nodes.{Node, IsNode};
+//! Generalisation by level, instances and rigid instances.
+ghost use Rattle.std.specs.Prelude.{◌≡◌, ◌↔◌, ℕ, ◌<◌, IsTrue, IfOk, OnOk, OnErr};
+ghost use Rattle.type_nodes.specs.Nodes.{Node, IsNode, bound_level};
 ghost use Rattle.type_nodes.specs.Links.{root as root_of};
 ghost use Rattle.type_nodes.specs.States.{Keeps};
 ghost use Rattle.type_nodes.specs.Views.{numbers};
 ghost use Rattle.level_unify.specs.Walks.{Reached};
 ghost use Rattle.level_unify.specs.Plans.{Views};
 ghost use Rattle.level_unify.specs.Generalising.{IsAbove, BoundOne, Generalised};
+ghost use Rattle.level_unify.specs.Instances.{Instantiated, Frozen};
 
+use crate::copies::{Fresh, copied};
+use crate::levels::BOUND;
 use crate::walk::reached;
 use std::alloc::Global;
 use type_nodes::{NoMemory, NodeRef, Store, View};
-
-const BOUND: u32 = 4_294_967_295;
 
 fn is_above(view: &View<'_>, limit: u32) -> bool
     ensures { (c : Node) → Views view.now c → IsTrue result ↔ IsAbove limit c }
@@ -70,4 +71,32 @@ pub fn generalise(
         store.rollback(mark);
     }
     bound
+}
+
+/// An instance of `root`: each bound variable that stands in it is a new variable of this level, whose scope is the one
+/// that limits nothing. What has no bound variable is shared. After `NoMemory` the store is as before.
+pub fn instantiate(
+    alloc: Global,
+    store: &mut Store,
+    root: NodeRef,
+    level: u32,
+) -> Result<NodeRef, NoMemory>
+    requires root { IsNode store.old.nodes root.0 }
+    requires level { level < bound_level }
+    ensures instance { IfOk result (λ m. Instantiated store.old.nodes store.new.nodes root.0 level m.0) }
+    ensures failed { OnErr result (store.new ≡ store.old) }
+    ensures keeps { Keeps store.old store.new }
+{
+    copied(alloc, store, root, Fresh::Flexible(level))
+}
+
+/// An instance of `root` with a new rigid variable for each bound variable that stands in it.
+/// What has no bound variable is shared. After `NoMemory` the store is as before.
+pub fn freeze(alloc: Global, store: &mut Store, root: NodeRef) -> Result<NodeRef, NoMemory>
+    requires { IsNode store.old.nodes root.0 }
+    ensures instance { IfOk result (λ m. Frozen store.old.nodes store.new.nodes root.0 m.0) }
+    ensures failed { OnErr result (store.new ≡ store.old) }
+    ensures keeps { Keeps store.old store.new }
+{
+    copied(alloc, store, root, Fresh::Rigid)
 }

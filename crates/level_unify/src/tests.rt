@@ -1,14 +1,27 @@
-ghost use Rattle.std.specs.Prelude.{IfOk, OnOk, ◌≤◌, length};
+ghost use Rattle.std.specs.Prelude.{◌≡◌, true, All, IfOk, OnOk, ◌≤◌, length};
 ghost use Rattle.type_nodes.specs.Nodes.{IsNode};
-ghost use Rattle.level_unify.specs.Solutions.{AllFree};
+ghost use Rattle.type_nodes.specs.Views.{numbers};
 
+mod pairs;
+mod robinson;
+
+use crate::levels::{BOUND, NO_SCOPE};
 use crate::*;
 use std::alloc::Global;
 use std::test::Fail;
 use text_terms::RcStr;
 use type_nodes::{NodeRef, Origin, Store, View};
 
-const NO_SCOPE: u64 = 18_446_744_073_709_551_615;
+fn are_nodes(store: &Store, nodes: &[NodeRef]) -> bool
+    ensures { result ≡ true → All (IsNode store.now.nodes) (numbers nodes.now) }
+{
+    for node in nodes {
+        if node.0 as usize >= store.len() {
+            return false;
+        }
+    }
+    true
+}
 
 fn origin(alloc: Global, number: u64) -> Result<Origin, Fail> {
     let path = [number].to_vec(alloc)?;
@@ -98,10 +111,8 @@ fn unify_in_scope(rt: HostRuntime) -> Result<(), Fail> {
 
 // The type of `let d x = (x, x)` applied so many times.
 fn doubled(store: &mut Store, of: NodeRef, times: u32) -> Result<NodeRef, Fail>
-    requires node { IsNode store.old.nodes of.0 }
-    requires free { AllFree store.old.nodes }
+    requires { IsNode store.old.nodes of.0 }
     ensures node { IfOk result (λ n. IsNode store.new.nodes n.0) }
-    ensures free { OnOk result (AllFree store.new.nodes) }
     ensures more { length store.old.nodes ≤ length store.new.nodes }
 {
     let mut node = of;
@@ -131,7 +142,115 @@ fn generalise_above(rt: HostRuntime) -> Result<(), Fail> {
     let b = store.var(1, 9)?;
     let pair = store.tuple(&[a, b])?;
     generalise(rt.alloc(), &mut store, pair, 1)?;
-    assert!(rt; is_variable(&store.read(a), (4_294_967_295, 9)));
+    assert!(rt; is_variable(&store.read(a), (BOUND, 9)));
     assert!(rt; is_variable(&store.read(b), (1, 9)));
+    Ok(())
+}
+
+// The part of an arrow or of a tuple at a place.
+fn part_at(store: &Store, node: NodeRef, place: usize) -> Result<NodeRef, Fail>
+    ensures { IfOk result (λ n. IsNode store.now.nodes n.0) }
+{
+    if !are_nodes(store, &[node]) {
+        return Err(Fail::new("no node"));
+    }
+    let part = match store.read(node) {
+        View::Arrow(from, to) => [from, to].get(place).copied(),
+        View::Tuple(parts) => parts.get(place).copied(),
+        _ => None,
+    };
+    match part {
+        Some(part) if are_nodes(store, &[part]) => Ok(part),
+        _ => Err(Fail::new("no part")),
+    }
+}
+
+fn bottom(store: &Store, node: NodeRef, depth: u32) -> Result<NodeRef, Fail>
+    requires { IsNode store.now.nodes node.0 }
+    ensures { IfOk result (λ n. IsNode store.now.nodes n.0) }
+{
+    let mut node = node;
+    for _turn in 0..depth {
+        node = part_at(store, node, 0)?;
+    }
+    Ok(node)
+}
+
+fn is_rigid(view: &View<'_>, wanted: u64) -> bool {
+    match view {
+        View::Rigid(number) => *number == wanted,
+        _ => false,
+    }
+}
+
+// A type with 2^30 places, in 31 nodes.
+#[test]
+fn doubling_copied(rt: HostRuntime) -> Result<(), Fail> {
+    let mut store = Store::new(rt.alloc());
+    let a = store.var(2, 9)?;
+    let double = doubled(&mut store, a, 30)?;
+    assert!(rt; unify(rt.alloc(), &mut store, double, double).is_ok());
+    generalise(rt.alloc(), &mut store, double, 1)?;
+    let copy = instantiate(rt.alloc(), &mut store, double, 5)?;
+    assert_eq!(rt; store.len(), 62);
+    assert!(rt; is_variable(&store.read(a), (BOUND, 9)));
+    assert!(rt; is_variable(&store.read(bottom(&store, copy, 30)?), (5, NO_SCOPE)));
+    Ok(())
+}
+
+// ('a * 'b) -> int with 'a bound: 'b and int are shared.
+#[test]
+fn instantiate_shares(rt: HostRuntime) -> Result<(), Fail> {
+    let mut store = Store::new(rt.alloc());
+    let a = store.var(2, 9)?;
+    let b = store.var(1, 9)?;
+    let pair = store.tuple(&[a, b])?;
+    let int = store.con(&origin(rt.alloc(), NO_SCOPE)?, &[])?;
+    let function = store.arrow(pair, int)?;
+    generalise(rt.alloc(), &mut store, function, 1)?;
+    let copy = instantiate(rt.alloc(), &mut store, function, 5)?;
+    assert_eq!(rt; store.len(), 8);
+    assert_eq!(rt; part_at(&store, copy, 1)?, int);
+    let pair = part_at(&store, copy, 0)?;
+    assert!(rt; is_variable(&store.read(part_at(&store, pair, 0)?), (5, NO_SCOPE)));
+    assert_eq!(rt; part_at(&store, pair, 1)?, b);
+    assert_eq!(rt; instantiate(rt.alloc(), &mut store, b, 5)?, b);
+    assert_eq!(rt; store.len(), 8);
+    Ok(())
+}
+
+// 'a -> 'a * 'b with both bound.
+#[test]
+fn freeze_apart(rt: HostRuntime) -> Result<(), Fail> {
+    let mut store = Store::new(rt.alloc());
+    let a = store.var(2, 9)?;
+    let b = store.var(2, NO_SCOPE)?;
+    let pair = store.tuple(&[a, b])?;
+    let function = store.arrow(a, pair)?;
+    generalise(rt.alloc(), &mut store, function, 1)?;
+    let frozen = freeze(rt.alloc(), &mut store, function)?;
+    assert_eq!(rt; store.len(), 8);
+    let from = part_at(&store, frozen, 0)?;
+    let pair = part_at(&store, frozen, 1)?;
+    let second = part_at(&store, pair, 1)?;
+    assert_eq!(rt; part_at(&store, pair, 0)?, from);
+    assert!(rt; from != second);
+    assert!(rt; is_rigid(&store.read(from), from.0));
+    assert!(rt; is_rigid(&store.read(second), second.0));
+    Ok(())
+}
+
+// Two instances of 'a -> 'a are made one.
+#[test]
+fn instances_unify(rt: HostRuntime) -> Result<(), Fail> {
+    let mut store = Store::new(rt.alloc());
+    let a = store.var(2, 9)?;
+    let function = store.arrow(a, a)?;
+    generalise(rt.alloc(), &mut store, function, 1)?;
+    let left = instantiate(rt.alloc(), &mut store, function, 5)?;
+    let right = instantiate(rt.alloc(), &mut store, function, 3)?;
+    assert!(rt; unify(rt.alloc(), &mut store, left, right).is_ok());
+    assert!(rt; is_variable(&store.read(bottom(&store, left, 1)?), (3, NO_SCOPE)));
+    assert!(rt; is_variable(&store.read(a), (BOUND, 9)));
     Ok(())
 }

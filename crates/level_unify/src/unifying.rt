@@ -58,9 +58,9 @@ fn is_cyclic(alloc: Global, store: &Store, a: NodeRef, b: NodeRef) -> Result<boo
 fn attempt(alloc: Global, store: &mut Store, a: NodeRef, b: NodeRef) -> Result<(), UnifyFault>
     requires a { IsNode store.old.nodes a.0 }
     requires b { IsNode store.old.nodes b.0 }
-    requires unbound { HaveNoBound store.old.nodes a.0 b.0 }
-    ensures unified { OnOk result (Unified store.old.nodes store.new.nodes a.0 b.0) }
-    ensures clash { IfErr result (λ e. (clash : Clash) → e ≡ UnifyFault.Clash clash → Clashes store.old.nodes a b clash) }
+    ensures unified { OnOk result (HaveNoBound store.old.nodes a.0 b.0 → Unified store.old.nodes store.new.nodes a.0 b.0) }
+    ensures clash { IfErr result (λ e. (clash : Clash) → e ≡ UnifyFault.Clash clash → HaveNoBound store.old.nodes a.0 b.0 → Clashes store.old.nodes a b clash) }
+    ensures len { OnOk result (length store.new.nodes ≡ length store.old.nodes) }
     ensures keeps { Keeps store.old store.new }
 {
     if is_cyclic(alloc, store, a, b)? {
@@ -76,13 +76,14 @@ fn attempt(alloc: Global, store: &mut Store, a: NodeRef, b: NodeRef) -> Result<(
     Ok(())
 }
 
-/// Makes two nodes one, where some reading gives them one type. After an error the store is as before.
+/// Makes two nodes one, where some reading gives them one type; a clash tells why no reading does. Both are said where no bound
+/// variable stands in the two nodes. After an error the store is as before, whatever stands in them.
 pub fn unify(alloc: Global, store: &mut Store, a: NodeRef, b: NodeRef) -> Result<(), UnifyFault>
     requires a { IsNode store.old.nodes a.0 }
     requires b { IsNode store.old.nodes b.0 }
-    requires unbound { HaveNoBound store.old.nodes a.0 b.0 }
-    ensures unified { OnOk result (Unified store.old.nodes store.new.nodes a.0 b.0) }
-    ensures clash { IfErr result (λ e. (clash : Clash) → e ≡ UnifyFault.Clash clash → Clashes store.old.nodes a b clash) }
+    ensures unified { OnOk result (HaveNoBound store.old.nodes a.0 b.0 → Unified store.old.nodes store.new.nodes a.0 b.0) }
+    ensures clash { IfErr result (λ e. (clash : Clash) → e ≡ UnifyFault.Clash clash → HaveNoBound store.old.nodes a.0 b.0 → Clashes store.old.nodes a b clash) }
+    ensures len { length store.new.nodes ≡ length store.old.nodes }
     ensures failed { OnErr result (store.new ≡ store.old) }
     ensures keeps { Keeps store.old store.new }
 {

@@ -1,85 +1,103 @@
 //! The nodes that a node leads to.
-ghost use Rattle.std.specs.Prelude.{◌≡◌, ◌≢◌, ℕ, ◌<◌, true, false, All, map, length, Some, IfOk, OnOk, replicate, slice_get};
+ghost use Rattle.std.specs.Prelude.{◌≡◌, ◌≢◌, ◌⊎◌, ℕ, ◌<◌, true, false, [], ◌∷◌, ◌++◌, All, map, length, Some, IfOk, OnOk, IfSome, IfNone, nat_eq, slice_get};
+ghost use Rattle.std.specs.HashSet.{contains};
 ghost use Rattle.type_nodes.specs.Nodes.{Node, IsNode, IsSound, Apart, parts};
 ghost use Rattle.type_nodes.specs.Links.{root, reading};
 ghost use Rattle.type_nodes.specs.Views.{numbers};
-ghost use Rattle.level_unify.specs.Walks.{StandsIn, Reached, seen_of, noted, all_noted};
+ghost use Rattle.level_unify.specs.Walks.{StandsIn, Reached, AreDone, IsNext, Enters, Leaves, stop_of, stops_of, course_of};
 
 use std::alloc::Global;
+use std::collections::HashSet;
 use type_nodes::{NoMemory, NodeRef, Store, View};
 
-// Which roots were found, and in what order.
+// A root on the way from the start, and how many of its parts are done.
+#[derive(Clone, Copy, Drop)]
+struct Stop {
+    node: NodeRef,
+    done: usize,
+}
+
+// Which roots are done and in what order, each behind its parts; and the way to the root that is worked on.
 #[derive(Drop)]
 struct Walk {
-    seen: Vec<bool>,
+    done: HashSet<u64>,
     found: Vec<NodeRef>,
+    way: Vec<Stop>,
 }
 
-fn note(walk: &mut Walk, node: NodeRef) -> Result<(), NoMemory>
-    requires { node.0 < length (seen_of walk.old).marks }
-    ensures len { length (seen_of walk.new).marks ≡ length (seen_of walk.old).marks }
-    ensures noted { OnOk result (seen_of walk.new ≡ noted node.0 (seen_of walk.old)) }
+// The place and the root of the first part, from a place on, whose root isn't done.
+fn next_among(
+    store: &Store,
+    done: &HashSet<u64>,
+    parts: &[NodeRef],
+    from: usize,
+) -> Option<(usize, NodeRef)>
+    requires { All (IsNode store.now.nodes) (numbers parts.now) }
+    ensures next { IfSome result (λ p. IsNext store.now.nodes (contains nat_eq done.now) (numbers parts.now) from p.0 p.1.0) }
+    ensures none { IfNone result (AreDone store.now.nodes (contains nat_eq done.now) (numbers parts.now) from (length (numbers parts.now))) }
 {
-    if !walk.seen[node.0 as usize] {
-        walk.found.push(node).map_err(|_| NoMemory)?;
-        walk.seen[node.0 as usize] = true;
+    for at in from..parts.len() {
+        let root = store.root(parts[at]);
+        if !done.contains(&root.0) {
+            return Some((at, root));
+        }
     }
-    Ok(())
+    None
 }
 
-fn note_all(store: &Store, walk: &mut Walk, nodes: &[NodeRef]) -> Result<(), NoMemory>
-    requires nodes { All (IsNode store.now.nodes) (numbers nodes.now) }
-    requires len { length (seen_of walk.old).marks ≡ length store.now.nodes }
-    ensures len { length (seen_of walk.new).marks ≡ length store.now.nodes }
-    ensures noted { OnOk result (seen_of walk.new ≡ all_noted (map (root store.now.nodes) (numbers nodes.now)) (seen_of walk.old)) }
-{
-    for node in nodes {
-        let root = store.root(*node);
-        note(walk, root)?;
-    }
-    Ok(())
-}
-
-fn note_parts(store: &Store, walk: &mut Walk, node: NodeRef) -> Result<(), NoMemory>
-    requires node { IsNode store.now.nodes node.0 }
+fn next_part(store: &Store, done: &HashSet<u64>, stop: Stop) -> Option<(usize, NodeRef)>
+    requires node { IsNode store.now.nodes stop.node.0 }
     requires sound { IsSound store.now.nodes }
-    requires len { length (seen_of walk.old).marks ≡ length store.now.nodes }
-    ensures len { length (seen_of walk.new).marks ≡ length store.now.nodes }
-    ensures noted { OnOk result ((c : Node) → reading store.now.nodes node.0 ≡ Some c →
-        seen_of walk.new ≡ all_noted (map (root store.now.nodes) (parts c)) (seen_of walk.old)) }
+    ensures next { IfSome result (λ p. (c : Node) → reading store.now.nodes stop.node.0 ≡ Some c → IsNext store.now.nodes (contains nat_eq done.now) (parts c) stop.done p.0 p.1.0) }
+    ensures none { IfNone result ((c : Node) → reading store.now.nodes stop.node.0 ≡ Some c → AreDone store.now.nodes (contains nat_eq done.now) (parts c) stop.done (length (parts c))) }
 {
-    match store.read(node) {
-        View::Var { .. } | View::Rigid(_) => Ok(()),
-        View::Arrow(from, to) => note_all(store, walk, &[from, to]),
-        View::Tuple(parts) => note_all(store, walk, parts),
-        View::Con(_, args) => note_all(store, walk, args),
+    match store.read(stop.node) {
+        View::Var { .. } | View::Rigid(_) => None,
+        View::Arrow(from, to) => next_among(store, done, &[from, to], stop.done),
+        View::Tuple(parts) => next_among(store, done, parts, stop.done),
+        View::Con(_, args) => next_among(store, done, args, stop.done),
     }
 }
 
-fn no_marks(alloc: Global, count: usize) -> Result<Vec<bool>, NoMemory>
-    ensures { IfOk result (λ v. v.items ≡ replicate count false) }
+fn push(way: &mut Vec<Stop>, node: NodeRef, done: usize) -> Result<(), NoMemory>
+    ensures { OnOk result (stops_of way.new.items ≡ stops_of way.old.items ++ (node.0, done) ∷ []) }
 {
-    vec![in alloc; false; count].map_err(|_| NoMemory)
+    way.push(Stop { node, done }).map_err(|_| NoMemory)
 }
 
-/// The roots of `from` and of all nodes that stand in it, each once.
+// Goes on at a stop that was taken from the way: to its next part, or back.
+fn step(store: &Store, walk: &mut Walk, stop: Stop) -> Result<(), NoMemory>
+    requires node { IsNode store.now.nodes stop.node.0 }
+    requires sound { IsSound store.now.nodes }
+    ensures { OnOk result (Enters store.now.nodes (course_of walk.old) (stop_of stop) (course_of walk.new) ⊎ Leaves store.now.nodes (course_of walk.old) (stop_of stop) (course_of walk.new)) }
+{
+    match next_part(store, &walk.done, stop) {
+        Some((at, part)) => {
+            push(&mut walk.way, stop.node, at)?;
+            push(&mut walk.way, part, 0)
+        }
+        None => {
+            walk.done.insert(stop.node.0).map_err(|_| NoMemory)?;
+            walk.found.push(stop.node).map_err(|_| NoMemory)
+        }
+    }
+}
+
+/// The roots of `from` and of all nodes that stand in it, each once and behind its parts. It takes time and memory by these
+/// nodes and their parts, whatever else the store holds.
 pub fn reached(alloc: Global, store: &Store, from: NodeRef) -> Result<Vec<NodeRef>, NoMemory>
     requires { IsNode store.now.nodes from.0 }
     ensures found { IfOk result (λ v. Reached store.now.nodes from.0 (numbers v.items)) }
     ensures sound { IfOk result (λ _. IsSound store.now.nodes) }
 {
-    let seen = no_marks(alloc, store.len())?;
     let mut walk = Walk {
-        seen,
+        done: HashSet::new(alloc),
         found: Vec::new(alloc),
+        way: Vec::new(alloc),
     };
-    let root = store.root(from);
-    note(&mut walk, root)?;
-    let mut at = 0;
-    while at < walk.found.len() {
-        let node = walk.found[at];
-        note_parts(store, &mut walk, node)?;
-        at += 1;
+    push(&mut walk.way, store.root(from), 0)?;
+    while let Some(stop) = walk.way.pop() {
+        step(store, &mut walk, stop)?;
     }
     Ok(walk.found)
 }

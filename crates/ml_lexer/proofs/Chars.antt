@@ -7,7 +7,7 @@ use Rattle.token_model.specs.Bytes.{is_digit, is_hexadecimal, is_octal}
 use Rattle.token_model.specs.Spellings.{is_plain, is_escaped, IsChar, plain, escape, decimal_code, hexadecimal_code, octal_code}
 use Rattle.ml_lexer.specs.Scans.{char_size, escape_size}
 
-plain_not : (c : ℕ) → is_plain c ≡ true → (c == 92) ≡ false
+pub plain_not : (c : ℕ) → is_plain c ≡ true → (c == 92) ≡ false
 plain_not c is = grind (arith, nat_tests)
 
 digit_not_escaped : (c : ℕ) → is_digit c ≡ true → is_escaped c ≡ false

@@ -60,7 +60,7 @@ byte_piece_is l is =
 passes_spelled : (w bs rest : List ℕ) → piece_of (w ++ bs) ≡ passes (length w) → Closes bs rest → Step (piece_of (w ++ bs)) (w ++ bs) rest
 passes_spelled w bs rest is more = subst (λ (p : Piece). Step p (w ++ bs) rest) (sym is) (subst (λ (l : List ℕ). Closes l rest) (sym (drop-append_seam w bs)) more)
 
-char_long : (w : List ℕ) → IsChar w → 0 < length w
+pub char_long : (w : List ℕ) → IsChar w → 0 < length w
 char_long w is = omega (arith, ap length (char_first w is).1)
 
 -- what closes a comment, by its first piece

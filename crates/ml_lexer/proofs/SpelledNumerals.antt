@@ -15,7 +15,7 @@ use Rattle.ml_lexer.proofs.Classes.{IsLiteral, digit_class}
 use Rattle.ml_lexer.proofs.Spelled.{NoLonger, plainly, run_all, run_front}
 use Rattle.ml_lexer.proofs.SpelledMarks.{FoundIs, is_spelled}
 
-digit_is_decimal : (b : ℕ) → is_digit b ≡ true → is_decimal b ≡ true
+pub digit_is_decimal : (b : ℕ) → is_digit b ≡ true → is_decimal b ≡ true
 digit_is_decimal b is = grind (arith, nat_tests)
 
 e_not_decimal : (b : ℕ) → is_e b ≡ true → (is_decimal b ≡ false) × ((b == 46) ≡ false)

@@ -14,7 +14,7 @@ use Rattle.ml_lexer.proofs.Inside.{two_known}
 use Rattle.ml_lexer.proofs.Classes.{SignMark, array_end, greater_end, object_end, sign_class}
 use Rattle.ml_lexer.proofs.Spelled.{IsSpelled, plainly, run_all, run_front}
 
-operator_is_sign : (b : ℕ) → begins_operator b ≡ true → is_sign b ≡ true
+pub operator_is_sign : (b : ℕ) → begins_operator b ≡ true → is_sign b ≡ true
 operator_is_sign b is = grind (arith, nat_tests)
 
 -- a sign that closes a bracket: it is spelled, and the run of signs has one byte

@@ -48,32 +48,32 @@ c3 b = if is_digit b then digit_class else c4 b
 abbrev c2 : ℕ → Class
 c2 b = if is_upper b then upper_class else c3 b
 
-abbrev f9 : ℕ → List ℕ → Found
+abbrev pub f9 : ℕ → List ℕ → Found
 f9 b bs = if begins_operator b then sign_found bs else mark_or_stray b bs
 
-abbrev f8 : ℕ → List ℕ → Found
+abbrev pub f8 : ℕ → List ℕ → Found
 f8 b bs = if b == 123 then brace_found bs else f9 b bs
 
-abbrev f7 : ℕ → List ℕ → Found
+abbrev pub f7 : ℕ → List ℕ → Found
 f7 b bs = if b == 91 then bracket_found bs else f8 b bs
 
-abbrev f6 : ℕ → List ℕ → Found
+abbrev pub f6 : ℕ → List ℕ → Found
 f6 b bs = if b == 40 then paren_found bs else f7 b bs
 
-abbrev f5 : ℕ → List ℕ → Found
+abbrev pub f5 : ℕ → List ℕ → Found
 f5 b bs = if b == 34 then quote_found bs else f6 b bs
 
-abbrev f4 : ℕ → List ℕ → Found
+abbrev pub f4 : ℕ → List ℕ → Found
 f4 b bs = if b == 39 then tick_found bs else f5 b bs
 
-abbrev f3 : ℕ → List ℕ → Found
+abbrev pub f3 : ℕ → List ℕ → Found
 f3 b bs = if is_digit b then numeral_found bs else f4 b bs
 
-abbrev f2 : ℕ → List ℕ → Found
+abbrev pub f2 : ℕ → List ℕ → Found
 f2 b bs = if is_upper b then upper_found bs else f3 b bs
 
 -- what the scan finds, by the class of the first byte
-found_is : (bs : List ℕ) → 0 < length bs → FoundIs (class_of (get_or bs 0 0)) bs (found_from (get_or bs 0 0) bs)
+pub found_is : (bs : List ℕ) → 0 < length bs → FoundIs (class_of (get_or bs 0 0)) bs (found_from (get_or bs 0 0) bs)
 unfolding class_of found_from
 found_is bs some =
     let b = get_or bs 0 0 in

@@ -2,6 +2,7 @@
 ghost use Rattle.std.specs.Prelude.{◌≡◌, ◌≤◌, ◌<◌, ◌+◌, ◌-◌, ◌^◌, slice_index, length, IfOk, IfSome, ℕ, Option, option_map};
 ghost use Rattle.ml_lexer.specs.Founds.{found_of, Fits, ended_of};
 ghost use Rattle.ml_lexer.specs.Places.{rest_of, IsPlaced};
+ghost use Rattle.ml_lexer.specs.Reaches.{operator_reach, paren_reach, bracket_reach};
 ghost use Rattle.ml_lexer.specs.Scans.{paren_found, bracket_found, op_name_found, operator_end as operator_end_of, is_operator_kind as is_operator_kind_of};
 ghost use Rattle.syntax_tree.specs.Names.{kind_of};
 
@@ -78,6 +79,7 @@ fn find_op_name(text: Rest<'_>, from: usize, operator: Option<Ended>) -> Found
     requires within { IfSome operator (λ e. (from ≤ e.end) × (e.end ≤ length (rest_of text))) }
     ensures value { found_of result ≡ op_name_found from (option_map ended_of operator) (rest_of text.entry) }
     ensures fits { Fits result (rest_of text.entry) }
+    ensures reach { result.reach ≡ operator_reach from (option_map ended_of operator) (rest_of text.entry) }
 {
     let Some(operator) = operator else {
         let colon = peek(text, from) == b':';
@@ -101,12 +103,13 @@ fn find_op_name(text: Rest<'_>, from: usize, operator: Option<Ended>) -> Found
 }
 
 /// What begins with `(`, where no comment does.
-#[tactic(auto, unfolding(syntax_tree::specs::Names::kind_of, crate::specs::Scans::paren_found))]
+#[tactic(auto, unfolding(syntax_tree::specs::Names::kind_of, crate::specs::Scans::paren_found, crate::specs::Reaches::paren_reach))]
 pub fn find_paren(alloc: Global, text: Rest<'_>) -> Result<Found, NoMemory>
     requires placed { IsPlaced text }
     requires some { 0 < length (rest_of text) }
     ensures value { IfOk result (λ f. found_of f ≡ paren_found (rest_of text.entry)) }
     ensures fits { IfOk result (λ f. Fits f (rest_of text.entry)) }
+    ensures reach { IfOk result (λ f. f.reach ≡ paren_reach (rest_of text.entry)) }
 {
     let from = run(text, 1, Sort::Blank);
     if peek(text, from) == b')' {
@@ -117,12 +120,13 @@ pub fn find_paren(alloc: Global, text: Rest<'_>) -> Result<Found, NoMemory>
 }
 
 /// What begins with `[`.
-#[tactic(auto, unfolding(syntax_tree::specs::Names::kind_of, crate::specs::Scans::bracket_found))]
+#[tactic(auto, unfolding(syntax_tree::specs::Names::kind_of, crate::specs::Scans::bracket_found, crate::specs::Reaches::bracket_reach))]
 pub fn find_bracket(text: Rest<'_>) -> Found
     requires placed { IsPlaced text }
     requires some { 0 < length (rest_of text) }
     ensures value { found_of result ≡ bracket_found (rest_of text.entry) }
     ensures fits { Fits result (rest_of text.entry) }
+    ensures reach { result.reach ≡ bracket_reach (rest_of text.entry) }
 {
     let end = run(text, 1, Sort::Blank);
     if peek(text, end) == b']' {

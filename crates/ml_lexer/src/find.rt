@@ -2,6 +2,7 @@
 ghost use Rattle.std.specs.Prelude.{◌≡◌, ◌≤◌, ◌<◌, ◌+◌, ◌^◌, slice_index, true, length, IfOk};
 ghost use Rattle.ml_lexer.specs.Founds.{found_of, Fits};
 ghost use Rattle.ml_lexer.specs.Places.{rest_of, IsPlaced};
+ghost use Rattle.ml_lexer.specs.Reaches.{reach_from};
 ghost use Rattle.ml_lexer.specs.Scans.{found_from};
 
 use crate::brackets::{find_bracket, find_paren};
@@ -15,12 +16,13 @@ use std::alloc::Global;
 use syntax_tree::NoMemory;
 
 /// The token at the front, where neither a blank nor a comment begins.
-#[tactic(auto, unfolding(crate::specs::Scans::found_from))]
+#[tactic(auto, unfolding(crate::specs::Scans::found_from, crate::specs::Reaches::reach_from))]
 pub fn find(alloc: Global, text: Rest<'_>) -> Result<Found, NoMemory>
     requires placed { IsPlaced text }
     requires some { 0 < length (rest_of text) }
     ensures value { IfOk result (λ f. found_of f ≡ found_from (slice_index (rest_of text.entry) 0) (rest_of text.entry)) }
     ensures fits { IfOk result (λ f. Fits f (rest_of text.entry)) }
+    ensures reach { IfOk result (λ f. f.reach ≡ reach_from (slice_index (rest_of text.entry) 0) (rest_of text.entry)) }
 {
     let first = peek(text, 0);
     if is_lower(first) {

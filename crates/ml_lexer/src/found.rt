@@ -2,8 +2,9 @@
 ghost use Rattle.std.specs.Prelude.{◌≡◌, ◌≤◌, ◌<◌, ◌+◌, ◌^◌, length};
 ghost use Rattle.ml_lexer.specs.Founds.{found_of, Fits};
 ghost use Rattle.ml_lexer.specs.Places.{rest_of, IsPlaced};
-ghost use Rattle.ml_lexer.specs.Scans.{found, stray_found};
+ghost use Rattle.ml_lexer.specs.Scans.{found, stray_found, run_end};
 ghost use Rattle.syntax_tree.specs.Names.{kind_of};
+ghost use Rattle.token_model.specs.Bytes.{continues};
 ghost use Rattle.token_model.specs.Kinds.{junk};
 
 use crate::rest::{Rest, Sort, len, run};
@@ -42,6 +43,7 @@ pub fn stray(text: Rest<'_>) -> Found
     requires placed { IsPlaced text }
     requires some { 0 < length (rest_of text) }
     ensures value { found_of result ≡ stray_found (rest_of text.entry) }
+    ensures reach { result.reach ≡ run_end continues 1 (rest_of text.entry) + 1 }
     ensures fits { Fits result (rest_of text.entry) }
 {
     spelled(TokenKind::Junk, run(text, 1, Sort::Later), 1)
@@ -53,6 +55,7 @@ pub fn unclosed(text: Rest<'_>) -> Found
     requires placed { IsPlaced text }
     requires some { 0 < length (rest_of text) }
     ensures value { found_of result ≡ found junk (length (rest_of text.entry)) }
+    ensures reach { result.reach ≡ length (rest_of text.entry) + 1 }
     ensures fits { Fits result (rest_of text.entry) }
 {
     spelled(TokenKind::Junk, len(text), 1)

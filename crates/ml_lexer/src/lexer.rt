@@ -7,6 +7,7 @@ ghost use Rattle.token_model.specs.Tokens.{FirstToken, Lex};
 ghost use Rattle.ml_lexer.specs.Founds.{found_of, Fits, placed_tok};
 ghost use Rattle.ml_lexer.specs.Nexts.{IsNext};
 ghost use Rattle.ml_lexer.specs.Places.{rest_of, IsPlaced, tallied};
+ghost use Rattle.ml_lexer.specs.Reaches.{reach_at, IsStable, HasFew};
 ghost use Rattle.syntax_tree.specs.Tallies.{lexed_more, Grows};
 ghost use Rattle.syntax_tree.specs.View.{tok_of};
 ghost use Rattle.text_terms.specs.Bytes.{str_bytes};
@@ -106,6 +107,8 @@ fn token_at<C: Counts>(
 
 /// The first token of a text in two parts at or behind a place, which is 0 or a token's end.
 /// None where only blanks and closed comments are left. Each token given is counted.
+/// A token's reach is the end of the bytes that decided it, where the end of the text counts as one byte:
+/// an edit behind the reach leaves the token as it is.
 /// After `NoMemory` the counter is as before.
 pub fn lex_from<C: Counts>(
     alloc: Global,
@@ -119,7 +122,10 @@ pub fn lex_from<C: Counts>(
     requires inside { IsCharBoundary (left.now ++ right.now) at }
     ensures token { IfOk result (λ o. FirstToken (left.now ++ right.now) at (option_map tok_of o)) }
     ensures span { IfOk result (λ o. IfSome o (λ t. (at < t.span.end) × (t.span.start ≤ t.span.end) × IsCharBoundary (left.now ++ right.now) t.span.end)) }
-    ensures reach { IfOk result (λ o. IfSome o (λ t. (t.span.end ≤ t.reach) × (t.reach ≤ length (left.now ++ right.now) + 1))) }
+    ensures reach { IfOk result (λ o. IfSome o (λ t. t.reach ≡ reach_at (left.now ++ right.now) t.span.start)) }
+    ensures near { IfOk result (λ o. IfSome o (λ t. (t.span.end ≤ t.reach) × (t.reach ≤ length (left.now ++ right.now) + 1))) }
+    ensures stable { IfOk result (λ o. IfSome o (λ t. IsStable (left.now ++ right.now) at (tok_of t) t.reach)) }
+    ensures few { IfOk result (λ o. IfSome o (λ t. HasFew (left.now ++ right.now) (tok_of t) t.reach)) }
     ensures counted { IfOk result (λ o. C.tallies counts.new ≡ tallied o (C.tallies counts.old)) }
     ensures refused { OnErr result (C.tallies counts.new ≡ C.tallies counts.old) }
     ensures grows { Grows (C.tallies counts.old) (C.tallies counts.new) }

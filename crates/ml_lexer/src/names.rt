@@ -1,7 +1,8 @@
 //! Identifiers, words, qualifiers, and what begins with a quote.
-ghost use Rattle.std.specs.Prelude.{◌≡◌, ◌≤◌, ◌<◌, ◌+◌, ◌^◌, ◌||◌, slice_index, true, length, IfOk};
+ghost use Rattle.std.specs.Prelude.{◌≡◌, ◌≤◌, ◌<◌, ◌+◌, ◌^◌, ◌||◌, min, slice_index, true, length, IfOk};
 ghost use Rattle.ml_lexer.specs.Founds.{found_of, Fits};
 ghost use Rattle.ml_lexer.specs.Places.{rest_of, IsPlaced};
+ghost use Rattle.ml_lexer.specs.Reaches.{type_reach as type_reach_of, word_reach, upper_reach, escape_reach as escape_reach_of, char_reach as char_reach_of, tick_reach};
 ghost use Rattle.ml_lexer.specs.Scans.{word_found, upper_found, tick_found, escape_size as escape_size_of, char_size as char_size_of, is_module_word as is_module_word_there, is_type_word as is_type_word_there};
 ghost use Rattle.token_model.specs.Bytes.{goes_on as goes_on_byte};
 ghost use Rattle.token_model.specs.Spellings.{is_plain as is_plain_byte, is_escaped as is_escaped_byte};
@@ -39,36 +40,35 @@ fn is_type_word(text: Rest<'_>, from: usize, to: usize) -> bool
         && peek(text, from + 3) == b'e'
 }
 
-/// The end of the bytes that decide that no `type` ends at `to`, where a word may begin at `from`.
-fn type_reach(text: Rest<'_>, from: usize, to: usize) -> usize
+/// The end of the bytes that decide that no `type` stands as a word at a place: its letters, and the byte behind them.
+fn type_reach(text: Rest<'_>, from: usize) -> usize
     requires placed { IsPlaced text }
-    requires order { from ≤ to }
-    requires near { to ≤ length (rest_of text) }
-    ensures near { (from < result) × (result ≤ to + 1) }
+    requires near { from ≤ length (rest_of text) }
+    ensures value { result ≡ type_reach_of from (rest_of text.entry) }
+    ensures near { (from < result) × (result ≤ length (rest_of text.entry) + 1) }
 {
-    if from == to || peek(text, from) != b't' {
+    if peek(text, from) != b't' {
         from + 1
-    } else if from + 1 == to || peek(text, from + 1) != b'y' {
+    } else if peek(text, from + 1) != b'y' {
         from + 2
-    } else if from + 2 == to || peek(text, from + 2) != b'p' {
+    } else if peek(text, from + 2) != b'p' {
         from + 3
-    } else if from + 3 == to || peek(text, from + 3) != b'e' {
+    } else if peek(text, from + 3) != b'e' {
         from + 4
-    } else if from + 4 == to {
-        to + 1
     } else {
         from + 5
     }
 }
 
 /// What begins with a lower-case letter or `_`.
-#[tactic(auto, unfolding(syntax_tree::specs::Names::kind_of, crate::specs::Scans::word_found), using(crate::proofs::Runs::run_some))]
+#[tactic(auto, unfolding(syntax_tree::specs::Names::kind_of, crate::specs::Scans::word_found, crate::specs::Reaches::word_reach), using(crate::proofs::Runs::run_some))]
 pub fn find_word(alloc: Global, text: Rest<'_>) -> Result<Found, NoMemory>
     requires placed { IsPlaced text }
     requires some { 0 < length (rest_of text) }
     requires begins { goes_on_byte (slice_index (rest_of text) 0) ≡ true }
     ensures value { IfOk result (λ f. found_of f ≡ word_found (rest_of text.entry)) }
     ensures fits { IfOk result (λ f. Fits f (rest_of text.entry)) }
+    ensures reach { IfOk result (λ f. f.reach ≡ word_reach (rest_of text.entry)) }
 {
     let end = run(text, 0, Sort::Name);
     let word = copy(alloc, text, 0, end)?;
@@ -80,18 +80,19 @@ pub fn find_word(alloc: Global, text: Rest<'_>) -> Result<Found, NoMemory>
     if end < from && is_type_word(text, from, to) {
         return Ok(spelled(TokenKind::ModuleType, to, 1));
     }
-    let behind = type_reach(text, from, to) - end;
+    let behind = type_reach(text, from) - end;
     Ok(spelled(word_kind(&word), end, behind))
 }
 
 /// What begins with an upper-case letter.
-#[tactic(auto, unfolding(syntax_tree::specs::Names::kind_of, crate::specs::Scans::upper_found))]
+#[tactic(auto, unfolding(syntax_tree::specs::Names::kind_of, crate::specs::Scans::upper_found, crate::specs::Reaches::upper_reach))]
 pub fn find_upper(text: Rest<'_>) -> Found
     requires placed { IsPlaced text }
     requires some { 0 < length (rest_of text) }
     requires begins { goes_on_byte (slice_index (rest_of text) 0) ≡ true }
     ensures value { found_of result ≡ upper_found (rest_of text.entry) }
     ensures fits { Fits result (rest_of text.entry) }
+    ensures reach { result.reach ≡ upper_reach (rest_of text.entry) }
 {
     let end = run(text, 0, Sort::Name);
     if peek(text, end) == b'.' {
@@ -176,8 +177,9 @@ pub fn char_size(text: Rest<'_>) -> usize
 }
 
 /// The end of the bytes that decide that a quote and a backslash begin no character literal.
-fn code_reach(text: Rest<'_>) -> usize
+fn escape_reach(text: Rest<'_>) -> usize
     requires { IsPlaced text }
+    ensures value { result ≡ escape_reach_of (rest_of text.entry) }
     ensures near { (3 ≤ result) × (result ≤ 7) }
 {
     match peek(text, 2) {
@@ -196,15 +198,16 @@ fn code_reach(text: Rest<'_>) -> usize
     }
 }
 
-/// The end of the bytes that decide that a quote begins nothing.
-fn tick_reach(text: Rest<'_>) -> usize
+/// The end of the bytes that decide that a quote begins no character literal.
+fn char_reach(text: Rest<'_>) -> usize
     requires placed { IsPlaced text }
     requires some { 0 < length (rest_of text) }
+    ensures value { result ≡ min (char_reach_of (rest_of text.entry)) (length (rest_of text.entry) + 1) }
     ensures near { (2 ≤ result) × (result ≤ length (rest_of text.entry) + 1) }
 {
     let first = peek(text, 1);
     let wanted = if first == b'\\' {
-        code_reach(text)
+        escape_reach(text)
     } else if is_plain(first) {
         3
     } else {
@@ -214,12 +217,13 @@ fn tick_reach(text: Rest<'_>) -> usize
 }
 
 /// What begins with a quote.
-#[tactic(auto, unfolding(syntax_tree::specs::Names::kind_of, crate::specs::Scans::tick_found))]
+#[tactic(auto, unfolding(syntax_tree::specs::Names::kind_of, crate::specs::Scans::tick_found, crate::specs::Reaches::tick_reach))]
 pub fn find_tick(text: Rest<'_>) -> Found
     requires placed { IsPlaced text }
     requires some { 0 < length (rest_of text) }
     ensures value { found_of result ≡ tick_found (rest_of text.entry) }
     ensures fits { Fits result (rest_of text.entry) }
+    ensures reach { result.reach ≡ tick_reach (rest_of text.entry) }
 {
     let size = char_size(text);
     if size > 0 {
@@ -230,7 +234,7 @@ pub fn find_tick(text: Rest<'_>) -> Found
     }
     let found = stray(text);
     Found {
-        reach: found.reach.max(tick_reach(text)),
+        reach: found.reach.max(char_reach(text)),
         ..found
     }
 }

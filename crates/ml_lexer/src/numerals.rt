@@ -1,9 +1,10 @@
 //! Integer and floating-point literals, and what identifier characters make of them.
-ghost use Rattle.std.specs.Prelude.{◌≡◌, ◌≤◌, ◌<◌, ◌+◌, ◌^◌, ◌||◌, slice_index, true, length};
+ghost use Rattle.std.specs.Prelude.{◌≡◌, ◌≤◌, ◌<◌, ◌+◌, ◌^◌, ◌||◌, ◌&&◌, ◌==◌, if◌then◌else◌, slice_index, true, length};
 ghost use Rattle.ml_lexer.specs.Founds.{found_of, Fits};
 ghost use Rattle.ml_lexer.specs.Places.{rest_of, IsPlaced};
-ghost use Rattle.ml_lexer.specs.Scans.{literal_found, numeral_found, is_based as is_based_there, based_end as based_end_of, fraction_end as fraction_end_of, exponent_end as exponent_end_of, is_e as is_e_byte, is_plus_or_minus as is_plus_or_minus_byte};
-ghost use Rattle.token_model.specs.Bytes.{is_digit as is_digit_byte};
+ghost use Rattle.ml_lexer.specs.Reaches.{behind_reach, numeral_reach};
+ghost use Rattle.ml_lexer.specs.Scans.{literal_found, numeral_found, run_end, is_based as is_based_there, based_end as based_end_of, fraction_end as fraction_end_of, exponent_end as exponent_end_of, is_e as is_e_byte, is_plus_or_minus as is_plus_or_minus_byte};
+ghost use Rattle.token_model.specs.Bytes.{is_digit as is_digit_byte, goes_on};
 
 use crate::found::{Found, spelled};
 use crate::rest::{Rest, Sort, is_digit, is_digit_of, peek, run};
@@ -81,6 +82,7 @@ fn find_literal(text: Rest<'_>) -> Found
     requires begins { is_digit_byte (slice_index (rest_of text) 0) ≡ true }
     ensures value { found_of result ≡ literal_found (rest_of text.entry) }
     ensures fits { Fits result (rest_of text.entry) }
+    ensures reach { result.reach ≡ result.size + 1 }
 {
     if is_based(text) {
         let end = based_end(text, peek(text, 1));
@@ -100,9 +102,13 @@ fn numeral_behind(text: Rest<'_>, literal: usize, end: usize) -> usize
     requires placed { IsPlaced text }
     requires order { literal ≤ end }
     requires inside { end ≤ length (rest_of text) }
+    ensures value { result ≡ (if end == literal + 1 && is_e_byte (slice_index (rest_of text.entry) literal) && is_plus_or_minus_byte (slice_index (rest_of text.entry) (literal + 1)) then 2 else 1) }
     ensures near { (0 < result) × (end + result ≤ length (rest_of text.entry) + 1) }
 {
-    if end - literal == 1 && is_e(peek(text, literal)) && is_plus_or_minus(peek(text, end)) {
+    if end == literal + 1
+        && is_e(peek(text, literal))
+        && is_plus_or_minus(peek(text, literal + 1))
+    {
         2
     } else {
         1
@@ -110,13 +116,14 @@ fn numeral_behind(text: Rest<'_>, literal: usize, end: usize) -> usize
 }
 
 /// What begins with a digit.
-#[tactic(auto, unfolding(syntax_tree::specs::Names::kind_of, crate::specs::Scans::numeral_found))]
+#[tactic(auto, unfolding(syntax_tree::specs::Names::kind_of, crate::specs::Scans::numeral_found, crate::specs::Reaches::numeral_reach))]
 pub fn find_numeral(text: Rest<'_>) -> Found
     requires placed { IsPlaced text }
     requires some { 0 < length (rest_of text) }
     requires begins { is_digit_byte (slice_index (rest_of text) 0) ≡ true }
     ensures value { found_of result ≡ numeral_found (rest_of text.entry) }
     ensures fits { Fits result (rest_of text.entry) }
+    ensures reach { result.reach ≡ numeral_reach (rest_of text.entry) }
 {
     let literal = find_literal(text);
     let end = run(text, literal.size, Sort::Name);

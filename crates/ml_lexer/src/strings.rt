@@ -2,6 +2,7 @@
 ghost use Rattle.std.specs.Prelude.{◌≡◌, ◌≤◌, ◌<◌, ◌+◌, ◌-◌, ◌^◌, take, drop, true, false, length, IfSome, slice_index};
 ghost use Rattle.ml_lexer.specs.Founds.{found_of, Fits};
 ghost use Rattle.ml_lexer.specs.Places.{rest_of, IsPlaced};
+ghost use Rattle.ml_lexer.specs.Reaches.{string_reach, quote_reach, brace_reach};
 ghost use Rattle.ml_lexer.specs.Scans.{string_end as string_end_of, quoted_end as quoted_end_of, word_end, front_is, string_found, opens_quoted as opens_quoted_there, run_end, quote_found, brace_found};
 ghost use Rattle.token_model.specs.Bytes.{is_lower};
 ghost use Rattle.token_model.specs.Spellings.{closing};
@@ -122,6 +123,7 @@ fn string_up_to(text: Rest<'_>, end: Option<usize>) -> Found
     requires within { IfSome end (λ end. (0 < end) × (end ≤ length (rest_of text))) }
     ensures value { found_of result ≡ string_found end (rest_of text.entry) }
     ensures fits { Fits result (rest_of text.entry) }
+    ensures reach { result.reach ≡ string_reach end (rest_of text.entry) }
 {
     match end {
         Some(end) => spelled(TokenKind::Str, end, 0),
@@ -130,23 +132,25 @@ fn string_up_to(text: Rest<'_>, end: Option<usize>) -> Found
 }
 
 /// What begins with `"`.
-#[tactic(auto, unfolding(crate::specs::Scans::quote_found))]
+#[tactic(auto, unfolding(crate::specs::Scans::quote_found, crate::specs::Reaches::quote_reach))]
 pub fn find_string(text: Rest<'_>) -> Found
     requires placed { IsPlaced text }
     requires some { 0 < length (rest_of text) }
     ensures value { found_of result ≡ quote_found (rest_of text.entry) }
     ensures fits { Fits result (rest_of text.entry) }
+    ensures reach { result.reach ≡ quote_reach (rest_of text.entry) }
 {
     string_up_to(text, string_end(text, 1))
 }
 
 /// What begins with `{`.
-#[tactic(auto, unfolding(syntax_tree::specs::Names::kind_of, crate::specs::Scans::brace_found))]
+#[tactic(auto, unfolding(syntax_tree::specs::Names::kind_of, crate::specs::Scans::brace_found, crate::specs::Reaches::brace_reach))]
 pub fn find_brace(text: Rest<'_>) -> Found
     requires placed { IsPlaced text }
     requires some { 0 < length (rest_of text) }
     ensures value { found_of result ≡ brace_found (rest_of text.entry) }
     ensures fits { Fits result (rest_of text.entry) }
+    ensures reach { result.reach ≡ brace_reach (rest_of text.entry) }
 {
     if opens_quoted(text) {
         string_up_to(text, quoted_end(text))

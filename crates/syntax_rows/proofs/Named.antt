@@ -97,7 +97,7 @@ in_names name.Ywith = refl
 in_names name.Yfunctor = refl
 
 -- a name that has the number of a row's name is the row's name
-row_named : (n : RowName) (r : ℕ) → name_number n ≡ (row_at rows r).name → row_of n ≡ row_name r
+pub row_named : (n : RowName) (r : ℕ) → name_number n ≡ (row_at rows r).name → row_of n ≡ row_name r
 row_named n r h = sym (ap (or_else program_row) (sym (ap (slice_get row_names) h) ∙ in_names n))
 
 -- where no row is found there is none

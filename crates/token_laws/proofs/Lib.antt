@@ -1,5 +1,4 @@
-pub mod Gaps
-pub mod Stops
 pub mod Sorts
 pub mod OneKind
 pub mod Ones
+pub mod Steadies

@@ -12,7 +12,7 @@ use Rattle.token_model.specs.Bytes.{is_blank, is_digit, is_lower, is_upper, goes
 use Rattle.token_model.specs.Spellings.{Run, AreBlanks, IsInt, decimal, based, IsFloat, float_with, IsFraction, no_fraction, fraction, IsExponent, no_exponent, exponent, signed_exponent, IsQuoted, IsOperator, sign_operator, word_operator, assignment, Spells, closing}
 use Rattle.ml_lexer.proofs.Spelled.{run_all}
 use Rattle.ml_lexer.proofs.Classes.{Class, IsModuleType, IsUnit, IsNil}
-use Rattle.token_laws.proofs.Gaps.{tail_same}
+use Rattle.ml_lexer.proofs.OneGap.{tail_same}
 use Rattle.token_laws.proofs.Sorts.{mark_one, lacks, IsOpNameOf, Sorted, word_sort, module_sort, upper_sort, qualifier_sort, int_sort, float_sort, broken_sort, char_sort, ty_var_sort, string_sort, paren_sort, unit_sort, op_name_sort, bracket_sort, nil_sort, brace_sort, quoted_sort, sign_mark_sort, operator_sort, plain_mark_sort, hash_sort, sorted}
 
 -- a part of a list whose bytes all pass

@@ -1,5 +1,5 @@
 -- A text has one list of tokens.
-use Rattle.std.proofs.Common.{◌≡◌, ◌++◌, ◌∷◌, [], ℕ, List, true, false, drop, length, sym, subst, arith, refl, ap, ◌∙◌, append-nil, length-append}
+use Rattle.std.proofs.Common.{◌≡◌, ◌++◌, ◌∷◌, [], ℕ, List, true, false, drop, length, sym, subst, arith, refl, ap, ◌∙◌, append-nil, length-append, Some, None}
 use Rattle.std.specs.List.{list_all}
 use Rattle.token_model.specs.Bytes.{continues, begins}
 use Rattle.token_model.specs.Kinds.{Kind, Tok}
@@ -7,8 +7,8 @@ use Rattle.token_model.specs.Spellings.{Spells}
 use Rattle.token_model.specs.Tokens.{Gap, IsUnclosed, Stands, unclosed, longest, stray, IsFirst, FirstToken, LexFrom, Lex}
 use Rattle.ml_lexer.specs.Scans.{run_length}
 use Rattle.ml_lexer.proofs.Runs.{run_exact}
-use Rattle.token_laws.proofs.Gaps.{IsStop, gap_one, tail_same}
-use Rattle.token_laws.proofs.Stops.{stands_stop, stands_some}
+use Rattle.ml_lexer.proofs.OneGap.{IsStop, gap_one, tail_same}
+use Rattle.ml_lexer.proofs.Stops.{stands_stop, stands_some}
 use Rattle.token_laws.proofs.OneKind.{kind_one}
 
 -- the first bytes of one list are one
@@ -104,3 +104,12 @@ lex_from_one text at (t ∷ ts) (u ∷ us) first second =
 pub lex_one : (text : List ℕ) (ts us : List Tok) → Lex text ts → Lex text us → ts ≡ us
 unfolding Lex
 lex_one text ts us first second = lex_from_one text 0 ts us first second
+
+-- the first token of a text at or behind a place is one, and there is none or one
+pub token_one : (text : List ℕ) (at : ℕ) (t u : Tok) → FirstToken text at (Some t) → FirstToken text at (Some u) → t ≡ u
+unfolding FirstToken
+token_one text at t u first second = first_one at (drop at text) t u first second
+
+pub none_or_one : (text : List ℕ) (at : ℕ) (t : Tok) → FirstToken text at None → FirstToken text at (Some t) → ⊥
+unfolding FirstToken
+none_or_one text at t none some = none_left at (drop at text) t none some

@@ -1,51 +1,42 @@
-use Rattle.std.proofs.Common.{◌<◌, length, arith, ◌∙◌, ap, false}
-use Rattle.std.proofs.lemmas.List.{length-replicate}
+use Rattle.std.proofs.Common.{◌≡◌, List, [], ◌∷◌, ◌++◌, length, refl, ap, ◌∙◌, arith}
+use Rattle.std.proofs.lemmas.List.{map-append}
+use Rattle.std.specs.Prelude.{nat_eq}
+use Rattle.std.specs.List.{list_any}
 use Rattle.type_nodes.specs.Views.{numbers}
-use Rattle.type_nodes.proofs.Roots.{root_inside}
-use Rattle.level_unify.specs.Walks.{seen_of}
-use Rattle.level_unify.proofs.Numbers.{number_read, numbers_length}
-use Rattle.level_unify.proofs.Walking.{marked_inside, walk_begins, walk_next, walk_end}
+use Rattle.level_unify.specs.declared.walk.Stop.{Stop}
+use Rattle.level_unify.specs.Walks.{stop_of, stops_of, course_of}
+use Rattle.level_unify.proofs.Walking.{walk_start, walk_on, walk_end, stop_inside}
 use Rattle.level_unify.proofs.walk.reached.Goals as goal
 
-pub note-requires : goal.note-requires
-note-requires c =
-    let inside = root_inside c.args.store.now.nodes c.root-root.ensures.sound c.args.from.0 c.requires in
-    let e = c.root-root.ensures.root in
-    let made = ap length c.in_ok-seen.ensures ∙ length-replicate c.len.result false in
-    let len = c.len.ensures.count in
-    omega arith
+-- the stops of the way that one was taken from
+taken : (way rest : List Stop) (s : Stop) → way ≡ rest ++ s ∷ [] → stops_of way ≡ stops_of rest ++ stop_of s ∷ []
+taken way rest s e = ap stops_of e ∙ map-append stop_of rest (s ∷ [])
 
-pub loop-at-init : goal.loop-at-init
-loop-at-init c =
-    walk_begins c.args.store.now.nodes c.root-root.ensures.sound c.args.from.0 c.root-root.result.0 c.len.result c.in_ok-seen.seen.items (numbers c.new.result.items) (seen_of c.note.new.walk)
-    c.requires c.root-root.ensures.root c.len.ensures.count c.in_ok-seen.ensures (ap numbers c.new.ensures.items) c.in_ok-note.ensures.noted
+no_stops : (way : List Stop) → length way ≡ 0 → stops_of way ≡ []
+no_stops [] e = refl
+no_stops (s ∷ way) e = absurd (omega arith)
 
-pub note_parts-requires-clause-node : goal.note_parts-requires-clause-node
-note_parts-requires-clause-node c =
-    let len = c.len-in-loop-at.ensures in
-    let test = c.loop-at-test.true in
-    let lt : c.loop-at.at < length c.loop-at.walk.found.items = omega arith in
-    let e = number_read c.loop-at.walk.found.items c.loop-at.at c.index-node.result.now lt c.index-node.ensures in
-    let marked = c.loop-at.invariant.seeing.marked c.loop-at.at c.index-node.result.now.0 e in
-    let l = marked_inside c.loop-at.walk.seen.items c.index-node.result.now.0 marked in
-    let s = c.loop-at.invariant.seeing.sized in
-    omega arith
+pub loop-stop-init : goal.loop-stop-init
+loop-stop-init c =
+    walk_start c.args.store.now.nodes c.root.ensures.sound c.args.from.0 (course_of (record { done = c.new.result; found = c.new-2.result; way = c.push.new.way })) c.requires
+    (λ n. ap (list_any (nat_eq n)) c.new.ensures.empty)
+    (ap numbers c.new-2.ensures.items)
+    (c.in_ok-push.ensures ∙ (λ i. stops_of (c.new-3.ensures.items i) ++ (c.root.ensures.root i, 0) ∷ []))
 
-pub loop-at-preserved : goal.loop-at-preserved
-loop-at-preserved c =
-    let len = c.len-in-loop-at.ensures in
-    let test = c.loop-at-test.true in
-    let lt : c.loop-at.at < length c.loop-at.walk.found.items = omega arith in
-    let e = number_read c.loop-at.walk.found.items c.loop-at.at c.index-node.result.now lt c.index-node.ensures in
-    walk_next c.args.store.now.nodes c.len.ensures.sound c.args.from.0 (seen_of c.loop-at.walk) (seen_of c.note_parts.new.walk) c.loop-at.at c.index-node.result.now.0 e
-    c.in_ok-note_parts.ensures.noted c.loop-at.invariant
+pub step-requires-clause-node : goal.step-requires-clause-node
+step-requires-clause-node c =
+    stop_inside c.args.store.now.nodes c.args.from.0 (course_of c.loop-stop.walk) (stops_of c.pop.new.self.items) (stop_of c.in-Some.stop) (taken c.loop-stop.walk.way.items c.pop.new.self.items c.in-Some.stop c.in-Some.ensures.items) c.loop-stop.invariant
 
-pub returns : goal.returns
-returns c =
-    record {
-      found =
-          let l = numbers_length c.loop-at.walk.found.items in
-          let over = c.loop-at-test.false in
-          walk_end c.args.store.now.nodes c.len.ensures.sound c.args.from.0 (seen_of c.loop-at.walk) c.loop-at.at (omega arith) c.loop-at.invariant;
-      sound = c.len.ensures.sound;
-    }
+pub loop-stop-smaller : goal.loop-stop-smaller
+loop-stop-smaller c =
+    (walk_on c.args.store.now.nodes c.args.from.0 (course_of c.loop-stop.walk) (course_of c.step.new.walk) (stops_of c.pop.new.self.items) (stop_of c.in-Some.stop)
+    (taken c.loop-stop.walk.way.items c.pop.new.self.items c.in-Some.stop c.in-Some.ensures.items) c.in_ok-step.ensures c.loop-stop.invariant).less
+
+pub loop-stop-preserved : goal.loop-stop-preserved
+loop-stop-preserved c =
+    (walk_on c.args.store.now.nodes c.args.from.0 (course_of c.loop-stop.walk) (course_of c.step.new.walk) (stops_of c.pop.new.self.items) (stop_of c.in-Some.stop)
+    (taken c.loop-stop.walk.way.items c.pop.new.self.items c.in-Some.stop c.in-Some.ensures.items) c.in_ok-step.ensures c.loop-stop.invariant).on
+
+pub returns-clause-found : goal.returns-clause-found
+returns-clause-found c =
+    walk_end c.args.store.now.nodes c.root.ensures.sound c.args.from.0 (course_of c.loop-stop.walk) (no_stops c.loop-stop.walk.way.items (let e = c.in_default.ensures.cases.0 in omega arith)) c.loop-stop.invariant

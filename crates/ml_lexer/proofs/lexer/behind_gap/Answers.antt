@@ -32,7 +32,7 @@ returns-in-None c =
     let here = c.ahead-here.ensures.rest in
     let there : i < length l = search rules in
     let begins : begins_comment (drop i l) ≡ true = sym (c.if-not-begins_comment.ensures.value ∙ ap begins_comment here) in
-    (there, c.loop-i.invariant.1 (drop i l) no_gap, unclosed_there (drop i l) begins (subst (λ (x : List ℕ). (rest : List ℕ) → Closes (drop 2 x) rest → ⊥) here c.in-None.ensures.unclosed))
+    (there, c.loop-i.invariant.1 (drop i l) no_gap, unclosed_there (drop i l) begins (subst (λ (x : List ℕ). (rest : List ℕ) → Closes (drop 2 x) rest → ⊥) here c.in-None.ensures.unclosed), begins)
 
 pub returns-then-not-begins_comment : goal.returns-then-not-begins_comment
 returns-then-not-begins_comment c =

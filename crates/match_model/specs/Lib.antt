@@ -1,0 +1,5 @@
+pub mod Values
+pub mod Forms
+pub mod Rows
+pub mod Shown
+pub mod Printed

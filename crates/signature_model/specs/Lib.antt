@@ -1,0 +1,12 @@
+pub mod Declarations
+pub mod Signatures
+pub mod Changes
+pub mod Components
+pub mod Templates
+pub mod Matching
+pub mod Failing
+pub mod Entries
+pub mod Lookups
+pub mod Records
+pub mod Owners
+pub mod Functors

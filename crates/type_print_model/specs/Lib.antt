@@ -1,0 +1,3 @@
+pub mod Variables
+pub mod Paths
+pub mod Printing

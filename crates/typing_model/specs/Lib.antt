@@ -1,0 +1,16 @@
+pub mod Demands
+pub mod Contexts
+pub mod Parts
+pub mod Names
+pub mod BuiltIns
+pub mod Records
+pub mod Patterns
+pub mod TypeExpressions
+pub mod Bindings
+pub mod Expressions
+pub mod Declarations
+pub mod Items
+pub mod Modules
+pub mod Meanings
+pub mod Typings
+pub mod Faults
