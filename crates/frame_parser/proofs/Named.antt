@@ -98,24 +98,24 @@ standing_few text v s =
     let l = q.stands.order.low.0 in omega arith
 
 -- the node of a frame with its missing parts has room
-named_room : (text : Text) (m : ℕ) → m ≤ 16 → (f : Frame) (S : Stack) (at : ℕ) (v w : frames.Stack) → Stands text (f ∷ S) at v → IsNamed (text_table text) row_name ((filled m (text_table text) f at).0 ∷ S) at w
-    → (sizes_in w.top.done < 2 ^ 32 - 1) × (heights_in w.top.done < 2 ^ 16 - 1)
-named_room text m le f S at v w s h =
+named_room : (text : Text) (r : names.Row) (m : ℕ) → m ≤ 16 → (f : Frame) (S : Stack) (at : ℕ) (v w : frames.Stack) → Stands text (f ∷ S) at v → IsNamed (text_table text) row_name ((filled m (text_table text) f at).0 ∷ S) at w
+    → (sizes_in r w.top.done < 2 ^ 32 - 1) × (heights_in w.top.done < 2 ^ 16 - 1)
+named_room text r m le f S at v w s h =
     let F = (filled m (text_table text) f at).0 in
-    let a = done_size_named row_name F.done in
+    let a = done_size_named row_name r F.done in
     let b = done_height_named row_name F.done in
     let c = filled_nodes m (text_table text) f at in
     let d = filled_highest m (text_table text) f at in
     let l = s.order.low.0 in
     let q = s.order.light in
-    subst (λ w. (sizes_in w.top.done < 2 ^ 32 - 1) × (heights_in w.top.done < 2 ^ 16 - 1)) h (omega arith, omega arith)
+    subst (λ w. (sizes_in r w.top.done < 2 ^ 32 - 1) × (heights_in w.top.done < 2 ^ 16 - 1)) h (omega arith, omega arith)
 
 -- the same of a stack that stands for frames in order
-pub filled_room : (text : Text) (v w : frames.Stack) (n : ℕ) → Standing text v → ((f : Frame) (S : Stack) (at : ℕ) → IsNamed (text_table text) row_name (f ∷ S) at v → IsNamed (text_table text) row_name ((filled most_parts (text_table text) f at).0 ∷ S) at w × (n ≡ (filled most_parts (text_table text) f at).1))
-    → (sizes_in w.top.done < 2 ^ 32 - 1) × (heights_in w.top.done < 2 ^ 16 - 1)
-filled_room text v w n s h =
+pub filled_room : (text : Text) (r : names.Row) (v w : frames.Stack) (n : ℕ) → Standing text v → ((f : Frame) (S : Stack) (at : ℕ) → IsNamed (text_table text) row_name (f ∷ S) at v → IsNamed (text_table text) row_name ((filled most_parts (text_table text) f at).0 ∷ S) at w × (n ≡ (filled most_parts (text_table text) f at).1))
+    → (sizes_in r w.top.done < 2 ^ 32 - 1) × (heights_in w.top.done < 2 ^ 16 - 1)
+filled_room text r v w n s h =
     let q = stood text v s in
-    named_room text most_parts (omega arith) q.top q.below q.at v w q.stands (h q.top q.below q.at q.stands.named).0
+    named_room text r most_parts (omega arith) q.top q.below q.at v w q.stands (h q.top q.below q.at q.stands.named).0
 
 -- a frame that is closed with its missing parts
 pub closed_named : (text : Text) (f g : Frame) (S : Stack) (at n : ℕ) (v w x : frames.Stack) (r : names.Row) → Stands text (f ∷ g ∷ S) at v

@@ -1,13 +1,15 @@
 -- Frames stay in order while they are closed, and their nodes have room.
-use Rattle.std.proofs.Common.{◌≡◌, ℕ, zero, suc, ◌+◌, ◌≤◌, max, List, [], ◌∷◌, Option, Some, None, refl, arith}
+use Rattle.std.proofs.Common.{◌≡◌, ℕ, zero, suc, ◌+◌, ◌≤◌, max, Bool, true, false, if◌then◌else◌, List, [], ◌∷◌, Option, Some, None, refl, arith}
 use Rattle.tree_model.specs.Rows as names
+use Rattle.tree_model.specs.Slots.{is_operand, missing_size}
 use Rattle.tree_model.specs.Extents.{extent_of, told_sizes, told_size, told_height}
 use Rattle.grammar_model.specs.Trees.{Tree, Forest, Part, node, no_parts, part, taken, inner, missing, height_of, forest_height, part_height}
 use Rattle.grammar_model.specs.Tables.{Table, Edge}
 use Rattle.grammar_model.specs.Machine.{Frame, Stack, onto, node_of, put}
 use Rattle.grammar_model.specs.Recovery.{missing_at, must_of, on_edge, one_more, filled, most_parts}
 use Rattle.parse_frames.specs.Frames.{sizes_in, heights_in}
-use Rattle.parse_frames.specs.Named.{named, named_parts, named_part, named_done}
+use Rattle.grammar_model.specs.Named.{slot_of, named, named_parts, named_part}
+use Rattle.parse_frames.specs.Named.{named_done}
 use Rattle.parse_frames.proofs.Named.{part_height_named}
 use Rattle.frame_parser.specs.Order.{nodes_of, forest_nodes, part_nodes, done_nodes, highest, weight, AllLow, InOrder}
 
@@ -79,24 +81,32 @@ put_order G f g S at o = record {
   light = let h = put_light most_parts (omega arith) G f g S at in let l = o.light in omega arith;
 }
 
+-- a missing part counts for one node, or none
+missing_few : (r : names.Row) (slot : ℕ) → missing_size r slot ≤ 1
+missing_few r slot = by (is_operand r slot)
+  where
+    by : (b : Bool) → (if b then 1 else 0) ≤ 1
+    by true = omega arith
+    by false = omega arith
+
 mutual
   -- a named tree tells no more nodes than there are
   tree_size_named : (name : ℕ → names.Row) (T : Tree) → (extent_of (named name T)).size ≤ nodes_of T
-  tree_size_named name (node r f) = let h = parts_size_named name f in omega arith
+  tree_size_named name (node r f) = let h = parts_size_named name (name r) f in omega arith
 
-  parts_size_named : (name : ℕ → names.Row) (f : Forest) → told_sizes (named_parts name f) ≤ forest_nodes f
-  parts_size_named name no_parts = omega arith
-  parts_size_named name (part p c f) = let a = part_size_named name c in let b = parts_size_named name f in omega arith
+  parts_size_named : (name : ℕ → names.Row) (r : names.Row) (f : Forest) → told_sizes r (named_parts name f) ≤ forest_nodes f
+  parts_size_named name r no_parts = omega arith
+  parts_size_named name r (part p c f) = let a = part_size_named name r (slot_of p) c in let b = parts_size_named name r f in omega arith
 
-  part_size_named : (name : ℕ → names.Row) (c : Part) → told_size (named_part name c) ≤ part_nodes c
-  part_size_named name (taken t) = omega arith
-  part_size_named name (inner T) = tree_size_named name T
-  part_size_named name (missing p) = omega arith
+  part_size_named : (name : ℕ → names.Row) (r : names.Row) (slot : ℕ) (c : Part) → told_size r slot (named_part name c) ≤ part_nodes c
+  part_size_named name r slot (taken t) = omega arith
+  part_size_named name r slot (inner T) = tree_size_named name T
+  part_size_named name r slot (missing p) = missing_few r slot
 
--- the parts of a frame tell no more nodes than there are
-pub done_size_named : (name : ℕ → names.Row) (ds : List (ℕ × Part)) → sizes_in (named_done name ds) ≤ done_nodes ds
-done_size_named name [] = omega arith
-done_size_named name (d ∷ ds) = let a = part_size_named name d.1 in let b = done_size_named name ds in omega arith
+-- the parts of a frame tell no more nodes than there are, whatever its row's name
+pub done_size_named : (name : ℕ → names.Row) (r : names.Row) (ds : List (ℕ × Part)) → sizes_in r (named_done name ds) ≤ done_nodes ds
+done_size_named name r [] = omega arith
+done_size_named name r (d ∷ ds) = let a = part_size_named name r (slot_of d.0) d.1 in let b = done_size_named name r ds in omega arith
 
 -- the parts of a frame tell their heights
 pub done_height_named : (name : ℕ → names.Row) (ds : List (ℕ × Part)) → heights_in (named_done name ds) ≡ highest ds

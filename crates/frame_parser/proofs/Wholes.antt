@@ -1,6 +1,7 @@
 -- All frames are closed.
 use Rattle.std.proofs.Common.{◌≡◌, ℕ, ◌+◌, ◌-◌, ◌^◌, ◌≤◌, ◌<◌, List, [], ◌∷◌, ◌++◌, length, option_map, refl, sym, ◌∙◌, ap, subst, arith}
 use Rattle.token_model.specs.Kinds.{Tok}
+use Rattle.tree_model.specs.Rows as names
 use Rattle.grammar_model.specs.Tables.{Table}
 use Rattle.grammar_model.specs.Machine.{Frame, Stack, node_of, put}
 use Rattle.grammar_model.specs.Recovery.{filled, most_parts, closed_up, close_up, step}
@@ -9,7 +10,8 @@ use Rattle.grammar_model.specs.Ocaml.{grammar, row_name}
 use Rattle.syntax_rows.specs.View.{text_of}
 use Rattle.syntax_rows.specs.declared.ocaml.Text.{Text}
 use Rattle.parse_frames.specs.Frames as frames
-use Rattle.parse_frames.specs.Named.{named, IsNamed}
+use Rattle.grammar_model.specs.Named.{named}
+use Rattle.parse_frames.specs.Named.{IsNamed}
 use Rattle.parse_frames.specs.Stacks.{stack_view}
 use Rattle.parse_frames.proofs.Named.{node_named}
 use Rattle.frame_parser.specs.Run.{run, next_step, told}
@@ -50,14 +52,14 @@ whole_named text f S at c n k v w r st len a b holes =
     }
 
 -- the frame that is filled when all others are closed has room
-pub whole_room : (text : Text) (c n k : ℕ) (v w x : frames.Stack) → Standing text v
+pub whole_room : (text : Text) (r : names.Row) (c n k : ℕ) (v w x : frames.Stack) → Standing text v
     → ((f : Frame) (S : Stack) (at : ℕ) → Stands text (f ∷ S) at v → Stands text ((out c (text_table text) f S at).0 ∷ (out c (text_table text) f S at).1) at w × (n ≡ out_holes c (text_table text) f S at))
     → ((f : Frame) (S : Stack) (at : ℕ) → IsNamed (text_table text) row_name (f ∷ S) at w → IsNamed (text_table text) row_name ((filled most_parts (text_table text) f at).0 ∷ S) at x × (k ≡ (filled most_parts (text_table text) f at).1))
-    → (frames.sizes_in x.top.done < 2 ^ 32 - 1) × (frames.heights_in x.top.done < 2 ^ 16 - 1)
-whole_room text c n k v w x s a b =
+    → (frames.sizes_in r x.top.done < 2 ^ 32 - 1) × (frames.heights_in x.top.done < 2 ^ 16 - 1)
+whole_room text r c n k v w x s a b =
     let q = stood text v s in
     let (p, h) = a q.top q.below q.at q.stands in
-    filled_room text w x k (_, q.at, p) b
+    filled_room text r w x k (_, q.at, p) b
 
 -- the frames behind the tokens, in order
 pub record Ran (ts : List Tok) (s : CodeStack) : Type 0 where

@@ -12,7 +12,8 @@ use Rattle.syntax_rows.specs.Numbers.{sort_number}
 use Rattle.syntax_rows.specs.View.{way_of, text_of}
 use Rattle.syntax_rows.specs.declared.ocaml.Text.{Text}
 use Rattle.parse_frames.specs.Frames as frames
-use Rattle.parse_frames.specs.Named.{IsNamed, named}
+use Rattle.grammar_model.specs.Named.{named}
+use Rattle.parse_frames.specs.Named.{IsNamed}
 use Rattle.parse_frames.specs.Stacks.{stack_view}
 use Rattle.frame_parser.specs.Run.{Told, added, skipped, too_deep, told}
 use Rattle.frame_parser.specs.Order.{InOrder}

@@ -4,7 +4,7 @@ ghost use Rattle.grammar_model.specs.Numbers as numbers;
 ghost use Rattle.syntax_rows.specs.Numbers.{key_number};
 ghost use Rattle.syntax_rows.specs.View.{last_of, table_of, what_of, place_of};
 ghost use Rattle.syntax_rows.specs.declared.rows.Table.{Table as CodeTable};
-ghost use Rattle.parse_frames.specs.View.{frames_view, last_view};
+ghost use Rattle.parse_frames.specs.View.{frames_view};
 ghost use Rattle.grammar_model.specs.Keys.{key_of};
 ghost use Rattle.grammar_model.specs.Machine as machine;
 ghost use Rattle.token_model.specs.Kinds.{Tok};
@@ -12,7 +12,7 @@ ghost use Rattle.parse_frames.specs.Stacks.{stack_view};
 ghost use Rattle.frame_parser.specs.Course.{bare, course_of, fit_of, out_of};
 ghost use Rattle.frame_parser.specs.View.{course_view, text_table, Stands, Standing};
 
-use parse_frames::{Frames, Last as NewestPart, Stack as FrameStack};
+use parse_frames::{Frames, Stack as FrameStack};
 use syntax_rows::{
     Key, Last, Place, Table, Text, Way, What, ends_at, find_way, first_place, grammar, what_at,
 };
@@ -22,17 +22,6 @@ use syntax_rows::{
 pub(crate) struct Course {
     pub closed: u32,
     pub way: Way,
-}
-
-/// What the newest part of a frame is for the table.
-fn newest(last: NewestPart) -> Last
-    ensures { last_of result ≡ last_view last }
-{
-    match last {
-        NewestPart::Plain => Last::Plain,
-        NewestPart::Hole => Last::Hole,
-        NewestPart::Row(row) => Last::Row(row),
-    }
 }
 
 /// What the newest part of a frame is once a node of this row stands there.
@@ -148,7 +137,7 @@ pub(crate) fn fitting_course(text: Text, frames: &FrameStack, key: Key) -> Optio
         grammar(text),
         frames.number(),
         frames.spot(),
-        newest(frames.last()),
+        frames.last(),
         frames.below(),
         key,
     )
@@ -165,7 +154,7 @@ pub(crate) fn reaching_course(text: Text, frames: &FrameStack, key: Key) -> Opti
         grammar(text),
         frames.number(),
         frames.spot(),
-        newest(frames.last()),
+        frames.last(),
         frames.below(),
         key,
     )

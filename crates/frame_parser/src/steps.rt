@@ -1,6 +1,7 @@
 //! A stack begins, takes tokens one by one, and is closed.
 ghost use Rattle.std.specs.Prelude.{◌≡◌, ◌<◌, ◌≤◌, ◌+◌, ◌∷◌, ◌++◌, ◌-◌, ◌^◌, [], ℕ, List, length, map, option_map, IfOk, OnOk, OnErr};
 ghost use Rattle.token_model.specs.Kinds.{Tok};
+ghost use Rattle.tree_model.specs.Rows.{Row as PlainRow};
 ghost use Rattle.grammar_model.specs.Machine as machine;
 ghost use Rattle.grammar_model.specs.Ocaml as ocaml;
 ghost use Rattle.grammar_model.specs.Recovery as recovery;
@@ -9,7 +10,7 @@ ghost use Rattle.syntax_tree.specs.Tallies.{shifted_more};
 ghost use Rattle.syntax_tree.specs.View.{tok_of, trees_of, node_view, child_view, forest_of};
 ghost use Rattle.syntax_rows.specs.View.{text_of};
 ghost use Rattle.parse_frames.specs.Frames.{heights_in, sizes_in};
-ghost use Rattle.parse_frames.specs.Named.{named};
+ghost use Rattle.grammar_model.specs.Named.{named};
 ghost use Rattle.parse_frames.specs.Stacks.{stack_view};
 ghost use Rattle.frame_parser.specs.Run.{run, next_step, told, items_of, inner_of, listed};
 ghost use Rattle.frame_parser.specs.Behind.{Behind};
@@ -160,7 +161,7 @@ fn close_all(alloc: Global, stack: &Stack) -> Result<Filled, NoMemory>
     requires standing { Standing stack.now.text (stack_view stack.now.frames) }
     ensures whole { IfOk result (λ r. (f : machine.Frame) (S : machine.Stack) (at : ℕ) → Stands stack.now.text (f ∷ S) at (stack_view stack.now.frames)
         → IsWhole stack.now.text f S at r) }
-    ensures size { IfOk result (λ r. sizes_in (stack_view r.frames).top.done < 2 ^ 32 - 1) }
+    ensures size { IfOk result (λ r. (name : PlainRow) → sizes_in name (stack_view r.frames).top.done < 2 ^ 32 - 1) }
     ensures height { IfOk result (λ r. heights_in (stack_view r.frames).top.done < 2 ^ 16 - 1) }
 {
     let frames = &stack.frames;

@@ -6,10 +6,10 @@ use Rattle.frame_parser.proofs.Named.{filled_room, closed_named, closed_none}
 use Rattle.frame_parser.proofs.build.close_one.Goals as goal
 
 pub close-requires-clause-size : goal.close-requires-clause-size
-close-requires-clause-size c = (filled_room c.args.text (stack_view c.args.frames) (stack_view c.in_ok-filled.filled.frames) c.in_ok-filled.filled.holes c.requires.standing c.in_ok-filled.ensures.filled).0
+close-requires-clause-size c = (filled_room c.args.text (row_of c.row_named-name.result) (stack_view c.args.frames) (stack_view c.in_ok-filled.filled.frames) c.in_ok-filled.filled.holes c.requires.standing c.in_ok-filled.ensures.filled).0
 
 pub close-requires-clause-height : goal.close-requires-clause-height
-close-requires-clause-height c = (filled_room c.args.text (stack_view c.args.frames) (stack_view c.in_ok-filled.filled.frames) c.in_ok-filled.filled.holes c.requires.standing c.in_ok-filled.ensures.filled).1
+close-requires-clause-height c = (filled_room c.args.text (row_of c.row_named-name.result) (stack_view c.args.frames) (stack_view c.in_ok-filled.filled.frames) c.in_ok-filled.filled.holes c.requires.standing c.in_ok-filled.ensures.filled).1
 
 pub returns-in-None-clause-closed : goal.returns-in-None-clause-closed
 returns-in-None-clause-closed c f g S at st =

@@ -9,5 +9,5 @@ use Rattle.frame_parser.proofs.find.fitting_course.Goals as goal
 
 pub returns-clause-course : goal.returns-clause-course
 returns-clause-course c f S at t st k =
-    c.find_fit.ensures.course ∙ ap course_of (fit_named c.args.text f S at t (stack_view c.args.frames.now) (table_of c.grammar.result) c.number.result c.spot.result (key_number c.args.key) (last_of c.newest.result) (frames_view c.below.result.now) st
-    c.grammar.ensures.table c.number.ensures c.spot.ensures (c.newest.ensures ∙ c.last.ensures) c.below.ensures.frames k)
+    c.find_fit.ensures.course ∙ ap course_of (fit_named c.args.text f S at t (stack_view c.args.frames.now) (table_of c.grammar.result) c.number.result c.spot.result (key_number c.args.key) (last_of c.last.result) (frames_view c.below.result.now) st
+    c.grammar.ensures.table c.number.ensures c.spot.ensures c.last.ensures c.below.ensures.frames k)

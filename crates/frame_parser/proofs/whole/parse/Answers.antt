@@ -4,7 +4,7 @@ use Rattle.grammar_model.specs.Ocaml.{row_name}
 use Rattle.syntax_tree.specs.Tallies.{shifted_more}
 use Rattle.syntax_tree.specs.View.{tok_of}
 use Rattle.syntax_rows.specs.View.{text_of}
-use Rattle.parse_frames.specs.Named.{named}
+use Rattle.grammar_model.specs.Named.{named}
 use Rattle.frame_parser.specs.Behind.{Behind}
 use Rattle.frame_parser.specs.Run.{items_of, faults, told, shifted_by}
 use Rattle.frame_parser.specs.View.{fault_of}
