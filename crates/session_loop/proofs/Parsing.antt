@@ -4,9 +4,7 @@ use Rattle.text_model.specs.Positions.{position_of}
 use Rattle.text_terms.specs.Bytes.{str_bytes}
 use Rattle.text_terms.specs.declared.NoMemory.{NoMemory}
 use Rattle.token_model.specs.Tokens.{Lex}
-use Rattle.tree_model.specs.Trees as plain
-use Rattle.grammar_model.specs.Named as grammar_named
-use Rattle.grammar_model.specs.Named.{named}
+use Rattle.grammar_model.specs.Named.{named, items_of}
 use Rattle.grammar_model.specs.Recovery.{recover}
 use Rattle.grammar_model.specs.Ocaml.{grammar, program_text, row_name}
 use Rattle.query_model.specs.Outlines.{Member, members_of}
@@ -14,7 +12,7 @@ use Rattle.service_model.specs.Replies as said
 use Rattle.service_model.specs.Structure.{items_in, faults_in, shown_member, shown_members}
 use Rattle.syntax_tree.specs.View.{tok_of, trees_of}
 use Rattle.syntax_tree.specs.declared.tree.Token.{Token}
-use Rattle.frame_parser.specs.Run.{told, items_of, forest_items, inner_of}
+use Rattle.frame_parser.specs.Run.{told}
 use Rattle.frame_parser.specs.View as parser
 use Rattle.frame_parser.specs.declared.whole.Parsed.{Parsed}
 use Rattle.query_engine.specs.View.{member_of}
@@ -23,18 +21,6 @@ use Rattle.query_engine.proofs.Told.{told_faults}
 use Rattle.query_engine.proofs.Views.{member_of_parts}
 use Rattle.json_lines.specs.Means.{outline_kind_text, outline_of}
 use Rattle.session_loop.specs.Structures.{IsParsedAs}
-
-same_inner : (p : plain.Part) (ts us : List plain.Tree) → ts ≡ us → inner_of p ts ≡ grammar_named.inner_of p us
-same_inner (plain.taken t) ts us e = e
-same_inner (plain.inner t) ts us e = ap (λ vs. t ∷ vs) e
-same_inner (plain.missing p) ts us e = e
-
-same_forest : (ps : plain.Forest) → forest_items ps ≡ grammar_named.forest_items ps
-same_forest plain.no_parts = refl
-same_forest (plain.part slot p ps) = same_inner p (forest_items ps) (grammar_named.forest_items ps) (same_forest ps)
-
-same_items : (t : plain.Tree) → items_of t ≡ grammar_named.items_of t
-same_items (plain.node r x ps) = same_forest ps
 
 -- the tokens of a text, with what they are parsed as
 pub parsed : (text : List ℕ) (ts : List Token) (r : Result Parsed NoMemory) → Lex text (map tok_of ts)
@@ -45,7 +31,7 @@ unfolding items_in faults_in
 parsed text ts (Ok p) lexed items faults = record {
   tokens = map tok_of ts;
   lexed = lexed;
-  items = items ∙ same_items (named row_name (recover (grammar program_text) (map tok_of ts)).0);
+  items = items;
   faults = told_faults p.faults.items (recover (grammar program_text) (map tok_of ts)).1 faults;
 }
 parsed text ts (Err e) lexed items faults = tt
