@@ -1,7 +1,6 @@
 -- The parser's frames behind the tokens of a text, and what its faults tell.
-use Rattle.std.specs.Prelude.{ℕ, zero, suc, List, [], ◌∷◌, ◌++◌, Option, Some, None}
+use Rattle.std.specs.Prelude.{ℕ, zero, suc, List, [], ◌∷◌, Option, Some, None}
 use Rattle.token_model.specs.Kinds.{Tok}
-use Rattle.tree_model.specs.Trees as plain
 use Rattle.tree_model.specs.Trees.{Place, place}
 use Rattle.grammar_model.specs.Tables.{Table}
 use Rattle.syntax_tree.specs.Tallies.{Tallies, shifted_more}
@@ -50,20 +49,6 @@ abbrev pub told : Fault → Told
 told (recovery.added p h) = added p h
 told (recovery.skipped t) = skipped (place t.start t.end)
 told (recovery.too_deep t) = too_deep (place t.start t.end)
-
--- the node of a part, if it is one
-abbrev pub inner_of : plain.Part → List plain.Tree
-inner_of (plain.taken t) = []
-inner_of (plain.inner t) = t ∷ []
-inner_of (plain.missing p) = []
-
-abbrev pub forest_items : plain.Forest → List plain.Tree
-forest_items plain.no_parts = []
-forest_items (plain.part slot p ps) = inner_of p ++ forest_items ps
-
--- the nodes among the parts of a tree in order: the items of a whole text
-abbrev pub items_of : plain.Tree → List plain.Tree
-items_of (plain.node r x ps) = forest_items ps
 
 -- the faults of the first tokens of a text
 unfoldable pub faults : Text → List Tok → List Fault

@@ -10,9 +10,9 @@ ghost use Rattle.syntax_tree.specs.Tallies.{shifted_more};
 ghost use Rattle.syntax_tree.specs.View.{tok_of, trees_of, node_view, child_view, forest_of};
 ghost use Rattle.syntax_rows.specs.View.{text_of};
 ghost use Rattle.parse_frames.specs.Frames.{heights_in, sizes_in};
-ghost use Rattle.grammar_model.specs.Named.{named};
+ghost use Rattle.grammar_model.specs.Named.{named, items_of, inner_of};
 ghost use Rattle.parse_frames.specs.Stacks.{stack_view};
-ghost use Rattle.frame_parser.specs.Run.{run, next_step, told, items_of, inner_of, listed};
+ghost use Rattle.frame_parser.specs.Run.{run, next_step, told, listed};
 ghost use Rattle.frame_parser.specs.Behind.{Behind};
 ghost use Rattle.frame_parser.specs.View.{course_view, fault_of, text_table, HasCourse, IsLeftOut, IsTakenBy, IsWhole, Stands, Standing, StepsTo};
 

@@ -5,8 +5,8 @@ ghost use Rattle.grammar_model.specs.Recovery.{recover};
 ghost use Rattle.syntax_tree.specs.Tallies.{Grows};
 ghost use Rattle.syntax_tree.specs.View.{tok_of, trees_of};
 ghost use Rattle.syntax_rows.specs.View.{text_of};
-ghost use Rattle.grammar_model.specs.Named.{named};
-ghost use Rattle.frame_parser.specs.Run.{told, items_of, listed, shifted_by};
+ghost use Rattle.grammar_model.specs.Named.{named, items_of};
+ghost use Rattle.frame_parser.specs.Run.{told, listed, shifted_by};
 ghost use Rattle.frame_parser.specs.View.{fault_of};
 
 use crate::stack::SyntaxFault;

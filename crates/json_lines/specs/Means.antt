@@ -3,6 +3,7 @@ use Rattle.std.specs.Prelude.{ℕ, List, [], ◌∷◌, codes, map}
 use Rattle.text_terms.specs.Bytes.{str_bytes}
 use Rattle.service_model.specs.Requests as model
 use Rattle.service_model.specs.Replies as said
+use Rattle.service_model.specs.Structure.{kind_text}
 use Rattle.json_lines.specs.Meets.{pair_of, key_text}
 use Rattle.json_lines.specs.declared.reply.Typed.{Typed}
 use Rattle.json_lines.specs.declared.reply.Entry.{Entry}
@@ -13,8 +14,8 @@ use Rattle.json_lines.specs.declared.reply.File.{File}
 use Rattle.json_lines.specs.declared.reply.File.TheVariants.{Buffer, Prelude}
 use Rattle.json_lines.specs.declared.reply.Outlined.{Outlined, fold-Outlined}
 use Rattle.json_lines.specs.declared.reply.Outlined.TheOpen.{Outlined-F}
-use Rattle.json_lines.specs.declared.reply.OutlineKind.{OutlineKind}
-use Rattle.json_lines.specs.declared.reply.OutlineKind.TheVariants as member
+use Rattle.query_engine.specs.declared.slots.OutlineKind.{OutlineKind}
+use Rattle.query_engine.specs.View.{kind_of}
 use Rattle.json_lines.specs.declared.reply.Listed.{Listed}
 use Rattle.json_lines.specs.declared.reply.Failure.{Failure}
 use Rattle.json_lines.specs.declared.reply.Failure.TheVariants.{NoNode, NotAName, Unbound, NothingToSplit, HiddenConstructor, WouldFault, NotAHole}
@@ -47,11 +48,7 @@ file_text Buffer = codes "buffer"
 file_text Prelude = codes "prelude"
 
 abbrev pub outline_kind_text : OutlineKind → List ℕ
-outline_kind_text member.Value = codes "Value"
-outline_kind_text member.TypeName = codes "Type"
-outline_kind_text member.Exception = codes "Exception"
-outline_kind_text member.Module = codes "Module"
-outline_kind_text member.ModuleType = codes "ModuleType"
+outline_kind_text k = kind_text (kind_of k)
 
 -- members, one after another
 abbrev pub outline_of : List said.Outlined → said.Outline

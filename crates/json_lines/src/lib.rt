@@ -10,9 +10,9 @@ mod request;
 mod write;
 
 pub use key::Key;
+pub use query_engine::OutlineKind;
 pub use reply::{
-    Entry, EntryKind, Failure, File, Listed, OutlineKind, Outlined, PosSpan, Reply, RequestError,
-    Typed,
+    Entry, EntryKind, Failure, File, Listed, Outlined, PosSpan, Reply, RequestError, Typed,
 };
 pub use request::{LINE_LIMIT, Malformed, Request, read_request};
 pub use write::{MEMORY_LINE, memory_line, write_reply};

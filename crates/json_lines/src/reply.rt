@@ -2,10 +2,11 @@
 ghost use Rattle.std.specs.Prelude.{◌≡◌, codes, Some, option_map};
 ghost use Rattle.service_model.specs.Replies.{refused};
 ghost use Rattle.json_lines.specs.Meets.{refusal_of};
-ghost use Rattle.json_lines.specs.Means.{entry_kind_text, outline_kind_text, file_text, error_said};
+ghost use Rattle.json_lines.specs.Means.{entry_kind_text, file_text, error_said};
 
 use crate::key::Key;
 use crate::request::Malformed;
+use query_engine::OutlineKind;
 use text_terms::{Pos, RcStr};
 
 /// What a request is answered.
@@ -132,31 +133,6 @@ pub struct Outlined {
     pub end: Pos,
     pub kind: OutlineKind,
     pub name: RcStr,
-}
-
-#[derive(Clone, Copy, Debug, PartialEq, Eq)]
-pub enum OutlineKind {
-    Value,
-    /// Printed `Type`.
-    TypeName,
-    Exception,
-    Module,
-    ModuleType,
-}
-
-impl OutlineKind {
-    /// The kind as it is printed.
-    pub fn name(self) -> &'static str
-        ensures { result.now ≡ outline_kind_text self }
-    {
-        match self {
-            OutlineKind::Value => "Value",
-            OutlineKind::TypeName => "Type",
-            OutlineKind::Exception => "Exception",
-            OutlineKind::Module => "Module",
-            OutlineKind::ModuleType => "ModuleType",
-        }
-    }
 }
 
 /// A fault of the text.

@@ -8,9 +8,8 @@ ghost use Rattle.json_lines.specs.Meets.{pair_of, key_text};
 ghost use Rattle.json_lines.specs.Means.{typed_of, entry_of, span_of, fault_of, outlined_of, outline_of, outline_kind_text, file_text, failure_said, error_said, said_of};
 
 use crate::key::Key;
-use crate::reply::{
-    Entry, Failure, File, Listed, OutlineKind, Outlined, PosSpan, Reply, RequestError, Typed,
-};
+use crate::reply::{Entry, Failure, File, Listed, Outlined, PosSpan, Reply, RequestError, Typed};
+use query_engine::OutlineKind;
 use serde_json::{Value, json};
 use std::alloc::{AllocError, Global};
 use text_terms::{Pos, RcStr};
@@ -97,6 +96,19 @@ fn list_value<T: Shown>(alloc: Global, list: &[T]) -> Result<Value, AllocError>
     Ok(Value::Array(values))
 }
 
+/// What a name stands for, as it is printed.
+fn outline_kind_name(kind: OutlineKind) -> &'static str
+    ensures { result.now ≡ outline_kind_text kind }
+{
+    match kind {
+        OutlineKind::Value => "Value",
+        OutlineKind::TypeName => "Type",
+        OutlineKind::Exception => "Exception",
+        OutlineKind::Module => "Module",
+        OutlineKind::ModuleType => "ModuleType",
+    }
+}
+
 /// A member of an outline, what stands inside it given.
 fn member_value(
     alloc: Global,
@@ -110,7 +122,7 @@ fn member_value(
 {
     let start = position_value(alloc, span.start)?;
     let end = position_value(alloc, span.end)?;
-    let kind = kind.name();
+    let kind = outline_kind_name(kind);
     let name = name.as_str();
     let children = Value::Array(children);
     json!(in alloc; {"children": children, "end": end, "kind": kind, "name": name, "start": start})

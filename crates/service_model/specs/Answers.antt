@@ -9,6 +9,7 @@ use Rattle.tree_model.specs.Nodes.{Id, nodes_at}
 use Rattle.plain_model.specs.Plain.{Seen, plain_text, type_text}
 use Rattle.service_model.specs.Requests.{Asked, tell, type_enclosing, complete_prefix, locate, occurrences, outline, errors, case_analysis, construct, Reading, asks, refused, reading}
 use Rattle.service_model.specs.Replies as said
+use Rattle.service_model.specs.Structure.{OutlineIs, ErrorsAre}
 
 -- What is proved of a request's piece: the exact bytes, or that it is a reply line.
 -- A request that is answered before its answer is proved stands here as `false`.
@@ -91,8 +92,8 @@ Replies text (type_enclosing at) s after = QueryIs text at (EnclosingIs text) s 
 Replies text (complete_prefix at prefix) s after = QueryIs text at IsNotBuilt s after
 Replies text (locate at) s after = QueryIs text at IsNotBuilt s after
 Replies text (occurrences at) s after = QueryIs text at IsNotBuilt s after
-Replies text outline s after = (s ≡ said.not_built) × (after ≡ text)
-Replies text errors s after = (s ≡ said.not_built) × (after ≡ text)
+Replies text outline s after = OutlineIs text s × (after ≡ text)
+Replies text errors s after = ErrorsAre text s × (after ≡ text)
 Replies text (case_analysis at) s after = QueryIs text at IsNotBuilt s after
 Replies text (construct at) s after = QueryIs text at IsNotBuilt s after
 

@@ -1,4 +1,5 @@
 pub mod Requests
 pub mod Replies
+pub mod Structure
 pub mod Answers
 pub mod Runs

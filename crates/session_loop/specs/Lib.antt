@@ -5,5 +5,6 @@ pub mod ListEnds
 pub mod Outcomes
 pub mod PlainTexts
 pub mod Progress
+pub mod Structures
 pub mod SureEnds
 pub mod Turns

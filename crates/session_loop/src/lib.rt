@@ -12,6 +12,7 @@ mod plain;
 mod service;
 mod session;
 mod std_ends;
+mod structure;
 mod sure_ends;
 mod turns;
 

@@ -12,13 +12,16 @@ ghost use Rattle.service_model.specs.Answers.{Answers, PlacedIs, EnclosingIs, Is
 ghost use Rattle.syntax_tree.specs.Tallies.{Grows};
 ghost use Rattle.text_store.specs.Edits.{edit_of};
 ghost use Rattle.json_lines.specs.Meets.{asked_of, key_text, range_of, refusal_of};
-ghost use Rattle.json_lines.specs.Means.{said_of, typed_of};
+ghost use Rattle.service_model.specs.Replies.{outline};
+ghost use Rattle.service_model.specs.Structure.{ErrorsAre, OutlineIs};
+ghost use Rattle.json_lines.specs.Means.{outline_of, outlined_of, said_of, typed_of};
 ghost use Rattle.session_loop.specs.Lines.{line_bytes, refusal_in, IsWritten, RefusesBy, RefusesEditBy, RepliesBy, Says, said_of_types};
 
 use crate::plain::{read_plain, typed_among};
+use crate::structure::{parse_text, shown_faults, shown_outline};
 use json_lines::{
-    Failure, Key, Malformed, Reply, Request, RequestError, Typed, memory_line, read_request,
-    write_reply,
+    Failure, Key, Malformed, Outlined, Reply, Request, RequestError, Typed, memory_line,
+    read_request, write_reply,
 };
 use std::alloc::Global;
 use std::marker::Model;
@@ -162,8 +165,8 @@ impl Session {
             Request::CompletePrefix { at, prefix: _ } => self.unserved(at),
             Request::Locate { at } => self.unserved(at),
             Request::Occurrences { at } => self.unserved(at),
-            Request::Outline => error_line(self.alloc, RequestError::NotBuilt),
-            Request::Errors => error_line(self.alloc, RequestError::NotBuilt),
+            Request::Outline => self.outline_line(counts),
+            Request::Errors => self.errors_line(counts),
             Request::CaseAnalysis { at } => self.unserved(at),
             Request::Construct { at } => self.unserved(at),
         }
@@ -229,6 +232,51 @@ impl Session {
             Ok(_) => error_line(self.alloc, RequestError::NotBuilt),
             Err(_) => error_line(self.alloc, RequestError::BadPosition { key: Key::At }),
         }
+    }
+
+    /// The outline of the text.
+    fn outline_line<C: Counts>(&self, counts: &mut C) -> Line
+        ensures says { Says (OutlineIs self.now) result }
+        ensures counted { Grows (C.tallies counts.old) (C.tallies counts.new) }
+    {
+        match self.outline(counts) {
+            Ok(members) => written(self.alloc, &Reply::Outline(members)),
+            Err(_) => Line::Memory,
+        }
+    }
+
+    fn outline<C: Counts>(&self, counts: &mut C) -> Result<Vec<Outlined>, NoMemory>
+        ensures said { IfOk result (λ v. OutlineIs self.now (outline (outline_of (map outlined_of v.items)))) }
+        ensures counted { Grows (C.tallies counts.old) (C.tallies counts.new) }
+    {
+        let (left, right) = self.store.slices();
+        let parsed = parse_text(self.alloc, left, right, counts)?;
+        let members = query_engine::outline(self.alloc, &parsed.tree)?;
+        shown_outline(self.alloc, &self.store, &members)
+    }
+
+    /// The faults of the text.
+    fn errors_line<C: Counts>(&self, counts: &mut C) -> Line
+        ensures says { Says (ErrorsAre self.now) result }
+        ensures counted { Grows (C.tallies counts.old) (C.tallies counts.new) }
+    {
+        match self.errors(counts) {
+            Ok(reply) => written(self.alloc, &reply),
+            Err(_) => Line::Memory,
+        }
+    }
+
+    fn errors<C: Counts>(&self, counts: &mut C) -> Result<Reply, NoMemory>
+        ensures said { IfOk result (λ r. ErrorsAre self.now (said_of r)) }
+        ensures counted { Grows (C.tallies counts.old) (C.tallies counts.new) }
+    {
+        let (left, right) = self.store.slices();
+        let parsed = parse_text(self.alloc, left, right, counts)?;
+        let page = query_engine::errors(self.alloc, &parsed.faults)?;
+        Ok(Reply::Faults {
+            list: shown_faults(self.alloc, &self.store, &page.list)?,
+            more: page.more,
+        })
     }
 
     /// The types round a position, innermost first.

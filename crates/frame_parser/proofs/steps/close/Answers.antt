@@ -4,7 +4,8 @@ use Rattle.grammar_model.specs.Recovery.{last_fault}
 use Rattle.parse_frames.specs.Frames as frames
 use Rattle.parse_frames.specs.Stacks.{stack_view}
 use Rattle.syntax_tree.specs.View.{node_view}
-use Rattle.frame_parser.specs.Run.{run, items_of, told}
+use Rattle.grammar_model.specs.Named.{items_of}
+use Rattle.frame_parser.specs.Run.{run, told}
 use Rattle.frame_parser.proofs.Wholes.{standing, whole_behind}
 use Rattle.frame_parser.proofs.steps.close.Goals as goal
 

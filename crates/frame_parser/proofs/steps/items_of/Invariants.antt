@@ -1,6 +1,6 @@
 use Rattle.std.proofs.Common.{◌≡◌, ◌++◌, drop, map}
 use Rattle.syntax_tree.specs.View.{child_view, forest_of, node_view}
-use Rattle.frame_parser.specs.Run.{forest_items, items_of}
+use Rattle.grammar_model.specs.Named.{forest_items, items_of}
 use Rattle.frame_parser.proofs.steps.items_of.Given as goal
 
 -- the items so far and those left are those of the node

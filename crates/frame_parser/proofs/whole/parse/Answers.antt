@@ -4,9 +4,9 @@ use Rattle.grammar_model.specs.Ocaml.{row_name}
 use Rattle.syntax_tree.specs.Tallies.{shifted_more}
 use Rattle.syntax_tree.specs.View.{tok_of}
 use Rattle.syntax_rows.specs.View.{text_of}
-use Rattle.grammar_model.specs.Named.{named}
+use Rattle.grammar_model.specs.Named.{named, items_of}
 use Rattle.frame_parser.specs.Behind.{Behind}
-use Rattle.frame_parser.specs.Run.{items_of, faults, told, shifted_by}
+use Rattle.frame_parser.specs.Run.{faults, told, shifted_by}
 use Rattle.frame_parser.specs.View.{fault_of}
 use Rattle.frame_parser.proofs.Lists.{grows_more, tokens_few, tokens_most, no_faults, tokens_next, tokens_all, told_next, told_all, recover_tree, shifted_next}
 use Rattle.frame_parser.proofs.whole.parse.Goals as goal

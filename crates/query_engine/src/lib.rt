@@ -1,0 +1,128 @@
+//! The answers of queries, over the tree of a text: its outline, and the page of its faults.
+//! It stands on the trees of `syntax_tree` and on the faults of `frame_parser`, and keeps nothing.
+//! Above, `outline` gives the members that `query_model` tells of the text's items, and `errors` the page of its faults.
+#![tactic(auto)]
+
+mod faults;
+mod names;
+mod order;
+mod outlines;
+mod slots;
+
+pub use faults::{FaultPage, Listed, errors};
+pub use frame_parser::SyntaxFault;
+pub use outlines::{Outlined, outline};
+pub use slots::OutlineKind;
+
+#[cfg(test)]
+mod tests {
+    use super::*;
+    use std::alloc::Global;
+    use std::test::Fail;
+    use syntax_tree::{
+        Child, NoMemory, Part, RcStr, RowName, Span, Token, TokenKind, Tree, leaf, node_of,
+    };
+
+    fn token(alloc: Global, kind: TokenKind, span: Span, name: &str) -> Result<Token, NoMemory> {
+        Ok(Token {
+            kind,
+            span,
+            reach: span.end,
+            name: RcStr::from_str(alloc, name)?,
+        })
+    }
+
+    /// `exception Bad`, and `exception` without its name.
+    #[test]
+    fn a_name_gives_a_member_and_a_missing_one_none(rt: HostRuntime) -> Result<(), Fail> {
+        let alloc = rt.alloc();
+        let word = token(
+            alloc,
+            TokenKind::Exception,
+            Span { start: 0, end: 9 },
+            "exception",
+        )?;
+        let name = token(alloc, TokenKind::Upper, Span { start: 10, end: 13 }, "Bad")?;
+        let con = Child {
+            slot: 1,
+            part: Part::Inner(leaf(alloc, RowName::Con, 0, name)?),
+        };
+        let missing = Child {
+            slot: 1,
+            part: Part::Missing(Span { start: 9, end: 9 }),
+        };
+        let again = Child {
+            slot: 0,
+            part: Part::Taken(word.share()?),
+        };
+        let without = node_of(alloc, RowName::Exception, vec![in alloc; again, missing]?)?;
+        let first = Child {
+            slot: 0,
+            part: Part::Taken(word),
+        };
+        let with = node_of(alloc, RowName::Exception, vec![in alloc; first, con]?)?;
+        let tree = Tree {
+            items: vec![in alloc; without, with]?,
+        };
+        let members = outline(alloc, &tree)?;
+        assert_eq!(rt; members.len(), 1);
+        let member = members.first().ok_or("no member")?;
+        assert_eq!(rt;
+            (member.kind, member.name.as_str()),
+            (OutlineKind::Exception, "Bad")
+        );
+        assert_eq!(rt;
+            (member.span, member.children.len()),
+            (Span { start: 0, end: 13 }, 0)
+        );
+        Ok(())
+    }
+
+    /// What stands in front of a skipped token is told before it, though it was found later.
+    #[test]
+    fn faults_are_told_by_their_places(rt: HostRuntime) -> Result<(), Fail> {
+        let alloc = rt.alloc();
+        let faults = [
+            SyntaxFault::Skipped {
+                span: Span { start: 5, end: 6 },
+            },
+            SyntaxFault::Added { place: 5, holes: 2 },
+            SyntaxFault::TooDeep {
+                span: Span { start: 7, end: 8 },
+            },
+            SyntaxFault::Added { place: 0, holes: 1 },
+        ];
+        let page = errors(alloc, &faults)?;
+        assert!(rt; !page.more);
+        let told = [
+            (0, 0, "added", "1 part is missing here"),
+            (5, 5, "added", "2 parts are missing here"),
+            (5, 6, "skipped", "This token does not fit here"),
+            (7, 8, "deep", "This token is nested too deeply"),
+        ];
+        assert_eq!(rt; page.list.len(), told.len());
+        for (fault, (start, end, kind, message)) in page.list.iter().zip(told) {
+            assert_eq!(rt; fault.span, Span { start, end });
+            assert_eq!(rt;
+                (fault.kind.as_str(), fault.message.as_str()),
+                (kind, message)
+            );
+            assert_eq!(rt; fault.ty.as_str(), "parser");
+        }
+        Ok(())
+    }
+
+    #[test]
+    fn a_page_has_a_thousand_faults(rt: HostRuntime) -> Result<(), Fail> {
+        let alloc = rt.alloc();
+        let fault = SyntaxFault::Skipped {
+            span: Span { start: 3, end: 4 },
+        };
+        for (count, more) in [(1000, false), (1001, true)] {
+            let faults = vec![in alloc; fault; count]?;
+            let page = errors(alloc, &faults)?;
+            assert_eq!(rt; (page.list.len(), page.more), (1000, more));
+        }
+        Ok(())
+    }
+}
