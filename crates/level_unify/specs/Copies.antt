@@ -13,6 +13,7 @@ use Rattle.level_unify.specs.declared.copies.Shape.{Shape}
 use Rattle.level_unify.specs.declared.copies.Shape.TheVariants as shape
 use Rattle.level_unify.specs.Walks.{Reached}
 
+-- new variables have a level below that of the bound ones
 abbrev pub IsBelowBound : Fresh → Type 0
 IsBelowBound (fresh.Flexible level) = level < bound_level
 IsBelowBound fresh.Rigid = Unit {0}
@@ -33,6 +34,7 @@ shape_node new (shape.Con o ms) = Con o.path.items (str_bytes o.name) (numbers m
 abbrev pub Table : Type 0
 Table = ℕ → Option ℕ
 
+-- the code's table, by numbers
 abbrev pub table_of : {S : Type 0} → HashMap ℕ NodeRef S → Table
 table_of t n = option_map (λ (m : NodeRef). m.0) (get nat_eq t n)
 
@@ -44,6 +46,7 @@ image nodes T m = unwrap_or (T (root nodes m)) (root nodes m)
 pub record AreInside (nodes : List Node) (T : Table) : Type 0 where
   pub each : (n m : ℕ) → T n ≡ Some m → m < length nodes
 
+-- a bound variable
 abbrev pub IsBoundVar : Node → Type 0
 IsBoundVar (Var level scope) = level ≡ bound_level
 IsBoundVar Rigid = ⊥
@@ -78,13 +81,13 @@ abbrev pub ShapesAs : List Node → Table → Node → Option Shape → Type 0
 ShapesAs nodes T c None = IsShared nodes T c
 ShapesAs nodes T c (Some s) = (new : Node) → IsCopy nodes T new c (shape_node new s)
 
--- nothing was made for n
+-- no copy was made of a root
 pub record Shares (old new : List Node) (T T' : Table) (c : Node) : Type 0 where
   pub shared : IsShared old T c
   pub nodes : new ≡ old
   pub table : T' ≡ T
 
--- a copy of n was made
+-- a copy was made of the root n
 pub record MakesCopy (old new : List Node) (T T' : Table) (made : Node) (n : ℕ) (c : Node) : Type 0 where
   pub node : Node
   pub copy : IsCopy old T made c node
@@ -93,6 +96,7 @@ pub record MakesCopy (old new : List Node) (T T' : Table) (made : Node) (n : ℕ
   pub own : T' n ≡ Some (length old)
   pub others : (m : ℕ) → m ≢ n → T' m ≡ T m
 
+-- one or the other
 abbrev pub CopiesOne : (old new : List Node) → (T T' : Table) → (made : Node) → ℕ → Type 0
 CopiesOne old new T T' made n = (c : Node) → slice_get old n ≡ Some c → Shares old new T T' c ⊎ MakesCopy old new T T' made n c
 

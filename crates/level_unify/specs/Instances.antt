@@ -13,6 +13,7 @@ use Rattle.level_unify.specs.Solutions.{Loose, HaveNoBound}
 use Rattle.level_unify.specs.Limits.{FitsUnder}
 use Rattle.level_unify.specs.Copies.{Extends}
 
+-- whether a node, if there is one, is a bound variable
 abbrev pub is_bound_var : Option Node → Bool
 is_bound_var None = false
 is_bound_var (Some (Var level scope)) = level == bound_level

@@ -26,6 +26,7 @@ pub record Reached (nodes : List Node) (from : ℕ) (found : List ℕ) : Type 0 
 abbrev pub Visit : Type 0
 Visit = ℕ × ℕ
 
+-- the code's visits
 abbrev pub visit_of : CodeVisit → Visit
 visit_of s = (s.node.0, s.done)
 
@@ -38,6 +39,7 @@ pub record Course : Type 0 where
   pub found : List ℕ
   pub way : List Visit
 
+-- the same, of its three parts
 abbrev pub course : (ℕ → Bool) → List ℕ → List Visit → Course
 course done found way = record { done = done; found = found; way = way }
 

@@ -75,6 +75,7 @@ pub fn generalise(
 
 /// An instance of `root`: each bound variable that stands in it is a new variable of this level, whose scope is the one
 /// that limits nothing. What has no bound variable is shared. After `NoMemory` the store is as before.
+#[tactic(auto, using(crate::proofs::Instancing::instance_answer))]
 pub fn instantiate(
     alloc: Global,
     store: &mut Store,
@@ -92,6 +93,7 @@ pub fn instantiate(
 
 /// An instance of `root` with a new rigid variable for each bound variable that stands in it.
 /// What has no bound variable is shared. After `NoMemory` the store is as before.
+#[tactic(auto, using(crate::proofs::Freezing::frozen_answer))]
 pub fn freeze(alloc: Global, store: &mut Store, root: NodeRef) -> Result<NodeRef, NoMemory>
     requires { IsNode store.old.nodes root.0 }
     ensures instance { IfOk result (λ m. Frozen store.old.nodes store.new.nodes root.0 m.0) }
