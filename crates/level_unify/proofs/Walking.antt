@@ -12,7 +12,7 @@ use Rattle.type_nodes.proofs.Lists.{same_or_other, one_element, get-append_left,
 use Rattle.type_nodes.proofs.Places.{place, place_below, place_lower}
 use Rattle.type_nodes.proofs.Roots.{link_or_stays, next_link, link_down, next_stays, closed_root, root_inside, root_settled, root_here, root_link}
 use Rattle.level_unify.proofs.Steps.{cell_at}
-use Rattle.level_unify.specs.Walks.{StandsIn, Reached, Stop, Course, course, AreDone, IsNext, Enters, Leaves}
+use Rattle.level_unify.specs.Walks.{StandsIn, Reached, Visit, Course, course, AreDone, IsNext, Enters, Leaves}
 
 -- a root that stands in `from`
 pub record IsRootIn (nodes : List Node) (from n : ℕ) : Type 0 where
@@ -47,24 +47,24 @@ root_low nodes rank ranked n = at (length nodes) n
     at zero m = omega arith
     at (suc k) m = let h = at k (next nodes m) in let i = one m in omega arith
 
--- a stop of the way, so many stops from its start: it isn't done, but its first parts are
-pub record IsOpen (nodes : List Node) (from : ℕ) (rank : ℕ → ℕ) (done : ℕ → Bool) (i : ℕ) (x : Stop) : Type 0 where
+-- a visit of the way, so many visits from its start: it isn't done, but its first parts are
+pub record IsOpen (nodes : List Node) (from : ℕ) (rank : ℕ → ℕ) (done : ℕ → Bool) (i : ℕ) (x : Visit) : Type 0 where
   pub is_root : IsRootIn nodes from x.0
   pub new : done x.0 ≡ false
   pub first : (c : Node) → slice_get nodes x.0 ≡ Some c → AreDone nodes done (parts c) 0 x.1
   pub room : place rank (length nodes) x.0 + i < length nodes
 
--- where a walk stands: what is done is listed behind its parts, and each stop of the way stands lower than those before
+-- where a walk stands: what is done is listed behind its parts, and each visit of the way stands lower than those before
 pub record Walking (nodes : List Node) (from : ℕ) (w : Course) : Type 0 where
   pub rank : ℕ → ℕ
   pub ranked : IsRanked nodes rank
-  pub start : (w.done (root nodes from) ≡ true) ⊎ ((i : ℕ) × (x : Stop) × (slice_get w.way i ≡ Some x) × (x.0 ≡ root nodes from))
+  pub start : (w.done (root nodes from) ≡ true) ⊎ ((i : ℕ) × (x : Visit) × (slice_get w.way i ≡ Some x) × (x.0 ≡ root nodes from))
   pub listed : (n : ℕ) → w.done n ≡ true → (k : ℕ) × (slice_get w.found k ≡ Some n)
   pub known : (k n : ℕ) → slice_get w.found k ≡ Some n → (w.done n ≡ true) × IsRootIn nodes from n
   pub behind : (k n : ℕ) (c : Node) → slice_get w.found k ≡ Some n → slice_get nodes n ≡ Some c → All (λ m. (j : ℕ) × (j < k) × (slice_get w.found j ≡ Some (root nodes m))) (parts c)
   pub once : (j k n : ℕ) → slice_get w.found j ≡ Some n → slice_get w.found k ≡ Some n → j ≡ k
-  pub stops : (i : ℕ) (x : Stop) → slice_get w.way i ≡ Some x → IsOpen nodes from rank w.done i x
-  pub falls : (i j : ℕ) (x y : Stop) → i < j → slice_get w.way i ≡ Some x → slice_get w.way j ≡ Some y → rank y.0 < rank x.0
+  pub visits : (i : ℕ) (x : Visit) → slice_get w.way i ≡ Some x → IsOpen nodes from rank w.done i x
+  pub falls : (i j : ℕ) (x y : Visit) → i < j → slice_get w.way i ≡ Some x → slice_get w.way j ≡ Some y → rank y.0 < rank x.0
 
 -- a walk begins with the root of `from`
 pub walk_start : (nodes : List Node) → IsSound nodes → (from : ℕ) (w : Course) → from < length nodes → ((n : ℕ) → w.done n ≡ false) → w.found ≡ [] → w.way ≡ (root nodes from, 0) ∷ [] → Walking nodes from w
@@ -76,7 +76,7 @@ walk_start nodes (rank, ranked) from w lt none empty one = record {
   known = λ k n e. absurd (nothing k n e);
   behind = λ k n c e. absurd (nothing k n e);
   once = λ j k n e. absurd (nothing j n e);
-  stops = λ i x e. only i x (sym (ap (λ l. slice_get l i) one) ∙ e);
+  visits = λ i x e. only i x (sym (ap (λ l. slice_get l i) one) ∙ e);
   falls = λ i j x y lt' e e'. absurd (single i j y lt' (sym (ap (λ l. slice_get l j) one) ∙ e'));
 }
   where
@@ -86,7 +86,7 @@ walk_start nodes (rank, ranked) from w lt none empty one = record {
     own : IsRootIn nodes from (root nodes from)
     own = root_stands nodes (rank, ranked) from from lt (record { each = λ F closed has. has })
 
-    only : (i : ℕ) (x : Stop) → slice_get ((root nodes from, 0) ∷ []) i ≡ Some x → IsOpen nodes from rank w.done i x
+    only : (i : ℕ) (x : Visit) → slice_get ((root nodes from, 0) ∷ []) i ≡ Some x → IsOpen nodes from rank w.done i x
     only zero x e =
         let same : (root nodes from, 0) ≡ x = one_element (root nodes from, 0) x (Some (root nodes from, 0)) refl e in
         subst (IsOpen nodes from rank w.done 0) same (record {
@@ -97,7 +97,7 @@ walk_start nodes (rank, ranked) from w lt none empty one = record {
         })
     only (suc i) x e = absurd (cc)
 
-    single : (i j : ℕ) (y : Stop) → i < j → slice_get ((root nodes from, 0) ∷ []) j ≡ Some y → ⊥
+    single : (i j : ℕ) (y : Visit) → i < j → slice_get ((root nodes from, 0) ∷ []) j ≡ Some y → ⊥
     single i zero y lt' e = omega arith
     single i (suc j) y lt' e = cc
 
@@ -121,15 +121,15 @@ done_more nodes done ms from at m r here is has h = record {
   ];
 }
 
--- a way with one stop changed in place has the same roots
-same_stop : (rest : List Stop) (x y : Stop) → y.0 ≡ x.0 → (i : ℕ) (z : Stop) → slice_get (rest ++ y ∷ []) i ≡ Some z → (z' : Stop) × (slice_get (rest ++ x ∷ []) i ≡ Some z') × (z'.0 ≡ z.0)
-same_stop rest x y e i z at = elim (get-append_cases rest y i z at) [
+-- a way with one visit changed in place has the same roots
+same_visit : (rest : List Visit) (x y : Visit) → y.0 ≡ x.0 → (i : ℕ) (z : Visit) → slice_get (rest ++ y ∷ []) i ≡ Some z → (z' : Visit) × (slice_get (rest ++ x ∷ []) i ≡ Some z') × (z'.0 ≡ z.0)
+same_visit rest x y e i z at = elim (get-append_cases rest y i z at) [
   | inl f ↦ (z, get-append_left rest (x ∷ []) i (slice_get_within rest i z f) ∙ f, refl)
-  | inr (p, q) ↦ (x, ap (slice_get (rest ++ x ∷ [])) p ∙ get-append_last rest x, sym e ∙ sym (ap (λ (s : Stop). s.0) q))
+  | inr (p, q) ↦ (x, ap (slice_get (rest ++ x ∷ [])) p ∙ get-append_last rest x, sym e ∙ sym (ap (λ (s : Visit). s.0) q))
 ]
 
--- the walk goes on to a part of its last stop
-pub entered : (nodes : List Node) (from : ℕ) (d : ℕ → Bool) (f : List ℕ) (rest : List Stop) (x : Stop) (at p : ℕ) → Walking nodes from (course d f (rest ++ x ∷ [])) →
+-- the walk goes on to a part of its last visit
+pub entered : (nodes : List Node) (from : ℕ) (d : ℕ → Bool) (f : List ℕ) (rest : List Visit) (x : Visit) (at p : ℕ) → Walking nodes from (course d f (rest ++ x ∷ [])) →
     ((c : Node) → slice_get nodes (root nodes x.0) ≡ Some c → IsNext nodes d (parts c) x.1 at p) → Walking nodes from (course d f ((rest ++ (x.0, at) ∷ []) ++ (p, 0) ∷ []))
 entered nodes from d f rest x at p h next = record {
   rank = h.rank;
@@ -138,49 +138,49 @@ entered nodes from d f rest x at p h next = record {
     | inl e ↦ inl e
     | inr (i, y, e, is) ↦ elim (get-append_cases rest x i y e) [
       | inl g ↦ inr (i, y, in_longer i y (get-append_left rest ((x.0, at) ∷ []) i (slice_get_within rest i y g) ∙ g), is)
-      | inr (_, q) ↦ inr (length rest, (x.0, at), in_longer (length rest) (x.0, at) (get-append_last rest (x.0, at)), sym (ap (λ (s : Stop). s.0) q) ∙ is)
+      | inr (_, q) ↦ inr (length rest, (x.0, at), in_longer (length rest) (x.0, at) (get-append_last rest (x.0, at)), sym (ap (λ (s : Visit). s.0) q) ∙ is)
     ]
   ];
   listed = h.listed;
   known = h.known;
   behind = h.behind;
   once = h.once;
-  stops = λ i y e. elim (get-append_cases (rest ++ (x.0, at) ∷ []) (p, 0) i y e) [
+  visits = λ i y e. elim (get-append_cases (rest ++ (x.0, at) ∷ []) (p, 0) i y e) [
     | inl g ↦ elim (get-append_cases rest (x.0, at) i y g) [
-      | inl g' ↦ h.stops i y (get-append_left rest (x ∷ []) i (slice_get_within rest i y g') ∙ g')
+      | inl g' ↦ h.visits i y (get-append_left rest (x ∷ []) i (slice_get_within rest i y g') ∙ g')
       | inr (is, q) ↦ subst (IsOpen nodes from h.rank d i) (sym q) (subst (λ j. IsOpen nodes from h.rank d j (x.0, at)) (sym is) changed)
     ]
-    | inr (is, q) ↦ subst (IsOpen nodes from h.rank d i) (sym q) (subst (λ j. IsOpen nodes from h.rank d j (p, 0)) (sym is) last_stop)
+    | inr (is, q) ↦ subst (IsOpen nodes from h.rank d i) (sym q) (subst (λ j. IsOpen nodes from h.rank d j (p, 0)) (sym is) last_visit)
   ];
   falls = λ i j y z lt e e'. elim (get-append_cases (rest ++ (x.0, at) ∷ []) (p, 0) j z e') [
     | inl g ↦
         let l = slice_get_within (rest ++ (x.0, at) ∷ []) j z g in
-        let (z', a, b) = same_stop rest x (x.0, at) refl j z g in
-        let (y', a', b') = same_stop rest x (x.0, at) refl i y (sym (get-append_left (rest ++ (x.0, at) ∷ []) ((p, 0) ∷ []) i (omega arith)) ∙ e) in
+        let (z', a, b) = same_visit rest x (x.0, at) refl j z g in
+        let (y', a', b') = same_visit rest x (x.0, at) refl i y (sym (get-append_left (rest ++ (x.0, at) ∷ []) ((p, 0) ∷ []) i (omega arith)) ∙ e) in
         let low = h.falls i j y' z' lt a' a in
         subst (λ k. h.rank k < h.rank y.0) b (subst (λ k. h.rank z'.0 < h.rank k) b' low)
     | inr (is, q) ↦
         let n = length-snoc rest (x.0, at) in
         let g = sym (get-append_left (rest ++ (x.0, at) ∷ []) ((p, 0) ∷ []) i (omega arith)) ∙ e in
-        let (y', a', b') = same_stop rest x (x.0, at) refl i y g in
+        let (y', a', b') = same_visit rest x (x.0, at) refl i y g in
         let low : h.rank p < h.rank y'.0 = elim (same_or_other i (length rest)) [
           | inl last ↦
               let s : x ≡ y' = one_element x y' (slice_get (rest ++ x ∷ []) (length rest)) (get-append_last rest x) (subst (λ k. slice_get (rest ++ x ∷ []) k ≡ Some y') last a') in
-              subst (λ (s : Stop). h.rank p < h.rank s.0) s lower
+              subst (λ (s : Visit). h.rank p < h.rank s.0) s lower
           | inr other ↦
               let low' = h.falls i (length rest) y' x (omega arith) a' (get-append_last rest x) in
               let l = lower in
               omega arith
         ] in
-        subst (λ k. h.rank k < h.rank y.0) (sym (ap (λ (s : Stop). s.0) q)) (subst (λ k. h.rank p < h.rank k) b' low)
+        subst (λ k. h.rank k < h.rank y.0) (sym (ap (λ (s : Visit). s.0) q)) (subst (λ k. h.rank p < h.rank k) b' low)
   ];
 }
   where
-    in_longer : (i : ℕ) (y : Stop) → slice_get (rest ++ (x.0, at) ∷ []) i ≡ Some y → slice_get ((rest ++ (x.0, at) ∷ []) ++ (p, 0) ∷ []) i ≡ Some y
+    in_longer : (i : ℕ) (y : Visit) → slice_get (rest ++ (x.0, at) ∷ []) i ≡ Some y → slice_get ((rest ++ (x.0, at) ∷ []) ++ (p, 0) ∷ []) i ≡ Some y
     in_longer i y e = get-append_left (rest ++ (x.0, at) ∷ []) ((p, 0) ∷ []) i (slice_get_within (rest ++ (x.0, at) ∷ []) i y e) ∙ e
 
     own : IsOpen nodes from h.rank d (length rest) x
-    own = h.stops (length rest) x (get-append_last rest x)
+    own = h.visits (length rest) x (get-append_last rest x)
 
     cell : (c : Node) × (slice_get nodes x.0 ≡ Some c)
     cell = cell_at nodes x.0 own.is_root.inside
@@ -215,8 +215,8 @@ entered nodes from d f rest x at p h next = record {
       room = own.room;
     }
 
-    last_stop : IsOpen nodes from h.rank d (length (rest ++ (x.0, at) ∷ [])) (p, 0)
-    last_stop = record {
+    last_visit : IsOpen nodes from h.rank d (length (rest ++ (x.0, at) ∷ [])) (p, 0)
+    last_visit = record {
       is_root = new_root;
       new = here.new;
       first = λ c e. record { each = λ k m lo hi. absurd (omega arith) };
@@ -227,8 +227,8 @@ entered nodes from d f rest x at p h next = record {
           omega arith;
     }
 
--- the walk is done with its last stop
-pub left : (nodes : List Node) (from : ℕ) (d d' : ℕ → Bool) (f : List ℕ) (rest : List Stop) (x : Stop) → Walking nodes from (course d f (rest ++ x ∷ [])) →
+-- the walk is done with its last visit
+pub left : (nodes : List Node) (from : ℕ) (d d' : ℕ → Bool) (f : List ℕ) (rest : List Visit) (x : Visit) → Walking nodes from (course d f (rest ++ x ∷ [])) →
     ((c : Node) → slice_get nodes (root nodes x.0) ≡ Some c → AreDone nodes d (parts c) x.1 (length (parts c))) → ((n : ℕ) → d' n ≡ cond (nat_eq x.0 n) true (d n)) →
     Walking nodes from (course d' (f ++ x.0 ∷ []) rest)
 left nodes from d d' f rest x h all put = record {
@@ -238,7 +238,7 @@ left nodes from d d' f rest x h all put = record {
     | inl e ↦ inl (still (root nodes from) e)
     | inr (i, y, e, is) ↦ elim (get-append_cases rest x i y e) [
       | inl g ↦ inr (i, y, g, is)
-      | inr (_, q) ↦ inl (subst (λ n. d' n ≡ true) (sym (ap (λ (s : Stop). s.0) q) ∙ is) own_done)
+      | inr (_, q) ↦ inl (subst (λ n. d' n ≡ true) (sym (ap (λ (s : Visit). s.0) q) ∙ is) own_done)
     ]
   ];
   listed = λ n e. elim (cases n) [
@@ -270,9 +270,9 @@ left nodes from d d' f rest x h all put = record {
       | inr (is', _) ↦ is ∙ sym is'
     ]
   ];
-  stops = λ i y e.
+  visits = λ i y e.
       let lt = slice_get_within rest i y e in
-      let old = h.stops i y (get-append_left rest (x ∷ []) i lt ∙ e) in
+      let old = h.visits i y (get-append_left rest (x ∷ []) i lt ∙ e) in
       let low = h.falls i (length rest) y x lt (get-append_left rest (x ∷ []) i lt ∙ e) (get-append_last rest x) in
       record {
         is_root = old.is_root;
@@ -293,7 +293,7 @@ left nodes from d d' f rest x h all put = record {
     still n e = elim (cases n) [ inl (_, g) ↦ g | inr (_, g) ↦ g ∙ e ]
 
     own : IsOpen nodes from h.rank d (length rest) x
-    own = h.stops (length rest) x (get-append_last rest x)
+    own = h.visits (length rest) x (get-append_last rest x)
 
     own_done : d' x.0 ≡ true
     own_done = elim (cases x.0) [ inl (_, g) ↦ g | inr (other, _) ↦ absurd (other refl) ]
@@ -321,16 +321,16 @@ few xs n once below = length-le_from_distinct_below xs n (IsDistinct-from_apart 
 pub found_few : (nodes : List Node) (from : ℕ) (w : Course) → Walking nodes from w → length w.found ≤ length nodes
 found_few nodes from w h = few w.found (length nodes) h.once (λ k m e. (h.known k m e).1.inside)
 
--- no more stops than nodes
+-- no more visits than nodes
 pub way_short : (nodes : List Node) (from : ℕ) (w : Course) → Walking nodes from w → length w.way ≤ length nodes
-way_short nodes from w h = at w.way (λ i x e. (h.stops i x e).room)
+way_short nodes from w h = at w.way (λ i x e. (h.visits i x e).room)
   where
-    at : (way : List Stop) → ((i : ℕ) (x : Stop) → slice_get way i ≡ Some x → place h.rank (length nodes) x.0 + i < length nodes) → length way ≤ length nodes
+    at : (way : List Visit) → ((i : ℕ) (x : Visit) → slice_get way i ≡ Some x → place h.rank (length nodes) x.0 + i < length nodes) → length way ≤ length nodes
     at [] p = omega arith
     at (x ∷ way) p =
         let r = p (length way) (get_or (x ∷ way) (length way) x) (get_here (x ∷ way) (length way) x (omega arith)) in omega arith
 
--- what is left of a walk: a row of stops for each node that isn't done
+-- what is left of a walk: a row of visits for each node that isn't done
 abbrev pub left_of : List Node → Course → ℕ
 left_of nodes w = (length nodes - length w.found) * (length nodes + 1) + (length nodes - length w.way)
 
@@ -347,10 +347,10 @@ pub record WalksOn (nodes : List Node) (from : ℕ) (w w' : Course) : Type 0 whe
   pub on : Walking nodes from w'
   pub less : left_of nodes w' < left_of nodes w
 
-same_course : (w : Course) (d : ℕ → Bool) (f : List ℕ) (s : List Stop) → w.done ≡ d → w.found ≡ f → w.way ≡ s → w ≡ course d f s
+same_course : (w : Course) (d : ℕ → Bool) (f : List ℕ) (s : List Visit) → w.done ≡ d → w.found ≡ f → w.way ≡ s → w ≡ course d f s
 same_course w d f s p q r = λ i. course (p i) (q i) (r i)
 
-pub walk_on : (nodes : List Node) (from : ℕ) (w w' : Course) (rest : List Stop) (x : Stop) → w.way ≡ rest ++ x ∷ [] → Enters nodes (course w.done w.found rest) x w' ⊎ Leaves nodes (course w.done w.found rest) x w' →
+pub walk_on : (nodes : List Node) (from : ℕ) (w w' : Course) (rest : List Visit) (x : Visit) → w.way ≡ rest ++ x ∷ [] → Enters nodes (course w.done w.found rest) x w' ⊎ Leaves nodes (course w.done w.found rest) x w' →
     Walking nodes from w → WalksOn nodes from w w'
 walk_on nodes from w w' rest x way step h =
     let same : w ≡ course w.done w.found (rest ++ x ∷ []) = same_course w w.done w.found (rest ++ x ∷ []) refl refl way in
@@ -376,9 +376,9 @@ walk_on nodes from w w' rest x way step h =
           }
     ]
 
--- the last stop of a walk is a node
-pub stop_inside : (nodes : List Node) (from : ℕ) (w : Course) (rest : List Stop) (x : Stop) → w.way ≡ rest ++ x ∷ [] → Walking nodes from w → x.0 < length nodes
-stop_inside nodes from w rest x e h = (h.stops (length rest) x (ap (λ l. slice_get l (length rest)) e ∙ get-append_last rest x)).is_root.inside
+-- the last visit of a walk is a node
+pub visit_inside : (nodes : List Node) (from : ℕ) (w : Course) (rest : List Visit) (x : Visit) → w.way ≡ rest ++ x ∷ [] → Walking nodes from w → x.0 < length nodes
+visit_inside nodes from w rest x e h = (h.visits (length rest) x (ap (λ l. slice_get l (length rest)) e ∙ get-append_last rest x)).is_root.inside
 
 -- a walk that has come to its end has found all that stands in `from`
 pub walk_end : (nodes : List Node) → IsSound nodes → (from : ℕ) (w : Course) → w.way ≡ [] → Walking nodes from w → Reached nodes from w.found

@@ -4,7 +4,7 @@ use Rattle.std.specs.HashSet.{contains}
 use Rattle.type_nodes.specs.Nodes.{Node, IsClosed, parts}
 use Rattle.type_nodes.specs.Links.{root}
 use Rattle.type_nodes.specs.Views.{numbers}
-use Rattle.level_unify.specs.declared.walk.Stop.{Stop as CodeStop}
+use Rattle.level_unify.specs.declared.walk.Visit.{Visit as CodeVisit}
 use Rattle.level_unify.specs.declared.walk.Walk.{Walk}
 
 -- v stands in n: each set that has n and the parts of its nodes has v
@@ -23,26 +23,26 @@ pub record Reached (nodes : List Node) (from : ℕ) (found : List ℕ) : Type 0 
   pub once : (j k n : ℕ) → slice_get found j ≡ Some n → slice_get found k ≡ Some n → j ≡ k
 
 -- a root on the way, and how many of its parts are done
-abbrev pub Stop : Type 0
-Stop = ℕ × ℕ
+abbrev pub Visit : Type 0
+Visit = ℕ × ℕ
 
-abbrev pub stop_of : CodeStop → Stop
-stop_of s = (s.node.0, s.done)
+abbrev pub visit_of : CodeVisit → Visit
+visit_of s = (s.node.0, s.done)
 
-abbrev pub stops_of : List CodeStop → List Stop
-stops_of ss = map stop_of ss
+abbrev pub visits_of : List CodeVisit → List Visit
+visits_of ss = map visit_of ss
 
 -- where a walk stands: the roots that are done, their list, and the way to the root that is worked on
 pub record Course : Type 0 where
   pub done : ℕ → Bool
   pub found : List ℕ
-  pub way : List Stop
+  pub way : List Visit
 
-abbrev pub course : (ℕ → Bool) → List ℕ → List Stop → Course
+abbrev pub course : (ℕ → Bool) → List ℕ → List Visit → Course
 course done found way = record { done = done; found = found; way = way }
 
 abbrev pub course_of : Walk → Course
-course_of w = course (contains nat_eq w.done) (numbers w.found.items) (stops_of w.way.items)
+course_of w = course (contains nat_eq w.done) (numbers w.found.items) (visits_of w.way.items)
 
 -- the roots of the parts from one place on to another are done
 pub record AreDone (nodes : List Node) (done : ℕ → Bool) (ms : List ℕ) (from to : ℕ) : Type 0 where
@@ -56,8 +56,8 @@ pub record IsNext (nodes : List Node) (done : ℕ → Bool) (ms : List ℕ) (fro
   pub new : done r ≡ false
   pub before : AreDone nodes done ms from at
 
--- a walk goes from a stop on to a part of it
-pub record Enters (nodes : List Node) (w : Course) (x : Stop) (w' : Course) : Type 0 where
+-- a walk goes from a visit on to a part of it
+pub record Enters (nodes : List Node) (w : Course) (x : Visit) (w' : Course) : Type 0 where
   pub at : ℕ
   pub part : ℕ
   pub next : (c : Node) → slice_get nodes (root nodes x.0) ≡ Some c → IsNext nodes w.done (parts c) x.1 at part
@@ -65,8 +65,8 @@ pub record Enters (nodes : List Node) (w : Course) (x : Stop) (w' : Course) : Ty
   pub found : w'.found ≡ w.found
   pub done : w'.done ≡ w.done
 
--- a walk is done with a stop
-pub record Leaves (nodes : List Node) (w : Course) (x : Stop) (w' : Course) : Type 0 where
+-- a walk is done with a visit
+pub record Leaves (nodes : List Node) (w : Course) (x : Visit) (w' : Course) : Type 0 where
   pub all : (c : Node) → slice_get nodes (root nodes x.0) ≡ Some c → AreDone nodes w.done (parts c) x.1 (length (parts c))
   pub way : w'.way ≡ w.way
   pub found : w'.found ≡ w.found ++ x.0 ∷ []

@@ -1,5 +1,5 @@
 //! What makes two roots one, as far as they alone tell.
-ghost use Rattle.std.specs.Prelude.{◌≡◌, ◌↔◌, IsTrue, slice_index_or};
+ghost use Rattle.std.specs.Prelude.{◌≡◌, ◌↔◌, true, IsTrue, slice_index_or};
 ghost use Rattle.type_nodes.specs.Nodes.{Node};
 ghost use Rattle.level_unify.specs.Plans.{IsFreeVar, IsOrdinary, SameHead, Plans, Views};
 
@@ -63,7 +63,8 @@ fn first_number(origin: &Origin) -> u64
 
 // An origin's numbers are below those that tell rigid variables in the model: so no rigid variable is a constructor.
 fn is_ordinary(view: &View<'_>) -> bool
-    ensures { (c : Node) → Views view.now c → IsOrdinary c }
+    ensures yes { result ≡ true }
+    ensures ordinary { (c : Node) → Views view.now c → IsOrdinary c }
 {
     match view {
         View::Con(origin, _) => first_number(origin) <= u64::MAX,
@@ -82,8 +83,8 @@ pub fn plan_for(left: &View<'_>, right: &View<'_>) -> Plan
     } else if same_head(left, right) {
         Plan::LinkParts
     } else {
-        let _left = is_ordinary(left);
-        let _right = is_ordinary(right);
+        prove!(is_ordinary(left));
+        prove!(is_ordinary(right));
         Plan::Clash
     }
 }

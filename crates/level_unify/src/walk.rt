@@ -4,7 +4,7 @@ ghost use Rattle.std.specs.HashSet.{contains};
 ghost use Rattle.type_nodes.specs.Nodes.{Node, IsNode, IsSound, Apart, parts};
 ghost use Rattle.type_nodes.specs.Links.{root, reading};
 ghost use Rattle.type_nodes.specs.Views.{numbers};
-ghost use Rattle.level_unify.specs.Walks.{StandsIn, Reached, AreDone, IsNext, Enters, Leaves, stop_of, stops_of, course_of};
+ghost use Rattle.level_unify.specs.Walks.{StandsIn, Reached, AreDone, IsNext, Enters, Leaves, visit_of, visits_of, course_of};
 
 use std::alloc::Global;
 use std::collections::HashSet;
@@ -12,7 +12,7 @@ use type_nodes::{NoMemory, NodeRef, Store, View};
 
 // A root on the way from the start, and how many of its parts are done.
 #[derive(Clone, Copy, Drop)]
-struct Stop {
+struct Visit {
     node: NodeRef,
     done: usize,
 }
@@ -22,7 +22,7 @@ struct Stop {
 struct Walk {
     done: HashSet<u64>,
     found: Vec<NodeRef>,
-    way: Vec<Stop>,
+    way: Vec<Visit>,
 }
 
 // The place and the root of the first part, from a place on, whose root isn't done.
@@ -45,40 +45,40 @@ fn next_among(
     None
 }
 
-fn next_part(store: &Store, done: &HashSet<u64>, stop: Stop) -> Option<(usize, NodeRef)>
-    requires node { IsNode store.now.nodes stop.node.0 }
+fn next_part(store: &Store, done: &HashSet<u64>, visit: Visit) -> Option<(usize, NodeRef)>
+    requires node { IsNode store.now.nodes visit.node.0 }
     requires sound { IsSound store.now.nodes }
-    ensures next { IfSome result (λ p. (c : Node) → reading store.now.nodes stop.node.0 ≡ Some c → IsNext store.now.nodes (contains nat_eq done.now) (parts c) stop.done p.0 p.1.0) }
-    ensures none { IfNone result ((c : Node) → reading store.now.nodes stop.node.0 ≡ Some c → AreDone store.now.nodes (contains nat_eq done.now) (parts c) stop.done (length (parts c))) }
+    ensures next { IfSome result (λ p. (c : Node) → reading store.now.nodes visit.node.0 ≡ Some c → IsNext store.now.nodes (contains nat_eq done.now) (parts c) visit.done p.0 p.1.0) }
+    ensures none { IfNone result ((c : Node) → reading store.now.nodes visit.node.0 ≡ Some c → AreDone store.now.nodes (contains nat_eq done.now) (parts c) visit.done (length (parts c))) }
 {
-    match store.read(stop.node) {
+    match store.read(visit.node) {
         View::Var { .. } | View::Rigid(_) => None,
-        View::Arrow(from, to) => next_among(store, done, &[from, to], stop.done),
-        View::Tuple(parts) => next_among(store, done, parts, stop.done),
-        View::Con(_, args) => next_among(store, done, args, stop.done),
+        View::Arrow(from, to) => next_among(store, done, &[from, to], visit.done),
+        View::Tuple(parts) => next_among(store, done, parts, visit.done),
+        View::Con(_, args) => next_among(store, done, args, visit.done),
     }
 }
 
-fn push(way: &mut Vec<Stop>, node: NodeRef, done: usize) -> Result<(), NoMemory>
-    ensures { OnOk result (stops_of way.new.items ≡ stops_of way.old.items ++ (node.0, done) ∷ []) }
+fn push(way: &mut Vec<Visit>, node: NodeRef, done: usize) -> Result<(), NoMemory>
+    ensures { OnOk result (visits_of way.new.items ≡ visits_of way.old.items ++ (node.0, done) ∷ []) }
 {
-    way.push(Stop { node, done }).map_err(|_| NoMemory)
+    way.push(Visit { node, done }).map_err(|_| NoMemory)
 }
 
-// Goes on at a stop that was taken from the way: to its next part, or back.
-fn step(store: &Store, walk: &mut Walk, stop: Stop) -> Result<(), NoMemory>
-    requires node { IsNode store.now.nodes stop.node.0 }
+// Goes on at a visit that was taken from the way: to its next part, or back.
+fn step(store: &Store, walk: &mut Walk, visit: Visit) -> Result<(), NoMemory>
+    requires node { IsNode store.now.nodes visit.node.0 }
     requires sound { IsSound store.now.nodes }
-    ensures { OnOk result (Enters store.now.nodes (course_of walk.old) (stop_of stop) (course_of walk.new) ⊎ Leaves store.now.nodes (course_of walk.old) (stop_of stop) (course_of walk.new)) }
+    ensures { OnOk result (Enters store.now.nodes (course_of walk.old) (visit_of visit) (course_of walk.new) ⊎ Leaves store.now.nodes (course_of walk.old) (visit_of visit) (course_of walk.new)) }
 {
-    match next_part(store, &walk.done, stop) {
+    match next_part(store, &walk.done, visit) {
         Some((at, part)) => {
-            push(&mut walk.way, stop.node, at)?;
+            push(&mut walk.way, visit.node, at)?;
             push(&mut walk.way, part, 0)
         }
         None => {
-            walk.done.insert(stop.node.0).map_err(|_| NoMemory)?;
-            walk.found.push(stop.node).map_err(|_| NoMemory)
+            walk.done.insert(visit.node.0).map_err(|_| NoMemory)?;
+            walk.found.push(visit.node).map_err(|_| NoMemory)
         }
     }
 }
@@ -96,8 +96,8 @@ pub fn reached(alloc: Global, store: &Store, from: NodeRef) -> Result<Vec<NodeRe
         way: Vec::new(alloc),
     };
     push(&mut walk.way, store.root(from), 0)?;
-    while let Some(stop) = walk.way.pop() {
-        step(store, &mut walk, stop)?;
+    while let Some(visit) = walk.way.pop() {
+        step(store, &mut walk, visit)?;
     }
     Ok(walk.found)
 }

@@ -1,0 +1,5 @@
+use Rattle.grammar_laws.proofs.Laws.{one_tree}
+use Rattle.grammar_laws.proofs.trees_are_one.Goals as goal
+
+pub returns : goal.returns
+returns c = one_tree
