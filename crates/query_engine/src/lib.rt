@@ -78,6 +78,24 @@ mod tests {
         Ok(())
     }
 
+    fn is_told(
+        page: &FaultPage,
+        at: usize,
+        (start, end): (u32, u32),
+        kind: &str,
+        message: &str,
+    ) -> bool {
+        match page.list.get(at) {
+            None => false,
+            Some(fault) => {
+                fault.span == Span { start, end }
+                    && fault.kind.is(kind)
+                    && fault.message.is(message)
+                    && fault.ty.is("parser")
+            }
+        }
+    }
+
     /// What stands in front of a skipped token is told before it, though it was found later.
     #[test]
     fn faults_are_told_by_their_places(rt: HostRuntime) -> Result<(), Fail> {
@@ -94,21 +112,11 @@ mod tests {
         ];
         let page = errors(alloc, &faults)?;
         assert!(rt; !page.more);
-        let told = [
-            (0, 0, "added", "1 part is missing here"),
-            (5, 5, "added", "2 parts are missing here"),
-            (5, 6, "skipped", "This token does not fit here"),
-            (7, 8, "deep", "This token is nested too deeply"),
-        ];
-        assert_eq!(rt; page.list.len(), told.len());
-        for (fault, (start, end, kind, message)) in page.list.iter().zip(told) {
-            assert_eq!(rt; fault.span, Span { start, end });
-            assert_eq!(rt;
-                (fault.kind.as_str(), fault.message.as_str()),
-                (kind, message)
-            );
-            assert_eq!(rt; fault.ty.as_str(), "parser");
-        }
+        assert_eq!(rt; page.list.len(), 4);
+        assert!(rt; is_told(&page, 0, (0, 0), "added", "1 part is missing here"));
+        assert!(rt; is_told(&page, 1, (5, 5), "added", "2 parts are missing here"));
+        assert!(rt; is_told(&page, 2, (5, 6), "skipped", "This token does not fit here"));
+        assert!(rt; is_told(&page, 3, (7, 8), "deep", "This token is nested too deeply"));
         Ok(())
     }
 
