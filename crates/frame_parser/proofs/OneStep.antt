@@ -60,7 +60,8 @@ fit_steps G L f S at t c h = by (fit_of G f S t) refl h
     by none e h = absurd (cc)
     by (found n p) e h = let same : c ≡ (n, way 0 None p) = ap (or_course c) h in subst (λ c. Steps G c f S at t None) (sym same) (step_fits G L f S at t n p e)
 
-fit_none : (x : Found) → None ≡ course_of x → x ≡ none
+-- a course that isn't found
+pub fit_none : (x : Found) → None ≡ course_of x → x ≡ none
 fit_none none h = refl
 fit_none (found n p) h = absurd (cc)
 

@@ -16,7 +16,7 @@ use Rattle.parse_frames.specs.Stacks.{stack_view}
 use Rattle.parse_frames.specs.declared.stack.Stack.{Stack as FrameStack}
 use Rattle.frame_parser.specs.Run.{told}
 use Rattle.parse_frames.proofs.Named.{waiting_named}
-use Rattle.frame_parser.specs.Course.{bare, fit_of, out_of, course_of, out, out_holes, past_way, past_holes, depth_of, taken_to, IsPlaced, course_frames, course_holes}
+use Rattle.frame_parser.specs.Course.{bare, fit_of, out_of, course_of, out, out_holes, past_way, past_holes, depth_of, taken_to, IsPlaced, IsRefused, course_frames, course_holes}
 use Rattle.frame_parser.specs.View.{fault_of, text_table, Stands, Standing, HasCourse, IsTakenBy, IsLeftOut, StepsTo}
 use Rattle.frame_parser.specs.declared.build.Filled.{Filled}
 use Rattle.frame_parser.specs.declared.stack.Stack.{Stack as CodeStack}
@@ -25,7 +25,7 @@ use Rattle.frame_parser.specs.declared.stack.SyntaxFault.{SyntaxFault}
 use Rattle.frame_parser.proofs.Chains.{laws}
 use Rattle.frame_parser.proofs.Courses.{fit_bare, out_bare}
 use Rattle.frame_parser.proofs.Named.{stood, below_named}
-use Rattle.frame_parser.proofs.OneStep.{fit_steps, out_steps, no_steps}
+use Rattle.frame_parser.proofs.OneStep.{fit_steps, out_steps, no_steps, fit_none}
 
 -- where a token fits is told by the stack that stands for the frames
 pub fit_named : (text : Text) (f : Frame) (S : Stack) (at : ℕ) (t : Tok) (v : frames.Stack) (G : Table) (r p k : ℕ) (l : Last) (fs : List frames.Frame) → Stands text (f ∷ S) at v
@@ -89,26 +89,47 @@ out_none s f S at t r e st g h left d = left_steps s.text _ f S at s r e (skippe
 
 -- a token that is taken
 taken_steps : (text : Text) (x : recovery.Stepped) (U : Stack) (at : ℕ) (o : Option Fault) (r : Stepped) (fs : FrameStack) (q : Option SyntaxFault) → x ≡ stepped U at o → IsNamed (text_table text) row_name U at (stack_view fs)
-    → r ≡ record { stack = record { text = text; frames = fs }; fault = q } → option_map fault_of q ≡ option_map told o → StepsTo text x r
-taken_steps text x U at o r fs q is named e d =
-    subst (λ x. StepsTo text x r) (sym is) (subst (λ r. StepsTo text (stepped U at o) r) (sym e) (record { same = refl; named = named; fault = d }))
+    → r.stack.text ≡ text → r.stack.frames ≡ fs → r.fault ≡ q → option_map fault_of q ≡ option_map told o → StepsTo text x r
+taken_steps text x U at o r fs q is named e g h d =
+    subst (λ x. StepsTo text x r) (sym is)
+    (record { same = e; named = subst (λ fs. IsNamed (text_table text) row_name U at (stack_view fs)) (sym g) named; fault = ap (option_map fault_of) h ∙ d })
 
 pub fit_taken : (s : CodeStack) (f : Frame) (S : Stack) (at : ℕ) (t : Tok) (c : ℕ × Way) (o : Option Filled) (x : Filled) (r : Stepped) → Stands s.text (f ∷ S) at (stack_view s.frames) → Some c ≡ course_of (fit_of (text_table s.text) f S t)
-    → o ≡ Some x → IsTakenBy s.text c f S at t o → r ≡ record { stack = record { text = s.text; frames = x.frames }; fault = None } → StepsTo s.text (step (text_table s.text) (f ∷ S) at t) r
-fit_taken s f S at t c o x r st h n by e =
+    → o ≡ Some x → IsTakenBy s.text c f S at t o → r.stack.text ≡ s.text → r.stack.frames ≡ x.frames → r.fault ≡ None → StepsTo s.text (step (text_table s.text) (f ∷ S) at t) r
+fit_taken s f S at t c o x r st h n by a b d =
     let q = fit_steps (text_table s.text) (laws (text_of s.text)) f S at t c h in
     let (le, named, holes) = subst (λ o. IsTakenBy s.text c f S at t o) n by in
-    taken_steps s.text _ _ t.end None r x.frames None (q.taken le) named e refl
+    taken_steps s.text _ _ t.end None r x.frames None (q.taken le) named a b d refl
 
 pub out_taken : (s : CodeStack) (f : Frame) (S : Stack) (at : ℕ) (t : Tok) (c : ℕ × Way) (o : Option Filled) (x : Filled) (r : Stepped) (e : SyntaxFault) (place : ℕ) → Stands s.text (f ∷ S) at (stack_view s.frames)
     → None ≡ course_of (fit_of (text_table s.text) f S t) → Some c ≡ out_of (text_table s.text) f S t → o ≡ Some x → IsTakenBy s.text c f S at t o
-    → r ≡ record { stack = record { text = s.text; frames = x.frames }; fault = Some e } → fault_of e ≡ told (added place x.holes) → place ≡ (stack_view s.frames).place → StepsTo s.text (step (text_table s.text) (f ∷ S) at t) r
-out_taken s f S at t c o x r e place st g h n by d k p =
+    → r.stack.text ≡ s.text → r.stack.frames ≡ x.frames → r.fault ≡ Some e → fault_of e ≡ told (added place x.holes) → place ≡ (stack_view s.frames).place → StepsTo s.text (step (text_table s.text) (f ∷ S) at t) r
+out_taken s f S at t c o x r e place st g h n by a b d k p =
     let q = out_steps (text_table s.text) (laws (text_of s.text)) f S at t c g h in
     let (le, named, holes) = subst (λ o. IsTakenBy s.text c f S at t o) n by in
     let same : place ≡ at = p ∙ ap (λ v. v.place) (sym st.named) in
-    taken_steps s.text _ _ t.end (Some (added at (course_holes (text_table s.text) c f S at))) r x.frames (Some e) (q.taken le) named d
+    taken_steps s.text _ _ t.end (Some (added at (course_holes (text_table s.text) c f S at))) r x.frames (Some e) (q.taken le) named a b d
     (ap (λ g. Some g) (k ∙ ap (λ a. told (added a x.holes)) same ∙ ap (λ n. told (added at n)) holes))
+
+-- a key that no frame takes, as it is found
+pub refused_by : (text : Text) (v : frames.Stack) (t : Tok) (k : ℕ) → Standing text v → k ≡ key_of t
+    → ((f : Frame) (S : Stack) (at : ℕ) → Stands text (f ∷ S) at v → None ≡ course_of (fit_of (text_table text) f S t))
+    → ((f : Frame) (S : Stack) (at : ℕ) → Stands text (f ∷ S) at v → None ≡ out_of (text_table text) f S t) → IsRefused (text_table text) v k
+refused_by text v t k s e a b =
+    let q = stood text v s in
+    record {
+      fit = fit_named text q.top q.below q.at t v (text_table text) v.top.number v.top.spot k v.last v.below q.stands refl refl refl refl refl e ∙ fit_none (fit_of (text_table text) q.top q.below t) (a q.top q.below q.at q.stands);
+      out = out_named text q.top q.below q.at t v (text_table text) v.top.number v.top.spot k v.last v.below q.stands refl refl refl refl refl e ∙ sym (b q.top q.below q.at q.stands);
+    }
+
+-- a token of a key that is known to be refused
+pub out_refused : (s : CodeStack) (f : Frame) (S : Stack) (at k : ℕ) (t : Tok) (r : Stepped) (e : SyntaxFault) → Stands s.text (f ∷ S) at (stack_view s.frames) → k ≡ key_of t → IsRefused (text_table s.text) (stack_view s.frames) k
+    → IsLeftOut s e r → fault_of e ≡ told (skipped t) → StepsTo s.text (step (text_table s.text) (f ∷ S) at t) r
+out_refused s f S at k t r e st same x left d =
+    let v = stack_view s.frames in
+    let a = fit_named s.text f S at t v (text_table s.text) v.top.number v.top.spot k v.last v.below st refl refl refl refl refl same in
+    let b = out_named s.text f S at t v (text_table s.text) v.top.number v.top.spot k v.last v.below st refl refl refl refl refl same in
+    out_none s f S at t r e st (ap course_of (sym x.fit) ∙ ap course_of a) (sym x.out ∙ b) left d
 
 -- the place of a token in the frames behind a course
 pub course_placed : (text : Text) (v w x : frames.Stack) (t : Tok) (c : ℕ × Way) → HasCourse text c t v

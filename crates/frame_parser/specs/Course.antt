@@ -27,6 +27,11 @@ fit_of G f S t = find_fit G f.number f.at (last_done (G.what f.number f.at) f.do
 abbrev pub out_of : Table → Frame → Stack → Tok → Option (ℕ × Way)
 out_of G f S t = find_out G f.number f.at (last_done (G.what f.number f.at) f.done) S (key_of t)
 
+-- no frame of a stack takes the key, as their numbers tell
+pub record IsRefused (G : Table) (s : frames.Stack) (k : ℕ) : Type 0 where
+  pub fit : find_fit G s.top.number s.top.spot s.last (bare s.below) k ≡ none
+  pub out : find_out G s.top.number s.top.spot s.last (bare s.below) k ≡ None
+
 -- the innermost frame and those below it once so many frames are closed, each with its missing parts
 abbrev pub out : ℕ → Table → Frame → Stack → ℕ → Frame × Stack
 out zero G f S at = (f, S)

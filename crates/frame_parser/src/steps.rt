@@ -1,5 +1,5 @@
 //! A stack begins, takes tokens one by one, and is closed.
-ghost use Rattle.std.specs.Prelude.{◌≡◌, ◌<◌, ◌≤◌, ◌+◌, ◌∷◌, ◌++◌, ◌-◌, ◌^◌, [], ℕ, List, length, map, option_map, IfOk, OnOk, OnErr};
+ghost use Rattle.std.specs.Prelude.{◌≡◌, ◌<◌, ◌≤◌, ◌+◌, ◌∷◌, ◌++◌, ◌-◌, ◌^◌, [], ℕ, List, length, map, option_map, Some, IfOk, IsTrue, OnOk, OnErr};
 ghost use Rattle.token_model.specs.Kinds.{Tok};
 ghost use Rattle.tree_model.specs.Rows.{Row as PlainRow};
 ghost use Rattle.grammar_model.specs.Machine as machine;
@@ -8,7 +8,9 @@ ghost use Rattle.grammar_model.specs.Recovery as recovery;
 ghost use Rattle.grammar_model.specs.Recovery.{last_fault};
 ghost use Rattle.syntax_tree.specs.Tallies.{shifted_more};
 ghost use Rattle.syntax_tree.specs.View.{tok_of, trees_of, node_view, child_view, forest_of};
+ghost use Rattle.syntax_rows.specs.Numbers.{key_number};
 ghost use Rattle.syntax_rows.specs.View.{text_of};
+ghost use Rattle.frame_parser.specs.Course.{IsRefused};
 ghost use Rattle.parse_frames.specs.Frames.{heights_in, sizes_in};
 ghost use Rattle.grammar_model.specs.Named.{named, items_of, inner_of};
 ghost use Rattle.parse_frames.specs.Stacks.{stack_view};
@@ -24,7 +26,7 @@ use crate::stack::{Closed, Stack, Stepped, SyntaxFault};
 use parse_frames::Stack as FrameStack;
 use std::alloc::Global;
 use std::rc::Rc;
-use syntax_rows::{Key, Text, grammar};
+use syntax_rows::{Key, Text, grammar, number_of_key};
 use syntax_tree::{Child, Counts, NoMemory, Node, Part, Token, Tree};
 
 /// The stack of a program without tokens.
@@ -49,6 +51,7 @@ pub(crate) fn begun(text: Text) -> Stack
     Stack {
         text,
         frames: FrameStack::empty(grammar(text).root),
+        refused: None,
     }
 }
 
@@ -78,13 +81,16 @@ fn put(alloc: Global, stack: &Stack, token: &Token) -> Result<Stepped, NoMemory>
         → StepsTo stack.now.text (recovery.step (text_table stack.now.text) (f ∷ S) at (tok_of token.now)) r) }
 {
     let key = Key::of(token);
+    if is_refused(stack, key) {
+        return left_out(stack, SyntaxFault::Skipped { span: token.span });
+    }
     match fitting_course(stack.text, &stack.frames, key) {
         Some(course) => match take_by(alloc, stack.text, &stack.frames, course, token)? {
             None => left_out(stack, SyntaxFault::TooDeep { span: token.span }),
             Some(taken) => Ok(moved(stack.text, taken.frames, None)),
         },
         None => match reaching_course(stack.text, &stack.frames, key) {
-            None => left_out(stack, SyntaxFault::Skipped { span: token.span }),
+            None => refused(stack, key, SyntaxFault::Skipped { span: token.span }),
             Some(course) => match take_by(alloc, stack.text, &stack.frames, course, token)? {
                 None => left_out(stack, SyntaxFault::TooDeep { span: token.span }),
                 Some(taken) => {
@@ -99,12 +105,28 @@ fn put(alloc: Global, stack: &Stack, token: &Token) -> Result<Stepped, NoMemory>
     }
 }
 
+/// Whether a token of the key is known to be skipped.
+fn is_refused(stack: &Stack, key: Key) -> bool
+    ensures { IsTrue result → IsRefused (text_table stack.now.text) (stack_view stack.now.frames) (key_number key) }
+{
+    match stack.refused {
+        None => false,
+        Some(refused) => number_of_key(refused) == number_of_key(key),
+    }
+}
+
 /// A stack of these frames, and a fault that may be none.
 fn moved(text: Text, frames: FrameStack, fault: Option<SyntaxFault>) -> Stepped
-    ensures { result ≡ record { stack = record { text = text; frames = frames }; fault = fault } }
+    ensures text { result.stack.text ≡ text }
+    ensures frames { result.stack.frames ≡ frames }
+    ensures fault { result.fault ≡ fault }
 {
     Stepped {
-        stack: Stack { text, frames },
+        stack: Stack {
+            text,
+            frames,
+            refused: None,
+        },
         fault,
     }
 }
@@ -113,7 +135,29 @@ fn moved(text: Text, frames: FrameStack, fault: Option<SyntaxFault>) -> Stepped
 fn left_out(stack: &Stack, fault: SyntaxFault) -> Result<Stepped, NoMemory>
     ensures { IfOk result (λ r. IsLeftOut stack.now fault r) }
 {
-    Ok(moved(stack.text, stack.frames.share()?, Some(fault)))
+    Ok(Stepped {
+        stack: Stack {
+            text: stack.text,
+            frames: stack.frames.share()?,
+            refused: stack.refused,
+        },
+        fault: Some(fault),
+    })
+}
+
+/// The same stack, which knows that tokens of the key are skipped, and a fault.
+fn refused(stack: &Stack, key: Key, fault: SyntaxFault) -> Result<Stepped, NoMemory>
+    requires refused { IsRefused (text_table stack.now.text) (stack_view stack.now.frames) (key_number key) }
+    ensures { IfOk result (λ r. IsLeftOut stack.now fault r) }
+{
+    Ok(Stepped {
+        stack: Stack {
+            text: stack.text,
+            frames: stack.frames.share()?,
+            refused: Some(key),
+        },
+        fault: Some(fault),
+    })
 }
 
 /// A token is taken by its course. None where it would be nested too deeply.

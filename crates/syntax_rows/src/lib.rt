@@ -12,7 +12,7 @@ mod rows;
 mod starts;
 mod ways;
 
-pub use keys::Key;
+pub use keys::{Key, number_of_key};
 pub use lookup::{row_for, rows_are_separate};
 pub use ocaml::{ROWS, Text, grammar};
 pub use places::{Last, Place, first_place};
