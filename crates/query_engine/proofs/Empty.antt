@@ -1,7 +1,7 @@
 -- Where there is nothing to look for, nothing is found.
-use Rattle.std.proofs.Common.{◌≡◌, ℕ, List, [], refl, sym, ◌∙◌, subst, None, Option, map}
+use Rattle.std.proofs.Common.{◌≡◌, ℕ, [], refl, sym, ◌∙◌, subst, None, Option, map}
 use Rattle.tree_model.specs.Trees.{Forest, no_parts, part}
-use Rattle.query_model.specs.Outlines.{Member, bound_inside, inner_slot}
+use Rattle.query_model.specs.Outlines.{bound_inside, inner_slot}
 use Rattle.syntax_tree.specs.Names.{row_of}
 use Rattle.syntax_tree.specs.View.{child_view, forest_of, node_view}
 use Rattle.syntax_tree.specs.declared.tree.Node.{Node, out-Node}

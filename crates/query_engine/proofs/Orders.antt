@@ -2,7 +2,7 @@
 use Rattle.std.proofs.Common.{◌≡◌, ◌≤◌, ◌-◌, ◌+◌, get_or, map, drop, not, ℕ, List, [], ◌∷◌, ◌++◌, length, take, min, refl, sym, ◌∙◌, ap, subst, arith, Bool, true, false}
 use Rattle.std.proofs.lemmas.List.{take_all, take_at, take_more, take-map, drop-map, map-append, length-map, length-take}
 use Rattle.std.specs.List.{insert}
-use Rattle.query_model.specs.Faults.{Fault, front, is_before, place_before, parser, Source, placed, placed_among, ordered, page_limit, InOrder}
+use Rattle.query_model.specs.Faults.{Fault, front, is_before, place_before, parser, placed, placed_among, ordered, page_limit, InOrder}
 use Rattle.query_model.proofs.Pages.{placed_in_order, taken_in_order, placed_among_taken, placed_behind, placed_at_front, front_within}
 use Rattle.query_engine.specs.Faults.{fault_of}
 use Rattle.frame_parser.specs.declared.stack.SyntaxFault.{SyntaxFault}

@@ -1,5 +1,5 @@
 -- The faults that the parser tells are those that are listed.
-use Rattle.std.proofs.Common.{◌≡◌, List, [], ◌∷◌, map, refl, sym, ◌∙◌, ap}
+use Rattle.std.proofs.Common.{◌≡◌, List, [], ◌∷◌, map, refl, ◌∙◌, ap}
 use Rattle.grammar_model.specs.Recovery.{Fault, added, skipped, too_deep}
 use Rattle.query_model.specs.Faults as model
 use Rattle.frame_parser.specs.Run.{told}

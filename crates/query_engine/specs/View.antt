@@ -1,5 +1,5 @@
 -- What the engine's own types are in the definitions.
-use Rattle.std.specs.Prelude.{ℕ, List, [], ◌∷◌, map, Option, Some, None}
+use Rattle.std.specs.Prelude.{ℕ, List, map, Option, Some}
 use Rattle.text_terms.specs.Bytes.{str_bytes}
 use Rattle.text_terms.specs.declared.RcStr.{RcStr}
 use Rattle.tree_model.specs.Trees.{Tree, node}

@@ -1,4 +1,4 @@
-use Rattle.std.proofs.Common.{◌∙◌, ◌+◌, ap, length, map, drop, subst, List, []}
+use Rattle.std.proofs.Common.{◌+◌, map, drop, subst, List}
 use Rattle.std.proofs.lemmas.List.{drop_all, drop_more}
 use Rattle.query_engine.specs.Faults.{fault_of}
 use Rattle.frame_parser.specs.declared.stack.SyntaxFault.{SyntaxFault}

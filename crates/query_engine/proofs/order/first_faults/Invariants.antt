@@ -1,4 +1,4 @@
-use Rattle.std.proofs.Common.{◌≡◌, ◌≤◌, map, drop, length}
+use Rattle.std.proofs.Common.{map, drop}
 use Rattle.query_engine.specs.Faults.{fault_of}
 use Rattle.query_engine.proofs.Orders.{IsPageFor}
 use Rattle.query_engine.proofs.order.first_faults.Given as goal

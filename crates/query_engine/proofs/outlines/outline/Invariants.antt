@@ -1,6 +1,5 @@
 use Rattle.std.proofs.Common.{◌≡◌, ◌++◌, map, drop}
-use Rattle.std.specs.List.{flat_map}
-use Rattle.query_model.specs.Outlines.{bound, outline}
+use Rattle.query_model.specs.Outlines.{outline}
 use Rattle.syntax_tree.specs.View.{node_view, trees_of}
 use Rattle.query_engine.specs.View.{member_of}
 use Rattle.query_engine.proofs.outlines.outline.Given as goal
