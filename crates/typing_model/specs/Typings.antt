@@ -1,6 +1,6 @@
 -- Typings of a text, which demands are kept, and the most general typing (Damas and Milner 1982).
 use Rattle.std.specs.Prelude.{◌≡◌, ℕ, Bool, true, false, ◌&&◌, ◌||◌, List, [], ◌∷◌, Option, Some, None}
-use Rattle.type_model.specs.Types.{Typ, Var}
+use Rattle.type_model.specs.Types.{Path, Typ, Var}
 use Rattle.type_model.specs.Substitutions.{Subst, apply}
 use Rattle.tree_model.specs.Trees.{Place, Tree}
 use Rattle.signature_model.specs.Signatures.{Signature}
@@ -30,6 +30,12 @@ pub record Fits (kept : Site → Bool) (asked : Choice → List Condition) (type
 pub record IsMostGeneral (kept : Site → Bool) (asked : Choice → List Condition) (types : ℕ → Typ) : Type 0 where
   pub fits : Fits kept asked types
   pub general : (others : ℕ → Typ) → Fits kept asked others → (s : Subst) × ((n : ℕ) → others n ≡ apply s (types n))
+
+-- the most general choice: all others are instances of it, in the types of the nodes, those that rows leave open, and those that unknown ones stand for
+pub record IsMostGeneralChoice (kept : Site → Bool) (asked : Choice → List Condition) (choice : Choice) : Type 0 where
+  pub holds : AllHold kept (asked choice)
+  pub general : (other : Choice) → AllHold kept (asked other) → (s : Subst) × ((n : ℕ) → other.type_at n ≡ apply s (choice.type_at n)) ×
+      ((n k : ℕ) → other.letter n k ≡ apply s (choice.letter n k)) × ((n : ℕ) (o : Path) → other.filled n o ≡ apply s (choice.filled n o))
 
 -- a typing of a text under a set of kept demands
 abbrev pub Typing : Environment → List Tree → (Site → Bool) → (ℕ → Typ) → Type 0
@@ -96,10 +102,8 @@ is_closing env text kept s = elim (body_at s (conditions_of env text kept no_cho
 
 -- a body that a most general typing of the text up to its end gives, under the demands kept before its `closing`
 pub record IsBody (env : Environment) (text : List Tree) (kept : Site → Bool) (s : Site) (outer : Environment) (body : Signature) : Type 0 where
-  pub types : ℕ → Typ
-  pub general : IsMostGeneral (kept_before env text kept s) (λ choice. conditions_before s (conditions_of env text (kept_before env text kept s) choice)) types
   pub choice : Choice
-  pub chosen : (n : ℕ) → choice.type_at n ≡ types n
+  pub general : IsMostGeneralChoice (kept_before env text kept s) (λ choice. conditions_before s (conditions_of env text (kept_before env text kept s) choice)) choice
   pub stands : body_at s (conditions_of env text (kept_before env text kept s) choice) ≡ Some (outer, body)
 
 -- the kept demands of a text: each one with which a typing exists beside those kept before it, and each `closing` whose body leaves nothing open
