@@ -2,7 +2,7 @@
 use Rattle.std.specs.Prelude.{ℕ, Bool, true, List, [], ◌∷◌}
 use Rattle.tree_model.specs.Trees.{Tree}
 use Rattle.signature_model.specs.Entries.{Environment}
-use Rattle.typing_model.specs.Demands.{Site, Complaint, Demand, equal, test, agrees, matches, closes, Condition, same, instance, made, demand, treated}
+use Rattle.typing_model.specs.Demands.{Site, Complaint, Demand, equal, test, agrees, matches, closes, Condition, same, instance, made, known, demand, treated}
 use Rattle.typing_model.specs.Typings.{conditions_of, no_choice}
 
 -- what a demand is
@@ -34,6 +34,7 @@ asked_in [] = []
 asked_in (same t u ∷ cs) = asked_in cs
 asked_in (instance s t ∷ cs) = asked_in cs
 asked_in (made n t ∷ cs) = asked_in cs
+asked_in (known t ∷ cs) = asked_in cs
 asked_in (demand s p d ∷ cs) = at p.start p.end (what_of d) ∷ asked_in cs
 asked_in (treated n e ∷ cs) = asked_in cs
 

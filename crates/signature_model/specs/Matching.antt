@@ -28,6 +28,18 @@ abbrev mutual
   all_used s f Nil = Nil
   all_used s f (Cons t ts) = Cons (used s f t) (all_used s f ts)
 
+-- no unknown type stands in a type
+abbrev mutual
+  pub IsKnown : Typ → Type 0
+  IsKnown (Var v) = Unit {0}
+  IsKnown (Arrow a b) = IsKnown a × IsKnown b
+  IsKnown (Tuple ts) = AreKnown ts
+  IsKnown (Con o ts) = (is_unknown o ≡ false) × AreKnown ts
+
+  pub AreKnown : Typs → Type 0
+  AreKnown Nil = Unit {0}
+  AreKnown (Cons t ts) = IsKnown t × AreKnown ts
+
 -- types for the unknown ones
 abbrev pub filling : (Path → Typ) → Change
 filling f = realised (λ o. if is_unknown o then Some (f o) else None)

@@ -6,7 +6,7 @@ use Rattle.tree_model.specs.Trees.{Place}
 use Rattle.signature_model.specs.Declarations as declarations
 use Rattle.signature_model.specs.Declarations.{Name, unknown}
 use Rattle.signature_model.specs.Entries.{Environment, entry, a_value, free_in}
-use Rattle.typing_model.specs.Demands.{Site, site, Condition, Demand, demand, same, treated}
+use Rattle.typing_model.specs.Demands.{Site, site, Condition, Demand, demand, same, known, treated}
 
 -- what a typing chooses: a type for each node, the types that nothing else restricts of each row, the types of the type variables written in each item, and for each node the types that its unknown ones stand for
 pub record Choice : Type 0 where
@@ -50,6 +50,10 @@ ask n k at d = demand (site n k) at d ∷ []
 -- a node is treated in this context
 abbrev pub tell : ℕ → Context → List Condition
 tell n c = treated n c.env ∷ []
+
+-- a node of an expression or a pattern is treated in this context; no unknown type stands in its type
+abbrev pub tell_typed : ℕ → Context → List Condition
+tell_typed n c = treated n c.env ∷ known (type_at c n) ∷ []
 
 -- a name that a pattern binds: where, and the type that a context gives it
 pub record Bound : Type 0 where

@@ -7,8 +7,8 @@ use Rattle.type_model.specs.Types.{Typ, Tuple, types_of}
 use Rattle.signature_model.specs.Declarations.{Name, Declaration, type_of}
 use Rattle.signature_model.specs.Components.{same_name}
 use Rattle.signature_model.specs.Entries.{constructor_kind}
-use Rattle.typing_model.specs.Demands.{constructor_word, Demand, equal, test, twice, arity, one_side, Condition, same}
-use Rattle.typing_model.specs.Contexts.{Context, Bound, type_at, letter, is_kept, ask, tell}
+use Rattle.typing_model.specs.Demands.{constructor_word, Demand, equal, test, twice, arity, one_side, Condition, same, known}
+use Rattle.typing_model.specs.Contexts.{Context, Bound, type_at, letter, is_kept, ask, tell, tell_typed}
 use Rattle.typing_model.specs.Parts.{Written, Pattern, TypeExpression, FieldPattern, Child, in_slot, path_in, token_in, place_of, no_pattern_at, patterns_in, pattern_in, types_in, first_of}
 use Rattle.typing_model.specs.Names.{ask_bound, found_by, referent_of, then_by, Built, built_in, used_at}
 use Rattle.typing_model.specs.BuiltIns.{exn_type, list_type, constant}
@@ -111,7 +111,7 @@ argument_has n k at t (Some u) = ask n k at (equal t u)
 
 -- A p: `bound`, `arity`; the argument, which is the declared one; the result, which these nodes have. The letters are those of the constructor's own node.
 abbrev pub applied_constructor : Context → ℕ → Written → ℕ → List ℕ → List Condition → (Option Typ → List Condition) → List Condition
-applied_constructor c n p head nodes argument has = tell head c ++ elim p.last [
+applied_constructor c n p head nodes argument has = tell_typed head c ++ elim p.last [
   | None ↦ argument
   | Some t ↦ ask_bound c n 0 constructor_kind constructor_word p t ++
       elim (built_by c n p t) [ None ↦ argument | Some b ↦ with_built c n head t 1 b nodes (argument ++ has (argument_type c head (Some b))) ]
@@ -213,7 +213,7 @@ mentions_in_field f = elim f.pattern [ None ↦ name_in f.label | Some p ↦ p.m
 
 -- a punned field's name is new, and has the field's type
 abbrev pub match_pun : Context → FieldPattern → List Name → Option Typ → List Condition
-match_pun c f seen t = elim f.label.last [ None ↦ [] | Some x ↦ ask_fresh f.node 1 seen x ++ elim t [ None ↦ [] | Some t ↦ same (letter c f.node 0) t ∷ [] ] ]
+match_pun c f seen t = elim f.label.last [ None ↦ [] | Some x ↦ ask_fresh f.node 1 seen x ++ known (letter c f.node 0) ∷ elim t [ None ↦ [] | Some t ↦ same (letter c f.node 0) t ∷ [] ] ]
 
 -- a field: its label is new where the record is found, then its pattern, which has the field's type
 abbrev pub match_field : Context → ℕ → Bool → FieldPattern → List Name → List Name → Option Typ → List Condition

@@ -6,7 +6,7 @@ use Rattle.tree_model.specs.Trees.{Place, Tree}
 use Rattle.signature_model.specs.Signatures.{Signature}
 use Rattle.signature_model.specs.Entries.{Environment, free_in, free_in_signature}
 use Rattle.signature_model.specs.Functors.{IsClosed}
-use Rattle.typing_model.specs.Demands.{Site, same_site, Demand, equal, test, agrees, matches, closes, Condition, same, instance, made, demand, treated, AllHold, sites_of, demand_of}
+use Rattle.typing_model.specs.Demands.{Site, same_site, Demand, equal, test, agrees, matches, closes, Condition, same, instance, made, known, demand, treated, AllHold, sites_of, demand_of}
 use Rattle.typing_model.specs.Contexts.{Choice, Context, in_item}
 use Rattle.typing_model.specs.Parts.{no_names}
 use Rattle.typing_model.specs.Items.{items_ask}
@@ -79,6 +79,7 @@ conditions_before x [] = []
 conditions_before x (same t u ∷ cs) = same t u ∷ conditions_before x cs
 conditions_before x (instance s t ∷ cs) = instance s t ∷ conditions_before x cs
 conditions_before x (made n t ∷ cs) = made n t ∷ conditions_before x cs
+conditions_before x (known t ∷ cs) = known t ∷ conditions_before x cs
 conditions_before x (demand s at d ∷ cs) = elim (same_site x s) [ true ↦ [] | false ↦ demand s at d ∷ conditions_before x cs ]
 conditions_before x (treated n env ∷ cs) = treated n env ∷ conditions_before x cs
 
