@@ -1,3 +1,4 @@
 pub mod Printing
 pub mod Texts
 pub mod Asked
+pub mod Typings

@@ -6,6 +6,7 @@
 
 mod demands;
 mod printing;
+mod typings;
 
 pub use demands::{
     demands_of_a_constructor_with_its_argument, demands_of_a_match_with_a_guard,
@@ -18,3 +19,4 @@ pub use printing::{
     arrow_left_of_an_arrow, one_argument_in_parentheses, several_arguments, tuple_in_a_tuple,
     variables_in_order, variables_past_z, weak_variables,
 };
+pub use typings::{branches_differ, identity_is_principal, self_application_has_no_typing};
