@@ -72,11 +72,11 @@ is_named k n e = same_kind k (kind_of e.stands_for) && same_name n e.name
 abbrev pub newest_entry : Kind → Name → Environment → Option Entry
 newest_entry k n env = newest_by (is_named k n) env
 
--- what is in scope in a module with this signature; no path leads through a functor
+-- what is in scope in a module with this signature; in a functor nothing is
 abbrev pub inside_signature : Signature → Scope
 inside_signature Hole = unknown_scope
 inside_signature (Structure cs) = known (scope_of (Structure cs))
-inside_signature (Functor pm p bm b) = no_scope
+inside_signature (Functor pm p bm b) = known []
 
 abbrev pub inside_referent : Referent → Scope
 inside_referent (a_value s) = no_scope

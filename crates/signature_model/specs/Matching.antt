@@ -1,18 +1,44 @@
 -- Matching: what a wanted signature's origins are realised by, and when an actual signature meets it (OCaml manual, 11.10; Leroy 1994).
-use Rattle.std.specs.Prelude.{◌≡◌, ℕ, suc, ◌+◌, ◌-◌, ◌^◌, ◌<◌, Bool, false, ◌&&◌, List, [], ◌∷◌, ◌++◌, Option, Some, None, if◌then◌else◌}
+use Rattle.std.specs.Prelude.{◌≡◌, ℕ, suc, ◌+◌, ◌-◌, ◌^◌, ◌<◌, Bool, true, false, ◌&&◌, List, [], ◌∷◌, ◌++◌, Option, Some, None, if◌then◌else◌}
 use Rattle.std.specs.Option.{option_or}
-use Rattle.type_model.specs.Types.{Path, Typ, occurs}
+use Rattle.type_model.specs.Types.{Path, Typ, Typs, Var, Arrow, Tuple, Con, Nil, Cons, occurs}
+use Rattle.type_model.specs.Substitutions.{Subst}
 use Rattle.type_model.specs.Schemes.{Scheme, HasInstance}
 use Rattle.type_model.specs.Origins.{same_path}
 use Rattle.signature_model.specs.Declarations.{Name, Definition, Own, Is, Constructor, Label, Shape, Opaque, Variant, Labels, Declaration, type_of, unknown}
 use Rattle.signature_model.specs.Signatures.{Signature, Hole, Structure, Functor, Components, Done, Component, Meaning, Value, TypeName, Exception, Module, ModuleType, Template, template, components_of}
 use Rattle.signature_model.specs.Changes.{among, Change, change, change_scheme, change_signature, in_front, Realisation, realised}
+use Rattle.signature_model.specs.Owners.{owner_among}
 use Rattle.signature_model.specs.Components.{newest, as_value, as_type, as_exception, as_module, as_module_type}
 
 -- whether a path is that of an unknown type
 abbrev pub is_unknown : Path → Bool
 is_unknown [] = false
 is_unknown (k ∷ o) = same_path (k ∷ []) ((2 ^ 64 + 1) ∷ [])
+
+-- a type as it is used: types in place of its variables and of the unknown ones in it
+abbrev mutual
+  pub used : Subst → (Path → Typ) → Typ → Typ
+  used s f (Var v) = s v
+  used s f (Arrow a b) = Arrow (used s f a) (used s f b)
+  used s f (Tuple ts) = Tuple (all_used s f ts)
+  used s f (Con o ts) = if is_unknown o then f o else Con o (all_used s f ts)
+
+  pub all_used : Subst → (Path → Typ) → Typs → Typs
+  all_used s f Nil = Nil
+  all_used s f (Cons t ts) = Cons (used s f t) (all_used s f ts)
+
+-- no unknown type stands in a type
+abbrev mutual
+  pub IsKnown : Typ → Type 0
+  IsKnown (Var v) = Unit {0}
+  IsKnown (Arrow a b) = IsKnown a × IsKnown b
+  IsKnown (Tuple ts) = AreKnown ts
+  IsKnown (Con o ts) = (is_unknown o ≡ false) × AreKnown ts
+
+  pub AreKnown : Typs → Type 0
+  AreKnown Nil = Unit {0}
+  AreKnown (Cons t ts) = IsKnown t × AreKnown ts
 
 -- types for the unknown ones
 abbrev pub filling : (Path → Typ) → Change
@@ -36,11 +62,22 @@ abbrev pub components_in : Option Signature → Components
 components_in None = Done
 components_in (Some s) = components_of s
 
--- the type of the newest actual component of the name of the first wanted type that makes an origin
+-- whether a module that may be absent is one that isn't known
+abbrev pub is_hole : Option Signature → Bool
+is_hole None = false
+is_hole (Some Hole) = true
+is_hole (Some (Structure cs)) = false
+is_hole (Some (Functor pm p bm b)) = false
+
+-- the unknown type of an origin that these wanted components make
+abbrev pub unknown_in : List Path → Path → Components → Option Typ
+unknown_in made o W = elim (owner_among o W) [ None ↦ None | Some d ↦ if among o made then Some (unknown o) else None ]
+
+-- the type of the newest actual component of the name of the first wanted type that makes an origin; where its module isn't known, an unknown type
 abbrev mutual
-  pub real_in_signature : List Path → Path → Components → Signature → Option Typ
+  pub real_in_signature : List Path → Path → Option Signature → Signature → Option Typ
   real_in_signature made o A Hole = None
-  real_in_signature made o A (Structure W) = real_in made o A W
+  real_in_signature made o A (Structure W) = if is_hole A then unknown_in made o W else real_in made o (components_in A) W
   real_in_signature made o A (Functor pm p bm b) = None
 
   pub real_in : List Path → Path → Components → Components → Option Typ
@@ -51,13 +88,13 @@ abbrev mutual
   real_by made o A n (Value s) = None
   real_by made o A n (TypeName d) = given_to made o d.definition (newest as_type n A)
   real_by made o A n (Exception x) = None
-  real_by made o A n (Module s) = real_in_signature made o (components_in (newest as_module n A)) s
+  real_by made o A n (Module s) = real_in_signature made o (newest as_module n A) s
   real_by made o A n (ModuleType m s) = None
 
 -- the realisation of a template by a signature: a hole gives unknown types
 abbrev pub realisation : Signature → Template → Realisation
 realisation Hole t o = if among o t.made then Some (unknown o) else None
-realisation (Structure A) t o = real_in_signature t.made o A t.signature
+realisation (Structure A) t o = real_in_signature t.made o (Some (Structure A)) t.signature
 realisation (Functor pm p bm b) t o = None
 
 -- a template's signature with its origins realised

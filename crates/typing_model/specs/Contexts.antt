@@ -1,14 +1,12 @@
 -- What a part of a program is typed in: the names in scope, the kept demands, and the types that a typing chooses.
-use Rattle.std.specs.Prelude.{ℕ, Bool, not, ◌||◌, false, List, [], ◌∷◌}
-use Rattle.type_model.specs.Types.{Path, Typ, occurs}
+use Rattle.std.specs.Prelude.{ℕ, Bool, not, ◌||◌, false, List, [], ◌∷◌, ◌++◌}
+use Rattle.type_model.specs.Types.{Path, Typ, Con, Nil, occurs}
 use Rattle.type_model.specs.Schemes.{Scheme}
 use Rattle.tree_model.specs.Trees.{Place}
 use Rattle.signature_model.specs.Declarations as declarations
 use Rattle.signature_model.specs.Declarations.{Name, unknown}
 use Rattle.signature_model.specs.Entries.{Environment, entry, a_value, free_in}
-use Rattle.signature_model.specs.Changes.{change}
-use Rattle.signature_model.specs.Matching.{filling, renewed}
-use Rattle.typing_model.specs.Demands.{Site, site, Condition, Demand, demand, same, treated}
+use Rattle.typing_model.specs.Demands.{Site, site, Condition, Demand, demand, same, known, treated}
 
 -- what a typing chooses: a type for each node, the types that nothing else restricts of each row, the types of the type variables written in each item, and for each node the types that its unknown ones stand for
 pub record Choice : Type 0 where
@@ -53,6 +51,10 @@ ask n k at d = demand (site n k) at d ∷ []
 abbrev pub tell : ℕ → Context → List Condition
 tell n c = treated n c.env ∷ []
 
+-- a node of an expression or a pattern is treated in this context; no unknown type stands in its type
+abbrev pub tell_typed : ℕ → Context → List Condition
+tell_typed n c = treated n c.env ∷ known (type_at c n) ∷ []
+
 -- a name that a pattern binds: where, and the type that a context gives it
 pub record Bound : Type 0 where
   pub name : Name
@@ -89,10 +91,10 @@ unresolved_in c n (parameters ps) = same (type_at c n) (unknown (n ∷ [])) ∷ 
 abbrev pub unresolved : Context → ℕ → List Condition
 unresolved c n = unresolved_in c n c.variables
 
--- a type in which unknown ones stand, as it is used at a node: in an item they are chosen, in a declaration they are unknown types of the node's own
-abbrev pub settled_in : Context → ℕ → Typ → Variables → Typ
-settled_in c n t (in_item i) = change (filling (c.chosen.filled n)) t
-settled_in c n t (parameters ps) = renewed (n ∷ []) t
+-- what the unknown types are in a use at a node: in an item any types, in a declaration unknown types of the node's own
+abbrev pub filled_in : Context → ℕ → Variables → Path → Typ
+filled_in c n (in_item i) o = c.chosen.filled n o
+filled_in c n (parameters ps) o = Con (o ++ n ∷ []) Nil
 
-abbrev pub settled : Context → ℕ → Typ → Typ
-settled c n t = settled_in c n t c.variables
+abbrev pub filled_at : Context → ℕ → Path → Typ
+filled_at c n = filled_in c n c.variables

@@ -35,40 +35,84 @@ abbrev pub shape_of : Context → Told → Shape
 shape_of c (constructors ks) = variant_of (filter_map (constructor_of c) ks)
 shape_of c (labels ls) = Labels (filter_map (label_of c) ls)
 
--- what a right side that is another type defines: where its demand isn't kept, a type of its own; the demand has the number 0 in its row
-abbrev pub defined_as : Context → ℕ → ℕ → TypeExpression → Definition
-defined_as c node n t = if is_kept c n 0 then Is (type_at c t.node) else Own (node ∷ [])
+-- an abbreviation, and the names of types in it
+abbrev pub abbreviation_in : Option RightSide → Option (ℕ × List Name)
+abbreviation_in None = None
+abbreviation_in (Some (another n t l k)) = elim k [ None ↦ Some (n, t.mentions) | Some r ↦ None ]
+abbreviation_in (Some (own r)) = None
 
-abbrev pub definition_of : Context → ℕ → Option RightSide → Definition
-definition_of c node None = Own (node ∷ [])
-definition_of c node (Some (another n t l k)) = defined_as c node n t
-definition_of c node (Some (own k)) = Own (node ∷ [])
+abbrev pub abbreviated : Option RightSide → List Name
+abbreviated right = elim (abbreviation_in right) [ None ↦ [] | Some a ↦ a.1 ]
+
+-- the names of types in a right side that is another type, where it is an abbreviation, or a re-export whose demand is kept
+abbrev pub renamed : Context → Option RightSide → List Name
+renamed c None = []
+renamed c (Some (another n t l k)) = elim k [ None ↦ t.mentions | Some r ↦ if is_kept c n 0 then t.mentions else [] ]
+renamed c (Some (own r)) = []
+
+abbrev pub token_name : Option Tok → Name
+token_name None = []
+token_name (Some t) = t.name
+
+-- the names that `reads` finds in the right side of a name, of two the later one
+abbrev pub names_behind : (Option RightSide → List Name) → List DeclarationPart → Name → Option (List Name)
+names_behind reads [] x = None
+names_behind reads (d ∷ ds) x = elim (names_behind reads ds x) [ Some ns ↦ Some ns | None ↦ if same_name x (token_name d.head.name) then Some (reads d.right) else None ]
+
+abbrev pub expanded : (Option RightSide → List Name) → List DeclarationPart → List Name → List Name
+expanded reads ds [] = []
+expanded reads ds (n ∷ ns) = elim (names_behind reads ds n) [ None ↦ [] | Some ms ↦ ms ] ++ expanded reads ds ns
+
+-- whether a name is met among names, or among what they are other names of, so many steps further
+abbrev pub leads_to : ℕ → (Option RightSide → List Name) → List DeclarationPart → Name → List Name → Bool
+leads_to zero reads ds x ns = is_among x ns
+leads_to (suc k) reads ds x ns = is_among x ns || leads_to k reads ds x (expanded reads ds ns)
+
+-- whether an abbreviation of a group contains itself
+abbrev pub is_cyclic : List DeclarationPart → Option Tok → List Name → Bool
+is_cyclic all None ns = false
+is_cyclic all (Some t) ns = leads_to (length all) abbreviated all t.name ns
+
+-- whether a re-export of a group names itself
+abbrev pub names_itself : Context → List DeclarationPart → Option Tok → List Name → Bool
+names_itself c all None ns = false
+names_itself c all (Some t) ns = leads_to (length all) (renamed c) all t.name ns
+
+-- what a right side that is another type defines: an abbreviation that contains itself, and a re-export whose demand isn't kept, are types of their own
+abbrev pub is_other : Context → List DeclarationPart → Option Tok → ℕ → TypeExpression → Option Told → Bool
+is_other c all x n t None = not (is_cyclic all x t.mentions)
+is_other c all x n t (Some k) = is_kept c n 0
+
+abbrev pub definition_of : Context → List DeclarationPart → Option Tok → ℕ → Option RightSide → Definition
+definition_of c all x node None = Own (node ∷ [])
+definition_of c all x node (Some (another n t l k)) = if is_other c all x n t k then Is (type_at c t.node) else Own (node ∷ [])
+definition_of c all x node (Some (own k)) = Own (node ∷ [])
 
 abbrev pub shape_in : Context → Option RightSide → Shape
 shape_in c None = Opaque
 shape_in c (Some (another n t l k)) = elim k [ None ↦ Opaque | Some r ↦ shape_of c r ]
 shape_in c (Some (own r)) = shape_of c r
 
--- what a declaration declares
-abbrev pub declaration_of : Context → DeclarationPart → Declaration
-declaration_of c d = record { arity = length d.head.parameters; definition = definition_of c d.node d.right; shape = shape_in c d.right }
+-- what a declaration of a group declares
+abbrev pub declaration_of : Context → List DeclarationPart → DeclarationPart → Declaration
+declaration_of c all d = record { arity = length d.head.parameters; definition = definition_of c all d.head.name d.node d.right; shape = shape_in c d.right }
 
 -- the entries of a declaration: its name, if it has one, and then its constructors or labels
 abbrev pub type_entry : Declaration → Option Tok → List Entry
 type_entry d None = []
 type_entry d (Some t) = entry t.name (declared.in_text (place_of t)) (a_type d) ∷ []
 
-abbrev pub entries_of_part : Context → DeclarationPart → List Entry
-entries_of_part c d = let e = declaration_of c d in type_entry e d.head.name ++ entries_of_shape e e.shape
+abbrev pub entries_of_part : Context → List DeclarationPart → DeclarationPart → List Entry
+entries_of_part c all d = let e = declaration_of c all d in type_entry e d.head.name ++ entries_of_shape e e.shape
 
-abbrev pub entries_of_group : Context → List DeclarationPart → List Entry
-entries_of_group c [] = []
-entries_of_group c (d ∷ ds) = entries_of_part c d ++ entries_of_group c ds
+abbrev pub entries_of_group : Context → List DeclarationPart → List DeclarationPart → List Entry
+entries_of_group c all [] = []
+entries_of_group c all (d ∷ ds) = entries_of_part c all d ++ entries_of_group c all ds
 
 -- the names alone, which stand in scope inside the group
-abbrev pub names_of_types : Context → List DeclarationPart → Environment → Environment
-names_of_types c [] env = env
-names_of_types c (d ∷ ds) env = names_of_types c ds (type_entry (declaration_of c d) d.head.name ++ env)
+abbrev pub names_of_types : Context → List DeclarationPart → List DeclarationPart → Environment → Environment
+names_of_types c all [] env = env
+names_of_types c all (d ∷ ds) env = names_of_types c all ds (type_entry (declaration_of c all d) d.head.name ++ env)
 
 -- tokens each of which is new behind those before
 abbrev pub new_tokens : List Name → List Tok → List (Place × Demand)
@@ -130,52 +174,30 @@ told_of env (Var v) = Some Opaque
 told_of env (Arrow a b) = Some Opaque
 told_of env (Tuple ts) = Some Opaque
 
--- that a re-export tells the same as the type that it names, which is told by its last token
-abbrev pub reexport_asked : Context → ℕ → ℕ → TypeExpression → Name → Shape → List Condition
-reexport_asked c n arity t x shape = elim (told_of c.env (type_at c t.node)) [
+-- that a re-export tells the same as the type that it names, which is told by its last token; one that names itself doesn't
+abbrev pub reexport_asked : Context → Bool → ℕ → ℕ → TypeExpression → Name → Shape → List Condition
+reexport_asked c true n arity t x shape = ask n 0 t.at (test (differs x) false)
+reexport_asked c false n arity t x shape = elim (told_of c.env (type_at c t.node)) [
   | None ↦ ask n 0 t.at (test (differs x) true)
   | Some actual ↦ ask n 0 t.at (agrees (differs x) arity actual shape)
 ]
 
-abbrev pub token_name : Option Tok → Name
-token_name None = []
-token_name (Some t) = t.name
-
 -- a right side: the type, the names, and for a re-export that it tells the same
-abbrev pub right_asks : Context → ℕ → Option RightSide → List Condition
-right_asks c arity None = []
-right_asks c arity (Some (another n t l k)) = tell n c ++ t.read c ++ shape_asks c k ++ elim k [ None ↦ [] | Some r ↦ reexport_asked c n arity t (token_name l) (shape_of c r) ]
-right_asks c arity (Some (own r)) = shape_asks c (Some r)
+abbrev pub right_asks : Context → List DeclarationPart → Option Tok → ℕ → Option RightSide → List Condition
+right_asks c all x arity None = []
+right_asks c all x arity (Some (another n t l k)) =
+    tell n c ++ t.read c ++ shape_asks c k ++ elim k [ None ↦ [] | Some r ↦ reexport_asked c (names_itself c all x t.mentions) n arity t (token_name l) (shape_of c r) ]
+right_asks c all x arity (Some (own r)) = shape_asks c (Some r)
 
 -- a declaration: its parameters are new, then the right side, in which they are bound
-abbrev pub declaration_asks : Context → DeclarationPart → List Condition
-declaration_asks c d =
+abbrev pub declaration_asks : Context → List DeclarationPart → DeclarationPart → List Condition
+declaration_asks c all d =
     tell d.node c ++ ask_all d.node 1 (new_tokens [] d.head.parameters) ++
-    right_asks (record c { variables = parameters (names_of_tokens d.head.parameters) }) (length d.head.parameters) d.right
+    right_asks (record c { variables = parameters (names_of_tokens d.head.parameters) }) all d.head.name (length d.head.parameters) d.right
 
-abbrev pub declarations_ask : Context → List DeclarationPart → List Condition
-declarations_ask c [] = []
-declarations_ask c (d ∷ ds) = declaration_asks c d ++ declarations_ask c ds
-
--- an abbreviation, and the names of types in it
-abbrev pub abbreviation_in : Option RightSide → Option (ℕ × List Name)
-abbreviation_in None = None
-abbreviation_in (Some (another n t l k)) = elim k [ None ↦ Some (n, t.mentions) | Some r ↦ None ]
-abbreviation_in (Some (own r)) = None
-
--- the names in the abbreviation of a name, of two the later one
-abbrev pub names_behind : List DeclarationPart → Name → Option (List Name)
-names_behind [] x = None
-names_behind (d ∷ ds) x = elim (names_behind ds x) [ Some ns ↦ Some ns | None ↦ if same_name x (token_name d.head.name) then Some (elim (abbreviation_in d.right) [ None ↦ [] | Some a ↦ a.1 ]) else None ]
-
-abbrev pub expanded : List DeclarationPart → List Name → List Name
-expanded ds [] = []
-expanded ds (n ∷ ns) = elim (names_behind ds n) [ None ↦ [] | Some ms ↦ ms ] ++ expanded ds ns
-
--- whether a name is met among names, or among what they abbreviate, so many steps further
-abbrev pub leads_to : ℕ → List DeclarationPart → Name → List Name → Bool
-leads_to zero ds x ns = is_among x ns
-leads_to (suc k) ds x ns = is_among x ns || leads_to k ds x (expanded ds ns)
+abbrev pub declarations_ask : Context → List DeclarationPart → List DeclarationPart → List Condition
+declarations_ask c all [] = []
+declarations_ask c all (d ∷ ds) = declaration_asks c all d ++ declarations_ask c all ds
 
 -- no abbreviation contains itself
 abbrev pub cycles_asked : List DeclarationPart → List DeclarationPart → List Condition
@@ -184,13 +206,13 @@ cycles_asked all (d ∷ ds) = elim d.head.name [
   | None ↦ cycles_asked all ds
   | Some t ↦ elim (abbreviation_in d.right) [
     | None ↦ cycles_asked all ds
-    | Some a ↦ ask a.0 0 (place_of t) (test (cyclic t.name) (not (leads_to (length all) all t.name a.1))) ++ cycles_asked all ds
+    | Some a ↦ ask a.0 0 (place_of t) (test (cyclic t.name) (not (is_cyclic all (Some t) a.1))) ++ cycles_asked all ds
   ]
 ]
 
 -- a group of declarations in a structure in which these names of types stand: the names, each declaration, the cycles
 abbrev pub group_asks : Context → List Name → List DeclarationPart → List Condition
-group_asks c seen ds = names_asked seen ds ++ declarations_ask (under (names_of_types c ds c.env) c) ds ++ cycles_asked ds ds
+group_asks c seen ds = names_asked seen ds ++ declarations_ask (under (names_of_types c ds ds c.env) c) ds ds ++ cycles_asked ds ds
 
 -- an exception: it has no parameters
 abbrev pub exception_asks : Context → ConstructorPart → List Condition

@@ -6,7 +6,7 @@ use Rattle.type_model.specs.Schemes.{Scheme, HasInstance}
 use Rattle.type_model.specs.Limits.{IsInScope}
 use Rattle.signature_model.specs.Declarations.{Name, Shape}
 use Rattle.signature_model.specs.Changes.{change_scheme}
-use Rattle.signature_model.specs.Matching.{filling, MeetsShape, Matches}
+use Rattle.signature_model.specs.Matching.{filling, IsKnown, MeetsShape, Matches}
 use Rattle.signature_model.specs.Signatures.{Signature, Template}
 use Rattle.signature_model.specs.Entries.{Environment}
 
@@ -67,12 +67,13 @@ pub data Demand : Type 0 where
   matches : Signature → Template → Demand
   closes : Environment → Signature → Demand
 
--- what a row asks: that two types are one, that a type is an instance of a scheme, that its origins were made before a node, or a demand, which stands at a place of the text.
+-- what a row asks: that two types are one, that a type is an instance of a scheme, that its origins were made before a node, that no unknown type stands in it, or a demand, which stands at a place of the text.
 -- Beside these it tells in which environment a node is treated, which asks nothing.
 pub data Condition : Type 0 where
   same : Typ → Typ → Condition
   instance : Scheme → Typ → Condition
   made : ℕ → Typ → Condition
+  known : Typ → Condition
   demand : Site → Place → Demand → Condition
   treated : ℕ → Environment → Condition
 
@@ -94,6 +95,7 @@ abbrev pub Holds : (Site → Bool) → Condition → Type 0
 Holds kept (same t u) = t ≡ u
 Holds kept (instance s t) = IsUse s t
 Holds kept (made n t) = IsInScope n t
+Holds kept (known t) = IsKnown t
 Holds kept (demand s at d) = kept s ≡ true → IsMet d
 Holds kept (treated n env) = Unit {0}
 
@@ -107,6 +109,7 @@ sites_of [] = []
 sites_of (same t u ∷ cs) = sites_of cs
 sites_of (instance s t ∷ cs) = sites_of cs
 sites_of (made n t ∷ cs) = sites_of cs
+sites_of (known t ∷ cs) = sites_of cs
 sites_of (demand s at d ∷ cs) = s ∷ sites_of cs
 sites_of (treated n env ∷ cs) = sites_of cs
 
@@ -116,6 +119,7 @@ demand_of x [] = None
 demand_of x (same t u ∷ cs) = demand_of x cs
 demand_of x (instance s t ∷ cs) = demand_of x cs
 demand_of x (made n t ∷ cs) = demand_of x cs
+demand_of x (known t ∷ cs) = demand_of x cs
 demand_of x (demand s at d ∷ cs) = if same_site x s then Some (at, d) else demand_of x cs
 demand_of x (treated n env ∷ cs) = demand_of x cs
 
@@ -125,5 +129,6 @@ environment_of x [] = None
 environment_of x (same t u ∷ cs) = environment_of x cs
 environment_of x (instance s t ∷ cs) = environment_of x cs
 environment_of x (made n t ∷ cs) = environment_of x cs
+environment_of x (known t ∷ cs) = environment_of x cs
 environment_of x (demand s at d ∷ cs) = environment_of x cs
 environment_of x (treated n env ∷ cs) = if x == n then Some env else environment_of x cs

@@ -1,10 +1,11 @@
 -- What expressions ask, row by row (OCaml manual, 11.7).
 use Rattle.std.specs.Prelude.{ℕ, ◌+◌, ◌==◌, Bool, true, false, not, ◌&&◌, List, [], ◌∷◌, ◌++◌, codes, map, filter_map, length, Option, Some, None, option_map, if◌then◌else◌}
-use Rattle.token_model.specs.Kinds.{Tok, Kind, upper, float, false_word}
+use Rattle.token_model.specs.Kinds.{Tok, Kind, lower, upper, float, false_word}
 use Rattle.tree_model.specs.Trees.{Place}
 use Rattle.tree_model.specs.Rows.{Row, name_row, econ_row, epath_row, econst_row, hole_row, eparen_row, ebegin_row, elist_row, erecord_row, prefix_row, field_row, eapp_row, eassert_row, ewhile_row, efor_row, eneg_row, infix_row, econs_row, etuple_row, eset_row, eif_row, eseq_row, elet_row, ematch_row, etry_row, efun_row, efunction_row}
 use Rattle.type_model.specs.Types.{Typ, Arrow, Tuple, types_of}
 use Rattle.signature_model.specs.Declarations.{Name, Declaration, Label, type_of}
+use Rattle.signature_model.specs.Components.{same_name}
 use Rattle.signature_model.specs.Entries.{value_kind, label_kind}
 use Rattle.typing_model.specs.Demands.{value_word, label_word, Demand, equal, test, no_label, not_mutable, Condition, same, instance}
 use Rattle.typing_model.specs.Contexts.{Context, Bound, type_at, letter, is_kept, ask, tell, with_names}
@@ -50,9 +51,16 @@ value_asks c n k p t = elim p.last [
       elim (if is_kept c n k then then_by (referent_of (found_by c value_kind p x)) scheme_in else None) [ None ↦ [] | Some s ↦ instance s t ∷ [] ]
 ]
 
--- x, M.x
+-- x, M.x, ( + ): an operator is no path to a name
+abbrev pub name_form : Written → Form
+name_form p = elim p.last [ None ↦ other | Some t ↦ by t.kind ]
+  where
+    by : Kind → Form
+    by lower = a_path p
+    by _ = other
+
 abbrev pub name_expression : ℕ → Place → Written → Expression
-name_expression n at p = expression n at (a_path p) (λ c. value_asks c n 0 p (type_at c n)) (always true)
+name_expression n at p = expression n at (name_form p) (λ c. value_asks c n 0 p (type_at c n)) (always true)
 
 -- A, M.A
 abbrev pub constructor_expression : ℕ → Place → Written → Expression
@@ -134,7 +142,7 @@ behind_constructor c n head (e ∷ es) = applied_from c n 3 0 head.at (type_at c
 abbrev pub constructor_applied : Context → ℕ → Written → Expression → List Expression → List Condition
 constructor_applied c n p head [] = head.typed c
 constructor_applied c n p head (e ∷ es) =
-    applied_constructor c n p head.node (e.typed c) (argument_has n 2 e.at (type_at c e.node)) ++
+    applied_constructor c n p head.node (head.node ∷ []) (e.typed c) (argument_has n 2 e.at (type_at c e.node)) ++
     (if is_kept c n 0 then behind_constructor c n head es else typed_all c es)
 
 -- what an application asks by the form of its head
@@ -179,19 +187,19 @@ infix_expression n at t e f = expression n at other (λ c. operator_applied c n 
 abbrev pub prefix_expression : ℕ → Place → Option Tok → Expression → Expression
 prefix_expression n at t e = expression n at other (λ c. operator_applied c n t (name_of t) (e ∷ [])) (always false)
 
--- the expression as it stands directly under a minus
-abbrev pub under_minus : Expression → Expression
-under_minus e = record e { typed = e.negated }
+-- the expression as it stands directly under a sign: under `-`, and not under `-.`, a numeral may be one more
+abbrev pub under_sign : Option Tok → Expression → Expression
+under_sign t e = if same_name (name_of t) (codes "-") then record e { typed = e.negated } else e
 
 -- - e, -. e: over a numeral with a point its type is float, and elsewhere it is ~- or ~-. with its argument
 abbrev pub minus_asks : Context → ℕ → Option Tok → Expression → Form → List Condition
 minus_asks c n t e a_float = e.negated c ++ is_of c n float_type
-minus_asks c n t e (a_constructor p) = operator_applied c n t (codes "~" ++ name_of t) (under_minus e ∷ [])
-minus_asks c n t e (a_path p) = operator_applied c n t (codes "~" ++ name_of t) (under_minus e ∷ [])
-minus_asks c n t e a_false = operator_applied c n t (codes "~" ++ name_of t) (under_minus e ∷ [])
-minus_asks c n t e (a_field p l) = operator_applied c n t (codes "~" ++ name_of t) (under_minus e ∷ [])
-minus_asks c n t e no_expression = operator_applied c n t (codes "~" ++ name_of t) (under_minus e ∷ [])
-minus_asks c n t e other = operator_applied c n t (codes "~" ++ name_of t) (under_minus e ∷ [])
+minus_asks c n t e (a_constructor p) = operator_applied c n t (codes "~" ++ name_of t) (under_sign t e ∷ [])
+minus_asks c n t e (a_path p) = operator_applied c n t (codes "~" ++ name_of t) (under_sign t e ∷ [])
+minus_asks c n t e a_false = operator_applied c n t (codes "~" ++ name_of t) (under_sign t e ∷ [])
+minus_asks c n t e (a_field p l) = operator_applied c n t (codes "~" ++ name_of t) (under_sign t e ∷ [])
+minus_asks c n t e no_expression = operator_applied c n t (codes "~" ++ name_of t) (under_sign t e ∷ [])
+minus_asks c n t e other = operator_applied c n t (codes "~" ++ name_of t) (under_sign t e ∷ [])
 
 abbrev pub minus_expression : ℕ → Place → Option Tok → Expression → Expression
 minus_expression n at t e = expression n at other (λ c. minus_asks c n t e e.form) (always false)

@@ -9,7 +9,7 @@ use Rattle.signature_model.specs.Failing.{Blame, blame, KindDiffers, first_in, b
 use Rattle.signature_model.specs.Entries.{Environment}
 use Rattle.typing_model.specs.Demands.{Site, Complaint, Demand, equal, test, agrees, matches, closes, AllHold, demand_of, environment_of}
 use Rattle.typing_model.specs.Contexts.{Choice}
-use Rattle.typing_model.specs.Typings.{conditions_of, demands_of, is_site_among, kept_before, IsPrincipal}
+use Rattle.typing_model.specs.Typings.{conditions_of, demands_of, is_site_among, kept_before, IsMostGeneralChoice}
 
 -- how two types differ: one would contain itself, one is a type that is made later, or neither
 pub data Difference : Type 0 where
@@ -68,15 +68,12 @@ pub data Tells (env : Environment) (text : List Tree) (kept : Site → Bool) (s 
   by_kind : {A : Signature} {t : Template} → are_structures A t.signature ≡ false → Tells env text kept s (matches A t) (mismatches (blame [] KindDiffers))
   by_body : {outer : Environment} {body : Signature} → Tells env text kept s (closes outer body) leaves_open
 
--- the fault of a site: the types are those of a most general typing of the demands kept before it
+-- the fault of a site: the types are those of a most general choice for the demands kept before it
 pub record IsFaultAt (env : Environment) (text : List Tree) (kept : Site → Bool) (s : Site) (f : Fault) : Type 0 where
   pub asked : is_site_among s (demands_of env text kept) ≡ true
   pub refused : kept s ≡ false
-  pub types : ℕ → Typ
-  pub principal : IsPrincipal env text (kept_before env text kept s) types
   pub choice : Choice
-  pub chosen : (n : ℕ) → choice.type_at n ≡ types n
-  pub holds : AllHold (kept_before env text kept s) (conditions_of env text (kept_before env text kept s) choice)
+  pub general : IsMostGeneralChoice (kept_before env text kept s) (conditions_of env text (kept_before env text kept s)) choice
   pub demand : Demand
   pub stands : demand_of s (conditions_of env text (kept_before env text kept s) choice) ≡ Some (f.at, demand)
   pub tells : Tells env text kept s demand f.told

@@ -58,28 +58,28 @@ names_of_declarations [] = []
 names_of_declarations (d ∷ ds) = elim d.head.name [ None ↦ [] | Some t ↦ t.name ∷ [] ] ++ names_of_declarations ds
 
 -- the declarations that have a name, as components
-abbrev pub type_components : Context → List DeclarationPart → Components
-type_components c [] = Done
-type_components c (d ∷ ds) = elim d.head.name [ None ↦ type_components c ds | Some t ↦ Component t.name (in_text (place_of t)) (TypeName (declaration_of c d)) (type_components c ds) ]
+abbrev pub type_components : Context → List DeclarationPart → List DeclarationPart → Components
+type_components c all [] = Done
+type_components c all (d ∷ ds) = elim d.head.name [ None ↦ type_components c all ds | Some t ↦ Component t.name (in_text (place_of t)) (TypeName (declaration_of c all d)) (type_components c all ds) ]
 
 -- the origin that a declaration makes, if it makes one
 abbrev pub origin_by : Definition → List Path
 origin_by (Own o) = o ∷ []
 origin_by (Is t) = []
 
-abbrev pub origins_of_group : Context → List DeclarationPart → List Path
-origins_of_group c [] = []
-origins_of_group c (d ∷ ds) = origin_by (declaration_of c d).definition ++ origins_of_group c ds
+abbrev pub origins_of_group : Context → List DeclarationPart → List DeclarationPart → List Path
+origins_of_group c all [] = []
+origins_of_group c all (d ∷ ds) = origin_by (declaration_of c all d).definition ++ origins_of_group c all ds
 
 -- type d and d
 abbrev pub type_item : ℕ → List DeclarationPart → Item
 type_item n ds = record {
   node = n;
   asks = λ c seen. group_asks c seen.types ds;
-  adds = λ c. reverse (entries_of_group c ds);
-  components = λ c. type_components c ds;
+  adds = λ c. reverse (entries_of_group c ds ds);
+  components = λ c. type_components c ds ds;
   named = λ c. record no_names { types = names_of_declarations ds };
-  makes = λ c. origins_of_group c ds;
+  makes = λ c. origins_of_group c ds ds;
 }
 
 abbrev pub exception_components : Context → ConstructorPart → Components

@@ -2,7 +2,7 @@
 use Rattle.std.specs.Prelude.{ℕ, ◌+◌, ◌*◌, ◌^◌, List, [], ◌∷◌, ◌++◌, Option, Some, None}
 use Rattle.tree_model.specs.Rows.{Row, binding_row, case_row, ffield_row, qfield_row, head_row, con_row, label_row, decl_row, with_row}
 use Rattle.tree_model.specs.Trees.{Place, Tree, Forest, Part, node, no_parts, part, taken, inner, missing, part_size, part_yield}
-use Rattle.typing_model.specs.Contexts.{tell}
+use Rattle.typing_model.specs.Contexts.{tell, tell_typed}
 use Rattle.typing_model.specs.Names.{then_by}
 use Rattle.typing_model.specs.Parts.{Expression, Pattern, TypeExpression, Binding, Case, Field, FieldPattern, Head, ConstructorPart, LabelPart, DeclarationPart, Item, ModuleExpression, ModuleType, WithClause, no_module_at, no_module_type_at, Child, in_slot, type_in, path_in, no_expression_at, no_pattern_at, no_type_at, expressions_in, expression_in, patterns_in, pattern_in, types_in, first_of, place_of}
 use Rattle.typing_model.specs.Patterns.{pattern_row}
@@ -46,10 +46,10 @@ declaration_of _ n cs = None
 
 -- what each node tells first: the environment in which it is treated
 abbrev pub recorded_expression : ℕ → Expression → Expression
-recorded_expression n e = record e { typed = λ c. tell n c ++ e.typed c; negated = λ c. tell n c ++ e.negated c }
+recorded_expression n e = record e { typed = λ c. tell_typed n c ++ e.typed c; negated = λ c. tell_typed n c ++ e.negated c }
 
 abbrev pub recorded_pattern : ℕ → Pattern → Pattern
-recorded_pattern n p = record p { matched = λ c seen. tell n c ++ p.matched c seen }
+recorded_pattern n p = record p { matched = λ c seen. tell_typed n c ++ p.matched c seen }
 
 abbrev pub recorded_type : ℕ → TypeExpression → TypeExpression
 recorded_type n t = record t { read = λ c. tell n c ++ t.read c; grouped_read = λ c. tell n c ++ t.grouped_read c }

@@ -12,7 +12,7 @@ use Rattle.signature_model.specs.Functors.{applied, closed_over}
 use Rattle.signature_model.specs.Entries.{module_kind, module_type_kind, Referent, a_value, a_constructor, an_exception, a_label, a_type, a_module, a_module_type, Entry, entry, Environment, scope_of}
 use Rattle.typing_model.specs.Demands.{module_word, module_type_word, test, matches, closes, twice, no_functor, no_abstract_type, Condition}
 use Rattle.typing_model.specs.Contexts.{Context, parameters, under, type_at, is_kept, ask, tell}
-use Rattle.typing_model.specs.Parts.{Written, TypeExpression, ModuleExpression, WithClause, Parameter, Seen, no_names, seen_too, Item, Child, in_slot, path_in, token_in, tokens_in, place_of, first_of, modules_in, module_in, module_types_in, module_type_in, no_module_at, no_module_type_at, type_in}
+use Rattle.typing_model.specs.Parts.{Written, TypeExpression, ModuleExpression, WithClause, Parameter, Seen, no_names, seen_too, Item, Child, in_slot, path_in, token_in, optional_tokens_in, place_of, first_of, modules_in, module_in, module_types_in, module_type_in, no_module_at, no_module_type_at, type_in}
 use Rattle.typing_model.specs.Parts as parts
 use Rattle.typing_model.specs.Names.{ask_bound, found_by, referent_of, then_by}
 use Rattle.typing_model.specs.Records.{is_among}
@@ -148,14 +148,14 @@ functor_signature c n (p ∷ ps) m =
     let inner = with_parameter c p in
     Functor (origins_at (p.module_type.template c).made p.module_type.node) (parameter_signature c p)
     (elim ps [ [] ↦ m.makes inner | q ∷ qs ↦ [] ])
-    (closed_unless (is_kept c n (length ps + 1)) inner.env (functor_signature inner n ps m))
+    (closed_unless (is_kept c n (length ps + 2)) inner.env (functor_signature inner n ps m))
 
--- one `closing` for each parameter, at the innermost body, that of the innermost functor first; their numbers are from 1 on
+-- one `closing` for each parameter, at the innermost body, that of the innermost functor first; their numbers are from 2 on
 abbrev pub closings_ask : Context → ℕ → Place → List Parameter → ModuleExpression → List Condition
 closings_ask c n at [] m = []
 closings_ask c n at (p ∷ ps) m =
     let inner = with_parameter c p in
-    closings_ask inner n at ps m ++ ask n (length ps + 1) at (closes inner.env (functor_signature inner n ps m))
+    closings_ask inner n at ps m ++ ask n (length ps + 2) at (closes inner.env (functor_signature inner n ps m))
 
 -- functor (X : y) -> m, of one or more parameters
 abbrev pub functor_expression : ℕ → Place → List Parameter → ModuleExpression → ModuleExpression
@@ -221,10 +221,10 @@ functor_template c (p ∷ ps) y =
 abbrev pub functor_type : ℕ → List Parameter → parts.ModuleType → parts.ModuleType
 functor_type n ps y = record { node = n; asks = λ c. parameters_ask c ps ++ y.asks (with_parameters c ps); template = λ c. functor_template c ps y }
 
--- that the name of a module, or of a module type, is new
+-- that the name of a module, or of a module type, is new; its demand has the number 1 in the row
 abbrev pub ask_new : ℕ → List Name → Option Tok → List Condition
 ask_new n seen None = []
-ask_new n seen (Some t) = ask n 9 (place_of t) (test (twice t.name) (not (is_among t.name seen)))
+ask_new n seen (Some t) = ask n 1 (place_of t) (test (twice t.name) (not (is_among t.name seen)))
 
 abbrev pub component_named : Option Tok → Meaning → Components
 component_named None m = Done
@@ -337,11 +337,11 @@ value_item n ts x t = record (no_item n) {
   components = λ c. component_named x (Value (all_bound (type_at c t.node)));
 }
 
--- the parameters whose names and module types stand in two slots, pairwise
-abbrev pub paired : List Tok → List parts.ModuleType → List Parameter
+-- the parameters whose names and module types stand in two slots, pairwise; a name may be missing
+abbrev pub paired : List (Option Tok) → List parts.ModuleType → List Parameter
 paired ts [] = []
 paired [] (y ∷ ys) = record { name = None; module_type = y } ∷ paired [] ys
-paired (t ∷ ts) (y ∷ ys) = record { name = Some t; module_type = y } ∷ paired ts ys
+paired (t ∷ ts) (y ∷ ys) = record { name = t; module_type = y } ∷ paired ts ys
 
 -- a module expression by its row
 unfoldable pub module_expression_row : Row → ℕ → Place → List Child → ModuleExpression
@@ -349,7 +349,7 @@ module_expression_row mpath_row n at cs = module_path n at (path_in 0 1 cs)
 module_expression_row mstruct_row n at cs = structure n at (filter_map (λ k. k.item) (in_slot 1 cs))
 module_expression_row mparen_row n at cs = sealed n at (module_in 1 cs) (first_of (module_types_in 3 cs))
 module_expression_row mapp_row n at cs = application n at (module_in 0 cs) (module_in 2 cs) (first_of (module_types_in 4 cs))
-module_expression_row mfunctor_row n at cs = functor_expression n at (paired (tokens_in 2 cs) (module_types_in 4 cs)) (module_in 7 cs)
+module_expression_row mfunctor_row n at cs = functor_expression n at (paired (optional_tokens_in 2 cs) (module_types_in 4 cs)) (module_in 7 cs)
 module_expression_row _ n at cs = no_module_at n at
 
 -- a module type by its row
@@ -358,14 +358,15 @@ module_type_row ypath_row n cs = module_type_path n (path_in 0 1 cs)
 module_type_row ysig_row n cs = signature_text n (filter_map (λ k. k.signature_item) (in_slot 1 cs))
 module_type_row yparen_row n cs = module_type_in_parentheses n (module_type_in 1 cs)
 module_type_row ywith_row n cs = with_expression n (module_type_in 0 cs) (filter_map (λ k. k.with_clause) (in_slot 2 cs))
-module_type_row yfunctor_row n cs = functor_type n (paired (tokens_in 2 cs) (module_types_in 4 cs)) (module_type_in 7 cs)
+module_type_row yfunctor_row n cs = functor_type n (paired (optional_tokens_in 2 cs) (module_types_in 4 cs)) (module_type_in 7 cs)
 module_type_row _ n cs = no_module_type_at n
 
--- the module of an item: its body, sealed where a module type is written, behind its parameters
-abbrev pub module_of_item : ℕ → Place → List Child → ModuleExpression
-module_of_item n at cs =
-    let body = sealed n at (module_in 10 cs) (first_of (module_types_in 8 cs)) in
-    elim (paired (tokens_in 3 cs) (module_types_in 5 cs)) [ [] ↦ body | p ∷ ps ↦ functor_expression n at (p ∷ ps) body ]
+-- the module of an item: its body, sealed where a module type is written, behind its parameters; it stands where the body does
+abbrev pub module_of_item : ℕ → List Child → ModuleExpression
+module_of_item n cs =
+    let m = module_in 10 cs in
+    let body = sealed n m.at m (first_of (module_types_in 8 cs)) in
+    elim (paired (optional_tokens_in 3 cs) (module_types_in 5 cs)) [ [] ↦ body | p ∷ ps ↦ functor_expression n m.at (p ∷ ps) body ]
 
 -- an item of a structure by its row, with its tokens
 unfoldable pub item_row : Row → ℕ → Place → List Tok → List Child → Option Item
@@ -373,7 +374,7 @@ item_row let_row n at ts cs = Some (let_item n ts (is_some (token_in 1 cs)) (bin
 item_row type_row n at ts cs = Some (type_item n (filter_map (λ k. k.declaration) (in_slot 2 cs)))
 item_row exception_row n at ts cs = Some (exception_item n (then_by (first_of (in_slot 1 cs)) (λ k. k.constructor)))
 item_row break_row n at ts cs = Some (no_item n)
-item_row module_row n at ts cs = Some (module_item n (token_in 1 cs) (module_of_item n at cs))
+item_row module_row n at ts cs = Some (module_item n (token_in 1 cs) (module_of_item n cs))
 item_row modtype_row n at ts cs = Some (module_type_item n (token_in 1 cs) (module_type_in 3 cs))
 item_row open_row n at ts cs = Some (open_item n (path_in 1 2 cs))
 item_row include_row n at ts cs = Some (include_item n at (path_in 1 2 cs))
@@ -384,7 +385,7 @@ unfoldable pub signature_item_row : Row → ℕ → Place → List Tok → List 
 signature_item_row val_row n at ts cs = Some (value_item n ts (token_in 1 cs) (type_in 3 cs))
 signature_item_row type_row n at ts cs = Some (type_item n (filter_map (λ k. k.declaration) (in_slot 2 cs)))
 signature_item_row exception_row n at ts cs = Some (exception_item n (then_by (first_of (in_slot 1 cs)) (λ k. k.constructor)))
-signature_item_row gmodule_row n at ts cs = Some (module_specification n (token_in 1 cs) (paired (tokens_in 3 cs) (module_types_in 5 cs)) (module_type_in 8 cs))
+signature_item_row gmodule_row n at ts cs = Some (module_specification n (token_in 1 cs) (paired (optional_tokens_in 3 cs) (module_types_in 5 cs)) (module_type_in 8 cs))
 signature_item_row modtype_row n at ts cs = Some (module_type_item n (token_in 1 cs) (module_type_in 3 cs))
 signature_item_row open_row n at ts cs = Some (open_item n (path_in 1 2 cs))
 signature_item_row include_row n at ts cs = Some (include_specification n at (path_in 1 2 cs))

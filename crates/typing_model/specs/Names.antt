@@ -2,11 +2,10 @@
 use Rattle.std.specs.Prelude.{ℕ, Bool, true, false, List, [], ◌∷◌, ◌++◌, map, Option, Some, None, if◌then◌else◌}
 use Rattle.token_model.specs.Kinds.{Tok}
 use Rattle.type_model.specs.Types.{Typ}
-use Rattle.type_model.specs.Substitutions.{Subst, apply}
+use Rattle.type_model.specs.Substitutions.{Subst}
 use Rattle.type_model.specs.Schemes.{Scheme}
 use Rattle.signature_model.specs.Declarations.{Name, Declaration, Label, type_of}
-use Rattle.signature_model.specs.Changes.{change}
-use Rattle.signature_model.specs.Matching.{filling}
+use Rattle.signature_model.specs.Matching.{used}
 use Rattle.signature_model.specs.Entries.{Kind, Referent, a_value, a_constructor, an_exception, a_label, a_type, a_module, a_module_type, Entry, Environment}
 use Rattle.signature_model.specs.Lookups.{Found, an_entry, a_hole, nothing, Scope, known, unknown_scope, no_scope, scope_behind, lookup}
 use Rattle.typing_model.specs.Demands.{Word, module_word, unbound, test, Condition}
@@ -51,7 +50,7 @@ arguments_at c n = letter c n
 
 -- a type of a declaration as it is used at a node: its parameters are the node's letters, and its unknown types are chosen there
 abbrev pub used_at : Context → ℕ → Typ → Typ
-used_at c n t = apply (arguments_at c n) (change (filling (c.chosen.filled n)) t)
+used_at c n t = used (arguments_at c n) (c.chosen.filled n) t
 
 -- what is found where the demand is kept
 abbrev pub entry_of : Found → Option Entry

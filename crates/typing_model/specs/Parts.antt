@@ -209,6 +209,10 @@ token_of (missing p) = None
 abbrev pub tokens_in : ℕ → List Child → List Tok
 tokens_in s cs = filter_map (λ c. token_of c.part) (in_slot s cs)
 
+-- the same with the missing ones
+abbrev pub optional_tokens_in : ℕ → List Child → List (Option Tok)
+optional_tokens_in s cs = map (λ c. token_of c.part) (in_slot s cs)
+
 abbrev pub token_in : ℕ → List Child → Option Tok
 token_in s cs = first_of (tokens_in s cs)
 

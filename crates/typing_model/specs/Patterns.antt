@@ -7,12 +7,12 @@ use Rattle.type_model.specs.Types.{Typ, Tuple, types_of}
 use Rattle.signature_model.specs.Declarations.{Name, Declaration, type_of}
 use Rattle.signature_model.specs.Components.{same_name}
 use Rattle.signature_model.specs.Entries.{constructor_kind}
-use Rattle.typing_model.specs.Demands.{constructor_word, Demand, equal, test, twice, arity, one_side, Condition, same}
-use Rattle.typing_model.specs.Contexts.{Context, Bound, type_at, letter, is_kept, ask, tell}
+use Rattle.typing_model.specs.Demands.{constructor_word, Demand, equal, test, twice, arity, one_side, Condition, same, known}
+use Rattle.typing_model.specs.Contexts.{Context, Bound, type_at, letter, is_kept, ask, tell, tell_typed}
 use Rattle.typing_model.specs.Parts.{Written, Pattern, TypeExpression, FieldPattern, Child, in_slot, path_in, token_in, place_of, no_pattern_at, patterns_in, pattern_in, types_in, first_of}
 use Rattle.typing_model.specs.Names.{ask_bound, found_by, referent_of, then_by, Built, built_in, used_at}
 use Rattle.typing_model.specs.BuiltIns.{exn_type, list_type, constant}
-use Rattle.typing_model.specs.Records.{is_among, ask_record, declaration_found, field_type, ask_once, name_in}
+use Rattle.typing_model.specs.Records.{is_among, ask_record, first_token, declaration_found, field_type, ask_once, name_in}
 
 -- that a name doesn't stand among those before it
 abbrev pub ask_fresh : ℕ → ℕ → List Name → Tok → List Condition
@@ -80,10 +80,10 @@ pneg n at t = over n at [] (constant true n t)
 abbrev pub taken_by : Built → ℕ
 taken_by b = elim b.argument [ None ↦ 0 | Some t ↦ 1 ]
 
--- what a constructor that is found asks of the number of its arguments, and what it gives
-abbrev pub with_built : Context → ℕ → Tok → ℕ → Built → List ℕ → List Condition → List Condition
-with_built c n t given b nodes arguments =
-    ask n 1 (place_of t) (test (arity t.name (taken_by b) given) (taken_by b == given)) ++ arguments ++ map (λ m. same (type_at c m) (used_at c n b.result)) nodes
+-- what a constructor that is found asks of the number of its arguments, and the result, as it is used at its own node, which these nodes have
+abbrev pub with_built : Context → ℕ → ℕ → Tok → ℕ → Built → List ℕ → List Condition → List Condition
+with_built c n own t given b nodes arguments =
+    ask n 1 (place_of t) (test (arity t.name (taken_by b) given) (taken_by b == given)) ++ arguments ++ map (λ m. same (type_at c m) (used_at c own b.result)) nodes
 
 -- the constructor that a path finds, where its demand is kept
 abbrev pub built_by : Context → ℕ → Written → Tok → Option Built
@@ -98,7 +98,7 @@ abbrev pub constructor_alone : Context → ℕ → Written → List Condition
 constructor_alone c n p = elim p.last [
   | None ↦ []
   | Some t ↦ ask_bound c n 0 constructor_kind constructor_word p t ++
-      elim (built_by c n p t) [ None ↦ [] | Some b ↦ with_built c n t 0 b (n ∷ []) [] ]
+      elim (built_by c n p t) [ None ↦ [] | Some b ↦ with_built c n n t 0 b (n ∷ []) [] ]
 ]
 
 abbrev pub pcon : ℕ → Place → Written → Pattern
@@ -109,12 +109,12 @@ abbrev pub argument_has : ℕ → ℕ → Place → Typ → Option Typ → List 
 argument_has n k at t None = []
 argument_has n k at t (Some u) = ask n k at (equal t u)
 
--- A p: `bound`, `arity`; the argument, which is the declared one; the result
-abbrev pub applied_constructor : Context → ℕ → Written → ℕ → List Condition → (Option Typ → List Condition) → List Condition
-applied_constructor c n p head argument has = tell head c ++ elim p.last [
+-- A p: `bound`, `arity`; the argument, which is the declared one; the result, which these nodes have. The letters are those of the constructor's own node.
+abbrev pub applied_constructor : Context → ℕ → Written → ℕ → List ℕ → List Condition → (Option Typ → List Condition) → List Condition
+applied_constructor c n p head nodes argument has = tell_typed head c ++ elim p.last [
   | None ↦ argument
   | Some t ↦ ask_bound c n 0 constructor_kind constructor_word p t ++
-      elim (built_by c n p t) [ None ↦ argument | Some b ↦ with_built c n t 1 b (n ∷ head ∷ []) (argument ++ has (argument_type c n (Some b))) ]
+      elim (built_by c n p t) [ None ↦ argument | Some b ↦ with_built c n head t 1 b nodes (argument ++ has (argument_type c head (Some b))) ]
 ]
 
 abbrev pub papp : ℕ → Place → Pattern → Pattern → Pattern
@@ -125,7 +125,7 @@ papp n at head p = elim head.constructor [
     at = at;
     names = p.names;
     mentions = p.mentions;
-    matched = λ c seen. applied_constructor c n path head.node (p.matched c seen) (argument_has n 2 p.at (type_at c p.node));
+    matched = λ c seen. applied_constructor c n path head.node (n ∷ head.node ∷ []) (p.matched c seen) (argument_has n 2 p.at (type_at c p.node));
     constructor = None;
   }
 ]
@@ -213,7 +213,7 @@ mentions_in_field f = elim f.pattern [ None ↦ name_in f.label | Some p ↦ p.m
 
 -- a punned field's name is new, and has the field's type
 abbrev pub match_pun : Context → FieldPattern → List Name → Option Typ → List Condition
-match_pun c f seen t = elim f.label.last [ None ↦ [] | Some x ↦ ask_fresh f.node 1 seen x ++ elim t [ None ↦ [] | Some t ↦ same (letter c f.node 0) t ∷ [] ] ]
+match_pun c f seen t = elim f.label.last [ None ↦ [] | Some x ↦ ask_fresh f.node 1 seen x ++ known (letter c f.node 0) ∷ elim t [ None ↦ [] | Some t ↦ same (letter c f.node 0) t ∷ [] ] ]
 
 -- a field: its label is new where the record is found, then its pattern, which has the field's type
 abbrev pub match_field : Context → ℕ → Bool → FieldPattern → List Name → List Name → Option Typ → List Condition
@@ -230,9 +230,9 @@ match_fields c n found (f ∷ fs) labels seen =
 abbrev pub labels_of_fields : List FieldPattern → List Written
 labels_of_fields fs = map (λ f. f.label) fs
 
--- the record type of a pattern, where its demand is kept
+-- the record type, where its demand is kept; without a written label nothing is asked
 abbrev pub kept_record : Context → ℕ → ℕ → List Written → Option Declaration
-kept_record c n k ps = if is_kept c n k then declaration_found c ps else None
+kept_record c n k ps = if is_kept c n k then declaration_found c ps else elim (first_token ps) [ None ↦ declaration_found c ps | Some t ↦ None ]
 
 -- { l = p }: the type by its labels, the fields, and the record
 abbrev pub precord : ℕ → Place → List FieldPattern → Pattern

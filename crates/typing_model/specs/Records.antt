@@ -26,10 +26,10 @@ label_of p = option_map (λ t. record { modules = names_of p.qualifiers; name = 
 abbrev pub labels_of : List Written → List labels.Written
 labels_of ps = filter_map label_of ps
 
--- the first qualifier among labels that leads to no module
+-- the first qualifier among labels that leads to no module; a path whose last token is missing counts for nothing
 abbrev pub first_lost : Environment → List Written → Option Tok
 first_lost env [] = None
-first_lost env (p ∷ ps) = elim (lost_behind env [] p.qualifiers) [ None ↦ first_lost env ps | Some q ↦ Some q ]
+first_lost env (p ∷ ps) = elim (then_by p.last (λ t. lost_behind env [] p.qualifiers)) [ None ↦ first_lost env ps | Some q ↦ Some q ]
 
 -- the first written label
 abbrev pub first_token : List Written → Option Tok

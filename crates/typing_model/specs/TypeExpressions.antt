@@ -4,13 +4,13 @@ use Rattle.token_model.specs.Kinds.{Tok}
 use Rattle.tree_model.specs.Trees.{Place}
 use Rattle.tree_model.specs.Rows.{Row, tvar_row, tcon_row, tparen_row, tapp_row, ttuple_row, tarrow_row}
 use Rattle.type_model.specs.Types.{Typ, Var, Arrow, Tuple, types_of}
-use Rattle.type_model.specs.Substitutions.{apply}
 use Rattle.signature_model.specs.Declarations.{Name, Declaration, type_of}
 use Rattle.signature_model.specs.Changes.{argument}
+use Rattle.signature_model.specs.Matching.{used}
 use Rattle.signature_model.specs.Components.{same_name}
 use Rattle.signature_model.specs.Entries.{type_kind}
 use Rattle.typing_model.specs.Demands.{type_word, type_variable_word, test, unbound, arity, Condition, same}
-use Rattle.typing_model.specs.Contexts.{Context, Variables, in_item, parameters, type_at, is_kept, ask, unresolved, settled}
+use Rattle.typing_model.specs.Contexts.{Context, Variables, in_item, parameters, type_at, is_kept, ask, unresolved, filled_at}
 use Rattle.typing_model.specs.Parts.{Written, TypeExpression, Child, path_in, token_in, place_of, no_type_at, types_in, type_in}
 use Rattle.typing_model.specs.Names.{ask_bound, found_by, referent_of, then_by, declaration_in}
 
@@ -48,7 +48,7 @@ tvar n at (Some t) = single n at [] (λ c. variable_asks c n t c.variables)
 
 -- the type that a declaration gives these arguments, abbreviations expanded, for a choice of its unknown types
 abbrev pub applied_to : Context → ℕ → Declaration → List ℕ → Typ
-applied_to c n d ns = apply (argument (types_of (types_of_nodes c ns))) (settled c n (type_of d))
+applied_to c n d ns = used (argument (types_of (types_of_nodes c ns))) (filled_at c n) (type_of d)
 
 -- t, (t, t) u: `bound`, `arity`, and the type that the declaration gives the arguments
 abbrev pub declared_type : Context → ℕ → Tok → List ℕ → Option Declaration → List Condition

@@ -1,12 +1,12 @@
 -- Typings of a text, which demands are kept, and the most general typing (Damas and Milner 1982).
 use Rattle.std.specs.Prelude.{◌≡◌, ℕ, Bool, true, false, ◌&&◌, ◌||◌, List, [], ◌∷◌, Option, Some, None}
-use Rattle.type_model.specs.Types.{Typ, Var}
+use Rattle.type_model.specs.Types.{Path, Typ, Var}
 use Rattle.type_model.specs.Substitutions.{Subst, apply}
 use Rattle.tree_model.specs.Trees.{Place, Tree}
 use Rattle.signature_model.specs.Signatures.{Signature}
 use Rattle.signature_model.specs.Entries.{Environment, free_in, free_in_signature}
 use Rattle.signature_model.specs.Functors.{IsClosed}
-use Rattle.typing_model.specs.Demands.{Site, same_site, Demand, equal, test, agrees, matches, closes, Condition, same, instance, made, demand, treated, AllHold, sites_of, demand_of}
+use Rattle.typing_model.specs.Demands.{Site, same_site, Demand, equal, test, agrees, matches, closes, Condition, same, instance, made, known, demand, treated, AllHold, sites_of, demand_of}
 use Rattle.typing_model.specs.Contexts.{Choice, Context, in_item}
 use Rattle.typing_model.specs.Parts.{no_names}
 use Rattle.typing_model.specs.Items.{items_ask}
@@ -30,6 +30,12 @@ pub record Fits (kept : Site → Bool) (asked : Choice → List Condition) (type
 pub record IsMostGeneral (kept : Site → Bool) (asked : Choice → List Condition) (types : ℕ → Typ) : Type 0 where
   pub fits : Fits kept asked types
   pub general : (others : ℕ → Typ) → Fits kept asked others → (s : Subst) × ((n : ℕ) → others n ≡ apply s (types n))
+
+-- the most general choice: all others are instances of it, in the types of the nodes, those that rows leave open, and those that unknown ones stand for
+pub record IsMostGeneralChoice (kept : Site → Bool) (asked : Choice → List Condition) (choice : Choice) : Type 0 where
+  pub holds : AllHold kept (asked choice)
+  pub general : (other : Choice) → AllHold kept (asked other) → (s : Subst) × ((n : ℕ) → other.type_at n ≡ apply s (choice.type_at n)) ×
+      ((n k : ℕ) → other.letter n k ≡ apply s (choice.letter n k)) × ((n : ℕ) (o : Path) → other.filled n o ≡ apply s (choice.filled n o))
 
 -- a typing of a text under a set of kept demands
 abbrev pub Typing : Environment → List Tree → (Site → Bool) → (ℕ → Typ) → Type 0
@@ -73,6 +79,7 @@ conditions_before x [] = []
 conditions_before x (same t u ∷ cs) = same t u ∷ conditions_before x cs
 conditions_before x (instance s t ∷ cs) = instance s t ∷ conditions_before x cs
 conditions_before x (made n t ∷ cs) = made n t ∷ conditions_before x cs
+conditions_before x (known t ∷ cs) = known t ∷ conditions_before x cs
 conditions_before x (demand s at d ∷ cs) = elim (same_site x s) [ true ↦ [] | false ↦ demand s at d ∷ conditions_before x cs ]
 conditions_before x (treated n env ∷ cs) = treated n env ∷ conditions_before x cs
 
@@ -96,10 +103,8 @@ is_closing env text kept s = elim (body_at s (conditions_of env text kept no_cho
 
 -- a body that a most general typing of the text up to its end gives, under the demands kept before its `closing`
 pub record IsBody (env : Environment) (text : List Tree) (kept : Site → Bool) (s : Site) (outer : Environment) (body : Signature) : Type 0 where
-  pub types : ℕ → Typ
-  pub general : IsMostGeneral (kept_before env text kept s) (λ choice. conditions_before s (conditions_of env text (kept_before env text kept s) choice)) types
   pub choice : Choice
-  pub chosen : (n : ℕ) → choice.type_at n ≡ types n
+  pub general : IsMostGeneralChoice (kept_before env text kept s) (λ choice. conditions_before s (conditions_of env text (kept_before env text kept s) choice)) choice
   pub stands : body_at s (conditions_of env text (kept_before env text kept s) choice) ≡ Some (outer, body)
 
 -- the kept demands of a text: each one with which a typing exists beside those kept before it, and each `closing` whose body leaves nothing open

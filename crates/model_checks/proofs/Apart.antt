@@ -1,0 +1,19 @@
+-- Types that aren't one.
+use Rattle.std.proofs.Common.{◌≡◌, Bool, true, false, sym, ◌∙◌, ap}
+use Rattle.type_model.specs.Types.{Typ, Var, Arrow, Tuple, Con}
+use Rattle.type_model.specs.Origins.{same_path}
+use Rattle.typing_model.specs.BuiltIns.{int_type, string_type, built_in_origin}
+
+-- whether a type is the built-in type int
+abbrev is_int : Typ → Bool
+is_int (Var v) = false
+is_int (Arrow a b) = false
+is_int (Tuple ts) = false
+is_int (Con o ts) = same_path o (built_in_origin 0)
+
+no_yes : false ≡ true → ⊥
+no_yes e = cc e
+
+-- a string is no int
+pub string_is_no_int : (t u : Typ) → t ≡ string_type → u ≡ int_type → t ≡ u → ⊥
+string_is_no_int t u s i e = no_yes (ap is_int (sym s ∙ e ∙ i))

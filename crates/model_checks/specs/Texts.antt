@@ -1,0 +1,70 @@
+-- Texts as lists of tokens, and what the parser makes of them.
+use Rattle.std.specs.Prelude.{ℕ, List, [], ◌∷◌, codes}
+use Rattle.token_model.specs.Kinds.{Tok, Kind, and_word, arrow, bar, colon, else_word, if_word, int, left_brace, left_paren, let_word, lower, match_word, nil, of_word, op9, rec_word, right_brace, right_paren, semi, str, then_word, type_word, underscore, upper, when_word, with_word}
+use Rattle.tree_model.specs.Trees.{Tree, Forest, node, no_parts, part, taken, inner, missing}
+use Rattle.grammar_model.specs.Named.{named}
+use Rattle.grammar_model.specs.Ocaml.{program_text, grammar, row_name}
+use Rattle.grammar_model.specs.Recovery.{recover}
+
+-- a token from a byte to a byte
+abbrev pub tok : Kind → ℕ → ℕ → List ℕ → Tok
+tok k s e n = record { kind = k; start = s; end = e; name = n }
+
+-- the nodes among parts
+abbrev pub nodes_among : Forest → List Tree
+nodes_among no_parts = []
+nodes_among (part slot (taken t) ps) = nodes_among ps
+nodes_among (part slot (inner t) ps) = t ∷ nodes_among ps
+nodes_among (part slot (missing p) ps) = nodes_among ps
+
+-- the items of a program
+abbrev pub items_in : Tree → List Tree
+items_in (node r x ps) = nodes_among ps
+
+-- the items that the parser makes of tokens
+abbrev pub parsed : List Tok → List Tree
+parsed ts = items_in (named row_name (recover (grammar program_text) ts).0)
+
+-- let id x = x
+abbrev pub identity : List Tok
+identity = tok let_word 0 3 (codes "let") ∷ tok lower 4 6 (codes "id") ∷ tok lower 7 8 (codes "x") ∷ tok op9 9 10 (codes "=") ∷ tok lower 11 12 (codes "x") ∷ []
+
+-- let f x = if x then 1 else "a"
+abbrev pub branches : List Tok
+branches = tok let_word 0 3 (codes "let") ∷ tok lower 4 5 (codes "f") ∷ tok lower 6 7 (codes "x") ∷ tok op9 8 9 (codes "=") ∷ tok if_word 10 12 (codes "if") ∷ tok lower 13 14 (codes "x") ∷ tok then_word 15 19 (codes "then") ∷ tok int 20 21 (codes "1") ∷ tok else_word 22 26 (codes "else") ∷ tok str 27 30 (codes "\"a\"") ∷ []
+
+-- let f x = x x
+abbrev pub self_application : List Tok
+self_application = tok let_word 0 3 (codes "let") ∷ tok lower 4 5 (codes "f") ∷ tok lower 6 7 (codes "x") ∷ tok op9 8 9 (codes "=") ∷ tok lower 10 11 (codes "x") ∷ tok lower 12 13 (codes "x") ∷ []
+
+-- let r = ref []
+abbrev pub reference : List Tok
+reference = tok let_word 0 3 (codes "let") ∷ tok lower 4 5 (codes "r") ∷ tok op9 6 7 (codes "=") ∷ tok lower 8 11 (codes "ref") ∷ tok nil 12 14 (codes "[]") ∷ []
+
+-- type t = { a : int; b : int } let r = { a = 1 }
+abbrev pub missing_field : List Tok
+missing_field = tok type_word 0 4 (codes "type") ∷ tok lower 5 6 (codes "t") ∷ tok op9 7 8 (codes "=") ∷ tok left_brace 9 10 (codes "{") ∷ tok lower 11 12 (codes "a") ∷ tok colon 13 14 (codes ":") ∷ tok lower 15 18 (codes "int") ∷ tok semi 18 19 (codes ";") ∷ tok lower 20 21 (codes "b") ∷ tok colon 22 23 (codes ":") ∷ tok lower 24 27 (codes "int") ∷ tok right_brace 28 29 (codes "}") ∷ tok let_word 30 33 (codes "let") ∷ tok lower 34 35 (codes "r") ∷ tok op9 36 37 (codes "=") ∷ tok left_brace 38 39 (codes "{") ∷ tok lower 40 41 (codes "a") ∷ tok op9 42 43 (codes "=") ∷ tok int 44 45 (codes "1") ∷ tok right_brace 46 47 (codes "}") ∷ []
+
+-- type t = { a : int } let f { a } = a
+abbrev pub punned_pattern : List Tok
+punned_pattern = tok type_word 0 4 (codes "type") ∷ tok lower 5 6 (codes "t") ∷ tok op9 7 8 (codes "=") ∷ tok left_brace 9 10 (codes "{") ∷ tok lower 11 12 (codes "a") ∷ tok colon 13 14 (codes ":") ∷ tok lower 15 18 (codes "int") ∷ tok right_brace 19 20 (codes "}") ∷ tok let_word 21 24 (codes "let") ∷ tok lower 25 26 (codes "f") ∷ tok left_brace 27 28 (codes "{") ∷ tok lower 29 30 (codes "a") ∷ tok right_brace 31 32 (codes "}") ∷ tok op9 33 34 (codes "=") ∷ tok lower 35 36 (codes "a") ∷ []
+
+-- type o = N | S of int let f (S x | N) = 1
+abbrev pub one_sided : List Tok
+one_sided = tok type_word 0 4 (codes "type") ∷ tok lower 5 6 (codes "o") ∷ tok op9 7 8 (codes "=") ∷ tok upper 9 10 (codes "N") ∷ tok bar 11 12 (codes "|") ∷ tok upper 13 14 (codes "S") ∷ tok of_word 15 17 (codes "of") ∷ tok lower 18 21 (codes "int") ∷ tok let_word 22 25 (codes "let") ∷ tok lower 26 27 (codes "f") ∷ tok left_paren 28 29 (codes "(") ∷ tok upper 29 30 (codes "S") ∷ tok lower 31 32 (codes "x") ∷ tok bar 33 34 (codes "|") ∷ tok upper 35 36 (codes "N") ∷ tok right_paren 36 37 (codes ")") ∷ tok op9 38 39 (codes "=") ∷ tok int 40 41 (codes "1") ∷ []
+
+-- type a = b and b = b list
+abbrev pub cyclic_types : List Tok
+cyclic_types = tok type_word 0 4 (codes "type") ∷ tok lower 5 6 (codes "a") ∷ tok op9 7 8 (codes "=") ∷ tok lower 9 10 (codes "b") ∷ tok and_word 11 14 (codes "and") ∷ tok lower 15 16 (codes "b") ∷ tok op9 17 18 (codes "=") ∷ tok lower 19 20 (codes "b") ∷ tok lower 21 25 (codes "list") ∷ []
+
+-- type t = A of int let x = A 1
+abbrev pub constructed : List Tok
+constructed = tok type_word 0 4 (codes "type") ∷ tok lower 5 6 (codes "t") ∷ tok op9 7 8 (codes "=") ∷ tok upper 9 10 (codes "A") ∷ tok of_word 11 13 (codes "of") ∷ tok lower 14 17 (codes "int") ∷ tok let_word 18 21 (codes "let") ∷ tok lower 22 23 (codes "x") ∷ tok op9 24 25 (codes "=") ∷ tok upper 26 27 (codes "A") ∷ tok int 28 29 (codes "1") ∷ []
+
+-- let f x = match x with y when y -> 1 | _ -> 2
+abbrev pub guarded : List Tok
+guarded = tok let_word 0 3 (codes "let") ∷ tok lower 4 5 (codes "f") ∷ tok lower 6 7 (codes "x") ∷ tok op9 8 9 (codes "=") ∷ tok match_word 10 15 (codes "match") ∷ tok lower 16 17 (codes "x") ∷ tok with_word 18 22 (codes "with") ∷ tok lower 23 24 (codes "y") ∷ tok when_word 25 29 (codes "when") ∷ tok lower 30 31 (codes "y") ∷ tok arrow 32 34 (codes "->") ∷ tok int 35 36 (codes "1") ∷ tok bar 37 38 (codes "|") ∷ tok underscore 39 40 (codes "_") ∷ tok arrow 41 43 (codes "->") ∷ tok int 44 45 (codes "2") ∷ []
+
+-- let rec f x = f x
+abbrev pub recursive : List Tok
+recursive = tok let_word 0 3 (codes "let") ∷ tok rec_word 4 7 (codes "rec") ∷ tok lower 8 9 (codes "f") ∷ tok lower 10 11 (codes "x") ∷ tok op9 12 13 (codes "=") ∷ tok lower 14 15 (codes "f") ∷ tok lower 16 17 (codes "x") ∷ []
