@@ -1,3 +1,4 @@
 pub mod Names
 pub mod View
+pub mod Yields
 pub mod Tallies

@@ -12,6 +12,7 @@ mod kinds;
 mod rows;
 mod slots;
 mod tree;
+mod yields;
 
 pub use around::enclosing;
 pub use at::node_at;
@@ -22,6 +23,7 @@ pub use rows::RowName;
 pub use slots::is_operand;
 pub use text_terms::{NoMemory, Pos, RcStr, Span};
 pub use tree::{Child, Node, NodeId, Part, Token, Tree};
+pub use yields::yield_of;
 
 #[cfg(test)]
 mod tests {
@@ -90,6 +92,10 @@ mod tests {
         let tree = Tree {
             items: vec![in alloc; item]?,
         };
+        assert_eq!(rt;
+            yield_of(alloc, &tree)?.as_slice(),
+            [Span { start: 0, end: 1 }, Span { start: 2, end: 3 }].as_slice()
+        );
         let at = |pre: u32| NodeId { item: 1, pre };
         assert_eq!(rt;
             enclosing(alloc, &tree, 0)?.as_slice(),
