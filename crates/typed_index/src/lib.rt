@@ -1,0 +1,155 @@
+//! What is recorded for the nodes of a text, by their numbers: an item's own list, with a place for each node in preorder.
+//! It stands on the numbers of nodes in `syntax_tree`, and knows nothing of what is recorded.
+//! Above, a contract sees an index as a function from an item and a number in it to what is recorded there, if anything
+//! (`seen_at`). A note changes one place, cutting forgets the items from one on, and nothing else changes any place;
+//! looking up takes the same time for each node.
+#![tactic(auto)]
+
+ghost use Rattle.std.specs.Prelude.{◌≡◌, ℕ, ◌<◌, ◌^◌, length, option_map, None, OnOk, OnErr};
+ghost use Rattle.typed_index.specs.Seen.{seen_in, seen_among, seen_at, with_note, before_item, at_number};
+
+use std::alloc::Global;
+use syntax_tree::{NoMemory, NodeId};
+
+/// What is recorded for the nodes of one item, by their numbers; None where nothing is.
+type Nodes<S> = Vec<Option<S>>;
+
+/// What is recorded for the nodes of a text.
+#[derive(Drop)]
+pub struct TypedIndex<S> {
+    alloc: Global,
+    items: Vec<Nodes<S>>,
+}
+
+impl<S: Drop> TypedIndex<S> {
+    /// Nothing is recorded.
+    pub fn new(alloc: Global) -> TypedIndex<S>
+        ensures { (i p : ℕ) → seen_at result i p ≡ None }
+    {
+        TypedIndex {
+            alloc,
+            items: Vec::new(alloc),
+        }
+    }
+
+    /// Records something for a node, in place of what was recorded for it. After `NoMemory` what is recorded is as before.
+    #[tactic(auto, using(crate::proofs::Places::list_noted, crate::proofs::Places::list_same, crate::proofs::Places::list_at))]
+    pub fn note(&mut self, id: NodeId, seen: S) -> Result<(), NoMemory>
+        ensures noted { OnOk result ((i p : ℕ) → seen_at self.new i p ≡ with_note id.item id.pre seen (seen_at self.old) i p) }
+        ensures failed { OnErr result ((i p : ℕ) → seen_at self.new i p ≡ seen_at self.old i p) }
+    {
+        let item = id.item as usize;
+        make_rows(self.alloc, &mut self.items, item)?;
+        put(&mut self.items[item], id.pre as usize, seen)
+    }
+
+    /// What was last recorded for a node; None where nothing is.
+    #[tactic(auto, using(crate::proofs::Places::list_at, crate::proofs::Places::among_none))]
+    pub fn get(&self, id: NodeId) -> Option<&S>
+        ensures { option_map (λ s. s.now) result ≡ seen_at self.now id.item id.pre }
+    {
+        match self.items.get(id.item as usize) {
+            Some(nodes) => seen_for(nodes, id.pre as usize),
+            None => None,
+        }
+    }
+
+    /// Forgets what is recorded for the nodes of this item and of those behind it.
+    #[tactic(auto, using(crate::proofs::Places::lists_before))]
+    pub fn truncate_to_item(&mut self, item: u32)
+        ensures { (i p : ℕ) → seen_at self.new i p ≡ before_item item (seen_at self.old) i p }
+    {
+        self.items.truncate(item as usize);
+    }
+}
+
+/// What is recorded for a number.
+#[tactic(auto, using(crate::proofs::Places::in_there, crate::proofs::Places::in_none))]
+fn seen_for<S>(nodes: &Nodes<S>, number: usize) -> Option<&S>
+    ensures { option_map (λ s. s.now) result ≡ seen_in nodes.now.items number }
+{
+    match nodes.get(number) {
+        Some(seen) => seen.as_ref(),
+        None => None,
+    }
+}
+
+/// Makes a row for an item and for those before it.
+#[tactic(auto, using(crate::proofs::Places::list_more))]
+fn make_rows<S: Drop>(alloc: Global, items: &mut Vec<Nodes<S>>, item: usize) -> Result<(), NoMemory>
+    requires { item < 2 ^ 32 }
+    ensures same { (i p : ℕ) → seen_among items.new.items i p ≡ seen_among items.old.items i p }
+    ensures room { OnOk result (item < length items.new.items) }
+{
+    for _ in items.len()..item + 1 {
+        items.push(Vec::new(alloc)).map_err(|_| NoMemory)?;
+    }
+    Ok(())
+}
+
+/// Makes a place for a number and for those before it.
+#[tactic(auto, using(crate::proofs::Places::place_more))]
+fn make_places<S: Drop>(nodes: &mut Nodes<S>, number: usize) -> Result<(), NoMemory>
+    requires { number < 2 ^ 32 }
+    ensures same { (p : ℕ) → seen_in nodes.new.items p ≡ seen_in nodes.old.items p }
+    ensures room { OnOk result (number < length nodes.new.items) }
+{
+    for _ in nodes.len()..number + 1 {
+        nodes.push(None).map_err(|_| NoMemory)?;
+    }
+    Ok(())
+}
+
+/// Records something at a number.
+#[tactic(auto, using(crate::proofs::Places::place_set))]
+fn put<S: Drop>(nodes: &mut Nodes<S>, number: usize, seen: S) -> Result<(), NoMemory>
+    requires { number < 2 ^ 32 }
+    ensures noted { OnOk result ((p : ℕ) → seen_in nodes.new.items p ≡ at_number number seen (seen_in nodes.old.items) p) }
+    ensures failed { OnErr result ((p : ℕ) → seen_in nodes.new.items p ≡ seen_in nodes.old.items p) }
+{
+    make_places(nodes, number)?;
+    nodes[number] = Some(seen);
+    Ok(())
+}
+
+#[cfg(test)]
+mod tests {
+    use super::*;
+    use std::test::Fail;
+
+    fn at(item: u32, pre: u32) -> NodeId {
+        NodeId { item, pre }
+    }
+
+    #[test]
+    fn the_last_note_for_a_node_is_found(rt: HostRuntime) -> Result<(), Fail> {
+        let mut index = TypedIndex::new(rt.alloc());
+        index.note(at(2, 1), 'a')?;
+        index.note(at(2, 0), 'b')?;
+        index.note(at(0, 3), 'c')?;
+        index.note(at(2, 1), 'd')?;
+        assert_eq!(rt; index.get(at(2, 1)).copied(), Some('d'));
+        assert_eq!(rt; index.get(at(2, 0)).copied(), Some('b'));
+        assert_eq!(rt; index.get(at(0, 3)).copied(), Some('c'));
+        assert_eq!(rt; index.get(at(1, 0)).copied(), None);
+        assert_eq!(rt; index.get(at(0, 2)).copied(), None);
+        assert_eq!(rt; index.get(at(3, 0)).copied(), None);
+        Ok(())
+    }
+
+    #[test]
+    fn cutting_forgets_the_items_from_one_on(rt: HostRuntime) -> Result<(), Fail> {
+        let mut index = TypedIndex::new(rt.alloc());
+        for item in 0..4 {
+            index.note(at(item, 0), item)?;
+        }
+        index.truncate_to_item(2);
+        assert_eq!(rt; index.get(at(1, 0)).copied(), Some(1));
+        assert_eq!(rt; index.get(at(2, 0)).copied(), None);
+        index.truncate_to_item(7);
+        assert_eq!(rt; index.get(at(0, 0)).copied(), Some(0));
+        index.note(at(3, 1), 5)?;
+        assert_eq!(rt; index.get(at(3, 0)).copied(), None);
+        Ok(())
+    }
+}
