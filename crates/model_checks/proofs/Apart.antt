@@ -11,7 +11,8 @@ is_int (Arrow a b) = false
 is_int (Tuple ts) = false
 is_int (Con o ts) = same_path o (built_in_origin 0)
 
-no_yes : false ≡ true → ⊥
+-- no test both fails and holds
+pub no_yes : false ≡ true → ⊥
 no_yes e = cc e
 
 -- a string is no int
