@@ -5,3 +5,4 @@ pub mod Typings
 pub mod Matches
 pub mod Signatures
 pub mod Scopes
+pub mod Chosen

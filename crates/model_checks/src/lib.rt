@@ -19,4 +19,4 @@ pub use printing::{
     variables_in_order, variables_past_z, weak_variables,
 };
 pub use signatures::{a_sealed_value, a_structure_meets_its_seal, an_application_makes_its_types_anew, made_anew_at_a_node, the_component_that_fails, two_applications};
-pub use typings::{branches_differ, identity_is_principal, self_application_has_no_typing};
+pub use typings::{a_record_has_its_type, a_reference_is_weak, an_inner_binding_is_generalised, branches_differ, identity_is_principal, self_application_has_no_typing};
