@@ -11,8 +11,13 @@ is_int (Arrow a b) = false
 is_int (Tuple ts) = false
 is_int (Con o ts) = same_path o (built_in_origin 0)
 
-no_yes : false ≡ true → ⊥
+-- no test both fails and holds
+pub no_yes : false ≡ true → ⊥
 no_yes e = cc e
+
+-- no test both holds and fails
+pub yes_no : true ≡ false → ⊥
+yes_no e = cc e
 
 -- a string is no int
 pub string_is_no_int : (t u : Typ) → t ≡ string_type → u ≡ int_type → t ≡ u → ⊥

@@ -2,3 +2,4 @@ pub mod Tables
 pub mod Uses
 pub mod Cycles
 pub mod Apart
+pub mod Inverting

@@ -1,6 +1,6 @@
 -- Texts as lists of tokens, and what the parser makes of them.
 use Rattle.std.specs.Prelude.{ℕ, List, [], ◌∷◌, codes}
-use Rattle.token_model.specs.Kinds.{Tok, Kind, and_word, arrow, bar, colon, else_word, if_word, int, left_brace, left_paren, let_word, lower, match_word, nil, of_word, op9, rec_word, right_brace, right_paren, semi, str, then_word, type_word, underscore, upper, when_word, with_word}
+use Rattle.token_model.specs.Kinds.{Tok, Kind, and_word, arrow, bar, colon, comma, else_word, end_word, fun_word, if_word, in_word, int, left_brace, left_paren, let_word, lower, match_word, module_word, nil, of_word, op9, qualifier, rec_word, right_brace, right_paren, semi, sig_word, str, struct_word, then_word, type_word, underscore, upper, val_word, when_word, with_word}
 use Rattle.tree_model.specs.Trees.{Tree, Forest, node, no_parts, part, taken, inner, missing}
 use Rattle.grammar_model.specs.Named.{named}
 use Rattle.grammar_model.specs.Ocaml.{program_text, grammar, row_name}
@@ -68,3 +68,35 @@ guarded = tok let_word 0 3 (codes "let") ∷ tok lower 4 5 (codes "f") ∷ tok l
 -- let rec f x = f x
 abbrev pub recursive : List Tok
 recursive = tok let_word 0 3 (codes "let") ∷ tok rec_word 4 7 (codes "rec") ∷ tok lower 8 9 (codes "f") ∷ tok lower 10 11 (codes "x") ∷ tok op9 12 13 (codes "=") ∷ tok lower 14 15 (codes "f") ∷ tok lower 16 17 (codes "x") ∷ []
+
+-- module M : sig type t val x : t end = struct type t = int let x = 1 end
+abbrev pub sealed : List Tok
+sealed = tok module_word 0 6 (codes "module") ∷ tok upper 7 8 (codes "M") ∷ tok colon 9 10 (codes ":") ∷ tok sig_word 11 14 (codes "sig") ∷ tok type_word 15 19 (codes "type") ∷ tok lower 20 21 (codes "t") ∷ tok val_word 22 25 (codes "val") ∷ tok lower 26 27 (codes "x") ∷ tok colon 28 29 (codes ":") ∷ tok lower 30 31 (codes "t") ∷ tok end_word 32 35 (codes "end") ∷ tok op9 36 37 (codes "=") ∷ tok struct_word 38 44 (codes "struct") ∷ tok type_word 45 49 (codes "type") ∷ tok lower 50 51 (codes "t") ∷ tok op9 52 53 (codes "=") ∷ tok lower 54 57 (codes "int") ∷ tok let_word 58 61 (codes "let") ∷ tok lower 62 63 (codes "x") ∷ tok op9 64 65 (codes "=") ∷ tok int 66 67 (codes "1") ∷ tok end_word 68 71 (codes "end") ∷ []
+
+-- module F (X : sig end) = struct type t = A end module E = struct end module P = F(E) module Q = F(E)
+abbrev pub applied_twice : List Tok
+applied_twice = tok module_word 0 6 (codes "module") ∷ tok upper 7 8 (codes "F") ∷ tok left_paren 9 10 (codes "(") ∷ tok upper 10 11 (codes "X") ∷ tok colon 12 13 (codes ":") ∷ tok sig_word 14 17 (codes "sig") ∷ tok end_word 18 21 (codes "end") ∷ tok right_paren 21 22 (codes ")") ∷ tok op9 23 24 (codes "=") ∷ tok struct_word 25 31 (codes "struct") ∷ tok type_word 32 36 (codes "type") ∷ tok lower 37 38 (codes "t") ∷ tok op9 39 40 (codes "=") ∷ tok upper 41 42 (codes "A") ∷ tok end_word 43 46 (codes "end") ∷ tok module_word 47 53 (codes "module") ∷ tok upper 54 55 (codes "E") ∷ tok op9 56 57 (codes "=") ∷ tok struct_word 58 64 (codes "struct") ∷ tok end_word 65 68 (codes "end") ∷ tok module_word 69 75 (codes "module") ∷ tok upper 76 77 (codes "P") ∷ tok op9 78 79 (codes "=") ∷ tok upper 80 81 (codes "F") ∷ tok left_paren 81 82 (codes "(") ∷ tok upper 82 83 (codes "E") ∷ tok right_paren 83 84 (codes ")") ∷ tok module_word 85 91 (codes "module") ∷ tok upper 92 93 (codes "Q") ∷ tok op9 94 95 (codes "=") ∷ tok upper 96 97 (codes "F") ∷ tok left_paren 97 98 (codes "(") ∷ tok upper 98 99 (codes "E") ∷ tok right_paren 99 100 (codes ")") ∷ []
+
+-- module F (X : sig end) = struct let r = ref [] end
+abbrev pub undetermined : List Tok
+undetermined = tok module_word 0 6 (codes "module") ∷ tok upper 7 8 (codes "F") ∷ tok left_paren 9 10 (codes "(") ∷ tok upper 10 11 (codes "X") ∷ tok colon 12 13 (codes ":") ∷ tok sig_word 14 17 (codes "sig") ∷ tok end_word 18 21 (codes "end") ∷ tok right_paren 21 22 (codes ")") ∷ tok op9 23 24 (codes "=") ∷ tok struct_word 25 31 (codes "struct") ∷ tok let_word 32 35 (codes "let") ∷ tok lower 36 37 (codes "r") ∷ tok op9 38 39 (codes "=") ∷ tok lower 40 43 (codes "ref") ∷ tok nil 44 46 (codes "[]") ∷ tok end_word 47 50 (codes "end") ∷ []
+
+-- module F (X : sig end) = struct end let y = F.x
+abbrev pub behind_a_functor : List Tok
+behind_a_functor = tok module_word 0 6 (codes "module") ∷ tok upper 7 8 (codes "F") ∷ tok left_paren 9 10 (codes "(") ∷ tok upper 10 11 (codes "X") ∷ tok colon 12 13 (codes ":") ∷ tok sig_word 14 17 (codes "sig") ∷ tok end_word 18 21 (codes "end") ∷ tok right_paren 21 22 (codes ")") ∷ tok op9 23 24 (codes "=") ∷ tok struct_word 25 31 (codes "struct") ∷ tok end_word 32 35 (codes "end") ∷ tok let_word 36 39 (codes "let") ∷ tok lower 40 41 (codes "y") ∷ tok op9 42 43 (codes "=") ∷ tok qualifier 44 46 (codes "F") ∷ tok lower 46 47 (codes "x") ∷ []
+
+-- type t = t = A
+abbrev pub naming_itself : List Tok
+naming_itself = tok type_word 0 4 (codes "type") ∷ tok lower 5 6 (codes "t") ∷ tok op9 7 8 (codes "=") ∷ tok lower 9 10 (codes "t") ∷ tok op9 11 12 (codes "=") ∷ tok upper 13 14 (codes "A") ∷ []
+
+-- type t = { a : int } let r = { a = 1 }
+abbrev pub whole_record : List Tok
+whole_record = tok type_word 0 4 (codes "type") ∷ tok lower 5 6 (codes "t") ∷ tok op9 7 8 (codes "=") ∷ tok left_brace 9 10 (codes "{") ∷ tok lower 11 12 (codes "a") ∷ tok colon 13 14 (codes ":") ∷ tok lower 15 18 (codes "int") ∷ tok right_brace 19 20 (codes "}") ∷ tok let_word 21 24 (codes "let") ∷ tok lower 25 26 (codes "r") ∷ tok op9 27 28 (codes "=") ∷ tok left_brace 29 30 (codes "{") ∷ tok lower 31 32 (codes "a") ∷ tok op9 33 34 (codes "=") ∷ tok int 35 36 (codes "1") ∷ tok right_brace 37 38 (codes "}") ∷ []
+
+-- let f = let g = fun x -> x in (g 1, g "a")
+abbrev pub used_twice : List Tok
+used_twice = tok let_word 0 3 (codes "let") ∷ tok lower 4 5 (codes "f") ∷ tok op9 6 7 (codes "=") ∷ tok let_word 8 11 (codes "let") ∷ tok lower 12 13 (codes "g") ∷ tok op9 14 15 (codes "=") ∷ tok fun_word 16 19 (codes "fun") ∷ tok lower 20 21 (codes "x") ∷ tok arrow 22 24 (codes "->") ∷ tok lower 25 26 (codes "x") ∷ tok in_word 27 29 (codes "in") ∷ tok left_paren 30 31 (codes "(") ∷ tok lower 31 32 (codes "g") ∷ tok int 33 34 (codes "1") ∷ tok comma 34 35 (codes ",") ∷ tok lower 36 37 (codes "g") ∷ tok str 38 41 (codes "\"a\"") ∷ tok right_paren 41 42 (codes ")") ∷ []
+
+-- type t = A of int let x = A 1 2
+abbrev pub two_arguments : List Tok
+two_arguments = tok type_word 0 4 (codes "type") ∷ tok lower 5 6 (codes "t") ∷ tok op9 7 8 (codes "=") ∷ tok upper 9 10 (codes "A") ∷ tok of_word 11 13 (codes "of") ∷ tok lower 14 17 (codes "int") ∷ tok let_word 18 21 (codes "let") ∷ tok lower 22 23 (codes "x") ∷ tok op9 24 25 (codes "=") ∷ tok upper 26 27 (codes "A") ∷ tok int 28 29 (codes "1") ∷ tok int 30 31 (codes "2") ∷ []

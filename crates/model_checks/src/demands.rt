@@ -1,10 +1,10 @@
 //! The demands of small texts, in order, each where it is told.
 
 ghost use Rattle.std.specs.Prelude.{◌≡◌, true, false, List, [], ◌∷◌, codes};
-ghost use Rattle.typing_model.specs.Demands.{value_word, constructor_word, label_word, type_word, unbound, arity, twice, one_side, incomplete, cyclic, too_large};
+ghost use Rattle.typing_model.specs.Demands.{value_word, constructor_word, label_word, type_word, unbound, arity, twice, one_side, incomplete, cyclic, differs, too_large};
 ghost use Rattle.typing_model.specs.BuiltIns.{built_in_names};
-ghost use Rattle.model_checks.specs.Texts.{parsed, identity, branches, self_application, reference, missing_field, punned_pattern, one_sided, cyclic_types, constructed, guarded, recursive};
-ghost use Rattle.model_checks.specs.Asked.{asked, all_kept, at, types, names};
+ghost use Rattle.model_checks.specs.Texts.{parsed, identity, branches, self_application, reference, missing_field, punned_pattern, one_sided, cyclic_types, constructed, guarded, recursive, undetermined, behind_a_functor, naming_itself, two_arguments};
+ghost use Rattle.model_checks.specs.Asked.{asked, all_kept, at, types, names, body};
 
 /// let id x = x: the parameter is new, the name in the body is bound, the name that is bound is new, and has the type of the whole.
 pub fn demands_of_identity()
@@ -109,4 +109,40 @@ pub fn demands_of_a_recursive_binding()
         at 10 11 (names (twice (codes "x")) true) ∷
         at 14 15 (names (unbound value_word (codes "f")) true) ∷ at 14 15 types ∷ at 16 17 (names (unbound value_word (codes "x")) true) ∷ at 16 17 types ∷
         at 8 9 types ∷ [] }
+{}
+
+/// module F (X : sig end) = struct let r = ref [] end: the closing stands at the body.
+pub fn demands_of_an_undetermined_body()
+    ensures { asked built_in_names (parsed undetermined) all_kept ≡
+        at 7 8 (names (twice (codes "F")) true) ∷
+        at 40 43 (names (unbound value_word (codes "ref")) false) ∷ at 40 43 types ∷ at 44 46 types ∷
+        at 36 37 (names (twice (codes "r")) true) ∷ at 36 37 types ∷
+        at 25 50 body ∷ [] }
+{}
+
+/// module F (X : sig end) = struct end let y = F.x: nothing stands in a functor, so x isn't bound.
+pub fn demands_of_a_name_behind_a_functor()
+    ensures { asked built_in_names (parsed behind_a_functor) all_kept ≡
+        at 7 8 (names (twice (codes "F")) true) ∷ at 25 35 body ∷
+        at 46 47 (names (unbound value_word (codes "x")) false) ∷
+        at 40 41 (names (twice (codes "y")) true) ∷ at 40 41 types ∷ [] }
+{}
+
+/// type t = t = A: a re-export that names itself tells another type.
+pub fn demands_of_a_re_export_of_itself()
+    ensures { asked built_in_names (parsed naming_itself) all_kept ≡
+        at 5 6 (names (twice (codes "t")) true) ∷
+        at 9 10 (names (unbound type_word (codes "t")) true) ∷ at 9 10 (names (arity (codes "t") 0 0) true) ∷
+        at 13 14 (names (twice (codes "A")) true) ∷ at 9 10 (names (differs (codes "t")) false) ∷ [] }
+{}
+
+/// type t = A of int let x = A 1 2: behind the first argument the result is the head of the second one.
+pub fn demands_of_a_constructor_with_two_arguments()
+    ensures { asked built_in_names (parsed two_arguments) all_kept ≡
+        at 5 6 (names (twice (codes "t")) true) ∷
+        at 14 17 (names (unbound type_word (codes "int")) true) ∷ at 14 17 (names (arity (codes "int") 0 0) true) ∷ at 9 10 (names (twice (codes "A")) true) ∷
+        at 26 27 (names (unbound constructor_word (codes "A")) true) ∷ at 26 27 (names (arity (codes "A") 1 1) true) ∷
+        at 28 29 (names too_large true) ∷ at 28 29 types ∷
+        at 26 27 types ∷ at 30 31 (names too_large true) ∷ at 30 31 types ∷
+        at 22 23 (names (twice (codes "x")) true) ∷ at 22 23 types ∷ [] }
 {}

@@ -1,0 +1,44 @@
+-- Types for the nodes of some texts.
+use Rattle.std.specs.Prelude.{ℕ, ◌==◌, List, [], ◌∷◌, if◌then◌else◌}
+use Rattle.type_model.specs.Types.{Typ, Var, Arrow, Tuple, Con, Nil, Cons}
+use Rattle.typing_model.specs.BuiltIns.{int_type, string_type, list_type}
+use Rattle.typing_model.specs.Contexts.{Choice}
+use Rattle.model_checks.specs.Typings.{first, second, choice_of}
+use Rattle.model_checks.specs.Scopes.{ref_type}
+
+-- let r = ref []: r, the application, ref, and []
+abbrev pub reference_types : List (ℕ × Typ)
+reference_types =
+    (first 2, ref_type (list_type (Var 9))) ∷ (first 3, ref_type (list_type (Var 9))) ∷
+    (first 4, Arrow (list_type (Var 9)) (ref_type (list_type (Var 9)))) ∷ (first 5, list_type (Var 9)) ∷ []
+
+abbrev pub reference_choice : Choice
+reference_choice = choice_of reference_types (λ n k. if n == first 5 then Var 9 else if k == 0 then list_type (Var 9) else ref_type (list_type (Var 9)))
+
+-- let id x = x: id, x, and x in the body
+abbrev pub identity_types : List (ℕ × Typ)
+identity_types = (first 2, Arrow (Var (first 3)) (Var (first 3))) ∷ (first 4, Var (first 3)) ∷ []
+
+abbrev pub identity_choice : Choice
+identity_choice = choice_of identity_types (λ n k. Var 0)
+
+-- type t = { a : int } let r = { a = 1 }: the type that a has, r, the record, and 1
+abbrev pub record_types : List (ℕ × Typ)
+record_types = (first 5, int_type) ∷ (second 2, Con (first 1 ∷ []) Nil) ∷ (second 3, Con (first 1 ∷ []) Nil) ∷ (second 5, int_type) ∷ []
+
+abbrev pub record_choice : Choice
+record_choice = choice_of record_types (λ n k. Var 0)
+
+-- let f = let g = fun x -> x in (g 1, g "a"): f, the whole, g, the function, x in its body; the pair in parentheses and without; the two applications, their heads and their arguments
+abbrev pub pair_type : Typ
+pair_type = Tuple (Cons int_type (Cons string_type Nil))
+
+abbrev pub inner_types : List (ℕ × Typ)
+inner_types =
+    (first 2, pair_type) ∷ (first 3, pair_type) ∷ (first 5, Arrow (Var (first 7)) (Var (first 7))) ∷ (first 6, Arrow (Var (first 7)) (Var (first 7))) ∷ (first 8, Var (first 7)) ∷
+    (first 9, pair_type) ∷ (first 10, pair_type) ∷
+    (first 11, int_type) ∷ (first 12, Arrow int_type int_type) ∷ (first 13, int_type) ∷
+    (first 14, string_type) ∷ (first 15, Arrow string_type string_type) ∷ (first 16, string_type) ∷ []
+
+abbrev pub inner_choice : Choice
+inner_choice = choice_of inner_types (λ n k. if n == first 11 then int_type else string_type)
