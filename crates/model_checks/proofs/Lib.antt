@@ -3,3 +3,4 @@ pub mod Uses
 pub mod Cycles
 pub mod Apart
 pub mod Inverting
+pub mod Later

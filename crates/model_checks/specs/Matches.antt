@@ -1,10 +1,10 @@
 -- Types with constructors, and lines of patterns over them.
-use Rattle.std.specs.Prelude.{ℕ, List, [], ◌∷◌, codes, Option, Some, None, false, if◌then◌else◌}
-use Rattle.type_model.specs.Types.{Path, Typ, Var, Tuple, Con, Nil, Cons}
+use Rattle.std.specs.Prelude.{[], ◌∷◌, codes, Some, None, false, if◌then◌else◌}
+use Rattle.type_model.specs.Types.{Typ, Var, Tuple, Con, Nil, Cons}
 use Rattle.type_model.specs.Origins.{same_path}
 use Rattle.signature_model.specs.Declarations.{Name, Own, Variant, Labels, Declaration, built_in}
 use Rattle.typing_model.specs.BuiltIns.{int_type, bool_type}
-use Rattle.match_model.specs.Values.{Pattern, Patterns, any, of_constructor, no_patterns, also_pattern, Shape, Shapes, open_shape, of_built, no_shapes, also_shape}
+use Rattle.match_model.specs.Values.{Pattern, of_constructor, no_patterns, also_pattern, Shape, Shapes, of_built, no_shapes, also_shape}
 use Rattle.match_model.specs.Forms.{World}
 use Rattle.match_model.specs.Rows.{Row}
 use Rattle.match_model.specs.Shown.{Line}

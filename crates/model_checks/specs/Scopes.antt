@@ -1,11 +1,11 @@
 -- Small environments.
-use Rattle.std.specs.Prelude.{ℕ, Bool, true, false, List, [], ◌∷◌, codes, Option, None}
-use Rattle.type_model.specs.Types.{Path, Typ, Var, Arrow, Con, Nil, Cons}
-use Rattle.signature_model.specs.Declarations.{Name, built_in, Own, Opaque, Labels, Label, Declaration}
-use Rattle.signature_model.specs.Signatures.{Signature, Hole, Structure, Done, Component, Value}
+use Rattle.std.specs.Prelude.{ℕ, false, [], ◌∷◌, codes}
+use Rattle.type_model.specs.Types.{Typ, Var, Arrow, Con, Nil, Cons}
+use Rattle.signature_model.specs.Declarations.{Name, Own, Opaque, Labels, Label, Declaration}
+use Rattle.signature_model.specs.Signatures.{Hole, Structure, Done, Component, Value}
 use Rattle.signature_model.specs.Entries.{Entry, entry, Environment, a_value, a_label, a_type, a_module}
 use Rattle.signature_model.specs.Records.{Written}
-use Rattle.typing_model.specs.BuiltIns.{int_type, string_type, built_in_names}
+use Rattle.typing_model.specs.BuiltIns.{int_type, string_type, unit_type, built_in_names}
 use Rattle.typing_model.specs.Contexts.{monomorphic}
 use Rattle.typing_model.specs.Modules.{all_bound}
 use Rattle.model_checks.specs.Signatures.{somewhere}
@@ -51,3 +51,7 @@ only_entry = entry (codes "t") somewhere (a_type (record { arity = 0; definition
 
 abbrev pub shown_scope : Environment
 shown_scope = only_entry ∷ []
+
+-- and ( := ) : 'a ref -> 'a -> unit
+abbrev pub with_assignment : Environment
+with_assignment = entry (codes ":=") somewhere (a_value (all_bound (Arrow (ref_type (Var 0)) (Arrow (Var 0) unit_type)))) ∷ with_ref

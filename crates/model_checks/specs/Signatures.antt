@@ -1,10 +1,9 @@
 -- Small signatures, and the names in scope behind a text.
-use Rattle.std.specs.Prelude.{ℕ, Bool, false, List, [], ◌∷◌, codes, Option, None}
+use Rattle.std.specs.Prelude.{List, [], ◌∷◌, codes}
 use Rattle.tree_model.specs.Trees.{Tree}
-use Rattle.type_model.specs.Types.{Path, Typ, Con, Nil}
-use Rattle.type_model.specs.Schemes.{Scheme}
-use Rattle.signature_model.specs.Declarations.{Name, Place, built_in, Definition, Own, Is, Opaque, Declaration}
-use Rattle.signature_model.specs.Signatures.{Signature, Structure, Components, Done, Component, Meaning, Value, TypeName, Template, template}
+use Rattle.type_model.specs.Types.{Typ, Con, Nil}
+use Rattle.signature_model.specs.Declarations.{Place, built_in, Definition, Own, Is, Opaque, Declaration}
+use Rattle.signature_model.specs.Signatures.{Signature, Structure, Components, Done, Component, Value, TypeName, Template, template}
 use Rattle.signature_model.specs.Entries.{Environment}
 use Rattle.typing_model.specs.BuiltIns.{built_in_names, int_type, string_type}
 use Rattle.typing_model.specs.Contexts.{Choice, monomorphic}

@@ -1,6 +1,6 @@
 -- Texts as lists of tokens, and what the parser makes of them.
 use Rattle.std.specs.Prelude.{ℕ, List, [], ◌∷◌, codes}
-use Rattle.token_model.specs.Kinds.{Tok, Kind, and_word, arrow, bar, colon, comma, else_word, end_word, fun_word, if_word, in_word, int, left_brace, left_paren, let_word, lower, match_word, module_word, nil, of_word, op9, qualifier, rec_word, right_brace, right_paren, semi, sig_word, str, struct_word, then_word, type_word, underscore, upper, val_word, when_word, with_word}
+use Rattle.token_model.specs.Kinds.{Tok, Kind, and_word, arrow, bar, colon, colon_equal, comma, else_word, end_word, fun_word, if_word, in_word, int, left_brace, left_bracket, left_paren, let_word, lower, match_word, module_word, nil, of_word, op9, qualifier, rec_word, right_brace, right_bracket, right_paren, semi, sig_word, str, struct_word, then_word, type_word, underscore, unit, upper, val_word, when_word, with_word}
 use Rattle.tree_model.specs.Trees.{Tree, Forest, node, no_parts, part, taken, inner, missing}
 use Rattle.grammar_model.specs.Named.{named}
 use Rattle.grammar_model.specs.Ocaml.{program_text, grammar, row_name}
@@ -96,6 +96,10 @@ whole_record = tok type_word 0 4 (codes "type") ∷ tok lower 5 6 (codes "t") �
 -- let f = let g = fun x -> x in (g 1, g "a")
 abbrev pub used_twice : List Tok
 used_twice = tok let_word 0 3 (codes "let") ∷ tok lower 4 5 (codes "f") ∷ tok op9 6 7 (codes "=") ∷ tok let_word 8 11 (codes "let") ∷ tok lower 12 13 (codes "g") ∷ tok op9 14 15 (codes "=") ∷ tok fun_word 16 19 (codes "fun") ∷ tok lower 20 21 (codes "x") ∷ tok arrow 22 24 (codes "->") ∷ tok lower 25 26 (codes "x") ∷ tok in_word 27 29 (codes "in") ∷ tok left_paren 30 31 (codes "(") ∷ tok lower 31 32 (codes "g") ∷ tok int 33 34 (codes "1") ∷ tok comma 34 35 (codes ",") ∷ tok lower 36 37 (codes "g") ∷ tok str 38 41 (codes "\"a\"") ∷ tok right_paren 41 42 (codes ")") ∷ []
+
+-- let r = ref [] type t = A let () = r := [A]
+abbrev pub later_type : List Tok
+later_type = tok let_word 0 3 (codes "let") ∷ tok lower 4 5 (codes "r") ∷ tok op9 6 7 (codes "=") ∷ tok lower 8 11 (codes "ref") ∷ tok nil 12 14 (codes "[]") ∷ tok type_word 15 19 (codes "type") ∷ tok lower 20 21 (codes "t") ∷ tok op9 22 23 (codes "=") ∷ tok upper 24 25 (codes "A") ∷ tok let_word 26 29 (codes "let") ∷ tok unit 30 32 (codes "()") ∷ tok op9 33 34 (codes "=") ∷ tok lower 35 36 (codes "r") ∷ tok colon_equal 37 39 (codes ":=") ∷ tok left_bracket 40 41 (codes "[") ∷ tok upper 41 42 (codes "A") ∷ tok right_bracket 42 43 (codes "]") ∷ []
 
 -- type t = A of int let x = A 1 2
 abbrev pub two_arguments : List Tok

@@ -30,9 +30,8 @@ pub fn a_list_without_the_empty_one()
 
 /// match l with [] -> .. | [_] -> ..: lists of two and more are missed.
 pub fn a_list_of_two()
-    ensures shown {
-        Shows world (list_type int_type ∷ []) (column (alone (codes "[]")) ∷ column (with_two (codes "::") any (alone (codes "[]"))) ∷ [])
-            (one (shape_of_two (codes "::") open_shape (shape_of_two (codes "::") open_shape open_shape))) }
+    ensures shown { Shows world (list_type int_type ∷ []) (column (alone (codes "[]")) ∷ column (with_two (codes "::") any (alone (codes "[]"))) ∷ [])
+        (one (shape_of_two (codes "::") open_shape (shape_of_two (codes "::") open_shape open_shape))) }
     ensures printed { text_of printed.alone (shape_of_two (codes "::") open_shape (shape_of_two (codes "::") open_shape open_shape)) ≡ codes "_ :: _ :: _" }
 {}
 
@@ -44,9 +43,8 @@ pub fn a_record()
 
 /// match p with (true, _) -> .. | (_, true) -> ..: the pair of false and false is missed.
 pub fn a_pair_of_booleans()
-    ensures shown {
-        Shows world (two_booleans ∷ []) (column (with_two (codes "(,)") (alone (codes "true")) any) ∷ column (with_two (codes "(,)") any (alone (codes "true"))) ∷ [])
-            (one (shape_of_two (codes "(,)") (shape_alone (codes "false")) (shape_alone (codes "false")))) }
+    ensures shown { Shows world (two_booleans ∷ []) (column (with_two (codes "(,)") (alone (codes "true")) any) ∷ column (with_two (codes "(,)") any (alone (codes "true"))) ∷ [])
+        (one (shape_of_two (codes "(,)") (shape_alone (codes "false")) (shape_alone (codes "false")))) }
     ensures printed { text_of printed.alone (shape_of_two (codes "(,)") (shape_alone (codes "false")) (shape_alone (codes "false"))) ≡ codes "(false, false)" }
 {}
 

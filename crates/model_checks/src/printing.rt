@@ -1,8 +1,9 @@
 //! How types are printed.
 
-ghost use Rattle.std.specs.Prelude.{◌≡◌, List, [], ◌∷◌, codes};
+ghost use Rattle.std.specs.Prelude.{◌≡◌, ℕ, ◌≤◌, ◌<◌, List, [], ◌∷◌, ◌++◌, take, length, codes};
 ghost use Rattle.type_model.specs.Types.{Var, Arrow, Tuple, Con, Nil, Cons};
 ghost use Rattle.type_print_model.specs.Variables.{letter_name, variable_name};
+ghost use Rattle.type_print_model.specs.Printing.{cut};
 ghost use Rattle.model_checks.specs.Printing.{printed, int, list, pair};
 
 /// An arrow left of an arrow stands in parentheses.
@@ -45,4 +46,10 @@ pub fn weak_variables()
     ensures one { printed (4 ∷ []) (list (Var 4)) ≡ codes "'_weak1 list" }
     ensures another { variable_name (4 ∷ 6 ∷ []) (1 ∷ 6 ∷ 4 ∷ []) 4 ≡ codes "'_weak2" }
     ensures no_weak { variable_name (4 ∷ 6 ∷ []) (6 ∷ 4 ∷ 1 ∷ []) 1 ≡ codes "'a" }
+{}
+
+/// A text of at most 4,096 bytes is shown whole, and a longer one is cut there, with three points behind.
+pub fn long_texts()
+    ensures whole { (text : List ℕ) → length text ≤ 4096 → cut text ≡ text }
+    ensures shortened { (text : List ℕ) → 4096 < length text → cut text ≡ take 4096 text ++ codes "..." }
 {}

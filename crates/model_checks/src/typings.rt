@@ -7,10 +7,10 @@ ghost use Rattle.signature_model.specs.Entries.{free_in};
 ghost use Rattle.typing_model.specs.Items.{behind_items};
 ghost use Rattle.typing_model.specs.Meanings.{items_of};
 ghost use Rattle.typing_model.specs.Typings.{Typing, IsPrincipal, HasTyping, outermost};
-ghost use Rattle.model_checks.specs.Texts.{parsed, identity, branches, self_application, reference, whole_record, used_twice};
+ghost use Rattle.model_checks.specs.Texts.{parsed, identity, branches, self_application, reference, whole_record, used_twice, later_type};
 ghost use Rattle.model_checks.specs.Asked.{all_kept};
 ghost use Rattle.model_checks.specs.Typings.{first, types_from};
-ghost use Rattle.model_checks.specs.Scopes.{with_ref};
+ghost use Rattle.model_checks.specs.Scopes.{with_ref, with_assignment};
 ghost use Rattle.model_checks.specs.Chosen.{reference_types, reference_choice, identity_types, identity_choice, record_types, inner_types};
 
 /// let id x = x: 'a -> 'a is a typing, and each typing is an instance of it.
@@ -43,4 +43,9 @@ pub fn a_record_has_its_type()
 /// let f = let g = fun x -> x in (g 1, g "a"): g is used at two types.
 pub fn an_inner_binding_is_generalised()
     ensures { Typing built_in_names (parsed used_twice) all_kept (types_from inner_types) }
+{}
+
+/// let r = ref [] type t = A let () = r := [A]: no typing keeps all demands, since the type of r was made before t.
+pub fn a_later_type_is_refused()
+    ensures { HasTyping with_assignment (parsed later_type) all_kept → ⊥ }
 {}

@@ -1,5 +1,5 @@
 use Rattle.std.proofs.Common.{false, ◌||◌, codes, refl}
-use Rattle.match_model.specs.Shown.{at_end, by_constructor, by_default, here, further, some_line, none_by_constructor, none_by_default, no_more, and_none}
+use Rattle.match_model.specs.Shown.{at_end, by_default}
 use Rattle.type_model.proofs.Applying.{or_left, or_right}
 use Rattle.match_model.specs.Values.{match_all}
 use Rattle.model_checks.specs.Matches.{alone, row}
@@ -14,5 +14,5 @@ returns-clause-unused c = record {
   stands = refl;
   each = λ vs typed h.
       or_right (match_all (row (alone (codes "true"))).patterns vs) (match_all (row (alone (codes "false"))).patterns vs || false)
-          (or_left (match_all (row (alone (codes "false"))).patterns vs) false h);
+      (or_left (match_all (row (alone (codes "false"))).patterns vs) false h);
 }

@@ -1,5 +1,5 @@
 use Rattle.std.proofs.Common.{refl}
-use Rattle.match_model.specs.Shown.{at_end, by_constructor, by_default, here, further, some_line, none_by_constructor, none_by_default, no_more, and_none}
+use Rattle.match_model.specs.Shown.{at_end, by_constructor, by_default, here}
 use Rattle.model_checks.proofs.matches.a_record.Goals as goal
 
 pub returns-clause-shown : goal.returns-clause-shown

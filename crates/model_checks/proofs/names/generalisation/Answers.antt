@@ -1,6 +1,6 @@
 use Rattle.std.proofs.Common.{◌≡◌, ℕ, ◌==◌, Bool, true, false, [], ◌∷◌, codes, refl, sym, subst, if◌then◌else◌}
 use Rattle.std.proofs.lemmas.Bool.{eqb-true}
-use Rattle.type_model.specs.Types.{Typ, Var, Arrow}
+use Rattle.type_model.specs.Types.{Var, Arrow}
 use Rattle.type_model.specs.Schemes.{Scheme}
 use Rattle.typing_model.specs.BuiltIns.{int_type}
 use Rattle.typing_model.specs.Contexts.{generalised_in}

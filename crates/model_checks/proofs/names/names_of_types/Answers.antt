@@ -1,9 +1,9 @@
-use Rattle.std.proofs.Common.{◌≡◌, ℕ, ◌<◌, ◌⊎◌, inl, inr, Bool, true, false, List, [], ◌∷◌, ◌++◌, codes, Option, Some, None, refl, sym, ◌∙◌, ap, subst, arith, if◌then◌else◌}
+use Rattle.std.proofs.Common.{◌≡◌, inl, inr, Bool, true, false, List, [], ◌∷◌, ◌++◌, codes, Option, Some, None, refl, ◌∙◌, ap, subst, arith, if◌then◌else◌}
 use Rattle.type_model.specs.Types.{Path}
 use Rattle.signature_model.specs.Declarations.{Name}
 use Rattle.signature_model.specs.Entries.{Entry, type_kind}
 use Rattle.signature_model.specs.Lookups.{FoundAmong, an_entry, a_hole, nothing, found, is_named}
-use Rattle.type_print_model.specs.Paths.{NamePath, Reaches, GoesBefore, IsShown, IsNameOf, shown, hidden, naming}
+use Rattle.type_print_model.specs.Paths.{Reaches, GoesBefore, IsNameOf, shown, hidden, naming}
 use Rattle.model_checks.specs.Scopes.{shown_scope, only_entry}
 use Rattle.model_checks.proofs.names.names_of_types.Goals as goal
 

@@ -1,5 +1,5 @@
-use Rattle.std.proofs.Common.{◌≡◌, ℕ, refl, sym}
-use Rattle.type_model.specs.Types.{Typ, Var}
+use Rattle.std.proofs.Common.{refl, sym}
+use Rattle.type_model.specs.Types.{Var}
 use Rattle.type_model.specs.Substitutions.{apply}
 use Rattle.typing_model.specs.BuiltIns.{int_type, string_type}
 use Rattle.typing_model.specs.Contexts.{monomorphic}
@@ -13,7 +13,7 @@ use Rattle.model_checks.proofs.signatures.a_structure_meets_its_seal.Goals as go
 pub returns-clause-met : goal.returns-clause-met
 returns-clause-met c =
     matches (structures (type_name (plain (Is int_type)) refl (record { arity = refl; same = record { left = λ o. int_type; right = λ o. int_type; closed_left = λ o v h. refl; closed_right = λ o v h. refl; same = refl }; shape = tt })
-      (value (monomorphic int_type) refl (record { actual_fill = λ o. int_type; wanted_fill = λ o. int_type; each = λ x h. h }) done)))
+    (value (monomorphic int_type) refl (record { actual_fill = λ o. int_type; wanted_fill = λ o. int_type; each = λ x h. h }) done)))
 
 pub returns-clause-not_met : goal.returns-clause-not_met
 returns-clause-not_met c m =

@@ -1,8 +1,7 @@
-use Rattle.std.proofs.Common.{ℕ, true, false, [], ◌∷◌, refl, sym}
-use Rattle.type_model.specs.Types.{Typ, Var, Arrow, Con, Nil}
-use Rattle.typing_model.specs.BuiltIns.{int_type, string_type}
+use Rattle.std.proofs.Common.{true, false, [], ◌∷◌, refl}
+use Rattle.type_model.specs.Types.{Con, Nil}
+use Rattle.typing_model.specs.BuiltIns.{int_type}
 use Rattle.model_checks.specs.Typings.{first}
-use Rattle.model_checks.proofs.Apart.{yes_no}
 use Rattle.model_checks.specs.Chosen.{record_choice}
 use Rattle.tree_model.specs.Slots.{is_operand}
 use Rattle.grammar_model.specs.Rows.{chain_of, grower_of}

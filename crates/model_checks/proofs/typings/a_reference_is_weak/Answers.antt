@@ -1,6 +1,6 @@
-use Rattle.std.proofs.Common.{◌≡◌, ℕ, true, false, refl, sym, if◌then◌else◌}
-use Rattle.type_model.specs.Types.{Typ, Var}
-use Rattle.typing_model.specs.BuiltIns.{int_type, string_type, list_type}
+use Rattle.std.proofs.Common.{refl}
+use Rattle.type_model.specs.Types.{Var}
+use Rattle.typing_model.specs.BuiltIns.{int_type, list_type}
 use Rattle.model_checks.proofs.Apart.{yes_no}
 use Rattle.model_checks.specs.Chosen.{reference_choice}
 use Rattle.tree_model.specs.Slots.{is_operand}

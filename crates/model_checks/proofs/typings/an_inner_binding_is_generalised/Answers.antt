@@ -1,5 +1,5 @@
-use Rattle.std.proofs.Common.{ℕ, true, false, [], ◌∷◌, refl, sym}
-use Rattle.type_model.specs.Types.{Typ, Var, Arrow, Con, Nil}
+use Rattle.std.proofs.Common.{true, false, refl}
+use Rattle.type_model.specs.Types.{Var, Arrow}
 use Rattle.typing_model.specs.BuiltIns.{int_type, string_type}
 use Rattle.model_checks.specs.Typings.{first}
 use Rattle.model_checks.proofs.Apart.{yes_no}

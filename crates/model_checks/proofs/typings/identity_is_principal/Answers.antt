@@ -1,4 +1,4 @@
-use Rattle.std.proofs.Common.{◌≡◌, ℕ, [], ◌∷◌, refl, sym, ◌∙◌, ap}
+use Rattle.std.proofs.Common.{◌≡◌, ℕ, refl, sym, ◌∙◌, ap}
 use Rattle.tree_model.specs.Slots.{is_operand}
 use Rattle.type_model.specs.Types.{Typ, Var, Arrow}
 use Rattle.grammar_model.specs.Rows.{chain_of, grower_of}
