@@ -229,7 +229,8 @@ fn stacks_stay(rt: HostRuntime) -> Result<(), Fail> {
     let val = token(alloc, TokenKind::Val, "val", 0)?;
     let first = step(alloc, &begun, &end, &mut counts)?;
     let second = step(alloc, &begun, &val, &mut counts)?;
-    let third = step(alloc, &empty_sig(alloc)?, &val, &mut counts)?;
+    let interface = empty_sig(alloc)?;
+    let third = step(alloc, &interface, &val, &mut counts)?;
     assert_eq!(rt; counts.shifted(), 3);
     assert_eq!(rt; first.fault, None);
     assert_eq!(rt;

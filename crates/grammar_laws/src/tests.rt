@@ -65,6 +65,9 @@ fn drawn(alloc: Global, text: &str) -> Result<(String, usize), Fail> {
         shifted: 0,
         typed: 0,
     };
+    if text.len() > 1000 {
+        Err(NoMemory)?;
+    }
     let tokens = lex_all(alloc, text.as_bytes(), &[], &mut counts)?;
     let parsed = parse(alloc, Text::Program, &tokens, &mut counts)?;
     let mut out = String::new(alloc);
