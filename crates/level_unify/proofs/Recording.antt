@@ -5,7 +5,7 @@ use Rattle.std.proofs.lemmas.Option.{slice_get_within}
 use Rattle.type_nodes.specs.Nodes.{Node, Var, Rigid, Link, Arrow, Tuple, Con, bound_level}
 use Rattle.type_nodes.specs.Links.{root}
 use Rattle.type_nodes.proofs.Lists.{same_or_other, one_element, get-set_other, get-append_left, get-append_last, get-append_cases}
-use Rattle.level_unify.specs.declared.plan.Plan.TheVariants.{BindLeft, BindRight, LinkParts}
+use Rattle.level_unify.specs.declared.plan.Plan.TheVariants.{BindLeft, BindRight}
 use Rattle.level_unify.specs.declared.solve.Stop.{Stop}
 use Rattle.level_unify.specs.Plans.{IsFreeVar, SameHead}
 use Rattle.level_unify.specs.Solutions.{Cap, IsListed, Equation, Recorded, Tracked}
@@ -66,16 +66,18 @@ head_no_var : (c d : Node) (level scope : ℕ) → SameHead c d → c ≡ Var le
 head_no_var c d level scope h e = subst (λ x. SameHead x d) e h
 
 -- a composite that was linked is no variable
-pub tie_recorded : (nodes new : List Node) (r s : ℕ) (caps : List Cap) (res : Result (Unit {0}) Stop) → Planned nodes r s LinkParts → OnOk res (new ≡ set nodes r (Link s)) → OnOk res (Recorded nodes new r s caps caps)
-tie_recorded nodes new r s caps (Ok u) p e = subst (λ n. Recorded nodes n r s caps caps) (sym e) (record {
+pub tie_recorded : (nodes new : List Node) (r s : ℕ) (c d : Node) → slice_get nodes r ≡ Some c → SameHead c d → new ≡ set nodes r (Link s) → (caps : List Cap) → Recorded nodes new r s caps caps
+tie_recorded nodes new r s c d at head e caps = subst (λ n. Recorded nodes n r s caps caps) (sym e) (record {
   kept = λ x h. h;
   gone = λ n l o f. elim (same_or_other n r) [
-    | inl same ↦ absurd (head_no_var p.left p.right l o p.plans (one_element p.left (Var l o) (slice_get nodes r) p.left_at (subst (λ k. slice_get nodes k ≡ Some (Var l o)) same f)))
+    | inl same ↦ absurd (head_no_var c d l o head (one_element c (Var l o) (slice_get nodes r) at (subst (λ k. slice_get nodes k ≡ Some (Var l o)) same f)))
     | inr other ↦ inl (get-set_other nodes r n (Link s) other ∙ f)
   ];
   was = λ x h. inl h;
 })
-tie_recorded nodes new r s caps (Err f) p e = tt
+
+pub none_recorded : (nodes : List Node) (r s : ℕ) (caps : List Cap) → Recorded nodes nodes r s caps caps
+none_recorded nodes r s caps = record { kept = λ x h. h; gone = λ n l o f. inl f; was = λ x h. inl h }
 
 pub tracked_start : (old : List Node) (a b : ℕ) (caps : List Cap) → caps ≡ [] → Tracked old old a b caps
 tracked_start old a b caps e = subst (Tracked old old a b) (sym e) (record {

@@ -1,16 +1,17 @@
 //! Makes two nodes one, whatever the levels and scopes of their variables.
-ghost use Rattle.std.specs.Prelude.{◌≡◌, ◌≢◌, ℕ, ◌<◌, ◌++◌, [], ◌∷◌, length, slice_set, slice_get, Some, IfErr, OnOk};
-ghost use Rattle.type_nodes.specs.Nodes.{Node, Link as link, Var as var_node, IsNode, IsSound, parts};
+ghost use Rattle.std.specs.Prelude.{◌≡◌, ◌≢◌, ℕ, ◌<◌, ◌++◌, [], ◌∷◌, true, cond, nat_eq, List, length, slice_set, slice_get, Some, All, IfErr, OnOk};
+ghost use Rattle.type_nodes.specs.Nodes.{Node, Link as link, Var as var_node, IsNode, IsSound, Apart, parts};
 ghost use Rattle.type_nodes.specs.Links.{root, IsFree, ReadsAsComposite};
 ghost use Rattle.type_nodes.specs.States.{Keeps};
 ghost use Rattle.type_nodes.specs.Views.{numbers};
 ghost use Rattle.level_unify.specs.Walks.{StandsIn};
 ghost use Rattle.level_unify.specs.Plans.{SameHead, Views};
-ghost use Rattle.level_unify.specs.Solutions.{Equation, equations_of, paired, Stepped, Solved, NeverOne, HaveNoBound, Steps, caps_of, Recorded, Tracked};
+ghost use Rattle.level_unify.specs.Solutions.{Cap, Equation, equations_of, is_opened, paired, AreOne, Stepped, Solved, NeverOne, HaveNoBound, Steps, caps_of, Recorded, Tracked};
 
 use crate::plan::{Plan, plan_for};
 use crate::walk::occurs;
 use std::alloc::Global;
+use std::collections::HashSet;
 use type_nodes::{NoMemory, NodeRef, Store, View};
 
 // Two nodes that are to have one type.
@@ -18,6 +19,13 @@ use type_nodes::{NoMemory, NodeRef, Store, View};
 struct Pair {
     left: NodeRef,
     right: NodeRef,
+}
+
+// The pairs that are left, the next one last; and the roots whose pair was put back until their parts are one.
+#[derive(Drop)]
+struct Todo {
+    pairs: Vec<Pair>,
+    opened: HashSet<u64>,
 }
 
 /// A variable that was bound, and what its types were limited to.
@@ -47,43 +55,87 @@ impl From<NoMemory> for Stop {
     }
 }
 
-fn push_pair(todo: &mut Vec<Pair>, left: NodeRef, right: NodeRef) -> Result<(), NoMemory>
-    ensures { OnOk result (equations_of todo.new.items ≡ equations_of todo.old.items ++ (left.0, right.0) ∷ []) }
+fn push_pair(pairs: &mut Vec<Pair>, left: NodeRef, right: NodeRef) -> Result<(), NoMemory>
+    ensures { OnOk result (equations_of pairs.new.items ≡ equations_of pairs.old.items ++ (left.0, right.0) ∷ []) }
 {
-    todo.push(Pair { left, right }).map_err(|_| NoMemory)
+    pairs.push(Pair { left, right }).map_err(|_| NoMemory)
 }
 
-fn push_pairs(todo: &mut Vec<Pair>, lefts: &[NodeRef], rights: &[NodeRef]) -> Result<(), NoMemory>
+fn push_pairs(pairs: &mut Vec<Pair>, lefts: &[NodeRef], rights: &[NodeRef]) -> Result<(), NoMemory>
     requires { length lefts.now ≡ length rights.now }
-    ensures { OnOk result (equations_of todo.new.items ≡ equations_of todo.old.items ++ paired (numbers lefts.now) (numbers rights.now)) }
+    ensures { OnOk result (equations_of pairs.new.items ≡ equations_of pairs.old.items ++ paired (numbers lefts.now) (numbers rights.now)) }
 {
     for (i, left) in lefts.iter().enumerate() {
-        push_pair(todo, *left, rights[i])?;
+        push_pair(pairs, *left, rights[i])?;
     }
     Ok(())
 }
 
-fn push_parts(todo: &mut Vec<Pair>, left: &View<'_>, right: &View<'_>) -> Result<(), NoMemory>
+fn push_parts(pairs: &mut Vec<Pair>, left: &View<'_>, right: &View<'_>) -> Result<(), NoMemory>
     requires { (c : Node) × (d : Node) × Views left.now c × Views right.now d × SameHead c d }
     ensures { OnOk result ((c d : Node) → Views left.now c → Views right.now d →
-        equations_of todo.new.items ≡ equations_of todo.old.items ++ paired (parts c) (parts d)) }
+        equations_of pairs.new.items ≡ equations_of pairs.old.items ++ paired (parts c) (parts d)) }
 {
     match left {
         View::Arrow(from, to) => match right {
             View::Arrow(other_from, other_to) => {
-                push_pairs(todo, &[*from, *to], &[*other_from, *other_to])
+                push_pairs(pairs, &[*from, *to], &[*other_from, *other_to])
             }
             _ => Ok(()),
         },
         View::Tuple(parts) => match right {
-            View::Tuple(others) => push_pairs(todo, parts, others),
+            View::Tuple(others) => push_pairs(pairs, parts, others),
             _ => Ok(()),
         },
         View::Con(_, args) => match right {
-            View::Con(_, others) => push_pairs(todo, args, others),
+            View::Con(_, others) => push_pairs(pairs, args, others),
             _ => Ok(()),
         },
         _ => Ok(()),
+    }
+}
+
+// Whether the nodes have one root in pairs.
+fn are_one(store: &Store, lefts: &[NodeRef], rights: &[NodeRef]) -> bool
+    requires lefts { All (IsNode store.now.nodes) (numbers lefts.now) }
+    requires rights { All (IsNode store.now.nodes) (numbers rights.now) }
+    requires length { length lefts.now ≡ length rights.now }
+    ensures { result ≡ true → AreOne store.now.nodes (paired (numbers lefts.now) (numbers rights.now)) }
+{
+    for (i, left) in lefts.iter().enumerate() {
+        if store.root(*left).0 != store.root(rights[i]).0 {
+            return false;
+        }
+    }
+    true
+}
+
+// Whether the parts of two composites with one head are one already.
+fn have_same_parts(store: &Store, left: NodeRef, right: NodeRef) -> bool
+    requires sound { IsSound store.now.nodes }
+    requires left { IsNode store.now.nodes left.0 }
+    requires right { IsNode store.now.nodes right.0 }
+    requires left_root { root store.now.nodes left.0 ≡ left.0 }
+    requires right_root { root store.now.nodes right.0 ≡ right.0 }
+    requires heads { (c d : Node) → slice_get store.now.nodes left.0 ≡ Some c → slice_get store.now.nodes right.0 ≡ Some d → SameHead c d }
+    ensures { result ≡ true → (c d : Node) → slice_get store.now.nodes left.0 ≡ Some c → slice_get store.now.nodes right.0 ≡ Some d → AreOne store.now.nodes (paired (parts c) (parts d)) }
+{
+    match store.read(left) {
+        View::Arrow(from, to) => match store.read(right) {
+            View::Arrow(other_from, other_to) => {
+                are_one(store, &[from, to], &[other_from, other_to])
+            }
+            _ => false,
+        },
+        View::Tuple(parts) => match store.read(right) {
+            View::Tuple(others) => are_one(store, parts, others),
+            _ => false,
+        },
+        View::Con(_, args) => match store.read(right) {
+            View::Con(_, others) => are_one(store, args, others),
+            _ => false,
+        },
+        _ => false,
     }
 }
 
@@ -121,38 +173,84 @@ fn bind(
     Ok(())
 }
 
-fn tie(
-    alloc: Global,
-    store: &mut Store,
-    todo: &mut Vec<Pair>,
-    left: NodeRef,
-    right: NodeRef,
-) -> Result<(), Stop>
+// Links two composites with one head, and leaves their parts to do.
+fn join(store: &mut Store, todo: &mut Todo, left: NodeRef, right: NodeRef) -> Result<(), NoMemory>
     requires sound { IsSound store.old.nodes }
     requires heads { (c : Node) × (d : Node) × (slice_get store.old.nodes left.0 ≡ Some c) × (slice_get store.old.nodes right.0 ≡ Some d) × SameHead c d }
     requires left { IsNode store.old.nodes left.0 }
     requires right { IsNode store.old.nodes right.0 }
     requires left_root { root store.old.nodes left.0 ≡ left.0 }
     requires right_root { root store.old.nodes right.0 ≡ right.0 }
+    requires apart { Apart store.old.nodes left.0 right.0 }
     ensures linked { OnOk result (store.new.nodes ≡ slice_set store.old.nodes left.0 (link right.0)) }
     ensures sound { OnOk result (IsSound store.new.nodes) }
     ensures left_over { OnOk result ((c d : Node) → slice_get store.old.nodes left.0 ≡ Some c → slice_get store.old.nodes right.0 ≡ Some d →
-        equations_of todo.new.items ≡ equations_of todo.old.items ++ paired (parts c) (parts d)) }
+        equations_of todo.new.pairs.items ≡ equations_of todo.old.pairs.items ++ paired (parts c) (parts d)) }
+    ensures opened { todo.new.opened ≡ todo.old.opened }
+    ensures keeps { Keeps store.old store.new }
+{
+    push_parts(&mut todo.pairs, &store.read(left), &store.read(right))?;
+    store.link(left, right)?;
+    Ok(())
+}
+
+// Puts two composites with one head back, below their parts.
+fn open(store: &Store, todo: &mut Todo, left: NodeRef, right: NodeRef) -> Result<(), NoMemory>
+    requires sound { IsSound store.now.nodes }
+    requires heads { (c : Node) × (d : Node) × (slice_get store.now.nodes left.0 ≡ Some c) × (slice_get store.now.nodes right.0 ≡ Some d) × SameHead c d }
+    requires left { IsNode store.now.nodes left.0 }
+    requires right { IsNode store.now.nodes right.0 }
+    requires left_root { root store.now.nodes left.0 ≡ left.0 }
+    requires right_root { root store.now.nodes right.0 ≡ right.0 }
+    ensures left_over { OnOk result ((c d : Node) → slice_get store.now.nodes left.0 ≡ Some c → slice_get store.now.nodes right.0 ≡ Some d →
+        equations_of todo.new.pairs.items ≡ (equations_of todo.old.pairs.items ++ (left.0, right.0) ∷ []) ++ paired (parts c) (parts d)) }
+    ensures opened { OnOk result ((n : ℕ) → is_opened todo.new n ≡ cond (nat_eq left.0 n) true (is_opened todo.old n)) }
+{
+    todo.opened.insert(left.0).map_err(|_| NoMemory)?;
+    push_pair(&mut todo.pairs, left, right)?;
+    push_parts(&mut todo.pairs, &store.read(left), &store.read(right))
+}
+
+// Makes two composites with one head one, once their parts are. Only what clashes meets an opened root before that.
+fn tie(
+    alloc: Global,
+    store: &mut Store,
+    todo: &mut Todo,
+    left: NodeRef,
+    right: NodeRef,
+) -> Result<(), Stop>
+    requires sound { IsSound store.old.nodes }
+    requires other { left.0 ≢ right.0 }
+    requires heads { (c : Node) × (d : Node) × (slice_get store.old.nodes left.0 ≡ Some c) × (slice_get store.old.nodes right.0 ≡ Some d) × SameHead c d }
+    requires left { IsNode store.old.nodes left.0 }
+    requires right { IsNode store.old.nodes right.0 }
+    requires left_root { root store.old.nodes left.0 ≡ left.0 }
+    requires right_root { root store.old.nodes right.0 ≡ right.0 }
+    ensures sound { OnOk result (IsSound store.new.nodes) }
+    ensures stepped { OnOk result (Steps store.old.nodes store.new.nodes left.0 right.0 (is_opened todo.old) (is_opened todo.new) (equations_of todo.old.pairs.items) (equations_of todo.new.pairs.items)) }
+    ensures recorded { OnOk result ((caps : List Cap) → Recorded store.old.nodes store.new.nodes left.0 right.0 caps caps) }
     ensures clash { IfErr result (λ e. e ≡ Stop.Clash → StandsIn store.old.nodes left.0 right.0) }
     ensures keeps { Keeps store.old store.new }
 {
+    if have_same_parts(store, left, right) {
+        join(store, todo, left, right)?;
+        return Ok(());
+    }
+    if !todo.opened.contains(&left.0) {
+        open(store, todo, left, right)?;
+        return Ok(());
+    }
     if occurs(alloc, store, left, right)? {
         return Err(Stop::Clash);
     }
-    push_parts(todo, &store.read(left), &store.read(right))?;
-    store.link(left, right)?;
+    join(store, todo, left, right)?;
     Ok(())
 }
 
 fn step(
     alloc: Global,
     store: &mut Store,
-    todo: &mut Vec<Pair>,
+    todo: &mut Todo,
     limits: &mut Vec<Limit>,
     left: NodeRef,
     right: NodeRef,
@@ -164,7 +262,7 @@ fn step(
     requires left_root { root store.old.nodes left.0 ≡ left.0 }
     requires right_root { root store.old.nodes right.0 ≡ right.0 }
     ensures sound { OnOk result (IsSound store.new.nodes) }
-    ensures stepped { OnOk result (Steps store.old.nodes store.new.nodes left.0 right.0 (equations_of todo.old.items) (equations_of todo.new.items)) }
+    ensures stepped { OnOk result (Steps store.old.nodes store.new.nodes left.0 right.0 (is_opened todo.old) (is_opened todo.new) (equations_of todo.old.pairs.items) (equations_of todo.new.pairs.items)) }
     ensures recorded { OnOk result (Recorded store.old.nodes store.new.nodes left.0 right.0 (caps_of limits.old.items) (caps_of limits.new.items)) }
     ensures clash { IfErr result (λ e. e ≡ Stop.Clash → HaveNoBound store.old.nodes left.0 right.0 → NeverOne store.old.nodes left.0 right.0) }
     ensures keeps { Keeps store.old store.new }
@@ -195,9 +293,12 @@ pub fn solve(
     ensures clash { IfErr result (λ e. e ≡ Stop.Clash → HaveNoBound store.old.nodes a.0 b.0 → NeverOne store.old.nodes a.0 b.0) }
     ensures keeps { Keeps store.old store.new }
 {
-    let mut todo = Vec::new(alloc);
-    push_pair(&mut todo, a, b)?;
-    while let Some(pair) = todo.pop() {
+    let mut todo = Todo {
+        pairs: Vec::new(alloc),
+        opened: HashSet::new(alloc),
+    };
+    push_pair(&mut todo.pairs, a, b)?;
+    while let Some(pair) = todo.pairs.pop() {
         let left = store.root(pair.left);
         let right = store.root(pair.right);
         if left.0 != right.0 {
