@@ -48,6 +48,16 @@ equations_of ps = map equation_of ps
 abbrev pub is_opened : Todo → ℕ → Bool
 is_opened todo = contains nat_eq todo.opened
 
+-- the roots that are cleared
+abbrev pub is_cleared : Todo → ℕ → Bool
+is_cleared todo = contains nat_eq todo.cleared
+
+-- at most s is cleared in addition, and it is where r is
+pub record ClearsAlike (D D' : ℕ → Bool) (r s : ℕ) : Type 0 where
+  pub kept : (n : ℕ) → D n ≡ true → D' n ≡ true
+  pub new : (n : ℕ) → D' n ≡ true → (D n ≡ true) ⊎ ((n ≡ s) × (D r ≡ true))
+  pub alike : D' r ≡ true → D' s ≡ true
+
 -- both sides of each equation have one root
 abbrev pub AreOne : List Node → List Equation → Type 0
 AreOne nodes [] = Unit {0}

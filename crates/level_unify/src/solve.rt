@@ -4,9 +4,10 @@ ghost use Rattle.type_nodes.specs.Nodes.{Node, Link as link, Var as var_node, Is
 ghost use Rattle.type_nodes.specs.Links.{root, IsFree, ReadsAsComposite};
 ghost use Rattle.type_nodes.specs.States.{Keeps};
 ghost use Rattle.type_nodes.specs.Views.{numbers};
-ghost use Rattle.level_unify.specs.Walks.{StandsIn};
+ghost use Rattle.level_unify.specs.Walks.{StandsIn, IsCleared};
+ghost use Rattle.std.specs.HashSet.{contains};
 ghost use Rattle.level_unify.specs.Plans.{SameHead, Views};
-ghost use Rattle.level_unify.specs.Solutions.{Cap, Equation, equations_of, is_opened, paired, AreOne, Stepped, Solved, NeverOne, HaveNoBound, Steps, caps_of, Recorded, Tracked};
+ghost use Rattle.level_unify.specs.Solutions.{Cap, Equation, equations_of, is_opened, is_cleared, ClearsAlike, paired, AreOne, Stepped, Solved, NeverOne, HaveNoBound, Steps, caps_of, Recorded, Tracked};
 
 use crate::plan::{Plan, plan_for};
 use crate::walk::occurs;
@@ -21,11 +22,13 @@ struct Pair {
     right: NodeRef,
 }
 
-// The pairs that are left, the next one last; and the roots whose pair was put back until their parts are one.
+// The pairs that are left, the next one last; the roots whose pair was put back until their parts are one; and roots that were
+// walked through, with the roots of their parts, so that no variable among the others stands in them.
 #[derive(Drop)]
 struct Todo {
     pairs: Vec<Pair>,
     opened: HashSet<u64>,
+    cleared: HashSet<u64>,
 }
 
 /// A variable that was bound, and what its types were limited to.
@@ -142,6 +145,7 @@ fn have_same_parts(store: &Store, left: NodeRef, right: NodeRef) -> bool
 fn bind(
     alloc: Global,
     store: &mut Store,
+    cleared: &mut HashSet<u64>,
     limits: &mut Vec<Limit>,
     var: NodeRef,
     to: NodeRef,
@@ -151,14 +155,16 @@ fn bind(
     requires to { IsNode store.old.nodes to.0 }
     requires var_root { root store.old.nodes var.0 ≡ var.0 }
     requires to_root { root store.old.nodes to.0 ≡ to.0 }
+    requires cleared { IsCleared store.old.nodes (contains nat_eq cleared.old) }
     ensures linked { OnOk result (store.new.nodes ≡ slice_set store.old.nodes var.0 (link to.0)) }
     ensures sound { OnOk result (IsSound store.new.nodes) }
+    ensures cleared { OnOk result (IsCleared store.new.nodes (contains nat_eq cleared.new)) }
     ensures recorded { OnOk result ((level scope : ℕ) → slice_get store.old.nodes var.0 ≡ Some (var_node level scope) →
         caps_of limits.new.items ≡ caps_of limits.old.items ++ (var.0, level, scope) ∷ []) }
     ensures clash { IfErr result (λ e. e ≡ Stop.Clash → StandsIn store.old.nodes var.0 to.0) }
     ensures keeps { Keeps store.old store.new }
 {
-    if occurs(alloc, store, var, to)? {
+    if occurs(alloc, store, cleared, var, to)? {
         return Err(Stop::Clash);
     }
     match store.read(var) {
@@ -182,6 +188,9 @@ fn join(store: &mut Store, todo: &mut Todo, left: NodeRef, right: NodeRef) -> Re
     requires left_root { root store.old.nodes left.0 ≡ left.0 }
     requires right_root { root store.old.nodes right.0 ≡ right.0 }
     requires apart { Apart store.old.nodes left.0 right.0 }
+    requires cleared { IsCleared store.old.nodes (is_cleared todo.old) }
+    requires alike { is_cleared todo.old left.0 ≡ true → is_cleared todo.old right.0 ≡ true }
+    ensures cleared { OnOk result (IsCleared store.new.nodes (is_cleared todo.new)) }
     ensures linked { OnOk result (store.new.nodes ≡ slice_set store.old.nodes left.0 (link right.0)) }
     ensures sound { OnOk result (IsSound store.new.nodes) }
     ensures left_over { OnOk result ((c d : Node) → slice_get store.old.nodes left.0 ≡ Some c → slice_get store.old.nodes right.0 ≡ Some d →
@@ -205,10 +214,22 @@ fn open(store: &Store, todo: &mut Todo, left: NodeRef, right: NodeRef) -> Result
     ensures left_over { OnOk result ((c d : Node) → slice_get store.now.nodes left.0 ≡ Some c → slice_get store.now.nodes right.0 ≡ Some d →
         equations_of todo.new.pairs.items ≡ (equations_of todo.old.pairs.items ++ (left.0, right.0) ∷ []) ++ paired (parts c) (parts d)) }
     ensures opened { OnOk result ((n : ℕ) → is_opened todo.new n ≡ cond (nat_eq left.0 n) true (is_opened todo.old n)) }
+    ensures cleared { todo.new.cleared ≡ todo.old.cleared }
 {
     todo.opened.insert(left.0).map_err(|_| NoMemory)?;
     push_pair(&mut todo.pairs, left, right)?;
     push_parts(&mut todo.pairs, &store.read(left), &store.read(right))
+}
+
+// Where the parts of two composites are one, the right one is cleared as well as the left one.
+fn clear_alike(cleared: &mut HashSet<u64>, left: NodeRef, right: NodeRef) -> Result<(), NoMemory>
+    ensures { OnOk result (ClearsAlike (contains nat_eq cleared.old) (contains nat_eq cleared.new) left.0 right.0) }
+{
+    if !cleared.contains(&left.0) {
+        return Ok(());
+    }
+    cleared.insert(right.0).map_err(|_| NoMemory)?;
+    Ok(())
 }
 
 // Makes two composites with one head one, once their parts are. Only what clashes meets an opened root before that.
@@ -226,13 +247,16 @@ fn tie(
     requires right { IsNode store.old.nodes right.0 }
     requires left_root { root store.old.nodes left.0 ≡ left.0 }
     requires right_root { root store.old.nodes right.0 ≡ right.0 }
+    requires cleared { IsCleared store.old.nodes (is_cleared todo.old) }
     ensures sound { OnOk result (IsSound store.new.nodes) }
+    ensures cleared { OnOk result (IsCleared store.new.nodes (is_cleared todo.new)) }
     ensures stepped { OnOk result (Steps store.old.nodes store.new.nodes left.0 right.0 (is_opened todo.old) (is_opened todo.new) (equations_of todo.old.pairs.items) (equations_of todo.new.pairs.items)) }
     ensures recorded { OnOk result ((caps : List Cap) → Recorded store.old.nodes store.new.nodes left.0 right.0 caps caps) }
     ensures clash { IfErr result (λ e. e ≡ Stop.Clash → StandsIn store.old.nodes left.0 right.0) }
     ensures keeps { Keeps store.old store.new }
 {
     if have_same_parts(store, left, right) {
+        clear_alike(&mut todo.cleared, left, right)?;
         join(store, todo, left, right)?;
         return Ok(());
     }
@@ -240,7 +264,7 @@ fn tie(
         open(store, todo, left, right)?;
         return Ok(());
     }
-    if occurs(alloc, store, left, right)? {
+    if occurs(alloc, store, &mut todo.cleared, left, right)? {
         return Err(Stop::Clash);
     }
     join(store, todo, left, right)?;
@@ -261,15 +285,17 @@ fn step(
     requires right { IsNode store.old.nodes right.0 }
     requires left_root { root store.old.nodes left.0 ≡ left.0 }
     requires right_root { root store.old.nodes right.0 ≡ right.0 }
+    requires cleared { IsCleared store.old.nodes (is_cleared todo.old) }
     ensures sound { OnOk result (IsSound store.new.nodes) }
+    ensures cleared { OnOk result (IsCleared store.new.nodes (is_cleared todo.new)) }
     ensures stepped { OnOk result (Steps store.old.nodes store.new.nodes left.0 right.0 (is_opened todo.old) (is_opened todo.new) (equations_of todo.old.pairs.items) (equations_of todo.new.pairs.items)) }
     ensures recorded { OnOk result (Recorded store.old.nodes store.new.nodes left.0 right.0 (caps_of limits.old.items) (caps_of limits.new.items)) }
     ensures clash { IfErr result (λ e. e ≡ Stop.Clash → HaveNoBound store.old.nodes left.0 right.0 → NeverOne store.old.nodes left.0 right.0) }
     ensures keeps { Keeps store.old store.new }
 {
     match plan_for(&store.read(left), &store.read(right)) {
-        Plan::BindLeft => bind(alloc, store, limits, left, right),
-        Plan::BindRight => bind(alloc, store, limits, right, left),
+        Plan::BindLeft => bind(alloc, store, &mut todo.cleared, limits, left, right),
+        Plan::BindRight => bind(alloc, store, &mut todo.cleared, limits, right, left),
         Plan::LinkParts => tie(alloc, store, todo, left, right),
         Plan::Clash => Err(Stop::Clash),
     }
@@ -296,6 +322,7 @@ pub fn solve(
     let mut todo = Todo {
         pairs: Vec::new(alloc),
         opened: HashSet::new(alloc),
+        cleared: HashSet::new(alloc),
     };
     push_pair(&mut todo.pairs, a, b)?;
     while let Some(pair) = todo.pairs.pop() {

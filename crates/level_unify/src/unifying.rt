@@ -14,6 +14,7 @@ use crate::plan::is_free;
 use crate::solve::{Stop, solve};
 use crate::walk::occurs;
 use std::alloc::Global;
+use std::collections::HashSet;
 use type_nodes::{NoMemory, NodeRef, Store};
 
 // Whether `inner` reads as a free variable that stands inside `outer` and isn't `outer`.
@@ -32,7 +33,8 @@ fn stands_inside(
     if var.0 == store.root(outer).0 || !is_free(&store.read(var)) {
         return Ok(false);
     }
-    occurs(alloc, store, var, outer)
+    let mut cleared = HashSet::new(alloc);
+    occurs(alloc, store, &mut cleared, var, outer)
 }
 
 // A clash of the two nodes is of this kind.

@@ -1,4 +1,7 @@
-use Rattle.std.proofs.Common.{◌≡◌, List, [], ◌∷◌, ◌++◌, ap, sym, ◌∙◌}
+use Rattle.std.proofs.Common.{◌≡◌, false, List, [], ◌∷◌, ◌++◌, ap, sym, ◌∙◌}
+use Rattle.std.specs.Prelude.{nat_eq}
+use Rattle.std.specs.List.{list_any}
+use Rattle.std.specs.HashSet.{contains}
 use Rattle.std.proofs.lemmas.Result.{err_from_is_err_and}
 use Rattle.std.proofs.lemmas.List.{map-append}
 use Rattle.type_nodes.proofs.Trails.{keeps_refl, keeps_trans}
@@ -56,6 +59,7 @@ loop-pair-preserved-in-Continue-branch-2 c = (
       (equations_of c.loop-pair.todo.pairs.items) (equations_of c.pop.new.self.items) (equation_of c.in-Some.pair) c.loop-pair.invariant.0
       (taken c.loop-pair.todo.pairs.items c.pop.new.self.items c.in-Some.pair c.in-Some.ensures.items) c.root-left.ensures.root c.root-right.ensures.root c.in_ok-step.ensures.recorded c.loop-pair.invariant.2,
   c.in_ok-step.ensures.sound,
+  c.in_ok-step.ensures.cleared,
 )
 
 pub returns-in_err-step-clause-clash : goal.returns-in_err-step-clause-clash
@@ -74,6 +78,7 @@ loop-pair-preserved c = (
   c.loop-pair.invariant.1,
   c.loop-pair.invariant.2,
   c.loop-pair.invariant.3,
+  c.loop-pair.invariant.4,
 )
 
 pub loop-pair-init : goal.loop-pair-init
@@ -82,4 +87,5 @@ loop-pair-init c = (
   keeps_refl c.args.store.now,
   tracked_start c.args.store.now.nodes c.args.a.0 c.args.b.0 (caps_of c.args.limits.now.items) (ap caps_of c.requires.empty),
   c.requires.sound,
+  record { each = λ n x has at. absurd (let e : contains nat_eq c.new-3.result n ≡ false = ap (list_any (nat_eq n)) c.new-3.ensures.empty in cc) },
 )

@@ -1,9 +1,9 @@
 use Rattle.std.proofs.Common.{ap, sym, ◌∙◌}
 use Rattle.std.specs.Prelude.{nat_eq}
 use Rattle.std.specs.HashSet.{contains}
-use Rattle.level_unify.specs.Solutions.{equations_of, is_opened}
+use Rattle.level_unify.specs.Solutions.{equations_of, is_opened, is_cleared}
 use Rattle.level_unify.proofs.Steps.{tied, opened}
-use Rattle.level_unify.proofs.Likeness.{apart_by_parts}
+use Rattle.level_unify.proofs.Likeness.{apart_by_parts, alike_cleared}
 use Rattle.level_unify.proofs.Recording.{tie_recorded}
 use Rattle.level_unify.proofs.solve.tie.Goals as goal
 
@@ -39,3 +39,9 @@ pub returns-clause-recorded : goal.returns-clause-recorded
 returns-clause-recorded c =
     let (x, y, at, at', head) = c.requires.heads in
     tie_recorded c.args.store.now.nodes c.join-2.new.store.nodes c.args.left.0 c.args.right.0 x y at head c.in_ok-join-2.ensures.linked
+
+pub join-requires-clause-cleared : goal.join-requires-clause-cleared
+join-requires-clause-cleared c =
+    let (x, y, at, at', head) = c.requires.heads in
+    alike_cleared c.args.store.now.nodes (is_cleared c.args.todo.now) (contains nat_eq c.clear_alike.new.cleared) c.args.left.0 c.args.right.0 x y at at' head
+    (c.have_same_parts.ensures c.if-have_same_parts.true x y at at') c.requires.cleared c.in_ok-clear_alike.ensures
