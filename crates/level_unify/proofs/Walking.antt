@@ -403,7 +403,7 @@ walk_end nodes before from w none h = record {
   start = elim h.start [ inl e ↦ e | inr (i, x, e, is) ↦ absurd (let f : slice_get [] i ≡ Some x = sym (ap (λ l. slice_get l i) none) ∙ e in cc) ];
   kept = h.kept;
   listed = h.listed;
-  roots = λ k n e. let r = (h.known k n e).1 in (r.inside, r.end, r.stands);
+  roots = record { each = λ k n e. let r = (h.known k n e).1 in (r.inside, r.end, r.stands) };
   new = λ k n e. ((h.known k n e).0, h.other k n e);
   behind = h.behind;
   once = h.once;
@@ -415,7 +415,7 @@ none_beyond nodes before from found has empty = subst (ReachedBeyond nodes befor
   start = has;
   kept = λ n e. e;
   listed = λ n e. inl e;
-  roots = λ k n e. absurd (cc);
+  roots = record { each = λ k n e. absurd (cc) };
   new = λ k n e. absurd (cc);
   behind = λ k n c e. absurd (cc);
   once = λ j k n e. absurd (cc);
@@ -459,7 +459,7 @@ reached_all nodes before done from found sound none r = record {
   closed = closed_by_roots nodes done sound (beyond_cleared nodes before done from found (record { each = λ n c has. absurd (let e = none n in cc) }) r);
   start = r.start;
   listed = λ n has. elim (r.listed (root nodes n) has) [ inl b ↦ absurd (let e = none (root nodes n) in cc) | inr f ↦ f ];
-  roots = r.roots;
+  roots = r.roots.each;
   behind = λ k n c e at i z lt. elim (r.behind k n c e at i z lt) [ inl b ↦ absurd (let e' = none (root nodes (get_or (parts c) i z)) in cc) | inr f ↦ f ];
   once = r.once;
 }
@@ -470,7 +470,7 @@ parts_inside nodes sound n c e k d lt = (sound.1.each n c e k d lt).0
 
 -- a root that is done after a walk and wasn't before stands in its start
 pub done_stands : (nodes : List Node) (before done : ℕ → Bool) (from v : ℕ) (found : List ℕ) → ReachedBeyond nodes before done from found → before v ≡ false → done v ≡ true → StandsIn nodes v from
-done_stands nodes before done from v found r not has = elim (r.listed v has) [ inl b ↦ absurd (cc) | inr (k, f) ↦ (r.roots k v f).2 ]
+done_stands nodes before done from v found r not has = elim (r.listed v has) [ inl b ↦ absurd (cc) | inr (k, f) ↦ (r.roots.each k v f).2 ]
 
 -- a root that a cleared set lacks stands in no node that it has
 pub cleared_apart : (nodes : List Node) (D : ℕ → Bool) (n v : ℕ) → IsSound nodes → root nodes v ≡ v → IsClearedWithout nodes D n v → Apart nodes v n

@@ -32,12 +32,16 @@ pub record IsClearedWithout (nodes : List Node) (D : ℕ → Bool) (n v : ℕ) :
   pub has : D (root nodes n) ≡ true
   pub lacks : D v ≡ false
 
+-- roots that stand in a node
+pub record AreRootsIn (nodes : List Node) (from : ℕ) (found : List ℕ) : Type 0 where
+  pub each : (k n : ℕ) → slice_get found k ≡ Some n → (n < length nodes) × (root nodes n ≡ n) × StandsIn nodes n from
+
 -- The roots of `from` and of all that stands in it, but for those that were done before. Then all are done.
 pub record ReachedBeyond (nodes : List Node) (before done : ℕ → Bool) (from : ℕ) (found : List ℕ) : Type 0 where
   pub start : done (root nodes from) ≡ true
   pub kept : (n : ℕ) → before n ≡ true → done n ≡ true
   pub listed : (n : ℕ) → done n ≡ true → (before n ≡ true) ⊎ ((k : ℕ) × (slice_get found k ≡ Some n))
-  pub roots : (k n : ℕ) → slice_get found k ≡ Some n → (n < length nodes) × (root nodes n ≡ n) × StandsIn nodes n from
+  pub roots : AreRootsIn nodes from found
   pub new : (k n : ℕ) → slice_get found k ≡ Some n → (done n ≡ true) × (before n ≡ false)
   pub behind : (k n : ℕ) (c : Node) → slice_get found k ≡ Some n → slice_get nodes n ≡ Some c →
       All (λ m. (before (root nodes m) ≡ true) ⊎ ((j : ℕ) × (j < k) × (slice_get found j ≡ Some (root nodes m)))) (parts c)
