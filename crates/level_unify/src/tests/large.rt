@@ -91,7 +91,7 @@ fn shared_function(rt: HostRuntime) -> Result<(), Fail> {
     let int = constant(rt.alloc(), &mut store)?;
     let inner = store.var(3, NO_SCOPE)?;
     let long = function(&mut store, int, inner)?;
-    let vars = variables(rt.alloc(), &mut store, 2000)?;
+    let vars = variables(rt.alloc(), &mut store, MANY)?;
     let left = tuple(&mut store, &vars)?;
     let mut longs = Vec::new(rt.alloc());
     for _var in &vars {
