@@ -104,3 +104,7 @@ tracked_on old now new a b r s caps caps' todo rest e sol same is is' rec h = re
         elim w [ inl p ↦ ap F (p ∙ is) ∙ t.0 | inr p ↦ ap F (p ∙ is') ∙ t.1 ]
   ];
 }
+
+pub recorded_turned : (nodes new : List Node) (r s : ℕ) (caps caps' : List Cap) (res : Result (Unit {0}) Stop) → OnOk res (Recorded nodes new s r caps caps') → OnOk res (Recorded nodes new r s caps caps')
+recorded_turned nodes new r s caps caps' (Ok u) h = turned nodes new r s caps caps' h
+recorded_turned nodes new r s caps caps' (Err e) h = tt

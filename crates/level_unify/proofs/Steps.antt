@@ -145,9 +145,9 @@ step_opens O O' nodes r s c d sound r_in s_in at at' head opens = record {
       (paired_in (λ n. F n ≡ true) (parts c) (parts d) (closed.each r c has_r at) (closed.each s d has_s at'));
 }
 
--- the same as binding, with the roots the other way round
-pub step_turned : (O : ℕ → Bool) (nodes new : List Node) (r s : ℕ) → Stepped nodes new s r O O [] → Stepped nodes new r s O O []
-step_turned O nodes new r s st = record {
+-- a step, with the roots the other way round
+pub step_turned : (O O' : ℕ → Bool) (nodes new : List Node) (r s : ℕ) (extra : List Equation) → Stepped nodes new s r O O' extra → Stepped nodes new r s O O' extra
+step_turned O O' nodes new r s extra st = record {
   len = st.len;
   smaller = st.smaller;
   inside = st.inside;
@@ -160,6 +160,9 @@ step_turned O nodes new r s st = record {
   };
   within = λ F closed has_r has_s. st.within F closed has_s has_r;
 }
+
+pub none_turned : (nodes : List Node) (r s : ℕ) → HaveNoBound nodes s r → HaveNoBound nodes r s
+none_turned nodes r s h = record { set = h.set; closed = h.closed; left = h.right; right = h.left; free = h.free }
 
 pub never_turned : (nodes : List Node) (r s : ℕ) → NeverOne nodes s r → NeverOne nodes r s
 never_turned nodes r s h = record { never = λ V fits same. h.never V fits (sym same) }
@@ -214,7 +217,7 @@ bound_left O nodes new r s todo (Err f) p e = tt
 
 pub bound_right : (O : ℕ → Bool) (nodes new : List Node) (r s : ℕ) (todo : List Equation) (res : Result (Unit {0}) Stop) → Planned nodes r s BindRight →
     OnOk res (new ≡ set nodes s (Link r)) → OnOk res (Steps nodes new r s O O todo todo)
-bound_right O nodes new r s todo (Ok u) p e = ([], nothing_more todo, step_turned O nodes new r s (step_bind O nodes new s r p.right p.right_at p.plans e))
+bound_right O nodes new r s todo (Ok u) p e = ([], nothing_more todo, step_turned O O nodes new r s [] (step_bind O nodes new s r p.right p.right_at p.plans e))
 bound_right O nodes new r s todo (Err f) p e = tt
 
 pub tied : (O O' : ℕ → Bool) (nodes new : List Node) (r s : ℕ) (todo todo' : List Equation) → O' ≡ O → IsSound nodes → r ≢ s → (c d : Node) → slice_get nodes r ≡ Some c → slice_get nodes s ≡ Some d → SameHead c d →
@@ -244,3 +247,12 @@ pub linked_sound : (nodes new : List Node) (r s : ℕ) → r < length nodes → 
 linked_sound nodes new r s r_in s_in sound apart e =
     let (c, at) = cell_at nodes r r_in in
     subst IsSound (sym e) (redirected_sound nodes r s c at s_in apart sound)
+
+-- what a step did, told by the answer, with the roots the other way round
+pub steps_turned : (O O' : ℕ → Bool) (nodes new : List Node) (r s : ℕ) (todo todo' : List Equation) (res : Result (Unit {0}) Stop) → OnOk res (Steps nodes new s r O O' todo todo') → OnOk res (Steps nodes new r s O O' todo todo')
+steps_turned O O' nodes new r s todo todo' (Ok u) (extra, more, st) = (extra, more, step_turned O O' nodes new r s extra st)
+steps_turned O O' nodes new r s todo todo' (Err e) h = tt
+
+pub clash_turned : (nodes : List Node) (r s : ℕ) (res : Result (Unit {0}) Stop) → IfErr res (λ e. e ≡ Clash → HaveNoBound nodes s r → NeverOne nodes s r) → IfErr res (λ e. e ≡ Clash → HaveNoBound nodes r s → NeverOne nodes r s)
+clash_turned nodes r s (Ok u) h = h
+clash_turned nodes r s (Err e) h = λ f none. never_turned nodes r s (h f (none_turned nodes s r none))

@@ -271,7 +271,8 @@ fn tie(
     Ok(())
 }
 
-fn step(
+// Links one of two roots to the other, or opens them.
+fn make_one(
     alloc: Global,
     store: &mut Store,
     todo: &mut Todo,
@@ -298,6 +299,36 @@ fn step(
         Plan::BindRight => bind(alloc, store, &mut todo.cleared, limits, right, left),
         Plan::LinkParts => tie(alloc, store, todo, left, right),
         Plan::Clash => Err(Stop::Clash),
+    }
+}
+
+// The newer root is linked to the older one where both may be, so what many nodes are made one with stays near its root.
+fn step(
+    alloc: Global,
+    store: &mut Store,
+    todo: &mut Todo,
+    limits: &mut Vec<Limit>,
+    left: NodeRef,
+    right: NodeRef,
+) -> Result<(), Stop>
+    requires sound { IsSound store.old.nodes }
+    requires other { left.0 ≢ right.0 }
+    requires left { IsNode store.old.nodes left.0 }
+    requires right { IsNode store.old.nodes right.0 }
+    requires left_root { root store.old.nodes left.0 ≡ left.0 }
+    requires right_root { root store.old.nodes right.0 ≡ right.0 }
+    requires cleared { IsCleared store.old.nodes (is_cleared todo.old) }
+    ensures sound { OnOk result (IsSound store.new.nodes) }
+    ensures cleared { OnOk result (IsCleared store.new.nodes (is_cleared todo.new)) }
+    ensures stepped { OnOk result (Steps store.old.nodes store.new.nodes left.0 right.0 (is_opened todo.old) (is_opened todo.new) (equations_of todo.old.pairs.items) (equations_of todo.new.pairs.items)) }
+    ensures recorded { OnOk result (Recorded store.old.nodes store.new.nodes left.0 right.0 (caps_of limits.old.items) (caps_of limits.new.items)) }
+    ensures clash { IfErr result (λ e. e ≡ Stop.Clash → HaveNoBound store.old.nodes left.0 right.0 → NeverOne store.old.nodes left.0 right.0) }
+    ensures keeps { Keeps store.old store.new }
+{
+    if left.0 < right.0 {
+        make_one(alloc, store, todo, limits, right, left)
+    } else {
+        make_one(alloc, store, todo, limits, left, right)
     }
 }
 

@@ -3,7 +3,7 @@ use Rattle.level_unify.specs.Solutions.{equations_of, is_opened, caps_of}
 use Rattle.level_unify.proofs.Steps.{Planned, planned, free_at, bound_left, bound_right, inside_clash, inside_clash_turned}
 use Rattle.level_unify.proofs.Differing.{never_planned}
 use Rattle.level_unify.proofs.Recording.{left_recorded, right_recorded}
-use Rattle.level_unify.proofs.solve.step.Goals as goal
+use Rattle.level_unify.proofs.solve.make_one.Goals as goal
 
 pub bind-requires-clause-var : goal.bind-requires-clause-var
 bind-requires-clause-var c =
