@@ -161,9 +161,6 @@ step_turned O O' nodes new r s extra st = record {
   within = λ F closed has_r has_s. st.within F closed has_s has_r;
 }
 
-pub none_turned : (nodes : List Node) (r s : ℕ) → HaveNoBound nodes s r → HaveNoBound nodes r s
-none_turned nodes r s h = record { set = h.set; closed = h.closed; left = h.right; right = h.left; free = h.free }
-
 pub never_turned : (nodes : List Node) (r s : ℕ) → NeverOne nodes s r → NeverOne nodes r s
 never_turned nodes r s h = record { never = λ V fits same. h.never V fits (sym same) }
 
@@ -247,12 +244,3 @@ pub linked_sound : (nodes new : List Node) (r s : ℕ) → r < length nodes → 
 linked_sound nodes new r s r_in s_in sound apart e =
     let (c, at) = cell_at nodes r r_in in
     subst IsSound (sym e) (redirected_sound nodes r s c at s_in apart sound)
-
--- what a step did, told by the answer, with the roots the other way round
-pub steps_turned : (O O' : ℕ → Bool) (nodes new : List Node) (r s : ℕ) (todo todo' : List Equation) (res : Result (Unit {0}) Stop) → OnOk res (Steps nodes new s r O O' todo todo') → OnOk res (Steps nodes new r s O O' todo todo')
-steps_turned O O' nodes new r s todo todo' (Ok u) (extra, more, st) = (extra, more, step_turned O O' nodes new r s extra st)
-steps_turned O O' nodes new r s todo todo' (Err e) h = tt
-
-pub clash_turned : (nodes : List Node) (r s : ℕ) (res : Result (Unit {0}) Stop) → IfErr res (λ e. e ≡ Clash → HaveNoBound nodes s r → NeverOne nodes s r) → IfErr res (λ e. e ≡ Clash → HaveNoBound nodes r s → NeverOne nodes r s)
-clash_turned nodes r s (Ok u) h = h
-clash_turned nodes r s (Err e) h = λ f none. never_turned nodes r s (h f (none_turned nodes s r none))

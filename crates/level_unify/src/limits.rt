@@ -1,5 +1,6 @@
 //! What a bound variable's level and scope ask of the type that it now reads as.
 ghost use Rattle.std.specs.Prelude.{◌≡◌, ◌↔◌, ℕ, ◌<◌, ◌≢◌, true, List, IsTrue, IfErr, OnOk, OnErr, slice_get, Some, length};
+ghost use Rattle.std.specs.List.Sorted.{IsPermutation};
 ghost use Rattle.type_model.specs.Limits.{in_scope};
 ghost use Rattle.type_nodes.specs.Nodes.{Node, IsNode, IsSound, bound_level};
 ghost use Rattle.type_nodes.specs.Links.{root};
@@ -133,6 +134,13 @@ fn lower_reached(alloc: Global, store: &mut Store, low: &mut Low, limit: Limit) 
     limit_to(alloc, low, limit);
     let found = reached_beyond(alloc, store, &mut low.roots, limit.var)?;
     lower_found(store, &found, limit)
+}
+
+/// Puts low levels first, and among equal levels low scopes.
+pub fn lowest_first(limits: &mut Vec<Limit>)
+    ensures { IsPermutation limits.old.items limits.new.items }
+{
+    limits.sort_unstable_by_key(|limit| (limit.level, limit.scope));
 }
 
 /// Lowers the variables in what the bound variables read as. A clash where an origin there was made too late. What is low by one

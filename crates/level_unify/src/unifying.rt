@@ -9,7 +9,7 @@ ghost use Rattle.level_unify.specs.Solutions.{HaveNoBound, NeverOne};
 ghost use Rattle.level_unify.specs.Unification.{IsInside, IsCyclic, NeverAlike, HasKind, HasCause, Clashes, Unified};
 
 use crate::fault::{Clash, ClashKind, UnifyFault};
-use crate::limits::lower_all;
+use crate::limits::{lower_all, lowest_first};
 use crate::plan::is_free;
 use crate::solve::{Stop, solve};
 use crate::walk::occurs;
@@ -96,6 +96,7 @@ fn attempt(alloc: Global, store: &mut Store, a: NodeRef, b: NodeRef) -> Result<(
         Err(Stop::Clash) => return Err(Failure::NotOne),
         Err(Stop::NoMemory) => return Err(Failure::NoMemory),
     }
+    lowest_first(&mut limits);
     match lower_all(alloc, store, &limits) {
         Ok(()) => Ok(()),
         Err(Stop::Clash) => Err(Failure::OutOfScope),
