@@ -3,7 +3,7 @@ ghost use Rattle.std.specs.Prelude.{◌≡◌, ◌≤◌, All, IfOk, length};
 ghost use Rattle.type_nodes.specs.Nodes.{IsNode};
 ghost use Rattle.type_nodes.specs.Views.{numbers};
 
-use super::{are_nodes, is_constant, is_variable, origin};
+use super::{are_nodes, is_constant, is_variable, origin, part_at};
 use crate::levels::NO_SCOPE;
 use crate::*;
 use std::alloc::Global;
@@ -17,6 +17,13 @@ fn constant(alloc: Global, store: &mut Store) -> Result<NodeRef, Fail>
     ensures more { length store.old.nodes ≤ length store.new.nodes }
 {
     Ok(store.con(&origin(alloc, NO_SCOPE)?, &[])?)
+}
+
+fn arrow(store: &mut Store, from: NodeRef, to: NodeRef) -> Result<NodeRef, Fail> {
+    if !are_nodes(store, &[from, to]) {
+        return Err(Fail::new("no nodes"));
+    }
+    Ok(store.arrow(from, to)?)
 }
 
 // int -> int -> .. -> last
@@ -75,10 +82,7 @@ fn long_function_of_variables(rt: HostRuntime) -> Result<(), Fail> {
     let mut node = store.var(1, NO_SCOPE)?;
     for _turn in 0..MANY {
         let var = store.var(2, NO_SCOPE)?;
-        if !are_nodes(&store, &[var, node]) {
-            return Err(Fail::new("no node"));
-        }
-        node = store.arrow(var, node)?;
+        node = arrow(&mut store, var, node)?;
     }
     assert!(rt; is_unified(rt.alloc(), &mut store, node, left));
     Ok(())
@@ -103,5 +107,85 @@ fn shared_function(rt: HostRuntime) -> Result<(), Fail> {
         return Err(Fail::new("no node"));
     }
     assert!(rt; is_variable(&store.read(inner), (2, NO_SCOPE)));
+    Ok(())
+}
+
+// What the elements of a list literal do: each is made one with the first.
+#[test]
+fn long_list(rt: HostRuntime) -> Result<(), Fail> {
+    let mut store = Store::new(rt.alloc());
+    let element = store.var(1, NO_SCOPE)?;
+    for _turn in 0..MANY {
+        let int = constant(rt.alloc(), &mut store)?;
+        assert!(rt; is_unified(rt.alloc(), &mut store, element, int));
+    }
+    Ok(())
+}
+
+// The same of variables.
+#[test]
+fn long_list_of_variables(rt: HostRuntime) -> Result<(), Fail> {
+    let mut store = Store::new(rt.alloc());
+    let element = store.var(1, NO_SCOPE)?;
+    let vars = variables(rt.alloc(), &mut store, MANY)?;
+    for var in &vars {
+        assert!(rt; is_unified(rt.alloc(), &mut store, *var, element));
+    }
+    for var in &vars {
+        assert!(rt; is_unified(rt.alloc(), &mut store, element, *var));
+    }
+    Ok(())
+}
+
+// What an application does: each parameter of a long function is made one with an argument's type.
+#[test]
+fn long_application(rt: HostRuntime) -> Result<(), Fail> {
+    let mut store = Store::new(rt.alloc());
+    let int = constant(rt.alloc(), &mut store)?;
+    let mut function = int;
+    for _turn in 0..MANY {
+        let var = store.var(2, NO_SCOPE)?;
+        function = arrow(&mut store, var, function)?;
+    }
+    for _turn in 0..MANY {
+        let argument = constant(rt.alloc(), &mut store)?;
+        let parameter = part_at(&store, function, 0)?;
+        assert!(rt; is_unified(rt.alloc(), &mut store, parameter, argument));
+        function = part_at(&store, function, 1)?;
+    }
+    assert!(rt; is_unified(rt.alloc(), &mut store, function, int));
+    Ok(())
+}
+
+// One variable in each place of a tuple, and another constant in each place of the other.
+#[test]
+fn one_variable(rt: HostRuntime) -> Result<(), Fail> {
+    let mut store = Store::new(rt.alloc());
+    let var = store.var(2, NO_SCOPE)?;
+    let mut same = Vec::new(rt.alloc());
+    let mut constants = Vec::new(rt.alloc());
+    for _turn in 0..MANY {
+        same.push(var)?;
+        constants.push(constant(rt.alloc(), &mut store)?)?;
+    }
+    let left = tuple(&mut store, &same)?;
+    let right = tuple(&mut store, &constants)?;
+    assert!(rt; is_unified(rt.alloc(), &mut store, left, right));
+    Ok(())
+}
+
+// Each variable is a pair of the next one, all at once: (x1, x2, ..) and (x2 * x2, x3 * x3, ..).
+#[test]
+fn pairs_of_pairs(rt: HostRuntime) -> Result<(), Fail> {
+    let mut store = Store::new(rt.alloc());
+    let mut vars = variables(rt.alloc(), &mut store, MANY)?;
+    let mut wholes = Vec::new(rt.alloc());
+    for var in &vars[1..] {
+        wholes.push(tuple(&mut store, &[*var, *var])?)?;
+    }
+    vars.pop();
+    let left = tuple(&mut store, &vars)?;
+    let right = tuple(&mut store, &wholes)?;
+    assert!(rt; is_unified(rt.alloc(), &mut store, left, right));
     Ok(())
 }
