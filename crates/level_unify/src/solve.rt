@@ -12,7 +12,7 @@ ghost use Rattle.level_unify.specs.Solutions.{Cap, Equation, equations_of, is_op
 use crate::plan::{Plan, plan_for};
 use crate::walk::occurs;
 use std::alloc::Global;
-use std::collections::HashSet;
+use std::collections::{HashMap, HashSet};
 use type_nodes::{NoMemory, NodeRef, Store, View};
 
 // Two nodes that are to have one type.
@@ -23,12 +23,14 @@ struct Pair {
 }
 
 // The pairs that are left, the next one last; the roots whose pair was put back until their parts are one; and roots that were
-// walked through, with the roots of their parts, so that no variable among the others stands in them.
+// walked through, with the roots of their parts, so that no variable among the others stands in them. The depths only choose
+// which of two roots is linked to the other.
 #[derive(Drop)]
 struct Todo {
     pairs: Vec<Pair>,
     opened: HashSet<u64>,
     cleared: HashSet<u64>,
+    depths: HashMap<u64, u32>,
 }
 
 /// A variable that was bound, and what its types were limited to.
@@ -302,7 +304,80 @@ fn make_one(
     }
 }
 
-// The newer root is linked to the older one where both may be, so what many nodes are made one with stays near its root.
+// How far the nodes that were linked to a root stand from it at most.
+fn depth_of(depths: &HashMap<u64, u32>, root: NodeRef) -> u32 {
+    match depths.get(&root.0) {
+        Some(depth) => *depth,
+        None => 0,
+    }
+}
+
+// The root with the longer ways to it stays one; of two with equal ways the older one does.
+fn left_stays(depths: &HashMap<u64, u32>, left: NodeRef, right: NodeRef) -> bool {
+    let left_depth = depth_of(depths, left);
+    let right_depth = depth_of(depths, right);
+    right_depth < left_depth || (right_depth == left_depth && left.0 < right.0)
+}
+
+// A root was linked to another.
+fn deepen(depths: &mut HashMap<u64, u32>, from: NodeRef, to: NodeRef) -> Result<(), NoMemory> {
+    let depth = depth_of(depths, from).saturating_add(1);
+    if depth_of(depths, to) < depth {
+        depths.insert(to.0, depth).map_err(|_| NoMemory)?;
+    }
+    Ok(())
+}
+
+// One of two roots was linked to the other, or none was.
+fn keep_depth(
+    store: &Store,
+    depths: &mut HashMap<u64, u32>,
+    left: NodeRef,
+    right: NodeRef,
+) -> Result<(), NoMemory>
+    requires left { IsNode store.now.nodes left.0 }
+    requires right { IsNode store.now.nodes right.0 }
+{
+    if store.root(left).0 != left.0 {
+        return deepen(depths, left, right);
+    }
+    if store.root(right).0 != right.0 {
+        return deepen(depths, right, left);
+    }
+    Ok(())
+}
+
+// Links one of two roots to the other where either may be, so that ways to a root stay short.
+fn meet(
+    alloc: Global,
+    store: &mut Store,
+    todo: &mut Todo,
+    limits: &mut Vec<Limit>,
+    left: NodeRef,
+    right: NodeRef,
+) -> Result<(), Stop>
+    requires sound { IsSound store.old.nodes }
+    requires other { left.0 ≢ right.0 }
+    requires left { IsNode store.old.nodes left.0 }
+    requires right { IsNode store.old.nodes right.0 }
+    requires left_root { root store.old.nodes left.0 ≡ left.0 }
+    requires right_root { root store.old.nodes right.0 ≡ right.0 }
+    requires cleared { IsCleared store.old.nodes (is_cleared todo.old) }
+    ensures sound { OnOk result (IsSound store.new.nodes) }
+    ensures cleared { OnOk result (IsCleared store.new.nodes (is_cleared todo.new)) }
+    ensures stepped { OnOk result (Steps store.old.nodes store.new.nodes left.0 right.0 (is_opened todo.old) (is_opened todo.new) (equations_of todo.old.pairs.items) (equations_of todo.new.pairs.items)) }
+    ensures recorded { OnOk result (Recorded store.old.nodes store.new.nodes left.0 right.0 (caps_of limits.old.items) (caps_of limits.new.items)) }
+    ensures clash { IfErr result (λ e. e ≡ Stop.Clash → HaveNoBound store.old.nodes left.0 right.0 → NeverOne store.old.nodes left.0 right.0) }
+    ensures len { OnOk result (length store.new.nodes ≡ length store.old.nodes) }
+    ensures keeps { Keeps store.old store.new }
+{
+    if left_stays(&todo.depths, left, right) {
+        make_one(alloc, store, todo, limits, right, left)
+    } else {
+        make_one(alloc, store, todo, limits, left, right)
+    }
+}
+
 fn step(
     alloc: Global,
     store: &mut Store,
@@ -325,11 +400,9 @@ fn step(
     ensures clash { IfErr result (λ e. e ≡ Stop.Clash → HaveNoBound store.old.nodes left.0 right.0 → NeverOne store.old.nodes left.0 right.0) }
     ensures keeps { Keeps store.old store.new }
 {
-    if left.0 < right.0 {
-        make_one(alloc, store, todo, limits, right, left)
-    } else {
-        make_one(alloc, store, todo, limits, left, right)
-    }
+    meet(alloc, store, todo, limits, left, right)?;
+    keep_depth(store, &mut todo.depths, left, right)?;
+    Ok(())
 }
 
 /// Makes `a` and `b` one, and adds the limits of the variables that it bound. After an error some links are made.
@@ -354,6 +427,7 @@ pub fn solve(
         pairs: Vec::new(alloc),
         opened: HashSet::new(alloc),
         cleared: HashSet::new(alloc),
+        depths: HashMap::new(alloc),
     };
     push_pair(&mut todo.pairs, a, b)?;
     while let Some(pair) = todo.pairs.pop() {

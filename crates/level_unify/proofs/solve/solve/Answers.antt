@@ -89,3 +89,6 @@ loop-pair-init c = (
   c.requires.sound,
   record { each = λ n x has at. absurd (let e : contains nat_eq c.new-3.result n ≡ false = ap (list_any (nat_eq n)) c.new-3.ensures.empty in cc) },
 )
+
+pub returns-in_err-step-clause-keeps : goal.returns-in_err-step-clause-keeps
+returns-in_err-step-clause-keeps c = keeps_trans c.args.store.now c.loop-pair.store c.step.new.store c.loop-pair.invariant.1 c.step.ensures.keeps
