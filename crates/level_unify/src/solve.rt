@@ -1,4 +1,7 @@
 //! Makes two nodes one, whatever the levels and scopes of their variables.
+//! A pair of composites is met twice. First it is opened: it is put back, below the pairs of their parts. Once these are one it is
+//! linked without a walk: what has equal parts has one type, so neither stands in the other. A variable is linked to its type after
+//! a walk through it, which leaves out what was walked before and lacks the variable.
 ghost use Rattle.std.specs.Prelude.{◌≡◌, ◌≢◌, ℕ, ◌<◌, ◌++◌, [], ◌∷◌, true, cond, nat_eq, List, length, slice_set, slice_get, Some, All, IfErr, OnOk};
 ghost use Rattle.type_nodes.specs.Nodes.{Node, Link as link, Var as var_node, IsNode, IsSound, Apart, parts};
 ghost use Rattle.type_nodes.specs.Links.{root, IsFree, ReadsAsComposite};

@@ -1,8 +1,4 @@
 //! Large types: what takes time by more than the nodes that are reached shows here.
-ghost use Rattle.std.specs.Prelude.{◌≡◌, ◌≤◌, All, IfOk, length};
-ghost use Rattle.type_nodes.specs.Nodes.{IsNode};
-ghost use Rattle.type_nodes.specs.Views.{numbers};
-
 use super::{are_nodes, is_constant, is_variable, origin, part_at};
 use crate::levels::NO_SCOPE;
 use crate::*;
@@ -12,11 +8,16 @@ use type_nodes::{NodeRef, Store};
 
 const MANY: u32 = 20_000;
 
-fn constant(alloc: Global, store: &mut Store) -> Result<NodeRef, Fail>
-    ensures node { IfOk result (λ n. IsNode store.new.nodes n.0) }
-    ensures more { length store.old.nodes ≤ length store.new.nodes }
-{
+fn constant(alloc: Global, store: &mut Store) -> Result<NodeRef, Fail> {
     Ok(store.con(&origin(alloc, NO_SCOPE)?, &[])?)
+}
+
+fn is_constant_at(store: &Store, node: NodeRef) -> bool {
+    are_nodes(store, &[node]) && is_constant(&store.read(node))
+}
+
+fn is_variable_at(store: &Store, node: NodeRef, wanted: (u32, u64)) -> bool {
+    are_nodes(store, &[node]) && is_variable(&store.read(node), wanted)
 }
 
 fn arrow(store: &mut Store, from: NodeRef, to: NodeRef) -> Result<NodeRef, Fail> {
@@ -26,16 +27,11 @@ fn arrow(store: &mut Store, from: NodeRef, to: NodeRef) -> Result<NodeRef, Fail>
     Ok(store.arrow(from, to)?)
 }
 
-// int -> int -> .. -> last
-fn function(store: &mut Store, from: NodeRef, last: NodeRef) -> Result<NodeRef, Fail>
-    requires from { IsNode store.old.nodes from.0 }
-    requires last { IsNode store.old.nodes last.0 }
-    ensures node { IfOk result (λ n. IsNode store.new.nodes n.0) }
-    ensures more { length store.old.nodes ≤ length store.new.nodes }
-{
+// from -> from -> .. -> last
+fn function(store: &mut Store, from: NodeRef, last: NodeRef) -> Result<NodeRef, Fail> {
     let mut node = last;
     for _turn in 0..MANY {
-        node = store.arrow(from, node)?;
+        node = arrow(store, from, node)?;
     }
     Ok(node)
 }
@@ -69,7 +65,7 @@ fn long_functions(rt: HostRuntime) -> Result<(), Fail> {
     let last = store.var(1, NO_SCOPE)?;
     let right = function(&mut store, other, last)?;
     assert!(rt; is_unified(rt.alloc(), &mut store, left, right));
-    assert!(rt; is_constant(&store.read(last)));
+    assert!(rt; is_constant_at(&store, last));
     Ok(())
 }
 
@@ -103,10 +99,7 @@ fn shared_function(rt: HostRuntime) -> Result<(), Fail> {
     }
     let right = tuple(&mut store, &longs)?;
     assert!(rt; is_unified(rt.alloc(), &mut store, left, right));
-    if !are_nodes(&store, &[inner]) {
-        return Err(Fail::new("no node"));
-    }
-    assert!(rt; is_variable(&store.read(inner), (2, NO_SCOPE)));
+    assert!(rt; is_variable_at(&store, inner, (2, NO_SCOPE)));
     Ok(())
 }
 
@@ -180,7 +173,7 @@ fn pairs_of_pairs(rt: HostRuntime) -> Result<(), Fail> {
     let mut store = Store::new(rt.alloc());
     let mut vars = variables(rt.alloc(), &mut store, MANY)?;
     let mut wholes = Vec::new(rt.alloc());
-    for var in &vars[1..] {
+    for var in vars.iter().skip(1) {
         wholes.push(tuple(&mut store, &[*var, *var])?)?;
     }
     vars.pop();
