@@ -1,5 +1,5 @@
 -- Lowering for each variable that was bound.
-use Rattle.std.proofs.Common.{◌≡◌, ◌≢◌, ℕ, ◌+◌, ◌<◌, ◌≤◌, min, List, length, Some, refl, sym, ◌∙◌, ap, subst, arith, inl, inr}
+use Rattle.std.proofs.Common.{◌≡◌, ◌≢◌, ℕ, ◌+◌, ◌<◌, ◌≤◌, min, Bool, List, length, Some, refl, sym, ◌∙◌, ap, subst, arith, inl, inr}
 use Rattle.std.specs.Prelude.{slice_get, Result, Ok, Err, OnOk}
 use Rattle.type_model.specs.Limits.{IsUnder}
 use Rattle.type_nodes.specs.Nodes.{Node, Var, bound_level, IsSound}
@@ -8,10 +8,10 @@ use Rattle.type_nodes.specs.Readings.{Types}
 use Rattle.type_nodes.specs.Views.{numbers}
 use Rattle.type_nodes.proofs.Lists.{same_or_other, one_element}
 use Rattle.level_unify.specs.declared.solve.Stop.{Stop}
-use Rattle.level_unify.specs.Walks.{Reached, StandsIn}
+use Rattle.level_unify.specs.Walks.{ReachedBeyond, StandsIn}
 use Rattle.level_unify.specs.Solutions.{Cap, HaveNoBound}
-use Rattle.level_unify.specs.Limits.{FitsUnder, SameButLimits, Lowered, Capped, CappedTo, NeverCapped, LeastOf, LeastLimits}
-use Rattle.level_unify.proofs.Lowering.{capped}
+use Rattle.level_unify.specs.Limits.{FitsUnder, SameButLimits, AreLow, Lowered, Capped, CappedTo, NeverCapped, LeastOf, LeastLimits}
+use Rattle.level_unify.proofs.Lowering.{capped, low_after}
 use Rattle.level_unify.proofs.SameNodes.{same_refl, same_trans, same_closed, cell_before, still_free, stands_before, stands_after, var_before}
 use Rattle.level_unify.proofs.Under.{min_left, min_right}
 use Rattle.type_model.proofs.Limiting.{min_cases}
@@ -57,14 +57,15 @@ least_more old caps at n own value of x here stands h = record {
   ];
 }
 
--- and where it doesn't
-least_same : (old : List Node) (caps : List Cap) (at n own value : ℕ) (of : Cap → ℕ) (x : Cap) → slice_get caps at ≡ Some x → (StandsIn old n x.0 → ⊥) → LeastOf old caps at n own value of → LeastOf old caps (at + 1) n own value of
-least_same old caps at n own value of x here not h = record {
+-- and where its own is no higher
+least_same : (old : List Node) (caps : List Cap) (at n own value : ℕ) (of : Cap → ℕ) (x : Cap) → slice_get caps at ≡ Some x → (StandsIn old n x.0 → value ≤ of x) → LeastOf old caps at n own value of →
+    LeastOf old caps (at + 1) n own value of
+least_same old caps at n own value of x here low h = record {
   own_bound = h.own_bound;
   bound = λ k y lt e s. elim (same_or_other k at) [
-    | inl same ↦ absurd (
+    | inl same ↦
         let f : x ≡ y = one_element x y (slice_get caps at) here (subst (λ j. slice_get caps j ≡ Some y) same e) in
-        not (subst (λ (z : Cap). StandsIn old n z.0) (sym f) s))
+        subst (λ (z : Cap). value ≤ of z) f (low (subst (λ (z : Cap). StandsIn old n z.0) (sym f) s))
     | inr other ↦ h.bound k y (omega arith) e s
   ];
   source = h.source;
@@ -91,15 +92,15 @@ least_on old now new caps at x here h one n level scope e free =
             level_least = subst (λ y. LeastOf old caps (at + 1) n w.own_level y (λ z. z.1)) (sym e') (least_more old caps at n w.own_level v.own_level (λ z. z.1) x here s w.level_least);
             scope_least = subst (λ y. LeastOf old caps (at + 1) n w.own_scope y (λ z. z.2)) (sym f) (least_more old caps at n w.own_scope v.own_scope (λ z. z.2) x here s w.scope_least);
           }
-      | inr (not, e', f) ↦
-          let s : StandsIn old n x.0 → ⊥ = λ t. not (stands_after old now h.same n x.0 t) in
+      | inr (low, e', f) ↦
+          let s : StandsIn old n x.0 → (v.own_level ≤ x.1) × (v.own_scope ≤ x.2) = λ t. low (stands_after old now h.same n x.0 t) in
           record {
             own_level = w.own_level;
             own_scope = w.own_scope;
             was = w.was;
             free = w.free;
-            level_least = subst (λ y. LeastOf old caps (at + 1) n w.own_level y (λ z. z.1)) (sym e') (least_same old caps at n w.own_level v.own_level (λ z. z.1) x here s w.level_least);
-            scope_least = subst (λ y. LeastOf old caps (at + 1) n w.own_scope y (λ z. z.2)) (sym f) (least_same old caps at n w.own_scope v.own_scope (λ z. z.2) x here s w.scope_least);
+            level_least = subst (λ y. LeastOf old caps (at + 1) n w.own_level y (λ z. z.1)) (sym e') (least_same old caps at n w.own_level v.own_level (λ z. z.1) x here (λ t. (s t).0) w.level_least);
+            scope_least = subst (λ y. LeastOf old caps (at + 1) n w.own_scope y (λ z. z.2)) (sym f) (least_same old caps at n w.own_scope v.own_scope (λ z. z.2) x here (λ t. (s t).1) w.scope_least);
           }
     ]
 
@@ -147,8 +148,12 @@ capped_all old now caps at le h = record {
     fewer old' caps' at' to le' n own value of w = record { own_bound = w.own_bound; bound = λ k x lt e s. w.bound k x (omega arith) e s; source = w.source }
 
 -- what lowering all that was found answers
-pub capped_answer : (old new : List Node) (x : Cap) (found items : List NodeRef) (res : Result (Unit {0}) Stop) → found ≡ items → x.1 ≢ bound_level → IsSound old → x.0 < length old →
-    Reached old x.0 (numbers items) → OnOk res (Lowered old new x.1 x.2 x.0 (numbers found) (length (numbers found))) → OnOk res (Capped old new x)
-capped_answer old new x found items (Ok u) same free sound lt reached h =
-    capped old new x (numbers items) free sound lt reached (subst (λ ns. Lowered old new x.1 x.2 x.0 (numbers ns) (length (numbers ns))) same h)
-capped_answer old new x found items (Err e) same free sound lt reached h = tt
+pub capped_answer : (old new : List Node) (x : Cap) (level scope : ℕ) (before done : ℕ → Bool) (found items : List NodeRef) (res : Result (Unit {0}) Stop) → found ≡ items → level ≡ x.1 → scope ≡ x.2 → x.1 ≢ bound_level →
+    IsSound old → x.0 < length old → AreLow old x.1 x.2 before → ReachedBeyond old before done x.0 (numbers items) → OnOk res (Lowered old new x.1 x.2 x.0 (numbers found) (length (numbers found))) →
+    OnOk res (Capped old new x × AreLow new level scope done)
+capped_answer old new x level scope before done found items (Ok u) same p q free sound lt low reached h =
+    let h' = subst (λ ns. Lowered old new x.1 x.2 x.0 (numbers ns) (length (numbers ns))) same h in (
+      capped old new x before done (numbers items) free sound lt low reached h',
+      subst (λ l. AreLow new l scope done) (sym p) (subst (λ o. AreLow new x.1 o done) (sym q) (low_after old new x.1 x.2 x.0 before done (numbers items) free low reached h')),
+    )
+capped_answer old new x level scope before done found items (Err e) same p q free sound lt low reached h = tt

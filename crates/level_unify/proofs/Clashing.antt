@@ -1,6 +1,6 @@
 -- What unification answers, from what its parts answered.
-use Rattle.std.proofs.Common.{◌≡◌, ◌≢◌, ◌↔◌, ℕ, zero, suc, ◌<◌, Bool, true, false, List, [], ◌∷◌, length, Some, sym, ◌∙◌, ap, subst, arith, inl, inr}
-use Rattle.std.specs.Prelude.{slice_get, All, IsTrue}
+use Rattle.std.proofs.Common.{◌≡◌, ◌≢◌, ℕ, zero, suc, ◌<◌, Bool, true, List, [], ◌∷◌, length, Some, refl, sym, ◌∙◌, ap, subst, arith, inl, inr}
+use Rattle.std.specs.Prelude.{slice_get, All}
 use Rattle.std.proofs.lemmas.Option.{slice_get_within}
 use Rattle.type_terms.specs.declared.types.NodeRef.{NodeRef}
 use Rattle.type_nodes.specs.Nodes.{Node, Var, Rigid, Link, Arrow, Tuple, Con, parts, bound_level, IsSound, IsClosed}
@@ -11,7 +11,13 @@ use Rattle.level_unify.specs.declared.fault.Clash.{Clash}
 use Rattle.level_unify.specs.Walks.{StandsIn}
 use Rattle.level_unify.specs.Solutions.{Solved, Tracked, HaveNoBound, NeverOne, Cap, IsListed}
 use Rattle.level_unify.specs.Limits.{CappedTo, NeverCapped}
-use Rattle.level_unify.specs.Unification.{IsInside, IsCyclic, HasKind, Clashes, Unified}
+use Rattle.level_unify.specs.Unification.{IsInside, IsCyclic, NeverAlike, HasKind, HasCause, Clashes, Unified}
+use Rattle.level_unify.specs.declared.fault.ClashKind.{ClashKind}
+use Rattle.level_unify.specs.declared.fault.UnifyFault.TheVariants as fault
+use Rattle.level_unify.specs.declared.unifying.Failure.{Failure}
+use Rattle.level_unify.specs.declared.unifying.Failure.TheVariants.{NotOne, OutOfScope}
+use Rattle.type_nodes.specs.States.{State, Keeps, Restored, state_at}
+use Rattle.type_nodes.proofs.Trails.{state_now}
 use Rattle.level_unify.proofs.Steps.{cell_at, never_turned}
 use Rattle.level_unify.proofs.Sizes.{never_inside}
 use Rattle.level_unify.proofs.Solving.{loose_root}
@@ -53,31 +59,30 @@ never_either : (nodes : List Node) (a b : ℕ) → IsSound nodes → a < length 
 never_either nodes a b sound a_in b_in (inl h) = never_cyclic nodes a b sound b_in h
 never_either nodes a b sound a_in b_in (inr h) = never_turned nodes a b (never_cyclic nodes b a sound a_in h)
 
-is_true : (res : Bool) → res ≡ true → IsTrue res
-is_true res e = e
+-- where the scopes keep both apart
+pub scope_clash : (old mid : List Node) (a b : ℕ) (caps caps' : List Cap) → caps' ≡ caps → IsSound old → a < length old → b < length old → IsSound mid → HaveNoBound old a b → Solved old mid a b → Tracked old mid a b caps →
+    NeverCapped mid caps' → NeverAlike old a b × HasKind old a b Scope
+scope_clash old mid a b caps caps' same sound a_in b_in sound' none s t never =
+    let n = never_scoped old mid a b caps sound' none s t (subst (NeverCapped mid) same never) in
+    (n.0, ((λ cyclic. (never_one old a b (never_either old a b sound a_in b_in cyclic)).1 n.1), n.1))
 
-is_false : (res : Bool) → res ≡ false → IsTrue res → ⊥
-is_false res e h = absurd (cc)
+-- a failure and its kind tell the clash
+pub told_clash : (old nodes : List Node) (a b : NodeRef) (failure : Failure) (kind : ClashKind) → nodes ≡ old → a.0 < length old → b.0 < length old → HasCause nodes a.0 b.0 failure kind →
+    (failure ≡ NotOne → NeverOne old a.0 b.0) → (failure ≡ OutOfScope → NeverAlike old a.0 b.0 × HasKind old a.0 b.0 Scope) → (clash : Clash) →
+    fault.Clash (record { left = a; right = b; kind = kind }) ≡ fault.Clash clash → Clashes old a b clash
+told_clash old nodes a b failure kind same a_in b_in cause not_one scoped clash e =
+    let h = of_kind kind (subst (λ ns. HasCause ns a.0 b.0 failure kind) same cause) in
+    let f : record { left = a; right = b; kind = kind } ≡ clash = cc in
+    subst (Clashes old a b) f (record { left = refl; right = refl; never = h.0; kind = h.1 })
+  where
+    of_kind : (x : ClashKind) → HasCause old a.0 b.0 failure x → NeverAlike old a.0 b.0 × HasKind old a.0 b.0 x
+    of_kind Cycle (e', sound, cyclic) = let n = never_one old a.0 b.0 (never_either old a.0 b.0 sound a_in b_in cyclic) in (n.0, (cyclic, n.1))
+    of_kind Scope e' = scoped e'
+    of_kind Shape (e', not) = let n = never_one old a.0 b.0 (not_one e') in (n.0, (not, n.1))
 
-pub cyclic_clash : (nodes : List Node) (a b : NodeRef) (clash : Clash) → {res : Bool} → IsSound nodes → a.0 < length nodes → b.0 < length nodes → IsTrue res ↔ IsCyclic nodes a.0 b.0 → res ≡ true →
-    clash.left ≡ a → clash.right ≡ b → clash.kind ≡ Cycle → Clashes nodes a b clash
-cyclic_clash nodes a b clash {res} sound a_in b_in test e l r k =
-    let cyclic = test.0 (is_true res e) in
-    let n = never_one nodes a.0 b.0 (never_either nodes a.0 b.0 sound a_in b_in cyclic) in
-    record { left = l; right = r; never = n.0; kind = subst (HasKind nodes a.0 b.0) (sym k) (cyclic, n.1) }
-
-pub shape_clash : (nodes : List Node) (a b : NodeRef) (clash : Clash) → {res : Bool} → IsTrue res ↔ IsCyclic nodes a.0 b.0 → res ≡ false → NeverOne nodes a.0 b.0 →
-    clash.left ≡ a → clash.right ≡ b → clash.kind ≡ Shape → Clashes nodes a b clash
-shape_clash nodes a b clash {res} test e never l r k =
-    let n = never_one nodes a.0 b.0 never in
-    record { left = l; right = r; never = n.0; kind = subst (HasKind nodes a.0 b.0) (sym k) ((λ h. is_false res e (test.1 h)), n.1) }
-
-pub scope_clash : (old mid : List Node) (a b : NodeRef) (clash : Clash) (caps caps' : List Cap) → caps' ≡ caps → {res : Bool} → IsTrue res ↔ IsCyclic old a.0 b.0 → res ≡ false →
-    IsSound mid → HaveNoBound old a.0 b.0 → Solved old mid a.0 b.0 → Tracked old mid a.0 b.0 caps → NeverCapped mid caps' →
-    clash.left ≡ a → clash.right ≡ b → clash.kind ≡ Scope → Clashes old a b clash
-scope_clash old mid a b clash caps caps' same {res} test e sound none s t never l r k =
-    let n = never_scoped old mid a.0 b.0 caps sound none s t (subst (NeverCapped mid) same never) in
-    record { left = l; right = r; never = n.0; kind = subst (HasKind old a.0 b.0) (sym k) ((λ h. is_false res e (test.1 h)), n.1) }
+-- the nodes after a rollback are those from before
+pub back_again : (old mid new : State) (mark : ℕ) → mark ≡ length old.trail → Keeps old mid → Restored mid new mark → new.nodes ≡ old.nodes
+back_again old mid new mark e keeps r = r.nodes ∙ ap (state_at mid) e ∙ keeps.states (length old.trail) (omega arith) ∙ state_now old
 
 pub caps_inside : (old mid : List Node) (a b : ℕ) (caps : List Cap) → Solved old mid a b → Tracked old mid a b caps → (x : Cap) → IsListed caps x → (x.0 < length mid) × (x.1 ≢ bound_level)
 caps_inside old mid a b caps s t x h =

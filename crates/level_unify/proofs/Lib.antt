@@ -1,6 +1,7 @@
 mod Numbers
 mod Walking
 mod Sizes
+mod Weights
 mod Loosely
 mod Steps
 mod Differing
@@ -13,6 +14,7 @@ mod Lowering
 mod Capping
 mod Unified
 mod Inside
+mod Likeness
 mod Clashing
 mod Binding
 pub mod AllFree

@@ -6,16 +6,17 @@ use Rattle.std.proofs.lemmas.Option.{slice_get_within}
 use Rattle.type_model.specs.Limits.{IsUnder}
 use Rattle.type_model.proofs.Limiting.{under_both, min_cases}
 use Rattle.type_nodes.specs.Nodes.{Node, Var, Rigid, Link, Arrow, Tuple, Con, parts, bound_level, IsSound, IsClosed}
-use Rattle.type_nodes.specs.Links.{IsNoLink}
+use Rattle.type_nodes.specs.Links.{root, IsNoLink}
 use Rattle.type_nodes.specs.Readings.{Types}
 use Rattle.type_nodes.proofs.Lists.{same_or_other, one_element}
 use Rattle.type_nodes.proofs.Roots.{next_stays, root_here}
-use Rattle.level_unify.specs.Walks.{StandsIn, Reached}
+use Rattle.level_unify.specs.Walks.{StandsIn, AreRootsIn, ReachedBeyond}
 use Rattle.level_unify.specs.Solutions.{Loose, HaveNoBound, Cap}
-use Rattle.level_unify.specs.Limits.{FitsUnder, lowered, IsAllowed, LoweredOne, SameButLimit, SameButLimits, Lowered, Capped, LoweredVar}
+use Rattle.level_unify.specs.Limits.{FitsUnder, AreLow, lowered, IsAllowed, LoweredOne, SameButLimit, SameButLimits, Lowered, Capped, LoweredVar}
 use Rattle.level_unify.proofs.Steps.{cell_at}
-use Rattle.level_unify.proofs.Under.{is_under, tested, passes, each_under, parts_under, under_more, min_left, min_right, rigid_allowed, rigid_scoped}
-use Rattle.level_unify.proofs.SameNodes.{cell_before, same_loose, loose_same, same_is}
+use Rattle.level_unify.proofs.Walking.{beyond_cleared, closed_by_roots}
+use Rattle.level_unify.proofs.Under.{is_under, tested, passes, each_under, parts_under, under_more, scope_more, min_left, min_right, rigid_allowed, rigid_scoped}
+use Rattle.level_unify.proofs.SameNodes.{cell_before, same_cleared, same_loose, loose_same, same_is}
 
 -- what a free variable becomes
 lowered_free : (level scope l o : ℕ) → l ≢ bound_level → lowered level scope (Var l o) ≡ Var (min l level) (min o scope)
@@ -96,12 +97,12 @@ pub lowered_start : (nodes : List Node) (level scope v : ℕ) (found : List ℕ)
 lowered_start nodes level scope v found = record { len = refl; each = λ n c e. inl e; done = λ k n c lt e e'. absurd (omega arith) }
 
 -- one node more
-pub lowered_on : (old now new : List Node) (level scope v : ℕ) (found : List ℕ) (at n : ℕ) → level ≢ bound_level → Reached old v found → slice_get found at ≡ Some n →
+pub lowered_on : (old now new : List Node) (level scope v : ℕ) (found : List ℕ) (at n : ℕ) → level ≢ bound_level → AreRootsIn old v found → slice_get found at ≡ Some n →
     Lowered old now level scope v found at → LoweredOne now new level scope n → Lowered old new level scope v found (at + 1)
 lowered_on old now new level scope v found at n free reached here h one = record {
   len = one.len ∙ h.len;
   each = λ m c e. elim (same_or_other m n) [
-    | inl same ↦ inr ((own m c e same).0, subst (λ k. StandsIn old k v) (sym same) (reached.roots at n here).2)
+    | inl same ↦ inr ((own m c e same).0, subst (λ k. StandsIn old k v) (sym same) (reached.each at n here).2)
     | inr other ↦ elim (h.each m c e) [
       | inl f ↦ inl (one.others m other ∙ f)
       | inr (f, stands) ↦ inr (one.others m other ∙ f, stands)
@@ -184,47 +185,56 @@ limits_before old new level scope v found at free h L V fits = record {
   ];
 }
 
+-- what is done after a walk is lowered, where what was done before is low
+pub done_lowered : (old new : List Node) (level scope v : ℕ) (before done : ℕ → Bool) (found : List ℕ) (at : ℕ) → AreLow old level scope before → ReachedBeyond old before done v found → length found ≤ at →
+    Lowered old new level scope v found at → (n : ℕ) (c : Node) → done n ≡ true → slice_get old n ≡ Some c → (slice_get new n ≡ Some (lowered level scope c)) × IsAllowed scope c
+done_lowered old new level scope v before done found at low reached all h n c has e = elim (reached.listed n has) [
+  | inl b ↦
+      let l = low.low n c b e in
+      (elim (h.each n c e) [ inl f ↦ f ∙ ap (λ x. Some x) (sym l.0) | inr (f, stands) ↦ f ], l.1)
+  | inr (k, f) ↦ h.done k n c (let w = slice_get_within found k n f in omega arith) f e
+]
+
 -- and the new one
-limit_after : (old new : List Node) (level scope v : ℕ) (found : List ℕ) (at : ℕ) → level ≢ bound_level → IsSound old → v < length old → Reached old v found → length found ≤ at →
-    HaveNoBound old v v → Lowered old new level scope v found at → (L : ℕ → ℕ) (V : Types) → FitsUnder L new V → IsUnder L level scope (V v)
-limit_after old new level scope v found at free (rank, ranked) lt reached all none h L V fits = go (suc (rank v)) v (omega arith) lt reached.start
+limit_after : (old new : List Node) (level scope v : ℕ) (before done : ℕ → Bool) (found : List ℕ) (at : ℕ) → level ≢ bound_level → IsSound old → v < length old → AreLow old level scope before →
+    ReachedBeyond old before done v found → length found ≤ at → HaveNoBound old v v → Lowered old new level scope v found at → (L : ℕ → ℕ) (V : Types) → FitsUnder L new V → IsUnder L level scope (V v)
+limit_after old new level scope v before done found at free (rank, ranked) lt low reached all none h L V fits = go (suc (rank v)) v (omega arith) lt none.left reached.start
   where
     loose : Loose old V
     loose = loose_same old new (lowered_nodes old new level scope v found at free h) V fits.loose
 
-    -- what is known of a node of the set that is no link
-    known : (n : ℕ) (c : Node) → slice_get old n ≡ Some c → IsNoLink c → reached.set n ≡ true → (slice_get new n ≡ Some (lowered level scope c)) × IsAllowed scope c × (none.set n ≡ true)
-    known n c e is has =
-        let (k, f) = reached.listed n has in
-        let end = root_here old n (next_stays old n c e is) in
-        let f' : slice_get found k ≡ Some n = f ∙ ap (λ m. Some m) end in
-        let d = h.done k n c (let w = slice_get_within found k n f' in omega arith) f' e in
-        (d.0, d.1, (reached.roots k n f').2.each none.set none.closed none.left)
+    closed : IsClosed old (λ n. done (root old n))
+    closed = closed_by_roots old done (rank, ranked) (beyond_cleared old before done v found low.cleared reached)
 
-    cell : (n : ℕ) (c : Node) → slice_get old n ≡ Some c → reached.set n ≡ true → All (λ m. IsUnder L level scope (V m)) (parts c) → IsUnder L level scope (V n)
-    cell n (Var l o) e has ps =
+    -- what is known of a node of the set that is no link
+    known : (n : ℕ) (c : Node) → slice_get old n ≡ Some c → IsNoLink c → done (root old n) ≡ true → (slice_get new n ≡ Some (lowered level scope c)) × IsAllowed scope c
+    known n c e is has = done_lowered old new level scope v before done found at low reached all h n c (ap done (sym (root_here old n (next_stays old n c e is))) ∙ has) e
+
+    cell : (n : ℕ) (c : Node) → slice_get old n ≡ Some c → none.set n ≡ true → done (root old n) ≡ true → All (λ m. IsUnder L level scope (V m)) (parts c) → IsUnder L level scope (V n)
+    cell n (Var l o) e inside has ps =
         let k = known n (Var l o) e tt has in
-        let unbound = none.free n l o k.2 e in
+        let unbound = none.free n l o inside e in
         under_more L (min l level) (min o scope) level scope (V n) (min_right l level) (min_right o scope)
         (fits.under n (min l level) (min o scope) (k.0 ∙ ap (λ x. Some x) (lowered_free level scope l o unbound)) (min_free l level unbound free))
-    cell n Rigid e has ps = subst (IsUnder L level scope) (sym (loose.each n Rigid e)) (rigid_allowed L level scope n (known n Rigid e tt has).1)
-    cell n (Link m) e has ps = subst (IsUnder L level scope) (sym (loose.each n (Link m) e)) (ps zero zero (omega arith))
-    cell n (Arrow a b) e has ps = subst (IsUnder L level scope) (sym (loose.each n (Arrow a b) e)) (ps zero zero (omega arith), ps 1 zero (omega arith))
-    cell n (Tuple ms) e has ps = subst (IsUnder L level scope) (sym (loose.each n (Tuple ms) e)) (each_under L level scope V ms ps)
-    cell n (Con p name ms) e has ps = subst (IsUnder L level scope) (sym (loose.each n (Con p name ms) e)) ((known n (Con p name ms) e tt has).1, each_under L level scope V ms ps)
+    cell n Rigid e inside has ps = subst (IsUnder L level scope) (sym (loose.each n Rigid e)) (rigid_allowed L level scope n (known n Rigid e tt has).1)
+    cell n (Link m) e inside has ps = subst (IsUnder L level scope) (sym (loose.each n (Link m) e)) (ps zero zero (omega arith))
+    cell n (Arrow a b) e inside has ps = subst (IsUnder L level scope) (sym (loose.each n (Arrow a b) e)) (ps zero zero (omega arith), ps 1 zero (omega arith))
+    cell n (Tuple ms) e inside has ps = subst (IsUnder L level scope) (sym (loose.each n (Tuple ms) e)) (each_under L level scope V ms ps)
+    cell n (Con p name ms) e inside has ps = subst (IsUnder L level scope) (sym (loose.each n (Con p name ms) e)) ((known n (Con p name ms) e tt has).1, each_under L level scope V ms ps)
 
-    go : (k n : ℕ) → rank n < k → n < length old → reached.set n ≡ true → IsUnder L level scope (V n)
-    go zero n low inside has = absurd (omega arith)
-    go (suc k) n low inside has =
+    go : (k n : ℕ) → rank n < k → n < length old → none.set n ≡ true → done (root old n) ≡ true → IsUnder L level scope (V n)
+    go zero n deep inside set has = absurd (omega arith)
+    go (suc k) n deep inside set has =
         let (c, e) = cell_at old n inside in
         let down = ranked.each n c e in
-        let more = reached.closed.each n c has e in
-        cell n c e has (λ j d l. go k (get_or (parts c) j d) (let x = (down j d l).1 in omega arith) (down j d l).0 (more j d l))
+        let more = closed.each n c has e in
+        let more' = none.closed.each n c set e in
+        cell n c e set has (λ j d l. go k (get_or (parts c) j d) (let x = (down j d l).1 in omega arith) (down j d l).0 (more' j d l) (more j d l))
 
-pub lowered_back : (old new : List Node) (level scope v : ℕ) (found : List ℕ) (at : ℕ) → level ≢ bound_level → IsSound old → v < length old → Reached old v found → length found ≤ at →
-    HaveNoBound old v v → Lowered old new level scope v found at → (L : ℕ → ℕ) (V : Types) → FitsUnder L new V → FitsUnder L old V × IsUnder L level scope (V v)
-lowered_back old new level scope v found at free sound lt reached all none h L V fits =
-    (limits_before old new level scope v found at free h L V fits, limit_after old new level scope v found at free sound lt reached all none h L V fits)
+pub lowered_back : (old new : List Node) (level scope v : ℕ) (before done : ℕ → Bool) (found : List ℕ) (at : ℕ) → level ≢ bound_level → IsSound old → v < length old → AreLow old level scope before →
+    ReachedBeyond old before done v found → length found ≤ at → HaveNoBound old v v → Lowered old new level scope v found at → (L : ℕ → ℕ) (V : Types) → FitsUnder L new V → FitsUnder L old V × IsUnder L level scope (V v)
+lowered_back old new level scope v before done found at free sound lt low reached all none h L V fits =
+    (limits_before old new level scope v found at free h L V fits, limit_after old new level scope v before done found at free sound lt low reached all none h L V fits)
 
 -- a node that isn't allowed keeps the type from the limit
 pub never_allowed : (old : List Node) (level scope n v : ℕ) (c : Node) → scope < 2 ^ 64 → slice_get old n ≡ Some c → StandsIn old n v → (IsAllowed scope c → ⊥) → (L : ℕ → ℕ) (V : Types) →
@@ -240,17 +250,26 @@ never_allowed old level scope n v c small e stands not L V fits under = go c e n
     go (Con p name ms) f bad u = bad (subst (IsUnder L level scope) (fits.loose.each n (Con p name ms) f) u).0
 
 -- the same, for a node that may have been lowered
-pub never_lowered : (old now : List Node) (level scope v : ℕ) (found : List ℕ) (at n : ℕ) → scope < 2 ^ 64 → n < length old → Reached old v found → slice_get found at ≡ Some n → Lowered old now level scope v found at →
+pub never_lowered : (old now : List Node) (level scope v : ℕ) (found : List ℕ) (at n : ℕ) → scope < 2 ^ 64 → n < length old → AreRootsIn old v found → slice_get found at ≡ Some n → Lowered old now level scope v found at →
     ((c : Node) → slice_get now n ≡ Some c → IsAllowed scope c → ⊥) → (L : ℕ → ℕ) (V : Types) → FitsUnder L old V → IsUnder L level scope (V v) → ⊥
 never_lowered old now level scope v found at n small lt reached here h not L V fits under =
     let (c, e) = cell_at old n lt in
-    never_allowed old level scope n v c small e (reached.roots at n here).2
+    never_allowed old level scope n v c small e (reached.each at n here).2
     (elim (h.each n c e) [ inl f ↦ not c f | inr (f, stands) ↦ λ a. not (lowered level scope c) f (lowered_allowed level scope c a) ]) L V fits under
 
+-- a limit that a low variable keeps
+low_var : (level scope l o : ℕ) → lowered level scope (Var l o) ≡ Var l o → l ≢ bound_level → (l ≤ level) × (o ≤ scope)
+low_var level scope l o e free =
+    let g : Var (min l level) (min o scope) ≡ Var l o = sym (lowered_free level scope l o free) ∙ e in
+    let p : min l level ≡ l = cc in
+    let q : min o scope ≡ o = cc in
+    let a = min_right l level in let b = min_right o scope in
+    (omega arith, omega arith)
+
 -- what a free variable became
-lowered_var : (old new : List Node) (x : Cap) (found : List ℕ) → x.1 ≢ bound_level → Reached old x.0 found → Lowered old new x.1 x.2 x.0 found (length found) →
-    (n level scope : ℕ) → slice_get new n ≡ Some (Var level scope) → level ≢ bound_level → LoweredVar old x n level scope
-lowered_var old new x found free reached h n level scope e unbound =
+lowered_var : (old new : List Node) (x : Cap) (before done : ℕ → Bool) (found : List ℕ) → x.1 ≢ bound_level → IsSound old → AreLow old x.1 x.2 before → ReachedBeyond old before done x.0 found →
+    Lowered old new x.1 x.2 x.0 found (length found) → (n level scope : ℕ) → slice_get new n ≡ Some (Var level scope) → level ≢ bound_level → LoweredVar old x n level scope
+lowered_var old new x before done found free sound low reached h n level scope e unbound =
     let (c, at, s) = cell_before old new (lowered_nodes old new x.1 x.2 x.0 found (length found) free h) n (Var level scope) e in of_cell c at s
   where
     lower : (l o : ℕ) → slice_get old n ≡ Some (Var l o) → slice_get new n ≡ Some (lowered x.1 x.2 (Var l o)) → StandsIn old n x.0 → LoweredVar old x n level scope
@@ -265,25 +284,31 @@ lowered_var old new x found free reached h n level scope e unbound =
           record { own_level = l; own_scope = o; was = at; now = inl (stands, p, q) }
     ]
 
-    same : (l o : ℕ) → slice_get old n ≡ Some (Var l o) → slice_get new n ≡ Some (Var l o) → (StandsIn old n x.0 → ⊥) → LoweredVar old x n level scope
-    same l o at f not =
+    same : (l o : ℕ) → slice_get old n ≡ Some (Var l o) → slice_get new n ≡ Some (Var l o) → (StandsIn old n x.0 → l ≢ bound_level → (l ≤ x.1) × (o ≤ x.2)) → LoweredVar old x n level scope
+    same l o at f keeps =
         let g : Var level scope ≡ Var l o = one_element (Var level scope) (Var l o) (slice_get new n) e f in
         let p : level ≡ l = cc in
         let q : scope ≡ o = cc in
-        record { own_level = l; own_scope = o; was = at; now = inr (not, p, q) }
+        record { own_level = l; own_scope = o; was = at; now = inr ((λ s. keeps s (λ b. unbound (p ∙ b))), p, q) }
 
-    by_set : (b : Bool) → reached.set n ≡ b → (l o : ℕ) → slice_get old n ≡ Some (Var l o) → LoweredVar old x n level scope
-    by_set true has l o at =
-        let (k, f) = reached.listed n has in
-        let f' : slice_get found k ≡ Some n = f ∙ ap (λ m. Some m) (root_here old n (next_stays old n (Var l o) at tt)) in
-        let d = h.done k n (Var l o) (slice_get_within found k n f') f' at in
-        lower l o at d.0 (reached.roots k n f').2
+    by_set : (b : Bool) → done n ≡ b → (l o : ℕ) → slice_get old n ≡ Some (Var l o) → LoweredVar old x n level scope
+    by_set true has l o at = elim (reached.listed n has) [
+      | inl b ↦
+          let k = low.low n (Var l o) b at in
+          let d = done_lowered old new x.1 x.2 x.0 before done found (length found) low reached (omega arith) h n (Var l o) has at in
+          same l o at (d.0 ∙ ap (λ y. Some y) k.0) (λ s away. low_var x.1 x.2 l o k.0 away)
+      | inr (k, f) ↦
+          let d = h.done k n (Var l o) (slice_get_within found k n f) f at in
+          lower l o at d.0 (reached.roots.each k n f).2
+    ]
     by_set false lacks l o at =
-        let not : StandsIn old n x.0 → ⊥ = λ s. (let y : reached.set n ≡ true = s.each reached.set reached.closed reached.start in cc) in
-        elim (h.each n (Var l o) at) [ inl f ↦ same l o at f not | inr (f, stands) ↦ absurd (not stands) ]
+        let not : StandsIn old n x.0 → ⊥ = λ s. (
+        let y : done (root old n) ≡ true = s.each (λ m. done (root old m)) (closed_by_roots old done sound (beyond_cleared old before done x.0 found low.cleared reached)) reached.start in
+        let z : done n ≡ true = ap done (sym (root_here old n (next_stays old n (Var l o) at tt))) ∙ y in cc) in
+        elim (h.each n (Var l o) at) [ inl f ↦ same l o at f (λ s away. absurd (not s)) | inr (f, stands) ↦ absurd (not stands) ]
 
     of_cell : (c : Node) → slice_get old n ≡ Some c → SameButLimit c (Var level scope) → LoweredVar old x n level scope
-    of_cell (Var l o) at s = by_set (reached.set n) refl l o at
+    of_cell (Var l o) at s = by_set (done n) refl l o at
     of_cell Rigid at s = absurd (cc)
     of_cell (Link m) at s = absurd (cc)
     of_cell (Arrow a b) at s = absurd (cc)
@@ -291,10 +316,50 @@ lowered_var old new x found free reached h n level scope e unbound =
     of_cell (Con p name ms) at s = absurd (cc)
 
 -- what lowering all that was found says of the types that fit
-pub capped : (old new : List Node) (x : Cap) (found : List ℕ) → x.1 ≢ bound_level → IsSound old → x.0 < length old → Reached old x.0 found → Lowered old new x.1 x.2 x.0 found (length found) → Capped old new x
-capped old new x found free sound lt reached h = record {
+pub capped : (old new : List Node) (x : Cap) (before done : ℕ → Bool) (found : List ℕ) → x.1 ≢ bound_level → IsSound old → x.0 < length old → AreLow old x.1 x.2 before → ReachedBeyond old before done x.0 found →
+    Lowered old new x.1 x.2 x.0 found (length found) → Capped old new x
+capped old new x before done found free sound lt low reached h = record {
   same = lowered_nodes old new x.1 x.2 x.0 found (length found) free h;
   forth = λ L V fits under. lowered_forth old new x.1 x.2 x.0 found (length found) free h L V fits under;
-  back = λ none L V fits. lowered_back old new x.1 x.2 x.0 found (length found) free sound lt reached (omega arith) none h L V fits;
-  least = λ n level scope e unbound. lowered_var old new x found free reached h n level scope e unbound;
+  back = λ none L V fits. lowered_back old new x.1 x.2 x.0 before done found (length found) free sound lt low reached (omega arith) none h L V fits;
+  least = λ n level scope e unbound. lowered_var old new x before done found free sound low reached h n level scope e unbound;
+}
+
+-- all that is done is low then
+pub low_after : (old new : List Node) (level scope v : ℕ) (before done : ℕ → Bool) (found : List ℕ) → level ≢ bound_level → AreLow old level scope before → ReachedBeyond old before done v found →
+    Lowered old new level scope v found (length found) → AreLow new level scope done
+low_after old new level scope v before done found free low reached h = record {
+  cleared = same_cleared old new (lowered_nodes old new level scope v found (length found) free h) done (beyond_cleared old before done v found low.cleared reached);
+  low = λ n d has e.
+      let (c, at, s) = cell_before old new (lowered_nodes old new level scope v found (length found) free h) n d e in
+      let k = done_lowered old new level scope v before done found (length found) low reached (omega arith) h n c has at in
+      let f : lowered level scope c ≡ d = one_element (lowered level scope c) d (slice_get new n) k.0 e in
+      (ap (lowered level scope) (sym f) ∙ lowered_again level scope c free ∙ f, subst (IsAllowed scope) f (lowered_allowed level scope c k.1));
+}
+
+min_of_less : (a b : ℕ) → a ≤ b → min a b ≡ a
+min_of_less a b le = grind arith
+
+-- what is low is low under a higher limit
+low_cell : (level scope level' scope' : ℕ) (c : Node) → level ≤ level' → scope ≤ scope' → (lowered level scope c ≡ c) × IsAllowed scope c → (lowered level' scope' c ≡ c) × IsAllowed scope' c
+low_cell level scope level' scope' (Var l o) p q h = elim (bound_or_free l) [
+  | inl b ↦ (lowered_bound level' scope' l o b, tt)
+  | inr away ↦
+      let k = low_var level scope l o h.0 away in
+      (lowered_free level' scope' l o away ∙ (λ i. Var (min_of_less l level' (let a = k.0 in omega arith) i) (min_of_less o scope' (let a = k.1 in omega arith) i)), tt)
+]
+low_cell level scope level' scope' Rigid p q h = (refl, (let a = h.1 in omega arith))
+low_cell level scope level' scope' (Link m) p q h = (refl, tt)
+low_cell level scope level' scope' (Arrow a b) p q h = (refl, tt)
+low_cell level scope level' scope' (Tuple ms) p q h = (refl, tt)
+low_cell level scope level' scope' (Con o name ms) p q h = (refl, scope_more scope scope' o q h.1)
+
+pub low_more : (nodes : List Node) (level scope level' scope' : ℕ) (D : ℕ → Bool) → level ≤ level' → scope ≤ scope' → AreLow nodes level scope D → AreLow nodes level' scope' D
+low_more nodes level scope level' scope' D p q h = record { cleared = h.cleared; low = λ n c has e. low_cell level scope level' scope' c p q (h.low n c has e) }
+
+-- nothing is low under every limit
+pub none_low : (nodes : List Node) (level scope : ℕ) (D : ℕ → Bool) → ((n : ℕ) → D n ≡ false) → AreLow nodes level scope D
+none_low nodes level scope D none = record {
+  cleared = record { each = λ n c has. absurd (let e = none n in cc) };
+  low = λ n c has. absurd (let e = none n in cc);
 }

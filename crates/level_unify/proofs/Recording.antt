@@ -1,14 +1,20 @@
 -- What is recorded of the variables that become links.
-use Rattle.std.proofs.Common.{◌≡◌, ◌≢◌, ℕ, List, [], ◌∷◌, ◌++◌, length, set, Some, refl, sym, ◌∙◌, ap, subst, ◌⊎◌, inl, inr}
+use Rattle.std.proofs.Common.{◌≡◌, ◌≢◌, ℕ, zero, suc, Bool, true, false, eqb, ◌&&◌, ◌||◌, List, [], ◌∷◌, ◌++◌, length, set, Some, refl, sym, ◌∙◌, ap, subst, ◌⊎◌, inl, inr}
 use Rattle.std.specs.Prelude.{slice_get, Result, Ok, Err, OnOk}
 use Rattle.std.proofs.lemmas.Option.{slice_get_within}
 use Rattle.type_nodes.specs.Nodes.{Node, Var, Rigid, Link, Arrow, Tuple, Con, bound_level}
 use Rattle.type_nodes.specs.Links.{root}
 use Rattle.type_nodes.proofs.Lists.{same_or_other, one_element, get-set_other, get-append_left, get-append_last, get-append_cases}
-use Rattle.level_unify.specs.declared.plan.Plan.TheVariants.{BindLeft, BindRight, LinkParts}
+use Rattle.level_unify.specs.declared.plan.Plan.TheVariants.{BindLeft, BindRight}
 use Rattle.level_unify.specs.declared.solve.Stop.{Stop}
 use Rattle.level_unify.specs.Plans.{IsFreeVar, SameHead}
-use Rattle.level_unify.specs.Solutions.{Cap, IsListed, Equation, Recorded, Tracked}
+use Rattle.level_unify.specs.Solutions.{Cap, IsListed, cap_of, caps_of, Equation, Recorded, Tracked}
+use Rattle.std.specs.List.{list_any}
+use Rattle.std.specs.List.Sorted.{IsPermutation}
+use Rattle.std.proofs.lemmas.List.Sorted.{list_any-IsPermutation}
+use Rattle.std.proofs.lemmas.Bool.{eqb-true, eq-eqb, or_cases}
+use Rattle.type_model.proofs.Applying.{or_right}
+use Rattle.level_unify.specs.declared.solve.Limit.{Limit}
 use Rattle.level_unify.proofs.Steps.{Planned}
 use Rattle.level_unify.proofs.Solving.{Solving, taken_within}
 
@@ -66,16 +72,18 @@ head_no_var : (c d : Node) (level scope : ℕ) → SameHead c d → c ≡ Var le
 head_no_var c d level scope h e = subst (λ x. SameHead x d) e h
 
 -- a composite that was linked is no variable
-pub tie_recorded : (nodes new : List Node) (r s : ℕ) (caps : List Cap) (res : Result (Unit {0}) Stop) → Planned nodes r s LinkParts → OnOk res (new ≡ set nodes r (Link s)) → OnOk res (Recorded nodes new r s caps caps)
-tie_recorded nodes new r s caps (Ok u) p e = subst (λ n. Recorded nodes n r s caps caps) (sym e) (record {
+pub tie_recorded : (nodes new : List Node) (r s : ℕ) (c d : Node) → slice_get nodes r ≡ Some c → SameHead c d → new ≡ set nodes r (Link s) → (caps : List Cap) → Recorded nodes new r s caps caps
+tie_recorded nodes new r s c d at head e caps = subst (λ n. Recorded nodes n r s caps caps) (sym e) (record {
   kept = λ x h. h;
   gone = λ n l o f. elim (same_or_other n r) [
-    | inl same ↦ absurd (head_no_var p.left p.right l o p.plans (one_element p.left (Var l o) (slice_get nodes r) p.left_at (subst (λ k. slice_get nodes k ≡ Some (Var l o)) same f)))
+    | inl same ↦ absurd (head_no_var c d l o head (one_element c (Var l o) (slice_get nodes r) at (subst (λ k. slice_get nodes k ≡ Some (Var l o)) same f)))
     | inr other ↦ inl (get-set_other nodes r n (Link s) other ∙ f)
   ];
   was = λ x h. inl h;
 })
-tie_recorded nodes new r s caps (Err f) p e = tt
+
+pub none_recorded : (nodes : List Node) (r s : ℕ) (caps : List Cap) → Recorded nodes nodes r s caps caps
+none_recorded nodes r s caps = record { kept = λ x h. h; gone = λ n l o f. inl f; was = λ x h. inl h }
 
 pub tracked_start : (old : List Node) (a b : ℕ) (caps : List Cap) → caps ≡ [] → Tracked old old a b caps
 tracked_start old a b caps e = subst (Tracked old old a b) (sym e) (record {
@@ -101,4 +109,48 @@ tracked_on old now new a b r s caps caps' todo rest e sol same is is' rec h = re
         let t = taken_within old now a b rest e (subst (Solving old now a b) same sol) F closed has has' in
         elim w [ inl p ↦ ap F (p ∙ is) ∙ t.0 | inr p ↦ ap F (p ∙ is') ∙ t.1 ]
   ];
+}
+
+-- what is listed is listed in each order
+abbrev same_cap : Cap → Limit → Bool
+same_cap x l = eqb x.0 l.var.0 && (eqb x.1 l.level && eqb x.2 l.scope)
+
+both_true : (a b : Bool) → (a && b) ≡ true → (a ≡ true) × (b ≡ true)
+both_true true b h = (refl, h)
+both_true false b h = absurd (cc)
+
+listed_passes : (x : Cap) (ls : List Limit) → IsListed (caps_of ls) x → list_any (same_cap x) ls ≡ true
+listed_passes x [] (k, e) = absurd (cc)
+listed_passes x (l ∷ ls) (zero, e) =
+    let f : cap_of l ≡ x = cc in
+    let p = eq-eqb x.0 l.var.0 (sym (ap (λ (y : Cap). y.0) f)) in
+    let q = eq-eqb x.1 l.level (sym (ap (λ (y : Cap). y.1) f)) in
+    let r = eq-eqb x.2 l.scope (sym (ap (λ (y : Cap). y.2) f)) in
+    (λ i. (p i && (q i && r i)) || list_any (same_cap x) ls)
+listed_passes x (l ∷ ls) (suc k, e) = or_right (same_cap x l) (list_any (same_cap x) ls) (listed_passes x ls (k, e))
+
+passes_listed : (x : Cap) (ls : List Limit) → list_any (same_cap x) ls ≡ true → IsListed (caps_of ls) x
+passes_listed x [] h = absurd (cc)
+passes_listed x (l ∷ ls) h = elim (or_cases (same_cap x l) (list_any (same_cap x) ls) h) [
+  | inl e ↦
+      let (p, qr) = both_true (eqb x.0 l.var.0) (eqb x.1 l.level && eqb x.2 l.scope) e in
+      let (q, r) = both_true (eqb x.1 l.level) (eqb x.2 l.scope) qr in
+      let p' = eqb-true x.0 l.var.0 p in
+      let q' = eqb-true x.1 l.level q in
+      let r' = eqb-true x.2 l.scope r in
+      (0, (λ i. Some (sym p' i, sym q' i, sym r' i)))
+  | inr e ↦ let (k, f) = passes_listed x ls e in (suc k, f)
+]
+
+permuted_listed : (xs ys : List Limit) → IsPermutation xs ys → (x : Cap) → (IsListed (caps_of xs) x → IsListed (caps_of ys) x) × (IsListed (caps_of ys) x → IsListed (caps_of xs) x)
+permuted_listed xs ys p x = (
+  (λ h. passes_listed x ys (sym (list_any-IsPermutation (same_cap x) xs ys p) ∙ listed_passes x xs h)),
+  λ h. passes_listed x xs (list_any-IsPermutation (same_cap x) xs ys p ∙ listed_passes x ys h),
+)
+
+pub tracked_permuted : (old now : List Node) (a b : ℕ) (xs ys : List Limit) → IsPermutation xs ys → Tracked old now a b (caps_of xs) → Tracked old now a b (caps_of ys)
+tracked_permuted old now a b xs ys p h = record {
+  gone = λ n level scope at. elim (h.gone n level scope at) [ inl there ↦ inl there | inr listed ↦ inr ((permuted_listed xs ys p (n, level, scope)).0 listed) ];
+  was = λ x l. h.was x ((permuted_listed xs ys p x).1 l);
+  within = λ F closed has has' x l. h.within F closed has has' x ((permuted_listed xs ys p x).1 l);
 }

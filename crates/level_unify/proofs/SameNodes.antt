@@ -1,12 +1,12 @@
 -- Nodes that are the same but for the limits of free variables.
-use Rattle.std.proofs.Common.{◌≡◌, ◌≢◌, ℕ, zero, suc, Bool, true, List, length, Option, Some, None, refl, sym, ◌∙◌, ap, subst, arith, inl, inr}
+use Rattle.std.proofs.Common.{◌≡◌, ◌≢◌, ℕ, zero, suc, Bool, true, List, length, get_or, Option, Some, None, refl, sym, ◌∙◌, ap, subst, arith, inl, inr}
 use Rattle.std.specs.Prelude.{slice_get, All}
 use Rattle.std.proofs.lemmas.Option.{slice_get_within, slice_get_past, slice_get_cases}
 use Rattle.type_nodes.specs.Nodes.{Node, Var, Rigid, Link, Arrow, Tuple, Con, parts, bound_level, IsClosed}
 use Rattle.type_nodes.specs.Links.{linked_from, next, follow, root}
 use Rattle.type_nodes.specs.Readings.{Types}
 use Rattle.type_nodes.proofs.Lists.{one_element}
-use Rattle.level_unify.specs.Walks.{StandsIn}
+use Rattle.level_unify.specs.Walks.{StandsIn, IsCleared}
 use Rattle.level_unify.specs.Solutions.{Loose, FitsLoosely}
 use Rattle.level_unify.specs.Limits.{SameButLimit, SameButLimits}
 use Rattle.level_unify.proofs.Steps.{cell_at}
@@ -162,3 +162,11 @@ var_before mid new same n level scope e = let (c, at, s) = cell_before mid new s
     go (Arrow x y) at s = absurd (cc)
     go (Tuple ms) at s = absurd (cc)
     go (Con p name ms) at s = absurd (cc)
+
+-- a cleared set stays one
+pub same_cleared : (old new : List Node) → SameButLimits old new → (D : ℕ → Bool) → IsCleared old D → IsCleared new D
+same_cleared old new s D cleared = record {
+  each = λ n d has e.
+      let (c, at, same) = cell_before old new s n d e in
+      subst (λ ms. All (λ m. D (root new m) ≡ true) ms) (sym (cell_parts c d same)) (λ k z lt. ap D (same_root old new s (get_or (parts c) k z)) ∙ cleared.each n c has at k z lt);
+}

@@ -6,7 +6,7 @@ use Rattle.type_nodes.specs.Links.{next, follow, root}
 use Rattle.type_nodes.specs.Readings.{Types}
 use Rattle.type_nodes.proofs.Lists.{get-append_last, length-snoc}
 use Rattle.type_nodes.proofs.Roots.{link_or_stays, next_link, closed_root, root_inside, root_here, root_settled}
-use Rattle.level_unify.specs.Solutions.{Loose, Equation, Solves, AllIn, weight, StaysWithin, Steps, Solved, NeverOne, HaveNoBound}
+use Rattle.level_unify.specs.Solutions.{Loose, Equation, Solves, AllIn, work, StaysWithin, Steps, Solved, NeverOne, HaveNoBound}
 
 -- what holds of each equation
 abbrev pub Each : (Equation → Type 0) → List Equation → Type 0
@@ -91,9 +91,9 @@ taken_within old now a b rest e s F closed has has' =
     let c = s.stays.closed F closed has has' in
     (closed_root now F c e.0 h.0, closed_root now F c e.1 h.1)
 
-pub solving_step : (old now new : List Node) (a b r s : ℕ) (todo rest todo' : List Equation) (e : Equation) → Solving old now a b todo → todo ≡ rest ++ e ∷ [] → r ≡ root now e.0 → s ≡ root now e.1 →
-    Steps now new r s rest todo' → Solving old new a b todo'
-solving_step old now new a b r s todo rest todo' e sol same is is' (extra, more, st) =
+pub solving_step : (O O' : ℕ → Bool) (old now new : List Node) (a b r s : ℕ) (todo rest todo' : List Equation) (e : Equation) → Solving old now a b todo → todo ≡ rest ++ e ∷ [] → r ≡ root now e.0 → s ≡ root now e.1 →
+    Steps now new r s O O' rest todo' → Solving old new a b todo'
+solving_step O O' old now new a b r s todo rest todo' e sol same is is' (extra, more, st) =
     subst (Solving old new a b) (sym more) (go (subst (Solving old now a b) same sol))
   where
     go : Solving old now a b (rest ++ e ∷ []) → Solving old new a b (rest ++ extra)
@@ -164,9 +164,9 @@ solving_clash old now a b r s todo rest e sol same is is' h none =
     }
 
 -- each step leaves less to do
-pub step_smaller : (now new : List Node) (r s : ℕ) (todo rest todo' : List Equation) (e : Equation) → todo ≡ rest ++ e ∷ [] → Steps now new r s rest todo' →
-    weight new + length todo' < weight now + length todo
-step_smaller now new r s todo rest todo' e same (extra, more, st) =
+pub step_smaller : (O O' : ℕ → Bool) (now new : List Node) (r s : ℕ) (todo rest todo' : List Equation) (e : Equation) → todo ≡ rest ++ e ∷ [] → Steps now new r s O O' rest todo' →
+    work O' new + length todo' < work O now + length todo
+step_smaller O O' now new r s todo rest todo' e same (extra, more, st) =
     let l = ap length same ∙ length-snoc rest e in
     let m = ap length more ∙ length-append rest extra in
     let n = st.smaller in omega arith

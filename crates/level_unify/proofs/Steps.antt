@@ -1,5 +1,5 @@
 -- One step of unification: a root is linked to another.
-use Rattle.std.proofs.Common.{◌≡◌, ◌≢◌, ℕ, zero, suc, ◌+◌, ◌<◌, ◌≤◌, Bool, true, List, [], ◌∷◌, ◌++◌, length, set, Some, refl, sym, ◌∙◌, ap, subst, arith, inl, inr}
+use Rattle.std.proofs.Common.{◌≡◌, ◌≢◌, ℕ, zero, suc, ◌<◌, ◌≤◌, Bool, true, List, [], ◌∷◌, ◌++◌, length, set, Some, refl, sym, ◌∙◌, ap, subst, arith, inl, inr}
 use Rattle.std.specs.Prelude.{slice_get, All, Result, Ok, Err, OnOk, IfErr}
 use Rattle.std.proofs.lemmas.List.{length-set}
 use Rattle.type_model.specs.Types.{Typ}
@@ -12,20 +12,15 @@ use Rattle.type_nodes.specs.Views.{Shows}
 use Rattle.type_nodes.specs.declared.view.View.{View}
 use Rattle.type_nodes.proofs.Roots.{root_no_link}
 use Rattle.level_unify.specs.declared.plan.Plan.{Plan}
-use Rattle.level_unify.specs.declared.plan.Plan.TheVariants.{BindLeft, BindRight, LinkParts}
+use Rattle.level_unify.specs.declared.plan.Plan.TheVariants.{BindLeft, BindRight}
 use Rattle.level_unify.specs.declared.solve.Stop.{Stop}
 use Rattle.level_unify.specs.declared.solve.Stop.TheVariants.{Clash}
 use Rattle.level_unify.specs.Walks.{StandsIn}
 use Rattle.level_unify.specs.Plans.{IsFreeVar, SameHead, Plans, Views}
 use Rattle.level_unify.proofs.Sizes.{never_inside}
-use Rattle.level_unify.specs.Solutions.{FitsLoosely, Equation, paired, AllIn, weight_of, weight, StaysWithin, Stepped, Steps, NeverOne, HaveNoBound}
-use Rattle.level_unify.proofs.Loosely.{loose_before, loose_after, loose_at_set, head_forth, head_back, none_solved}
-
--- a root that becomes a link is left out of the weight
-weight_linked : (nodes : List Node) (r s : ℕ) (c : Node) → slice_get nodes r ≡ Some c → weight (set nodes r (Link s)) + weight_of c ≡ weight nodes
-weight_linked [] r s c e = absurd (cc)
-weight_linked (d ∷ nodes) zero s c e = let f : d ≡ c = cc in let g = ap weight_of f in omega arith
-weight_linked (d ∷ nodes) (suc r) s c e = let h = weight_linked nodes r s c e in omega arith
+use Rattle.level_unify.proofs.Weights.{Opens, work_linked, work_opened}
+use Rattle.level_unify.specs.Solutions.{FitsLoosely, Equation, paired, AllIn, weight_of, StaysWithin, Stepped, Steps, NeverOne, HaveNoBound}
+use Rattle.level_unify.proofs.Loosely.{loose_before, loose_after, loose_at_set, head_forth, head_back, none_solved, both_solved}
 
 -- a link stays within what the two roots lead to
 linked_stays : (nodes : List Node) (r s : ℕ) (c : Node) → slice_get nodes r ≡ Some c → StaysWithin nodes (set nodes r (Link s)) r s
@@ -105,10 +100,10 @@ head_weight (Con o name ms) (Arrow x y) h = absurd h
 head_weight (Con o name ms) (Tuple ns) h = absurd h
 
 -- a free variable is linked
-pub step_bind : (nodes new : List Node) (r s : ℕ) (c : Node) → slice_get nodes r ≡ Some c → IsFreeVar c → new ≡ set nodes r (Link s) → Stepped nodes new r s []
-step_bind nodes new r s c at free e = subst (λ x. Stepped nodes x r s []) (sym e) (record {
+pub step_bind : (O : ℕ → Bool) (nodes new : List Node) (r s : ℕ) (c : Node) → slice_get nodes r ≡ Some c → IsFreeVar c → new ≡ set nodes r (Link s) → Stepped nodes new r s O O []
+step_bind O nodes new r s c at free e = subst (λ x. Stepped nodes x r s O O []) (sym e) (record {
   len = length-set nodes r (Link s);
-  smaller = let w = weight_linked nodes r s c at in let f = (free_fits (λ n. Typ.Var n) r c free).1 in omega arith;
+  smaller = let w = work_linked O nodes r s c at in let f = (free_fits (λ n. Typ.Var n) r c free).1 in omega arith;
   inside = none_in (λ n. n < length nodes);
   forth = λ V fits same. (loose_after nodes V r c (Link s) at same fits, none_solved V);
   back = λ V fits all. (loose_before nodes V r c (Link s) at (free_fits V r c free).0 fits, loose_at_set nodes V r s c at fits);
@@ -117,11 +112,11 @@ step_bind nodes new r s c at free e = subst (λ x. Stepped nodes x r s []) (sym 
 })
 
 -- two composites with one head are linked, and their parts are left
-pub step_parts : (nodes new : List Node) (r s : ℕ) (c d : Node) → IsSound nodes → slice_get nodes r ≡ Some c → slice_get nodes s ≡ Some d → r ≢ s → SameHead c d →
-    new ≡ set nodes r (Link s) → Stepped nodes new r s (paired (parts c) (parts d))
-step_parts nodes new r s c d sound at at' other head e = subst (λ x. Stepped nodes x r s (paired (parts c) (parts d))) (sym e) (record {
+pub step_parts : (O : ℕ → Bool) (nodes new : List Node) (r s : ℕ) (c d : Node) → IsSound nodes → slice_get nodes r ≡ Some c → slice_get nodes s ≡ Some d → r ≢ s → SameHead c d →
+    new ≡ set nodes r (Link s) → Stepped nodes new r s O O (paired (parts c) (parts d))
+step_parts O nodes new r s c d sound at at' other head e = subst (λ x. Stepped nodes x r s O O (paired (parts c) (parts d))) (sym e) (record {
   len = length-set nodes r (Link s);
-  smaller = let w = weight_linked nodes r s c at in let f = head_weight c d head in let g = paired_length (parts c) (parts d) in omega arith;
+  smaller = let w = work_linked O nodes r s c at in let f = head_weight c d head in let g = paired_length (parts c) (parts d) in omega arith;
   inside = paired_in (λ n. n < length nodes) (parts c) (parts d) (λ k x lt. (sound.1.each r c at k x lt).0) (λ k x lt. (sound.1.each s d at' k x lt).0);
   forth = λ V fits same. (
     loose_after nodes V r c (Link s) at same fits,
@@ -135,9 +130,24 @@ step_parts nodes new r s c d sound at at' other head e = subst (λ x. Stepped no
   within = λ F closed has_r has_s. paired_in (λ n. F n ≡ true) (parts c) (parts d) (closed.each r c has_r at) (closed.each s d has_s at');
 })
 
--- the same, with the roots the other way round
-pub step_turned : (nodes new : List Node) (r s : ℕ) → Stepped nodes new s r [] → Stepped nodes new r s []
-step_turned nodes new r s st = record {
+-- two composites with one head are put back, and their parts are left as well
+pub step_opens : (O O' : ℕ → Bool) (nodes : List Node) (r s : ℕ) (c d : Node) → IsSound nodes → r < length nodes → s < length nodes → slice_get nodes r ≡ Some c → slice_get nodes s ≡ Some d → SameHead c d →
+    Opens O O' r → Stepped nodes nodes r s O O' ((r, s) ∷ paired (parts c) (parts d))
+step_opens O O' nodes r s c d sound r_in s_in at at' head opens = record {
+  len = refl;
+  smaller = let w = work_opened O O' nodes r c at opens in let f = head_weight c d head in let g = paired_length (parts c) (parts d) in omega arith;
+  inside = one_more (λ n. n < length nodes) r s (paired (parts c) (parts d)) r_in s_in
+      (paired_in (λ n. n < length nodes) (parts c) (parts d) (λ k x lt. (sound.1.each r c at k x lt).0) (λ k x lt. (sound.1.each s d at' k x lt).0));
+  forth = λ V fits same. (fits, both_solved V (r, s) (paired (parts c) (parts d)) same (head_forth V r s c d head (fits.each r c at) (fits.each s d at') same));
+  back = λ V fits all. (fits, all.each 0 (r, s) refl);
+  stays = record { closed = λ F closed has has'. closed; outside = λ F closed has has' n lacks. refl; links = λ n c at is. at };
+  within = λ F closed has_r has_s. one_more (λ n. F n ≡ true) r s (paired (parts c) (parts d)) has_r has_s
+      (paired_in (λ n. F n ≡ true) (parts c) (parts d) (closed.each r c has_r at) (closed.each s d has_s at'));
+}
+
+-- a step, with the roots the other way round
+pub step_turned : (O O' : ℕ → Bool) (nodes new : List Node) (r s : ℕ) (extra : List Equation) → Stepped nodes new s r O O' extra → Stepped nodes new r s O O' extra
+step_turned O O' nodes new r s extra st = record {
   len = st.len;
   smaller = st.smaller;
   inside = st.inside;
@@ -188,27 +198,34 @@ free_at nodes n (Arrow a b) lt end at free = absurd free
 free_at nodes n (Tuple ms) lt end at free = absurd free
 free_at nodes n (Con path name ms) lt end at free = absurd free
 
+one_on : (es : List Equation) (e : Equation) (fs : List Equation) → (es ++ e ∷ []) ++ fs ≡ es ++ e ∷ fs
+one_on [] e fs = refl
+one_on (x ∷ es) e fs = ap (λ l. x ∷ l) (one_on es e fs)
+
 nothing_more : (es : List Equation) → es ≡ es ++ []
 nothing_more [] = refl
 nothing_more (e ∷ es) = ap (λ l. e ∷ l) (nothing_more es)
 
 -- what a step did, told by the answer
-pub bound_left : (nodes new : List Node) (r s : ℕ) (todo : List Equation) (res : Result (Unit {0}) Stop) → Planned nodes r s BindLeft →
-    OnOk res (new ≡ set nodes r (Link s)) → OnOk res (Steps nodes new r s todo todo)
-bound_left nodes new r s todo (Ok u) p e = ([], nothing_more todo, step_bind nodes new r s p.left p.left_at p.plans e)
-bound_left nodes new r s todo (Err f) p e = tt
+pub bound_left : (O : ℕ → Bool) (nodes new : List Node) (r s : ℕ) (todo : List Equation) (res : Result (Unit {0}) Stop) → Planned nodes r s BindLeft →
+    OnOk res (new ≡ set nodes r (Link s)) → OnOk res (Steps nodes new r s O O todo todo)
+bound_left O nodes new r s todo (Ok u) p e = ([], nothing_more todo, step_bind O nodes new r s p.left p.left_at p.plans e)
+bound_left O nodes new r s todo (Err f) p e = tt
 
-pub bound_right : (nodes new : List Node) (r s : ℕ) (todo : List Equation) (res : Result (Unit {0}) Stop) → Planned nodes r s BindRight →
-    OnOk res (new ≡ set nodes s (Link r)) → OnOk res (Steps nodes new r s todo todo)
-bound_right nodes new r s todo (Ok u) p e = ([], nothing_more todo, step_turned nodes new r s (step_bind nodes new s r p.right p.right_at p.plans e))
-bound_right nodes new r s todo (Err f) p e = tt
+pub bound_right : (O : ℕ → Bool) (nodes new : List Node) (r s : ℕ) (todo : List Equation) (res : Result (Unit {0}) Stop) → Planned nodes r s BindRight →
+    OnOk res (new ≡ set nodes s (Link r)) → OnOk res (Steps nodes new r s O O todo todo)
+bound_right O nodes new r s todo (Ok u) p e = ([], nothing_more todo, step_turned O O nodes new r s [] (step_bind O nodes new s r p.right p.right_at p.plans e))
+bound_right O nodes new r s todo (Err f) p e = tt
 
-pub tied : (nodes new : List Node) (r s : ℕ) (todo todo' : List Equation) (res : Result (Unit {0}) Stop) → IsSound nodes → r ≢ s → Planned nodes r s LinkParts →
-    OnOk res (new ≡ set nodes r (Link s)) →
-    OnOk res ((c d : Node) → slice_get nodes r ≡ Some c → slice_get nodes s ≡ Some d → todo' ≡ todo ++ paired (parts c) (parts d)) → OnOk res (Steps nodes new r s todo todo')
-tied nodes new r s todo todo' (Ok u) sound other p e left =
-    (paired (parts p.left) (parts p.right), left p.left p.right p.left_at p.right_at, step_parts nodes new r s p.left p.right sound p.left_at p.right_at other p.plans e)
-tied nodes new r s todo todo' (Err f) sound other p e left = tt
+pub tied : (O O' : ℕ → Bool) (nodes new : List Node) (r s : ℕ) (todo todo' : List Equation) → O' ≡ O → IsSound nodes → r ≢ s → (c d : Node) → slice_get nodes r ≡ Some c → slice_get nodes s ≡ Some d → SameHead c d →
+    new ≡ set nodes r (Link s) → todo' ≡ todo ++ paired (parts c) (parts d) → Steps nodes new r s O O' todo todo'
+tied O O' nodes new r s todo todo' same sound other c d at at' head e left =
+    subst (λ P. Steps nodes new r s O P todo todo') (sym same) (paired (parts c) (parts d), left, step_parts O nodes new r s c d sound at at' other head e)
+
+pub opened : (O O' : ℕ → Bool) (nodes : List Node) (r s : ℕ) (todo todo' : List Equation) → IsSound nodes → r < length nodes → s < length nodes → (c d : Node) → slice_get nodes r ≡ Some c → slice_get nodes s ≡ Some d →
+    SameHead c d → Opens O O' r → todo' ≡ (todo ++ (r, s) ∷ []) ++ paired (parts c) (parts d) → Steps nodes nodes r s O O' todo todo'
+opened O O' nodes r s todo todo' sound r_in s_in c d at at' head opens left =
+    ((r, s) ∷ paired (parts c) (parts d), left ∙ one_on todo (r, s) (paired (parts c) (parts d)), step_opens O O' nodes r s c d sound r_in s_in at at' head opens)
 
 -- what stands inside another root clashes
 pub inside_clash : (nodes : List Node) (r s : ℕ) (c : Node) (res : Result (Unit {0}) Stop) → IsSound nodes → s < length nodes → root nodes s ≡ s → slice_get nodes s ≡ Some c → r ≢ s →

@@ -91,7 +91,7 @@ before_more s s' (k ∷ o) le h = or_more (is_built_in k) (ltb k s) (is_built_in
 none_or_before : (N s s' : ℕ) (o : Path) → s ≤ s' → (leb N s || made_before s o) ≡ true → (leb N s' || made_before s' o) ≡ true
 none_or_before N s s' o le = or_more (leb N s) (made_before s o) (leb N s') (made_before s' o) (λ e. le-leb N s' (let l = leb-true N s e in omega arith)) (before_more s s' o le)
 
-scope_more : (s s' : ℕ) (o : Path) → s ≤ s' → in_scope s o ≡ true → in_scope s' o ≡ true
+pub scope_more : (s s' : ℕ) (o : Path) → s ≤ s' → in_scope s o ≡ true → in_scope s' o ≡ true
 scope_more s s' o le h = none_or_before no_scope s s' o le h
 
 mutual

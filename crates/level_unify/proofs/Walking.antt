@@ -1,18 +1,18 @@
 -- Where a walk through types stands, and what each step of it keeps.
 use Rattle.std.proofs.Common.{◌≡◌, ◌≢◌, ℕ, zero, suc, ◌+◌, ◌-◌, ◌*◌, ◌<◌, ◌≤◌, Bool, true, false, cond, ◌||◌, eqb, List, [], ◌∷◌, ◌++◌, length, get_or, Some, refl, sym, ◌∙◌, ap, subst, arith, ◌⊎◌, inl, inr}
-use Rattle.std.specs.Prelude.{slice_get, All, nat_eq}
+use Rattle.std.specs.Prelude.{slice_get, All, nat_eq, Result, Ok, Err, IfOk}
 use Rattle.std.specs.List.{list_any}
 use Rattle.std.proofs.lemmas.Bool.Decides.{eqb_tells}
 use Rattle.std.proofs.lemmas.Map.Keys.{IsDistinct-from_apart}
 use Rattle.std.proofs.lemmas.Map.Steps.{length-le_from_distinct_below}
 use Rattle.std.proofs.lemmas.Option.{slice_get_within}
-use Rattle.type_nodes.specs.Nodes.{Node, Var, Rigid, Link, Arrow, Tuple, Con, parts, IsRanked, IsSound, Apart}
+use Rattle.type_nodes.specs.Nodes.{Node, Var, Rigid, Link, Arrow, Tuple, Con, parts, IsRanked, IsSound, IsClosed, Apart}
 use Rattle.type_nodes.specs.Links.{next, follow, root, IsNoLink}
 use Rattle.type_nodes.proofs.Lists.{same_or_other, one_element, get-append_left, get-append_last, get-append_cases, length-snoc}
 use Rattle.type_nodes.proofs.Places.{place, place_below, place_lower}
 use Rattle.type_nodes.proofs.Roots.{link_or_stays, next_link, link_down, next_stays, closed_root, root_inside, root_settled, root_here, root_link}
 use Rattle.level_unify.proofs.Steps.{cell_at}
-use Rattle.level_unify.specs.Walks.{StandsIn, Reached, Visit, Course, course, AreDone, IsNext, Enters, Leaves}
+use Rattle.level_unify.specs.Walks.{StandsIn, Reached, ReachedBeyond, IsCleared, IsClearedWithout, Visit, Course, course, AreDone, IsNext, Enters, Leaves}
 
 -- a root that stands in `from`
 pub record IsRootIn (nodes : List Node) (from n : ℕ) : Type 0 where
@@ -55,24 +55,30 @@ pub record IsOpen (nodes : List Node) (from : ℕ) (rank : ℕ → ℕ) (done : 
   pub room : place rank (length nodes) x.0 + i < length nodes
 
 -- where a walk stands: what is done is listed behind its parts, and each visit of the way stands lower than those before
-pub record Walking (nodes : List Node) (from : ℕ) (w : Course) : Type 0 where
+pub record Walking (nodes : List Node) (before : ℕ → Bool) (from : ℕ) (w : Course) : Type 0 where
   pub rank : ℕ → ℕ
   pub ranked : IsRanked nodes rank
+  pub kept : (n : ℕ) → before n ≡ true → w.done n ≡ true
   pub start : (w.done (root nodes from) ≡ true) ⊎ ((i : ℕ) × (x : Visit) × (slice_get w.way i ≡ Some x) × (x.0 ≡ root nodes from))
-  pub listed : (n : ℕ) → w.done n ≡ true → (k : ℕ) × (slice_get w.found k ≡ Some n)
+  pub listed : (n : ℕ) → w.done n ≡ true → (before n ≡ true) ⊎ ((k : ℕ) × (slice_get w.found k ≡ Some n))
   pub known : (k n : ℕ) → slice_get w.found k ≡ Some n → (w.done n ≡ true) × IsRootIn nodes from n
-  pub behind : (k n : ℕ) (c : Node) → slice_get w.found k ≡ Some n → slice_get nodes n ≡ Some c → All (λ m. (j : ℕ) × (j < k) × (slice_get w.found j ≡ Some (root nodes m))) (parts c)
+  pub other : (k n : ℕ) → slice_get w.found k ≡ Some n → before n ≡ false
+  pub behind : (k n : ℕ) (c : Node) → slice_get w.found k ≡ Some n → slice_get nodes n ≡ Some c →
+      All (λ m. (before (root nodes m) ≡ true) ⊎ ((j : ℕ) × (j < k) × (slice_get w.found j ≡ Some (root nodes m)))) (parts c)
   pub once : (j k n : ℕ) → slice_get w.found j ≡ Some n → slice_get w.found k ≡ Some n → j ≡ k
   pub visits : (i : ℕ) (x : Visit) → slice_get w.way i ≡ Some x → IsOpen nodes from rank w.done i x
   pub falls : (i j : ℕ) (x y : Visit) → i < j → slice_get w.way i ≡ Some x → slice_get w.way j ≡ Some y → rank y.0 < rank x.0
 
 -- a walk begins with the root of `from`
-pub walk_start : (nodes : List Node) → IsSound nodes → (from : ℕ) (w : Course) → from < length nodes → ((n : ℕ) → w.done n ≡ false) → w.found ≡ [] → w.way ≡ (root nodes from, 0) ∷ [] → Walking nodes from w
-walk_start nodes (rank, ranked) from w lt none empty one = record {
+pub walk_start : (nodes : List Node) → IsSound nodes → (before : ℕ → Bool) (from : ℕ) (w : Course) → from < length nodes → w.done ≡ before → before (root nodes from) ≡ false → w.found ≡ [] →
+    w.way ≡ (root nodes from, 0) ∷ [] → Walking nodes before from w
+walk_start nodes (rank, ranked) before from w lt same none empty one = record {
   rank = rank;
   ranked = ranked;
+  kept = λ n h. ap (λ d. d n) same ∙ h;
+  other = λ k n e. absurd (nothing k n e);
   start = inr (0, (root nodes from, 0), ap (λ l. slice_get l 0) one, refl);
-  listed = λ n h. absurd (let e = none n in cc);
+  listed = λ n h. inl (sym (ap (λ d. d n) same) ∙ h);
   known = λ k n e. absurd (nothing k n e);
   behind = λ k n c e. absurd (nothing k n e);
   once = λ j k n e. absurd (nothing j n e);
@@ -88,10 +94,10 @@ walk_start nodes (rank, ranked) from w lt none empty one = record {
 
     only : (i : ℕ) (x : Visit) → slice_get ((root nodes from, 0) ∷ []) i ≡ Some x → IsOpen nodes from rank w.done i x
     only zero x e =
-        let same : (root nodes from, 0) ≡ x = one_element (root nodes from, 0) x (Some (root nodes from, 0)) refl e in
-        subst (IsOpen nodes from rank w.done 0) same (record {
+        let same_visit' : (root nodes from, 0) ≡ x = one_element (root nodes from, 0) x (Some (root nodes from, 0)) refl e in
+        subst (IsOpen nodes from rank w.done 0) same_visit' (record {
           is_root = own;
-          new = none (root nodes from);
+          new = ap (λ d. d (root nodes from)) same ∙ none;
           first = λ c at. record { each = λ k m lo hi. absurd (omega arith) };
           room = let p = place_below rank (length nodes) (root nodes from) own.inside in omega arith;
         })
@@ -129,11 +135,13 @@ same_visit rest x y e i z at = elim (get-append_cases rest y i z at) [
 ]
 
 -- the walk goes on to a part of its last visit
-pub entered : (nodes : List Node) (from : ℕ) (d : ℕ → Bool) (f : List ℕ) (rest : List Visit) (x : Visit) (at p : ℕ) → Walking nodes from (course d f (rest ++ x ∷ [])) →
-    ((c : Node) → slice_get nodes (root nodes x.0) ≡ Some c → IsNext nodes d (parts c) x.1 at p) → Walking nodes from (course d f ((rest ++ (x.0, at) ∷ []) ++ (p, 0) ∷ []))
-entered nodes from d f rest x at p h next = record {
+pub entered : (nodes : List Node) (before : ℕ → Bool) (from : ℕ) (d : ℕ → Bool) (f : List ℕ) (rest : List Visit) (x : Visit) (at p : ℕ) → Walking nodes before from (course d f (rest ++ x ∷ [])) →
+    ((c : Node) → slice_get nodes (root nodes x.0) ≡ Some c → IsNext nodes d (parts c) x.1 at p) → Walking nodes before from (course d f ((rest ++ (x.0, at) ∷ []) ++ (p, 0) ∷ []))
+entered nodes before from d f rest x at p h next = record {
   rank = h.rank;
   ranked = h.ranked;
+  kept = h.kept;
+  other = h.other;
   start = elim h.start [
     | inl e ↦ inl e
     | inr (i, y, e, is) ↦ elim (get-append_cases rest x i y e) [
@@ -228,12 +236,14 @@ entered nodes from d f rest x at p h next = record {
     }
 
 -- the walk is done with its last visit
-pub left : (nodes : List Node) (from : ℕ) (d d' : ℕ → Bool) (f : List ℕ) (rest : List Visit) (x : Visit) → Walking nodes from (course d f (rest ++ x ∷ [])) →
+pub left : (nodes : List Node) (before : ℕ → Bool) (from : ℕ) (d d' : ℕ → Bool) (f : List ℕ) (rest : List Visit) (x : Visit) → Walking nodes before from (course d f (rest ++ x ∷ [])) →
     ((c : Node) → slice_get nodes (root nodes x.0) ≡ Some c → AreDone nodes d (parts c) x.1 (length (parts c))) → ((n : ℕ) → d' n ≡ cond (nat_eq x.0 n) true (d n)) →
-    Walking nodes from (course d' (f ++ x.0 ∷ []) rest)
-left nodes from d d' f rest x h all put = record {
+    Walking nodes before from (course d' (f ++ x.0 ∷ []) rest)
+left nodes before from d d' f rest x h all put = record {
   rank = h.rank;
   ranked = h.ranked;
+  kept = λ n e. still n (h.kept n e);
+  other = λ k n e. elim (get-append_cases f x.0 k n e) [ inl g ↦ h.other k n g | inr (_, q) ↦ ap before q ∙ not_before (before x.0) refl ];
   start = elim h.start [
     | inl e ↦ inl (still (root nodes from) e)
     | inr (i, y, e, is) ↦ elim (get-append_cases rest x i y e) [
@@ -242,8 +252,8 @@ left nodes from d d' f rest x h all put = record {
     ]
   ];
   listed = λ n e. elim (cases n) [
-    | inl (same, _) ↦ (length f, get-append_last f x.0 ∙ ap (λ k. Some k) same)
-    | inr (_, g) ↦ let (k, at) = h.listed n (sym g ∙ e) in (k, get-append_left f (x.0 ∷ []) k (slice_get_within f k n at) ∙ at)
+    | inl (same, _) ↦ inr (length f, get-append_last f x.0 ∙ ap (λ k. Some k) same)
+    | inr (_, g) ↦ elim (h.listed n (sym g ∙ e)) [ inl b ↦ inl b | inr (k, at) ↦ inr (k, get-append_left f (x.0 ∷ []) k (slice_get_within f k n at) ∙ at) ]
   ];
   known = λ k n e. elim (get-append_cases f x.0 k n e) [
     | inl g ↦ let a = h.known k n g in (still n a.0, a.1)
@@ -251,14 +261,17 @@ left nodes from d d' f rest x h all put = record {
   ];
   behind = λ k n c e at. elim (get-append_cases f x.0 k n e) [
     | inl g ↦ λ i z lt.
-        let (j, low, s) = h.behind k n c g at i z lt in
-        (j, low, get-append_left f (x.0 ∷ []) j (slice_get_within f j _ s) ∙ s)
+        elim (h.behind k n c g at i z lt) [
+          | inl b ↦ inl b
+          | inr (j, low, s) ↦ inr (j, low, get-append_left f (x.0 ∷ []) j (slice_get_within f j _ s) ∙ s)
+        ]
     | inr (is, q) ↦ λ i z lt.
         let at' : slice_get nodes x.0 ≡ Some c = ap (slice_get nodes) (sym q) ∙ at in
         let done = (done_on nodes d (parts c) x.1 (length (parts c)) (own.first c at') (all c (ap (slice_get nodes) own.is_root.end ∙ at'))).each i (get_or (parts c) i z) (omega arith) lt (get_here (parts c) i z lt) in
-        let (j, s) = h.listed (root nodes (get_or (parts c) i z)) done in
-        let l = slice_get_within f j (root nodes (get_or (parts c) i z)) s in
-        (j, (omega arith), get-append_left f (x.0 ∷ []) j l ∙ s)
+        elim (h.listed (root nodes (get_or (parts c) i z)) done) [
+          | inl b ↦ inl b
+          | inr (j, s) ↦ inr (let l = slice_get_within f j (root nodes (get_or (parts c) i z)) s in (j, (omega arith), get-append_left f (x.0 ∷ []) j l ∙ s))
+        ]
   ];
   once = λ j k n e e'. elim (get-append_cases f x.0 j n e) [
     | inl g ↦ elim (get-append_cases f x.0 k n e') [
@@ -295,6 +308,10 @@ left nodes from d d' f rest x h all put = record {
     own : IsOpen nodes from h.rank d (length rest) x
     own = h.visits (length rest) x (get-append_last rest x)
 
+    not_before : (b : Bool) → before x.0 ≡ b → before x.0 ≡ false
+    not_before true e = absurd (let t = h.kept x.0 e in let u = own.new in cc)
+    not_before false e = e
+
     own_done : d' x.0 ≡ true
     own_done = elim (cases x.0) [ inl (_, g) ↦ g | inr (other, _) ↦ absurd (other refl) ]
 
@@ -318,12 +335,12 @@ few xs n once below = length-le_from_distinct_below xs n (IsDistinct-from_apart 
       | inr (t, other) ↦ let (k, g) = listed ys q (sym (ap (λ b. b || list_any (eqb q) ys) t) ∙ h) in (suc k, g)
     ]
 
-pub found_few : (nodes : List Node) (from : ℕ) (w : Course) → Walking nodes from w → length w.found ≤ length nodes
-found_few nodes from w h = few w.found (length nodes) h.once (λ k m e. (h.known k m e).1.inside)
+pub found_few : (nodes : List Node) (before : ℕ → Bool) (from : ℕ) (w : Course) → Walking nodes before from w → length w.found ≤ length nodes
+found_few nodes before from w h = few w.found (length nodes) h.once (λ k m e. (h.known k m e).1.inside)
 
 -- no more visits than nodes
-pub way_short : (nodes : List Node) (from : ℕ) (w : Course) → Walking nodes from w → length w.way ≤ length nodes
-way_short nodes from w h = at w.way (λ i x e. (h.visits i x e).room)
+pub way_short : (nodes : List Node) (before : ℕ → Bool) (from : ℕ) (w : Course) → Walking nodes before from w → length w.way ≤ length nodes
+way_short nodes before from w h = at w.way (λ i x e. (h.visits i x e).room)
   where
     at : (way : List Visit) → ((i : ℕ) (x : Visit) → slice_get way i ≡ Some x → place h.rank (length nodes) x.0 + i < length nodes) → length way ≤ length nodes
     at [] p = omega arith
@@ -343,33 +360,33 @@ left_less n f s k e le le' =
     rw (e, e') (omega arith)
 
 -- what a step does: the walk goes on, and less of it is left
-pub record WalksOn (nodes : List Node) (from : ℕ) (w w' : Course) : Type 0 where
-  pub on : Walking nodes from w'
+pub record WalksOn (nodes : List Node) (before : ℕ → Bool) (from : ℕ) (w w' : Course) : Type 0 where
+  pub on : Walking nodes before from w'
   pub less : left_of nodes w' < left_of nodes w
 
 same_course : (w : Course) (d : ℕ → Bool) (f : List ℕ) (s : List Visit) → w.done ≡ d → w.found ≡ f → w.way ≡ s → w ≡ course d f s
 same_course w d f s p q r = λ i. course (p i) (q i) (r i)
 
-pub walk_on : (nodes : List Node) (from : ℕ) (w w' : Course) (rest : List Visit) (x : Visit) → w.way ≡ rest ++ x ∷ [] → Enters nodes (course w.done w.found rest) x w' ⊎ Leaves nodes (course w.done w.found rest) x w' →
-    Walking nodes from w → WalksOn nodes from w w'
-walk_on nodes from w w' rest x way step h =
+pub walk_on : (nodes : List Node) (before : ℕ → Bool) (from : ℕ) (w w' : Course) (rest : List Visit) (x : Visit) → w.way ≡ rest ++ x ∷ [] → Enters nodes (course w.done w.found rest) x w' ⊎ Leaves nodes (course w.done w.found rest) x w' →
+    Walking nodes before from w → WalksOn nodes before from w w'
+walk_on nodes before from w w' rest x way step h =
     let same : w ≡ course w.done w.found (rest ++ x ∷ []) = same_course w w.done w.found (rest ++ x ∷ []) refl refl way in
-    let h' : Walking nodes from (course w.done w.found (rest ++ x ∷ [])) = subst (Walking nodes from) same h in
+    let h' : Walking nodes before from (course w.done w.found (rest ++ x ∷ [])) = subst (Walking nodes before from) same h in
     let len : length w.way ≡ suc (length rest) = ap length way ∙ length-snoc rest x in
     elim step [
       | inl e ↦
-          let on : Walking nodes from w' = subst (Walking nodes from) (sym (same_course w' w.done w.found ((rest ++ (x.0, e.at) ∷ []) ++ (e.part, 0) ∷ []) e.done e.found e.way)) (entered nodes from w.done w.found rest x e.at e.part h' e.next) in
+          let on : Walking nodes before from w' = subst (Walking nodes before from) (sym (same_course w' w.done w.found ((rest ++ (x.0, e.at) ∷ []) ++ (e.part, 0) ∷ []) e.done e.found e.way)) (entered nodes before from w.done w.found rest x e.at e.part h' e.next) in
           let len' : length w'.way ≡ suc (suc (length rest)) = ap length e.way ∙ length-snoc (rest ++ (x.0, e.at) ∷ []) (e.part, 0) ∙ ap suc (length-snoc rest (x.0, e.at)) in
-          let short = way_short nodes from w' on in
+          let short = way_short nodes before from w' on in
           record {
             on = on;
             less = rw (ap length e.found, len, len') (entered_less (length nodes) (length w.found) (length rest) (omega arith));
           }
       | inr e ↦
-          let on : Walking nodes from w' = subst (Walking nodes from) (sym (same_course w' w'.done (w.found ++ x.0 ∷ []) rest refl e.found e.way)) (left nodes from w.done w'.done w.found rest x h' e.all e.done) in
+          let on : Walking nodes before from w' = subst (Walking nodes before from) (sym (same_course w' w'.done (w.found ++ x.0 ∷ []) rest refl e.found e.way)) (left nodes before from w.done w'.done w.found rest x h' e.all e.done) in
           let len' : length w'.found ≡ suc (length w.found) = ap length e.found ∙ length-snoc w.found x.0 in
-          let f = found_few nodes from w' on in
-          let s = way_short nodes from w h in
+          let f = found_few nodes before from w' on in
+          let s = way_short nodes before from w h in
           record {
             on = on;
             less = rw (len', len, ap length e.way) (left_less (length nodes) (length w.found) (length rest) (length nodes - suc (length w.found)) refl (omega arith) (omega arith));
@@ -377,56 +394,90 @@ walk_on nodes from w w' rest x way step h =
     ]
 
 -- the last visit of a walk is a node
-pub visit_inside : (nodes : List Node) (from : ℕ) (w : Course) (rest : List Visit) (x : Visit) → w.way ≡ rest ++ x ∷ [] → Walking nodes from w → x.0 < length nodes
-visit_inside nodes from w rest x e h = (h.visits (length rest) x (ap (λ l. slice_get l (length rest)) e ∙ get-append_last rest x)).is_root.inside
+pub visit_inside : (nodes : List Node) (before : ℕ → Bool) (from : ℕ) (w : Course) (rest : List Visit) (x : Visit) → w.way ≡ rest ++ x ∷ [] → Walking nodes before from w → x.0 < length nodes
+visit_inside nodes before from w rest x e h = (h.visits (length rest) x (ap (λ l. slice_get l (length rest)) e ∙ get-append_last rest x)).is_root.inside
 
 -- a walk that has come to its end has found all that stands in `from`
-pub walk_end : (nodes : List Node) → IsSound nodes → (from : ℕ) (w : Course) → w.way ≡ [] → Walking nodes from w → Reached nodes from w.found
-walk_end nodes sound from w none h = record {
-  set = λ n. w.done (root nodes n);
-  closed = record { each = λ n c has e. each n c e has };
+pub walk_end : (nodes : List Node) (before : ℕ → Bool) (from : ℕ) (w : Course) → w.way ≡ [] → Walking nodes before from w → ReachedBeyond nodes before w.done from w.found
+walk_end nodes before from w none h = record {
   start = elim h.start [ inl e ↦ e | inr (i, x, e, is) ↦ absurd (let f : slice_get [] i ≡ Some x = sym (ap (λ l. slice_get l i) none) ∙ e in cc) ];
-  listed = λ n has. h.listed (root nodes n) has;
-  roots = λ k n e. let r = (h.known k n e).1 in (r.inside, r.end, r.stands);
+  kept = h.kept;
+  listed = h.listed;
+  roots = record { each = λ k n e. let r = (h.known k n e).1 in (r.inside, r.end, r.stands) };
+  new = λ k n e. ((h.known k n e).0, h.other k n e);
   behind = h.behind;
   once = h.once;
 }
+
+-- where the start is done nothing is to be found
+pub none_beyond : (nodes : List Node) (before : ℕ → Bool) (from : ℕ) (found : List ℕ) → before (root nodes from) ≡ true → found ≡ [] → ReachedBeyond nodes before before from found
+none_beyond nodes before from found has empty = subst (ReachedBeyond nodes before before from) (sym empty) (record {
+  start = has;
+  kept = λ n e. e;
+  listed = λ n e. inl e;
+  roots = record { each = λ k n e. absurd (cc) };
+  new = λ k n e. absurd (cc);
+  behind = λ k n c e. absurd (cc);
+  once = λ j k n e. absurd (cc);
+})
+
+-- what is done after it has the roots of its parts, where what was done before has
+pub beyond_cleared : (nodes : List Node) (before done : ℕ → Bool) (from : ℕ) (found : List ℕ) → IsCleared nodes before → ReachedBeyond nodes before done from found → IsCleared nodes done
+beyond_cleared nodes before done from found cleared r = record {
+  each = λ n c has e. elim (r.listed n has) [
+    | inl b ↦ λ i z lt. r.kept _ (cleared.each n c b e i z lt)
+    | inr (k, f) ↦ λ i z lt. elim (r.behind k n c f e i z lt) [
+      | inl b ↦ r.kept _ b
+      | inr (j, low, g) ↦ (r.new j _ g).0
+    ]
+  ];
+}
+
+-- the nodes whose roots are in such a set have all their parts
+pub closed_by_roots : (nodes : List Node) (D : ℕ → Bool) → IsSound nodes → IsCleared nodes D → IsClosed nodes (λ n. D (root nodes n))
+closed_by_roots nodes D sound cleared = record { each = λ n c has e. each n c e has }
   where
-    one : (m : ℕ) → w.done (root nodes m) ≡ true → All (λ k. w.done (root nodes k) ≡ true) (m ∷ [])
+    one : (m : ℕ) → D (root nodes m) ≡ true → All (λ k. D (root nodes k) ≡ true) (m ∷ [])
     one m has zero d lt = has
     one m has (suc k) d lt = absurd (omega arith)
 
-    of_root : (n : ℕ) (c : Node) → slice_get nodes n ≡ Some c → w.done (root nodes n) ≡ true → root nodes n ≡ n → All (λ m. w.done (root nodes m) ≡ true) (parts c)
-    of_root n c e has here i z lt =
-        let (k, f) = h.listed n (subst (λ m. w.done m ≡ true) here has) in
-        let (j, low, s) = h.behind k n c f e i z lt in
-        (h.known j (root nodes (get_or (parts c) i z)) s).0
+    of_root : (n : ℕ) (c : Node) → slice_get nodes n ≡ Some c → IsNoLink c → D (root nodes n) ≡ true → All (λ m. D (root nodes m) ≡ true) (parts c)
+    of_root n c e is has = cleared.each n c (ap D (sym (root_here nodes n (next_stays nodes n c e is))) ∙ has) e
 
-    no_link : (n : ℕ) (c : Node) → slice_get nodes n ≡ Some c → IsNoLink c → root nodes n ≡ n
-    no_link n c e is = root_here nodes n (next_stays nodes n c e is)
+    each : (n : ℕ) (c : Node) → slice_get nodes n ≡ Some c → D (root nodes n) ≡ true → All (λ m. D (root nodes m) ≡ true) (parts c)
+    each n (Var level scope) e has = of_root n (Var level scope) e tt has
+    each n Rigid e has = of_root n Rigid e tt has
+    each n (Link m) e has = one m (ap D (sym (root_link nodes sound n m (slice_get_within nodes n (Link m) e) e)) ∙ has)
+    each n (Arrow a b) e has = of_root n (Arrow a b) e tt has
+    each n (Tuple ms) e has = of_root n (Tuple ms) e tt has
+    each n (Con path name ms) e has = of_root n (Con path name ms) e tt has
 
-    each : (n : ℕ) (c : Node) → slice_get nodes n ≡ Some c → w.done (root nodes n) ≡ true → All (λ m. w.done (root nodes m) ≡ true) (parts c)
-    each n (Var level scope) e has = of_root n (Var level scope) e has (no_link n (Var level scope) e tt)
-    each n Rigid e has = of_root n Rigid e has (no_link n Rigid e tt)
-    each n (Link m) e has =
-        let same = root_link nodes sound n m (slice_get_within nodes n (Link m) e) e in
-        one m (subst (λ k. w.done k ≡ true) same has)
-    each n (Arrow a b) e has = of_root n (Arrow a b) e has (no_link n (Arrow a b) e tt)
-    each n (Tuple ms) e has = of_root n (Tuple ms) e has (no_link n (Tuple ms) e tt)
-    each n (Con path name ms) e has = of_root n (Con path name ms) e has (no_link n (Con path name ms) e tt)
+-- from nothing done a walk finds all
+pub reached_all : (nodes : List Node) (before done : ℕ → Bool) (from : ℕ) (found : List ℕ) → IsSound nodes → ((n : ℕ) → before n ≡ false) → ReachedBeyond nodes before done from found → Reached nodes from found
+reached_all nodes before done from found sound none r = record {
+  set = λ n. done (root nodes n);
+  closed = closed_by_roots nodes done sound (beyond_cleared nodes before done from found (record { each = λ n c has. absurd (let e = none n in cc) }) r);
+  start = r.start;
+  listed = λ n has. elim (r.listed (root nodes n) has) [ inl b ↦ absurd (let e = none (root nodes n) in cc) | inr f ↦ f ];
+  roots = r.roots.each;
+  behind = λ k n c e at i z lt. elim (r.behind k n c e at i z lt) [ inl b ↦ absurd (let e' = none (root nodes (get_or (parts c) i z)) in cc) | inr f ↦ f ];
+  once = r.once;
+}
 
 -- the parts of what a node reads as are nodes
 pub parts_inside : (nodes : List Node) → IsSound nodes → (n : ℕ) (c : Node) → slice_get nodes n ≡ Some c → All (λ m. m < length nodes) (parts c)
 parts_inside nodes sound n c e k d lt = (sound.1.each n c e k d lt).0
 
--- what a walk from `to` found stands in it
-pub listed_stands : (nodes : List Node) (to v : ℕ) (found : List ℕ) → Reached nodes to found → (k : ℕ) × (slice_get found k ≡ Some v) → StandsIn nodes v to
-listed_stands nodes to v found r (k, e) = (r.roots k v e).2
+-- a root that is done after a walk and wasn't before stands in its start
+pub done_stands : (nodes : List Node) (before done : ℕ → Bool) (from v : ℕ) (found : List ℕ) → ReachedBeyond nodes before done from found → before v ≡ false → done v ≡ true → StandsIn nodes v from
+done_stands nodes before done from v found r not has = elim (r.listed v has) [ inl b ↦ absurd (cc) | inr (k, f) ↦ (r.roots.each k v f).2 ]
 
--- a root that it didn't find doesn't
-pub unlisted_apart : (nodes : List Node) (to v : ℕ) (found : List ℕ) → Reached nodes to found → root nodes v ≡ v → ((k : ℕ) → slice_get found k ≢ Some v) → Apart nodes v to
-unlisted_apart nodes to v found r end none = (r.set, r.closed, r.start, lacks (r.set v) refl)
-  where
-    lacks : (b : Bool) → r.set v ≡ b → r.set v ≡ false
-    lacks true e = absurd (let (k, f) = r.listed v e in none k (f ∙ ap (λ j. Some j) end))
-    lacks false e = e
+-- a root that a cleared set lacks stands in no node that it has
+pub cleared_apart : (nodes : List Node) (D : ℕ → Bool) (n v : ℕ) → IsSound nodes → root nodes v ≡ v → IsClearedWithout nodes D n v → Apart nodes v n
+cleared_apart nodes D n v sound end c = ((λ m. D (root nodes m)), closed_by_roots nodes D sound c.cleared, c.has, ap D end ∙ c.lacks)
+
+-- what a walk from nothing done answers
+pub reached_whole : {A E : Type 0} (nodes : List Node) (before done : ℕ → Bool) (from : ℕ) (found_in : A → List ℕ) (res : Result A E) → IfOk res (λ v. IsSound nodes) → ((n : ℕ) → before n ≡ false) →
+    IfOk res (λ v. ReachedBeyond nodes before done from (found_in v)) → IfOk res (λ v. Reached nodes from (found_in v))
+reached_whole nodes before done from found_in (Ok v) sound none h = reached_all nodes before done from (found_in v) sound none h
+reached_whole nodes before done from found_in (Err e) sound none h = tt

@@ -1,13 +1,15 @@
 -- Levels and scopes: what the variables of a store allow, and what lowering them does.
-use Rattle.std.specs.Prelude.{◌≡◌, ◌≢◌, ◌⊎◌, ℕ, ◌<◌, ◌≤◌, ◌==◌, min, true, List, length, slice_get, Some, if◌then◌else◌}
+use Rattle.std.specs.Prelude.{◌≡◌, ◌≢◌, ◌⊎◌, ℕ, ◌<◌, ◌≤◌, ◌==◌, min, Bool, true, List, length, nat_eq, slice_get, Some, if◌then◌else◌}
 use Rattle.type_model.specs.Limits.{in_scope, no_scope, IsUnder}
 use Rattle.type_nodes.specs.Nodes.{Node, Var, Rigid, Link, Arrow, Tuple, Con, bound_level}
 use Rattle.type_nodes.specs.Readings.{Types}
 use Rattle.level_unify.specs.declared.limits.Asked.{Asked}
 use Rattle.level_unify.specs.declared.limits.Asked.TheVariants.{Lower, Nothing, OutOfScope}
+use Rattle.std.specs.HashSet.{contains}
+use Rattle.level_unify.specs.declared.limits.Low.{Low}
 use Rattle.level_unify.specs.Plans.{IsFreeVar}
 use Rattle.level_unify.specs.Solutions.{Loose, Cap, IsListed, HaveNoBound}
-use Rattle.level_unify.specs.Walks.{StandsIn}
+use Rattle.level_unify.specs.Walks.{StandsIn, IsCleared}
 
 -- Where the variables of types have the levels L: types that fit every node, and the limit of each free variable.
 pub record FitsUnder (L : ℕ → ℕ) (nodes : List Node) (V : Types) : Type 0 where
@@ -67,12 +69,17 @@ pub record Lowered (old new : List Node) (level scope v : ℕ) (found : List ℕ
   pub each : (n : ℕ) (c : Node) → slice_get old n ≡ Some c → (slice_get new n ≡ Some c) ⊎ ((slice_get new n ≡ Some (lowered level scope c)) × StandsIn old n v)
   pub done : (k n : ℕ) (c : Node) → k < at → slice_get found k ≡ Some n → slice_get old n ≡ Some c → (slice_get new n ≡ Some (lowered level scope c)) × IsAllowed scope c
 
--- a free variable after lowering: it has the lower limits exactly where it stands in the variable that was bound
+-- a set of roots, with the roots of their parts, in which all is lowered already
+pub record AreLow (nodes : List Node) (level scope : ℕ) (D : ℕ → Bool) : Type 0 where
+  pub cleared : IsCleared nodes D
+  pub low : (n : ℕ) (c : Node) → D n ≡ true → slice_get nodes n ≡ Some c → (lowered level scope c ≡ c) × IsAllowed scope c
+
+-- a free variable after lowering: it has the lower limits where it stands in the variable that was bound, and else its own
 pub record LoweredVar (old : List Node) (x : Cap) (n level scope : ℕ) : Type 0 where
   pub own_level : ℕ
   pub own_scope : ℕ
   pub was : slice_get old n ≡ Some (Var own_level own_scope)
-  pub now : (StandsIn old n x.0 × (level ≡ min own_level x.1) × (scope ≡ min own_scope x.2)) ⊎ ((StandsIn old n x.0 → ⊥) × (level ≡ own_level) × (scope ≡ own_scope))
+  pub now : (StandsIn old n x.0 × (level ≡ min own_level x.1) × (scope ≡ min own_scope x.2)) ⊎ ((StandsIn old n x.0 → (own_level ≤ x.1) × (own_scope ≤ x.2)) × (level ≡ own_level) × (scope ≡ own_scope))
 
 -- a level or a scope is the least of a variable's own and of those, among the first limits, of the variables that it stands in
 pub record LeastOf (old : List Node) (caps : List Cap) (at n own value : ℕ) (of : Cap → ℕ) : Type 0 where
@@ -102,6 +109,10 @@ pub record CappedTo (old new : List Node) (caps : List Cap) (at : ℕ) : Type 0 
   pub back : ((x : Cap) → IsListed caps x → HaveNoBound old x.0 x.0) → (L : ℕ → ℕ) (V : Types) → FitsUnder L new V →
       FitsUnder L old V × ((k : ℕ) (x : Cap) → k < at → slice_get caps k ≡ Some x → IsUnder L x.1 x.2 (V x.0))
   pub least : (n level scope : ℕ) → slice_get new n ≡ Some (Var level scope) → level ≢ bound_level → LeastLimits old caps at n level scope
+
+-- the roots that are low
+abbrev pub low_in : Low → ℕ → Bool
+low_in low = contains nat_eq low.roots
 
 -- nothing that fits keeps to the limits
 pub record NeverCapped (nodes : List Node) (caps : List Cap) : Type 0 where

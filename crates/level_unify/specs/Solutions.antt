@@ -1,10 +1,12 @@
 -- What making nodes one does to the types that fit, levels and scopes left aside.
-use Rattle.std.specs.Prelude.{◌≡◌, ◌≢◌, ◌⊎◌, ℕ, ◌+◌, ◌<◌, Bool, true, false, List, [], ◌∷◌, ◌++◌, length, map, slice_get, Some, suc}
+use Rattle.std.specs.Prelude.{◌≡◌, ◌≢◌, ◌⊎◌, ℕ, ◌+◌, ◌<◌, ◌≤◌, Bool, true, false, cond, nat_eq, List, [], ◌∷◌, ◌++◌, length, map, slice_get, Some, suc}
 use Rattle.type_nodes.specs.Nodes.{Node, Var, Rigid, Link, Arrow, Tuple, Con, bound_level, IsClosed}
-use Rattle.type_nodes.specs.Links.{IsNoLink}
+use Rattle.std.specs.HashSet.{contains}
+use Rattle.type_nodes.specs.Links.{root, IsNoLink}
 use Rattle.type_nodes.specs.Readings.{Types, FitsNode}
 use Rattle.level_unify.specs.declared.solve.Pair.{Pair}
 use Rattle.level_unify.specs.declared.solve.Limit.{Limit}
+use Rattle.level_unify.specs.declared.solve.Todo.{Todo}
 
 -- A node's type is built from the types of its parts, and a variable's is any type.
 abbrev pub FitsLoosely : Types → ℕ → Node → Type 0
@@ -42,6 +44,25 @@ equation_of p = (p.left.0, p.right.0)
 abbrev pub equations_of : List Pair → List Equation
 equations_of ps = map equation_of ps
 
+-- the roots that are opened
+abbrev pub is_opened : Todo → ℕ → Bool
+is_opened todo = contains nat_eq todo.opened
+
+-- the roots that are cleared
+abbrev pub is_cleared : Todo → ℕ → Bool
+is_cleared todo = contains nat_eq todo.cleared
+
+-- at most s is cleared in addition, and it is where r is
+pub record ClearsAlike (D D' : ℕ → Bool) (r s : ℕ) : Type 0 where
+  pub kept : (n : ℕ) → D n ≡ true → D' n ≡ true
+  pub new : (n : ℕ) → D' n ≡ true → (D n ≡ true) ⊎ ((n ≡ s) × (D r ≡ true))
+  pub alike : D' r ≡ true → D' s ≡ true
+
+-- both sides of each equation have one root
+abbrev pub AreOne : List Node → List Equation → Type 0
+AreOne nodes [] = Unit {0}
+AreOne nodes (e ∷ es) = (root nodes e.0 ≡ root nodes e.1) × AreOne nodes es
+
 -- the parts of two nodes in pairs
 abbrev pub paired : List ℕ → List ℕ → List Equation
 paired [] ns = []
@@ -69,16 +90,25 @@ abbrev pub weight : List Node → ℕ
 weight [] = 0
 weight (c ∷ nodes) = weight_of c + weight nodes
 
+-- the same for the nodes from a number on that aren't opened
+abbrev pub unopened : (ℕ → Bool) → ℕ → List Node → ℕ
+unopened O at [] = 0
+unopened O at (c ∷ nodes) = cond (O at) 0 (weight_of c) + unopened O (suc at) nodes
+
+-- what is left to do for nodes, some of which are opened
+abbrev pub work : (ℕ → Bool) → List Node → ℕ
+work O nodes = weight nodes + unopened O 0 nodes
+
 -- the change stays within what r and s lead to, and makes links alone
 pub record StaysWithin (old new : List Node) (r s : ℕ) : Type 0 where
   pub closed : (F : ℕ → Bool) → IsClosed old F → F r ≡ true → F s ≡ true → IsClosed new F
   pub outside : (F : ℕ → Bool) → IsClosed old F → F r ≡ true → F s ≡ true → (n : ℕ) → F n ≡ false → slice_get new n ≡ slice_get old n
   pub links : (n : ℕ) (c : Node) → slice_get new n ≡ Some c → IsNoLink c → slice_get old n ≡ Some c
 
--- r and s were made one as far as they alone go: equations of their parts are left
-pub record Stepped (old new : List Node) (r s : ℕ) (extra : List Equation) : Type 0 where
+-- r and s were made one as far as they alone go, or opened: equations of their parts are left
+pub record Stepped (old new : List Node) (r s : ℕ) (O O' : ℕ → Bool) (extra : List Equation) : Type 0 where
   pub len : length new ≡ length old
-  pub smaller : weight new + length extra < weight old
+  pub smaller : work O' new + length extra ≤ work O old
   pub inside : AllIn (λ n. n < length old) extra
   pub forth : (V : Types) → Loose old V → V r ≡ V s → Loose new V × Solves V extra
   pub back : (V : Types) → Loose new V → Solves V extra → Loose old V × (V r ≡ V s)
@@ -86,8 +116,8 @@ pub record Stepped (old new : List Node) (r s : ℕ) (extra : List Equation) : T
   pub within : (F : ℕ → Bool) → IsClosed old F → F r ≡ true → F s ≡ true → AllIn (λ n. F n ≡ true) extra
 
 -- the same, with the equations that are left to do before and after
-abbrev pub Steps : List Node → List Node → ℕ → ℕ → List Equation → List Equation → Type 0
-Steps old new r s todo todo' = (extra : List Equation) × (todo' ≡ todo ++ extra) × Stepped old new r s extra
+abbrev pub Steps : List Node → List Node → ℕ → ℕ → (ℕ → Bool) → (ℕ → Bool) → List Equation → List Equation → Type 0
+Steps old new r s O O' todo todo' = (extra : List Equation) × (todo' ≡ todo ++ extra) × Stepped old new r s O O' extra
 
 -- the variable that became a link, if one did, is listed with its level and its scope
 pub record Recorded (old new : List Node) (r s : ℕ) (caps caps' : List Cap) : Type 0 where

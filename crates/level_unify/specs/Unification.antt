@@ -3,12 +3,14 @@ use Rattle.std.specs.Prelude.{◌≡◌, ◌≢◌, ◌⊎◌, ◌≤◌, ℕ, B
 use Rattle.type_model.specs.Types.{occurs}
 use Rattle.type_model.specs.Types.{Typ as type}
 use Rattle.type_terms.specs.declared.types.NodeRef.{NodeRef}
-use Rattle.type_nodes.specs.Nodes.{Node, Var, bound_level, IsClosed}
+use Rattle.type_nodes.specs.Nodes.{Node, Var, bound_level, IsClosed, IsSound}
 use Rattle.type_nodes.specs.Links.{root, IsFree}
 use Rattle.type_nodes.specs.Readings.{Types, IsReading}
 use Rattle.level_unify.specs.declared.fault.ClashKind.{ClashKind}
 use Rattle.level_unify.specs.declared.fault.ClashKind.TheVariants.{Shape, Cycle, Scope}
 use Rattle.level_unify.specs.declared.fault.Clash.{Clash}
+use Rattle.level_unify.specs.declared.unifying.Failure.{Failure}
+use Rattle.level_unify.specs.declared.unifying.Failure.TheVariants.{NotOne, OutOfScope}
 use Rattle.level_unify.specs.Walks.{StandsIn}
 use Rattle.level_unify.specs.Solutions.{Loose}
 use Rattle.level_unify.specs.Limits.{FitsUnder}
@@ -40,6 +42,12 @@ abbrev pub HasKind : List Node → ℕ → ℕ → ClashKind → Type 0
 HasKind nodes a b Cycle = IsCyclic nodes a b × (IsAlikeUnscoped nodes a b → ⊥)
 HasKind nodes a b Scope = (IsCyclic nodes a b → ⊥) × IsAlikeUnscoped nodes a b
 HasKind nodes a b Shape = (IsCyclic nodes a b → ⊥) × (IsAlikeUnscoped nodes a b → ⊥)
+
+-- a failure gives a clash this kind
+abbrev pub HasCause : List Node → ℕ → ℕ → Failure → ClashKind → Type 0
+HasCause nodes a b failure Cycle = (failure ≡ NotOne) × IsSound nodes × IsCyclic nodes a b
+HasCause nodes a b failure Scope = failure ≡ OutOfScope
+HasCause nodes a b failure Shape = (failure ≡ NotOne) × (IsCyclic nodes a b → ⊥)
 
 -- a clash: the two given nodes, which no reading gives one type, and its kind
 pub record Clashes (nodes : List Node) (a b : NodeRef) (clash : Clash) : Type 0 where

@@ -1,6 +1,6 @@
 -- Walks through types: the nodes that a node leads to.
-use Rattle.std.specs.Prelude.{◌≡◌, ℕ, ◌<◌, ◌≤◌, Bool, true, false, List, [], ◌∷◌, ◌++◌, All, cond, length, map, nat_eq, slice_get, Some}
-use Rattle.std.specs.HashSet.{contains}
+use Rattle.std.specs.Prelude.{◌≡◌, ◌⊎◌, ℕ, ◌<◌, ◌≤◌, Bool, true, false, List, [], ◌∷◌, ◌++◌, All, cond, length, map, nat_eq, slice_get, Some}
+use Rattle.std.specs.HashSet.{HashSet, contains}
 use Rattle.type_nodes.specs.Nodes.{Node, IsClosed, parts}
 use Rattle.type_nodes.specs.Links.{root}
 use Rattle.type_nodes.specs.Views.{numbers}
@@ -20,6 +20,31 @@ pub record Reached (nodes : List Node) (from : ℕ) (found : List ℕ) : Type 0 
   pub listed : (n : ℕ) → set n ≡ true → (k : ℕ) × (slice_get found k ≡ Some (root nodes n))
   pub roots : (k n : ℕ) → slice_get found k ≡ Some n → (n < length nodes) × (root nodes n ≡ n) × StandsIn nodes n from
   pub behind : (k n : ℕ) (c : Node) → slice_get found k ≡ Some n → slice_get nodes n ≡ Some c → All (λ m. (j : ℕ) × (j < k) × (slice_get found j ≡ Some (root nodes m))) (parts c)
+  pub once : (j k n : ℕ) → slice_get found j ≡ Some n → slice_get found k ≡ Some n → j ≡ k
+
+-- a set of roots that has the roots of its nodes' parts
+pub record IsCleared (nodes : List Node) (D : ℕ → Bool) : Type 0 where
+  pub each : (n : ℕ) (c : Node) → D n ≡ true → slice_get nodes n ≡ Some c → All (λ m. D (root nodes m) ≡ true) (parts c)
+
+-- it has a node's root, and not v
+pub record IsClearedWithout (nodes : List Node) (D : ℕ → Bool) (n v : ℕ) : Type 0 where
+  pub cleared : IsCleared nodes D
+  pub has : D (root nodes n) ≡ true
+  pub lacks : D v ≡ false
+
+-- roots that stand in a node
+pub record AreRootsIn (nodes : List Node) (from : ℕ) (found : List ℕ) : Type 0 where
+  pub each : (k n : ℕ) → slice_get found k ≡ Some n → (n < length nodes) × (root nodes n ≡ n) × StandsIn nodes n from
+
+-- The roots of `from` and of all that stands in it, but for those that were done before. Then all are done.
+pub record ReachedBeyond (nodes : List Node) (before done : ℕ → Bool) (from : ℕ) (found : List ℕ) : Type 0 where
+  pub start : done (root nodes from) ≡ true
+  pub kept : (n : ℕ) → before n ≡ true → done n ≡ true
+  pub listed : (n : ℕ) → done n ≡ true → (before n ≡ true) ⊎ ((k : ℕ) × (slice_get found k ≡ Some n))
+  pub roots : AreRootsIn nodes from found
+  pub new : (k n : ℕ) → slice_get found k ≡ Some n → (done n ≡ true) × (before n ≡ false)
+  pub behind : (k n : ℕ) (c : Node) → slice_get found k ≡ Some n → slice_get nodes n ≡ Some c →
+      All (λ m. (before (root nodes m) ≡ true) ⊎ ((j : ℕ) × (j < k) × (slice_get found j ≡ Some (root nodes m)))) (parts c)
   pub once : (j k n : ℕ) → slice_get found j ≡ Some n → slice_get found k ≡ Some n → j ≡ k
 
 -- a root on the way, and how many of its parts are done
@@ -43,8 +68,8 @@ pub record Course : Type 0 where
 abbrev pub course : (ℕ → Bool) → List ℕ → List Visit → Course
 course done found way = record { done = done; found = found; way = way }
 
-abbrev pub course_of : Walk → Course
-course_of w = course (contains nat_eq w.done) (numbers w.found.items) (visits_of w.way.items)
+abbrev pub course_of : {S : Type 0} → HashSet ℕ S → Walk → Course
+course_of done w = course (contains nat_eq done) (numbers w.found.items) (visits_of w.way.items)
 
 -- the roots of the parts from one place on to another are done
 pub record AreDone (nodes : List Node) (done : ℕ → Bool) (ms : List ℕ) (from to : ℕ) : Type 0 where

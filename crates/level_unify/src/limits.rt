@@ -1,5 +1,6 @@
 //! What a bound variable's level and scope ask of the type that it now reads as.
-ghost use Rattle.std.specs.Prelude.{◌≡◌, ◌↔◌, ℕ, ◌<◌, ◌≢◌, true, IsTrue, IfErr, OnOk, OnErr, slice_get, Some, length};
+ghost use Rattle.std.specs.Prelude.{◌≡◌, ◌↔◌, ℕ, ◌<◌, ◌≢◌, true, List, IsTrue, IfErr, OnOk, OnErr, slice_get, Some, length};
+ghost use Rattle.std.specs.List.Sorted.{IsPermutation};
 ghost use Rattle.type_model.specs.Limits.{in_scope};
 ghost use Rattle.type_nodes.specs.Nodes.{Node, IsNode, IsSound, bound_level};
 ghost use Rattle.type_nodes.specs.Links.{root};
@@ -8,14 +9,15 @@ ghost use Rattle.level_unify.specs.Plans.{Views};
 ghost use Rattle.type_model.specs.Limits.{IsUnder};
 ghost use Rattle.type_nodes.specs.Readings.{Types};
 ghost use Rattle.type_nodes.specs.Views.{numbers};
-ghost use Rattle.level_unify.specs.Walks.{Reached};
+ghost use Rattle.level_unify.specs.Walks.{AreRootsIn};
 ghost use Rattle.level_unify.specs.Solutions.{Cap, IsListed, cap_of, caps_of};
-ghost use Rattle.level_unify.specs.Limits.{Asks, IsAllowed, LoweredOne, Lowered, FitsUnder, Capped, CappedTo, NeverCapped};
+ghost use Rattle.level_unify.specs.Limits.{Asks, IsAllowed, AreLow, low_in, LoweredOne, Lowered, FitsUnder, Capped, CappedTo, NeverCapped};
 
 use crate::levels::{BOUND, NO_SCOPE};
 use crate::solve::{Limit, Stop};
-use crate::walk::reached;
+use crate::walk::reached_beyond;
 use std::alloc::Global;
+use std::collections::HashSet;
 use type_nodes::{NoMemory, NodeRef, Origin, Store, View};
 
 const BUILT_IN: u64 = 9_223_372_036_854_775_808;
@@ -88,7 +90,7 @@ fn lower_one(store: &mut Store, node: NodeRef, limit: Limit) -> Result<(), Stop>
 }
 
 fn lower_found(store: &mut Store, found: &[NodeRef], limit: Limit) -> Result<(), Stop>
-    requires found { Reached store.old.nodes limit.var.0 (numbers found.now) }
+    requires found { AreRootsIn store.old.nodes limit.var.0 (numbers found.now) }
     requires free { limit.level ≢ bound_level }
     ensures lowered { OnOk result (Lowered store.old.nodes store.new.nodes limit.level limit.scope limit.var.0 (numbers found.now) (length (numbers found.now))) }
     ensures clash { IfErr result (λ e. e ≡ Stop.Clash → (L : ℕ → ℕ) (V : Types) → FitsUnder L store.old.nodes V → IsUnder L limit.level limit.scope (V limit.var.0) → ⊥) }
@@ -100,26 +102,62 @@ fn lower_found(store: &mut Store, found: &[NodeRef], limit: Limit) -> Result<(),
     Ok(())
 }
 
-fn lower_reached(alloc: Global, store: &mut Store, limit: Limit) -> Result<(), Stop>
+// Roots with all that stands in them, where nothing is above a level and a scope.
+#[derive(Drop)]
+struct Low {
+    roots: HashSet<u64>,
+    level: u32,
+    scope: u64,
+}
+
+// Takes another level and scope. What is low stays so unless one of them falls.
+fn limit_to(alloc: Global, low: &mut Low, limit: Limit)
+    ensures low { (nodes : List Node) → AreLow nodes low.old.level low.old.scope (low_in low.old) → AreLow nodes limit.level limit.scope (low_in low.new) }
+    ensures level { low.new.level ≡ limit.level }
+    ensures scope { low.new.scope ≡ limit.scope }
+{
+    if limit.level < low.level || limit.scope < low.scope {
+        low.roots = HashSet::new(alloc);
+    }
+    low.level = limit.level;
+    low.scope = limit.scope;
+}
+
+fn lower_reached(alloc: Global, store: &mut Store, low: &mut Low, limit: Limit) -> Result<(), Stop>
     requires inside { IsNode store.old.nodes limit.var.0 }
     requires free { limit.level ≢ bound_level }
-    ensures capped { OnOk result (Capped store.old.nodes store.new.nodes (cap_of limit)) }
+    requires low { AreLow store.old.nodes low.old.level low.old.scope (low_in low.old) }
+    ensures capped { OnOk result (Capped store.old.nodes store.new.nodes (cap_of limit) × AreLow store.new.nodes low.new.level low.new.scope (low_in low.new)) }
     ensures clash { IfErr result (λ e. e ≡ Stop.Clash → (L : ℕ → ℕ) (V : Types) → FitsUnder L store.old.nodes V → IsUnder L limit.level limit.scope (V limit.var.0) → ⊥) }
     ensures keeps { Keeps store.old store.new }
 {
-    let found = reached(alloc, store, limit.var)?;
+    limit_to(alloc, low, limit);
+    let found = reached_beyond(alloc, store, &mut low.roots, limit.var)?;
     lower_found(store, &found, limit)
 }
 
-/// Lowers the variables in what the bound variables read as. A clash where an origin there was made too late.
+/// Puts low levels first, and among equal levels low scopes.
+pub fn lowest_first(limits: &mut Vec<Limit>)
+    ensures { IsPermutation limits.old.items limits.new.items }
+{
+    limits.sort_unstable_by_key(|limit| (limit.level, limit.scope));
+}
+
+/// Lowers the variables in what the bound variables read as. A clash where an origin there was made too late. What is low by one
+/// limit is not walked again for those behind it, as long as neither the level nor the scope falls from one to the next.
 pub fn lower_all(alloc: Global, store: &mut Store, limits: &[Limit]) -> Result<(), Stop>
     requires limits { (x : Cap) → IsListed (caps_of limits.now) x → (x.0 < length store.old.nodes) × (x.1 ≢ bound_level) }
     ensures capped { OnOk result (CappedTo store.old.nodes store.new.nodes (caps_of limits.now) (length (caps_of limits.now))) }
     ensures clash { IfErr result (λ e. e ≡ Stop.Clash → NeverCapped store.old.nodes (caps_of limits.now)) }
     ensures keeps { Keeps store.old store.new }
 {
+    let mut low = Low {
+        roots: HashSet::new(alloc),
+        level: 0,
+        scope: 0,
+    };
     for limit in limits {
-        lower_reached(alloc, store, *limit)?;
+        lower_reached(alloc, store, &mut low, *limit)?;
     }
     Ok(())
 }

@@ -2,6 +2,7 @@ ghost use Rattle.std.specs.Prelude.{◌≡◌, true, All, IfOk, OnOk, ◌≤◌,
 ghost use Rattle.type_nodes.specs.Nodes.{IsNode};
 ghost use Rattle.type_nodes.specs.Views.{numbers};
 
+mod large;
 mod pairs;
 mod robinson;
 

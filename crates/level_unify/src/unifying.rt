@@ -1,19 +1,20 @@
 //! Unification.
-ghost use Rattle.std.specs.Prelude.{◌≡◌, ◌↔◌, ℕ, length, IsTrue, IfOk, IfErr, OnOk, OnErr};
+ghost use Rattle.std.specs.Prelude.{◌≡◌, ◌↔◌, length, IsTrue, IfOk, IfErr, OnOk, OnErr};
 ghost use Rattle.level_unify.specs.declared.fault.UnifyFault.{UnifyFault};
 ghost use Rattle.level_unify.specs.declared.fault.Clash.{Clash};
-ghost use Rattle.level_unify.specs.declared.solve.Stop.{Stop};
+ghost use Rattle.level_unify.specs.declared.fault.ClashKind.{ClashKind};
 ghost use Rattle.type_nodes.specs.Nodes.{IsNode, IsSound};
 ghost use Rattle.type_nodes.specs.States.{Keeps};
-ghost use Rattle.level_unify.specs.Solutions.{HaveNoBound};
-ghost use Rattle.level_unify.specs.Unification.{IsInside, IsCyclic, Clashes, Unified};
+ghost use Rattle.level_unify.specs.Solutions.{HaveNoBound, NeverOne};
+ghost use Rattle.level_unify.specs.Unification.{IsInside, IsCyclic, NeverAlike, HasKind, HasCause, Clashes, Unified};
 
 use crate::fault::{Clash, ClashKind, UnifyFault};
-use crate::limits::lower_all;
+use crate::limits::{lower_all, lowest_first};
 use crate::plan::is_free;
 use crate::solve::{Stop, solve};
 use crate::walk::occurs;
 use std::alloc::Global;
+use std::collections::HashSet;
 use type_nodes::{NoMemory, NodeRef, Store};
 
 // Whether `inner` reads as a free variable that stands inside `outer` and isn't `outer`.
@@ -32,17 +33,8 @@ fn stands_inside(
     if var.0 == store.root(outer).0 || !is_free(&store.read(var)) {
         return Ok(false);
     }
-    occurs(alloc, store, var, outer)
-}
-
-// A clash of the two nodes is of this kind.
-fn fault(stop: Stop, left: NodeRef, right: NodeRef, kind: ClashKind) -> UnifyFault
-    ensures { (clash : Clash) → result ≡ UnifyFault.Clash clash → (stop ≡ Stop.Clash) × (clash.left ≡ left) × (clash.right ≡ right) × (clash.kind ≡ kind) }
-{
-    match stop {
-        Stop::Clash => UnifyFault::Clash(Clash { left, right, kind }),
-        Stop::NoMemory => UnifyFault::NoMemory,
-    }
+    let mut cleared = HashSet::new(alloc);
+    occurs(alloc, store, &mut cleared, var, outer)
 }
 
 fn is_cyclic(alloc: Global, store: &Store, a: NodeRef, b: NodeRef) -> Result<bool, NoMemory>
@@ -54,26 +46,62 @@ fn is_cyclic(alloc: Global, store: &Store, a: NodeRef, b: NodeRef) -> Result<boo
     Ok(stands_inside(alloc, store, a, b)? || stands_inside(alloc, store, b, a)?)
 }
 
+// Why two nodes were not made one.
+#[derive(Clone, Copy, Drop)]
+enum Failure {
+    NotOne,
+    OutOfScope,
+    NoMemory,
+}
+
+// The kind of the clash, told by the nodes from before.
+fn kind_of(
+    alloc: Global,
+    store: &Store,
+    a: NodeRef,
+    b: NodeRef,
+    failure: Failure,
+) -> Result<ClashKind, NoMemory>
+    requires a { IsNode store.now.nodes a.0 }
+    requires b { IsNode store.now.nodes b.0 }
+    ensures { IfOk result (λ kind. HasCause store.now.nodes a.0 b.0 failure kind) }
+{
+    match failure {
+        Failure::NotOne => {
+            if is_cyclic(alloc, store, a, b)? {
+                Ok(ClashKind::Cycle)
+            } else {
+                Ok(ClashKind::Shape)
+            }
+        }
+        Failure::OutOfScope => Ok(ClashKind::Scope),
+        Failure::NoMemory => Err(NoMemory),
+    }
+}
+
 // The parts of unification in order; after an error some of the changes are made.
-fn attempt(alloc: Global, store: &mut Store, a: NodeRef, b: NodeRef) -> Result<(), UnifyFault>
+fn attempt(alloc: Global, store: &mut Store, a: NodeRef, b: NodeRef) -> Result<(), Failure>
     requires a { IsNode store.old.nodes a.0 }
     requires b { IsNode store.old.nodes b.0 }
     ensures unified { OnOk result (HaveNoBound store.old.nodes a.0 b.0 → Unified store.old.nodes store.new.nodes a.0 b.0) }
-    ensures clash { IfErr result (λ e. (clash : Clash) → e ≡ UnifyFault.Clash clash → HaveNoBound store.old.nodes a.0 b.0 → Clashes store.old.nodes a b clash) }
+    ensures not_one { IfErr result (λ e. e ≡ Failure.NotOne → HaveNoBound store.old.nodes a.0 b.0 → NeverOne store.old.nodes a.0 b.0) }
+    ensures out_of_scope { IfErr result (λ e. e ≡ Failure.OutOfScope → HaveNoBound store.old.nodes a.0 b.0 → NeverAlike store.old.nodes a.0 b.0 × HasKind store.old.nodes a.0 b.0 ClashKind.Scope) }
     ensures len { OnOk result (length store.new.nodes ≡ length store.old.nodes) }
     ensures keeps { Keeps store.old store.new }
 {
-    if is_cyclic(alloc, store, a, b)? {
-        return Err(fault(Stop::Clash, a, b, ClashKind::Cycle));
-    }
+    prove!((a.0 as usize) < store.len());
     let mut limits = Vec::new(alloc);
-    if let Err(stop) = solve(alloc, store, &mut limits, a, b) {
-        return Err(fault(stop, a, b, ClashKind::Shape));
+    match solve(alloc, store, &mut limits, a, b) {
+        Ok(()) => {}
+        Err(Stop::Clash) => return Err(Failure::NotOne),
+        Err(Stop::NoMemory) => return Err(Failure::NoMemory),
     }
-    if let Err(stop) = lower_all(alloc, store, &limits) {
-        return Err(fault(stop, a, b, ClashKind::Scope));
+    lowest_first(&mut limits);
+    match lower_all(alloc, store, &limits) {
+        Ok(()) => Ok(()),
+        Err(Stop::Clash) => Err(Failure::OutOfScope),
+        Err(Stop::NoMemory) => Err(Failure::NoMemory),
     }
-    Ok(())
 }
 
 /// Makes two nodes one, where some reading gives them one type; a clash tells why no reading does. Both are said where no bound
@@ -88,9 +116,16 @@ pub fn unify(alloc: Global, store: &mut Store, a: NodeRef, b: NodeRef) -> Result
     ensures keeps { Keeps store.old store.new }
 {
     let mark = store.snapshot();
-    let result = attempt(alloc, store, a, b);
-    if result.is_err() {
-        store.rollback(mark);
+    match attempt(alloc, store, a, b) {
+        Ok(()) => Ok(()),
+        Err(failure) => {
+            store.rollback(mark);
+            let kind = kind_of(alloc, store, a, b, failure)?;
+            Err(UnifyFault::Clash(Clash {
+                left: a,
+                right: b,
+                kind,
+            }))
+        }
     }
-    result
 }

@@ -27,8 +27,9 @@ returns-in_err-lower_reached-clause-clash c =
 pub loop-limit-preserved : goal.loop-limit-preserved
 loop-limit-preserved c =
     let e = cap_get c.args.limits.now c.loop-limit.limit-index (record { var = record { 0 = 0 }; level = 0; scope = 0 }) c.loop-limit-test.true in (
-      capped_on c.args.store.now.nodes c.loop-limit.store.nodes c.lower_reached.new.store.nodes (caps_of c.args.limits.now) c.loop-limit.limit-index _ e c.loop-limit.invariant.0 c.in_ok-lower_reached.ensures.capped,
+      capped_on c.args.store.now.nodes c.loop-limit.store.nodes c.lower_reached.new.store.nodes (caps_of c.args.limits.now) c.loop-limit.limit-index _ e c.loop-limit.invariant.0 c.in_ok-lower_reached.ensures.capped.0,
       keeps_trans c.args.store.now c.loop-limit.store c.lower_reached.new.store c.loop-limit.invariant.1 c.lower_reached.ensures.keeps,
+      c.in_ok-lower_reached.ensures.capped.1,
     )
 
 pub returns-clause-capped : goal.returns-clause-capped

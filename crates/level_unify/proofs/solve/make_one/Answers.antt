@@ -1,9 +1,9 @@
 use Rattle.level_unify.specs.declared.plan.Plan.TheVariants.{BindLeft, BindRight, LinkParts, Clash}
-use Rattle.level_unify.specs.Solutions.{equations_of, caps_of}
-use Rattle.level_unify.proofs.Steps.{Planned, planned, free_at, bound_left, bound_right, tied, inside_clash, inside_clash_turned}
+use Rattle.level_unify.specs.Solutions.{equations_of, is_opened, caps_of}
+use Rattle.level_unify.proofs.Steps.{Planned, planned, free_at, bound_left, bound_right, inside_clash, inside_clash_turned}
 use Rattle.level_unify.proofs.Differing.{never_planned}
-use Rattle.level_unify.proofs.Recording.{left_recorded, right_recorded, tie_recorded}
-use Rattle.level_unify.proofs.solve.step.Goals as goal
+use Rattle.level_unify.proofs.Recording.{left_recorded, right_recorded}
+use Rattle.level_unify.proofs.solve.make_one.Goals as goal
 
 pub bind-requires-clause-var : goal.bind-requires-clause-var
 bind-requires-clause-var c =
@@ -27,20 +27,13 @@ pub returns-in-BindLeft-clause-stepped : goal.returns-in-BindLeft-clause-stepped
 returns-in-BindLeft-clause-stepped c =
     let p : Planned c.args.store.now.nodes c.args.left.0 c.args.right.0 BindLeft =
     planned c.args.store.now.nodes c.args.left.0 c.args.right.0 c.read.result c.read-2.result BindLeft c.requires.left c.requires.right c.requires.left_root c.requires.right_root c.read.ensures c.read-2.ensures c.in-BindLeft.ensures in
-    bound_left c.args.store.now.nodes c.bind.new.store.nodes c.args.left.0 c.args.right.0 (equations_of c.args.todo.now.items) c.bind.result p c.bind.ensures.linked
+    bound_left (is_opened c.args.todo.now) c.args.store.now.nodes c.bind.new.store.nodes c.args.left.0 c.args.right.0 (equations_of c.args.todo.now.pairs.items) c.bind.result p c.bind.ensures.linked
 
 pub returns-in-BindRight-clause-stepped : goal.returns-in-BindRight-clause-stepped
 returns-in-BindRight-clause-stepped c =
     let p : Planned c.args.store.now.nodes c.args.left.0 c.args.right.0 BindRight =
     planned c.args.store.now.nodes c.args.left.0 c.args.right.0 c.read.result c.read-2.result BindRight c.requires.left c.requires.right c.requires.left_root c.requires.right_root c.read.ensures c.read-2.ensures c.in-BindRight.ensures in
-    bound_right c.args.store.now.nodes c.bind-in-BindRight.new.store.nodes c.args.left.0 c.args.right.0 (equations_of c.args.todo.now.items) c.bind-in-BindRight.result p c.bind-in-BindRight.ensures.linked
-
-pub returns-in-LinkParts-clause-stepped : goal.returns-in-LinkParts-clause-stepped
-returns-in-LinkParts-clause-stepped c =
-    let p : Planned c.args.store.now.nodes c.args.left.0 c.args.right.0 LinkParts =
-    planned c.args.store.now.nodes c.args.left.0 c.args.right.0 c.read.result c.read-2.result LinkParts c.requires.left c.requires.right c.requires.left_root c.requires.right_root c.read.ensures c.read-2.ensures c.in-LinkParts.ensures in
-    tied c.args.store.now.nodes c.tie.new.store.nodes c.args.left.0 c.args.right.0 (equations_of c.args.todo.now.items) (equations_of c.tie.new.todo.items) c.tie.result
-    c.requires.sound c.requires.other p c.tie.ensures.linked c.tie.ensures.left_over
+    bound_right (is_opened c.args.todo.now) c.args.store.now.nodes c.bind-in-BindRight.new.store.nodes c.args.left.0 c.args.right.0 (equations_of c.args.todo.now.pairs.items) c.bind-in-BindRight.result p c.bind-in-BindRight.ensures.linked
 
 pub returns-in-BindLeft-clause-clash : goal.returns-in-BindLeft-clause-clash
 returns-in-BindLeft-clause-clash c =
@@ -78,9 +71,3 @@ returns-in-BindRight-clause-recorded c =
     planned c.args.store.now.nodes c.args.left.0 c.args.right.0 c.read.result c.read-2.result BindRight c.requires.left c.requires.right c.requires.left_root c.requires.right_root c.read.ensures c.read-2.ensures c.in-BindRight.ensures in
     right_recorded c.args.store.now.nodes c.bind-in-BindRight.new.store.nodes c.args.left.0 c.args.right.0 (caps_of c.args.limits.now.items) (caps_of c.bind-in-BindRight.new.limits.items) c.bind-in-BindRight.result p
     c.bind-in-BindRight.ensures.linked c.bind-in-BindRight.ensures.recorded
-
-pub returns-in-LinkParts-clause-recorded : goal.returns-in-LinkParts-clause-recorded
-returns-in-LinkParts-clause-recorded c =
-    let p : Planned c.args.store.now.nodes c.args.left.0 c.args.right.0 LinkParts =
-    planned c.args.store.now.nodes c.args.left.0 c.args.right.0 c.read.result c.read-2.result LinkParts c.requires.left c.requires.right c.requires.left_root c.requires.right_root c.read.ensures c.read-2.ensures c.in-LinkParts.ensures in
-    tie_recorded c.args.store.now.nodes c.tie.new.store.nodes c.args.left.0 c.args.right.0 (caps_of c.args.limits.now.items) c.tie.result p c.tie.ensures.linked
