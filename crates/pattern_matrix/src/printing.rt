@@ -18,6 +18,7 @@ pub fn print_shape(alloc: Global, shape: &Shape) -> Result<RcStr, NoMemory> {
     RcStr::new(alloc, text)
 }
 
+#[cycle(printing)]
 fn print_in(text: &mut String, within: Within, shape: &Shape) -> Result<(), NoMemory> {
     match shape {
         Shape::Any => write(text, "_"),
@@ -27,6 +28,7 @@ fn print_in(text: &mut String, within: Within, shape: &Shape) -> Result<(), NoMe
     }
 }
 
+#[cycle(printing)]
 fn print_built(
     text: &mut String,
     within: Within,
@@ -52,6 +54,7 @@ fn print_built(
     print_applied(text, within, name, parts)
 }
 
+#[cycle(printing)]
 fn print_tuple(text: &mut String, parts: &[Shape]) -> Result<(), NoMemory> {
     write(text, "(")?;
     for (i, part) in parts.iter().enumerate() {
@@ -63,6 +66,7 @@ fn print_tuple(text: &mut String, parts: &[Shape]) -> Result<(), NoMemory> {
     write(text, ")")
 }
 
+#[cycle(printing)]
 fn print_cons(text: &mut String, parts: &[Shape]) -> Result<(), NoMemory> {
     if let Some(left) = parts.get(0) {
         print_in(text, Within::LeftOfCons, left)?;
@@ -75,6 +79,7 @@ fn print_cons(text: &mut String, parts: &[Shape]) -> Result<(), NoMemory> {
 }
 
 /// The labels stand in the name, in braces and joined by `; `.
+#[cycle(printing)]
 fn print_record(text: &mut String, name: &RcStr, parts: &[Shape]) -> Result<(), NoMemory> {
     write(text, "{ ")?;
     let mut labels = name.as_str();
@@ -89,6 +94,7 @@ fn print_record(text: &mut String, name: &RcStr, parts: &[Shape]) -> Result<(), 
     write(text, " }")
 }
 
+#[cycle(printing)]
 fn print_applied(
     text: &mut String,
     within: Within,

@@ -1,9 +1,15 @@
 //! The same patterns, found part by part.
+ghost use Rattle.std.specs.Prelude.{◌≡◌, IsTrue, map};
+ghost use Rattle.pattern_matrix.specs.Views.{member_of, members_of, typed_of, cell_view, cells_view, lines_view};
+
 use crate::columns::{Cell, Line};
 use crate::patterns::{Built, Pat};
 
 /// Whether two patterns are the same, and their constructors of the same types.
-pub(crate) fn same_pat(a: &Pat, b: &Pat) -> bool {
+#[cycle(same)]
+pub(crate) fn same_pat(a: &Pat, b: &Pat) -> bool
+    ensures { IsTrue result → typed_of a.now ≡ typed_of b.now }
+{
     match a {
         Pat::Any => matches!(b, Pat::Any),
         Pat::Con { all, name, parts } => match b {
@@ -29,7 +35,10 @@ pub(crate) fn same_pat(a: &Pat, b: &Pat) -> bool {
     }
 }
 
-fn same_pats(pats: &[Pat], others: &[Pat]) -> bool {
+#[cycle(same)]
+fn same_pats(pats: &[Pat], others: &[Pat]) -> bool
+    ensures { IsTrue result → map typed_of pats.now ≡ map typed_of others.now }
+{
     if pats.len() != others.len() {
         return false;
     }
@@ -41,20 +50,29 @@ fn same_pats(pats: &[Pat], others: &[Pat]) -> bool {
     true
 }
 
-fn same_family(all: &[Built], others: &[Built]) -> bool {
+fn same_built(a: &Built, b: &Built) -> bool
+    ensures { IsTrue result → member_of a.now ≡ member_of b.now }
+{
+    a.parts == b.parts && a.name.is(b.name.as_str())
+}
+
+fn same_family(all: &[Built], others: &[Built]) -> bool
+    ensures { IsTrue result → members_of all.now ≡ members_of others.now }
+{
     if all.len() != others.len() {
         return false;
     }
     for (i, built) in all.iter().enumerate() {
-        let other = &others[i];
-        if built.parts != other.parts || !built.name.is(other.name.as_str()) {
+        if !same_built(built, &others[i]) {
             return false;
         }
     }
     true
 }
 
-fn same_cell(a: Cell<'_>, b: Cell<'_>) -> bool {
+fn same_cell(a: Cell<'_>, b: Cell<'_>) -> bool
+    ensures { IsTrue result → cell_view a.entry ≡ cell_view b.entry }
+{
     match (a, b) {
         (Cell::Any, Cell::Any) => true,
         (Cell::Of(a), Cell::Of(b)) => same_pat(a, b),
@@ -62,7 +80,9 @@ fn same_cell(a: Cell<'_>, b: Cell<'_>) -> bool {
     }
 }
 
-pub(crate) fn same_cells(cells: &[Cell<'_>], others: &[Cell<'_>]) -> bool {
+pub(crate) fn same_cells(cells: &[Cell<'_>], others: &[Cell<'_>]) -> bool
+    ensures { IsTrue result → cells_view cells.now ≡ cells_view others.now }
+{
     if cells.len() != others.len() {
         return false;
     }
@@ -74,7 +94,9 @@ pub(crate) fn same_cells(cells: &[Cell<'_>], others: &[Cell<'_>]) -> bool {
     true
 }
 
-pub(crate) fn same_lines(lines: &[Line<'_>], others: &[Line<'_>]) -> bool {
+pub(crate) fn same_lines(lines: &[Line<'_>], others: &[Line<'_>]) -> bool
+    ensures { IsTrue result → lines_view lines.now ≡ lines_view others.now }
+{
     if lines.len() != others.len() {
         return false;
     }

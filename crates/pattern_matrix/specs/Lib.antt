@@ -1,0 +1,4 @@
+pub mod Lines
+pub mod Weights
+pub mod Search
+pub mod Views
