@@ -1,3 +1,5 @@
 pub mod Listing
 pub mod Weighing
 pub mod Squeezing
+pub mod Covering
+pub mod Finding

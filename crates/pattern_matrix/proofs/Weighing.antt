@@ -1,11 +1,16 @@
 -- What lines weigh, and that a step of the search leaves less.
-use Rattle.std.proofs.Common.{◌≡◌, ℕ, zero, suc, ◌+◌, ◌*◌, ◌≤◌, ◌<◌, Bool, true, false, List, [], ◌∷◌, ◌++◌, length, Option, Some, None, refl, sym, ap, ◌∙◌, subst, cond, arith}
+use Rattle.std.proofs.Common.{◌≡◌, ℕ, zero, suc, ◌+◌, ◌*◌, ◌≤◌, ◌<◌, Bool, true, false, List, [], ◌∷◌, ◌++◌, length, Option, Some, None, refl, sym, ap, ◌∙◌, subst, cond, arith, map, get_or}
+use Rattle.std.proofs.lemmas.List.{length-map, length-append}
+use Rattle.pattern_matrix.proofs.Listing.{items_of-listed, number_of-items}
 use Rattle.std.specs.Prelude.{unwrap_or}
 use Rattle.std.specs.Option.{option_or}
 use Rattle.std.proofs.Math.Nat.{add-mul, mul-add, mul_assoc, mul_comm, one-le-mul, mul-le-mul}
 use Rattle.signature_model.specs.Declarations.{Name}
-use Rattle.pattern_matrix.specs.Lines.{Member, Typed, Typeds, any, con, lit, either, none, also, items_of, Line, opened, Head, width_of, is_built, is_literal, under, under_each, line_under, lines_under, without_head, each_without_head, line_without_head, headless, family_in, family_in_some, family_of_line, family}
+use Rattle.pattern_matrix.specs.Lines.{Member, Typed, Typeds, any, con, lit, either, none, also, items_of, listed, Line, opened, Head, width_of, is_built, is_literal, under, under_each, line_under, lines_under, without_head, each_without_head, line_without_head, headless, family_in, family_in_some, family_of_line, family}
 use Rattle.pattern_matrix.specs.Weights.{total_parts, number_of, ways, ways_all, ways_some, weight, weight_all, weight_some, line_ways, line_weight, lines_weight, work}
+
+le-self : (n : ℕ) → n ≤ n
+le-self n = omega arith
 
 mutual
   pub ways-positive : (p : Typed) → 1 ≤ ways p
@@ -195,3 +200,89 @@ headless-weigh (l ∷ ls) =
 
 pub lines_under-weigh : (h : Head) (ls : List Line) → lines_weight (lines_under h ls) ≤ lines_weight ls
 lines_under-weigh h ls = let e = lines_under-lose h ls in omega arith
+
+-- one of the alternatives weighs no more than all of them
+some-at : (ps : Typeds) (p : Typed) (rest : Line) → line_weight (p ∷ rest) ≤ (weight p + weight_some ps) * line_ways rest + (ways p + ways_some ps) * line_weight rest
+some-at ps p rest =
+    let e = add-mul (weight p) (weight_some ps) (line_ways rest) in
+    let f = add-mul (ways p) (ways_some ps) (line_weight rest) in
+    omega arith
+
+some-behind : (ps : Typeds) (p : Typed) (rest : Line) (n : ℕ) → n ≤ weight_some ps * line_ways rest + ways_some ps * line_weight rest →
+    n ≤ (weight p + weight_some ps) * line_ways rest + (ways p + ways_some ps) * line_weight rest
+some-behind ps p rest n h =
+    let e = add-mul (weight p) (weight_some ps) (line_ways rest) in
+    let f = add-mul (ways p) (ways_some ps) (line_weight rest) in
+    omega arith
+
+alternative-weighs : {A : Type 0} (view : A → Typed) (xs : List A) (i : ℕ) (x : A) (rest : Line) → i < length xs → x ≡ get_or xs i x →
+    line_weight (view x ∷ rest) ≤ weight_some (listed (map view xs)) * line_ways rest + ways_some (listed (map view xs)) * line_weight rest
+alternative-weighs view [] i x rest h e = absurd (omega arith)
+alternative-weighs view (y ∷ xs) zero x rest h e =
+    subst (λ z. line_weight (view z ∷ rest) ≤ weight_some (listed (map view (y ∷ xs))) * line_ways rest + ways_some (listed (map view (y ∷ xs))) * line_weight rest)
+    (sym e) (some-at (listed (map view xs)) (view y) rest)
+alternative-weighs view (y ∷ xs) (suc i) x rest h e =
+    some-behind (listed (map view xs)) (view y) rest (line_weight (view x ∷ rest)) (alternative-weighs view xs i x rest (omega arith) e)
+
+-- the search of one alternative has less before it
+pub alternative-falls : {A : Type 0} (view : A → Typed) (xs : List A) (i : ℕ) (x : A) (ls : List Line) (rest : Line) → i < length xs → x ≡ get_or xs i x →
+    work ls (view x ∷ rest) + 1 ≤ work ls (either (listed (map view xs)) ∷ rest)
+alternative-falls view xs i x ls rest h e =
+    let a = alternative-weighs view xs i x rest h e in
+    let b = either-weighs (listed (map view xs)) rest in
+    omega arith
+
+-- and so has the search below a constructor
+pub con-falls : (h : Head) (all : List Member) (n : Name) (xs : List Typed) (rest : Line) (ls : List Line) (first : Typed) (row : Line) →
+    first ≡ con all n (listed xs) → row ≡ xs ++ rest → work (lines_under h ls) row + 1 ≤ work ls (first ∷ rest)
+con-falls h all n xs rest ls first row is cells =
+    let ps = items_of-listed xs in
+    let a : line_weight (xs ++ rest) + (1 + total_parts all + number_of (listed xs)) ≤ line_weight (con all n (listed xs) ∷ rest) =
+    subst (λ qs. line_weight (qs ++ rest) + (1 + total_parts all + number_of (listed xs)) ≤ line_weight (con all n (listed xs) ∷ rest)) ps (con-weighs all n (listed xs) rest) in
+    let b = lines_under-weigh h ls in
+    let c : length xs ≡ number_of (listed xs) = ap length (sym ps) ∙ number_of-items (listed xs) in
+    let d = length-append xs rest in
+    let e : line_weight row ≡ line_weight (xs ++ rest) = ap line_weight cells in
+    let f : length row ≡ length (xs ++ rest) = ap length cells in
+    let g : line_weight (first ∷ rest) ≡ line_weight (con all n (listed xs) ∷ rest) = ap (λ p. line_weight (p ∷ rest)) is in
+    omega arith
+
+pub literal-falls : (h : Head) (rest : Line) (ls : List Line) (first : Typed) (row : Line) → row ≡ rest → work (lines_under h ls) row + 1 ≤ work ls (first ∷ rest)
+literal-falls h rest ls first row cells =
+    let b = lines_under-weigh h ls in
+    let e : line_weight row ≡ line_weight rest = ap line_weight cells in
+    let f : length row ≡ length rest = ap length cells in
+    let w = mul-le-mul (ways-positive first) (le-self (line_weight rest)) in
+    omega arith
+
+pub default-falls : (rest : Line) (ls fewer : List Line) (row : Line) → lines_weight fewer ≤ lines_weight (headless ls) → row ≡ rest → work fewer row + 1 ≤ work ls (any ∷ rest)
+default-falls rest ls fewer row light cells =
+    let b = headless-weigh ls in
+    let e : line_weight row ≡ line_weight rest = ap line_weight cells in
+    let f : length row ≡ length rest = ap length cells in
+    omega arith
+
+parts-at : (ks : List Member) (i : ℕ) (k : Member) → i < length ks → k ≡ get_or ks i k → k.parts ≤ total_parts ks
+parts-at [] i k h e = absurd (omega arith)
+parts-at (l ∷ ks) zero k h e = let f : k.parts ≡ l.parts = ap (λ m. m.parts) e in omega arith
+parts-at (l ∷ ks) (suc i) k h e = let f = parts-at ks i k (omega arith) e in omega arith
+
+loss-covers : (ks : List Member) (i : ℕ) (k : Member) → i < length ks → k ≡ get_or ks i k → 1 + k.parts ≤ loss ks
+loss-covers [] i k h e = absurd (omega arith)
+loss-covers (l ∷ ks) i k h e = let f = parts-at (l ∷ ks) i k h e in omega arith
+
+get-mapped : {A B : Type 0} (f : A → B) (xs : List A) (i : ℕ) (x : A) → i < length xs → x ≡ get_or xs i x → f x ≡ get_or (map f xs) i (f x)
+get-mapped f [] i x h e = absurd (omega arith)
+get-mapped f (y ∷ xs) zero x h e = ap f e
+get-mapped f (y ∷ xs) (suc i) x h e = get-mapped f xs i x (omega arith) e
+
+pub member-falls : {A : Type 0} (view : A → Member) (h : Head) (xs : List A) (i : ℕ) (x : A) (rest : Line) (ls : List Line) (row : Line) → i < length xs → x ≡ get_or xs i x →
+    map view xs ≡ family ls → row ≡ opened (view x).parts ++ rest → work (lines_under h ls) row + 1 ≤ work ls (any ∷ rest)
+member-falls view h xs i x rest ls row lt e all cells =
+    let n : i < length (map view xs) = omega (arith, length-map xs view) in
+    let a : 1 + (view x).parts ≤ loss (map view xs) = loss-covers (map view xs) i (view x) n (get-mapped view xs i x lt e) in
+    let b : loss (map view xs) ≡ loss (family ls) = ap loss all in
+    let c = lines_under-lose h ls in
+    let d : line_weight row ≡ line_weight rest = ap line_weight cells ∙ line_weight-opened (view x).parts rest in
+    let f : length row ≡ (view x).parts + length rest = ap length cells ∙ length-append (opened (view x).parts) rest ∙ ap (λ k. k + length rest) (length-opened (view x).parts) in
+    omega arith

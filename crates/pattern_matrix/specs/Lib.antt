@@ -2,3 +2,4 @@ pub mod Lines
 pub mod Weights
 pub mod Search
 pub mod Views
+pub mod Known

@@ -67,3 +67,7 @@ pub data Finds : Task → Option (List Shape) → Type 0 where
   next_member : {k : Member} {ks : List Member} {rest : Line} {ls : List Line} {r : Option (List Shape)} →
       Finds (row_in (lines_under (head_of k) ls) (opened k.parts ++ rest)) None → Finds (members_in ls ks rest) r →
       Finds (members_in ls (k ∷ ks) rest) r
+
+-- what is found under a head, with the head's own shape
+abbrev pub FindsUnder : Head → List Line → Line → Option (List Shape) → Type 0
+FindsUnder h ls row r = (s : Option (List Shape)) × Finds (row_in (lines_under h ls) row) s × (r ≡ under_head h s)

@@ -1,5 +1,6 @@
 -- What the values of the code mean.
-use Rattle.std.specs.Prelude.{◌≡◌, ℕ, List, [], ◌∷◌, map, codes, Option, option_map}
+use Rattle.std.specs.Prelude.{◌≡◌, ℕ, List, [], ◌∷◌, map, codes, Option, option_map, Vec}
+use Rattle.std.specs.Global.{Global}
 use Rattle.text_terms.specs.Bytes.{str_bytes}
 use Rattle.match_model.specs.Values.{Shapes, open_shape, of_built, of_spelling}
 use Rattle.match_model.specs.Values.{Shape as plain}
@@ -58,3 +59,6 @@ lines_view = map line_view
 abbrev pub head_view : Head → PlainHead
 head_view (head.Built n parts) = built_head (str_bytes n.now) parts
 head_view (head.Literal n) = literal_head (str_bytes n.now)
+
+abbrev pub shapes_view : Option (Vec Shape Global) → Option (List plain)
+shapes_view found = option_map (λ v. map shape_of v.items) found

@@ -74,7 +74,6 @@ pub(crate) fn extended<'a>(
 }
 
 /// As many cells that match anything, and the cells behind them.
-#[tactic(auto, using(crate::proofs::Squeezing::opened_more))]
 pub(crate) fn opened<'a>(
     alloc: Global,
     count: usize,
@@ -84,10 +83,16 @@ pub(crate) fn opened<'a>(
 {
     let mut cells = Vec::new(alloc);
     for _ in 0..count {
-        cells.push(Cell::Any).map_err(|_| NoMemory)?;
+        put_any(&mut cells)?;
     }
     append(&mut cells, rest)?;
     Ok(cells)
+}
+
+fn put_any<'a>(cells: &mut Vec<Cell<'a>>) -> Result<(), NoMemory>
+    ensures { OnOk result (cells_view cells.new.items ≡ cells_view cells.old.items ++ any ∷ []) }
+{
+    cells.push(Cell::Any).map_err(|_| NoMemory)
 }
 
 fn append<'a>(cells: &mut Vec<Cell<'a>>, rest: &[Cell<'a>]) -> Result<(), NoMemory>

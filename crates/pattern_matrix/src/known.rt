@@ -1,4 +1,9 @@
 //! What was found to leave no shape, so that it is searched once.
+ghost use Rattle.std.specs.Prelude.{◌≡◌, IsTrue, None, OnOk};
+ghost use Rattle.pattern_matrix.specs.Search.{Finds, row_in};
+ghost use Rattle.pattern_matrix.specs.Views.{lines_view, cells_view};
+ghost use Rattle.pattern_matrix.specs.Known.{covered_task, IsKnown};
+
 use crate::columns::{Cell, Line};
 use crate::patterns::Pat;
 use crate::same::{same_cells, same_lines};
@@ -13,6 +18,14 @@ struct Covered<'a> {
     row: Vec<Cell<'a>>,
 }
 
+impl<'a> Covered<'a> {
+    fn is(&self, lines: &[Line<'a>], row: &[Cell<'a>]) -> bool
+        ensures { IsTrue result → covered_task self.now ≡ row_in (lines_view lines.now) (cells_view row.now) }
+    {
+        same_cells(&self.row, row) && same_lines(&self.lines, lines)
+    }
+}
+
 /// What is known to be covered.
 #[derive(Drop)]
 pub(crate) struct Known<'a> {
@@ -20,33 +33,41 @@ pub(crate) struct Known<'a> {
 }
 
 impl<'a> Known<'a> {
-    pub(crate) fn new(alloc: Global) -> Known<'a> {
+    pub(crate) fn new(alloc: Global) -> Known<'a>
+        ensures { IsKnown result }
+    {
         Known {
             covered: Vec::new(alloc),
         }
     }
 
-    pub(crate) fn has(&self, mark: u64, lines: &[Line<'a>], row: &[Cell<'a>]) -> bool {
+    pub(crate) fn has(&self, mark: u64, lines: &[Line<'a>], row: &[Cell<'a>]) -> bool
+        requires { IsKnown self.now }
+        ensures { IsTrue result → Finds (row_in (lines_view lines.now) (cells_view row.now)) None }
+    {
         for known in &self.covered {
-            if known.mark == mark
-                && same_cells(&known.row, row)
-                && same_lines(&known.lines, lines)
-            {
+            if known.mark == mark && known.is(lines, row) {
                 return true;
             }
         }
         false
     }
 
+    #[tactic(auto, using(crate::proofs::Covering::covered_more))]
     pub(crate) fn add(
         &mut self,
         mark: u64,
         lines: Vec<Line<'a>>,
         row: Vec<Cell<'a>>,
-    ) -> Result<(), NoMemory> {
-        self.covered
-            .push(Covered { mark, lines, row })
-            .map_err(|_| NoMemory)
+    ) -> Result<(), NoMemory>
+        requires known { IsKnown self.old }
+        requires covered { Finds (row_in (lines_view lines.items) (cells_view row.items)) None }
+        ensures { OnOk result (IsKnown self.new) }
+    {
+        match self.covered.push(Covered { mark, lines, row }) {
+            Ok(()) => Ok(()),
+            Err(_) => Err(NoMemory),
+        }
     }
 }
 
