@@ -1,9 +1,10 @@
 -- What is found, step by step.
-use Rattle.std.proofs.Common.{◌≡◌, ℕ, ◌+◌, ◌<◌, Bool, true, false, List, [], ◌∷◌, ◌++◌, length, map, drop, get_or, Option, Some, None, refl, sym, ap, ◌∙◌, subst, arith, Vec, Global}
+use Rattle.std.proofs.Common.{◌≡◌, ℕ, zero, suc, ◌+◌, ◌<◌, ◌≤◌, Bool, true, false, List, [], ◌∷◌, ◌++◌, length, map, drop, get_or, Option, Some, None, refl, sym, ap, ◌∙◌, subst, arith, Vec, Global}
+use Rattle.std.specs.Prelude.{option_map}
 use Rattle.std.specs.Option.{is_some}
 use Rattle.signature_model.specs.Declarations.{Name}
-use Rattle.pattern_matrix.specs.Lines.{Member, Typed, con, lit, either, listed, items_of, Line, opened, Head, built_head, literal_head, head_of, lines_under}
-use Rattle.pattern_matrix.specs.Search.{Finds, FindsUnder, row_in, some_in, members_in, by_con, by_lit, by_either, squeezed, this_pattern, next_pattern, this_member, next_member, under_head, with_head}
+use Rattle.pattern_matrix.specs.Lines.{Member, Typed, any, con, lit, either, listed, items_of, Line, opened, Head, built_head, literal_head, head_of, lines_under, headless, family, first_absent, column, column_by, open_built}
+use Rattle.pattern_matrix.specs.Search.{Finds, FindsUnder, row_in, some_in, members_in, by_con, by_lit, by_either, squeezed, this_pattern, next_pattern, this_member, next_member, no_pattern, no_member, by_members, by_default, missed, covered, IsSqueezed, under_head, behind, with_head}
 use Rattle.pattern_matrix.specs.Views.{typed_of, member_of, members_of, shapes_view}
 use Rattle.match_model.specs.Values.{Shape as plain}
 use Rattle.pattern_matrix.specs.declared.patterns.Built.{Built}
@@ -93,3 +94,39 @@ pub members-left : (xs : List Built) (i : ℕ) (x : Built) (rest row : Line) (ls
 members-left xs i x rest row ls h found r lt e none cells is f more =
     subst (λ zs. Finds (members_in ls (members_of zs) rest) r) (sym (at-drop xs i x lt e))
     (next-member (member_of x) (members_of (drop (i + 1) xs)) rest row ls found r none cells (subst (λ g. FindsUnder g ls row (shapes_view found)) is f) more)
+
+all-dropped : {A : Type 0} (xs : List A) (i : ℕ) → length xs ≤ i → drop i xs ≡ []
+all-dropped [] zero h = refl
+all-dropped [] (suc i) h = refl
+all-dropped (x ∷ xs) zero h = absurd (omega arith)
+all-dropped (x ∷ xs) (suc i) h = all-dropped xs i (omega arith)
+
+-- none is left
+pub no-alternative-left : (xs : List Pat) (i : ℕ) (rest : Line) (ls : List Line) → length xs ≤ i → Finds (some_in ls (listed (map typed_of (drop i xs))) rest) None
+no-alternative-left xs i rest ls h = subst (λ zs. Finds (some_in ls (listed (map typed_of zs)) rest) None) (sym (all-dropped xs i h)) no_pattern
+
+pub no-member-left : (xs : List Built) (i : ℕ) (rest : Line) (ls : List Line) → length xs ≤ i → Finds (members_in ls (members_of (drop i xs)) rest) None
+no-member-left xs i rest ls h = subst (λ zs. Finds (members_in ls (members_of zs) rest) None) (sym (all-dropped xs i h)) no_member
+
+-- all constructors head a line
+pub by-all-members : (bs : List Built) (rest : Line) (ls : List Line) (r : Option (List plain)) → members_of bs ≡ family ls → 0 < length bs → None ≡ first_absent (members_of bs) ls →
+    Finds (members_in ls (members_of bs) rest) r → Finds (row_in ls (any ∷ rest)) r
+by-all-members [] rest ls r all some none f = absurd (omega arith)
+by-all-members (b ∷ bs) rest ls r all some none f =
+    let complete : column ls ≡ None = ap (λ ks. column_by ks ls) (sym all) ∙ ap (option_map open_built) (sym none) in
+    by_members complete (subst (λ ks. Finds (members_in ls ks rest) r) all f)
+
+-- the lines without a head decide
+pub default-found : (rest : Line) (ls fewer : List Line) (row : Line) (shape : plain) (r s : Option (List plain)) → column ls ≡ Some shape → IsSqueezed fewer (headless ls) → row ≡ rest →
+    Finds (row_in fewer row) s → r ≡ behind shape s → Finds (row_in ls (any ∷ rest)) r
+default-found rest ls fewer row shape r s shown fewer-is cells f is =
+    by_default shown (squeezed fewer-is (subst (λ l. Finds (row_in fewer l) s) cells f)) is
+
+-- no column is left
+pub end-missed : (ls : List Line) → length ls ≡ 0 → Finds (row_in ls []) (Some [])
+end-missed [] e = missed
+end-missed (l ∷ ls) e = absurd (omega arith)
+
+pub end-covered : (ls : List Line) → 0 < length ls → Finds (row_in ls []) None
+end-covered [] h = absurd (omega arith)
+end-covered (l ∷ ls) h = covered

@@ -3,3 +3,4 @@ pub mod Weights
 pub mod Search
 pub mod Views
 pub mod Known
+pub mod Rows

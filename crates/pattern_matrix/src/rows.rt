@@ -1,4 +1,8 @@
 //! Useful and unused rows.
+ghost use Rattle.std.specs.Prelude.{◌≡◌, length, map, option_map, IfOk};
+ghost use Rattle.pattern_matrix.specs.Search.{Finds, row_in};
+ghost use Rattle.pattern_matrix.specs.Views.{cells_view, lines_view, shape_of, shapes_view};
+ghost use Rattle.pattern_matrix.specs.Rows.{line_of, lines_of, together, FindsShape, AreUnused};
 use crate::columns::{Cell, Line, Stem};
 use crate::known::Known;
 use crate::patterns::{Matrix, PatRow, Shape};
@@ -7,33 +11,51 @@ use std::alloc::Global;
 use text_terms::NoMemory;
 
 /// A shape of values that the row matches and no row of the matrix without a guard does, or None where there is no such value.
-pub fn useful(alloc: Global, matrix: &Matrix, row: &PatRow) -> Result<Option<Shape>, NoMemory> {
-    let Some(mut shapes) = missed(alloc, &matrix.rows, row)? else {
-        return Ok(None);
-    };
-    if shapes.len() == 1 {
-        return Ok(shapes.pop());
+pub fn useful(alloc: Global, matrix: &Matrix, row: &PatRow) -> Result<Option<Shape>, NoMemory>
+    ensures found { IfOk result (λ r. FindsShape (lines_of matrix.now.rows.items) (line_of row.now) (option_map shape_of r)) }
+{
+    match missed(alloc, &matrix.rows, row)? {
+        Some(shapes) => Ok(Some(together(shapes))),
+        None => Ok(None),
     }
-    Ok(Some(Shape::Tuple(shapes)))
+}
+
+/// The shape of one column, or of the tuple of several.
+fn together(shapes: Vec<Shape>) -> Shape
+    ensures { shape_of result ≡ together (map shape_of shapes.items) }
+{
+    let mut shapes = shapes;
+    if shapes.len() == 1 {
+        if let Some(shape) = shapes.pop() {
+            return shape;
+        }
+    }
+    Shape::Tuple(shapes)
 }
 
 /// The rows, from 0, each value of which is matched by an earlier row without a guard.
-pub fn unused_rows(alloc: Global, matrix: &Matrix) -> Result<Vec<u32>, NoMemory> {
+pub fn unused_rows(alloc: Global, matrix: &Matrix) -> Result<Vec<usize>, NoMemory>
+    ensures { IfOk result (λ us. AreUnused matrix.now.rows.items (length matrix.now.rows.items) us.items) }
+{
     let mut unused = Vec::new(alloc);
     for (i, row) in matrix.rows.iter().enumerate() {
         if missed(alloc, &matrix.rows[..i], row)?.is_none() {
-            unused.push(i as u32).map_err(|_| NoMemory)?;
+            unused.push(i).map_err(|_| NoMemory)?;
         }
     }
     Ok(unused)
 }
 
-fn missed(alloc: Global, rows: &[PatRow], row: &PatRow) -> Result<Option<Vec<Shape>>, NoMemory> {
+fn missed(alloc: Global, rows: &[PatRow], row: &PatRow) -> Result<Option<Vec<Shape>>, NoMemory>
+    ensures { IfOk result (λ r. Finds (row_in (lines_of rows.now) (line_of row.now)) (shapes_view r)) }
+{
     let mut known = Known::new(alloc);
     search(alloc, &mut known, lines_of(alloc, rows)?, cells_of(alloc, row)?)
 }
 
-fn lines_of(alloc: Global, rows: &[PatRow]) -> Result<Vec<Line<'_>>, NoMemory> {
+fn lines_of(alloc: Global, rows: &[PatRow]) -> Result<Vec<Line<'_>>, NoMemory>
+    ensures { IfOk result (λ ls. lines_view ls.items ≡ lines_of rows.now) }
+{
     let mut lines = Vec::new(alloc);
     for row in rows {
         if !row.guarded {
@@ -47,7 +69,9 @@ fn lines_of(alloc: Global, rows: &[PatRow]) -> Result<Vec<Line<'_>>, NoMemory> {
     Ok(lines)
 }
 
-fn cells_of(alloc: Global, row: &PatRow) -> Result<Vec<Cell<'_>>, NoMemory> {
+fn cells_of(alloc: Global, row: &PatRow) -> Result<Vec<Cell<'_>>, NoMemory>
+    ensures { IfOk result (λ cs. cells_view cs.items ≡ line_of row.now) }
+{
     let mut cells = Vec::new(alloc);
     for pat in &row.pats {
         cells.push(Cell::Of(pat)).map_err(|_| NoMemory)?;

@@ -2,13 +2,14 @@ use Rattle.std.proofs.Common.{◌≡◌, ◌++◌, ◌∷◌, map, drop, length,
 use Rattle.std.specs.Result.{IfOk}
 use Rattle.std.proofs.lemmas.Result.{IfOk-weaker}
 use Rattle.std.proofs.lemmas.List.{length-map}
+use Rattle.std.proofs.lemmas.Bool.Decides.{nat_tests}
 use Rattle.text_terms.specs.Bytes.{str_bytes}
-use Rattle.pattern_matrix.specs.Lines.{con, lit, either, listed, built_head, literal_head}
-use Rattle.pattern_matrix.specs.Search.{Finds, FindsUnder, row_in, squeezed, no_pattern, no_member}
+use Rattle.pattern_matrix.specs.Lines.{any, con, lit, either, listed, built_head, literal_head}
+use Rattle.pattern_matrix.specs.Search.{Finds, FindsUnder, row_in, squeezed, under_head, behind}
 use Rattle.pattern_matrix.specs.Views.{member_of, members_of, typed_of, cells_view, cell_view, lines_view, head_view, shapes_view, shape_of}
 use Rattle.pattern_matrix.proofs.Listing.{con-typed, lit-typed, either-typed}
-use Rattle.pattern_matrix.proofs.Weighing.{alternative-falls, con-falls, literal-falls, member-falls}
-use Rattle.pattern_matrix.proofs.Finding.{con-found, literal-found, either-found, alternative-found, alternatives-left, member-found, members-left}
+use Rattle.pattern_matrix.proofs.Weighing.{alternative-falls, con-falls, literal-falls, member-falls, default-falls}
+use Rattle.pattern_matrix.proofs.Finding.{con-found, literal-found, either-found, alternative-found, alternatives-left, member-found, members-left, no-alternative-left, no-member-left, by-all-members, default-found}
 use Rattle.pattern_matrix.proofs.search.+search.Goals as goal
 
 pub search_either-search_first-requires : goal.search_either-search_first-requires
@@ -33,7 +34,8 @@ pub search_either-returns-clause-kept : goal.search_either-returns-clause-kept
 search_either-returns-clause-kept t c = c.loop-pat.invariant.0
 
 pub search_either-returns-clause-found : goal.search_either-returns-clause-found
-search_either-returns-clause-found t c = let a = c.loop-pat.invariant.1 None in ?
+search_either-returns-clause-found t c =
+    c.loop-pat.invariant.1 None (no-alternative-left c.args.pats.now c.loop-pat.pat-index (cells_view c.args.rest.now) (lines_view c.args.lines.now) c.loop-pat-test.false)
 
 pub search_first-search_under-requires : goal.search_first-search_under-requires
 search_first-search_under-requires t c =
@@ -61,7 +63,7 @@ search_first-returns-in_ok-row-in-Con-clause-found t c =
     (λ r. FindsUnder (built_head (str_bytes c.in-Con.name) c.len.result) (lines_view c.args.lines.now) (cells_view c.in_ok-row-in-Con.row.items) (shapes_view r))
     (λ r. Finds (row_in (lines_view c.args.lines.now) (cell_view c.args.first ∷ rest)) (shapes_view r))
     (λ r f. con-found (members_of c.in-Con.all.value.items) (str_bytes c.in-Con.name) parts rest (lines_view c.args.lines.now) (cell_view c.args.first)
-    (cells_view c.in_ok-row-in-Con.row.items) c.len.result (shapes_view r) (ap cell_view c.in-Of.is ∙ first) row ? f) c.search_under.ensures.found
+    (cells_view c.in_ok-row-in-Con.row.items) c.len.result (shapes_view r) (ap cell_view c.in-Of.is ∙ first) row (omega (arith, length-map c.in-Con.parts.items typed_of)) f) c.search_under.ensures.found
 
 pub search_first-returns-in_ok-row-in-Literal-clause-found : goal.search_first-returns-in_ok-row-in-Literal-clause-found
 search_first-returns-in_ok-row-in-Literal-clause-found t c =
@@ -106,12 +108,40 @@ pub search_members-returns-clause-kept : goal.search_members-returns-clause-kept
 search_members-returns-clause-kept t c = c.loop-built.invariant.0
 
 pub search_members-returns-clause-found : goal.search_members-returns-clause-found
-search_members-returns-clause-found t c = let a = c.loop-built.invariant.1 None in ?
+search_members-returns-clause-found t c =
+    c.loop-built.invariant.1 None (no-member-left c.args.all.now c.loop-built.built-index (cells_view c.args.rest.now) (lines_view c.args.lines.now) c.loop-built-test.false)
 
 pub search_under-returns-in_ok-with_head-in-Some-clause-found : goal.search_under-returns-in_ok-with_head-in-Some-clause-found
 search_under-returns-in_ok-with_head-in-Some-clause-found t c =
-    let shapes = map shape_of c.in-Some.shapes.items in
-    (shapes_view c.in_ok-shapes.field-0, squeezed c.in_ok-lines_under.ensures c.in_ok-shapes.ensures.found, ?)
+    (shapes_view c.in_ok-shapes.field-0, squeezed c.in_ok-lines_under.ensures c.in_ok-shapes.ensures.found,
+    ap Some c.in_ok-with_head-in-Some.ensures ∙ sym (ap (λ o. under_head (head_view c.args.head) (shapes_view o)) c.in-Some.is))
 
 pub search_under-returns-in-None-clause-found : goal.search_under-returns-in-None-clause-found
-search_under-returns-in-None-clause-found t c = (None, ?, refl)
+search_under-returns-in-None-clause-found t c =
+    let none = subst (λ o. Finds (row_in (lines_view c.in_ok-lines_under.field-0.items) (cells_view c.args.row.items)) (shapes_view o)) c.in-None.is c.in_ok-shapes.ensures.found in
+    (None, squeezed c.in_ok-lines_under.ensures none, refl)
+
+pub search_any-returns-in-None-clause-found : goal.search_any-returns-in-None-clause-found
+search_any-returns-in-None-clause-found t c =
+    IfOk-weaker c.search_members.result _
+    (λ r. Finds (row_in (lines_view c.args.lines.now) (any ∷ cells_view c.args.rest.now)) (shapes_view r))
+    (λ r f. by-all-members c.family-all.result.now (cells_view c.args.rest.now) (lines_view c.args.lines.now) (shapes_view r) c.family-all.ensures (grind (arith, nat_tests)) c.in-None.ensures f)
+    c.search_members.ensures.found
+
+pub search_default-search-requires : goal.search_default-search-requires
+search_default-search-requires t c =
+    let a = default-falls (cells_view c.args.rest.now) (lines_view c.args.lines.now) (lines_view c.in_ok-headless.field-0.items) (cells_view c.in_ok-row.row.items)
+        c.in_ok-headless.ensures.lighter c.in_ok-row.ensures in
+    (omega arith, c.requires.known)
+
+pub search_default-returns-in_ok-with_first-in-Some-clause-found : goal.search_default-returns-in_ok-with_first-in-Some-clause-found
+search_default-returns-in_ok-with_first-in-Some-clause-found t c =
+    default-found (cells_view c.args.rest.now) (lines_view c.args.lines.now) (lines_view c.in_ok-headless.field-0.items) (cells_view c.in_ok-row.row.items) (shape_of c.args.shape)
+    (Some (map shape_of c.in_ok-with_first-in-Some.field-0.items)) (shapes_view c.in_ok-shapes.field-0) c.requires.shown c.in_ok-headless.ensures c.in_ok-row.ensures
+    c.in_ok-shapes.ensures.found (ap Some c.in_ok-with_first-in-Some.ensures ∙ sym (ap (λ o. behind (shape_of c.args.shape) (shapes_view o)) c.in-Some.is))
+
+pub search_default-returns-in-None-clause-found : goal.search_default-returns-in-None-clause-found
+search_default-returns-in-None-clause-found t c =
+    default-found (cells_view c.args.rest.now) (lines_view c.args.lines.now) (lines_view c.in_ok-headless.field-0.items) (cells_view c.in_ok-row.row.items) (shape_of c.args.shape)
+    None (shapes_view c.in_ok-shapes.field-0) c.requires.shown c.in_ok-headless.ensures c.in_ok-row.ensures
+    c.in_ok-shapes.ensures.found (sym (ap (λ o. behind (shape_of c.args.shape) (shapes_view o)) c.in-None.is))
