@@ -1,10 +1,10 @@
 -- What is found, step by step.
-use Rattle.std.proofs.Common.{◌≡◌, ℕ, zero, suc, ◌+◌, ◌<◌, ◌≤◌, Bool, true, false, List, [], ◌∷◌, ◌++◌, length, map, drop, get_or, Option, Some, None, refl, sym, ap, ◌∙◌, subst, arith, Vec, Global}
+use Rattle.std.proofs.Common.{◌≡◌, ℕ, zero, suc, ◌+◌, ◌<◌, ◌≤◌, true, false, List, [], ◌∷◌, ◌++◌, length, map, drop, get_or, Option, Some, None, refl, sym, ap, ◌∙◌, subst, arith, Vec, Global}
 use Rattle.std.specs.Prelude.{option_map}
 use Rattle.std.specs.Option.{is_some}
 use Rattle.signature_model.specs.Declarations.{Name}
 use Rattle.pattern_matrix.specs.Lines.{Member, Typed, any, con, lit, either, listed, items_of, Line, opened, Head, built_head, literal_head, head_of, lines_under, headless, family, first_absent, column, column_by, open_built}
-use Rattle.pattern_matrix.specs.Search.{Finds, FindsUnder, row_in, some_in, members_in, by_con, by_lit, by_either, squeezed, this_pattern, next_pattern, this_member, next_member, no_pattern, no_member, by_members, by_default, missed, covered, IsSqueezed, under_head, behind, with_head}
+use Rattle.pattern_matrix.specs.Search.{Finds, FindsUnder, row_in, some_in, members_in, by_con, by_lit, by_either, squeezed, this_pattern, next_pattern, this_member, next_member, no_pattern, no_member, by_members, by_default, missed, covered, IsSqueezed, under_head, behind}
 use Rattle.pattern_matrix.specs.Views.{typed_of, member_of, members_of, shapes_view}
 use Rattle.match_model.specs.Values.{Shape as plain}
 use Rattle.pattern_matrix.specs.declared.patterns.Built.{Built}

@@ -3,3 +3,4 @@ pub mod Weighing
 pub mod Squeezing
 pub mod Covering
 pub mod Finding
+pub mod Telling

@@ -1,11 +1,10 @@
 -- Lines without repetitions.
-use Rattle.std.proofs.Common.{◌≡◌, ℕ, ◌+◌, ◌≤◌, List, [], ◌∷◌, ◌++◌, ◌⊎◌, inl, inr, refl, sym, ap, ◌∙◌, subst, append_assoc, arith, zero, suc, map, Some, ◌<◌, length, get_or, drop}
+use Rattle.std.proofs.Common.{◌≡◌, ℕ, ◌+◌, List, [], ◌∷◌, ◌++◌, ◌⊎◌, inl, inr, refl, sym, ap, ◌∙◌, subst, append_assoc, arith, zero, suc, map, Some, ◌<◌, length, get_or, drop}
 use Rattle.std.specs.Prelude.{slice_get}
 use Rattle.std.proofs.Math.Seq.{drop-cons}
 use Rattle.pattern_matrix.specs.Lines.{Line, any, opened}
 use Rattle.pattern_matrix.specs.Views.{line_view, lines_view}
 use Rattle.pattern_matrix.specs.declared.columns.Line.{Line as CodeLine}
-use Rattle.pattern_matrix.specs.Weights.{lines_weight}
 use Rattle.pattern_matrix.specs.Search.{IsIn, here, there, IsSqueezed}
 use Rattle.pattern_matrix.proofs.Weighing.{lines_weight-append}
 

@@ -1,10 +1,10 @@
 -- What lines weigh, and that a step of the search leaves less.
-use Rattle.std.proofs.Common.{◌≡◌, ℕ, zero, suc, ◌+◌, ◌*◌, ◌≤◌, ◌<◌, Bool, true, false, List, [], ◌∷◌, ◌++◌, length, Option, Some, None, refl, sym, ap, ◌∙◌, subst, cond, arith, map, get_or}
+use Rattle.std.proofs.Common.{◌≡◌, ℕ, zero, suc, ◌+◌, ◌*◌, ◌≤◌, ◌<◌, true, false, List, [], ◌∷◌, ◌++◌, length, Option, Some, None, refl, sym, ap, ◌∙◌, subst, cond, arith, map, get_or}
 use Rattle.std.proofs.lemmas.List.{length-map, length-append}
 use Rattle.pattern_matrix.proofs.Listing.{items_of-listed, number_of-items}
 use Rattle.std.specs.Prelude.{unwrap_or}
 use Rattle.std.specs.Option.{option_or}
-use Rattle.std.proofs.Math.Nat.{add-mul, mul-add, mul_assoc, mul_comm, one-le-mul, mul-le-mul}
+use Rattle.std.proofs.Math.Nat.{add-mul, mul-add, mul_assoc, one-le-mul, mul-le-mul}
 use Rattle.signature_model.specs.Declarations.{Name}
 use Rattle.pattern_matrix.specs.Lines.{Member, Typed, Typeds, any, con, lit, either, none, also, items_of, listed, Line, opened, Head, width_of, is_built, is_literal, under, under_each, line_under, lines_under, without_head, each_without_head, line_without_head, headless, family_in, family_in_some, family_of_line, family}
 use Rattle.pattern_matrix.specs.Weights.{total_parts, number_of, ways, ways_all, ways_some, weight, weight_all, weight_some, line_ways, line_weight, lines_weight, work}

@@ -1,5 +1,5 @@
 -- What the rows of the code mean, and what is found for them.
-use Rattle.std.specs.Prelude.{◌≡◌, ℕ, zero, suc, ◌+◌, Bool, true, false, List, [], ◌∷◌, ◌++◌, map, take, slice_get, Option, Some, None, option_map}
+use Rattle.std.specs.Prelude.{◌≡◌, ℕ, zero, suc, Bool, true, false, List, [], ◌∷◌, ◌++◌, map, take, slice_get, Option, Some, None}
 use Rattle.match_model.specs.Values.{Shape, of_built}
 use Rattle.match_model.specs.Forms.{tuple_name}
 use Rattle.pattern_matrix.specs.Lines.{Line, shapes_in}
@@ -30,15 +30,13 @@ abbrev pub FindsShape : List Line → Line → Option Shape → Type 0
 FindsShape ls row None = Finds (row_in ls row) None
 FindsShape ls row (Some s) = (ss : List Shape) × Finds (row_in ls row) (Some ss) × (s ≡ together ss)
 
--- whether nothing, or some shape, is found for a row in the rows before it
-abbrev pub IsCovered : List PatRow → ℕ → PatRow → Type 0
-IsCovered rs k r = Finds (row_in (lines_of (take k rs)) (line_of r)) None
-
-abbrev pub IsUseful : List PatRow → ℕ → PatRow → Type 0
-IsUseful rs k r = (ss : List Shape) × Finds (row_in (lines_of (take k rs)) (line_of r)) (Some ss)
+-- whether nothing is found for a row in the rows before it
+abbrev pub IsTold : List PatRow → ℕ → Bool → Type 0
+IsTold rs k true = (r : PatRow) × (slice_get rs k ≡ Some r) × Finds (row_in (lines_of (take k rs)) (line_of r)) None
+IsTold rs k false = (r : PatRow) × (slice_get rs k ≡ Some r) × ((ss : List Shape) × Finds (row_in (lines_of (take k rs)) (line_of r)) (Some ss))
 
 -- the numbers of the covered ones among the first rows, so many of them, in their order
 pub data AreUnused (rs : List PatRow) : ℕ → List ℕ → Type 0 where
   at_start : AreUnused rs zero []
-  also_covered : {k : ℕ} {us vs : List ℕ} {r : PatRow} → slice_get rs k ≡ Some r → IsCovered rs k r → AreUnused rs k us → vs ≡ us ++ k ∷ [] → AreUnused rs (suc k) vs
-  useful_one : {k : ℕ} {us : List ℕ} {r : PatRow} → slice_get rs k ≡ Some r → IsUseful rs k r → AreUnused rs k us → AreUnused rs (suc k) us
+  covered_one : {k : ℕ} {us vs : List ℕ} → IsTold rs k true → AreUnused rs k us → vs ≡ us ++ k ∷ [] → AreUnused rs (suc k) vs
+  useful_one : {k : ℕ} {us : List ℕ} → IsTold rs k false → AreUnused rs k us → AreUnused rs (suc k) us

@@ -1,5 +1,5 @@
 -- What is found for a row in lines: the shapes of a value that the row matches and no line does, column by column from the left, or nothing.
-use Rattle.std.specs.Prelude.{◌≡◌, ℕ, ◌≤◌, ◌↔◌, List, [], ◌∷◌, ◌++◌, take, drop, length, Option, Some, None, option_map}
+use Rattle.std.specs.Prelude.{◌≡◌, ◌≤◌, List, [], ◌∷◌, ◌++◌, take, drop, length, Option, Some, None, option_map}
 use Rattle.signature_model.specs.Declarations.{Name}
 use Rattle.match_model.specs.Values.{Shape, of_built, of_spelling}
 use Rattle.pattern_matrix.specs.Lines.{Member, Typed, Typeds, any, con, lit, either, none, also, items_of, Line, opened, Head, built_head, literal_head, head_of, lines_under, headless, family, column, shapes_in}

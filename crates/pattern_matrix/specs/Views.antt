@@ -1,8 +1,8 @@
 -- What the values of the code mean.
-use Rattle.std.specs.Prelude.{◌≡◌, ℕ, List, [], ◌∷◌, map, codes, Option, option_map, Vec}
+use Rattle.std.specs.Prelude.{List, map, Option, option_map, Vec}
 use Rattle.std.specs.Global.{Global}
 use Rattle.text_terms.specs.Bytes.{str_bytes}
-use Rattle.match_model.specs.Values.{Shapes, open_shape, of_built, of_spelling}
+use Rattle.match_model.specs.Values.{open_shape, of_built, of_spelling}
 use Rattle.match_model.specs.Values.{Shape as plain}
 use Rattle.match_model.specs.Forms.{tuple_name}
 use Rattle.pattern_matrix.specs.Lines.{Member, Typed, any, con, lit, either, listed, Line, shapes_in}

@@ -1,5 +1,5 @@
 -- How much a search has before it: what falls with each step of it, though steps copy patterns.
-use Rattle.std.specs.Prelude.{◌≡◌, ℕ, suc, ◌+◌, ◌*◌, ◌≤◌, List, [], ◌∷◌, length, ◌↔◌}
+use Rattle.std.specs.Prelude.{ℕ, suc, ◌+◌, ◌*◌, List, [], ◌∷◌, length}
 use Rattle.pattern_matrix.specs.Lines.{Member, Typed, Typeds, any, con, lit, either, none, also, Line}
 
 abbrev pub total_parts : List Member → ℕ

@@ -1,8 +1,8 @@
 //! Useful and unused rows.
-ghost use Rattle.std.specs.Prelude.{◌≡◌, length, map, option_map, IfOk};
+ghost use Rattle.std.specs.Prelude.{◌≡◌, ◌<◌, [], ◌∷◌, ◌++◌, length, map, option_map, IfOk, OnOk};
 ghost use Rattle.pattern_matrix.specs.Search.{Finds, row_in};
 ghost use Rattle.pattern_matrix.specs.Views.{cells_view, lines_view, shape_of, shapes_view};
-ghost use Rattle.pattern_matrix.specs.Rows.{line_of, lines_of, together, FindsShape, AreUnused};
+ghost use Rattle.pattern_matrix.specs.Rows.{line_of, lines_of, together, FindsShape, IsTold, AreUnused};
 use crate::columns::{Cell, Line, Stem};
 use crate::known::Known;
 use crate::patterns::{Matrix, PatRow, Shape};
@@ -38,12 +38,27 @@ pub fn unused_rows(alloc: Global, matrix: &Matrix) -> Result<Vec<usize>, NoMemor
     ensures { IfOk result (λ us. AreUnused matrix.now.rows.items (length matrix.now.rows.items) us.items) }
 {
     let mut unused = Vec::new(alloc);
-    for (i, row) in matrix.rows.iter().enumerate() {
-        if missed(alloc, &matrix.rows[..i], row)?.is_none() {
-            unused.push(i).map_err(|_| NoMemory)?;
+    for i in 0..matrix.rows.len() {
+        if is_covered(alloc, &matrix.rows, i)? {
+            put(&mut unused, i)?;
         }
     }
     Ok(unused)
+}
+
+/// Whether each value of a row is matched by an earlier row without a guard.
+fn is_covered(alloc: Global, rows: &[PatRow], at: usize) -> Result<bool, NoMemory>
+    requires { at < length rows.now }
+    ensures { IfOk result (λ covered. IsTold rows.now at covered) }
+{
+    let found = missed(alloc, &rows[..at], &rows[at])?;
+    Ok(found.is_none())
+}
+
+fn put(numbers: &mut Vec<usize>, number: usize) -> Result<(), NoMemory>
+    ensures { OnOk result (numbers.new.items ≡ numbers.old.items ++ number ∷ []) }
+{
+    numbers.push(number).map_err(|_| NoMemory)
 }
 
 fn missed(alloc: Global, rows: &[PatRow], row: &PatRow) -> Result<Option<Vec<Shape>>, NoMemory>

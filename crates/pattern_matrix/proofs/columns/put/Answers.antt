@@ -1,4 +1,4 @@
-use Rattle.std.proofs.Common.{◌-◌, length, ap, sym, ◌∙◌, refl}
+use Rattle.std.proofs.Common.{◌-◌, length, ap, ◌∙◌, refl}
 use Rattle.pattern_matrix.specs.Views.{cells_view}
 use Rattle.pattern_matrix.proofs.Squeezing.{squeeze-last}
 use Rattle.pattern_matrix.proofs.columns.put.Goals as goal

@@ -1,10 +1,10 @@
-use Rattle.std.proofs.Common.{◌≡◌, ◌+◌, ◌*◌, ◌∷◌, map, drop, Option, List}
+use Rattle.std.proofs.Common.{◌+◌, ◌*◌, ◌∷◌, map, drop, Option, List}
 use Rattle.match_model.specs.Values.{Shape}
 use Rattle.pattern_matrix.specs.Lines.{any, either, listed, lines_under}
 use Rattle.pattern_matrix.specs.Weights.{work}
 use Rattle.pattern_matrix.specs.Search.{Finds, some_in, members_in}
 use Rattle.pattern_matrix.specs.Known.{IsKnown}
-use Rattle.pattern_matrix.specs.Views.{member_of, members_of, typed_of, cell_view, cells_view, lines_view, head_view}
+use Rattle.pattern_matrix.specs.Views.{members_of, typed_of, cell_view, cells_view, lines_view, head_view}
 use Rattle.pattern_matrix.proofs.search.+search.Given as goal
 
 abbrev pub decreases-search : goal.decreases-search

@@ -1,4 +1,4 @@
-use Rattle.std.proofs.Common.{◌≡◌, length, Some, [], ap, sym, subst, arith, map}
+use Rattle.std.proofs.Common.{Some, [], sym, subst, arith, map}
 use Rattle.std.proofs.lemmas.List.{length-map}
 use Rattle.pattern_matrix.specs.Search.{Finds, row_in}
 use Rattle.pattern_matrix.specs.Views.{line_view, lines_view, shape_of}
