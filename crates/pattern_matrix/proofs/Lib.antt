@@ -4,3 +4,6 @@ pub mod Squeezing
 pub mod Covering
 pub mod Finding
 pub mod Telling
+pub mod Matching
+pub mod Fitting
+pub mod Covers

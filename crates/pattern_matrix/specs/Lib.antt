@@ -4,3 +4,4 @@ pub mod Search
 pub mod Views
 pub mod Known
 pub mod Rows
+pub mod Typing
