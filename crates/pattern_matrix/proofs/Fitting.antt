@@ -147,7 +147,7 @@ are-in-append w d (t ∷ ts) (also_value u us) cs vs (AreOf.and_one h hs) g = (h
 
 -- the constructors that a column's first constructor knows are those of the type
 mutual
-  family-typed-in : (w : World) (c : Column) (p : Typed) → IsTyped w c.body p → depth_of (plain p) ≤ c.depth → (all : List Member) → family_in p ≡ Some all →
+  pub family-typed-in : (w : World) (c : Column) (p : Typed) → IsTyped w c.body p → depth_of (plain p) ≤ c.depth → (all : List Member) → family_in p ≡ Some all →
       (all ≡ members (form_of w c.body)) × (1 ≤ c.depth)
   family-typed-in w c any h deep all e = cc
   family-typed-in w c (con own n ps) h deep all e = (let same : all ≡ own = cc in same ∙ h.3, omega arith)

@@ -7,3 +7,5 @@ pub mod Telling
 pub mod Matching
 pub mod Fitting
 pub mod Covers
+pub mod Inhabited
+pub mod Misses
