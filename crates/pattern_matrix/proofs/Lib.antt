@@ -9,3 +9,4 @@ pub mod Fitting
 pub mod Covers
 pub mod Inhabited
 pub mod Misses
+pub mod Exactness

@@ -5,3 +5,4 @@ pub mod Views
 pub mod Known
 pub mod Rows
 pub mod Typing
+pub mod Exact

@@ -1,8 +1,13 @@
 //! Useful and unused rows.
-ghost use Rattle.std.specs.Prelude.{◌≡◌, ◌<◌, [], ◌∷◌, ◌++◌, length, map, option_map, IfOk, OnOk};
+ghost use Rattle.std.specs.Prelude.{◌≡◌, ℕ, ◌<◌, ◌≤◌, List, [], ◌∷◌, ◌++◌, length, map, option_map, IfOk, OnOk};
+ghost use Rattle.type_model.specs.Types.{Typ};
+ghost use Rattle.match_model.specs.Forms.{World};
+ghost use Rattle.match_model.specs.Rows.{deepest, IsUnused};
 ghost use Rattle.pattern_matrix.specs.Search.{Finds, row_in};
 ghost use Rattle.pattern_matrix.specs.Views.{cells_view, lines_view, shape_of, shapes_view};
-ghost use Rattle.pattern_matrix.specs.Rows.{line_of, lines_of, together, FindsShape, IsTold, AreUnused};
+ghost use Rattle.pattern_matrix.specs.Rows.{line_of, lines_of, together, FindsShape, IsTold};
+ghost use Rattle.pattern_matrix.specs.Typing.{IsSound};
+ghost use Rattle.pattern_matrix.specs.Exact.{row_of, rows_of, IsRowTyped, AreRowsTyped, Tells, AreThose};
 use crate::columns::{Cell, Line, Stem};
 use crate::known::Known;
 use crate::patterns::{Matrix, PatRow, Shape};
@@ -12,9 +17,16 @@ use text_terms::NoMemory;
 
 /// A shape of values that the row matches and no row of the matrix without a guard does, or None where there is no such value.
 pub fn useful(alloc: Global, matrix: &Matrix, row: &PatRow) -> Result<Option<Shape>, NoMemory>
-    ensures found { IfOk result (λ r. FindsShape (lines_of matrix.now.rows.items) (line_of row.now) (option_map shape_of r)) }
+    ensures { IfOk result (λ r. (w : World) (ts : List Typ) (d : ℕ) → IsSound w → AreRowsTyped w ts matrix.now.rows.items → IsRowTyped w ts row.now →
+        deepest (row_of row.now ∷ rows_of matrix.now.rows.items) ≤ d → Tells w ts d (rows_of matrix.now.rows.items) (row_of row.now) (option_map shape_of r)) }
 {
-    match missed(alloc, &matrix.rows, row)? {
+    useful_in(alloc, &matrix.rows, row)
+}
+
+fn useful_in(alloc: Global, rows: &[PatRow], row: &PatRow) -> Result<Option<Shape>, NoMemory>
+    ensures { IfOk result (λ r. FindsShape (lines_of rows.now) (line_of row.now) (option_map shape_of r)) }
+{
+    match missed(alloc, rows, row)? {
         Some(shapes) => Ok(Some(together(shapes))),
         None => Ok(None),
     }
@@ -35,7 +47,8 @@ fn together(shapes: Vec<Shape>) -> Shape
 
 /// The rows, from 0, each value of which is matched by an earlier row without a guard.
 pub fn unused_rows(alloc: Global, matrix: &Matrix) -> Result<Vec<usize>, NoMemory>
-    ensures { IfOk result (λ us. AreUnused matrix.now.rows.items (length matrix.now.rows.items) us.items) }
+    ensures { IfOk result (λ us. (w : World) (ts : List Typ) → IsSound w → AreRowsTyped w ts matrix.now.rows.items →
+        AreThose (λ k. IsUnused w ts (rows_of matrix.now.rows.items) k) (length matrix.now.rows.items) us.items) }
 {
     let mut unused = Vec::new(alloc);
     for i in 0..matrix.rows.len() {
