@@ -24,7 +24,7 @@ pub below : (d n : ℕ) → suc n ≤ d → n ≤ pred d
 below zero n h = absurd (omega arith)
 below (suc d) n h = omega arith
 
-first-or : (a b : Option (List Member)) (all : List Member) → option_or a b ≡ Some all → (a ≡ Some all) ⊎ (b ≡ Some all)
+pub first-or : (a b : Option (List Member)) (all : List Member) → option_or a b ≡ Some all → (a ≡ Some all) ⊎ (b ≡ Some all)
 first-or None b all e = inr e
 first-or (Some own) b all e = inl e
 

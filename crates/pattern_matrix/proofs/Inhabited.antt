@@ -197,7 +197,7 @@ family-none : (o : Option (List Member)) (all : List Member) → unwrap_or o all
 family-none None all e f = (refl, e)
 family-none (Some own) all e f = absurd (f own refl e)
 
-all-headless : (w : World) (c : Column) (cs : List Column) (ls : List Line) → LinesFit w (c ∷ cs) ls → (members (form_of w c.body) ≡ [] → ⊥) → family ls ≡ [] →
+pub all-headless : (w : World) (c : Column) (cs : List Column) (ls : List Line) → LinesFit w (c ∷ cs) ls → (members (form_of w c.body) ≡ [] → ⊥) → family ls ≡ [] →
     (k : Name) → heads_some k ls ≡ false
 all-headless w c cs [] h some e k = refl
 all-headless w c cs ([] ∷ ls) h some e k = absurd h.0
@@ -232,13 +232,13 @@ opens-in (AreOf.and_one v vs) = opens-in vs
 abbrev pub Chosen : World → Column → List Line → Shape → Type 0
 Chosen w c ls shape = (v : Value) × IsOf w c.depth c.body v × (is_in shape v ≡ true) × AvoidsLines v ls
 
-column-open : (ls : List Line) (shape : Shape) → family ls ≡ [] → column ls ≡ Some shape → open_shape ≡ shape
+pub column-open : (ls : List Line) (shape : Shape) → family ls ≡ [] → column ls ≡ Some shape → open_shape ≡ shape
 column-open ls shape empty e = let x : Some open_shape ≡ Some shape = sym (ap (λ ks. column_by ks ls) empty) ∙ e in cc
 
 open-chosen : (w : World) (c : Column) (ls : List Line) (shape : Shape) (v : Value) → open_shape ≡ shape → IsOf w c.depth c.body v → AvoidsLines v ls → Chosen w c ls shape
 open-chosen w c ls shape v e is avoids = (v, is, subst (λ s. is_in s v ≡ true) e refl, avoids)
 
-none-known : (w : World) (c : Column) (cs : List Column) (ls : List Line) → LinesFit w (c ∷ cs) ls → members (form_of w c.body) ≡ [] → family ls ≡ []
+pub none-known : (w : World) (c : Column) (cs : List Column) (ls : List Line) → LinesFit w (c ∷ cs) ls → members (form_of w c.body) ≡ [] → family ls ≡ []
 none-known w c cs ls h e = elim (family-typed w c cs ls h) [ inl empty ↦ empty | inr known ↦ known.0 ∙ e ]
 
 absent-chosen : (w : World) → IsSound w → (c : Column) (ls : List Line) (shape : Shape) (k : Built) → IsOne k (constructors_of (form_of w c.body)) → heads_some k.name ls ≡ false →

@@ -10,3 +10,4 @@ pub mod Covers
 pub mod Inhabited
 pub mod Misses
 pub mod Exactness
+pub mod Showing
