@@ -5,21 +5,23 @@ use Rattle.std.proofs.lemmas.List.{take-map}
 use Rattle.std.proofs.Math.Nat.{max-le}
 use Rattle.std.proofs.lemmas.Option.{slice_get-map}
 use Rattle.type_model.specs.Types.{Typ}
-use Rattle.match_model.specs.Values.{Value, Values, no_values, also_value, match_all, Shape, is_in, all_in}
+use Rattle.match_model.specs.Values.{Value, Values, no_values, also_value, match_all, Shape, is_in, all_in, Pattern}
 use Rattle.match_model.specs.Forms.{World, IsOf, AreOf}
-use Rattle.match_model.specs.Rows.{Row, depth_in, deepest, is_matched, IsUnused}
-use Rattle.pattern_matrix.specs.Lines.{Typed, Typeds, items_of, listed, Line, shapes_in}
+use Rattle.match_model.specs.Rows.{Row, depth_in, deepest, is_matched, IsUnused, Missed, IsExhaustive}
+use Rattle.match_model.specs.Shown.{list_of}
+use Rattle.pattern_matrix.specs.Lines.{Typed, Typeds, items_of, listed, Line, opened, shapes_in}
 use Rattle.pattern_matrix.specs.Search.{Finds, row_in}
 use Rattle.pattern_matrix.specs.Typing.{plain, plains, AreTyped, IsSound}
 use Rattle.pattern_matrix.specs.Rows.{line_of, lines_of, unless_guarded, together, FindsShape, IsTold, AreUnused, covered_one, useful_one}
 use Rattle.pattern_matrix.specs.Rows as told
-use Rattle.pattern_matrix.specs.Exact.{row_of, rows_of, IsRowTyped, AreRowsTyped, IsCovered, AddsTo, Tells, AreThose, at_start, such, other}
+use Rattle.pattern_matrix.specs.Exact.{row_of, rows_of, IsRowTyped, AreRowsTyped, IsCovered, AddsTo, Tells, TellsMissed, unless, open_lines, AreThose, at_start, such, other}
 use Rattle.pattern_matrix.specs.declared.patterns.PatRow.{PatRow}
 use Rattle.pattern_matrix.proofs.Listing.{items_of-listed}
 use Rattle.pattern_matrix.proofs.Matching.{Column, columns_at, match_line, match_some, LineFits, LinesFit, AreIn, values_list, items-match}
-use Rattle.pattern_matrix.proofs.Fitting.{max-first, max-second, parts-fit}
+use Rattle.pattern_matrix.proofs.Fitting.{max-first, max-second, parts-fit, opened-fit}
 use Rattle.pattern_matrix.proofs.Covers.{covers}
 use Rattle.pattern_matrix.proofs.Misses.{in_shapes, gives}
+use Rattle.pattern_matrix.proofs.Showing.{erased, all_erased, bodies, Told, shows, alike}
 
 -- values, shapes and rows on both sides
 line-matches : (l : Line) (us : Values) → match_line l (values_list us) ≡ match_all (plains (listed l)) us
@@ -157,3 +159,70 @@ pub those-unused : (rs : List PatRow) (w : World) (ts : List Typ) → IsSound w 
 those-unused rs w ts s hs told.at_start = at_start
 those-unused rs w ts s hs (covered_one {k = k} f before is) = such (unused-told rs k f w ts s hs) (those-unused rs w ts s hs before) is
 those-unused rs w ts s hs (useful_one {k = k} f before) = other (useful-told rs k f w ts s hs) (those-unused rs w ts s hs before)
+
+-- what is shown for a whole match
+bodies-at : (d : ℕ) (ts : List Typ) → bodies (columns_at d ts) ≡ ts
+bodies-at d [] = refl
+bodies-at d (t ∷ ts) = ap (λ us. t ∷ us) (bodies-at d ts)
+
+length-at : (d : ℕ) (ts : List Typ) → length (columns_at d ts) ≡ length ts
+length-at d [] = refl
+length-at d (t ∷ ts) = ap suc (length-at d ts)
+
+listed-erased : (l : Line) → erased l ≡ list_of (plains (listed l))
+listed-erased [] = refl
+listed-erased (p ∷ l) = ap (λ m. plain p ∷ m) (listed-erased l)
+
+one-open : (g : Bool) (l : Line) (rest : List Line) (xs : List (List Pattern)) → all_erased rest ≡ xs → all_erased (unless_guarded g l ++ rest) ≡ unless g (list_of (plains (listed l))) ++ xs
+one-open true l rest xs e = e
+one-open false l rest xs e = ap (λ m. m ∷ all_erased rest) (listed-erased l) ∙ ap (λ ys. list_of (plains (listed l)) ∷ ys) e
+
+lines-open : (rs : List PatRow) → all_erased (lines_of rs) ≡ open_lines (rows_of rs)
+lines-open [] = refl
+lines-open (r ∷ rs) = one-open r.guarded (line_of r) (lines_of rs) (open_lines (rows_of rs)) (lines-open rs)
+
+open-fits : (w : World) (d : ℕ) (ts : List Typ) (n : ℕ) → length ts ≡ n → LineFits w (columns_at d ts) (opened n)
+open-fits w d ts n e = subst (λ m. LineFits w (columns_at d ts) (opened m)) e (opened-fit w d ts)
+
+open-matches : (w : World) (d : ℕ) (ts : List Typ) (n : ℕ) (us : Values) → length ts ≡ n → AreOf w d ts us → match_line (opened n) (values_list us) ≡ true
+open-matches w d [] zero us e AreOf.none = refl
+open-matches w d [] (suc n) us e h = absurd (omega arith)
+open-matches w d (t ∷ ts) zero us e h = absurd (omega arith)
+open-matches w d (t ∷ ts) (suc n) us e (AreOf.and_one v vs) = open-matches w d ts n _ (omega arith) vs
+
+told-shown : (rs : List PatRow) (n : ℕ) (r : Option (List Shape)) → Finds (row_in (lines_of rs) (opened n)) r → (w : World) (ts : List Typ) → IsSound w → AreRowsTyped w ts rs → length ts ≡ n →
+    Told w ts (open_lines (rows_of rs)) r
+told-shown rs n r f w ts s hs e =
+    let d = deepest (rows_of rs) in
+    let row : opened n ≡ opened (length (columns_at d ts)) = ap opened (sym (length-at d ts ∙ e)) in
+    subst (λ us. Told w us (open_lines (rows_of rs)) r) (bodies-at d ts)
+    (subst (λ L. Told w (bodies (columns_at d ts)) L r) (lines-open rs)
+    (shows w s f (columns_at d ts) (all_erased (lines_of rs)) (rows-fit w ts d rs hs (le-refl d)) row (alike (all_erased (lines_of rs)))))
+
+not-both : (b : Bool) → b ≡ true → b ≡ false → ⊥
+not-both true e f = cc
+not-both false e f = cc
+
+pub tells-missed : (rs : List PatRow) (n : ℕ) (o : Option Shape) → FindsShape (lines_of rs) (opened n) o → (w : World) (ts : List Typ) → IsSound w → AreRowsTyped w ts rs → length ts ≡ n →
+    TellsMissed w ts (rows_of rs) o
+tells-missed rs n None f w ts s hs e =
+    let d = deepest (rows_of rs) in
+    let fit = rows-fit w ts d rs hs (le-refl d) in
+    (λ shapes m. not-both (is_matched (rows_of rs) m.values)
+    (rows-match rs m.values ∙ covers w s f refl (columns_at d ts) fit (open-fits w d ts n e) (values_list m.values) (are-in m.typed) (open-matches w d ts n m.values e m.typed)) m.missed,
+    told-shown rs n None f w ts s hs e)
+tells-missed rs n (Some s') f w ts s hs e =
+    let d = deepest (rows_of rs) in
+    let ss = f.0 in
+    let m = gives w s f.1 ss refl (columns_at d ts) (rows-fit w ts d rs hs (le-refl d)) (open-fits w d ts n e) in
+    let v = as-values w d ts m.0 m.1 in
+    (ss, f.2, record {
+      values = v.0;
+      typed = v.1;
+      shaped = shapes-on-values ss v.0 ∙ ap (in_shapes ss) v.2 ∙ m.3;
+      missed = rows-match rs v.0 ∙ ap (match_some (lines_of rs)) v.2 ∙ m.4;
+    }, told-shown rs n (Some ss) f.1 w ts s hs e)
+
+pub nothing-behind : (l : Line) → l ++ [] ≡ l
+nothing-behind [] = refl
+nothing-behind (p ∷ l) = ap (λ m. p ∷ m) (nothing-behind l)

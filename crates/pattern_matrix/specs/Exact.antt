@@ -3,7 +3,8 @@ use Rattle.std.specs.Prelude.{◌≡◌, ℕ, zero, suc, ◌≤◌, Bool, true, 
 use Rattle.type_model.specs.Types.{Typ}
 use Rattle.match_model.specs.Values.{Values, match_all, Shape, all_in}
 use Rattle.match_model.specs.Forms.{World, AreOf}
-use Rattle.match_model.specs.Rows.{Row, deepest, is_matched}
+use Rattle.match_model.specs.Rows.{Row, deepest, is_matched, Missed, IsExhaustive}
+use Rattle.match_model.specs.Shown.{Line, list_of, Shows, ShowsNone}
 use Rattle.pattern_matrix.specs.Lines.{listed, shapes_in}
 use Rattle.pattern_matrix.specs.Typing.{plains, AreTyped}
 use Rattle.pattern_matrix.specs.Rows.{line_of, together}
@@ -46,3 +47,17 @@ pub data AreThose (P : ℕ → Type 0) : ℕ → List ℕ → Type 0 where
   at_start : AreThose P zero []
   such : {n : ℕ} {us vs : List ℕ} → P n → AreThose P n us → vs ≡ us ++ n ∷ [] → AreThose P (suc n) vs
   other : {n : ℕ} {us : List ℕ} → (P n → ⊥) → AreThose P n us → AreThose P (suc n) us
+
+-- the lines of the rows without a guard
+abbrev pub unless : Bool → Line → List Line
+unless true l = []
+unless false l = l ∷ []
+
+abbrev pub open_lines : List Row → List Line
+open_lines [] = []
+open_lines (r ∷ rows) = unless r.guarded (list_of r.patterns) ++ open_lines rows
+
+-- what is told of a match: that its rows are exhaustive, or the shape that is shown, of which values are missed
+abbrev pub TellsMissed : World → List Typ → List Row → Option Shape → Type 0
+TellsMissed w ts rows None = IsExhaustive w ts rows × ShowsNone w ts (open_lines rows)
+TellsMissed w ts rows (Some s) = (ss : List Shape) × (s ≡ together ss) × Missed w ts rows (shapes_in ss) × Shows w ts (open_lines rows) (shapes_in ss)

@@ -15,5 +15,5 @@ mod tests;
 
 pub use patterns::{Built, Matrix, Pat, PatRow, Shape};
 pub use printing::print_shape;
-pub use rows::{unused_rows, useful};
+pub use rows::{missed, unused_rows, useful};
 pub use text_terms::NoMemory;

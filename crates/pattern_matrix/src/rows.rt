@@ -7,26 +7,44 @@ ghost use Rattle.pattern_matrix.specs.Search.{Finds, row_in};
 ghost use Rattle.pattern_matrix.specs.Views.{cells_view, lines_view, shape_of, shapes_view};
 ghost use Rattle.pattern_matrix.specs.Rows.{line_of, lines_of, together, FindsShape, IsTold};
 ghost use Rattle.pattern_matrix.specs.Typing.{IsSound};
-ghost use Rattle.pattern_matrix.specs.Exact.{row_of, rows_of, IsRowTyped, AreRowsTyped, Tells, AreThose};
-use crate::columns::{Cell, Line, Stem};
+ghost use Rattle.pattern_matrix.specs.Exact.{row_of, rows_of, IsRowTyped, AreRowsTyped, Tells, TellsMissed, AreThose};
+use crate::columns::{Cell, Line, Stem, opened};
 use crate::known::Known;
 use crate::patterns::{Matrix, PatRow, Shape};
 use crate::search::search;
 use std::alloc::Global;
 use text_terms::NoMemory;
 
-/// A shape of values that the row matches and no row of the matrix without a guard does, or None where there is no such value.
-pub fn useful(alloc: Global, matrix: &Matrix, row: &PatRow) -> Result<Option<Shape>, NoMemory>
-    ensures { IfOk result (λ r. (w : World) (ts : List Typ) (d : ℕ) → IsSound w → AreRowsTyped w ts matrix.now.rows.items → IsRowTyped w ts row.now →
-        deepest (row_of row.now ∷ rows_of matrix.now.rows.items) ≤ d → Tells w ts d (rows_of matrix.now.rows.items) (row_of row.now) (option_map shape_of r)) }
+/// The shape that is shown for values that no row without a guard matches, or None where there are no such values.
+/// The rows have so many columns; of several columns it is the tuple of their shapes.
+pub fn missed(alloc: Global, matrix: &Matrix, columns: usize) -> Result<Option<Shape>, NoMemory>
+    ensures { IfOk result (λ r. (w : World) (ts : List Typ) → IsSound w → AreRowsTyped w ts matrix.now.rows.items → length ts ≡ columns →
+        TellsMissed w ts (rows_of matrix.now.rows.items) (option_map shape_of r)) }
 {
-    useful_in(alloc, &matrix.rows, row)
+    let row = opened(alloc, columns, &[])?;
+    find_shape(alloc, &matrix.rows, row)
 }
 
-fn useful_in(alloc: Global, rows: &[PatRow], row: &PatRow) -> Result<Option<Shape>, NoMemory>
-    ensures { IfOk result (λ r. FindsShape (lines_of rows.now) (line_of row.now) (option_map shape_of r)) }
+/// A shape of values that the row matches and no row of the matrix without a guard does, or None where there is no such value.
+/// It is built column by column from the left, as the one of `missed`, but has the row's own constructors and literals;
+/// of alternatives it takes the first that leaves a shape.
+pub fn useful(alloc: Global, matrix: &Matrix, row: &PatRow) -> Result<Option<Shape>, NoMemory>
+    ensures rule { IfOk result (λ r. FindsShape (lines_of matrix.now.rows.items) (line_of row.now) (option_map shape_of r)) }
+    ensures meaning { IfOk result (λ r. (w : World) (ts : List Typ) (d : ℕ) → IsSound w → AreRowsTyped w ts matrix.now.rows.items → IsRowTyped w ts row.now →
+        deepest (row_of row.now ∷ rows_of matrix.now.rows.items) ≤ d → Tells w ts d (rows_of matrix.now.rows.items) (row_of row.now) (option_map shape_of r)) }
 {
-    match missed(alloc, rows, row)? {
+    let row = cells_of(alloc, row)?;
+    find_shape(alloc, &matrix.rows, row)
+}
+
+fn find_shape<'a>(
+    alloc: Global,
+    rows: &'a [PatRow],
+    row: Vec<Cell<'a>>,
+) -> Result<Option<Shape>, NoMemory>
+    ensures { IfOk result (λ r. FindsShape (lines_of rows.now) (cells_view row.entry.items) (option_map shape_of r)) }
+{
+    match find(alloc, rows, row)? {
         Some(shapes) => Ok(Some(together(shapes))),
         None => Ok(None),
     }
@@ -64,7 +82,7 @@ fn is_covered(alloc: Global, rows: &[PatRow], at: usize) -> Result<bool, NoMemor
     requires { at < length rows.now }
     ensures { IfOk result (λ covered. IsTold rows.now at covered) }
 {
-    let found = missed(alloc, &rows[..at], &rows[at])?;
+    let found = find(alloc, &rows[..at], cells_of(alloc, &rows[at])?)?;
     Ok(found.is_none())
 }
 
@@ -74,11 +92,15 @@ fn put(numbers: &mut Vec<usize>, number: usize) -> Result<(), NoMemory>
     numbers.push(number).map_err(|_| NoMemory)
 }
 
-fn missed(alloc: Global, rows: &[PatRow], row: &PatRow) -> Result<Option<Vec<Shape>>, NoMemory>
-    ensures { IfOk result (λ r. Finds (row_in (lines_of rows.now) (line_of row.now)) (shapes_view r)) }
+fn find<'a>(
+    alloc: Global,
+    rows: &'a [PatRow],
+    row: Vec<Cell<'a>>,
+) -> Result<Option<Vec<Shape>>, NoMemory>
+    ensures { IfOk result (λ r. Finds (row_in (lines_of rows.now) (cells_view row.entry.items)) (shapes_view r)) }
 {
     let mut known = Known::new(alloc);
-    search(alloc, &mut known, lines_of(alloc, rows)?, cells_of(alloc, row)?)
+    search(alloc, &mut known, lines_of(alloc, rows)?, row)
 }
 
 fn lines_of(alloc: Global, rows: &[PatRow]) -> Result<Vec<Line<'_>>, NoMemory>
