@@ -76,7 +76,7 @@ con-covers w s all n ps rest ls ih (c ∷ cs) fl fr (v ∷ vs) iv m =
     let head : built_head n (length (items_of ps)) ≡ built_head k.name (length k.parts) = λ i. built_head (f.4 i) (long i) in
     let fits = fits-append w (columns_at (pred c.depth) k.parts) cs (items_of ps) rest (parts-fit w (pred c.depth) k.parts ps parts (below c.depth (depth_in (plains ps)) fr.1)) fr.2 in
     let here = match_line-append (items_of ps) rest (values_list us) vs (long ∙ sym (values-length f.3))
-        ∙ and-both (match_line (items_of ps) (values_list us)) (match_line rest vs) (items-match ps us ∙ f.6) (and-right (matches (plain (con all n ps)) v) (match_line rest vs) m) in
+    ∙ and-both (match_line (items_of ps) (values_list us)) (match_line rest vs) (items-match ps us ∙ f.6) (and-right (matches (plain (con all n ps)) v) (match_line rest vs) m) in
     subst (λ x. match_some ls (x ∷ vs) ≡ true) (sym f.5)
     (under-covers w s c cs ls fl k f.1 us f.3 (items_of ps ++ rest) vs iv.1 fits here (subst (λ h. Covers w (row_in (lines_under h ls) (items_of ps ++ rest))) head ih))
 
@@ -114,12 +114,13 @@ members-covers w rest ls e ih [] fl fr vs iv m = absurd fr
 members-covers w rest ls e ih (c ∷ cs) fl fr [] iv m = absurd iv
 members-covers w rest ls e ih (c ∷ cs) fl fr (v ∷ vs) iv m =
     elim (family-typed w c cs ls fl) [
-      inl empty ↦ absurd (column-some ls e empty)
-    | inr known ↦
-        let some : members (form_of w c.body) ≡ [] → ⊥ = λ empty. column-some ls e (known.0 ∙ empty) in
-        let f = value-built iv.0 known.1 some in
-        subst (λ x. match_some ls (x ∷ vs) ≡ true) (sym f.4)
-        (ih c cs fl fr.2 (constructors_of (form_of w c.body)) (known.0 ∙ all-members (form_of w c.body) some) f.0 f.1 f.1 f.2 f.3 vs iv.1 m) ]
+      | inl empty ↦ absurd (column-some ls e empty)
+      | inr known ↦
+          let some : members (form_of w c.body) ≡ [] → ⊥ = λ empty. column-some ls e (known.0 ∙ empty) in
+          let f = value-built iv.0 known.1 some in
+          subst (λ x. match_some ls (x ∷ vs) ≡ true) (sym f.4)
+          (ih c cs fl fr.2 (constructors_of (form_of w c.body)) (known.0 ∙ all-members (form_of w c.body) some) f.0 f.1 f.1 f.2 f.3 vs iv.1 m)
+    ]
 
 -- one constructor, before the others
 member-covers : (w : World) → IsSound w → (k : Member) (ks : List Member) (rest : Line) (ls : List Line) → Covers w (row_in (lines_under (head_of k) ls) (opened k.parts ++ rest)) →
@@ -137,8 +138,9 @@ member-covers w s k ks rest ls this others c cs fl fr (b ∷ bs) e b' (later one
 pattern-covers : (w : World) (p : Typed) (ps : Typeds) (rest : Line) (ls : List Line) → Covers w (row_in ls (p ∷ rest)) → Covers w (some_in ls ps rest) → Covers w (some_in ls (also p ps) rest)
 pattern-covers w p ps rest ls this others c cs fl typed deep fr v vs is iv m r =
     elim (or-cases (matches (plain p) v) (matches_some (plains ps) v) m) [
-      inl x ↦ this (c ∷ cs) fl (typed.0, max-first (depth_of (plain p)) (depth_in (plains ps)) c.depth deep, fr) (v ∷ vs) (is, iv) (and-both (matches (plain p) v) (match_line rest vs) x r)
-    | inr y ↦ others c cs fl typed.1 (max-second (depth_of (plain p)) (depth_in (plains ps)) c.depth deep) fr v vs is iv y r ]
+      | inl x ↦ this (c ∷ cs) fl (typed.0, max-first (depth_of (plain p)) (depth_in (plains ps)) c.depth deep, fr) (v ∷ vs) (is, iv) (and-both (matches (plain p) v) (match_line rest vs) x r)
+      | inr y ↦ others c cs fl typed.1 (max-second (depth_of (plain p)) (depth_in (plains ps)) c.depth deep) fr v vs is iv y r
+    ]
 
 squeezed-covers : (w : World) (row : Line) (ls fewer : List Line) → IsSqueezed fewer ls → Covers w (row_in fewer row) → Covers w (row_in ls row)
 squeezed-covers w row ls fewer q ih cs fl fr vs iv m = among-match fewer ls vs q.kept (ih cs (among-fit w cs fewer ls fl q.kept) fr vs iv m)

@@ -207,21 +207,26 @@ pub tells-missed : (rs : List PatRow) (n : ℕ) (o : Option Shape) → FindsShap
     TellsMissed w ts (rows_of rs) o
 tells-missed rs n None f w ts s hs e =
     let d = deepest (rows_of rs) in
-    let fit = rows-fit w ts d rs hs (le-refl d) in
-    (λ shapes m. not-both (is_matched (rows_of rs) m.values)
-    (rows-match rs m.values ∙ covers w s f refl (columns_at d ts) fit (open-fits w d ts n e) (values_list m.values) (are-in m.typed) (open-matches w d ts n m.values e m.typed)) m.missed,
-    told-shown rs n None f w ts s hs e)
+    let fit = rows-fit w ts d rs hs (le-refl d) in (
+      λ shapes m. not-both (is_matched (rows_of rs) m.values)
+          (rows-match rs m.values ∙ covers w s f refl (columns_at d ts) fit (open-fits w d ts n e) (values_list m.values) (are-in m.typed) (open-matches w d ts n m.values e m.typed)) m.missed,
+      told-shown rs n None f w ts s hs e,
+    )
 tells-missed rs n (Some s') f w ts s hs e =
     let d = deepest (rows_of rs) in
     let ss = f.0 in
     let m = gives w s f.1 ss refl (columns_at d ts) (rows-fit w ts d rs hs (le-refl d)) (open-fits w d ts n e) in
-    let v = as-values w d ts m.0 m.1 in
-    (ss, f.2, record {
-      values = v.0;
-      typed = v.1;
-      shaped = shapes-on-values ss v.0 ∙ ap (in_shapes ss) v.2 ∙ m.3;
-      missed = rows-match rs v.0 ∙ ap (match_some (lines_of rs)) v.2 ∙ m.4;
-    }, told-shown rs n (Some ss) f.1 w ts s hs e)
+    let v = as-values w d ts m.0 m.1 in (
+      ss,
+      f.2,
+      record {
+        values = v.0;
+        typed = v.1;
+        shaped = shapes-on-values ss v.0 ∙ ap (in_shapes ss) v.2 ∙ m.3;
+        missed = rows-match rs v.0 ∙ ap (match_some (lines_of rs)) v.2 ∙ m.4;
+      },
+      told-shown rs n (Some ss) f.1 w ts s hs e,
+    )
 
 pub nothing-behind : (l : Line) → l ++ [] ≡ l
 nothing-behind [] = refl

@@ -159,8 +159,9 @@ mutual
   family-typed-in-some w c none h deep all e = cc
   family-typed-in-some w c (also p ps) h deep all e =
       elim (first-or (family_in p) (family_in_some ps) all e) [
-        inl x ↦ family-typed-in w c p h.0 (max-first (depth_of (plain p)) (depth_in (plains ps)) c.depth deep) all x
-      | inr y ↦ family-typed-in-some w c ps h.1 (max-second (depth_of (plain p)) (depth_in (plains ps)) c.depth deep) all y ]
+        | inl x ↦ family-typed-in w c p h.0 (max-first (depth_of (plain p)) (depth_in (plains ps)) c.depth deep) all x
+        | inr y ↦ family-typed-in-some w c ps h.1 (max-second (depth_of (plain p)) (depth_in (plains ps)) c.depth deep) all y
+      ]
 
 family-step : (w : World) (c : Column) (o : Option (List Member)) (all : List Member) → ((own : List Member) → o ≡ Some own → (own ≡ members (form_of w c.body)) × (1 ≤ c.depth)) →
     (all ≡ []) ⊎ ((all ≡ members (form_of w c.body)) × (1 ≤ c.depth)) → (unwrap_or o all ≡ []) ⊎ ((unwrap_or o all ≡ members (form_of w c.body)) × (1 ≤ c.depth))

@@ -255,12 +255,13 @@ closed-chosen w s c cs ls shape k ks f h e =
     let one : IsOne k (constructors_of (form_of w c.body)) = subst (λ g. IsOne k (constructors_of g)) (sym f) first in
     let some : members (form_of w c.body) ≡ [] → ⊥ = λ empty. let x : map member (k ∷ ks) ≡ [] = sym (ap members f) ∙ empty in cc in
     elim (family-typed w c cs ls h) [
-      inl empty ↦ absent-chosen w s c ls shape k one (all-headless w c cs ls h some empty k.name) (inr (column-open ls shape empty e))
-    | inr known ↦
-        let shown : column_by (map member (k ∷ ks)) ls ≡ Some shape = sym (ap (λ all. column_by all ls) (known.0 ∙ ap members f)) ∙ e in
-        let m = mapped-some open_built (first_absent (map member (k ∷ ks)) ls) shape shown in
-        let a = absent-is (k ∷ ks) ls m.0 m.1 in
-        absent-chosen w s c ls shape a.0 (subst (λ g. IsOne a.0 (constructors_of g)) (sym f) a.1) a.3 (inl (ap open_built (sym a.2) ∙ m.2)) ]
+      | inl empty ↦ absent-chosen w s c ls shape k one (all-headless w c cs ls h some empty k.name) (inr (column-open ls shape empty e))
+      | inr known ↦
+          let shown : column_by (map member (k ∷ ks)) ls ≡ Some shape = sym (ap (λ all. column_by all ls) (known.0 ∙ ap members f)) ∙ e in
+          let m = mapped-some open_built (first_absent (map member (k ∷ ks)) ls) shape shown in
+          let a = absent-is (k ∷ ks) ls m.0 m.1 in
+          absent-chosen w s c ls shape a.0 (subst (λ g. IsOne a.0 (constructors_of g)) (sym f) a.1) a.3 (inl (ap open_built (sym a.2) ∙ m.2))
+    ]
 
 chosen-by : (w : World) → IsSound w → (c : Column) (cs : List Column) (ls : List Line) (shape : Shape) (f : Form) → form_of w c.body ≡ f →
     LinesFit w (c ∷ cs) ls → column ls ≡ Some shape → Chosen w c ls shape

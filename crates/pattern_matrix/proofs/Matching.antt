@@ -234,8 +234,9 @@ mutual
       let m = match_line rest vs in
       sym (or-and a b m) ∙ elim (or-cases (match_some (without_head p rest) vs) (match_some (each_without_head ps rest) vs)
       (sym (match_some-append (without_head p rest) (each_without_head ps rest) vs) ∙ h)) [
-        inl x ↦ or-first (a && m) (b && m) (without_head-matches p rest v vs x)
-      | inr y ↦ or-second (a && m) (b && m) (each_without_head-matches ps rest v vs y) ]
+        | inl x ↦ or-first (a && m) (b && m) (without_head-matches p rest v vs x)
+        | inr y ↦ or-second (a && m) (b && m) (each_without_head-matches ps rest v vs y)
+      ]
 
 pub headless-match : (ls : List Line) (v : Value) (vs : List Value) → match_some (headless ls) vs ≡ true → match_some ls (v ∷ vs) ≡ true
 headless-match [] v vs h = h
@@ -243,5 +244,6 @@ headless-match ([] ∷ ls) v vs h = headless-match ls v vs h
 headless-match ((p ∷ rest) ∷ ls) v vs h =
     let m = matches (plain p) v && match_line rest vs in
     elim (or-cases (match_some (without_head p rest) vs) (match_some (headless ls) vs) (sym (match_some-append (without_head p rest) (headless ls) vs) ∙ h)) [
-      inl x ↦ or-first m (match_some ls (v ∷ vs)) (without_head-matches p rest v vs x)
-    | inr y ↦ or-second m (match_some ls (v ∷ vs)) (headless-match ls v vs y) ]
+      | inl x ↦ or-first m (match_some ls (v ∷ vs)) (without_head-matches p rest v vs x)
+      | inr y ↦ or-second m (match_some ls (v ∷ vs)) (headless-match ls v vs y)
+    ]

@@ -64,14 +64,21 @@ under-misses w s c cs ls fl k one front rest long ss m =
     let vs = r.1 in
     let count : length (values_list us) ≡ length k.parts = values-length r.2 in
     let both : (match_line front (values_list us) && match_line rest vs) ≡ true =
-        sym (match_line-append front rest (values_list us) vs (long ∙ sym count)) ∙ subst (λ ws. match_line (front ++ rest) ws ≡ true) r.4 m.2 in
+    sym (match_line-append front rest (values_list us) vs (long ∙ sym count)) ∙ subst (λ ws. match_line (front ++ rest) ws ≡ true) r.4 m.2 in
     let shapes = cut-shapes ss us vs (subst (λ ws. in_shapes ss ws ≡ true) r.4 m.3) in
     let inner : all_in (shapes_in (take (length k.parts) ss)) us ≡ true = subst (λ n. all_in (shapes_in (take n ss)) us ≡ true) count shapes.0 in
     let outer : in_shapes (drop (length k.parts) ss) vs ≡ true = subst (λ n. in_shapes (drop n ss) vs ≡ true) count shapes.1 in
     let within = and-both (same_name k.name k.name && all_in (shapes_in (take (length k.parts) ss)) us) (in_shapes (drop (length k.parts) ss) vs)
-        (and-both (same_name k.name k.name) (all_in (shapes_in (take (length k.parts) ss)) us) (name-same k.name k.name refl) inner) outer in
-    (us, vs, r.2, r.3, and-left (match_line front (values_list us)) (match_line rest vs) both, and-right (match_line front (values_list us)) (match_line rest vs) both, within,
-    sym (lines_under-match w s c cs ls fl k one us count vs) ∙ subst (λ ws. match_some (lines_under (built_head k.name (length k.parts)) ls) ws ≡ false) r.4 m.4)
+    (and-both (same_name k.name k.name) (all_in (shapes_in (take (length k.parts) ss)) us) (name-same k.name k.name refl) inner) outer in (
+      us,
+      vs,
+      r.2,
+      r.3,
+      and-left (match_line front (values_list us)) (match_line rest vs) both,
+      and-right (match_line front (values_list us)) (match_line rest vs) both,
+      within,
+      sym (lines_under-match w s c cs ls fl k one us count vs) ∙ subst (λ ws. match_some (lines_under (built_head k.name (length k.parts)) ls) ws ≡ false) r.4 m.4,
+    )
 
 con-misses : (w : World) → IsSound w → (all : List Member) (n : Name) (ps : Typeds) (rest : Line) (ls : List Line) (ss : List Shape) →
     Gives w (row_in (lines_under (built_head n (length (items_of ps))) ls) (items_of ps ++ rest)) ss →
@@ -87,8 +94,8 @@ con-misses w s all n ps rest ls ss ih (c ∷ cs) fl fr =
     let m = under-misses w s c cs ls fl k one (items_of ps) rest long ss inner in
     let v = built k.name m.0 in
     let here : (matches (plain (con all n ps)) v && match_line rest m.1) ≡ true =
-        and-both (matches (plain (con all n ps)) v) (match_line rest m.1)
-        (and-both (same_name n k.name) (match_all (plains ps) m.0) (name-same n k.name fr.0.2) (sym (items-match ps m.0) ∙ m.4)) m.5 in
+    and-both (matches (plain (con all n ps)) v) (match_line rest m.1)
+    (and-both (same_name n k.name) (match_all (plains ps) m.0) (name-same n k.name fr.0.2) (sym (items-match ps m.0) ∙ m.4)) m.5 in
     (v ∷ m.1, (IsOf.of_constructor' one m.2, m.3), here, subst (λ h. in_shapes (with_head h ss) (v ∷ m.1) ≡ true) (sym head) m.6, m.7)
 
 lit-misses : (w : World) (n : Name) (rest : Line) (ls : List Line) (ss : List Shape) → Gives w (row_in (lines_under (literal_head n) ls) rest) ss →
@@ -96,9 +103,13 @@ lit-misses : (w : World) (n : Name) (rest : Line) (ls : List Line) (ss : List Sh
 lit-misses w n rest ls ss ih [] fl fr = absurd fr
 lit-misses w n rest ls ss ih (c ∷ cs) fl fr =
     let m = ih cs (lines_under-fit-literal w c cs ls fl n) fr.2 in
-    let own = name-same n n refl in
-    (literal n ∷ m.0, (IsOf.of_literal' fr.0, m.1), and-both (same_name n n) (match_line rest m.0) own m.2, and-both (same_name n n) (in_shapes ss m.0) own m.3,
-    sym (lines_under-match-literal w c cs ls fl n m.0) ∙ m.4)
+    let own = name-same n n refl in (
+      literal n ∷ m.0,
+      (IsOf.of_literal' fr.0, m.1),
+      and-both (same_name n n) (match_line rest m.0) own m.2,
+      and-both (same_name n n) (in_shapes ss m.0) own m.3,
+      sym (lines_under-match-literal w c cs ls fl n m.0) ∙ m.4,
+    )
 
 either-misses : (w : World) (ps : Typeds) (rest : Line) (ls : List Line) (ss : List Shape) → Gives w (some_in ls ps rest) ss → Gives w (row_in ls (either ps ∷ rest)) ss
 either-misses w ps rest ls ss ih [] fl fr = absurd fr
@@ -110,11 +121,12 @@ members-misses : (w : World) (rest : Line) (ls : List Line) (ss : List Shape) �
 members-misses w rest ls ss e ih [] fl fr = absurd fr
 members-misses w rest ls ss e ih (c ∷ cs) fl fr =
     elim (family-typed w c cs ls fl) [
-      inl empty ↦ absurd (column-some ls e empty)
-    | inr known ↦
-        let some : members (form_of w c.body) ≡ [] → ⊥ = λ empty. column-some ls e (known.0 ∙ empty) in
-        let m = ih c cs fl fr.2 (constructors_of (form_of w c.body)) (known.0 ∙ all-members (form_of w c.body) some) (λ k one. one) in
-        (m.0 ∷ m.1, (m.2, m.3), m.5, m.6, m.7) ]
+      | inl empty ↦ absurd (column-some ls e empty)
+      | inr known ↦
+          let some : members (form_of w c.body) ≡ [] → ⊥ = λ empty. column-some ls e (known.0 ∙ empty) in
+          let m = ih c cs fl fr.2 (constructors_of (form_of w c.body)) (known.0 ∙ all-members (form_of w c.body) some) (λ k one. one) in
+          (m.0 ∷ m.1, (m.2, m.3), m.5, m.6, m.7)
+    ]
 
 default-misses : (w : World) → IsSound w → (rest : Line) (ls : List Line) (shape : Shape) (ss : List Shape) → column ls ≡ Some shape → Gives w (row_in (headless ls) rest) ss →
     Gives w (row_in ls (any ∷ rest)) (shape ∷ ss)
@@ -136,9 +148,16 @@ squeezed-misses w row ls fewer ss q ih cs fl fr =
 pattern-missed : (w : World) (p : Typed) (ps : Typeds) (rest : Line) (ls : List Line) (ss : List Shape) (c : Column) (cs : List Column) → MissedBy w ls ss (c ∷ cs) (p ∷ rest) →
     MissedBehind w ls ss c cs rest (λ v. matches_some (plains (also p ps)) v)
 pattern-missed w p ps rest ls ss c cs ([], is, m, shapes, no_line) = absurd is
-pattern-missed w p ps rest ls ss c cs (v ∷ vs, is, m, shapes, no_line) =
-    (v, vs, is.0, is.1, or-first (matches (plain p) v) (matches_some (plains ps) v) (and-left (matches (plain p) v) (match_line rest vs) m),
-    and-right (matches (plain p) v) (match_line rest vs) m, shapes, no_line)
+pattern-missed w p ps rest ls ss c cs (v ∷ vs, is, m, shapes, no_line) = (
+  v,
+  vs,
+  is.0,
+  is.1,
+  or-first (matches (plain p) v) (matches_some (plains ps) v) (and-left (matches (plain p) v) (match_line rest vs) m),
+  and-right (matches (plain p) v) (match_line rest vs) m,
+  shapes,
+  no_line,
+)
 
 pattern-misses : (w : World) (p : Typed) (ps : Typeds) (rest : Line) (ls : List Line) (ss : List Shape) → Gives w (row_in ls (p ∷ rest)) ss → Gives w (some_in ls (also p ps) rest) ss
 pattern-misses w p ps rest ls ss ih c cs fl typed deep fr =

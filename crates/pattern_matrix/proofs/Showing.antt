@@ -162,8 +162,9 @@ source : (F : List (List Pattern) → List (List Pattern)) → Linewise F → (y
 source F s y [] h = let x : Among y [] = subst (λ z. Among y z) s.empty h in elim x [ ]
 source F s y (m ∷ ls) h =
     elim (among-either y (F (m ∷ [])) (F ls) (subst (λ z. Among y z) (s.step m ls) h)) [
-      inl i ↦ (m, now, i)
-    | inr i ↦ let r = source F s y ls i in (r.0, next r.1, r.2) ]
+      | inl i ↦ (m, now, i)
+      | inr i ↦ let r = source F s y ls i in (r.0, next r.1, r.2)
+    ]
 
 walked-alike : (F : List (List Pattern) → List (List Pattern)) → Linewise F → (a b : List (List Pattern)) → Alike a b → Alike (F a) (F b)
 walked-alike F s a b h = record {
@@ -213,8 +214,9 @@ header : (k : Name) (ls : List (List Pattern)) → shown.heads_some k (shown.spr
 header k [] h = cc
 header k (m ∷ ls) h =
     elim (or-cases (shown.heads_some k (shown.spread_lines (m ∷ []))) (shown.heads_some k (shown.spread_lines ls)) (sym (heads-step k m ls) ∙ h)) [
-      inl i ↦ (m, now, i)
-    | inr i ↦ let r = header k ls i in (r.0, next r.1, r.2) ]
+      | inl i ↦ (m, now, i)
+      | inr i ↦ let r = header k ls i in (r.0, next r.1, r.2)
+    ]
 
 heads-alike : (k : Name) (a b : List (List Pattern)) → Alike a b → shown.heads_some k (shown.spread_lines a) ≡ shown.heads_some k (shown.spread_lines b)
 heads-alike k a b h =
@@ -310,8 +312,9 @@ mutual
   headed-in-some w t none h all e = cc
   headed-in-some w t (also p ps) h all e =
       elim (first-or (family_in p) (family_in_some ps) all e) [
-        inl x ↦ let r = headed-in w t p h.0 all x in (r.0, r.1, or-first (is_head r.0.name p) (some_is_head r.0.name ps) r.2)
-      | inr y ↦ let r = headed-in-some w t ps h.1 all y in (r.0, r.1, or-second (is_head r.0.name p) (some_is_head r.0.name ps) r.2) ]
+        | inl x ↦ let r = headed-in w t p h.0 all x in (r.0, r.1, or-first (is_head r.0.name p) (some_is_head r.0.name ps) r.2)
+        | inr y ↦ let r = headed-in-some w t ps h.1 all y in (r.0, r.1, or-second (is_head r.0.name p) (some_is_head r.0.name ps) r.2)
+      ]
 
 headed-by : (w : World) (c : Column) (p : Typed) (rest : Line) (ls : List Line) (o : Option (List Member)) → family_in p ≡ o → IsTyped w c.body p → (unwrap_or o (family ls) ≡ [] → ⊥) →
     ((family ls ≡ [] → ⊥) → Headed w c.body (λ k. heads_some k ls)) → Headed w c.body (λ k. heads_some k ((p ∷ rest) ∷ ls))
@@ -341,17 +344,18 @@ incomplete-by w s c cs ls L shape h a e (closed_form []) f = absurd (s.inhabited
 incomplete-by w s c cs ls L shape h a e (closed_form (k ∷ ks)) f =
     let some : members (form_of w c.body) ≡ [] → ⊥ = λ empty. let x : map member (k ∷ ks) ≡ [] = sym (ap members f) ∙ empty in cc in
     elim (family-typed w c cs ls h) [
-      inl empty ↦
-        let no_head : (n : Name) → shown.heads_some n L ≡ false = λ n. a n ∙ all-headless w c cs ls h some empty n in
-        (ap (λ x. x && all_head ks L) (no_head k.name), ap (λ x. cond x (shown.first_absent (k ∷ ks) L) open_shape) (none-there (k ∷ ks) L no_head) ∙ column-open ls shape empty e)
-    | inr known ↦
-        let all : map member (k ∷ ks) ≡ family ls = sym (known.0 ∙ ap members f) in
-        let told : column_by (map member (k ∷ ks)) ls ≡ Some shape = ap (λ x. column_by x ls) all ∙ e in
-        let m = mapped-some open_built (first_absent (map member (k ∷ ks)) ls) shape told in
-        let r = one-absent (k ∷ ks) L ls m.0 a m.1 in
-        let q = headed w c cs ls h (λ empty. let x : map member (k ∷ ks) ≡ [] = all ∙ empty in cc) in
-        let one : IsOne q.0 (k ∷ ks) = subst (λ g. IsOne q.0 (constructors_of g)) f q.1 in
-        (r.0, ap (λ x. cond x (shown.first_absent (k ∷ ks) L) open_shape) (some-there (k ∷ ks) L q.0 one (a q.0.name ∙ q.2)) ∙ r.1 ∙ m.2) ]
+      | inl empty ↦
+          let no_head : (n : Name) → shown.heads_some n L ≡ false = λ n. a n ∙ all-headless w c cs ls h some empty n in
+          (ap (λ x. x && all_head ks L) (no_head k.name), ap (λ x. cond x (shown.first_absent (k ∷ ks) L) open_shape) (none-there (k ∷ ks) L no_head) ∙ column-open ls shape empty e)
+      | inr known ↦
+          let all : map member (k ∷ ks) ≡ family ls = sym (known.0 ∙ ap members f) in
+          let told : column_by (map member (k ∷ ks)) ls ≡ Some shape = ap (λ x. column_by x ls) all ∙ e in
+          let m = mapped-some open_built (first_absent (map member (k ∷ ks)) ls) shape told in
+          let r = one-absent (k ∷ ks) L ls m.0 a m.1 in
+          let q = headed w c cs ls h (λ empty. let x : map member (k ∷ ks) ≡ [] = all ∙ empty in cc) in
+          let one : IsOne q.0 (k ∷ ks) = subst (λ g. IsOne q.0 (constructors_of g)) f q.1 in
+          (r.0, ap (λ x. cond x (shown.first_absent (k ∷ ks) L) open_shape) (some-there (k ∷ ks) L q.0 one (a q.0.name ∙ q.2)) ∙ r.1 ∙ m.2)
+    ]
 incomplete-by w s c cs ls L shape h a e (open_form ks) f = (refl, column-open ls shape (none-known w c cs ls h (ap members f)) e)
 incomplete-by w s c cs ls L shape h a e literals f = (refl, column-open ls shape (none-known w c cs ls h (ap members f)) e)
 incomplete-by w s c cs ls L shape h a e no_form f = (refl, column-open ls shape (none-known w c cs ls h (ap members f)) e)
@@ -427,11 +431,12 @@ members-shown w rest ls r e ih [] L fl is h = cc
 members-shown w rest ls r e ih (c ∷ cs) L fl is h =
     let behind_it : rest ≡ opened (length cs) = cc in
     elim (family-typed w c cs ls fl) [
-      inl empty ↦ absurd (column-some ls e empty)
-    | inr known ↦
-        let f = complete-by (form_of w c.body) (shown.spread_lines L) ls (agree ls L h) known.0 e in
-        by-constructor-told w c.body (bodies cs) L f.0 f.1 r f.2 f.3
-        (ih c cs L fl behind_it h (f.0 ∷ f.1) (known.0 ∙ ap members f.2) (λ k one. subst (λ g. IsOne k (constructors_of g)) (sym f.2) one)) ]
+      | inl empty ↦ absurd (column-some ls e empty)
+      | inr known ↦
+          let f = complete-by (form_of w c.body) (shown.spread_lines L) ls (agree ls L h) known.0 e in
+          by-constructor-told w c.body (bodies cs) L f.0 f.1 r f.2 f.3
+          (ih c cs L fl behind_it h (f.0 ∷ f.1) (known.0 ∙ ap members f.2) (λ k one. subst (λ g. IsOne k (constructors_of g)) (sym f.2) one))
+    ]
 
 default-told : (w : World) (t : Typ) (ts : List Typ) (L : List (List Pattern)) (shape : Shape) (r found : Option (List Shape)) → Incomplete (form_of w t) (shown.spread_lines L) shape →
     r ≡ behind shape found → Told w ts (shown.headless (shown.spread_lines L)) found → Told w (t ∷ ts) L r
@@ -467,8 +472,8 @@ member-shown w s k ks rest ls ss r ih is c cs L fl o h (b ∷ bs) e own =
     let n = length b.parts in
     let under_it = below-one w s b rest ls (Some ss) (subst (λ x. Showing w (row_in (lines_under (head_of x) ls) (opened x.parts ++ rest)) (Some ss)) same ih) c cs L fl o h (own b first) in
     let it : FirstShown w (b ∷ bs) (bodies cs) (shown.spread_lines L) (of_built b.name (shapes_in (take n ss))) (shapes_in (drop n ss)) =
-        subst (λ x. FirstShown w (b ∷ bs) (bodies cs) (shown.spread_lines L) (of_built b.name (shapes_in (take n ss))) x) (left-shapes n ss)
-        (subst (λ x. FirstShown w (b ∷ bs) (bodies cs) (shown.spread_lines L) (of_built b.name x) (shown.left_behind n (shapes_in ss))) (taken-shapes n ss) (shown.here under_it)) in
+    subst (λ x. FirstShown w (b ∷ bs) (bodies cs) (shown.spread_lines L) (of_built b.name (shapes_in (take n ss))) x) (left-shapes n ss)
+    (subst (λ x. FirstShown w (b ∷ bs) (bodies cs) (shown.spread_lines L) (of_built b.name x) (shown.left_behind n (shapes_in ss))) (taken-shapes n ss) (shown.here under_it)) in
     subst (ToldFirst w (b ∷ bs) (bodies cs) (shown.spread_lines L)) (sym (is ∙ ap (λ x. Some (with_head (head_of x) ss)) same)) it
 
 further-told : (w : World) (b : Built) (bs : List Built) (ts : List Typ) (L : List (List Pattern)) (r : Option (List Shape)) →

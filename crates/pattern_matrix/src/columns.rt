@@ -149,7 +149,11 @@ fn put_under<'a>(
 {
     match pat {
         Pat::Any => put_open(alloc, lines, head, rest, stem),
-        Pat::Con { all: _, name, parts } => match head {
+        Pat::Con {
+            all: _,
+            name,
+            parts,
+        } => match head {
             Head::Built(wanted, _) if wanted.is(name.as_str()) => {
                 put(lines, extended(alloc, parts, rest)?, stem)
             }
@@ -207,10 +211,7 @@ fn put<'a>(lines: &mut Vec<Line<'a>>, cells: Vec<Cell<'a>>, stem: Stem) -> Resul
 }
 
 /// What is left of the lines that have no head in the first column.
-pub(crate) fn headless<'a>(
-    alloc: Global,
-    lines: &[Line<'a>],
-) -> Result<Vec<Line<'a>>, NoMemory>
+pub(crate) fn headless<'a>(alloc: Global, lines: &[Line<'a>]) -> Result<Vec<Line<'a>>, NoMemory>
     ensures { IfOk result (λ ls. IsSqueezed (lines_view ls.items) (headless (lines_view lines.now))) }
 {
     let mut kept = Vec::new(alloc);

@@ -8,6 +8,7 @@ ghost use Rattle.pattern_matrix.specs.Views.{cells_view, lines_view, shape_of, s
 ghost use Rattle.pattern_matrix.specs.Rows.{line_of, lines_of, together, FindsShape, IsTold};
 ghost use Rattle.pattern_matrix.specs.Typing.{IsSound};
 ghost use Rattle.pattern_matrix.specs.Exact.{row_of, rows_of, IsRowTyped, AreRowsTyped, Tells, TellsMissed, AreThose};
+
 use crate::columns::{Cell, Line, Stem, opened};
 use crate::known::Known;
 use crate::patterns::{Matrix, PatRow, Shape};

@@ -18,9 +18,7 @@ pub(crate) fn same_pat(a: &Pat, b: &Pat) -> bool
                 name: other,
                 parts: other_parts,
             } => {
-                name.is(other.as_str())
-                    && same_pats(parts, other_parts)
-                    && same_family(all, others)
+                name.is(other.as_str()) && same_pats(parts, other_parts) && same_family(all, others)
             }
             _ => false,
         },

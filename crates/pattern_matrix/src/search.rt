@@ -67,7 +67,11 @@ fn search_first<'a>(
         Cell::Any => search_any(alloc, known, lines, rest),
         Cell::Of(pat) => match pat {
             Pat::Any => search_any(alloc, known, lines, rest),
-            Pat::Con { all: _, name, parts } => {
+            Pat::Con {
+                all: _,
+                name,
+                parts,
+            } => {
                 let row = extended(alloc, parts, rest)?;
                 search_under(alloc, known, lines, Head::Built(name, parts.len()), row)
             }

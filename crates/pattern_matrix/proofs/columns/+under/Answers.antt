@@ -26,8 +26,8 @@ put_under-returns-in_ok-extended-in-Built t c =
     let name = str_bytes c.in-Con.name in
     let is : typed_of c.args.pat.now ≡ con all name (listed parts) = ap typed_of c.in-Con.is ∙ con-typed c.in-Con.all c.in-Con.name c.in-Con.parts in
     let fits : is_built h name ≡ true =
-        ap (λ x. is_built (head_view x) name) c.in-Built.is ∙ ap (λ n. bytes_eq (str_bytes c.in-Built.wanted.now) n) (sym c.as_str.ensures) ∙ sym c.is.ensures ∙ c.if-is.true in
+    ap (λ x. is_built (head_view x) name) c.in-Built.is ∙ ap (λ n. bytes_eq (str_bytes c.in-Built.wanted.now) n) (sym c.as_str.ensures) ∙ sym c.is.ensures ∙ c.if-is.true in
     let cells = c.in_ok-extended-in-Built.ensures ∙ ap (λ xs. map typed_of xs ++ rest) c.deref.ensures.value in
     let left : under h (typed_of c.args.pat.now) rest ≡ _ =
-        ap (λ p. under h p rest) is ∙ built-under h all name parts rest (cells_view c.in_ok-extended-in-Built.field-0.items) fits cells in
+    ap (λ p. under h p rest) is ∙ built-under h all name parts rest (cells_view c.in_ok-extended-in-Built.field-0.items) fits cells in
     subst (λ z. OnOk c.put.result (IsSqueezed (lines_view c.put.new.lines.items) (lines_view c.args.lines.now.items ++ z))) (sym left) c.put.ensures

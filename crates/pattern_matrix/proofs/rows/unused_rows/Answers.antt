@@ -14,9 +14,10 @@ loop-i-preserved c =
     let i = c.loop-i.i in
     let told = subst (λ xs. IsTold xs i c.in_ok-is_covered.field-0) c.deref.ensures.value c.in_ok-is_covered.ensures in
     elim c.if-branch.branch [
-      then-branch+in_ok-put w ↦ one-covered rs i c.loop-i.unused.items c.if-branch.unused.items (subst (λ b. IsTold rs i b) w.if-branch.true told) c.loop-i.invariant
+      | then-branch+in_ok-put w ↦ one-covered rs i c.loop-i.unused.items c.if-branch.unused.items (subst (λ b. IsTold rs i b) w.if-branch.true told) c.loop-i.invariant
           (ap (λ v. v.items) w.unused-is ∙ w.in_ok-put.ensures)
-    | else-branch w ↦ subst (λ v. AreUnused rs (i + 1) v.items) (sym w.unused-is) (one-useful rs i c.loop-i.unused.items (subst (λ b. IsTold rs i b) w.if-branch.false told) c.loop-i.invariant) ]
+      | else-branch w ↦ subst (λ v. AreUnused rs (i + 1) v.items) (sym w.unused-is) (one-useful rs i c.loop-i.unused.items (subst (λ b. IsTold rs i b) w.if-branch.false told) c.loop-i.invariant)
+    ]
 
 pub returns : goal.returns
 returns c =

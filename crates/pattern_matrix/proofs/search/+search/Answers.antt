@@ -23,11 +23,12 @@ search_either-returns-then-is_some-clause-found t c =
     c.loop-pat-test.true c.pat-item.is c.if-is_some.ensures c.in_ok-found.ensures.found)
 
 pub search_either-loop-pat-preserved : goal.search_either-loop-pat-preserved
-search_either-loop-pat-preserved t c =
-    (c.in_ok-found.ensures.kept,
-    λ r more. c.loop-pat.invariant.1 r
-    (alternatives-left c.args.pats.now c.loop-pat.pat-index c.pat-item.result (cells_view c.args.rest.now) (lines_view c.args.lines.now) c.in_ok-found.found r
-    c.loop-pat-test.true c.pat-item.is c.if-is_some.ensures c.in_ok-found.ensures.found more))
+search_either-loop-pat-preserved t c = (
+  c.in_ok-found.ensures.kept,
+  λ r more. c.loop-pat.invariant.1 r
+      (alternatives-left c.args.pats.now c.loop-pat.pat-index c.pat-item.result (cells_view c.args.rest.now) (lines_view c.args.lines.now) c.in_ok-found.found r
+      c.loop-pat-test.true c.pat-item.is c.if-is_some.ensures c.in_ok-found.ensures.found more),
+)
 
 pub search_either-returns-clause-kept : goal.search_either-returns-clause-kept
 search_either-returns-clause-kept t c = c.loop-pat.invariant.0
@@ -43,13 +44,13 @@ search_first-search_under-requires t c =
     let first : typed_of c.in-Of.pat.now ≡ con (members_of c.in-Con.all.value.items) (str_bytes c.in-Con.name) (listed parts) = ap typed_of c.in-Con.is ∙ con-typed c.in-Con.all c.in-Con.name c.in-Con.parts in
     let row = c.in_ok-row-in-Con.ensures ∙ ap (λ xs. map typed_of xs ++ rest) c.deref.ensures.value in
     let a = con-falls (built_head (str_bytes c.in-Con.name) c.len.result) (members_of c.in-Con.all.value.items) (str_bytes c.in-Con.name) parts rest (lines_view c.args.lines.now)
-        (cell_view c.args.first) (cells_view c.in_ok-row-in-Con.row.items) (ap cell_view c.in-Of.is ∙ first) row in
+    (cell_view c.args.first) (cells_view c.in_ok-row-in-Con.row.items) (ap cell_view c.in-Of.is ∙ first) row in
     (omega arith, c.requires.known)
 
 pub search_first-search_under-requires-in-Literal : goal.search_first-search_under-requires-in-Literal
 search_first-search_under-requires-in-Literal t c =
     let a = literal-falls (literal_head (str_bytes c.in-Literal.name)) (cells_view c.args.rest.now) (lines_view c.args.lines.now) (cell_view c.args.first)
-        (cells_view c.in_ok-row-in-Literal.row.items) c.in_ok-row-in-Literal.ensures in
+    (cells_view c.in_ok-row-in-Literal.row.items) c.in_ok-row-in-Literal.ensures in
     (omega arith, c.requires.known)
 
 pub search_first-returns-in_ok-row-in-Con-clause-found : goal.search_first-returns-in_ok-row-in-Con-clause-found
@@ -87,7 +88,7 @@ search_first-returns-in-Either-clause-found t c =
 pub search_members-search_under-requires : goal.search_members-search_under-requires
 search_members-search_under-requires t c =
     let a = member-falls member_of (head_view c.head_of.result) c.args.all.now c.loop-built.built-index c.built-item.result (cells_view c.args.rest.now) (lines_view c.args.lines.now)
-        (cells_view c.in_ok-row.row.items) c.loop-built-test.true c.built-item.is c.requires.all c.in_ok-row.ensures in
+    (cells_view c.in_ok-row.row.items) c.loop-built-test.true c.built-item.is c.requires.all c.in_ok-row.ensures in
     (omega arith, c.loop-built.invariant.0)
 
 pub search_members-returns-then-is_some-clause-found : goal.search_members-returns-then-is_some-clause-found
@@ -97,11 +98,12 @@ search_members-returns-then-is_some-clause-found t c =
     (head_view c.head_of.result) c.in_ok-found.found c.loop-built-test.true c.built-item.is c.if-is_some.ensures c.in_ok-row.ensures c.head_of.ensures c.in_ok-found.ensures.found)
 
 pub search_members-loop-built-preserved : goal.search_members-loop-built-preserved
-search_members-loop-built-preserved t c =
-    (c.in_ok-found.ensures.kept,
-    λ r more. c.loop-built.invariant.1 r
-    (members-left c.args.all.now c.loop-built.built-index c.built-item.result (cells_view c.args.rest.now) (cells_view c.in_ok-row.row.items) (lines_view c.args.lines.now)
-    (head_view c.head_of.result) c.in_ok-found.found r c.loop-built-test.true c.built-item.is c.if-is_some.ensures c.in_ok-row.ensures c.head_of.ensures c.in_ok-found.ensures.found more))
+search_members-loop-built-preserved t c = (
+  c.in_ok-found.ensures.kept,
+  λ r more. c.loop-built.invariant.1 r
+      (members-left c.args.all.now c.loop-built.built-index c.built-item.result (cells_view c.args.rest.now) (cells_view c.in_ok-row.row.items) (lines_view c.args.lines.now)
+      (head_view c.head_of.result) c.in_ok-found.found r c.loop-built-test.true c.built-item.is c.if-is_some.ensures c.in_ok-row.ensures c.head_of.ensures c.in_ok-found.ensures.found more),
+)
 
 pub search_members-returns-clause-kept : goal.search_members-returns-clause-kept
 search_members-returns-clause-kept t c = c.loop-built.invariant.0
@@ -111,9 +113,11 @@ search_members-returns-clause-found t c =
     c.loop-built.invariant.1 None (no-member-left c.args.all.now c.loop-built.built-index (cells_view c.args.rest.now) (lines_view c.args.lines.now) c.loop-built-test.false)
 
 pub search_under-returns-in_ok-with_head-in-Some-clause-found : goal.search_under-returns-in_ok-with_head-in-Some-clause-found
-search_under-returns-in_ok-with_head-in-Some-clause-found t c =
-    (shapes_view c.in_ok-shapes.field-0, squeezed c.in_ok-lines_under.ensures c.in_ok-shapes.ensures.found,
-    ap Some c.in_ok-with_head-in-Some.ensures ∙ sym (ap (λ o. under_head (head_view c.args.head) (shapes_view o)) c.in-Some.is))
+search_under-returns-in_ok-with_head-in-Some-clause-found t c = (
+  shapes_view c.in_ok-shapes.field-0,
+  squeezed c.in_ok-lines_under.ensures c.in_ok-shapes.ensures.found,
+  ap Some c.in_ok-with_head-in-Some.ensures ∙ sym (ap (λ o. under_head (head_view c.args.head) (shapes_view o)) c.in-Some.is),
+)
 
 pub search_under-returns-in-None-clause-found : goal.search_under-returns-in-None-clause-found
 search_under-returns-in-None-clause-found t c =
@@ -130,7 +134,7 @@ search_any-returns-in-None-clause-found t c =
 pub search_default-search-requires : goal.search_default-search-requires
 search_default-search-requires t c =
     let a = default-falls (cells_view c.args.rest.now) (lines_view c.args.lines.now) (lines_view c.in_ok-headless.field-0.items) (cells_view c.in_ok-row.row.items)
-        c.in_ok-headless.ensures.lighter c.in_ok-row.ensures in
+    c.in_ok-headless.ensures.lighter c.in_ok-row.ensures in
     (omega arith, c.requires.known)
 
 pub search_default-returns-in_ok-with_first-in-Some-clause-found : goal.search_default-returns-in_ok-with_first-in-Some-clause-found
