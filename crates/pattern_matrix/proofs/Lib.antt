@@ -1,0 +1,13 @@
+pub mod Listing
+pub mod Weighing
+pub mod Squeezing
+pub mod Covering
+pub mod Finding
+pub mod Telling
+pub mod Matching
+pub mod Fitting
+pub mod Covers
+pub mod Inhabited
+pub mod Misses
+pub mod Exactness
+pub mod Showing

@@ -1,0 +1,64 @@
+-- What the values of the code mean.
+use Rattle.std.specs.Prelude.{List, map, Option, option_map, Vec}
+use Rattle.std.specs.Global.{Global}
+use Rattle.text_terms.specs.Bytes.{str_bytes}
+use Rattle.match_model.specs.Values.{open_shape, of_built, of_spelling}
+use Rattle.match_model.specs.Values.{Shape as plain}
+use Rattle.match_model.specs.Forms.{tuple_name}
+use Rattle.pattern_matrix.specs.Lines.{Member, Typed, any, con, lit, either, listed, Line, shapes_in}
+use Rattle.pattern_matrix.specs.Lines.{Head as PlainHead, built_head, literal_head}
+use Rattle.pattern_matrix.specs.declared.patterns.Built.{Built}
+use Rattle.pattern_matrix.specs.declared.patterns.Pat.{Pat, fold-Pat}
+use Rattle.pattern_matrix.specs.declared.patterns.Pat.TheOpen.{Pat-F}
+use Rattle.pattern_matrix.specs.declared.patterns.Shape.{Shape, fold-Shape}
+use Rattle.pattern_matrix.specs.declared.patterns.Shape.TheOpen.{Shape-F}
+use Rattle.pattern_matrix.specs.declared.columns.Cell.{Cell}
+use Rattle.pattern_matrix.specs.declared.columns.Cell.TheVariants as cell
+use Rattle.pattern_matrix.specs.declared.columns.Line.{Line as CodeLine}
+use Rattle.pattern_matrix.specs.declared.columns.Head.{Head}
+use Rattle.pattern_matrix.specs.declared.columns.Head.TheVariants as head
+
+abbrev pub member_of : Built → Member
+member_of k = record { name = str_bytes k.name; parts = k.parts }
+
+abbrev pub members_of : List Built → List Member
+members_of = map member_of
+
+abbrev pub typed_step : Pat-F Typed → Typed
+typed_step Pat-F.Any = any
+typed_step (Pat-F.Con all name parts) = con (members_of all.value.items) (str_bytes name) (listed parts.items)
+typed_step (Pat-F.Literal n) = lit (str_bytes n)
+typed_step (Pat-F.Either ps) = either (listed ps.items)
+
+-- a pattern with all constructors of its type
+abbrev pub typed_of : Pat → Typed
+typed_of = fold-Pat Typed typed_step
+
+abbrev pub shape_step : Shape-F plain → plain
+shape_step Shape-F.Any = open_shape
+shape_step (Shape-F.Con name parts) = of_built (str_bytes name) (shapes_in parts.items)
+shape_step (Shape-F.Tuple parts) = of_built tuple_name (shapes_in parts.items)
+shape_step (Shape-F.Literal n) = of_spelling (str_bytes n)
+
+abbrev pub shape_of : Shape → plain
+shape_of = fold-Shape plain shape_step
+
+abbrev pub cell_view : Cell → Typed
+cell_view cell.Any = any
+cell_view (cell.Of p) = typed_of p.now
+
+abbrev pub cells_view : List Cell → Line
+cells_view = map cell_view
+
+abbrev pub line_view : CodeLine → Line
+line_view l = cells_view l.cells.items
+
+abbrev pub lines_view : List CodeLine → List Line
+lines_view = map line_view
+
+abbrev pub head_view : Head → PlainHead
+head_view (head.Built n parts) = built_head (str_bytes n.now) parts
+head_view (head.Literal n) = literal_head (str_bytes n.now)
+
+abbrev pub shapes_view : Option (Vec Shape Global) → Option (List plain)
+shapes_view found = option_map (λ v. map shape_of v.items) found
