@@ -13,7 +13,7 @@ pub(crate) type Links = Option<Rc<Link>>;
 
 /// An entry on those before it.
 pub(crate) struct Link {
-    pub(crate) entry: Entry,
+    pub(crate) entry: Rc<Entry>,
     pub(crate) before: Links,
 }
 
@@ -58,7 +58,7 @@ impl Env {
     }
 
     /// The same names and a newer one.
-    pub fn add(&self, alloc: Global, entry: Entry) -> Result<Env, NoMemory>
+    pub fn add(&self, alloc: Global, entry: Rc<Entry>) -> Result<Env, NoMemory>
         ensures { IfOk result (λ r. entries_of r ≡ entry ∷ entries_of self.now) }
     {
         let link = Link {
@@ -72,7 +72,7 @@ impl Env {
     }
 
     /// The newest entry of a kind and a name.
-    pub fn newest(&self, kind: Kind, name: &str) -> Option<&Entry>
+    pub fn newest(&self, kind: Kind, name: &str) -> Option<&Rc<Entry>>
         ensures { option_map (λ e. e.now) result ≡ newest_by (is_named (kind_of kind) name.now) (entries_of self.now) }
     {
         let mut rest = &self.links;
