@@ -1,9 +1,7 @@
 //! Environments: immutable lists of entries that share their ends.
-ghost use Rattle.std.specs.Prelude.{◌≡◌, ◌∷◌, [], option_map, IfOk};
-ghost use Rattle.signature_model.specs.Lookups.{newest_by, same_kind};
-ghost use Rattle.env_table.specs.Views.{entries_of, links_view, is_named, kind_of};
-
-use crate::entries::{Entry, Kind};
+use crate::entries::{Entry, Kind, Sig};
+use crate::index::{self, BITS, Index, bucket, hash};
+use crate::walk::{Entries, linked};
 use std::alloc::Global;
 use std::rc::Rc;
 use text_terms::NoMemory;
@@ -38,74 +36,100 @@ impl Drop for Link {
 #[derive(Drop)]
 pub struct Env {
     pub(crate) links: Links,
+    /// The same entries by their kinds and names.
+    pub(crate) index: Index,
 }
 
 impl Env {
     /// No name.
-    pub fn empty() -> Env
-        ensures { entries_of result ≡ [] }
-    {
-        Env { links: None }
+    pub fn empty() -> Env {
+        Env {
+            links: None,
+            index: None,
+        }
     }
 
     /// One owner more of the same entries.
-    pub fn share(&self) -> Result<Env, NoMemory>
-        ensures { IfOk result (λ r. entries_of r ≡ entries_of self.now) }
-    {
+    pub fn share(&self) -> Result<Env, NoMemory> {
         Ok(Env {
             links: share_links(&self.links)?,
+            index: index::share(&self.index)?,
         })
     }
 
     /// The same names and a newer one.
-    pub fn add(&self, alloc: Global, entry: Rc<Entry>) -> Result<Env, NoMemory>
-        ensures { IfOk result (λ r. entries_of r ≡ entry ∷ entries_of self.now) }
-    {
-        let link = Link {
-            entry,
-            before: share_links(&self.links)?,
-        };
-        match Rc::new(alloc, link) {
-            Ok(link) => Ok(Env { links: Some(link) }),
-            Err(_) => Err(NoMemory),
+    pub fn add(&self, alloc: Global, entry: Rc<Entry>) -> Result<Env, NoMemory> {
+        let key = hash(entry.kind, entry.name.as_str());
+        let index = index::with(alloc, &self.index, BITS, key, share_entry(&entry)?)?;
+        Ok(Env {
+            links: linked_before(alloc, entry, &self.links)?,
+            index,
+        })
+    }
+
+    /// The same names and those inside a module, of which the newest component is the newest. A functor and a module that isn't
+    /// known add nothing.
+    pub fn open_module(&self, alloc: Global, sig: &Sig) -> Result<Env, NoMemory> {
+        match sig {
+            Sig::Structure(components) => self.add_all(alloc, &components.entries),
+            Sig::Functor(_, _) => self.share(),
+            Sig::Hole => self.share(),
         }
+    }
+
+    /// The same names and newer ones, the newest of which is the last.
+    fn add_all(&self, alloc: Global, entries: &[Rc<Entry>]) -> Result<Env, NoMemory> {
+        let mut env = self.share()?;
+        for entry in entries {
+            env = env.add(alloc, share_entry(entry)?)?;
+        }
+        Ok(env)
     }
 
     /// The newest entry of a kind and a name.
-    pub fn newest(&self, kind: Kind, name: &str) -> Option<&Rc<Entry>>
-        ensures { option_map (λ e. e.now) result ≡ newest_by (is_named (kind_of kind) name.now) (entries_of self.now) }
-    {
-        let mut rest = &self.links;
-        while let Some(link) = rest {
-            if is_named(&link.entry, kind, name) {
-                return Some(&link.entry);
-            }
-            rest = &link.before;
-        }
-        None
+    pub fn newest(&self, kind: Kind, name: &str) -> Option<&Rc<Entry>> {
+        self.with_hash(kind, name).newest(kind, name)
+    }
+
+    /// All entries, the newest first.
+    pub fn entries(&self) -> Entries<'_> {
+        linked(self.links.as_ref())
+    }
+
+    /// The entries with the hash of a kind and a name.
+    pub(crate) fn with_hash(&self, kind: Kind, name: &str) -> Entries<'_> {
+        linked(bucket(&self.index, BITS, hash(kind, name)))
     }
 }
 
-fn same_kind(a: Kind, b: Kind) -> bool
-    ensures { result ≡ same_kind (kind_of a) (kind_of b) }
-{
-    a == b
+pub(crate) fn linked_before(
+    alloc: Global,
+    entry: Rc<Entry>,
+    before: &Links,
+) -> Result<Links, NoMemory> {
+    let link = Link {
+        entry,
+        before: share_links(before)?,
+    };
+    match Rc::new(alloc, link) {
+        Ok(link) => Ok(Some(link)),
+        Err(_) => Err(NoMemory),
+    }
 }
 
-fn is_named(entry: &Entry, kind: Kind, name: &str) -> bool
-    ensures { result ≡ is_named (kind_of kind) name.now entry.now }
-{
-    same_kind(kind, entry.kind) && entry.name.is(name)
-}
-
-fn share_links(links: &Links) -> Result<Links, NoMemory>
-    ensures { IfOk result (λ r. links_view r ≡ links_view links.now) }
-{
+pub(crate) fn share_links(links: &Links) -> Result<Links, NoMemory> {
     match links {
         None => Ok(None),
         Some(link) => match Rc::clone(link) {
             Ok(link) => Ok(Some(link)),
             Err(_) => Err(NoMemory),
         },
+    }
+}
+
+fn share_entry(entry: &Rc<Entry>) -> Result<Rc<Entry>, NoMemory> {
+    match Rc::clone(entry) {
+        Ok(entry) => Ok(entry),
+        Err(_) => Err(NoMemory),
     }
 }

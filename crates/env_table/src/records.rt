@@ -1,15 +1,10 @@
 //! Which record type some labels belong to.
-ghost use Rattle.std.specs.Prelude.{◌≡◌, map, option_map, Option, Some, None};
-ghost use Rattle.text_terms.specs.Bytes.{str_bytes};
-ghost use Rattle.type_terms.specs.Views.{path_of};
-ghost use Rattle.signature_model.specs.Lookups.{newest_by};
-ghost use Rattle.signature_model.specs.Records.{first_path, path_for, is_label_of, has_label, has_each, belongs_to, has_name, newest_label, is_there, is_known, each_scope, is_of_type, record_by};
-ghost use Rattle.env_table.specs.Views.{entries_of, scope_view, found_view};
-ghost use Rattle.env_table.specs.Labels.{labelled, record_of, written_of, scope_for, has_all};
 
 use crate::entries::{Entry, Found, Kind, Path, What};
 use crate::env::Env;
-use crate::lookup::Scope;
+use crate::lookup::{Scope, found};
+use crate::walk::Entries;
+use std::rc::Rc;
 use text_terms::RcStr;
 use type_nodes::Origin;
 
@@ -27,7 +22,7 @@ impl Env {
             return Found::Hole;
         }
         match labels.first() {
-            None => newest_label(self, labels, None, Scope::Known(self)),
+            None => newest_label(self, labels, None, Scope::Env(self)),
             Some(first) => newest_label(
                 self,
                 labels,
@@ -40,7 +35,6 @@ impl Env {
 
 /// The first path of modules that a label has.
 fn first_path(labels: &[Path]) -> &[RcStr]
-    ensures { map str_bytes result.now ≡ first_path (map written_of labels.now) }
 {
     for label in labels {
         if !label.modules.is_empty() {
@@ -52,7 +46,6 @@ fn first_path(labels: &[Path]) -> &[RcStr]
 
 /// Where a label is looked for.
 fn scope_of<'a>(env: &'a Env, labels: &[Path], label: &Path) -> Scope<'a>
-    ensures { scope_view result ≡ scope_for (entries_of env.now) (map written_of labels.now) (written_of label.now) }
 {
     if label.modules.is_empty() {
         env.scope_behind(first_path(labels))
@@ -62,7 +55,6 @@ fn scope_of<'a>(env: &'a Env, labels: &[Path], label: &Path) -> Scope<'a>
 }
 
 fn all_are_there(env: &Env, labels: &[Path]) -> bool
-    ensures { result ≡ each_scope is_there (scope_for (entries_of env.now) (map written_of labels.now)) (map written_of labels.now) }
 {
     for label in labels {
         if !is_there(scope_of(env, labels, label)) {
@@ -73,7 +65,6 @@ fn all_are_there(env: &Env, labels: &[Path]) -> bool
 }
 
 fn all_are_known(env: &Env, labels: &[Path]) -> bool
-    ensures { result ≡ each_scope is_known (scope_for (entries_of env.now) (map written_of labels.now)) (map written_of labels.now) }
 {
     for label in labels {
         if !is_known(scope_of(env, labels, label)) {
@@ -84,36 +75,37 @@ fn all_are_known(env: &Env, labels: &[Path]) -> bool
 }
 
 fn is_there(scope: Scope<'_>) -> bool
-    ensures { result ≡ is_there (scope_view scope.entry) }
 {
     match scope {
-        Scope::Known(_) => true,
-        Scope::Unknown => true,
         Scope::Absent => false,
+        _ => true,
     }
 }
 
 fn is_known(scope: Scope<'_>) -> bool
-    ensures { result ≡ is_known (scope_view scope.entry) }
 {
     match scope {
-        Scope::Known(_) => true,
         Scope::Unknown => false,
-        Scope::Absent => true,
+        _ => true,
     }
 }
 
 /// The newest label in a scope, of the name where one is given, whose record type has every label.
 fn newest_label<'a>(env: &Env, labels: &[Path], name: Option<&str>, scope: Scope<'a>) -> Found<'a>
-    ensures { found_view result ≡ newest_label labelled (scope_for (entries_of env.now) (map written_of labels.now)) (map written_of labels.now) (option_map (λ n. n.now) name.entry) (scope_view scope.entry) }
 {
     match scope {
-        Scope::Known(among) => match newest_with_all(env, labels, name, among) {
-            Some(entry) => Found::Entry(entry),
-            None => Found::Nothing,
-        },
+        Scope::Env(among) => found(newest_with_all(env, labels, name, candidates(among, name))),
+        Scope::Inside(entries) => found(newest_with_all(env, labels, name, entries)),
         Scope::Unknown => Found::Hole,
         Scope::Absent => Found::Nothing,
+    }
+}
+
+/// The entries among which the newest label is, of the name where one is given.
+fn candidates<'a>(env: &'a Env, name: Option<&str>) -> Entries<'a> {
+    match name {
+        None => env.entries(),
+        Some(name) => env.with_hash(Kind::Label, name),
     }
 }
 
@@ -121,29 +113,26 @@ fn newest_with_all<'a>(
     env: &Env,
     labels: &[Path],
     name: Option<&str>,
-    among: &'a Env,
-) -> Option<&'a Entry>
-    ensures { option_map (λ e. e.now) result ≡ newest_by (has_all (entries_of env.now) (map written_of labels.now) (option_map (λ n. n.now) name.entry)) (entries_of among.now) }
+    among: Entries<'a>,
+) -> Option<&'a Rc<Entry>>
 {
-    let mut rest = &among.links;
-    while let Some(link) = rest {
-        if has_all(env, labels, name, &link.entry) {
-            return Some(&link.entry);
+    let mut rest = among;
+    while let Some((entry, older)) = rest.split_first() {
+        if has_all(env, labels, name, entry) {
+            return Some(entry);
         }
-        rest = &link.before;
+        rest = older;
     }
     None
 }
 
 /// Whether an entry is a label, of the name where one is given, whose record type has every label.
 fn has_all(env: &Env, labels: &[Path], name: Option<&str>, entry: &Entry) -> bool
-    ensures { result ≡ has_all (entries_of env.now) (map written_of labels.now) (option_map (λ n. n.now) name.entry) entry.now }
 {
     has_name(name, entry.name.as_str()) && belongs_to(env, labels, record_of(entry))
 }
 
 fn has_name(wanted: Option<&str>, name: &str) -> bool
-    ensures { result ≡ has_name (option_map (λ n. n.now) wanted.entry) name.now }
 {
     match wanted {
         None => true,
@@ -152,7 +141,6 @@ fn has_name(wanted: Option<&str>, name: &str) -> bool
 }
 
 fn belongs_to(env: &Env, labels: &[Path], made: Option<&Origin>) -> bool
-    ensures { result ≡ belongs_to labelled (scope_for (entries_of env.now) (map written_of labels.now)) (map written_of labels.now) (option_map (λ o. path_of o.now) made.entry) }
 {
     match made {
         None => false,
@@ -162,7 +150,6 @@ fn belongs_to(env: &Env, labels: &[Path], made: Option<&Origin>) -> bool
 
 /// Whether a record type has every label.
 fn has_each(env: &Env, labels: &[Path], made: &Origin) -> bool
-    ensures { result ≡ has_each labelled (scope_for (entries_of env.now) (map written_of labels.now)) (path_of made.now) (map written_of labels.now) }
 {
     for label in labels {
         if !has_label(made, label.last.as_str(), scope_of(env, labels, label)) {
@@ -173,36 +160,39 @@ fn has_each(env: &Env, labels: &[Path], made: &Origin) -> bool
 }
 
 fn has_label(made: &Origin, name: &str, scope: Scope<'_>) -> bool
-    ensures { result ≡ has_label labelled (path_of made.now) name.now (scope_view scope.entry) }
 {
     match scope {
-        Scope::Known(env) => newest_of_record(env, made, name).is_some(),
+        Scope::Env(env) => {
+            newest_of_record(env.with_hash(Kind::Label, name), made, name).is_some()
+        }
+        Scope::Inside(entries) => newest_of_record(entries, made, name).is_some(),
         Scope::Unknown => false,
         Scope::Absent => false,
     }
 }
 
-fn newest_of_record<'a>(env: &'a Env, made: &Origin, name: &str) -> Option<&'a Entry>
-    ensures { option_map (λ e. e.now) result ≡ newest_by (is_label_of labelled (path_of made.now) name.now) (entries_of env.now) }
+fn newest_of_record<'a>(
+    among: Entries<'a>,
+    made: &Origin,
+    name: &str,
+) -> Option<&'a Rc<Entry>>
 {
-    let mut rest = &env.links;
-    while let Some(link) = rest {
-        if is_label_of(&link.entry, made, name) {
-            return Some(&link.entry);
+    let mut rest = among;
+    while let Some((entry, older)) = rest.split_first() {
+        if is_label_of(entry, made, name) {
+            return Some(entry);
         }
-        rest = &link.before;
+        rest = older;
     }
     None
 }
 
 fn is_label_of(entry: &Entry, made: &Origin, name: &str) -> bool
-    ensures { result ≡ is_label_of labelled (path_of made.now) name.now entry.now }
 {
     name == entry.name.as_str() && is_of_type(made, record_of(entry))
 }
 
 fn is_of_type(made: &Origin, other: Option<&Origin>) -> bool
-    ensures { result ≡ is_of_type (path_of made.now) (option_map (λ o. path_of o.now) other.entry) }
 {
     match other {
         None => false,
@@ -212,7 +202,6 @@ fn is_of_type(made: &Origin, other: Option<&Origin>) -> bool
 
 /// The origin of the record type that a label belongs to; None where the entry is no label, or its type is no constructor.
 fn record_of(entry: &Entry) -> Option<&Origin>
-    ensures { option_map (λ o. path_of o.now) result ≡ record_of entry.now }
 {
     match entry.kind {
         Kind::Label => match &entry.what {
