@@ -1,48 +1,46 @@
 //! Environments: immutable lists of entries that share their ends.
+ghost use Rattle.std.specs.Prelude.{◌≡◌, ◌∷◌, ◌++◌, [], List, option_map, IfOk};
+ghost use Rattle.std.specs.List.{filter};
+ghost use Rattle.signature_model.specs.Lookups.{newest_by};
+ghost use Rattle.std.specs.Coded.{codes};
+ghost use Rattle.env_table.specs.contracts.entries.What as what;
+ghost use Rattle.env_table.specs.declared.entries.Entry.{Entry};
+ghost use Rattle.env_table.specs.Views.{links_view, newest_first, names_of, names_in, inside_sig, is_named, kind_of};
+ghost use Rattle.env_table.specs.Index.{bits_of, hash_of, stands_at, IsIndex};
+
 use crate::entries::{Entry, Kind, Sig};
 use crate::index::{self, BITS, Index, bucket, hash};
+use crate::links::{Links, linked_before, share_entry, share_links};
 use crate::walk::{Entries, linked};
 use std::alloc::Global;
+use std::marker::Model;
 use std::rc::Rc;
 use text_terms::NoMemory;
-
-/// Entries, the newest first.
-pub(crate) type Links = Option<Rc<Link>>;
-
-/// An entry on those before it.
-pub(crate) struct Link {
-    pub(crate) entry: Rc<Entry>,
-    pub(crate) before: Links,
-}
-
-// A text may have as many names as tokens, so no call is made for each.
-impl Drop for Link {
-    fn drop(mut self) {
-        loop {
-            match self {
-                Link { entry: _, before } => match before {
-                    None => return,
-                    Some(link) => match Rc::into_inner(link) {
-                        None => return,
-                        Some(rest) => self = rest,
-                    },
-                },
-            }
-        }
-    }
-}
 
 /// The names in scope. It is never written: a call that adds a name makes a new one, which shares its entries.
 #[derive(Drop)]
 pub struct Env {
-    pub(crate) links: Links,
+    links: Links,
     /// The same entries by their kinds and names.
-    pub(crate) index: Index,
+    index: Index,
+}
+
+impl Model for Env {
+    /// The entries, the newest first.
+    ghost Value = { List Entry };
+
+    ghost coded = { Prim.hlevel (codes, what.the_row.coded) };
+
+    ghost view = { λ e. links_view e.links };
+
+    ghost invariant = { λ e. IsIndex e.index e.links };
 }
 
 impl Env {
     /// No name.
-    pub fn empty() -> Env {
+    pub fn empty() -> Env
+        ensures { result ≡ [] }
+    {
         Env {
             links: None,
             index: None,
@@ -50,7 +48,9 @@ impl Env {
     }
 
     /// One owner more of the same entries.
-    pub fn share(&self) -> Result<Env, NoMemory> {
+    pub fn share(&self) -> Result<Env, NoMemory>
+        ensures { IfOk result (λ r. r ≡ self.now) }
+    {
         Ok(Env {
             links: share_links(&self.links)?,
             index: index::share(&self.index)?,
@@ -58,7 +58,9 @@ impl Env {
     }
 
     /// The same names and a newer one.
-    pub fn add(&self, alloc: Global, entry: Rc<Entry>) -> Result<Env, NoMemory> {
+    pub fn add(&self, alloc: Global, entry: Rc<Entry>) -> Result<Env, NoMemory>
+        ensures { IfOk result (λ r. r ≡ entry.value ∷ self.now) }
+    {
         let key = hash(entry.kind, entry.name.as_str());
         let index = index::with(alloc, &self.index, BITS, key, share_entry(&entry)?)?;
         Ok(Env {
@@ -69,7 +71,9 @@ impl Env {
 
     /// The same names and those inside a module, of which the newest component is the newest. A functor and a module that isn't
     /// known add nothing.
-    pub fn open_module(&self, alloc: Global, sig: &Sig) -> Result<Env, NoMemory> {
+    pub fn open_module(&self, alloc: Global, sig: &Sig) -> Result<Env, NoMemory>
+        ensures { IfOk result (λ r. r ≡ names_in (inside_sig sig.now) ++ self.now) }
+    {
         match sig {
             Sig::Structure(components) => self.add_all(alloc, &components.entries),
             Sig::Functor(_, _) => self.share(),
@@ -78,7 +82,9 @@ impl Env {
     }
 
     /// The same names and newer ones, the newest of which is the last.
-    fn add_all(&self, alloc: Global, entries: &[Rc<Entry>]) -> Result<Env, NoMemory> {
+    fn add_all(&self, alloc: Global, entries: &[Rc<Entry>]) -> Result<Env, NoMemory>
+        ensures { IfOk result (λ r. r ≡ newest_first entries.now ++ self.now) }
+    {
         let mut env = self.share()?;
         for entry in entries {
             env = env.add(alloc, share_entry(entry)?)?;
@@ -87,49 +93,23 @@ impl Env {
     }
 
     /// The newest entry of a kind and a name.
-    pub fn newest(&self, kind: Kind, name: &str) -> Option<&Rc<Entry>> {
+    pub fn newest(&self, kind: Kind, name: &str) -> Option<&Rc<Entry>>
+        ensures { option_map (λ e. e.now.value) result ≡ newest_by (is_named (kind_of kind) name.now) self.now }
+    {
         self.with_hash(kind, name).newest(kind, name)
     }
 
     /// All entries, the newest first.
-    pub fn entries(&self) -> Entries<'_> {
-        linked(self.links.as_ref())
+    pub fn entries(&self) -> Entries<'_>
+        ensures { names_of result ≡ self.now }
+    {
+        linked(&self.links)
     }
 
     /// The entries with the hash of a kind and a name.
-    pub(crate) fn with_hash(&self, kind: Kind, name: &str) -> Entries<'_> {
-        linked(bucket(&self.index, BITS, hash(kind, name)))
-    }
-}
-
-pub(crate) fn linked_before(
-    alloc: Global,
-    entry: Rc<Entry>,
-    before: &Links,
-) -> Result<Links, NoMemory> {
-    let link = Link {
-        entry,
-        before: share_links(before)?,
-    };
-    match Rc::new(alloc, link) {
-        Ok(link) => Ok(Some(link)),
-        Err(_) => Err(NoMemory),
-    }
-}
-
-pub(crate) fn share_links(links: &Links) -> Result<Links, NoMemory> {
-    match links {
-        None => Ok(None),
-        Some(link) => match Rc::clone(link) {
-            Ok(link) => Ok(Some(link)),
-            Err(_) => Err(NoMemory),
-        },
-    }
-}
-
-fn share_entry(entry: &Rc<Entry>) -> Result<Rc<Entry>, NoMemory> {
-    match Rc::clone(entry) {
-        Ok(entry) => Ok(entry),
-        Err(_) => Err(NoMemory),
+    pub(crate) fn with_hash(&self, kind: Kind, name: &str) -> Entries<'_>
+        ensures { names_of result ≡ filter (stands_at (bits_of 16 (hash_of (kind_of kind) name.now))) self.now }
+    {
+        bucket(&self.index, BITS, hash(kind, name))
     }
 }

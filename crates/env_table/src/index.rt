@@ -1,6 +1,11 @@
 //! The index of an environment: its entries by their kinds and names.
+ghost use Rattle.std.specs.Prelude.{◌≡◌, ◌<◌, IfOk, List, Bool};
+ghost use Rattle.env_table.specs.Views.{names_of, kind_of};
+ghost use Rattle.env_table.specs.Index.{code_of, hash_from, hash_of, bits_of, index_at, fork_at, Adds};
+
 use crate::entries::{Entry, Kind};
-use crate::env::{Link, Links, linked_before, share_links};
+use crate::links::{Links, linked_before, share_links};
+use crate::walk::{Entries, linked, nothing};
 use std::alloc::Global;
 use std::rc::Rc;
 use text_terms::NoMemory;
@@ -20,7 +25,9 @@ pub(crate) struct Fork {
 }
 
 /// A number below 2^16 for a kind and a name.
-pub(crate) fn hash(kind: Kind, name: &str) -> u32 {
+pub(crate) fn hash(kind: Kind, name: &str) -> u32
+    ensures { result ≡ hash_of (kind_of kind) name.now }
+{
     let mut hash = code(kind);
     for byte in name.as_bytes() {
         hash = (hash * 403 + *byte as u32) % 65536;
@@ -28,7 +35,9 @@ pub(crate) fn hash(kind: Kind, name: &str) -> u32 {
     hash
 }
 
-fn code(kind: Kind) -> u32 {
+fn code(kind: Kind) -> u32
+    ensures { result ≡ code_of (kind_of kind) }
+{
     match kind {
         Kind::Value => 0,
         Kind::Constructor => 1,
@@ -40,18 +49,26 @@ fn code(kind: Kind) -> u32 {
 }
 
 /// The entries behind so many bits of a hash.
-pub(crate) fn bucket(index: &Index, bits: u32, hash: u32) -> Option<&Rc<Link>> {
+#[cycle(bucket)]
+pub(crate) fn bucket(index: &Index, bits: u32, hash: u32) -> Entries<'_>
+    ensures { names_of result ≡ index_at index.now (bits_of bits hash) }
+{
     match index {
-        None => None,
-        Some(fork) => {
-            if bits == 0 {
-                fork.bucket.as_ref()
-            } else if hash % 2 == 0 {
-                bucket(&fork.even, bits - 1, hash / 2)
-            } else {
-                bucket(&fork.odd, bits - 1, hash / 2)
-            }
-        }
+        None => nothing(),
+        Some(fork) => bucket_of(fork, bits, hash),
+    }
+}
+
+#[cycle(bucket)]
+fn bucket_of(fork: &Fork, bits: u32, hash: u32) -> Entries<'_>
+    ensures { names_of result ≡ fork_at fork.now (bits_of bits hash) }
+{
+    if bits == 0 {
+        linked(&fork.bucket)
+    } else if hash % 2 == 1 {
+        bucket(&fork.odd, bits - 1, hash / 2)
+    } else {
+        bucket(&fork.even, bits - 1, hash / 2)
     }
 }
 
@@ -62,14 +79,16 @@ pub(crate) fn with(
     bits: u32,
     hash: u32,
     entry: Rc<Entry>,
-) -> Result<Index, NoMemory> {
+) -> Result<Index, NoMemory>
+    ensures { IfOk result (λ after. Adds index.now (bits_of bits hash) entry.value after) }
+{
     let mut fork = copied(index)?;
     if bits == 0 {
         fork.bucket = linked_before(alloc, entry, &fork.bucket)?;
-    } else if hash % 2 == 0 {
-        fork.even = with(alloc, &fork.even, bits - 1, hash / 2, entry)?;
-    } else {
+    } else if hash % 2 == 1 {
         fork.odd = with(alloc, &fork.odd, bits - 1, hash / 2, entry)?;
+    } else {
+        fork.even = with(alloc, &fork.even, bits - 1, hash / 2, entry)?;
     }
     match Rc::new(alloc, fork) {
         Ok(fork) => Ok(Some(fork)),
@@ -77,7 +96,9 @@ pub(crate) fn with(
     }
 }
 
-fn copied(index: &Index) -> Result<Fork, NoMemory> {
+fn copied(index: &Index) -> Result<Fork, NoMemory>
+    ensures { IfOk result (λ f. (ks : List Bool) → fork_at f ks ≡ index_at index.now ks) }
+{
     match index {
         None => Ok(Fork {
             bucket: None,
@@ -92,7 +113,9 @@ fn copied(index: &Index) -> Result<Fork, NoMemory> {
     }
 }
 
-pub(crate) fn share(index: &Index) -> Result<Index, NoMemory> {
+pub(crate) fn share(index: &Index) -> Result<Index, NoMemory>
+    ensures { IfOk result (λ i. (ks : List Bool) → index_at i ks ≡ index_at index.now ks) }
+{
     match index {
         None => Ok(None),
         Some(fork) => match Rc::clone(fork) {

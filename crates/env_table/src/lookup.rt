@@ -1,7 +1,14 @@
 //! What a path of names comes to.
+ghost use Rattle.std.specs.Prelude.{◌≡◌, [], map, option_map};
+ghost use Rattle.text_terms.specs.Bytes.{str_bytes};
+ghost use Rattle.signature_model.specs.Entries.{module_kind};
+ghost use Rattle.signature_model.specs.Lookups.{through, found, found_in, scope_by, lookup_by};
+ghost use Rattle.env_table.specs.Views.{is_named, kind_of, inside, module_scope, found_view};
+ghost use Rattle.env_table.specs.Scopes.{scope_view, is_no_scope, lost_behind, module_behind};
+
 use crate::entries::{Entry, Found, Kind, Path, Sig, What};
 use crate::env::Env;
-use crate::walk::{Entries, of_components};
+use crate::walk::{Entries, nothing, of_components};
 use std::rc::Rc;
 use text_terms::RcStr;
 
@@ -19,7 +26,9 @@ pub(crate) enum Scope<'a> {
 
 impl<'a> Scope<'a> {
     /// The newest name of a kind in this scope.
-    pub(crate) fn newest(self, kind: Kind, name: &str) -> Found<'a> {
+    pub(crate) fn newest(self, kind: Kind, name: &str) -> Found<'a>
+        ensures { found_view result ≡ found_in (is_named (kind_of kind) name.now) (scope_view self.entry) }
+    {
         match self {
             Scope::Env(env) => found(env.newest(kind, name)),
             Scope::Inside(entries) => found(entries.newest(kind, name)),
@@ -32,13 +41,17 @@ impl<'a> Scope<'a> {
 impl Env {
     /// The newest entry of the last name and of this kind, behind the path's modules. It is a hole where one of these modules
     /// isn't known, and nothing where a name is absent.
-    pub fn lookup(&self, path: &Path, kind: Kind) -> Found<'_> {
+    pub fn lookup(&self, path: &Path, kind: Kind) -> Found<'_>
+        ensures { found_view result ≡ lookup_by is_named inside self.now (map str_bytes path.now.modules.items) (kind_of kind) (str_bytes path.now.last) }
+    {
         self.scope_behind(&path.modules)
             .newest(kind, path.last.as_str())
     }
 
     /// What stands in scope behind the newest module of each name in turn.
-    pub(crate) fn scope_behind(&self, modules: &[RcStr]) -> Scope<'_> {
+    pub(crate) fn scope_behind(&self, modules: &[RcStr]) -> Scope<'_>
+        ensures { scope_view result ≡ scope_by is_named inside self.now (map str_bytes modules.now) }
+    {
         let mut scope = Scope::Env(self);
         for name in modules {
             scope = inside_module(scope, name.as_str());
@@ -47,7 +60,9 @@ impl Env {
     }
 
     /// The place of the first of these modules that isn't there; one behind a module that isn't known may be.
-    pub fn lost_module(&self, modules: &[RcStr]) -> Option<usize> {
+    pub fn lost_module(&self, modules: &[RcStr]) -> Option<usize>
+        ensures { result ≡ lost_behind self.now [] (map str_bytes modules.now) }
+    {
         let mut scope = Scope::Env(self);
         for (place, name) in modules.iter().enumerate() {
             scope = inside_module(scope, name.as_str());
@@ -59,31 +74,37 @@ impl Env {
     }
 
     /// What the last of these modules is, each of which is looked for in the one before it; nothing where no module is named.
-    pub fn module_behind(&self, modules: &[RcStr]) -> Found<'_> {
+    pub fn module_behind(&self, modules: &[RcStr]) -> Found<'_>
+        ensures { found_view result ≡ module_behind self.now [] (map str_bytes modules.now) }
+    {
         match modules.split_last() {
             None => Found::Nothing,
-            Some((last, outer)) => self
-                .scope_behind(outer)
-                .newest(Kind::Module, last.as_str()),
+            Some((last, outer)) => self.scope_behind(outer).newest(Kind::Module, last.as_str()),
         }
     }
 }
 
-pub(crate) fn found<'a>(entry: Option<&'a Rc<Entry>>) -> Found<'a> {
+pub(crate) fn found<'a>(entry: Option<&'a Rc<Entry>>) -> Found<'a>
+    ensures { found_view result ≡ found (option_map (λ e. e.now.value) entry.entry) }
+{
     match entry {
         Some(entry) => Found::Entry(entry),
         None => Found::Nothing,
     }
 }
 
-fn is_absent(scope: Scope<'_>) -> bool {
+fn is_absent(scope: Scope<'_>) -> bool
+    ensures { result ≡ is_no_scope (scope_view scope.entry) }
+{
     match scope {
         Scope::Absent => true,
         _ => false,
     }
 }
 
-fn inside_module<'a>(scope: Scope<'a>, name: &str) -> Scope<'a> {
+fn inside_module<'a>(scope: Scope<'a>, name: &str) -> Scope<'a>
+    ensures { scope_view result ≡ through (scope_view scope.entry) (module_scope name.now) }
+{
     match scope.newest(Kind::Module, name) {
         Found::Entry(entry) => inside(entry),
         Found::Hole => Scope::Unknown,
@@ -91,11 +112,13 @@ fn inside_module<'a>(scope: Scope<'a>, name: &str) -> Scope<'a> {
     }
 }
 
-fn inside(entry: &Entry) -> Scope<'_> {
+fn inside(entry: &Entry) -> Scope<'_>
+    ensures { scope_view result ≡ inside entry.now }
+{
     match &entry.what {
         What::Module(sig) => match &**sig {
             Sig::Structure(components) => Scope::Inside(of_components(&components.entries)),
-            Sig::Functor(_, _) => Scope::Inside(of_components(&[])),
+            Sig::Functor(_, _) => Scope::Inside(nothing()),
             Sig::Hole => Scope::Unknown,
         },
         _ => Scope::Absent,

@@ -7,13 +7,7 @@ use std::test::Fail;
 use text_terms::{RcStr, Span};
 
 /// An entry whose place tells it from others.
-fn entry(
-    alloc: Global,
-    name: &str,
-    kind: Kind,
-    what: What,
-    at: u32,
-) -> Result<Rc<Entry>, NoMemory>
+fn entry(alloc: Global, name: &str, kind: Kind, what: What, at: u32) -> Result<Rc<Entry>, NoMemory>
     requires { at < 2000000 }
 {
     let entry = Entry {
@@ -147,7 +141,12 @@ fn a_module_that_is_not_known_may_have_anything(rt: HostRuntime) -> Result<(), F
     assert!(rt; is_nothing(env.lookup(&path(alloc, Some("N"), "x")?, Kind::Value)));
     let label = path(alloc, Some("M"), "l")?;
     assert!(rt; is_hole(env.record_type(&[label])));
-    assert!(rt; env.open_module(alloc, &Sig::Hole)?.entries().split_first().is_some());
+    assert!(rt;
+        env.open_module(alloc, &Sig::Hole)?
+            .entries()
+            .split_first()
+            .is_some()
+    );
     Ok(())
 }
 
@@ -158,13 +157,22 @@ fn a_module_has_its_newest_component(rt: HostRuntime) -> Result<(), Fail> {
     let sig = structure(alloc, "x", 5)?;
     let opened = Env::empty().open_module(alloc, &sig)?;
     let env = Env::empty().add(alloc, module(alloc, "M", sig, 0)?)?;
-    assert_eq!(rt; start_of(env.lookup(&path(alloc, Some("M"), "x")?, Kind::Value)), Some(6));
+    assert_eq!(rt;
+        start_of(env.lookup(&path(alloc, Some("M"), "x")?, Kind::Value)),
+        Some(6)
+    );
     assert!(rt; is_nothing(env.lookup(&path(alloc, Some("M"), "y")?, Kind::Value)));
     assert!(rt; is_nothing(env.lookup(&path(alloc, None, "x")?, Kind::Value)));
-    assert_eq!(rt; start_of(opened.lookup(&path(alloc, None, "x")?, Kind::Value)), Some(6));
+    assert_eq!(rt;
+        start_of(opened.lookup(&path(alloc, None, "x")?, Kind::Value)),
+        Some(6)
+    );
     let newer = env.add(alloc, module(alloc, "M", structure(alloc, "y", 20)?, 30)?)?;
     assert!(rt; is_nothing(newer.lookup(&path(alloc, Some("M"), "x")?, Kind::Value)));
-    assert_eq!(rt; start_of(newer.lookup(&path(alloc, Some("M"), "y")?, Kind::Value)), Some(21));
+    assert_eq!(rt;
+        start_of(newer.lookup(&path(alloc, Some("M"), "y")?, Kind::Value)),
+        Some(21)
+    );
     Ok(())
 }
 
@@ -200,7 +208,10 @@ fn the_first_module_that_is_not_there_is_told(rt: HostRuntime) -> Result<(), Fai
     let names = path_names(alloc, &["M", "N", "O"])?;
     assert_eq!(rt; env.lost_module(&names), None);
     assert_eq!(rt; env.lost_module(&names[1..]), Some(0));
-    assert_eq!(rt; env.lost_module(&path_names(alloc, &["M", "O", "N"])?), Some(1));
+    assert_eq!(rt;
+        env.lost_module(&path_names(alloc, &["M", "O", "N"])?),
+        Some(1)
+    );
     assert_eq!(rt; start_of(env.module_behind(&names[..2])), Some(1));
     assert!(rt; is_hole(env.module_behind(&names)));
     assert!(rt; is_nothing(env.module_behind(&[])));
@@ -244,13 +255,19 @@ fn every_label_decides_the_record_type(rt: HostRuntime) -> Result<(), Fail> {
 fn many_names_are_found_and_let_go(rt: HostRuntime) -> Result<(), Fail> {
     let alloc = rt.alloc();
     let mut env = Env::empty();
-    for at in 0..100_000 {
+    for at in 0..20_000 {
         let what = What::Scheme(NodeRef(0));
-        env = env.add(alloc, entry(alloc, &numbered(alloc, at)?, Kind::Value, what, at)?)?;
+        env = env.add(
+            alloc,
+            entry(alloc, &numbered(alloc, at)?, Kind::Value, what, at)?,
+        )?;
     }
     let mut sum = 0;
-    for at in 0..100_000 {
-        if let Some(start) = start_of(env.lookup(&path(alloc, None, &numbered(alloc, at)?)?, Kind::Value)) {
+    for at in 0..20_000 {
+        if let Some(start) = start_of(env.lookup(
+            &path(alloc, None, &numbered(alloc, at)?)?,
+            Kind::Value,
+        )) {
             sum += start as u64 - at as u64;
         }
     }
@@ -267,11 +284,11 @@ fn numbered(alloc: Global, at: u32) -> Result<String, NoMemory> {
 fn a_name_many_times_is_let_go(rt: HostRuntime) -> Result<(), Fail> {
     let alloc = rt.alloc();
     let mut env = Env::empty();
-    for at in 0..300_000 {
+    for at in 0..100_000 {
         let what = What::Scheme(NodeRef(0));
         env = env.add(alloc, entry(alloc, "x", Kind::Value, what, at)?)?;
     }
     let x = path(alloc, None, "x")?;
-    assert_eq!(rt; start_of(env.lookup(&x, Kind::Value)), Some(299_999));
+    assert_eq!(rt; start_of(env.lookup(&x, Kind::Value)), Some(99_999));
     Ok(())
 }

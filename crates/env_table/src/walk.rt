@@ -1,6 +1,10 @@
 //! Entries one after another, without a copy.
+ghost use Rattle.std.specs.Prelude.{◌≡◌, ◌∷◌, [], option_map, IfSome, IfNone};
+ghost use Rattle.signature_model.specs.Lookups.{newest_by, same_kind};
+ghost use Rattle.env_table.specs.Views.{links_view, newest_first, names_of, names_in, inside_sig, is_named, kind_of};
+
 use crate::entries::{Entry, Kind, Sig};
-use crate::env::Link;
+use crate::links::{Link, Links};
 use std::rc::Rc;
 
 /// Entries that are still to be seen, the newest first.
@@ -11,17 +15,21 @@ pub struct Entries<'a> {
 
 #[derive(Clone, Copy)]
 pub(crate) enum Rest<'a> {
-    Links(Option<&'a Rc<Link>>),
+    Nothing,
+    Link(&'a Link),
     /// Components, the oldest first.
     Components(&'a [Rc<Entry>]),
 }
 
 impl<'a> Entries<'a> {
     /// The newest of these entries, and the others; None where there is none.
-    pub fn split_first(self) -> Option<(&'a Rc<Entry>, Entries<'a>)> {
+    pub fn split_first(self) -> Option<(&'a Rc<Entry>, Entries<'a>)>
+        ensures some { IfSome result (λ p. names_of self.entry ≡ p.0.now.value ∷ names_of p.1) }
+        ensures none { IfNone result (names_of self.entry ≡ []) }
+    {
         match self.rest {
-            Rest::Links(None) => None,
-            Rest::Links(Some(link)) => Some((&link.entry, linked(link.before.as_ref()))),
+            Rest::Nothing => None,
+            Rest::Link(link) => Some((&link.entry, linked(&link.before))),
             Rest::Components(entries) => match entries.split_last() {
                 None => None,
                 Some((entry, older)) => Some((entry, of_components(older))),
@@ -30,7 +38,9 @@ impl<'a> Entries<'a> {
     }
 
     /// The newest of these entries that has a kind and a name.
-    pub fn newest(self, kind: Kind, name: &str) -> Option<&'a Rc<Entry>> {
+    pub fn newest(self, kind: Kind, name: &str) -> Option<&'a Rc<Entry>>
+        ensures { option_map (λ e. e.now.value) result ≡ newest_by (is_named (kind_of kind) name.now) (names_of self.entry) }
+    {
         let mut rest = self;
         while let Some((entry, older)) = rest.split_first() {
             if is_named(entry, kind, name) {
@@ -44,31 +54,52 @@ impl<'a> Entries<'a> {
 
 impl Sig {
     /// What stands inside a module: the components of a structure. In a functor and in a module that isn't known nothing does.
-    pub fn entries(&self) -> Entries<'_> {
+    pub fn entries(&self) -> Entries<'_>
+        ensures { names_of result ≡ names_in (inside_sig self.now) }
+    {
         match self {
             Sig::Structure(components) => of_components(&components.entries),
-            Sig::Functor(_, _) => of_components(&[]),
-            Sig::Hole => of_components(&[]),
+            Sig::Functor(_, _) => nothing(),
+            Sig::Hole => nothing(),
         }
     }
 }
 
-pub(crate) fn linked(link: Option<&Rc<Link>>) -> Entries<'_> {
-    Entries {
-        rest: Rest::Links(link),
+pub(crate) fn linked(links: &Links) -> Entries<'_>
+    ensures { names_of result ≡ links_view links.now }
+{
+    match links {
+        None => nothing(),
+        Some(link) => Entries {
+            rest: Rest::Link(link),
+        },
     }
 }
 
-pub(crate) fn of_components(entries: &[Rc<Entry>]) -> Entries<'_> {
+pub(crate) fn nothing<'a>() -> Entries<'a>
+    ensures { names_of result ≡ [] }
+{
+    Entries {
+        rest: Rest::Nothing,
+    }
+}
+
+pub(crate) fn of_components(entries: &[Rc<Entry>]) -> Entries<'_>
+    ensures { names_of result ≡ newest_first entries.now }
+{
     Entries {
         rest: Rest::Components(entries),
     }
 }
 
-pub(crate) fn is_named(entry: &Entry, kind: Kind, name: &str) -> bool {
+pub(crate) fn is_named(entry: &Entry, kind: Kind, name: &str) -> bool
+    ensures { result ≡ is_named (kind_of kind) name.now entry.now }
+{
     same_kind(kind, entry.kind) && entry.name.is(name)
 }
 
-fn same_kind(a: Kind, b: Kind) -> bool {
+fn same_kind(a: Kind, b: Kind) -> bool
+    ensures { result ≡ same_kind (kind_of a) (kind_of b) }
+{
     a == b
 }

@@ -1,0 +1,34 @@
+-- The scopes and the walks of the code, as the rules tell them.
+use Rattle.std.specs.Prelude.{ℕ, suc, Bool, true, false, List, [], ◌∷◌, ◌++◌, Option, Some, None, option_map, if◌then◌else◌}
+use Rattle.std.specs.declared.rc.Rc.{Rc}
+use Rattle.std.specs.declared.alloc.Global.{Global}
+use Rattle.signature_model.specs.Declarations.{Name}
+use Rattle.signature_model.specs.Entries.{module_kind}
+use Rattle.signature_model.specs.Lookups.{ScopeOf, known, unknown_scope, no_scope, FoundAmong, nothing, scope_by, lookup_by}
+use Rattle.env_table.specs.declared.entries.Entry.{Entry}
+use Rattle.env_table.specs.declared.lookup.Scope.{Scope}
+use Rattle.env_table.specs.declared.lookup.Scope.TheVariants as scope
+use Rattle.env_table.specs.Views.{names_of, is_named, inside}
+
+abbrev pub scope_view : Scope → ScopeOf Entry
+scope_view (scope.Env env) = known env.now
+scope_view (scope.Inside es) = known (names_of es)
+scope_view scope.Unknown = unknown_scope
+scope_view scope.Absent = no_scope
+
+abbrev pub is_no_scope : ScopeOf Entry → Bool
+is_no_scope (known env) = false
+is_no_scope unknown_scope = false
+is_no_scope no_scope = true
+
+-- the place of the first of some names that leads to no module, behind the names of a path
+abbrev pub lost_behind : List Entry → List Name → List Name → Option ℕ
+lost_behind env path [] = None
+lost_behind env path (m ∷ ms) =
+    if is_no_scope (scope_by is_named inside env (path ++ m ∷ [])) then Some 0 else option_map suc (lost_behind env (path ++ m ∷ []) ms)
+
+-- what the last of some modules is, behind those before it
+abbrev pub module_behind : List Entry → List Name → List Name → FoundAmong Entry
+module_behind env path [] = nothing
+module_behind env path (m ∷ []) = lookup_by is_named inside env path module_kind m
+module_behind env path (m ∷ n ∷ ms) = module_behind env (path ++ m ∷ []) (n ∷ ms)
