@@ -1,1 +1,4 @@
 mod Bits
+mod Forks
+mod Newest
+mod Lost

@@ -66,8 +66,8 @@ index_at None ks = []
 index_at (Some r) ks = fork_at r.value ks
 
 -- an index with an entry more behind some bits, the newest there
-abbrev pub Adds : Index → List Bool → Entry → Index → Type 0
-Adds before key e after = (ks : List Bool) → index_at after ks ≡ (if same_bits ks key then e ∷ index_at before ks else index_at before ks)
+abbrev pub Adds : (List Bool → List Entry) → List Bool → Entry → (List Bool → List Entry) → Type 0
+Adds before key e after = (ks : List Bool) → after ks ≡ (if same_bits ks key then e ∷ before ks else before ks)
 
 -- whether an entry stands behind these bits
 abbrev pub stands_at : List Bool → Entry → Bool

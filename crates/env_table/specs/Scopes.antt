@@ -1,7 +1,5 @@
 -- The scopes and the walks of the code, as the rules tell them.
-use Rattle.std.specs.Prelude.{ℕ, suc, Bool, true, false, List, [], ◌∷◌, ◌++◌, Option, Some, None, option_map, if◌then◌else◌}
-use Rattle.std.specs.declared.rc.Rc.{Rc}
-use Rattle.std.specs.declared.alloc.Global.{Global}
+use Rattle.std.specs.Prelude.{ℕ, ◌+◌, Bool, true, false, List, [], ◌∷◌, ◌++◌, Option, Some, None, if◌then◌else◌}
 use Rattle.signature_model.specs.Declarations.{Name}
 use Rattle.signature_model.specs.Entries.{module_kind}
 use Rattle.signature_model.specs.Lookups.{ScopeOf, known, unknown_scope, no_scope, FoundAmong, nothing, scope_by, lookup_by}
@@ -21,11 +19,11 @@ is_no_scope (known env) = false
 is_no_scope unknown_scope = false
 is_no_scope no_scope = true
 
--- the place of the first of some names that leads to no module, behind the names of a path
-abbrev pub lost_behind : List Entry → List Name → List Name → Option ℕ
-lost_behind env path [] = None
-lost_behind env path (m ∷ ms) =
-    if is_no_scope (scope_by is_named inside env (path ++ m ∷ [])) then Some 0 else option_map suc (lost_behind env (path ++ m ∷ []) ms)
+-- the place of the first of some names that leads to no module, behind the names of a path, where the first of them has this place
+abbrev pub lost_behind : List Entry → List Name → ℕ → List Name → Option ℕ
+lost_behind env path at [] = None
+lost_behind env path at (m ∷ ms) =
+    if is_no_scope (scope_by is_named inside env (path ++ m ∷ [])) then Some at else lost_behind env (path ++ m ∷ []) (at + 1) ms
 
 -- what the last of some modules is, behind those before it
 abbrev pub module_behind : List Entry → List Name → List Name → FoundAmong Entry

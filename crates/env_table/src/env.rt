@@ -93,6 +93,7 @@ impl Env {
     }
 
     /// The newest entry of a kind and a name.
+    #[tactic(auto, using(crate::proofs::Newest::newest_named))]
     pub fn newest(&self, kind: Kind, name: &str) -> Option<&Rc<Entry>>
         ensures { option_map (λ e. e.now.value) result ≡ newest_by (is_named (kind_of kind) name.now) self.now }
     {

@@ -73,6 +73,7 @@ fn bucket_of(fork: &Fork, bits: u32, hash: u32) -> Entries<'_>
 }
 
 /// An index with one entry more behind these bits, the newest there.
+#[cycle(with)]
 pub(crate) fn with(
     alloc: Global,
     index: &Index,
@@ -80,19 +81,35 @@ pub(crate) fn with(
     hash: u32,
     entry: Rc<Entry>,
 ) -> Result<Index, NoMemory>
-    ensures { IfOk result (λ after. Adds index.now (bits_of bits hash) entry.value after) }
+    ensures { IfOk result (λ after. Adds (index_at index.now) (bits_of bits hash) entry.value (index_at after)) }
 {
-    let mut fork = copied(index)?;
-    if bits == 0 {
-        fork.bucket = linked_before(alloc, entry, &fork.bucket)?;
-    } else if hash % 2 == 1 {
-        fork.odd = with(alloc, &fork.odd, bits - 1, hash / 2, entry)?;
-    } else {
-        fork.even = with(alloc, &fork.even, bits - 1, hash / 2, entry)?;
-    }
+    let fork = added(alloc, copied(index)?, bits, hash, entry)?;
     match Rc::new(alloc, fork) {
         Ok(fork) => Ok(Some(fork)),
         Err(_) => Err(NoMemory),
+    }
+}
+
+#[cycle(with)]
+fn added(
+    alloc: Global,
+    fork: Fork,
+    bits: u32,
+    hash: u32,
+    entry: Rc<Entry>,
+) -> Result<Fork, NoMemory>
+    ensures { IfOk result (λ after. Adds (fork_at fork) (bits_of bits hash) entry.value (fork_at after)) }
+{
+    let Fork { bucket, even, odd } = fork;
+    if bits == 0 {
+        let bucket = linked_before(alloc, entry, &bucket)?;
+        Ok(Fork { bucket, even, odd })
+    } else if hash % 2 == 1 {
+        let odd = with(alloc, &odd, bits - 1, hash / 2, entry)?;
+        Ok(Fork { bucket, even, odd })
+    } else {
+        let even = with(alloc, &even, bits - 1, hash / 2, entry)?;
+        Ok(Fork { bucket, even, odd })
     }
 }
 
@@ -105,12 +122,18 @@ fn copied(index: &Index) -> Result<Fork, NoMemory>
             even: None,
             odd: None,
         }),
-        Some(fork) => Ok(Fork {
-            bucket: share_links(&fork.bucket)?,
-            even: share(&fork.even)?,
-            odd: share(&fork.odd)?,
-        }),
+        Some(fork) => copied_fork(fork),
     }
+}
+
+fn copied_fork(fork: &Fork) -> Result<Fork, NoMemory>
+    ensures { IfOk result (λ f. (ks : List Bool) → fork_at f ks ≡ fork_at fork.now ks) }
+{
+    Ok(Fork {
+        bucket: share_links(&fork.bucket)?,
+        even: share(&fork.even)?,
+        odd: share(&fork.odd)?,
+    })
 }
 
 pub(crate) fn share(index: &Index) -> Result<Index, NoMemory>

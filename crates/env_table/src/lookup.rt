@@ -61,11 +61,11 @@ impl Env {
 
     /// The place of the first of these modules that isn't there; one behind a module that isn't known may be.
     pub fn lost_module(&self, modules: &[RcStr]) -> Option<usize>
-        ensures { result ≡ lost_behind self.now [] (map str_bytes modules.now) }
+        ensures { result ≡ lost_behind self.now [] 0 (map str_bytes modules.now) }
     {
         let mut scope = Scope::Env(self);
-        for (place, name) in modules.iter().enumerate() {
-            scope = inside_module(scope, name.as_str());
+        for place in 0..modules.len() {
+            scope = inside_module(scope, modules[place].as_str());
             if is_absent(scope) {
                 return Some(place);
             }
@@ -121,6 +121,11 @@ fn inside(entry: &Entry) -> Scope<'_>
             Sig::Functor(_, _) => Scope::Inside(nothing()),
             Sig::Hole => Scope::Unknown,
         },
-        _ => Scope::Absent,
+        What::Scheme(_) => Scope::Absent,
+        What::Constructor(_, _) => Scope::Absent,
+        What::Exception(_) => Scope::Absent,
+        What::Label(_, _) => Scope::Absent,
+        What::Type(_) => Scope::Absent,
+        What::ModuleType(_) => Scope::Absent,
     }
 }

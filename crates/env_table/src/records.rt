@@ -105,6 +105,7 @@ fn is_known(scope: Scope<'_>) -> bool
 }
 
 /// The newest label in a scope, of the name where one is given, whose record type has every label.
+#[tactic(auto, using(crate::proofs::Newest::newest_with_all))]
 fn newest_label<'a>(env: &Env, labels: &[Path], name: Option<&str>, scope: Scope<'a>) -> Found<'a>
     ensures { found_view result ≡ newest_label labelled (scope_for env.now (map written_of labels.now)) (map written_of labels.now) (option_map (λ n. n.now) name.entry) (scope_view scope.entry) }
 {
@@ -181,6 +182,7 @@ fn has_each(env: &Env, labels: &[Path], made: &Origin) -> bool
     true
 }
 
+#[tactic(auto, using(crate::proofs::Newest::newest_label_of))]
 fn has_label(made: &Origin, name: &str, scope: Scope<'_>) -> bool
     ensures { result ≡ has_label labelled (path_of made.now) name.now (scope_view scope.entry) }
 {
