@@ -207,12 +207,12 @@ fn the_first_module_that_is_not_there_is_told(rt: HostRuntime) -> Result<(), Fai
     let env = Env::empty().add(alloc, module(alloc, "M", outer, 0)?)?;
     let names = path_names(alloc, &["M", "N", "O"])?;
     assert_eq!(rt; env.lost_module(&names), None);
-    assert_eq!(rt; env.lost_module(&names[1..]), Some(0));
+    assert_eq!(rt; env.lost_module(&path_names(alloc, &["N", "O"])?), Some(0));
     assert_eq!(rt;
         env.lost_module(&path_names(alloc, &["M", "O", "N"])?),
         Some(1)
     );
-    assert_eq!(rt; start_of(env.module_behind(&names[..2])), Some(1));
+    assert_eq!(rt; start_of(env.module_behind(&path_names(alloc, &["M", "N"])?)), Some(1));
     assert!(rt; is_hole(env.module_behind(&names)));
     assert!(rt; is_nothing(env.module_behind(&[])));
     Ok(())
@@ -232,13 +232,12 @@ fn path_names(alloc: Global, names: &[&str]) -> Result<Vec<RcStr>, NoMemory> {
 #[test]
 fn every_label_decides_the_record_type(rt: HostRuntime) -> Result<(), Fail> {
     let alloc = rt.alloc();
-    let env = with_record(alloc, &Env::empty(), 5, &["l", "m"], 0)?;
-    let env = with_record(alloc, &env, 6, &["l", "n"], 10)?;
-    let [l, m, n] = [
-        path(alloc, None, "l")?,
-        path(alloc, None, "m")?,
-        path(alloc, None, "n")?,
-    ];
+    let empty = Env::empty();
+    let first = with_record(alloc, &empty, 5, &["l", "m"], 0)?;
+    let env = with_record(alloc, &first, 6, &["l", "n"], 10)?;
+    let l = path(alloc, None, "l")?;
+    let m = path(alloc, None, "m")?;
+    let n = path(alloc, None, "n")?;
     assert_eq!(rt; start_of(env.record_type(&[])), Some(11));
     let mut labels = Vec::new(alloc);
     labels.push(l)?;
@@ -262,16 +261,12 @@ fn many_names_are_found_and_let_go(rt: HostRuntime) -> Result<(), Fail> {
             entry(alloc, &numbered(alloc, at)?, Kind::Value, what, at)?,
         )?;
     }
-    let mut sum = 0;
+    let mut all = true;
     for at in 0..20_000 {
-        if let Some(start) = start_of(env.lookup(
-            &path(alloc, None, &numbered(alloc, at)?)?,
-            Kind::Value,
-        )) {
-            sum += start as u64 - at as u64;
-        }
+        let name = path(alloc, None, &numbered(alloc, at)?)?;
+        all = all && start_of(env.lookup(&name, Kind::Value)) == Some(at);
     }
-    assert_eq!(rt; sum, 0);
+    assert!(rt; all);
     Ok(())
 }
 
