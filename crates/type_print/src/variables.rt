@@ -1,0 +1,110 @@
+//! The variables of types: their names, in the order in which they first stand in the text.
+use std::alloc::Global;
+use std::collections::{HashMap, HashSet};
+use type_nodes::{NoMemory, NodeRef, Store, View};
+
+/// The name of a variable, by its place among those that are named alike, from 0.
+#[derive(Clone, Copy)]
+pub(crate) enum VariableName {
+    /// 'a
+    Letter(u64),
+    /// '_weak1
+    Weak(u64),
+}
+
+/// The variables that were met, by the numbers of their roots.
+#[derive(Drop)]
+pub(crate) struct Variables {
+    weak: HashSet<u64>,
+    names: HashMap<u64, VariableName>,
+    letters: u64,
+    weaks: u64,
+    /// The roots of all nodes that were met.
+    seen: HashSet<u64>,
+}
+
+impl Variables {
+    /// No variable; those of these nodes are weak.
+    pub(crate) fn new(
+        alloc: Global,
+        store: &Store,
+        weak: &[NodeRef],
+    ) -> Result<Variables, NoMemory> {
+        let mut roots = HashSet::new(alloc);
+        for node in weak {
+            roots
+                .insert(store.root(*node).0)
+                .map_err(|_| NoMemory)?;
+        }
+        Ok(Variables {
+            weak: roots,
+            names: HashMap::new(alloc),
+            letters: 0,
+            weaks: 0,
+            seen: HashSet::new(alloc),
+        })
+    }
+
+    /// The name of a variable that was met.
+    pub(crate) fn name(&self, root: NodeRef) -> Option<VariableName> {
+        match self.names.get(&root.0) {
+            None => None,
+            Some(name) => Some(*name),
+        }
+    }
+
+    /// Meets the variables of a node, in the order of its text.
+    pub(crate) fn meet(
+        &mut self,
+        alloc: Global,
+        store: &Store,
+        from: NodeRef,
+    ) -> Result<(), NoMemory> {
+        let mut left = Vec::new(alloc);
+        left.push(from).map_err(|_| NoMemory)?;
+        while let Some(node) = left.pop() {
+            self.visit(store, &mut left, store.root(node))?;
+        }
+        Ok(())
+    }
+
+    fn visit(
+        &mut self,
+        store: &Store,
+        left: &mut Vec<NodeRef>,
+        root: NodeRef,
+    ) -> Result<(), NoMemory> {
+        if self.seen.contains(&root.0) {
+            return Ok(());
+        }
+        self.seen.insert(root.0).map_err(|_| NoMemory)?;
+        match store.read(root) {
+            View::Var { .. } | View::Rigid(_) => self.add(root),
+            View::Arrow(from, to) => push_all(left, &[from, to]),
+            View::Tuple(parts) => push_all(left, parts),
+            View::Con(_, args) => push_all(left, args),
+        }
+    }
+
+    fn add(&mut self, root: NodeRef) -> Result<(), NoMemory> {
+        let name = if self.weak.contains(&root.0) {
+            let place = self.weaks;
+            self.weaks = place.saturating_add(1);
+            VariableName::Weak(place)
+        } else {
+            let place = self.letters;
+            self.letters = place.saturating_add(1);
+            VariableName::Letter(place)
+        };
+        self.names.insert(root.0, name).map_err(|_| NoMemory)?;
+        Ok(())
+    }
+}
+
+/// The first of them comes last.
+fn push_all(left: &mut Vec<NodeRef>, nodes: &[NodeRef]) -> Result<(), NoMemory> {
+    for node in nodes.iter().rev() {
+        left.push(*node).map_err(|_| NoMemory)?;
+    }
+    Ok(())
+}
