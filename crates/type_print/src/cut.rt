@@ -10,11 +10,13 @@ pub(crate) fn cut(alloc: Global, text: String) -> Result<RcStr, NoMemory> {
     if text.len() <= MOST_SHOWN {
         return RcStr::new(alloc, text);
     }
-    let mut end = MOST_SHOWN;
-    while end > 0 && !text.is_char_boundary(end) {
-        end -= 1;
+    // names have one byte a character, so the first end serves
+    for end in [MOST_SHOWN, MOST_SHOWN - 1, MOST_SHOWN - 2, MOST_SHOWN - 3] {
+        if let Some(shown) = text.get(..end) {
+            let text = format!(in alloc; "{shown}...").map_err(|_| NoMemory)?;
+            return RcStr::new(alloc, text);
+        }
     }
-    let text = format!(in alloc; "{}...", &text[..end]).map_err(|_| NoMemory)?;
     RcStr::new(alloc, text)
 }
 

@@ -1,4 +1,6 @@
 //! The paths by which types are named.
+ghost use Rattle.std.specs.Prelude.{◌<◌, length};
+
 use env_table::{Entries, Entry, Env, Kind, What};
 use std::alloc::Global;
 use std::collections::HashSet;
@@ -84,7 +86,9 @@ fn dotted(
     inside: &[Inside<'_>],
     at: usize,
     name: &str,
-) -> Result<RcStr, NoMemory> {
+) -> Result<RcStr, NoMemory>
+    requires { at < length inside.now }
+{
     let mut text = String::new(alloc);
     for module in &way_to(alloc, inside, at)? {
         push(&mut text, module.as_str())?;
@@ -95,7 +99,9 @@ fn dotted(
 }
 
 /// The names of the modules on the way to one, the outermost first.
-fn way_to(alloc: Global, inside: &[Inside<'_>], at: usize) -> Result<Vec<RcStr>, NoMemory> {
+fn way_to(alloc: Global, inside: &[Inside<'_>], at: usize) -> Result<Vec<RcStr>, NoMemory>
+    requires { at < length inside.now }
+{
     let mut way = Vec::new(alloc);
     let mut next = Some(at);
     for k in (0..=at).rev() {

@@ -1,4 +1,8 @@
 //! The pieces that a type's text is made of.
+ghost use Rattle.std.specs.Prelude.{◌≡◌, [], ◌∷◌, ◌++◌, codes, OnOk, IfSome, IfNone};
+ghost use Rattle.type_nodes.specs.Views.{numbers};
+ghost use Rattle.type_print.specs.Pieces.{a_text, part_of, parts_of, within_of, text_of_sign, rest_parts, list_parts, arrow_alone, arrow_parts, tuple_parts, argument_parts, a_head};
+
 use type_nodes::{NoMemory, NodeRef};
 
 /// Where a type stands in another, which decides on its parentheses.
@@ -31,7 +35,9 @@ pub(crate) enum Piece {
 }
 
 impl Sign {
-    pub(crate) fn text(self) -> &'static str {
+    pub(crate) fn text(self) -> &'static str
+        ensures { result.now ≡ text_of_sign self }
+    {
         match self {
             Sign::Open => "(",
             Sign::Close => ")",
@@ -50,8 +56,17 @@ pub(crate) struct Pieces {
 }
 
 impl Pieces {
-    pub(crate) fn add(&mut self, piece: Piece) -> Result<(), NoMemory> {
+    pub(crate) fn add(&mut self, piece: Piece) -> Result<(), NoMemory>
+        ensures { OnOk result (parts_of self.new ≡ part_of piece ∷ parts_of self.old) }
+    {
         self.list.push(piece).map_err(|_| NoMemory)
+    }
+
+    pub(crate) fn take_next(&mut self) -> Option<Piece>
+        ensures some { IfSome result (λ p. parts_of self.old ≡ part_of p ∷ parts_of self.new) }
+        ensures none { IfNone result (parts_of self.old ≡ []) }
+    {
+        self.list.pop()
     }
 
     /// Types with a sign between them.
@@ -60,12 +75,31 @@ impl Pieces {
         types: &[NodeRef],
         within: Within,
         between: Sign,
-    ) -> Result<(), NoMemory> {
-        for k in (0..types.len()).rev() {
-            self.add(Piece::Type(types[k], within))?;
-            if k > 0 {
-                self.add(Piece::Sign(between))?;
+    ) -> Result<(), NoMemory>
+        ensures { OnOk result (parts_of self.new ≡ list_parts (within_of within) (text_of_sign between) (numbers types.now) ++ parts_of self.old) }
+    {
+        match types {
+            [] => Ok(()),
+            [first, rest @ ..] => {
+                self.add_rest(rest, within, between)?;
+                self.add(Piece::Type(*first, within))
             }
+        }
+    }
+
+    fn add_rest(
+        &mut self,
+        types: &[NodeRef],
+        within: Within,
+        between: Sign,
+    ) -> Result<(), NoMemory>
+        ensures { OnOk result (parts_of self.new ≡ rest_parts (within_of within) (text_of_sign between) (numbers types.now) ++ parts_of self.old) }
+    {
+        let mut k = types.len();
+        while k > 0 {
+            k -= 1;
+            self.add(Piece::Type(types[k], within))?;
+            self.add(Piece::Sign(between))?;
         }
         Ok(())
     }
@@ -76,7 +110,9 @@ impl Pieces {
         from: NodeRef,
         to: NodeRef,
         within: Within,
-    ) -> Result<(), NoMemory> {
+    ) -> Result<(), NoMemory>
+        ensures { OnOk result (parts_of self.new ≡ arrow_parts (within_of within) from.0 to.0 (parts_of self.old)) }
+    {
         match within {
             Within::LeftOfArrow | Within::Inner => {
                 self.add(Piece::Sign(Sign::Close))?;
@@ -87,7 +123,9 @@ impl Pieces {
         }
     }
 
-    fn add_arrow_alone(&mut self, from: NodeRef, to: NodeRef) -> Result<(), NoMemory> {
+    fn add_arrow_alone(&mut self, from: NodeRef, to: NodeRef) -> Result<(), NoMemory>
+        ensures { OnOk result (parts_of self.new ≡ arrow_alone from.0 to.0 (parts_of self.old)) }
+    {
         self.add(Piece::Type(to, Within::Alone))?;
         self.add(Piece::Sign(Sign::Arrow))?;
         self.add(Piece::Type(from, Within::LeftOfArrow))
@@ -98,7 +136,9 @@ impl Pieces {
         &mut self,
         parts: &[NodeRef],
         within: Within,
-    ) -> Result<(), NoMemory> {
+    ) -> Result<(), NoMemory>
+        ensures { OnOk result (parts_of self.new ≡ tuple_parts (within_of within) (numbers parts.now) (parts_of self.old)) }
+    {
         match within {
             Within::Inner => {
                 self.add(Piece::Sign(Sign::Close))?;
@@ -114,7 +154,9 @@ impl Pieces {
         &mut self,
         node: NodeRef,
         args: &[NodeRef],
-    ) -> Result<(), NoMemory> {
+    ) -> Result<(), NoMemory>
+        ensures { OnOk result (parts_of self.new ≡ argument_parts (numbers args.now) (a_head node.0 ∷ parts_of self.old)) }
+    {
         self.add(Piece::Head(node))?;
         match args {
             [] => Ok(()),

@@ -1,4 +1,9 @@
 //! The text of a type.
+ghost use Rattle.std.specs.Prelude.{◌≡◌, All, OnOk};
+ghost use Rattle.type_nodes.specs.Nodes.{IsNode, IsSound};
+ghost use Rattle.type_nodes.specs.Views.{numbers};
+ghost use Rattle.type_print.specs.Pieces.{parts_of, part_of, opened, IsPart};
+
 use crate::cut::{MOST_SHOWN, cut, push};
 use crate::paths::name_of;
 use crate::pieces::{Piece, Pieces, Within};
@@ -15,7 +20,10 @@ pub fn print_type(
     n: NodeRef,
     env: &Env,
     weak: &[NodeRef],
-) -> Result<RcStr, NoMemory> {
+) -> Result<RcStr, NoMemory>
+    requires node { IsNode store.now.nodes n.0 }
+    requires weak { All (IsNode store.now.nodes) (numbers weak.now) }
+{
     let mut variables = Variables::new(alloc, store, weak)?;
     variables.meet(alloc, store, n)?;
     text_of(alloc, store, n, env, &variables)
@@ -28,7 +36,10 @@ pub fn print_two(
     first: NodeRef,
     second: NodeRef,
     env: &Env,
-) -> Result<(RcStr, RcStr), NoMemory> {
+) -> Result<(RcStr, RcStr), NoMemory>
+    requires first { IsNode store.now.nodes first.0 }
+    requires second { IsNode store.now.nodes second.0 }
+{
     let mut variables = Variables::new(alloc, store, &[])?;
     variables.meet(alloc, store, first)?;
     variables.meet(alloc, store, second)?;
@@ -60,7 +71,9 @@ fn text_of(
     n: NodeRef,
     env: &Env,
     variables: &Variables,
-) -> Result<RcStr, NoMemory> {
+) -> Result<RcStr, NoMemory>
+    requires { IsNode store.now.nodes n.0 }
+{
     let mut written = Written {
         text: String::new(alloc),
         left: Pieces {
@@ -68,9 +81,9 @@ fn text_of(
         },
         known: Vec::new(alloc),
     };
-    written.left.add(Piece::Type(n, Within::Alone))?;
+    written.left.add(Piece::Type(store.root(n), Within::Alone))?;
     while written.text.len() <= MOST_SHOWN {
-        match written.left.list.pop() {
+        match written.left.take_next() {
             None => break,
             Some(piece) => write_piece(alloc, store, env, variables, &mut written, piece)?,
         }
@@ -85,7 +98,11 @@ fn write_piece(
     variables: &Variables,
     written: &mut Written,
     piece: Piece,
-) -> Result<(), NoMemory> {
+) -> Result<(), NoMemory>
+    requires part { IsPart store.now.nodes (part_of piece) }
+    requires sound { IsSound store.now.nodes }
+    ensures { OnOk result (parts_of written.new.left ≡ opened store.now.nodes (part_of piece) (parts_of written.old.left)) }
+{
     match piece {
         Piece::Sign(sign) => push(&mut written.text, sign.text()),
         Piece::Head(node) => match store.read(node) {
@@ -135,7 +152,9 @@ fn write_name(
     env: &Env,
     written: &mut Written,
     origin: &Origin,
-) -> Result<(), NoMemory> {
+) -> Result<(), NoMemory>
+    ensures { OnOk result (parts_of written.new.left ≡ parts_of written.old.left) }
+{
     if let Some(name) = known_name(&written.known, origin) {
         return push(&mut written.text, name.as_str());
     }

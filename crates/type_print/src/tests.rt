@@ -167,7 +167,7 @@ fn long_texts_are_cut_at_once(rt: HostRuntime) -> Result<(), Fail> {
     }
     let text = print_type(alloc, &store, twice, &env, &[])?;
     assert_eq!(rt; text.as_str().len(), 4099);
-    assert!(rt; text.as_str().starts_with("(((((((((((((((((((((((((((((((((((((((('a * 'a) * ('a * 'a)) * "));
+    assert!(rt; text.as_str().starts_with("((((((((((((((((((((((((((((((((((((((('a * 'a) * ('a * 'a)) * "));
     assert!(rt; text.as_str().ends_with("..."));
     let mut lists = con(alloc, &mut store, 1, "int", &[])?;
     for _ in 0..20_000 {

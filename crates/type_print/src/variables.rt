@@ -1,4 +1,9 @@
 //! The variables of types: their names, in the order in which they first stand in the text.
+ghost use Rattle.std.specs.Prelude.{◌++◌, ◌≡◌, [], ◌∷◌, All, OnOk, IfSome, IfNone};
+ghost use Rattle.type_nodes.specs.Nodes.{IsNode, IsSound};
+ghost use Rattle.type_nodes.specs.Views.{numbers};
+ghost use Rattle.type_print.specs.Pieces.{left_of, Visits};
+
 use std::alloc::Global;
 use std::collections::{HashMap, HashSet};
 use type_nodes::{NoMemory, NodeRef, Store, View};
@@ -29,7 +34,9 @@ impl Variables {
         alloc: Global,
         store: &Store,
         weak: &[NodeRef],
-    ) -> Result<Variables, NoMemory> {
+    ) -> Result<Variables, NoMemory>
+        requires { All (IsNode store.now.nodes) (numbers weak.now) }
+    {
         let mut roots = HashSet::new(alloc);
         for node in weak {
             roots
@@ -59,11 +66,13 @@ impl Variables {
         alloc: Global,
         store: &Store,
         from: NodeRef,
-    ) -> Result<(), NoMemory> {
+    ) -> Result<(), NoMemory>
+        requires { IsNode store.now.nodes from.0 }
+    {
         let mut left = Vec::new(alloc);
-        left.push(from).map_err(|_| NoMemory)?;
-        while let Some(node) = left.pop() {
-            self.visit(store, &mut left, store.root(node))?;
+        push(&mut left, store.root(from))?;
+        while let Some(node) = take_next(&mut left) {
+            self.visit(store, &mut left, node)?;
         }
         Ok(())
     }
@@ -72,13 +81,17 @@ impl Variables {
         &mut self,
         store: &Store,
         left: &mut Vec<NodeRef>,
-        root: NodeRef,
-    ) -> Result<(), NoMemory> {
+        node: NodeRef,
+    ) -> Result<(), NoMemory>
+        requires node { IsNode store.now.nodes node.0 }
+        ensures { OnOk result (Visits store.now.nodes node.0 (left_of left.old.items) (left_of left.new.items)) }
+    {
+        let root = store.root(node);
         if self.seen.contains(&root.0) {
             return Ok(());
         }
         self.seen.insert(root.0).map_err(|_| NoMemory)?;
-        match store.read(root) {
+        match store.read(node) {
             View::Var { .. } | View::Rigid(_) => self.add(root),
             View::Arrow(from, to) => push_all(left, &[from, to]),
             View::Tuple(parts) => push_all(left, parts),
@@ -101,10 +114,27 @@ impl Variables {
     }
 }
 
+fn take_next(left: &mut Vec<NodeRef>) -> Option<NodeRef>
+    ensures some { IfSome result (λ n. left_of left.old.items ≡ n.0 ∷ left_of left.new.items) }
+    ensures none { IfNone result (left_of left.old.items ≡ []) }
+{
+    left.pop()
+}
+
+fn push(left: &mut Vec<NodeRef>, node: NodeRef) -> Result<(), NoMemory>
+    ensures { OnOk result (left_of left.new.items ≡ node.0 ∷ left_of left.old.items) }
+{
+    left.push(node).map_err(|_| NoMemory)
+}
+
 /// The first of them comes last.
-fn push_all(left: &mut Vec<NodeRef>, nodes: &[NodeRef]) -> Result<(), NoMemory> {
-    for node in nodes.iter().rev() {
-        left.push(*node).map_err(|_| NoMemory)?;
+fn push_all(left: &mut Vec<NodeRef>, nodes: &[NodeRef]) -> Result<(), NoMemory>
+    ensures { OnOk result (left_of left.new.items ≡ numbers nodes.now ++ left_of left.old.items) }
+{
+    let mut k = nodes.len();
+    while k > 0 {
+        k -= 1;
+        push(left, nodes[k])?;
     }
     Ok(())
 }
