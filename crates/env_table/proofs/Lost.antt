@@ -27,7 +27,7 @@ behind no_scope path m h = refl
 
 next_module : (r : Option Entry) (path : List Name) (m : Name) → ((env : List Entry) → scope_by is_named inside env (path ++ m ∷ []) ≡ through (scope_by is_named inside env path) (module_scope m))
     → elim r as (λ x. ScopeOf Entry) [ None ↦ no_scope | Some e ↦ through (inside e) (λ inner. scope_by is_named inside inner (path ++ m ∷ [])) ]
-        ≡ through (elim r as (λ x. ScopeOf Entry) [ None ↦ no_scope | Some e ↦ through (inside e) (λ inner. scope_by is_named inside inner path) ]) (module_scope m)
+    ≡ through (elim r as (λ x. ScopeOf Entry) [ None ↦ no_scope | Some e ↦ through (inside e) (λ inner. scope_by is_named inside inner path) ]) (module_scope m)
 next_module None path m h = refl
 next_module (Some e) path m h = behind (inside e) path m h
 

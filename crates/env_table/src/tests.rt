@@ -212,7 +212,10 @@ fn the_first_module_that_is_not_there_is_told(rt: HostRuntime) -> Result<(), Fai
         env.lost_module(&path_names(alloc, &["M", "O", "N"])?),
         Some(1)
     );
-    assert_eq!(rt; start_of(env.module_behind(&path_names(alloc, &["M", "N"])?)), Some(1));
+    assert_eq!(rt;
+        start_of(env.module_behind(&path_names(alloc, &["M", "N"])?)),
+        Some(1)
+    );
     assert!(rt; is_hole(env.module_behind(&names)));
     assert!(rt; is_nothing(env.module_behind(&[])));
     Ok(())

@@ -22,6 +22,13 @@ pub(crate) enum Rest<'a> {
 }
 
 impl<'a> Entries<'a> {
+    /// No entry.
+    pub fn none() -> Entries<'a>
+        ensures { names_of result ≡ [] }
+    {
+        nothing()
+    }
+
     /// The newest of these entries, and the others; None where there is none.
     pub fn split_first(self) -> Option<(&'a Rc<Entry>, Entries<'a>)>
         ensures some { IfSome result (λ p. names_of self.entry ≡ p.0.now.value ∷ names_of p.1) }

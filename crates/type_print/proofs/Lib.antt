@@ -1,3 +1,4 @@
-mod Shown
-mod Weights
-mod Numbers
+pub mod Shown
+pub mod Weights
+pub mod Numbers
+pub mod Searching

@@ -1,2 +1,5 @@
 pub mod Shown
 pub mod Pieces
+pub mod Ways
+pub mod Paths
+pub mod Scopes

@@ -1,4 +1,6 @@
 //! The cut of a long text.
+ghost use Rattle.std.specs.Prelude.{◌≡◌, ◌++◌, string_bytes, OnOk};
+
 use std::alloc::Global;
 use text_terms::{NoMemory, RcStr};
 
@@ -20,6 +22,8 @@ pub(crate) fn cut(alloc: Global, text: String) -> Result<RcStr, NoMemory> {
     RcStr::new(alloc, text)
 }
 
-pub(crate) fn push(text: &mut String, more: &str) -> Result<(), NoMemory> {
+pub(crate) fn push(text: &mut String, more: &str) -> Result<(), NoMemory>
+    ensures { OnOk result (string_bytes text.new ≡ string_bytes text.old ++ more.now) }
+{
     text.push_str(more).map_err(|_| NoMemory)
 }

@@ -10,6 +10,7 @@ mod printing;
 #[cfg(test)]
 mod tests;
 mod variables;
+mod ways;
 
 pub use paths::name_of;
 pub use printing::{print_two, print_type};

@@ -87,12 +87,7 @@ impl Pieces {
         }
     }
 
-    fn add_rest(
-        &mut self,
-        types: &[NodeRef],
-        within: Within,
-        between: Sign,
-    ) -> Result<(), NoMemory>
+    fn add_rest(&mut self, types: &[NodeRef], within: Within, between: Sign) -> Result<(), NoMemory>
         ensures { OnOk result (parts_of self.new ≡ rest_parts (within_of within) (text_of_sign between) (numbers types.now) ++ parts_of self.old) }
     {
         let mut k = types.len();
@@ -132,11 +127,7 @@ impl Pieces {
     }
 
     /// A tuple.
-    pub(crate) fn add_tuple(
-        &mut self,
-        parts: &[NodeRef],
-        within: Within,
-    ) -> Result<(), NoMemory>
+    pub(crate) fn add_tuple(&mut self, parts: &[NodeRef], within: Within) -> Result<(), NoMemory>
         ensures { OnOk result (parts_of self.new ≡ tuple_parts (within_of within) (numbers parts.now) (parts_of self.old)) }
     {
         match within {

@@ -39,7 +39,12 @@ fn made(alloc: Global, number: u64, name: &str) -> Result<Rc<Entry>, NoMemory> {
         root: NodeRef(0),
         shape: Shape::Opaque,
     };
-    entry(alloc, name, Kind::TypeName, What::Type(rc(alloc, declaration)?))
+    entry(
+        alloc,
+        name,
+        Kind::TypeName,
+        What::Type(rc(alloc, declaration)?),
+    )
 }
 
 /// The entry of a declaration of another type.
@@ -51,10 +56,20 @@ fn alias(alloc: Global, number: u64, name: &str) -> Result<Rc<Entry>, NoMemory> 
         root: NodeRef(0),
         shape: Shape::Opaque,
     };
-    entry(alloc, name, Kind::TypeName, What::Type(rc(alloc, declaration)?))
+    entry(
+        alloc,
+        name,
+        Kind::TypeName,
+        What::Type(rc(alloc, declaration)?),
+    )
 }
 
-fn module(alloc: Global, name: &str, first: Rc<Entry>, second: Option<Rc<Entry>>) -> Result<Rc<Entry>, NoMemory> {
+fn module(
+    alloc: Global,
+    name: &str,
+    first: Rc<Entry>,
+    second: Option<Rc<Entry>>,
+) -> Result<Rc<Entry>, NoMemory> {
     let mut entries = Vec::new(alloc);
     entries.push(first).map_err(|_| NoMemory)?;
     if let Some(second) = second {
@@ -72,7 +87,13 @@ fn plain(alloc: Global) -> Result<Env, NoMemory> {
     env.add(alloc, made(alloc, 3, "table")?)
 }
 
-fn con(alloc: Global, store: &mut Store, number: u64, name: &str, args: &[NodeRef]) -> Result<NodeRef, NoMemory> {
+fn con(
+    alloc: Global,
+    store: &mut Store,
+    number: u64,
+    name: &str,
+    args: &[NodeRef],
+) -> Result<NodeRef, NoMemory> {
     let origin = origin(alloc, number, name)?;
     store.con(&origin, args)
 }
@@ -95,13 +116,34 @@ fn parentheses_stand_where_they_are_needed(rt: HostRuntime) -> Result<(), Fail> 
     let pairs = con(alloc, &mut store, 2, "list", &[pair])?;
     let table = con(alloc, &mut store, 3, "table", &[arrow, pair])?;
     let int = con(alloc, &mut store, 1, "int", &[])?;
-    assert_eq!(rt; print_type(alloc, &store, left, &env, &[])?.as_str(), "('a -> 'b) -> 'b");
-    assert_eq!(rt; print_type(alloc, &store, right, &env, &[])?.as_str(), "'a -> 'a -> 'b");
-    assert_eq!(rt; print_type(alloc, &store, nested, &env, &[])?.as_str(), "(('a -> 'b) * 'a) * 'b");
-    assert_eq!(rt; print_type(alloc, &store, to_pair, &env, &[])?.as_str(), "('a -> 'b) * 'a -> ('a -> 'b) * 'a");
-    assert_eq!(rt; print_type(alloc, &store, lists, &env, &[])?.as_str(), "('a -> 'b) list list");
-    assert_eq!(rt; print_type(alloc, &store, pairs, &env, &[])?.as_str(), "(('a -> 'b) * 'a) list");
-    assert_eq!(rt; print_type(alloc, &store, table, &env, &[])?.as_str(), "('a -> 'b, ('a -> 'b) * 'a) table");
+    assert_eq!(rt;
+        print_type(alloc, &store, left, &env, &[])?.as_str(),
+        "('a -> 'b) -> 'b"
+    );
+    assert_eq!(rt;
+        print_type(alloc, &store, right, &env, &[])?.as_str(),
+        "'a -> 'a -> 'b"
+    );
+    assert_eq!(rt;
+        print_type(alloc, &store, nested, &env, &[])?.as_str(),
+        "(('a -> 'b) * 'a) * 'b"
+    );
+    assert_eq!(rt;
+        print_type(alloc, &store, to_pair, &env, &[])?.as_str(),
+        "('a -> 'b) * 'a -> ('a -> 'b) * 'a"
+    );
+    assert_eq!(rt;
+        print_type(alloc, &store, lists, &env, &[])?.as_str(),
+        "('a -> 'b) list list"
+    );
+    assert_eq!(rt;
+        print_type(alloc, &store, pairs, &env, &[])?.as_str(),
+        "(('a -> 'b) * 'a) list"
+    );
+    assert_eq!(rt;
+        print_type(alloc, &store, table, &env, &[])?.as_str(),
+        "('a -> 'b, ('a -> 'b) * 'a) table"
+    );
     assert_eq!(rt; print_type(alloc, &store, int, &env, &[])?.as_str(), "int");
     Ok(())
 }
@@ -117,8 +159,14 @@ fn variables_are_named_as_they_come(rt: HostRuntime) -> Result<(), Fail> {
     let rigid = store.rigid()?;
     store.quantify(b)?;
     let all = store.tuple(&[rigid, b, a, b])?;
-    assert_eq!(rt; print_type(alloc, &store, all, &env, &[])?.as_str(), "'a * 'b * 'c * 'b");
-    assert_eq!(rt; print_type(alloc, &store, all, &env, &[a])?.as_str(), "'a * 'b * '_weak1 * 'b");
+    assert_eq!(rt;
+        print_type(alloc, &store, all, &env, &[])?.as_str(),
+        "'a * 'b * 'c * 'b"
+    );
+    assert_eq!(rt;
+        print_type(alloc, &store, all, &env, &[a])?.as_str(),
+        "'a * 'b * '_weak1 * 'b"
+    );
     Ok(())
 }
 
@@ -135,7 +183,10 @@ fn linked_variables_are_one(rt: HostRuntime) -> Result<(), Fail> {
     assert_eq!(rt; first.as_str(), "'a -> 'b");
     assert_eq!(rt; second.as_str(), "'b * 'a");
     store.bind(a, b)?;
-    assert_eq!(rt; print_type(alloc, &store, pair, &env, &[a])?.as_str(), "'_weak1 * '_weak1");
+    assert_eq!(rt;
+        print_type(alloc, &store, pair, &env, &[a])?.as_str(),
+        "'_weak1 * '_weak1"
+    );
     Ok(())
 }
 
@@ -151,7 +202,11 @@ fn letters_have_numbers_behind_z(rt: HostRuntime) -> Result<(), Fail> {
     let all = store.tuple(&nodes)?;
     let text = print_type(alloc, &store, all, &env, &[])?;
     assert!(rt; text.as_str().starts_with("'a * 'b * 'c * "));
-    assert!(rt; text.as_str().ends_with("'z * 'a1 * 'b1 * 'c1 * 'd1 * 'e1 * 'f1 * 'g1 * 'h1 * 'i1 * 'j1 * 'k1 * 'l1 * 'm1 * 'n1 * 'o1 * 'p1 * 'q1 * 'r1 * 's1 * 't1 * 'u1 * 'v1 * 'w1 * 'x1 * 'y1 * 'z1 * 'a2 * 'b2"));
+    assert!(rt;
+        text.as_str().ends_with(
+            "'z * 'a1 * 'b1 * 'c1 * 'd1 * 'e1 * 'f1 * 'g1 * 'h1 * 'i1 * 'j1 * 'k1 * 'l1 * 'm1 * 'n1 * 'o1 * 'p1 * 'q1 * 'r1 * 's1 * 't1 * 'u1 * 'v1 * 'w1 * 'x1 * 'y1 * 'z1 * 'a2 * 'b2"
+        )
+    );
     Ok(())
 }
 
@@ -167,7 +222,9 @@ fn long_texts_are_cut_at_once(rt: HostRuntime) -> Result<(), Fail> {
     }
     let text = print_type(alloc, &store, twice, &env, &[])?;
     assert_eq!(rt; text.as_str().len(), 4099);
-    assert!(rt; text.as_str().starts_with("((((((((((((((((((((((((((((((((((((((('a * 'a) * ('a * 'a)) * "));
+    assert!(rt;
+        text.as_str().starts_with("((((((((((((((((((((((((((((((((((((((('a * 'a) * ('a * 'a)) * ")
+    );
     assert!(rt; text.as_str().ends_with("..."));
     let mut lists = con(alloc, &mut store, 1, "int", &[])?;
     for _ in 0..20_000 {

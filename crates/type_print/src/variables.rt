@@ -30,18 +30,12 @@ pub(crate) struct Variables {
 
 impl Variables {
     /// No variable; those of these nodes are weak.
-    pub(crate) fn new(
-        alloc: Global,
-        store: &Store,
-        weak: &[NodeRef],
-    ) -> Result<Variables, NoMemory>
+    pub(crate) fn new(alloc: Global, store: &Store, weak: &[NodeRef]) -> Result<Variables, NoMemory>
         requires { All (IsNode store.now.nodes) (numbers weak.now) }
     {
         let mut roots = HashSet::new(alloc);
         for node in weak {
-            roots
-                .insert(store.root(*node).0)
-                .map_err(|_| NoMemory)?;
+            roots.insert(store.root(*node).0).map_err(|_| NoMemory)?;
         }
         Ok(Variables {
             weak: roots,

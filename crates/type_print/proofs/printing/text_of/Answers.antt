@@ -10,7 +10,7 @@ pub loop-written-smaller : goal.loop-written-smaller
 loop-written-smaller c =
     let inside = rw c.in-Some.ensures.some at c.loop-written.invariant in
     rw (c.in_ok-write_piece-in-Some.ensures, c.in-Some.ensures.some)
-        (opened_less c.args.store.now.nodes c.root.ensures.sound (part_of c.in-Some.piece) (parts_of c.take_next.new.self) inside.0)
+    (opened_less c.args.store.now.nodes c.root.ensures.sound (part_of c.in-Some.piece) (parts_of c.take_next.new.self) inside.0)
 
 pub loop-written-preserved : goal.loop-written-preserved
 loop-written-preserved c =

@@ -14,7 +14,7 @@ returns-then-is_absent c =
     let r = c.index-modules-place.result in
     let within : i < length ms = omega arith in
     let on : scope_view c.inside_module-scope.result ≡ scope_by is_named inside env (map str_bytes (take (i + 1) ms)) =
-        c.inside_module-scope.ensures ∙ rw c.as_str.ensures (scope_on env ms i r (scope_view c.loop-place.scope) within c.index-modules-place.is c.loop-place.invariant.0) in
+    c.inside_module-scope.ensures ∙ rw c.as_str.ensures (scope_on env ms i r (scope_view c.loop-place.scope) within c.index-modules-place.is c.loop-place.invariant.0) in
     let absent : is_no_scope (scope_by is_named inside env (map str_bytes (take (i + 1) ms))) ≡ true = rw (← on) (sym c.is_absent.ensures ∙ c.if-is_absent.true) in
     sym (lost_here env ms i r within c.index-modules-place.is absent) ∙ c.loop-place.invariant.1
 
@@ -26,6 +26,6 @@ loop-place-preserved c =
     let r = c.index-modules-place.result in
     let within : i < length ms = omega arith in
     let on : scope_view c.inside_module-scope.result ≡ scope_by is_named inside env (map str_bytes (take (i + 1) ms)) =
-        c.inside_module-scope.ensures ∙ rw c.as_str.ensures (scope_on env ms i r (scope_view c.loop-place.scope) within c.index-modules-place.is c.loop-place.invariant.0) in
+    c.inside_module-scope.ensures ∙ rw c.as_str.ensures (scope_on env ms i r (scope_view c.loop-place.scope) within c.index-modules-place.is c.loop-place.invariant.0) in
     let there : is_no_scope (scope_by is_named inside env (map str_bytes (take (i + 1) ms))) ≡ false = rw (← on) (sym c.is_absent.ensures ∙ c.if-is_absent.false) in
     (on, sym (lost_later env ms i r within c.index-modules-place.is there) ∙ c.loop-place.invariant.1)

@@ -10,7 +10,7 @@ pub loop-node-smaller : goal.loop-node-smaller
 loop-node-smaller c =
     let inside = rw c.in-Some.ensures.some at c.loop-node.invariant in
     rw c.in-Some.ensures.some
-        (visit_less c.args.store.now.nodes c.root.ensures.sound c.in-Some.node.0 (left_of c.take_next.new.left.items) (left_of c.visit.new.left.items) inside.0 c.in_ok-visit.ensures)
+    (visit_less c.args.store.now.nodes c.root.ensures.sound c.in-Some.node.0 (left_of c.take_next.new.left.items) (left_of c.visit.new.left.items) inside.0 c.in_ok-visit.ensures)
 
 pub loop-node-preserved : goal.loop-node-preserved
 loop-node-preserved c =
