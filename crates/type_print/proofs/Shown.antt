@@ -112,3 +112,6 @@ follow_shown nodes sound (suc k) n h = elim (link_or_stays nodes n) [
 -- a node has the type of its root, and so one that is built from what it reads as
 pub shown_reading : (nodes : List Node) → IsSound nodes → (n : ℕ) (c : Node) → n < length nodes → reading nodes n ≡ Some c → shown nodes n ≡ shown_from (shown nodes) (root nodes n) (Some c)
 shown_reading nodes sound n c h e = follow_shown nodes sound (length nodes) n h ∙ shown_step nodes sound (root nodes n) c e
+
+pub shown_root : (nodes : List Node) → IsSound nodes → (n r : ℕ) → n < length nodes → r ≡ root nodes n → shown nodes r ≡ shown nodes n
+shown_root nodes sound n r h e = rw e (sym (follow_shown nodes sound (length nodes) n h))

@@ -116,7 +116,7 @@ parts_less nodes r (Arrow a b) old t e h = rw e (omega arith)
 parts_less nodes r (Tuple ms) old t e h = let i = nodes_types nodes ms old in rw e (omega arith)
 parts_less nodes r (Con p name ms) old t e h = let i = nodes_types nodes ms old in rw e (omega arith)
 
-no_link : (nodes : List Node) → IsSound nodes → (n m : ℕ) → n < length nodes → reading nodes n ≡ Some (Link m) → ⊥
+pub no_link : (nodes : List Node) → IsSound nodes → (n m : ℕ) → n < length nodes → reading nodes n ≡ Some (Link m) → ⊥
 no_link nodes sound n m h e = root_no_link nodes sound n (Link m) h e
 
 -- so does a visit

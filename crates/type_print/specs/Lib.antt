@@ -3,3 +3,4 @@ pub mod Pieces
 pub mod Ways
 pub mod Paths
 pub mod Scopes
+pub mod Texts

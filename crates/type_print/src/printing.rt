@@ -1,5 +1,14 @@
 //! The text of a type.
 ghost use Rattle.std.specs.Prelude.{◌≡◌, All, OnOk};
+ghost use Rattle.std.specs.Prelude.{◌++◌, ◌∷◌, [], List, ℕ, string_bytes, IfOk, IfSome, option_map, Option};
+ghost use Rattle.text_terms.specs.Bytes.{str_bytes};
+ghost use Rattle.type_model.specs.Types.{Path};
+ghost use Rattle.type_terms.specs.Views.{path_of};
+ghost use Rattle.type_print_model.specs.Variables.{letter_name};
+ghost use Rattle.type_print_model.specs.Printing.{Names, text_of, cut, alone};
+ghost use Rattle.type_print.specs.Shown.{shown};
+ghost use Rattle.type_print.specs.Paths.{name_in};
+ghost use Rattle.type_print.specs.Texts.{name_text, KnownAre, Speaks, said, IsAscii};
 ghost use Rattle.type_nodes.specs.Nodes.{IsNode, IsSound};
 ghost use Rattle.type_nodes.specs.Views.{numbers};
 ghost use Rattle.type_print.specs.Pieces.{parts_of, part_of, opened, IsPart};
@@ -73,6 +82,7 @@ fn text_of(
     variables: &Variables,
 ) -> Result<RcStr, NoMemory>
     requires { IsNode store.now.nodes n.0 }
+    ensures { IfOk result (λ r. (ns : Names) → Speaks store.now.nodes env.now variables.now ns → IsAscii (text_of ns alone (shown store.now.nodes n.0)) → str_bytes r ≡ cut (text_of ns alone (shown store.now.nodes n.0))) }
 {
     let mut written = Written {
         text: String::new(alloc),
@@ -101,12 +111,17 @@ fn write_piece(
 ) -> Result<(), NoMemory>
     requires part { IsPart store.now.nodes (part_of piece) }
     requires sound { IsSound store.now.nodes }
-    ensures { OnOk result (parts_of written.new.left ≡ opened store.now.nodes (part_of piece) (parts_of written.old.left)) }
+    ensures left { OnOk result (parts_of written.new.left ≡ opened store.now.nodes (part_of piece) (parts_of written.old.left)) }
+    ensures text { OnOk result ((ns : Names) → Speaks store.now.nodes env.now variables.now ns → KnownAre ns.origin written.old.known.items →
+        (string_bytes written.new.text ≡ string_bytes written.old.text ++ said store.now.nodes ns (part_of piece)) × KnownAre ns.origin written.new.known.items) }
 {
     match piece {
         Piece::Sign(sign) => push(&mut written.text, sign.text()),
         Piece::Head(node) => match store.read(node) {
-            View::Con(origin, _) => write_name(alloc, env, written, origin),
+            View::Con(origin, _) => {
+                write_name(alloc, env, written, origin)?;
+                Ok(())
+            }
             _ => Ok(()),
         },
         Piece::Type(node, within) => match store.read(node) {
@@ -124,19 +139,23 @@ fn write_variable(
     alloc: Global,
     text: &mut String,
     name: Option<VariableName>,
-) -> Result<(), NoMemory> {
+) -> Result<(), NoMemory>
+    ensures { OnOk result (string_bytes text.new ≡ string_bytes text.old ++ name_text name) }
+{
     let name = match name {
         None => return Ok(()),
         Some(VariableName::Letter(place)) => letter(alloc, place)?,
-        Some(VariableName::Weak(place)) => {
-            format!(in alloc; "'_weak{}", place.saturating_add(1)).map_err(|_| NoMemory)?
+        Some(VariableName::Weak(number)) => {
+            format!(in alloc; "'_weak{number}").map_err(|_| NoMemory)?
         }
     };
     push(text, &name)
 }
 
 /// `'a` to `'z`, then `'a1` to `'z1`, and so on.
-fn letter(alloc: Global, place: u64) -> Result<String, NoMemory> {
+fn letter(alloc: Global, place: u64) -> Result<String, NoMemory>
+    ensures { IfOk result (λ s. string_bytes s ≡ letter_name place) }
+{
     let letter = char::from(b'a' + (place % 26) as u8);
     let round = place / 26;
     if round == 0 {
@@ -153,21 +172,51 @@ fn write_name(
     written: &mut Written,
     origin: &Origin,
 ) -> Result<(), NoMemory>
-    ensures { OnOk result (parts_of written.new.left ≡ parts_of written.old.left) }
+    ensures left { OnOk result (parts_of written.new.left ≡ parts_of written.old.left) }
+    ensures text { OnOk result ((f : Path → List ℕ) → f (path_of origin.now) ≡ name_in env.now (path_of origin.now) (str_bytes origin.now.name) → KnownAre f written.old.known.items →
+        (string_bytes written.new.text ≡ string_bytes written.old.text ++ f (path_of origin.now)) × KnownAre f written.new.known.items) }
 {
     if let Some(name) = known_name(&written.known, origin) {
-        return push(&mut written.text, name.as_str());
+        push(&mut written.text, name.as_str())?;
+        return Ok(());
     }
     let name = name_of(alloc, origin, env)?;
     push(&mut written.text, name.as_str())?;
-    let path = origin.path.to_vec(alloc).map_err(|_| NoMemory)?;
-    written
-        .known
-        .push(Known { path, name })
-        .map_err(|_| NoMemory)
+    remember(alloc, &mut written.known, origin, name)?;
+    Ok(())
 }
 
-fn known_name<'a>(known: &'a [Known], origin: &Origin) -> Option<&'a RcStr> {
+fn remember(
+    alloc: Global,
+    known: &mut Vec<Known>,
+    origin: &Origin,
+    name: RcStr,
+) -> Result<(), NoMemory>
+    ensures { OnOk result ((f : Path → List ℕ) → str_bytes name ≡ f (path_of origin.now) → KnownAre f known.old.items → KnownAre f known.new.items) }
+{
+    let path = copy_of(alloc, &origin.path)?;
+    add_known(known, Known { path, name })?;
+    Ok(())
+}
+
+fn add_known(known: &mut Vec<Known>, one: Known) -> Result<(), NoMemory>
+    ensures { OnOk result (known.new.items ≡ known.old.items ++ one ∷ []) }
+{
+    known.push(one).map_err(|_| NoMemory)
+}
+
+fn copy_of(alloc: Global, path: &[u64]) -> Result<Vec<u64>, NoMemory>
+    ensures { IfOk result (λ p. p.items ≡ path.now) }
+{
+    match path.to_vec(alloc) {
+        Ok(copy) => Ok(copy),
+        Err(_) => Err(NoMemory),
+    }
+}
+
+fn known_name<'a>(known: &'a [Known], origin: &Origin) -> Option<&'a RcStr>
+    ensures { IfSome result (λ n. (f : Path → List ℕ) → KnownAre f known.now → str_bytes n.now ≡ f (path_of origin.now)) }
+{
     for k in known {
         if k.path == origin.path {
             return Some(&k.name);

@@ -1,5 +1,7 @@
 //! The variables of types: their names, in the order in which they first stand in the text.
 ghost use Rattle.std.specs.Prelude.{◌++◌, ◌≡◌, [], ◌∷◌, All, OnOk, IfSome, IfNone};
+ghost use Rattle.std.specs.Prelude.{nat_eq};
+ghost use Rattle.std.specs.HashMap.{get};
 ghost use Rattle.type_nodes.specs.Nodes.{IsNode, IsSound};
 ghost use Rattle.type_nodes.specs.Views.{numbers};
 ghost use Rattle.type_print.specs.Pieces.{left_of, Visits};
@@ -8,12 +10,12 @@ use std::alloc::Global;
 use std::collections::{HashMap, HashSet};
 use type_nodes::{NoMemory, NodeRef, Store, View};
 
-/// The name of a variable, by its place among those that are named alike, from 0.
+/// The name of a variable.
 #[derive(Clone, Copy)]
 pub(crate) enum VariableName {
-    /// 'a
+    /// 'a, by its place among those with a letter, from 0
     Letter(u64),
-    /// '_weak1
+    /// '_weak1, by its number among the weak ones, from 1
     Weak(u64),
 }
 
@@ -47,7 +49,9 @@ impl Variables {
     }
 
     /// The name of a variable that was met.
-    pub(crate) fn name(&self, root: NodeRef) -> Option<VariableName> {
+    pub(crate) fn name(&self, root: NodeRef) -> Option<VariableName>
+        ensures { result ≡ get nat_eq self.now.names root.0 }
+    {
         match self.names.get(&root.0) {
             None => None,
             Some(name) => Some(*name),
@@ -95,16 +99,23 @@ impl Variables {
 
     fn add(&mut self, root: NodeRef) -> Result<(), NoMemory> {
         let name = if self.weak.contains(&root.0) {
-            let place = self.weaks;
-            self.weaks = place.saturating_add(1);
-            VariableName::Weak(place)
+            self.weaks = next(self.weaks)?;
+            VariableName::Weak(self.weaks)
         } else {
             let place = self.letters;
-            self.letters = place.saturating_add(1);
+            self.letters = next(place)?;
             VariableName::Letter(place)
         };
         self.names.insert(root.0, name).map_err(|_| NoMemory)?;
         Ok(())
+    }
+}
+
+// There is no memory for as many variables as numbers.
+fn next(count: u64) -> Result<u64, NoMemory> {
+    match count.checked_add(1) {
+        Some(next) => Ok(next),
+        None => Err(NoMemory),
     }
 }
 
