@@ -9,7 +9,7 @@ use Rattle.type_model.specs.Types.{Typ as type}
 use Rattle.type_nodes.specs.Nodes.{Node, Var, Rigid, Link, Arrow, Tuple, Con}
 use Rattle.type_nodes.specs.Links.{root, reading}
 use Rattle.type_print_model.specs.Variables.{letter_name}
-use Rattle.type_print_model.specs.Printing.{Names, text_of, most_shown}
+use Rattle.type_print_model.specs.Printing.{Names, text_of, cut, alone, most_shown}
 use Rattle.env_table.specs.declared.entries.Entry.{Entry}
 use Rattle.type_print.specs.declared.variables.VariableName.{VariableName}
 use Rattle.type_print.specs.declared.variables.VariableName.TheVariants as name
@@ -18,6 +18,11 @@ use Rattle.type_print.specs.declared.printing.Known.{Known}
 use Rattle.type_print.specs.Paths.{name_in}
 use Rattle.type_print.specs.Shown.{shown}
 use Rattle.type_print.specs.Pieces.{Part, a_type, a_head, a_text}
+
+-- each character has one byte
+abbrev pub IsAscii : List ℕ → Type 0
+IsAscii [] = Unit {0}
+IsAscii (b ∷ bs) = (b < 128) × IsAscii bs
 
 -- the text of a variable's name
 abbrev pub name_text : Option VariableName → List ℕ
@@ -37,6 +42,12 @@ KnownAre f (k ∷ ks) = (str_bytes k.name ≡ f k.path.items) × KnownAre f ks
 pub record Speaks (nodes : List Node) (env : List Entry) (vs : Variables) (ns : Names) : Type 0 where
   pub variable : (v : ℕ) → ns.variable v ≡ variable_text vs v
   pub origin : (n : ℕ) (p : Path) (name ms : List ℕ) → reading nodes n ≡ Some (Con p name ms) → ns.origin p ≡ name_in env p name
+
+-- what a type is printed as where its variables have these names, and origins the paths that the search for them finds
+abbrev pub PrintsWith : List Node → List Entry → (ℕ → List ℕ) → Typ → List ℕ → Type 0
+PrintsWith nodes env variable t text =
+    (ns : Names) → ((v : ℕ) → ns.variable v ≡ variable v) → ((n : ℕ) (p : Path) (name ms : List ℕ) → reading nodes n ≡ Some (Con p name ms) → ns.origin p ≡ name_in env p name) →
+    IsAscii (text_of ns alone t) → text ≡ cut (text_of ns alone t)
 
 -- the name of a type's constructor
 abbrev pub head_text : Names → Typ → List ℕ
@@ -82,8 +93,3 @@ parts_text nodes ns (p ∷ ps) = part_text nodes ns p ++ parts_text nodes ns ps
 -- a text that is too long has no character across the place where it is cut
 abbrev pub IsCuttable : List ℕ → Type 0
 IsCuttable bs = most_shown < length bs → IsCharBoundary bs most_shown
-
--- each character has one byte
-abbrev pub IsAscii : List ℕ → Type 0
-IsAscii [] = Unit {0}
-IsAscii (b ∷ bs) = (b < 128) × IsAscii bs

@@ -8,7 +8,7 @@ ghost use Rattle.type_print_model.specs.Variables.{letter_name};
 ghost use Rattle.type_print_model.specs.Printing.{Names, text_of, cut, alone};
 ghost use Rattle.type_print.specs.Shown.{shown};
 ghost use Rattle.type_print.specs.Paths.{name_in};
-ghost use Rattle.type_print.specs.Texts.{name_text, KnownAre, Speaks, said, IsAscii};
+ghost use Rattle.type_print.specs.Texts.{name_text, variable_text, PrintsWith, KnownAre, Speaks, said, IsAscii};
 ghost use Rattle.type_nodes.specs.Nodes.{IsNode, IsSound};
 ghost use Rattle.type_nodes.specs.Views.{numbers};
 ghost use Rattle.type_print.specs.Pieces.{parts_of, part_of, opened, IsPart};
@@ -32,10 +32,12 @@ pub fn print_type(
 ) -> Result<RcStr, NoMemory>
     requires node { IsNode store.now.nodes n.0 }
     requires weak { All (IsNode store.now.nodes) (numbers weak.now) }
+    ensures { IfOk result (λ r. (variable : ℕ → List ℕ) × PrintsWith store.now.nodes env.now variable (shown store.now.nodes n.0) (str_bytes r)) }
 {
     let mut variables = Variables::new(alloc, store, weak)?;
     variables.meet(alloc, store, n)?;
-    text_of(alloc, store, n, env, &variables)
+    let text = text_of(alloc, store, n, env, &variables)?;
+    Ok(text)
 }
 
 /// The texts of two types that share the names of their variables, the first type first.
@@ -48,6 +50,9 @@ pub fn print_two(
 ) -> Result<(RcStr, RcStr), NoMemory>
     requires first { IsNode store.now.nodes first.0 }
     requires second { IsNode store.now.nodes second.0 }
+    ensures { IfOk result (λ r. (variable : ℕ → List ℕ)
+        × PrintsWith store.now.nodes env.now variable (shown store.now.nodes first.0) (str_bytes r.0)
+        × PrintsWith store.now.nodes env.now variable (shown store.now.nodes second.0) (str_bytes r.1)) }
 {
     let mut variables = Variables::new(alloc, store, &[])?;
     variables.meet(alloc, store, first)?;
@@ -82,7 +87,7 @@ fn text_of(
     variables: &Variables,
 ) -> Result<RcStr, NoMemory>
     requires { IsNode store.now.nodes n.0 }
-    ensures { IfOk result (λ r. (ns : Names) → Speaks store.now.nodes env.now variables.now ns → IsAscii (text_of ns alone (shown store.now.nodes n.0)) → str_bytes r ≡ cut (text_of ns alone (shown store.now.nodes n.0))) }
+    ensures { IfOk result (λ r. PrintsWith store.now.nodes env.now (variable_text variables.now) (shown store.now.nodes n.0) (str_bytes r)) }
 {
     let mut written = Written {
         text: String::new(alloc),

@@ -13,4 +13,4 @@ returns c =
     let bytes = string_bytes c.args.text in
     let long : most_shown < length bytes = omega arith in
     IfOk-weaker c.shortened.result (λ (r : RcStr). str_bytes r ≡ c.front.result.now ++ codes "...") (λ (r : RcStr). IsCuttable bytes → str_bytes r ≡ cut bytes)
-        (λ r e b. e ∙ rw (c.front.ensures (rw c.deref.ensures (b long)), c.deref.ensures) (sym (cut_long bytes long))) c.shortened.ensures
+    (λ r e b. e ∙ rw (c.front.ensures (rw c.deref.ensures (b long)), c.deref.ensures) (sym (cut_long bytes long))) c.shortened.ensures
