@@ -53,8 +53,8 @@ fn search<'a>(
 ) -> Result<Option<Way>, NoMemory>
     ensures { IfOk result (λ r. option_map way_view r ≡ way_among (path_of origin.now) (str_bytes origin.now.name) (scopes_of left.old.items)) }
 {
-    while let Some(module) = take_first(left) {
-        match look(alloc, origin, left, module)? {
+    while let Some(inside) = take_first(left) {
+        match look(alloc, origin, left, inside)? {
             Some(way) => return Ok(Some(way)),
             None => {}
         }
@@ -67,11 +67,11 @@ fn look<'a>(
     alloc: Global,
     origin: &Origin,
     left: &mut VecDeque<Inside<'a>>,
-    module: Inside<'a>,
+    inside: Inside<'a>,
 ) -> Result<Option<Way>, NoMemory>
-    ensures { IfOk result (λ r. Looks (path_of origin.now) (str_bytes origin.now.name) (scope_of module.entry) (scopes_of left.old.items) (scopes_of left.new.items) (option_map way_view r)) }
+    ensures { IfOk result (λ r. Looks (path_of origin.now) (str_bytes origin.now.name) (scope_of inside.entry) (scopes_of left.old.items) (scopes_of left.new.items) (option_map way_view r)) }
 {
-    let Inside { way, entries } = module;
+    let Inside { way, entries } = inside;
     if finds(entries, origin) {
         return Ok(Some(way));
     }
