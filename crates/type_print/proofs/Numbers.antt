@@ -9,3 +9,8 @@ pub number_of : (P : ℕ → Type 0) (ns : List NodeRef) (k : ℕ) (d : NodeRef)
 number_of P [] k d all h = absurd (omega arith)
 number_of P (n ∷ ns) zero d all h = all zero zero (omega arith)
 number_of P (n ∷ ns) (suc k) d all h = number_of P ns k d (λ j e l. all (suc j) e (omega arith)) (omega arith)
+
+-- what holds of a number and of others holds of all of them
+pub all_more : (P : ℕ → Type 0) (n : ℕ) (ns : List ℕ) → P n → All P ns → All P (n ∷ ns)
+all_more P n ns h all zero d lt = h
+all_more P n ns h all (suc k) d lt = all k d (omega arith)

@@ -1,3 +1,7 @@
+ghost use Rattle.std.specs.Prelude.{◌≡◌, true, All};
+ghost use Rattle.type_nodes.specs.Nodes.{IsNode};
+ghost use Rattle.type_nodes.specs.Views.{numbers};
+
 use crate::*;
 use env_table::{Components, Declaration, Entry, Env, Kind, Place, Shape, Sig, What};
 use std::alloc::Global;
@@ -87,6 +91,40 @@ fn plain(alloc: Global) -> Result<Env, NoMemory> {
     env.add(alloc, made(alloc, 3, "table")?)
 }
 
+#[cycle(are_nodes)]
+#[tactic(auto, using(crate::proofs::Numbers::all_more))]
+fn are_nodes(store: &Store, nodes: &[NodeRef]) -> bool
+    ensures { result ≡ true → All (IsNode store.now.nodes) (numbers nodes.now) }
+{
+    match nodes {
+        [] => true,
+        [first, rest @ ..] => is_node(store, *first) && are_nodes(store, rest),
+    }
+}
+
+fn is_node(store: &Store, node: NodeRef) -> bool
+    ensures { result ≡ true → IsNode store.now.nodes node.0 }
+{
+    (node.0 as usize) < store.len()
+}
+
+fn tuple(store: &mut Store, parts: &[NodeRef]) -> Result<NodeRef, NoMemory> {
+    if are_nodes(store, parts) {
+        store.tuple(parts)
+    } else {
+        Err(NoMemory)
+    }
+}
+
+fn arrow(store: &mut Store, from: NodeRef, to: NodeRef) -> Result<NodeRef, NoMemory> {
+    let count = store.len();
+    if (from.0 as usize) < count && (to.0 as usize) < count {
+        store.arrow(from, to)
+    } else {
+        Err(NoMemory)
+    }
+}
+
 fn con(
     alloc: Global,
     store: &mut Store,
@@ -95,60 +133,65 @@ fn con(
     args: &[NodeRef],
 ) -> Result<NodeRef, NoMemory> {
     let origin = origin(alloc, number, name)?;
-    store.con(&origin, args)
+    if are_nodes(store, args) {
+        store.con(&origin, args)
+    } else {
+        Err(NoMemory)
+    }
+}
+
+fn printed(
+    alloc: Global,
+    store: &Store,
+    n: NodeRef,
+    env: &Env,
+    weak: &[NodeRef],
+) -> Result<RcStr, NoMemory> {
+    if (n.0 as usize) < store.len() && are_nodes(store, weak) {
+        print_type(alloc, store, n, env, weak)
+    } else {
+        Err(NoMemory)
+    }
+}
+
+fn is_printed(alloc: Global, store: &Store, n: NodeRef, text: &str) -> Result<bool, NoMemory> {
+    let env = plain(alloc)?;
+    Ok(printed(alloc, store, n, &env, &[])?.is(text))
 }
 
 #[test]
-fn parentheses_stand_where_they_are_needed(rt: HostRuntime) -> Result<(), Fail> {
+fn arrows_stand_in_parentheses(rt: HostRuntime) -> Result<(), Fail> {
     let alloc = rt.alloc();
     let mut store = Store::new(alloc);
-    let env = plain(alloc)?;
     let a = store.var(1, 0)?;
     let b = store.var(1, 0)?;
-    let arrow = store.arrow(a, b)?;
-    let left = store.arrow(arrow, b)?;
-    let right = store.arrow(a, arrow)?;
-    let pair = store.tuple(&[arrow, a])?;
-    let nested = store.tuple(&[pair, b])?;
-    let to_pair = store.arrow(pair, pair)?;
-    let list = con(alloc, &mut store, 2, "list", &[arrow])?;
-    let lists = con(alloc, &mut store, 2, "list", &[list])?;
-    let pairs = con(alloc, &mut store, 2, "list", &[pair])?;
-    let table = con(alloc, &mut store, 3, "table", &[arrow, pair])?;
-    let int = con(alloc, &mut store, 1, "int", &[])?;
-    assert_eq!(rt;
-        print_type(alloc, &store, left, &env, &[])?.as_str(),
-        "('a -> 'b) -> 'b"
-    );
-    assert_eq!(rt;
-        print_type(alloc, &store, right, &env, &[])?.as_str(),
-        "'a -> 'a -> 'b"
-    );
-    assert_eq!(rt;
-        print_type(alloc, &store, nested, &env, &[])?.as_str(),
-        "(('a -> 'b) * 'a) * 'b"
-    );
-    assert_eq!(rt;
-        print_type(alloc, &store, to_pair, &env, &[])?.as_str(),
-        "('a -> 'b) * 'a -> ('a -> 'b) * 'a"
-    );
-    assert_eq!(rt;
-        print_type(alloc, &store, lists, &env, &[])?.as_str(),
-        "('a -> 'b) list list"
-    );
-    assert_eq!(rt;
-        print_type(alloc, &store, pairs, &env, &[])?.as_str(),
-        "(('a -> 'b) * 'a) list"
-    );
-    assert_eq!(rt;
-        print_type(alloc, &store, table, &env, &[])?.as_str(),
-        "('a -> 'b, ('a -> 'b) * 'a) table"
-    );
-    assert_eq!(rt; print_type(alloc, &store, int, &env, &[])?.as_str(), "int");
+    let plain = arrow(&mut store, a, b)?;
+    let left = arrow(&mut store, plain, b)?;
+    let right = arrow(&mut store, a, plain)?;
+    let list = con(alloc, &mut store, 2, "list", &[plain])?;
+    assert!(rt; is_printed(alloc, &store, left, "('a -> 'b) -> 'b")?);
+    assert!(rt; is_printed(alloc, &store, right, "'a -> 'a -> 'b")?);
+    assert!(rt; is_printed(alloc, &store, list, "('a -> 'b) list")?);
     Ok(())
 }
 
-/// Nodes that are linked to one variable are one; bound and rigid variables print as others.
+#[test]
+fn tuples_stand_in_parentheses(rt: HostRuntime) -> Result<(), Fail> {
+    let alloc = rt.alloc();
+    let mut store = Store::new(alloc);
+    let a = store.var(1, 0)?;
+    let pair = tuple(&mut store, &[a, a])?;
+    let nested = tuple(&mut store, &[pair, a])?;
+    let to_pair = arrow(&mut store, pair, pair)?;
+    let list = con(alloc, &mut store, 2, "list", &[pair])?;
+    let table = con(alloc, &mut store, 3, "table", &[list, pair])?;
+    assert!(rt; is_printed(alloc, &store, nested, "('a * 'a) * 'a")?);
+    assert!(rt; is_printed(alloc, &store, to_pair, "'a * 'a -> 'a * 'a")?);
+    assert!(rt; is_printed(alloc, &store, table, "(('a * 'a) list, 'a * 'a) table")?);
+    Ok(())
+}
+
+/// Bound and rigid variables print as others; weak ones have names of their own.
 #[test]
 fn variables_are_named_as_they_come(rt: HostRuntime) -> Result<(), Fail> {
     let alloc = rt.alloc();
@@ -158,35 +201,28 @@ fn variables_are_named_as_they_come(rt: HostRuntime) -> Result<(), Fail> {
     let b = store.var(1, 0)?;
     let rigid = store.rigid()?;
     store.quantify(b)?;
-    let all = store.tuple(&[rigid, b, a, b])?;
+    let all = tuple(&mut store, &[rigid, b, a, b])?;
     assert_eq!(rt;
-        print_type(alloc, &store, all, &env, &[])?.as_str(),
+        printed(alloc, &store, all, &env, &[])?.as_str(),
         "'a * 'b * 'c * 'b"
     );
     assert_eq!(rt;
-        print_type(alloc, &store, all, &env, &[a])?.as_str(),
+        printed(alloc, &store, all, &env, &[a])?.as_str(),
         "'a * 'b * '_weak1 * 'b"
     );
     Ok(())
 }
 
 #[test]
-fn linked_variables_are_one(rt: HostRuntime) -> Result<(), Fail> {
+fn two_types_share_their_variables(rt: HostRuntime) -> Result<(), Fail> {
     let alloc = rt.alloc();
     let mut store = Store::new(alloc);
     let env = plain(alloc)?;
     let a = store.var(1, 0)?;
     let b = store.var(1, 0)?;
-    let pair = store.tuple(&[a, b])?;
-    let other = store.arrow(b, a)?;
-    let (first, second) = print_two(alloc, &store, other, pair, &env)?;
-    assert_eq!(rt; first.as_str(), "'a -> 'b");
-    assert_eq!(rt; second.as_str(), "'b * 'a");
-    store.bind(a, b)?;
-    assert_eq!(rt;
-        print_type(alloc, &store, pair, &env, &[a])?.as_str(),
-        "'_weak1 * '_weak1"
-    );
+    let (first, second) = print_two(alloc, &store, b, a, &env)?;
+    assert_eq!(rt; first.as_str(), "'a");
+    assert_eq!(rt; second.as_str(), "'b");
     Ok(())
 }
 
@@ -199,8 +235,8 @@ fn letters_have_numbers_behind_z(rt: HostRuntime) -> Result<(), Fail> {
     for _ in 0..54 {
         nodes.push(store.var(1, 0)?)?;
     }
-    let all = store.tuple(&nodes)?;
-    let text = print_type(alloc, &store, all, &env, &[])?;
+    let all = tuple(&mut store, &nodes)?;
+    let text = printed(alloc, &store, all, &env, &[])?;
     assert!(rt; text.as_str().starts_with("'a * 'b * 'c * "));
     assert!(rt;
         text.as_str().ends_with(
@@ -218,9 +254,9 @@ fn long_texts_are_cut_at_once(rt: HostRuntime) -> Result<(), Fail> {
     let env = plain(alloc)?;
     let mut twice = store.var(1, 0)?;
     for _ in 0..40 {
-        twice = store.tuple(&[twice, twice])?;
+        twice = tuple(&mut store, &[twice, twice])?;
     }
-    let text = print_type(alloc, &store, twice, &env, &[])?;
+    let text = printed(alloc, &store, twice, &env, &[])?;
     assert_eq!(rt; text.as_str().len(), 4099);
     assert!(rt;
         text.as_str().starts_with("((((((((((((((((((((((((((((((((((((((('a * 'a) * ('a * 'a)) * ")
@@ -230,7 +266,7 @@ fn long_texts_are_cut_at_once(rt: HostRuntime) -> Result<(), Fail> {
     for _ in 0..20_000 {
         lists = con(alloc, &mut store, 2, "list", &[lists])?;
     }
-    let text = print_type(alloc, &store, lists, &env, &[])?;
+    let text = printed(alloc, &store, lists, &env, &[])?;
     assert_eq!(rt; text.as_str().len(), 4099);
     assert!(rt; text.as_str().starts_with("int list list list list"));
     assert!(rt; text.as_str().ends_with(" list li..."));
