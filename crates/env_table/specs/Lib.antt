@@ -1,2 +1,4 @@
 pub mod Views
+pub mod Index
+pub mod Scopes
 pub mod Labels

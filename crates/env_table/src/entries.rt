@@ -70,6 +70,7 @@ pub struct Declaration {
 }
 
 /// What a name stands for.
+#[cycle(entries)]
 #[derive(Drop)]
 pub enum What {
     /// x: the root of its scheme, whose bound variables are the scheme's own
@@ -77,16 +78,19 @@ pub enum What {
     /// A: the declaration that has it, and its place there
     Constructor(Rc<Declaration>, u32),
     /// A, an exception
-    Exception(Constructor),
+    Exception(Rc<Constructor>),
     /// l: the declaration that has it, and its place there
     Label(Rc<Declaration>, u32),
     /// t
     Type(Rc<Declaration>),
-    /// a module or a module type that isn't known
-    Hole,
+    /// M
+    Module(Rc<Sig>),
+    /// S
+    ModuleType(Rc<Template>),
 }
 
 /// A name in scope.
+#[cycle(entries)]
 #[derive(Drop)]
 pub struct Entry {
     pub name: RcStr,
@@ -95,10 +99,37 @@ pub struct Entry {
     pub what: What,
 }
 
+/// The entries of a structure's components in order, the oldest first: a type's name stands before its constructors or labels.
+#[cycle(entries)]
+#[derive(Drop)]
+pub struct Components {
+    pub entries: Vec<Rc<Entry>>,
+}
+
+/// What is known of a module.
+#[cycle(entries)]
+#[derive(Drop)]
+pub enum Sig {
+    /// sig .. end
+    Structure(Components),
+    /// functor (X : P) -> B: the parameter made at its node, and the body with the origins that an application makes anew
+    Functor(Rc<Template>, Rc<Template>),
+    /// of a module that isn't known
+    Hole,
+}
+
+/// A signature with the origins that it makes anew at each place where it is used.
+#[cycle(entries)]
+#[derive(Drop)]
+pub struct Template {
+    pub made: Vec<Origin>,
+    pub sig: Rc<Sig>,
+}
+
 /// What a name comes to.
 #[derive(Clone, Copy)]
 pub enum Found<'a> {
-    Entry(&'a Entry),
+    Entry(&'a Rc<Entry>),
     /// It stands in a module that isn't known, and may be anything.
     Hole,
     Nothing,

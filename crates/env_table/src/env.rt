@@ -1,111 +1,116 @@
 //! Environments: immutable lists of entries that share their ends.
-ghost use Rattle.std.specs.Prelude.{◌≡◌, ◌∷◌, [], option_map, IfOk};
-ghost use Rattle.signature_model.specs.Lookups.{newest_by, same_kind};
-ghost use Rattle.env_table.specs.Views.{entries_of, links_view, is_named, kind_of};
+ghost use Rattle.std.specs.Prelude.{◌≡◌, ◌∷◌, ◌++◌, [], List, option_map, IfOk};
+ghost use Rattle.std.specs.List.{filter};
+ghost use Rattle.signature_model.specs.Lookups.{newest_by};
+ghost use Rattle.std.specs.Coded.{codes};
+ghost use Rattle.env_table.specs.contracts.entries.What as what;
+ghost use Rattle.env_table.specs.declared.entries.Entry.{Entry};
+ghost use Rattle.env_table.specs.Views.{links_view, newest_first, names_of, names_in, inside_sig, is_named, kind_of};
+ghost use Rattle.env_table.specs.Index.{bits_of, hash_of, stands_at, IsIndex};
 
-use crate::entries::{Entry, Kind};
+use crate::entries::{Entry, Kind, Sig};
+use crate::index::{self, BITS, Index, bucket, hash};
+use crate::links::{Links, linked_before, share_entry, share_links};
+use crate::walk::{Entries, linked};
 use std::alloc::Global;
+use std::marker::Model;
 use std::rc::Rc;
 use text_terms::NoMemory;
-
-/// Entries, the newest first.
-pub(crate) type Links = Option<Rc<Link>>;
-
-/// An entry on those before it.
-pub(crate) struct Link {
-    pub(crate) entry: Entry,
-    pub(crate) before: Links,
-}
-
-// A text may have as many names as tokens, so no call is made for each.
-impl Drop for Link {
-    fn drop(mut self) {
-        loop {
-            match self {
-                Link { entry: _, before } => match before {
-                    None => return,
-                    Some(link) => match Rc::into_inner(link) {
-                        None => return,
-                        Some(rest) => self = rest,
-                    },
-                },
-            }
-        }
-    }
-}
 
 /// The names in scope. It is never written: a call that adds a name makes a new one, which shares its entries.
 #[derive(Drop)]
 pub struct Env {
-    pub(crate) links: Links,
+    links: Links,
+    /// The same entries by their kinds and names.
+    index: Index,
+}
+
+impl Model for Env {
+    /// The entries, the newest first.
+    ghost Value = { List Entry };
+
+    ghost coded = { Prim.hlevel (codes, what.the_row.coded) };
+
+    ghost view = { λ e. links_view e.links };
+
+    ghost invariant = { λ e. IsIndex e.index e.links };
 }
 
 impl Env {
     /// No name.
     pub fn empty() -> Env
-        ensures { entries_of result ≡ [] }
+        ensures { result ≡ [] }
     {
-        Env { links: None }
+        Env {
+            links: None,
+            index: None,
+        }
     }
 
     /// One owner more of the same entries.
     pub fn share(&self) -> Result<Env, NoMemory>
-        ensures { IfOk result (λ r. entries_of r ≡ entries_of self.now) }
+        ensures { IfOk result (λ r. r ≡ self.now) }
     {
         Ok(Env {
             links: share_links(&self.links)?,
+            index: index::share(&self.index)?,
         })
     }
 
     /// The same names and a newer one.
-    pub fn add(&self, alloc: Global, entry: Entry) -> Result<Env, NoMemory>
-        ensures { IfOk result (λ r. entries_of r ≡ entry ∷ entries_of self.now) }
+    pub fn add(&self, alloc: Global, entry: Rc<Entry>) -> Result<Env, NoMemory>
+        ensures { IfOk result (λ r. r ≡ entry.value ∷ self.now) }
     {
-        let link = Link {
-            entry,
-            before: share_links(&self.links)?,
-        };
-        match Rc::new(alloc, link) {
-            Ok(link) => Ok(Env { links: Some(link) }),
-            Err(_) => Err(NoMemory),
+        let key = hash(entry.kind, entry.name.as_str());
+        let index = index::with(alloc, &self.index, BITS, key, share_entry(&entry)?)?;
+        Ok(Env {
+            links: linked_before(alloc, entry, &self.links)?,
+            index,
+        })
+    }
+
+    /// The same names and those inside a module, of which the newest component is the newest. A functor and a module that isn't
+    /// known add nothing.
+    pub fn open_module(&self, alloc: Global, sig: &Sig) -> Result<Env, NoMemory>
+        ensures { IfOk result (λ r. r ≡ names_in (inside_sig sig.now) ++ self.now) }
+    {
+        match sig {
+            Sig::Structure(components) => self.add_all(alloc, &components.entries),
+            Sig::Functor(_, _) => self.share(),
+            Sig::Hole => self.share(),
         }
+    }
+
+    /// The same names and newer ones, the newest of which is the last.
+    fn add_all(&self, alloc: Global, entries: &[Rc<Entry>]) -> Result<Env, NoMemory>
+        ensures { IfOk result (λ r. r ≡ newest_first entries.now ++ self.now) }
+    {
+        let mut env = self.share()?;
+        for entry in entries {
+            env = env.add(alloc, share_entry(entry)?)?;
+        }
+        Ok(env)
     }
 
     /// The newest entry of a kind and a name.
-    pub fn newest(&self, kind: Kind, name: &str) -> Option<&Entry>
-        ensures { option_map (λ e. e.now) result ≡ newest_by (is_named (kind_of kind) name.now) (entries_of self.now) }
+    #[tactic(auto, using(crate::proofs::Newest::newest_named))]
+    pub fn newest(&self, kind: Kind, name: &str) -> Option<&Rc<Entry>>
+        ensures { option_map (λ e. e.now.value) result ≡ newest_by (is_named (kind_of kind) name.now) self.now }
     {
-        let mut rest = &self.links;
-        while let Some(link) = rest {
-            if is_named(&link.entry, kind, name) {
-                return Some(&link.entry);
-            }
-            rest = &link.before;
-        }
-        None
+        self.with_hash(kind, name).newest(kind, name)
     }
-}
 
-fn same_kind(a: Kind, b: Kind) -> bool
-    ensures { result ≡ same_kind (kind_of a) (kind_of b) }
-{
-    a == b
-}
+    /// All entries, the newest first.
+    pub fn entries(&self) -> Entries<'_>
+        ensures { names_of result ≡ self.now }
+    {
+        linked(&self.links)
+    }
 
-fn is_named(entry: &Entry, kind: Kind, name: &str) -> bool
-    ensures { result ≡ is_named (kind_of kind) name.now entry.now }
-{
-    same_kind(kind, entry.kind) && entry.name.is(name)
-}
-
-fn share_links(links: &Links) -> Result<Links, NoMemory>
-    ensures { IfOk result (λ r. links_view r ≡ links_view links.now) }
-{
-    match links {
-        None => Ok(None),
-        Some(link) => match Rc::clone(link) {
-            Ok(link) => Ok(Some(link)),
-            Err(_) => Err(NoMemory),
-        },
+    /// The entries with the hash of a kind and a name.
+    pub(crate) fn with_hash(&self, kind: Kind, name: &str) -> Entries<'_>
+        ensures { names_of result ≡ filter (stands_at (bits_of 16 (hash_of (kind_of kind) name.now))) self.now }
+    {
+        bucket(&self.index, BITS, hash(kind, name))
     }
 }

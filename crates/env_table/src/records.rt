@@ -4,12 +4,15 @@ ghost use Rattle.text_terms.specs.Bytes.{str_bytes};
 ghost use Rattle.type_terms.specs.Views.{path_of};
 ghost use Rattle.signature_model.specs.Lookups.{newest_by};
 ghost use Rattle.signature_model.specs.Records.{first_path, path_for, is_label_of, has_label, has_each, belongs_to, has_name, newest_label, is_there, is_known, each_scope, is_of_type, record_by};
-ghost use Rattle.env_table.specs.Views.{entries_of, scope_view, found_view};
-ghost use Rattle.env_table.specs.Labels.{labelled, record_of, written_of, scope_for, has_all};
+ghost use Rattle.env_table.specs.Views.{names_of, found_view, kind_of};
+ghost use Rattle.env_table.specs.Scopes.{scope_view};
+ghost use Rattle.env_table.specs.Labels.{labelled, record_of, written_of, scope_for, has_all, candidates};
 
 use crate::entries::{Entry, Found, Kind, Path, What};
 use crate::env::Env;
-use crate::lookup::Scope;
+use crate::lookup::{Scope, found};
+use crate::walk::Entries;
+use std::rc::Rc;
 use text_terms::RcStr;
 use type_nodes::Origin;
 
@@ -18,7 +21,7 @@ impl Env {
     /// type in scope. A label without modules beside labels with some has the first such path. It is nothing where there is no such
     /// type or a label's module isn't there, and otherwise a hole where one of these modules isn't known.
     pub fn record_type(&self, labels: &[Path]) -> Found<'_>
-        ensures { found_view result ≡ record_by labelled (entries_of self.now) (scope_for (entries_of self.now) (map written_of labels.now)) (map written_of labels.now) }
+        ensures { found_view result ≡ record_by labelled (self.now) (scope_for (self.now) (map written_of labels.now)) (map written_of labels.now) }
     {
         if !all_are_there(self, labels) {
             return Found::Nothing;
@@ -27,7 +30,7 @@ impl Env {
             return Found::Hole;
         }
         match labels.first() {
-            None => newest_label(self, labels, None, Scope::Known(self)),
+            None => newest_label(self, labels, None, Scope::Env(self)),
             Some(first) => newest_label(
                 self,
                 labels,
@@ -52,7 +55,7 @@ fn first_path(labels: &[Path]) -> &[RcStr]
 
 /// Where a label is looked for.
 fn scope_of<'a>(env: &'a Env, labels: &[Path], label: &Path) -> Scope<'a>
-    ensures { scope_view result ≡ scope_for (entries_of env.now) (map written_of labels.now) (written_of label.now) }
+    ensures { scope_view result ≡ scope_for env.now (map written_of labels.now) (written_of label.now) }
 {
     if label.modules.is_empty() {
         env.scope_behind(first_path(labels))
@@ -62,7 +65,7 @@ fn scope_of<'a>(env: &'a Env, labels: &[Path], label: &Path) -> Scope<'a>
 }
 
 fn all_are_there(env: &Env, labels: &[Path]) -> bool
-    ensures { result ≡ each_scope is_there (scope_for (entries_of env.now) (map written_of labels.now)) (map written_of labels.now) }
+    ensures { result ≡ each_scope is_there (scope_for env.now (map written_of labels.now)) (map written_of labels.now) }
 {
     for label in labels {
         if !is_there(scope_of(env, labels, label)) {
@@ -73,7 +76,7 @@ fn all_are_there(env: &Env, labels: &[Path]) -> bool
 }
 
 fn all_are_known(env: &Env, labels: &[Path]) -> bool
-    ensures { result ≡ each_scope is_known (scope_for (entries_of env.now) (map written_of labels.now)) (map written_of labels.now) }
+    ensures { result ≡ each_scope is_known (scope_for env.now (map written_of labels.now)) (map written_of labels.now) }
 {
     for label in labels {
         if !is_known(scope_of(env, labels, label)) {
@@ -87,9 +90,8 @@ fn is_there(scope: Scope<'_>) -> bool
     ensures { result ≡ is_there (scope_view scope.entry) }
 {
     match scope {
-        Scope::Known(_) => true,
-        Scope::Unknown => true,
         Scope::Absent => false,
+        _ => true,
     }
 }
 
@@ -97,23 +99,31 @@ fn is_known(scope: Scope<'_>) -> bool
     ensures { result ≡ is_known (scope_view scope.entry) }
 {
     match scope {
-        Scope::Known(_) => true,
         Scope::Unknown => false,
-        Scope::Absent => true,
+        _ => true,
     }
 }
 
 /// The newest label in a scope, of the name where one is given, whose record type has every label.
+#[tactic(auto, using(crate::proofs::Newest::newest_with_all))]
 fn newest_label<'a>(env: &Env, labels: &[Path], name: Option<&str>, scope: Scope<'a>) -> Found<'a>
-    ensures { found_view result ≡ newest_label labelled (scope_for (entries_of env.now) (map written_of labels.now)) (map written_of labels.now) (option_map (λ n. n.now) name.entry) (scope_view scope.entry) }
+    ensures { found_view result ≡ newest_label labelled (scope_for env.now (map written_of labels.now)) (map written_of labels.now) (option_map (λ n. n.now) name.entry) (scope_view scope.entry) }
 {
     match scope {
-        Scope::Known(among) => match newest_with_all(env, labels, name, among) {
-            Some(entry) => Found::Entry(entry),
-            None => Found::Nothing,
-        },
+        Scope::Env(among) => found(newest_with_all(env, labels, name, candidates(among, name))),
+        Scope::Inside(entries) => found(newest_with_all(env, labels, name, entries)),
         Scope::Unknown => Found::Hole,
         Scope::Absent => Found::Nothing,
+    }
+}
+
+/// The entries among which the newest label is, of the name where one is given.
+fn candidates<'a>(env: &'a Env, name: Option<&str>) -> Entries<'a>
+    ensures { names_of result ≡ candidates (option_map (λ n. n.now) name.entry) env.now }
+{
+    match name {
+        None => env.entries(),
+        Some(name) => env.with_hash(Kind::Label, name),
     }
 }
 
@@ -121,23 +131,23 @@ fn newest_with_all<'a>(
     env: &Env,
     labels: &[Path],
     name: Option<&str>,
-    among: &'a Env,
-) -> Option<&'a Entry>
-    ensures { option_map (λ e. e.now) result ≡ newest_by (has_all (entries_of env.now) (map written_of labels.now) (option_map (λ n. n.now) name.entry)) (entries_of among.now) }
+    among: Entries<'a>,
+) -> Option<&'a Rc<Entry>>
+    ensures { option_map (λ e. e.now.value) result ≡ newest_by (has_all env.now (map written_of labels.now) (option_map (λ n. n.now) name.entry)) (names_of among.entry) }
 {
-    let mut rest = &among.links;
-    while let Some(link) = rest {
-        if has_all(env, labels, name, &link.entry) {
-            return Some(&link.entry);
+    let mut rest = among;
+    while let Some((entry, older)) = rest.split_first() {
+        if has_all(env, labels, name, entry) {
+            return Some(entry);
         }
-        rest = &link.before;
+        rest = older;
     }
     None
 }
 
 /// Whether an entry is a label, of the name where one is given, whose record type has every label.
 fn has_all(env: &Env, labels: &[Path], name: Option<&str>, entry: &Entry) -> bool
-    ensures { result ≡ has_all (entries_of env.now) (map written_of labels.now) (option_map (λ n. n.now) name.entry) entry.now }
+    ensures { result ≡ has_all env.now (map written_of labels.now) (option_map (λ n. n.now) name.entry) entry.now }
 {
     has_name(name, entry.name.as_str()) && belongs_to(env, labels, record_of(entry))
 }
@@ -152,7 +162,7 @@ fn has_name(wanted: Option<&str>, name: &str) -> bool
 }
 
 fn belongs_to(env: &Env, labels: &[Path], made: Option<&Origin>) -> bool
-    ensures { result ≡ belongs_to labelled (scope_for (entries_of env.now) (map written_of labels.now)) (map written_of labels.now) (option_map (λ o. path_of o.now) made.entry) }
+    ensures { result ≡ belongs_to labelled (scope_for env.now (map written_of labels.now)) (map written_of labels.now) (option_map (λ o. path_of o.now) made.entry) }
 {
     match made {
         None => false,
@@ -162,7 +172,7 @@ fn belongs_to(env: &Env, labels: &[Path], made: Option<&Origin>) -> bool
 
 /// Whether a record type has every label.
 fn has_each(env: &Env, labels: &[Path], made: &Origin) -> bool
-    ensures { result ≡ has_each labelled (scope_for (entries_of env.now) (map written_of labels.now)) (path_of made.now) (map written_of labels.now) }
+    ensures { result ≡ has_each labelled (scope_for env.now (map written_of labels.now)) (path_of made.now) (map written_of labels.now) }
 {
     for label in labels {
         if !has_label(made, label.last.as_str(), scope_of(env, labels, label)) {
@@ -172,25 +182,27 @@ fn has_each(env: &Env, labels: &[Path], made: &Origin) -> bool
     true
 }
 
+#[tactic(auto, using(crate::proofs::Newest::newest_label_of))]
 fn has_label(made: &Origin, name: &str, scope: Scope<'_>) -> bool
     ensures { result ≡ has_label labelled (path_of made.now) name.now (scope_view scope.entry) }
 {
     match scope {
-        Scope::Known(env) => newest_of_record(env, made, name).is_some(),
+        Scope::Env(env) => { newest_of_record(candidates(env, Some(name)), made, name).is_some() }
+        Scope::Inside(entries) => newest_of_record(entries, made, name).is_some(),
         Scope::Unknown => false,
         Scope::Absent => false,
     }
 }
 
-fn newest_of_record<'a>(env: &'a Env, made: &Origin, name: &str) -> Option<&'a Entry>
-    ensures { option_map (λ e. e.now) result ≡ newest_by (is_label_of labelled (path_of made.now) name.now) (entries_of env.now) }
+fn newest_of_record<'a>(among: Entries<'a>, made: &Origin, name: &str) -> Option<&'a Rc<Entry>>
+    ensures { option_map (λ e. e.now.value) result ≡ newest_by (is_label_of labelled (path_of made.now) name.now) (names_of among.entry) }
 {
-    let mut rest = &env.links;
-    while let Some(link) = rest {
-        if is_label_of(&link.entry, made, name) {
-            return Some(&link.entry);
+    let mut rest = among;
+    while let Some((entry, older)) = rest.split_first() {
+        if is_label_of(entry, made, name) {
+            return Some(entry);
         }
-        rest = &link.before;
+        rest = older;
     }
     None
 }

@@ -1,0 +1,4 @@
+mod Bits
+mod Forks
+mod Newest
+mod Lost

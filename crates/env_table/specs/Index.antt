@@ -1,0 +1,78 @@
+-- The index of an environment: its entries by the bits of their hashes.
+use Rattle.std.specs.Prelude.{ℕ, zero, suc, ◌+◌, ◌*◌, ◌/◌, ◌%◌, ◌==◌, Bool, true, false, List, [], ◌∷◌, Option, Some, None, if◌then◌else◌, ◌≡◌}
+use Rattle.std.specs.List.{filter}
+use Rattle.std.specs.declared.rc.Rc.{Rc}
+use Rattle.std.specs.declared.alloc.Global.{Global}
+use Rattle.text_terms.specs.Bytes.{str_bytes}
+use Rattle.signature_model.specs.Declarations.{Name}
+use Rattle.signature_model.specs.Entries as rules
+use Rattle.env_table.specs.declared.entries.Entry.{Entry}
+use Rattle.env_table.specs.declared.links.Link.{Link}
+use Rattle.env_table.specs.declared.index.Fork.{Fork, fold-Fork}
+use Rattle.env_table.specs.declared.index.Fork.TheOpen.{Fork-F}
+use Rattle.env_table.specs.Views.{links_view, kind_of}
+
+-- a number for each kind
+abbrev pub code_of : rules.Kind → ℕ
+code_of rules.value_kind = 0
+code_of rules.constructor_kind = 1
+code_of rules.label_kind = 2
+code_of rules.type_kind = 3
+code_of rules.module_kind = 4
+code_of rules.module_type_kind = 5
+
+abbrev pub hash_from : ℕ → List ℕ → ℕ
+hash_from h [] = h
+hash_from h (b ∷ bs) = hash_from ((h * 403 + b) % 65536) bs
+
+abbrev pub hash_of : rules.Kind → Name → ℕ
+hash_of k n = hash_from (code_of k) n
+
+abbrev pub hash_of_entry : Entry → ℕ
+hash_of_entry e = hash_of (kind_of e.kind) (str_bytes e.name)
+
+-- the lowest bits of a number, so many of them
+unfoldable pub bits_of : ℕ → ℕ → List Bool
+bits_of zero h = []
+bits_of (suc n) h = (h % 2 == 1) ∷ bits_of n (h / 2)
+
+abbrev pub same_bits : List Bool → List Bool → Bool
+same_bits [] [] = true
+same_bits [] (k ∷ ks) = false
+same_bits (j ∷ js) [] = false
+same_bits (true ∷ js) (true ∷ ks) = same_bits js ks
+same_bits (true ∷ js) (false ∷ ks) = false
+same_bits (false ∷ js) (true ∷ ks) = false
+same_bits (false ∷ js) (false ∷ ks) = same_bits js ks
+
+-- the entries behind bits, in an index behind a shared pointer
+abbrev pub shared_at : Option (Rc (List Bool → List Entry) Global) → List Bool → List Entry
+shared_at None ks = []
+shared_at (Some r) ks = r.value ks
+
+abbrev pub fork_step : Fork-F (List Bool → List Entry) → List Bool → List Entry
+fork_step f [] = links_view f.bucket
+fork_step f (true ∷ ks) = shared_at f.odd ks
+fork_step f (false ∷ ks) = shared_at f.even ks
+
+abbrev pub fork_at : Fork → List Bool → List Entry
+fork_at = fold-Fork (List Bool → List Entry) fork_step
+
+abbrev pub Index : Type 0
+Index = Option (Rc Fork Global)
+
+abbrev pub index_at : Index → List Bool → List Entry
+index_at None ks = []
+index_at (Some r) ks = fork_at r.value ks
+
+-- an index with an entry more behind some bits, the newest there
+abbrev pub Adds : (List Bool → List Entry) → List Bool → Entry → (List Bool → List Entry) → Type 0
+Adds before key e after = (ks : List Bool) → after ks ≡ (if same_bits ks key then e ∷ before ks else before ks)
+
+-- whether an entry stands behind these bits
+abbrev pub stands_at : List Bool → Entry → Bool
+stands_at ks e = same_bits ks (bits_of 16 (hash_of_entry e))
+
+-- an index of entries has behind each bits the entries that stand there, in order
+unfoldable pub IsIndex : Index → Option (Rc Link Global) → Type 0
+IsIndex index links = (ks : List Bool) → index_at index ks ≡ filter (stands_at ks) (links_view links)

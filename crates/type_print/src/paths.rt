@@ -1,0 +1,230 @@
+//! The paths by which types are named.
+ghost use Rattle.std.specs.Str.{bytes_eq};
+ghost use Rattle.signature_model.specs.Declarations.{Name};
+ghost use Rattle.std.specs.Prelude.{if◌then◌else◌, true, false, ◌≡◌, ◌∷◌, ◌++◌, [], Some, None, IfSome, IfNone, IfOk, OnOk, option_map};
+ghost use Rattle.text_terms.specs.Bytes.{str_bytes};
+ghost use Rattle.type_terms.specs.Views.{path_of};
+ghost use Rattle.signature_model.specs.Records.{is_of_type};
+ghost use Rattle.env_table.specs.Views.{names_of, inside};
+ghost use Rattle.type_print.specs.Ways.{way_view};
+ghost use Rattle.type_print.specs.Paths.{makes_of, is_module, contents, modules_behind, finds, way_among, name_in, named};
+ghost use Rattle.type_print.specs.Scopes.{scope_of, scopes_of, has, Looks};
+
+use crate::cut::push;
+use crate::ways::{Way, into_module, share, text_of_way};
+use env_table::{Entries, Entry, Env, Kind, What};
+use std::alloc::Global;
+use std::collections::{HashSet, VecDeque};
+use std::rc::Rc;
+use text_terms::RcStr;
+use type_nodes::{NoMemory, Origin};
+
+/// A module that is still to be searched.
+#[derive(Drop)]
+struct Inside<'a> {
+    way: Way,
+    entries: Entries<'a>,
+}
+
+/// The name of an origin: the shortest path that finds the declaration that makes it, of these the newest from the outermost
+/// module inward; where no path does, the name that its declaration has and `/hidden`.
+#[tactic(auto, using(crate::proofs::Searching::name_here, crate::proofs::Searching::name_later))]
+pub fn name_of(alloc: Global, origin: &Origin, env: &Env) -> Result<RcStr, NoMemory>
+    ensures { IfOk result (λ r. str_bytes r ≡ name_in env.now (path_of origin.now) (str_bytes origin.now.name)) }
+{
+    let name = origin.name.as_str();
+    if finds_in_scope(env, origin) {
+        return origin.name.share();
+    }
+    let mut left = VecDeque::new(alloc);
+    add_modules(alloc, &mut left, &None, env.entries())?;
+    match search(alloc, origin, &mut left)? {
+        Some(way) => dotted(alloc, &way, name),
+        None => hidden(alloc, name),
+    }
+}
+
+/// The way to the first of the modules that are left, or of those in them, in which the declaration that makes an origin is found.
+#[tactic(auto, using(crate::proofs::Searching::way_step, crate::proofs::Searching::way_none, crate::proofs::Searching::searched_less))]
+fn search<'a>(
+    alloc: Global,
+    origin: &Origin,
+    left: &mut VecDeque<Inside<'a>>,
+) -> Result<Option<Way>, NoMemory>
+    ensures { IfOk result (λ r. option_map way_view r ≡ way_among (path_of origin.now) (str_bytes origin.now.name) (scopes_of left.old.items)) }
+{
+    while let Some(inside) = take_first(left) {
+        match look(alloc, origin, left, inside)? {
+            Some(way) => return Ok(Some(way)),
+            None => {}
+        }
+    }
+    Ok(None)
+}
+
+/// The way to a module in which the declaration that makes an origin is found; where it isn't, the modules in it come last.
+fn look<'a>(
+    alloc: Global,
+    origin: &Origin,
+    left: &mut VecDeque<Inside<'a>>,
+    inside: Inside<'a>,
+) -> Result<Option<Way>, NoMemory>
+    ensures { IfOk result (λ r. Looks (path_of origin.now) (str_bytes origin.now.name) (scope_of inside.entry) (scopes_of left.old.items) (scopes_of left.new.items) (option_map way_view r)) }
+{
+    let Inside { way, entries } = inside;
+    if finds(entries, origin) {
+        return Ok(Some(way));
+    }
+    add_modules(alloc, left, &way, entries)?;
+    Ok(None)
+}
+
+fn take_first<'a>(left: &mut VecDeque<Inside<'a>>) -> Option<Inside<'a>>
+    ensures some { IfSome result (λ m. scopes_of left.old.items ≡ scope_of m ∷ scopes_of left.new.items) }
+    ensures none { IfNone result (scopes_of left.old.items ≡ []) }
+{
+    left.pop_front()
+}
+
+fn finds_in_scope(env: &Env, origin: &Origin) -> bool
+    ensures { result ≡ finds (path_of origin.now) (str_bytes origin.now.name) env.now }
+{
+    makes(env.newest(Kind::TypeName, origin.name.as_str()), origin)
+}
+
+/// Whether the newest type of an origin's name is the one that makes it.
+fn finds(entries: Entries<'_>, origin: &Origin) -> bool
+    ensures { result ≡ finds (path_of origin.now) (str_bytes origin.now.name) (names_of entries.entry) }
+{
+    makes(entries.newest(Kind::TypeName, origin.name.as_str()), origin)
+}
+
+/// Whether an entry is the declaration that makes an origin.
+fn makes(entry: Option<&Rc<Entry>>, origin: &Origin) -> bool
+    ensures { result ≡ is_of_type (path_of origin.now) (makes_of (option_map (λ e. e.now.value) entry.entry)) }
+{
+    match entry {
+        None => false,
+        Some(entry) => is_same(made_by(entry), origin),
+    }
+}
+
+fn made_by(entry: &Entry) -> Option<&Origin>
+    ensures { option_map (λ o. path_of o.now) result ≡ makes_of (Some entry.now) }
+{
+    match &entry.what {
+        What::Type(declaration) => declaration.origin.as_ref(),
+        What::Scheme(_) => None,
+        What::Constructor(_, _) => None,
+        What::Exception(_) => None,
+        What::Label(_, _) => None,
+        What::Module(_) => None,
+        What::ModuleType(_) => None,
+    }
+}
+
+fn is_same(made: Option<&Origin>, origin: &Origin) -> bool
+    ensures { result ≡ is_of_type (path_of origin.now) (option_map (λ o. path_of o.now) made.entry) }
+{
+    match made {
+        None => false,
+        Some(made) => origin.path == made.path,
+    }
+}
+
+/// The modules among entries that a newer one doesn't hide, the newest first.
+fn add_modules<'a>(
+    alloc: Global,
+    left: &mut VecDeque<Inside<'a>>,
+    way: &Way,
+    entries: Entries<'a>,
+) -> Result<(), NoMemory>
+    ensures { OnOk result (scopes_of left.new.items ≡ scopes_of left.old.items ++ modules_behind (way_view way.now) [] (names_of entries.entry)) }
+{
+    let mut names = HashSet::new(alloc);
+    let mut rest = entries;
+    while let Some((entry, older)) = rest.split_first() {
+        if is_module(entry) && is_new(&mut names, entry.name.as_str())? {
+            add_module(alloc, left, way, entry)?;
+        }
+        rest = older;
+    }
+    Ok(())
+}
+
+fn is_module(entry: &Entry) -> bool
+    ensures { result ≡ is_module entry.now }
+{
+    match entry.kind {
+        Kind::Module => true,
+        Kind::Value => false,
+        Kind::Constructor => false,
+        Kind::Label => false,
+        Kind::TypeName => false,
+        Kind::ModuleType => false,
+    }
+}
+
+/// Whether a name wasn't there; it is after this.
+fn is_new<'a>(names: &mut HashSet<&'a str>, name: &'a str) -> Result<bool, NoMemory>
+    ensures new { IfOk result (λ new. new ≡ (if has names.old name.now then false else true)) }
+    ensures added { OnOk result ((q : Name) → has names.new q ≡ (if bytes_eq name.now q then true else has names.old q)) }
+{
+    if names.contains(name) {
+        return Ok(false);
+    }
+    match names.insert(name) {
+        Ok(_) => Ok(true),
+        Err(_) => Err(NoMemory),
+    }
+}
+
+fn add_module<'a>(
+    alloc: Global,
+    left: &mut VecDeque<Inside<'a>>,
+    way: &Way,
+    entry: &'a Entry,
+) -> Result<(), NoMemory>
+    ensures { OnOk result (scopes_of left.new.items ≡ scopes_of left.old.items ++ (str_bytes entry.now.name ∷ way_view way.now, contents entry.now) ∷ []) }
+{
+    let module = Inside {
+        way: into_module(alloc, &entry.name, way)?,
+        entries: contents(entry),
+    };
+    match left.push_back(module) {
+        Ok(()) => Ok(()),
+        Err(_) => Err(NoMemory),
+    }
+}
+
+/// What stands in an entry, where that is known.
+fn contents(entry: &Entry) -> Entries<'_>
+    ensures { names_of result ≡ contents entry.now }
+{
+    match &entry.what {
+        What::Module(sig) => sig.entries(),
+        What::Scheme(_) => Entries::none(),
+        What::Constructor(_, _) => Entries::none(),
+        What::Exception(_) => Entries::none(),
+        What::Label(_, _) => Entries::none(),
+        What::Type(_) => Entries::none(),
+        What::ModuleType(_) => Entries::none(),
+    }
+}
+
+fn dotted(alloc: Global, way: &Way, name: &str) -> Result<RcStr, NoMemory>
+    ensures { IfOk result (λ r. str_bytes r ≡ named name.now (Some (way_view way.now))) }
+{
+    let mut text = text_of_way(alloc, way)?;
+    push(&mut text, name)?;
+    RcStr::new(alloc, text)
+}
+
+fn hidden(alloc: Global, name: &str) -> Result<RcStr, NoMemory>
+    ensures { IfOk result (λ r. str_bytes r ≡ named name.now None) }
+{
+    let mut text = String::new(alloc);
+    push(&mut text, name)?;
+    push(&mut text, "/hidden")?;
+    RcStr::new(alloc, text)
+}
