@@ -1,5 +1,5 @@
 -- What declarations of types and exceptions ask, and what they declare (OCaml manual, 11.8).
-use Rattle.std.specs.Prelude.{ℕ, zero, suc, Bool, true, false, not, ◌||◌, List, [], ◌∷◌, ◌++◌, map, filter_map, length, Option, Some, None, option_map, if◌then◌else◌}
+use Rattle.std.specs.Prelude.{ℕ, zero, suc, Bool, true, false, not, ◌||◌, ◌==◌, List, [], ◌∷◌, ◌++◌, map, filter_map, length, Option, Some, None, option_map, if◌then◌else◌}
 use Rattle.token_model.specs.Kinds.{Tok}
 use Rattle.tree_model.specs.Trees.{Place, part_yield}
 use Rattle.tree_model.specs.Rows.{Row, alias_row, variant_row, record_row}
@@ -41,14 +41,14 @@ abbreviation_in None = None
 abbreviation_in (Some (another n t l k)) = elim k [ None ↦ Some (n, t.mentions) | Some r ↦ None ]
 abbreviation_in (Some (own r)) = None
 
-abbrev pub abbreviated : Option RightSide → List Name
-abbreviated right = elim (abbreviation_in right) [ None ↦ [] | Some a ↦ a.1 ]
+-- whether a number is one of a list
+abbrev pub is_number : ℕ → List ℕ → Bool
+is_number n [] = false
+is_number n (m ∷ ms) = n == m || is_number n ms
 
--- the names of types in a right side that is another type, where it is an abbreviation, or a re-export whose demand is kept
-abbrev pub renamed : Context → Option RightSide → List Name
-renamed c None = []
-renamed c (Some (another n t l k)) = elim k [ None ↦ t.mentions | Some r ↦ if is_kept c n 0 then t.mentions else [] ]
-renamed c (Some (own r)) = []
+-- the names of types in an abbreviation, unless it is one of these, which are types of their own
+abbrev pub abbreviated : List ℕ → Option RightSide → List Name
+abbreviated apart right = elim (abbreviation_in right) [ None ↦ [] | Some a ↦ if is_number a.0 apart then [] else a.1 ]
 
 abbrev pub token_name : Option Tok → Name
 token_name None = []
@@ -68,25 +68,44 @@ abbrev pub leads_to : ℕ → (Option RightSide → List Name) → List Declarat
 leads_to zero reads ds x ns = is_among x ns
 leads_to (suc k) reads ds x ns = is_among x ns || leads_to k reads ds x (expanded reads ds ns)
 
--- whether an abbreviation of a group contains itself
-abbrev pub is_cyclic : List DeclarationPart → Option Tok → List Name → Bool
-is_cyclic all None ns = false
-is_cyclic all (Some t) ns = leads_to (length all) abbreviated all t.name ns
+-- whether a declaration is an abbreviation that contains itself, where some abbreviations are types of their own
+abbrev pub is_cyclic : List ℕ → List DeclarationPart → DeclarationPart → Bool
+is_cyclic apart all d = elim d.head.name [
+  | None ↦ false
+  | Some t ↦ elim (abbreviation_in d.right) [ None ↦ false | Some a ↦ leads_to (length all) (abbreviated apart) all t.name a.1 ]
+]
+
+abbrev pub number_of : DeclarationPart → List ℕ
+number_of d = elim (abbreviation_in d.right) [ None ↦ [] | Some a ↦ a.0 ∷ [] ]
+
+-- the abbreviations of a group that contain themselves, in order: each is a type of its own for those behind it
+abbrev pub cyclic_behind : List ℕ → List DeclarationPart → List DeclarationPart → List ℕ
+cyclic_behind apart all [] = apart
+cyclic_behind apart all (d ∷ ds) = cyclic_behind (if is_cyclic apart all d then number_of d ++ apart else apart) all ds
+
+abbrev pub contains_itself : List DeclarationPart → ℕ → Bool
+contains_itself all n = is_number n (cyclic_behind [] all all)
+
+-- the names of types in a right side that is another type, where it is an abbreviation that doesn't contain itself, or a re-export whose demand is kept
+abbrev pub renamed : Context → List DeclarationPart → Option RightSide → List Name
+renamed c all None = []
+renamed c all (Some (another n t l k)) = if elim k [ None ↦ not (contains_itself all n) | Some r ↦ is_kept c n 0 ] then t.mentions else []
+renamed c all (Some (own r)) = []
 
 -- whether a re-export of a group names itself
 abbrev pub names_itself : Context → List DeclarationPart → Option Tok → List Name → Bool
 names_itself c all None ns = false
-names_itself c all (Some t) ns = leads_to (length all) (renamed c) all t.name ns
+names_itself c all (Some t) ns = leads_to (length all) (renamed c all) all t.name ns
 
 -- what a right side that is another type defines: an abbreviation that contains itself, and a re-export whose demand isn't kept, are types of their own
-abbrev pub is_other : Context → List DeclarationPart → Option Tok → ℕ → TypeExpression → Option Told → Bool
-is_other c all x n t None = not (is_cyclic all x t.mentions)
-is_other c all x n t (Some k) = is_kept c n 0
+abbrev pub is_other : Context → List DeclarationPart → ℕ → Option Told → Bool
+is_other c all n None = not (contains_itself all n)
+is_other c all n (Some k) = is_kept c n 0
 
-abbrev pub definition_of : Context → List DeclarationPart → Option Tok → ℕ → Option RightSide → Definition
-definition_of c all x node None = Own (node ∷ [])
-definition_of c all x node (Some (another n t l k)) = if is_other c all x n t k then Is (type_at c t.node) else Own (node ∷ [])
-definition_of c all x node (Some (own k)) = Own (node ∷ [])
+abbrev pub definition_of : Context → List DeclarationPart → ℕ → Option RightSide → Definition
+definition_of c all node None = Own (node ∷ [])
+definition_of c all node (Some (another n t l k)) = if is_other c all n k then Is (type_at c t.node) else Own (node ∷ [])
+definition_of c all node (Some (own k)) = Own (node ∷ [])
 
 abbrev pub shape_in : Context → Option RightSide → Shape
 shape_in c None = Opaque
@@ -95,7 +114,7 @@ shape_in c (Some (own r)) = shape_of c r
 
 -- what a declaration of a group declares
 abbrev pub declaration_of : Context → List DeclarationPart → DeclarationPart → Declaration
-declaration_of c all d = record { arity = length d.head.parameters; definition = definition_of c all d.head.name d.node d.right; shape = shape_in c d.right }
+declaration_of c all d = record { arity = length d.head.parameters; definition = definition_of c all d.node d.right; shape = shape_in c d.right }
 
 -- the entries of a declaration: its name, if it has one, and then its constructors or labels
 abbrev pub type_entry : Declaration → Option Tok → List Entry
@@ -199,14 +218,14 @@ abbrev pub declarations_ask : Context → List DeclarationPart → List Declarat
 declarations_ask c all [] = []
 declarations_ask c all (d ∷ ds) = declaration_asks c all d ++ declarations_ask c all ds
 
--- no abbreviation contains itself
+-- no abbreviation contains itself; one that does is a type of its own for those behind it
 abbrev pub cycles_asked : List DeclarationPart → List DeclarationPart → List Condition
 cycles_asked all [] = []
 cycles_asked all (d ∷ ds) = elim d.head.name [
   | None ↦ cycles_asked all ds
   | Some t ↦ elim (abbreviation_in d.right) [
     | None ↦ cycles_asked all ds
-    | Some a ↦ ask a.0 0 (place_of t) (test (cyclic t.name) (not (is_cyclic all (Some t) a.1))) ++ cycles_asked all ds
+    | Some a ↦ ask a.0 0 (place_of t) (test (cyclic t.name) (not (contains_itself all a.0))) ++ cycles_asked all ds
   ]
 ]
 

@@ -294,10 +294,10 @@ is_new seen n (Exception o) = None
 is_new seen n (Module s) = Some (not (is_among n seen.modules))
 is_new seen n (ModuleType os s) = Some (not (is_among n seen.module_types))
 
--- each type, module and module type that is added is new, reported at the row's node
+-- each type, module and module type that is added is new, among those added before it too, reported at the row's node
 abbrev pub added_asked : ℕ → ℕ → Place → Seen → Components → List Condition
 added_asked n k at seen Done = []
-added_asked n k at seen (Component x where_ m cs) = elim (is_new seen x m) [ None ↦ added_asked n k at seen cs | Some b ↦ ask n k at (test (twice x) b) ++ added_asked n (k + 1) at seen cs ]
+added_asked n k at seen (Component x where_ m cs) = elim (is_new seen x m) [ None ↦ added_asked n k at seen cs | Some b ↦ ask n k at (test (twice x) b) ++ added_asked n (k + 1) at (seen_too seen (names_among (Component x where_ m Done))) cs ]
 
 -- include M
 abbrev pub include_item : ℕ → Place → Written → Item

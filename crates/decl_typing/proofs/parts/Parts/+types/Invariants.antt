@@ -1,0 +1,8 @@
+use Rattle.std.proofs.Common.{◌+◌, ◌*◌}
+use Rattle.decl_typing.proofs.parts.Parts.+types.Given as goal
+
+abbrev pub decreases-read_type : goal.decreases-read_type
+decreases-read_type l = 2 * l.depth.0 + 1
+
+abbrev pub decreases-read_parts : goal.decreases-read_parts
+decreases-read_parts l = 2 * l.depth.0

@@ -1,0 +1,136 @@
+//! What names stand for.
+use crate::messages::Word;
+use crate::parts::Parts;
+use env_table::{Entry, Env, Found, Kind, Path};
+use owned_lists::push;
+use row_parts::WrittenPath;
+use std::alloc::Global;
+use std::rc::Rc;
+use syntax_tree::{Span, Token};
+use text_terms::RcStr;
+use type_nodes::NoMemory;
+
+/// One owner more of an entry.
+pub fn share_entry(entry: &Rc<Entry>) -> Result<Rc<Entry>, NoMemory> {
+    match Rc::clone(entry) {
+        Ok(entry) => Ok(entry),
+        Err(_) => Err(NoMemory),
+    }
+}
+
+/// The names of qualifiers.
+pub fn modules_of(alloc: Global, qualifiers: &[&Token]) -> Result<Vec<RcStr>, NoMemory> {
+    let mut names = Vec::new(alloc);
+    for qualifier in qualifiers {
+        push(&mut names, qualifier.name.share()?)?;
+    }
+    Ok(names)
+}
+
+/// The path of names to a last token.
+pub fn path_of(alloc: Global, written: &WrittenPath<'_>, last: &Token) -> Result<Path, NoMemory> {
+    Ok(Path {
+        modules: modules_of(alloc, &written.qualifiers)?,
+        last: last.name.share()?,
+    })
+}
+
+/// Where the name of a qualifier stands, which ends with a point.
+fn without_point(span: Span) -> Span {
+    Span {
+        start: span.start,
+        end: span.end.saturating_sub(1),
+    }
+}
+
+/// What a word of messages names.
+fn word_of(kind: Kind) -> Word {
+    match kind {
+        Kind::Value => Word::Value,
+        Kind::Constructor => Word::Constructor,
+        Kind::Label => Word::Label,
+        Kind::TypeName => Word::Type,
+        Kind::Module => Word::Module,
+        Kind::ModuleType => Word::ModuleType,
+    }
+}
+
+impl Parts {
+    /// The demand `bound` of a path. The entry that it finds; None where it stands in a hole, and where it finds nothing, which
+    /// is reported at the first qualifier that leads to no module, or else at the last name.
+    pub fn bound(
+        &mut self,
+        env: &Env,
+        written: &WrittenPath<'_>,
+        last: &Token,
+        kind: Kind,
+    ) -> Result<Option<Rc<Entry>>, NoMemory> {
+        let path = path_of(self.alloc, written, last)?;
+        match env.lookup(&path, kind) {
+            Found::Entry(entry) => Ok(Some(share_entry(entry)?)),
+            Found::Hole => Ok(None),
+            Found::Nothing => {
+                self.lost(env, &path, written, last, word_of(kind))?;
+                Ok(None)
+            }
+        }
+    }
+
+    /// Reports a path that finds nothing.
+    pub fn lost(
+        &mut self,
+        env: &Env,
+        path: &Path,
+        written: &WrittenPath<'_>,
+        last: &Token,
+        word: Word,
+    ) -> Result<(), NoMemory> {
+        let qualifier = match env.lost_module(&path.modules) {
+            Some(place) => written.qualifiers.get(place),
+            None => None,
+        };
+        match qualifier {
+            Some(token) => {
+                self.unbound(without_point(token.span), Word::Module, token.name.as_str())
+            }
+            None => self.unbound(last.span, word, last.name.as_str()),
+        }
+    }
+
+    /// What the name tokens of a path stand for: each qualifier, and then the last token, whose entry is given.
+    pub fn seen_names(
+        &self,
+        env: &Env,
+        written: &WrittenPath<'_>,
+        last: Option<&Rc<Entry>>,
+    ) -> Result<Vec<Option<Rc<Entry>>>, NoMemory> {
+        let modules = modules_of(self.alloc, &written.qualifiers)?;
+        let mut names = Vec::new(self.alloc);
+        for place in 0..modules.len() {
+            let entry = match env.module_behind(&modules[..=place]) {
+                Found::Entry(entry) => Some(share_entry(entry)?),
+                _ => None,
+            };
+            push(&mut names, entry)?;
+        }
+        if written.last.is_some() {
+            let entry = match last {
+                Some(entry) => Some(share_entry(entry)?),
+                None => None,
+            };
+            push(&mut names, entry)?;
+        }
+        Ok(names)
+    }
+
+    /// The one name token of a node with its entry.
+    pub fn one_name(&self, entry: Option<&Rc<Entry>>) -> Result<Vec<Option<Rc<Entry>>>, NoMemory> {
+        let mut names = Vec::new(self.alloc);
+        let entry = match entry {
+            Some(entry) => Some(share_entry(entry)?),
+            None => None,
+        };
+        push(&mut names, entry)?;
+        Ok(names)
+    }
+}

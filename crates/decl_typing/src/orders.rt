@@ -1,0 +1,282 @@
+//! In which order the types of a group are read that are other names of types: each behind those that it mentions.
+use crate::groups::{DeclarationPart, Right, Standing, arguments_in_front, is_several};
+use crate::names::path_of;
+use crate::types::declaration_of;
+use env_table::{Env, Found, Kind};
+use owned_lists::push;
+use row_parts::{Operand, WrittenPath, written_path};
+use std::alloc::Global;
+use std::collections::HashMap;
+use syntax_tree::{Node, Part, RowName};
+use type_nodes::NoMemory;
+
+/// What the names of types in a group stand for: their places in it, of two the later one, and what is in scope outside.
+#[derive(Drop)]
+struct Known<'a> {
+    places: HashMap<String, usize>,
+    arities: Vec<usize>,
+    env: &'a Env,
+}
+
+/// For each declaration of a group the places in the group of the types that it is another name of.
+#[derive(Drop)]
+pub struct Mentions {
+    pub of: Vec<Vec<usize>>,
+}
+
+/// The places of the names of a group, of two the later one.
+fn places(
+    alloc: Global,
+    parts: &[DeclarationPart<'_>],
+) -> Result<HashMap<String, usize>, NoMemory> {
+    let mut places = HashMap::new(alloc);
+    for (place, part) in parts.iter().enumerate() {
+        if let Some(name) = part.name {
+            let key = text(alloc, name.name.as_str())?;
+            if places.insert(key, place).is_err() {
+                return Err(NoMemory);
+            }
+        }
+    }
+    Ok(places)
+}
+
+/// The type expression of a declaration that is another name of a type.
+fn renamed<'a>(right: &Right<'a>) -> Option<Operand<'a>> {
+    match right {
+        Right::Abbreviation(_, ty) => Some(*ty),
+        Right::Reexport(_, ty, _, _) => Some(*ty),
+        _ => None,
+    }
+}
+
+impl<'a> Known<'a> {
+    fn new(
+        alloc: Global,
+        parts: &[DeclarationPart<'_>],
+        env: &'a Env,
+    ) -> Result<Known<'a>, NoMemory> {
+        let mut arities = Vec::new(alloc);
+        for part in parts {
+            push(&mut arities, part.parameters.len())?;
+        }
+        Ok(Known {
+            places: places(alloc, parts)?,
+            arities,
+            env,
+        })
+    }
+
+    /// The place in the group that a path names.
+    fn place(&self, alloc: Global, path: &WrittenPath<'_>) -> Result<Option<usize>, NoMemory> {
+        let (Some(last), true) = (path.last, path.qualifiers.is_empty()) else {
+            return Ok(None);
+        };
+        let key = text(alloc, last.name.as_str())?;
+        Ok(self.places.get(&key).copied())
+    }
+
+    /// How many parameters the type of a path has; None where it isn't known.
+    fn arity(&self, alloc: Global, path: &WrittenPath<'_>) -> Result<Option<usize>, NoMemory> {
+        if let Some(place) = self.place(alloc, path)? {
+            return Ok(self.arities.get(place).copied());
+        }
+        let Some(last) = path.last else {
+            return Ok(None);
+        };
+        let named = path_of(alloc, path, last)?;
+        match self.env.lookup(&named, Kind::TypeName) {
+            Found::Entry(entry) => match declaration_of(entry) {
+                Some(declaration) => Ok(Some(declaration.arity as usize)),
+                None => Ok(None),
+            },
+            _ => Ok(None),
+        }
+    }
+}
+
+fn text(alloc: Global, text: &str) -> Result<String, NoMemory> {
+    match String::from_str(alloc, text) {
+        Ok(text) => Ok(text),
+        Err(_) => Err(NoMemory),
+    }
+}
+
+/// The path of a constructor in a type expression, and how many arguments stand in front of it; None of another row.
+fn constructor_of<'a>(
+    alloc: Global,
+    node: &'a Node,
+) -> Result<Option<(WrittenPath<'a>, usize)>, NoMemory> {
+    match node.row {
+        RowName::Tcon => Ok(Some((written_path(alloc, node, 0, 1)?, 0))),
+        RowName::Tapp => Ok(Some((written_path(alloc, node, 1, 2)?, arguments_in_front(node)))),
+        _ => Ok(None),
+    }
+}
+
+/// The places in the group of the types that stand in a type expression, added to those found so far. What stands in a type that
+/// isn't known doesn't count.
+fn mentioned_in(
+    alloc: Global,
+    known: &Known<'_>,
+    node: &Node,
+    standing: Standing,
+    found: &mut Vec<usize>,
+) -> Result<(), NoMemory> {
+    if is_several(node, standing) {
+        return Ok(());
+    }
+    if let Some((path, given)) = constructor_of(alloc, node)? {
+        if known.arity(alloc, &path)? != Some(given) {
+            return Ok(());
+        }
+        if let Some(place) = known.place(alloc, &path)? {
+            push(found, place)?;
+        }
+    }
+    let inner = if node.row == RowName::Tapp {
+        Standing::InFront
+    } else {
+        Standing::Alone
+    };
+    for child in &node.children {
+        if let Part::Inner(part) = &child.part {
+            mentioned_in(alloc, known, part, inner, found)?;
+        }
+    }
+    Ok(())
+}
+
+/// The places in the group of the names in the type that a declaration is another name of.
+fn mentioned(alloc: Global, known: &Known<'_>, right: &Right<'_>) -> Result<Vec<usize>, NoMemory> {
+    let mut found = Vec::new(alloc);
+    if let Some(ty) = renamed(right) {
+        if let Some(node) = ty.node {
+            mentioned_in(alloc, known, node, Standing::Alone, &mut found)?;
+        }
+    }
+    Ok(found)
+}
+
+impl Mentions {
+    pub fn new(
+        alloc: Global,
+        parts: &[DeclarationPart<'_>],
+        env: &Env,
+    ) -> Result<Mentions, NoMemory> {
+        let known = Known::new(alloc, parts, env)?;
+        let mut of = Vec::new(alloc);
+        for part in parts {
+            let found = mentioned(alloc, &known, &part.right)?;
+            push(&mut of, found)?;
+        }
+        Ok(Mentions { of })
+    }
+
+    /// Whether all that a declaration mentions is done or isn't another name of a type.
+    fn is_ready(&self, place: usize, renames: &[bool], done: &[bool]) -> bool {
+        match self.of.get(place) {
+            Some(mentioned) => mentioned
+                .iter()
+                .all(|m| !is_set(renames, *m) || is_set(done, *m)),
+            None => true,
+        }
+    }
+
+    /// The places of the declarations that are other names of types, each behind those that it mentions; those that are in a
+    /// cycle, or mention one, are left out.
+    pub fn order(&self, alloc: Global, renames: &[bool]) -> Result<Vec<usize>, NoMemory> {
+        let mut order = Vec::new(alloc);
+        let mut done = vec![in alloc; false; renames.len()].map_err(|_| NoMemory)?;
+        for _ in 0..renames.len() {
+            let before = order.len();
+            self.go_on(renames, &mut done, &mut order)?;
+            if order.len() == before {
+                return Ok(order);
+            }
+        }
+        Ok(order)
+    }
+
+    /// Adds those that are ready.
+    fn go_on(
+        &self,
+        renames: &[bool],
+        done: &mut Vec<bool>,
+        order: &mut Vec<usize>,
+    ) -> Result<(), NoMemory> {
+        for place in 0..renames.len() {
+            if is_set(renames, place)
+                && !is_set(done, place)
+                && self.is_ready(place, renames, done)
+            {
+                set(done, place);
+                push(order, place)?;
+            }
+        }
+        Ok(())
+    }
+
+    /// Whether a declaration is met behind itself by other names of types alone.
+    pub fn leads_to_itself(
+        &self,
+        alloc: Global,
+        place: usize,
+        renames: &[bool],
+    ) -> Result<bool, NoMemory> {
+        let mut reached = vec![in alloc; false; renames.len()].map_err(|_| NoMemory)?;
+        self.reach(place, &mut reached);
+        for _ in 0..renames.len() {
+            let before = count(&reached);
+            self.reach_further(renames, &mut reached);
+            if is_set(&reached, place) || count(&reached) == before {
+                return Ok(is_set(&reached, place));
+            }
+        }
+        Ok(is_set(&reached, place))
+    }
+
+    /// Marks what a declaration mentions.
+    fn reach(&self, place: usize, reached: &mut Vec<bool>) {
+        if let Some(mentioned) = self.of.get(place) {
+            for m in mentioned {
+                set(reached, *m);
+            }
+        }
+    }
+
+    /// Marks what the marked declarations mention.
+    fn reach_further(&self, renames: &[bool], reached: &mut Vec<bool>) {
+        for place in 0..renames.len() {
+            if is_set(reached, place) && is_set(renames, place) {
+                self.reach(place, reached);
+            }
+        }
+    }
+}
+
+/// Whether a place is marked.
+pub fn is_set(marks: &[bool], place: usize) -> bool {
+    match marks.get(place) {
+        Some(mark) => *mark,
+        None => false,
+    }
+}
+
+/// Marks a place.
+pub fn set(marks: &mut Vec<bool>, place: usize) {
+    if place < marks.len() {
+        marks[place] = true;
+    }
+}
+
+/// Takes a mark away.
+pub fn clear(marks: &mut Vec<bool>, place: usize) {
+    if place < marks.len() {
+        marks[place] = false;
+    }
+}
+
+fn count(marks: &[bool]) -> usize {
+    marks.iter().filter(|mark| **mark).count()
+}

@@ -1,0 +1,125 @@
+//! What the typing of a text works on.
+use crate::built_ins::Constants;
+use env_table::{Entry, Env, Fault, FaultKind, Faults, Place, Seen};
+use indexmap::IndexMap;
+use owned_lists::push;
+use std::alloc::Global;
+use std::rc::Rc;
+use syntax_tree::{NodeId, Span};
+use text_terms::RcStr;
+use type_nodes::{NoMemory, NodeRef, Store};
+use typed_index::TypedIndex;
+
+/// Whether what is found out is told.
+#[derive(Clone, Copy, Debug, PartialEq, Eq)]
+pub enum Telling {
+    /// Faults are reported, and nodes are recorded.
+    Aloud,
+    /// Only types are made: what is read will be read again.
+    Quiet,
+}
+
+/// The type variables that are written in an item, by their names, in the order in which they came.
+#[derive(Drop)]
+pub struct Written {
+    pub variables: IndexMap<String, NodeRef>,
+}
+
+/// What typing works on: the store of types, what is recorded for each node, the faults so far, and where it stands.
+#[derive(Drop)]
+pub struct Parts {
+    pub(crate) alloc: Global,
+    pub store: Store,
+    pub index: TypedIndex<Seen>,
+    pub faults: Faults,
+    pub written: Written,
+    /// The number of the item; 0 is the prelude.
+    pub item: u32,
+    /// How many `let`s stand round what is typed: new variables have this level.
+    pub level: u32,
+    pub telling: Telling,
+    pub constants: Constants,
+}
+
+impl Parts {
+    /// A store with the built-in types, and nothing recorded.
+    pub fn new(alloc: Global) -> Result<Parts, NoMemory> {
+        let mut store = Store::new(alloc);
+        let constants = Constants::new(alloc, &mut store)?;
+        Ok(Parts {
+            alloc,
+            store,
+            index: TypedIndex::new(alloc),
+            faults: Faults {
+                list: Vec::new(alloc),
+            },
+            written: Written {
+                variables: IndexMap::new(alloc),
+            },
+            item: 0,
+            level: 0,
+            telling: Telling::Aloud,
+            constants,
+        })
+    }
+
+    pub fn alloc(&self) -> Global {
+        self.alloc
+    }
+
+    /// The number of a node of the present item, among those of all items.
+    pub fn node_number(&self, number: u32) -> u64 {
+        u64::from(self.item) * 4_294_967_296 + u64::from(number)
+    }
+
+    /// Where a token of the present item is.
+    pub fn place(&self, span: Span) -> Place {
+        if self.item == 0 {
+            Place::Prelude(span)
+        } else {
+            Place::Buffer(span)
+        }
+    }
+
+    /// Records what is seen at a node of the present item.
+    pub fn note(
+        &mut self,
+        number: u32,
+        env: &Env,
+        ty: Option<NodeRef>,
+        names: Vec<Option<Rc<Entry>>>,
+    ) -> Result<(), NoMemory> {
+        if self.telling == Telling::Quiet {
+            return Ok(());
+        }
+        let id = NodeId {
+            item: self.item,
+            pre: number,
+        };
+        let env = env.share()?;
+        self.index.note(id, Seen { env, ty, names })
+    }
+
+    /// Records that a node without names of its own is treated in an environment.
+    pub fn note_plain(&mut self, number: u32, env: &Env) -> Result<(), NoMemory> {
+        self.note(number, env, None, Vec::new(self.alloc))
+    }
+
+    /// Records the type of a node without names of its own.
+    pub fn note_type(&mut self, number: u32, env: &Env, ty: NodeRef) -> Result<(), NoMemory> {
+        self.note(number, env, Some(ty), Vec::new(self.alloc))
+    }
+
+    /// Reports a fault.
+    pub fn report(&mut self, span: Span, kind: FaultKind, message: RcStr) -> Result<(), NoMemory> {
+        if self.telling == Telling::Quiet {
+            return Ok(());
+        }
+        let fault = Fault {
+            span,
+            kind,
+            message,
+        };
+        push(&mut self.faults.list, fault)
+    }
+}

@@ -1,0 +1,348 @@
+//! Type expressions.
+ghost use Rattle.std.specs.Prelude.{◌<◌, IfOk};
+
+use crate::changes::Changes;
+use crate::copies::{Copies, ForBound, ForUnknown, unchanged};
+use crate::demands::Verdict;
+use crate::messages::Word;
+use crate::parts::Parts;
+use env_table::{Declaration, Entry, Env, Kind, What};
+use owned_lists::push;
+use row_parts::{Operand, WrittenPath, operand_in, operands, token, written_path};
+use std::alloc::Global;
+use std::rc::Rc;
+use syntax_tree::{Node, RowName, Token};
+use text_terms::RcStr;
+use type_nodes::{NoMemory, NodeRef};
+
+/// How deep a tree is gone into. No tree of a text is as deep; what would be deeper is answered with want of memory, since
+/// the stack is memory too.
+#[derive(Clone, Copy, Debug, PartialEq, Eq)]
+pub struct Depth(pub u32);
+
+impl Depth {
+    /// Deeper than any tree of a text, whose height is at most 512.
+    pub const WHOLE: Depth = Depth(1024);
+
+    /// One level further in.
+    pub fn inside(self) -> Result<Depth, NoMemory>
+        ensures { IfOk result (λ d. d.0 < self.0) }
+    {
+        match self.0.checked_sub(1) {
+            Some(left) => Ok(Depth(left)),
+            None => Err(NoMemory),
+        }
+    }
+}
+
+/// A type variable by its name.
+#[derive(Drop)]
+pub struct Parameter {
+    pub name: RcStr,
+    pub node: NodeRef,
+}
+
+/// What a type variable stands for.
+#[derive(Drop)]
+pub enum Variables {
+    /// In an expression: a type of the item round it.
+    OfItem,
+    /// In a declaration: one of its parameters.
+    Parameters(Vec<Parameter>),
+}
+
+/// The parameter of a name, of two the later one.
+fn parameter_named(parameters: &[Parameter], name: &str) -> Option<NodeRef> {
+    let mut found = None;
+    for parameter in parameters {
+        if parameter.name.is(name) {
+            found = Some(parameter.node);
+        }
+    }
+    found
+}
+
+/// The declaration behind a type's entry.
+pub fn declaration_of(entry: &Entry) -> Option<&Rc<Declaration>> {
+    match &entry.what {
+        What::Type(declaration) => Some(declaration),
+        _ => None,
+    }
+}
+
+impl Parts {
+    /// The type that a type expression, or a missing one, stands for.
+    #[cycle(types)]
+    pub fn read_type(
+        &mut self,
+        ty: Operand<'_>,
+        env: &Env,
+        variables: &Variables,
+        depth: Depth,
+    ) -> Result<NodeRef, NoMemory> {
+        match ty.node {
+            None => {
+                self.note_plain(ty.number, env)?;
+                self.unresolved(variables)
+            }
+            Some(node) => {
+                let types = self.read_parts(node, ty.number, env, variables, depth)?;
+                self.formed(node, ty.number, &types, env, variables)
+            }
+        }
+    }
+
+    /// The types of the parts of a type expression; in front of a constructor those in parentheses.
+    #[cycle(types)]
+    fn read_parts(
+        &mut self,
+        node: &Node,
+        number: u32,
+        env: &Env,
+        variables: &Variables,
+        depth: Depth,
+    ) -> Result<Vec<NodeRef>, NoMemory> {
+        let mut types = Vec::new(self.alloc);
+        for part in parts_in(self, node, number, env)? {
+            let ty = self.read_type(part, env, variables, depth.inside()?)?;
+            push(&mut types, ty)?;
+        }
+        Ok(types)
+    }
+
+    /// A type expression that names no type: any type in an item, and in a declaration an unknown one.
+    fn unresolved(&mut self, variables: &Variables) -> Result<NodeRef, NoMemory> {
+        match variables {
+            Variables::OfItem => self.var(),
+            Variables::Parameters(_) => self.var_of_scope(0),
+        }
+    }
+
+    /// The type of a row over the types of its parts.
+    fn formed(
+        &mut self,
+        node: &Node,
+        number: u32,
+        types: &[NodeRef],
+        env: &Env,
+        variables: &Variables,
+    ) -> Result<NodeRef, NoMemory> {
+        match node.row {
+            RowName::Tcon => {
+                let path = written_path(self.alloc, node, 0, 1)?;
+                self.constructed(number, &path, types, env, variables)
+            }
+            RowName::Tapp => {
+                let path = written_path(self.alloc, node, 1, 2)?;
+                self.constructed(number, &path, types, env, variables)
+            }
+            RowName::Tvar => {
+                self.note_plain(number, env)?;
+                self.variable(token(node, 0), variables)
+            }
+            RowName::Ttuple => {
+                self.note_plain(number, env)?;
+                self.tuple(types)
+            }
+            RowName::Tarrow => {
+                self.note_plain(number, env)?;
+                match types {
+                    [from, to] => self.arrow(*from, *to),
+                    _ => self.unresolved(variables),
+                }
+            }
+            _ => {
+                self.note_plain(number, env)?;
+                self.in_parentheses(node, types, variables)
+            }
+        }
+    }
+
+    /// ( t ); several types are one only in front of a constructor.
+    fn in_parentheses(
+        &mut self,
+        node: &Node,
+        types: &[NodeRef],
+        variables: &Variables,
+    ) -> Result<NodeRef, NoMemory> {
+        match types {
+            [] => self.unresolved(variables),
+            [ty] => Ok(*ty),
+            _ => {
+                self.arity(node.span, "(,)", 1, types.len())?;
+                self.unresolved(variables)
+            }
+        }
+    }
+
+    /// 'a
+    fn variable(
+        &mut self,
+        name: Option<&Token>,
+        variables: &Variables,
+    ) -> Result<NodeRef, NoMemory> {
+        let Some(name) = name else {
+            return self.unresolved(variables);
+        };
+        match variables {
+            Variables::OfItem => self.written_variable(name),
+            Variables::Parameters(parameters) => {
+                match parameter_named(parameters, name.name.as_str()) {
+                    Some(node) => Ok(node),
+                    None => {
+                        self.unbound(name.span, Word::TypeVariable, name.name.as_str())?;
+                        self.unresolved(variables)
+                    }
+                }
+            }
+        }
+    }
+
+    /// The type that a type variable of the item stands for: one of the item's own level.
+    fn written_variable(&mut self, name: &Token) -> Result<NodeRef, NoMemory> {
+        let key = match String::from_str(self.alloc, name.name.as_str()) {
+            Ok(key) => key,
+            Err(_) => return Err(NoMemory),
+        };
+        if let Some(node) = self.written.variables.get(&key) {
+            return Ok(*node);
+        }
+        let level = self.level;
+        self.level = level.min(1);
+        let made = self.var();
+        self.level = level;
+        let node = made?;
+        match self.written.variables.insert(key, node) {
+            Ok(_) => Ok(node),
+            Err(_) => Err(NoMemory),
+        }
+    }
+
+    /// t, (t, t) u: `bound`, `arity`, and the type that the declaration gives the arguments.
+    fn constructed(
+        &mut self,
+        number: u32,
+        path: &WrittenPath<'_>,
+        types: &[NodeRef],
+        env: &Env,
+        variables: &Variables,
+    ) -> Result<NodeRef, NoMemory> {
+        let Some(last) = path.last else {
+            let names = self.seen_names(env, path, None)?;
+            self.note(number, env, None, names)?;
+            return self.unresolved(variables);
+        };
+        let entry = self.bound(env, path, last, Kind::TypeName)?;
+        let names = self.seen_names(env, path, entry.as_ref())?;
+        self.note(number, env, None, names)?;
+        match entry {
+            None => self.unresolved(variables),
+            Some(entry) => self.declared(last, &entry, types, variables),
+        }
+    }
+
+    fn declared(
+        &mut self,
+        last: &Token,
+        entry: &Entry,
+        types: &[NodeRef],
+        variables: &Variables,
+    ) -> Result<NodeRef, NoMemory> {
+        let Some(declaration) = declaration_of(entry) else {
+            return self.unresolved(variables);
+        };
+        let taken = declaration.arity as usize;
+        match self.arity(last.span, last.name.as_str(), taken, types.len())? {
+            Verdict::Reported => self.unresolved(variables),
+            Verdict::Kept => match variables {
+                Variables::OfItem => self.applied(declaration, types),
+                Variables::Parameters(_) => self.applied_with_unknowns(declaration, types),
+            },
+        }
+    }
+
+    /// The same in a declaration, where the unknown types in it become others.
+    fn applied_with_unknowns(
+        &mut self,
+        declaration: &Declaration,
+        types: &[NodeRef],
+    ) -> Result<NodeRef, NoMemory> {
+        if let Some(origin) = &declaration.origin {
+            return self.con(origin, types);
+        }
+        let changes = Changes::none(self.alloc);
+        let how = unchanged(&changes, ForBound::Variable, ForUnknown::Open);
+        let instance = Copies::new(self).copy(self, declaration.root, how)?;
+        if types.is_empty() {
+            return Ok(instance);
+        }
+        self.filled(instance, types)
+    }
+
+    /// The type that a declaration gives arguments, abbreviations expanded.
+    pub fn applied(
+        &mut self,
+        declaration: &Declaration,
+        types: &[NodeRef],
+    ) -> Result<NodeRef, NoMemory> {
+        if let Some(origin) = &declaration.origin {
+            return self.con(origin, types);
+        }
+        let instance = self.instance(declaration.root)?;
+        if types.is_empty() {
+            return Ok(instance);
+        }
+        self.filled(instance, types)
+    }
+
+    /// The last part of a tuple whose other parts are these types.
+    pub fn filled(&mut self, tuple: NodeRef, types: &[NodeRef]) -> Result<NodeRef, NoMemory> {
+        for (place, ty) in types.iter().enumerate() {
+            let parameter = match self.parts_of_tuple(tuple) {
+                Some(parts) => parts.get(place).copied(),
+                None => None,
+            };
+            if let Some(parameter) = parameter {
+                self.join(parameter, *ty)?;
+            }
+        }
+        match self.parts_of_tuple(tuple) {
+            Some(parts) => match parts.last() {
+                Some(body) => Ok(*body),
+                None => self.var(),
+            },
+            None => self.var(),
+        }
+    }
+}
+
+/// The parts of a type expression as they are read: of an application those in the parentheses in front of the constructor.
+fn parts_in<'a>(
+    at: &mut Parts,
+    node: &'a Node,
+    number: u32,
+    env: &Env,
+) -> Result<Vec<Operand<'a>>, NoMemory> {
+    match node.row {
+        RowName::Tapp => grouped(at, operand_in(node, number, 0), env),
+        RowName::Tparen => operands(at.alloc, node, number, 1),
+        RowName::Ttuple | RowName::Tarrow => row_parts::operands_of(at.alloc, node, number),
+        _ => Ok(Vec::new(at.alloc)),
+    }
+}
+
+/// Several types in parentheses in front of a constructor, or the one type there.
+fn grouped<'a>(at: &mut Parts, left: Operand<'a>, env: &Env) -> Result<Vec<Operand<'a>>, NoMemory> {
+    if let Some(node) = left.node {
+        if node.row == RowName::Tparen {
+            let inner = operands(at.alloc, node, left.number, 1)?;
+            if inner.len() >= 2 {
+                at.note_plain(left.number, env)?;
+                return Ok(inner);
+            }
+        }
+    }
+    let mut one = Vec::new(at.alloc);
+    push(&mut one, left)?;
+    Ok(one)
+}

@@ -1,0 +1,8 @@
+use Rattle.std.proofs.Common.{◌+◌, ◌*◌}
+use Rattle.sig_template.proofs.realising.Realised.+realising.Given as goal
+
+abbrev pub decreases-entry : goal.decreases-entry
+decreases-entry l = l.depth.0
+
+abbrev pub decreases-module : goal.decreases-module
+decreases-module l = l.depth.0

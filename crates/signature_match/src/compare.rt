@@ -1,0 +1,173 @@
+//! Values, declarations and exceptions, one against another.
+use decl_typing::{Changes, Copies, ForBound, ForUnknown, NoMemory, NodeRef, Parts, unchanged};
+use env_table::{Constructor, Declaration, Label, Shape};
+use owned_lists::push;
+
+/// A copy of a type with something for its bound variables and its unknown types.
+fn copied(
+    at: &mut Parts,
+    root: NodeRef,
+    bound: ForBound,
+    unknown: ForUnknown,
+) -> Result<NodeRef, NoMemory> {
+    let none = Changes::none(at.alloc());
+    Copies::new(at).copy(at, root, unchanged(&none, bound, unknown))
+}
+
+/// Whether the wanted type, its variables taken as rigid, is an instance of the actual scheme. Unknown types may be any.
+pub fn covers(at: &mut Parts, actual: NodeRef, wanted: NodeRef) -> Result<bool, NoMemory> {
+    let actual = at.instance(actual)?;
+    let wanted = copied(at, wanted, ForBound::Rigid, ForUnknown::Variable)?;
+    at.are_one(actual, wanted)
+}
+
+/// The type of a declaration over arguments; in what is unknown no rigid variable may stand.
+fn over(
+    at: &mut Parts,
+    declaration: &Declaration,
+    arguments: &[NodeRef],
+) -> Result<NodeRef, NoMemory> {
+    let instance = copied(at, declaration.root, ForBound::Variable, ForUnknown::Closed)?;
+    if declaration.arity == 0 {
+        return Ok(instance);
+    }
+    at.filled(instance, arguments)
+}
+
+fn rigid_arguments(at: &mut Parts, arity: u32) -> Result<Vec<NodeRef>, NoMemory> {
+    let mut arguments = Vec::new(at.alloc());
+    for _ in 0..arity {
+        let made = at.store.rigid()?;
+        push(&mut arguments, made)?;
+    }
+    Ok(arguments)
+}
+
+/// Whether an actual declaration of the same number of parameters is the wanted one, and tells the same where that tells
+/// something.
+pub fn declares(
+    at: &mut Parts,
+    actual: &Declaration,
+    wanted: &Declaration,
+) -> Result<bool, NoMemory> {
+    let arguments = rigid_arguments(at, wanted.arity)?;
+    let found = over(at, actual, &arguments)?;
+    let asked = over(at, wanted, &arguments)?;
+    if !at.are_one(found, asked)? {
+        return Ok(false);
+    }
+    shapes_agree(at, actual, wanted, &arguments)
+}
+
+fn shapes_agree(
+    at: &mut Parts,
+    actual: &Declaration,
+    wanted: &Declaration,
+    arguments: &[NodeRef],
+) -> Result<bool, NoMemory> {
+    match (&actual.shape, &wanted.shape) {
+        (_, Shape::Opaque) => Ok(true),
+        (Shape::Variant(found), Shape::Variant(asked)) => {
+            if found.len() != asked.len() {
+                return Ok(false);
+            }
+            for (one, other) in found.iter().zip(asked.iter()) {
+                if !constructors_agree(at, actual, one, wanted, other, arguments)? {
+                    return Ok(false);
+                }
+            }
+            Ok(true)
+        }
+        (Shape::Labels(found), Shape::Labels(asked)) => {
+            labels_agree(at, actual, found, wanted, asked, arguments)
+        }
+        _ => Ok(false),
+    }
+}
+
+/// A side of an arrow.
+#[derive(Clone, Copy, Drop)]
+enum Side {
+    From,
+    To,
+}
+
+/// One side of an instance of a root, whose other side is the declaration's type over arguments.
+fn side_over(
+    at: &mut Parts,
+    root: NodeRef,
+    declaration: &Declaration,
+    arguments: &[NodeRef],
+    side: Side,
+) -> Result<NodeRef, NoMemory> {
+    let instance = copied(at, root, ForBound::Variable, ForUnknown::Closed)?;
+    let whole = over(at, declaration, arguments)?;
+    match at.sides_of_arrow(instance) {
+        None => at.var(),
+        Some((from, to)) => {
+            let (one, other) = match side {
+                Side::From => (from, to),
+                Side::To => (to, from),
+            };
+            at.join(other, whole)?;
+            Ok(one)
+        }
+    }
+}
+
+fn constructors_agree(
+    at: &mut Parts,
+    actual: &Declaration,
+    found: &Constructor,
+    wanted: &Declaration,
+    asked: &Constructor,
+    arguments: &[NodeRef],
+) -> Result<bool, NoMemory> {
+    if !found.name.is(asked.name.as_str()) || found.has_argument != asked.has_argument {
+        return Ok(false);
+    }
+    if !found.has_argument {
+        return Ok(true);
+    }
+    let one = side_over(at, found.root, actual, arguments, Side::From)?;
+    let other = side_over(at, asked.root, wanted, arguments, Side::From)?;
+    at.are_one(one, other)
+}
+
+fn labels_agree(
+    at: &mut Parts,
+    actual: &Declaration,
+    found: &[Label],
+    wanted: &Declaration,
+    asked: &[Label],
+    arguments: &[NodeRef],
+) -> Result<bool, NoMemory> {
+    if found.len() != asked.len() {
+        return Ok(false);
+    }
+    for (one, other) in found.iter().zip(asked.iter()) {
+        if !one.name.is(other.name.as_str()) || one.is_mutable != other.is_mutable {
+            return Ok(false);
+        }
+        let first = side_over(at, one.root, actual, arguments, Side::To)?;
+        let second = side_over(at, other.root, wanted, arguments, Side::To)?;
+        if !at.are_one(first, second)? {
+            return Ok(false);
+        }
+    }
+    Ok(true)
+}
+
+/// Whether two exceptions have the same argument, or none.
+pub fn same_exception(
+    at: &mut Parts,
+    actual: &Constructor,
+    wanted: &Constructor,
+) -> Result<bool, NoMemory> {
+    if actual.has_argument != wanted.has_argument {
+        return Ok(false);
+    }
+    let one = copied(at, actual.root, ForBound::Variable, ForUnknown::Closed)?;
+    let other = copied(at, wanted.root, ForBound::Variable, ForUnknown::Closed)?;
+    at.are_one(one, other)
+}

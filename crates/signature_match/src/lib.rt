@@ -1,0 +1,12 @@
+//! Whether a signature matches another: its origins are realised by the types of the newest components of their names, and then
+//! component by component is compared. It stands on the changes of signatures in `sig_template` and on unification.
+//! Above, `match_sig` tells the first component that fails, with its path and cause, and then the types are as before; where all
+//! are met, the weak variables that the match needs are bound.
+#![tactic(auto)]
+
+mod causes;
+mod compare;
+mod matching;
+
+pub use causes::{Cause, Mismatch};
+pub use matching::match_sig;
