@@ -273,24 +273,40 @@ fn long_texts_are_cut_at_once(rt: HostRuntime) -> Result<(), Fail> {
     Ok(())
 }
 
-/// `module M = struct type t end`, and then `type t = M.t`: the newer one names no origin, and hides none in M.
-#[test]
-fn the_shortest_path_names_an_origin(rt: HostRuntime) -> Result<(), Fail> {
-    let alloc = rt.alloc();
+/// Whether the type t of the origin 7 has this name.
+fn is_named(alloc: Global, env: &Env, text: &str) -> Result<bool, NoMemory> {
     let t = origin(alloc, 7, "t")?;
-    let env = plain(alloc)?;
-    assert_eq!(rt; name_of(alloc, &t, &env)?.as_str(), "t/hidden");
-    let inner = module(alloc, "N", made(alloc, 7, "t")?, None)?;
-    let env = env.add(alloc, module(alloc, "M", inner, None)?)?;
-    assert_eq!(rt; name_of(alloc, &t, &env)?.as_str(), "M.N.t");
-    let env = env.add(alloc, module(alloc, "O", made(alloc, 7, "t")?, None)?)?;
-    assert_eq!(rt; name_of(alloc, &t, &env)?.as_str(), "O.t");
-    let env = env.add(alloc, module(alloc, "P", made(alloc, 7, "t")?, None)?)?;
-    assert_eq!(rt; name_of(alloc, &t, &env)?.as_str(), "P.t");
-    let env = env.add(alloc, made(alloc, 7, "t")?)?;
-    assert_eq!(rt; name_of(alloc, &t, &env)?.as_str(), "t");
-    let env = env.add(alloc, alias(alloc, 7, "t")?)?;
-    assert_eq!(rt; name_of(alloc, &t, &env)?.as_str(), "P.t");
+    Ok(name_of(alloc, &t, env)?.is(text))
+}
+
+/// A module that has the type t of the origin 7.
+fn with_t(alloc: Global, name: &str) -> Result<Rc<Entry>, NoMemory> {
+    module(alloc, name, made(alloc, 7, "t")?, None)
+}
+
+#[test]
+fn a_shorter_and_a_newer_path_name_an_origin(rt: HostRuntime) -> Result<(), Fail> {
+    let alloc = rt.alloc();
+    let mut env = plain(alloc)?;
+    assert!(rt; is_named(alloc, &env, "t/hidden")?);
+    env = env.add(alloc, module(alloc, "M", with_t(alloc, "N")?, None)?)?;
+    assert!(rt; is_named(alloc, &env, "M.N.t")?);
+    env = env.add(alloc, with_t(alloc, "O")?)?;
+    env = env.add(alloc, with_t(alloc, "P")?)?;
+    assert!(rt; is_named(alloc, &env, "P.t")?);
+    Ok(())
+}
+
+/// An abbreviation names no origin, and hides none in a module.
+#[test]
+fn an_abbreviation_names_no_origin(rt: HostRuntime) -> Result<(), Fail> {
+    let alloc = rt.alloc();
+    let mut env = plain(alloc)?;
+    env = env.add(alloc, with_t(alloc, "M")?)?;
+    env = env.add(alloc, made(alloc, 7, "t")?)?;
+    assert!(rt; is_named(alloc, &env, "t")?);
+    env = env.add(alloc, alias(alloc, 7, "t")?)?;
+    assert!(rt; is_named(alloc, &env, "M.t")?);
     Ok(())
 }
 
@@ -298,13 +314,14 @@ fn the_shortest_path_names_an_origin(rt: HostRuntime) -> Result<(), Fail> {
 #[test]
 fn what_is_hidden_names_no_origin(rt: HostRuntime) -> Result<(), Fail> {
     let alloc = rt.alloc();
-    let t = origin(alloc, 7, "t")?;
-    let env = plain(alloc)?.add(alloc, module(alloc, "M", made(alloc, 7, "t")?, None)?)?;
-    assert_eq!(rt; name_of(alloc, &t, &env)?.as_str(), "M.t");
-    let again = module(alloc, "N", made(alloc, 7, "t")?, Some(made(alloc, 8, "t")?))?;
-    let env = env.add(alloc, again)?;
-    assert_eq!(rt; name_of(alloc, &t, &env)?.as_str(), "M.t");
-    let env = env.add(alloc, module(alloc, "M", made(alloc, 8, "t")?, None)?)?;
-    assert_eq!(rt; name_of(alloc, &t, &env)?.as_str(), "t/hidden");
+    let mut env = plain(alloc)?;
+    env = env.add(alloc, with_t(alloc, "M")?)?;
+    env = env.add(
+        alloc,
+        module(alloc, "N", made(alloc, 7, "t")?, Some(made(alloc, 8, "t")?))?,
+    )?;
+    assert!(rt; is_named(alloc, &env, "M.t")?);
+    env = env.add(alloc, module(alloc, "M", made(alloc, 8, "t")?, None)?)?;
+    assert!(rt; is_named(alloc, &env, "t/hidden")?);
     Ok(())
 }
