@@ -1,4 +1,8 @@
 //! The built-in types.
+ghost use Rattle.std.specs.Prelude.{◌≡◌, [], ◌∷◌, IfOk};
+ghost use Rattle.text_terms.specs.Bytes.{str_bytes};
+ghost use Rattle.decl_typing.specs.BuiltIns.{number_of, name_of, first_of};
+
 use std::alloc::Global;
 use text_terms::RcStr;
 use type_nodes::{NoMemory, NodeRef, Origin, Store};
@@ -30,7 +34,9 @@ impl BuiltIn {
     ];
 
     /// Its number, from 0.
-    pub fn number(self) -> u32 {
+    pub fn number(self) -> u32
+        ensures { result ≡ number_of self }
+    {
         match self {
             BuiltIn::Int => 0,
             BuiltIn::Char => 1,
@@ -43,7 +49,9 @@ impl BuiltIn {
         }
     }
 
-    pub fn name(self) -> &'static str {
+    pub fn name(self) -> &'static str
+        ensures { result.now ≡ name_of self }
+    {
         match self {
             BuiltIn::Int => "int",
             BuiltIn::Char => "char",
@@ -65,12 +73,17 @@ impl BuiltIn {
     }
 
     /// The path of its origin: the number 2^64 - 1 - k.
-    pub fn path(self) -> u64 {
+    pub fn path(self) -> u64
+        ensures { result ≡ first_of self }
+    {
         18_446_744_073_709_551_615 - u64::from(self.number())
     }
 
     /// Its origin. Built-in types were made before everything.
-    pub fn origin(self, alloc: Global) -> Result<Origin, NoMemory> {
+    pub fn origin(self, alloc: Global) -> Result<Origin, NoMemory>
+        ensures path { IfOk result (λ o. o.path.items ≡ first_of self ∷ []) }
+        ensures name { IfOk result (λ o. str_bytes o.name ≡ name_of self) }
+    {
         Ok(Origin {
             path: vec![in alloc; self.path()].map_err(|_| NoMemory)?,
             name: RcStr::from_str(alloc, self.name())?,

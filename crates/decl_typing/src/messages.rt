@@ -1,4 +1,8 @@
 //! The messages of faults.
+ghost use Rattle.std.specs.Prelude.{◌≡◌, IfOk, IsOk, string_bytes};
+ghost use Rattle.text_terms.specs.Bytes.{str_bytes};
+ghost use Rattle.decl_typing.specs.Messages.{word_text};
+
 use std::alloc::Global;
 use text_terms::RcStr;
 use type_nodes::NoMemory;
@@ -16,7 +20,9 @@ pub enum Word {
 }
 
 impl Word {
-    pub fn text(self) -> &'static str {
+    pub fn text(self) -> &'static str
+        ensures { result.now ≡ word_text self }
+    {
         match self {
             Word::Value => "value",
             Word::Constructor => "constructor",
@@ -33,7 +39,9 @@ impl Word {
 pub(crate) fn message(
     text: Result<String, std::alloc::AllocError>,
     alloc: Global,
-) -> Result<RcStr, NoMemory> {
+) -> Result<RcStr, NoMemory>
+    ensures { IfOk result (λ r. IsOk text × IfOk text (λ t. str_bytes r ≡ string_bytes t)) }
+{
     match text {
         Ok(text) => RcStr::new(alloc, text),
         Err(_) => Err(NoMemory),

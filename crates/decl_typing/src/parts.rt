@@ -1,4 +1,10 @@
 //! What the typing of a text works on.
+ghost use Rattle.std.specs.Prelude.{◌≡◌, ℕ, ◌+◌, ◌*◌, ◌^◌, [], None, Some, OnOk, OnErr};
+ghost use Rattle.text_terms.specs.Bytes.{str_bytes};
+ghost use Rattle.typed_index.specs.Seen.{seen_at};
+ghost use Rattle.decl_typing.specs.Goes.{faults_of, OnlyFaults, OnlyIndex, Told};
+ghost use Rattle.decl_typing.specs.Notes.{Noted, NotedNameless};
+
 use crate::built_ins::Constants;
 use env_table::{Entry, Env, Fault, FaultKind, Faults, Place, Seen};
 use indexmap::IndexMap;
@@ -68,7 +74,9 @@ impl Parts {
     }
 
     /// The number of a node of the present item, among those of all items.
-    pub fn node_number(&self, number: u32) -> u64 {
+    pub fn node_number(&self, number: u32) -> u64
+        ensures { result ≡ self.now.item * 2 ^ 32 + number }
+    {
         u64::from(self.item) * 4_294_967_296 + u64::from(number)
     }
 
@@ -88,7 +96,11 @@ impl Parts {
         env: &Env,
         ty: Option<NodeRef>,
         names: Vec<Option<Rc<Entry>>>,
-    ) -> Result<(), NoMemory> {
+    ) -> Result<(), NoMemory>
+        ensures noted { OnOk result (Noted self.old.telling self.old self.new number (record { env = env.now; ty = ty; names = names })) }
+        ensures failed { OnErr result ((i p : ℕ) → seen_at self.new.index i p ≡ seen_at self.old.index i p) }
+        ensures rest { OnlyIndex self.old self.new }
+    {
         if self.telling == Telling::Quiet {
             return Ok(());
         }
@@ -101,25 +113,37 @@ impl Parts {
     }
 
     /// Records that a node without names of its own is treated in an environment.
-    pub fn note_plain(&mut self, number: u32, env: &Env) -> Result<(), NoMemory> {
+    pub fn note_plain(&mut self, number: u32, env: &Env) -> Result<(), NoMemory>
+        ensures noted { OnOk result (NotedNameless self.old self.new number env.now None) }
+        ensures failed { OnErr result ((i p : ℕ) → seen_at self.new.index i p ≡ seen_at self.old.index i p) }
+        ensures rest { OnlyIndex self.old self.new }
+    {
         self.note(number, env, None, Vec::new(self.alloc))
     }
 
     /// Records the type of a node without names of its own.
-    pub fn note_type(&mut self, number: u32, env: &Env, ty: NodeRef) -> Result<(), NoMemory> {
+    pub fn note_type(&mut self, number: u32, env: &Env, ty: NodeRef) -> Result<(), NoMemory>
+        ensures noted { OnOk result (NotedNameless self.old self.new number env.now (Some ty)) }
+        ensures failed { OnErr result ((i p : ℕ) → seen_at self.new.index i p ≡ seen_at self.old.index i p) }
+        ensures rest { OnlyIndex self.old self.new }
+    {
         self.note(number, env, Some(ty), Vec::new(self.alloc))
     }
 
     /// Reports a fault.
-    pub fn report(&mut self, span: Span, kind: FaultKind, message: RcStr) -> Result<(), NoMemory> {
-        if self.telling == Telling::Quiet {
-            return Ok(());
-        }
+    pub fn report(&mut self, span: Span, kind: FaultKind, message: RcStr) -> Result<(), NoMemory>
+        ensures told { OnOk result (Told self.old.telling (faults_of self.old) (faults_of self.new) span kind (str_bytes message)) }
+        ensures failed { OnErr result (faults_of self.new ≡ faults_of self.old) }
+        ensures rest { OnlyFaults self.old self.new }
+    {
         let fault = Fault {
             span,
             kind,
             message,
         };
-        push(&mut self.faults.list, fault)
+        match self.telling {
+            Telling::Quiet => Ok(()),
+            Telling::Aloud => push(&mut self.faults.list, fault),
+        }
     }
 }

@@ -65,5 +65,4 @@ no_float (said.bad_position key) = refl
 no_float said.bad_range = refl
 no_float (said.splits_char key) = refl
 no_float (said.text_too_long n) = refl
-no_float said.not_built = refl
 no_float said.no_memory = refl

@@ -88,7 +88,6 @@ error_said (error.BadPosition key) = said.bad_position (key_text key)
 error_said error.BadRange = said.bad_range
 error_said (error.SplitsChar key) = said.splits_char (key_text key)
 error_said (error.TextTooLong bytes) = said.text_too_long bytes
-error_said error.NotBuilt = said.not_built
 
 -- a reply as what is said
 abbrev pub said_of : Reply → said.Said

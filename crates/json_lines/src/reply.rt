@@ -188,8 +188,6 @@ pub enum RequestError {
     SplitsChar { key: Key },
     /// How many bytes the new text would have.
     TextTooLong { bytes: u64 },
-    /// The request isn't served.
-    NotBuilt,
 }
 
 impl Malformed {

@@ -397,10 +397,6 @@ fn writes_errors(rt: HostRuntime) -> Result<(), Fail> {
             RequestError::TextTooLong { bytes: 1048577 },
             r#"{"class":"error","value":{"bytes":1048577,"name":"TextTooLong"}}"#,
         ),
-        (
-            RequestError::NotBuilt,
-            r#"{"class":"error","value":{"name":"NotBuilt"}}"#,
-        ),
     ] {
         assert!(rt; writes(alloc, Reply::Error(error), want)?, "{want}");
     }

@@ -297,7 +297,6 @@ fn error_value(alloc: Global, error: RequestError) -> Result<Value, AllocError>
             let value = json!(in alloc; {"bytes": bytes, "name": "TextTooLong"})?;
             classed_value(alloc, "error", value)
         }
-        RequestError::NotBuilt => named_value(alloc, "error", "NotBuilt"),
     }
 }
 

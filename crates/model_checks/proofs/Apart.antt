@@ -1,6 +1,6 @@
 -- Types that aren't one.
-use Rattle.std.proofs.Common.{◌≡◌, Bool, true, false, sym, ◌∙◌, ap}
-use Rattle.type_model.specs.Types.{Typ, Var, Arrow, Tuple, Con}
+use Rattle.std.proofs.Common.{◌≡◌, ℕ, Bool, true, false, sym, ◌∙◌, ap}
+use Rattle.type_model.specs.Types.{Path, Typ, Typs, Var, Arrow, Tuple, Con}
 use Rattle.type_model.specs.Origins.{same_path}
 use Rattle.typing_model.specs.BuiltIns.{int_type, string_type, built_in_origin}
 
@@ -22,3 +22,16 @@ yes_no e = cc e
 -- a string is no int
 pub string_is_no_int : (t u : Typ) → t ≡ string_type → u ≡ int_type → t ≡ u → ⊥
 string_is_no_int t u s i e = no_yes (ap is_int (sym s ∙ e ∙ i))
+
+abbrev is_variable : Typ → Bool
+is_variable (Var v) = true
+is_variable (Arrow a b) = false
+is_variable (Tuple ts) = false
+is_variable (Con o ts) = false
+
+-- an arrow, and a constructor, is no variable
+pub arrow_is_no_variable : (a b : Typ) (v : ℕ) → Arrow a b ≡ Var v → ⊥
+arrow_is_no_variable a b v e = no_yes (ap is_variable e)
+
+pub con_is_no_variable : (o : Path) (ts : Typs) (v : ℕ) → Con o ts ≡ Var v → ⊥
+con_is_no_variable o ts v e = no_yes (ap is_variable e)

@@ -25,3 +25,10 @@ or_else d (Some a) = a
 -- the newest value of the name covers a wanted one
 pub value_met : {k : ℕ} {A W : Components} {n : Name} {at : Place} {s : Scheme} (a : Scheme) → newest as_value n A ≡ Some a → MeetsAll k A (Component n at (Value s) W) → Covers a s
 value_met {s = s} a e (value b f c rest) = subst (λ x. Covers x s) (ap (or_else a) (sym f ∙ e)) c
+
+-- behind a value, the others are met, and the value is found
+pub behind_value : {k : ℕ} {A W : Components} {n : Name} {at : Place} {s : Scheme} → MeetsAll k A (Component n at (Value s) W) → MeetsAll k A W
+behind_value (value a e c rest) = rest
+
+pub value_found : {k : ℕ} {A W : Components} {n : Name} {at : Place} {s : Scheme} → MeetsAll k A (Component n at (Value s) W) → (a : Scheme) × (newest as_value n A ≡ Some a)
+value_found (value a e c rest) = (a, e)

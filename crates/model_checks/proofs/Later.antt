@@ -5,13 +5,13 @@ use Rattle.typing_model.specs.BuiltIns.{unit_type, list_type}
 use Rattle.model_checks.specs.Scopes.{ref_type}
 
 -- what stands left and right of an arrow
-abbrev left : Typ → Typ
+abbrev pub left : Typ → Typ
 left (Var v) = Var v
 left (Arrow a b) = a
 left (Tuple ts) = Tuple ts
 left (Con o ts) = Con o ts
 
-abbrev right : Typ → Typ
+abbrev pub right : Typ → Typ
 right (Var v) = Var v
 right (Arrow a b) = b
 right (Tuple ts) = Tuple ts

@@ -4,3 +4,16 @@ pub mod Cycles
 pub mod Apart
 pub mod Inverting
 pub mod Later
+pub mod Coding
+pub mod Keeping
+pub mod BranchesDiffer
+pub mod SelfApplied
+pub mod References
+pub mod Reference
+pub mod LaterType
+pub mod Undetermined
+pub mod AbsentComponent
+pub mod WholeRecord
+pub mod UsedTwice
+pub mod SealedType
+pub mod MissedValue

@@ -30,3 +30,10 @@ use_of_fixed sc u k fixed use_ =
 -- a use of a name that has one type has that type
 pub use_of_one : (t u : Typ) → IsKnown t → IsUse (monomorphic t) u → u ≡ t
 use_of_one t u k use_ = use_of_fixed (monomorphic t) u k (λ v o. refl) use_
+
+-- a use of a name whose type is an arrow between one type is such an arrow
+pub use_of_same : (sc : Scheme) (t u : Typ) → IsKnown sc.body → sc.body ≡ Arrow t t → IsUse sc u → (a : Typ) × (u ≡ Arrow a a)
+use_of_same sc t u k e use_ = (
+  apply use_.instance.0 t,
+  use_.instance.2 ∙ ap (apply use_.instance.0) (filled_known use_.fill sc.body k ∙ e),
+)

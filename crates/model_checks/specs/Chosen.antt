@@ -1,10 +1,11 @@
 -- Types for the nodes of some texts.
 use Rattle.std.specs.Prelude.{ℕ, ◌==◌, List, [], ◌∷◌, if◌then◌else◌}
 use Rattle.type_model.specs.Types.{Typ, Var, Arrow, Tuple, Con, Nil, Cons}
-use Rattle.typing_model.specs.BuiltIns.{int_type, string_type, list_type}
+use Rattle.typing_model.specs.BuiltIns.{int_type, bool_type, string_type, list_type}
 use Rattle.typing_model.specs.Contexts.{Choice}
 use Rattle.model_checks.specs.Typings.{first, second, choice_of}
 use Rattle.model_checks.specs.Scopes.{ref_type}
+use Rattle.model_checks.specs.Open.{of_node, of_letter}
 
 -- let r = ref []: r, the application, ref, and []
 abbrev pub reference_types : List (ℕ × Typ)
@@ -42,3 +43,20 @@ inner_types =
 
 abbrev pub inner_choice : Choice
 inner_choice = choice_of inner_types (λ n k. if n == first 11 then int_type else string_type)
+
+-- let r = ref []: the same with a variable of its own for what [] is a list of
+abbrev pub reference_open : List (ℕ × Typ)
+reference_open = (first 2, ref_type (list_type (Var (of_letter (first 5) 0)))) ∷ (first 3, ref_type (list_type (Var (of_letter (first 5) 0)))) ∷ (first 4, Arrow (list_type (Var (of_letter (first 5) 0))) (ref_type (list_type (Var (of_letter (first 5) 0))))) ∷ (first 5, list_type (Var (of_letter (first 5) 0))) ∷ []
+
+-- the same with the variable of x its own
+abbrev pub inner_open : List (ℕ × Typ)
+inner_open =
+    (first 2, pair_type) ∷ (first 3, pair_type) ∷ (first 5, Arrow (Var (of_node (first 7))) (Var (of_node (first 7)))) ∷ (first 6, Arrow (Var (of_node (first 7))) (Var (of_node (first 7)))) ∷ (first 8, Var (of_node (first 7))) ∷ (first 9, pair_type) ∷ (first 10, pair_type) ∷ (first 11, int_type) ∷ (first 12, Arrow int_type int_type) ∷ (first 13, int_type) ∷ (first 14, string_type) ∷ (first 15, Arrow string_type string_type) ∷ (first 16, string_type) ∷ []
+
+-- type 'a ref = { mutable contents : 'a } val ref : 'a -> 'a ref: the type of contents, and those in the type of ref
+abbrev pub prelude_choice : Choice
+prelude_choice = choice_of ((5, Var 0) ∷ (7, Arrow (Var 0) (ref_type (Var 0))) ∷ (8, Var 0) ∷ (9, ref_type (Var 0)) ∷ (10, Var 0) ∷ []) (λ n k. Var 0)
+
+-- let f x = match x with true -> 1: f, x, the match, its subject, the pattern, 1
+abbrev pub match_types : List (ℕ × Typ)
+match_types = (first 2, Arrow bool_type int_type) ∷ (first 3, bool_type) ∷ (first 4, int_type) ∷ (first 5, bool_type) ∷ (first 7, bool_type) ∷ (first 8, int_type) ∷ []

@@ -6,3 +6,5 @@ pub mod Matches
 pub mod Signatures
 pub mod Scopes
 pub mod Chosen
+pub mod Kept
+pub mod Open

@@ -55,3 +55,7 @@ shown_scope = only_entry ∷ []
 -- and ( := ) : 'a ref -> 'a -> unit
 abbrev pub with_assignment : Environment
 with_assignment = entry (codes ":=") somewhere (a_value (all_bound (Arrow (ref_type (Var 0)) (Arrow (Var 0) unit_type)))) ∷ with_ref
+
+-- ( + ) : int -> int -> int, in front of the built-in types
+abbrev pub with_plus : Environment
+with_plus = entry (codes "+") somewhere (a_value (all_bound (Arrow int_type (Arrow int_type int_type)))) ∷ built_in_names

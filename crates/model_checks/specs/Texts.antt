@@ -1,6 +1,6 @@
 -- Texts as lists of tokens, and what the parser makes of them.
 use Rattle.std.specs.Prelude.{ℕ, List, [], ◌∷◌, codes}
-use Rattle.token_model.specs.Kinds.{Tok, Kind, and_word, arrow, bar, colon, colon_equal, comma, else_word, end_word, fun_word, if_word, in_word, int, left_brace, left_bracket, left_paren, let_word, lower, match_word, module_word, nil, of_word, op9, qualifier, rec_word, right_brace, right_bracket, right_paren, semi, sig_word, str, struct_word, then_word, type_word, underscore, unit, upper, val_word, when_word, with_word}
+use Rattle.token_model.specs.Kinds.{Tok, Kind, and_word, arrow, bar, colon, colon_equal, comma, else_word, end_word, fun_word, if_word, in_word, int, left_brace, left_bracket, left_paren, let_word, lower, match_word, module_word, mutable_word, nil, of_word, op12, op9, qualifier, rec_word, right_brace, right_bracket, right_paren, semi, sig_word, str, struct_word, then_word, true_word, ty_var, type_word, underscore, unit, upper, val_word, when_word, with_word}
 use Rattle.tree_model.specs.Trees.{Tree, Forest, node, no_parts, part, taken, inner, missing}
 use Rattle.grammar_model.specs.Named.{named}
 use Rattle.grammar_model.specs.Ocaml.{program_text, grammar, row_name}
@@ -104,3 +104,23 @@ later_type = tok let_word 0 3 (codes "let") ∷ tok lower 4 5 (codes "r") ∷ to
 -- type t = A of int let x = A 1 2
 abbrev pub two_arguments : List Tok
 two_arguments = tok type_word 0 4 (codes "type") ∷ tok lower 5 6 (codes "t") ∷ tok op9 7 8 (codes "=") ∷ tok upper 9 10 (codes "A") ∷ tok of_word 11 13 (codes "of") ∷ tok lower 14 17 (codes "int") ∷ tok let_word 18 21 (codes "let") ∷ tok lower 22 23 (codes "x") ∷ tok op9 24 25 (codes "=") ∷ tok upper 26 27 (codes "A") ∷ tok int 28 29 (codes "1") ∷ tok int 30 31 (codes "2") ∷ []
+
+-- module M : sig val a : int val b : string end = struct let a = 1 end let c = M.b
+abbrev pub absent_component : List Tok
+absent_component = tok module_word 0 6 (codes "module") ∷ tok upper 7 8 (codes "M") ∷ tok colon 9 10 (codes ":") ∷ tok sig_word 11 14 (codes "sig") ∷ tok val_word 15 18 (codes "val") ∷ tok lower 19 20 (codes "a") ∷ tok colon 21 22 (codes ":") ∷ tok lower 23 26 (codes "int") ∷ tok val_word 27 30 (codes "val") ∷ tok lower 31 32 (codes "b") ∷ tok colon 33 34 (codes ":") ∷ tok lower 35 41 (codes "string") ∷ tok end_word 42 45 (codes "end") ∷ tok op9 46 47 (codes "=") ∷ tok struct_word 48 54 (codes "struct") ∷ tok let_word 55 58 (codes "let") ∷ tok lower 59 60 (codes "a") ∷ tok op9 61 62 (codes "=") ∷ tok int 63 64 (codes "1") ∷ tok end_word 65 68 (codes "end") ∷ tok let_word 69 72 (codes "let") ∷ tok lower 73 74 (codes "c") ∷ tok op9 75 76 (codes "=") ∷ tok qualifier 77 79 (codes "M") ∷ tok lower 79 80 (codes "b") ∷ []
+
+-- type 'a ref = { mutable contents : 'a } val ref : 'a -> 'a ref, a signature
+abbrev pub short_prelude : List Tok
+short_prelude = tok type_word 0 4 (codes "type") ∷ tok ty_var 5 7 (codes "'a") ∷ tok lower 8 11 (codes "ref") ∷ tok op9 12 13 (codes "=") ∷ tok left_brace 14 15 (codes "{") ∷ tok mutable_word 16 23 (codes "mutable") ∷ tok lower 24 32 (codes "contents") ∷ tok colon 33 34 (codes ":") ∷ tok ty_var 35 37 (codes "'a") ∷ tok right_brace 38 39 (codes "}") ∷ tok val_word 40 43 (codes "val") ∷ tok lower 44 47 (codes "ref") ∷ tok colon 48 49 (codes ":") ∷ tok ty_var 50 52 (codes "'a") ∷ tok arrow 53 55 (codes "->") ∷ tok ty_var 56 58 (codes "'a") ∷ tok lower 59 62 (codes "ref") ∷ []
+
+-- module M : sig type t val x : t end = struct type t = int let x = 1 end let y = M.x + 1
+abbrev pub sealed_type : List Tok
+sealed_type = tok module_word 0 6 (codes "module") ∷ tok upper 7 8 (codes "M") ∷ tok colon 9 10 (codes ":") ∷ tok sig_word 11 14 (codes "sig") ∷ tok type_word 15 19 (codes "type") ∷ tok lower 20 21 (codes "t") ∷ tok val_word 22 25 (codes "val") ∷ tok lower 26 27 (codes "x") ∷ tok colon 28 29 (codes ":") ∷ tok lower 30 31 (codes "t") ∷ tok end_word 32 35 (codes "end") ∷ tok op9 36 37 (codes "=") ∷ tok struct_word 38 44 (codes "struct") ∷ tok type_word 45 49 (codes "type") ∷ tok lower 50 51 (codes "t") ∷ tok op9 52 53 (codes "=") ∷ tok lower 54 57 (codes "int") ∷ tok let_word 58 61 (codes "let") ∷ tok lower 62 63 (codes "x") ∷ tok op9 64 65 (codes "=") ∷ tok int 66 67 (codes "1") ∷ tok end_word 68 71 (codes "end") ∷ tok let_word 72 75 (codes "let") ∷ tok lower 76 77 (codes "y") ∷ tok op9 78 79 (codes "=") ∷ tok qualifier 80 82 (codes "M") ∷ tok lower 82 83 (codes "x") ∷ tok op12 84 85 (codes "+") ∷ tok int 86 87 (codes "1") ∷ []
+
+-- let f x = match x with true -> 1
+abbrev pub missed_value : List Tok
+missed_value = tok let_word 0 3 (codes "let") ∷ tok lower 4 5 (codes "f") ∷ tok lower 6 7 (codes "x") ∷ tok op9 8 9 (codes "=") ∷ tok match_word 10 15 (codes "match") ∷ tok lower 16 17 (codes "x") ∷ tok with_word 18 22 (codes "with") ∷ tok true_word 23 27 (codes "true") ∷ tok arrow 28 30 (codes "->") ∷ tok int 31 32 (codes "1") ∷ []
+
+-- let f (C x) = x
+abbrev pub unbound_pattern : List Tok
+unbound_pattern = tok let_word 0 3 (codes "let") ∷ tok lower 4 5 (codes "f") ∷ tok left_paren 6 7 (codes "(") ∷ tok upper 7 8 (codes "C") ∷ tok lower 9 10 (codes "x") ∷ tok right_paren 10 11 (codes ")") ∷ tok op9 12 13 (codes "=") ∷ tok lower 14 15 (codes "x") ∷ []

@@ -5,8 +5,10 @@
 #![tactic(auto)]
 
 mod demands;
+mod kept;
 mod matches;
 mod names;
+mod preludes;
 mod printing;
 mod signatures;
 mod typings;
@@ -19,6 +21,15 @@ pub use demands::{
     demands_of_an_undetermined_body, demands_of_branches, demands_of_cyclic_types,
     demands_of_identity, demands_of_reference, demands_of_self_application,
 };
+pub use kept::{
+    a_later_type_is_a_fault, a_later_type_is_not_kept, a_match_misses_a_value,
+    a_record_is_principal, a_record_keeps_all, a_reference_is_principal, a_reference_keeps_all,
+    a_sealed_type_is_a_fault, a_sealed_type_is_not_kept, an_absent_component_is_a_fault,
+    an_absent_component_is_not_kept, an_inner_binding_is_principal, an_inner_binding_keeps_all,
+    an_unbound_constructor_is_of_the_whole, an_undetermined_body_is_not_closed,
+    the_argument_of_itself_is_a_fault, the_argument_of_itself_is_not_kept,
+    the_second_branch_is_a_fault, the_second_branch_is_not_kept,
+};
 pub use matches::{
     a_list_of_two, a_list_without_the_empty_one, a_match_in_a_match, a_pair_of_booleans, a_record,
     an_argument_in_parentheses, an_option_without_none,
@@ -26,6 +37,7 @@ pub use matches::{
 pub use names::{
     generalisation, names_in_scope, names_of_types, ranges_of_integers, records_by_their_labels,
 };
+pub use preludes::a_prelude_is_read;
 pub use printing::{
     arrow_left_of_an_arrow, long_texts, one_argument_in_parentheses, several_arguments,
     tuple_in_a_tuple, variables_in_order, variables_past_z, weak_variables,

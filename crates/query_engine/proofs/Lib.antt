@@ -2,3 +2,4 @@ pub mod Empty
 pub mod Orders
 pub mod Told
 pub mod Views
+mod Kept

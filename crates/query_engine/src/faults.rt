@@ -1,11 +1,13 @@
 //! The page of a text's faults.
-ghost use Rattle.std.specs.Prelude.{◌≡◌, map, IfOk};
+ghost use Rattle.std.specs.Prelude.{◌≡◌, ◌++◌, map, IfOk};
 ghost use Rattle.text_terms.specs.Bytes.{str_bytes};
-ghost use Rattle.query_model.specs.Faults.{has_more, listed, missing_text, page};
+ghost use Rattle.query_model.specs.Faults.{by_typer, has_more, listed, missing_text, page};
 ghost use Rattle.syntax_tree.specs.View.{place_of};
-ghost use Rattle.query_engine.specs.Faults.{fault_of, listed_of, told_by_parser};
+ghost use Rattle.query_engine.specs.Faults.{fault_of, listed_of, told_by_parser, told_of, typer_fault_of};
 
-use crate::order::{PAGE_LIMIT, first_faults, span_of};
+use crate::order::{PAGE_LIMIT, first_faults};
+use crate::tellers::{Teller, Told, kind_name, place_of_fault, teller_of};
+use env_table::Fault;
 use frame_parser::SyntaxFault;
 use std::alloc::Global;
 use syntax_tree::{NoMemory, RcStr, Span};
@@ -24,7 +26,7 @@ pub struct Listed {
 /// The first faults of a text.
 #[derive(Drop)]
 pub struct FaultPage {
-    /// By start, then end, then what tells them.
+    /// By start, then end, then what tells them; those that are alike in it as they were found.
     pub list: Vec<Listed>,
     /// Whether there are others.
     pub more: bool,
@@ -51,15 +53,15 @@ fn by_parser(alloc: Global, span: Span, kind: &str, message: RcStr) -> Result<Li
         span,
         kind: RcStr::from_str(alloc, kind)?,
         message,
-        ty: RcStr::from_str(alloc, "parser")?,
+        ty: RcStr::from_str(alloc, Teller::Parser.name())?,
     })
 }
 
-/// A fault with its kind and its message.
-fn listed_fault(alloc: Global, fault: SyntaxFault) -> Result<Listed, NoMemory>
+/// A fault of the parser with its kind and its message.
+fn listed_parsed(alloc: Global, fault: SyntaxFault) -> Result<Listed, NoMemory>
     ensures { IfOk result (λ l. listed_of l ≡ listed (fault_of fault)) }
 {
-    let span = span_of(fault);
+    let span = place_of_fault(fault);
     match fault {
         SyntaxFault::Added { place: _, holes } => {
             by_parser(alloc, span, "added", missing_text(alloc, holes)?)
@@ -75,9 +77,30 @@ fn listed_fault(alloc: Global, fault: SyntaxFault) -> Result<Listed, NoMemory>
     }
 }
 
+/// A fault of the typer with its kind and its message.
+fn listed_typed(alloc: Global, fault: &Fault) -> Result<Listed, NoMemory>
+    ensures { IfOk result (λ l. listed_of l ≡ listed (by_typer (typer_fault_of fault.now))) }
+{
+    Ok(Listed {
+        span: fault.span,
+        kind: RcStr::from_str(alloc, kind_name(fault.kind))?,
+        message: fault.message.share()?,
+        ty: RcStr::from_str(alloc, teller_of(fault.kind).name())?,
+    })
+}
+
+fn listed_fault(alloc: Global, fault: Told<'_>) -> Result<Listed, NoMemory>
+    ensures { IfOk result (λ l. listed_of l ≡ listed (told_of fault.entry)) }
+{
+    match fault {
+        Told::Parser(fault) => listed_parsed(alloc, fault),
+        Told::Typer(fault) => listed_typed(alloc, fault),
+    }
+}
+
 /// Each of these faults with its kind and its message.
-fn listed_all(alloc: Global, faults: &[SyntaxFault]) -> Result<Vec<Listed>, NoMemory>
-    ensures { IfOk result (λ v. map listed_of v.items ≡ map listed (map fault_of faults.now)) }
+fn listed_all(alloc: Global, faults: &[Told<'_>]) -> Result<Vec<Listed>, NoMemory>
+    ensures { IfOk result (λ v. map listed_of v.items ≡ map listed (map told_of faults.now)) }
 {
     let mut list = Vec::new(alloc);
     for fault in faults {
@@ -89,15 +112,16 @@ fn listed_all(alloc: Global, faults: &[SyntaxFault]) -> Result<Vec<Listed>, NoMe
     Ok(list)
 }
 
-/// The page of a text's faults: the first 1,000 by start, then end, and whether there are others.
+/// The page of a text's faults, those of the parser and those of the typer with its warnings, each in the order in which
+/// they were found: the first 1,000 by start, then end, then what tells them, and whether there are others.
 #[tactic(auto, unfolding(query_model::specs::Faults::page))]
-pub fn errors(alloc: Global, faults: &[SyntaxFault]) -> Result<FaultPage, NoMemory>
-    ensures list { IfOk result (λ p. map listed_of p.list.items ≡ page (map fault_of faults.now)) }
-    ensures more { IfOk result (λ p. p.more ≡ has_more (map fault_of faults.now)) }
+pub fn errors(alloc: Global, parsed: &[SyntaxFault], typed: &[Fault]) -> Result<FaultPage, NoMemory>
+    ensures list { IfOk result (λ p. map listed_of p.list.items ≡ page (map fault_of parsed.now ++ map by_typer (map typer_fault_of typed.now))) }
+    ensures more { IfOk result (λ p. p.more ≡ has_more (map fault_of parsed.now ++ map by_typer (map typer_fault_of typed.now))) }
 {
-    let first = first_faults(alloc, faults)?;
+    let first = first_faults(alloc, parsed, typed)?;
     Ok(FaultPage {
         list: listed_all(alloc, &first)?,
-        more: faults.len() > PAGE_LIMIT,
+        more: parsed.len().saturating_add(typed.len()) > PAGE_LIMIT,
     })
 }

@@ -3,16 +3,35 @@
 //! Above, `outline` gives the members that `query_model` tells of the text's items, and `errors` the page of its faults.
 #![tactic(auto)]
 
+mod asked;
+mod completions;
 mod faults;
+mod inner_nodes;
+mod locations;
+mod name_tokens;
 mod names;
 mod order;
 mod outlines;
+mod prefixes;
 mod slots;
+mod tellers;
+mod touching;
+mod trials;
+mod typed_nodes;
+mod types;
 
+pub use asked::{Asked, QueryFault};
+pub use completions::{Completion, CompletionKind, Completions, complete_prefix};
 pub use faults::{FaultPage, Listed, errors};
 pub use frame_parser::SyntaxFault;
+pub use inner_nodes::{innermost, node_with};
+pub use locations::{locate, occurrences};
 pub use outlines::{Outlined, outline};
 pub use slots::OutlineKind;
+pub use tellers::kind_name;
+pub use trials::{Replacement, Trial};
+pub use typed_nodes::{TypedNode, typed_around};
+pub use types::{Typed, enclosing_types};
 
 #[cfg(test)]
 mod tests {
@@ -110,7 +129,7 @@ mod tests {
             },
             SyntaxFault::Added { place: 0, holes: 1 },
         ];
-        let page = errors(alloc, &faults)?;
+        let page = errors(alloc, &faults, &[])?;
         assert!(rt; !page.more);
         assert_eq!(rt; page.list.len(), 4);
         assert!(rt; is_told(&page, 0, (0, 0), "added", "1 part is missing here"));
@@ -128,7 +147,7 @@ mod tests {
         };
         for (count, more) in [(1000, false), (1001, true)] {
             let faults = vec![in alloc; fault; count]?;
-            let page = errors(alloc, &faults)?;
+            let page = errors(alloc, &faults, &[])?;
             assert_eq!(rt; (page.list.len(), page.more), (1000, more));
         }
         Ok(())

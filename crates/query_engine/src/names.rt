@@ -21,7 +21,7 @@ pub(crate) fn has_slot(children: &[Child], slot: u8) -> bool
     false
 }
 
-fn is_slot(wanted: Option<u8>, slot: u8) -> bool
+pub(crate) fn is_slot(wanted: Option<u8>, slot: u8) -> bool
     ensures { result ≡ is_slot wanted slot }
 {
     match wanted {

@@ -47,6 +47,64 @@ told (added p n) = parts_missing p n
 told (skipped t) = token_skipped (place t.start t.end)
 told (too_deep t) = token_too_deep (place t.start t.end)
 
+-- ---- the typer's faults, and its warnings
+
+-- the kinds of its faults; the last two are warnings
+pub data TyperKind : Type 0 where
+  bound : TyperKind
+  equal : TyperKind
+  arity : TyperKind
+  label : TyperKind
+  mutable : TyperKind
+  complete : TyperKind
+  unique : TyperKind
+  sides : TyperKind
+  range : TyperKind
+  cycle : TyperKind
+  reexport : TyperKind
+  functor : TyperKind
+  with : TyperKind
+  closing : TyperKind
+  matching : TyperKind
+  missed : TyperKind
+  unused : TyperKind
+
+-- a kind as it is told
+abbrev pub kind_name : TyperKind → List ℕ
+kind_name bound = codes "bound"
+kind_name equal = codes "equal"
+kind_name arity = codes "arity"
+kind_name label = codes "label"
+kind_name mutable = codes "mutable"
+kind_name complete = codes "complete"
+kind_name unique = codes "unique"
+kind_name sides = codes "sides"
+kind_name range = codes "range"
+kind_name cycle = codes "cycle"
+kind_name reexport = codes "reexport"
+kind_name functor = codes "functor"
+kind_name with = codes "with"
+kind_name closing = codes "closing"
+kind_name matching = codes "match"
+kind_name missed = codes "missed"
+kind_name unused = codes "unused"
+
+-- what tells faults of a kind
+abbrev pub source_of : TyperKind → Source
+source_of missed = warning
+source_of unused = warning
+source_of _ = typer
+
+-- a fault of the typer, or a warning
+pub record TyperFault : Type 0 where
+  pub span : Place
+  pub kind : TyperKind
+  pub message : List ℕ
+
+-- it as it is told
+abbrev pub by_typer : TyperFault → Fault
+by_typer f = record { span = f.span; source = source_of f.kind; kind = kind_name f.kind; message = f.message }
+
 -- ---- their order
 
 -- a place comes before another: by its start, or by its end where they start together

@@ -1,15 +1,19 @@
 -- The answer to a line at a text, and the text behind it.
-use Rattle.std.specs.Prelude.{◌≡◌, ◌⊎◌, ℕ, List, [], ◌∷◌, length, reverse, filter_map, find, ◌&&◌, nat_eq, nat_lt, Bool, true, false, Option, Some, None, option_map, codes, if◌then◌else◌}
+use Rattle.std.specs.Prelude.{◌≡◌, ◌≤◌, ◌⊎◌, All, ℕ, List, [], ◌∷◌, length, reverse, filter, filter_map, find, map, ◌&&◌, nat_eq, nat_lt, Bool, true, false, Option, Some, None, option_map, codes, if◌then◌else◌}
+use Rattle.std.specs.Str.{IsUtf8}
 use Rattle.text_model.specs.Positions.{offset, position_of}
 use Rattle.text_model.specs.Edits as edit
 use Rattle.token_model.specs.Kinds.{Tok}
 use Rattle.token_model.specs.Tokens.{Lex}
-use Rattle.tree_model.specs.Trees.{Tree}
+use Rattle.tree_model.specs.Trees.{Tree, Place}
 use Rattle.tree_model.specs.Nodes.{Id, nodes_at}
 use Rattle.plain_model.specs.Plain.{Seen, plain_text, type_text}
+use Rattle.query_model.specs.NameTokens.{Name, name_round, text_names}
+use Rattle.query_model.specs.Prefixes.{is_name_prefix}
+use Rattle.query_model.specs.TypedNodes.{Typed, innermost_at, typed_at}
 use Rattle.service_model.specs.Requests.{Asked, tell, type_enclosing, complete_prefix, locate, occurrences, outline, errors, case_analysis, construct, Reading, asks, refused, reading}
 use Rattle.service_model.specs.Replies as said
-use Rattle.service_model.specs.Structure.{OutlineIs, ErrorsAre}
+use Rattle.service_model.specs.Structure.{OutlineIs, ErrorsAre, items_in}
 
 -- What is proved of a request's piece: the exact bytes, or that it is a reply line.
 -- A request that is answered before its answer is proved stands here as `false`.
@@ -52,21 +56,36 @@ ToldIs text (edit.refused r) s after = (s ≡ edit_refusal r) × (after ≡ text
 abbrev pub is_id : Id → Seen → Bool
 is_id i s = nat_eq s.id.item i.item && nat_eq s.id.pre i.pre
 
-abbrev pub typed_at : List ℕ → Seen → said.Typed
-typed_at text s = record { start = position_of text s.span.start; end = position_of text s.span.end; type_text = type_text s.ty }
+abbrev pub plain_typed : List ℕ → Seen → said.Typed
+plain_typed text s = record { start = position_of text s.span.start; end = position_of text s.span.end; type_text = type_text s.ty }
 
 -- the typed ones of these nodes, in their order
 abbrev pub typed_among : List ℕ → List Seen → List Id → List said.Typed
-typed_among text seen ids = filter_map (λ i. option_map (typed_at text) (find (is_id i) seen)) ids
+typed_among text seen ids = filter_map (λ i. option_map (plain_typed text) (find (is_id i) seen)) ids
+
+-- where a place starts and ends, by lines and columns of a text
+abbrev pub shown_place : List ℕ → Place → (ℕ × ℕ) × (ℕ × ℕ)
+shown_place text p = (position_of text p.start, position_of text p.end)
 
 abbrev pub types_or_none : List said.Typed → said.Said
 types_or_none [] = said.no_node
 types_or_none (t ∷ ts) = said.types (t ∷ ts)
 
--- the types round an offset of a text of these tokens: of the typed nodes that hold it, from the last in preorder to the first
-abbrev pub enclosing_said : List ℕ → ℕ → Option (List Tree × List Seen) → said.Said
-enclosing_said text o None = said.not_built
-enclosing_said text o (Some p) = types_or_none (typed_among text p.1 (reverse (nodes_at o p.0)))
+abbrev pub start_and_end : said.Typed → (ℕ × ℕ) × (ℕ × ℕ)
+start_and_end t = (t.start, t.end)
+
+-- what is said of typed nodes at these places: each place, and a type, which stays open
+abbrev pub TypesAre : List ℕ → List Place → said.Said → Type 0
+TypesAre text places s = (types : List said.Typed) × (map start_and_end types ≡ map (shown_place text) places) × (s ≡ types_or_none types)
+
+-- the places of the typed nodes of these items that hold an offset, from the last in preorder to the first
+abbrev pub typed_round : ℕ → List Tree → List Place
+typed_round o items = map (λ n. n.span) (reverse (typed_at o items))
+
+-- The types round an offset of a text of these tokens: of the typed nodes that hold it, from the last in preorder to the first. Those of a plain text are known.
+abbrev pub EnclosingBy : List ℕ → ℕ → List Tok → Option (List Tree × List Seen) → said.Said → Type 0
+EnclosingBy text o tokens (Some p) s = s ≡ types_or_none (typed_among text p.1 (reverse (nodes_at o p.0)))
+EnclosingBy text o tokens None s = TypesAre text (typed_round o (items_in tokens)) s
 
 -- ---- queries
 
@@ -79,23 +98,96 @@ abbrev pub QueryIs : List ℕ → ℕ × ℕ → (ℕ → said.Said → Type 0) 
 QueryIs text at P s after = PlacedIs (offset text at.0 at.1) P s × (after ≡ text)
 
 abbrev pub EnclosingIs : List ℕ → ℕ → said.Said → Type 0
-EnclosingIs text o s = (tokens : List Tok) × Lex text tokens × (s ≡ enclosing_said text o (plain_text tokens))
+EnclosingIs text o s = (tokens : List Tok) × Lex text tokens × EnclosingBy text o tokens (plain_text tokens) s
 
--- a query that isn't served yet
-abbrev pub IsNotBuilt : ℕ → said.Said → Type 0
-IsNotBuilt o s = s ≡ said.not_built
+-- ---- names
+
+-- what is said of the name round an offset, if there is one: that it isn't bound, or P
+abbrev pub NameIs : (Name → said.Said → Type 0) → Option Name → said.Said → Type 0
+NameIs P None s = s ≡ said.not_a_name
+NameIs P (Some n) s = (s ≡ said.unbound n.name) ⊎ P n s
+
+-- where it is defined: in the text, or before it; which of these, and at which place, stays open
+abbrev pub PlaceIs : List ℕ → Name → said.Said → Type 0
+PlaceIs text n s = ((o : ℕ) × (s ≡ said.place (codes "buffer") (position_of text o))) ⊎ ((pos : ℕ × ℕ) × (s ≡ said.place (codes "prelude") pos))
+
+-- where names of the text stand, in order, and it among them; which others stays open
+abbrev pub UsesAre : List ℕ → List Name → Name → said.Said → Type 0
+UsesAre text names n s = (same : Name → Bool) × (same n ≡ true) × (s ≡ said.spans (map (shown_place text) (map (λ m. m.span) (filter same names))))
+
+abbrev pub LocatedBy : List ℕ → ℕ → List Tree → said.Said → Type 0
+LocatedBy text o items s = NameIs (PlaceIs text) (name_round o (text_names items)) s
+
+abbrev pub UsedBy : List ℕ → ℕ → List Tree → said.Said → Type 0
+UsedBy text o items s = NameIs (UsesAre text (text_names items)) (name_round o (text_names items)) s
+
+-- what is said of the items of a text
+abbrev pub ItemsAre : List ℕ → (List Tree → said.Said → Type 0) → said.Said → Type 0
+ItemsAre text P s = (tokens : List Tok) × Lex text tokens × P (items_in tokens) s
+
+abbrev pub LocateIs : List ℕ → ℕ → said.Said → Type 0
+LocateIs text o s = ItemsAre text (LocatedBy text o) s
+
+abbrev pub OccurrencesAre : List ℕ → ℕ → said.Said → Type 0
+OccurrencesAre text o s = ItemsAre text (UsedBy text o) s
+
+-- ---- completions
+
+-- the names that a prefix may become, where it has the form of one; which these are stays open, and whether its modules are bound
+abbrev pub CompletedBy : Bool → said.Said → Type 0
+CompletedBy false s = s ≡ said.not_a_name
+CompletedBy true s = ((ident : List ℕ) × (s ≡ said.unbound ident)) ⊎ ((entries : List said.Entry) × (more : Bool) × (length entries ≤ 200) × (s ≡ said.entries entries more))
+
+abbrev pub CompletionsAre : List ℕ → List ℕ → ℕ → said.Said → Type 0
+CompletionsAre text prefix o s = ItemsAre text (λ items x. CompletedBy (is_name_prefix prefix) x) s
+
+-- ---- cases and terms
+
+-- bytes in place of a part of a text leave a text: one of whole characters, within the limit
+abbrev pub LeavesText : List ℕ → Place → List ℕ → Type 0
+LeavesText text x bytes = IsUtf8 (edit.apply text x.start x.end bytes) × (length (edit.apply text x.start x.end bytes) ≤ edit.text_limit)
+
+-- What is said of the cases of a typed node: what goes in its place and leaves a text, or why there is none. What stands in it, and which failure comes, stays open.
+abbrev pub CasesAt : List ℕ → Typed → said.Said → Type 0
+CasesAt text n (said.split start end bytes) = ((start, end) ≡ shown_place text n.span) × LeavesText text n.span bytes
+CasesAt text n said.nothing_to_split = Unit {0}
+CasesAt text n (said.hidden_constructor name) = Unit {0}
+CasesAt text n (said.would_fault at) = (o : ℕ) × (at ≡ position_of text o)
+CasesAt text n _ = ⊥
+
+-- the same of the typed node at an offset, if there is one
+abbrev pub CasesBy : List ℕ → Option Typed → said.Said → Type 0
+CasesBy text None s = s ≡ said.no_node
+CasesBy text (Some n) s = CasesAt text n s
+
+-- What is said of the terms in place of a typed node: texts each of which may go there and leaves a text, or that it is no hole. Which texts, and which nodes are holes, stays open.
+abbrev pub TermsAt : List ℕ → Typed → said.Said → Type 0
+TermsAt text n (said.terms start end texts) = ((start, end) ≡ shown_place text n.span) × All (LeavesText text n.span) texts
+TermsAt text n said.not_a_hole = Unit {0}
+TermsAt text n _ = ⊥
+
+-- the same of the typed node at an offset, if there is one
+abbrev pub TermsBy : List ℕ → Option Typed → said.Said → Type 0
+TermsBy text None s = s ≡ said.no_node
+TermsBy text (Some n) s = TermsAt text n s
+
+abbrev pub CasesAre : List ℕ → ℕ → said.Said → Type 0
+CasesAre text o s = ItemsAre text (λ items x. CasesBy text (innermost_at o items) x) s
+
+abbrev pub TermsAre : List ℕ → ℕ → said.Said → Type 0
+TermsAre text o s = ItemsAre text (λ items x. TermsBy text (innermost_at o items) x) s
 
 -- What is said to a request at a text, and the text behind it: only a `tell` that is accepted changes it.
 abbrev pub Replies : List ℕ → Asked → said.Said → List ℕ → Type 0
 Replies text (tell range bytes) s after = ToldIs text (tell_outcome text range bytes) s after
 Replies text (type_enclosing at) s after = QueryIs text at (EnclosingIs text) s after
-Replies text (complete_prefix at prefix) s after = QueryIs text at IsNotBuilt s after
-Replies text (locate at) s after = QueryIs text at IsNotBuilt s after
-Replies text (occurrences at) s after = QueryIs text at IsNotBuilt s after
+Replies text (complete_prefix at prefix) s after = QueryIs text at (CompletionsAre text prefix) s after
+Replies text (locate at) s after = QueryIs text at (LocateIs text) s after
+Replies text (occurrences at) s after = QueryIs text at (OccurrencesAre text) s after
 Replies text outline s after = OutlineIs text s × (after ≡ text)
 Replies text errors s after = ErrorsAre text s × (after ≡ text)
-Replies text (case_analysis at) s after = QueryIs text at IsNotBuilt s after
-Replies text (construct at) s after = QueryIs text at IsNotBuilt s after
+Replies text (case_analysis at) s after = QueryIs text at (CasesAre text) s after
+Replies text (construct at) s after = QueryIs text at (TermsAre text) s after
 
 -- the piece that answers a line, and the text behind it
 abbrev pub Answered : List ℕ → Reading → List ℕ → List ℕ → Type 0

@@ -1,5 +1,7 @@
 pub mod Requests
 pub mod Replies
-pub mod Structure
 pub mod Answers
 pub mod Runs
+pub mod Structure
+pub mod WellTyped
+pub mod Made

@@ -60,7 +60,6 @@ pub data Said : Type 0 where
   bad_range : Said
   splits_char : List ℕ → Said  -- the key
   text_too_long : ℕ → Said  -- how many bytes the new text would have
-  not_built : Said  -- a request that isn't served
   -- class memory
   no_memory : Said
 
@@ -185,7 +184,6 @@ said_data (bad_position key) = wrong (keyed (codes "BadPosition") key)
 said_data bad_range = wrong (named (codes "BadRange"))
 said_data (splits_char key) = wrong (keyed (codes "SplitsChar") key)
 said_data (text_too_long n) = wrong (object (member (codes "bytes") (natural n) (member (codes "name") (string (codes "TextTooLong")) no_members)))
-said_data not_built = wrong (named (codes "NotBuilt"))
 said_data no_memory = object (member (codes "class") (string (codes "memory")) no_members)
 
 -- the line of a reply, with its line feed

@@ -1,5 +1,5 @@
--- What is said of a text's structure: its outline, and the parser's faults.
-use Rattle.std.specs.Prelude.{◌≡◌, ℕ, List, codes, map}
+-- What is said of a text's structure: its outline, and its faults.
+use Rattle.std.specs.Prelude.{◌≡◌, ℕ, List, ◌++◌, codes, map, Bool, true, false}
 use Rattle.text_model.specs.Positions.{position_of}
 use Rattle.token_model.specs.Kinds.{Tok}
 use Rattle.token_model.specs.Tokens.{Lex}
@@ -8,8 +8,9 @@ use Rattle.grammar_model.specs.Named.{named, items_of}
 use Rattle.grammar_model.specs.Recovery.{recover}
 use Rattle.grammar_model.specs.Ocaml.{grammar, program_text, row_name}
 use Rattle.query_model.specs.Outlines.{Kind, value, type_name, exception_name, module_name, module_type, Member, Members, member, no_members, also, members_of, outline}
-use Rattle.query_model.specs.Faults.{Fault, Listed, told, page, has_more}
+use Rattle.query_model.specs.Faults.{Fault, Listed, TyperFault, by_typer, told, page, has_more}
 use Rattle.service_model.specs.Replies as said
+use Rattle.service_model.specs.WellTyped.{is_well_typed}
 
 -- the items of a text of these tokens, finished or not
 unfoldable pub items_in : List Tok → List Tree
@@ -52,10 +53,19 @@ OutlineIs text s = (tokens : List Tok) × Lex text tokens × (s ≡ outline_said
 abbrev pub shown_fault : List ℕ → Listed → said.Fault
 shown_fault text f = record { start = position_of text f.span.start; end = position_of text f.span.end; kind = f.kind; message = f.message; source = f.source }
 
--- the page of the faults of a text of these tokens: those of the parser alone
-abbrev pub errors_said : List ℕ → List Tok → said.Said
-errors_said text tokens = said.faults (map (shown_fault text) (page (faults_in tokens))) (has_more (faults_in tokens))
+-- the page of these faults of a text
+abbrev pub faults_said : List ℕ → List Fault → said.Said
+faults_said text fs = said.faults (map (shown_fault text) (page fs)) (has_more fs)
+
+-- the page of the parser's faults together with those of the typer, in the order of their demands; which these are stays open
+abbrev pub FaultsAre : List ℕ → List Fault → said.Said → Type 0
+FaultsAre text parsed s = (typed : List TyperFault) × (s ≡ faults_said text (parsed ++ map by_typer typed))
+
+-- of a text that is well typed so the parser's faults alone
+abbrev pub ErrorsBy : Bool → List ℕ → List Tok → said.Said → Type 0
+ErrorsBy true text tokens s = s ≡ faults_said text (faults_in tokens)
+ErrorsBy false text tokens s = FaultsAre text (faults_in tokens) s
 
 -- what is said of the faults
 abbrev pub ErrorsAre : List ℕ → said.Said → Type 0
-ErrorsAre text s = (tokens : List Tok) × Lex text tokens × (s ≡ errors_said text tokens)
+ErrorsAre text s = (tokens : List Tok) × Lex text tokens × ErrorsBy (is_well_typed tokens) text tokens s

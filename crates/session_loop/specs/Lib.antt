@@ -1,10 +1,14 @@
 pub mod Begun
 pub mod Causes
+pub mod Changes
 pub mod Lines
 pub mod ListEnds
+pub mod MadeRuns
 pub mod Outcomes
 pub mod PlainTexts
+pub mod Queries
 pub mod Progress
 pub mod Structures
 pub mod SureEnds
 pub mod Turns
+pub mod Words

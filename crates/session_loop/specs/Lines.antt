@@ -1,11 +1,14 @@
 -- What an answer means.
 use Rattle.std.specs.Prelude.{◌≡◌, ℕ, List, Option, Some, None}
+use Rattle.text_terms.specs.Bytes.{str_bytes}
 use Rattle.text_model.specs.Edits as edit
 use Rattle.text_store.specs.declared.edits.TextRefusal.{TextRefusal}
 use Rattle.text_store.specs.declared.edits.TextRefusal.TheVariants as code
+use Rattle.query_engine.specs.declared.asked.QueryFault.{QueryFault}
+use Rattle.query_engine.specs.declared.asked.QueryFault.TheVariants as fault
 use Rattle.service_model.specs.Requests.{Asked, Refusal}
 use Rattle.service_model.specs.Replies as said
-use Rattle.service_model.specs.Answers.{Replies, edit_refusal, types_or_none}
+use Rattle.service_model.specs.Answers.{Replies, edit_refusal}
 use Rattle.session_loop.specs.declared.session.Line.{Line}
 use Rattle.session_loop.specs.declared.session.Line.TheVariants.{Written, Memory}
 
@@ -46,7 +49,9 @@ abbrev pub RefusesEditBy : Option edit.Refusal → Line → Type 0
 RefusesEditBy (Some r) l = IsWritten (edit_refusal r) l
 RefusesEditBy None l = l ≡ Memory
 
--- what is said of typed nodes, or of no plain text
-abbrev pub said_of_types : Option (List said.Typed) → said.Said
-said_of_types None = said.not_built
-said_of_types (Some ts) = types_or_none ts
+-- why a query has no value; want of memory is no failure
+abbrev pub failure_in : QueryFault → Option said.Said
+failure_in fault.NoNode = Some said.no_node
+failure_in fault.NotAName = Some said.not_a_name
+failure_in (fault.Unbound ident) = Some (said.unbound (str_bytes ident))
+failure_in fault.NoMemory = None

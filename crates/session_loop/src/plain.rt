@@ -1,21 +1,17 @@
 //! A plain text as its tree and its typed nodes.
-ghost use Rattle.std.specs.Prelude.{◌≡◌, ◌≤◌, ◌<◌, ◌-◌, ◌^◌, ◌++◌, length, map, find, option_map, IfOk, IfSome};
-ghost use Rattle.std.specs.Str.{IsUtf8};
-ghost use Rattle.text_model.specs.Edits.{text_limit};
+ghost use Rattle.std.specs.Prelude.{◌≡◌, ◌≤◌, ◌<◌, ◌-◌, ◌^◌, length, map, find, option_map, IfOk, IfSome};
 ghost use Rattle.tree_model.specs.Trees.{AreItemsSized};
-ghost use Rattle.plain_model.specs.Plain.{type_text, AllSeenWithin};
-ghost use Rattle.syntax_tree.specs.Tallies.{Grows};
-ghost use Rattle.syntax_tree.specs.View.{id_of, trees_of};
-ghost use Rattle.service_model.specs.Answers.{typed_among as typed_among_spec, typed_at, is_id};
+ghost use Rattle.plain_model.specs.Plain.{plain_text, type_text, AllSeenWithin};
+ghost use Rattle.syntax_tree.specs.View.{id_of, tok_of, trees_of};
+ghost use Rattle.service_model.specs.Answers.{typed_among as typed_among_spec, plain_typed, is_id};
 ghost use Rattle.json_lines.specs.Means.{typed_of};
-ghost use Rattle.core_typing.specs.View.{plain_of as plain_type_of, seen_of};
-ghost use Rattle.session_loop.specs.PlainTexts.{IsReadAs};
+ghost use Rattle.plain_typing.specs.View.{plain_of as plain_type_of, seen_of};
+ghost use Rattle.session_loop.specs.PlainTexts.{plain_of};
 
-use core_typing::{Plain, PlainSeen, plain_tree, type_plain};
 use json_lines::Typed;
-use ml_lexer::lex_all;
+use plain_typing::{Plain, PlainSeen, plain_tree, type_plain};
 use std::alloc::Global;
-use syntax_tree::{Counts, NoMemory, NodeId, RcStr, Tree};
+use syntax_tree::{NoMemory, NodeId, RcStr, Token, Tree};
 use text_store::TextStore;
 
 /// What a plain text is read as: its tree, and its typed nodes in preorder.
@@ -25,20 +21,12 @@ pub struct PlainText {
     pub seen: Vec<PlainSeen>,
 }
 
-/// Reads a text in two parts. None exactly where it is no plain text.
-pub fn read_plain<C: Counts>(
-    alloc: Global,
-    left: &[u8],
-    right: &[u8],
-    counts: &mut C,
-) -> Result<Option<PlainText>, NoMemory>
-    requires text { IsUtf8 (left.now ++ right.now) }
-    requires short { length (left.now ++ right.now) ≤ text_limit }
-    ensures read { IfOk result (λ o. IsReadAs (left.now ++ right.now) o) }
+/// Reads tokens as those of a plain text. None exactly where they aren't.
+pub fn read_plain(alloc: Global, tokens: Vec<Token>) -> Result<Option<PlainText>, NoMemory>
+    requires few { length tokens.items < 2 ^ 32 - 1 }
+    ensures read { IfOk result (λ o. option_map plain_of o ≡ plain_text (map tok_of tokens.items)) }
     ensures sized { IfOk result (λ o. IfSome o (λ p. AreItemsSized (trees_of p.tree) × (length (trees_of p.tree) < 2 ^ 32 - 1))) }
-    ensures grows { Grows (C.tallies counts.old) (C.tallies counts.new) }
 {
-    let tokens = lex_all(alloc, left, right, counts)?;
     let Some(tree) = plain_tree(alloc, tokens)? else {
         return Ok(None);
     };
@@ -63,7 +51,7 @@ fn name_of_type(ty: Plain) -> &'static str
 fn shown(alloc: Global, store: &TextStore, seen: &PlainSeen) -> Result<Typed, NoMemory>
     requires start { seen.now.span.start ≤ length store.now }
     requires end { seen.now.span.end ≤ length store.now }
-    ensures { IfOk result (λ t. typed_of t ≡ typed_at store.now (seen_of seen.now)) }
+    ensures { IfOk result (λ t. typed_of t ≡ plain_typed store.now (seen_of seen.now)) }
 {
     let ty = RcStr::from_str(alloc, name_of_type(seen.ty))?;
     Ok(Typed {

@@ -1,12 +1,15 @@
 //! The top call: lines in, reply lines out.
-ghost use Rattle.std.specs.Prelude.{◌≡◌, ◌≤◌, ◌<◌, ◌+◌, ◌^◌, ◌++◌, ◌∷◌, [], List, ℕ, length, IfSome, Option, ◌≢◌, ◌↔◌};
+ghost use Rattle.std.specs.Prelude.{◌≡◌, ◌≢◌, ◌⊎◌, ◌≤◌, ◌+◌, ◌^◌, [], ℕ, true, is_some, length};
 ghost use Rattle.syntax_tree.specs.Tallies.{Grows};
 ghost use Rattle.session_loop.specs.Causes.{Rose};
-ghost use Rattle.session_loop.specs.Outcomes.{Outcome};
+ghost use Rattle.session_loop.specs.Outcomes.{Outcome, RunOutcome};
 ghost use Rattle.session_loop.specs.Progress.{SoFar};
+ghost use Rattle.session_loop.specs.Words.{are_refused, items_asked, texts, AlwaysAccepted};
 
 use crate::begun::Begun;
+use crate::made::run_made;
 use crate::turns::{Turn, finish, take_turn};
+use crate::words::{Task, WordsFault, read_words};
 use crate::{Session, Sink, Source};
 use std::alloc::Global;
 use syntax_tree::Counts;
@@ -14,7 +17,7 @@ use syntax_tree::Counts;
 /// How a run ended.
 #[derive(Clone, Copy, Debug, PartialEq, Eq)]
 pub enum Status {
-    /// The input was read to its end, and every line answered.
+    /// The input was read to its end, and every line answered; or the line of a made run was put.
     Done,
     /// The words were refused; nothing was read or put.
     BadWords,
@@ -24,7 +27,7 @@ pub enum Status {
     WriteFault,
     /// 2^40 bytes were taken.
     InputTooLong,
-    /// Memory was short before the first line was read; nothing was read or put.
+    /// Memory was short before the first line was read, or in a made run; nothing was read or put.
     NoMemory,
 }
 
@@ -102,9 +105,36 @@ fn run<S: Source, K: Sink, C: Counts>(
     read_lines(&mut session, &mut begun, &mut buf, src, sink, counts)
 }
 
+/// Runs what the words ask for.
+#[tactic(auto, using(crate::proofs::Tasks::session_outcome, crate::proofs::Tasks::made_outcome, crate::proofs::Tasks::refused_outcome, crate::proofs::Tasks::no_memory_outcome, crate::proofs::Tasks::no_items))]
+fn run_by<S: Source, K: Sink, C: Counts>(
+    alloc: Global,
+    words: &[String],
+    src: &mut S,
+    sink: &mut K,
+    counts: &mut C,
+) -> Status
+    ensures outcome { RunOutcome (items_asked (texts words.now)) result (S.left src.old) (S.left src.new) (K.held sink.old) (K.held sink.new) (C.tallies counts.old) (C.tallies counts.new) }
+    ensures made { is_some (items_asked (texts words.now)) ≡ true → src.new ≡ src.old }
+    ensures bad_words { result ≡ Status.BadWords → are_refused (texts words.now) ≡ true }
+    ensures refused { are_refused (texts words.now) ≡ true → (result ≡ Status.BadWords) ⊎ (result ≡ Status.NoMemory) }
+    ensures read { result ≡ Status.ReadFault → Rose (S.faults src.old) (S.faults src.new) }
+    ensures write { result ≡ Status.WriteFault → Rose (K.faults sink.old) (K.faults sink.new) }
+    ensures memory { result ≡ Status.NoMemory → (src.new ≡ src.old) × (sink.new ≡ sink.old) }
+    ensures counted { Grows (C.tallies counts.old) (C.tallies counts.new) }
+{
+    match read_words(alloc, words) {
+        Ok(Task::Session) => run(alloc, src, sink, counts),
+        Ok(Task::Made(items)) => run_made(alloc, items, sink, counts),
+        Err(WordsFault::Refused) => Status::BadWords,
+        Err(WordsFault::NoMemory) => Status::NoMemory,
+    }
+}
+
 /// Without words, reads request lines from the source until it ends, and puts a reply line for each into the sink, by one
-/// `put` each. Words are refused. After any list of request lines each line has the answer that the present text alone
-/// determines, or the line that stands for want of memory.
+/// `put` each. After any list of request lines each line has the answer that the present text alone determines, or the
+/// line that stands for want of memory. With `--make n` it reads nothing, and puts one line on a text that it makes of n
+/// items. Other words are refused.
 pub fn serve<S: Source, K: Sink, C: Counts>(
     alloc: Global,
     words: &[String],
@@ -113,9 +143,12 @@ pub fn serve<S: Source, K: Sink, C: Counts>(
     counts: &mut C,
 ) -> Report
     // What was taken and put, by the status.
-    ensures outcome { Outcome result.status (S.left src.old) (S.left src.new) (K.held sink.old) (K.held sink.new) }
-    // Each status has its cause.
-    ensures bad_words { (result.status ≡ Status.BadWords) ↔ (0 < length words.now) }
+    ensures outcome { RunOutcome (items_asked (texts words.now)) result.status (S.left src.old) (S.left src.new) (K.held sink.old) (K.held sink.new) (C.tallies counts.old) (C.tallies counts.new) }
+    ensures made { is_some (items_asked (texts words.now)) ≡ true → src.new ≡ src.old }
+    // Each status has its cause. Words are bad exactly where clap refuses them, unless memory is short.
+    ensures bad_words { result.status ≡ Status.BadWords → are_refused (texts words.now) ≡ true }
+    ensures refused { are_refused (texts words.now) ≡ true → (result.status ≡ Status.BadWords) ⊎ (result.status ≡ Status.NoMemory) }
+    ensures accepted { AlwaysAccepted (texts words.now) → result.status ≢ Status.BadWords }
     ensures read { result.status ≡ Status.ReadFault → Rose (S.faults src.old) (S.faults src.new) }
     ensures write { result.status ≡ Status.WriteFault → Rose (K.faults sink.old) (K.faults sink.new) }
     ensures memory { result.status ≡ Status.NoMemory → (src.new ≡ src.old) × (sink.new ≡ sink.old) }
@@ -127,11 +160,7 @@ pub fn serve<S: Source, K: Sink, C: Counts>(
     let lexed = counts.lexed();
     let shifted = counts.shifted();
     let typed = counts.typed();
-    let status = if words.is_empty() {
-        run(alloc, src, sink, counts)
-    } else {
-        Status::BadWords
-    };
+    let status = run_by(alloc, words, src, sink, counts);
     Report {
         status,
         lexed: counts.lexed() - lexed,

@@ -1,31 +1,43 @@
 //! One text, and the answers to request lines on it.
-ghost use Rattle.std.specs.Prelude.{◌≡◌, [], List, ℕ, length, map, option_map, IfOk, Some};
+ghost use Rattle.std.specs.Prelude.{◌≡◌, ◌<◌, ◌+◌, ◌-◌, ◌^◌, ◌++◌, [], List, ℕ, length, map, option_map, reverse, IfOk, OnOk, Some};
 ghost use Rattle.text_terms.specs.Bytes.{str_bytes};
 ghost use Rattle.text_model.specs.Edits.{changed, outcome_of};
 ghost use Rattle.std.specs.Str.{IsUtf8};
 ghost use Rattle.text_model.specs.Positions.{offset, position_of};
-ghost use Rattle.token_model.specs.Kinds.{Tok};
-ghost use Rattle.token_model.specs.Tokens.{Lex};
-ghost use Rattle.plain_model.specs.Plain.{plain_text};
+ghost use Rattle.tree_model.specs.Nodes.{nodes_at};
+ghost use Rattle.tree_model.specs.Trees.{AreItemsSized};
+ghost use Rattle.plain_model.specs.Plain.{AllSeenWithin};
+ghost use Rattle.query_model.specs.Faults.{TyperFault, by_typer};
 ghost use Rattle.service_model.specs.Requests.{tell as tell_spec};
-ghost use Rattle.service_model.specs.Answers.{Answers, PlacedIs, EnclosingIs, IsNotBuilt, tell_outcome, enclosing_said, end_key, types_or_none};
+ghost use Rattle.service_model.specs.Answers.{Answers, PlacedIs, EnclosingIs, TypesAre, tell_outcome, end_key, typed_among as typed_among_spec, typed_round, types_or_none};
 ghost use Rattle.syntax_tree.specs.Tallies.{Grows};
+ghost use Rattle.syntax_tree.specs.View.{trees_of};
+ghost use Rattle.plain_typing.specs.View.{seen_of};
+ghost use Rattle.query_engine.specs.Faults.{fault_of, typer_fault_of};
 ghost use Rattle.text_store.specs.Edits.{edit_of};
 ghost use Rattle.json_lines.specs.Meets.{asked_of, key_text, range_of, refusal_of};
 ghost use Rattle.service_model.specs.Replies.{outline};
-ghost use Rattle.service_model.specs.Structure.{ErrorsAre, OutlineIs};
+ghost use Rattle.service_model.specs.Made.{SizesAre};
+ghost use Rattle.service_model.specs.Structure.{ErrorsAre, FaultsAre, OutlineIs, faults_said};
 ghost use Rattle.json_lines.specs.Means.{outline_of, outlined_of, said_of, typed_of};
-ghost use Rattle.session_loop.specs.Lines.{line_bytes, refusal_in, IsWritten, RefusesBy, RefusesEditBy, RepliesBy, Says, said_of_types};
+ghost use Rattle.session_loop.specs.Queries.{IsAnswered};
+ghost use Rattle.session_loop.specs.Lines.{line_bytes, refusal_in, IsWritten, RefusesBy, RefusesEditBy, RepliesBy, Says};
 
-use crate::plain::{read_plain, typed_among};
-use crate::structure::{parse_text, shown_faults, shown_outline};
+use crate::plain::{PlainText, typed_among};
+use crate::queries::{Query, ask, asked, failure_of};
+use crate::reading::read_text;
+use crate::structure::{parse_text, shown_faults, shown_outline, shown_types};
+use env_table::Fault;
+use frame_parser::{Parsed, SyntaxFault};
 use json_lines::{
     Failure, Key, Malformed, Outlined, Reply, Request, RequestError, Typed, memory_line,
     read_request, write_reply,
 };
+use query_engine::{Asked, enclosing_types};
 use std::alloc::Global;
 use std::marker::Model;
-use syntax_tree::{Counts, NoMemory, Pos, RcStr, enclosing};
+use syntax_tree::{Counts, NoMemory, Pos, RcStr, Tree, enclosing};
+use text_analysis::analyse;
 use text_store::{Edit, TextRefusal, TextStore};
 
 /// The line that answers a request line.
@@ -105,14 +117,34 @@ fn refused_edit_line(alloc: Global, refusal: TextRefusal) -> Line
     }
 }
 
-/// The line of these types, or of none.
-fn types_line(alloc: Global, types: Vec<Typed>) -> Line
-    ensures { IsWritten (types_or_none (map typed_of types.items)) result }
+/// The reply of these types, or of none.
+fn types_reply(types: Vec<Typed>) -> Reply
+    ensures { said_of result ≡ types_or_none (map typed_of types.items) }
 {
     if types.is_empty() {
-        written(alloc, &Reply::Failure(Failure::NoNode))
+        Reply::Failure(Failure::NoNode)
     } else {
-        written(alloc, &Reply::Types(types))
+        Reply::Types(types)
+    }
+}
+
+/// How many items and faults a text has.
+#[derive(Clone, Copy, Debug, PartialEq, Eq)]
+pub(crate) struct Sizes {
+    pub items: u64,
+    /// Those of the parser and of the typer with its warnings, all of them.
+    pub faults: u64,
+}
+
+/// The sizes of a parsed text with so many faults of the typer.
+fn sizes_of(parsed: &Parsed, typed: usize) -> Sizes
+    requires { typed < 2 ^ 63 }
+    ensures items { result.items ≡ length (trees_of parsed.now.tree) }
+    ensures faults { result.faults ≡ length (map fault_of parsed.now.faults.items) + typed }
+{
+    Sizes {
+        items: parsed.tree.items.len() as u64,
+        faults: parsed.faults.len() as u64 + typed as u64,
     }
 }
 
@@ -162,13 +194,17 @@ impl Session {
         match request {
             Request::Tell { range, text } => self.tell(range, text),
             Request::TypeEnclosing { at } => self.type_enclosing(at, counts),
-            Request::CompletePrefix { at, prefix: _ } => self.unserved(at),
-            Request::Locate { at } => self.unserved(at),
-            Request::Occurrences { at } => self.unserved(at),
+            Request::CompletePrefix { at, prefix } => self.query_at(
+                &Query::Complete(prefix),
+                at,
+                counts,
+            ),
+            Request::Locate { at } => self.query_at(&Query::Locate, at, counts),
+            Request::Occurrences { at } => self.query_at(&Query::Occurrences, at, counts),
             Request::Outline => self.outline_line(counts),
             Request::Errors => self.errors_line(counts),
-            Request::CaseAnalysis { at } => self.unserved(at),
-            Request::Construct { at } => self.unserved(at),
+            Request::CaseAnalysis { at } => self.query_at(&Query::Cases, at, counts),
+            Request::Construct { at } => self.query_at(&Query::Terms, at, counts),
         }
     }
 
@@ -224,13 +260,47 @@ impl Session {
         (kept as u64).saturating_add(edit.text.as_str().len() as u64)
     }
 
-    /// A query of a position that isn't served yet.
-    fn unserved(&self, at: Pos) -> Line
-        ensures { Says (PlacedIs (offset self.now at.line at.col) IsNotBuilt) result }
+    /// How many bytes the text has.
+    pub(crate) fn len(&self) -> u64
+        ensures { result ≡ length self.now }
+    {
+        self.store.len() as u64
+    }
+
+    /// Puts bytes behind the text, by the edit of a `tell`. Where the text would be too long, memory counts as short.
+    pub(crate) fn append(&mut self, text: RcStr) -> Result<(), NoMemory>
+        ensures { OnOk result (self.new ≡ self.old ++ str_bytes text) }
+    {
+        let end = self.last_place();
+        let edit = Edit {
+            start: end,
+            end,
+            text,
+        };
+        match self.store.apply(&edit) {
+            Ok(_) => Ok(()),
+            Err(_) => Err(NoMemory),
+        }
+    }
+
+    /// A query of a position.
+    fn query_at<C: Counts>(&self, query: &Query, at: Pos, counts: &mut C) -> Line
+        ensures says { Says (PlacedIs (offset self.now at.line at.col) (IsAnswered query.now self.now)) result }
+        ensures counted { Grows (C.tallies counts.old) (C.tallies counts.new) }
     {
         match self.store.offset_of(at) {
-            Ok(_) => error_line(self.alloc, RequestError::NotBuilt),
+            Ok(offset) => self.query_line(query, offset, counts),
             Err(_) => error_line(self.alloc, RequestError::BadPosition { key: Key::At }),
+        }
+    }
+
+    fn query_line<C: Counts>(&self, query: &Query, offset: u32, counts: &mut C) -> Line
+        ensures says { Says (IsAnswered query.now self.now offset) result }
+        ensures counted { Grows (C.tallies counts.old) (C.tallies counts.new) }
+    {
+        match ask(self.alloc, &self.store, query, offset, counts) {
+            Ok(reply) => written(self.alloc, &reply),
+            Err(_) => Line::Memory,
         }
     }
 
@@ -271,12 +341,55 @@ impl Session {
         ensures counted { Grows (C.tallies counts.old) (C.tallies counts.new) }
     {
         let (left, right) = self.store.slices();
-        let parsed = parse_text(self.alloc, left, right, counts)?;
-        let page = query_engine::errors(self.alloc, &parsed.faults)?;
+        let read = read_text(self.alloc, left, right, counts)?;
+        if read.is_well_typed() {
+            return self.page_of(&read.parsed.faults, &[]);
+        }
+        self.typed_errors(&read.parsed, counts)
+    }
+
+    /// The faults of a parsed text, whose types may be wrong.
+    fn typed_errors<C: Counts>(&self, parsed: &Parsed, counts: &mut C) -> Result<Reply, NoMemory>
+        ensures said { IfOk result (λ r. FaultsAre self.now (map fault_of parsed.now.faults.items) (said_of r)) }
+        ensures counted { Grows (C.tallies counts.old) (C.tallies counts.new) }
+    {
+        let analysis = analyse(self.alloc, &parsed.tree, counts)?;
+        self.page_of(&parsed.faults, &analysis.faults.list)
+    }
+
+    /// The page of the parser's faults and of the typer's.
+    fn page_of(&self, parsed: &[SyntaxFault], typed: &[Fault]) -> Result<Reply, NoMemory>
+        ensures { IfOk result (λ r. said_of r ≡ faults_said self.now (map fault_of parsed.now ++ map by_typer (map typer_fault_of typed.now))) }
+    {
+        let page = query_engine::errors(self.alloc, parsed, typed)?;
         Ok(Reply::Faults {
             list: shown_faults(self.alloc, &self.store, &page.list)?,
             more: page.more,
         })
+    }
+
+    /// How many items and faults the text has, by the query that `errors` makes.
+    pub(crate) fn sizes<C: Counts>(&self, counts: &mut C) -> Result<Sizes, NoMemory>
+        ensures sizes { IfOk result (λ s. SizesAre self.now s.items s.faults) }
+        ensures counted { Grows (C.tallies counts.old) (C.tallies counts.new) }
+    {
+        let (left, right) = self.store.slices();
+        let read = read_text(self.alloc, left, right, counts)?;
+        if read.is_well_typed() {
+            return Ok(sizes_of(&read.parsed, 0));
+        }
+        let typed = self.count_typed(&read.parsed, counts)?;
+        Ok(sizes_of(&read.parsed, typed))
+    }
+
+    /// How many faults of the typer a parsed text has, its warnings among them.
+    fn count_typed<C: Counts>(&self, parsed: &Parsed, counts: &mut C) -> Result<usize, NoMemory>
+        ensures faults { IfOk result (λ n. (typed : List TyperFault) × (n ≡ length typed)) }
+        ensures fits { IfOk result (λ n. n < 2 ^ 63) }
+        ensures counted { Grows (C.tallies counts.old) (C.tallies counts.new) }
+    {
+        let analysis = analyse(self.alloc, &parsed.tree, counts)?;
+        Ok(analysis.faults.list.len())
     }
 
     /// The types round a position, innermost first.
@@ -294,28 +407,55 @@ impl Session {
         ensures says { Says (EnclosingIs self.now offset) result }
         ensures counted { Grows (C.tallies counts.old) (C.tallies counts.new) }
     {
-        match self.types_at(offset, counts) {
-            Ok(Some(types)) => types_line(self.alloc, types),
-            Ok(None) => error_line(self.alloc, RequestError::NotBuilt),
+        match self.enclosing(offset, counts) {
+            Ok(reply) => written(self.alloc, &reply),
             Err(_) => Line::Memory,
         }
     }
 
-    /// The types round an offset, innermost first. None where the text isn't plain.
-    fn types_at<C: Counts>(
-        &self,
-        offset: u32,
-        counts: &mut C,
-    ) -> Result<Option<Vec<Typed>>, NoMemory>
-        ensures said { IfOk result (λ o. (tokens : List Tok) × Lex self.now tokens
-            × (said_of_types (option_map (λ v. map typed_of v.items) o) ≡ enclosing_said self.now offset (plain_text tokens))) }
+    fn enclosing<C: Counts>(&self, offset: u32, counts: &mut C) -> Result<Reply, NoMemory>
+        ensures said { IfOk result (λ r. EnclosingIs self.now offset (said_of r)) }
         ensures counted { Grows (C.tallies counts.old) (C.tallies counts.new) }
     {
         let (left, right) = self.store.slices();
-        let Some(plain) = read_plain(self.alloc, left, right, counts)? else {
-            return Ok(None);
-        };
+        let read = read_text(self.alloc, left, right, counts)?;
+        match &read.plain {
+            Some(plain) => self.plain_types(plain, offset),
+            None => self.types_in(&read.parsed.tree, offset, counts),
+        }
+    }
+
+    /// The types round an offset of a plain text, innermost first.
+    fn plain_types(&self, plain: &PlainText, offset: u32) -> Result<Reply, NoMemory>
+        requires sized { AreItemsSized (trees_of plain.now.tree) }
+        requires items { length (trees_of plain.now.tree) < 2 ^ 32 - 1 }
+        requires within { AllSeenWithin (length self.now) (map seen_of plain.now.seen.items) }
+        ensures { IfOk result (λ r. said_of r ≡ types_or_none (typed_among_spec self.now (map seen_of plain.now.seen.items) (reverse (nodes_at offset (trees_of plain.now.tree))))) }
+    {
         let ids = enclosing(self.alloc, &plain.tree, offset)?;
-        Ok(Some(typed_among(self.alloc, &self.store, &plain.seen, &ids)?))
+        Ok(types_reply(typed_among(self.alloc, &self.store, &plain.seen, &ids)?))
+    }
+
+    /// The types round an offset of a text with this tree, innermost first.
+    fn types_in<C: Counts>(
+        &self,
+        tree: &Tree,
+        offset: u32,
+        counts: &mut C,
+    ) -> Result<Reply, NoMemory>
+        ensures said { IfOk result (λ r. TypesAre self.now (typed_round offset (trees_of tree.now)) (said_of r)) }
+        ensures counted { Grows (C.tallies counts.old) (C.tallies counts.new) }
+    {
+        let analysis = analyse(self.alloc, tree, counts)?;
+        self.types_of(&asked(tree, &analysis), offset)
+    }
+
+    fn types_of(&self, asked: &Asked<'_>, offset: u32) -> Result<Reply, NoMemory>
+        ensures { IfOk result (λ r. TypesAre self.now (typed_round offset (trees_of asked.now.tree.now)) (said_of r)) }
+    {
+        match enclosing_types(self.alloc, asked, offset) {
+            Ok(types) => Ok(types_reply(shown_types(self.alloc, &self.store, &types)?)),
+            Err(fault) => Ok(Reply::Failure(failure_of(fault)?)),
+        }
     }
 }

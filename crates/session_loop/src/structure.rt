@@ -4,11 +4,13 @@ ghost use Rattle.std.specs.Str.{IsUtf8};
 ghost use Rattle.text_model.specs.Edits.{text_limit};
 ghost use Rattle.text_model.specs.Positions.{position_of};
 ghost use Rattle.query_model.specs.Outlines.{members_of};
+ghost use Rattle.service_model.specs.Answers.{shown_place, start_and_end};
 ghost use Rattle.service_model.specs.Structure.{shown_fault, shown_member, shown_members};
 ghost use Rattle.syntax_tree.specs.Tallies.{Grows};
 ghost use Rattle.query_engine.specs.View.{member_of};
 ghost use Rattle.query_engine.specs.Faults.{listed_of};
-ghost use Rattle.json_lines.specs.Means.{fault_of, outline_of, outlined_of};
+ghost use Rattle.query_engine.specs.Typed.{span_of};
+ghost use Rattle.json_lines.specs.Means.{fault_of, outline_of, outlined_of, typed_of};
 ghost use Rattle.session_loop.specs.Structures.{IsParsedAs};
 
 use frame_parser::{Parsed, Text, parse};
@@ -35,7 +37,7 @@ pub fn parse_text<C: Counts>(
 }
 
 /// The position of an offset. One behind the text's end, where nothing stands, is on a line behind the last.
-fn position(store: &TextStore, offset: u32) -> Pos
+pub fn position(store: &TextStore, offset: u32) -> Pos
     ensures { (result.line, result.col) ≡ position_of store.now offset }
 {
     let (left, right) = store.slices();
@@ -111,6 +113,35 @@ pub fn shown_faults(
     let mut shown = Vec::new(alloc);
     for fault in faults {
         let next = shown_fault(store, fault)?;
+        if shown.push(next).is_err() {
+            return Err(NoMemory);
+        }
+    }
+    Ok(shown)
+}
+
+/// A typed node with the positions of the store's text.
+fn shown_type(store: &TextStore, typed: &engine::Typed) -> Result<json_lines::Typed, NoMemory>
+    ensures { IfOk result (λ t. start_and_end (typed_of t) ≡ shown_place store.now (span_of typed.now)) }
+{
+    Ok(json_lines::Typed {
+        start: position(store, typed.span.start),
+        end: position(store, typed.span.end),
+        ty: typed.ty.share()?,
+    })
+}
+
+/// Typed nodes with the positions of the store's text.
+pub fn shown_types(
+    alloc: Global,
+    store: &TextStore,
+    types: &[engine::Typed],
+) -> Result<Vec<json_lines::Typed>, NoMemory>
+    ensures { IfOk result (λ v. map start_and_end (map typed_of v.items) ≡ map (shown_place store.now) (map span_of types.now)) }
+{
+    let mut shown = Vec::new(alloc);
+    for typed in types {
+        let next = shown_type(store, typed)?;
         if shown.push(next).is_err() {
             return Err(NoMemory);
         }

@@ -23,6 +23,8 @@ const TOO_LONG: &[u8] = b"{\"class\":\"error\",\"value\":{\"name\":\"LineTooLong
 const BAD_POSITION: &[u8] =
     b"{\"class\":\"error\",\"value\":{\"key\":\"end\",\"name\":\"BadPosition\"}}\n";
 
+const MADE: &[u8] = b"{\"bytes\":151,\"faults\":0,\"items\":6,\"typed\":6}\n";
+
 /// A counter of its own.
 #[derive(Drop)]
 struct Three {
@@ -152,15 +154,61 @@ fn failing_take_answers_the_lines_before(rt: HostRuntime) -> Result<(), Fail> {
     Ok(())
 }
 
+/// A run with these words, over an input that it is not to read.
+fn run_with(
+    alloc: Global,
+    words: &[&str],
+    puts: Vec<(u64, u32)>,
+) -> Result<(Report, Vec<u8>), Fail> {
+    let mut owned = Vec::new(alloc);
+    for word in words {
+        owned.push(String::from_str(alloc, word)?)?;
+    }
+    let mut sink = ListSink::new(alloc, puts);
+    let mut src = SureSource::new(joined(alloc, &[TELL])?);
+    let report = serve(alloc, &owned, &mut src, &mut sink, &mut zero());
+    Ok((report, sink.bytes().to_vec(alloc)?))
+}
+
 #[test]
 fn words_are_refused(rt: HostRuntime) -> Result<(), Fail> {
     let alloc = rt.alloc();
-    let words = vec![in alloc; String::from_str(alloc, "x")?]?;
-    let mut sink = ListSink::new(alloc, Vec::new(alloc));
-    let mut src = SureSource::new(joined(alloc, &[TELL])?);
-    let report = serve(alloc, &words, &mut src, &mut sink, &mut zero());
-    assert_eq!(rt; report.status, Status::BadWords);
-    assert_eq!(rt; sink.bytes().len(), 0);
+    let refused: [&[&str]; 7] = [
+        &["x"],
+        &["--help"],
+        &["--make"],
+        &["--make", "0"],
+        &["--make", "20001"],
+        &["--make=0"],
+        &["--make", "1", "--make", "2"],
+    ];
+    for words in refused.as_slice() {
+        let (report, output) = run_with(alloc, words, Vec::new(alloc))?;
+        assert_eq!(rt; report.status, Status::BadWords);
+        assert_eq!(rt; output.len(), 0);
+    }
+    Ok(())
+}
+
+#[test]
+fn made_runs_put_one_line(rt: HostRuntime) -> Result<(), Fail> {
+    let alloc = rt.alloc();
+    let asking: [&[&str]; 2] = [&["--make", "5"], &["--make=5"]];
+    for words in asking.as_slice() {
+        let (report, output) = run_with(alloc, words, Vec::new(alloc))?;
+        assert_eq!(rt; report.status, Status::Done);
+        assert_eq!(rt; output.as_slice(), MADE);
+        assert_eq!(rt; report.typed, 11);
+    }
+    Ok(())
+}
+
+#[test]
+fn failing_put_leaves_a_front_of_the_summary(rt: HostRuntime) -> Result<(), Fail> {
+    let alloc = rt.alloc();
+    let (report, output) = run_with(alloc, &["--make", "5"], vec![in alloc; (1, 4)]?)?;
+    assert_eq!(rt; report.status, Status::WriteFault);
+    assert_eq!(rt; output.as_slice(), b"{\"by".as_slice());
     Ok(())
 }
 

@@ -5,3 +5,7 @@ pub mod Searching
 pub mod Known
 pub mod Ascii
 pub mod Texts
+pub mod Ranks
+pub mod Meeting
+pub mod Named
+pub mod Levels

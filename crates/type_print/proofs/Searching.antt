@@ -1,5 +1,5 @@
 -- The search for an origin, step by step.
-use Rattle.std.proofs.Common.{◌≡◌, ℕ, zero, suc, ◌+◌, ◌<◌, ◌≤◌, Bool, true, false, List, [], ◌∷◌, ◌++◌, map, reverse, length, Option, Some, None, append_assoc, refl, sym, ◌∙◌, ap, subst, arith}
+use Rattle.std.proofs.Common.{◌≡◌, ℕ, zero, suc, ◌+◌, ◌<◌, ◌≤◌, Bool, true, false, List, [], ◌∷◌, ◌++◌, map, Option, Some, None, append_assoc, refl, ◌∙◌, ap, arith}
 use Rattle.std.specs.Prelude.{if◌then◌else◌}
 use mathlib.Core.List.{reverse_aux}
 use Rattle.std.specs.declared.rc.Rc.{Rc}
@@ -7,14 +7,13 @@ use Rattle.std.specs.declared.alloc.Global.{Global}
 use Rattle.text_terms.specs.Bytes.{str_bytes}
 use Rattle.type_model.specs.Types.{Path}
 use Rattle.signature_model.specs.Declarations.{Name}
-use Rattle.signature_model.specs.Lookups.{ScopeOf, known, unknown_scope, no_scope}
 use Rattle.env_table.specs.declared.entries.What.{What, map-What, out-What, fold-What, fold_out-What}
 use Rattle.env_table.specs.declared.entries.Sig.{Sig, map-Sig, out-Sig, fold-Sig, fold_out-Sig}
 use Rattle.env_table.specs.declared.entries.Components.{Components, map-Components, out-Components, fold-Components, fold_out-Components}
-use Rattle.env_table.specs.declared.entries.Sig.TheOpen.{Sig-F, What-F, Components-F, Entry-F, Template-F}
+use Rattle.env_table.specs.declared.entries.Sig.TheOpen.{Sig-F, What-F, Components-F}
 use Rattle.env_table.specs.declared.entries.Entry.{Entry, fold-Entry, fold_out-Entry}
 use Rattle.env_table.specs.declared.entries.Template.{Template, fold-Template}
-use Rattle.env_table.specs.Views.{inside, names_in, newest_first, inside_sig, inside_opened, what_opened}
+use Rattle.env_table.specs.Views.{names_in, newest_first, inside_sig, inside_opened, what_opened}
 use Rattle.type_print.specs.Paths.{contents, named, name_in, sum_of, entry_weight, entries_weight, queue_weight, sig_step, what_step, components_step, entry_step, template_step, search_in, way_among, modules_behind, is_module, among, finds, Scoped}
 
 w1 : (e : Entry) → entry_weight e ≡ suc (fold-What ℕ ℕ ℕ ℕ ℕ sig_step what_step components_step entry_step template_step e.what)
@@ -69,11 +68,11 @@ after_entry way seen e es true true h i = omega arith
 after_entry way seen e es true false h i = let w = contents_weight e in omega arith
 after_entry way seen e es false a h i = omega arith
 
-modules_weight : (way seen : List Name) (es : List Entry) → queue_weight (modules_behind way seen es) ≤ entries_weight es
+pub modules_weight : (way seen : List Name) (es : List Entry) → queue_weight (modules_behind way seen es) ≤ entries_weight es
 modules_weight way seen [] = omega arith
 modules_weight way seen (e ∷ es) = after_entry way seen e es (is_module e) (among (str_bytes e.name) seen) (modules_weight way seen es) (modules_weight way (str_bytes e.name ∷ seen) es)
 
-weight_append : (q r : List Scoped) → queue_weight (q ++ r) ≡ queue_weight q + queue_weight r
+pub weight_append : (q r : List Scoped) → queue_weight (q ++ r) ≡ queue_weight q + queue_weight r
 weight_append [] r = omega arith
 weight_append (s ∷ q) r = let h = weight_append q r in omega arith
 

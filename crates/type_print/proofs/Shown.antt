@@ -1,13 +1,12 @@
 -- In sound nodes each shows a type that is built from those of its parts.
-use Rattle.std.proofs.Common.{◌≡◌, ◌≢◌, ℕ, zero, suc, ◌+◌, ◌<◌, ◌≤◌, Bool, true, false, cond, ltb, List, [], ◌∷◌, map, length, get_or, Option, Some, None, refl, sym, ◌∙◌, ap, subst, arith, ◌⊎◌, inl, inr}
+use Rattle.std.proofs.Common.{◌≡◌, ℕ, zero, suc, ◌+◌, ◌<◌, ◌≤◌, Bool, true, false, cond, ltb, List, length, get_or, Option, Some, None, refl, sym, ◌∙◌, ap, subst, arith, ◌⊎◌, inl, inr}
 use Rattle.std.specs.Prelude.{slice_get, All}
 use Rattle.std.proofs.lemmas.Bool.{lt-ltb, le-ltb}
-use Rattle.std.proofs.lemmas.Option.{slice_get_within}
-use Rattle.type_model.specs.Types.{Typ, types_of}
+use Rattle.type_model.specs.Types.{types_of}
 use Rattle.type_model.specs.Types.{Typ as type}
 use Rattle.type_nodes.specs.Nodes.{Node, Var, Rigid, Link, Arrow, Tuple, Con, parts, IsRanked, IsSound}
 use Rattle.type_nodes.specs.Readings.{Types}
-use Rattle.type_nodes.specs.Links.{root, reading, next, follow}
+use Rattle.type_nodes.specs.Links.{root, reading, follow}
 use Rattle.type_nodes.proofs.Identity.{map_agree}
 use Rattle.type_nodes.proofs.Lists.{same_or_other}
 use Rattle.type_nodes.proofs.Roots.{of_link, link_or_stays, link_down, next_link}

@@ -1,7 +1,7 @@
 -- Opening a piece keeps the whole text.
 use Rattle.std.proofs.Common.{◌≡◌, ℕ, ◌<◌, List, [], ◌∷◌, ◌++◌, append_assoc, map, length, get_or, codes, Option, Some, None, refl, sym, ◌∙◌, ap}
 use Rattle.std.proofs.lemmas.Option.{slice_get-get_or}
-use Rattle.type_model.specs.Types.{Typ, Typs, types_of}
+use Rattle.type_model.specs.Types.{types_of}
 use Rattle.type_model.specs.Types.{Typ as type}
 use Rattle.type_nodes.specs.Nodes.{Node, Var, Rigid, Link, Arrow, Tuple, Con, IsSound}
 use Rattle.type_nodes.specs.Links.{root, reading}
@@ -9,7 +9,7 @@ use Rattle.type_print_model.specs.Printing.{Names, text_of, rest_of, separated, 
 use Rattle.type_print_model.specs.Printing as model
 use Rattle.type_print.specs.Shown.{shown, shown_from}
 use Rattle.type_print.specs.Pieces.{Part, a_type, a_head, a_text, opened, opened_node, IsPart, rest_parts, list_parts, argument_parts, tuple_parts, arrow_parts}
-use Rattle.type_print.specs.Texts.{parts_text, part_text, said, said_node, said_head, head_text}
+use Rattle.type_print.specs.Texts.{parts_text, said, said_node, said_head, head_text}
 use Rattle.type_print.proofs.Shown.{shown_reading}
 use Rattle.type_print.proofs.Weights.{no_link}
 use Rattle.type_nodes.proofs.Roots.{root_inside}

@@ -1,17 +1,17 @@
 -- Each step leaves less to do, and nodes alone.
-use Rattle.std.proofs.Common.{◌≡◌, ◌⊎◌, inl, inr, ℕ, zero, suc, ◌+◌, ◌<◌, ◌≤◌, List, [], ◌∷◌, ◌++◌, map, length, get_or, codes, Option, Some, None, refl, sym, ◌∙◌, ap, subst, arith}
-use Rattle.std.specs.Prelude.{slice_get, All}
-use Rattle.type_model.specs.Types.{Typ, Typs, types_of}
+use Rattle.std.proofs.Common.{◌≡◌, ℕ, zero, suc, ◌+◌, ◌<◌, ◌≤◌, List, [], ◌∷◌, ◌++◌, map, length, codes, Option, Some, None, refl, arith}
+use Rattle.std.specs.Prelude.{All}
+use Rattle.type_model.specs.Types.{Typ, types_of}
 use Rattle.type_model.specs.Types.{Typ as type}
 use Rattle.type_nodes.specs.Nodes.{Node, Var, Rigid, Link, Arrow, Tuple, Con, parts, IsSound}
 use Rattle.type_nodes.specs.Links.{root, reading}
 use Rattle.type_nodes.proofs.Roots.{root_inside, root_no_link}
 use Rattle.type_print_model.specs.Printing as model
 use Rattle.type_print.specs.Shown.{shown, shown_from, weight, weights}
-use Rattle.type_print.specs.Pieces.{Part, a_type, a_head, a_text, opened, opened_node, IsPart, AreParts, part_weight, parts_weight, nodes_weight, AreNodes, Visits, rest_parts, list_parts, argument_parts, tuple_parts, arrow_parts}
+use Rattle.type_print.specs.Pieces.{Part, a_type, a_head, a_text, opened, opened_node, IsPart, AreParts, parts_weight, rest_parts, list_parts, argument_parts, tuple_parts, arrow_parts}
 use Rattle.type_print.proofs.Shown.{shown_reading}
 
-some_weight : (t : Typ) → 0 < weight t
+pub some_weight : (t : Typ) → 0 < weight t
 some_weight (type.Var v) = omega arith
 some_weight (type.Arrow a b) = omega arith
 some_weight (type.Tuple ts) = omega arith
@@ -104,35 +104,8 @@ opened_inside nodes sound (a_type n w) rest (h, r) = reading_inside nodes n w (r
 opened_inside nodes sound (a_head n) rest (h, r) = r
 opened_inside nodes sound (a_text s) rest (h, r) = r
 
-nodes_types : (nodes : List Node) (ms old : List ℕ) → nodes_weight nodes (ms ++ old) ≤ weights (types_of (map (shown nodes) ms)) + nodes_weight nodes old
-nodes_types nodes [] old = omega arith
-nodes_types nodes (m ∷ ms) old = let h = nodes_types nodes ms old in omega arith
-
-parts_less : (nodes : List Node) (r : ℕ) (c : Node) (old : List ℕ) (t : Typ) → t ≡ shown_from (shown nodes) r (Some c) → ((m : ℕ) → c ≡ Link m → ⊥) → nodes_weight nodes (parts c ++ old) < weight t + nodes_weight nodes old
-parts_less nodes r (Var l o) old t e h = let i = some_weight t in omega arith
-parts_less nodes r Rigid old t e h = let i = some_weight t in omega arith
-parts_less nodes r (Link m) old t e h = absurd (h m refl)
-parts_less nodes r (Arrow a b) old t e h = rw e (omega arith)
-parts_less nodes r (Tuple ms) old t e h = let i = nodes_types nodes ms old in rw e (omega arith)
-parts_less nodes r (Con p name ms) old t e h = let i = nodes_types nodes ms old in rw e (omega arith)
-
 pub no_link : (nodes : List Node) → IsSound nodes → (n m : ℕ) → n < length nodes → reading nodes n ≡ Some (Link m) → ⊥
 no_link nodes sound n m h e = root_no_link nodes sound n (Link m) h e
-
--- so does a visit
-pub visit_less : (nodes : List Node) → IsSound nodes → (n : ℕ) (old new : List ℕ) → n < length nodes → Visits nodes n old new → nodes_weight nodes new < nodes_weight nodes (n ∷ old)
-visit_less nodes sound n old new h (inl e) = let i = some_weight (shown nodes n) in rw e (omega arith)
-visit_less nodes sound n old new h (inr (c, read, e)) =
-    let less = parts_less nodes (root nodes n) c old (shown nodes n) (shown_reading nodes sound n c h read) (λ m l. no_link nodes sound n m h (read ∙ ap Some l)) in
-    rw e (omega arith)
-
-nodes_append : (nodes : List Node) (ms old : List ℕ) → All (λ m. m < length nodes) ms → AreNodes nodes old → AreNodes nodes (ms ++ old)
-nodes_append nodes [] old h r = r
-nodes_append nodes (m ∷ ms) old h r = (h zero zero (omega arith), nodes_append nodes ms old (λ k d lt. h (suc k) d (omega arith)) r)
-
-pub visit_inside : (nodes : List Node) → IsSound nodes → (n : ℕ) (old new : List ℕ) → AreNodes nodes old → Visits nodes n old new → AreNodes nodes new
-visit_inside nodes sound n old new r (inl e) = rw e r
-visit_inside nodes sound n old new r (inr (c, read, e)) = rw e (nodes_append nodes (parts c) old (parts_inside nodes sound n c read) r)
 
 pub root_node : (nodes : List Node) (n r : ℕ) → IsSound nodes → n < length nodes → r ≡ root nodes n → r < length nodes
 root_node nodes n r sound h e = rw e (root_inside nodes sound n h)

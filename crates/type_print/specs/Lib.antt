@@ -4,3 +4,4 @@ pub mod Ways
 pub mod Paths
 pub mod Scopes
 pub mod Texts
+pub mod Meeting

@@ -1,5 +1,5 @@
 -- The search for the path of an origin: module by module, those of fewer names first, and of these the newer first.
-use Rattle.std.specs.Prelude.{ℕ, zero, suc, ◌+◌, Bool, true, false, List, [], ◌∷◌, ◌++◌, map, codes, Option, Some, None, option_map, if◌then◌else◌}
+use Rattle.std.specs.Prelude.{◌≡◌, ℕ, zero, suc, ◌+◌, Bool, true, false, List, [], ◌∷◌, ◌++◌, map, codes, Option, Some, None, option_map, if◌then◌else◌}
 use Rattle.std.specs.Str.{bytes_eq}
 use Rattle.text_terms.specs.Bytes.{str_bytes}
 use Rattle.type_terms.specs.Views.{path_of}
@@ -8,9 +8,8 @@ use Rattle.signature_model.specs.Declarations.{Name}
 use Rattle.signature_model.specs.Entries as rules
 use Rattle.signature_model.specs.Lookups.{same_kind, newest_by}
 use Rattle.signature_model.specs.Records.{is_of_type}
-use Rattle.type_print_model.specs.Paths.{Naming}
-use Rattle.env_table.specs.declared.entries.What.{What, out-What}
-use Rattle.env_table.specs.declared.entries.Sig.{Sig, fold-Sig}
+use Rattle.type_print_model.specs.Paths.{Naming, NamePath, Reaches}
+use Rattle.env_table.specs.declared.entries.What.{out-What}
 use Rattle.env_table.specs.declared.entries.Sig.TheOpen.{Sig-F, What-F, Components-F, Entry-F, Template-F}
 use Rattle.env_table.specs.declared.entries.Entry.{Entry, fold-Entry}
 use Rattle.env_table.specs.Views.{kind_of, is_named, inside, names_in}
@@ -124,3 +123,7 @@ named n (Some way) = way_text way ++ n
 -- the name of an origin in an environment, where its declaration gives it a name
 abbrev pub name_in : List Entry → Path → Name → List ℕ
 name_in env o n = named n (way_among o n (([], env) ∷ []))
+
+-- each path that reaches an origin ends with this name
+abbrev pub EndWith : List Entry → Path → Name → Type 0
+EndWith env o n = (p : NamePath) → Reaches naming env o p → p.name ≡ n

@@ -1,8 +1,6 @@
 -- The pieces of a text that is still to be written, the next one first.
-use Rattle.std.specs.Prelude.{◌≡◌, ◌⊎◌, ℕ, ◌+◌, ◌<◌, List, [], ◌∷◌, ◌++◌, map, reverse, length, codes, Option, Some, None}
-use Rattle.type_terms.specs.declared.types.NodeRef.{NodeRef}
-use Rattle.type_nodes.specs.Nodes.{Node, Var, Rigid, Link, Arrow, Tuple, Con, parts}
-use Rattle.type_nodes.specs.Views.{numbers}
+use Rattle.std.specs.Prelude.{ℕ, ◌+◌, ◌<◌, List, [], ◌∷◌, ◌++◌, map, reverse, length, codes, Option, Some, None}
+use Rattle.type_nodes.specs.Nodes.{Node, Var, Rigid, Link, Arrow, Tuple, Con}
 use Rattle.type_nodes.specs.Links.{reading}
 use Rattle.type_print_model.specs.Printing as model
 use Rattle.type_print.specs.declared.pieces.Within.{Within}
@@ -107,20 +105,3 @@ part_weight nodes (a_text s) = 1
 abbrev pub parts_weight : List Node → List Part → ℕ
 parts_weight nodes [] = 0
 parts_weight nodes (p ∷ ps) = part_weight nodes p + parts_weight nodes ps
-
--- the same for nodes
-abbrev pub nodes_weight : List Node → List ℕ → ℕ
-nodes_weight nodes [] = 0
-nodes_weight nodes (n ∷ ns) = weight (shown nodes n) + nodes_weight nodes ns
-
--- nodes that are left, the next one first
-abbrev pub left_of : List NodeRef → List ℕ
-left_of ns = reverse (numbers ns)
-
-abbrev pub AreNodes : List Node → List ℕ → Type 0
-AreNodes nodes [] = Unit {0}
-AreNodes nodes (n ∷ ns) = (n < length nodes) × AreNodes nodes ns
-
--- a node was left out, or its parts came in its place
-abbrev pub Visits : List Node → ℕ → (old new : List ℕ) → Type 0
-Visits nodes n old new = (new ≡ old) ⊎ ((c : Node) × (reading nodes n ≡ Some c) × (new ≡ parts c ++ old))

@@ -4,10 +4,12 @@ ghost use Rattle.signature_model.specs.Declarations.{Name};
 ghost use Rattle.std.specs.Prelude.{if◌then◌else◌, true, false, ◌≡◌, ◌∷◌, ◌++◌, [], Some, None, IfSome, IfNone, IfOk, OnOk, option_map};
 ghost use Rattle.text_terms.specs.Bytes.{str_bytes};
 ghost use Rattle.type_terms.specs.Views.{path_of};
+ghost use Rattle.type_model.specs.Types.{Path};
+ghost use Rattle.type_print_model.specs.Paths.{IsNameOf};
 ghost use Rattle.signature_model.specs.Records.{is_of_type};
 ghost use Rattle.env_table.specs.Views.{names_of, inside};
 ghost use Rattle.type_print.specs.Ways.{way_view};
-ghost use Rattle.type_print.specs.Paths.{makes_of, is_module, contents, modules_behind, finds, way_among, name_in, named};
+ghost use Rattle.type_print.specs.Paths.{makes_of, is_module, contents, modules_behind, finds, way_among, name_in, named, naming, EndWith};
 ghost use Rattle.type_print.specs.Scopes.{scope_of, scopes_of, has, Looks};
 
 use crate::cut::push;
@@ -28,8 +30,16 @@ struct Inside<'a> {
 
 /// The name of an origin: the shortest path that finds the declaration that makes it, of these the newest from the outermost
 /// module inward; where no path does, the name that its declaration has and `/hidden`.
-#[tactic(auto, using(crate::proofs::Searching::name_here, crate::proofs::Searching::name_later))]
 pub fn name_of(alloc: Global, origin: &Origin, env: &Env) -> Result<RcStr, NoMemory>
+    ensures search { IfOk result (λ r. str_bytes r ≡ name_in env.now (path_of origin.now) (str_bytes origin.now.name)) }
+    ensures named { IfOk result (λ r. (declared : Path → Name) → declared (path_of origin.now) ≡ str_bytes origin.now.name → EndWith env.now (path_of origin.now) (str_bytes origin.now.name) → IsNameOf naming env.now declared (path_of origin.now) (str_bytes r)) }
+{
+    let name = searched_name(alloc, origin, env)?;
+    Ok(name)
+}
+
+#[tactic(auto, using(crate::proofs::Searching::name_here, crate::proofs::Searching::name_later))]
+fn searched_name(alloc: Global, origin: &Origin, env: &Env) -> Result<RcStr, NoMemory>
     ensures { IfOk result (λ r. str_bytes r ≡ name_in env.now (path_of origin.now) (str_bytes origin.now.name)) }
 {
     let name = origin.name.as_str();

@@ -4,13 +4,14 @@ ghost use Rattle.std.specs.Prelude.{◌++◌, ◌∷◌, [], List, ℕ, string_b
 ghost use Rattle.text_terms.specs.Bytes.{str_bytes};
 ghost use Rattle.type_model.specs.Types.{Path};
 ghost use Rattle.type_terms.specs.Views.{path_of};
-ghost use Rattle.type_print_model.specs.Variables.{letter_name};
+ghost use Rattle.type_print_model.specs.Variables.{letter_name, variable_name, variables_of};
 ghost use Rattle.type_print_model.specs.Printing.{Names, text_of, cut, alone};
 ghost use Rattle.type_print.specs.Shown.{shown};
 ghost use Rattle.type_print.specs.Paths.{name_in};
-ghost use Rattle.type_print.specs.Texts.{name_text, variable_text, PrintsWith, KnownAre, Speaks, said, IsAscii};
+ghost use Rattle.type_print.specs.Texts.{name_text, variable_text, PrintsWith, PrintsBy, KnownAre, Speaks, said, IsAscii};
 ghost use Rattle.type_nodes.specs.Nodes.{IsNode, IsSound};
 ghost use Rattle.type_nodes.specs.Views.{numbers};
+ghost use Rattle.type_print.specs.Meeting.{roots_of};
 ghost use Rattle.type_print.specs.Pieces.{parts_of, part_of, opened, IsPart};
 
 use crate::cut::{MOST_SHOWN, cut, push};
@@ -22,7 +23,8 @@ use std::alloc::Global;
 use text_terms::RcStr;
 use type_nodes::{NoMemory, NodeRef, Origin, Store, View};
 
-/// The text of a node's type, with the paths that are in scope. The variables of `weak` have names of their own.
+/// The text of a node's type, with the paths that are in scope. Its variables are named by first occurrence; those of `weak` have
+/// names of their own.
 pub fn print_type(
     alloc: Global,
     store: &Store,
@@ -32,7 +34,8 @@ pub fn print_type(
 ) -> Result<RcStr, NoMemory>
     requires node { IsNode store.now.nodes n.0 }
     requires weak { All (IsNode store.now.nodes) (numbers weak.now) }
-    ensures { IfOk result (λ r. (variable : ℕ → List ℕ) × PrintsWith store.now.nodes env.now variable (shown store.now.nodes n.0) (str_bytes r)) }
+    ensures text { IfOk result (λ r. PrintsWith store.now.nodes env.now (variable_name (roots_of store.now.nodes (numbers weak.now)) (variables_of (shown store.now.nodes n.0))) (shown store.now.nodes n.0) (str_bytes r)) }
+    ensures defined { IfOk result (λ r. PrintsBy store.now.nodes env.now (roots_of store.now.nodes (numbers weak.now)) (variables_of (shown store.now.nodes n.0)) (shown store.now.nodes n.0) (str_bytes r)) }
 {
     let mut variables = Variables::new(alloc, store, weak)?;
     variables.meet(alloc, store, n)?;
@@ -50,9 +53,10 @@ pub fn print_two(
 ) -> Result<(RcStr, RcStr), NoMemory>
     requires first { IsNode store.now.nodes first.0 }
     requires second { IsNode store.now.nodes second.0 }
-    ensures { IfOk result (λ r. (variable : ℕ → List ℕ)
-        × PrintsWith store.now.nodes env.now variable (shown store.now.nodes first.0) (str_bytes r.0)
-        × PrintsWith store.now.nodes env.now variable (shown store.now.nodes second.0) (str_bytes r.1)) }
+    ensures first { IfOk result (λ r. PrintsWith store.now.nodes env.now (variable_name [] (variables_of (shown store.now.nodes first.0) ++ variables_of (shown store.now.nodes second.0))) (shown store.now.nodes first.0) (str_bytes r.0)) }
+    ensures second { IfOk result (λ r. PrintsWith store.now.nodes env.now (variable_name [] (variables_of (shown store.now.nodes first.0) ++ variables_of (shown store.now.nodes second.0))) (shown store.now.nodes second.0) (str_bytes r.1)) }
+    ensures defined { IfOk result (λ r. let all = variables_of (shown store.now.nodes first.0) ++ variables_of (shown store.now.nodes second.0) in
+        PrintsBy store.now.nodes env.now [] all (shown store.now.nodes first.0) (str_bytes r.0) × PrintsBy store.now.nodes env.now [] all (shown store.now.nodes second.0) (str_bytes r.1)) }
 {
     let mut variables = Variables::new(alloc, store, &[])?;
     variables.meet(alloc, store, first)?;

@@ -1,10 +1,12 @@
 //! The variables of types: their names, in the order in which they first stand in the text.
-ghost use Rattle.std.specs.Prelude.{◌++◌, ◌≡◌, [], ◌∷◌, All, OnOk, IfSome, IfNone};
-ghost use Rattle.std.specs.Prelude.{nat_eq};
+ghost use Rattle.std.specs.Prelude.{◌++◌, ◌≡◌, [], ◌∷◌, All, OnOk, IfOk, IfSome, IfNone, nat_eq, ◌+◌, List, ℕ, cond, true};
 ghost use Rattle.std.specs.HashMap.{get};
+ghost use Rattle.std.specs.HashSet.{contains};
 ghost use Rattle.type_nodes.specs.Nodes.{IsNode, IsSound};
 ghost use Rattle.type_nodes.specs.Views.{numbers};
-ghost use Rattle.type_print.specs.Pieces.{left_of, Visits};
+ghost use Rattle.type_print_model.specs.Variables.{variables_of};
+ghost use Rattle.type_print.specs.Shown.{shown};
+ghost use Rattle.type_print.specs.Meeting.{roots_of, met_of, AreNamed, Counts, Adds, Marks, Goes, IsMove, move_of, moves_of, entries, enters, leaves};
 
 use std::alloc::Global;
 use std::collections::{HashMap, HashSet};
@@ -26,25 +28,34 @@ pub(crate) struct Variables {
     names: HashMap<u64, VariableName>,
     letters: u64,
     weaks: u64,
-    /// The roots of all nodes that were met.
-    seen: HashSet<u64>,
+    /// The roots of all nodes whose variables were all met.
+    done: HashSet<u64>,
+}
+
+/// A step of a walk through a type.
+#[derive(Clone, Copy)]
+enum Step {
+    Into(NodeRef),
+    /// Behind all parts of a root.
+    Behind(NodeRef),
 }
 
 impl Variables {
     /// No variable; those of these nodes are weak.
     pub(crate) fn new(alloc: Global, store: &Store, weak: &[NodeRef]) -> Result<Variables, NoMemory>
         requires { All (IsNode store.now.nodes) (numbers weak.now) }
+        ensures { IfOk result (λ vs. AreNamed store.now.nodes (roots_of store.now.nodes (numbers weak.now)) [] (met_of vs)) }
     {
         let mut roots = HashSet::new(alloc);
         for node in weak {
-            roots.insert(store.root(*node).0).map_err(|_| NoMemory)?;
+            insert(&mut roots, store.root(*node))?;
         }
         Ok(Variables {
             weak: roots,
             names: HashMap::new(alloc),
             letters: 0,
             weaks: 0,
-            seen: HashSet::new(alloc),
+            done: HashSet::new(alloc),
         })
     }
 
@@ -58,7 +69,7 @@ impl Variables {
         }
     }
 
-    /// Meets the variables of a node, in the order of its text.
+    /// Meets the variables of a node, in the order of its text, behind those that were met before.
     pub(crate) fn meet(
         &mut self,
         alloc: Global,
@@ -66,80 +77,121 @@ impl Variables {
         from: NodeRef,
     ) -> Result<(), NoMemory>
         requires { IsNode store.now.nodes from.0 }
+        ensures { OnOk result ((weak all : List ℕ) → AreNamed store.now.nodes weak all (met_of self.old) → AreNamed store.now.nodes weak (all ++ variables_of (shown store.now.nodes from.0)) (met_of self.new)) }
     {
         let mut left = Vec::new(alloc);
-        push(&mut left, store.root(from))?;
-        while let Some(node) = take_next(&mut left) {
-            self.visit(store, &mut left, node)?;
+        push(&mut left, Step::Into(store.root(from)))?;
+        while let Some(step) = take_next(&mut left) {
+            self.go(store, &mut left, step)?;
         }
         Ok(())
     }
 
-    fn visit(
-        &mut self,
-        store: &Store,
-        left: &mut Vec<NodeRef>,
-        node: NodeRef,
-    ) -> Result<(), NoMemory>
+    fn go(&mut self, store: &Store, left: &mut Vec<Step>, step: Step) -> Result<(), NoMemory>
+        requires node { IsMove store.now.nodes (move_of step) }
+        ensures { OnOk result (Goes store.now.nodes (moves_of left.old.items) (moves_of left.new.items) (met_of self.old) (met_of self.new) (move_of step)) }
+    {
+        match step {
+            Step::Into(node) => self.visit(store, left, node),
+            Step::Behind(root) => self.mark(root),
+        }
+    }
+
+    /// A node whose variables were all met is left out. No root is gone into twice, since none stands in itself.
+    fn visit(&mut self, store: &Store, left: &mut Vec<Step>, node: NodeRef) -> Result<(), NoMemory>
         requires node { IsNode store.now.nodes node.0 }
-        ensures { OnOk result (Visits store.now.nodes node.0 (left_of left.old.items) (left_of left.new.items)) }
+        ensures { OnOk result (Goes store.now.nodes (moves_of left.old.items) (moves_of left.new.items) (met_of self.old) (met_of self.new) (enters node.0)) }
     {
         let root = store.root(node);
-        if self.seen.contains(&root.0) {
+        if self.done.contains(&root.0) {
             return Ok(());
         }
-        self.seen.insert(root.0).map_err(|_| NoMemory)?;
         match store.read(node) {
-            View::Var { .. } | View::Rigid(_) => self.add(root),
-            View::Arrow(from, to) => push_all(left, &[from, to]),
-            View::Tuple(parts) => push_all(left, parts),
-            View::Con(_, args) => push_all(left, args),
+            View::Var { .. } => self.add(root),
+            View::Rigid(_) => self.add(root),
+            View::Arrow(from, to) => open(left, root, &[from, to]),
+            View::Tuple(parts) => open(left, root, parts),
+            View::Con(_, args) => open(left, root, args),
         }
     }
 
-    fn add(&mut self, root: NodeRef) -> Result<(), NoMemory> {
-        let name = if self.weak.contains(&root.0) {
+    fn mark(&mut self, root: NodeRef) -> Result<(), NoMemory>
+        ensures { OnOk result (Marks root.0 (met_of self.old) (met_of self.new)) }
+    {
+        insert(&mut self.done, root)
+    }
+
+    fn add(&mut self, root: NodeRef) -> Result<(), NoMemory>
+        ensures { OnOk result (Adds root.0 (met_of self.old) (met_of self.new)) }
+    {
+        let name = self.next_name(root)?;
+        match self.names.insert(root.0, name) {
+            Ok(_) => self.mark(root),
+            Err(_) => Err(NoMemory),
+        }
+    }
+
+    fn next_name(&mut self, root: NodeRef) -> Result<VariableName, NoMemory>
+        ensures { IfOk result (λ name. Counts root.0 (met_of self.old) (met_of self.new) name) }
+    {
+        if self.weak.contains(&root.0) {
             self.weaks = next(self.weaks)?;
-            VariableName::Weak(self.weaks)
-        } else {
-            let place = self.letters;
-            self.letters = next(place)?;
-            VariableName::Letter(place)
-        };
-        self.names.insert(root.0, name).map_err(|_| NoMemory)?;
-        Ok(())
+            return Ok(VariableName::Weak(self.weaks));
+        }
+        let place = self.letters;
+        self.letters = next(place)?;
+        Ok(VariableName::Letter(place))
     }
 }
 
 // There is no memory for as many variables as numbers.
-fn next(count: u64) -> Result<u64, NoMemory> {
+fn next(count: u64) -> Result<u64, NoMemory>
+    ensures { IfOk result (λ n. n ≡ count + 1) }
+{
     match count.checked_add(1) {
         Some(next) => Ok(next),
         None => Err(NoMemory),
     }
 }
 
-fn take_next(left: &mut Vec<NodeRef>) -> Option<NodeRef>
-    ensures some { IfSome result (λ n. left_of left.old.items ≡ n.0 ∷ left_of left.new.items) }
-    ensures none { IfNone result (left_of left.old.items ≡ []) }
+fn insert(roots: &mut HashSet<u64>, root: NodeRef) -> Result<(), NoMemory>
+    ensures { OnOk result ((q : ℕ) → contains nat_eq roots.new q ≡ cond (nat_eq root.0 q) true (contains nat_eq roots.old q)) }
+{
+    match roots.insert(root.0) {
+        Ok(_) => Ok(()),
+        Err(_) => Err(NoMemory),
+    }
+}
+
+fn take_next(left: &mut Vec<Step>) -> Option<Step>
+    ensures some { IfSome result (λ s. moves_of left.old.items ≡ move_of s ∷ moves_of left.new.items) }
+    ensures none { IfNone result (moves_of left.old.items ≡ []) }
 {
     left.pop()
 }
 
-fn push(left: &mut Vec<NodeRef>, node: NodeRef) -> Result<(), NoMemory>
-    ensures { OnOk result (left_of left.new.items ≡ node.0 ∷ left_of left.old.items) }
+fn push(left: &mut Vec<Step>, step: Step) -> Result<(), NoMemory>
+    ensures { OnOk result (moves_of left.new.items ≡ move_of step ∷ moves_of left.old.items) }
 {
-    left.push(node).map_err(|_| NoMemory)
+    left.push(step).map_err(|_| NoMemory)
+}
+
+/// The first of a root's parts comes next, and the way back behind them all.
+fn open(left: &mut Vec<Step>, root: NodeRef, parts: &[NodeRef]) -> Result<(), NoMemory>
+    ensures { OnOk result (moves_of left.new.items ≡ entries (numbers parts.now) ++ leaves root.0 ∷ moves_of left.old.items) }
+{
+    push(left, Step::Behind(root))?;
+    push_all(left, parts)
 }
 
 /// The first of them comes last.
-fn push_all(left: &mut Vec<NodeRef>, nodes: &[NodeRef]) -> Result<(), NoMemory>
-    ensures { OnOk result (left_of left.new.items ≡ numbers nodes.now ++ left_of left.old.items) }
+fn push_all(left: &mut Vec<Step>, nodes: &[NodeRef]) -> Result<(), NoMemory>
+    ensures { OnOk result (moves_of left.new.items ≡ entries (numbers nodes.now) ++ moves_of left.old.items) }
 {
     let mut k = nodes.len();
     while k > 0 {
         k -= 1;
-        push(left, nodes[k])?;
+        push(left, Step::Into(nodes[k]))?;
     }
     Ok(())
 }

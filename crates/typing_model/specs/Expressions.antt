@@ -138,12 +138,17 @@ abbrev pub behind_constructor : Context → ℕ → Expression → List Expressi
 behind_constructor c n head [] = is_of c n (type_at c head.node)
 behind_constructor c n head (e ∷ es) = applied_from c n 3 0 head.at (type_at c head.node) (e ∷ es)
 
+-- the same where the constructor isn't bound: of one argument the whole is what the constructor is, and of more it is anything
+abbrev pub behind_unbound : Context → ℕ → Expression → List Expression → List Condition
+behind_unbound c n head [] = is_of c n (type_at c head.node)
+behind_unbound c n head (e ∷ es) = typed_all c (e ∷ es)
+
 -- A e: `bound`, `arity`; the first argument, which is the declared one; the result, which the constructor has too
 abbrev pub constructor_applied : Context → ℕ → Written → Expression → List Expression → List Condition
 constructor_applied c n p head [] = head.typed c
 constructor_applied c n p head (e ∷ es) =
     applied_constructor c n p head.node (head.node ∷ []) (e.typed c) (argument_has n 2 e.at (type_at c e.node)) ++
-    (if is_kept c n 0 then behind_constructor c n head es else typed_all c es)
+    (if is_kept c n 0 then behind_constructor c n head es else behind_unbound c n head es)
 
 -- what an application asks by the form of its head
 abbrev pub application_asks : Context → ℕ → Expression → List Expression → Form → List Condition

@@ -14,3 +14,5 @@ pub mod Modules
 pub mod Meanings
 pub mod Typings
 pub mod Faults
+pub mod PreludeText
+pub mod First

@@ -109,12 +109,16 @@ abbrev pub argument_has : ℕ → ℕ → Place → Typ → Option Typ → List 
 argument_has n k at t None = []
 argument_has n k at t (Some u) = ask n k at (equal t u)
 
--- A p: `bound`, `arity`; the argument, which is the declared one; the result, which these nodes have. The letters are those of the constructor's own node.
+-- nodes have the type of another
+abbrev pub of_one_type : Context → ℕ → List ℕ → List Condition
+of_one_type c n nodes = map (λ m. same (type_at c m) (type_at c n)) nodes
+
+-- A p: `bound`, `arity`; the argument, which is the declared one; the result, which these nodes have. The letters are those of the constructor's own node. Where the constructor isn't found, these nodes have one type.
 abbrev pub applied_constructor : Context → ℕ → Written → ℕ → List ℕ → List Condition → (Option Typ → List Condition) → List Condition
 applied_constructor c n p head nodes argument has = tell_typed head c ++ elim p.last [
-  | None ↦ argument
+  | None ↦ argument ++ of_one_type c head nodes
   | Some t ↦ ask_bound c n 0 constructor_kind constructor_word p t ++
-      elim (built_by c n p t) [ None ↦ argument | Some b ↦ with_built c n head t 1 b nodes (argument ++ has (argument_type c head (Some b))) ]
+      elim (built_by c n p t) [ None ↦ argument ++ of_one_type c head nodes | Some b ↦ with_built c n head t 1 b nodes (argument ++ has (argument_type c head (Some b))) ]
 ]
 
 abbrev pub papp : ℕ → Place → Pattern → Pattern → Pattern

@@ -1,19 +1,19 @@
-use Rattle.std.proofs.Common.{◌+◌, map, drop, subst, List}
-use Rattle.std.proofs.lemmas.List.{drop_all, drop_more}
-use Rattle.query_engine.specs.Faults.{fault_of}
-use Rattle.frame_parser.specs.declared.stack.SyntaxFault.{SyntaxFault}
-use Rattle.query_engine.proofs.Orders.{IsPageFor, page_kept, page_done}
+use Rattle.std.proofs.Common.{arith, map, List, subst}
+use Rattle.std.proofs.lemmas.List.{length-map}
+use Rattle.query_engine.specs.Faults.{fault_of, told_of, FillsPage}
+use Rattle.query_engine.specs.declared.tellers.Told.{Told}
+use Rattle.query_engine.proofs.Orders.{filled_short, page_of_both}
 use Rattle.query_engine.proofs.order.first_faults.Goals as goal
 
-pub loop-fault-preserved : goal.loop-fault-preserved
-loop-fault-preserved c =
-    let page = map fault_of c.loop-fault.page.items in
-    let all = map fault_of c.args.faults.now in
-    page_kept page (map fault_of c.keep.new.page.items) _ (map fault_of (drop (c.loop-fault.fault-index + 1) c.args.faults.now)) all c.in_ok-keep.ensures
-    (subst (λ (fs : List SyntaxFault). IsPageFor page (map fault_of fs) all) (drop_more c.args.faults.now c.loop-fault.fault-index _ c.loop-fault-test.true) c.loop-fault.invariant)
+pub keep_typed-requires-clause-short : goal.keep_typed-requires-clause-short
+keep_typed-requires-clause-short c =
+    let page = c.keep_parsed.new.page.items in
+    let short = filled_short _ _ (map told_of page) c.in_ok-keep_parsed.ensures in
+    omega (arith, short, length-map page told_of)
 
 pub returns : goal.returns
 returns c =
-    let page = map fault_of c.loop-fault.page.items in
-    let all = map fault_of c.args.faults.now in
-    page_done page all (subst (λ (fs : List SyntaxFault). IsPageFor page (map fault_of fs) all) (drop_all c.loop-fault.fault-index c.args.faults.now c.loop-fault-test.false) c.loop-fault.invariant)
+    let page = c.keep_parsed.new.page.items in
+    let parsed = map fault_of c.args.parsed.now in
+    let first = subst (λ (fs : List Told). FillsPage (map told_of fs) parsed (map told_of page)) c.new-page.ensures.items c.in_ok-keep_parsed.ensures in
+    page_of_both parsed _ (map told_of page) (map told_of c.keep_typed.new.page.items) first c.in_ok-keep_typed.ensures

@@ -1,5 +1,11 @@
+use Rattle.std.proofs.Common.{◌∙◌, ap}
+use Rattle.query_model.specs.Faults.{is_before}
+use Rattle.query_engine.specs.Faults.{told_of}
+use Rattle.query_engine.specs.declared.tellers.Told.{Told}
 use Rattle.query_engine.proofs.Orders.{is_behind}
 use Rattle.query_engine.proofs.order.is_behind.Goals as goal
 
 pub returns-then-page-eq-PAGE_LIMIT : goal.returns-then-page-eq-PAGE_LIMIT
-returns-then-page-eq-PAGE_LIMIT c = is_behind c.args.fault c.args.page.now _ c.is_before.result c.in-len1-up.len_at_least c.requires.order c.if-page-eq-PAGE_LIMIT.true c.is_before.ensures
+returns-then-page-eq-PAGE_LIMIT c =
+    is_behind c.args.fault c.args.page.now c.last-item.result c.is_before.result c.in-len1-up.len_at_least c.requires.order c.if-page-eq-PAGE_LIMIT.true
+    (c.is_before.ensures ∙ ap (λ (f : Told). is_before (told_of c.args.fault) (told_of f)) c.last-item.is)

@@ -1,7 +1,7 @@
 use Rattle.std.proofs.Common.{◌≡◌, drop, map, find}
 use Rattle.service_model.specs.Answers.{is_id}
 use Rattle.syntax_tree.specs.View.{id_of}
-use Rattle.core_typing.specs.View.{seen_of}
+use Rattle.plain_typing.specs.View.{seen_of}
 use Rattle.session_loop.proofs.plain.find_seen.Given as goal
 
 abbrev pub invariant-loop-node : goal.invariant-loop-node

@@ -1,6 +1,6 @@
 use Rattle.std.proofs.Common.{sym, map}
 use Rattle.std.specs.Prelude.{length}
-use Rattle.core_typing.specs.View.{seen_of}
+use Rattle.plain_typing.specs.View.{seen_of}
 use Rattle.plain_model.proofs.Within.{found_within}
 use Rattle.session_loop.proofs.plain.typed_among.Goals as goal
 

@@ -2,7 +2,7 @@ use Rattle.std.proofs.Common.{◌≡◌, ◌++◌, drop, map}
 use Rattle.service_model.specs.Answers.{typed_among}
 use Rattle.syntax_tree.specs.View.{id_of}
 use Rattle.json_lines.specs.Means.{typed_of}
-use Rattle.core_typing.specs.View.{seen_of}
+use Rattle.plain_typing.specs.View.{seen_of}
 use Rattle.session_loop.proofs.plain.typed_among.Given as goal
 
 abbrev pub invariant-loop-id : goal.invariant-loop-id

@@ -4,7 +4,7 @@ use Rattle.text_terms.specs.Bytes.{str_bytes}
 use Rattle.env_table.specs.Views.{names_of}
 use Rattle.type_print.specs.Ways.{way_view}
 use Rattle.type_print.specs.Paths.{among, is_module}
-use Rattle.type_print.specs.Scopes.{scopes_of, has}
+use Rattle.type_print.specs.Scopes.{scopes_of}
 use Rattle.type_print.proofs.Searching.{module_added}
 use Rattle.type_print.proofs.paths.add_modules.Goals as goal
 

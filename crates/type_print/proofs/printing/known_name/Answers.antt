@@ -1,4 +1,4 @@
-use Rattle.std.proofs.Common.{◌≡◌, ◌∙◌, sym, ap, arith, rules}
+use Rattle.std.proofs.Common.{◌≡◌, ◌∙◌, ap, rules}
 use Rattle.type_terms.specs.Views.{path_of}
 use Rattle.type_print.proofs.Known.{known_here, known_later}
 use Rattle.type_print.proofs.printing.known_name.Goals as goal

@@ -1,4 +1,4 @@
-use Rattle.std.proofs.Common.{◌≡◌, ◌∙◌, sym, ap}
+use Rattle.std.proofs.Common.{◌∙◌, sym, ap}
 use Rattle.type_print.proofs.Known.{known_more}
 use Rattle.type_print.proofs.printing.remember.Goals as goal
 

@@ -1,12 +1,12 @@
-use Rattle.std.proofs.Common.{◌≡◌, refl, ◌⊎◌, inl, inr, ◌<◌, length, [], arith, ℕ, List, ◌∙◌, sym, ap, ◌++◌, append_assoc, append-nil}
+use Rattle.std.proofs.Common.{◌≡◌, refl, ◌⊎◌, inl, inr, ◌<◌, length, [], arith, ℕ, List, ◌∙◌, ap, ◌++◌, append_assoc, append-nil}
 use Rattle.std.specs.Prelude.{string_bytes}
 use Rattle.std.proofs.lemmas.Result.{IfOk-weaker}
 use Rattle.text_terms.specs.Bytes.{str_bytes}
 use Rattle.text_terms.specs.declared.RcStr.{RcStr}
 use Rattle.type_print.specs.Shown.{shown}
-use Rattle.type_print_model.specs.Printing.{Names, text_of, alone, cut, most_shown}
-use Rattle.type_print.specs.Pieces.{part_of, parts_of, AreParts}
-use Rattle.type_print.specs.Texts.{parts_text, said, Speaks, IsCuttable, PrintsWith, variable_text}
+use Rattle.type_print_model.specs.Printing.{text_of, alone, cut, most_shown}
+use Rattle.type_print.specs.Pieces.{part_of, parts_of}
+use Rattle.type_print.specs.Texts.{parts_text, Speaks, IsCuttable, PrintsWith, variable_text}
 use Rattle.type_print.proofs.Weights.{opened_less, opened_inside, root_node}
 use Rattle.type_print.proofs.Shown.{shown_root}
 use Rattle.type_print.proofs.Texts.{opened_text}

@@ -1,5 +1,4 @@
-use Rattle.std.proofs.Common.{◌≡◌, ◌∙◌, sym, ap, arith, rules}
-use Rattle.type_terms.specs.Views.{path_of}
+use Rattle.std.proofs.Common.{◌∙◌, sym}
 use Rattle.type_print.proofs.printing.write_name.Goals as goal
 
 pub returns-in-Some-clause-text : goal.returns-in-Some-clause-text
@@ -9,5 +8,5 @@ returns-in-Some-clause-text c f fits all =
 
 pub returns-clause-text : goal.returns-clause-text
 returns-clause-text c f fits all =
-    let said = c.in_ok-name.ensures ∙ sym fits in
+    let said = c.in_ok-name.ensures.search ∙ sym fits in
     (c.in_ok-push-2.ensures ∙ rw (c.as_str-2.ensures, said), c.in_ok-remember.ensures f said all)

@@ -1,0 +1,317 @@
+//! Records: { l = e }, { e with l = e }
+use crate::patterns::field_names;
+use crate::rows::{Next, next_of, unnamed};
+use crate::uses::{
+    RecordType, Used, field_type, is_again, labels_in, push_label, record_type, report_lost,
+    report_unbound, value,
+};
+use crate::values::label_path;
+use decl_typing::{Env, NoMemory, NodeRef, Parts};
+use env_table::Path;
+use owned_lists::push;
+use row_parts::{Operand, WrittenPath, first_operand, operand_in, operands, token, written_path};
+use syntax_tree::{Node, Span, Token};
+
+/// A field, by the number of its own node.
+#[derive(Drop)]
+struct Field<'a> {
+    number: u32,
+    label: WrittenPath<'a>,
+    value: Option<Operand<'a>>,
+}
+
+/// Which part is typed next.
+#[derive(Clone, Copy, Debug, PartialEq, Eq)]
+enum Turn {
+    /// The first part, which is no label, or stands before `with`.
+    First,
+    /// The value behind a first part that is no label.
+    Loose,
+    Fields,
+}
+
+/// Whether a record is made of another.
+#[derive(Clone, Copy, Debug, PartialEq, Eq)]
+enum Making {
+    New,
+    Update,
+}
+
+/// A record, as far as its parts are typed.
+#[derive(Drop)]
+pub struct RecordRow<'a> {
+    env: Env,
+    span: Span,
+    making: Making,
+    first: Option<Operand<'a>>,
+    loose: Option<Operand<'a>>,
+    fields: Vec<Field<'a>>,
+    found: RecordType,
+    labels: Vec<&'a Token>,
+    done: usize,
+    /// The type that is asked of the field whose value is typed next.
+    wanted: Option<NodeRef>,
+    turn: Turn,
+}
+
+/// The fields behind the first part.
+fn push_fields<'a>(
+    at: &Parts,
+    node: &'a Node,
+    number: u32,
+    fields: &mut Vec<Field<'a>>,
+) -> Result<(), NoMemory> {
+    for part in operands(at.alloc(), node, number, 5)? {
+        if let Some(inner) = part.node {
+            let field = Field {
+                number: part.number,
+                label: written_path(at.alloc(), inner, 0, 1)?,
+                value: first_operand(inner, part.number, 3),
+            };
+            push(fields, field)?;
+        }
+    }
+    Ok(())
+}
+
+impl<'a> RecordRow<'a> {
+    pub fn new(
+        at: &mut Parts,
+        node: &'a Node,
+        number: u32,
+        env: &Env,
+    ) -> Result<RecordRow<'a>, NoMemory> {
+        let mut row = RecordRow {
+            env: env.share()?,
+            span: node.span,
+            making: Making::New,
+            first: Some(operand_in(node, number, 1)),
+            loose: first_operand(node, number, 3),
+            fields: Vec::new(at.alloc()),
+            found: RecordType::Open,
+            labels: Vec::new(at.alloc()),
+            done: 0,
+            wanted: None,
+            turn: Turn::First,
+        };
+        if token(node, 4).is_some() {
+            row.making = Making::Update;
+            row.loose = None;
+        } else {
+            row.first_field(at)?;
+        }
+        push_fields(at, node, number, &mut row.fields)?;
+        if row.first.is_none() {
+            row.find(at)?;
+        }
+        Ok(row)
+    }
+
+    /// A first part that is a path to a lower-case name is a label; any other one that is there is reported.
+    fn first_field(&mut self, at: &mut Parts) -> Result<(), NoMemory> {
+        let Some(first) = self.first else {
+            return Ok(());
+        };
+        match label_path(at, first)? {
+            Some(label) => {
+                let field = Field {
+                    number: first.number,
+                    label,
+                    value: self.loose,
+                };
+                push(&mut self.fields, field)?;
+                self.first = None;
+                self.loose = None;
+                Ok(())
+            }
+            None => {
+                if first.node.is_some() {
+                    at.no_label(first.span)?;
+                }
+                Ok(())
+            }
+        }
+    }
+
+    /// `bound` of the type by its labels.
+    fn find(&mut self, at: &mut Parts) -> Result<(), NoMemory> {
+        let labels = self.labels(at)?;
+        self.found = match record_type(at, &self.env, &labels)? {
+            Some(found) => found,
+            None => {
+                self.tell_labels(at)?;
+                RecordType::Open
+            }
+        };
+        self.turn = if self.loose.is_some() {
+            Turn::Loose
+        } else {
+            Turn::Fields
+        };
+        Ok(())
+    }
+
+    fn labels(&self, at: &Parts) -> Result<Vec<Path>, NoMemory> {
+        let mut labels = Vec::new(at.alloc());
+        for field in &self.fields {
+            push_label(at, &mut labels, &field.label)?;
+        }
+        Ok(labels)
+    }
+
+    /// No record type has the labels: told at the first qualifier that leads to no module, or else at the first written label.
+    fn tell_labels(&self, at: &mut Parts) -> Result<(), NoMemory> {
+        for field in &self.fields {
+            if report_lost(at, &self.env, &field.label)? {
+                return Ok(());
+            }
+        }
+        self.tell_first(at)
+    }
+
+    fn tell_first(&self, at: &mut Parts) -> Result<(), NoMemory> {
+        for field in &self.fields {
+            if report_unbound(at, &field.label)? {
+                return Ok(());
+            }
+        }
+        Ok(())
+    }
+
+    pub fn next(&mut self, at: &mut Parts) -> Result<Option<Next<'a>>, NoMemory> {
+        match self.turn {
+            Turn::First => next_of(self.first.as_ref(), &self.env),
+            Turn::Loose => next_of(self.loose.as_ref(), &self.env),
+            Turn::Fields => self.next_field(at),
+        }
+    }
+
+    /// Goes on to the next field with a value of its own; a field without one uses the value of its label's name.
+    fn next_field(&mut self, at: &mut Parts) -> Result<Option<Next<'a>>, NoMemory> {
+        for place in self.done..self.fields.len() {
+            let value = self.begin_field(at, place)?;
+            if value.is_some() {
+                return next_of(value.as_ref(), &self.env);
+            }
+            self.done = place.saturating_add(1);
+        }
+        Ok(None)
+    }
+
+    /// Records a field and asks that its label is new where the record is found. Its value, where it has one of its own.
+    fn begin_field(
+        &mut self,
+        at: &mut Parts,
+        place: usize,
+    ) -> Result<Option<Operand<'a>>, NoMemory> {
+        let Some(field) = self.fields.get(place) else {
+            return Ok(None);
+        };
+        if let Some(last) = field.label.last {
+            let again = is_again(&mut self.labels, last)?;
+            if let (RecordType::Known(_, _), true) = (&self.found, again) {
+                at.twice(last.span, last.name.as_str())?;
+            }
+        }
+        self.wanted = field_type(at, &self.found, field.label.last)?;
+        match field.value {
+            Some(value) => {
+                let names = field_names(at, &self.env, &self.found, &field.label)?;
+                at.note(field.number, &self.env, None, names)?;
+                Ok(Some(value))
+            }
+            None => {
+                pun(at, &self.env, field, self.wanted)?;
+                Ok(None)
+            }
+        }
+    }
+
+    pub fn take(&mut self, at: &mut Parts, ty: NodeRef) -> Result<(), NoMemory> {
+        match self.turn {
+            Turn::First => {
+                self.find(at)?;
+                self.updated(at, ty)
+            }
+            Turn::Loose => {
+                self.turn = Turn::Fields;
+                Ok(())
+            }
+            Turn::Fields => {
+                let value = match self.fields.get(self.done) {
+                    Some(field) => field.value,
+                    None => None,
+                };
+                if let (Some(value), Some(wanted)) = (value, self.wanted) {
+                    at.equal(value.span, ty, wanted, &self.env)?;
+                }
+                self.done = self.done.saturating_add(1);
+                Ok(())
+            }
+        }
+    }
+
+    /// The part before `with` is the record.
+    fn updated(&self, at: &mut Parts, ty: NodeRef) -> Result<(), NoMemory> {
+        if self.making == Making::Update {
+            if let (RecordType::Known(_, wanted), Some(first)) = (&self.found, self.first) {
+                at.equal(first.span, ty, *wanted, &self.env)?;
+            }
+        }
+        Ok(())
+    }
+
+    /// `complete`: the first label of the declaration that isn't written.
+    fn complete(&self, at: &mut Parts) -> Result<(), NoMemory> {
+        let RecordType::Known(declaration, _) = &self.found else {
+            return Ok(());
+        };
+        for label in labels_in(declaration) {
+            let written = self
+                .labels
+                .iter()
+                .any(|other| other.name.is(label.name.as_str()));
+            if !written {
+                return at.incomplete(self.span, label.name.as_str());
+            }
+        }
+        Ok(())
+    }
+
+    pub fn finish(self, at: &mut Parts) -> Result<Used, NoMemory> {
+        if self.making == Making::New {
+            self.complete(at)?;
+        }
+        let ty = match self.found {
+            RecordType::Known(_, ty) => ty,
+            RecordType::Open => at.var()?,
+        };
+        Ok(unnamed(at, ty))
+    }
+}
+
+/// A field without a value of its own: the value of its label's name, which is the field.
+fn pun(
+    at: &mut Parts,
+    env: &Env,
+    field: &Field<'_>,
+    wanted: Option<NodeRef>,
+) -> Result<(), NoMemory> {
+    let Some(last) = field.label.last else {
+        return at.note_plain(field.number, env);
+    };
+    let path = WrittenPath {
+        qualifiers: Vec::new(at.alloc()),
+        last: Some(last),
+    };
+    let used = value(at, env, &path)?;
+    if let Some(wanted) = wanted {
+        at.equal(last.span, used.ty, wanted, env)?;
+    }
+    let entry = match used.names.last() {
+        Some(entry) => entry.as_ref(),
+        None => None,
+    };
+    let names = at.seen_names(env, &field.label, entry)?;
+    at.note(field.number, env, None, names)
+}

@@ -1,0 +1,5 @@
+use Rattle.decl_typing.proofs.Faulting.{told_aloud}
+use Rattle.decl_typing.proofs.parts.Parts.report.Goals as goal
+
+pub returns-in-Aloud-clause-told : goal.returns-in-Aloud-clause-told
+returns-in-Aloud-clause-told c = told_aloud c.push.result c.args.self.now.telling _ _ c.args.span c.args.kind c.args.message c.in-Aloud.is c.push.ensures.pushed

@@ -1,0 +1,5 @@
+use Rattle.model_checks.proofs.LaterType.{scope, is_a_fault}
+use Rattle.model_checks.proofs.kept.a_later_type_is_a_fault.Goals as goal
+
+pub returns : goal.returns
+returns c = (scope, is_a_fault)

@@ -1,0 +1,137 @@
+//! Items without modules.
+use crate::scenes::Scene;
+use core_typing::type_bindings;
+use decl_typing::{Depth, Env, NoMemory, NodeRef, Parameter, Parts, Variables, new_entry};
+use env_table::{Kind, What};
+use owned_lists::push;
+use row_parts::{operand_in, operands, token};
+use syntax_tree::{Node, Part, Token, TokenKind};
+
+/// let b and b
+pub fn let_item(
+    at: &mut Parts,
+    node: &Node,
+    number: u32,
+    scene: &mut Scene,
+    depth: Depth,
+) -> Result<(), NoMemory> {
+    at.note_plain(number, &scene.env)?;
+    at.written.variables.clear();
+    let behind = type_bindings(at, node, number, &scene.env, depth)?;
+    scene.add(behind.env, &behind.entries)
+}
+
+/// type d and d
+pub fn type_group(
+    at: &mut Parts,
+    node: &Node,
+    number: u32,
+    scene: &mut Scene,
+    depth: Depth,
+) -> Result<(), NoMemory> {
+    at.note_plain(number, &scene.env)?;
+    for name in names_of_types(at, node, number)? {
+        scene.ask_new(at, Kind::TypeName, Some(name))?;
+    }
+    let declared = at.type_decls(node, number, &scene.env, depth)?;
+    scene.add_made(at, &declared.makes)?;
+    scene.add(declared.env, &declared.entries)
+}
+
+/// The names of the declarations of an item.
+fn names_of_types<'a>(at: &Parts, node: &'a Node, number: u32) -> Result<Vec<&'a Token>, NoMemory> {
+    let mut names = Vec::new(at.alloc());
+    for part in operands(at.alloc(), node, number, 2)? {
+        if let Some(declaration) = part.node {
+            if let Some(head) = operand_in(declaration, part.number, 0).node {
+                if let Some(name) = token(head, 4) {
+                    push(&mut names, name)?;
+                }
+            }
+        }
+    }
+    Ok(names)
+}
+
+/// exception A of t
+pub fn exception_item(
+    at: &mut Parts,
+    node: &Node,
+    number: u32,
+    scene: &mut Scene,
+    depth: Depth,
+) -> Result<(), NoMemory> {
+    at.note_plain(number, &scene.env)?;
+    let declared = at.type_exception(node, number, &scene.env, depth)?;
+    scene.add(declared.env, &declared.entries)
+}
+
+/// The type variables that stand in a tree, once each, added to those found so far.
+fn variables_in<'a>(node: &'a Node, found: &mut Vec<&'a Token>) -> Result<(), NoMemory> {
+    for child in &node.children {
+        match &child.part {
+            Part::Inner(inner) => variables_in(inner, found)?,
+            Part::Taken(token) => {
+                if token.kind == TokenKind::TyVar {
+                    push_once(found, token)?;
+                }
+            }
+            Part::Missing(_) => {}
+        }
+    }
+    Ok(())
+}
+
+fn push_once<'a>(found: &mut Vec<&'a Token>, token: &'a Token) -> Result<(), NoMemory> {
+    if found.iter().any(|other| other.name.is(token.name.as_str())) {
+        return Ok(());
+    }
+    push(found, token)
+}
+
+/// val x : t: its type variables are the scheme's own
+pub fn value_item(
+    at: &mut Parts,
+    node: &Node,
+    number: u32,
+    scene: &mut Scene,
+    depth: Depth,
+) -> Result<(), NoMemory> {
+    at.level = at.level.saturating_add(1);
+    let read = specified(at, node, number, &scene.env, depth);
+    at.level = at.level.saturating_sub(1);
+    let root = read?;
+    at.generalise(root)?;
+    let Some(name) = token(node, 1) else {
+        return at.note_plain(number, &scene.env);
+    };
+    let place = at.place(name.span);
+    let what = What::Scheme(root);
+    let entry = new_entry(at.alloc(), name.name.share()?, Kind::Value, place, what)?;
+    let names = at.one_name(Some(&entry))?;
+    at.note(number, &scene.env, None, names)?;
+    let mut entries = Vec::new(at.alloc());
+    push(&mut entries, entry)?;
+    let env = at.with_entries(&entries, &scene.env)?;
+    scene.add(env, &entries)
+}
+
+/// The type that is written for a value.
+fn specified(
+    at: &mut Parts,
+    node: &Node,
+    number: u32,
+    env: &Env,
+    depth: Depth,
+) -> Result<NodeRef, NoMemory> {
+    let mut names = Vec::new(at.alloc());
+    variables_in(node, &mut names)?;
+    let mut parameters = Vec::new(at.alloc());
+    for name in names {
+        let node = at.var()?;
+        let name = name.name.share()?;
+        push(&mut parameters, Parameter { name, node })?;
+    }
+    let variables = Variables::Parameters(parameters);
+    at.read_type(operand_in(node, number, 3), env, &variables, depth)
+}

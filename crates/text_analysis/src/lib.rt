@@ -1,0 +1,12 @@
+//! What is found of the types and names of a whole text, on a new store: the prelude's items first, as item 0, then the text's.
+//! It stands on the parser and on the typing of items.
+//! Above, `analyse` takes the tree of a text and gives the store of its types, what is recorded for each node and missing operand,
+//! the faults in the order of their demands, the names in scope behind the last item, and the variables that are free in these.
+#![tactic(auto)]
+
+mod prelude;
+mod weak;
+mod whole;
+
+pub use prelude::PRELUDE;
+pub use whole::{Analysis, analyse};

@@ -1,0 +1,107 @@
+//! Weak variables: those that are free in the types of the names behind the last item.
+use decl_typing::{Depth, NoMemory, NodeRef, Parts};
+use env_table::{Entries, Entry, Env, Sig, What};
+use owned_lists::push;
+use std::collections::HashSet;
+use type_nodes::View;
+
+/// The level that is kept for bound variables.
+const BOUND: u32 = 4_294_967_295;
+
+/// The nodes that were looked at, those still to be looked at, and the variables that were found.
+#[derive(Drop)]
+struct Search {
+    seen: HashSet<u64>,
+    todo: Vec<NodeRef>,
+    found: Vec<NodeRef>,
+}
+
+impl Search {
+    /// Looks at a node behind its links, once.
+    fn look(&mut self, at: &Parts, n: NodeRef) -> Result<(), NoMemory> {
+        let Some(view) = at.read(n) else {
+            return Ok(());
+        };
+        let root = at.root(n);
+        if self.seen.contains(&root.0) {
+            return Ok(());
+        }
+        self.seen.insert(root.0).map_err(|_| NoMemory)?;
+        match view {
+            View::Var { level, .. } => {
+                if level != BOUND {
+                    push(&mut self.found, root)?;
+                }
+                Ok(())
+            }
+            View::Rigid(_) => Ok(()),
+            View::Arrow(from, to) => self.later(&[from, to]),
+            View::Tuple(parts) => self.later(parts),
+            View::Con(_, args) => self.later(args),
+        }
+    }
+
+    fn later(&mut self, nodes: &[NodeRef]) -> Result<(), NoMemory> {
+        for n in nodes {
+            push(&mut self.todo, *n)?;
+        }
+        Ok(())
+    }
+
+    /// Looks at all that is still to be looked at.
+    fn go_on(&mut self, at: &Parts) -> Result<(), NoMemory> {
+        for _ in 0..u64::MAX {
+            match self.todo.pop() {
+                None => return Ok(()),
+                Some(n) => self.look(at, n)?,
+            }
+        }
+        Ok(())
+    }
+
+    /// Looks at the types of the values behind an entry, those of a module's values and of functors' bodies included.
+    #[cycle(weak)]
+    fn entry(&mut self, at: &Parts, entry: &Entry, depth: Depth) -> Result<(), NoMemory> {
+        match &entry.what {
+            What::Scheme(root) => {
+                self.later(&[*root])?;
+                self.go_on(at)
+            }
+            What::Module(sig) => self.module(at, sig, depth),
+            _ => Ok(()),
+        }
+    }
+
+    #[cycle(weak)]
+    fn module(&mut self, at: &Parts, sig: &Sig, depth: Depth) -> Result<(), NoMemory> {
+        match sig {
+            Sig::Structure(_) => self.entries(at, sig.entries(), depth.inside()?),
+            Sig::Functor(parameter, body) => {
+                self.module(at, &parameter.sig, depth.inside()?)?;
+                self.module(at, &body.sig, depth.inside()?)
+            }
+            Sig::Hole => Ok(()),
+        }
+    }
+
+    #[cycle(weak)]
+    fn entries(&mut self, at: &Parts, entries: Entries<'_>, depth: Depth) -> Result<(), NoMemory> {
+        let mut rest = entries;
+        while let Some((entry, older)) = rest.split_first() {
+            self.entry(at, entry, depth)?;
+            rest = older;
+        }
+        Ok(())
+    }
+}
+
+/// The variables that are free in an environment, each by its root.
+pub fn weak_variables(at: &Parts, env: &Env) -> Result<Vec<NodeRef>, NoMemory> {
+    let mut search = Search {
+        seen: HashSet::new(at.alloc()),
+        todo: Vec::new(at.alloc()),
+        found: Vec::new(at.alloc()),
+    };
+    search.entries(at, env.entries(), Depth::WHOLE)?;
+    Ok(search.found)
+}

@@ -1,0 +1,101 @@
+//! The analysis of a whole text.
+ghost use Rattle.syntax_tree.specs.Tallies.{Grows};
+
+use crate::prelude::PRELUDE;
+use crate::weak::weak_variables;
+use decl_typing::{Depth, Env, NoMemory, NodeRef, Parts};
+use env_table::{Faults, Seen};
+use frame_parser::{Text, parse};
+use ml_lexer::lex_all;
+use module_typing::{Scene, built_ins, type_item};
+use row_parts::Operand;
+use std::alloc::Global;
+use syntax_tree::{Counts, Tree};
+use type_nodes::Store;
+use typed_index::TypedIndex;
+
+/// What is found of a text's types and names.
+#[derive(Drop)]
+pub struct Analysis {
+    /// The nodes of the recorded types.
+    pub store: Store,
+    /// What is recorded for each node and each missing operand.
+    pub index: TypedIndex<Seen>,
+    /// What is wrong with types and names, and what matches miss, in the order of the demands.
+    pub faults: Faults,
+    /// The names in scope behind the last item.
+    pub end: Env,
+    /// The variables that are free in the types of these names.
+    pub weak: Vec<NodeRef>,
+}
+
+/// The tree of the prelude.
+fn prelude_tree<C: Counts>(alloc: Global, counts: &mut C) -> Result<Tree, NoMemory>
+    ensures grows { Grows (C.tallies counts.old) (C.tallies counts.new) }
+{
+    let bytes = PRELUDE.as_bytes();
+    if bytes.len() > 1_048_576 {
+        return Err(NoMemory);
+    }
+    let tokens = lex_all(alloc, bytes, &[], counts)?;
+    let parsed = parse(alloc, Text::Signature, &tokens, counts)?;
+    Ok(parsed.tree)
+}
+
+/// The environment behind the prelude, whose items are the item 0.
+fn with_prelude<C: Counts>(at: &mut Parts, counts: &mut C) -> Result<Env, NoMemory>
+    ensures grows { Grows (C.tallies counts.old) (C.tallies counts.new) }
+{
+    let tree = prelude_tree(at.alloc(), counts)?;
+    let env = built_ins(at)?;
+    let mut scene = Scene::new(at.alloc(), env);
+    let mut number = 0;
+    for item in &tree.items {
+        type_item(at, Operand::of(item, number), &mut scene, Depth::WHOLE)?;
+        number = number.saturating_add(item.size);
+    }
+    Ok(scene.env)
+}
+
+/// The environment behind the items of a text, which are typed in order and counted.
+fn with_items<C: Counts>(
+    at: &mut Parts,
+    tree: &Tree,
+    env: Env,
+    counts: &mut C,
+) -> Result<Env, NoMemory>
+    ensures grows { Grows (C.tallies counts.old) (C.tallies counts.new) }
+{
+    let mut scene = Scene::new(at.alloc(), env);
+    for (place, item) in tree.items.iter().enumerate() {
+        at.item = item_number(place);
+        type_item(at, Operand::of(item, 0), &mut scene, Depth::WHOLE)?;
+        counts.add_typed();
+    }
+    Ok(scene.env)
+}
+
+/// The number of the item at a place. Items are counted from 1.
+fn item_number(place: usize) -> u32 {
+    match u32::try_from(place) {
+        Ok(place) => place.saturating_add(1),
+        Err(_) => u32::MAX,
+    }
+}
+
+/// What is found of the types and names of a text with this tree.
+pub fn analyse<C: Counts>(alloc: Global, tree: &Tree, counts: &mut C) -> Result<Analysis, NoMemory>
+    ensures grows { Grows (C.tallies counts.old) (C.tallies counts.new) }
+{
+    let mut at = Parts::new(alloc)?;
+    let first = with_prelude(&mut at, counts)?;
+    let end = with_items(&mut at, tree, first, counts)?;
+    let weak = weak_variables(&at, &end)?;
+    Ok(Analysis {
+        store: at.store,
+        index: at.index,
+        faults: at.faults,
+        end,
+        weak,
+    })
+}

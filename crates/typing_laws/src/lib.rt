@@ -1,0 +1,14 @@
+//! The laws of typings: what generalising and a substitution have in common, and that most general typings print alike.
+//! No program calls it; a proof may cite the lemmas of `proofs/`, whose facts the functions carry.
+#![tactic(auto)]
+
+mod generalising;
+mod printing;
+
+pub use generalising::{
+    instances_come_from_before, substituting_before_or_behind, substitutions_of_environments_exist,
+};
+pub use printing::{
+    messages_print_alike, most_general_typings_are_renamed, principal_typings_print_alike,
+    renamed_types_print_alike,
+};
