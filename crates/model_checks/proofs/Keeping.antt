@@ -1,5 +1,5 @@
 -- The kept demands of a text, from a typing for each kept one, and none for each other.
-use Rattle.std.proofs.Common.{◌≡◌, ℕ, ◌==◌, Bool, true, false, ◌&&◌, ◌||◌, List, [], ◌∷◌, Some, None, refl, sym, ◌∙◌, ap, subst, inl, inr, if◌then◌else◌}
+use Rattle.std.proofs.Common.{◌≡◌, ℕ, ◌==◌, Bool, true, false, ◌&&◌, ◌||◌, List, [], ◌∷◌, Some, None, refl, sym, ◌∙◌, ap, subst, inl, inr, Option, if◌then◌else◌}
 use Rattle.std.proofs.lemmas.Bool.{eqb-true}
 use Rattle.type_model.proofs.Applying.{or_cases}
 use Rattle.tree_model.specs.Trees.{Tree}
@@ -8,6 +8,7 @@ use Rattle.signature_model.specs.Entries.{Environment, free_in, free_in_signatur
 use Rattle.typing_model.specs.Demands.{Site, site, same_site, Demand, equal, test, agrees, matches, closes, Condition, same, instance, made, known, demand, treated, demand_of, environment_of}
 use Rattle.typing_model.specs.Typings.{conditions_of, no_choice, is_site_among, sites_before, demands_of, body_in, body_asked, body_at, is_closing, conditions_before, IsBody, HasTyping, IsKept, IsMostGeneral, IsMostGeneralChoice}
 use Rattle.typing_model.specs.Contexts.{Choice}
+use Rattle.signature_model.specs.Functors.{IsClosed}
 use Rattle.typing_model.specs.Faults.{Fault, Tells, IsFaultAt}
 use Rattle.model_checks.specs.Kept.{kept_at}
 use Rattle.model_checks.proofs.Apart.{no_yes}
@@ -20,6 +21,10 @@ one_site : (s t : Site) → same_site s t ≡ true → s ≡ t
 one_site s t h =
     let p = and_cases (s.node == t.node) (s.number == t.number) h in
     ap (λ n. site n s.number) (eqb-true s.node t.node p.0) ∙ ap (site t.node) (eqb-true s.number t.number p.1)
+
+or_right : (a b : Bool) → b ≡ true → (a || b) ≡ true
+or_right true b h = refl
+or_right false b h = h
 
 -- something holds of each of a list of sites
 abbrev pub Each : (Site → Type 0) → List Site → Type 0
@@ -166,4 +171,84 @@ keeps_open env text asked kept all among closed typed refused left = record {
       o.variable,
       o.inside,
       o.outside,
+    )
+
+-- the sites of the demands that are a `closing`
+abbrev pub closings_of : List Condition → List Site
+closings_of [] = []
+closings_of (same t u ∷ cs) = closings_of cs
+closings_of (instance s t ∷ cs) = closings_of cs
+closings_of (made n t ∷ cs) = closings_of cs
+closings_of (known t ∷ cs) = closings_of cs
+closings_of (demand s at d ∷ cs) = if closes_not d then closings_of cs else s ∷ closings_of cs
+closings_of (treated n env ∷ cs) = closings_of cs
+
+abbrev has_body : Option (Environment × Signature) → Bool
+has_body b = elim b [ None ↦ false | Some c ↦ true ]
+
+among_more : (x s : Site) (d : Demand) (sites : List Site) → is_site_among x sites ≡ true → is_site_among x (if closes_not d then sites else s ∷ sites) ≡ true
+among_more x s d sites h = by (closes_not d)
+  where
+    by : (b : Bool) → is_site_among x (if b then sites else s ∷ sites) ≡ true
+    by true = h
+    by false = or_right (same_site x s) (is_site_among x sites) h
+
+among_here : (x s : Site) (d : Demand) (sites : List Site) → same_site x s ≡ true → has_body (body_in d) ≡ true → is_site_among x (if closes_not d then sites else s ∷ sites) ≡ true
+among_here x s (equal t u) sites e h = absurd (no_yes h)
+among_here x s (test c b) sites e h = absurd (no_yes h)
+among_here x s (agrees c n t u) sites e h = absurd (no_yes h)
+among_here x s (matches A t) sites e h = absurd (no_yes h)
+among_here x s (closes env t) sites e h = ap (λ b. b || is_site_among x sites) e
+
+-- a demand that is a `closing` has its site among them
+closing_among : (x : Site) (cs : List Condition) → has_body (body_at x cs) ≡ true → is_site_among x (closings_of cs) ≡ true
+closing_among x [] h = h
+closing_among x (same t u ∷ cs) h = closing_among x cs h
+closing_among x (instance s t ∷ cs) h = closing_among x cs h
+closing_among x (made n t ∷ cs) h = closing_among x cs h
+closing_among x (known t ∷ cs) h = closing_among x cs h
+closing_among x (treated n env ∷ cs) h = closing_among x cs h
+closing_among x (demand s at d ∷ cs) h = by (same_site x s) refl h (closing_among x cs)
+  where
+    by : (b : Bool) → same_site x s ≡ b → has_body (body_asked (if b then Some (at, d) else demand_of x cs)) ≡ true → (has_body (body_at x cs) ≡ true → is_site_among x (closings_of cs) ≡ true) →
+        is_site_among x (if closes_not d then closings_of cs else s ∷ closings_of cs) ≡ true
+    by true e g later = among_here x s d (closings_of cs) e g
+    by false e g later = among_more x s d (closings_of cs) (later g)
+
+-- a body that leaves nothing open, by the demands kept before its `closing` among those that are asked
+pub record Closes (env : Environment) (text : List Tree) (asked kept : List Site) (s : Site) : Type 0 where
+  pub choice : Choice
+  pub outer : Environment
+  pub body : Signature
+  pub general : IsMostGeneralChoice (before asked kept s) (λ choice. conditions_before s (conditions_of env text (before asked kept s) choice)) choice
+  pub stands : body_at s (conditions_of env text (before asked kept s) choice) ≡ Some (outer, body)
+  pub closed : IsClosed outer body
+
+-- the kept demands of a text with one `closing`, whose body leaves nothing open
+pub keeps_one_closing : (env : Environment) (text : List Tree) (asked kept : List Site) (c : Site) → demands_of env text (kept_at kept) ≡ asked →
+    closings_of (conditions_of env text (kept_at kept) no_choice) ≡ c ∷ [] → is_site_among c kept ≡ true →
+    Each (λ s. is_site_among s asked ≡ true) kept →
+    Each (λ s. HasTyping env text (up_to asked kept s)) kept →
+    Each (λ s. is_site_among s kept ≡ false → HasTyping env text (up_to asked kept s) → ⊥) asked → Closes env text asked kept c → IsKept env text (kept_at kept)
+keeps_one_closing env text asked kept c all one k among typed refused closed = record {
+  only = λ s k. ap (is_site_among s) all ∙ each_of (λ s. is_site_among s asked ≡ true) kept among s k;
+  exists = λ s k. subst (λ sites. HasTyping env text (up_to sites kept s)) (sym all) (each_of (λ s. HasTyping env text (up_to asked kept s)) kept typed s k);
+  fails = λ s i n k t. each_of (λ s. is_site_among s kept ≡ false → HasTyping env text (up_to asked kept s) → ⊥) asked refused s (ap (is_site_among s) (sym all) ∙ i) k (subst (λ sites. HasTyping env text (up_to sites kept s)) all t);
+  closed = λ s h k. shut s (subst (Closes env text asked kept) (sym (is_one s h)) closed);
+  left_open = λ s i h n. absurd (no_yes (sym n ∙ ap (λ x. is_site_among x kept) (is_one s h) ∙ k));
+}
+  where
+    is_one : (s : Site) → is_closing env text (kept_at kept) s ≡ true → s ≡ c
+    is_one s h = elim (or_cases (same_site s c) false (ap (is_site_among s) (sym one) ∙ closing_among s (conditions_of env text (kept_at kept) no_choice) h)) [ inl e ↦ one_site s c e | inr e ↦ absurd (no_yes e) ]
+
+    shut : (s : Site) → Closes env text asked kept s → (outer : Environment) × (body : Signature) × IsBody env text (kept_at kept) s outer body × IsClosed outer body
+    shut s o = (
+      o.outer,
+      o.body,
+      record {
+        choice = o.choice;
+        general = subst (λ sites. IsMostGeneralChoice (before sites kept s) (λ choice. conditions_before s (conditions_of env text (before sites kept s) choice)) o.choice) (sym all) o.general;
+        stands = subst (λ sites. body_at s (conditions_of env text (before sites kept s) o.choice) ≡ Some (o.outer, o.body)) (sym all) o.stands;
+      },
+      o.closed,
     )

@@ -17,3 +17,4 @@ pub mod WholeRecord
 pub mod UsedTwice
 pub mod SealedType
 pub mod MissedValue
+pub mod TwoOfOne

@@ -1,13 +1,13 @@
 -- module F (X : sig end) = struct let r = ref [] end: its tree, and its kept demands.
 use Rattle.std.proofs.Common.{◌≡◌, ℕ, ◌==◌, Bool, true, false, not, ◌&&◌, ◌||◌, List, [], ◌∷◌, codes, Option, Some, None, refl, sym, ◌∙◌, ap, subst, if◌then◌else◌}
-use Rattle.tree_model.specs.Trees.{Tree, no_parts, part, taken, inner}
+use Rattle.tree_model.specs.Trees.{Tree, place, no_parts, part, taken, inner}
 use Rattle.tree_model.specs.Extents.{node_over}
 use Rattle.type_model.specs.Types.{Typ, Var, Arrow}
 use Rattle.type_model.proofs.Applying.{eqb_same}
 use Rattle.signature_model.specs.Entries.{Environment}
 use Rattle.typing_model.specs.BuiltIns.{int_type, list_type}
 use Rattle.typing_model.specs.Contexts.{Choice}
-use Rattle.typing_model.specs.Demands.{Site, site}
+use Rattle.typing_model.specs.Demands.{Site, site, same_site, closes, Condition, same, instance, made, known, demand, treated, AllHold}
 use Rattle.typing_model.specs.Typings.{conditions_of, demands_of, HasTyping, IsKept, IsMostGeneralChoice}
 use Rattle.model_checks.specs.Typings.{first, choice_of}
 use Rattle.model_checks.specs.Kept.{kept_at}
@@ -35,9 +35,10 @@ use Rattle.signature_model.specs.Entries.{free_in, free_in_signature}
 use Rattle.tree_model.specs.Rows.{let_row, binding_row, pname_row, name_row, econst_row, eapp_row, module_row, ysig_row, mstruct_row}
 use Rattle.token_model.specs.Kinds.{let_word, lower, op9, nil, module_word, upper, left_paren, right_paren, colon, sig_word, struct_word, end_word}
 use Rattle.typing_model.specs.Typings.{conditions_before, body_at, is_closing}
+use Rattle.typing_model.specs.Faults.{IsFaultAt, leaves_open, by_body}
 use Rattle.model_checks.specs.Texts.{tok, parsed, undetermined}
 use Rattle.model_checks.specs.Kept.{undetermined_kept}
-use Rattle.model_checks.proofs.Keeping.{keeps_open, LeavesOpen}
+use Rattle.model_checks.proofs.Keeping.{keeps_open, LeavesOpen, is_fault}
 
 -- its tree
 abbrev pub undetermined_tree : List Tree
@@ -171,3 +172,33 @@ kept_ones =
     (keeps_open with_ref undetermined_tree undetermined_asked undetermined_kept all ((refl), ((refl), ((refl), ((refl), ((refl), ((refl), tt)))))) ((other_0), ((other_1), ((other_2), ((other_3), ((other_4), ((other_5), tt)))))) ((typed_0), ((typed_1), ((typed_2), ((typed_3), ((typed_4), ((typed_5), tt))))))
     ((λ k c t. yes_no k), ((λ k c t. yes_no k), ((λ k c t. yes_no k), ((λ k c t. yes_no k), ((λ k c t. yes_no k), ((λ k c t. yes_no k), ((λ k c t. no_yes (sym c ∙ closes_here)), tt)))))))
     ((λ k c. absurd (yes_no k)), ((λ k c. absurd (yes_no k)), ((λ k c. absurd (yes_no k)), ((λ k c. absurd (yes_no k)), ((λ k c. absurd (yes_no k)), ((λ k c. absurd (yes_no k)), ((λ k c. left), tt))))))))
+
+-- what holds of all conditions holds of those before a demand
+held_before : (kept : Site → Bool) (x : Site) (cs : List Condition) → AllHold kept cs → AllHold kept (conditions_before x cs)
+held_before kept x [] h = h
+held_before kept x (same t u ∷ cs) h = (h.0, held_before kept x cs h.1)
+held_before kept x (instance s t ∷ cs) h = (h.0, held_before kept x cs h.1)
+held_before kept x (made n t ∷ cs) h = (h.0, held_before kept x cs h.1)
+held_before kept x (known t ∷ cs) h = (h.0, held_before kept x cs h.1)
+held_before kept x (treated n env ∷ cs) h = (h.0, held_before kept x cs h.1)
+held_before kept x (demand s at d ∷ cs) h = by (same_site x s) (held_before kept x cs h.1)
+  where
+    by : (b : Bool) → AllHold kept (conditions_before x cs) → AllHold kept (elim b [ true ↦ [] | false ↦ demand s at d ∷ conditions_before x cs ])
+    by true later = tt
+    by false later = (h.0, later)
+
+-- the same types are the most general ones for the whole text
+whole_general : IsMostGeneralChoice (before undetermined_asked undetermined_kept (site (first 0) 2)) (conditions_of with_ref undetermined_tree (before undetermined_asked undetermined_kept (site (first 0) 2))) (open_choice types letters)
+unfolding constant_by pattern_row expression_row type_row module_expression_row module_type_row item_row signature_item_row
+whole_general = record {
+  holds = ((tt), ((λ h. refl {a = true}), ((tt), ((tt), ((tt), ((tt), ((tt), (((refl {a = false}, ((refl {a = false}, (tt, tt)), tt))), ((tt), ((((refl {a = false}, (tt, tt)), (refl {a = false}, ((refl {a = false}, (tt, tt)), tt)))), ((λ h. refl {a = true}), ((record { fill = λ o. int_type; instance = ((λ v. list_type (Var (of_letter (first 8) 0))), (λ v h. absurd (yes_no h)), refl {a = Arrow (list_type (Var (of_letter (first 8) 0))) (ref_type (list_type (Var (of_letter (first 8) 0))))}) }), ((λ h. refl {a = Arrow (list_type (Var (of_letter (first 8) 0))) (ref_type (list_type (Var (of_letter (first 8) 0))))}), ((tt), (((refl {a = false}, (tt, tt))), ((refl {a = list_type (Var (of_letter (first 8) 0))}), ((λ h. refl {a = list_type (Var (of_letter (first 8) 0))}), ((refl {a = ref_type (list_type (Var (of_letter (first 8) 0)))}), ((tt), (((refl {a = false}, ((refl {a = false}, (tt, tt)), tt))), ((λ h. refl {a = true}), ((λ h. refl {a = ref_type (list_type (Var (of_letter (first 8) 0)))}), (((refl {a = true}, ((refl {a = true}, (tt, tt)), tt))), ((λ k. absurd (no_yes k)), tt))))))))))))))))))))))));
+  general = λ other h.
+      general.general other (held_before (before undetermined_asked undetermined_kept (site (first 0) 2)) (site (first 0) 2) (conditions_of with_ref undetermined_tree (before undetermined_asked undetermined_kept (site (first 0) 2)) other) h);
+}
+
+-- the fault
+pub is_a_fault : IsFaultAt with_ref (parsed undetermined) (kept_at undetermined_kept) (site (first 0) 2) (record { at = place 25 50; told = leaves_open; env = with_ref })
+unfolding constant_by pattern_row expression_row type_row module_expression_row module_type_row item_row signature_item_row
+is_a_fault =
+    subst (λ text. IsFaultAt with_ref text (kept_at undetermined_kept) (site (first 0) 2) (record { at = place 25 50; told = leaves_open; env = with_ref })) (sym is_parsed)
+    (is_fault with_ref undetermined_tree undetermined_asked undetermined_kept (site (first 0) 2) (record { at = place 25 50; told = leaves_open; env = with_ref }) (open_choice types letters) (closes at_end.0 at_end.1) all refl refl whole_general (refl {a = Some (place 25 50, closes at_end.0 at_end.1)}) by_body (refl {a = Some with_ref}))

@@ -2,7 +2,7 @@
 use Rattle.std.specs.Prelude.{Bool, List, [], ◌∷◌}
 use Rattle.typing_model.specs.Demands.{Site, site}
 use Rattle.typing_model.specs.Typings.{is_site_among}
-use Rattle.model_checks.specs.Typings.{first, second, third}
+use Rattle.model_checks.specs.Typings.{first, second, third, fourth, fifth}
 
 -- the demands of these sites are kept
 abbrev pub kept_at : List Site → Site → Bool
@@ -51,3 +51,11 @@ missed_value_kept = site (first 3) 0 ∷ site (first 5) 0 ∷ site (first 4) 0 �
 -- let f (C x) = x, without C: the parameter, its use, the name f and its whole
 abbrev pub unbound_pattern_kept : List Site
 unbound_pattern_kept = site (first 6) 0 ∷ site (first 7) 0 ∷ site (first 2) 0 ∷ site (first 1) 1 ∷ []
+
+-- let y = C 1, without C: 1, the name y and its whole
+abbrev pub unbound_applied_kept : List Site
+unbound_applied_kept = site (first 5) 0 ∷ site (first 2) 0 ∷ site (first 1) 1 ∷ []
+
+-- module F (X : sig end) = struct type t = A end module E = struct end module P = F(E) module Q = F(E) let l = [P.A; Q.A]: of F its name, those of t and A, and the closing; the names E and P; of each application F, that it is a functor, E, that it matches, and between them the name Q; of P.A and of Q.A the constructor and its number of arguments; the name l and its whole
+abbrev pub two_of_one_kept : List Site
+two_of_one_kept = site (first 0) 1 ∷ site (first 4) 0 ∷ site (first 7) 0 ∷ site (first 0) 2 ∷ site (second 0) 1 ∷ site (third 0) 1 ∷ site (third 2) 0 ∷ site (third 1) 0 ∷ site (third 3) 0 ∷ site (third 1) 2 ∷ site (fourth 0) 1 ∷ site (fourth 2) 0 ∷ site (fourth 1) 0 ∷ site (fourth 3) 0 ∷ site (fourth 1) 2 ∷ site (fifth 4) 0 ∷ site (fifth 4) 1 ∷ site (fifth 5) 0 ∷ site (fifth 5) 1 ∷ site (fifth 2) 0 ∷ site (fifth 1) 1 ∷ []

@@ -1,5 +1,5 @@
 -- Texts as lists of tokens, and what the parser makes of them.
-use Rattle.std.specs.Prelude.{ℕ, List, [], ◌∷◌, codes}
+use Rattle.std.specs.Prelude.{ℕ, List, [], ◌∷◌, ◌++◌, codes}
 use Rattle.token_model.specs.Kinds.{Tok, Kind, and_word, arrow, bar, colon, colon_equal, comma, else_word, end_word, fun_word, if_word, in_word, int, left_brace, left_bracket, left_paren, let_word, lower, match_word, module_word, mutable_word, nil, of_word, op12, op9, qualifier, rec_word, right_brace, right_bracket, right_paren, semi, sig_word, str, struct_word, then_word, true_word, ty_var, type_word, underscore, unit, upper, val_word, when_word, with_word}
 use Rattle.tree_model.specs.Trees.{Tree, Forest, node, no_parts, part, taken, inner, missing}
 use Rattle.grammar_model.specs.Named.{named}
@@ -124,3 +124,15 @@ missed_value = tok let_word 0 3 (codes "let") ∷ tok lower 4 5 (codes "f") ∷ 
 -- let f (C x) = x
 abbrev pub unbound_pattern : List Tok
 unbound_pattern = tok let_word 0 3 (codes "let") ∷ tok lower 4 5 (codes "f") ∷ tok left_paren 6 7 (codes "(") ∷ tok upper 7 8 (codes "C") ∷ tok lower 9 10 (codes "x") ∷ tok right_paren 10 11 (codes ")") ∷ tok op9 12 13 (codes "=") ∷ tok lower 14 15 (codes "x") ∷ []
+
+-- let y = C 1
+abbrev pub unbound_applied : List Tok
+unbound_applied = tok let_word 0 3 (codes "let") ∷ tok lower 4 5 (codes "y") ∷ tok op9 6 7 (codes "=") ∷ tok upper 8 9 (codes "C") ∷ tok int 10 11 (codes "1") ∷ []
+
+-- module U = X let y = U.C 1 2
+abbrev pub in_an_unknown_module : List Tok
+in_an_unknown_module = tok module_word 0 6 (codes "module") ∷ tok upper 7 8 (codes "U") ∷ tok op9 9 10 (codes "=") ∷ tok upper 11 12 (codes "X") ∷ tok let_word 13 16 (codes "let") ∷ tok lower 17 18 (codes "y") ∷ tok op9 19 20 (codes "=") ∷ tok qualifier 21 23 (codes "U") ∷ tok upper 23 24 (codes "C") ∷ tok int 25 26 (codes "1") ∷ tok int 27 28 (codes "2") ∷ []
+
+-- module F (X : sig end) = struct type t = A end module E = struct end module P = F(E) module Q = F(E) let l = [P.A; Q.A]
+abbrev pub two_of_one : List Tok
+two_of_one = applied_twice ++ tok let_word 101 104 (codes "let") ∷ tok lower 105 106 (codes "l") ∷ tok op9 107 108 (codes "=") ∷ tok left_bracket 109 110 (codes "[") ∷ tok qualifier 110 112 (codes "P") ∷ tok upper 112 113 (codes "A") ∷ tok semi 113 114 (codes ";") ∷ tok qualifier 115 117 (codes "Q") ∷ tok upper 117 118 (codes "A") ∷ tok right_bracket 118 119 (codes "]") ∷ []

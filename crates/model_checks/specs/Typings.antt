@@ -8,12 +8,15 @@ use Rattle.typing_model.specs.Meanings.{item_base}
 abbrev pub first : ℕ → ℕ
 first k = item_base 1 + k
 
--- the node of a number in the third, and in the fourth item
+-- the node of a number in the third, in the fourth, and in the fifth item
 abbrev pub third : ℕ → ℕ
 third k = item_base 3 + k
 
 abbrev pub fourth : ℕ → ℕ
 fourth k = item_base 4 + k
+
+abbrev pub fifth : ℕ → ℕ
+fifth k = item_base 5 + k
 
 -- the node of a number in the second item
 abbrev pub second : ℕ → ℕ

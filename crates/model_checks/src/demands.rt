@@ -1,9 +1,9 @@
 //! The demands of small texts, in order, each where it is told.
 
 ghost use Rattle.std.specs.Prelude.{◌≡◌, true, false, List, [], ◌∷◌, codes};
-ghost use Rattle.typing_model.specs.Demands.{value_word, constructor_word, label_word, type_word, unbound, arity, twice, one_side, incomplete, cyclic, differs, too_large};
+ghost use Rattle.typing_model.specs.Demands.{value_word, constructor_word, label_word, type_word, module_word, unbound, arity, twice, one_side, incomplete, cyclic, differs, too_large};
 ghost use Rattle.typing_model.specs.BuiltIns.{built_in_names};
-ghost use Rattle.model_checks.specs.Texts.{parsed, identity, branches, self_application, reference, missing_field, punned_pattern, one_sided, cyclic_types, constructed, guarded, recursive, undetermined, behind_a_functor, naming_itself, two_arguments};
+ghost use Rattle.model_checks.specs.Texts.{parsed, identity, branches, self_application, reference, missing_field, punned_pattern, one_sided, cyclic_types, constructed, guarded, recursive, undetermined, behind_a_functor, naming_itself, two_arguments, in_an_unknown_module};
 ghost use Rattle.model_checks.specs.Asked.{asked, all_kept, at, types, names, body};
 
 /// let id x = x: the parameter is new, the name in the body is bound, the name that is bound is new, and has the type of the whole.
@@ -145,4 +145,13 @@ pub fn demands_of_a_constructor_with_two_arguments()
         at 28 29 (names too_large true) ∷ at 28 29 types ∷
         at 26 27 types ∷ at 30 31 (names too_large true) ∷ at 30 31 types ∷
         at 22 23 (names (twice (codes "x")) true) ∷ at 22 23 types ∷ [] }
+{}
+
+/// module U = X let y = U.C 1 2: of a constructor in a module that isn't known nothing is asked but that it is bound.
+pub fn demands_of_a_constructor_in_an_unknown_module()
+    ensures { asked built_in_names (parsed in_an_unknown_module) all_kept ≡
+        at 7 8 (names (twice (codes "U")) true) ∷ at 11 12 (names (unbound module_word (codes "X")) false) ∷
+        at 23 24 (names (unbound constructor_word (codes "C")) true) ∷
+        at 25 26 (names too_large true) ∷ at 27 28 (names too_large true) ∷
+        at 17 18 (names (twice (codes "y")) true) ∷ at 17 18 types ∷ [] }
 {}

@@ -8,15 +8,15 @@ ghost use Rattle.signature_model.specs.Entries.{Environment};
 ghost use Rattle.typing_model.specs.BuiltIns.{built_in_names, int_type, string_type, list_type};
 ghost use Rattle.typing_model.specs.Demands.{site};
 ghost use Rattle.typing_model.specs.Typings.{Typing, IsKept, IsPrincipal};
-ghost use Rattle.typing_model.specs.Faults.{IsFaultAt, mismatches, types_differ, contains_itself, made_later, plain};
+ghost use Rattle.typing_model.specs.Faults.{IsFaultAt, mismatches, types_differ, contains_itself, made_later, plain, leaves_open};
 ghost use Rattle.match_model.specs.Shown.{Shows};
 ghost use Rattle.model_checks.specs.Matches.{world, alone, shape_alone, column, one};
-ghost use Rattle.model_checks.specs.Texts.{parsed, branches, self_application, reference, later_type, undetermined, absent_component, whole_record, used_twice, sealed_type, missed_value, unbound_pattern};
-ghost use Rattle.model_checks.specs.Typings.{first, second, third};
+ghost use Rattle.model_checks.specs.Texts.{parsed, branches, self_application, reference, later_type, undetermined, absent_component, whole_record, used_twice, sealed_type, missed_value, unbound_pattern, unbound_applied, two_of_one};
+ghost use Rattle.model_checks.specs.Typings.{first, second, third, fourth, fifth};
 ghost use Rattle.model_checks.specs.Open.{of_letter, open_types};
 ghost use Rattle.model_checks.specs.Scopes.{with_ref, with_assignment, with_plus};
 ghost use Rattle.model_checks.specs.Chosen.{reference_open, record_types, inner_open, match_types};
-ghost use Rattle.model_checks.specs.Kept.{kept_at, branches_kept, self_application_kept, reference_kept, later_type_kept, undetermined_kept, absent_component_kept, whole_record_kept, used_twice_kept, sealed_type_kept, missed_value_kept, unbound_pattern_kept};
+ghost use Rattle.model_checks.specs.Kept.{kept_at, branches_kept, self_application_kept, reference_kept, later_type_kept, undetermined_kept, absent_component_kept, whole_record_kept, used_twice_kept, sealed_type_kept, missed_value_kept, unbound_pattern_kept, unbound_applied_kept, two_of_one_kept};
 
 /// let f x = if x then 1 else "a": all demands are kept but the one that the second branch has the type of the first.
 pub fn the_second_branch_is_not_kept()
@@ -63,6 +63,11 @@ pub fn a_later_type_is_a_fault()
 /// module F (X : sig end) = struct let r = ref [] end: all demands are kept but the body's closing, since r's type is open.
 pub fn an_undetermined_body_is_not_closed()
     ensures { IsKept with_ref (parsed undetermined) (kept_at undetermined_kept) }
+{}
+
+/// It is a fault, which stands at the body.
+pub fn an_undetermined_body_is_a_fault()
+    ensures { IsFaultAt with_ref (parsed undetermined) (kept_at undetermined_kept) (site (first 0) 2) (record { at = place 25 50; told = leaves_open; env = with_ref }) }
 {}
 
 /// module M : sig val a : int val b : string end = struct let a = 1 end let c = M.b: all demands are kept but that the structure
@@ -119,4 +124,21 @@ pub fn a_match_misses_a_value()
 /// let f (C x) = x, where C isn't bound: in each typing that keeps the other demands C has the type of C x.
 pub fn an_unbound_constructor_is_of_the_whole()
     ensures { (types : ℕ → Typ) → Typing built_in_names (parsed unbound_pattern) (kept_at unbound_pattern_kept) types → types (first 4) ≡ types (first 5) }
+{}
+
+/// let y = C 1, where C isn't bound: in each typing that keeps the other demands C has the type of C 1.
+pub fn an_unbound_constructor_applied_is_of_the_whole()
+    ensures { (types : ℕ → Typ) → Typing built_in_names (parsed unbound_applied) (kept_at unbound_applied_kept) types → types (first 3) ≡ types (first 4) }
+{}
+
+/// module F (X : sig end) = struct type t = A end module E = struct end module P = F(E) module Q = F(E) let l = [P.A; Q.A]: all demands
+/// are kept, that F's body closes among them, but the one that Q.A has the type of P.A.
+pub fn two_applications_are_not_one()
+    ensures { IsKept built_in_names (parsed two_of_one) (kept_at two_of_one_kept) }
+{}
+
+/// It is a fault: Q.t, which is made at the second application, is found, and P.t, which is made at the first, is wanted.
+pub fn two_applications_are_a_fault()
+    ensures { (scope : Environment) × IsFaultAt built_in_names (parsed two_of_one) (kept_at two_of_one_kept) (site (fifth 3) 0)
+        (record { at = place 115 118; told = types_differ (Con (fourth 1 ∷ first 4 ∷ []) Nil) (Con (third 1 ∷ first 4 ∷ []) Nil) plain; env = scope }) }
 {}

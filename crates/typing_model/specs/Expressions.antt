@@ -10,10 +10,10 @@ use Rattle.signature_model.specs.Entries.{value_kind, label_kind}
 use Rattle.typing_model.specs.Demands.{value_word, label_word, Demand, equal, test, no_label, not_mutable, Condition, same, instance}
 use Rattle.typing_model.specs.Contexts.{Context, Bound, type_at, letter, is_kept, ask, tell, with_names}
 use Rattle.typing_model.specs.Parts.{Written, Form, a_constructor, a_path, a_float, a_false, a_field, no_expression, other, Expression, Pattern, TypeExpression, Binding, Case, Field, Child, in_slot, path_in, token_in, place_of, no_expression_at, expressions_in, expression_in, patterns_in, types_in, first_of, last_of}
-use Rattle.typing_model.specs.Names.{ask_bound, found_by, referent_of, then_by, scheme_in, label_in, used_at}
+use Rattle.typing_model.specs.Names.{ask_bound, Built, found_by, referent_of, then_by, scheme_in, label_in, used_at}
 use Rattle.typing_model.specs.BuiltIns.{int_type, unit_type, bool_type, float_type, exn_type, list_type, constant}
 use Rattle.typing_model.specs.Records.{ask_record, declaration_found, field_type, ask_once, name_in, ask_complete, labels_in}
-use Rattle.typing_model.specs.Patterns.{constructor_alone, applied_constructor, argument_has, ask_all, all_names, behind_first, kept_record}
+use Rattle.typing_model.specs.Patterns.{constructor_alone, built_by, applied_constructor, argument_has, ask_all, all_names, behind_first, kept_record}
 use Rattle.typing_model.specs.Bindings.{bindings_ask, within_let, matched_apart, arrows, generalises}
 
 -- an expression of the usual kind: it asks the same under a minus
@@ -138,17 +138,22 @@ abbrev pub behind_constructor : Context → ℕ → Expression → List Expressi
 behind_constructor c n head [] = is_of c n (type_at c head.node)
 behind_constructor c n head (e ∷ es) = applied_from c n 3 0 head.at (type_at c head.node) (e ∷ es)
 
--- the same where the constructor isn't bound: of one argument the whole is what the constructor is, and of more it is anything
+-- the same where the constructor isn't found or its module isn't known: of one argument the whole is what the constructor is, and of more it is anything
 abbrev pub behind_unbound : Context → ℕ → Expression → List Expression → List Condition
 behind_unbound c n head [] = is_of c n (type_at c head.node)
 behind_unbound c n head (e ∷ es) = typed_all c (e ∷ es)
+
+-- the arguments behind the first one, by the constructor that is found
+abbrev pub behind_argument : Context → ℕ → Expression → List Expression → Option Built → List Condition
+behind_argument c n head es None = behind_unbound c n head es
+behind_argument c n head es (Some b) = behind_constructor c n head es
 
 -- A e: `bound`, `arity`; the first argument, which is the declared one; the result, which the constructor has too
 abbrev pub constructor_applied : Context → ℕ → Written → Expression → List Expression → List Condition
 constructor_applied c n p head [] = head.typed c
 constructor_applied c n p head (e ∷ es) =
     applied_constructor c n p head.node (head.node ∷ []) (e.typed c) (argument_has n 2 e.at (type_at c e.node)) ++
-    (if is_kept c n 0 then behind_constructor c n head es else behind_unbound c n head es)
+    behind_argument c n head es (then_by p.last (built_by c n p))
 
 -- what an application asks by the form of its head
 abbrev pub application_asks : Context → ℕ → Expression → List Expression → Form → List Condition
