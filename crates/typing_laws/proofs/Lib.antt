@@ -5,3 +5,5 @@ pub mod Renamed
 pub mod Ranks
 pub mod Alike
 pub mod Existing
+pub mod Choices
+pub mod Decided
