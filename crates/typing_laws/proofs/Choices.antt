@@ -1,5 +1,5 @@
 -- Most general choices are renamings of each other, and so are the variables that are free in their environments.
-use Rattle.std.proofs.Common.{◌≡◌, ℕ, Bool, true, false, ◌||◌, List, refl, sym, ◌∙◌, ap, subst, inl, inr}
+use Rattle.std.proofs.Common.{◌≡◌, ℕ, Bool, true, false, List, refl, sym, ◌∙◌, ap, subst, inl, inr}
 use Rattle.std.proofs.lemmas.Bool.{eqb-true}
 use Rattle.type_model.specs.Types.{Path, Typ, Var, occurs}
 use Rattle.type_model.specs.Substitutions.{apply}
@@ -54,8 +54,8 @@ free_renamed choice other r env behind under inside v stands = by (free_in v env
     by true e = environment_brings (renaming r.forth) under v (r.forth v) e (eqb_same (r.forth v))
     by false e =
         fails (free_in (r.forth v) behind) (λ f.
-            let from = environment_from (renaming r.forth) under (r.forth v) f in
-            no_yes (sym e ∙ subst (λ u. free_in u env ≡ true) (is_it from.0 from.1 from.2) from.1))
+        let from = environment_from (renaming r.forth) under (r.forth v) f in
+        no_yes (sym e ∙ subst (λ u. free_in u env ≡ true) (is_it from.0 from.1 from.2) from.1))
 
 -- so a type that is chosen prints alike, where those that are free in the environment are weak
 pub weak_alike : {E : Type 0} (N : Naming E) (scope : List E) (declared : Path → Name) (choice other : Choice) (r : AreRenamedChoices choice other) (env behind : Environment) → IsUnder (renaming r.forth) env behind →
@@ -64,7 +64,7 @@ pub weak_alike : {E : Type 0} (N : Naming E) (scope : List E) (declared : Path �
 weak_alike N scope declared choice other r env behind under inside weak weaks w u n shown p =
     subst (λ t. Prints N scope declared weaks t shown) (sym (r.nodes n))
     (prints_alone N scope declared r.forth r.back weak weaks (choice.type_at n) shown (λ v o. r.undone v (at_node n o))
-        (λ v o. u (r.forth v) ∙ free_renamed choice other r env behind under inside v (at_node n o) ∙ sym (w v)) p)
+    (λ v o. u (r.forth v) ∙ free_renamed choice other r env behind under inside v (at_node n o) ∙ sym (w v)) p)
 
 -- and two types made of the chosen ones are printed as those made of the others
 pub told_alike : {E : Type 0} (N : Naming E) (scope : List E) (declared : Path → Name) (choice other : Choice) (r : AreRenamedChoices choice other) (t u : Typ) → IsOf choice t → IsOf choice u → (first second : List ℕ) →

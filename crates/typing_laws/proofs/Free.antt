@@ -7,6 +7,7 @@ use Rattle.type_model.specs.Schemes.{Scheme, free_in_scheme}
 use Rattle.type_model.proofs.Applying.{or_left, or_right, or_cases, eqb_same, occurs_put, occurs_from}
 use Rattle.type_model.proofs.Generalising.{choose}
 use Rattle.signature_model.specs.Signatures.{Signature, Components, Meaning}
+use Rattle.signature_model.specs.Functors.{IsClosed}
 use Rattle.signature_model.specs.Entries.{Referent, Environment, free_in, free_in_signature, free_in_components, free_in_meaning, free_in_referent}
 use Rattle.typing_laws.specs.Under.{IsSchemeUnder, IsSignatureUnder, of_hole, of_structure, of_functor, AreUnder, no_components, component, IsMeaningUnder, of_value, of_type, of_exception, of_module, of_module_type, IsReferentUnder, value, constructor, exception, label, type_name, module_name, module_type, IsUnder, no_names, newest}
 use Rattle.typing_laws.proofs.Bools.{and_cases, and_both, no_yes}
@@ -161,3 +162,7 @@ environment_from s (newest {r = r} {q = q} {E = E} {F = F} h g) w f =
       | inl i ↦ let (v, p, q) = referent_from s h w i in (v, or_left (free_in_referent v r) (free_in v E) p, q)
       | inr i ↦ let (v, p, q) = environment_from s g w i in (v, or_right (free_in_referent v r) (free_in v E) p, q)
     ]
+
+-- a body that leaves nothing open leaves nothing open behind a substitution
+pub stays_closed : (s : Subst) (env behind : Environment) (body after : Signature) → IsUnder s env behind → IsSignatureUnder s body after → IsClosed env body → IsClosed behind after
+stays_closed s env behind body after u h c = record { each = λ w f. let from = signature_from s h w f in environment_brings s u from.0 w (c.each from.0 from.1) from.2 }

@@ -12,7 +12,8 @@ pub use choosing::{
     weak_variables_print_alike,
 };
 pub use generalising::{
-    instances_come_from_before, substituting_before_or_behind, substitutions_of_environments_exist,
+    closed_bodies_stay_closed, instances_come_from_before, substituting_before_or_behind,
+    substitutions_of_environments_exist,
 };
 pub use keeping::{a_demand_is_decided_by_those_before, kept_demands_are_one};
 pub use printing::{
