@@ -1,4 +1,5 @@
-//! The laws of typings: what generalising and a substitution have in common, and that most general typings print alike.
+//! The laws of typings: what generalising and a substitution have in common, that most general typings print alike, and that which
+//! demands are kept is decided in order.
 //! No program calls it; a proof may cite the lemmas of `proofs/`, whose facts the functions carry.
 #![tactic(auto)]
 
