@@ -18,3 +18,4 @@ pub mod UsedTwice
 pub mod SealedType
 pub mod MissedValue
 pub mod TwoOfOne
+pub mod UnboundApplied

@@ -126,7 +126,12 @@ pub fn an_unbound_constructor_is_of_the_whole()
     ensures { (types : ℕ → Typ) → Typing built_in_names (parsed unbound_pattern) (kept_at unbound_pattern_kept) types → types (first 4) ≡ types (first 5) }
 {}
 
-/// let y = C 1, where C isn't bound: in each typing that keeps the other demands C has the type of C 1.
+/// let y = C 1, where C isn't bound: all demands are kept but that C is bound.
+pub fn an_unbound_constructor_applied_is_not_kept()
+    ensures { IsKept built_in_names (parsed unbound_applied) (kept_at unbound_applied_kept) }
+{}
+
+/// In each typing that keeps the other demands C has the type of C 1.
 pub fn an_unbound_constructor_applied_is_of_the_whole()
     ensures { (types : ℕ → Typ) → Typing built_in_names (parsed unbound_applied) (kept_at unbound_applied_kept) types → types (first 3) ≡ types (first 4) }
 {}

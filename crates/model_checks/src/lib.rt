@@ -27,11 +27,11 @@ pub use kept::{
     a_record_is_principal, a_record_keeps_all, a_reference_is_principal, a_reference_keeps_all,
     a_sealed_type_is_a_fault, a_sealed_type_is_not_kept, an_absent_component_is_a_fault,
     an_absent_component_is_not_kept, an_inner_binding_is_principal, an_inner_binding_keeps_all,
-    an_unbound_constructor_applied_is_of_the_whole, an_unbound_constructor_is_of_the_whole,
-    an_undetermined_body_is_a_fault, an_undetermined_body_is_not_closed,
-    the_argument_of_itself_is_a_fault, the_argument_of_itself_is_not_kept,
-    the_second_branch_is_a_fault, the_second_branch_is_not_kept, two_applications_are_a_fault,
-    two_applications_are_not_one,
+    an_unbound_constructor_applied_is_not_kept, an_unbound_constructor_applied_is_of_the_whole,
+    an_unbound_constructor_is_of_the_whole, an_undetermined_body_is_a_fault,
+    an_undetermined_body_is_not_closed, the_argument_of_itself_is_a_fault,
+    the_argument_of_itself_is_not_kept, the_second_branch_is_a_fault,
+    the_second_branch_is_not_kept, two_applications_are_a_fault, two_applications_are_not_one,
 };
 pub use matches::{
     a_list_of_two, a_list_without_the_empty_one, a_match_in_a_match, a_pair_of_booleans, a_record,
