@@ -1,4 +1,4 @@
--- What the values of a type are.
+-- What the values of a type are (OCaml manual, 11.2 and 11.8.1; Maranget 2007, for complete signatures of constructors).
 use Rattle.std.specs.Prelude.{◌≡◌, ℕ, zero, pred, ◌-◌, ◌^◌, List, [], ◌∷◌, ◌++◌, map, codes, Option, Some, None, if◌then◌else◌}
 use Rattle.type_model.specs.Types.{Path, Typ, Typs, Var, Arrow, Tuple, Con, Nil, Cons}
 use Rattle.type_model.specs.Substitutions.{apply}
@@ -12,6 +12,7 @@ pub record Built : Type 0 where
   pub name : Name
   pub parts : List Typ
 
+-- a constructor of this name with parts of these types
 abbrev pub constructor : Name → List Typ → Built
 constructor n ts = record { name = n; parts = ts }
 
@@ -31,31 +32,36 @@ pub record World : Type 0 where
   pub declared : Path → Option Declaration
   pub exceptions : List Built
 
+-- the origin of the built-in type of a number
 abbrev pub built_in_number : ℕ → Path
 built_in_number k = (2 ^ 64 - 1 - k) ∷ []
 
--- `{ l; m }`, the name of a record as a constructor: its labels in the order of the declaration
+-- the labels of a record in the order of the declaration, with semicolons between them
 abbrev pub joined : List Label → List ℕ
 joined [] = []
 joined (l ∷ []) = l.name
 joined (l ∷ m ∷ ls) = l.name ++ codes "; " ++ joined (m ∷ ls)
 
+-- `{l; m}`, the name of a record as a constructor
 abbrev pub record_name : List Label → Name
 record_name ls = codes "{" ++ joined ls ++ codes "}"
 
+-- a declared constructor at arguments of its type: with one part where it has an argument, and else none
 abbrev pub of_constructor : Typs → Constructor → Built
 of_constructor ts k = constructor k.name (elim k.argument [ None ↦ [] | Some t ↦ apply (argument ts) t ∷ [] ])
 
+-- what the values of a declared type at these arguments are
 abbrev pub form_of_shape : Typs → Shape → Form
 form_of_shape ts Opaque = no_form
 form_of_shape ts (Variant ks) = closed_form (map (of_constructor ts) ks)
 form_of_shape ts (Labels ls) = closed_form (constructor (record_name ls) (map (λ l. apply (argument ts) l.body) ls) ∷ [])
 
+-- the first of several types; of none, the empty tuple
 abbrev pub first_type : Typs → Typ
 first_type Nil = Tuple Nil
 first_type (Cons t ts) = t
 
--- the built-in types: literals, unit, the booleans, lists, and exceptions
+-- what the values of the type of an origin are: the built-in types first, and then the declared ones
 abbrev pub form_by_origin : World → Path → Typs → Form
 form_by_origin w o ts =
     if same_path o (built_in_number 0) then literals
@@ -72,12 +78,14 @@ form_by_origin w o ts =
 abbrev pub tuple_name : Name
 tuple_name = codes "(,)"
 
+-- what the values of a type are
 abbrev pub form_of : World → Typ → Form
 form_of w (Var v) = no_form
 form_of w (Arrow a b) = no_form
 form_of w (Tuple ts) = closed_form (constructor tuple_name (list_of ts) ∷ [])
 form_of w (Con o ts) = form_by_origin w o ts
 
+-- the constructors that are known of a type
 abbrev pub constructors_of : Form → List Built
 constructors_of (closed_form ks) = ks
 constructors_of (open_form ks) = ks
@@ -98,6 +106,7 @@ mutual
     of_no_form : {d : ℕ} {t : Typ} → form_of w t ≡ no_form → IsOf w d t opaque
     below : {t : Typ} → IsOf w zero t cut_off
 
+  -- values in order, one of each type, down to a depth
   pub data AreOf (w : World) : ℕ → List Typ → Values → Type 0 where
     none : {d : ℕ} → AreOf w d [] no_values
     and_one : {d : ℕ} {t : Typ} {ts : List Typ} {v : Value} {vs : Values} → IsOf w d t v → AreOf w d ts vs → AreOf w d (t ∷ ts) (also_value v vs)

@@ -17,10 +17,12 @@ abbrev mutual
   depth_of (of_literal n) = 1
   depth_of (either ps) = depth_in ps
 
+  -- how deep the deepest of several patterns looks
   pub depth_in : Patterns → ℕ
   depth_in no_patterns = 0
   depth_in (also_pattern p ps) = max (depth_of p) (depth_in ps)
 
+-- how deep the deepest pattern of some rows looks
 abbrev pub deepest : List Row → ℕ
 deepest [] = 0
 deepest (r ∷ rs) = max (depth_in r.patterns) (deepest rs)

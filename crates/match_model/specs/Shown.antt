@@ -1,4 +1,4 @@
--- Which of the missed shapes is shown: it is built column by column from the left.
+-- Which of the missed shapes is shown: it is built column by column from the left, by specialised and default matrices (Maranget 2007).
 use Rattle.std.specs.Prelude.{◌≡◌, ℕ, zero, suc, Bool, true, false, ◌&&◌, ◌||◌, List, [], ◌∷◌, ◌++◌, length, if◌then◌else◌}
 use Rattle.type_model.specs.Types.{Typ}
 use Rattle.signature_model.specs.Declarations.{Name}
@@ -10,6 +10,7 @@ use Rattle.match_model.specs.Forms.{World, Built, Form, closed_form, open_form, 
 abbrev pub Line : Type 0
 Line = List Pattern
 
+-- patterns in order, as a list
 abbrev pub list_of : Patterns → List Pattern
 list_of no_patterns = []
 list_of (also_pattern p ps) = p ∷ list_of ps
@@ -27,6 +28,7 @@ abbrev mutual
   spread (of_literal n) rest = (of_literal n ∷ rest) ∷ []
   spread (either ps) rest = spread_all ps rest
 
+  -- the lines of each of several patterns in this place
   pub spread_all : Patterns → Line → List Line
   spread_all no_patterns rest = []
   spread_all (also_pattern p ps) rest = spread p rest ++ spread_all ps rest
@@ -49,39 +51,44 @@ under k ts (of_constructor n ps) rest = if same_name k n then (list_of ps ++ res
 under k ts (of_literal n) rest = []
 under k ts (either ps) rest = []
 
+-- what each line asks of the parts of a constructor, where it has a place for it: the specialised matrix
 abbrev pub lines_under : Name → List Typ → List Line → List Line
 lines_under k ts [] = []
 lines_under k ts ([] ∷ ls) = lines_under k ts ls
 lines_under k ts ((p ∷ rest) ∷ ls) = under k ts p rest ++ lines_under k ts ls
 
--- the lines without a head in the first column
+-- what is behind the first column of a line, if it has no head there
 abbrev pub without_head : Pattern → Line → List Line
 without_head any rest = rest ∷ []
 without_head (of_constructor n ps) rest = []
 without_head (of_literal n) rest = []
 without_head (either ps) rest = []
 
+-- of each line without a head, what is behind its first column: the default matrix
 abbrev pub headless : List Line → List Line
 headless [] = []
 headless ([] ∷ ls) = headless ls
 headless ((p ∷ rest) ∷ ls) = without_head p rest ++ headless ls
 
--- whether a constructor heads a line
+-- whether a constructor is the head of a pattern
 abbrev pub is_head : Name → Pattern → Bool
 is_head k any = false
 is_head k (of_constructor n ps) = same_name k n
 is_head k (of_literal n) = false
 is_head k (either ps) = false
 
+-- whether a constructor heads one of several lines
 abbrev pub heads_some : Name → List Line → Bool
 heads_some k [] = false
 heads_some k ([] ∷ ls) = heads_some k ls
 heads_some k ((p ∷ rest) ∷ ls) = is_head k p || heads_some k ls
 
+-- whether each of some constructors heads a line
 abbrev pub all_head : List Built → List Line → Bool
 all_head [] ls = true
 all_head (k ∷ ks) ls = heads_some k.name ls && all_head ks ls
 
+-- whether one of some constructors heads a line
 abbrev pub some_head : List Built → List Line → Bool
 some_head [] ls = false
 some_head (k ∷ ks) ls = heads_some k.name ls || some_head ks ls
@@ -94,6 +101,7 @@ is_complete (open_form ks) ls = false
 is_complete literals ls = false
 is_complete no_form ls = false
 
+-- as many open shapes as there are types
 abbrev pub opens : List Typ → Shapes
 opens [] = no_shapes
 opens (t ∷ ts) = also_shape open_shape (opens ts)
@@ -110,12 +118,13 @@ column_shape (open_form ks) ls = open_shape
 column_shape literals ls = open_shape
 column_shape no_form ls = open_shape
 
--- the shapes of the first columns, so many of them, and of the others
+-- the shapes of the first columns, so many of them
 abbrev pub taken : ℕ → Shapes → Shapes
 taken zero ss = no_shapes
 taken (suc n) no_shapes = no_shapes
 taken (suc n) (also_shape s ss) = also_shape s (taken n ss)
 
+-- the shapes of the other columns, behind so many
 abbrev pub left_behind : ℕ → Shapes → Shapes
 left_behind zero ss = ss
 left_behind (suc n) no_shapes = no_shapes
@@ -134,6 +143,7 @@ mutual
         is_complete (form_of w t) (spread_lines ls) ≡ false → Shows w ts (headless (spread_lines ls)) ss →
         Shows w (t ∷ ts) ls (also_shape (column_shape (form_of w t) (spread_lines ls)) ss)
 
+  -- the first of a type's constructors that leaves shapes, and the shapes that are shown with it
   pub data FirstShown (w : World) : List Built → List Typ → List Line → Shape → Shapes → Type 0 where
     here : {k : Built} {ks : List Built} {ts : List Typ} {ls : List Line} {ss : Shapes} →
         Shows w (k.parts ++ ts) (lines_under k.name k.parts ls) ss →
@@ -149,6 +159,7 @@ mutual
     none_by_default : {t : Typ} {ts : List Typ} {ls : List Line} →
         is_complete (form_of w t) (spread_lines ls) ≡ false → ShowsNone w ts (headless (spread_lines ls)) → ShowsNone w (t ∷ ts) ls
 
+  -- none of a type's constructors leaves shapes
   pub data NoneShown (w : World) : List Built → List Typ → List Line → Type 0 where
     no_more : {ts : List Typ} {ls : List Line} → NoneShown w [] ts ls
     and_none : {k : Built} {ks : List Built} {ts : List Typ} {ls : List Line} →

@@ -1,4 +1,4 @@
--- Other paths and types in place of origins, everywhere in a signature.
+-- Other paths and types in place of origins, everywhere in a signature (Leroy 2000, A modular module system, for substitutions of paths).
 use Rattle.std.specs.Prelude.{ℕ, zero, suc, Bool, false, ◌||◌, List, [], ◌∷◌, map, Option, Some, None, option_map, if◌then◌else◌}
 use Rattle.type_model.specs.Types.{Path, Typ, Typs, Var, Arrow, Tuple, Con, Nil, Cons}
 use Rattle.type_model.specs.Substitutions.{Subst, apply}
@@ -36,19 +36,24 @@ abbrev mutual
   change c (Tuple ts) = Tuple (change_all c ts)
   change c (Con o ts) = put (c.path o) (c.real o) (change_all c ts)
 
+  -- each of several types after the change
   pub change_all : Change → Typs → Typs
   change_all c Nil = Nil
   change_all c (Cons t ts) = Cons (change c t) (change_all c ts)
 
+-- a scheme after the change; it binds the variables that it bound
 abbrev pub change_scheme : Change → Scheme → Scheme
 change_scheme c s = record s { body = change c s.body }
 
+-- a constructor after the change of its argument
 abbrev pub change_constructor : Change → Constructor → Constructor
 change_constructor c k = record k { argument = option_map (change c) k.argument }
 
+-- a label after the change of its type
 abbrev pub change_label : Change → Label → Label
 change_label c l = record l { body = change c l.body }
 
+-- what a declaration tells of its values, after the change
 abbrev pub change_shape : Change → Shape → Shape
 change_shape c Opaque = Opaque
 change_shape c (Variant ks) = Variant (map (change_constructor c) ks)
@@ -59,10 +64,12 @@ abbrev pub own_after : Path → Option Typ → Definition
 own_after o None = Own o
 own_after o (Some t) = Is t
 
+-- what a declaration stands for, after the change
 abbrev pub change_definition : Change → Definition → Definition
 change_definition c (Own o) = own_after (c.path o) (c.real o)
 change_definition c (Is t) = Is (change c t)
 
+-- a declaration after the change
 abbrev pub change_declaration : Change → Declaration → Declaration
 change_declaration c d = record { arity = d.arity; definition = change_definition c d.definition; shape = change_shape c d.shape }
 
@@ -73,10 +80,12 @@ abbrev mutual
   change_signature c (Structure cs) = Structure (change_components c cs)
   change_signature c (Functor pm p bm b) = Functor (map c.path pm) (change_signature c p) (map c.path bm) (change_signature c b)
 
+  -- components after the change, with their names and places as they were
   pub change_components : Change → Components → Components
   change_components c Done = Done
   change_components c (Component n at m cs) = Component n at (change_meaning c m) (change_components c cs)
 
+  -- what a name of a component stands for, after the change
   pub change_meaning : Change → Meaning → Meaning
   change_meaning c (Value s) = Value (change_scheme c s)
   change_meaning c (TypeName d) = TypeName (change_declaration c d)
@@ -88,9 +97,10 @@ abbrev mutual
 abbrev pub in_front : List Path → ℕ → Change
 in_front made u = record { path = λ o. if among o made then u ∷ o else o; real = λ o. None }
 
--- types in place of some origins
+-- types in place of some origins (Milner, Tofte, Harper and MacQueen 1997, The Definition of Standard ML, for realisations)
 abbrev pub Realisation : Type 0
 Realisation = Path → Option Typ
 
+-- the change that puts a realisation's types in place of its origins and leaves every other path as it is
 abbrev pub realised : Realisation → Change
 realised r = record { path = λ o. o; real = r }

@@ -1,4 +1,4 @@
--- The newest component of a kind and a name.
+-- The newest component of a kind and a name (OCaml manual, 11.3 for the kinds of names, and 11.10.2 for signatures).
 use Rattle.std.specs.Prelude.{Bool, Option, Some, None, if◌then◌else◌}
 use Rattle.std.specs.Option.{option_or}
 use Rattle.std.specs.Str.{bytes_eq}
@@ -11,6 +11,7 @@ use Rattle.signature_model.specs.Signatures.{Signature, Components, Done, Compon
 abbrev pub same_name : Name → Name → Bool
 same_name = bytes_eq
 
+-- the scheme of a component that is a value
 abbrev pub as_value : Meaning → Option Scheme
 as_value (Value s) = Some s
 as_value (TypeName d) = None
@@ -18,6 +19,7 @@ as_value (Exception o) = None
 as_value (Module s) = None
 as_value (ModuleType made s) = None
 
+-- the declaration of a component that is a type
 abbrev pub as_type : Meaning → Option Declaration
 as_type (Value s) = None
 as_type (TypeName d) = Some d
@@ -25,6 +27,7 @@ as_type (Exception o) = None
 as_type (Module s) = None
 as_type (ModuleType made s) = None
 
+-- the argument, which may be absent, of a component that is an exception
 abbrev pub as_exception : Meaning → Option (Option Typ)
 as_exception (Value s) = None
 as_exception (TypeName d) = None
@@ -32,6 +35,7 @@ as_exception (Exception o) = Some o
 as_exception (Module s) = None
 as_exception (ModuleType made s) = None
 
+-- the signature of a component that is a module
 abbrev pub as_module : Meaning → Option Signature
 as_module (Value s) = None
 as_module (TypeName d) = None
@@ -39,6 +43,7 @@ as_module (Exception o) = None
 as_module (Module s) = Some s
 as_module (ModuleType made s) = None
 
+-- the template of a component that is a module type
 abbrev pub as_module_type : Meaning → Option Template
 as_module_type (Value s) = None
 as_module_type (TypeName d) = None

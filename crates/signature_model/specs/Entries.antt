@@ -1,4 +1,4 @@
--- Environments: the names in scope, newest first.
+-- Environments: the names in scope, newest first (OCaml manual, 11.3; Damas and Milner 1982, for the variables that are free in assumptions).
 use Rattle.std.specs.Prelude.{ℕ, Bool, false, ◌||◌, List, [], ◌∷◌, ◌++◌, map, reverse, Option}
 use Rattle.type_model.specs.Types.{Typ}
 use Rattle.type_model.specs.Schemes.{Scheme, free_in_scheme}
@@ -37,6 +37,7 @@ pub record Entry : Type 0 where
   pub place : Place
   pub stands_for : Referent
 
+-- the entry of a name that is defined at a place and stands for this
 abbrev pub entry : Name → Place → Referent → Entry
 entry n at r = record { name = n; place = at; stands_for = r }
 
@@ -44,6 +45,7 @@ entry n at r = record { name = n; place = at; stands_for = r }
 abbrev pub Environment : Type 0
 Environment = List Entry
 
+-- the kind of a name that stands for this; an exception is a constructor
 abbrev pub kind_of : Referent → Kind
 kind_of (a_value s) = value_kind
 kind_of (a_constructor d k) = constructor_kind
@@ -78,7 +80,7 @@ scope_of Hole = []
 scope_of (Structure cs) = reverse (entries_in cs)
 scope_of (Functor pm p bm b) = []
 
--- the environment behind `open` of a module with this signature (OCaml manual, 11.12)
+-- the environment behind `open` of a module with this signature (OCaml manual, 11.11.2)
 abbrev pub opened : Signature → Environment → Environment
 opened s env = scope_of s ++ env
 
@@ -89,10 +91,12 @@ abbrev mutual
   free_in_signature v (Structure cs) = free_in_components v cs
   free_in_signature v (Functor pm p bm b) = free_in_signature v p || free_in_signature v b
 
+  -- whether it is free in one of several components
   pub free_in_components : ℕ → Components → Bool
   free_in_components v Done = false
   free_in_components v (Component n at m cs) = free_in_meaning v m || free_in_components v cs
 
+  -- whether it is free in what a component stands for
   pub free_in_meaning : ℕ → Meaning → Bool
   free_in_meaning v (Value s) = free_in_scheme v s
   free_in_meaning v (TypeName d) = false
@@ -100,6 +104,7 @@ abbrev mutual
   free_in_meaning v (Module s) = free_in_signature v s
   free_in_meaning v (ModuleType made s) = false
 
+-- whether a variable is free in what a name in scope stands for
 abbrev pub free_in_referent : ℕ → Referent → Bool
 free_in_referent v (a_value s) = free_in_scheme v s
 free_in_referent v (a_constructor d k) = false

@@ -12,10 +12,12 @@ abbrev mutual
   count_signature (Structure cs) = count cs
   count_signature (Functor pm p bm b) = 0
 
+  -- how many components these are
   pub count : Components → ℕ
   count Done = 0
   count (Component n at m cs) = suc (count_within m + count cs)
 
+  -- how many components stand in a component
   pub count_within : Meaning → ℕ
   count_within (Value s) = 0
   count_within (TypeName d) = 0
@@ -30,11 +32,13 @@ abbrev mutual
   first_in m (Structure cs) = Structure (first m cs)
   first_in m (Functor pm p bm b) = Functor pm p bm b
 
+  -- the first of several components, so many of them
   pub first : ℕ → Components → Components
   first m Done = Done
   first zero (Component n at what cs) = Done
   first (suc m) (Component n at what cs) = Component n at (first_within m what) (first (m - count_within what) cs)
 
+  -- a component with the first ones of its module, so many of them; one that is no module stays whole
   pub first_within : ℕ → Meaning → Meaning
   first_within m (Value s) = Value s
   first_within m (TypeName d) = TypeName d
@@ -42,6 +46,7 @@ abbrev mutual
   first_within m (Module s) = Module (first_in m s)
   first_within m (ModuleType made s) = ModuleType made s
 
+-- why a component fails: it is absent, it is a type with another number of parameters, or it differs
 pub data Cause : Type 0 where
   Absent : Cause
   TypeArity : Cause
@@ -56,6 +61,7 @@ pub record Blame : Type 0 where
   pub path : List Name
   pub cause : Cause
 
+-- a path of names with the cause at its end
 abbrev pub blame : List Name → Cause → Blame
 blame path cause = record { path = path; cause = cause }
 
@@ -64,6 +70,7 @@ abbrev pub unless_absent : {A : Type 0} → Cause → Option A → Cause
 unless_absent c None = Absent
 unless_absent c (Some a) = c
 
+-- why a wanted type fails: it is absent, has another number of parameters, or differs
 abbrev pub type_cause : Declaration → Option Declaration → Cause
 type_cause wanted None = Absent
 type_cause wanted (Some a) = if a.arity == wanted.arity then TypeDiffers else TypeArity
@@ -87,11 +94,13 @@ abbrev mutual
   blamed_in m A (Structure W) = blamed m A W
   blamed_in m A (Functor pm p bm b) = None
 
+  -- the same among wanted components
   pub blamed : ℕ → Components → Components → Option Blame
   blamed m A Done = None
   blamed zero A (Component n at what W) = Some (blame (n ∷ []) (cause_of A n what))
   blamed (suc m) A (Component n at what W) = if nat_lt m (count_within what) then option_map (inside n) (blamed_within m A n what) else blamed (m - count_within what) A W
 
+  -- the same within a wanted component, where it is a module
   pub blamed_within : ℕ → Components → Name → Meaning → Option Blame
   blamed_within m A n (Value s) = None
   blamed_within m A n (TypeName d) = None

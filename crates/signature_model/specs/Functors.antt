@@ -22,10 +22,12 @@ abbrev mutual
   closed_over env (Structure cs) = Structure (closed_components env cs)
   closed_over env (Functor pm p bm b) = Functor pm p bm (closed_over env b)
 
+  -- components whose value schemes bind what isn't free in the environment
   pub closed_components : Environment → Components → Components
   closed_components env Done = Done
   closed_components env (Component n at m cs) = Component n at (closed_meaning env m) (closed_components env cs)
 
+  -- what a component stands for, closed so; a module type stays as it is
   pub closed_meaning : Environment → Meaning → Meaning
   closed_meaning env (Value s) = Value (bound_also env s)
   closed_meaning env (TypeName d) = TypeName d

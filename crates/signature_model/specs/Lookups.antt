@@ -32,10 +32,12 @@ abbrev pub newest_by : {E : Type 0} → (E → Bool) → List E → Option E
 newest_by test [] = None
 newest_by test (e ∷ env) = if test e then Some e else newest_by test env
 
+-- what a search comes to: the entry, or nothing
 abbrev pub found : {E : Type 0} → Option E → FoundAmong E
 found None = nothing
 found (Some e) = an_entry e
 
+-- what the newest entry in a scope that a test holds of comes to
 abbrev pub found_in : {E : Type 0} → (E → Bool) → ScopeOf E → FoundAmong E
 found_in test (known env) = found (newest_by test env)
 found_in test unknown_scope = a_hole
@@ -59,9 +61,11 @@ lookup_by is_named inside env path k n = found_in (is_named k n) (scope_by is_na
 
 -- the same for the entries of an environment
 
+-- what a name comes to in an environment
 abbrev pub Found : Type 0
 Found = FoundAmong Entry
 
+-- what stands in scope inside a module, as entries of an environment
 abbrev pub Scope : Type 0
 Scope = ScopeOf Entry
 
@@ -69,6 +73,7 @@ Scope = ScopeOf Entry
 abbrev pub is_named : Kind → Name → Entry → Bool
 is_named k n e = same_kind k (kind_of e.stands_for) && same_name n e.name
 
+-- the newest entry of a kind and a name
 abbrev pub newest_entry : Kind → Name → Environment → Option Entry
 newest_entry k n env = newest_by (is_named k n) env
 
@@ -78,6 +83,7 @@ inside_signature Hole = unknown_scope
 inside_signature (Structure cs) = known (scope_of (Structure cs))
 inside_signature (Functor pm p bm b) = known []
 
+-- what is in scope in what a name stands for: only a module has a scope
 abbrev pub inside_referent : Referent → Scope
 inside_referent (a_value s) = no_scope
 inside_referent (a_constructor d k) = no_scope
@@ -87,11 +93,14 @@ inside_referent (a_type d) = no_scope
 inside_referent (a_module s) = inside_signature s
 inside_referent (a_module_type t) = no_scope
 
+-- what is in scope in an entry
 abbrev pub inside : Entry → Scope
 inside e = inside_referent e.stands_for
 
+-- the scope behind a path of modules in an environment
 abbrev pub scope_behind : Environment → List Name → Scope
 scope_behind env path = scope_by is_named inside env path
 
+-- what a path of modules with a name of a kind behind it finds in an environment
 abbrev pub lookup : Environment → List Name → Kind → Name → Found
 lookup env path k n = lookup_by is_named inside env path k n

@@ -24,6 +24,7 @@ abbrev mutual
   used s f (Tuple ts) = Tuple (all_used s f ts)
   used s f (Con o ts) = if is_unknown o then f o else Con o (all_used s f ts)
 
+  -- each of several types as it is used
   pub all_used : Subst → (Path → Typ) → Typs → Typs
   all_used s f Nil = Nil
   all_used s f (Cons t ts) = Cons (used s f t) (all_used s f ts)
@@ -36,6 +37,7 @@ abbrev mutual
   IsKnown (Tuple ts) = AreKnown ts
   IsKnown (Con o ts) = (is_unknown o ≡ false) × AreKnown ts
 
+  -- no unknown type stands in any of several types
   pub AreKnown : Typs → Type 0
   AreKnown Nil = Unit {0}
   AreKnown (Cons t ts) = IsKnown t × AreKnown ts
@@ -53,6 +55,7 @@ abbrev pub given : List Path → Path → Path → Option Declaration → Option
 given made o p None = None
 given made o p (Some d) = if same_path p o && among p made then Some (renewed o (type_of d)) else None
 
+-- the same by what the wanted component stands for: another type makes no origin
 abbrev pub given_to : List Path → Path → Definition → Option Declaration → Option Typ
 given_to made o (Own p) actual = given made o p actual
 given_to made o (Is t) actual = None
@@ -80,10 +83,12 @@ abbrev mutual
   real_in_signature made o A (Structure W) = if is_hole A then unknown_in made o W else real_in made o (components_in A) W
   real_in_signature made o A (Functor pm p bm b) = None
 
+  -- the same where the wanted origin is made among components
   pub real_in : List Path → Path → Components → Components → Option Typ
   real_in made o A Done = None
   real_in made o A (Component n at m W) = option_or (real_by made o A n m) (real_in made o A W)
 
+  -- the same where it is made by a component of this name
   pub real_by : List Path → Path → Components → Name → Meaning → Option Typ
   real_by made o A n (Value s) = None
   real_by made o A n (TypeName d) = given_to made o d.definition (newest as_type n A)
@@ -122,9 +127,11 @@ IsOneArgument arity (Some t) (Some u) = IsOne arity t u
 IsOneArgument arity None (Some u) = ⊥
 IsOneArgument arity (Some t) None = ⊥
 
+-- two constructors over so many parameters have one name and one argument
 abbrev pub AreOneConstructor : ℕ → Constructor → Constructor → Type 0
 AreOneConstructor arity k l = (k.name ≡ l.name) × IsOneArgument arity k.argument l.argument
 
+-- two labels over so many parameters have one name and one type, and both are mutable or neither is
 abbrev pub AreOneLabel : ℕ → Label → Label → Type 0
 AreOneLabel arity k l = (k.name ≡ l.name) × (k.is_mutable ≡ l.is_mutable) × IsOne arity k.body l.body
 

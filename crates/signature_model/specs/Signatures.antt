@@ -5,6 +5,7 @@ use Rattle.type_model.specs.Schemes.{Scheme}
 use Rattle.signature_model.specs.Declarations.{Name, Place, Declaration}
 
 mutual
+  -- a signature: what is known of a module
   pub data Signature : Type 0 where
     -- of a module that isn't known
     Hole : Signature
@@ -36,6 +37,7 @@ pub record Template : Type 0 where
   pub made : List Path
   pub signature : Signature
 
+-- the template of a signature and the origins that it makes
 abbrev pub template : List Path → Signature → Template
 template made s = record { made = made; signature = s }
 

@@ -1,4 +1,4 @@
--- Templates: a signature made anew at a node, and `with` (OCaml manual, 11.10.3).
+-- Templates: a signature made anew at a node, and `with` (OCaml manual, 11.10.4).
 use Rattle.std.specs.Prelude.{◌==◌, ℕ, List, [], ◌∷◌, map, Option, Some, None, if◌then◌else◌}
 use Rattle.std.specs.Option.{option_or}
 use Rattle.type_model.specs.Types.{Path, Typ}

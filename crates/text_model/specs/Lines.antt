@@ -1,6 +1,7 @@
 -- Lines of bytes, cut at line feeds.
 use Rattle.std.specs.Prelude.{ℕ, ◌==◌, List, [], ◌∷◌, ◌++◌, if◌then◌else◌}
 
+-- the byte that ends a line
 abbrev pub line_feed : ℕ
 line_feed = 10
 

@@ -13,6 +13,7 @@ unfoldable pub offset : List ℕ → ℕ → ℕ → Option ℕ
 offset text zero col = None
 offset text (suc line) col = offset_in (lines_of text) line col
 
+-- the line and the column behind so many bytes of these lines, the first of which has the number `line`
 abbrev pub position_in : ℕ → List (List ℕ) → ℕ → ℕ × ℕ
 position_in line [] n = (line, n)
 position_in line (l ∷ ls) n = if nat_le n (length l) then (line, n) else position_in (line + 1) ls (n - (length l + 1))

@@ -5,6 +5,7 @@ use Rattle.std.specs.Prelude.{ℕ, ◌==◌, ◌&&◌, ◌||◌, List, [], ◌�
 abbrev pub is_blank : ℕ → Bool
 is_blank b = b == 32 || b == 9 || b == 10 || b == 13 || b == 12
 
+-- a decimal digit
 abbrev pub is_digit : ℕ → Bool
 is_digit b = nat_le 48 b && nat_le b 57
 
@@ -12,6 +13,7 @@ is_digit b = nat_le 48 b && nat_le b 57
 abbrev pub is_lower : ℕ → Bool
 is_lower b = nat_le 97 b && nat_le b 122 || b == 95
 
+-- a capital letter
 abbrev pub is_upper : ℕ → Bool
 is_upper b = nat_le 65 b && nat_le b 90
 
@@ -27,12 +29,15 @@ goes_on b = is_lower b || is_upper b || is_digit b || b == 39
 abbrev pub is_decimal : ℕ → Bool
 is_decimal b = is_digit b || b == 95
 
+-- a digit of the base 16
 abbrev pub is_hexadecimal : ℕ → Bool
 is_hexadecimal b = is_digit b || nat_le 97 b && nat_le b 102 || nat_le 65 b && nat_le b 70
 
+-- a digit of the base 8
 abbrev pub is_octal : ℕ → Bool
 is_octal b = nat_le 48 b && nat_le b 55
 
+-- a digit of the base 2
 abbrev pub is_binary : ℕ → Bool
 is_binary b = nat_le 48 b && nat_le b 49
 

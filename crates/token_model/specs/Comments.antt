@@ -4,6 +4,7 @@ use Rattle.std.specs.List.{list_all}
 use Rattle.token_model.specs.Bytes.{is_blank, is_lower}
 use Rattle.token_model.specs.Spellings.{IsChar, IsString}
 
+-- the first two bytes are these
 abbrev pub begins_with : ℕ → ℕ → List ℕ → Bool
 begins_with b c bs = get_or bs 0 0 == b && get_or bs 1 0 == c
 

@@ -10,6 +10,7 @@ abbrev pub Run : (ℕ → Bool) → (ℕ → Bool) → List ℕ → Type 0
 Run first more [] = ⊥
 Run first more (b ∷ bs) = (first b ≡ true) × (list_all more bs ≡ true)
 
+-- each byte is a blank
 abbrev pub AreBlanks : List ℕ → Type 0
 AreBlanks bs = list_all is_blank bs ≡ true
 

@@ -7,9 +7,11 @@ use Rattle.token_model.specs.Kinds.{Kind, lower, underscore, and_word, as_word, 
 abbrev pub is_outside_word : List ℕ → Bool
 is_outside_word word = bytes_eq word (codes "class") || bytes_eq word (codes "constraint") || bytes_eq word (codes "external") || bytes_eq word (codes "inherit") || bytes_eq word (codes "initializer") || bytes_eq word (codes "lazy") || bytes_eq word (codes "method") || bytes_eq word (codes "new") || bytes_eq word (codes "nonrec") || bytes_eq word (codes "object") || bytes_eq word (codes "or") || bytes_eq word (codes "private") || bytes_eq word (codes "virtual")
 
+-- the words that are shift operators, which bind as `**` does
 abbrev pub is_op14_word : List ℕ → Bool
 is_op14_word word = bytes_eq word (codes "lsl") || bytes_eq word (codes "lsr") || bytes_eq word (codes "asr")
 
+-- the words that are operators and bind as `*` does
 abbrev pub is_op13_word : List ℕ → Bool
 is_op13_word word = bytes_eq word (codes "mod") || bytes_eq word (codes "land") || bytes_eq word (codes "lor") || bytes_eq word (codes "lxor")
 

@@ -11,10 +11,12 @@ abbrev mutual
   pub last_holder : ℕ → ℕ → Tree → Option ℕ
   last_holder o n (node r x ps) = option_or (last_in o (n + 1) r ps) (if holds o x.span then Some n else None)
 
+  -- the same among the parts of a row, of which the first has the number n
   pub last_in : ℕ → ℕ → Row → Forest → Option ℕ
   last_in o n r no_parts = None
   last_in o n r (part slot p ps) = option_or (last_in o (n + part_size r slot p) r ps) (last_in_part o n r slot p)
 
+  -- the same in one part
   pub last_in_part : ℕ → ℕ → Row → ℕ → Part → Option ℕ
   last_in_part o n r slot (taken t) = None
   last_in_part o n r slot (inner t) = last_holder o n t

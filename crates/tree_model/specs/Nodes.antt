@@ -8,6 +8,7 @@ use Rattle.tree_model.specs.Trees.{Place, Tree, Forest, Part, node, no_parts, pa
 abbrev pub holds : ℕ → Place → Bool
 holds o p = nat_le p.start o && (nat_lt o p.end || p.start == o && p.end == o)
 
+-- a number alone in a list, or no number
 abbrev pub only_if : Bool → ℕ → List ℕ
 only_if b n = if b then n ∷ [] else []
 
@@ -16,10 +17,12 @@ abbrev mutual
   pub holders : ℕ → ℕ → Tree → List ℕ
   holders o n (node r x ps) = only_if (holds o x.span) n ++ forest_holders o (n + 1) r ps
 
+  -- the same among the parts of a row, of which the first has the number n
   pub forest_holders : ℕ → ℕ → Row → Forest → List ℕ
   forest_holders o n r no_parts = []
   forest_holders o n r (part slot p ps) = part_holders o n r slot p ++ forest_holders o (n + part_size r slot p) r ps
 
+  -- the same in one part
   pub part_holders : ℕ → ℕ → Row → ℕ → Part → List ℕ
   part_holders o n r slot (taken t) = []
   part_holders o n r slot (inner t) = holders o n t
@@ -30,6 +33,7 @@ pub record Id : Type 0 where
   pub item : ℕ
   pub pre : ℕ
 
+-- the node with a number in an item
 abbrev pub id : ℕ → ℕ → Id
 id i n = record { item = i; pre = n }
 
@@ -42,6 +46,7 @@ items_holders o i (t ∷ ts) = map (id i) (holders o 0 t) ++ items_holders o (i 
 abbrev pub nodes_at : ℕ → List Tree → List Id
 nodes_at o items = items_holders o 1 items
 
+-- the last of a list, if there is one
 abbrev pub last_of : {A : Type 0} → List A → Option A
 last_of [] = None
 last_of (x ∷ []) = Some x

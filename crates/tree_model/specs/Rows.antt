@@ -1,5 +1,6 @@
 -- The rows of the grammar, by name, each with what it stands for. Several rows of the table share a name, as the infix operators of all levels do.
 
+-- a row of the grammar
 pub data Row : Type 0 where
   program_row : Row
   let_row : Row  -- let b and b

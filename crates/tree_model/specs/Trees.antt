@@ -9,6 +9,7 @@ pub record Place : Type 0 where
   pub start : ℕ
   pub end : ℕ
 
+-- the place between two offsets
 abbrev pub place : ℕ → ℕ → Place
 place s e = record { start = s; end = e }
 
@@ -18,6 +19,7 @@ pub record Extent : Type 0 where
   pub size : ℕ
   pub height : ℕ
 
+-- the extent of a node at a place, with its size and its height
 abbrev pub extent : Place → ℕ → ℕ → Extent
 extent p n h = record { span = p; size = n; height = h }
 
@@ -31,6 +33,7 @@ mutual
     no_parts : Forest
     part : ℕ → Part → Forest → Forest
 
+  -- a part: a token, a node, or one that is missing, with the place at which it is missed
   pub data Part : Type 0 where
     taken : Tok → Part
     inner : Tree → Part
@@ -41,10 +44,12 @@ abbrev mutual
   pub yield_of : Tree → List Tok
   yield_of (node r x ps) = forest_yield ps
 
+  -- those of all parts of a row
   pub forest_yield : Forest → List Tok
   forest_yield no_parts = []
   forest_yield (part slot p ps) = part_yield p ++ forest_yield ps
 
+  -- those of one part
   pub part_yield : Part → List Tok
   part_yield (taken t) = t ∷ []
   part_yield (inner t) = yield_of t
@@ -55,10 +60,12 @@ abbrev mutual
   pub size_of : Tree → ℕ
   size_of (node r x ps) = forest_size r ps + 1
 
+  -- how many stand in all parts of a row
   pub forest_size : Row → Forest → ℕ
   forest_size r no_parts = 0
   forest_size r (part slot p ps) = part_size r slot p + forest_size r ps
 
+  -- how many stand in one part
   pub part_size : Row → ℕ → Part → ℕ
   part_size r slot (taken t) = 0
   part_size r slot (inner t) = size_of t
@@ -69,10 +76,12 @@ abbrev mutual
   pub IsSized : Tree → Type 0
   IsSized (node r x ps) = (x.size ≡ forest_size r ps + 1) × AreSized ps
 
+  -- each node in the parts of a row tells its true size
   pub AreSized : Forest → Type 0
   AreSized no_parts = Unit {0}
   AreSized (part slot p ps) = IsPartSized p × AreSized ps
 
+  -- each node in a part tells its true size
   pub IsPartSized : Part → Type 0
   IsPartSized (taken t) = Unit {0}
   IsPartSized (inner t) = IsSized t

@@ -19,6 +19,7 @@ abbrev mutual
   IsInScope scope (Tuple ts) = AreInScope scope ts
   IsInScope scope (Con o ts) = (in_scope scope o ≡ true) × AreInScope scope ts
 
+  -- each origin of several types is in the scope
   pub AreInScope : ℕ → Typs → Type 0
   AreInScope scope Nil = Unit {0}
   AreInScope scope (Cons t ts) = IsInScope scope t × AreInScope scope ts
@@ -31,6 +32,7 @@ abbrev mutual
   IsUnder L level scope (Tuple ts) = AreUnder L level scope ts
   IsUnder L level scope (Con o ts) = (in_scope scope o ≡ true) × AreUnder L level scope ts
 
+  -- the same of each of several types
   pub AreUnder : (L : ℕ → ℕ) (level scope : ℕ) → Typs → Type 0
   AreUnder L level scope Nil = Unit {0}
   AreUnder L level scope (Cons t ts) = IsUnder L level scope t × AreUnder L level scope ts

@@ -1,4 +1,4 @@
--- Origins: when a type constructor was made, and types in place of constructors.
+-- Origins: when a type constructor was made (OCaml manual, 11.8.1, for the definitions that make a new type), and types in place of constructors.
 use Rattle.std.specs.Prelude.{ℕ, ◌^◌, Bool, true, ◌&&◌, ◌||◌, nat_le, nat_lt, List, [], ◌∷◌, Option, Some, None, if◌then◌else◌}
 use Rattle.std.specs.Str.{bytes_eq}
 use Rattle.type_model.specs.Types.{Path, Typ, Typs, Var, Arrow, Tuple, Con, Nil, Cons}
@@ -30,6 +30,7 @@ abbrev pub replacement_for : Path → Replacements → Option Typ
 replacement_for o [] = None
 replacement_for o ((p, t) ∷ rest) = if same_path o p then Some t else replacement_for o rest
 
+-- types in order, as a list
 abbrev pub list_of : Typs → List Typ
 list_of Nil = []
 list_of (Cons t ts) = t ∷ list_of ts
@@ -47,6 +48,7 @@ abbrev mutual
   replaced_by find (Tuple ts) = Tuple (all_replaced_by find ts)
   replaced_by find (Con o ts) = put_for o (find o) (all_replaced_by find ts)
 
+  -- each of several types with what `find` has in place of its constructors
   pub all_replaced_by : (Path → Option Typ) → Typs → Typs
   all_replaced_by find Nil = Nil
   all_replaced_by find (Cons t ts) = Cons (replaced_by find t) (all_replaced_by find ts)

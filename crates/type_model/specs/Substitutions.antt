@@ -14,6 +14,7 @@ abbrev mutual
   apply s (Tuple ts) = Tuple (apply_all s ts)
   apply s (Con o ts) = Con o (apply_all s ts)
 
+  -- each of several types with its variables replaced
   pub apply_all : Subst → Typs → Typs
   apply_all s Nil = Nil
   apply_all s (Cons t ts) = Cons (apply s t) (apply_all s ts)

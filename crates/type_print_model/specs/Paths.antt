@@ -1,4 +1,4 @@
--- The path by which a type is named: the shortest one that reaches its origin, and of these the newest. Stated over any entries of which some make an origin.
+-- The path by which a type is named: the shortest one that reaches its origin, and of these the newest (OCaml manual, 11.3 for paths; "Batch compilation (ocamlc)", option -short-paths, for the shortest). Stated over any entries of which some make an origin.
 use Rattle.std.specs.Prelude.{◌≡◌, ℕ, suc, ◌+◌, ◌<◌, ◌⊎◌, Bool, length, List, [], ◌∷◌, ◌++◌, codes, Option, Some, None, if◌then◌else◌}
 use Rattle.type_model.specs.Types.{Path}
 use Rattle.signature_model.specs.Declarations.{Name, Definition, Own, Is}
@@ -31,6 +31,7 @@ abbrev pub age : {E : Type 0} → (E → Bool) → List E → ℕ
 age test [] = 0
 age test (e ∷ env) = if test e then 0 else suc (age test env)
 
+-- the same in a scope; in one that isn't known or isn't there it is 0
 abbrev pub age_in : {E : Type 0} → (E → Bool) → ScopeOf E → ℕ
 age_in test (known env) = age test env
 age_in test unknown_scope = 0
@@ -41,6 +42,7 @@ abbrev pub ages : {E : Type 0} → Naming E → List E → List Name → List Na
 ages N env outer [] n = age_in (N.is_named type_kind n) (scope_by N.is_named N.inside env outer) ∷ []
 ages N env outer (m ∷ ms) n = age_in (N.is_named module_kind m) (scope_by N.is_named N.inside env outer) ∷ ages N env (outer ++ m ∷ []) ms n
 
+-- the ages of what a path of names reaches
 abbrev pub ages_of : {E : Type 0} → Naming E → List E → NamePath → List ℕ
 ages_of N env p = ages N env [] p.modules p.name
 
@@ -64,6 +66,7 @@ abbrev pub dotted : List Name → Name → List ℕ
 dotted [] n = n
 dotted (m ∷ ms) n = m ++ codes "." ++ dotted ms n
 
+-- the text of a path of names
 abbrev pub spelled : NamePath → List ℕ
 spelled p = dotted p.modules p.name
 
@@ -72,11 +75,12 @@ pub data IsNameOf {E : Type 0} (N : Naming E) (env : List E) (declared : Path �
   shown : {p : NamePath} → IsShown N env o p → IsNameOf N env declared o (spelled p)
   hidden : ((p : NamePath) → Reaches N env o p → ⊥) → IsNameOf N env declared o (declared o ++ codes "/hidden")
 
--- the origin that an entry of an environment makes
+-- the origin that a definition makes, where it is a type of its own
 abbrev pub own_origin : Definition → Option Path
 own_origin (Own o) = Some o
 own_origin (Is t) = None
 
+-- the origin that a name in scope makes: that of a type of its own
 abbrev pub origin_made : Referent → Option Path
 origin_made (a_value s) = None
 origin_made (a_constructor d k) = None

@@ -1,4 +1,4 @@
--- The text of a type, for given names of its variables and constructors.
+-- The text of a type, for given names of its variables and constructors (OCaml manual, 11.4, for how it is spelled and where parentheses stand).
 use Rattle.std.specs.Prelude.{◌≡◌, ℕ, nat_le, Bool, true, false, ◌||◌, List, [], ◌++◌, codes, length, take, if◌then◌else◌}
 use Rattle.type_model.specs.Types.{Path, Typ, Typs, Var, Arrow, Tuple, Con, Nil, Cons}
 use Rattle.type_model.specs.Origins.{same_path}
@@ -12,17 +12,19 @@ pub data Within : Type 0 where
   left_of_arrow : Within
   inner : Within
 
--- whether an arrow and a tuple stand in parentheses there
+-- whether an arrow stands in parentheses there
 abbrev pub wraps_arrow : Within → Bool
 wraps_arrow alone = false
 wraps_arrow left_of_arrow = true
 wraps_arrow inner = true
 
+-- whether a tuple stands in parentheses there
 abbrev pub wraps_tuple : Within → Bool
 wraps_tuple alone = false
 wraps_tuple left_of_arrow = false
 wraps_tuple inner = true
 
+-- a text, in parentheses where they are wanted
 abbrev pub wrapped : Bool → List ℕ → List ℕ
 wrapped true text = codes "(" ++ text ++ codes ")"
 wrapped false text = text
@@ -45,6 +47,7 @@ abbrev mutual
   separated ns w between Nil = []
   separated ns w between (Cons t ts) = text_of ns w t ++ rest_of ns w between ts
 
+  -- the types behind the first, each with the text in front of it
   pub rest_of : Names → Within → List ℕ → Typs → List ℕ
   rest_of ns w between Nil = []
   rest_of ns w between (Cons t ts) = between ++ text_of ns w t ++ rest_of ns w between ts
@@ -72,6 +75,7 @@ abbrev mutual
   mentions o (Tuple ts) = mentions_any o ts
   mentions o (Con p ts) = same_path o p || mentions_any o ts
 
+  -- whether it stands in one of several types
   pub mentions_any : Path → Typs → Bool
   mentions_any o Nil = false
   mentions_any o (Cons t ts) = mentions o t || mentions_any o ts

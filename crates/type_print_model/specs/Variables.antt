@@ -1,4 +1,4 @@
--- The names of the variables of a printed type.
+-- The names of the variables of a printed type (OCaml manual, 11.4 for type variables; "Polymorphism and its limitations" for weak ones).
 use Rattle.std.specs.Prelude.{ℕ, suc, ◌+◌, ◌==◌, ◌||◌, Bool, true, false, List, [], ◌∷◌, ◌++◌, ◌/◌, ◌%◌, codes, if◌then◌else◌}
 use Rattle.std.specs.Fmt.{decimal}
 use Rattle.type_model.specs.Types.{Typ, Typs, Var, Arrow, Tuple, Con, Nil, Cons}
@@ -11,10 +11,12 @@ abbrev mutual
   variables_of (Tuple ts) = variables_in ts
   variables_of (Con o ts) = variables_in ts
 
+  -- the variables of several types in order
   pub variables_in : Typs → List ℕ
   variables_in Nil = []
   variables_in (Cons t ts) = variables_of t ++ variables_in ts
 
+-- whether a variable is one of a list
 abbrev pub is_among : ℕ → List ℕ → Bool
 is_among v [] = false
 is_among v (w ∷ ws) = v == w || is_among v ws

@@ -22,10 +22,12 @@ arrows c (p ∷ ps) t = Arrow (type_at c p.node) (arrows c ps t)
 abbrev pub right_type : Context → Binding → Typ
 right_type c b = elim b.annotation [ None ↦ type_at c b.body.node | Some t ↦ type_at c t.node ]
 
+-- a written type is read, if there is one
 abbrev pub read_annotation : Context → Option TypeExpression → List Condition
 read_annotation c None = []
 read_annotation c (Some t) = t.read c
 
+-- and the right side has it
 abbrev pub has_annotation : Context → Binding → Option TypeExpression → List Condition
 has_annotation c b None = []
 has_annotation c b (Some t) = ask b.node 0 b.body.at (equal (type_at c b.body.node) (type_at c t.node))
@@ -59,14 +61,16 @@ abbrev pub right_sides : Context → Context → List Binding → List Condition
 right_sides c inner [] = []
 right_sides c inner (b ∷ bs) = right_side inner b ++ pattern_has c b ++ right_sides c inner bs
 
+-- with `rec`: the patterns, and then the right sides among the names
 abbrev pub bound_together : Context → List Binding → List Condition
 bound_together c bs = patterns_first c [] bs ++ right_sides c (with_names c (names_of_group bs)) bs
 
+-- what a group of bindings asks, with or without `rec`
 abbrev pub bindings_ask : Context → Bool → List Binding → List Condition
 bindings_ask c true bs = bound_together c bs
 bindings_ask c false bs = bound_in_turn c [] bs
 
--- whether the names of a binding are generalised: it has parameters, or its right side is non-expansive
+-- whether the names of a binding are generalised: it has parameters, or its right side is non-expansive (Wright 1995)
 abbrev pub generalises : Context → Binding → Bool
 generalises c b = elim b.parameters [ [] ↦ b.body.is_value c | p ∷ ps ↦ true ]
 

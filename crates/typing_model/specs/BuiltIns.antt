@@ -1,4 +1,4 @@
--- The built-in types, and the types and ranges of constants (OCaml manual, 11.2).
+-- The built-in types, and the types and ranges of constants (OCaml manual, 11.2 and 11.5; "The core library" for the built-in types).
 use Rattle.std.specs.Prelude.{ℕ, ◌+◌, ◌-◌, ◌*◌, ◌^◌, Bool, true, false, ◌==◌, ◌||◌, nat_le, nat_lt, List, [], ◌∷◌, ◌++◌, codes, Option, Some, None, if◌then◌else◌}
 use Rattle.token_model.specs.Kinds.{Tok, Kind, int, float, char, str, unit, nil, true_word, false_word}
 use Rattle.type_model.specs.Types.{Path, Typ, Con, Nil, Cons}
@@ -12,30 +12,39 @@ use Rattle.typing_model.specs.Parts.{place_of}
 abbrev pub built_in_origin : ℕ → Path
 built_in_origin k = (2 ^ 64 - 1 - k) ∷ []
 
+-- the built-in type of a number, without arguments
 abbrev pub built_in_type : ℕ → Typ
 built_in_type k = Con (built_in_origin k) Nil
 
+-- int
 abbrev pub int_type : Typ
 int_type = built_in_type 0
 
+-- char
 abbrev pub char_type : Typ
 char_type = built_in_type 1
 
+-- string
 abbrev pub string_type : Typ
 string_type = built_in_type 2
 
+-- float
 abbrev pub float_type : Typ
 float_type = built_in_type 3
 
+-- unit
 abbrev pub unit_type : Typ
 unit_type = built_in_type 4
 
+-- bool
 abbrev pub bool_type : Typ
 bool_type = built_in_type 5
 
+-- exn
 abbrev pub exn_type : Typ
 exn_type = built_in_type 6
 
+-- t list
 abbrev pub list_type : Typ → Typ
 list_type t = Con (built_in_origin 7) (Cons t Nil)
 

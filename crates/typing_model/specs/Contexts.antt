@@ -1,4 +1,4 @@
--- What a part of a program is typed in: the names in scope, the kept demands, and the types that a typing chooses.
+-- What a part of a program is typed in: the names in scope (Damas and Milner 1982, for assumptions), the kept demands, and the types that a typing chooses.
 use Rattle.std.specs.Prelude.{ℕ, Bool, not, ◌||◌, false, List, [], ◌∷◌, ◌++◌}
 use Rattle.type_model.specs.Types.{Path, Typ, Con, Nil, occurs}
 use Rattle.type_model.specs.Schemes.{Scheme}
@@ -29,6 +29,7 @@ pub record Context : Type 0 where
   pub kept : Site → Bool
   pub chosen : Choice
 
+-- a context with other names in scope
 abbrev pub under : Environment → Context → Context
 under env c = record c { env = env }
 
@@ -40,6 +41,7 @@ type_at c n = c.chosen.type_at n
 abbrev pub letter : Context → ℕ → ℕ → Typ
 letter c n k = c.chosen.letter n k
 
+-- whether the demand of a number in the row of a node is kept
 abbrev pub is_kept : Context → ℕ → ℕ → Bool
 is_kept c n k = c.kept (site n k)
 
@@ -88,6 +90,7 @@ abbrev pub unresolved_in : Context → ℕ → Variables → List Condition
 unresolved_in c n (in_item i) = []
 unresolved_in c n (parameters ps) = same (type_at c n) (unknown (n ∷ [])) ∷ []
 
+-- the same by the context of the type expression
 abbrev pub unresolved : Context → ℕ → List Condition
 unresolved c n = unresolved_in c n c.variables
 
@@ -96,5 +99,6 @@ abbrev pub filled_in : Context → ℕ → Variables → Path → Typ
 filled_in c n (in_item i) o = c.chosen.filled n o
 filled_in c n (parameters ps) o = Con (o ++ n ∷ []) Nil
 
+-- the same by the context of the use
 abbrev pub filled_at : Context → ℕ → Path → Typ
 filled_at c n = filled_in c n c.variables

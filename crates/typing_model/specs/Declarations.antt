@@ -23,6 +23,7 @@ use Rattle.typing_model.specs.Patterns.{ask_all}
 abbrev pub constructor_of : Context → ConstructorPart → Option Constructor
 constructor_of c k = option_map (λ t. record { name = t.name; place = declared.in_text (place_of t); argument = option_map (λ a. type_at c a.node) k.argument }) k.name
 
+-- a label that has a name, with its type
 abbrev pub label_of : Context → LabelPart → Option Label
 label_of c l = option_map (λ t. record { name = t.name; place = declared.in_text (place_of t); is_mutable = l.is_mutable; body = type_at c l.body.node }) l.name
 
@@ -31,6 +32,7 @@ abbrev pub variant_of : List Constructor → Shape
 variant_of [] = Opaque
 variant_of (k ∷ ks) = Variant (k ∷ ks)
 
+-- what is told of the values of a type
 abbrev pub shape_of : Context → Told → Shape
 shape_of c (constructors ks) = variant_of (filter_map (constructor_of c) ks)
 shape_of c (labels ls) = Labels (filter_map (label_of c) ls)
@@ -50,6 +52,7 @@ is_number n (m ∷ ms) = n == m || is_number n ms
 abbrev pub abbreviated : List ℕ → Option RightSide → List Name
 abbreviated apart right = elim (abbreviation_in right) [ None ↦ [] | Some a ↦ if is_number a.0 apart then [] else a.1 ]
 
+-- the name of a token; none where it is missing
 abbrev pub token_name : Option Tok → Name
 token_name None = []
 token_name (Some t) = t.name
@@ -59,6 +62,7 @@ abbrev pub names_behind : (Option RightSide → List Name) → List DeclarationP
 names_behind reads [] x = None
 names_behind reads (d ∷ ds) x = elim (names_behind reads ds x) [ Some ns ↦ Some ns | None ↦ if same_name x (token_name d.head.name) then Some (reads d.right) else None ]
 
+-- the names that others stand for, in order
 abbrev pub expanded : (Option RightSide → List Name) → List DeclarationPart → List Name → List Name
 expanded reads ds [] = []
 expanded reads ds (n ∷ ns) = elim (names_behind reads ds n) [ None ↦ [] | Some ms ↦ ms ] ++ expanded reads ds ns
@@ -75,6 +79,7 @@ is_cyclic apart all d = elim d.head.name [
   | Some t ↦ elim (abbreviation_in d.right) [ None ↦ false | Some a ↦ leads_to (length all) (abbreviated apart) all t.name a.1 ]
 ]
 
+-- the number of an abbreviation; none of another right side
 abbrev pub number_of : DeclarationPart → List ℕ
 number_of d = elim (abbreviation_in d.right) [ None ↦ [] | Some a ↦ a.0 ∷ [] ]
 
@@ -83,6 +88,7 @@ abbrev pub cyclic_behind : List ℕ → List DeclarationPart → List Declaratio
 cyclic_behind apart all [] = apart
 cyclic_behind apart all (d ∷ ds) = cyclic_behind (if is_cyclic apart all d then number_of d ++ apart else apart) all ds
 
+-- whether an abbreviation of this number contains itself
 abbrev pub contains_itself : List DeclarationPart → ℕ → Bool
 contains_itself all n = is_number n (cyclic_behind [] all all)
 
@@ -102,11 +108,13 @@ abbrev pub is_other : Context → List DeclarationPart → ℕ → Option Told �
 is_other c all n None = not (contains_itself all n)
 is_other c all n (Some k) = is_kept c n 0
 
+-- what a declaration stands for, by its right side
 abbrev pub definition_of : Context → List DeclarationPart → ℕ → Option RightSide → Definition
 definition_of c all node None = Own (node ∷ [])
 definition_of c all node (Some (another n t l k)) = if is_other c all n k then Is (type_at c t.node) else Own (node ∷ [])
 definition_of c all node (Some (own k)) = Own (node ∷ [])
 
+-- what a right side tells of the values
 abbrev pub shape_in : Context → Option RightSide → Shape
 shape_in c None = Opaque
 shape_in c (Some (another n t l k)) = elim k [ None ↦ Opaque | Some r ↦ shape_of c r ]
@@ -121,9 +129,11 @@ abbrev pub type_entry : Declaration → Option Tok → List Entry
 type_entry d None = []
 type_entry d (Some t) = entry t.name (declared.in_text (place_of t)) (a_type d) ∷ []
 
+-- the entries of one declaration of a group
 abbrev pub entries_of_part : Context → List DeclarationPart → DeclarationPart → List Entry
 entries_of_part c all d = let e = declaration_of c all d in type_entry e d.head.name ++ entries_of_shape e e.shape
 
+-- the entries of some declarations of a group, in order
 abbrev pub entries_of_group : Context → List DeclarationPart → List DeclarationPart → List Entry
 entries_of_group c all [] = []
 entries_of_group c all (d ∷ ds) = entries_of_part c all d ++ entries_of_group c all ds
@@ -138,6 +148,7 @@ abbrev pub new_tokens : List Name → List Tok → List (Place × Demand)
 new_tokens seen [] = []
 new_tokens seen (t ∷ ts) = (place_of t, test (twice t.name) (not (is_among t.name seen))) ∷ new_tokens (seen ++ t.name ∷ []) ts
 
+-- the names of tokens
 abbrev pub names_of_tokens : List Tok → List Name
 names_of_tokens ts = map (λ t. t.name) ts
 
@@ -146,6 +157,7 @@ abbrev pub names_asked : List Name → List DeclarationPart → List Condition
 names_asked seen [] = []
 names_asked seen (d ∷ ds) = elim d.head.name [ None ↦ names_asked seen ds | Some t ↦ ask d.node 0 (place_of t) (test (twice t.name) (not (is_among t.name seen))) ++ names_asked (seen ++ t.name ∷ []) ds ]
 
+-- a type is read, if there is one
 abbrev pub read_optional : Context → Option TypeExpression → List Condition
 read_optional c None = []
 read_optional c (Some t) = t.read c
@@ -155,6 +167,7 @@ abbrev pub constructors_read : Context → List ConstructorPart → List Conditi
 constructors_read c [] = []
 constructors_read c (k ∷ ks) = tell k.node c ++ read_optional c k.argument ++ constructors_read c ks
 
+-- the types of labels, in order
 abbrev pub labels_read : Context → List LabelPart → List Condition
 labels_read c [] = []
 labels_read c (l ∷ ls) = tell l.node c ++ l.body.read c ++ labels_read c ls
@@ -164,6 +177,7 @@ abbrev pub constructors_new : List Name → List ConstructorPart → List Condit
 constructors_new seen [] = []
 constructors_new seen (k ∷ ks) = elim k.name [ None ↦ constructors_new seen ks | Some t ↦ ask k.node 0 (place_of t) (test (twice t.name) (not (is_among t.name seen))) ++ constructors_new (seen ++ t.name ∷ []) ks ]
 
+-- each label is new in its declaration
 abbrev pub labels_new : List Name → List LabelPart → List Condition
 labels_new seen [] = []
 labels_new seen (l ∷ ls) = elim l.name [ None ↦ labels_new seen ls | Some t ↦ ask l.node 0 (place_of t) (test (twice t.name) (not (is_among t.name seen))) ++ labels_new (seen ++ t.name ∷ []) ls ]
@@ -174,9 +188,11 @@ shape_asks c None = []
 shape_asks c (Some (constructors ks)) = constructors_read c ks ++ constructors_new [] ks
 shape_asks c (Some (labels ls)) = labels_read c ls ++ labels_new [] ls
 
+-- a constructor of a type with these arguments
 abbrev pub constructor_over : Typs → Constructor → Constructor
 constructor_over ts k = record k { argument = option_map (apply (argument ts)) k.argument }
 
+-- a label of a type with these arguments
 abbrev pub label_over : Typs → Label → Label
 label_over ts l = record l { body = apply (argument ts) l.body }
 
@@ -214,6 +230,7 @@ declaration_asks c all d =
     tell d.node c ++ ask_all d.node 1 (new_tokens [] d.head.parameters) ++
     right_asks (record c { variables = parameters (names_of_tokens d.head.parameters) }) all d.head.name (length d.head.parameters) d.right
 
+-- declarations of a group, in order
 abbrev pub declarations_ask : Context → List DeclarationPart → List DeclarationPart → List Condition
 declarations_ask c all [] = []
 declarations_ask c all (d ∷ ds) = declaration_asks c all d ++ declarations_ask c all ds
@@ -237,6 +254,7 @@ group_asks c seen ds = names_asked seen ds ++ declarations_ask (under (names_of_
 abbrev pub exception_asks : Context → ConstructorPart → List Condition
 exception_asks c k = tell k.node c ++ read_optional (record c { variables = parameters [] }) k.argument
 
+-- the entry of an exception that has a name
 abbrev pub entries_of_exception : Context → ConstructorPart → List Entry
 entries_of_exception c k = elim k.name [ None ↦ [] | Some t ↦ entry t.name (declared.in_text (place_of t)) (an_exception (option_map (λ a. type_at c a.node) k.argument)) ∷ [] ]
 
@@ -244,16 +262,20 @@ entries_of_exception c k = elim k.name [ None ↦ [] | Some t ↦ entry t.name (
 abbrev pub head_row : List Child → Head
 head_row cs = record { parameters = tokens_in 1 cs; name = token_in 4 cs }
 
+-- a constructor, by its parts
 abbrev pub constructor_row : ℕ → List Child → ConstructorPart
 constructor_row n cs = record { node = n; name = token_in 0 cs; argument = first_of (types_in 2 cs) }
 
+-- whether a token is there
 abbrev pub is_there : Option Tok → Bool
 is_there None = false
 is_there (Some t) = true
 
+-- a label, by its parts
 abbrev pub label_row : ℕ → List Child → LabelPart
 label_row n cs = record { node = n; is_mutable = is_there (token_in 0 cs); name = token_in 1 cs; body = type_in 3 cs }
 
+-- the last of some tokens
 abbrev pub last_token : List Tok → Option Tok
 last_token [] = None
 last_token (t ∷ []) = Some t
@@ -263,14 +285,17 @@ last_token (t ∷ u ∷ us) = last_token (u ∷ us)
 abbrev pub tokens_of_slot : ℕ → List Child → List Tok
 tokens_of_slot s cs = elim (first_of (in_slot s cs)) [ None ↦ [] | Some k ↦ part_yield k.part ]
 
+-- constructors or labels, by the row
 abbrev pub told_row : Row → List Child → Option Told
 told_row variant_row cs = Some (constructors (filter_map (λ k. k.constructor) (in_slot 1 cs)))
 told_row record_row cs = Some (labels (filter_map (λ k. k.label) (in_slot 1 cs)))
 told_row _ cs = None
 
+-- a right side, by its row
 abbrev pub right_side_row : Row → ℕ → List Child → Option RightSide
 right_side_row alias_row n cs = Some (another n (type_in 0 cs) (last_token (tokens_of_slot 0 cs)) (then_by (first_of (in_slot 2 cs)) (λ k. k.told)))
 right_side_row row n cs = option_map own (told_row row cs)
 
+-- a declaration, by its parts
 abbrev pub declaration_row : ℕ → List Child → DeclarationPart
 declaration_row n cs = record { node = n; head = elim (then_by (first_of (in_slot 0 cs)) (λ k. k.head)) [ None ↦ record { parameters = []; name = None } | Some h ↦ h ]; right = then_by (first_of (in_slot 2 cs)) (λ k. k.right_side) }

@@ -1,4 +1,4 @@
--- What a row of the grammar asks of types: equations that hold in any case, instances of schemes, and demands, which may be kept or not.
+-- What a row of the grammar asks of types: equations that hold in any case, instances of schemes (Damas and Milner 1982), and demands, which may be kept or not.
 use Rattle.std.specs.Prelude.{◌≡◌, ℕ, Bool, true, ◌&&◌, ◌==◌, List, [], ◌∷◌, Option, Some, None, if◌then◌else◌}
 use Rattle.tree_model.specs.Trees.{Place}
 use Rattle.type_model.specs.Types.{Path, Typ}
@@ -15,9 +15,11 @@ pub record Site : Type 0 where
   pub node : ℕ
   pub number : ℕ
 
+-- a site, by its node and its number
 abbrev pub site : ℕ → ℕ → Site
 site n k = record { node = n; number = k }
 
+-- whether two sites are one
 abbrev pub same_site : Site → Site → Bool
 same_site s t = s.node == t.node && s.number == t.number
 
@@ -99,6 +101,7 @@ Holds kept (known t) = IsKnown t
 Holds kept (demand s at d) = kept s ≡ true → IsMet d
 Holds kept (treated n env) = Unit {0}
 
+-- all of some conditions hold
 abbrev pub AllHold : (Site → Bool) → List Condition → Type 0
 AllHold kept [] = Unit {0}
 AllHold kept (c ∷ cs) = Holds kept c × AllHold kept cs

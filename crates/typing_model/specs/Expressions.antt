@@ -20,6 +20,7 @@ use Rattle.typing_model.specs.Bindings.{bindings_ask, within_let, matched_apart,
 abbrev pub expression : ℕ → Place → Form → (Context → List Condition) → (Context → Bool) → Expression
 expression n at form typed is_value = record { node = n; at = at; form = form; typed = typed; negated = typed; is_value = is_value }
 
+-- the same in every context
 abbrev pub always : Bool → Context → Bool
 always b c = b
 
@@ -28,10 +29,12 @@ abbrev pub typed_all : Context → List Expression → List Condition
 typed_all c [] = []
 typed_all c (e ∷ es) = e.typed c ++ typed_all c es
 
+-- whether all of these expressions are non-expansive
 abbrev pub all_values : Context → List Expression → Bool
 all_values c [] = true
 all_values c (e ∷ es) = e.is_value c && all_values c es
 
+-- the types of expressions
 abbrev pub node_types : Context → List Expression → List Typ
 node_types c es = map (λ e. type_at c e.node) es
 
@@ -59,6 +62,7 @@ name_form p = elim p.last [ None ↦ other | Some t ↦ by t.kind ]
     by lower = a_path p
     by _ = other
 
+-- a name, as an expression
 abbrev pub name_expression : ℕ → Place → Written → Expression
 name_expression n at p = expression n at (name_form p) (λ c. value_asks c n 0 p (type_at c n)) (always true)
 
@@ -107,6 +111,7 @@ abbrev pub first_type : Context → ℕ → List Expression → Typ
 first_type c n [] = letter c n 0
 first_type c n (e ∷ es) = type_at c e.node
 
+-- each of these expressions has a type
 abbrev pub each_has : Context → Typ → List Expression → List (Place × Demand)
 each_has c t es = map (λ e. (e.at, equal (type_at c e.node) t)) es
 
@@ -185,6 +190,7 @@ operator_applied c n None x es = typed_all c es
 operator_applied c n (Some t) x es =
     value_asks c n 0 (record { qualifiers = []; last = Some (record t { name = x }) }) (letter c n 0) ++ applied_from c n 1 1 (place_of t) (letter c n 0) es
 
+-- the name of a token; none where it is missing
 abbrev pub name_of : Option Tok → Name
 name_of None = []
 name_of (Some t) = t.name
@@ -211,6 +217,7 @@ minus_asks c n t e (a_field p l) = operator_applied c n t (codes "~" ++ name_of 
 minus_asks c n t e no_expression = operator_applied c n t (codes "~" ++ name_of t) (under_sign t e ∷ [])
 minus_asks c n t e other = operator_applied c n t (codes "~" ++ name_of t) (under_sign t e ∷ [])
 
+-- a minus in front of an expression
 abbrev pub minus_expression : ℕ → Place → Option Tok → Expression → Expression
 minus_expression n at t e = expression n at other (λ c. minus_asks c n t e e.form) (always false)
 
@@ -226,6 +233,7 @@ field_asks c n e p = elim p.last [
       elim (if is_kept c n 0 then label_found c p else None) [ None ↦ [] | Some (d, l) ↦ has_type c n 1 e (used_at c n (type_of d)) ++ is_of c n (used_at c n l.body) ]
 ]
 
+-- e . l, as an expression
 abbrev pub field_expression : ℕ → Place → Expression → Written → Expression
 field_expression n at e p = expression n at (a_field p (λ c. if is_kept c n 0 then option_map (λ r. r.1) (label_found c p) else None)) (λ c. field_asks c n e p) e.is_value
 
@@ -262,22 +270,27 @@ field_value_asks c is_found f labels t =
     told_field c f ++ (if is_found then ask_once f.node 0 labels f.label else []) ++
     elim f.value [ None ↦ pun_asks c f t | Some e ↦ e.typed c ++ elim t [ None ↦ [] | Some t ↦ has_type c f.node 2 e t ] ]
 
+-- whether there is one
 abbrev pub is_some : {A : Type 0} → Option A → Bool
 is_some None = false
 is_some (Some a) = true
 
+-- fields in order, each behind the labels of those before
 abbrev pub fields_ask : Context → ℕ → Option Declaration → List Field → List Name → List Condition
 fields_ask c n found [] labels = []
 fields_ask c n found (f ∷ fs) labels =
     field_value_asks c (is_some found) f labels (field_type c n found f.label) ++ fields_ask c n found fs (labels ++ name_in f.label)
 
+-- the labels of fields
 abbrev pub labels_of : List Field → List Written
 labels_of fs = map (λ f. f.label) fs
 
+-- the names of the labels that are written
 abbrev pub names_of_labels : List Field → List Name
 names_of_labels [] = []
 names_of_labels (f ∷ fs) = name_in f.label ++ names_of_labels fs
 
+-- the node has the type of the record, if it is found
 abbrev pub is_record : Context → ℕ → Option Declaration → List Condition
 is_record c n None = []
 is_record c n (Some d) = is_of c n (used_at c n (type_of d))
@@ -329,18 +342,22 @@ abbrev pub all_field_values : Context → List Field → Bool
 all_field_values c [] = true
 all_field_values c (f ∷ fs) = elim f.value [ None ↦ true | Some e ↦ e.is_value c ] && all_field_values c fs
 
+-- whether no label is mutable
 abbrev pub none_mutable : List Label → Bool
 none_mutable [] = true
 none_mutable (l ∷ ls) = not l.is_mutable && none_mutable ls
 
+-- whether a record is non-expansive: its values are, and no label is mutable
 abbrev pub is_constant_record : Context → List Field → Bool
 is_constant_record c fs = elim (declaration_found c (labels_of fs)) [ None ↦ true | Some d ↦ none_mutable (labels_in d.shape) ] && all_field_values c fs
 
+-- { l = e }, as an expression
 abbrev pub record_expression : ℕ → Place → Expression → Option Expression → List Field → Expression
 record_expression n at e value fs = expression n at other
     (λ c. record_asks c n at (before_labels c n e e.form) (loose_value c e.form value) (first_field e.form e.node value ++ fs))
     (λ c. is_constant_record c (first_field e.form e.node value ++ fs))
 
+-- { e with l = e }, as an expression
 abbrev pub update_expression : ℕ → Place → Expression → List Field → Expression
 update_expression n at e fs = expression n at other (λ c. update_asks c n e fs) (λ c. e.is_value c && is_constant_record c fs)
 
@@ -354,6 +371,7 @@ assert_asks c n e (a_field p l) = e.typed c ++ has_type c n 0 e bool_type ++ is_
 assert_asks c n e no_expression = e.typed c ++ has_type c n 0 e bool_type ++ is_of c n unit_type
 assert_asks c n e other = e.typed c ++ has_type c n 0 e bool_type ++ is_of c n unit_type
 
+-- whether a form is the word `false`
 abbrev pub is_false : Form → Bool
 is_false a_false = true
 is_false (a_constructor p) = false
@@ -363,6 +381,7 @@ is_false (a_field p l) = false
 is_false no_expression = false
 is_false other = false
 
+-- assert e, as an expression
 abbrev pub assert_expression : ℕ → Place → Expression → Expression
 assert_expression n at e = expression n at other (λ c. assert_asks c n e e.form) (always (is_false e.form))
 
@@ -398,12 +417,14 @@ abbrev pub guard_asks : Context → ℕ → ℕ → Option Expression → List C
 guard_asks c n k None = []
 guard_asks c n k (Some e) = e.typed c ++ has_type c n k e bool_type
 
+-- one case
 abbrev pub case_asks : Context → ℕ → ℕ → Typ → Option Typ → Case → List Condition
 case_asks c n k subject result a =
     let inner = with_names c a.pattern.names in
     tell a.node c ++ a.pattern.matched c [] ++ ask n k a.pattern.at (equal (type_at c a.pattern.node) subject) ++ guard_asks inner n (k + 1) a.guard ++ a.body.typed inner ++
     elim result [ None ↦ [] | Some t ↦ has_type c n (k + 2) a.body t ]
 
+-- the cases behind the first one, whose bodies have its type
 abbrev pub later_cases : Context → ℕ → ℕ → Typ → Typ → List Case → List Condition
 later_cases c n k subject result [] = []
 later_cases c n k subject result (a ∷ as_) = case_asks c n k subject (Some result) a ++ later_cases c n (k + 3) subject result as_
@@ -418,6 +439,7 @@ abbrev pub first_body : Context → ℕ → List Case → Typ
 first_body c n [] = letter c n 1
 first_body c n (a ∷ as_) = type_at c a.body.node
 
+-- whether no case has a guard, and all bodies are non-expansive
 abbrev pub cases_are_values : Context → List Case → Bool
 cases_are_values c [] = true
 cases_are_values c (a ∷ as_) = not (is_some a.guard) && a.body.is_value c && cases_are_values c as_
@@ -447,16 +469,20 @@ abbrev pub all_generalise : Context → List Binding → Bool
 all_generalise c [] = true
 all_generalise c (b ∷ bs) = generalises c b && all_generalise c bs
 
+-- a let with a body, as an expression
 abbrev pub let_expression : ℕ → Place → Bool → List Binding → Expression → Expression
 let_expression n at is_rec bs e = expression n at other
     (λ c. bindings_ask c is_rec bs ++ e.typed (within_let c bs) ++ is_of c n (type_at c e.node)) (λ c. all_generalise c bs && e.is_value c)
 
+-- the cases in a slot
 abbrev pub cases_in : ℕ → List Child → List Case
 cases_in s cs = filter_map (λ c. c.case) (in_slot s cs)
 
+-- the fields in a slot
 abbrev pub fields_in : ℕ → List Child → List Field
 fields_in s cs = filter_map (λ c. c.field) (in_slot s cs)
 
+-- the bindings in a slot
 abbrev pub bindings_in : ℕ → List Child → List Binding
 bindings_in s cs = filter_map (λ c. c.binding) (in_slot s cs)
 

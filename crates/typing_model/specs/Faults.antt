@@ -1,4 +1,4 @@
--- The faults of the typer: for each demand that isn't kept where it stands, and what it tells.
+-- The faults of the typer: for each demand that isn't kept where it stands, and what it tells (Robinson 1965, for types that differ).
 use Rattle.std.specs.Prelude.{◌≡◌, ◌≢◌, ℕ, suc, Bool, true, false, ◌⊎◌, List, [], Some}
 use Rattle.type_model.specs.Types.{Typ, Var, occurs}
 use Rattle.type_model.specs.Substitutions.{Subst, apply}
@@ -17,14 +17,15 @@ pub data Difference : Type 0 where
   made_later : Difference
   plain : Difference
 
--- one of two types is a variable that stands in the other and isn't it
+-- one of two types is a variable that stands in the other and isn't it: the occurs check (Robinson 1965)
 abbrev pub IsCycle : Typ → Typ → Type 0
 IsCycle t u = (v : ℕ) × (((t ≡ Var v) × (occurs v u ≡ true) × (u ≢ Var v)) ⊎ ((u ≡ Var v) × (occurs v t ≡ true) × (t ≢ Var v)))
 
--- some substitution makes two types one
+-- some substitution makes two types one (Robinson 1965)
 abbrev pub CanBeOne : Typ → Typ → Type 0
 CanBeOne t u = (s : Subst) × (apply s t ≡ apply s u)
 
+-- how two types differ
 pub data Differ (t u : Typ) : Difference → Type 0 where
   in_itself : IsCycle t u → Differ t u contains_itself
   later : (IsCycle t u → ⊥) → CanBeOne t u → Differ t u made_later

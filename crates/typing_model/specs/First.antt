@@ -27,17 +27,21 @@ place_there (in_text p) = in_prelude p
 place_there (in_prelude p) = in_prelude p
 place_there (built_in k) = built_in k
 
+-- a constructor that is defined in the prelude
 abbrev pub constructor_there : Constructor → Constructor
 constructor_there k = record k { place = place_there k.place }
 
+-- a label that is defined there
 abbrev pub label_there : Label → Label
 label_there l = record l { place = place_there l.place }
 
+-- what is told of values there
 abbrev pub shape_there : Shape → Shape
 shape_there Opaque = Opaque
 shape_there (Variant ks) = Variant (map constructor_there ks)
 shape_there (Labels ls) = Labels (map label_there ls)
 
+-- a declaration there
 abbrev pub declaration_there : Declaration → Declaration
 declaration_there d = record d { shape = shape_there d.shape }
 
@@ -48,10 +52,12 @@ abbrev mutual
   signature_there (Structure cs) = Structure (components_there cs)
   signature_there (Functor pm p bm b) = Functor pm (signature_there p) bm (signature_there b)
 
+  -- components that are defined there
   pub components_there : Components → Components
   components_there Done = Done
   components_there (Component n at m cs) = Component n (place_there at) (meaning_there m) (components_there cs)
 
+  -- what a component that is defined there stands for
   pub meaning_there : Meaning → Meaning
   meaning_there (Value s) = Value s
   meaning_there (TypeName d) = TypeName (declaration_there d)
@@ -59,6 +65,7 @@ abbrev mutual
   meaning_there (Module s) = Module (signature_there s)
   meaning_there (ModuleType made s) = ModuleType made (signature_there s)
 
+-- what a name of the prelude stands for
 abbrev pub referent_there : Referent → Referent
 referent_there (a_value s) = a_value s
 referent_there (a_constructor d k) = a_constructor (declaration_there d) (constructor_there k)

@@ -19,6 +19,7 @@ abbrev pub variable_by : Kind → Name → List Name
 variable_by ty_var n = n ∷ []
 variable_by _ n = []
 
+-- the names of all type variables among tokens, in order
 abbrev pub variables_written : List Tok → List Name
 variables_written [] = []
 variables_written (t ∷ ts) = variable_by t.kind t.name ++ variables_written ts
@@ -53,6 +54,7 @@ let_item n ts is_rec bs = record {
   makes = λ c. [];
 }
 
+-- the names of declarations
 abbrev pub names_of_declarations : List DeclarationPart → List Name
 names_of_declarations [] = []
 names_of_declarations (d ∷ ds) = elim d.head.name [ None ↦ [] | Some t ↦ t.name ∷ [] ] ++ names_of_declarations ds
@@ -67,6 +69,7 @@ abbrev pub origin_by : Definition → List Path
 origin_by (Own o) = o ∷ []
 origin_by (Is t) = []
 
+-- the origins that a group of declarations makes
 abbrev pub origins_of_group : Context → List DeclarationPart → List DeclarationPart → List Path
 origins_of_group c all [] = []
 origins_of_group c all (d ∷ ds) = origin_by (declaration_of c all d).definition ++ origins_of_group c all ds
@@ -82,6 +85,7 @@ type_item n ds = record {
   makes = λ c. origins_of_group c ds ds;
 }
 
+-- an exception that has a name, as a component
 abbrev pub exception_components : Context → ConstructorPart → Components
 exception_components c k = elim k.name [ None ↦ Done | Some t ↦ Component t.name (in_text (place_of t)) (Exception (option_map (λ a. type_at c a.node) k.argument)) Done ]
 
@@ -94,6 +98,7 @@ abbrev pub exception_item : ℕ → Option ConstructorPart → Item
 exception_item n None = no_item n
 exception_item n (Some k) = record (no_item n) { asks = λ c seen. exception_asks c k; adds = λ c. entries_of_exception c k; components = λ c. exception_components c k }
 
+-- the names of types, modules and module types behind some items
 abbrev pub seen_names : Context → List Item → Seen → Seen
 seen_names c [] seen = seen
 seen_names c (i ∷ is_) seen = seen_names (under (i.adds c ++ c.env) c) is_ (seen_too seen (i.named c))
@@ -126,6 +131,7 @@ is_older n (Exception o) cs = is_some (newest as_exception n cs)
 is_older n (Module s) cs = false
 is_older n (ModuleType os s) cs = false
 
+-- components without the values and exceptions that are older than one of their name
 abbrev pub newest_alone : Components → Components
 newest_alone Done = Done
 newest_alone (Component n at m cs) = if is_older n m cs then newest_alone cs else Component n at m (newest_alone cs)

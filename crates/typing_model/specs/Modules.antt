@@ -1,4 +1,4 @@
--- What module expressions, module types and their items ask, and the signatures that they have (OCaml manual, 11.10 to 11.12; Leroy 1994 and 1995).
+-- What module expressions, module types and their items ask, and the signatures that they have (OCaml manual, 11.10 and 11.11; Leroy 1994 and 1995).
 use Rattle.std.specs.Prelude.{ℕ, ◌+◌, Bool, true, false, not, ◌&&◌, List, [], ◌∷◌, ◌++◌, filter_map, length, Option, Some, None, if◌then◌else◌}
 use Rattle.token_model.specs.Kinds.{Tok}
 use Rattle.tree_model.specs.Trees.{Place}
@@ -30,6 +30,7 @@ signature_in (a_type d) = None
 signature_in (a_module s) = Some s
 signature_in (a_module_type t) = None
 
+-- the template of a module type that a path finds
 abbrev pub template_in : Referent → Option Template
 template_in (a_value s) = None
 template_in (a_constructor d k) = None
@@ -39,15 +40,19 @@ template_in (a_type d) = None
 template_in (a_module s) = None
 template_in (a_module_type t) = Some t
 
+-- the signature of a path of modules, a hole where it isn't found
 abbrev pub signature_by : Context → ℕ → Written → Signature
 signature_by c n p = elim (then_by p.last (λ t. if is_kept c n 0 then then_by (referent_of (found_by c module_kind p t)) signature_in else None)) [ None ↦ Hole | Some s ↦ s ]
 
+-- the template of a path to a module type, a hole where it isn't found
 abbrev pub template_by : Context → ℕ → Written → Template
 template_by c n p = elim (then_by p.last (λ t. if is_kept c n 0 then then_by (referent_of (found_by c module_type_kind p t)) template_in else None)) [ None ↦ template [] Hole | Some t ↦ t ]
 
+-- that a path to a module is bound
 abbrev pub ask_module : Context → ℕ → Written → List Condition
 ask_module c n p = elim p.last [ None ↦ [] | Some t ↦ ask_bound c n 0 module_kind module_word p t ]
 
+-- that a path to a module type is bound
 abbrev pub ask_module_type : Context → ℕ → Written → List Condition
 ask_module_type c n p = elim p.last [ None ↦ [] | Some t ↦ ask_bound c n 0 module_type_kind module_type_word p t ]
 
@@ -76,11 +81,13 @@ parameter_of Hole = template [] Hole
 parameter_of (Structure cs) = template [] Hole
 parameter_of (Functor pm p bm b) = template pm p
 
+-- the body of a functor's signature
 abbrev pub body_of : Signature → Template
 body_of Hole = template [] Hole
 body_of (Structure cs) = template [] Hole
 body_of (Functor pm p bm b) = template bm b
 
+-- whether a module may be applied: it is a functor or a hole
 abbrev pub is_functor : Signature → Bool
 is_functor Hole = true
 is_functor (Structure cs) = false
@@ -91,10 +98,12 @@ abbrev pub argument_signature : Context → ModuleExpression → Option parts.Mo
 argument_signature c m None = m.signature c
 argument_signature c m (Some y) = made_at (y.template c) y.node
 
+-- the origins that an argument makes
 abbrev pub argument_makes : Context → ModuleExpression → Option parts.ModuleType → List Path
 argument_makes c m None = m.makes c
 argument_makes c m (Some y) = m.makes c ++ origins_at (y.template c).made y.node
 
+-- what a seal on an argument asks
 abbrev pub seal_asks : Context → ℕ → ModuleExpression → Option parts.ModuleType → List Condition
 seal_asks c n m None = []
 seal_asks c n m (Some y) = y.asks c ++ ask n 1 m.at (matches (m.signature c) (y.template c))
@@ -120,10 +129,12 @@ application n at f m y = record {
 abbrev pub parameter_signature : Context → Parameter → Signature
 parameter_signature c p = made_at (p.module_type.template c) p.module_type.node
 
+-- a context with a module of this name, if there is one
 abbrev pub with_module : Context → Option Tok → Signature → Context
 with_module c None s = c
 with_module c (Some t) s = under (entry t.name (in_text (place_of t)) (a_module s) ∷ c.env) c
 
+-- the context behind a parameter
 abbrev pub with_parameter : Context → Parameter → Context
 with_parameter c p = with_module c p.name (parameter_signature c p)
 
@@ -132,6 +143,7 @@ abbrev pub parameters_ask : Context → List Parameter → List Condition
 parameters_ask c [] = []
 parameters_ask c (p ∷ ps) = p.module_type.asks c ++ parameters_ask (with_parameter c p) ps
 
+-- the context behind parameters
 abbrev pub with_parameters : Context → List Parameter → Context
 with_parameters c [] = c
 with_parameters c (p ∷ ps) = with_parameters (with_parameter c p) ps
@@ -179,6 +191,7 @@ signature_text n is_ = record { node = n; asks = λ c. items_ask c no_names is_;
 abbrev pub module_type_in_parentheses : ℕ → parts.ModuleType → parts.ModuleType
 module_type_in_parentheses n y = record { node = n; asks = y.asks; template = y.template }
 
+-- whether a signature is a hole
 abbrev pub is_hole : Signature → Bool
 is_hole Hole = true
 is_hole (Structure cs) = false
@@ -198,10 +211,12 @@ clause_asks c t w = tell w.node c ++
     ] ++
     w.body.read (record c { variables = parameters (names_of_tokens w.head.parameters) })
 
+-- clauses in order, each of the template behind those before
 abbrev pub clauses_ask : Context → Template → List WithClause → List Condition
 clauses_ask c t [] = []
 clauses_ask c t (w ∷ ws) = clause_asks c t w ++ clauses_ask c (elim (behind_clause c t w) [ None ↦ t | Some u ↦ u ]) ws
 
+-- the template behind clauses
 abbrev pub behind_clauses : Context → Template → List WithClause → Template
 behind_clauses c t [] = t
 behind_clauses c t (w ∷ ws) = behind_clauses c (elim (behind_clause c t w) [ None ↦ t | Some u ↦ u ]) ws
@@ -226,14 +241,17 @@ abbrev pub ask_new : ℕ → List Name → Option Tok → List Condition
 ask_new n seen None = []
 ask_new n seen (Some t) = ask n 1 (place_of t) (test (twice t.name) (not (is_among t.name seen)))
 
+-- a component of this name, if there is one
 abbrev pub component_named : Option Tok → Meaning → Components
 component_named None m = Done
 component_named (Some t) m = Component t.name (in_text (place_of t)) m Done
 
+-- an entry of this name, if there is one
 abbrev pub entry_named : Option Tok → Referent → List Entry
 entry_named None r = []
 entry_named (Some t) r = entry t.name (in_text (place_of t)) r ∷ []
 
+-- the name of a token, if it is there
 abbrev pub name_list : Option Tok → List Name
 name_list None = []
 name_list (Some t) = t.name ∷ []
@@ -330,6 +348,7 @@ once_each seen (n ∷ ns) = if is_among n seen then once_each seen ns else n ∷
 abbrev pub all_bound : Typ → Scheme
 all_bound t = record { body = t; bound = λ v. true }
 
+-- a value of a signature
 abbrev pub value_item : ℕ → List Tok → Option Tok → TypeExpression → Item
 value_item n ts x t = record (no_item n) {
   asks = λ c seen. t.read (record c { variables = parameters (once_each [] (variables_written ts)) });

@@ -1,4 +1,4 @@
--- The demand `bound` of a path, and what it finds.
+-- The demand `bound` of a path, and what it finds (OCaml manual, 11.3).
 use Rattle.std.specs.Prelude.{ℕ, Bool, true, false, List, [], ◌∷◌, ◌++◌, map, Option, Some, None, if◌then◌else◌}
 use Rattle.token_model.specs.Kinds.{Tok}
 use Rattle.type_model.specs.Types.{Typ}
@@ -12,6 +12,7 @@ use Rattle.typing_model.specs.Demands.{Word, module_word, unbound, test, Conditi
 use Rattle.typing_model.specs.Contexts.{Context, ask, letter}
 use Rattle.typing_model.specs.Parts.{Written, place_of}
 
+-- the names of tokens
 abbrev pub names_of : List Tok → List Name
 names_of ts = map (λ t. t.name) ts
 
@@ -19,11 +20,13 @@ names_of ts = map (λ t. t.name) ts
 abbrev pub found_by : Context → Kind → Written → Tok → Found
 found_by c k p t = lookup c.env (names_of p.qualifiers) k t.name
 
+-- whether something is found, a hole included
 abbrev pub is_found : Found → Bool
 is_found (an_entry e) = true
 is_found a_hole = true
 is_found nothing = false
 
+-- whether there is no module
 abbrev pub is_no_scope : Scope → Bool
 is_no_scope (known env) = false
 is_no_scope unknown_scope = false
@@ -73,6 +76,7 @@ pub record Built : Type 0 where
   pub result : Typ
   pub argument : Option Typ
 
+-- a constructor with this result and argument
 abbrev pub built : Typ → Option Typ → Built
 built r a = record { result = r; argument = a }
 
@@ -96,6 +100,7 @@ label_in (a_type d) = None
 label_in (a_module s) = None
 label_in (a_module_type t) = None
 
+-- the declaration of a type's entry
 abbrev pub declaration_in : Referent → Option Declaration
 declaration_in (a_value s) = None
 declaration_in (a_constructor d k) = None

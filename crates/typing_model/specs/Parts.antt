@@ -1,4 +1,4 @@
--- What the parts of a program mean by their sorts: an expression, a pattern, a type expression, a binding, a case, a field.
+-- What the parts of a program mean by their sorts: an expression, a pattern, a type expression, a binding, a case, a field (OCaml manual, 11.4, 11.6 to 11.8, 11.10 and 11.11; Wright 1995, for non-expansive expressions).
 use Rattle.std.specs.Prelude.{ℕ, Bool, true, ◌==◌, List, [], ◌∷◌, ◌++◌, map, filter_map, Option, Some, None, if◌then◌else◌}
 use Rattle.type_model.specs.Types.{Path}
 use Rattle.token_model.specs.Kinds.{Tok}
@@ -190,10 +190,12 @@ abbrev pub in_slot : ℕ → List Child → List Child
 in_slot s [] = []
 in_slot s (c ∷ cs) = if c.slot == s then c ∷ in_slot s cs else in_slot s cs
 
+-- the first of a list
 abbrev pub first_of : {A : Type 0} → List A → Option A
 first_of [] = None
 first_of (x ∷ xs) = Some x
 
+-- the last of a list
 abbrev pub last_of : {A : Type 0} → List A → Option A
 last_of [] = None
 last_of (x ∷ []) = Some x
@@ -213,6 +215,7 @@ tokens_in s cs = filter_map (λ c. token_of c.part) (in_slot s cs)
 abbrev pub optional_tokens_in : ℕ → List Child → List (Option Tok)
 optional_tokens_in s cs = map (λ c. token_of c.part) (in_slot s cs)
 
+-- the first token in a slot
 abbrev pub token_in : ℕ → List Child → Option Tok
 token_in s cs = first_of (tokens_in s cs)
 
@@ -228,9 +231,11 @@ place_of t = place t.start t.end
 abbrev pub no_expression_at : ℕ → Place → Expression
 no_expression_at n at = record { node = n; at = at; form = no_expression; typed = λ c. []; negated = λ c. []; is_value = λ c. true }
 
+-- a missing pattern: it binds no name
 abbrev pub no_pattern_at : ℕ → Place → Pattern
 no_pattern_at n at = record { node = n; at = at; names = []; mentions = []; matched = λ c seen. []; constructor = None }
 
+-- a missing type expression
 abbrev pub no_type_at : ℕ → Place → TypeExpression
 no_type_at n at = record { node = n; at = at; read = λ c. unresolved c n; mentions = []; grouped = n ∷ []; grouped_read = λ c. unresolved c n }
 
@@ -238,9 +243,11 @@ no_type_at n at = record { node = n; at = at; read = λ c. unresolved c n; menti
 abbrev pub expressions_in : ℕ → List Child → List Expression
 expressions_in s cs = map (λ c. c.expression) (in_slot s cs)
 
+-- the patterns in a slot
 abbrev pub patterns_in : ℕ → List Child → List Pattern
 patterns_in s cs = map (λ c. c.pattern) (in_slot s cs)
 
+-- the type expressions in a slot
 abbrev pub types_in : ℕ → List Child → List TypeExpression
 types_in s cs = map (λ c. c.type_expression) (in_slot s cs)
 
@@ -248,9 +255,11 @@ types_in s cs = map (λ c. c.type_expression) (in_slot s cs)
 abbrev pub expression_in : ℕ → List Child → Expression
 expression_in s cs = elim (first_of (expressions_in s cs)) [ None ↦ no_expression_at 0 (place 0 0) | Some e ↦ e ]
 
+-- the pattern in a slot
 abbrev pub pattern_in : ℕ → List Child → Pattern
 pattern_in s cs = elim (first_of (patterns_in s cs)) [ None ↦ no_pattern_at 0 (place 0 0) | Some p ↦ p ]
 
+-- the type expression in a slot
 abbrev pub type_in : ℕ → List Child → TypeExpression
 type_in s cs = elim (first_of (types_in s cs)) [ None ↦ no_type_at 0 (place 0 0) | Some t ↦ t ]
 
@@ -258,23 +267,30 @@ type_in s cs = elim (first_of (types_in s cs)) [ None ↦ no_type_at 0 (place 0 
 abbrev pub no_module_at : ℕ → Place → ModuleExpression
 no_module_at n at = record { node = n; at = at; asks = λ c. []; signature = λ c. Hole; makes = λ c. [] }
 
+-- a missing module type
 abbrev pub no_module_type_at : ℕ → ModuleType
 no_module_type_at n = record { node = n; asks = λ c. []; template = λ c. template [] Hole }
 
+-- the module expressions in a slot
 abbrev pub modules_in : ℕ → List Child → List ModuleExpression
 modules_in s cs = map (λ c. c.module_expression) (in_slot s cs)
 
+-- the module types in a slot
 abbrev pub module_types_in : ℕ → List Child → List ModuleType
 module_types_in s cs = map (λ c. c.module_type) (in_slot s cs)
 
+-- the module expression in a slot
 abbrev pub module_in : ℕ → List Child → ModuleExpression
 module_in s cs = elim (first_of (modules_in s cs)) [ None ↦ no_module_at 0 (place 0 0) | Some m ↦ m ]
 
+-- the module type in a slot
 abbrev pub module_type_in : ℕ → List Child → ModuleType
 module_type_in s cs = elim (first_of (module_types_in s cs)) [ None ↦ no_module_type_at 0 | Some y ↦ y ]
 
+-- no names
 abbrev pub no_names : Seen
 no_names = record { types = []; modules = []; module_types = [] }
 
+-- names and others
 abbrev pub seen_too : Seen → Seen → Seen
 seen_too a b = record { types = a.types ++ b.types; modules = a.modules ++ b.modules; module_types = a.module_types ++ b.module_types }

@@ -32,10 +32,12 @@ abbrev pub matched_each : Context → List Name → List Pattern → List Condit
 matched_each c seen [] = []
 matched_each c seen (p ∷ ps) = p.matched c seen ++ matched_each c seen ps
 
+-- the names that patterns bind, in order
 abbrev pub all_names : List Pattern → List Bound
 all_names [] = []
 all_names (p ∷ ps) = p.names ++ all_names ps
 
+-- all names in patterns, in order
 abbrev pub all_mentions : List Pattern → List Name
 all_mentions [] = []
 all_mentions (p ∷ ps) = p.mentions ++ all_mentions ps
@@ -101,6 +103,7 @@ constructor_alone c n p = elim p.last [
       elim (built_by c n p t) [ None ↦ [] | Some b ↦ with_built c n n t 0 b (n ∷ []) [] ]
 ]
 
+-- A, as a pattern
 abbrev pub pcon : ℕ → Place → Written → Pattern
 pcon n at p = record { node = n; at = at; names = []; mentions = []; matched = λ c seen. constructor_alone c n p; constructor = Some p }
 
@@ -121,6 +124,7 @@ applied_constructor c n p head nodes argument has = tell_typed head c ++ elim p.
       elim (built_by c n p t) [ None ↦ argument ++ of_one_type c head nodes | Some b ↦ with_built c n head t 1 b nodes (argument ++ has (argument_type c head (Some b))) ]
 ]
 
+-- A p, as a pattern
 abbrev pub papp : ℕ → Place → Pattern → Pattern → Pattern
 papp n at head p = elim head.constructor [
   | None ↦ over n at (p ∷ []) (λ c. [])
@@ -177,6 +181,7 @@ first_apart (b ∷ bs) others = elim (find_bound b.name others) [ None ↦ Some 
 abbrev pub name_apart : List Bound → List Bound → Option Name
 name_apart xs ys = elim (first_apart xs ys) [ None ↦ first_apart ys xs | Some n ↦ Some n ]
 
+-- that a side has the same names, where one name tells it apart
 abbrev pub sides_differ : Place → Option Name → List (Place × Demand)
 sides_differ at None = []
 sides_differ at (Some n) = (at, test (one_side n) false) ∷ []
@@ -190,6 +195,7 @@ common_names c (b ∷ bs) others = elim (find_bound b.name others) [ None ↦ co
 abbrev pub side_beside : Context → Pattern → Pattern → List (Place × Demand)
 side_beside c first p = sides_differ p.at (name_apart first.names p.names) ++ common_names c first.names p.names ++ (p.at, equal (type_at c p.node) (type_at c first.node)) ∷ []
 
+-- what all later sides ask beside the first
 abbrev pub sides_beside : Context → Pattern → List Pattern → List (Place × Demand)
 sides_beside c first [] = []
 sides_beside c first (p ∷ ps) = side_beside c first p ++ sides_beside c first ps
@@ -209,9 +215,11 @@ por n at first rest = record {
 abbrev pub punned : ℕ → FieldPattern → List Bound
 punned n f = elim f.pattern [ Some p ↦ [] | None ↦ elim f.label.last [ None ↦ [] | Some t ↦ record { name = t.name; place = place_of t; has_type = λ c. letter c f.node 0 } ∷ [] ] ]
 
+-- the names that a field binds
 abbrev pub names_in_field : ℕ → FieldPattern → List Bound
 names_in_field n f = elim f.pattern [ None ↦ punned n f | Some p ↦ p.names ]
 
+-- all names in a field
 abbrev pub mentions_in_field : FieldPattern → List Name
 mentions_in_field f = elim f.pattern [ None ↦ name_in f.label | Some p ↦ p.mentions ]
 
@@ -225,12 +233,14 @@ match_field c n is_found f labels seen t =
     tell f.node c ++ (if is_found then ask_once f.node 0 labels f.label else []) ++
     elim f.pattern [ None ↦ match_pun c f seen t | Some p ↦ p.matched c seen ++ elim t [ None ↦ [] | Some t ↦ ask f.node 1 p.at (equal (type_at c p.node) t) ] ]
 
+-- fields in order, each behind the labels and names of those before
 abbrev pub match_fields : Context → ℕ → Option Declaration → List FieldPattern → List Name → List Name → List Condition
 match_fields c n found [] labels seen = []
 match_fields c n found (f ∷ fs) labels seen =
     match_field c n (elim found [ None ↦ false | Some d ↦ true ]) f labels seen (field_type c n found f.label)
     ++ match_fields c n found fs (labels ++ name_in f.label) (seen ++ mentions_in_field f)
 
+-- the labels of fields
 abbrev pub labels_of_fields : List FieldPattern → List Written
 labels_of_fields fs = map (λ f. f.label) fs
 

@@ -1,4 +1,4 @@
--- The text of the prelude: the names that every text has at hand, as a signature.
+-- The text of the prelude: the names that every text has at hand, as a signature (OCaml manual, "The core library" and "The standard library").
 use Rattle.std.specs.Prelude.{ℕ, List, [], ◌∷◌, ◌++◌, codes}
 
 -- lines, each with its end
@@ -6,6 +6,7 @@ abbrev pub lines : List (List ℕ) → List ℕ
 lines [] = []
 lines (l ∷ ls) = l ++ 10 ∷ lines ls
 
+-- the text
 unfoldable pub prelude_text : List ℕ
 prelude_text = lines (
     codes "type 'a option = None | Some of 'a" ∷

@@ -1,4 +1,4 @@
--- What a record asks, as an expression and as a pattern: that its type is found by its labels, and of each field.
+-- What a record asks, as an expression and as a pattern: that its type is found by its labels, and of each field (OCaml manual, 11.7.4 for records, and 11.6 for record patterns).
 use Rattle.std.specs.Prelude.{ℕ, Bool, false, ◌||◌, not, List, [], ◌∷◌, filter_map, Option, Some, None, option_map, if◌then◌else◌}
 use Rattle.token_model.specs.Kinds.{Tok}
 use Rattle.tree_model.specs.Trees.{Place}
@@ -23,6 +23,7 @@ is_among n (m ∷ ms) = same_name n m || is_among n ms
 abbrev pub label_of : Written → Option labels.Written
 label_of p = option_map (λ t. record { modules = names_of p.qualifiers; name = t.name }) p.last
 
+-- the written labels whose last tokens are there
 abbrev pub labels_of : List Written → List labels.Written
 labels_of ps = filter_map label_of ps
 
@@ -59,6 +60,7 @@ labels_in Opaque = []
 labels_in (Variant ks) = []
 labels_in (Labels ls) = ls
 
+-- the label of a name
 abbrev pub find_label : Name → List Label → Option Label
 find_label n [] = None
 find_label n (l ∷ ls) = if same_name n l.name then Some l else find_label n ls

@@ -19,6 +19,7 @@ abbrev pub index_from : ℕ → Name → List Name → Option ℕ
 index_from k n [] = None
 index_from k n (m ∷ ms) = elim (index_from (k + 1) n ms) [ Some i ↦ Some i | None ↦ if same_name n m then Some k else None ]
 
+-- the types of nodes
 abbrev pub types_of_nodes : Context → List ℕ → List Typ
 types_of_nodes c ns = map (type_at c) ns
 
@@ -31,6 +32,7 @@ abbrev pub read_all : Context → List TypeExpression → List Condition
 read_all c [] = []
 read_all c (t ∷ ts) = t.read c ++ read_all c ts
 
+-- the nodes of type expressions
 abbrev pub nodes_of : List TypeExpression → List ℕ
 nodes_of ts = map (λ t. t.node) ts
 
@@ -42,6 +44,7 @@ variable_asks c n t (parameters ps) = elim (index_from 0 t.name ps) [
   | Some k ↦ ask n 0 (place_of t) (test (unbound type_variable_word t.name) true) ++ same (type_at c n) (Var k) ∷ []
 ]
 
+-- 'a, as a type expression
 abbrev pub tvar : ℕ → Place → Option Tok → TypeExpression
 tvar n at None = no_type_at n at
 tvar n at (Some t) = single n at [] (λ c. variable_asks c n t c.variables)
@@ -56,6 +59,7 @@ declared_type c n t ns None = unresolved c n
 declared_type c n t ns (Some d) =
     ask n 1 (place_of t) (test (arity t.name d.arity (length ns)) (d.arity == length ns)) ++ (if is_kept c n 1 then same (type_at c n) (applied_to c n d ns) ∷ [] else unresolved c n)
 
+-- the name of a constructor behind its arguments
 abbrev pub constructor_asks : Context → ℕ → Written → List ℕ → List Condition
 constructor_asks c n p ns = elim p.last [
   | None ↦ unresolved c n
@@ -67,13 +71,16 @@ constructor_asks c n p ns = elim p.last [
 abbrev pub plain_name : Written → List Name
 plain_name p = elim p.qualifiers [ q ∷ qs ↦ [] | [] ↦ elim p.last [ None ↦ [] | Some t ↦ t.name ∷ [] ] ]
 
+-- the constructors without a module in type expressions, in order
 abbrev pub all_mentions : List TypeExpression → List Name
 all_mentions [] = []
 all_mentions (t ∷ ts) = t.mentions ++ all_mentions ts
 
+-- t, as a type expression
 abbrev pub tcon : ℕ → Place → Written → TypeExpression
 tcon n at p = single n at (plain_name p) (λ c. constructor_asks c n p [])
 
+-- t u, (t, t) u, as a type expression
 abbrev pub tapp : ℕ → Place → TypeExpression → Written → TypeExpression
 tapp n at left p = single n at (left.mentions ++ plain_name p) (λ c. left.grouped_read c ++ constructor_asks c n p left.grouped)
 
@@ -83,16 +90,19 @@ in_parentheses c n at [] = []
 in_parentheses c n at (t ∷ []) = same (type_at c n) (type_at c t.node) ∷ []
 in_parentheses c n at (t ∷ u ∷ ts) = ask n 0 at (test (arity (codes "(,)") 1 (length (t ∷ u ∷ ts))) false) ++ unresolved c n
 
+-- the nodes that several types in parentheses give to a constructor, or the one node
 abbrev pub grouped_nodes : ℕ → List TypeExpression → List ℕ
 grouped_nodes n [] = n ∷ []
 grouped_nodes n (t ∷ []) = n ∷ []
 grouped_nodes n (t ∷ u ∷ ts) = nodes_of (t ∷ u ∷ ts)
 
+-- one type in parentheses is that type
 abbrev pub equal_of_one : Context → ℕ → List TypeExpression → List Condition
 equal_of_one c n [] = []
 equal_of_one c n (t ∷ []) = same (type_at c n) (type_at c t.node) ∷ []
 equal_of_one c n (t ∷ u ∷ ts) = []
 
+-- ( t ), ( t, t ), as a type expression
 abbrev pub tparen : ℕ → Place → List TypeExpression → TypeExpression
 tparen n at ts = record {
   node = n;

@@ -53,6 +53,7 @@ no_choice = record { type_at = λ n. Var 0; letter = λ n k. Var 0; written = λ
 abbrev pub demands_of : Environment → List Tree → (Site → Bool) → List Site
 demands_of env text kept = sites_of (conditions_of env text kept no_choice)
 
+-- whether a site is one of a list
 abbrev pub is_site_among : Site → List Site → Bool
 is_site_among s [] = false
 is_site_among s (t ∷ ts) = same_site s t || is_site_among s ts
@@ -70,6 +71,7 @@ kept_before env text kept s x = kept x && is_site_among x (sites_before s (deman
 abbrev pub kept_with : Environment → List Tree → (Site → Bool) → Site → Site → Bool
 kept_with env text kept s x = same_site s x || kept_before env text kept s x
 
+-- a typing of a text exists under these kept demands
 abbrev pub HasTyping : Environment → List Tree → (Site → Bool) → Type 0
 HasTyping env text kept = (types : ℕ → Typ) × Typing env text kept types
 
@@ -91,13 +93,16 @@ body_in (agrees c n s t) = None
 body_in (matches A t) = None
 body_in (closes env s) = Some (env, s)
 
+-- the same of a demand that may be there
 abbrev pub body_asked : Option (Place × Demand) → Option (Environment × Signature)
 body_asked None = None
 body_asked (Some d) = body_in d.1
 
+-- the body of the `closing` at a site, if it is one
 abbrev pub body_at : Site → List Condition → Option (Environment × Signature)
 body_at s cs = body_asked (demand_of s cs)
 
+-- whether the demand of a site is a `closing`
 abbrev pub is_closing : Environment → List Tree → (Site → Bool) → Site → Bool
 is_closing env text kept s = elim (body_at s (conditions_of env text kept no_choice)) [ None ↦ false | Some b ↦ true ]
 
