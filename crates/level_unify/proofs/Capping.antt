@@ -10,7 +10,7 @@ use Rattle.type_nodes.proofs.Lists.{same_or_other, one_element}
 use Rattle.level_unify.specs.declared.solve.Stop.{Stop}
 use Rattle.level_unify.specs.Walks.{ReachedBeyond, StandsIn}
 use Rattle.level_unify.specs.Solutions.{Cap, HaveNoBound}
-use Rattle.level_unify.specs.Limits.{FitsUnder, SameButLimits, AreLow, Lowered, Capped, CappedTo, NeverCapped, LeastOf, LeastLimits}
+use Rattle.level_unify.specs.Limits.{FitsUnder, SameButLimits, AreLow, Lowered, ChangesSmall, Capped, CappedTo, NeverCapped, LeastOf, LeastLimits}
 use Rattle.level_unify.proofs.Lowering.{capped, low_after}
 use Rattle.level_unify.proofs.SameNodes.{same_refl, same_trans, same_closed, cell_before, still_free, stands_before, stands_after, var_before}
 use Rattle.level_unify.proofs.Under.{min_left, min_right}
@@ -29,10 +29,12 @@ capped_start nodes caps = record {
     level_least = record { own_bound = omega arith; bound = λ k x lt. absurd (omega arith); source = inl refl };
     scope_least = record { own_bound = omega arith; bound = λ k x lt. absurd (omega arith); source = inl refl };
   };
+  small = λ n c e. inl e;
+  outside = λ F closed has n lacks. refl;
 }
 
 -- no bound variable occurs after lowering where none did
-none_after : (old now : List Node) (a b : ℕ) → SameButLimits old now → HaveNoBound old a b → HaveNoBound now a b
+pub none_after : (old now : List Node) (a b : ℕ) → SameButLimits old now → HaveNoBound old a b → HaveNoBound now a b
 none_after old now a b same none = record {
   set = none.set;
   closed = same_closed old now same none.set none.closed;
@@ -104,6 +106,9 @@ least_on old now new caps at x here h one n level scope e free =
           }
     ]
 
+pub changes_small : (old now new : List Node) → ChangesSmall old now → ChangesSmall now new → ChangesSmall old new
+changes_small old now new h one n c e = elim (h n c e) [ inl f ↦ one n c f | inr low ↦ inr low ]
+
 pub capped_on : (old now new : List Node) (caps : List Cap) (at : ℕ) (x : Cap) → slice_get caps at ≡ Some x → CappedTo old now caps at → Capped now new x → CappedTo old new caps (at + 1)
 capped_on old now new caps at x here h one = record {
   same = same_trans old now new h.same one.same;
@@ -120,6 +125,8 @@ capped_on old now new caps at x here h one = record {
         ],
       );
   least = λ n level scope e free. least_on old now new caps at x here h one n level scope e free;
+  small = changes_small old now new h.small one.small;
+  outside = λ F closed has n lacks. one.outside F (same_closed old now h.same F closed) (has x (at, here)) n lacks ∙ h.outside F closed has n lacks;
 }
 
 pub never_capped : (old now : List Node) (caps : List Cap) (at : ℕ) (x : Cap) → slice_get caps at ≡ Some x → CappedTo old now caps at →
@@ -142,6 +149,8 @@ capped_all old now caps at le h = record {
         level_least = fewer old caps at (length caps) le n w.own_level level (λ z. z.1) w.level_least;
         scope_least = fewer old caps at (length caps) le n w.own_scope scope (λ z. z.2) w.scope_least;
       };
+  small = h.small;
+  outside = h.outside;
 }
   where
     fewer : (old' : List Node) (caps' : List Cap) (at' to : ℕ) → to ≤ at' → (n own value : ℕ) (of : Cap → ℕ) → LeastOf old' caps' at' n own value of → LeastOf old' caps' to n own value of

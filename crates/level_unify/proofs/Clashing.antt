@@ -10,8 +10,8 @@ use Rattle.level_unify.specs.declared.fault.ClashKind.TheVariants.{Shape, Cycle,
 use Rattle.level_unify.specs.declared.fault.Clash.{Clash}
 use Rattle.level_unify.specs.Walks.{StandsIn}
 use Rattle.level_unify.specs.Solutions.{Solved, Tracked, HaveNoBound, NeverOne, Cap, IsListed}
-use Rattle.level_unify.specs.Limits.{CappedTo, NeverCapped}
-use Rattle.level_unify.specs.Unification.{IsInside, IsCyclic, NeverAlike, HasKind, HasCause, Clashes, Unified}
+use Rattle.level_unify.specs.Limits.{NeverCapped}
+use Rattle.level_unify.specs.Unification.{IsInside, IsCyclic, NeverAlike, HasKind, HasCause, Clashes}
 use Rattle.level_unify.specs.declared.fault.ClashKind.{ClashKind}
 use Rattle.level_unify.specs.declared.fault.UnifyFault.TheVariants as fault
 use Rattle.level_unify.specs.declared.unifying.Failure.{Failure}
@@ -21,7 +21,7 @@ use Rattle.type_nodes.proofs.Trails.{state_now}
 use Rattle.level_unify.proofs.Steps.{cell_at, never_turned}
 use Rattle.level_unify.proofs.Sizes.{never_inside}
 use Rattle.level_unify.proofs.Solving.{loose_root}
-use Rattle.level_unify.proofs.Unified.{never_one, never_scoped, unified}
+use Rattle.level_unify.proofs.Unified.{never_one, never_scoped}
 
 -- a root that stands in a node stands in the node's root
 stands_at_root : (nodes : List Node) (a b : ℕ) → IsSound nodes → a < length nodes → StandsIn nodes (root nodes a) b → StandsIn nodes (root nodes a) (root nodes b)
@@ -60,10 +60,10 @@ never_either nodes a b sound a_in b_in (inl h) = never_cyclic nodes a b sound b_
 never_either nodes a b sound a_in b_in (inr h) = never_turned nodes a b (never_cyclic nodes b a sound a_in h)
 
 -- where the scopes keep both apart
-pub scope_clash : (old mid : List Node) (a b : ℕ) (caps caps' : List Cap) → caps' ≡ caps → IsSound old → a < length old → b < length old → IsSound mid → HaveNoBound old a b → Solved old mid a b → Tracked old mid a b caps →
-    NeverCapped mid caps' → NeverAlike old a b × HasKind old a b Scope
-scope_clash old mid a b caps caps' same sound a_in b_in sound' none s t never =
-    let n = never_scoped old mid a b caps sound' none s t (subst (NeverCapped mid) same never) in
+pub scope_clash : (old mid : List Node) (a b : ℕ) (caps : List Cap) → IsSound old → a < length old → b < length old → IsSound mid → HaveNoBound old a b → Solved old mid a b → Tracked old mid a b caps →
+    NeverCapped mid caps → NeverAlike old a b × HasKind old a b Scope
+scope_clash old mid a b caps sound a_in b_in sound' none s t never =
+    let n = never_scoped old mid a b caps sound' none s t never in
     (n.0, ((λ cyclic. (never_one old a b (never_either old a b sound a_in b_in cyclic)).1 n.1), n.1))
 
 -- a failure and its kind tell the clash
@@ -89,7 +89,3 @@ caps_inside old mid a b caps s t x h =
     let w = t.was x h in
     let l = slice_get_within old x.0 (Var x.1 x.2) w.0 in
     let e = s.len in (omega arith, w.1)
-
-pub all_unified : (old mid new : List Node) (a b : ℕ) (caps caps' : List Cap) → caps' ≡ caps → IsSound mid → HaveNoBound old a b → Solved old mid a b → Tracked old mid a b caps →
-    CappedTo mid new caps' (length caps') → Unified old new a b
-all_unified old mid new a b caps caps' same sound none s t c = unified old mid new a b caps sound none s t (subst (λ x. CappedTo mid new x (length x)) same c)

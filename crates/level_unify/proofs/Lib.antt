@@ -12,6 +12,7 @@ mod Under
 mod SameNodes
 mod Lowering
 mod Capping
+mod Passes
 mod Unified
 mod Inside
 mod Likeness
@@ -25,3 +26,4 @@ mod Instances
 mod Instancing
 mod Freezing
 pub mod Unbound
+pub mod Tightening

@@ -2,7 +2,7 @@
 use Rattle.std.proofs.Common.{◌≡◌, ◌≢◌, ℕ, zero, suc, ◌+◌, ◌<◌, ◌≤◌, ◌^◌, min, Bool, true, false, eqb, if◌then◌else◌, List, length, get_or, Some, refl, sym, ◌∙◌, ap, subst, arith, ◌⊎◌, inl, inr}
 use Rattle.std.specs.Prelude.{slice_get, All}
 use Rattle.std.proofs.lemmas.Bool.{eqb-true, eq-eqb}
-use Rattle.std.proofs.lemmas.Option.{slice_get_within}
+use Rattle.std.proofs.lemmas.Option.{slice_get_within, slice_get_past, slice_get_cases}
 use Rattle.type_model.specs.Limits.{IsUnder}
 use Rattle.type_model.proofs.Limiting.{under_both, min_cases}
 use Rattle.type_nodes.specs.Nodes.{Node, Var, Rigid, Link, Arrow, Tuple, Con, parts, bound_level, IsSound, IsClosed}
@@ -94,7 +94,7 @@ lowered_nodes old new level scope v found at free h = record {
 }
 
 pub lowered_start : (nodes : List Node) (level scope v : ℕ) (found : List ℕ) → Lowered nodes nodes level scope v found 0
-lowered_start nodes level scope v found = record { len = refl; each = λ n c e. inl e; done = λ k n c lt e e'. absurd (omega arith) }
+lowered_start nodes level scope v found = record { len = refl; each = λ n c e. inl e; small = λ n c e. inl e; done = λ k n c lt e e'. absurd (omega arith) }
 
 -- one node more
 pub lowered_on : (old now new : List Node) (level scope v : ℕ) (found : List ℕ) (at n : ℕ) → level ≢ bound_level → AreRootsIn old v found → slice_get found at ≡ Some n →
@@ -107,6 +107,10 @@ lowered_on old now new level scope v found at n free reached here h one = record
       | inl f ↦ inl (one.others m other ∙ f)
       | inr (f, stands) ↦ inr (one.others m other ∙ f, stands)
     ]
+  ];
+  small = λ m c e. elim (same_or_other m n) [
+    | inl same ↦ inr (elim (h.small m c e) [ inl f ↦ one.small c (subst (λ k. slice_get now k ≡ Some c) same f) | inr low ↦ low ])
+    | inr other ↦ elim (h.small m c e) [ inl f ↦ inl (one.others m other ∙ f) | inr low ↦ inr low ]
   ];
   done = λ k m c lt f e. elim (same_or_other m n) [
     | inl same ↦ own m c e same
@@ -315,6 +319,17 @@ lowered_var old new x before done found free sound low reached h n level scope e
     of_cell (Tuple ms) at s = absurd (cc)
     of_cell (Con p name ms) at s = absurd (cc)
 
+-- only what stands in the variable is lowered
+lowered_outside : (old new : List Node) (level scope v : ℕ) (found : List ℕ) (at : ℕ) → Lowered old new level scope v found at → (F : ℕ → Bool) → IsClosed old F → F v ≡ true → (n : ℕ) → F n ≡ false →
+    slice_get new n ≡ slice_get old n
+lowered_outside old new level scope v found at h F closed has n lacks = elim (slice_get_cases old n).1 [
+  | inl (c, lt, e, u) ↦ elim (h.each n c e) [
+    | inl f ↦ f ∙ sym e
+    | inr (f, stands) ↦ absurd (let y = stands.each F closed has in cc)
+  ]
+  | inr (past, e) ↦ let len = h.len in slice_get_past new n (omega arith) ∙ sym e
+]
+
 -- what lowering all that was found says of the types that fit
 pub capped : (old new : List Node) (x : Cap) (before done : ℕ → Bool) (found : List ℕ) → x.1 ≢ bound_level → IsSound old → x.0 < length old → AreLow old x.1 x.2 before → ReachedBeyond old before done x.0 found →
     Lowered old new x.1 x.2 x.0 found (length found) → Capped old new x
@@ -323,6 +338,8 @@ capped old new x before done found free sound lt low reached h = record {
   forth = λ L V fits under. lowered_forth old new x.1 x.2 x.0 found (length found) free h L V fits under;
   back = λ none L V fits. lowered_back old new x.1 x.2 x.0 before done found (length found) free sound lt low reached (omega arith) none h L V fits;
   least = λ n level scope e unbound. lowered_var old new x before done found free sound low reached h n level scope e unbound;
+  small = h.small;
+  outside = lowered_outside old new x.1 x.2 x.0 found (length found) h;
 }
 
 -- all that is done is low then

@@ -142,15 +142,8 @@ passes_listed x (l ∷ ls) h = elim (or_cases (same_cap x l) (list_any (same_cap
   | inr e ↦ let (k, f) = passes_listed x ls e in (suc k, f)
 ]
 
-permuted_listed : (xs ys : List Limit) → IsPermutation xs ys → (x : Cap) → (IsListed (caps_of xs) x → IsListed (caps_of ys) x) × (IsListed (caps_of ys) x → IsListed (caps_of xs) x)
+pub permuted_listed : (xs ys : List Limit) → IsPermutation xs ys → (x : Cap) → (IsListed (caps_of xs) x → IsListed (caps_of ys) x) × (IsListed (caps_of ys) x → IsListed (caps_of xs) x)
 permuted_listed xs ys p x = (
   (λ h. passes_listed x ys (sym (list_any-IsPermutation (same_cap x) xs ys p) ∙ listed_passes x xs h)),
   λ h. passes_listed x xs (list_any-IsPermutation (same_cap x) xs ys p ∙ listed_passes x ys h),
 )
-
-pub tracked_permuted : (old now : List Node) (a b : ℕ) (xs ys : List Limit) → IsPermutation xs ys → Tracked old now a b (caps_of xs) → Tracked old now a b (caps_of ys)
-tracked_permuted old now a b xs ys p h = record {
-  gone = λ n level scope at. elim (h.gone n level scope at) [ inl there ↦ inl there | inr listed ↦ inr ((permuted_listed xs ys p (n, level, scope)).0 listed) ];
-  was = λ x l. h.was x ((permuted_listed xs ys p x).1 l);
-  within = λ F closed has has' x l. h.within F closed has has' x ((permuted_listed xs ys p x).1 l);
-}

@@ -13,7 +13,7 @@ use Rattle.type_nodes.proofs.Identity.{identity, identity_reads}
 use Rattle.level_unify.specs.Walks.{StandsIn}
 use Rattle.level_unify.specs.Solutions.{Loose, FitsLoosely, Solved, Tracked, HaveNoBound, NeverOne, Cap, IsListed}
 use Rattle.level_unify.specs.Limits.{FitsUnder, KeepCaps, SameButLimits, CappedTo, NeverCapped, LeastOf}
-use Rattle.level_unify.specs.Unification.{NeverAlike, IsUnscopedReading, IsAlikeUnscoped, IsLeast, Unified}
+use Rattle.level_unify.specs.Unification.{NeverAlike, IsUnscopedReading, IsAlikeUnscoped, IsLeast, ChangesWithin, Unified}
 use Rattle.level_unify.proofs.Steps.{cell_at}
 use Rattle.level_unify.proofs.SameNodes.{same_closed, var_before, stands_before, stands_after}
 
@@ -237,6 +237,13 @@ least_of old mid new a b caps s t same n l o at free value of cap is {own} own_i
   ];
 }
 
+pub changes_within : (old mid new : List Node) (a b : ℕ) (caps : List Cap) → Solved old mid a b → Tracked old mid a b caps → CappedTo mid new caps (length caps) → ChangesWithin old new a b
+changes_within old mid new a b caps s t c = record {
+  outside = λ F closed has has' n lacks.
+      c.outside F (s.stays.closed F closed has has') (λ x listed. t.within F closed has has' x listed) n lacks ∙ s.stays.outside F closed has has' n lacks;
+  bound = λ n scope e. bound_after mid new c.same n scope (bound_stays old mid a b caps t n scope e);
+}
+
 pub unified : (old mid new : List Node) (a b : ℕ) (caps : List Cap) → IsSound mid → HaveNoBound old a b → Solved old mid a b → Tracked old mid a b caps → CappedTo mid new caps (length caps) → Unified old new a b
 unified old mid new a b caps sound none s t c = record {
   len = c.same.len ∙ s.len;
@@ -257,7 +264,8 @@ unified old mid new a b caps sound none s t c = record {
       let w = c.least n level scope e free in
       least_of old mid new a b caps s t c.same n w.own_level w.own_scope w.was w.free scope (λ l o. o) (λ x. x.2) (λ x. refl) refl w.scope_least;
   closed = λ F closed has has'. same_closed mid new c.same F (s.stays.closed F closed has has');
-  bound = λ n scope e. bound_after mid new c.same n scope (bound_stays old mid a b caps t n scope e);
+  outside = (changes_within old mid new a b caps s t c).outside;
+  bound = (changes_within old mid new a b caps s t c).bound;
   still = λ n level scope e.
       let (l, o, at, p, q) = var_before mid new c.same n level scope e in
       (l, o, s.stays.links n (Var l o) at tt, (λ b. (p b).0 ∙ b), q);

@@ -1,12 +1,15 @@
 -- Levels and scopes: what the variables of a store allow, and what lowering them does.
-use Rattle.std.specs.Prelude.{◌≡◌, ◌≢◌, ◌⊎◌, ℕ, ◌<◌, ◌≤◌, ◌==◌, min, Bool, true, List, length, nat_eq, slice_get, Some, if◌then◌else◌}
+use Rattle.std.specs.Prelude.{◌≡◌, ◌≢◌, ◌⊎◌, ℕ, ◌<◌, ◌≤◌, ◌==◌, ◌-◌, min, max, Bool, true, false, List, length, map, nat_eq, slice_get, Some, if◌then◌else◌}
 use Rattle.type_model.specs.Limits.{in_scope, no_scope, IsUnder}
-use Rattle.type_nodes.specs.Nodes.{Node, Var, Rigid, Link, Arrow, Tuple, Con, bound_level}
+use Rattle.type_nodes.specs.Nodes.{Node, Var, Rigid, Link, Arrow, Tuple, Con, bound_level, IsClosed}
 use Rattle.type_nodes.specs.Readings.{Types}
 use Rattle.level_unify.specs.declared.limits.Asked.{Asked}
 use Rattle.level_unify.specs.declared.limits.Asked.TheVariants.{Lower, Nothing, OutOfScope}
 use Rattle.std.specs.HashSet.{contains}
 use Rattle.level_unify.specs.declared.limits.Low.{Low}
+use Rattle.level_unify.specs.declared.limits.Pass.{Pass}
+use Rattle.level_unify.specs.declared.solve.Limit.{Limit}
+use Rattle.level_unify.specs.declared.limits.Pass.TheVariants.{Levels, Scopes}
 use Rattle.level_unify.specs.Plans.{IsFreeVar}
 use Rattle.level_unify.specs.Solutions.{Loose, Cap, IsListed, HaveNoBound}
 use Rattle.level_unify.specs.Walks.{StandsIn, IsCleared}
@@ -38,6 +41,15 @@ IsAllowed scope (Arrow a b) = Unit {0}
 IsAllowed scope (Tuple ms) = Unit {0}
 IsAllowed scope (Con path name ms) = in_scope scope path ≡ true
 
+-- a variable's level and scope are at most those that limit nothing
+abbrev pub IsSmall : Node → Type 0
+IsSmall (Var l o) = (l ≤ bound_level) × (o ≤ no_scope)
+IsSmall Rigid = Unit {0}
+IsSmall (Link m) = Unit {0}
+IsSmall (Arrow a b) = Unit {0}
+IsSmall (Tuple ms) = Unit {0}
+IsSmall (Con path name ms) = Unit {0}
+
 -- what a limit asks of a node
 abbrev pub Asks : ℕ → ℕ → Node → Asked → Type 0
 Asks level scope c (Lower l o) = IsFreeVar c × (lowered level scope c ≡ Var l o) × (l < bound_level)
@@ -48,6 +60,7 @@ Asks level scope c OutOfScope = IsAllowed scope c → ⊥
 pub record LoweredOne (old new : List Node) (level scope n : ℕ) : Type 0 where
   pub len : length new ≡ length old
   pub own : (c : Node) → slice_get old n ≡ Some c → (slice_get new n ≡ Some (lowered level scope c)) × IsAllowed scope c
+  pub small : (c : Node) → slice_get old n ≡ Some c → IsSmall c
   pub others : (m : ℕ) → m ≢ n → slice_get new m ≡ slice_get old m
 
 -- the same node, but for the limit of a free variable, which stays one
@@ -63,10 +76,15 @@ pub record SameButLimits (old new : List Node) : Type 0 where
   pub len : length new ≡ length old
   pub each : (n : ℕ) (c : Node) → slice_get old n ≡ Some c → (d : Node) × (slice_get new n ≡ Some d) × SameButLimit c d
 
+-- only nodes with small levels and scopes change
+abbrev pub ChangesSmall : List Node → List Node → Type 0
+ChangesSmall old new = (n : ℕ) (c : Node) → slice_get old n ≡ Some c → (slice_get new n ≡ Some c) ⊎ IsSmall c
+
 -- where lowering stands: the first nodes that were found are lowered, and only what stands in the variable
 pub record Lowered (old new : List Node) (level scope v : ℕ) (found : List ℕ) (at : ℕ) : Type 0 where
   pub len : length new ≡ length old
   pub each : (n : ℕ) (c : Node) → slice_get old n ≡ Some c → (slice_get new n ≡ Some c) ⊎ ((slice_get new n ≡ Some (lowered level scope c)) × StandsIn old n v)
+  pub small : ChangesSmall old new
   pub done : (k n : ℕ) (c : Node) → k < at → slice_get found k ≡ Some n → slice_get old n ≡ Some c → (slice_get new n ≡ Some (lowered level scope c)) × IsAllowed scope c
 
 -- a set of roots, with the roots of their parts, in which all is lowered already
@@ -95,12 +113,15 @@ pub record LeastLimits (old : List Node) (caps : List Cap) (at n level scope : �
   pub level_least : LeastOf old caps at n own_level level (λ x. x.1)
   pub scope_least : LeastOf old caps at n own_scope scope (λ x. x.2)
 
--- the types that fit after it are those from before that keep to the limit of a variable that was bound
+-- the types that fit after it are those from before that keep to the limit of a variable that was bound, and only what stands in
+-- the variable changes
 pub record Capped (old new : List Node) (x : Cap) : Type 0 where
   pub same : SameButLimits old new
   pub forth : (L : ℕ → ℕ) (V : Types) → FitsUnder L old V → IsUnder L x.1 x.2 (V x.0) → FitsUnder L new V
   pub back : HaveNoBound old x.0 x.0 → (L : ℕ → ℕ) (V : Types) → FitsUnder L new V → FitsUnder L old V × IsUnder L x.1 x.2 (V x.0)
   pub least : (n level scope : ℕ) → slice_get new n ≡ Some (Var level scope) → level ≢ bound_level → LoweredVar old x n level scope
+  pub small : ChangesSmall old new
+  pub outside : (F : ℕ → Bool) → IsClosed old F → F x.0 ≡ true → (n : ℕ) → F n ≡ false → slice_get new n ≡ slice_get old n
 
 -- the same with the first limits of a list
 pub record CappedTo (old new : List Node) (caps : List Cap) (at : ℕ) : Type 0 where
@@ -109,6 +130,25 @@ pub record CappedTo (old new : List Node) (caps : List Cap) (at : ℕ) : Type 0 
   pub back : ((x : Cap) → IsListed caps x → HaveNoBound old x.0 x.0) → (L : ℕ → ℕ) (V : Types) → FitsUnder L new V →
       FitsUnder L old V × ((k : ℕ) (x : Cap) → k < at → slice_get caps k ≡ Some x → IsUnder L x.1 x.2 (V x.0))
   pub least : (n level scope : ℕ) → slice_get new n ≡ Some (Var level scope) → level ≢ bound_level → LeastLimits old caps at n level scope
+  pub small : ChangesSmall old new
+  pub outside : (F : ℕ → Bool) → IsClosed old F → ((x : Cap) → IsListed caps x → F x.0 ≡ true) → (n : ℕ) → F n ≡ false → slice_get new n ≡ slice_get old n
+
+-- the level below that of bound variables
+abbrev pub highest_level : ℕ
+highest_level = bound_level - 1
+
+-- a limit in one pass: what the pass doesn't lower limits nothing
+abbrev pub cap_in : Pass → Cap → Cap
+cap_in Levels x = (x.0, x.1, max x.2 no_scope)
+cap_in Scopes x = (x.0, max x.1 highest_level, x.2)
+
+abbrev pub caps_in : Pass → List Cap → List Cap
+caps_in pass caps = map (cap_in pass) caps
+
+-- the number that a pass lowers to
+abbrev pub number_in : Pass → Limit → ℕ
+number_in Levels l = l.level
+number_in Scopes l = l.scope
 
 -- the roots that are low
 abbrev pub low_in : Low → ℕ → Bool

@@ -21,6 +21,11 @@ FitsLoosely V n (Con path name ms) = FitsNode V n (Con path name ms)
 pub record Loose (nodes : List Node) (V : Types) : Type 0 where
   pub each : (n : ℕ) (c : Node) → slice_get nodes n ≡ Some c → FitsLoosely V n c
 
+-- each node of before is one still, and the types that fit now fitted before: no type is lost, and none is loosened
+pub record Tightens (old new : List Node) : Type 0 where
+  pub nodes : length old ≤ length new
+  pub types : (V : Types) → Loose new V → Loose old V
+
 -- a variable that was bound, with its level and its scope from before
 abbrev pub Cap : Type 0
 Cap = ℕ × ℕ × ℕ

@@ -61,8 +61,15 @@ pub record IsLeast (old new : List Node) (n value : ℕ) (of : ℕ → ℕ → �
   pub bound : (m level scope : ℕ) → slice_get old m ≡ Some (Var level scope) → level ≢ bound_level → StandsIn new n m → value ≤ of level scope
   pub source : (m : ℕ) × (level : ℕ) × (scope : ℕ) × (slice_get old m ≡ Some (Var level scope)) × (level ≢ bound_level) × StandsIn new n m × (value ≡ of level scope)
 
+-- Only what a and b lead to changes: nodes outside a set that has both of them and the parts of its nodes are as before, and so is
+-- each bound variable.
+pub record ChangesWithin (old new : List Node) (a b : ℕ) : Type 0 where
+  pub outside : (F : ℕ → Bool) → IsClosed old F → F a ≡ true → F b ≡ true → (n : ℕ) → F n ≡ false → slice_get new n ≡ slice_get old n
+  pub bound : (n scope : ℕ) → slice_get old n ≡ Some (Var bound_level scope) → slice_get new n ≡ Some (Var bound_level scope)
+
 -- Two nodes were made one (Robinson 1965; levels by Rémy 1992): the readings, and the types that keep to the
--- levels and scopes of the free variables, are exactly those from before that give both nodes one type.
+-- levels and scopes of the free variables, are exactly those from before that give both nodes one type. Only what the two nodes
+-- lead to changes, and it leads to nothing else then.
 pub record Unified (old new : List Node) (a b : ℕ) : Type 0 where
   pub len : length new ≡ length old
   pub reads : (V : Types) → IsReading old V → V a ≡ V b → IsReading new V
@@ -72,5 +79,6 @@ pub record Unified (old new : List Node) (a b : ℕ) : Type 0 where
   pub level_least : (n level scope : ℕ) → slice_get new n ≡ Some (Var level scope) → level ≢ bound_level → IsLeast old new n level (λ l o. l)
   pub scope_least : (n level scope : ℕ) → slice_get new n ≡ Some (Var level scope) → level ≢ bound_level → IsLeast old new n scope (λ l o. o)
   pub closed : (F : ℕ → Bool) → IsClosed old F → F a ≡ true → F b ≡ true → IsClosed new F
+  pub outside : (F : ℕ → Bool) → IsClosed old F → F a ≡ true → F b ≡ true → (n : ℕ) → F n ≡ false → slice_get new n ≡ slice_get old n
   pub bound : (n scope : ℕ) → slice_get old n ≡ Some (Var bound_level scope) → slice_get new n ≡ Some (Var bound_level scope)
   pub still : (n level scope : ℕ) → slice_get new n ≡ Some (Var level scope) → (l : ℕ) × (o : ℕ) × (slice_get old n ≡ Some (Var l o)) × (l ≡ bound_level → level ≡ bound_level) × (l ≢ bound_level → level ≢ bound_level)

@@ -1,6 +1,6 @@
 //! What a bound variable's level and scope ask of the type that it now reads as.
 ghost use Rattle.std.specs.Prelude.{◌≡◌, ◌↔◌, ℕ, ◌<◌, ◌≢◌, true, List, IsTrue, IfErr, OnOk, OnErr, slice_get, Some, length};
-ghost use Rattle.std.specs.List.Sorted.{IsPermutation};
+ghost use Rattle.std.specs.List.Sorted.{IsPermutation, IsNonDecreasingBy};
 ghost use Rattle.type_model.specs.Limits.{in_scope};
 ghost use Rattle.type_nodes.specs.Nodes.{Node, IsNode, IsSound, bound_level};
 ghost use Rattle.type_nodes.specs.Links.{root};
@@ -11,7 +11,7 @@ ghost use Rattle.type_nodes.specs.Readings.{Types};
 ghost use Rattle.type_nodes.specs.Views.{numbers};
 ghost use Rattle.level_unify.specs.Walks.{AreRootsIn};
 ghost use Rattle.level_unify.specs.Solutions.{Cap, IsListed, cap_of, caps_of};
-ghost use Rattle.level_unify.specs.Limits.{Asks, IsAllowed, AreLow, low_in, LoweredOne, Lowered, FitsUnder, Capped, CappedTo, NeverCapped};
+ghost use Rattle.level_unify.specs.Limits.{Asks, IsAllowed, IsSmall, AreLow, low_in, cap_in, caps_in, number_in, LoweredOne, Lowered, FitsUnder, Capped, CappedTo, NeverCapped};
 
 use crate::levels::{BOUND, NO_SCOPE};
 use crate::solve::{Limit, Stop};
@@ -41,16 +41,18 @@ enum Asked {
 }
 
 fn asked_of(view: &View<'_>, limit: Limit) -> Asked
-    ensures { (c : Node) → Views view.now c → Asks limit.level limit.scope c result }
+    ensures asks { (c : Node) → Views view.now c → Asks limit.level limit.scope c result }
+    ensures small { (c : Node) → Views view.now c → IsSmall c }
 {
     match view {
         View::Var { level, scope } => {
-            if *level == BOUND || (*level <= limit.level && *scope <= limit.scope) {
+            let (level, scope) = (*level, *scope);
+            if level == BOUND || (level <= limit.level && scope <= limit.scope) {
                 Asked::Nothing
             } else {
                 Asked::Lower {
-                    level: (*level).min(limit.level),
-                    scope: (*scope).min(limit.scope),
+                    level: level.min(limit.level),
+                    scope: scope.min(limit.scope),
                 }
             }
         }
@@ -136,19 +138,36 @@ fn lower_reached(alloc: Global, store: &mut Store, low: &mut Low, limit: Limit) 
     lower_found(store, &found, limit)
 }
 
-/// Puts low levels first, and among equal levels low scopes.
-pub fn lowest_first(limits: &mut Vec<Limit>)
-    ensures { IsPermutation limits.old.items limits.new.items }
-{
-    limits.sort_unstable_by_key(|limit| (limit.level, limit.scope));
+// A pass lowers levels, or scopes.
+#[derive(Clone, Copy, Drop)]
+enum Pass {
+    Levels,
+    Scopes,
 }
 
-/// Lowers the variables in what the bound variables read as. A clash where an origin there was made too late. What is low by one
-/// limit is not walked again for those behind it, as long as neither the level nor the scope falls from one to the next.
-pub fn lower_all(alloc: Global, store: &mut Store, limits: &[Limit]) -> Result<(), Stop>
+// A variable's limit in one pass: what the pass doesn't lower is so high that it limits nothing.
+fn limit_in(pass: Pass, limit: Limit) -> Limit
+    requires { limit.level ≢ bound_level }
+    ensures { cap_of result ≡ cap_in pass (cap_of limit) }
+{
+    match pass {
+        Pass::Levels => Limit {
+            scope: NO_SCOPE,
+            ..limit
+        },
+        Pass::Scopes => Limit {
+            level: BOUND - 1,
+            ..limit
+        },
+    }
+}
+
+// Lowers the variables in what the bound variables read as, in one pass. What is low by one limit is not walked again for those
+// behind it, as long as the limits don't fall from one to the next.
+fn lower_each(alloc: Global, store: &mut Store, limits: &[Limit], pass: Pass) -> Result<(), Stop>
     requires limits { (x : Cap) → IsListed (caps_of limits.now) x → (x.0 < length store.old.nodes) × (x.1 ≢ bound_level) }
-    ensures capped { OnOk result (CappedTo store.old.nodes store.new.nodes (caps_of limits.now) (length (caps_of limits.now))) }
-    ensures clash { IfErr result (λ e. e ≡ Stop.Clash → NeverCapped store.old.nodes (caps_of limits.now)) }
+    ensures capped { OnOk result (CappedTo store.old.nodes store.new.nodes (caps_in pass (caps_of limits.now)) (length (caps_in pass (caps_of limits.now)))) }
+    ensures clash { IfErr result (λ e. e ≡ Stop.Clash → NeverCapped store.old.nodes (caps_in pass (caps_of limits.now))) }
     ensures keeps { Keeps store.old store.new }
 {
     let mut low = Low {
@@ -157,7 +176,32 @@ pub fn lower_all(alloc: Global, store: &mut Store, limits: &[Limit]) -> Result<(
         scope: 0,
     };
     for limit in limits {
-        lower_reached(alloc, store, &mut low, *limit)?;
+        lower_reached(alloc, store, &mut low, limit_in(pass, *limit))?;
     }
     Ok(())
+}
+
+// Puts the limits first that are low in a pass.
+fn lowest_first(limits: &mut Vec<Limit>, pass: Pass)
+    ensures same { IsPermutation limits.old.items limits.new.items }
+    ensures sorted { IsNonDecreasingBy (number_in pass) limits.new.items }
+{
+    match pass {
+        Pass::Levels => limits.sort_unstable_by_key(|limit| limit.level),
+        Pass::Scopes => limits.sort_unstable_by_key(|limit| limit.scope),
+    }
+}
+
+/// Lowers the variables in what the bound variables read as. A clash where an origin there was made too late. Levels and scopes
+/// are lowered one after the other, each from the lowest limit on, so that each pass walks a node once.
+pub fn lower_all(alloc: Global, store: &mut Store, limits: &mut Vec<Limit>) -> Result<(), Stop>
+    requires limits { (x : Cap) → IsListed (caps_of limits.old.items) x → (x.0 < length store.old.nodes) × (x.1 ≢ bound_level) }
+    ensures capped { OnOk result (CappedTo store.old.nodes store.new.nodes (caps_of limits.old.items) (length (caps_of limits.old.items))) }
+    ensures clash { IfErr result (λ e. e ≡ Stop.Clash → NeverCapped store.old.nodes (caps_of limits.old.items)) }
+    ensures keeps { Keeps store.old store.new }
+{
+    lowest_first(limits, Pass::Levels);
+    lower_each(alloc, store, limits, Pass::Levels)?;
+    lowest_first(limits, Pass::Scopes);
+    lower_each(alloc, store, limits, Pass::Scopes)
 }

@@ -5,11 +5,11 @@ ghost use Rattle.level_unify.specs.declared.fault.Clash.{Clash};
 ghost use Rattle.level_unify.specs.declared.fault.ClashKind.{ClashKind};
 ghost use Rattle.type_nodes.specs.Nodes.{IsNode, IsSound};
 ghost use Rattle.type_nodes.specs.States.{Keeps};
-ghost use Rattle.level_unify.specs.Solutions.{HaveNoBound, NeverOne};
-ghost use Rattle.level_unify.specs.Unification.{IsInside, IsCyclic, NeverAlike, HasKind, HasCause, Clashes, Unified};
+ghost use Rattle.level_unify.specs.Solutions.{HaveNoBound, NeverOne, Tightens};
+ghost use Rattle.level_unify.specs.Unification.{IsInside, IsCyclic, NeverAlike, HasKind, HasCause, Clashes, ChangesWithin, Unified};
 
 use crate::fault::{Clash, ClashKind, UnifyFault};
-use crate::limits::{lower_all, lowest_first};
+use crate::limits::lower_all;
 use crate::plan::is_free;
 use crate::solve::{Stop, solve};
 use crate::walk::occurs;
@@ -84,9 +84,11 @@ fn attempt(alloc: Global, store: &mut Store, a: NodeRef, b: NodeRef) -> Result<(
     requires a { IsNode store.old.nodes a.0 }
     requires b { IsNode store.old.nodes b.0 }
     ensures unified { OnOk result (HaveNoBound store.old.nodes a.0 b.0 → Unified store.old.nodes store.new.nodes a.0 b.0) }
+    ensures within { OnOk result (ChangesWithin store.old.nodes store.new.nodes a.0 b.0) }
     ensures not_one { IfErr result (λ e. e ≡ Failure.NotOne → HaveNoBound store.old.nodes a.0 b.0 → NeverOne store.old.nodes a.0 b.0) }
     ensures out_of_scope { IfErr result (λ e. e ≡ Failure.OutOfScope → HaveNoBound store.old.nodes a.0 b.0 → NeverAlike store.old.nodes a.0 b.0 × HasKind store.old.nodes a.0 b.0 ClashKind.Scope) }
     ensures len { OnOk result (length store.new.nodes ≡ length store.old.nodes) }
+    ensures tightens { OnOk result (Tightens store.old.nodes store.new.nodes) }
     ensures keeps { Keeps store.old store.new }
 {
     prove!((a.0 as usize) < store.len());
@@ -96,8 +98,7 @@ fn attempt(alloc: Global, store: &mut Store, a: NodeRef, b: NodeRef) -> Result<(
         Err(Stop::Clash) => return Err(Failure::NotOne),
         Err(Stop::NoMemory) => return Err(Failure::NoMemory),
     }
-    lowest_first(&mut limits);
-    match lower_all(alloc, store, &limits) {
+    match lower_all(alloc, store, &mut limits) {
         Ok(()) => Ok(()),
         Err(Stop::Clash) => Err(Failure::OutOfScope),
         Err(Stop::NoMemory) => Err(Failure::NoMemory),
@@ -105,13 +106,16 @@ fn attempt(alloc: Global, store: &mut Store, a: NodeRef, b: NodeRef) -> Result<(
 }
 
 /// Makes two nodes one, where some reading gives them one type; a clash tells why no reading does. Both are said where no bound
-/// variable stands in the two nodes. After an error the store is as before, whatever stands in them.
+/// variable stands in the two nodes. Whatever stands in them, nothing but what they lead to changes, no bound variable does, and no
+/// type is loosened; after an error the store is as before.
 pub fn unify(alloc: Global, store: &mut Store, a: NodeRef, b: NodeRef) -> Result<(), UnifyFault>
     requires a { IsNode store.old.nodes a.0 }
     requires b { IsNode store.old.nodes b.0 }
     ensures unified { OnOk result (HaveNoBound store.old.nodes a.0 b.0 → Unified store.old.nodes store.new.nodes a.0 b.0) }
+    ensures within { OnOk result (ChangesWithin store.old.nodes store.new.nodes a.0 b.0) }
     ensures clash { IfErr result (λ e. (clash : Clash) → e ≡ UnifyFault.Clash clash → HaveNoBound store.old.nodes a.0 b.0 → Clashes store.old.nodes a b clash) }
     ensures len { length store.new.nodes ≡ length store.old.nodes }
+    ensures tightens { Tightens store.old.nodes store.new.nodes }
     ensures failed { OnErr result (store.new ≡ store.old) }
     ensures keeps { Keeps store.old store.new }
 {

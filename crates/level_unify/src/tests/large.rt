@@ -182,3 +182,24 @@ fn pairs_of_pairs(rt: HostRuntime) -> Result<(), Fail> {
     assert!(rt; is_unified(rt.alloc(), &mut store, left, right));
     Ok(())
 }
+
+// The same where no limit is the lowest: the lower a variable's level is, the higher is its scope.
+#[test]
+fn shared_function_of_many_limits(rt: HostRuntime) -> Result<(), Fail> {
+    let mut store = Store::new(rt.alloc());
+    let int = constant(rt.alloc(), &mut store)?;
+    let inner = store.var(MANY + 1, NO_SCOPE)?;
+    let long = function(&mut store, int, inner)?;
+    let mut vars = Vec::new(rt.alloc());
+    let mut longs = Vec::new(rt.alloc());
+    for turn in 0..MANY {
+        vars.push(store.var(1 + turn, NO_SCOPE - u64::from(turn))?)?;
+        longs.push(long)?;
+    }
+    let left = tuple(&mut store, &vars)?;
+    let right = tuple(&mut store, &longs)?;
+    assert!(rt; is_unified(rt.alloc(), &mut store, left, right));
+    let last = NO_SCOPE - u64::from(MANY) + 1;
+    assert!(rt; is_variable_at(&store, inner, (1, last)));
+    Ok(())
+}
