@@ -22,6 +22,7 @@ pub data What : Type 0 where
 pub data Asked : Type 0 where
   at : ℕ → ℕ → What → Asked
 
+-- what a demand is
 abbrev pub what_of : Demand → What
 what_of (equal t u) = types
 what_of (test c b) = names c b
@@ -29,6 +30,7 @@ what_of (agrees c n s t) = declarations c
 what_of (matches s t) = signatures
 what_of (closes e s) = body
 
+-- the demands among conditions, in order
 abbrev pub asked_in : List Condition → List Asked
 asked_in [] = []
 asked_in (same t u ∷ cs) = asked_in cs

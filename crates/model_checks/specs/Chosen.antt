@@ -13,6 +13,7 @@ reference_types =
     (first 2, ref_type (list_type (Var 9))) ∷ (first 3, ref_type (list_type (Var 9))) ∷
     (first 4, Arrow (list_type (Var 9)) (ref_type (list_type (Var 9)))) ∷ (first 5, list_type (Var 9)) ∷ []
 
+-- with what the application leaves open
 abbrev pub reference_choice : Choice
 reference_choice = choice_of reference_types (λ n k. if n == first 5 then Var 9 else if k == 0 then list_type (Var 9) else ref_type (list_type (Var 9)))
 
@@ -20,6 +21,7 @@ reference_choice = choice_of reference_types (λ n k. if n == first 5 then Var 9
 abbrev pub identity_types : List (ℕ × Typ)
 identity_types = (first 2, Arrow (Var (first 3)) (Var (first 3))) ∷ (first 4, Var (first 3)) ∷ []
 
+-- with letters that no row has
 abbrev pub identity_choice : Choice
 identity_choice = choice_of identity_types (λ n k. Var 0)
 
@@ -27,6 +29,7 @@ identity_choice = choice_of identity_types (λ n k. Var 0)
 abbrev pub record_types : List (ℕ × Typ)
 record_types = (first 5, int_type) ∷ (second 2, Con (first 1 ∷ []) Nil) ∷ (second 3, Con (first 1 ∷ []) Nil) ∷ (second 5, int_type) ∷ []
 
+-- with letters that no row has
 abbrev pub record_choice : Choice
 record_choice = choice_of record_types (λ n k. Var 0)
 
@@ -34,6 +37,7 @@ record_choice = choice_of record_types (λ n k. Var 0)
 abbrev pub pair_type : Typ
 pair_type = Tuple (Cons int_type (Cons string_type Nil))
 
+-- the types of its nodes
 abbrev pub inner_types : List (ℕ × Typ)
 inner_types =
     (first 2, pair_type) ∷ (first 3, pair_type) ∷ (first 5, Arrow (Var (first 7)) (Var (first 7))) ∷ (first 6, Arrow (Var (first 7)) (Var (first 7))) ∷ (first 8, Var (first 7)) ∷
@@ -41,6 +45,7 @@ inner_types =
     (first 11, int_type) ∷ (first 12, Arrow int_type int_type) ∷ (first 13, int_type) ∷
     (first 14, string_type) ∷ (first 15, Arrow string_type string_type) ∷ (first 16, string_type) ∷ []
 
+-- with what each application leaves open
 abbrev pub inner_choice : Choice
 inner_choice = choice_of inner_types (λ n k. if n == first 11 then int_type else string_type)
 

@@ -21,12 +21,15 @@ two_labels = record { arity = 0; definition = Own (2 ∷ []); shape = Labels (re
 abbrev pub world : World
 world = record { declared = λ o. if same_path o (1 ∷ []) then Some option else if same_path o (2 ∷ []) then Some two_labels else None; exceptions = [] }
 
+-- int option
 abbrev pub int_option : Typ
 int_option = Con (1 ∷ []) (Cons int_type Nil)
 
+-- a record of two booleans
 abbrev pub record_type : Typ
 record_type = Con (2 ∷ []) Nil
 
+-- bool * bool
 abbrev pub two_booleans : Typ
 two_booleans = Tuple (Cons bool_type (Cons bool_type Nil))
 
@@ -34,9 +37,11 @@ two_booleans = Tuple (Cons bool_type (Cons bool_type Nil))
 abbrev pub alone : Name → Pattern
 alone n = of_constructor n no_patterns
 
+-- a constructor with one pattern
 abbrev pub with_one : Name → Pattern → Pattern
 with_one n p = of_constructor n (also_pattern p no_patterns)
 
+-- a constructor with two patterns
 abbrev pub with_two : Name → Pattern → Pattern → Pattern
 with_two n p q = of_constructor n (also_pattern p (also_pattern q no_patterns))
 
@@ -44,6 +49,7 @@ with_two n p q = of_constructor n (also_pattern p (also_pattern q no_patterns))
 abbrev pub shape_alone : Name → Shape
 shape_alone n = of_built n no_shapes
 
+-- a shape with two parts
 abbrev pub shape_of_two : Name → Shape → Shape → Shape
 shape_of_two n s t = of_built n (also_shape s (also_shape t no_shapes))
 
@@ -51,6 +57,7 @@ shape_of_two n s t = of_built n (also_shape s (also_shape t no_shapes))
 abbrev pub column : Pattern → Line
 column p = p ∷ []
 
+-- one shape
 abbrev pub one : Shape → Shapes
 one s = also_shape s no_shapes
 

@@ -17,9 +17,11 @@ code (n ∷ ns) = coded n (code ns)
 unfoldable pub of_node : ℕ → ℕ
 of_node n = code (0 ∷ n ∷ [])
 
+-- the variable of a letter of a row
 unfoldable pub of_letter : ℕ → ℕ → ℕ
 of_letter n k = code (1 ∷ n ∷ k ∷ [])
 
+-- the variable of an unknown type at a node
 unfoldable pub of_unknown : ℕ → Path → ℕ
 of_unknown n o = code (2 ∷ n ∷ o)
 
@@ -33,5 +35,6 @@ abbrev pub open_letters : List (ℕ × ℕ × Typ) → ℕ → ℕ → Typ
 open_letters [] n k = Var (of_letter n k)
 open_letters ((m, j, t) ∷ rest) n k = if n == m && k == j then t else open_letters rest n k
 
+-- a choice of these types and letters, all others open
 abbrev pub open_choice : List (ℕ × Typ) → List (ℕ × ℕ × Typ) → Choice
 open_choice types letters = record { type_at = open_types types; letter = open_letters letters; written = λ n x. Var 0; filled = λ n o. Var (of_unknown n o) }

@@ -18,8 +18,10 @@ printed weak t = cut (text_of (record { variable = variable_name weak (variables
 abbrev pub int : Typ
 int = Con (built_in_origin 0) Nil
 
+-- t list
 abbrev pub list : Typ → Typ
 list t = Con (built_in_origin 7) (Cons t Nil)
 
+-- two types
 abbrev pub pair : Typ → Typ → Typs
 pair t u = Cons t (Cons u Nil)

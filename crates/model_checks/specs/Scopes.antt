@@ -24,6 +24,7 @@ scope =
 abbrev pub label : Name → Label
 label n = record { name = n; place = somewhere; is_mutable = false; body = int_type }
 
+-- a record type that is made at a number
 abbrev pub record_at : ℕ → Declaration
 record_at k = record { arity = 0; definition = Own (k ∷ []); shape = Labels (label (codes "a") ∷ label (codes "b") ∷ []) }
 
@@ -33,6 +34,7 @@ records =
     entry (codes "a") somewhere (a_label (record_at 2) (label (codes "a"))) ∷
     entry (codes "b") somewhere (a_label (record_at 1) (label (codes "b"))) ∷ entry (codes "a") somewhere (a_label (record_at 1) (label (codes "a"))) ∷ []
 
+-- a label without modules
 abbrev pub written : Name → Written
 written n = record { modules = []; name = n }
 
@@ -40,6 +42,7 @@ written n = record { modules = []; name = n }
 abbrev pub ref_type : Typ → Typ
 ref_type t = Con (1 ∷ []) (Cons t Nil)
 
+-- and ref : 'a -> 'a ref
 abbrev pub with_ref : Environment
 with_ref =
     entry (codes "ref") somewhere (a_value (all_bound (Arrow (Var 0) (ref_type (Var 0))))) ∷
@@ -49,6 +52,7 @@ with_ref =
 abbrev pub only_entry : Entry
 only_entry = entry (codes "t") somewhere (a_type (record { arity = 0; definition = Own (7 ∷ []); shape = Opaque }))
 
+-- the scope with it alone
 abbrev pub shown_scope : Environment
 shown_scope = only_entry ∷ []
 

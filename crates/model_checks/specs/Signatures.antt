@@ -40,6 +40,7 @@ wrong_one = Structure (Component (codes "t") somewhere (TypeName (plain (Is int_
 abbrev pub only_a : Components
 only_a = Component (codes "a") somewhere (Value (monomorphic int_type)) Done
 
+-- both values
 abbrev pub both : Components
 both = Component (codes "a") somewhere (Value (monomorphic int_type)) (Component (codes "b") somewhere (Value (monomorphic string_type)) Done)
 
@@ -47,6 +48,7 @@ both = Component (codes "a") somewhere (Value (monomorphic int_type)) (Component
 abbrev pub empty : Signature
 empty = Structure Done
 
+-- a body that makes a type
 abbrev pub body : Template
 body = template ((5 ∷ []) ∷ []) (Structure (Component (codes "t") somewhere (TypeName (plain (Own (5 ∷ [])))) Done))
 

@@ -12,9 +12,11 @@ first k = item_base 1 + k
 abbrev pub third : ℕ → ℕ
 third k = item_base 3 + k
 
+-- in the fourth
 abbrev pub fourth : ℕ → ℕ
 fourth k = item_base 4 + k
 
+-- in the fifth
 abbrev pub fifth : ℕ → ℕ
 fifth k = item_base 5 + k
 

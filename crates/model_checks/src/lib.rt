@@ -1,7 +1,7 @@
 //! Worked examples of the typed language: what its definitions come to on texts and types that can be checked by eye.
 //! It stands on the definitions alone, and on trees that the parser of `grammar_model` gives for lists of tokens.
 //! Each function is one fact, named for what it shows, and has no body: its contract is proved.
-//! No program calls it, and no proof cites it.
+//! No program calls it; the proofs of `prelude_checks` cite some of its lemmas.
 #![tactic(auto)]
 
 mod demands;

@@ -1,12 +1,15 @@
 -- Which demands are kept is decided in order.
-use Rattle.std.proofs.Common.{◌≡◌, ℕ, zero, suc, ◌≤◌, Bool, true, false, ◌||◌, ◌&&◌, List, [], ◌∷◌, length, refl, sym, ◌∙◌, ap, subst, inl, inr, arith}
+use Rattle.std.proofs.Common.{◌≡◌, ℕ, zero, suc, ◌≤◌, Bool, true, false, ◌||◌, ◌&&◌, ◌==◌, Option, Some, None, List, [], ◌∷◌, length, refl, sym, ◌∙◌, ap, subst, inl, inr, arith}
 use Rattle.std.proofs.Math.Path.{fun_ext}
-use Rattle.type_model.proofs.Applying.{or_cases, or_left, or_right}
+use Rattle.type_model.proofs.Applying.{or_cases, or_left, or_right, eqb_same}
 use Rattle.tree_model.specs.Trees.{Tree}
+use Rattle.signature_model.specs.Signatures.{Signature}
 use Rattle.signature_model.specs.Entries.{Environment}
-use Rattle.typing_model.specs.Demands.{Site, same_site}
-use Rattle.typing_model.specs.Typings.{demands_of, is_site_among, sites_before, kept_before, kept_with, is_closing, HasTyping, IsKept}
-use Rattle.typing_laws.proofs.Bools.{no_yes}
+use Rattle.typing_model.specs.Demands.{Site, same_site, Demand, equal, test, agrees, matches, closes, Condition, demand, sites_of}
+use Rattle.typing_model.specs.Typings.{conditions_of, no_choice, demands_of, is_site_among, sites_before, kept_before, kept_with, body_in, body_at, is_closing, HasTyping, IsKept}
+use Rattle.typing_laws.proofs.Bools.{no_yes, and_both}
+use Rattle.typing_laws.proofs.Together.{Kept, is_end, Together, at_end, at_demand, at_same, at_instance, at_made, at_known, at_treated}
+use Rattle.typing_laws.proofs.SteadyTexts.{text_together}
 
 -- where both keep the same demands before one, it is kept by the second if it is by the first
 both_keep : (env : Environment) (text : List Tree) (kept others : Site → Bool) (s : Site) → IsKept env text kept → IsKept env text others → is_site_among s (demands_of env text others) ≡ true →
@@ -62,41 +65,90 @@ and_false true false = refl
 and_false false true = refl
 and_false false false = refl
 
+-- whether there is a body
+abbrev has_body : Option (Environment × Signature) → Bool
+has_body o = elim o [ None ↦ false | Some b ↦ true ]
+
+is_body : (d : Demand) → has_body (body_in d) ≡ is_end d
+is_body (equal t u) = refl
+is_body (test c b) = refl
+is_body (agrees c n s t) = refl
+is_body (matches a t) = refl
+is_body (closes e s) = refl
+
+same_as_itself : (s : Site) → same_site s s ≡ true
+same_as_itself s = and_both (s.node == s.node) (s.number == s.number) (eqb_same s.node) (eqb_same s.number)
+
+-- a demand up to which two lists of conditions are kept alike: it is asked by both, behind the same ones, and closes a body in both or in neither
+pub record AskedAlike (s : Site) (cs ds : List Condition) : Type 0 where
+  pub asked : is_site_among s (sites_of ds) ≡ true
+  pub before : sites_before s (sites_of cs) ≡ sites_before s (sites_of ds)
+  pub closing : has_body (body_at s cs) ≡ has_body (body_at s ds)
+
+pub asked_alike : {k m : Kept} {cs ds : List Condition} (s : Site) → Together k m cs ds → is_site_among s (sites_of cs) ≡ true → ((x : Site) → is_site_among x (sites_before s (sites_of cs)) ≡ true → k x ≡ m x) → AskedAlike s cs ds
+asked_alike s at_end i same = absurd (no_yes i)
+asked_alike s (at_same h) i same = let r = asked_alike s h i same in record { asked = r.asked; before = r.before; closing = r.closing }
+asked_alike s (at_instance h) i same = let r = asked_alike s h i same in record { asked = r.asked; before = r.before; closing = r.closing }
+asked_alike s (at_made h) i same = let r = asked_alike s h i same in record { asked = r.asked; before = r.before; closing = r.closing }
+asked_alike s (at_known h) i same = let r = asked_alike s h i same in record { asked = r.asked; before = r.before; closing = r.closing }
+asked_alike s (at_treated h) i same = let r = asked_alike s h i same in record { asked = r.asked; before = r.before; closing = r.closing }
+asked_alike {k} {m} s (at_demand {s = t} {p = p} {q = q} {d = d} {e = e} {cs = cs} {ds = ds} f g) i same = by (same_site s t) refl (λ a j again. asked_alike s (g a) j again)
+  where
+    by : (b : Bool) → same_site s t ≡ b → (k t ≡ m t → is_site_among s (sites_of cs) ≡ true → ((x : Site) → is_site_among x (sites_before s (sites_of cs)) ≡ true → k x ≡ m x) → AskedAlike s cs ds) → AskedAlike s (demand t p d ∷ cs) (demand t q e ∷ ds)
+    by true h further = record {
+      asked = or_left (same_site s t) (is_site_among s (sites_of ds)) h;
+      before = rw (h, sites_before) refl;
+      closing = rw (h, body_at) (is_body d ∙ f ∙ sym (is_body e));
+    }
+    by false h further =
+        let first : k t ≡ m t = same t (rw (h, sites_before) (or_left (same_site t t) (is_site_among t (sites_before s (sites_of cs))) (same_as_itself t))) in
+        let r = further first (rw h at i) (λ x j. same x (rw (h, sites_before) (or_right (same_site x t) (is_site_among x (sites_before s (sites_of cs))) j))) in
+        record {
+          asked = or_right (same_site s t) (is_site_among s (sites_of ds)) r.asked;
+          before = rw (h, sites_before) (ap (λ xs. t ∷ xs) r.before);
+          closing = rw (h, body_at) r.closing;
+        }
+
+-- where two sets decide the closings alike that they come to alike
+abbrev pub DecideClosings : Environment → List Tree → (Site → Bool) → (Site → Bool) → Type 0
+DecideClosings env text kept others = (s : Site) → is_closing env text kept s ≡ true → is_closing env text others s ≡ true → ((x : Site) → kept_before env text kept s x ≡ kept_before env text others s x) → kept s ≡ others s
+
 -- at a demand before which two sets are one
-one_behind : (env : Environment) (text : List Tree) (kept others : Site → Bool) → IsKept env text kept → IsKept env text others → demands_of env text kept ≡ demands_of env text others →
-    ((s : Site) → is_closing env text kept s ≡ is_closing env text others s) → ((s : Site) → is_closing env text kept s ≡ true → kept s ≡ others s) →
+one_behind : (env : Environment) (text : List Tree) (kept others : Site → Bool) → IsKept env text kept → IsKept env text others → DecideClosings env text kept others →
     (s : Site) → ((x : Site) → is_site_among x (sites_before s (demands_of env text kept)) ≡ true → kept x ≡ others x) → is_site_among s (demands_of env text kept) ≡ true → kept s ≡ others s
-one_behind env text kept others k o all closings closed s earlier i = which (is_closing env text kept s) refl
+one_behind env text kept others k o closings s earlier i = which (is_closing env text kept s) refl
   where
     asked : List Site
     asked = demands_of env text kept
+
+    both : AskedAlike s (conditions_of env text kept no_choice) (conditions_of env text others no_choice)
+    both = asked_alike s (text_together {k = kept} {m = others} env text no_choice) i earlier
 
     there : (x : Site) (b : Bool) → is_site_among x (sites_before s asked) ≡ b → (kept x && b) ≡ (others x && b)
     there x true e = ap (λ c. c && true) (earlier x e)
     there x false e = and_false (kept x) (others x)
 
+    before : (x : Site) → kept_before env text kept s x ≡ kept_before env text others s x
+    before x = there x (is_site_among x (sites_before s asked)) refl ∙ ap (λ sites. others x && is_site_among x sites) both.before
+
     which : (b : Bool) → is_closing env text kept s ≡ b → kept s ≡ others s
-    which true e = closed s e
-    which false e =
-        decided env text kept others s k o i (ap (is_site_among s) (sym all) ∙ i) e (sym (closings s) ∙ e)
-        (λ x. there x (is_site_among x (sites_before s asked)) refl ∙ ap (λ sites. others x && is_site_among x (sites_before s sites)) all)
+    which true e = closings s e (sym both.closing ∙ e) before
+    which false e = decided env text kept others s k o i both.asked e (sym both.closing ∙ e) before
 
 -- at each demand with so many before it
-one_at : (n : ℕ) (env : Environment) (text : List Tree) (kept others : Site → Bool) → IsKept env text kept → IsKept env text others → demands_of env text kept ≡ demands_of env text others →
-    ((s : Site) → is_closing env text kept s ≡ is_closing env text others s) → ((s : Site) → is_closing env text kept s ≡ true → kept s ≡ others s) →
+one_at : (n : ℕ) (env : Environment) (text : List Tree) (kept others : Site → Bool) → IsKept env text kept → IsKept env text others → DecideClosings env text kept others →
     (s : Site) → length (sites_before s (demands_of env text kept)) ≤ n → is_site_among s (demands_of env text kept) ≡ true → kept s ≡ others s
-one_at zero env text kept others k o all closings closed s few i =
-    one_behind env text kept others k o all closings closed s (λ x j. absurd (let h = fewer x s (demands_of env text kept) j in omega arith)) i
-one_at (suc n) env text kept others k o all closings closed s few i =
-    one_behind env text kept others k o all closings closed s
-    (λ x j. one_at n env text kept others k o all closings closed x (let h = fewer x s (demands_of env text kept) j in omega arith) (one_of_all x s (demands_of env text kept) j)) i
+one_at zero env text kept others k o closings s few i =
+    one_behind env text kept others k o closings s (λ x j. absurd (let h = fewer x s (demands_of env text kept) j in omega arith)) i
+one_at (suc n) env text kept others k o closings s few i =
+    one_behind env text kept others k o closings s
+    (λ x j. one_at n env text kept others k o closings x (let h = fewer x s (demands_of env text kept) j in omega arith) (one_of_all x s (demands_of env text kept) j)) i
 
--- so sets that ask the same demands and keep the same bodies closed are one
-pub are_one : (env : Environment) (text : List Tree) (kept others : Site → Bool) → IsKept env text kept → IsKept env text others → demands_of env text kept ≡ demands_of env text others →
-    ((s : Site) → is_closing env text kept s ≡ is_closing env text others s) → ((s : Site) → is_closing env text kept s ≡ true → kept s ≡ others s) → (s : Site) → kept s ≡ others s
-are_one env text kept others k o all closings closed s = by (is_site_among s (demands_of env text kept)) refl
+-- so sets that decide closings alike are one
+pub are_one : (env : Environment) (text : List Tree) (kept others : Site → Bool) → IsKept env text kept → IsKept env text others → DecideClosings env text kept others → (s : Site) → kept s ≡ others s
+are_one env text kept others k o closings s = by (is_site_among s (demands_of env text kept)) refl (is_site_among s (demands_of env text others)) refl
   where
-    by : (b : Bool) → is_site_among s (demands_of env text kept) ≡ b → kept s ≡ others s
-    by true e = one_at (length (sites_before s (demands_of env text kept))) env text kept others k o all closings closed s (omega arith) e
-    by false e =
-        alike (kept s) (others s) (λ h. absurd (no_yes (sym e ∙ k.only s h))) (λ h. absurd (no_yes (sym e ∙ ap (is_site_among s) all ∙ o.only s h)))
+    by : (b : Bool) → is_site_among s (demands_of env text kept) ≡ b → (c : Bool) → is_site_among s (demands_of env text others) ≡ c → kept s ≡ others s
+    by true e c f = one_at (length (sites_before s (demands_of env text kept))) env text kept others k o closings s (omega arith) e
+    by false e true f = sym (one_at (length (sites_before s (demands_of env text others))) env text others kept o k (λ x g h same. sym (closings x h g (λ y. sym (same y)))) s (omega arith) f)
+    by false e false f = alike (kept s) (others s) (λ h. absurd (no_yes (sym e ∙ k.only s h))) (λ h. absurd (no_yes (sym f ∙ o.only s h)))

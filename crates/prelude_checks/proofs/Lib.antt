@@ -1,0 +1,10 @@
+pub mod Tokens
+pub mod Chosen
+pub mod Checked
+pub mod Lexed
+pub mod Typed
+pub mod Spelled
+pub mod Prelude
+pub mod Made
+pub mod Reference
+pub mod Ones

@@ -1,0 +1,59 @@
+//! The prelude's own text, read by the definitions, and texts behind it, from their bytes on: there is one first environment, and
+//! what is found of a text without modules is one.
+//! It stands on the definitions of texts, trees and typings, on their laws, and on the lemmas of `ml_lexer`.
+//! No program calls it, and no proof cites it.
+#![tactic(auto)]
+
+ghost use Rattle.std.specs.Prelude.{◌≡◌, ℕ, Bool, true, List, codes};
+ghost use Rattle.tree_model.specs.Trees.{Tree};
+ghost use Rattle.type_model.specs.Types.{Path, Typ};
+ghost use Rattle.signature_model.specs.Declarations.{Name};
+ghost use Rattle.signature_model.specs.Entries.{Entry, Environment, free_in};
+ghost use Rattle.type_print_model.specs.Paths.{Naming};
+ghost use Rattle.type_print_model.specs.Printing.{Prints};
+ghost use Rattle.type_print_model.specs.Variables.{is_among};
+ghost use Rattle.typing_model.specs.Contexts.{Choice};
+ghost use Rattle.typing_model.specs.Items.{behind_items};
+ghost use Rattle.typing_model.specs.Meanings.{items_of};
+ghost use Rattle.typing_model.specs.Typings.{conditions_of, outermost, IsMostGeneralChoice};
+ghost use Rattle.typing_model.specs.First.{IsFirst, IsSetting, IsFound};
+ghost use Rattle.typing_model.specs.Demands.{Site};
+ghost use Rattle.typing_laws.specs.Plain.{has_no_modules};
+ghost use Rattle.model_checks.specs.Kept.{kept_at, reference_kept};
+ghost use Rattle.model_checks.specs.Open.{open_types};
+ghost use Rattle.prelude_checks.specs.Found.{reference_open};
+
+/// The text of the whole prelude has tokens, and a typing that keeps all of its demands: there is a first environment.
+pub fn the_prelude_has_a_first_environment()
+    ensures { (env : Environment) × IsFirst env }
+{}
+
+/// The bytes let r = ref [] behind it: all demands are kept, and the types, with a variable for what [] is a list of, are a
+/// principal typing.
+pub fn a_reference_is_found()
+    ensures { IsFound (codes "let r = ref []") (kept_at reference_kept) (open_types reference_open) }
+{}
+
+/// There is one first environment.
+pub fn the_first_environment_is_one()
+    ensures { (env other : Environment) → IsFirst env → IsFirst other → env ≡ other }
+{}
+
+/// A text is typed from one environment, as one list of trees.
+pub fn a_setting_is_one()
+    ensures { (text : List ℕ) (env other : Environment) (items others : List Tree) → IsSetting text env items → IsSetting text other others → (env ≡ other) × (items ≡ others) }
+{}
+
+/// So the kept demands that are found of a text without modules are one.
+pub fn kept_demands_that_are_found_are_one()
+    ensures { (text : List ℕ) (kept others : Site → Bool) (types shown : ℕ → Typ) (f : IsFound text kept types) → has_no_modules f.items ≡ true → IsFound text others shown → (s : Site) → kept s ≡ others s }
+{}
+
+/// And the types of its nodes print alike in two most general choices, where the weak variables are those that are free behind its items.
+pub fn types_of_plain_texts_print_alike()
+    ensures { (N : Naming Entry) (scope : Environment) (declared : Path → Name) (text : List ℕ) (env : Environment) (items : List Tree) (kept : Site → Bool) (choice other : Choice) →
+        IsSetting text env items → has_no_modules items ≡ true → IsMostGeneralChoice kept (conditions_of env items kept) choice → IsMostGeneralChoice kept (conditions_of env items kept) other →
+        (weak weaks : List ℕ) → ((v : ℕ) → is_among v weak ≡ free_in v (behind_items (outermost env kept choice) (items_of items))) →
+        ((v : ℕ) → is_among v weaks ≡ free_in v (behind_items (outermost env kept other) (items_of items))) → (n : ℕ) (shown : List ℕ) →
+        Prints N scope declared weak (choice.type_at n) shown → Prints N scope declared weaks (other.type_at n) shown }
+{}
