@@ -1,5 +1,5 @@
 -- Names that are kept one by one.
-use Rattle.std.proofs.Common.{◌≡◌, ℕ, ◌+◌, ◌<◌, List, [], ◌∷◌, ◌++◌, length, map, drop, get_or, filter, Bool, true, false, refl, sym, ◌∙◌, ap, append_assoc, append-nil, if◌then◌else◌}
+use Rattle.std.proofs.Common.{◌≡◌, ℕ, ◌+◌, ◌<◌, List, [], ◌∷◌, ◌++◌, length, map, drop, get_or, filter, Bool, true, false, sym, ◌∙◌, ap, append_assoc, append-nil, if◌then◌else◌}
 use Rattle.std.proofs.lemmas.List.{drop_more}
 use Rattle.tree_model.specs.Trees.{Place}
 use Rattle.query_model.specs.NameTokens.{Name}

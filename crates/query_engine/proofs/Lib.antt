@@ -3,3 +3,11 @@ pub mod Orders
 pub mod Told
 pub mod Views
 mod Kept
+mod KindOrder
+mod Keyed
+mod Behind
+mod PrefixParts
+mod ToldNames
+mod Answered
+mod ShownTypes
+mod Items

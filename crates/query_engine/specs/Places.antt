@@ -1,11 +1,10 @@
 -- Where names come from: the places of the entries that are recorded for them.
-use Rattle.std.specs.Prelude.{◌≡◌, ℕ, List, map, filter, Bool, false, ◌&&◌, nat_eq, slice_get, Option, Some, None, option_map, option_and_then, Result, Ok, Err}
+use Rattle.std.specs.Prelude.{◌≡◌, ℕ, List, Bool, false, ◌&&◌, nat_eq, slice_get, Option, Some, None, option_and_then, Result, Ok, Err}
 use Rattle.std.specs.declared.rc.Rc.{Rc}
 use Rattle.std.specs.declared.alloc.Global.{Global}
 use Rattle.text_terms.specs.Bytes.{str_bytes}
 use Rattle.text_terms.specs.declared.Span.{Span}
 use Rattle.query_model.specs.NameTokens.{Name}
-use Rattle.syntax_tree.specs.View.{place_of}
 use Rattle.env_table.specs.declared.entries.Entry.{Entry}
 use Rattle.env_table.specs.declared.entries.Place.{Place}
 use Rattle.env_table.specs.declared.entries.Place.TheVariants.{Buffer, Prelude, BuiltIn}

@@ -1,10 +1,12 @@
 //! What may be completed: names of modules, each with its point, and the beginning of a name.
-ghost use Rattle.std.specs.Prelude.{◌≡◌};
+ghost use Rattle.std.specs.Prelude.{◌≡◌, map, IfOk};
+ghost use Rattle.text_terms.specs.Bytes.{str_bytes};
+ghost use Rattle.query_model.specs.PrefixParts.{beginning_of, modules_of, parts_of};
 ghost use Rattle.query_model.specs.Prefixes as model;
 ghost use Rattle.query_model.specs.Prefixes.{goes_on, is_capital, is_small, is_some_read, read_all, read_first, read_next};
 ghost use Rattle.query_engine.specs.Prefixes.{read_of};
 
-use std::alloc::Global;
+use std::alloc::{AllocError, Global};
 use syntax_tree::{NoMemory, RcStr};
 
 /// What was read of a prefix.
@@ -105,21 +107,39 @@ pub(crate) fn is_name_prefix(prefix: &str) -> bool
     }
 }
 
+/// What stands between the points of a prefix.
+fn parts_of<'a>(alloc: Global, prefix: &'a str) -> Result<Vec<&'a str>, AllocError>
+    ensures { IfOk result (λ v. map (λ x. x.now) v.items ≡ parts_of prefix.now) }
+{
+    prefix.split('.').collect(alloc)
+}
+
+/// The same texts, each with an owner of its own.
+fn owned(alloc: Global, parts: &[&str]) -> Result<Vec<RcStr>, NoMemory>
+    ensures { IfOk result (λ v. map str_bytes v.items ≡ map (λ x. x.now) parts.now) }
+{
+    let mut texts = Vec::new(alloc);
+    for part in parts {
+        if texts.push(RcStr::from_str(alloc, part)?).is_err() {
+            return Err(NoMemory);
+        }
+    }
+    Ok(texts)
+}
+
 /// The names of modules of a prefix, and the beginning behind them.
 pub(crate) fn split_prefix<'a>(
     alloc: Global,
     prefix: &'a str,
-) -> Result<(Vec<RcStr>, &'a str), NoMemory> {
-    let mut modules = Vec::new(alloc);
-    let mut left = prefix;
-    for _ in 0..prefix.len() {
-        let Some((module, rest)) = left.split_once('.') else {
-            break;
-        };
-        if modules.push(RcStr::from_str(alloc, module)?).is_err() {
-            return Err(NoMemory);
-        }
-        left = rest;
+) -> Result<(Vec<RcStr>, &'a str), NoMemory>
+    ensures modules { IfOk result (λ p. map str_bytes p.0.items ≡ modules_of prefix.now) }
+    ensures beginning { IfOk result (λ p. p.1.now ≡ beginning_of prefix.now) }
+{
+    let Ok(parts) = parts_of(alloc, prefix) else {
+        return Err(NoMemory);
+    };
+    match parts.split_last() {
+        None => Ok((Vec::new(alloc), "")),
+        Some((beginning, modules)) => Ok((owned(alloc, modules)?, *beginning)),
     }
-    Ok((modules, left))
 }

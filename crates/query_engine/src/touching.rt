@@ -2,6 +2,8 @@
 ghost use Rattle.std.specs.Prelude.{◌≡◌, ◌+◌, ◌&&◌, option_map, IfOk, OnOk};
 ghost use Rattle.std.specs.Option.{option_or};
 ghost use Rattle.query_model.specs.Touching.{id_if, touched, touched_at, touched_part, touches};
+ghost use Rattle.query_model.specs.ScopeNodes.{item_behind, scope_node};
+ghost use Rattle.query_engine.specs.Environments.{env_at, env_of};
 ghost use Rattle.tree_model.specs.Nodes.{id};
 ghost use Rattle.tree_model.specs.Slots.{is_operand, missing_size};
 ghost use Rattle.tree_model.specs.Trees.{part_size, size_of};
@@ -99,20 +101,37 @@ pub(crate) fn touched_at(tree: &Tree, offset: u32) -> Result<Option<NodeId>, NoM
     Ok(last)
 }
 
-/// The number of the first item that starts behind the offset. None where there is none.
-fn item_behind(tree: &Tree, offset: u32) -> Option<u32> {
+/// The first item that starts behind the offset. None where there is none.
+fn item_behind(tree: &Tree, offset: u32) -> Result<Option<NodeId>, NoMemory>
+    ensures { IfOk result (λ o. option_map id_of o ≡ item_behind offset 1 (trees_of tree.now)) }
+{
     let mut number: u32 = 1;
     for item in &tree.items {
         if item.span.start > offset {
-            return Some(number);
+            return Ok(Some(NodeId {
+                item: number,
+                pre: 0,
+            }));
         }
-        number = number.checked_add(1)?;
+        number = number_behind(number)?;
     }
-    None
+    Ok(None)
 }
 
-/// The names in scope in which a node is treated.
-fn env_of<'a>(asked: &Asked<'a>, id: NodeId) -> &'a Env {
+/// The node in whose names an offset stands: the last that it touches, or else the first item behind it.
+fn scope_node(tree: &Tree, offset: u32) -> Result<Option<NodeId>, NoMemory>
+    ensures { IfOk result (λ o. option_map id_of o ≡ scope_node offset (trees_of tree.now)) }
+{
+    match touched_at(tree, offset)? {
+        Some(id) => Ok(Some(id)),
+        None => item_behind(tree, offset),
+    }
+}
+
+/// The names in scope in which a node is treated; where none are recorded, those behind the last item.
+fn env_of<'a>(asked: &Asked<'a>, id: NodeId) -> &'a Env
+    ensures { result.now ≡ env_of asked.now (id_of id) }
+{
     match asked.index.get(id) {
         Some(seen) => &seen.env,
         None => asked.end,
@@ -121,12 +140,11 @@ fn env_of<'a>(asked: &Asked<'a>, id: NodeId) -> &'a Env {
 
 /// The names in scope at an offset: those of the last node that it touches, or else those behind the last item that ends before
 /// it.
-pub(crate) fn env_at<'a>(asked: &Asked<'a>, offset: u32) -> Result<&'a Env, NoMemory> {
-    if let Some(id) = touched_at(asked.tree, offset)? {
-        return Ok(env_of(asked, id));
-    }
-    match item_behind(asked.tree, offset) {
-        Some(item) => Ok(env_of(asked, NodeId { item, pre: 0 })),
+pub(crate) fn env_at<'a>(asked: &Asked<'a>, offset: u32) -> Result<&'a Env, NoMemory>
+    ensures { IfOk result (λ e. e.now ≡ env_at asked.now offset) }
+{
+    match scope_node(asked.tree, offset)? {
+        Some(id) => Ok(env_of(asked, id)),
         None => Ok(asked.end),
     }
 }

@@ -1,9 +1,12 @@
 //! The types round an offset.
-ghost use Rattle.std.specs.Prelude.{◌≡◌, ◌<◌, length, map, reverse, true, All, IfErr, IfOk};
+ghost use Rattle.std.specs.Prelude.{◌≡◌, ◌<◌, ◌++◌, ◌∷◌, [], length, map, nat_lt, reverse, All, IfErr, IfOk, OnOk};
+ghost use Rattle.std.specs.List.{list_all, AllZip};
+ghost use Rattle.text_terms.specs.Bytes.{str_bytes};
 ghost use Rattle.query_model.specs.TypedNodes.{typed_at};
-ghost use Rattle.syntax_tree.specs.View.{place_of, trees_of};
+ghost use Rattle.syntax_tree.specs.View.{id_of, trees_of};
 ghost use Rattle.type_nodes.specs.Nodes.{IsNode};
 ghost use Rattle.type_nodes.specs.Views.{numbers};
+ghost use Rattle.query_engine.specs.Texts.{weak_nodes, IsShown, IsTextOf, IsTypeText};
 ghost use Rattle.query_engine.specs.Typed.{IsNoNode, node_of, span_of};
 
 use crate::asked::{Asked, QueryFault};
@@ -23,13 +26,13 @@ pub struct Typed {
 }
 
 fn is_node(store: &Store, node: NodeRef) -> bool
-    ensures { result ≡ true → IsNode store.now.nodes node.0 }
+    ensures { result ≡ nat_lt node.0 (length store.now.nodes) }
 {
     node.0 < store.len() as u64
 }
 
 fn are_nodes(store: &Store, nodes: &[NodeRef]) -> bool
-    ensures { result ≡ true → All (IsNode store.now.nodes) (numbers nodes.now) }
+    ensures { result ≡ list_all (λ n. nat_lt n (length store.now.nodes)) (numbers nodes.now) }
 {
     for node in nodes {
         if !is_node(store, *node) {
@@ -39,9 +42,10 @@ fn are_nodes(store: &Store, nodes: &[NodeRef]) -> bool
     true
 }
 
-/// The weak variables, which are nodes of the store.
+/// The weak variables, if they are all nodes of the store.
 fn weak_in<'a>(asked: &Asked<'a>) -> &'a [NodeRef]
-    ensures { All (IsNode asked.now.store.now.nodes) (numbers result.now) }
+    ensures numbers { numbers result.now ≡ weak_nodes asked.now }
+    ensures nodes { All (IsNode asked.now.store.now.nodes) (numbers result.now) }
 {
     if are_nodes(asked.store, asked.weak) {
         asked.weak
@@ -56,7 +60,9 @@ pub(crate) fn type_text(
     asked: &Asked<'_>,
     ty: NodeRef,
     env: &Env,
-) -> Result<RcStr, NoMemory> {
+) -> Result<RcStr, NoMemory>
+    ensures { IfOk result (λ r. IsTextOf asked.now env.now ty.0 (str_bytes r)) }
+{
     if !is_node(asked.store, ty) {
         return RcStr::from_str(alloc, "'a");
     }
@@ -64,7 +70,9 @@ pub(crate) fn type_text(
 }
 
 /// The type of a node as it is printed; any type where none is recorded.
-fn type_at(alloc: Global, asked: &Asked<'_>, id: NodeId) -> Result<RcStr, NoMemory> {
+fn type_at(alloc: Global, asked: &Asked<'_>, id: NodeId) -> Result<RcStr, NoMemory>
+    ensures { IfOk result (λ r. IsTypeText asked.now (id_of id) (str_bytes r)) }
+{
     let Some(seen) = asked.index.get(id) else {
         return RcStr::from_str(alloc, "'a");
     };
@@ -74,19 +82,29 @@ fn type_at(alloc: Global, asked: &Asked<'_>, id: NodeId) -> Result<RcStr, NoMemo
     }
 }
 
+fn typed_of(alloc: Global, asked: &Asked<'_>, node: &TypedNode) -> Result<Typed, NoMemory>
+    ensures { IfOk result (IsShown asked.now (node_of node.now)) }
+{
+    Ok(Typed {
+        span: node.span,
+        ty: type_at(alloc, asked, node.id)?,
+    })
+}
+
+fn push(types: &mut Vec<Typed>, one: Typed) -> Result<(), NoMemory>
+    ensures { OnOk result (types.new.items ≡ types.old.items ++ one ∷ []) }
+{
+    types.push(one).map_err(|_| NoMemory)
+}
+
 /// These nodes with their types, in their order.
 fn with_types(alloc: Global, asked: &Asked<'_>, nodes: &[TypedNode]) -> Result<Vec<Typed>, NoMemory>
-    ensures { IfOk result (λ v. map span_of v.items ≡ map (λ n. n.span) (map node_of nodes.now)) }
+    ensures places { IfOk result (λ v. map span_of v.items ≡ map (λ n. n.span) (map node_of nodes.now)) }
+    ensures shown { IfOk result (λ v. AllZip (IsShown asked.now) (map node_of nodes.now) v.items) }
 {
     let mut types = Vec::new(alloc);
     for node in nodes {
-        let typed = Typed {
-            span: node.span,
-            ty: type_at(alloc, asked, node.id)?,
-        };
-        if types.push(typed).is_err() {
-            return Err(NoMemory);
-        }
+        push(&mut types, typed_of(alloc, asked, node)?)?;
     }
     Ok(types)
 }
@@ -99,6 +117,7 @@ pub fn enclosing_types(
     offset: u32,
 ) -> Result<Vec<Typed>, QueryFault>
     ensures places { IfOk result (λ v. map span_of v.items ≡ map (λ n. n.span) (reverse (typed_at offset (trees_of asked.now.tree.now)))) }
+    ensures shown { IfOk result (λ v. AllZip (IsShown asked.now) (reverse (typed_at offset (trees_of asked.now.tree.now))) v.items) }
     ensures some { IfOk result (λ v. 0 < length v.items) }
     ensures none { IfErr result (λ e. IsNoNode e (reverse (typed_at offset (trees_of asked.now.tree.now)))) }
 {
