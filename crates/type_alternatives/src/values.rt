@@ -1,6 +1,11 @@
 //! The alternatives of a type.
-ghost use Rattle.std.specs.Prelude.{◌≡◌, true};
+ghost use Rattle.std.specs.Prelude.{◌≡◌, ◌∷◌, [], true, false, None, IfOk};
+ghost use Rattle.text_terms.specs.Bytes.{str_bytes};
+ghost use Rattle.type_terms.specs.Views.{path_of};
 ghost use Rattle.type_nodes.specs.Nodes.{IsNode};
+ghost use Rattle.type_nodes.specs.Links.{reading};
+ghost use Rattle.env_table.specs.Views.{kind_of};
+ghost use Rattle.type_alternatives.specs.Alternatives.{named_of, outermost_of, values_of, argument_of, tuple_or_one, IsPart, AreConstructors, AreLabels, OfShape, OfDeclared, OfOrigin, OfType, of_built_in, built_in, known};
 
 use crate::declared::declaration_of;
 use crate::reached::{Wanted, path_to};
@@ -56,27 +61,34 @@ pub enum Alternatives {
 }
 
 fn is_node(store: &Store, node: NodeRef) -> bool
-    ensures { result ≡ true → IsNode store.now.nodes node.0 }
+    ensures inside { result ≡ true → IsNode store.now.nodes node.0 }
+    ensures outside { result ≡ false → reading store.now.nodes node.0 ≡ None }
 {
     node.0 < store.len() as u64
 }
 
 /// The number of a built-in type. None of another type.
-fn built_in(origin: &Origin) -> Option<u64> {
+fn built_in(origin: &Origin) -> Option<u64>
+    ensures { result ≡ built_in (path_of origin.now) }
+{
     match origin.path.as_slice() {
         [number] if LAST - *number < 8 => Some(LAST - *number),
         _ => None,
     }
 }
 
-fn known(alloc: Global, only: Alternative) -> Result<Alternatives, NoMemory> {
+fn known(alloc: Global, only: Alternative) -> Result<Alternatives, NoMemory>
+    ensures { IfOk result (λ r. values_of r ≡ known (outermost_of only ∷ [])) }
+{
     match vec![in alloc; only] {
         Ok(list) => Ok(Alternatives::Known(list)),
         Err(_) => Err(NoMemory),
     }
 }
 
-fn both(alloc: Global, first: Alternative, second: Alternative) -> Result<Alternatives, NoMemory> {
+fn both(alloc: Global, first: Alternative, second: Alternative) -> Result<Alternatives, NoMemory>
+    ensures { IfOk result (λ r. values_of r ≡ known (outermost_of first ∷ outermost_of second ∷ [])) }
+{
     match vec![in alloc; first, second] {
         Ok(list) => Ok(Alternatives::Known(list)),
         Err(_) => Err(NoMemory),
@@ -84,7 +96,9 @@ fn both(alloc: Global, first: Alternative, second: Alternative) -> Result<Altern
 }
 
 /// Those of a built-in type, by its number.
-fn of_built_in(alloc: Global, number: u64) -> Result<Alternatives, NoMemory> {
+fn of_built_in(alloc: Global, number: u64) -> Result<Alternatives, NoMemory>
+    ensures { IfOk result (λ r. values_of r ≡ of_built_in number) }
+{
     match number {
         0 => Ok(Alternatives::Literal("0")),
         1 => Ok(Alternatives::Literal("'a'")),
@@ -102,13 +116,14 @@ fn of_built_in(alloc: Global, number: u64) -> Result<Alternatives, NoMemory> {
 }
 
 /// What a constructor is applied to, by its type from the argument to the result.
-fn argument_of(store: &Store, constructor: &Constructor) -> Argument {
-    if !constructor.has_argument || !is_node(store, constructor.root) {
-        return if constructor.has_argument {
-            Argument::One
-        } else {
-            Argument::None
-        };
+fn argument_of(store: &Store, constructor: &Constructor) -> Argument
+    ensures { result ≡ argument_of store.now.nodes constructor.now }
+{
+    if !constructor.has_argument {
+        return Argument::None;
+    }
+    if !is_node(store, constructor.root) {
+        return Argument::One;
     }
     match store.read(constructor.root) {
         View::Arrow(argument, _) => tuple_or_one(store, argument),
@@ -116,7 +131,9 @@ fn argument_of(store: &Store, constructor: &Constructor) -> Argument {
     }
 }
 
-fn tuple_or_one(store: &Store, argument: NodeRef) -> Argument {
+fn tuple_or_one(store: &Store, argument: NodeRef) -> Argument
+    ensures { result ≡ tuple_or_one (reading store.now.nodes argument.0) }
+{
     if !is_node(store, argument) {
         return Argument::One;
     }
@@ -134,12 +151,14 @@ fn path_for(
     kind: Kind,
     name: &RcStr,
     place: usize,
-) -> Result<PathTo, NoMemory> {
+) -> Result<PathTo, NoMemory>
+    ensures { IfOk result (λ r. IsPart (kind_of kind) env.now (path_of origin.now) place (str_bytes name.now) (named_of r)) }
+{
     let wanted = Wanted {
         kind,
         name: name.as_str(),
         origin,
-        place: u32::try_from(place).unwrap_or(u32::MAX),
+        place,
     };
     Ok(PathTo {
         name: name.share()?,
@@ -153,7 +172,9 @@ fn of_constructors(
     env: &Env,
     origin: &Origin,
     constructors: &[Constructor],
-) -> Result<Alternatives, NoMemory> {
+) -> Result<Alternatives, NoMemory>
+    ensures { IfOk result (λ r. AreConstructors store.now.nodes env.now (path_of origin.now) constructors.now (values_of r)) }
+{
     let mut list = Vec::new(alloc);
     for (place, constructor) in constructors.iter().enumerate() {
         let path = path_for(
@@ -177,7 +198,9 @@ fn of_labels(
     env: &Env,
     origin: &Origin,
     labels: &[Label],
-) -> Result<Alternatives, NoMemory> {
+) -> Result<Alternatives, NoMemory>
+    ensures { IfOk result (λ r. AreLabels env.now (path_of origin.now) labels.now (values_of r)) }
+{
     let mut paths = Vec::new(alloc);
     for (place, label) in labels.iter().enumerate() {
         let path = path_for(alloc, env, origin, Kind::Label, &label.name, place)?;
@@ -185,7 +208,8 @@ fn of_labels(
             return Err(NoMemory);
         }
     }
-    known(alloc, Alternative::Record(paths))
+    let record = known(alloc, Alternative::Record(paths))?;
+    Ok(record)
 }
 
 fn of_declaration(
@@ -194,7 +218,9 @@ fn of_declaration(
     env: &Env,
     origin: &Origin,
     declaration: &Declaration,
-) -> Result<Alternatives, NoMemory> {
+) -> Result<Alternatives, NoMemory>
+    ensures { IfOk result (λ r. OfShape store.now.nodes env.now (path_of origin.now) declaration.now.shape (values_of r)) }
+{
     match &declaration.shape {
         Shape::Opaque => Ok(Alternatives::Unknown),
         Shape::Variant(constructors) => of_constructors(alloc, store, env, origin, constructors),
@@ -207,12 +233,28 @@ fn of_origin(
     store: &Store,
     env: &Env,
     origin: &Origin,
-) -> Result<Alternatives, NoMemory> {
-    if let Some(number) = built_in(origin) {
-        return of_built_in(alloc, number);
+) -> Result<Alternatives, NoMemory>
+    ensures { IfOk result (λ r. OfOrigin store.now.nodes env.now (path_of origin.now) (built_in (path_of origin.now)) (values_of r)) }
+{
+    match built_in(origin) {
+        Some(number) => of_built_in(alloc, number),
+        None => of_declared(alloc, store, env, origin),
     }
+}
+
+fn of_declared(
+    alloc: Global,
+    store: &Store,
+    env: &Env,
+    origin: &Origin,
+) -> Result<Alternatives, NoMemory>
+    ensures { IfOk result (λ r. OfDeclared store.now.nodes env.now (path_of origin.now) (values_of r)) }
+{
     match declaration_of(alloc, origin, env)? {
-        Some(declaration) => of_declaration(alloc, store, env, origin, declaration),
+        Some(declaration) => {
+            let found = of_declaration(alloc, store, env, origin, declaration)?;
+            Ok(found)
+        }
         None => Ok(Alternatives::Unknown),
     }
 }
@@ -224,7 +266,9 @@ pub fn alternatives_of(
     store: &Store,
     node: NodeRef,
     env: &Env,
-) -> Result<Alternatives, NoMemory> {
+) -> Result<Alternatives, NoMemory>
+    ensures alternatives { IfOk result (λ r. OfType store.now.nodes env.now (reading store.now.nodes node.0) (values_of r)) }
+{
     if !is_node(store, node) {
         return Ok(Alternatives::Unknown);
     }

@@ -21,12 +21,12 @@ use Rattle.type_print.proofs.Ranks.{tells}
 use Rattle.type_print.proofs.Searching.{modules_weight, weight_append, way_step, way_none}
 
 -- an option has something or nothing
-opt_tells : {A : Type 0} (o : Option A) → (o ≡ None) ⊎ ((a : A) × (o ≡ Some a))
+pub opt_tells : {A : Type 0} (o : Option A) → (o ≡ None) ⊎ ((a : A) × (o ≡ Some a))
 opt_tells None = inl refl
 opt_tells (Some a) = inr (a, refl)
 
 -- two tests hold where both together do
-both : (a b : Bool) → (a && b) ≡ true → (a ≡ true) × (b ≡ true)
+pub both : (a b : Bool) → (a && b) ≡ true → (a ≡ true) × (b ≡ true)
 both true b h = (refl, h)
 both false b h = absurd (cc)
 
@@ -73,7 +73,7 @@ newest_here test x es h = rw h refl
 newest_later : (test : Entry → Bool) (x : Entry) (es : List Entry) → test x ≡ false → newest_by test (x ∷ es) ≡ newest_by test es
 newest_later test x es h = rw h refl
 
-abbrev IsIn : Scoped → List Scoped → Type 0
+abbrev pub IsIn : Scoped → List Scoped → Type 0
 IsIn t [] = ⊥
 IsIn t (s ∷ q) = (t ≡ s) ⊎ IsIn t q
 
@@ -153,16 +153,16 @@ behind_has way seen (x ∷ es) m e h s = elim (tells (is_named rules.module_kind
 ]
 
 -- names from the outermost inward, of a way that has the innermost first, and the other way round
-abbrev outward : List Name → List Name
+abbrev pub outward : List Name → List Name
 outward [] = []
 outward (m ∷ way) = outward way ++ m ∷ []
 
-abbrev onto : List Name → List Name → List Name
+abbrev pub onto : List Name → List Name → List Name
 onto [] way = way
 onto (m ∷ ms) way = onto ms (m ∷ way)
 
 -- names that are put on a way, from the outermost inward, follow it
-out_onto : (ms way : List Name) → outward (onto ms way) ≡ outward way ++ ms
+pub out_onto : (ms way : List Name) → outward (onto ms way) ≡ outward way ++ ms
 out_onto [] way = sym (append-nil (outward way))
 out_onto (m ∷ ms) way = out_onto ms (m ∷ way) ∙ append_assoc (outward way) (m ∷ []) ms
 
@@ -172,17 +172,17 @@ onto_append [] ys way = refl
 onto_append (x ∷ xs) ys way = onto_append xs ys (x ∷ way)
 
 -- the names of a way, put on none, are the way
-onto_out : (way : List Name) → onto (outward way) [] ≡ way
+pub onto_out : (way : List Name) → onto (outward way) [] ≡ way
 onto_out [] = refl
 onto_out (m ∷ way) = onto_append (outward way) (m ∷ []) [] ∙ ap (λ w. m ∷ w) (onto_out way)
 
 -- a way has as many names as were put on it
-length_onto : (ms way : List Name) → length (onto ms way) ≡ length ms + length way
+pub length_onto : (ms way : List Name) → length (onto ms way) ≡ length ms + length way
 length_onto [] way = omega arith
 length_onto (m ∷ ms) way = let h = length_onto ms (m ∷ way) in omega arith
 
 -- the ages of the modules on a way
-abbrev ages_behind : List Entry → List Name → List ℕ
+abbrev pub ages_behind : List Entry → List Name → List ℕ
 ages_behind env [] = []
 ages_behind env (m ∷ way) = ages_behind env way ++ age_in (is_named rules.module_kind m) (scope_by is_named inside env (outward way)) ∷ []
 
@@ -194,7 +194,7 @@ ages_end env way (m ∷ ms) n =
     sym (append_assoc (ages_behind env way) (age_in (is_named rules.module_kind m) (scope_by is_named inside env (outward way)) ∷ []) (ages naming env (outward way ++ m ∷ []) ms n)) ∙ ages_end env (m ∷ way) ms n
 
 -- the order of ages
-newer_more : (is js xs ys : List ℕ) → IsNewer is js → IsNewer (is ++ xs) (js ++ ys)
+pub newer_more : (is js xs ys : List ℕ) → IsNewer is js → IsNewer (is ++ xs) (js ++ ys)
 newer_more [] js xs ys h = absurd h
 newer_more (i ∷ is) [] xs ys h = absurd h
 newer_more (i ∷ is) (j ∷ js) xs ys (inl h) = inl h
@@ -206,7 +206,7 @@ newer_last [] i j h = inl h
 newer_last (k ∷ is) i j h = inr (refl, newer_last is i j h)
 
 -- no two are each newer than the other
-newer_not : (is js : List ℕ) → IsNewer is js → IsNewer js is → ⊥
+pub newer_not : (is js : List ℕ) → IsNewer is js → IsNewer js is → ⊥
 newer_not [] js h g = h
 newer_not (i ∷ is) [] h g = h
 newer_not (i ∷ is) (j ∷ js) (inl h) (inl g) = omega arith
@@ -215,11 +215,11 @@ newer_not (i ∷ is) (j ∷ js) (inr (d, h)) (inl g) = omega arith
 newer_not (i ∷ is) (j ∷ js) (inr (d, h)) (inr (e, g)) = newer_not is js h g
 
 -- none is newer than itself
-newer_self : (is : List ℕ) → IsNewer is is → ⊥
+pub newer_self : (is : List ℕ) → IsNewer is is → ⊥
 newer_self is h = newer_not is is h h
 
 -- each goes before all that follow
-abbrev Ascends : List Entry → List Scoped → Type 0
+abbrev pub Ascends : List Entry → List Scoped → Type 0
 Ascends env [] = Unit {0}
 Ascends env (s ∷ q) = ((t : Scoped) → IsIn t q → IsNewer (ages_behind env s.0) (ages_behind env t.0)) × Ascends env q
 
@@ -261,7 +261,7 @@ mods_ascend env way seen (x ∷ es) d at = elim (tells (is_module x)) [
 ]
 
 -- the modules in some modules
-abbrev children : List Scoped → List Scoped
+abbrev pub children : List Scoped → List Scoped
 children [] = []
 children (s ∷ q) = modules_behind s.0 [] s.1 ++ children q
 
@@ -280,7 +280,7 @@ of_children t s (u ∷ q) (inl e) i = in_left t (modules_behind u.0 [] u.1) (chi
 of_children t s (u ∷ q) (inr h) i = in_right t (modules_behind u.0 [] u.1) (children q) (of_children t s q h i)
 
 -- what stands in a module is what its way comes to, if anything is known to
-abbrev IsSo : List Entry → Scoped → Type 0
+abbrev pub IsSo : List Entry → Scoped → Type 0
 IsSo env s = (s.1 ≡ []) ⊎ (scope_by is_named inside env (outward s.0) ≡ known s.1)
 
 -- the modules in a module are in order
@@ -346,13 +346,13 @@ scope_more (x ∷ ms) m env = elim (opt_tells (newest_by (is_named rules.module_
 ]
 
 -- a level: all modules behind so many names whose contents are known, the newer first
-record IsLevel (env : List Entry) (k : ℕ) (q : List Scoped) : Type 0 where
+pub record IsLevel (env : List Entry) (k : ℕ) (q : List Scoped) : Type 0 where
   pub ascends : Ascends env q
   pub so : (s : Scoped) → IsIn s q → IsSo env s
   pub sizes : (s : Scoped) → IsIn s q → length s.0 ≡ k
   pub whole : (way : List Name) (es : List Entry) → length way ≡ k → scope_by is_named inside env (outward way) ≡ known es → IsIn (way, es) q
 
-abbrev level : List Entry → ℕ → List Scoped
+abbrev pub level : List Entry → ℕ → List Scoped
 level env zero = ([], env) ∷ []
 level env (suc k) = children (level env k)
 
@@ -411,7 +411,7 @@ next_level_is env k q l = record {
       ]
 
 -- so each level is one
-level_is : (env : List Entry) (k : ℕ) → IsLevel env k (level env k)
+pub level_is : (env : List Entry) (k : ℕ) → IsLevel env k (level env k)
 level_is env zero = first_level env
 level_is env (suc k) = next_level_is env k (level env k) (level_is env k)
 
@@ -538,7 +538,7 @@ record Comes (env : List Entry) (o : Path) (p : NamePath) : Type 0 where
   pub found : finds o p.name inner ≡ true
 
 -- what is found in a scope is the newest in what is known
-comes_found : (s : ScopeOf Entry) (test : Entry → Bool) (e : Entry) → found_in test s ≡ an_entry e → (inner : List Entry) × (s ≡ known inner) × (newest_by test inner ≡ Some e)
+pub comes_found : (s : ScopeOf Entry) (test : Entry → Bool) (e : Entry) → found_in test s ≡ an_entry e → (inner : List Entry) × (s ≡ known inner) × (newest_by test inner ≡ Some e)
 comes_found (known es) test e h = elim (opt_tells (newest_by test es)) [
   | inl none ↦ let bad : nothing ≡ an_entry e = rw none at h in absurd (cc)
   | inr (x, some) ↦ let same : an_entry x ≡ an_entry e = rw some at h in (es, refl, some ∙ (let y : x ≡ e = cc in ap Some y))
@@ -570,7 +570,7 @@ dotted_end [] m n = simp append_assoc
 dotted_end (x ∷ ms) m n = let h = dotted_end ms m n in rw h refl
 
 -- the text of a way and a name is that of the path
-spelled_way : (way : List Name) (n : Name) → way_text way ++ n ≡ dotted (outward way) n
+pub spelled_way : (way : List Name) (n : Name) → way_text way ++ n ≡ dotted (outward way) n
 spelled_way [] n = refl
 spelled_way (m ∷ way) n = let a : way_text (m ∷ way) ++ n ≡ way_text way ++ (m ++ (codes "." ++ n)) = simp append_assoc in a ∙ (spelled_way way (m ++ (codes "." ++ n)) ∙ sym (dotted_end (outward way) m n))
 
@@ -579,7 +579,7 @@ ages_are : (env : List Entry) (way ms : List Name) (n : Name) → onto ms [] ≡
 ages_are env way ms n e = ages_end env [] ms n ∙ ap (λ w. ages_behind env w ++ age_in (is_named rules.type_kind n) (scope_by is_named inside env (outward w)) ∷ []) e
 
 -- it has as many names
-length_out : (way : List Name) → length (outward way) ≡ length way
+pub length_out : (way : List Name) → length (outward way) ≡ length way
 length_out way = let a = length_onto (outward way) [] in let b : length (onto (outward way) []) ≡ length way = ap (λ (w : List Name). length w) (onto_out way) in omega arith
 
 -- a path that reaches an origin stands in its level

@@ -59,7 +59,7 @@ w7 : (w : What) → fold-What ℕ ℕ ℕ ℕ ℕ sig_step what_step components_
 w7 w = fold_out-What ℕ ℕ ℕ ℕ ℕ sig_step what_step components_step entry_step template_step w ∙ w6 (out-What w)
 
 -- an entry weighs more than what stands in it
-contents_weight : (e : Entry) → entry_weight e ≡ suc (entries_weight (contents e))
+pub contents_weight : (e : Entry) → entry_weight e ≡ suc (entries_weight (contents e))
 contents_weight e = w1 e ∙ ap suc (w7 e.what)
 
 after_entry : (way seen : List Name) (e : Entry) (es : List Entry) (m a : Bool) → queue_weight (modules_behind way seen es) ≤ entries_weight es → queue_weight (modules_behind way (str_bytes e.name ∷ seen) es) ≤ entries_weight es →

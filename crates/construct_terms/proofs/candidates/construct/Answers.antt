@@ -1,7 +1,7 @@
 use Rattle.std.proofs.Common.{rules, ◌≡◌, ℕ, List, [], ◌∷◌, ◌++◌, Option, subst, ◌∙◌, sym}
 use Rattle.construct_terms.specs.Terms.{AreKept, told_by}
 use Rattle.construct_terms.proofs.Kept.{kept_more, kept_same}
-use Rattle.construct_terms.proofs.construct.Goals as goal
+use Rattle.construct_terms.proofs.candidates.construct.Goals as goal
 
 -- src/lib.rt:260:5
 pub loop-candidate-preserved-in-Continue-branch-3 : goal.loop-candidate-preserved-in-Continue-branch-3

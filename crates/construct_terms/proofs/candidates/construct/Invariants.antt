@@ -1,7 +1,7 @@
 use Rattle.std.proofs.Common.{◌≡◌}
 use Rattle.syntax_tree.specs.Tallies.{Grows}
 use Rattle.construct_terms.specs.Terms.{AreKept, told_by}
-use Rattle.construct_terms.proofs.construct.Given as goal
+use Rattle.construct_terms.proofs.candidates.construct.Given as goal
 
 abbrev pub invariant-loop-candidate : goal.invariant-loop-candidate
 invariant-loop-candidate g l =

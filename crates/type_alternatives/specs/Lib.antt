@@ -1,0 +1,5 @@
+pub mod Parts
+pub mod Alternatives
+pub mod Levels
+pub mod Standing
+pub mod Templates
