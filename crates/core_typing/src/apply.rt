@@ -1,6 +1,8 @@
 //! Applications: of an expression, of an operator and of a constructor.
+ghost use Rattle.decl_typing.specs.Goes.{Goes};
+
 use crate::constants::Sign;
-use crate::rows::{Next, next_of};
+use crate::rows::{Next, equal_if, next_of, type_or_var};
 use crate::uses::{Names, Used, constructor, value};
 use crate::values::is_constructor;
 use decl_typing::{Env, NoMemory, NodeRef, Parts};
@@ -46,7 +48,9 @@ impl<'a> Application<'a> {
         node: &'a Node,
         number: u32,
         env: &Env,
-    ) -> Result<Application<'a>, NoMemory> {
+    ) -> Result<Application<'a>, NoMemory>
+        ensures goes { Goes at.old at.new }
+    {
         let head = operand_in(node, number, 0);
         let mut row = Application {
             env: env.share()?,
@@ -67,7 +71,9 @@ impl<'a> Application<'a> {
     }
 
     /// The head is a constructor.
-    fn construct(&mut self, at: &mut Parts, head: Operand<'a>) -> Result<(), NoMemory> {
+    fn construct(&mut self, at: &mut Parts, head: Operand<'a>) -> Result<(), NoMemory>
+        ensures goes { Goes at.old at.new }
+    {
         let path = constructor_path(at, head)?;
         let found = constructor(at, &self.env, &path, 1)?;
         at.note(head.number, &self.env, Some(found.built), found.names)?;
@@ -89,7 +95,9 @@ impl<'a> Application<'a> {
         sign: Sign,
         arguments: Vec<Operand<'a>>,
         env: &Env,
-    ) -> Result<Application<'a>, NoMemory> {
+    ) -> Result<Application<'a>, NoMemory>
+        ensures goes { Goes at.old at.new }
+    {
         let mut row = Application {
             env: env.share()?,
             place: Span { start: 0, end: 0 },
@@ -122,15 +130,13 @@ impl<'a> Application<'a> {
         Ok(row)
     }
 
-    pub fn next(&mut self, at: &mut Parts) -> Result<Option<Next<'a>>, NoMemory> {
+    pub fn next(&mut self, at: &mut Parts) -> Result<Option<Next<'a>>, NoMemory>
+        ensures goes { Goes at.old at.new }
+    {
         if let (Ahead::Head, Some(head)) = (self.ahead, &self.head) {
             return next_of(Some(head), &self.env);
         }
-        if self.done < self.arguments.len() {
-            if let Ahead::Arrow = self.ahead {
-                self.split(at)?;
-            }
-        }
+        self.split(at)?;
         match self.arguments.get(self.done) {
             None => Ok(None),
             Some(part) => Ok(Some(Next {
@@ -141,52 +147,70 @@ impl<'a> Application<'a> {
         }
     }
 
-    /// The head's type is an arrow.
-    fn split(&mut self, at: &mut Parts) -> Result<(), NoMemory> {
+    /// Where an argument of an arrow follows: the head's type is an arrow.
+    fn split(&mut self, at: &mut Parts) -> Result<(), NoMemory>
+        ensures goes { Goes at.old at.new }
+    {
+        let (Ahead::Arrow, true) = (self.ahead, self.done < self.arguments.len()) else {
+            return Ok(());
+        };
         let from = at.var()?;
         let to = at.var()?;
-        if let Some(head) = self.ty {
-            let arrow = at.arrow(from, to)?;
-            at.equal(self.place, head, arrow, &self.env)?;
-        }
+        self.ask_arrow(at, from, to)?;
         self.sides = Some((from, to));
         Ok(())
     }
 
-    pub fn take(&mut self, at: &mut Parts, ty: NodeRef) -> Result<(), NoMemory> {
+    /// The demand that the head's type is the arrow between two types.
+    fn ask_arrow(&self, at: &mut Parts, from: NodeRef, to: NodeRef) -> Result<(), NoMemory>
+        ensures goes { Goes at.old at.new }
+    {
+        let Some(head) = self.ty else {
+            return Ok(());
+        };
+        let arrow = at.arrow(from, to)?;
+        at.equal(self.place, head, arrow, &self.env)?;
+        Ok(())
+    }
+
+    pub fn take(&mut self, at: &mut Parts, ty: NodeRef) -> Result<(), NoMemory>
+        ensures goes { Goes at.old at.new }
+    {
         let span = match self.arguments.get(self.done) {
             Some(argument) => argument.span,
             None => self.place,
         };
-        match self.ahead {
-            Ahead::Head => {
-                self.ty = Some(ty);
-                self.ahead = Ahead::Arrow;
-                return Ok(());
-            }
-            Ahead::Arrow => {
-                if let Some((from, to)) = self.sides {
-                    at.equal(span, ty, from, &self.env)?;
-                    self.ty = Some(to);
-                }
-            }
-            Ahead::Declared(wanted) => {
-                if let Some(wanted) = wanted {
-                    at.equal(span, ty, wanted, &self.env)?;
-                }
-                self.ahead = Ahead::Arrow;
-            }
-            Ahead::Nothing => {}
+        if let Ahead::Head = self.ahead {
+            self.ty = Some(ty);
+            self.ahead = Ahead::Arrow;
+            return Ok(());
         }
         self.done = self.done.saturating_add(1);
+        match self.ahead {
+            Ahead::Arrow => self.take_side(at, span, ty),
+            Ahead::Declared(wanted) => {
+                self.ahead = Ahead::Arrow;
+                equal_if(at, span, ty, wanted, &self.env)
+            }
+            _ => Ok(()),
+        }
+    }
+
+    /// The argument of an arrow is its left side, and its right side is left.
+    fn take_side(&mut self, at: &mut Parts, span: Span, ty: NodeRef) -> Result<(), NoMemory>
+        ensures goes { Goes at.old at.new }
+    {
+        if let Some((from, to)) = self.sides {
+            at.equal(span, ty, from, &self.env)?;
+            self.ty = Some(to);
+        }
         Ok(())
     }
 
-    pub fn finish(self, at: &mut Parts) -> Result<Used, NoMemory> {
-        let ty = match self.ty {
-            Some(ty) => ty,
-            None => at.var()?,
-        };
+    pub fn finish(self, at: &mut Parts) -> Result<Used, NoMemory>
+        ensures goes { Goes at.old at.new }
+    {
+        let ty = type_or_var(at, self.ty)?;
         Ok(Used {
             ty,
             names: self.names,

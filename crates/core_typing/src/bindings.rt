@@ -1,7 +1,9 @@
 //! Bindings: their demands in order, and their names with generalised types.
+ghost use Rattle.decl_typing.specs.Goes.{Goes};
+
 use crate::functions::{arrows, type_parameters, with_names};
 use crate::patterns::{BoundName, Matched, Mentioned, type_pattern};
-use crate::rows::{Next, next_of, unnamed};
+use crate::rows::{Next, equal_if, next_of, type_or_var, unnamed};
 use crate::uses::Used;
 use crate::values::{has_parameters, is_value};
 use crate::warnings::report_pattern;
@@ -69,7 +71,9 @@ impl<'a> Group<'a> {
         number: u32,
         env: &Env,
         depth: Depth,
-    ) -> Result<Group<'a>, NoMemory> {
+    ) -> Result<Group<'a>, NoMemory>
+        ensures goes { Goes at.old at.new }
+    {
         at.level = at.level.saturating_add(1);
         let recursion = if token(node, 1).is_some() {
             Recursion::Rec
@@ -87,14 +91,17 @@ impl<'a> Group<'a> {
             open: None,
             bound: Vec::new(at.alloc()),
         };
-        if recursion == Recursion::Rec {
-            group.patterns_first(at, depth)?;
-        }
+        group.patterns_first(at, depth)?;
         Ok(group)
     }
 
     /// With `rec` all patterns come first, and their names have one type each in all right sides.
-    fn patterns_first(&mut self, at: &mut Parts, depth: Depth) -> Result<(), NoMemory> {
+    fn patterns_first(&mut self, at: &mut Parts, depth: Depth) -> Result<(), NoMemory>
+        ensures goes { Goes at.old at.new }
+    {
+        if self.recursion == Recursion::None {
+            return Ok(());
+        }
         for place in 0..self.bindings.len() {
             if let Some(binding) = self.bindings.get(place).copied() {
                 at.note_plain(binding.number, &self.env)?;
@@ -120,7 +127,9 @@ impl<'a> Group<'a> {
         at: &mut Parts,
         binding: Operand<'a>,
         depth: Depth,
-    ) -> Result<(), NoMemory> {
+    ) -> Result<(), NoMemory>
+        ensures goes { Goes at.old at.new }
+    {
         if let Some(node) = binding.node {
             let pattern = operand_in(node, binding.number, 0);
             let faults_before = at.faults.list.len();
@@ -132,7 +141,9 @@ impl<'a> Group<'a> {
     }
 
     /// The next right side; None where all are typed.
-    pub fn next(&mut self, at: &mut Parts, depth: Depth) -> Result<Option<Next<'a>>, NoMemory> {
+    pub fn next(&mut self, at: &mut Parts, depth: Depth) -> Result<Option<Next<'a>>, NoMemory>
+        ensures goes { Goes at.old at.new }
+    {
         let Some(binding) = self.bindings.get(self.bound.len()).copied() else {
             return Ok(None);
         };
@@ -155,7 +166,9 @@ impl<'a> Group<'a> {
         node: &'a Node,
         number: u32,
         depth: Depth,
-    ) -> Result<Open<'a>, NoMemory> {
+    ) -> Result<Open<'a>, NoMemory>
+        ensures goes { Goes at.old at.new }
+    {
         let parameters = operands(at.alloc(), node, number, 1)?;
         let (parameters, inner) = type_parameters(at, &parameters, &self.within, depth)?;
         let annotation = match first_operand(node, number, 3) {
@@ -173,7 +186,9 @@ impl<'a> Group<'a> {
     }
 
     /// Takes the type of a right side: it is the annotation, and the pattern is the whole.
-    pub fn take(&mut self, at: &mut Parts, ty: NodeRef, depth: Depth) -> Result<(), NoMemory> {
+    pub fn take(&mut self, at: &mut Parts, ty: NodeRef, depth: Depth) -> Result<(), NoMemory>
+        ensures goes { Goes at.old at.new }
+    {
         let place = self.bound.len();
         let Some(open) = self.open.take() else {
             return Ok(());
@@ -181,15 +196,8 @@ impl<'a> Group<'a> {
         let Some(binding) = self.bindings.get(place).copied() else {
             return Ok(());
         };
-        let mut right = ty;
-        if let Some(annotation) = open.annotation {
-            at.equal(open.body.span, ty, annotation, &self.env)?;
-            right = annotation;
-        }
-        let whole = arrows(at, &open.parameters, right)?;
-        if self.recursion == Recursion::None {
-            self.match_pattern(at, binding, depth)?;
-        }
+        let whole = self.whole(at, &open, ty)?;
+        self.match_behind(at, binding, depth)?;
         self.pattern_has(at, place, binding, whole, depth)?;
         let generalises = match binding.node {
             Some(node) => {
@@ -206,6 +214,29 @@ impl<'a> Group<'a> {
         )
     }
 
+    /// The type of a binding: from its parameters to its annotation, which its right side is, or else to its right side.
+    fn whole(&self, at: &mut Parts, open: &Open<'a>, ty: NodeRef) -> Result<NodeRef, NoMemory>
+        ensures goes { Goes at.old at.new }
+    {
+        equal_if(at, open.body.span, ty, open.annotation, &self.env)?;
+        arrows(at, &open.parameters, open.annotation.unwrap_or(ty))
+    }
+
+    /// Without `rec` a pattern comes behind its right side.
+    fn match_behind(
+        &mut self,
+        at: &mut Parts,
+        binding: Operand<'a>,
+        depth: Depth,
+    ) -> Result<(), NoMemory>
+        ensures goes { Goes at.old at.new }
+    {
+        match self.recursion {
+            Recursion::Rec => Ok(()),
+            Recursion::None => self.match_pattern(at, binding, depth),
+        }
+    }
+
     /// The demand that a pattern is the whole.
     fn pattern_has(
         &self,
@@ -214,7 +245,9 @@ impl<'a> Group<'a> {
         binding: Operand<'a>,
         whole: NodeRef,
         depth: Depth,
-    ) -> Result<(), NoMemory> {
+    ) -> Result<(), NoMemory>
+        ensures goes { Goes at.old at.new }
+    {
         if let (Some(matched), Some(node)) = (self.patterns.get(place), binding.node) {
             let pattern = operand_in(node, binding.number, 0);
             let verdict = at.equal(pattern.span, matched.ty, whole, &self.env)?;
@@ -227,7 +260,9 @@ impl<'a> Group<'a> {
 
     /// Closes the group. What stands in the types of right sides that are expansive, and of their names, is held; the types of
     /// names get this scope at most, and their variables are generalised.
-    pub fn close(self, at: &mut Parts, scope: u64) -> Result<Behind, NoMemory> {
+    pub fn close(self, at: &mut Parts, scope: u64) -> Result<Behind, NoMemory>
+        ensures goes { Goes at.old at.new }
+    {
         at.level = at.level.saturating_sub(1);
         let level = at.level;
         for (bound, matched) in self.bound.iter().zip(self.patterns.iter()) {
@@ -251,7 +286,9 @@ fn there<'a>(
     at: &mut Parts,
     env: &Env,
     operands: Vec<Operand<'a>>,
-) -> Result<Vec<Operand<'a>>, NoMemory> {
+) -> Result<Vec<Operand<'a>>, NoMemory>
+    ensures goes { Goes at.old at.new }
+{
     let mut found = Vec::new(at.alloc());
     for operand in operands {
         match operand.node {
@@ -263,7 +300,9 @@ fn there<'a>(
 }
 
 /// The variables in the types of names aren't generalised.
-fn hold(at: &mut Parts, names: &[BoundName<'_>], level: u32) -> Result<(), NoMemory> {
+fn hold(at: &mut Parts, names: &[BoundName<'_>], level: u32) -> Result<(), NoMemory>
+    ensures goes { Goes at.old at.new }
+{
     for name in names {
         at.limit(name.node, level, NO_SCOPE)?;
     }
@@ -276,7 +315,9 @@ fn close_names(
     names: &[BoundName<'_>],
     scope: u64,
     entries: &mut Vec<Rc<Entry>>,
-) -> Result<(), NoMemory> {
+) -> Result<(), NoMemory>
+    ensures goes { Goes at.old at.new }
+{
     for name in names {
         if scope != NO_SCOPE {
             at.limit(name.node, u32::MAX, scope)?;
@@ -308,14 +349,18 @@ impl<'a> LetIn<'a> {
         number: u32,
         env: &Env,
         depth: Depth,
-    ) -> Result<LetIn<'a>, NoMemory> {
+    ) -> Result<LetIn<'a>, NoMemory>
+        ensures goes { Goes at.old at.new }
+    {
         Ok(LetIn {
             body: operand_in(node, number, 5),
             stage: Stage::Bindings(Group::new(at, node, number, env, depth)?),
         })
     }
 
-    pub fn next(&mut self, at: &mut Parts, depth: Depth) -> Result<Option<Next<'a>>, NoMemory> {
+    pub fn next(&mut self, at: &mut Parts, depth: Depth) -> Result<Option<Next<'a>>, NoMemory>
+        ensures goes { Goes at.old at.new }
+    {
         match &mut self.stage {
             Stage::Bindings(group) => match group.next(at, depth)? {
                 Some(next) => Ok(Some(next)),
@@ -327,7 +372,9 @@ impl<'a> LetIn<'a> {
     }
 
     /// Closes the group and enters the body.
-    fn enter(&mut self, at: &mut Parts) -> Result<Option<Next<'a>>, NoMemory> {
+    fn enter(&mut self, at: &mut Parts) -> Result<Option<Next<'a>>, NoMemory>
+        ensures goes { Goes at.old at.new }
+    {
         let unknown = at.var()?;
         match std::mem::replace(&mut self.stage, Stage::Done(unknown)) {
             Stage::Bindings(group) => {
@@ -340,7 +387,9 @@ impl<'a> LetIn<'a> {
         }
     }
 
-    pub fn take(&mut self, at: &mut Parts, ty: NodeRef, depth: Depth) -> Result<(), NoMemory> {
+    pub fn take(&mut self, at: &mut Parts, ty: NodeRef, depth: Depth) -> Result<(), NoMemory>
+        ensures goes { Goes at.old at.new }
+    {
         match &mut self.stage {
             Stage::Bindings(group) => group.take(at, ty, depth),
             _ => {
@@ -350,11 +399,14 @@ impl<'a> LetIn<'a> {
         }
     }
 
-    pub fn finish(self, at: &mut Parts) -> Result<Used, NoMemory> {
-        let ty = match self.stage {
-            Stage::Done(ty) => ty,
-            _ => at.var()?,
+    pub fn finish(self, at: &mut Parts) -> Result<Used, NoMemory>
+        ensures goes { Goes at.old at.new }
+    {
+        let done = match self.stage {
+            Stage::Done(ty) => Some(ty),
+            _ => None,
         };
+        let ty = type_or_var(at, done)?;
         Ok(unnamed(at, ty))
     }
 }
@@ -366,7 +418,9 @@ pub fn type_bindings(
     number: u32,
     env: &Env,
     depth: Depth,
-) -> Result<Behind, NoMemory> {
+) -> Result<Behind, NoMemory>
+    ensures goes { Goes at.old at.new }
+{
     let mut group = Group::new(at, item, number, env, depth)?;
     for _ in 0..item.children.len() {
         match group.next(at, depth)? {

@@ -1,7 +1,9 @@
 //! Matches: `match`, `try` and `function`.
+ghost use Rattle.decl_typing.specs.Goes.{Goes};
+
 use crate::functions::with_names;
 use crate::patterns::type_pattern;
-use crate::rows::{Next, next_of, unnamed};
+use crate::rows::{Next, equal_if, next_of, type_or_var, unnamed};
 use crate::uses::Used;
 use crate::warnings::Rows;
 use decl_typing::{Depth, Env, NoMemory, NodeRef, Parts};
@@ -49,7 +51,9 @@ impl<'a> Cases<'a> {
         node: &'a Node,
         number: u32,
         env: &Env,
-    ) -> Result<Cases<'a>, NoMemory> {
+    ) -> Result<Cases<'a>, NoMemory>
+        ensures goes { Goes at.old at.new }
+    {
         let mut row = Cases {
             row: node.row,
             env: env.share()?,
@@ -63,16 +67,18 @@ impl<'a> Cases<'a> {
             span: node.span,
             rows: Rows::new(at.alloc()),
         };
-        if node.row == RowName::Efunction {
-            row.subject_type = Some(at.var()?);
-        } else {
+        if node.row != RowName::Efunction {
             row.subject = Some(operand_in(node, number, 1));
             row.turn = Turn::Subject;
+            return Ok(row);
         }
+        row.subject_type = Some(at.var()?);
         Ok(row)
     }
 
-    pub fn next(&mut self, at: &mut Parts, depth: Depth) -> Result<Option<Next<'a>>, NoMemory> {
+    pub fn next(&mut self, at: &mut Parts, depth: Depth) -> Result<Option<Next<'a>>, NoMemory>
+        ensures goes { Goes at.old at.new }
+    {
         match self.turn {
             Turn::Subject => return next_of(self.subject.as_ref(), &self.env),
             Turn::Pattern => self.open_case(at, depth)?,
@@ -88,7 +94,9 @@ impl<'a> Cases<'a> {
     }
 
     /// Types the pattern of the next case that is there.
-    fn open_case(&mut self, at: &mut Parts, depth: Depth) -> Result<(), NoMemory> {
+    fn open_case(&mut self, at: &mut Parts, depth: Depth) -> Result<(), NoMemory>
+        ensures goes { Goes at.old at.new }
+    {
         self.open = None;
         for place in self.done..self.cases.len() {
             self.done = place.saturating_add(1);
@@ -109,14 +117,14 @@ impl<'a> Cases<'a> {
         node: &'a Node,
         number: u32,
         depth: Depth,
-    ) -> Result<(), NoMemory> {
+    ) -> Result<(), NoMemory>
+        ensures goes { Goes at.old at.new }
+    {
         let pattern = operand_in(node, number, 0);
         let faults_before = at.faults.list.len();
         let mut seen = Vec::new(at.alloc());
         let matched = type_pattern(at, pattern, &self.env, &mut seen, depth.inside()?)?;
-        if let Some(subject) = self.subject_type {
-            at.equal(pattern.span, matched.ty, subject, &self.env)?;
-        }
+        equal_if(at, pattern.span, matched.ty, self.subject_type, &self.env)?;
         let guard = first_operand(node, number, 2);
         self.rows.add(
             at,
@@ -140,7 +148,9 @@ impl<'a> Cases<'a> {
         Ok(())
     }
 
-    pub fn take(&mut self, at: &mut Parts, ty: NodeRef) -> Result<(), NoMemory> {
+    pub fn take(&mut self, at: &mut Parts, ty: NodeRef) -> Result<(), NoMemory>
+        ensures goes { Goes at.old at.new }
+    {
         match self.turn {
             Turn::Subject => {
                 if self.row == RowName::Etry {
@@ -165,7 +175,9 @@ impl<'a> Cases<'a> {
     }
 
     /// A guard is a bool.
-    fn guarded(&mut self, at: &mut Parts, ty: NodeRef) -> Result<(), NoMemory> {
+    fn guarded(&mut self, at: &mut Parts, ty: NodeRef) -> Result<(), NoMemory>
+        ensures goes { Goes at.old at.new }
+    {
         if let Some(open) = &self.open {
             if let Some(guard) = open.guard {
                 let bool = at.constants.bool;
@@ -176,7 +188,9 @@ impl<'a> Cases<'a> {
     }
 
     /// A body has the type of the first.
-    fn concluded(&mut self, at: &mut Parts, ty: NodeRef) -> Result<(), NoMemory> {
+    fn concluded(&mut self, at: &mut Parts, ty: NodeRef) -> Result<(), NoMemory>
+        ensures goes { Goes at.old at.new }
+    {
         let Some(open) = &self.open else {
             return Ok(());
         };
@@ -189,16 +203,17 @@ impl<'a> Cases<'a> {
         Ok(())
     }
 
-    pub fn finish(self, at: &mut Parts) -> Result<Used, NoMemory> {
+    pub fn finish(self, at: &mut Parts) -> Result<Used, NoMemory>
+        ensures goes { Goes at.old at.new }
+    {
         self.rows.report(at, self.row, self.span)?;
-        let body = match self.result_type {
-            Some(ty) => ty,
-            None => at.var()?,
-        };
-        let ty = match (self.row, self.subject_type) {
-            (RowName::Efunction, Some(subject)) => at.arrow(subject, body)?,
-            _ => body,
-        };
-        Ok(unnamed(at, ty))
+        let body = type_or_var(at, self.result_type)?;
+        match (self.row, self.subject_type) {
+            (RowName::Efunction, Some(subject)) => {
+                let ty = at.arrow(subject, body)?;
+                Ok(unnamed(at, ty))
+            }
+            _ => Ok(unnamed(at, body)),
+        }
     }
 }

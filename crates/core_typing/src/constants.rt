@@ -1,4 +1,6 @@
 //! Constants: their types and ranges.
+ghost use Rattle.decl_typing.specs.Goes.{Goes};
+
 use decl_typing::{NoMemory, NodeRef, Parts};
 use syntax_tree::{Token, TokenKind};
 
@@ -59,7 +61,9 @@ pub fn in_range(digits: &[u8], sign: Sign) -> bool {
 }
 
 /// The type of a constant, with its demand `range`; a missing one may have any type.
-pub fn constant(at: &mut Parts, token: Option<&Token>, sign: Sign) -> Result<NodeRef, NoMemory> {
+pub fn constant(at: &mut Parts, token: Option<&Token>, sign: Sign) -> Result<NodeRef, NoMemory>
+    ensures goes { Goes at.old at.new }
+{
     let Some(token) = token else {
         return at.var();
     };

@@ -1,4 +1,6 @@
 //! The walk over expressions.
+ghost use Rattle.decl_typing.specs.Goes.{Goes};
+
 use crate::apply::{Application, constructor_path};
 use crate::bindings::LetIn;
 use crate::cases::Cases;
@@ -19,35 +21,60 @@ pub fn type_expr(
     e: Operand<'_>,
     env: &Env,
     depth: Depth,
-) -> Result<NodeRef, NoMemory> {
+) -> Result<NodeRef, NoMemory>
+    ensures goes { Goes at.old at.new }
+{
     type_under(at, e, Sign::None, env, depth)
 }
 
 /// Types an expression behind what stands directly in front of it.
+#[cycle(exprs)]
 fn type_under(
     at: &mut Parts,
     e: Operand<'_>,
     sign: Sign,
     env: &Env,
     depth: Depth,
-) -> Result<NodeRef, NoMemory> {
+) -> Result<NodeRef, NoMemory>
+    ensures goes { Goes at.old at.new }
+{
     let Some(node) = e.node else {
         let ty = at.var()?;
         at.note_type(e.number, env, ty)?;
         return Ok(ty);
     };
     let mut row = begin(at, node, e.number, sign, env, depth)?;
-    for _ in 0..node.size {
-        match row.next(at, depth)? {
-            None => break,
-            Some(next) => {
-                let ty = type_under(at, next.part, next.sign, &next.env, depth.inside()?)?;
-                row.take(at, ty, depth)?;
-            }
-        }
+    type_parts(at, &mut row, node.size, depth)?;
+    concluded(at, row, e.number, env, depth)
+}
+
+/// Types the parts of a row in order, of which there are so many at most.
+#[cycle(exprs)]
+fn type_parts(at: &mut Parts, row: &mut Row<'_>, most: u32, depth: Depth) -> Result<(), NoMemory>
+    ensures goes { Goes at.old at.new }
+{
+    for _ in 0..most {
+        let Some(next) = row.next(at, depth)? else {
+            return Ok(());
+        };
+        let ty = type_under(at, next.part, next.sign, &next.env, depth.inside()?)?;
+        row.take(at, ty, depth)?;
     }
+    Ok(())
+}
+
+/// Records a row whose parts are typed: its type.
+fn concluded(
+    at: &mut Parts,
+    row: Row<'_>,
+    number: u32,
+    env: &Env,
+    depth: Depth,
+) -> Result<NodeRef, NoMemory>
+    ensures goes { Goes at.old at.new }
+{
     let used = row.finish(at, depth)?;
-    at.note(e.number, env, Some(used.ty), used.names)?;
+    at.note(number, env, Some(used.ty), used.names)?;
     Ok(used.ty)
 }
 
@@ -59,7 +86,9 @@ fn begin<'a>(
     sign: Sign,
     env: &Env,
     depth: Depth,
-) -> Result<Row<'a>, NoMemory> {
+) -> Result<Row<'a>, NoMemory>
+    ensures goes { Goes at.old at.new }
+{
     match node.row {
         RowName::Name | RowName::Econ | RowName::Epath | RowName::Econst | RowName::Hole => {
             Ok(Row::Done(leaf(at, node, number, sign, env)?))
@@ -78,7 +107,9 @@ fn begin<'a>(
 }
 
 /// A row without parts.
-fn leaf(at: &mut Parts, node: &Node, number: u32, sign: Sign, env: &Env) -> Result<Used, NoMemory> {
+fn leaf(at: &mut Parts, node: &Node, number: u32, sign: Sign, env: &Env) -> Result<Used, NoMemory>
+    ensures goes { Goes at.old at.new }
+{
     if is_constructor(Operand::of(node, number)) {
         let path = constructor_path(at, Operand::of(node, number))?;
         let found = constructor(at, env, &path, 0)?;
@@ -108,12 +139,9 @@ fn leaf(at: &mut Parts, node: &Node, number: u32, sign: Sign, env: &Env) -> Resu
 }
 
 /// ! e, e + e
-fn operator<'a>(
-    at: &mut Parts,
-    node: &'a Node,
-    number: u32,
-    env: &Env,
-) -> Result<Row<'a>, NoMemory> {
+fn operator<'a>(at: &mut Parts, node: &'a Node, number: u32, env: &Env) -> Result<Row<'a>, NoMemory>
+    ensures goes { Goes at.old at.new }
+{
     let sign = match node.row {
         RowName::Prefix => token(node, 0),
         _ => token(node, 1),
@@ -136,7 +164,9 @@ fn constant_under(e: Operand<'_>) -> Option<&Token> {
 }
 
 /// - e, -. e: over a numeral with a point its type is float, and elsewhere it is ~- or ~-. with its argument
-fn minus<'a>(at: &mut Parts, node: &'a Node, number: u32, env: &Env) -> Result<Row<'a>, NoMemory> {
+fn minus<'a>(at: &mut Parts, node: &'a Node, number: u32, env: &Env) -> Result<Row<'a>, NoMemory>
+    ensures goes { Goes at.old at.new }
+{
     let part = operand_in(node, number, 1);
     if let Some(literal) = constant_under(part) {
         if literal.kind == TokenKind::Float {

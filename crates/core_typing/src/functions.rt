@@ -1,6 +1,8 @@
 //! fun p p -> e
-use crate::patterns::{BoundName, type_pattern};
-use crate::rows::{Next, next_of, unnamed};
+ghost use Rattle.decl_typing.specs.Goes.{Goes};
+
+use crate::patterns::{BoundName, Matched, type_pattern};
+use crate::rows::{Next, next_of, type_or_var, unnamed};
 use crate::uses::Used;
 use crate::warnings::report_pattern;
 use decl_typing::{Depth, Env, NoMemory, NodeRef, Parts, share_entry};
@@ -24,20 +26,36 @@ pub fn type_parameters(
     parameters: &[Operand<'_>],
     env: &Env,
     depth: Depth,
-) -> Result<(Vec<NodeRef>, Env), NoMemory> {
+) -> Result<(Vec<NodeRef>, Env), NoMemory>
+    ensures goes { Goes at.old at.new }
+{
     let mut types = Vec::new(at.alloc());
     let mut inner = env.share()?;
     for parameter in parameters {
-        let faults_before = at.faults.list.len();
-        let mut seen = Vec::new(at.alloc());
-        let matched = type_pattern(at, *parameter, env, &mut seen, depth.inside()?)?;
-        if at.faults.list.len() == faults_before {
-            report_pattern(at, *parameter, env, depth)?;
-        }
+        let matched = type_parameter(at, *parameter, env, depth)?;
         push(&mut types, matched.ty)?;
         inner = with_names(at.alloc(), &matched.names, &inner)?;
     }
     Ok((types, inner))
+}
+
+/// Types a parameter, with the warning of its pattern, where no fault was reported in it.
+fn type_parameter<'a>(
+    at: &mut Parts,
+    parameter: Operand<'a>,
+    env: &Env,
+    depth: Depth,
+) -> Result<Matched<'a>, NoMemory>
+    ensures goes { Goes at.old at.new }
+{
+    let faults_before = at.faults.list.len();
+    let mut seen = Vec::new(at.alloc());
+    let matched = type_pattern(at, parameter, env, &mut seen, depth.inside()?)?;
+    if at.faults.list.len() != faults_before {
+        return Ok(matched);
+    }
+    report_pattern(at, parameter, env, depth)?;
+    Ok(matched)
 }
 
 /// The environment with the names of a pattern, in order.
@@ -50,7 +68,9 @@ pub fn with_names(alloc: Global, names: &[BoundName<'_>], env: &Env) -> Result<E
 }
 
 /// The arrow from the types of parameters to a type.
-pub fn arrows(at: &mut Parts, parameters: &[NodeRef], to: NodeRef) -> Result<NodeRef, NoMemory> {
+pub fn arrows(at: &mut Parts, parameters: &[NodeRef], to: NodeRef) -> Result<NodeRef, NoMemory>
+    ensures goes { Goes at.old at.new }
+{
     let mut ty = to;
     for parameter in parameters.iter().rev() {
         ty = at.arrow(*parameter, ty)?;
@@ -65,7 +85,9 @@ impl<'a> Function<'a> {
         number: u32,
         env: &Env,
         depth: Depth,
-    ) -> Result<Function<'a>, NoMemory> {
+    ) -> Result<Function<'a>, NoMemory>
+        ensures goes { Goes at.old at.new }
+    {
         let parameters = operands(at.alloc(), node, number, 1)?;
         let (parameters, inner) = type_parameters(at, &parameters, env, depth)?;
         Ok(Function {
@@ -88,11 +110,10 @@ impl<'a> Function<'a> {
         Ok(())
     }
 
-    pub fn finish(self, at: &mut Parts) -> Result<Used, NoMemory> {
-        let body = match self.ty {
-            Some(ty) => ty,
-            None => at.var()?,
-        };
+    pub fn finish(self, at: &mut Parts) -> Result<Used, NoMemory>
+        ensures goes { Goes at.old at.new }
+    {
+        let body = type_or_var(at, self.ty)?;
         let ty = arrows(at, &self.parameters, body)?;
         Ok(unnamed(at, ty))
     }

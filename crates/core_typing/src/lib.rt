@@ -3,7 +3,7 @@
 //! A row is a small machine (`Row`): it gives its next part with the names in scope there, takes the part's type, and at the end
 //! tells its own; `type_expr` is the one walk over all of them. Above, a binding's names are entries whose types are generalised
 //! by level (`type_bindings`), and each node and missing operand that is treated is recorded in the index.
-#![tactic(auto)]
+#![tactic(auto, using(decl_typing::proofs::Going::goes_trans, decl_typing::proofs::Going::goes_refl))]
 
 mod apply;
 mod bindings;

@@ -1,8 +1,11 @@
 //! Patterns.
+ghost use Rattle.decl_typing.specs.Goes.{Goes};
+
 use crate::constants::{Sign, constant};
+use crate::rows::{equal_if, type_or_var};
 use crate::uses::{
-    Names, RecordType, constructor, field_type, is_again, label_entry, push_label, record_type,
-    report_lost, report_unbound,
+    Names, RecordType, ask_new_label, constructor, field_type, is_again, label_entry, push_label,
+    record_type, report_lost, report_unbound,
 };
 use decl_typing::{Depth, Env, NoMemory, NodeRef, Parts, Variables, new_entry, share_entry};
 use env_table::{Entry, Kind, Path, What};
@@ -11,7 +14,7 @@ use row_parts::{
     Operand, WrittenPath, first_operand, operand_in, operands, operands_of, token, written_path,
 };
 use std::rc::Rc;
-use syntax_tree::{Node, RowName, Token};
+use syntax_tree::{Node, RowName, Span, Token};
 
 /// A name that a pattern binds, with its type.
 #[derive(Drop)]
@@ -47,7 +50,9 @@ fn bound_name<'a>(at: &Parts, token: &'a Token, node: NodeRef) -> Result<BoundNa
 }
 
 /// The demand that a name is new within its pattern.
-fn is_new<'a>(at: &mut Parts, seen: &mut Mentioned<'a>, token: &'a Token) -> Result<(), NoMemory> {
+fn is_new<'a>(at: &mut Parts, seen: &mut Mentioned<'a>, token: &'a Token) -> Result<(), NoMemory>
+    ensures goes { Goes at.old at.new }
+{
     if is_again(seen, token)? {
         at.twice(token.span, token.name.as_str())?;
     }
@@ -62,7 +67,9 @@ pub fn type_pattern<'a>(
     env: &Env,
     seen: &mut Mentioned<'a>,
     depth: Depth,
-) -> Result<Matched<'a>, NoMemory> {
+) -> Result<Matched<'a>, NoMemory>
+    ensures goes { Goes at.old at.new }
+{
     let Some(node) = p.node else {
         at.note_plain(p.number, env)?;
         let ty = at.var()?;
@@ -96,7 +103,9 @@ fn in_order<'a>(
     env: &Env,
     seen: &mut Mentioned<'a>,
     depth: Depth,
-) -> Result<Inner<'a>, NoMemory> {
+) -> Result<Inner<'a>, NoMemory>
+    ensures goes { Goes at.old at.new }
+{
     let operands = patterns_of(at, node, number)?;
     let mut types = Vec::new(at.alloc());
     let mut names = Vec::new(at.alloc());
@@ -137,7 +146,9 @@ fn formed<'a>(
     env: &Env,
     seen: &mut Mentioned<'a>,
     depth: Depth,
-) -> Result<Matched<'a>, NoMemory> {
+) -> Result<Matched<'a>, NoMemory>
+    ensures goes { Goes at.old at.new }
+{
     match node.row {
         RowName::Pname => name(at, node, number, env, seen),
         RowName::Pas => named(at, node, number, inner, env, seen),
@@ -166,7 +177,9 @@ fn unnamed(
     inner: &Inner<'_>,
     env: &Env,
     depth: Depth,
-) -> Result<NodeRef, NoMemory> {
+) -> Result<NodeRef, NoMemory>
+    ensures goes { Goes at.old at.new }
+{
     match node.row {
         RowName::Pconst => constant(at, token(node, 0), Sign::None),
         RowName::Pneg => constant(at, token(node, 1), Sign::Minus),
@@ -185,7 +198,9 @@ fn name<'a>(
     number: u32,
     env: &Env,
     seen: &mut Mentioned<'a>,
-) -> Result<Matched<'a>, NoMemory> {
+) -> Result<Matched<'a>, NoMemory>
+    ensures goes { Goes at.old at.new }
+{
     let ty = at.var()?;
     let mut matched = nothing_bound(at, ty);
     let Some(token) = token(node, 0) else {
@@ -208,11 +223,10 @@ fn named<'a>(
     inner: Inner<'a>,
     env: &Env,
     seen: &mut Mentioned<'a>,
-) -> Result<Matched<'a>, NoMemory> {
-    let ty = match inner.types.first() {
-        Some(ty) => *ty,
-        None => at.var()?,
-    };
+) -> Result<Matched<'a>, NoMemory>
+    ensures goes { Goes at.old at.new }
+{
+    let ty = type_or_var(at, inner.types.first().copied())?;
     let mut matched = Matched {
         ty,
         names: inner.names,
@@ -237,7 +251,9 @@ fn parenthesised(
     inner: &Inner<'_>,
     env: &Env,
     depth: Depth,
-) -> Result<NodeRef, NoMemory> {
+) -> Result<NodeRef, NoMemory>
+    ensures goes { Goes at.old at.new }
+{
     let (Some(ty), Some(part)) = (inner.types.first(), inner.operands.first()) else {
         return at.var();
     };
@@ -252,7 +268,9 @@ fn parenthesised(
 }
 
 /// [ p; p ]: each part behind the first has its type
-fn list(at: &mut Parts, inner: &Inner<'_>, env: &Env) -> Result<NodeRef, NoMemory> {
+fn list(at: &mut Parts, inner: &Inner<'_>, env: &Env) -> Result<NodeRef, NoMemory>
+    ensures goes { Goes at.old at.new }
+{
     let Some(first) = inner.types.first() else {
         let element = at.var()?;
         return at.list(element);
@@ -264,7 +282,9 @@ fn list(at: &mut Parts, inner: &Inner<'_>, env: &Env) -> Result<NodeRef, NoMemor
 }
 
 /// p :: p: the right part is a list of the left
-fn cons(at: &mut Parts, inner: &Inner<'_>, env: &Env) -> Result<NodeRef, NoMemory> {
+fn cons(at: &mut Parts, inner: &Inner<'_>, env: &Env) -> Result<NodeRef, NoMemory>
+    ensures goes { Goes at.old at.new }
+{
     let [left, right] = inner.types.as_slice() else {
         return at.var();
     };
@@ -284,21 +304,48 @@ fn applied<'a>(
     env: &Env,
     seen: &mut Mentioned<'a>,
     depth: Depth,
-) -> Result<Matched<'a>, NoMemory> {
+) -> Result<Matched<'a>, NoMemory>
+    ensures goes { Goes at.old at.new }
+{
     let head = operand_in(node, number, 0);
     let argument = operand_in(node, number, 1);
+    let (built, wanted) = construction(at, head, env)?;
+    let inner = type_pattern(at, argument, env, seen, depth.inside()?)?;
+    ask_argument(at, argument.span, inner.ty, wanted, number, env, built)?;
+    Ok(Matched {
+        ty: built,
+        names: inner.names,
+    })
+}
+
+/// The demand that an argument is the declared one, where one is; the pattern has the type of the constructor's result.
+fn ask_argument(
+    at: &mut Parts,
+    span: Span,
+    found: NodeRef,
+    wanted: Option<NodeRef>,
+    number: u32,
+    env: &Env,
+    built: NodeRef,
+) -> Result<(), NoMemory>
+    ensures goes { Goes at.old at.new }
+{
+    equal_if(at, span, found, wanted, env)?;
+    at.note_type(number, env, built)
+}
+
+/// The constructor in front of an argument: the type of its result, and that of the argument, where it has one.
+fn construction(
+    at: &mut Parts,
+    head: Operand<'_>,
+    env: &Env,
+) -> Result<(NodeRef, Option<NodeRef>), NoMemory>
+    ensures goes { Goes at.old at.new }
+{
     let path = head_path(at, head)?;
     let found = constructor(at, env, &path, 1)?;
     at.note(head.number, env, Some(found.built), found.names)?;
-    let inner = type_pattern(at, argument, env, seen, depth.inside()?)?;
-    if let Some(wanted) = found.argument {
-        at.equal(argument.span, inner.ty, wanted, env)?;
-    }
-    at.note_type(number, env, found.built)?;
-    Ok(Matched {
-        ty: found.built,
-        names: inner.names,
-    })
+    Ok((found.built, found.argument))
 }
 
 /// The path of a constructor that stands in front of its argument.
@@ -321,7 +368,9 @@ fn alternatives<'a>(
     env: &Env,
     seen: &mut Mentioned<'a>,
     depth: Depth,
-) -> Result<Matched<'a>, NoMemory> {
+) -> Result<Matched<'a>, NoMemory>
+    ensures goes { Goes at.old at.new }
+{
     let parts = operands_of(at.alloc(), node, number)?;
     let before = seen.len();
     let mut all: Mentioned<'a> = Vec::new(at.alloc());
@@ -333,15 +382,22 @@ fn alternatives<'a>(
     }
     append(seen, all)?;
     compare_sides(at, &parts, &sides, env)?;
-    let matched = match sides.into_iter().next() {
-        Some(first) => first,
-        None => {
-            let ty = at.var()?;
-            nothing_bound(at, ty)
-        }
-    };
+    let matched = first_side(at, sides)?;
     at.note_type(number, env, matched.ty)?;
     Ok(matched)
+}
+
+/// The first of some sides; where there is none, any type.
+fn first_side<'a>(at: &mut Parts, sides: Vec<Matched<'a>>) -> Result<Matched<'a>, NoMemory>
+    ensures goes { Goes at.old at.new }
+{
+    match sides.into_iter().next() {
+        Some(first) => Ok(first),
+        None => {
+            let ty = at.var()?;
+            Ok(nothing_bound(at, ty))
+        }
+    }
 }
 
 /// Moves the names behind a place into a list of their own.
@@ -363,18 +419,47 @@ fn compare_sides(
     parts: &[Operand<'_>],
     sides: &[Matched<'_>],
     env: &Env,
-) -> Result<(), NoMemory> {
+) -> Result<(), NoMemory>
+    ensures goes { Goes at.old at.new }
+{
     let Some(first) = sides.first() else {
         return Ok(());
     };
     for (part, side) in parts.iter().zip(sides.iter()).skip(1) {
-        if let Some(name) = name_apart(&first.names, &side.names) {
-            at.one_side(part.span, name.name.as_str())?;
-        }
-        compare_names(at, first, side, env)?;
-        at.equal(part.span, side.ty, first.ty, env)?;
+        compare_side(at, part.span, first, side, env)?;
     }
     Ok(())
+}
+
+/// The demands of a later side: it has the names of the first, with their types, and its type.
+fn compare_side(
+    at: &mut Parts,
+    span: Span,
+    first: &Matched<'_>,
+    side: &Matched<'_>,
+    env: &Env,
+) -> Result<(), NoMemory>
+    ensures goes { Goes at.old at.new }
+{
+    ask_sides(at, span, first, side)?;
+    compare_names(at, first, side, env)?;
+    at.equal(span, side.ty, first.ty, env)?;
+    Ok(())
+}
+
+/// The demand that no name stands on one of two sides alone.
+fn ask_sides(
+    at: &mut Parts,
+    span: Span,
+    first: &Matched<'_>,
+    side: &Matched<'_>,
+) -> Result<(), NoMemory>
+    ensures goes { Goes at.old at.new }
+{
+    match name_apart(&first.names, &side.names) {
+        Some(name) => at.one_side(span, name.name.as_str()),
+        None => Ok(()),
+    }
 }
 
 fn find<'a, 'b>(name: &Token, names: &'b [BoundName<'a>]) -> Option<&'b BoundName<'a>> {
@@ -407,7 +492,9 @@ fn compare_names(
     first: &Matched<'_>,
     side: &Matched<'_>,
     env: &Env,
-) -> Result<(), NoMemory> {
+) -> Result<(), NoMemory>
+    ensures goes { Goes at.old at.new }
+{
     for name in &first.names {
         if let Some(other) = find(name.token, &side.names) {
             at.equal(other.token.span, other.node, name.node, env)?;
@@ -453,27 +540,16 @@ fn record<'a>(
     env: &Env,
     seen: &mut Mentioned<'a>,
     depth: Depth,
-) -> Result<Matched<'a>, NoMemory> {
+) -> Result<Matched<'a>, NoMemory>
+    ensures goes { Goes at.old at.new }
+{
     let fields = fields_of(at, node, number)?;
     let found = record_of_fields(at, env, &fields)?;
-    let ty = match &found {
-        RecordType::Known(_, ty) => *ty,
-        RecordType::Open => at.var()?,
-    };
+    let ty = type_or_var(at, found.ty())?;
     let mut matched = nothing_bound(at, ty);
     let mut labels = Vec::new(at.alloc());
     for field in &fields {
-        let wanted = begin_field(at, env, &found, field, &mut labels)?;
-        let names = match field.pattern {
-            None => pun(at, env, field, wanted, seen)?,
-            Some(part) => {
-                let inner = type_pattern(at, part, env, seen, depth.inside()?)?;
-                if let Some(wanted) = wanted {
-                    at.equal(part.span, inner.ty, wanted, env)?;
-                }
-                inner.names
-            }
-        };
+        let names = bound_in(at, env, &found, field, &mut labels, seen, depth)?;
         append(&mut matched.names, names)?;
     }
     at.note_type(number, env, ty)?;
@@ -484,7 +560,9 @@ fn record_of_fields(
     at: &mut Parts,
     env: &Env,
     fields: &[FieldPattern<'_>],
-) -> Result<RecordType, NoMemory> {
+) -> Result<RecordType, NoMemory>
+    ensures goes { Goes at.old at.new }
+{
     let labels = labels_of(at, fields)?;
     match record_type(at, env, &labels)? {
         Some(found) => Ok(found),
@@ -504,7 +582,9 @@ fn labels_of(at: &Parts, fields: &[FieldPattern<'_>]) -> Result<Vec<Path>, NoMem
 }
 
 /// No record type has the labels: told at the first qualifier that leads to no module, or else at the first written label.
-fn report_labels(at: &mut Parts, env: &Env, fields: &[FieldPattern<'_>]) -> Result<(), NoMemory> {
+fn report_labels(at: &mut Parts, env: &Env, fields: &[FieldPattern<'_>]) -> Result<(), NoMemory>
+    ensures goes { Goes at.old at.new }
+{
     for field in fields {
         if report_lost(at, env, &field.label)? {
             return Ok(());
@@ -513,13 +593,37 @@ fn report_labels(at: &mut Parts, env: &Env, fields: &[FieldPattern<'_>]) -> Resu
     report_first(at, fields)
 }
 
-fn report_first(at: &mut Parts, fields: &[FieldPattern<'_>]) -> Result<(), NoMemory> {
+fn report_first(at: &mut Parts, fields: &[FieldPattern<'_>]) -> Result<(), NoMemory>
+    ensures goes { Goes at.old at.new }
+{
     for field in fields {
         if report_unbound(at, &field.label)? {
             return Ok(());
         }
     }
     Ok(())
+}
+
+/// The names that a field binds: its pattern is the field.
+#[cycle(patterns)]
+fn bound_in<'a>(
+    at: &mut Parts,
+    env: &Env,
+    found: &RecordType,
+    field: &FieldPattern<'a>,
+    labels: &mut Mentioned<'a>,
+    seen: &mut Mentioned<'a>,
+    depth: Depth,
+) -> Result<Vec<BoundName<'a>>, NoMemory>
+    ensures goes { Goes at.old at.new }
+{
+    let wanted = begin_field(at, env, found, field, labels)?;
+    let Some(part) = field.pattern else {
+        return pun(at, env, field, wanted, seen);
+    };
+    let inner = type_pattern(at, part, env, seen, depth.inside()?)?;
+    equal_if(at, part.span, inner.ty, wanted, env)?;
+    Ok(inner.names)
 }
 
 /// Records a field, and asks that its label is new where the record is found. The type of the field, where one is asked.
@@ -529,15 +633,12 @@ fn begin_field<'a>(
     found: &RecordType,
     field: &FieldPattern<'a>,
     labels: &mut Mentioned<'a>,
-) -> Result<Option<NodeRef>, NoMemory> {
+) -> Result<Option<NodeRef>, NoMemory>
+    ensures goes { Goes at.old at.new }
+{
     let names = field_names(at, env, found, &field.label)?;
     at.note(field.node.number, env, None, names)?;
-    if let Some(last) = field.label.last {
-        let again = is_again(labels, last)?;
-        if let (RecordType::Known(_, _), true) = (found, again) {
-            at.twice(last.span, last.name.as_str())?;
-        }
-    }
+    ask_new_label(at, found, labels, field.label.last)?;
     field_type(at, found, field.label.last)
 }
 
@@ -559,16 +660,15 @@ fn pun<'a>(
     field: &FieldPattern<'a>,
     wanted: Option<NodeRef>,
     seen: &mut Mentioned<'a>,
-) -> Result<Vec<BoundName<'a>>, NoMemory> {
+) -> Result<Vec<BoundName<'a>>, NoMemory>
+    ensures goes { Goes at.old at.new }
+{
     let mut names = Vec::new(at.alloc());
     let Some(token) = field.label.last else {
         return Ok(names);
     };
     is_new(at, seen, token)?;
-    let ty = match wanted {
-        Some(ty) => ty,
-        None => at.var()?,
-    };
+    let ty = type_or_var(at, wanted)?;
     let bound = bound_name(at, token, ty)?;
     let entry = share_entry(&bound.entry)?;
     let seen_names = at.seen_names(env, &field.label, Some(&entry))?;

@@ -1,5 +1,7 @@
 //! Rows whose parts are typed one after the other, with demands between and behind them.
-use crate::rows::{Next, next_of};
+ghost use Rattle.decl_typing.specs.Goes.{Goes};
+
+use crate::rows::{Next, next_of, type_or_var};
 use crate::uses::{LabelUse, Names, Used, field_label};
 use crate::values::is_false;
 use decl_typing::{Depth, Env, NoMemory, NodeRef, Parts, Variables, new_entry};
@@ -25,7 +27,9 @@ impl<'a> Plain<'a> {
         node: &'a Node,
         number: u32,
         env: &Env,
-    ) -> Result<Plain<'a>, NoMemory> {
+    ) -> Result<Plain<'a>, NoMemory>
+        ensures goes { Goes at.old at.new }
+    {
         let parts = match node.row {
             RowName::Eparen => {
                 let mut parts = Vec::new(at.alloc());
@@ -44,7 +48,9 @@ impl<'a> Plain<'a> {
         })
     }
 
-    pub fn next(&mut self, at: &mut Parts) -> Result<Option<Next<'a>>, NoMemory> {
+    pub fn next(&mut self, at: &mut Parts) -> Result<Option<Next<'a>>, NoMemory>
+        ensures goes { Goes at.old at.new }
+    {
         let place = self.types.len();
         if self.node.row == RowName::Efor && place == 2 {
             return self.loop_body(at);
@@ -53,7 +59,9 @@ impl<'a> Plain<'a> {
     }
 
     /// The body of a `for`, in which its variable stands.
-    fn loop_body(&mut self, at: &mut Parts) -> Result<Option<Next<'a>>, NoMemory> {
+    fn loop_body(&mut self, at: &mut Parts) -> Result<Option<Next<'a>>, NoMemory>
+        ensures goes { Goes at.old at.new }
+    {
         let Some(name) = token(self.node, 1) else {
             return next_of(self.parts.get(2), &self.env);
         };
@@ -65,7 +73,9 @@ impl<'a> Plain<'a> {
         next_of(self.parts.get(2), &inner)
     }
 
-    pub fn take(&mut self, at: &mut Parts, ty: NodeRef) -> Result<(), NoMemory> {
+    pub fn take(&mut self, at: &mut Parts, ty: NodeRef) -> Result<(), NoMemory>
+        ensures goes { Goes at.old at.new }
+    {
         let place = self.types.len();
         push(&mut self.types, ty)?;
         let Some(part) = self.parts.get(place) else {
@@ -88,14 +98,18 @@ impl<'a> Plain<'a> {
     }
 
     /// The demand that a part behind the first one has a type.
-    fn has(&self, at: &mut Parts, place: usize, wanted: NodeRef) -> Result<(), NoMemory> {
+    fn has(&self, at: &mut Parts, place: usize, wanted: NodeRef) -> Result<(), NoMemory>
+        ensures goes { Goes at.old at.new }
+    {
         if let (Some(part), Some(ty)) = (self.parts.get(place), self.types.get(place)) {
             at.equal(part.span, *ty, wanted, &self.env)?;
         }
         Ok(())
     }
 
-    pub fn finish(self, at: &mut Parts, depth: Depth) -> Result<Used, NoMemory> {
+    pub fn finish(self, at: &mut Parts, depth: Depth) -> Result<Used, NoMemory>
+        ensures goes { Goes at.old at.new }
+    {
         match self.node.row {
             RowName::Field => self.field(at),
             RowName::Eset => {
@@ -117,7 +131,9 @@ impl<'a> Plain<'a> {
     }
 
     /// The type of a row that has no name of its own.
-    fn type_of(&self, at: &mut Parts, depth: Depth) -> Result<NodeRef, NoMemory> {
+    fn type_of(&self, at: &mut Parts, depth: Depth) -> Result<NodeRef, NoMemory>
+        ensures goes { Goes at.old at.new }
+    {
         match self.node.row {
             RowName::Eparen => self.parenthesised(at, depth),
             RowName::Ebegin => match self.types.first() {
@@ -142,7 +158,9 @@ impl<'a> Plain<'a> {
     }
 
     /// ( e ), ( e : t ): the part has the written type
-    fn parenthesised(&self, at: &mut Parts, depth: Depth) -> Result<NodeRef, NoMemory> {
+    fn parenthesised(&self, at: &mut Parts, depth: Depth) -> Result<NodeRef, NoMemory>
+        ensures goes { Goes at.old at.new }
+    {
         match first_operand(self.node, self.number, 3) {
             Some(written) => {
                 let wanted = at.read_type(written, &self.env, &Variables::OfItem, depth)?;
@@ -157,11 +175,10 @@ impl<'a> Plain<'a> {
     }
 
     /// [ e; e ]: each part behind the first has its type
-    fn list(&self, at: &mut Parts) -> Result<NodeRef, NoMemory> {
-        let element = match self.types.first() {
-            Some(first) => *first,
-            None => at.var()?,
-        };
+    fn list(&self, at: &mut Parts) -> Result<NodeRef, NoMemory>
+        ensures goes { Goes at.old at.new }
+    {
+        let element = type_or_var(at, self.types.first().copied())?;
         for place in 1..self.types.len() {
             self.has(at, place, element)?;
         }
@@ -169,7 +186,9 @@ impl<'a> Plain<'a> {
     }
 
     /// e :: e: the right part is a list of the left
-    fn cons(&self, at: &mut Parts) -> Result<NodeRef, NoMemory> {
+    fn cons(&self, at: &mut Parts) -> Result<NodeRef, NoMemory>
+        ensures goes { Goes at.old at.new }
+    {
         match self.types.first() {
             Some(left) => {
                 let whole = at.list(*left)?;
@@ -181,7 +200,9 @@ impl<'a> Plain<'a> {
     }
 
     /// if e then e else e; without `else` the part is a unit
-    fn branches(&self, at: &mut Parts) -> Result<NodeRef, NoMemory> {
+    fn branches(&self, at: &mut Parts) -> Result<NodeRef, NoMemory>
+        ensures goes { Goes at.old at.new }
+    {
         let Some(yes) = self.types.get(1) else {
             return at.var();
         };
@@ -196,21 +217,30 @@ impl<'a> Plain<'a> {
     }
 
     /// e . l: `bound` of the label; the left part is the record; the field
-    fn field(self, at: &mut Parts) -> Result<Used, NoMemory> {
+    fn field(self, at: &mut Parts) -> Result<Used, NoMemory>
+        ensures goes { Goes at.old at.new }
+    {
         let path = written_path(at.alloc(), self.node, 2, 3)?;
         let (found, names) = field_label(at, &self.env, &path)?;
-        let ty = match found {
+        match found {
             Some(label) => {
                 self.has(at, 0, label.record)?;
-                label.field
+                Ok(Used {
+                    ty: label.field,
+                    names,
+                })
             }
-            None => at.var()?,
-        };
-        Ok(Used { ty, names })
+            None => Ok(Used {
+                ty: at.var()?,
+                names,
+            }),
+        }
     }
 
     /// e . l <- e: `mutable`; the right part is the field
-    fn set(&self, at: &mut Parts) -> Result<NodeRef, NoMemory> {
+    fn set(&self, at: &mut Parts) -> Result<NodeRef, NoMemory>
+        ensures goes { Goes at.old at.new }
+    {
         if let Some(ty) = self.types.first() {
             self.has(at, 1, *ty)?;
         }
@@ -239,7 +269,9 @@ fn wanted_of(row: RowName, place: usize, part: Operand<'_>) -> Wanted {
 }
 
 /// `mutable` of the label of a field that is set, where it is found.
-fn ask_mutable(at: &mut Parts, field: Operand<'_>, env: &Env) -> Result<(), NoMemory> {
+fn ask_mutable(at: &mut Parts, field: Operand<'_>, env: &Env) -> Result<(), NoMemory>
+    ensures goes { Goes at.old at.new }
+{
     let Some(node) = field.node else {
         return Ok(());
     };
@@ -247,12 +279,13 @@ fn ask_mutable(at: &mut Parts, field: Operand<'_>, env: &Env) -> Result<(), NoMe
         return Ok(());
     }
     let path = written_path(at.alloc(), node, 2, 3)?;
-    if let (Some(last), Some(label)) = (path.last, quiet_label(at, env, &path)?) {
-        if !label.is_mutable {
-            at.not_mutable(last.span, last.name.as_str())?;
+    let label = quiet_label(at, env, &path)?;
+    match (path.last, label) {
+        (Some(last), Some(label)) if !label.is_mutable => {
+            at.not_mutable(last.span, last.name.as_str())
         }
+        _ => Ok(()),
     }
-    Ok(())
 }
 
 /// The label that a path finds, with no demand.
@@ -260,7 +293,9 @@ fn quiet_label(
     at: &mut Parts,
     env: &Env,
     path: &row_parts::WrittenPath<'_>,
-) -> Result<Option<LabelUse>, NoMemory> {
+) -> Result<Option<LabelUse>, NoMemory>
+    ensures goes { Goes at.old at.new }
+{
     let telling = at.telling;
     at.telling = decl_typing::Telling::Quiet;
     let found = field_label(at, env, path);

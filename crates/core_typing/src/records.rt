@@ -1,8 +1,10 @@
 //! Records: { l = e }, { e with l = e }
+ghost use Rattle.decl_typing.specs.Goes.{Goes};
+
 use crate::patterns::field_names;
-use crate::rows::{Next, next_of, unnamed};
+use crate::rows::{Next, equal_if, next_of, type_or_var, unnamed};
 use crate::uses::{
-    RecordType, Used, field_type, is_again, labels_in, push_label, record_type, report_lost,
+    RecordType, Used, ask_new_label, field_type, labels_in, push_label, record_type, report_lost,
     report_unbound, value,
 };
 use crate::values::label_path;
@@ -80,13 +82,19 @@ impl<'a> RecordRow<'a> {
         node: &'a Node,
         number: u32,
         env: &Env,
-    ) -> Result<RecordRow<'a>, NoMemory> {
+    ) -> Result<RecordRow<'a>, NoMemory>
+        ensures goes { Goes at.old at.new }
+    {
+        let (making, loose) = match token(node, 4) {
+            Some(_) => (Making::Update, None),
+            None => (Making::New, first_operand(node, number, 3)),
+        };
         let mut row = RecordRow {
             env: env.share()?,
             span: node.span,
-            making: Making::New,
+            making,
             first: Some(operand_in(node, number, 1)),
-            loose: first_operand(node, number, 3),
+            loose,
             fields: Vec::new(at.alloc()),
             found: RecordType::Open,
             labels: Vec::new(at.alloc()),
@@ -94,22 +102,28 @@ impl<'a> RecordRow<'a> {
             wanted: None,
             turn: Turn::First,
         };
-        if token(node, 4).is_some() {
-            row.making = Making::Update;
-            row.loose = None;
-        } else {
-            row.first_field(at)?;
-        }
+        row.first_field(at)?;
         push_fields(at, node, number, &mut row.fields)?;
-        if row.first.is_none() {
-            row.find(at)?;
-        }
+        row.find_at_once(at)?;
         Ok(row)
     }
 
-    /// A first part that is a path to a lower-case name is a label; any other one that is there is reported.
-    fn first_field(&mut self, at: &mut Parts) -> Result<(), NoMemory> {
-        let Some(first) = self.first else {
+    /// Finds the record type, where no part is to be typed before.
+    fn find_at_once(&mut self, at: &mut Parts) -> Result<(), NoMemory>
+        ensures goes { Goes at.old at.new }
+    {
+        if self.first.is_some() {
+            return Ok(());
+        }
+        self.find(at)
+    }
+
+    /// Of a record that is made, a first part that is a path to a lower-case name is a label; any other one that is there is
+    /// reported.
+    fn first_field(&mut self, at: &mut Parts) -> Result<(), NoMemory>
+        ensures goes { Goes at.old at.new }
+    {
+        let (Making::New, Some(first)) = (self.making, self.first) else {
             return Ok(());
         };
         match label_path(at, first)? {
@@ -134,7 +148,9 @@ impl<'a> RecordRow<'a> {
     }
 
     /// `bound` of the type by its labels.
-    fn find(&mut self, at: &mut Parts) -> Result<(), NoMemory> {
+    fn find(&mut self, at: &mut Parts) -> Result<(), NoMemory>
+        ensures goes { Goes at.old at.new }
+    {
         let labels = self.labels(at)?;
         self.found = match record_type(at, &self.env, &labels)? {
             Some(found) => found,
@@ -160,7 +176,9 @@ impl<'a> RecordRow<'a> {
     }
 
     /// No record type has the labels: told at the first qualifier that leads to no module, or else at the first written label.
-    fn tell_labels(&self, at: &mut Parts) -> Result<(), NoMemory> {
+    fn tell_labels(&self, at: &mut Parts) -> Result<(), NoMemory>
+        ensures goes { Goes at.old at.new }
+    {
         for field in &self.fields {
             if report_lost(at, &self.env, &field.label)? {
                 return Ok(());
@@ -169,7 +187,9 @@ impl<'a> RecordRow<'a> {
         self.tell_first(at)
     }
 
-    fn tell_first(&self, at: &mut Parts) -> Result<(), NoMemory> {
+    fn tell_first(&self, at: &mut Parts) -> Result<(), NoMemory>
+        ensures goes { Goes at.old at.new }
+    {
         for field in &self.fields {
             if report_unbound(at, &field.label)? {
                 return Ok(());
@@ -178,7 +198,9 @@ impl<'a> RecordRow<'a> {
         Ok(())
     }
 
-    pub fn next(&mut self, at: &mut Parts) -> Result<Option<Next<'a>>, NoMemory> {
+    pub fn next(&mut self, at: &mut Parts) -> Result<Option<Next<'a>>, NoMemory>
+        ensures goes { Goes at.old at.new }
+    {
         match self.turn {
             Turn::First => next_of(self.first.as_ref(), &self.env),
             Turn::Loose => next_of(self.loose.as_ref(), &self.env),
@@ -187,7 +209,9 @@ impl<'a> RecordRow<'a> {
     }
 
     /// Goes on to the next field with a value of its own; a field without one uses the value of its label's name.
-    fn next_field(&mut self, at: &mut Parts) -> Result<Option<Next<'a>>, NoMemory> {
+    fn next_field(&mut self, at: &mut Parts) -> Result<Option<Next<'a>>, NoMemory>
+        ensures goes { Goes at.old at.new }
+    {
         for place in self.done..self.fields.len() {
             let value = self.begin_field(at, place)?;
             if value.is_some() {
@@ -199,20 +223,13 @@ impl<'a> RecordRow<'a> {
     }
 
     /// Records a field and asks that its label is new where the record is found. Its value, where it has one of its own.
-    fn begin_field(
-        &mut self,
-        at: &mut Parts,
-        place: usize,
-    ) -> Result<Option<Operand<'a>>, NoMemory> {
+    fn begin_field(&mut self, at: &mut Parts, place: usize) -> Result<Option<Operand<'a>>, NoMemory>
+        ensures goes { Goes at.old at.new }
+    {
         let Some(field) = self.fields.get(place) else {
             return Ok(None);
         };
-        if let Some(last) = field.label.last {
-            let again = is_again(&mut self.labels, last)?;
-            if let (RecordType::Known(_, _), true) = (&self.found, again) {
-                at.twice(last.span, last.name.as_str())?;
-            }
-        }
+        ask_new_label(at, &self.found, &mut self.labels, field.label.last)?;
         self.wanted = field_type(at, &self.found, field.label.last)?;
         match field.value {
             Some(value) => {
@@ -227,7 +244,9 @@ impl<'a> RecordRow<'a> {
         }
     }
 
-    pub fn take(&mut self, at: &mut Parts, ty: NodeRef) -> Result<(), NoMemory> {
+    pub fn take(&mut self, at: &mut Parts, ty: NodeRef) -> Result<(), NoMemory>
+        ensures goes { Goes at.old at.new }
+    {
         match self.turn {
             Turn::First => {
                 self.find(at)?;
@@ -238,21 +257,31 @@ impl<'a> RecordRow<'a> {
                 Ok(())
             }
             Turn::Fields => {
-                let value = match self.fields.get(self.done) {
-                    Some(field) => field.value,
-                    None => None,
-                };
-                if let (Some(value), Some(wanted)) = (value, self.wanted) {
-                    at.equal(value.span, ty, wanted, &self.env)?;
-                }
+                self.has_field(at, ty)?;
                 self.done = self.done.saturating_add(1);
                 Ok(())
             }
         }
     }
 
+    /// The value of the present field is the field.
+    fn has_field(&self, at: &mut Parts, ty: NodeRef) -> Result<(), NoMemory>
+        ensures goes { Goes at.old at.new }
+    {
+        let value = match self.fields.get(self.done) {
+            Some(field) => field.value,
+            None => None,
+        };
+        match value {
+            Some(value) => equal_if(at, value.span, ty, self.wanted, &self.env),
+            None => Ok(()),
+        }
+    }
+
     /// The part before `with` is the record.
-    fn updated(&self, at: &mut Parts, ty: NodeRef) -> Result<(), NoMemory> {
+    fn updated(&self, at: &mut Parts, ty: NodeRef) -> Result<(), NoMemory>
+        ensures goes { Goes at.old at.new }
+    {
         if self.making == Making::Update {
             if let (RecordType::Known(_, wanted), Some(first)) = (&self.found, self.first) {
                 at.equal(first.span, ty, *wanted, &self.env)?;
@@ -261,9 +290,11 @@ impl<'a> RecordRow<'a> {
         Ok(())
     }
 
-    /// `complete`: the first label of the declaration that isn't written.
-    fn complete(&self, at: &mut Parts) -> Result<(), NoMemory> {
-        let RecordType::Known(declaration, _) = &self.found else {
+    /// `complete` of a record that is made: the first label of the declaration that isn't written.
+    fn complete(&self, at: &mut Parts) -> Result<(), NoMemory>
+        ensures goes { Goes at.old at.new }
+    {
+        let (RecordType::Known(declaration, _), Making::New) = (&self.found, self.making) else {
             return Ok(());
         };
         for label in labels_in(declaration) {
@@ -278,14 +309,11 @@ impl<'a> RecordRow<'a> {
         Ok(())
     }
 
-    pub fn finish(self, at: &mut Parts) -> Result<Used, NoMemory> {
-        if self.making == Making::New {
-            self.complete(at)?;
-        }
-        let ty = match self.found {
-            RecordType::Known(_, ty) => ty,
-            RecordType::Open => at.var()?,
-        };
+    pub fn finish(self, at: &mut Parts) -> Result<Used, NoMemory>
+        ensures goes { Goes at.old at.new }
+    {
+        self.complete(at)?;
+        let ty = type_or_var(at, self.found.ty())?;
         Ok(unnamed(at, ty))
     }
 }
@@ -296,7 +324,9 @@ fn pun(
     env: &Env,
     field: &Field<'_>,
     wanted: Option<NodeRef>,
-) -> Result<(), NoMemory> {
+) -> Result<(), NoMemory>
+    ensures goes { Goes at.old at.new }
+{
     let Some(last) = field.label.last else {
         return at.note_plain(field.number, env);
     };
@@ -305,9 +335,7 @@ fn pun(
         last: Some(last),
     };
     let used = value(at, env, &path)?;
-    if let Some(wanted) = wanted {
-        at.equal(last.span, used.ty, wanted, env)?;
-    }
+    equal_if(at, last.span, used.ty, wanted, env)?;
     let entry = match used.names.last() {
         Some(entry) => entry.as_ref(),
         None => None,

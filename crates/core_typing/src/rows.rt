@@ -1,4 +1,6 @@
 //! A row of an expression as a machine: it gives its next part, takes the part's type, and tells its own type at the end.
+ghost use Rattle.decl_typing.specs.Goes.{Goes};
+
 use crate::apply::Application;
 use crate::bindings::LetIn;
 use crate::cases::Cases;
@@ -9,6 +11,7 @@ use crate::records::RecordRow;
 use crate::uses::{Names, Used};
 use decl_typing::{Depth, Env, NoMemory, NodeRef, Parts};
 use row_parts::Operand;
+use syntax_tree::Span;
 
 /// A part of a row that is to be typed, with what stands directly in front of it and the names in scope there.
 #[derive(Drop)]
@@ -33,7 +36,9 @@ pub enum Row<'a> {
 
 impl<'a> Row<'a> {
     /// The next part, behind the demands that stand before it; None where all parts are typed.
-    pub fn next(&mut self, at: &mut Parts, depth: Depth) -> Result<Option<Next<'a>>, NoMemory> {
+    pub fn next(&mut self, at: &mut Parts, depth: Depth) -> Result<Option<Next<'a>>, NoMemory>
+        ensures goes { Goes at.old at.new }
+    {
         match self {
             Row::Done(_) => Ok(None),
             Row::Plain(row) => row.next(at),
@@ -46,7 +51,9 @@ impl<'a> Row<'a> {
     }
 
     /// Takes the type of the part that was given last, with the demands that stand behind it.
-    pub fn take(&mut self, at: &mut Parts, ty: NodeRef, depth: Depth) -> Result<(), NoMemory> {
+    pub fn take(&mut self, at: &mut Parts, ty: NodeRef, depth: Depth) -> Result<(), NoMemory>
+        ensures goes { Goes at.old at.new }
+    {
         match self {
             Row::Done(_) => Ok(()),
             Row::Plain(row) => row.take(at, ty),
@@ -59,7 +66,9 @@ impl<'a> Row<'a> {
     }
 
     /// The type of the row, once all parts are typed, and what its own names stand for.
-    pub fn finish(self, at: &mut Parts, depth: Depth) -> Result<Used, NoMemory> {
+    pub fn finish(self, at: &mut Parts, depth: Depth) -> Result<Used, NoMemory>
+        ensures goes { Goes at.old at.new }
+    {
         match self {
             Row::Done(used) => Ok(used),
             Row::Plain(row) => row.finish(at, depth),
@@ -70,6 +79,32 @@ impl<'a> Row<'a> {
             Row::LetIn(row) => row.finish(at),
         }
     }
+}
+
+/// A type, or a new variable where there is none.
+pub fn type_or_var(at: &mut Parts, ty: Option<NodeRef>) -> Result<NodeRef, NoMemory>
+    ensures goes { Goes at.old at.new }
+{
+    match ty {
+        Some(ty) => Ok(ty),
+        None => at.var(),
+    }
+}
+
+/// The demand that a type is the wanted one, where one is wanted.
+pub fn equal_if(
+    at: &mut Parts,
+    span: Span,
+    found: NodeRef,
+    wanted: Option<NodeRef>,
+    env: &Env,
+) -> Result<(), NoMemory>
+    ensures goes { Goes at.old at.new }
+{
+    if let Some(wanted) = wanted {
+        at.equal(span, found, wanted, env)?;
+    }
+    Ok(())
 }
 
 /// A type without names.

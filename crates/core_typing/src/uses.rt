@@ -1,4 +1,6 @@
 //! Uses of values, constructors, labels and record types.
+ghost use Rattle.decl_typing.specs.Goes.{Goes};
+
 use decl_typing::{Entry, Env, NoMemory, NodeRef, Parts, path_of, share_entry};
 use env_table::{Constructor, Declaration, Found, Kind, Label, Path, Shape, What};
 use owned_lists::{push, shared};
@@ -29,7 +31,9 @@ pub struct Construction {
 }
 
 /// A value by its path: `bound`, and an instance of its scheme.
-pub fn value(at: &mut Parts, env: &Env, path: &WrittenPath<'_>) -> Result<Used, NoMemory> {
+pub fn value(at: &mut Parts, env: &Env, path: &WrittenPath<'_>) -> Result<Used, NoMemory>
+    ensures goes { Goes at.old at.new }
+{
     let Some(last) = path.last else {
         let names = at.seen_names(env, path, None)?;
         return Ok(Used {
@@ -39,14 +43,17 @@ pub fn value(at: &mut Parts, env: &Env, path: &WrittenPath<'_>) -> Result<Used, 
     };
     let entry = at.bound(env, path, last, Kind::Value)?;
     let names = at.seen_names(env, path, entry.as_ref())?;
-    let ty = match entry {
-        Some(entry) => instance_of(at, &entry)?,
-        None => at.var()?,
-    };
+    let ty = instance_of(at, entry.as_ref())?;
     Ok(Used { ty, names })
 }
 
-fn instance_of(at: &mut Parts, entry: &Entry) -> Result<NodeRef, NoMemory> {
+/// An instance of the scheme behind an entry, or a new variable where there is none.
+fn instance_of(at: &mut Parts, entry: Option<&Rc<Entry>>) -> Result<NodeRef, NoMemory>
+    ensures goes { Goes at.old at.new }
+{
+    let Some(entry) = entry else {
+        return at.var();
+    };
     match entry.what {
         What::Scheme(root) => at.instance(root),
         _ => at.var(),
@@ -71,11 +78,10 @@ pub fn constructor(
     env: &Env,
     path: &WrittenPath<'_>,
     given: usize,
-) -> Result<Construction, NoMemory> {
-    let entry = match path.last {
-        Some(last) => at.bound(env, path, last, Kind::Constructor)?,
-        None => None,
-    };
+) -> Result<Construction, NoMemory>
+    ensures goes { Goes at.old at.new }
+{
+    let entry = at.bound_last(env, path, Kind::Constructor)?;
     let names = at.seen_names(env, path, entry.as_ref())?;
     if let (Some(last), Some(entry)) = (path.last, &entry) {
         if let Some(constructor) = constructor_of(entry) {
@@ -92,11 +98,9 @@ pub fn constructor(
     })
 }
 
-fn built(
-    at: &mut Parts,
-    constructor: &Constructor,
-    names: Names,
-) -> Result<Construction, NoMemory> {
+fn built(at: &mut Parts, constructor: &Constructor, names: Names) -> Result<Construction, NoMemory>
+    ensures goes { Goes at.old at.new }
+{
     let instance = at.instance(constructor.root)?;
     if constructor.has_argument {
         if let Some((from, to)) = at.sides_of_arrow(instance) {
@@ -135,13 +139,22 @@ pub fn label_of(entry: &Entry) -> Option<&Label> {
     }
 }
 
+/// The two sides of an arrow, or new variables.
+fn sides_or_vars(at: &mut Parts, arrow: NodeRef) -> Result<(NodeRef, NodeRef), NoMemory>
+    ensures goes { Goes at.old at.new }
+{
+    match at.sides_of_arrow(arrow) {
+        Some(sides) => Ok(sides),
+        None => Ok((at.var()?, at.var()?)),
+    }
+}
+
 /// An instance of a label: the record and the field.
-pub fn label_use(at: &mut Parts, label: &Label) -> Result<LabelUse, NoMemory> {
+pub fn label_use(at: &mut Parts, label: &Label) -> Result<LabelUse, NoMemory>
+    ensures goes { Goes at.old at.new }
+{
     let instance = at.instance(label.root)?;
-    let (record, field) = match at.sides_of_arrow(instance) {
-        Some(sides) => sides,
-        None => (at.var()?, at.var()?),
-    };
+    let (record, field) = sides_or_vars(at, instance)?;
     Ok(LabelUse {
         record,
         field,
@@ -156,6 +169,16 @@ pub enum RecordType {
     Known(Rc<Declaration>, NodeRef),
     /// Not found, or in a module that isn't known: nothing is asked of its fields.
     Open,
+}
+
+impl RecordType {
+    /// The type of the record, where it is known.
+    pub fn ty(&self) -> Option<NodeRef> {
+        match self {
+            RecordType::Known(_, ty) => Some(*ty),
+            RecordType::Open => None,
+        }
+    }
 }
 
 /// Puts the path of a written label behind others, where its last token is there.
@@ -184,7 +207,9 @@ pub fn record_type(
     at: &mut Parts,
     env: &Env,
     labels: &[Path],
-) -> Result<Option<RecordType>, NoMemory> {
+) -> Result<Option<RecordType>, NoMemory>
+    ensures goes { Goes at.old at.new }
+{
     let declaration = match env.record_type(labels) {
         Found::Entry(entry) => match record_of(entry) {
             Some(declaration) => shared(declaration)?,
@@ -198,7 +223,9 @@ pub fn record_type(
 }
 
 /// An instance of the type of a declaration.
-fn record_instance(at: &mut Parts, declaration: &Declaration) -> Result<NodeRef, NoMemory> {
+fn record_instance(at: &mut Parts, declaration: &Declaration) -> Result<NodeRef, NoMemory>
+    ensures goes { Goes at.old at.new }
+{
     let instance = at.instance(declaration.root)?;
     if declaration.arity == 0 {
         return Ok(instance);
@@ -213,7 +240,9 @@ fn record_instance(at: &mut Parts, declaration: &Declaration) -> Result<NodeRef,
 }
 
 /// Reports a label at the first of its qualifiers that leads to no module; false, and no report, where all lead to one.
-pub fn report_lost(at: &mut Parts, env: &Env, label: &WrittenPath<'_>) -> Result<bool, NoMemory> {
+pub fn report_lost(at: &mut Parts, env: &Env, label: &WrittenPath<'_>) -> Result<bool, NoMemory>
+    ensures goes { Goes at.old at.new }
+{
     let last = match label.last {
         Some(last) => last,
         None => return Ok(false),
@@ -227,7 +256,9 @@ pub fn report_lost(at: &mut Parts, env: &Env, label: &WrittenPath<'_>) -> Result
 }
 
 /// Reports a label that no record type has; false, and no report, where its last token is missing.
-pub fn report_unbound(at: &mut Parts, label: &WrittenPath<'_>) -> Result<bool, NoMemory> {
+pub fn report_unbound(at: &mut Parts, label: &WrittenPath<'_>) -> Result<bool, NoMemory>
+    ensures goes { Goes at.old at.new }
+{
     match label.last {
         Some(last) => {
             at.unbound(last.span, decl_typing::Word::Label, last.name.as_str())?;
@@ -250,7 +281,9 @@ pub fn field_type(
     at: &mut Parts,
     record: &RecordType,
     name: Option<&Token>,
-) -> Result<Option<NodeRef>, NoMemory> {
+) -> Result<Option<NodeRef>, NoMemory>
+    ensures goes { Goes at.old at.new }
+{
     let (RecordType::Known(declaration, ty), Some(name)) = (record, name) else {
         return Ok(None);
     };
@@ -316,20 +349,27 @@ pub fn field_label(
     at: &mut Parts,
     env: &Env,
     path: &WrittenPath<'_>,
-) -> Result<(Option<LabelUse>, Names), NoMemory> {
-    let entry = match path.last {
-        Some(last) => at.bound(env, path, last, Kind::Label)?,
-        None => None,
-    };
+) -> Result<(Option<LabelUse>, Names), NoMemory>
+    ensures goes { Goes at.old at.new }
+{
+    let entry = at.bound_last(env, path, Kind::Label)?;
     let names = at.seen_names(env, path, entry.as_ref())?;
-    let used = match &entry {
-        Some(entry) => match label_of(entry) {
-            Some(label) => Some(label_use(at, label)?),
-            None => None,
-        },
+    let used = used_label(at, entry.as_ref())?;
+    Ok((used, names))
+}
+
+/// An instance of the label behind an entry, if it is one.
+fn used_label(at: &mut Parts, entry: Option<&Rc<Entry>>) -> Result<Option<LabelUse>, NoMemory>
+    ensures goes { Goes at.old at.new }
+{
+    let label = match entry {
+        Some(entry) => label_of(entry),
         None => None,
     };
-    Ok((used, names))
+    match label {
+        Some(label) => Ok(Some(label_use(at, label)?)),
+        None => Ok(None),
+    }
 }
 
 /// Whether a written label stands among earlier ones; it is one of them then.
@@ -337,4 +377,23 @@ pub fn is_again<'a>(seen: &mut Vec<&'a Token>, label: &'a Token) -> Result<bool,
     let again = seen.iter().any(|other| other.name.is(label.name.as_str()));
     push(seen, label)?;
     Ok(again)
+}
+
+/// The demand that a label is new behind those before it, where the record is found; it is one of them then.
+pub fn ask_new_label<'a>(
+    at: &mut Parts,
+    found: &RecordType,
+    labels: &mut Vec<&'a Token>,
+    label: Option<&'a Token>,
+) -> Result<(), NoMemory>
+    ensures goes { Goes at.old at.new }
+{
+    let Some(label) = label else {
+        return Ok(());
+    };
+    let again = is_again(labels, label)?;
+    match found {
+        RecordType::Known(_, _) if again => at.twice(label.span, label.name.as_str()),
+        _ => Ok(()),
+    }
 }

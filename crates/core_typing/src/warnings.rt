@@ -1,4 +1,6 @@
 //! Match warnings: values that are missed, and cases that no value reaches.
+ghost use Rattle.decl_typing.specs.Goes.{Goes};
+
 use crate::pats::pat_of;
 use decl_typing::{Depth, Env, NoMemory, Parts};
 use env_table::FaultKind;
@@ -53,7 +55,9 @@ fn row(alloc: Global, pat: Pat, guarded: bool) -> Result<PatRow, NoMemory> {
 }
 
 /// Reports the first shape that rows miss, if they miss one.
-fn report_missed(at: &mut Parts, matrix: &Matrix, span: Span) -> Result<(), NoMemory> {
+fn report_missed(at: &mut Parts, matrix: &Matrix, span: Span) -> Result<(), NoMemory>
+    ensures goes { Goes at.old at.new }
+{
     let alloc = at.alloc();
     let Some(shape) = missed(alloc, matrix, 1)? else {
         return Ok(());
@@ -103,14 +107,14 @@ impl Rows {
     }
 
     /// The warnings of a match at this place: the first missed shape, but not of a `try`, and the cases that no value reaches.
-    pub fn report(self, at: &mut Parts, match_row: RowName, span: Span) -> Result<(), NoMemory> {
+    pub fn report(self, at: &mut Parts, match_row: RowName, span: Span) -> Result<(), NoMemory>
+        ensures goes { Goes at.old at.new }
+    {
         if self.is_open || self.rows.is_empty() {
             return Ok(());
         }
         let matrix = Matrix { rows: self.rows };
-        if match_row != RowName::Etry {
-            report_missed(at, &matrix, span)?;
-        }
+        report_missed_in(at, match_row, &matrix, span)?;
         for place in unused_rows(at.alloc(), &matrix)? {
             if let Some(case) = self.spans.get(place) {
                 let text = RcStr::from_str(at.alloc(), "No value reaches this case")?;
@@ -121,13 +125,30 @@ impl Rows {
     }
 }
 
+/// The warning of the first missed shape, but not of a `try`.
+fn report_missed_in(
+    at: &mut Parts,
+    match_row: RowName,
+    matrix: &Matrix,
+    span: Span,
+) -> Result<(), NoMemory>
+    ensures goes { Goes at.old at.new }
+{
+    if match_row == RowName::Etry {
+        return Ok(());
+    }
+    report_missed(at, matrix, span)
+}
+
 /// The warning of a pattern of a binding or of a parameter, in which no fault was reported.
 pub fn report_pattern(
     at: &mut Parts,
     pattern: Operand<'_>,
     env: &Env,
     depth: Depth,
-) -> Result<(), NoMemory> {
+) -> Result<(), NoMemory>
+    ensures goes { Goes at.old at.new }
+{
     if is_plain(pattern) || is_unfinished(pattern) {
         return Ok(());
     }

@@ -1,4 +1,6 @@
 //! Copies of types with something else in place of bound variables, unknown types and origins.
+ghost use Rattle.decl_typing.specs.Goes.{Goes};
+
 use crate::changes::{Changes, Put};
 use crate::parts::Parts;
 use owned_lists::push;
@@ -108,7 +110,9 @@ impl Copies {
     }
 
     /// Closes the unknown types that were made.
-    pub fn close(&mut self, at: &mut Parts) -> Result<(), NoMemory> {
+    pub fn close(&mut self, at: &mut Parts) -> Result<(), NoMemory>
+        ensures goes { Goes at.old at.new }
+    {
         for _ in 0..self.opened.len() {
             if let Some(n) = self.opened.pop() {
                 at.quantify(n)?;
@@ -123,7 +127,9 @@ impl Copies {
         at: &mut Parts,
         n: NodeRef,
         how: Copying<'_>,
-    ) -> Result<NodeRef, NoMemory> {
+    ) -> Result<NodeRef, NoMemory>
+        ensures goes { Goes at.old at.new }
+    {
         self.push(Task::Enter(n))?;
         for _ in 0..u64::MAX {
             match self.todo.pop() {
@@ -154,7 +160,9 @@ impl Copies {
         }
     }
 
-    fn enter(&mut self, at: &mut Parts, n: NodeRef, how: Copying<'_>) -> Result<(), NoMemory> {
+    fn enter(&mut self, at: &mut Parts, n: NodeRef, how: Copying<'_>) -> Result<(), NoMemory>
+        ensures goes { Goes at.old at.new }
+    {
         let root = at.root(n);
         if self.table.contains_key(&root.0) {
             return Ok(());
@@ -182,7 +190,9 @@ impl Copies {
         n: NodeRef,
         scope: u64,
         how: Copying<'_>,
-    ) -> Result<NodeRef, NoMemory> {
+    ) -> Result<NodeRef, NoMemory>
+        ensures goes { Goes at.old at.new }
+    {
         if scope == 0 {
             return match how.unknown {
                 ForUnknown::Itself => Ok(n),
@@ -198,7 +208,7 @@ impl Copies {
         match how.bound {
             ForBound::Itself => Ok(n),
             ForBound::Variable => at.var(),
-            ForBound::Rigid => at.store.rigid(),
+            ForBound::Rigid => at.rigid(),
         }
     }
 
@@ -210,32 +220,46 @@ impl Copies {
         Ok(())
     }
 
-    fn leave(&mut self, at: &mut Parts, n: NodeRef, how: Copying<'_>) -> Result<(), NoMemory> {
-        let copy = match view_of(at, n)? {
+    fn leave(&mut self, at: &mut Parts, n: NodeRef, how: Copying<'_>) -> Result<(), NoMemory>
+        ensures goes { Goes at.old at.new }
+    {
+        let copy = self.rebuilt(at, n, how)?;
+        self.set(n, copy)
+    }
+
+    /// A node over the copies of its parts: itself where none is another.
+    fn rebuilt(
+        &self,
+        at: &mut Parts,
+        n: NodeRef,
+        how: Copying<'_>,
+    ) -> Result<NodeRef, NoMemory>
+        ensures goes { Goes at.old at.new }
+    {
+        match view_of(at, n)? {
             Seen::Arrow(from, to) => {
                 let (left, right) = (self.image(at, from), self.image(at, to));
                 if left.0 == at.root(from).0 && right.0 == at.root(to).0 {
-                    n
+                    Ok(n)
                 } else {
-                    at.arrow(left, right)?
+                    at.arrow(left, right)
                 }
             }
             Seen::Tuple(parts) => {
                 let images = self.images(at, &parts)?;
                 if are_roots(at, &images, &parts) {
-                    n
+                    Ok(n)
                 } else {
-                    at.tuple(&images)?
+                    at.tuple(&images)
                 }
             }
             Seen::Con(origin, args) => {
                 let images = self.images(at, &args)?;
                 let same = are_roots(at, &images, &args);
-                constructor(at, n, &origin, &images, same, how)?
+                constructor(at, n, &origin, &images, same, how)
             }
-            _ => n,
-        };
-        self.set(n, copy)
+            _ => Ok(n),
+        }
     }
 
     fn images(&self, at: &Parts, parts: &[NodeRef]) -> Result<Vec<NodeRef>, NoMemory> {
@@ -263,7 +287,9 @@ fn constructor(
     args: &[NodeRef],
     same: bool,
     how: Copying<'_>,
-) -> Result<NodeRef, NoMemory> {
+) -> Result<NodeRef, NoMemory>
+    ensures goes { Goes at.old at.new }
+{
     match how.changes.put(origin) {
         Put::Type { root, arity } => over(at, root, arity, args),
         Put::Path(number) => {
@@ -288,7 +314,9 @@ pub fn in_front(at: &Parts, number: u64, origin: &Origin) -> Result<Origin, NoMe
 }
 
 /// A declared type over arguments. The unknown types in it are open, so that they are kept.
-fn over(at: &mut Parts, root: NodeRef, arity: u32, args: &[NodeRef]) -> Result<NodeRef, NoMemory> {
+fn over(at: &mut Parts, root: NodeRef, arity: u32, args: &[NodeRef]) -> Result<NodeRef, NoMemory>
+    ensures goes { Goes at.old at.new }
+{
     if arity == 0 {
         return Ok(root);
     }

@@ -1,4 +1,6 @@
 //! Declarations of types and exceptions.
+ghost use Rattle.decl_typing.specs.Goes.{Goes};
+
 use crate::built_ins::BuiltIn;
 use crate::groups::{
     ConstructorPart, DeclarationPart, LabelPart, Right, Told, declarations_of, last_token,
@@ -70,7 +72,9 @@ impl Parts {
     }
 
     /// A variable for each written parameter.
-    fn parameters(&mut self, names: &[&Token]) -> Result<Vec<Parameter>, NoMemory> {
+    fn parameters(&mut self, names: &[&Token]) -> Result<Vec<Parameter>, NoMemory>
+        ensures goes { Goes self.old self.new }
+    {
         let mut parameters = Vec::new(self.alloc);
         for name in names {
             let node = self.var()?;
@@ -93,7 +97,9 @@ impl Parts {
         &mut self,
         parameters: &[NodeRef],
         body: NodeRef,
-    ) -> Result<NodeRef, NoMemory> {
+    ) -> Result<NodeRef, NoMemory>
+        ensures goes { Goes self.old self.new }
+    {
         if parameters.is_empty() {
             return Ok(body);
         }
@@ -120,12 +126,14 @@ impl Parts {
     }
 
     /// A declaration that is a type of its own, of which nothing more is known.
-    fn opaque(&mut self, part: &DeclarationPart<'_>) -> Result<Rc<Declaration>, NoMemory> {
-        self.level = self.level.saturating_add(1);
-        let parameters = self.parameters(&part.parameters)?;
-        let made = self.own_type(part, &parameters);
-        self.level = self.level.saturating_sub(1);
-        let (root, _) = made?;
+    fn opaque(&mut self, part: &DeclarationPart<'_>) -> Result<Rc<Declaration>, NoMemory>
+        ensures goes { Goes self.old self.new }
+    {
+        let level = self.level;
+        self.level = level.saturating_add(1);
+        let made = self.own_root(part);
+        self.level = level;
+        let root = made?;
         self.generalise(root)?;
         let declaration = Declaration {
             arity: number_of(part.parameters.len()),
@@ -137,12 +145,23 @@ impl Parts {
         owned(self.alloc, declaration)
     }
 
+    /// The root of a declaration that is a type of its own over new parameters.
+    fn own_root(&mut self, part: &DeclarationPart<'_>) -> Result<NodeRef, NoMemory>
+        ensures goes { Goes self.old self.new }
+    {
+        let parameters = self.parameters(&part.parameters)?;
+        let (root, _) = self.own_type(part, &parameters)?;
+        Ok(root)
+    }
+
     /// The root and the type of a declaration that is a type of its own.
     fn own_type(
         &mut self,
         part: &DeclarationPart<'_>,
         parameters: &[Parameter],
-    ) -> Result<(NodeRef, NodeRef), NoMemory> {
+    ) -> Result<(NodeRef, NodeRef), NoMemory>
+        ensures goes { Goes self.old self.new }
+    {
         let nodes = self.nodes_of(parameters)?;
         let origin = self.origin_at(part.number, part.name)?;
         let body = self.con(&origin, &nodes)?;
@@ -157,10 +176,13 @@ impl Parts {
         ty: Operand<'_>,
         env: &Env,
         depth: Depth,
-    ) -> Result<Rc<Declaration>, NoMemory> {
-        self.level = self.level.saturating_add(1);
+    ) -> Result<Rc<Declaration>, NoMemory>
+        ensures goes { Goes self.old self.new }
+    {
+        let level = self.level;
+        self.level = level.saturating_add(1);
         let read = self.another_type(part, ty, env, depth);
-        self.level = self.level.saturating_sub(1);
+        self.level = level;
         let (root, body) = read?;
         self.generalise(root)?;
         let declaration = Declaration {
@@ -179,7 +201,9 @@ impl Parts {
         ty: Operand<'_>,
         env: &Env,
         depth: Depth,
-    ) -> Result<(NodeRef, NodeRef), NoMemory> {
+    ) -> Result<(NodeRef, NodeRef), NoMemory>
+        ensures goes { Goes self.old self.new }
+    {
         let parameters = self.parameters(&part.parameters)?;
         let nodes = self.nodes_of(&parameters)?;
         let body = self.read_type(ty, env, &Variables::Parameters(parameters), depth)?;
@@ -227,7 +251,9 @@ impl Parts {
         renames: &[bool],
         env: &Env,
         depth: Depth,
-    ) -> Result<Vec<Rc<Declaration>>, NoMemory> {
+    ) -> Result<Vec<Rc<Declaration>>, NoMemory>
+        ensures goes { Goes self.old self.new }
+    {
         let mut declared = Vec::new(self.alloc);
         for part in parts {
             let opaque = self.opaque(part)?;
@@ -249,7 +275,9 @@ impl Parts {
         place: usize,
         inner: Env,
         depth: Depth,
-    ) -> Result<Env, NoMemory> {
+    ) -> Result<Env, NoMemory>
+        ensures goes { Goes self.old self.new }
+    {
         let Some(part) = parts.get(place) else {
             return Ok(inner);
         };
@@ -272,7 +300,7 @@ impl Parts {
     /// Which declarations of a group are other types: abbreviations that don't contain themselves. One that does is a type of its
     /// own for those behind it.
     fn renames(
-        &mut self,
+        &self,
         parts: &[DeclarationPart<'_>],
         mentions: &Mentions,
     ) -> Result<Vec<bool>, NoMemory> {
@@ -291,7 +319,9 @@ impl Parts {
 
 impl Parts {
     /// The demands that each parameter is new.
-    fn parameters_are_new(&mut self, names: &[&Token]) -> Result<(), NoMemory> {
+    fn parameters_are_new(&mut self, names: &[&Token]) -> Result<(), NoMemory>
+        ensures goes { Goes self.old self.new }
+    {
         let mut seen = Vec::new(self.alloc);
         for name in names {
             self.is_new(&mut seen, name)?;
@@ -304,7 +334,9 @@ impl Parts {
         &mut self,
         seen: &mut Vec<&'a Token>,
         name: &'a Token,
-    ) -> Result<(), NoMemory> {
+    ) -> Result<(), NoMemory>
+        ensures goes { Goes self.old self.new }
+    {
         if seen.iter().any(|other| other.name.is(name.name.as_str())) {
             self.twice(name.span, name.name.as_str())?;
         }
@@ -319,15 +351,12 @@ impl Parts {
         renames: bool,
         inner: &Env,
         depth: Depth,
-    ) -> Result<Rc<Declaration>, NoMemory> {
+    ) -> Result<Rc<Declaration>, NoMemory>
+        ensures goes { Goes self.old self.new }
+    {
         self.note_plain(part.number, inner)?;
         self.parameters_are_new(&part.parameters)?;
-        self.level = self.level.saturating_add(1);
-        let read = self.declared_in(part, renames, inner, depth);
-        self.level = self.level.saturating_sub(1);
-        let (root, body, shape) = read?;
-        self.generalise(root)?;
-        self.generalise_shape(&shape)?;
+        let (root, body, shape) = self.declared_deeper(part, renames, inner, depth)?;
         let origin = if renames {
             None
         } else {
@@ -343,6 +372,26 @@ impl Parts {
         owned(self.alloc, declaration)
     }
 
+    /// The root, the type and the shape of a declaration, with their variables bound.
+    fn declared_deeper(
+        &mut self,
+        part: &DeclarationPart<'_>,
+        renames: bool,
+        inner: &Env,
+        depth: Depth,
+    ) -> Result<(NodeRef, NodeRef, Shape), NoMemory>
+        ensures goes { Goes self.old self.new }
+    {
+        let level = self.level;
+        self.level = level.saturating_add(1);
+        let read = self.declared_in(part, renames, inner, depth);
+        self.level = level;
+        let (root, body, shape) = read?;
+        self.generalise(root)?;
+        self.generalise_shape(&shape)?;
+        Ok((root, body, shape))
+    }
+
     /// The root, the type and the shape of a declaration.
     fn declared_in(
         &mut self,
@@ -350,18 +399,36 @@ impl Parts {
         renames: bool,
         inner: &Env,
         depth: Depth,
-    ) -> Result<(NodeRef, NodeRef, Shape), NoMemory> {
+    ) -> Result<(NodeRef, NodeRef, Shape), NoMemory>
+        ensures goes { Goes self.old self.new }
+    {
         let parameters = self.parameters(&part.parameters)?;
         let nodes = self.nodes_of(&parameters)?;
-        let (own_root, own_body) = self.own_type(part, &parameters)?;
+        let own = self.own_type(part, &parameters)?;
         let variables = Variables::Parameters(parameters);
-        let other = self.read_other(part, inner, &variables, depth)?;
-        let (root, body) = match other {
-            Some(other) if renames => (self.declared_root(&nodes, other)?, other),
-            _ => (own_root, own_body),
-        };
+        let (root, body) =
+            self.right_side(part, renames, &nodes, own, inner, &variables, depth)?;
         let shape = self.read_told(part, body, inner, &variables, depth)?;
         Ok((root, body, shape))
+    }
+
+    /// The root and the type of a declaration, whose own are given: those of its right side, where it is another type.
+    fn right_side(
+        &mut self,
+        part: &DeclarationPart<'_>,
+        renames: bool,
+        parameters: &[NodeRef],
+        own: (NodeRef, NodeRef),
+        inner: &Env,
+        variables: &Variables,
+        depth: Depth,
+    ) -> Result<(NodeRef, NodeRef), NoMemory>
+        ensures goes { Goes self.old self.new }
+    {
+        match self.read_other(part, inner, variables, depth)? {
+            Some(other) if renames => Ok((self.declared_root(parameters, other)?, other)),
+            _ => Ok(own),
+        }
     }
 
     /// The type on the right side of a declaration, where one stands there.
@@ -371,7 +438,9 @@ impl Parts {
         inner: &Env,
         variables: &Variables,
         depth: Depth,
-    ) -> Result<Option<NodeRef>, NoMemory> {
+    ) -> Result<Option<NodeRef>, NoMemory>
+        ensures goes { Goes self.old self.new }
+    {
         match &part.right {
             Right::Abbreviation(number, ty) => {
                 self.note_plain(*number, inner)?;
@@ -399,7 +468,9 @@ impl Parts {
         inner: &Env,
         variables: &Variables,
         depth: Depth,
-    ) -> Result<Shape, NoMemory> {
+    ) -> Result<Shape, NoMemory>
+        ensures goes { Goes self.old self.new }
+    {
         let told = match &part.right {
             Right::Reexport(_, _, _, told) => told,
             Right::Own(_, told) => told,
@@ -421,7 +492,9 @@ impl Parts {
         inner: &Env,
         variables: &Variables,
         depth: Depth,
-    ) -> Result<Shape, NoMemory> {
+    ) -> Result<Shape, NoMemory>
+        ensures goes { Goes self.old self.new }
+    {
         let mut constructors = Vec::new(self.alloc);
         for part in parts {
             let constructor = self.read_constructor(part, own, inner, variables, depth)?;
@@ -437,7 +510,9 @@ impl Parts {
         }
     }
 
-    fn names_are_new(&mut self, parts: &[ConstructorPart<'_>]) -> Result<(), NoMemory> {
+    fn names_are_new(&mut self, parts: &[ConstructorPart<'_>]) -> Result<(), NoMemory>
+        ensures goes { Goes self.old self.new }
+    {
         let mut seen = Vec::new(self.alloc);
         for part in parts {
             if let Some(name) = part.name {
@@ -447,7 +522,9 @@ impl Parts {
         Ok(())
     }
 
-    fn labels_are_new(&mut self, parts: &[LabelPart<'_>]) -> Result<(), NoMemory> {
+    fn labels_are_new(&mut self, parts: &[LabelPart<'_>]) -> Result<(), NoMemory>
+        ensures goes { Goes self.old self.new }
+    {
         let mut seen = Vec::new(self.alloc);
         for part in parts {
             if let Some(name) = part.name {
@@ -465,7 +542,9 @@ impl Parts {
         inner: &Env,
         variables: &Variables,
         depth: Depth,
-    ) -> Result<Option<Constructor>, NoMemory> {
+    ) -> Result<Option<Constructor>, NoMemory>
+        ensures goes { Goes self.old self.new }
+    {
         self.note_plain(part.number, inner)?;
         let root = match part.argument {
             Some(argument) => {
@@ -491,7 +570,9 @@ impl Parts {
         inner: &Env,
         variables: &Variables,
         depth: Depth,
-    ) -> Result<Shape, NoMemory> {
+    ) -> Result<Shape, NoMemory>
+        ensures goes { Goes self.old self.new }
+    {
         let mut labels = Vec::new(self.alloc);
         for part in parts {
             self.note_plain(part.number, inner)?;
@@ -511,7 +592,9 @@ impl Parts {
     }
 
     /// Binds the variables of the types of a shape.
-    fn generalise_shape(&mut self, shape: &Shape) -> Result<(), NoMemory> {
+    fn generalise_shape(&mut self, shape: &Shape) -> Result<(), NoMemory>
+        ensures goes { Goes self.old self.new }
+    {
         match shape {
             Shape::Opaque => Ok(()),
             Shape::Variant(constructors) => {
@@ -524,7 +607,9 @@ impl Parts {
         }
     }
 
-    fn generalise_labels(&mut self, labels: &[Label]) -> Result<(), NoMemory> {
+    fn generalise_labels(&mut self, labels: &[Label]) -> Result<(), NoMemory>
+        ensures goes { Goes self.old self.new }
+    {
         for label in labels {
             self.generalise(label.root)?;
         }
@@ -592,7 +677,9 @@ impl Parts {
         declaration: &Rc<Declaration>,
         inner: &Env,
         entries: &mut Vec<Rc<Entry>>,
-    ) -> Result<(), NoMemory> {
+    ) -> Result<(), NoMemory>
+        ensures goes { Goes self.old self.new }
+    {
         let told = match &part.right {
             Right::Reexport(_, _, _, told) => told,
             Right::Own(_, told) => told,
@@ -614,7 +701,9 @@ impl Parts {
         declaration: &Rc<Declaration>,
         inner: &Env,
         entries: &mut Vec<Rc<Entry>>,
-    ) -> Result<(), NoMemory> {
+    ) -> Result<(), NoMemory>
+        ensures goes { Goes self.old self.new }
+    {
         let entry = self.type_entry(part, declaration)?;
         let names = self.one_name(entry.as_ref())?;
         self.note(part.head, inner, None, names)?;
@@ -631,7 +720,9 @@ impl Parts {
         renames: &[bool],
         inner: &Env,
         depth: Depth,
-    ) -> Result<Vec<Rc<Entry>>, NoMemory> {
+    ) -> Result<Vec<Rc<Entry>>, NoMemory>
+        ensures goes { Goes self.old self.new }
+    {
         let mut entries = Vec::new(self.alloc);
         for (place, part) in parts.iter().enumerate() {
             let renamed = is_set(renames, place);
@@ -647,7 +738,9 @@ impl Parts {
         &mut self,
         part: &DeclarationPart<'_>,
         renamed: bool,
-    ) -> Result<(), NoMemory> {
+    ) -> Result<(), NoMemory>
+        ensures goes { Goes self.old self.new }
+    {
         if renamed {
             return Ok(());
         }
@@ -666,7 +759,9 @@ impl Parts {
         &mut self,
         parts: &[DeclarationPart<'_>],
         renames: &[bool],
-    ) -> Result<(), NoMemory> {
+    ) -> Result<(), NoMemory>
+        ensures goes { Goes self.old self.new }
+    {
         for (place, part) in parts.iter().enumerate() {
             if may_rename(&part.right) && !is_set(renames, place) {
                 if let Some(name) = part.name {
@@ -694,7 +789,9 @@ impl Parts {
         renames: &[bool],
         env: &Env,
         depth: Depth,
-    ) -> Result<Vec<Rc<Declaration>>, NoMemory> {
+    ) -> Result<Vec<Rc<Declaration>>, NoMemory>
+        ensures goes { Goes self.old self.new }
+    {
         let telling = self.telling;
         self.telling = Telling::Quiet;
         let declared = self.sketched(parts, mentions, renames, env, depth);
@@ -710,7 +807,9 @@ impl Parts {
         number: u32,
         env: &Env,
         depth: Depth,
-    ) -> Result<Declared, NoMemory> {
+    ) -> Result<Declared, NoMemory>
+        ensures goes { Goes self.old self.new }
+    {
         let parts = declarations_of(self.alloc, item, number)?;
         let mentions = Mentions::new(self.alloc, &parts, env)?;
         let renames = self.renames(&parts, &mentions)?;
@@ -733,7 +832,9 @@ impl Parts {
         number: u32,
         env: &Env,
         depth: Depth,
-    ) -> Result<Declared, NoMemory> {
+    ) -> Result<Declared, NoMemory>
+        ensures goes { Goes self.old self.new }
+    {
         let mut entries = Vec::new(self.alloc);
         if let Some(part) = first_operand(item, number, 1) {
             if let Some(node) = part.node {
@@ -774,10 +875,13 @@ impl Parts {
         number: u32,
         env: &Env,
         depth: Depth,
-    ) -> Result<Option<Rc<Entry>>, NoMemory> {
-        self.level = self.level.saturating_add(1);
+    ) -> Result<Option<Rc<Entry>>, NoMemory>
+        ensures goes { Goes self.old self.new }
+    {
+        let level = self.level;
+        self.level = level.saturating_add(1);
         let read = self.exception_root(node, number, env, depth);
-        self.level = self.level.saturating_sub(1);
+        self.level = level;
         let root = read?;
         self.generalise(root)?;
         let Some(name) = token(node, 0) else {
@@ -809,7 +913,9 @@ impl Parts {
         number: u32,
         env: &Env,
         depth: Depth,
-    ) -> Result<NodeRef, NoMemory> {
+    ) -> Result<NodeRef, NoMemory>
+        ensures goes { Goes self.old self.new }
+    {
         match first_operand(node, number, 2) {
             None => Ok(self.constants.exn),
             Some(argument) => {

@@ -4,7 +4,7 @@ ghost use Rattle.text_terms.specs.Bytes.{str_bytes};
 ghost use Rattle.type_nodes.specs.Nodes.{IsNode};
 ghost use Rattle.type_nodes.specs.States.{Keeps};
 ghost use Rattle.env_table.specs.declared.faults.FaultKind.{FaultKind};
-ghost use Rattle.decl_typing.specs.Goes.{faults_of, OnlyFaults, OnlyStoreAndFaults, Told};
+ghost use Rattle.decl_typing.specs.Goes.{Goes, faults_of, OnlyFaults, OnlyStoreAndFaults, Told};
 ghost use Rattle.decl_typing.specs.Messages.{ending_text, equal_text, unbound_text, twice_text, one_side_text, incomplete_text, not_mutable_text, cyclic_text, differs_text, no_label_text, too_large_text};
 ghost use Rattle.decl_typing.specs.Demands.{ShowTwo, DiffersBy, EqualIs, ArityIs};
 
@@ -51,6 +51,7 @@ impl Parts {
         ensures faults { OnErr result (faults_of self.new ≡ faults_of self.old) }
         ensures keeps { Keeps self.old.store self.new.store }
         ensures rest { OnlyStoreAndFaults self.old self.new }
+        ensures goes { Goes self.old self.new }
     {
         match self.unify(found, wanted) {
             Ok(()) => Ok(Verdict::Kept),
@@ -91,6 +92,7 @@ impl Parts {
         ensures told { OnOk result (IsNode self.old.store.nodes found.0 → IsNode self.old.store.nodes wanted.0 → DiffersBy self.old self.new at found wanted kind env.now) }
         ensures failed { OnErr result (faults_of self.new ≡ faults_of self.old) }
         ensures rest { OnlyFaults self.old self.new }
+        ensures goes { Goes self.old self.new }
     {
         let (found, wanted) = self.shown_two(found, wanted, env)?;
         let found = found.as_str();
@@ -108,6 +110,7 @@ impl Parts {
         ensures told { OnOk result (Told self.old.telling (faults_of self.old) (faults_of self.new) at FaultKind.Equal (equal_text found.now wanted.now kind)) }
         ensures failed { OnErr result (faults_of self.new ≡ faults_of self.old) }
         ensures rest { OnlyFaults self.old self.new }
+        ensures goes { Goes self.old self.new }
     {
         let end = ending(kind);
         let text = format!(in self.alloc; "This has type {found} but type {wanted} is wanted{end}");
@@ -120,6 +123,7 @@ impl Parts {
         ensures told { OnOk result (Told self.old.telling (faults_of self.old) (faults_of self.new) at FaultKind.Bound (unbound_text word name.now)) }
         ensures failed { OnErr result (faults_of self.new ≡ faults_of self.old) }
         ensures rest { OnlyFaults self.old self.new }
+        ensures goes { Goes self.old self.new }
     {
         let word = word.text();
         let text = message(format!(in self.alloc; "Unbound {word} {name}"), self.alloc)?;
@@ -137,6 +141,7 @@ impl Parts {
         ensures verdict { IfOk result (λ v. ArityIs v self.old self.new at name.now taken given) }
         ensures failed { OnErr result (faults_of self.new ≡ faults_of self.old) }
         ensures rest { OnlyFaults self.old self.new }
+        ensures goes { Goes self.old self.new }
     {
         if taken == given {
             return Ok(Verdict::Kept);
@@ -152,6 +157,7 @@ impl Parts {
         ensures told { OnOk result (Told self.old.telling (faults_of self.old) (faults_of self.new) at FaultKind.Unique (twice_text name.now)) }
         ensures failed { OnErr result (faults_of self.new ≡ faults_of self.old) }
         ensures rest { OnlyFaults self.old self.new }
+        ensures goes { Goes self.old self.new }
     {
         let text = message(
             format!(in self.alloc; "{name} is defined twice"),
@@ -165,6 +171,7 @@ impl Parts {
         ensures told { OnOk result (Told self.old.telling (faults_of self.old) (faults_of self.new) at FaultKind.Sides (one_side_text name.now)) }
         ensures failed { OnErr result (faults_of self.new ≡ faults_of self.old) }
         ensures rest { OnlyFaults self.old self.new }
+        ensures goes { Goes self.old self.new }
     {
         let text = message(
             format!(in self.alloc; "{name} is bound on one side only"),
@@ -178,6 +185,7 @@ impl Parts {
         ensures told { OnOk result (Told self.old.telling (faults_of self.old) (faults_of self.new) at FaultKind.Complete (incomplete_text name.now)) }
         ensures failed { OnErr result (faults_of self.new ≡ faults_of self.old) }
         ensures rest { OnlyFaults self.old self.new }
+        ensures goes { Goes self.old self.new }
     {
         let text = message(
             format!(in self.alloc; "The field {name} is absent"),
@@ -191,6 +199,7 @@ impl Parts {
         ensures told { OnOk result (Told self.old.telling (faults_of self.old) (faults_of self.new) at FaultKind.Mutable (not_mutable_text name.now)) }
         ensures failed { OnErr result (faults_of self.new ≡ faults_of self.old) }
         ensures rest { OnlyFaults self.old self.new }
+        ensures goes { Goes self.old self.new }
     {
         let text = message(
             format!(in self.alloc; "The field {name} is not mutable"),
@@ -204,6 +213,7 @@ impl Parts {
         ensures told { OnOk result (Told self.old.telling (faults_of self.old) (faults_of self.new) at FaultKind.Cycle (cyclic_text name.now)) }
         ensures failed { OnErr result (faults_of self.new ≡ faults_of self.old) }
         ensures rest { OnlyFaults self.old self.new }
+        ensures goes { Goes self.old self.new }
     {
         let text = message(
             format!(in self.alloc; "The definition of {name} contains itself"),
@@ -217,6 +227,7 @@ impl Parts {
         ensures told { OnOk result (Told self.old.telling (faults_of self.old) (faults_of self.new) at FaultKind.Reexport (differs_text name.now)) }
         ensures failed { OnErr result (faults_of self.new ≡ faults_of self.old) }
         ensures rest { OnlyFaults self.old self.new }
+        ensures goes { Goes self.old self.new }
     {
         let text = message(
             format!(in self.alloc; "This definition differs from that of {name}"),
@@ -230,6 +241,7 @@ impl Parts {
         ensures told { OnOk result (Told self.old.telling (faults_of self.old) (faults_of self.new) at FaultKind.Label (no_label_text)) }
         ensures failed { OnErr result (faults_of self.new ≡ faults_of self.old) }
         ensures rest { OnlyFaults self.old self.new }
+        ensures goes { Goes self.old self.new }
     {
         let text = message(format!(in self.alloc; "A label is wanted here"), self.alloc)?;
         self.report(at, FaultKind::Label, text)
@@ -240,6 +252,7 @@ impl Parts {
         ensures told { OnOk result (Told self.old.telling (faults_of self.old) (faults_of self.new) at FaultKind.Range (too_large_text)) }
         ensures failed { OnErr result (faults_of self.new ≡ faults_of self.old) }
         ensures rest { OnlyFaults self.old self.new }
+        ensures goes { Goes self.old self.new }
     {
         let text = message(
             format!(in self.alloc; "This integer is too large"),

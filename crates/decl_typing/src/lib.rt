@@ -3,7 +3,7 @@
 //! Above, each demand is a call on `Parts` that keeps it or adds its one fault (`Verdict`); `bound` finds a name, `read_type` reads a type,
 //! `type_decls` and `type_exception` give what a group adds. New variables have the level of the `let`s round them (`level`).
 //! A number that is no node of the store stands for a type that nothing else restricts, so every call takes any nodes.
-#![tactic(auto)]
+#![tactic(auto, using(crate::proofs::Going::goes_trans, crate::proofs::Going::goes_refl))]
 
 mod built_ins;
 mod changes;

@@ -1,4 +1,6 @@
 //! What names stand for.
+ghost use Rattle.decl_typing.specs.Goes.{Goes};
+
 use crate::messages::Word;
 use crate::parts::Parts;
 use env_table::{Entry, Env, Found, Kind, Path};
@@ -64,7 +66,9 @@ impl Parts {
         written: &WrittenPath<'_>,
         last: &Token,
         kind: Kind,
-    ) -> Result<Option<Rc<Entry>>, NoMemory> {
+    ) -> Result<Option<Rc<Entry>>, NoMemory>
+        ensures goes { Goes self.old self.new }
+    {
         let path = path_of(self.alloc, written, last)?;
         match env.lookup(&path, kind) {
             Found::Entry(entry) => Ok(Some(share_entry(entry)?)),
@@ -76,6 +80,21 @@ impl Parts {
         }
     }
 
+    /// The same where the last name is written; None where it isn't.
+    pub fn bound_last(
+        &mut self,
+        env: &Env,
+        written: &WrittenPath<'_>,
+        kind: Kind,
+    ) -> Result<Option<Rc<Entry>>, NoMemory>
+        ensures goes { Goes self.old self.new }
+    {
+        match written.last {
+            Some(last) => self.bound(env, written, last, kind),
+            None => Ok(None),
+        }
+    }
+
     /// Reports a path that finds nothing.
     pub fn lost(
         &mut self,
@@ -84,7 +103,9 @@ impl Parts {
         written: &WrittenPath<'_>,
         last: &Token,
         word: Word,
-    ) -> Result<(), NoMemory> {
+    ) -> Result<(), NoMemory>
+        ensures goes { Goes self.old self.new }
+    {
         let qualifier = match env.lost_module(&path.modules) {
             Some(place) => written.qualifiers.get(place),
             None => None,

@@ -12,7 +12,7 @@ ghost use Rattle.level_unify.specs.Generalising.{Generalised};
 ghost use Rattle.level_unify.specs.Instances.{Instantiated};
 ghost use Rattle.level_unify.specs.Solutions.{HaveNoBound};
 ghost use Rattle.level_unify.specs.Unification.{Clashes};
-ghost use Rattle.decl_typing.specs.Goes.{OnlyStore};
+ghost use Rattle.decl_typing.specs.Goes.{Goes, OnlyStore};
 ghost use Rattle.decl_typing.specs.Types.{level_for, any_scope, list_path, MakesVar, MadeOne, JoinedIfNodes};
 
 use crate::built_ins::BuiltIn;
@@ -66,6 +66,7 @@ impl Parts {
         ensures failed { OnErr result (self.new ≡ self.old) }
         ensures keeps { Keeps self.old.store self.new.store }
         ensures rest { OnlyStore self.old self.new }
+        ensures goes { Goes self.old self.new }
     {
         self.store.var(self.level.min(HIGHEST), NO_SCOPE)
     }
@@ -76,8 +77,20 @@ impl Parts {
         ensures failed { OnErr result (self.new ≡ self.old) }
         ensures keeps { Keeps self.old.store self.new.store }
         ensures rest { OnlyStore self.old self.new }
+        ensures goes { Goes self.old self.new }
     {
         self.store.var(self.level.min(HIGHEST), scope)
+    }
+
+    /// A new rigid variable.
+    pub fn rigid(&mut self) -> Result<NodeRef, NoMemory>
+        ensures made { IfOk result (λ n. Makes self.old.store self.new.store n.0 plain.Rigid) }
+        ensures failed { OnErr result (self.new ≡ self.old) }
+        ensures keeps { Keeps self.old.store self.new.store }
+        ensures rest { OnlyStore self.old self.new }
+        ensures goes { Goes self.old self.new }
+    {
+        self.store.rigid()
     }
 
     /// Binds a variable where it is free; it keeps its scope.
@@ -87,6 +100,7 @@ impl Parts {
         ensures failed { OnErr result (self.new ≡ self.old) }
         ensures keeps { Keeps self.old.store self.new.store }
         ensures rest { OnlyStore self.old self.new }
+        ensures goes { Goes self.old self.new }
     {
         if is_node(&self.store, n) && is_free(&self.store, n) {
             self.store.quantify(n)
@@ -113,6 +127,7 @@ impl Parts {
         ensures failed { OnErr result (self.new ≡ self.old) }
         ensures keeps { Keeps self.old.store self.new.store }
         ensures rest { OnlyStore self.old self.new }
+        ensures goes { Goes self.old self.new }
     {
         if is_node(&self.store, from) && is_node(&self.store, to) {
             self.store.arrow(from, to)
@@ -127,6 +142,7 @@ impl Parts {
         ensures failed { OnErr result (self.new ≡ self.old) }
         ensures keeps { Keeps self.old.store self.new.store }
         ensures rest { OnlyStore self.old self.new }
+        ensures goes { Goes self.old self.new }
     {
         if are_nodes(&self.store, parts) {
             self.store.tuple(parts)
@@ -141,6 +157,7 @@ impl Parts {
         ensures failed { OnErr result (self.new ≡ self.old) }
         ensures keeps { Keeps self.old.store self.new.store }
         ensures rest { OnlyStore self.old self.new }
+        ensures goes { Goes self.old self.new }
     {
         if are_nodes(&self.store, args) {
             self.store.con(origin, args)
@@ -156,6 +173,7 @@ impl Parts {
         ensures failed { OnErr result (self.new ≡ self.old) }
         ensures keeps { Keeps self.old.store self.new.store }
         ensures rest { OnlyStore self.old self.new }
+        ensures goes { Goes self.old self.new }
     {
         let origin = BuiltIn::List.origin(self.alloc)?;
         self.con(&origin, &[element])
@@ -168,6 +186,7 @@ impl Parts {
         ensures failed { OnErr result (self.new ≡ self.old) }
         ensures keeps { Keeps self.old.store self.new.store }
         ensures rest { OnlyStore self.old self.new }
+        ensures goes { Goes self.old self.new }
     {
         if is_node(&self.store, root) {
             instantiate(self.alloc, &mut self.store, root, self.level.min(HIGHEST))
@@ -183,6 +202,7 @@ impl Parts {
         ensures failed { OnErr result (self.new ≡ self.old) }
         ensures keeps { Keeps self.old.store self.new.store }
         ensures rest { OnlyStore self.old self.new }
+        ensures goes { Goes self.old self.new }
     {
         if is_node(&self.store, root) {
             generalise(self.alloc, &mut self.store, root, self.level)
@@ -201,6 +221,7 @@ impl Parts {
         ensures failed { OnErr result (self.new ≡ self.old) }
         ensures keeps { Keeps self.old.store self.new.store }
         ensures rest { OnlyStore self.old self.new }
+        ensures goes { Goes self.old self.new }
     {
         if is_node(&self.store, a) && is_node(&self.store, b) {
             unify(self.alloc, &mut self.store, a, b)
@@ -216,6 +237,7 @@ impl Parts {
         ensures failed { OnErr result (self.new ≡ self.old) }
         ensures keeps { Keeps self.old.store self.new.store }
         ensures rest { OnlyStore self.old self.new }
+        ensures goes { Goes self.old self.new }
     {
         match self.unify(a, b) {
             Ok(()) => Ok(()),
@@ -229,6 +251,7 @@ impl Parts {
         ensures limited { OnOk result ((mid : State) × (n : ℕ) × Makes self.old.store mid n (plain.Var (level_for level) scope) × JoinedIfNodes mid self.new.store n ty.0) }
         ensures keeps { Keeps self.old.store self.new.store }
         ensures rest { OnlyStore self.old self.new }
+        ensures goes { Goes self.old self.new }
     {
         let limit = self.store.var(level.min(HIGHEST), scope)?;
         self.join(limit, ty)

@@ -2,7 +2,7 @@
 ghost use Rattle.std.specs.Prelude.{◌≡◌, ℕ, ◌+◌, ◌*◌, ◌^◌, [], None, Some, OnOk, OnErr};
 ghost use Rattle.text_terms.specs.Bytes.{str_bytes};
 ghost use Rattle.typed_index.specs.Seen.{seen_at};
-ghost use Rattle.decl_typing.specs.Goes.{faults_of, OnlyFaults, OnlyIndex, Told};
+ghost use Rattle.decl_typing.specs.Goes.{Goes, faults_of, OnlyFaults, OnlyIndex, Told};
 ghost use Rattle.decl_typing.specs.Notes.{Noted, NotedNameless};
 
 use crate::built_ins::Constants;
@@ -100,6 +100,7 @@ impl Parts {
         ensures noted { OnOk result (Noted self.old.telling self.old self.new number (record { env = env.now; ty = ty; names = names })) }
         ensures failed { OnErr result ((i p : ℕ) → seen_at self.new.index i p ≡ seen_at self.old.index i p) }
         ensures rest { OnlyIndex self.old self.new }
+        ensures goes { Goes self.old self.new }
     {
         if self.telling == Telling::Quiet {
             return Ok(());
@@ -117,6 +118,7 @@ impl Parts {
         ensures noted { OnOk result (NotedNameless self.old self.new number env.now None) }
         ensures failed { OnErr result ((i p : ℕ) → seen_at self.new.index i p ≡ seen_at self.old.index i p) }
         ensures rest { OnlyIndex self.old self.new }
+        ensures goes { Goes self.old self.new }
     {
         self.note(number, env, None, Vec::new(self.alloc))
     }
@@ -126,6 +128,7 @@ impl Parts {
         ensures noted { OnOk result (NotedNameless self.old self.new number env.now (Some ty)) }
         ensures failed { OnErr result ((i p : ℕ) → seen_at self.new.index i p ≡ seen_at self.old.index i p) }
         ensures rest { OnlyIndex self.old self.new }
+        ensures goes { Goes self.old self.new }
     {
         self.note(number, env, Some(ty), Vec::new(self.alloc))
     }
@@ -135,6 +138,7 @@ impl Parts {
         ensures told { OnOk result (Told self.old.telling (faults_of self.old) (faults_of self.new) span kind (str_bytes message)) }
         ensures failed { OnErr result (faults_of self.new ≡ faults_of self.old) }
         ensures rest { OnlyFaults self.old self.new }
+        ensures goes { Goes self.old self.new }
     {
         let fault = Fault {
             span,

@@ -1,4 +1,6 @@
 //! Re-exports: whether a declaration tells the same as the type that it names.
+ghost use Rattle.decl_typing.specs.Goes.{Goes};
+
 use crate::groups::{ConstructorPart, DeclarationPart, LabelPart, Right, Told};
 use crate::orders::{Mentions, set};
 use crate::owners::owner_of;
@@ -31,22 +33,46 @@ impl Parts {
         renames: Vec<bool>,
         env: &Env,
         depth: Depth,
-    ) -> Result<Vec<bool>, NoMemory> {
+    ) -> Result<Vec<bool>, NoMemory>
+        ensures goes { Goes self.old self.new }
+    {
         let mut renames = renames;
         for (place, part) in parts.iter().enumerate() {
-            if let Right::Reexport(_, ty, _, told) = &part.right {
-                let mut assumed = copied(self, &renames)?;
-                set(&mut assumed, place);
-                if !mentions.leads_to_itself(self.alloc, place, &assumed)?
-                    && self.tells_the_same(
-                        parts, mentions, &assumed, *ty, part, told, env, depth,
-                    )?
-                {
-                    renames = assumed;
-                }
+            if let Some(more) =
+                self.with_reexport(parts, mentions, &renames, place, part, env, depth)?
+            {
+                renames = more;
             }
         }
         Ok(renames)
+    }
+
+    /// Which declarations are other types where this one is too; None where it is no re-export that is kept.
+    fn with_reexport(
+        &mut self,
+        parts: &[DeclarationPart<'_>],
+        mentions: &Mentions,
+        renames: &[bool],
+        place: usize,
+        part: &DeclarationPart<'_>,
+        env: &Env,
+        depth: Depth,
+    ) -> Result<Option<Vec<bool>>, NoMemory>
+        ensures goes { Goes self.old self.new }
+    {
+        let Right::Reexport(_, ty, _, told) = &part.right else {
+            return Ok(None);
+        };
+        let mut assumed = copied(self, renames)?;
+        set(&mut assumed, place);
+        if mentions.leads_to_itself(self.alloc, place, &assumed)? {
+            return Ok(None);
+        }
+        if self.tells_the_same(parts, mentions, &assumed, *ty, part, told, env, depth)? {
+            Ok(Some(assumed))
+        } else {
+            Ok(None)
+        }
     }
 
     /// Whether a re-export tells the same as the type that it names, where these declarations are other types.
@@ -60,12 +86,15 @@ impl Parts {
         told: &Told<'_>,
         env: &Env,
         depth: Depth,
-    ) -> Result<bool, NoMemory> {
+    ) -> Result<bool, NoMemory>
+        ensures goes { Goes self.old self.new }
+    {
         let telling = self.telling;
         self.telling = Telling::Quiet;
-        self.level = self.level.saturating_add(1);
+        let level = self.level;
+        self.level = level.saturating_add(1);
         let same = self.compared(parts, mentions, renames, ty, part, told, env, depth);
-        self.level = self.level.saturating_sub(1);
+        self.level = level;
         self.telling = telling;
         same
     }
@@ -80,7 +109,9 @@ impl Parts {
         told: &Told<'_>,
         env: &Env,
         depth: Depth,
-    ) -> Result<bool, NoMemory> {
+    ) -> Result<bool, NoMemory>
+        ensures goes { Goes self.old self.new }
+    {
         let declared = self.sketched(parts, mentions, renames, env, depth)?;
         let inner = self.with_names(parts, &declared, env)?;
         let variables = Variables::Parameters(self.rigid_parameters(&part.parameters)?);
@@ -94,10 +125,12 @@ impl Parts {
         }
     }
 
-    fn rigid_parameters(&mut self, names: &[&Token]) -> Result<Vec<Parameter>, NoMemory> {
+    fn rigid_parameters(&mut self, names: &[&Token]) -> Result<Vec<Parameter>, NoMemory>
+        ensures goes { Goes self.old self.new }
+    {
         let mut parameters = Vec::new(self.alloc);
         for name in names {
-            let node = self.store.rigid()?;
+            let node = self.rigid()?;
             let name = name.name.share()?;
             push(&mut parameters, Parameter { name, node })?;
         }
@@ -129,7 +162,9 @@ impl Parts {
         env: &Env,
         variables: &Variables,
         depth: Depth,
-    ) -> Result<bool, NoMemory> {
+    ) -> Result<bool, NoMemory>
+        ensures goes { Goes self.old self.new }
+    {
         match (&declaration.shape, told) {
             (Shape::Opaque, _) => Ok(tells_nothing(told)),
             (Shape::Variant(actual), Told::Constructors(wanted)) => {
@@ -169,7 +204,9 @@ impl Parts {
         env: &Env,
         variables: &Variables,
         depth: Depth,
-    ) -> Result<bool, NoMemory> {
+    ) -> Result<bool, NoMemory>
+        ensures goes { Goes self.old self.new }
+    {
         if wanted.is_empty() {
             return Ok(true);
         }
@@ -202,7 +239,9 @@ impl Parts {
         env: &Env,
         variables: &Variables,
         depth: Depth,
-    ) -> Result<bool, NoMemory> {
+    ) -> Result<bool, NoMemory>
+        ensures goes { Goes self.old self.new }
+    {
         if actual.len() != wanted.len() {
             return Ok(false);
         }
@@ -226,7 +265,9 @@ impl Parts {
         declaration: &Declaration,
         arguments: &[NodeRef],
         side: Side,
-    ) -> Result<NodeRef, NoMemory> {
+    ) -> Result<NodeRef, NoMemory>
+        ensures goes { Goes self.old self.new }
+    {
         let instance = self.instance(root)?;
         let whole = self.applied(declaration, arguments)?;
         match self.sides_of_arrow(instance) {
@@ -243,7 +284,9 @@ impl Parts {
     }
 
     /// Whether two types are one, or may be made one where unknown types stand in them.
-    pub fn are_one(&mut self, a: NodeRef, b: NodeRef) -> Result<bool, NoMemory> {
+    pub fn are_one(&mut self, a: NodeRef, b: NodeRef) -> Result<bool, NoMemory>
+        ensures goes { Goes self.old self.new }
+    {
         match self.unify(a, b) {
             Ok(()) => Ok(true),
             Err(level_unify::UnifyFault::Clash(_)) => Ok(false),

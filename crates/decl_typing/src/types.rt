@@ -1,4 +1,5 @@
 //! Type expressions.
+ghost use Rattle.decl_typing.specs.Goes.{Goes};
 ghost use Rattle.std.specs.Prelude.{◌<◌, IfOk};
 
 use crate::changes::Changes;
@@ -79,7 +80,9 @@ impl Parts {
         env: &Env,
         variables: &Variables,
         depth: Depth,
-    ) -> Result<NodeRef, NoMemory> {
+    ) -> Result<NodeRef, NoMemory>
+        ensures goes { Goes self.old self.new }
+    {
         match ty.node {
             None => {
                 self.note_plain(ty.number, env)?;
@@ -101,7 +104,9 @@ impl Parts {
         env: &Env,
         variables: &Variables,
         depth: Depth,
-    ) -> Result<Vec<NodeRef>, NoMemory> {
+    ) -> Result<Vec<NodeRef>, NoMemory>
+        ensures goes { Goes self.old self.new }
+    {
         let mut types = Vec::new(self.alloc);
         for part in parts_in(self, node, number, env)? {
             let ty = self.read_type(part, env, variables, depth.inside()?)?;
@@ -111,7 +116,9 @@ impl Parts {
     }
 
     /// A type expression that names no type: any type in an item, and in a declaration an unknown one.
-    fn unresolved(&mut self, variables: &Variables) -> Result<NodeRef, NoMemory> {
+    fn unresolved(&mut self, variables: &Variables) -> Result<NodeRef, NoMemory>
+        ensures goes { Goes self.old self.new }
+    {
         match variables {
             Variables::OfItem => self.var(),
             Variables::Parameters(_) => self.var_of_scope(0),
@@ -126,7 +133,9 @@ impl Parts {
         types: &[NodeRef],
         env: &Env,
         variables: &Variables,
-    ) -> Result<NodeRef, NoMemory> {
+    ) -> Result<NodeRef, NoMemory>
+        ensures goes { Goes self.old self.new }
+    {
         match node.row {
             RowName::Tcon => {
                 let path = written_path(self.alloc, node, 0, 1)?;
@@ -164,7 +173,9 @@ impl Parts {
         node: &Node,
         types: &[NodeRef],
         variables: &Variables,
-    ) -> Result<NodeRef, NoMemory> {
+    ) -> Result<NodeRef, NoMemory>
+        ensures goes { Goes self.old self.new }
+    {
         match types {
             [] => self.unresolved(variables),
             [ty] => Ok(*ty),
@@ -180,7 +191,9 @@ impl Parts {
         &mut self,
         name: Option<&Token>,
         variables: &Variables,
-    ) -> Result<NodeRef, NoMemory> {
+    ) -> Result<NodeRef, NoMemory>
+        ensures goes { Goes self.old self.new }
+    {
         let Some(name) = name else {
             return self.unresolved(variables);
         };
@@ -199,7 +212,9 @@ impl Parts {
     }
 
     /// The type that a type variable of the item stands for: one of the item's own level.
-    fn written_variable(&mut self, name: &Token) -> Result<NodeRef, NoMemory> {
+    fn written_variable(&mut self, name: &Token) -> Result<NodeRef, NoMemory>
+        ensures goes { Goes self.old self.new }
+    {
         let key = match String::from_str(self.alloc, name.name.as_str()) {
             Ok(key) => key,
             Err(_) => return Err(NoMemory),
@@ -226,7 +241,9 @@ impl Parts {
         types: &[NodeRef],
         env: &Env,
         variables: &Variables,
-    ) -> Result<NodeRef, NoMemory> {
+    ) -> Result<NodeRef, NoMemory>
+        ensures goes { Goes self.old self.new }
+    {
         let Some(last) = path.last else {
             let names = self.seen_names(env, path, None)?;
             self.note(number, env, None, names)?;
@@ -247,7 +264,9 @@ impl Parts {
         entry: &Entry,
         types: &[NodeRef],
         variables: &Variables,
-    ) -> Result<NodeRef, NoMemory> {
+    ) -> Result<NodeRef, NoMemory>
+        ensures goes { Goes self.old self.new }
+    {
         let Some(declaration) = declaration_of(entry) else {
             return self.unresolved(variables);
         };
@@ -266,7 +285,9 @@ impl Parts {
         &mut self,
         declaration: &Declaration,
         types: &[NodeRef],
-    ) -> Result<NodeRef, NoMemory> {
+    ) -> Result<NodeRef, NoMemory>
+        ensures goes { Goes self.old self.new }
+    {
         if let Some(origin) = &declaration.origin {
             return self.con(origin, types);
         }
@@ -284,7 +305,9 @@ impl Parts {
         &mut self,
         declaration: &Declaration,
         types: &[NodeRef],
-    ) -> Result<NodeRef, NoMemory> {
+    ) -> Result<NodeRef, NoMemory>
+        ensures goes { Goes self.old self.new }
+    {
         if let Some(origin) = &declaration.origin {
             return self.con(origin, types);
         }
@@ -296,7 +319,9 @@ impl Parts {
     }
 
     /// The last part of a tuple whose other parts are these types.
-    pub fn filled(&mut self, tuple: NodeRef, types: &[NodeRef]) -> Result<NodeRef, NoMemory> {
+    pub fn filled(&mut self, tuple: NodeRef, types: &[NodeRef]) -> Result<NodeRef, NoMemory>
+        ensures goes { Goes self.old self.new }
+    {
         for (place, ty) in types.iter().enumerate() {
             let parameter = match self.parts_of_tuple(tuple) {
                 Some(parts) => parts.get(place).copied(),
@@ -322,7 +347,9 @@ fn parts_in<'a>(
     node: &'a Node,
     number: u32,
     env: &Env,
-) -> Result<Vec<Operand<'a>>, NoMemory> {
+) -> Result<Vec<Operand<'a>>, NoMemory>
+    ensures goes { Goes at.old at.new }
+{
     match node.row {
         RowName::Tapp => grouped(at, operand_in(node, number, 0), env),
         RowName::Tparen => operands(at.alloc, node, number, 1),
@@ -332,7 +359,9 @@ fn parts_in<'a>(
 }
 
 /// Several types in parentheses in front of a constructor, or the one type there.
-fn grouped<'a>(at: &mut Parts, left: Operand<'a>, env: &Env) -> Result<Vec<Operand<'a>>, NoMemory> {
+fn grouped<'a>(at: &mut Parts, left: Operand<'a>, env: &Env) -> Result<Vec<Operand<'a>>, NoMemory>
+    ensures goes { Goes at.old at.new }
+{
     if let Some(node) = left.node {
         if node.row == RowName::Tparen {
             let inner = operands(at.alloc, node, left.number, 1)?;

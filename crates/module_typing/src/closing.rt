@@ -1,4 +1,6 @@
 //! Whether the body of a functor leaves a type open.
+ghost use Rattle.decl_typing.specs.Goes.{Goes};
+
 use decl_typing::{Depth, NoMemory, NodeRef, Parts};
 use env_table::{Entries, Entry, FaultKind, Sig, What};
 use owned_lists::push;
@@ -98,7 +100,9 @@ impl Search {
 
 /// The demand that a body leaves no type open: no variable is free in its values that isn't free in what stands in front of the
 /// node of this number. Where it isn't kept, what is open is generalised.
-pub fn ask_closed(at: &mut Parts, span: Span, body: &Sig, scope: u64) -> Result<(), NoMemory> {
+pub fn ask_closed(at: &mut Parts, span: Span, body: &Sig, scope: u64) -> Result<(), NoMemory>
+    ensures goes { Goes at.old at.new }
+{
     let mut search = Search {
         scope,
         seen: HashSet::new(at.alloc()),

@@ -1,4 +1,6 @@
 //! The first environment: the built-in types.
+ghost use Rattle.decl_typing.specs.Goes.{Goes};
+
 use decl_typing::{BuiltIn, Env, NoMemory, NodeRef, Parts, new_entry};
 use env_table::{Declaration, Entry, Kind, Place, Shape, What};
 use owned_lists::owned;
@@ -6,7 +8,9 @@ use std::rc::Rc;
 use text_terms::RcStr;
 
 /// The root of the type that a built-in type's declaration gives its parameters.
-fn built_in_root(at: &mut Parts, which: BuiltIn) -> Result<NodeRef, NoMemory> {
+fn built_in_root(at: &mut Parts, which: BuiltIn) -> Result<NodeRef, NoMemory>
+    ensures goes { Goes at.old at.new }
+{
     let origin = which.origin(at.alloc())?;
     if which.arity() == 0 {
         return at.con(&origin, &[]);
@@ -17,7 +21,9 @@ fn built_in_root(at: &mut Parts, which: BuiltIn) -> Result<NodeRef, NoMemory> {
 }
 
 /// The entry of a built-in type. Its constructors have none.
-fn built_in_entry(at: &mut Parts, which: BuiltIn) -> Result<Rc<Entry>, NoMemory> {
+fn built_in_entry(at: &mut Parts, which: BuiltIn) -> Result<Rc<Entry>, NoMemory>
+    ensures goes { Goes at.old at.new }
+{
     at.level = at.level.saturating_add(1);
     let root = built_in_root(at, which);
     at.level = at.level.saturating_sub(1);
@@ -37,7 +43,9 @@ fn built_in_entry(at: &mut Parts, which: BuiltIn) -> Result<Rc<Entry>, NoMemory>
 }
 
 /// The environment of the built-in types alone, the last one newest.
-pub fn built_ins(at: &mut Parts) -> Result<Env, NoMemory> {
+pub fn built_ins(at: &mut Parts) -> Result<Env, NoMemory>
+    ensures goes { Goes at.old at.new }
+{
     let mut env = Env::empty();
     for which in BuiltIn::ALL {
         let entry = built_in_entry(at, which)?;

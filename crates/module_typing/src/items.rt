@@ -1,4 +1,6 @@
 //! Items without modules.
+ghost use Rattle.decl_typing.specs.Goes.{Goes};
+
 use crate::scenes::Scene;
 use core_typing::type_bindings;
 use decl_typing::{Depth, Env, NoMemory, NodeRef, Parameter, Parts, Variables, new_entry};
@@ -14,7 +16,9 @@ pub fn let_item(
     number: u32,
     scene: &mut Scene,
     depth: Depth,
-) -> Result<(), NoMemory> {
+) -> Result<(), NoMemory>
+    ensures goes { Goes at.old at.new }
+{
     at.note_plain(number, &scene.env)?;
     at.written.variables.clear();
     let behind = type_bindings(at, node, number, &scene.env, depth)?;
@@ -28,7 +32,9 @@ pub fn type_group(
     number: u32,
     scene: &mut Scene,
     depth: Depth,
-) -> Result<(), NoMemory> {
+) -> Result<(), NoMemory>
+    ensures goes { Goes at.old at.new }
+{
     at.note_plain(number, &scene.env)?;
     for name in names_of_types(at, node, number)? {
         scene.ask_new(at, Kind::TypeName, Some(name))?;
@@ -60,7 +66,9 @@ pub fn exception_item(
     number: u32,
     scene: &mut Scene,
     depth: Depth,
-) -> Result<(), NoMemory> {
+) -> Result<(), NoMemory>
+    ensures goes { Goes at.old at.new }
+{
     at.note_plain(number, &scene.env)?;
     let declared = at.type_exception(node, number, &scene.env, depth)?;
     scene.add(declared.env, &declared.entries)
@@ -96,7 +104,9 @@ pub fn value_item(
     number: u32,
     scene: &mut Scene,
     depth: Depth,
-) -> Result<(), NoMemory> {
+) -> Result<(), NoMemory>
+    ensures goes { Goes at.old at.new }
+{
     at.level = at.level.saturating_add(1);
     let read = specified(at, node, number, &scene.env, depth);
     at.level = at.level.saturating_sub(1);
@@ -123,7 +133,9 @@ fn specified(
     number: u32,
     env: &Env,
     depth: Depth,
-) -> Result<NodeRef, NoMemory> {
+) -> Result<NodeRef, NoMemory>
+    ensures goes { Goes at.old at.new }
+{
     let mut names = Vec::new(at.alloc());
     variables_in(node, &mut names)?;
     let mut parameters = Vec::new(at.alloc());

@@ -1,4 +1,6 @@
 //! Module expressions and module types.
+ghost use Rattle.decl_typing.specs.Goes.{Goes};
+
 use crate::items::{exception_item, let_item, type_group, value_item};
 use crate::paths::{module_path, module_type_path};
 use crate::scenes::Scene;
@@ -35,10 +37,12 @@ fn type_items(
     items: &[Operand<'_>],
     env: &Env,
     depth: Depth,
-) -> Result<Kept, NoMemory> {
+) -> Result<Kept, NoMemory>
+    ensures goes { Goes at.old at.new }
+{
     let mut scene = Scene::new(at.alloc(), env.share()?);
     for item in items {
-        type_item(at, *item, &mut scene, depth.inside()?)?;
+        type_item(at, *item, &mut scene, depth)?;
     }
     Ok(Kept {
         components: scene.components,
@@ -53,7 +57,9 @@ pub fn type_item(
     item: Operand<'_>,
     scene: &mut Scene,
     depth: Depth,
-) -> Result<(), NoMemory> {
+) -> Result<(), NoMemory>
+    ensures goes { Goes at.old at.new }
+{
     let Some(node) = item.node else {
         return at.note_plain(item.number, &scene.env);
     };
@@ -62,11 +68,9 @@ pub fn type_item(
         RowName::TypeRow => type_group(at, node, item.number, scene, depth),
         RowName::Exception => exception_item(at, node, item.number, scene, depth),
         RowName::Val => value_item(at, node, item.number, scene, depth),
-        RowName::Module => type_module_item(at, node, item.number, scene, depth.inside()?),
-        RowName::Gmodule => {
-            type_module_specification(at, node, item.number, scene, depth.inside()?)
-        }
-        RowName::Modtype => type_module_type_item(at, node, item.number, scene, depth.inside()?),
+        RowName::Module => type_module_item(at, node, item.number, scene, depth),
+        RowName::Gmodule => { type_module_specification(at, node, item.number, scene, depth) }
+        RowName::Modtype => type_module_type_item(at, node, item.number, scene, depth),
         RowName::Open => {
             let sig = module_path(at, node, item.number, 1, 2, &scene.env)?;
             scene.open(at, &sig)
@@ -86,14 +90,16 @@ fn type_specification(
     item: Operand<'_>,
     scene: &mut Scene,
     depth: Depth,
-) -> Result<(), NoMemory> {
+) -> Result<(), NoMemory>
+    ensures goes { Goes at.old at.new }
+{
     match item.node {
         Some(node) if node.row == RowName::Include => {
             let template = module_type_path(at, node, item.number, 1, 2, &scene.env)?;
             scene.include(at, node.span, &template.sig)?;
             scene.add_made(at, &template.made)
         }
-        _ => type_item(at, item, scene, depth.inside()?),
+        _ => type_item(at, item, scene, depth),
     }
 }
 
@@ -104,10 +110,12 @@ fn type_specifications(
     items: &[Operand<'_>],
     env: &Env,
     depth: Depth,
-) -> Result<Kept, NoMemory> {
+) -> Result<Kept, NoMemory>
+    ensures goes { Goes at.old at.new }
+{
     let mut scene = Scene::new(at.alloc(), env.share()?);
     for item in items {
-        type_specification(at, *item, &mut scene, depth.inside()?)?;
+        type_specification(at, *item, &mut scene, depth)?;
     }
     Ok(Kept {
         components: scene.components,
@@ -142,7 +150,9 @@ fn add_origins(at: &Parts, makes: &mut Vec<Origin>, more: &[Origin]) -> Result<(
 
 /// Types a module expression, or a missing one, which isn't known.
 #[cycle(modules)]
-fn type_module(at: &mut Parts, m: Operand<'_>, env: &Env, depth: Depth) -> Result<Made, NoMemory> {
+fn type_module(at: &mut Parts, m: Operand<'_>, env: &Env, depth: Depth) -> Result<Made, NoMemory>
+    ensures goes { Goes at.old at.new }
+{
     let Some(node) = m.node else {
         at.note_plain(m.number, env)?;
         return unknown(at);
@@ -209,12 +219,9 @@ fn mismatch_text(at: &Parts, mismatch: &Mismatch) -> Result<RcStr, NoMemory> {
 }
 
 /// Whether the demand that a signature matches a template is kept.
-fn ask_match(
-    at: &mut Parts,
-    span: Span,
-    actual: &Sig,
-    wanted: &Template,
-) -> Result<bool, NoMemory> {
+fn ask_match(at: &mut Parts, span: Span, actual: &Sig, wanted: &Template) -> Result<bool, NoMemory>
+    ensures goes { Goes at.old at.new }
+{
     match match_sig(at, actual, wanted)? {
         None => Ok(true),
         Some(mismatch) => {
@@ -234,12 +241,14 @@ fn type_sealed(
     number: u64,
     env: &Env,
     depth: Depth,
-) -> Result<Made, NoMemory> {
-    let made = type_module(at, inner, env, depth.inside()?)?;
+) -> Result<Made, NoMemory>
+    ensures goes { Goes at.old at.new }
+{
+    let made = type_module(at, inner, env, depth)?;
     let Some(seal) = seal else {
         return Ok(made);
     };
-    let template = read_module_type(at, seal, env, depth.inside()?)?;
+    let template = read_module_type(at, seal, env, depth)?;
     sealed(at, inner.span, made, &template, number)
 }
 
@@ -249,7 +258,9 @@ fn sealed(
     made: Made,
     template: &Template,
     number: u64,
-) -> Result<Made, NoMemory> {
+) -> Result<Made, NoMemory>
+    ensures goes { Goes at.old at.new }
+{
     ask_match(at, span, &made.sig, template)?;
     let anew = made_at(at, template, number)?;
     let mut makes = made.makes;
@@ -268,17 +279,17 @@ fn type_application(
     number: u32,
     env: &Env,
     depth: Depth,
-) -> Result<Made, NoMemory> {
-    let head = operand_in(node, number, 0);
+) -> Result<Made, NoMemory>
+    ensures goes { Goes at.old at.new }
+{
     let argument = operand_in(node, number, 2);
-    let functor = type_module(at, head, env, depth.inside()?)?;
-    let is_functor = ask_functor(at, head.span, &functor.sig)?;
+    let (functor, is_functor) = type_head(at, operand_in(node, number, 0), env, depth)?;
     let seal = first_operand(node, number, 4);
     let seal_number = match seal {
         Some(seal) => at.node_number(seal.number),
         None => 0,
     };
-    let given = type_sealed(at, argument, seal, seal_number, env, depth.inside()?)?;
+    let given = type_sealed(at, argument, seal, seal_number, env, depth)?;
     let mut makes = functor.makes;
     add_origins(at, &mut makes, &given.makes)?;
     if !is_functor {
@@ -290,8 +301,25 @@ fn type_application(
     apply(at, &functor.sig, argument.span, &given.sig, makes, number)
 }
 
+/// The module that is applied, and whether the demand that it is a functor is kept.
+#[cycle(modules)]
+fn type_head(
+    at: &mut Parts,
+    head: Operand<'_>,
+    env: &Env,
+    depth: Depth,
+) -> Result<(Made, bool), NoMemory>
+    ensures goes { Goes at.old at.new }
+{
+    let functor = type_module(at, head, env, depth)?;
+    let is_functor = ask_functor(at, head.span, &functor.sig)?;
+    Ok((functor, is_functor))
+}
+
 /// The demand that a module is a functor.
-fn ask_functor(at: &mut Parts, span: Span, sig: &Sig) -> Result<bool, NoMemory> {
+fn ask_functor(at: &mut Parts, span: Span, sig: &Sig) -> Result<bool, NoMemory>
+    ensures goes { Goes at.old at.new }
+{
     match sig {
         Sig::Structure(_) => {
             let text = RcStr::from_str(at.alloc(), "This module is not a functor")?;
@@ -310,7 +338,9 @@ fn apply(
     argument: &Sig,
     makes: Vec<Origin>,
     number: u32,
-) -> Result<Made, NoMemory> {
+) -> Result<Made, NoMemory>
+    ensures goes { Goes at.old at.new }
+{
     let Sig::Functor(parameter, body) = functor else {
         return Ok(Made {
             sig: owned_sig(at, Sig::Hole)?,
@@ -350,11 +380,13 @@ fn type_parameters(
     types: &[Operand<'_>],
     env: &Env,
     depth: Depth,
-) -> Result<Vec<Taken>, NoMemory> {
+) -> Result<Vec<Taken>, NoMemory>
+    ensures goes { Goes at.old at.new }
+{
     let mut taken = Vec::new(at.alloc());
     let mut env = env.share()?;
     for (place, ty) in types.iter().enumerate() {
-        let template = read_module_type(at, *ty, &env, depth.inside()?)?;
+        let template = read_module_type(at, *ty, &env, depth)?;
         let node = at.node_number(ty.number);
         let name = match names.get(place) {
             Some(name) => *name,
@@ -373,7 +405,9 @@ fn taken_as(
     template: &Template,
     node: u64,
     env: &Env,
-) -> Result<Taken, NoMemory> {
+) -> Result<Taken, NoMemory>
+    ensures goes { Goes at.old at.new }
+{
     let anew = made_at(at, template, node)?;
     let mut inner = env.share()?;
     let mut entry = None;
@@ -411,6 +445,25 @@ fn names_of(at: &Parts, taken: &[Taken]) -> Result<Vec<Option<Rc<Entry>>>, NoMem
     Ok(names)
 }
 
+/// The parameters of a functor or of a functor type; it is recorded with their names.
+#[cycle(modules)]
+fn type_named(
+    at: &mut Parts,
+    node: &Node,
+    number: u32,
+    env: &Env,
+    depth: Depth,
+) -> Result<Vec<Taken>, NoMemory>
+    ensures goes { Goes at.old at.new }
+{
+    let names = tokens_or_missing(at.alloc(), node, 2)?;
+    let types = operands(at.alloc(), node, number, 4)?;
+    let taken = type_parameters(at, &names, &types, env, depth)?;
+    let seen = names_of(at, &taken)?;
+    at.note(number, env, None, seen)?;
+    Ok(taken)
+}
+
 /// functor (X : y) -> m
 #[cycle(modules)]
 fn type_functor(
@@ -419,15 +472,13 @@ fn type_functor(
     number: u32,
     env: &Env,
     depth: Depth,
-) -> Result<Made, NoMemory> {
-    let names = tokens_or_missing(at.alloc(), node, 2)?;
-    let types = operands(at.alloc(), node, number, 4)?;
-    let taken = type_parameters(at, &names, &types, env, depth.inside()?)?;
-    let seen = names_of(at, &taken)?;
-    at.note(number, env, None, seen)?;
+) -> Result<Made, NoMemory>
+    ensures goes { Goes at.old at.new }
+{
+    let taken = type_named(at, node, number, env, depth)?;
     let inner = env_behind(&taken, env)?;
     let body = operand_in(node, number, 7);
-    let made = type_module(at, body, &inner, depth.inside()?)?;
+    let made = type_module(at, body, &inner, depth)?;
     let scope = at.node_number(number);
     closed_functor(at, taken, body.span, made, scope)
 }
@@ -439,7 +490,9 @@ fn closed_functor(
     span: Span,
     made: Made,
     scope: u64,
-) -> Result<Made, NoMemory> {
+) -> Result<Made, NoMemory>
+    ensures goes { Goes at.old at.new }
+{
     if taken.is_empty() {
         return Ok(made);
     }
@@ -469,7 +522,9 @@ fn read_module_type(
     y: Operand<'_>,
     env: &Env,
     depth: Depth,
-) -> Result<Rc<Template>, NoMemory> {
+) -> Result<Rc<Template>, NoMemory>
+    ensures goes { Goes at.old at.new }
+{
     let Some(node) = y.node else {
         at.note_plain(y.number, env)?;
         return unknown_type(at);
@@ -493,11 +548,7 @@ fn read_module_type(
             behind_clauses(at, base, &clauses, env, depth)
         }
         RowName::Yfunctor => {
-            let names = tokens_or_missing(at.alloc(), node, 2)?;
-            let types = operands(at.alloc(), node, y.number, 4)?;
-            let taken = type_parameters(at, &names, &types, env, depth.inside()?)?;
-            let seen = names_of(at, &taken)?;
-            at.note(y.number, env, None, seen)?;
+            let taken = type_named(at, node, y.number, env, depth.inside()?)?;
             let inner = env_behind(&taken, env)?;
             let body = read_module_type(
                 at,
@@ -548,7 +599,9 @@ fn behind_clauses(
     clauses: &[Operand<'_>],
     env: &Env,
     depth: Depth,
-) -> Result<Rc<Template>, NoMemory> {
+) -> Result<Rc<Template>, NoMemory>
+    ensures goes { Goes at.old at.new }
+{
     let mut template = base;
     for clause in clauses {
         match clause.node {
@@ -569,10 +622,10 @@ fn behind_clause(
     number: u32,
     env: &Env,
     depth: Depth,
-) -> Result<Rc<Template>, NoMemory> {
-    at.note_plain(number, env)?;
-    let head = operand_in(node, number, 1);
-    at.note_plain(head.number, env)?;
+) -> Result<Rc<Template>, NoMemory>
+    ensures goes { Goes at.old at.new }
+{
+    let head = clause_head(at, node, number, env)?;
     let (name, parameters) = match head.node {
         Some(inner) => (token(inner, 4), tokens(at.alloc(), inner, 1)?),
         None => (None, Vec::new(at.alloc())),
@@ -586,6 +639,34 @@ fn behind_clause(
         Ok(arity) => arity,
         Err(_) => u32::MAX,
     };
+    with_clause(at, template, name, arity, root)
+}
+
+/// The head of a clause; both are recorded.
+fn clause_head<'a>(
+    at: &mut Parts,
+    node: &'a Node,
+    number: u32,
+    env: &Env,
+) -> Result<Operand<'a>, NoMemory>
+    ensures goes { Goes at.old at.new }
+{
+    at.note_plain(number, env)?;
+    let head = operand_in(node, number, 1);
+    at.note_plain(head.number, env)?;
+    Ok(head)
+}
+
+/// A template with a type given; where it has no such abstract type, that is reported.
+fn with_clause(
+    at: &mut Parts,
+    template: Rc<Template>,
+    name: &Token,
+    arity: u32,
+    root: NodeRef,
+) -> Result<Rc<Template>, NoMemory>
+    ensures goes { Goes at.old at.new }
+{
     match with_type(at, &template, name.name.as_str(), arity, root)? {
         Some(given) => owned(at.alloc(), given),
         None => {
@@ -601,7 +682,9 @@ fn report_with(
     template: &Template,
     name: &Token,
     arity: u32,
-) -> Result<(), NoMemory> {
+) -> Result<(), NoMemory>
+    ensures goes { Goes at.old at.new }
+{
     if let Sig::Hole = &*template.sig {
         return Ok(());
     }
@@ -623,7 +706,9 @@ fn clause_root(
     ty: Operand<'_>,
     env: &Env,
     depth: Depth,
-) -> Result<NodeRef, NoMemory> {
+) -> Result<NodeRef, NoMemory>
+    ensures goes { Goes at.old at.new }
+{
     at.level = at.level.saturating_add(1);
     let read = clause_type(at, names, ty, env, depth);
     at.level = at.level.saturating_sub(1);
@@ -638,7 +723,9 @@ fn clause_type(
     ty: Operand<'_>,
     env: &Env,
     depth: Depth,
-) -> Result<NodeRef, NoMemory> {
+) -> Result<NodeRef, NoMemory>
+    ensures goes { Goes at.old at.new }
+{
     let mut parameters = Vec::new(at.alloc());
     let mut parts = Vec::new(at.alloc());
     for name in names {
@@ -663,22 +750,41 @@ fn type_module_item(
     number: u32,
     scene: &mut Scene,
     depth: Depth,
-) -> Result<(), NoMemory> {
+) -> Result<(), NoMemory>
+    ensures goes { Goes at.old at.new }
+{
     let name = token(node, 1);
     scene.ask_new(at, Kind::Module, name)?;
-    let names = tokens_or_missing(at.alloc(), node, 3)?;
-    let types = operands(at.alloc(), node, number, 5)?;
-    let taken = type_parameters(at, &names, &types, &scene.env, depth.inside()?)?;
-    let seen = names_of(at, &taken)?;
-    let inner = env_behind(&taken, &scene.env)?;
-    let body = operand_in(node, number, 10);
-    let seal = first_operand(node, number, 8);
-    let seal_number = at.node_number(number);
-    let made = type_sealed(at, body, seal, seal_number, &inner, depth.inside()?)?;
-    let made = closed_functor(at, taken, body.span, made, seal_number)?;
+    let (made, seen) = type_defined(at, node, number, &scene.env, depth)?;
     let what = What::Module(made.sig);
     scene.add_named(at, number, name, Kind::Module, what, seen)?;
     scene.add_made(at, &made.makes)
+}
+
+/// The module that an item defines, and the entries of its parameters.
+#[cycle(modules)]
+fn type_defined(
+    at: &mut Parts,
+    node: &Node,
+    number: u32,
+    env: &Env,
+    depth: Depth,
+) -> Result<(Made, Vec<Option<Rc<Entry>>>), NoMemory>
+    ensures goes { Goes at.old at.new }
+{
+    let names = tokens_or_missing(at.alloc(), node, 3)?;
+    let types = operands(at.alloc(), node, number, 5)?;
+    let taken = type_parameters(at, &names, &types, env, depth)?;
+    let seen = names_of(at, &taken)?;
+    let inner = env_behind(&taken, env)?;
+    let body = operand_in(node, number, 10);
+    let seal = first_operand(node, number, 8);
+    let seal_number = at.node_number(number);
+    let made = type_sealed(at, body, seal, seal_number, &inner, depth)?;
+    Ok((
+        closed_functor(at, taken, body.span, made, seal_number)?,
+        seen,
+    ))
 }
 
 /// An item `module M : y` of a signature: the module type is made anew at the item's node.
@@ -689,25 +795,59 @@ fn type_module_specification(
     number: u32,
     scene: &mut Scene,
     depth: Depth,
-) -> Result<(), NoMemory> {
+) -> Result<(), NoMemory>
+    ensures goes { Goes at.old at.new }
+{
     let name = token(node, 1);
     scene.ask_new(at, Kind::Module, name)?;
+    let (made, seen) = type_specified(at, node, number, &scene.env, depth)?;
+    let what = What::Module(made.sig);
+    scene.add_named(at, number, name, Kind::Module, what, seen)?;
+    scene.add_made(at, &made.makes)
+}
+
+/// The module that an item of a signature specifies, and the entries of its parameters.
+#[cycle(modules)]
+fn type_specified(
+    at: &mut Parts,
+    node: &Node,
+    number: u32,
+    env: &Env,
+    depth: Depth,
+) -> Result<(Made, Vec<Option<Rc<Entry>>>), NoMemory>
+    ensures goes { Goes at.old at.new }
+{
     let names = tokens_or_missing(at.alloc(), node, 3)?;
     let types = operands(at.alloc(), node, number, 5)?;
-    let taken = type_parameters(at, &names, &types, &scene.env, depth.inside()?)?;
+    let taken = type_parameters(at, &names, &types, env, depth)?;
     let seen = names_of(at, &taken)?;
-    let inner = env_behind(&taken, &scene.env)?;
-    let template = read_module_type(at, operand_in(node, number, 8), &inner, depth.inside()?)?;
+    let inner = env_behind(&taken, env)?;
+    let template = read_module_type(at, operand_in(node, number, 8), &inner, depth)?;
+    Ok((specified(at, &taken, template, number)?, seen))
+}
+
+/// A module of a module type behind parameters: without any it is made anew at the item's node.
+fn specified(
+    at: &mut Parts,
+    taken: &[Taken],
+    template: Rc<Template>,
+    number: u32,
+) -> Result<Made, NoMemory>
+    ensures goes { Goes at.old at.new }
+{
     if taken.is_empty() {
         let own = at.node_number(number);
         let anew = made_at(at, &template, own)?;
-        let what = What::Module(anew.sig);
-        scene.add_named(at, number, name, Kind::Module, what, seen)?;
-        return scene.add_made(at, &anew.made);
+        return Ok(Made {
+            sig: anew.sig,
+            makes: anew.made,
+        });
     }
-    let functor = functor_template(at, &taken, template)?;
-    let what = What::Module(share_sig(&functor.sig)?);
-    scene.add_named(at, number, name, Kind::Module, what, seen)
+    let functor = functor_template(at, taken, template)?;
+    Ok(Made {
+        sig: share_sig(&functor.sig)?,
+        makes: Vec::new(at.alloc()),
+    })
 }
 
 /// An item `module type S = y`.
@@ -718,10 +858,12 @@ fn type_module_type_item(
     number: u32,
     scene: &mut Scene,
     depth: Depth,
-) -> Result<(), NoMemory> {
+) -> Result<(), NoMemory>
+    ensures goes { Goes at.old at.new }
+{
     let name = token(node, 1);
     scene.ask_new(at, Kind::ModuleType, name)?;
-    let template = read_module_type(at, operand_in(node, number, 3), &scene.env, depth.inside()?)?;
+    let template = read_module_type(at, operand_in(node, number, 3), &scene.env, depth)?;
     let what = What::ModuleType(template);
     let none = Vec::new(at.alloc());
     scene.add_named(at, number, name, Kind::ModuleType, what, none)

@@ -1,4 +1,6 @@
 //! Paths to modules and module types.
+ghost use Rattle.decl_typing.specs.Goes.{Goes};
+
 use decl_typing::{Env, NoMemory, Parts};
 use env_table::{Entry, Kind, Sig, Template, What};
 use owned_lists::owned;
@@ -15,7 +17,9 @@ pub fn module_path(
     qualifiers: u8,
     last: u8,
     env: &Env,
-) -> Result<Rc<Sig>, NoMemory> {
+) -> Result<Rc<Sig>, NoMemory>
+    ensures goes { Goes at.old at.new }
+{
     match path_entry(at, node, number, qualifiers, last, Kind::Module, env)? {
         Some(entry) => match &entry.what {
             What::Module(sig) => share_sig(sig),
@@ -33,7 +37,9 @@ pub fn module_type_path(
     qualifiers: u8,
     last: u8,
     env: &Env,
-) -> Result<Rc<Template>, NoMemory> {
+) -> Result<Rc<Template>, NoMemory>
+    ensures goes { Goes at.old at.new }
+{
     if let Some(entry) = path_entry(at, node, number, qualifiers, last, Kind::ModuleType, env)? {
         if let What::ModuleType(template) = &entry.what {
             return share_template(template);
@@ -55,12 +61,11 @@ fn path_entry(
     last: u8,
     kind: Kind,
     env: &Env,
-) -> Result<Option<Rc<Entry>>, NoMemory> {
+) -> Result<Option<Rc<Entry>>, NoMemory>
+    ensures goes { Goes at.old at.new }
+{
     let path = written_path(at.alloc(), node, qualifiers, last)?;
-    let entry = match path.last {
-        Some(token) => at.bound(env, &path, token, kind)?,
-        None => None,
-    };
+    let entry = at.bound_last(env, &path, kind)?;
     let names = at.seen_names(env, &path, entry.as_ref())?;
     at.note(number, env, None, names)?;
     Ok(entry)

@@ -1,4 +1,6 @@
 //! Where a structure or a signature stands while its items are typed.
+ghost use Rattle.decl_typing.specs.Goes.{Goes};
+
 use decl_typing::{Env, NoMemory, Parts, copied_origin, new_entry, share_entry};
 use env_table::{Entry, Kind, Origin, Sig, What};
 use owned_lists::push;
@@ -62,7 +64,9 @@ impl Scene {
         at: &mut Parts,
         kind: Kind,
         name: Option<&Token>,
-    ) -> Result<(), NoMemory> {
+    ) -> Result<(), NoMemory>
+        ensures goes { Goes at.old at.new }
+    {
         if let Some(name) = name {
             if self.note(at.alloc(), kind, &name.name)? {
                 at.twice(name.span, name.name.as_str())?;
@@ -99,7 +103,9 @@ impl Scene {
         kind: Kind,
         what: What,
         parameters: Vec<Option<Rc<Entry>>>,
-    ) -> Result<(), NoMemory> {
+    ) -> Result<(), NoMemory>
+        ensures goes { Goes at.old at.new }
+    {
         let mut names = Vec::new(at.alloc());
         let mut entries = Vec::new(at.alloc());
         if let Some(token) = name {
@@ -124,7 +130,9 @@ impl Scene {
 
     /// Includes the components of a signature. Each type, module and module type is new among the names in front and those
     /// that are included with it, reported at the item.
-    pub fn include(&mut self, at: &mut Parts, span: Span, sig: &Sig) -> Result<(), NoMemory> {
+    pub fn include(&mut self, at: &mut Parts, span: Span, sig: &Sig) -> Result<(), NoMemory>
+        ensures goes { Goes at.old at.new }
+    {
         let Sig::Structure(components) = sig else {
             return Ok(());
         };

@@ -1,4 +1,6 @@
 //! A signature with something else in the place of origins.
+ghost use Rattle.decl_typing.specs.Goes.{Goes};
+
 use crate::shared::share_declaration;
 use decl_typing::{
     Changes, Copies, Copying, Depth, ForBound, ForUnknown, NoMemory, NodeRef, Parts, Put,
@@ -29,12 +31,16 @@ impl<'a> Changing<'a> {
         unchanged(self.changes, ForBound::Itself, ForUnknown::Itself)
     }
 
-    fn ty(&mut self, at: &mut Parts, n: NodeRef) -> Result<NodeRef, NoMemory> {
+    fn ty(&mut self, at: &mut Parts, n: NodeRef) -> Result<NodeRef, NoMemory>
+        ensures goes { Goes at.old at.new }
+    {
         let how = self.how();
         self.copies.copy(at, n, how)
     }
 
-    fn constructor(&mut self, at: &mut Parts, old: &Constructor) -> Result<Constructor, NoMemory> {
+    fn constructor(&mut self, at: &mut Parts, old: &Constructor) -> Result<Constructor, NoMemory>
+        ensures goes { Goes at.old at.new }
+    {
         Ok(Constructor {
             name: old.name.share()?,
             root: self.ty(at, old.root)?,
@@ -46,7 +52,9 @@ impl<'a> Changing<'a> {
         &mut self,
         at: &mut Parts,
         old: &[Constructor],
-    ) -> Result<Vec<Constructor>, NoMemory> {
+    ) -> Result<Vec<Constructor>, NoMemory>
+        ensures goes { Goes at.old at.new }
+    {
         let mut new = Vec::new(at.alloc());
         for constructor in old {
             push(&mut new, self.constructor(at, constructor)?)?;
@@ -54,7 +62,9 @@ impl<'a> Changing<'a> {
         Ok(new)
     }
 
-    fn labels(&mut self, at: &mut Parts, old: &[Label]) -> Result<Vec<Label>, NoMemory> {
+    fn labels(&mut self, at: &mut Parts, old: &[Label]) -> Result<Vec<Label>, NoMemory>
+        ensures goes { Goes at.old at.new }
+    {
         let mut new = Vec::new(at.alloc());
         for label in old {
             let label = Label {
@@ -67,7 +77,9 @@ impl<'a> Changing<'a> {
         Ok(new)
     }
 
-    fn shape(&mut self, at: &mut Parts, old: &Shape) -> Result<Shape, NoMemory> {
+    fn shape(&mut self, at: &mut Parts, old: &Shape) -> Result<Shape, NoMemory>
+        ensures goes { Goes at.old at.new }
+    {
         match old {
             Shape::Opaque => Ok(Shape::Opaque),
             Shape::Variant(constructors) => {
@@ -93,7 +105,9 @@ impl<'a> Changing<'a> {
         &mut self,
         at: &mut Parts,
         old: &Declaration,
-    ) -> Result<Rc<Declaration>, NoMemory> {
+    ) -> Result<Rc<Declaration>, NoMemory>
+        ensures goes { Goes at.old at.new }
+    {
         let root = self.ty(at, old.root)?;
         let new = Declaration {
             arity: old.arity,
@@ -111,7 +125,9 @@ impl<'a> Changing<'a> {
         at: &mut Parts,
         old: &Declaration,
         latest: &Latest,
-    ) -> Result<Rc<Declaration>, NoMemory> {
+    ) -> Result<Rc<Declaration>, NoMemory>
+        ensures goes { Goes at.old at.new }
+    {
         match &latest.declaration {
             Some(declaration) => share_declaration(declaration),
             None => self.declaration(at, old),
@@ -146,7 +162,9 @@ impl<'a> Changing<'a> {
         old: &What,
         latest: &mut Latest,
         depth: Depth,
-    ) -> Result<What, NoMemory> {
+    ) -> Result<What, NoMemory>
+        ensures goes { Goes at.old at.new }
+    {
         match old {
             What::Scheme(root) => Ok(What::Scheme(self.ty(at, *root)?)),
             What::Constructor(declaration, place) => {
@@ -179,7 +197,9 @@ impl<'a> Changing<'a> {
         at: &mut Parts,
         old: &[Rc<Entry>],
         depth: Depth,
-    ) -> Result<Vec<Rc<Entry>>, NoMemory> {
+    ) -> Result<Vec<Rc<Entry>>, NoMemory>
+        ensures goes { Goes at.old at.new }
+    {
         let mut new = Vec::new(at.alloc());
         let mut latest = Latest { declaration: None };
         for entry in old {
@@ -192,18 +212,21 @@ impl<'a> Changing<'a> {
     }
 
     #[cycle(changing)]
-    fn sig(&mut self, at: &mut Parts, old: &Sig, depth: Depth) -> Result<Rc<Sig>, NoMemory> {
-        let new = match old {
-            Sig::Hole => Sig::Hole,
-            Sig::Structure(components) => Sig::Structure(Components {
-                entries: self.entries(at, &components.entries, depth.inside()?)?,
-            }),
-            Sig::Functor(parameter, body) => Sig::Functor(
-                self.template(at, parameter, depth.inside()?)?,
-                self.template(at, body, depth.inside()?)?,
-            ),
-        };
-        owned(at.alloc(), new)
+    fn sig(&mut self, at: &mut Parts, old: &Sig, depth: Depth) -> Result<Rc<Sig>, NoMemory>
+        ensures goes { Goes at.old at.new }
+    {
+        match old {
+            Sig::Hole => owned(at.alloc(), Sig::Hole),
+            Sig::Structure(components) => {
+                let entries = self.entries(at, &components.entries, depth.inside()?)?;
+                owned(at.alloc(), Sig::Structure(Components { entries }))
+            }
+            Sig::Functor(parameter, body) => {
+                let parameter = self.template(at, parameter, depth.inside()?)?;
+                let body = self.template(at, body, depth.inside()?)?;
+                owned(at.alloc(), Sig::Functor(parameter, body))
+            }
+        }
     }
 
     #[cycle(changing)]
@@ -212,7 +235,9 @@ impl<'a> Changing<'a> {
         at: &mut Parts,
         old: &Template,
         depth: Depth,
-    ) -> Result<Rc<Template>, NoMemory> {
+    ) -> Result<Rc<Template>, NoMemory>
+        ensures goes { Goes at.old at.new }
+    {
         let new = Template {
             made: self.made(at, &old.made)?,
             sig: self.sig(at, &old.sig, depth.inside()?)?,
@@ -235,7 +260,9 @@ impl<'a> Changing<'a> {
 }
 
 /// A signature after a change of origins.
-pub fn changed(at: &mut Parts, sig: &Sig, changes: &Changes) -> Result<Rc<Sig>, NoMemory> {
+pub fn changed(at: &mut Parts, sig: &Sig, changes: &Changes) -> Result<Rc<Sig>, NoMemory>
+    ensures goes { Goes at.old at.new }
+{
     let mut changing = Changing {
         changes,
         copies: Copies::new(at),

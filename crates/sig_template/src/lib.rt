@@ -3,7 +3,7 @@
 //! It stands on the copies of types in `decl_typing` and on the signatures of `env_table`.
 //! Above, `made_at` makes a template anew at a node, `with_type` gives one of its abstract types, `realisation` tells which types of an
 //! actual signature stand for the origins of a wanted one, `changed` puts them in, and `applied` is the body of a functor for an argument.
-#![tactic(auto)]
+#![tactic(auto, using(decl_typing::proofs::Going::goes_trans, decl_typing::proofs::Going::goes_refl))]
 
 mod changing;
 mod realising;

@@ -1,4 +1,6 @@
 //! Which types of an actual signature stand for the origins that a wanted one makes.
+ghost use Rattle.decl_typing.specs.Goes.{Goes};
+
 use decl_typing::{
     Changes, Copies, Depth, ForBound, ForUnknown, NoMemory, NodeRef, Parts, Real, copied_origin,
     declaration_of, is_among, unchanged,
@@ -16,7 +18,9 @@ pub struct Realised {
 
 impl Realised {
     /// Closes the unknown types, once the types are put in.
-    pub fn close(&mut self, at: &mut Parts) -> Result<(), NoMemory> {
+    pub fn close(&mut self, at: &mut Parts) -> Result<(), NoMemory>
+        ensures goes { Goes at.old at.new }
+    {
         for _ in 0..self.opened.len() {
             if let Some(n) = self.opened.pop() {
                 at.quantify(n)?;
@@ -26,7 +30,9 @@ impl Realised {
     }
 
     /// An unknown type stands for an origin.
-    fn unknown(&mut self, at: &mut Parts, origin: &Origin) -> Result<(), NoMemory> {
+    fn unknown(&mut self, at: &mut Parts, origin: &Origin) -> Result<(), NoMemory>
+        ensures goes { Goes at.old at.new }
+    {
         let root = at.var_of_scope(0)?;
         push(&mut self.opened, root)?;
         self.add(at, origin, root, 0)
@@ -53,7 +59,9 @@ impl Realised {
         at: &mut Parts,
         origin: &Origin,
         actual: &Declaration,
-    ) -> Result<(), NoMemory> {
+    ) -> Result<(), NoMemory>
+        ensures goes { Goes at.old at.new }
+    {
         let none = Changes::none(at.alloc());
         let how = unchanged(&none, ForBound::Itself, ForUnknown::Open);
         let mut copies = Copies::new(at);
@@ -125,7 +133,9 @@ impl Realised {
         actual: Actual<'_>,
         wanted: &Entry,
         depth: Depth,
-    ) -> Result<(), NoMemory> {
+    ) -> Result<(), NoMemory>
+        ensures goes { Goes at.old at.new }
+    {
         if let Some(origin) = made_by(wanted, made) {
             return self.origin(at, origin, actual, wanted);
         }
@@ -149,7 +159,9 @@ impl Realised {
         origin: &Origin,
         actual: Actual<'_>,
         wanted: &Entry,
-    ) -> Result<(), NoMemory> {
+    ) -> Result<(), NoMemory>
+        ensures goes { Goes at.old at.new }
+    {
         if self.changes.is_real(origin) {
             return Ok(());
         }
@@ -173,7 +185,9 @@ impl Realised {
         actual: Actual<'_>,
         wanted: &Sig,
         depth: Depth,
-    ) -> Result<(), NoMemory> {
+    ) -> Result<(), NoMemory>
+        ensures goes { Goes at.old at.new }
+    {
         let Sig::Structure(components) = wanted else {
             return Ok(());
         };
@@ -186,7 +200,9 @@ impl Realised {
 
 /// The types of an actual signature that stand for the origins of a wanted one: of each the newest component of its name.
 /// A signature that isn't known gives unknown types.
-pub fn realisation(at: &mut Parts, actual: &Sig, wanted: &Template) -> Result<Realised, NoMemory> {
+pub fn realisation(at: &mut Parts, actual: &Sig, wanted: &Template) -> Result<Realised, NoMemory>
+    ensures goes { Goes at.old at.new }
+{
     let mut realised = Realised {
         changes: Changes::none(at.alloc()),
         opened: Vec::new(at.alloc()),

@@ -1,4 +1,6 @@
 //! Templates: made anew at a node, with a type given, and applied.
+ghost use Rattle.decl_typing.specs.Goes.{Goes};
+
 use crate::changing::changed;
 use crate::realising::realisation;
 use crate::shared::share_sig;
@@ -18,7 +20,9 @@ fn copied_origins(at: &Parts, origins: &[Origin]) -> Result<Vec<Origin>, NoMemor
 }
 
 /// The signature of a template whose origins are made anew at the node of this number, with these origins.
-pub fn made_at(at: &mut Parts, template: &Template, node: u64) -> Result<Template, NoMemory> {
+pub fn made_at(at: &mut Parts, template: &Template, node: u64) -> Result<Template, NoMemory>
+    ensures goes { Goes at.old at.new }
+{
     let mut made = Vec::new(at.alloc());
     for origin in &template.made {
         push(&mut made, in_front(at, node, origin)?)?;
@@ -85,7 +89,9 @@ pub fn with_type(
     name: &str,
     arity: u32,
     root: NodeRef,
-) -> Result<Option<Template>, NoMemory> {
+) -> Result<Option<Template>, NoMemory>
+    ensures goes { Goes at.old at.new }
+{
     let Some(origin) = abstract_named(template, name, arity) else {
         return Ok(None);
     };
@@ -116,7 +122,9 @@ pub fn applied(
     argument: &Sig,
     parameter: &Template,
     body: &Template,
-) -> Result<Template, NoMemory> {
+) -> Result<Template, NoMemory>
+    ensures goes { Goes at.old at.new }
+{
     let mut realised = realisation(at, argument, parameter)?;
     realised.changes.made = copied_origins(at, &body.made)?;
     realised.changes.number = node;

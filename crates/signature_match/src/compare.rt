@@ -1,4 +1,6 @@
 //! Values, declarations and exceptions, one against another.
+ghost use Rattle.decl_typing.specs.Goes.{Goes};
+
 use decl_typing::{Changes, Copies, ForBound, ForUnknown, NoMemory, NodeRef, Parts, unchanged};
 use env_table::{Constructor, Declaration, Label, Shape};
 use owned_lists::push;
@@ -9,13 +11,17 @@ fn copied(
     root: NodeRef,
     bound: ForBound,
     unknown: ForUnknown,
-) -> Result<NodeRef, NoMemory> {
+) -> Result<NodeRef, NoMemory>
+    ensures goes { Goes at.old at.new }
+{
     let none = Changes::none(at.alloc());
     Copies::new(at).copy(at, root, unchanged(&none, bound, unknown))
 }
 
 /// Whether the wanted type, its variables taken as rigid, is an instance of the actual scheme. Unknown types may be any.
-pub fn covers(at: &mut Parts, actual: NodeRef, wanted: NodeRef) -> Result<bool, NoMemory> {
+pub fn covers(at: &mut Parts, actual: NodeRef, wanted: NodeRef) -> Result<bool, NoMemory>
+    ensures goes { Goes at.old at.new }
+{
     let actual = at.instance(actual)?;
     let wanted = copied(at, wanted, ForBound::Rigid, ForUnknown::Variable)?;
     at.are_one(actual, wanted)
@@ -26,7 +32,9 @@ fn over(
     at: &mut Parts,
     declaration: &Declaration,
     arguments: &[NodeRef],
-) -> Result<NodeRef, NoMemory> {
+) -> Result<NodeRef, NoMemory>
+    ensures goes { Goes at.old at.new }
+{
     let instance = copied(at, declaration.root, ForBound::Variable, ForUnknown::Closed)?;
     if declaration.arity == 0 {
         return Ok(instance);
@@ -34,10 +42,12 @@ fn over(
     at.filled(instance, arguments)
 }
 
-fn rigid_arguments(at: &mut Parts, arity: u32) -> Result<Vec<NodeRef>, NoMemory> {
+fn rigid_arguments(at: &mut Parts, arity: u32) -> Result<Vec<NodeRef>, NoMemory>
+    ensures goes { Goes at.old at.new }
+{
     let mut arguments = Vec::new(at.alloc());
     for _ in 0..arity {
-        let made = at.store.rigid()?;
+        let made = at.rigid()?;
         push(&mut arguments, made)?;
     }
     Ok(arguments)
@@ -49,14 +59,28 @@ pub fn declares(
     at: &mut Parts,
     actual: &Declaration,
     wanted: &Declaration,
-) -> Result<bool, NoMemory> {
+) -> Result<bool, NoMemory>
+    ensures goes { Goes at.old at.new }
+{
     let arguments = rigid_arguments(at, wanted.arity)?;
-    let found = over(at, actual, &arguments)?;
-    let asked = over(at, wanted, &arguments)?;
-    if !at.are_one(found, asked)? {
+    if !are_one_over(at, actual, wanted, &arguments)? {
         return Ok(false);
     }
     shapes_agree(at, actual, wanted, &arguments)
+}
+
+/// Whether two declarations give these arguments one type.
+fn are_one_over(
+    at: &mut Parts,
+    actual: &Declaration,
+    wanted: &Declaration,
+    arguments: &[NodeRef],
+) -> Result<bool, NoMemory>
+    ensures goes { Goes at.old at.new }
+{
+    let found = over(at, actual, arguments)?;
+    let asked = over(at, wanted, arguments)?;
+    at.are_one(found, asked)
 }
 
 fn shapes_agree(
@@ -64,7 +88,9 @@ fn shapes_agree(
     actual: &Declaration,
     wanted: &Declaration,
     arguments: &[NodeRef],
-) -> Result<bool, NoMemory> {
+) -> Result<bool, NoMemory>
+    ensures goes { Goes at.old at.new }
+{
     match (&actual.shape, &wanted.shape) {
         (_, Shape::Opaque) => Ok(true),
         (Shape::Variant(found), Shape::Variant(asked)) => {
@@ -99,7 +125,9 @@ fn side_over(
     declaration: &Declaration,
     arguments: &[NodeRef],
     side: Side,
-) -> Result<NodeRef, NoMemory> {
+) -> Result<NodeRef, NoMemory>
+    ensures goes { Goes at.old at.new }
+{
     let instance = copied(at, root, ForBound::Variable, ForUnknown::Closed)?;
     let whole = over(at, declaration, arguments)?;
     match at.sides_of_arrow(instance) {
@@ -122,7 +150,9 @@ fn constructors_agree(
     wanted: &Declaration,
     asked: &Constructor,
     arguments: &[NodeRef],
-) -> Result<bool, NoMemory> {
+) -> Result<bool, NoMemory>
+    ensures goes { Goes at.old at.new }
+{
     if !found.name.is(asked.name.as_str()) || found.has_argument != asked.has_argument {
         return Ok(false);
     }
@@ -141,7 +171,9 @@ fn labels_agree(
     wanted: &Declaration,
     asked: &[Label],
     arguments: &[NodeRef],
-) -> Result<bool, NoMemory> {
+) -> Result<bool, NoMemory>
+    ensures goes { Goes at.old at.new }
+{
     if found.len() != asked.len() {
         return Ok(false);
     }
@@ -163,7 +195,9 @@ pub fn same_exception(
     at: &mut Parts,
     actual: &Constructor,
     wanted: &Constructor,
-) -> Result<bool, NoMemory> {
+) -> Result<bool, NoMemory>
+    ensures goes { Goes at.old at.new }
+{
     if actual.has_argument != wanted.has_argument {
         return Ok(false);
     }

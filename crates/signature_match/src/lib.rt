@@ -2,7 +2,7 @@
 //! component by component is compared. It stands on the changes of signatures in `sig_template` and on unification.
 //! Above, `match_sig` tells the first component that fails, with its path and cause, and then the types are as before; where all
 //! are met, the weak variables that the match needs are bound.
-#![tactic(auto)]
+#![tactic(auto, using(decl_typing::proofs::Going::goes_trans, decl_typing::proofs::Going::goes_refl))]
 
 mod causes;
 mod compare;

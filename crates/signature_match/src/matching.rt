@@ -1,4 +1,7 @@
 //! The walk over the components of a wanted signature.
+ghost use Rattle.std.specs.Prelude.{◌≡◌, IfOk, IfSome};
+ghost use Rattle.decl_typing.specs.Goes.{Goes};
+
 use crate::causes::{Cause, Mismatch};
 use crate::compare::{covers, declares, same_exception};
 use decl_typing::{Depth, NoMemory, Parts, declaration_of};
@@ -40,7 +43,9 @@ fn match_value(
     actual: &Sig,
     wanted: &Entry,
     root: decl_typing::NodeRef,
-) -> Result<Option<Mismatch>, NoMemory> {
+) -> Result<Option<Mismatch>, NoMemory>
+    ensures goes { Goes at.old at.new }
+{
     match actual.entries().newest(Kind::Value, wanted.name.as_str()) {
         None => Ok(unless(at, false, Cause::Absent)),
         Some(entry) => match entry.what {
@@ -59,7 +64,9 @@ fn match_type(
     actual: &Sig,
     wanted: &Entry,
     declaration: &Declaration,
-) -> Result<Option<Mismatch>, NoMemory> {
+) -> Result<Option<Mismatch>, NoMemory>
+    ensures goes { Goes at.old at.new }
+{
     let found = match actual
         .entries()
         .newest(Kind::TypeName, wanted.name.as_str())
@@ -84,7 +91,9 @@ fn match_exception(
     at: &mut Parts,
     actual: &Sig,
     wanted: &Constructor,
-) -> Result<Option<Mismatch>, NoMemory> {
+) -> Result<Option<Mismatch>, NoMemory>
+    ensures goes { Goes at.old at.new }
+{
     match newest_exception(actual, wanted.name.as_str()) {
         None => Ok(unless(at, false, Cause::Absent)),
         Some(found) => {
@@ -124,24 +133,39 @@ fn match_entry(
     wanted: &Entry,
     round: u64,
     depth: Depth,
-) -> Result<Option<Mismatch>, NoMemory> {
-    let failed = match &wanted.what {
-        What::Scheme(root) => match_value(at, actual, wanted, *root)?,
-        What::Type(declaration) => match_type(at, actual, wanted, declaration)?,
-        What::Exception(constructor) => match_exception(at, actual, constructor)?,
-        What::Module(sig) => match newest_module(actual, wanted.name.as_str()) {
-            None => unless(at, false, Cause::Absent),
-            Some(found) => meets(at, found, sig, round, depth.inside()?)?,
-        },
-        What::ModuleType(template) => match newest_module_type(actual, wanted.name.as_str()) {
-            None => unless(at, false, Cause::Absent),
-            Some(found) => match_both(at, found, template, round, depth.inside()?)?,
-        },
-        _ => None,
-    };
-    match failed {
+) -> Result<Option<Mismatch>, NoMemory>
+    ensures goes { Goes at.old at.new }
+{
+    match match_component(at, actual, wanted, round, depth)? {
         None => Ok(None),
         Some(mismatch) => Ok(Some(mismatch.inside(at.alloc(), &wanted.name)?)),
+    }
+}
+
+/// The same, where the path of a mismatch begins inside of the component.
+#[cycle(matching)]
+fn match_component(
+    at: &mut Parts,
+    actual: &Sig,
+    wanted: &Entry,
+    round: u64,
+    depth: Depth,
+) -> Result<Option<Mismatch>, NoMemory>
+    ensures goes { Goes at.old at.new }
+{
+    match &wanted.what {
+        What::Scheme(root) => match_value(at, actual, wanted, *root),
+        What::Type(declaration) => match_type(at, actual, wanted, declaration),
+        What::Exception(constructor) => match_exception(at, actual, constructor),
+        What::Module(sig) => match newest_module(actual, wanted.name.as_str()) {
+            None => Ok(unless(at, false, Cause::Absent)),
+            Some(found) => meets(at, found, sig, round, depth.inside()?),
+        },
+        What::ModuleType(template) => match newest_module_type(actual, wanted.name.as_str()) {
+            None => Ok(unless(at, false, Cause::Absent)),
+            Some(found) => match_both(at, found, template, round, depth.inside()?),
+        },
+        _ => Ok(None),
     }
 }
 
@@ -153,7 +177,9 @@ fn match_both(
     wanted: &Template,
     round: u64,
     depth: Depth,
-) -> Result<Option<Mismatch>, NoMemory> {
+) -> Result<Option<Mismatch>, NoMemory>
+    ensures goes { Goes at.old at.new }
+{
     let met = matches(at, &actual.sig, wanted, round, depth.inside()?)?.is_none()
         && matches(at, &wanted.sig, actual, round, depth.inside()?)?.is_none();
     Ok(unless(at, met, Cause::ModuleTypeDiffers))
@@ -167,7 +193,9 @@ fn meets(
     wanted: &Sig,
     round: u64,
     depth: Depth,
-) -> Result<Option<Mismatch>, NoMemory> {
+) -> Result<Option<Mismatch>, NoMemory>
+    ensures goes { Goes at.old at.new }
+{
     match (actual, wanted) {
         (Sig::Hole, _) | (_, Sig::Hole) => Ok(None),
         (Sig::Structure(_), Sig::Structure(components)) => {
@@ -201,7 +229,9 @@ fn functors_match(
     wanted: (&Rc<Template>, &Rc<Template>),
     round: u64,
     depth: Depth,
-) -> Result<bool, NoMemory> {
+) -> Result<bool, NoMemory>
+    ensures goes { Goes at.old at.new }
+{
     let Some(inner) = round.checked_add(1) else {
         return Err(NoMemory);
     };
@@ -210,11 +240,36 @@ fn functors_match(
     if matches(at, &renewed.sig, actual.0, inner, depth.inside()?)?.is_some() {
         return Ok(false);
     }
+    let (body, wanted_body) = bodies(at, &renewed.sig, actual, wanted, number)?;
+    Ok(matches(at, &body, &wanted_body, inner, depth.inside()?)?.is_none())
+}
+
+/// The actual body for an argument, and the wanted one for it.
+fn bodies(
+    at: &mut Parts,
+    argument: &Sig,
+    actual: (&Rc<Template>, &Rc<Template>),
+    wanted: (&Rc<Template>, &Rc<Template>),
+    number: u64,
+) -> Result<(Rc<Sig>, Template), NoMemory>
+    ensures goes { Goes at.old at.new }
+{
     let wanted_body = renewed_body(at, wanted, number)?;
-    let mut realised = realisation(at, &renewed.sig, actual.0)?;
+    Ok((body_for(at, argument, actual)?, wanted_body))
+}
+
+/// The actual body for an argument.
+fn body_for(
+    at: &mut Parts,
+    argument: &Sig,
+    actual: (&Rc<Template>, &Rc<Template>),
+) -> Result<Rc<Sig>, NoMemory>
+    ensures goes { Goes at.old at.new }
+{
+    let mut realised = realisation(at, argument, actual.0)?;
     let body = changed(at, &actual.1.sig, &realised.changes)?;
     realised.close(at)?;
-    Ok(matches(at, &body, &wanted_body, inner, depth.inside()?)?.is_none())
+    Ok(body)
 }
 
 /// The wanted body for the wanted parameter with new origins.
@@ -222,7 +277,9 @@ fn renewed_body(
     at: &mut Parts,
     wanted: (&Rc<Template>, &Rc<Template>),
     number: u64,
-) -> Result<Template, NoMemory> {
+) -> Result<Template, NoMemory>
+    ensures goes { Goes at.old at.new }
+{
     let mut changes = decl_typing::Changes::none(at.alloc());
     changes.number = number;
     for origin in &wanted.0.made {
@@ -239,6 +296,31 @@ fn renewed_body(
     })
 }
 
+/// A wanted signature whose origins are realised by an actual one.
+fn wanted_for(at: &mut Parts, actual: &Sig, wanted: &Template) -> Result<Rc<Sig>, NoMemory>
+    ensures goes { Goes at.old at.new }
+{
+    let mut realised = realisation(at, actual, wanted)?;
+    let sig = with_changes(at, wanted, &realised.changes)?;
+    realised.close(at)?;
+    Ok(sig)
+}
+
+/// The signature of a template after a change of its origins.
+fn with_changes(
+    at: &mut Parts,
+    template: &Template,
+    changes: &decl_typing::Changes,
+) -> Result<Rc<Sig>, NoMemory>
+    ensures goes { Goes at.old at.new }
+{
+    if template.made.is_empty() {
+        share_sig(&template.sig)
+    } else {
+        changed(at, &template.sig, changes)
+    }
+}
+
 /// Whether an actual signature matches a wanted one: its origins are realised first.
 #[cycle(matching)]
 fn matches(
@@ -247,14 +329,10 @@ fn matches(
     wanted: &Template,
     round: u64,
     depth: Depth,
-) -> Result<Option<Mismatch>, NoMemory> {
-    let mut realised = realisation(at, actual, wanted)?;
-    let sig = if wanted.made.is_empty() {
-        share_sig(&wanted.sig)?
-    } else {
-        changed(at, &wanted.sig, &realised.changes)?
-    };
-    realised.close(at)?;
+) -> Result<Option<Mismatch>, NoMemory>
+    ensures goes { Goes at.old at.new }
+{
+    let sig = wanted_for(at, actual, wanted)?;
     meets(at, actual, &sig, round, depth.inside()?)
 }
 
@@ -264,7 +342,10 @@ pub fn match_sig(
     at: &mut Parts,
     actual: &Sig,
     wanted: &Template,
-) -> Result<Option<Mismatch>, NoMemory> {
+) -> Result<Option<Mismatch>, NoMemory>
+    ensures mismatch { IfOk result (λ met. IfSome met (λ m. at.new.store ≡ at.old.store)) }
+    ensures goes { Goes at.old at.new }
+{
     let mark = at.mark();
     let failed = matches(at, actual, wanted, 0, Depth::WHOLE)?;
     if failed.is_some() {

@@ -1,4 +1,5 @@
 //! The analysis of a whole text.
+ghost use Rattle.decl_typing.specs.Goes.{Goes};
 ghost use Rattle.syntax_tree.specs.Tallies.{Grows};
 
 use crate::prelude::PRELUDE;
@@ -45,6 +46,7 @@ fn prelude_tree<C: Counts>(alloc: Global, counts: &mut C) -> Result<Tree, NoMemo
 /// The environment behind the prelude, whose items are the item 0.
 fn with_prelude<C: Counts>(at: &mut Parts, counts: &mut C) -> Result<Env, NoMemory>
     ensures grows { Grows (C.tallies counts.old) (C.tallies counts.new) }
+    ensures goes { Goes at.old at.new }
 {
     let tree = prelude_tree(at.alloc(), counts)?;
     let env = built_ins(at)?;

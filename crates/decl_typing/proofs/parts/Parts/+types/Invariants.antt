@@ -1,3 +1,4 @@
+use Rattle.decl_typing.specs.Goes.{Goes}
 use Rattle.std.proofs.Common.{◌+◌, ◌*◌}
 use Rattle.decl_typing.proofs.parts.Parts.+types.Given as goal
 
@@ -6,3 +7,6 @@ decreases-read_type l = 2 * l.depth.0 + 1
 
 abbrev pub decreases-read_parts : goal.decreases-read_parts
 decreases-read_parts l = 2 * l.depth.0
+
+abbrev pub invariant-read_parts-loop-part : goal.invariant-read_parts-loop-part
+invariant-read_parts-loop-part l = Goes l.fn.self l.self

@@ -1,3 +1,4 @@
+use Rattle.decl_typing.specs.Goes.{Goes}
 use Rattle.std.proofs.Common.{◌+◌, ◌*◌}
 use Rattle.sig_template.proofs.changing.Changing.+changing.Given as goal
 
@@ -12,3 +13,6 @@ decreases-sig l = 2 * l.depth.0
 
 abbrev pub decreases-template : goal.decreases-template
 decreases-template l = 2 * l.depth.0
+
+abbrev pub invariant-entries-loop-entry : goal.invariant-entries-loop-entry
+invariant-entries-loop-entry l = Goes l.fn.at l.at

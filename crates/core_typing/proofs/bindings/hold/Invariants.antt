@@ -1,0 +1,5 @@
+use Rattle.decl_typing.specs.Goes.{Goes}
+use Rattle.core_typing.proofs.bindings.hold.Given as goal
+
+abbrev pub invariant-loop-name : goal.invariant-loop-name
+invariant-loop-name l = Goes l.fn.at l.at
