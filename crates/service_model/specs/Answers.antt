@@ -1,6 +1,5 @@
 -- The answer to a line at a text, and the text behind it.
 use Rattle.std.specs.Prelude.{◌≡◌, ◌≤◌, ◌⊎◌, All, ℕ, List, [], ◌∷◌, length, reverse, filter, filter_map, find, map, ◌&&◌, nat_eq, nat_lt, Bool, true, false, Option, Some, None, option_map, codes, if◌then◌else◌}
-use Rattle.std.specs.Str.{IsUtf8}
 use Rattle.text_model.specs.Positions.{offset, position_of}
 use Rattle.text_model.specs.Edits as edit
 use Rattle.token_model.specs.Kinds.{Tok}
@@ -13,7 +12,9 @@ use Rattle.query_model.specs.Prefixes.{is_name_prefix}
 use Rattle.query_model.specs.TypedNodes.{Typed, innermost_at, typed_at}
 use Rattle.service_model.specs.Requests.{Asked, tell, type_enclosing, complete_prefix, locate, occurrences, outline, errors, case_analysis, construct, Reading, asks, refused, reading}
 use Rattle.service_model.specs.Replies as said
+use Rattle.service_model.specs.Completions.{CompletedBy}
 use Rattle.service_model.specs.Structure.{OutlineIs, ErrorsAre, items_in}
+use Rattle.service_model.specs.Trials.{AddsNoFault, TrialTells}
 
 -- What is proved of a request's piece: the exact bytes, or that it is a reply line.
 -- A request that is answered before its answer is proved stands here as `false`.
@@ -133,26 +134,18 @@ OccurrencesAre text o s = ItemsAre text (UsedBy text o) s
 
 -- ---- completions
 
--- the names that a prefix may become, where it has the form of one; which these are stays open, and whether its modules are bound
-abbrev pub CompletedBy : Bool → said.Said → Type 0
-CompletedBy false s = s ≡ said.not_a_name
-CompletedBy true s = ((ident : List ℕ) × (s ≡ said.unbound ident)) ⊎ ((entries : List said.Entry) × (more : Bool) × (length entries ≤ 200) × (s ≡ said.entries entries more))
-
+-- what is said of a prefix
 abbrev pub CompletionsAre : List ℕ → List ℕ → ℕ → said.Said → Type 0
-CompletionsAre text prefix o s = ItemsAre text (λ items x. CompletedBy (is_name_prefix prefix) x) s
+CompletionsAre text prefix o s = ItemsAre text (λ items x. CompletedBy (is_name_prefix prefix) prefix x) s
 
 -- ---- cases and terms
 
--- bytes in place of a part of a text leave a text: one of whole characters, within the limit
-abbrev pub LeavesText : List ℕ → Place → List ℕ → Type 0
-LeavesText text x bytes = IsUtf8 (edit.apply text x.start x.end bytes) × (length (edit.apply text x.start x.end bytes) ≤ edit.text_limit)
-
--- What is said of the cases of a typed node: what goes in its place and leaves a text, or why there is none. What stands in it, and which failure comes, stays open.
+-- What is said of the cases of a typed node: what goes in its place, leaves a text and adds no fault, or why there is none, as the first place of a new fault of some change there. What stands in it, and which failure comes, stays open.
 abbrev pub CasesAt : List ℕ → Typed → said.Said → Type 0
-CasesAt text n (said.split start end bytes) = ((start, end) ≡ shown_place text n.span) × LeavesText text n.span bytes
+CasesAt text n (said.split start end bytes) = ((start, end) ≡ shown_place text n.span) × AddsNoFault text n.span bytes
 CasesAt text n said.nothing_to_split = Unit {0}
 CasesAt text n (said.hidden_constructor name) = Unit {0}
-CasesAt text n (said.would_fault at) = (o : ℕ) × (at ≡ position_of text o)
+CasesAt text n (said.would_fault at) = (o : ℕ) × (bytes : List ℕ) × (at ≡ position_of text o) × TrialTells text n.span bytes (Some o)
 CasesAt text n _ = ⊥
 
 -- the same of the typed node at an offset, if there is one
@@ -160,9 +153,9 @@ abbrev pub CasesBy : List ℕ → Option Typed → said.Said → Type 0
 CasesBy text None s = s ≡ said.no_node
 CasesBy text (Some n) s = CasesAt text n s
 
--- What is said of the terms in place of a typed node: texts each of which may go there and leaves a text, or that it is no hole. Which texts, and which nodes are holes, stays open.
+-- What is said of the terms in place of a typed node: texts each of which may go there, leaves a text and adds no fault, or that it is no hole. Which texts, and which nodes are holes, stays open.
 abbrev pub TermsAt : List ℕ → Typed → said.Said → Type 0
-TermsAt text n (said.terms start end texts) = ((start, end) ≡ shown_place text n.span) × All (LeavesText text n.span) texts
+TermsAt text n (said.terms start end texts) = ((start, end) ≡ shown_place text n.span) × All (AddsNoFault text n.span) texts
 TermsAt text n said.not_a_hole = Unit {0}
 TermsAt text n _ = ⊥
 

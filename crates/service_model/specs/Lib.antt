@@ -1,7 +1,9 @@
 pub mod Requests
 pub mod Replies
 pub mod Answers
+pub mod Completions
 pub mod Runs
 pub mod Structure
 pub mod WellTyped
 pub mod Made
+pub mod Trials

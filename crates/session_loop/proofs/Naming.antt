@@ -1,5 +1,5 @@
 -- What is said of names.
-use Rattle.std.proofs.Common.{◌≡◌, ◌≤◌, ◌⊎◌, inl, inr, ℕ, Bool, List, length, map, filter, refl, sym, ◌∙◌, ap, subst, Result, Ok, Err, IfOk, true, false, ◌&&◌}
+use Rattle.std.proofs.Common.{◌≡◌, ◌⊎◌, inl, inr, ℕ, List, map, filter, refl, sym, ◌∙◌, ap, subst, Result, Ok, Err, IfOk, true, false, ◌&&◌}
 use Rattle.std.specs.Prelude.{Option, Some, None, nat_eq}
 use Rattle.std.proofs.lemmas.Bool.{eq-eqb}
 use Rattle.std.specs.declared.vec.Vec.{Vec}
@@ -11,12 +11,11 @@ use Rattle.tree_model.specs.Trees.{Tree}
 use Rattle.query_model.specs.NameTokens.{Name}
 use Rattle.service_model.specs.Replies as said
 use Rattle.service_model.specs.Structure.{items_in}
-use Rattle.service_model.specs.Answers.{CompletedBy, ItemsAre, NameIs, PlaceIs, UsesAre, shown_place}
+use Rattle.service_model.specs.Answers.{ItemsAre, NameIs, PlaceIs, UsesAre, shown_place}
 use Rattle.syntax_tree.specs.View.{place_of, trees_of}
 use Rattle.env_table.specs.declared.entries.Place.{Place}
 use Rattle.env_table.specs.declared.entries.Place.TheVariants.{Buffer, Prelude, BuiltIn}
 use Rattle.frame_parser.specs.declared.whole.Parsed.{Parsed}
-use Rattle.query_engine.specs.Prefixes.{IsNoPrefix}
 use Rattle.query_engine.specs.Places.{MeetsName, is_defined_at, same_place, same_span}
 use Rattle.query_engine.specs.declared.asked.QueryFault.{QueryFault}
 use Rattle.query_engine.specs.declared.asked.QueryFault.TheVariants as fault
@@ -66,14 +65,3 @@ name_used text names f v (Some n) ss meets shown = inr (
   defined_there f meets.0 n meets.1,
   ap said.spans (shown ∙ ap (map (shown_place text)) meets.2),
 )
-
--- where a prefix has no entries
-pub prefix_fails : (b : Bool) (e : QueryFault) (s : said.Said) → IsNoPrefix e b → failure_in e ≡ Some s → CompletedBy b s
-prefix_fails b fault.NotAName s none is = let same : said.not_a_name ≡ s = cc in subst (λ x. CompletedBy x s) (sym none) (sym same)
-prefix_fails b (fault.Unbound ident) s none is = let same : said.unbound (str_bytes ident) ≡ s = cc in subst (λ x. CompletedBy x s) (sym none) (inl (str_bytes ident, sym same))
-prefix_fails b fault.NoNode s none is = absurd none
-prefix_fails b fault.NoMemory s none is = cc
-
--- the entries of a prefix
-pub prefix_completed : (b : Bool) (entries : List said.Entry) (more : Bool) (n : ℕ) → b ≡ true → length entries ≡ n → n ≤ 200 → CompletedBy b (said.entries entries more)
-prefix_completed b entries more n is count few = subst (λ x. CompletedBy x (said.entries entries more)) (sym is) (inr (entries, more, subst (λ k. k ≤ 200) (sym count) few, refl))

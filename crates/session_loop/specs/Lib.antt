@@ -10,5 +10,6 @@ pub mod Queries
 pub mod Progress
 pub mod Structures
 pub mod SureEnds
+pub mod Trials
 pub mod Turns
 pub mod Words

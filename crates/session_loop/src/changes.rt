@@ -8,6 +8,7 @@ ghost use Rattle.syntax_tree.specs.View.{trees_of};
 ghost use Rattle.json_lines.specs.Means.{said_of};
 ghost use Rattle.construct_terms.specs.Terms.{IsAt};
 ghost use Rattle.session_loop.specs.Changes.{AreSaidTerms, IsCasesFailure, IsSaidOfCandidate, IsTermsFailure, text_in};
+ghost use Rattle.session_loop.specs.Structures.{IsParsedAs};
 
 use crate::queries::asked;
 use crate::structure::position;
@@ -82,6 +83,7 @@ pub fn cases<C: Counts>(
     offset: u32,
     counts: &mut C,
 ) -> Result<Reply, NoMemory>
+    requires parsed { IsParsedAs store.now parsed.now }
     ensures said { IfOk result (λ r. CasesBy store.now (innermost_at offset (trees_of parsed.now.tree)) (said_of r)) }
     ensures grows { Grows (C.tallies counts.old) (C.tallies counts.new) }
 {
@@ -150,6 +152,7 @@ pub fn terms_in<C: Counts>(
     offset: u32,
     counts: &mut C,
 ) -> Result<Reply, NoMemory>
+    requires parsed { IsParsedAs store.now parsed.now }
     ensures said { IfOk result (λ r. TermsBy store.now (innermost_at offset (trees_of parsed.now.tree)) (said_of r)) }
     ensures grows { Grows (C.tallies counts.old) (C.tallies counts.new) }
 {

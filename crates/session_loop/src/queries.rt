@@ -1,12 +1,15 @@
 //! Queries of a position on the names of a text.
-ghost use Rattle.std.specs.Prelude.{◌≡◌, Some, length, map, IfOk};
+ghost use Rattle.std.specs.Prelude.{◌≡◌, Some, map, IfOk};
 ghost use Rattle.query_model.specs.Prefixes.{is_name_prefix};
-ghost use Rattle.service_model.specs.Answers.{CompletedBy, LocatedBy, UsedBy, shown_place};
+ghost use Rattle.service_model.specs.Answers.{LocatedBy, UsedBy, shown_place};
+ghost use Rattle.service_model.specs.Completions.{CompletedBy};
 ghost use Rattle.syntax_tree.specs.Tallies.{Grows};
 ghost use Rattle.syntax_tree.specs.View.{place_of, trees_of};
-ghost use Rattle.json_lines.specs.Means.{entry_of, failure_said, said_of, span_of};
+ghost use Rattle.json_lines.specs.Means.{entry_kind_text, entry_of, failure_said, said_of, span_of};
 ghost use Rattle.session_loop.specs.Lines.{failure_in};
-ghost use Rattle.session_loop.specs.Queries.{AnswersQuery, IsAnswered, IsSaidOfPlace};
+ghost use Rattle.query_engine.specs.NewestNames.{printed};
+ghost use Rattle.session_loop.specs.Queries.{AnswersQuery, IsAnswered, IsSaidOfPlace, said_entry};
+ghost use Rattle.session_loop.specs.Structures.{IsParsedAs};
 
 use crate::changes::{cases, terms_in};
 use crate::structure::{parse_text, position};
@@ -88,6 +91,7 @@ fn answer<C: Counts>(
     offset: u32,
     counts: &mut C,
 ) -> Result<Reply, NoMemory>
+    requires parsed { IsParsedAs store.now parsed.now }
     ensures said { IfOk result (λ r. AnswersQuery query.now store.now offset (trees_of parsed.now.tree) (said_of r)) }
     ensures grows { Grows (C.tallies counts.old) (C.tallies counts.new) }
 {
@@ -200,9 +204,9 @@ fn shown_spans(alloc: Global, store: &TextStore, spans: &[Span]) -> Result<Vec<P
 }
 
 /// The names that a prefix may become at an offset.
-#[tactic(auto, using(crate::proofs::Naming::prefix_fails, crate::proofs::Naming::prefix_completed))]
+#[tactic(auto, using(crate::proofs::Completing::prefix_fails, crate::proofs::Completing::prefix_completed))]
 fn completed(alloc: Global, asked: &Asked<'_>, offset: u32, prefix: &str) -> Result<Reply, NoMemory>
-    ensures { IfOk result (λ r. CompletedBy (is_name_prefix prefix.now) (said_of r)) }
+    ensures { IfOk result (λ r. CompletedBy (is_name_prefix prefix.now) prefix.now (said_of r)) }
 {
     match complete_prefix(alloc, asked, offset, prefix) {
         Ok(found) => Ok(Reply::Entries {
@@ -213,7 +217,9 @@ fn completed(alloc: Global, asked: &Asked<'_>, offset: u32, prefix: &str) -> Res
     }
 }
 
-fn shown_kind(kind: CompletionKind) -> EntryKind {
+fn shown_kind(kind: CompletionKind) -> EntryKind
+    ensures { entry_kind_text result ≡ printed kind }
+{
     match kind {
         CompletionKind::Constructor => EntryKind::Constructor,
         CompletionKind::Label => EntryKind::Label,
@@ -224,17 +230,23 @@ fn shown_kind(kind: CompletionKind) -> EntryKind {
     }
 }
 
+fn shown_entry(entry: &Completion) -> Result<Entry, NoMemory>
+    ensures { IfOk result (λ e. entry_of e ≡ said_entry entry.now) }
+{
+    Ok(Entry {
+        desc: entry.desc.share()?,
+        kind: shown_kind(entry.kind),
+        name: entry.name.share()?,
+    })
+}
+
+/// The names that are told, in their order.
 fn shown_entries(alloc: Global, entries: &[Completion]) -> Result<Vec<Entry>, NoMemory>
-    ensures { IfOk result (λ v. length (map entry_of v.items) ≡ length entries.now) }
+    ensures { IfOk result (λ v. map entry_of v.items ≡ map said_entry entries.now) }
 {
     let mut shown = Vec::new(alloc);
     for entry in entries {
-        let next = Entry {
-            desc: entry.desc.share()?,
-            kind: shown_kind(entry.kind),
-            name: entry.name.share()?,
-        };
-        if shown.push(next).is_err() {
+        if shown.push(shown_entry(entry)?).is_err() {
             return Err(NoMemory);
         }
     }

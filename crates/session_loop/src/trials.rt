@@ -1,12 +1,15 @@
 //! Changes of a text that are tried: the changed text is read whole, and its faults are compared.
-ghost use Rattle.std.specs.Prelude.{◌≡◌, ◌≤◌, ◌++◌, length, IfOk, IfSome, IfNone, OnOk};
+ghost use Rattle.std.specs.Prelude.{◌≡◌, ◌≤◌, ◌<◌, ◌+◌, ◌^◌, ◌&&◌, nat_eq, [], ◌∷◌, ◌++◌, length, map, IfNone, IfOk, IfSome, OnOk};
 ghost use Rattle.std.specs.Str.{IsUtf8};
+ghost use Rattle.std.specs.HashSet.{keys};
 ghost use Rattle.text_terms.specs.Bytes.{str_bytes};
-ghost use Rattle.text_model.specs.Edits.{apply};
-ghost use Rattle.service_model.specs.Answers.{LeavesText};
+ghost use Rattle.text_model.specs.Edits.{apply, text_limit};
+ghost use Rattle.query_model.specs.Faults.{by_typer};
+ghost use Rattle.service_model.specs.Trials.{FirstAdded, Fits, IsLeast, mark_of, moved, moved_mark, new_starts};
 ghost use Rattle.syntax_tree.specs.Tallies.{Grows};
 ghost use Rattle.syntax_tree.specs.View.{place_of};
-ghost use Rattle.session_loop.specs.Changes.{Tells};
+ghost use Rattle.query_engine.specs.Faults.{fault_of, typer_fault_of};
+ghost use Rattle.session_loop.specs.Trials.{HasMarks, IsParserOf, Knows, lesser, mark_in};
 
 use crate::structure::parse_text;
 use env_table::Fault;
@@ -21,79 +24,133 @@ use text_analysis::analyse;
 const TEXT_LIMIT: usize = 1_048_576;
 
 /// A fault without its message: where it starts and ends, in bytes from 0, and its kind.
-type Mark = (u32, u32, &'static str);
+#[derive(Clone, Copy, PartialEq, Eq, Hash)]
+struct Mark {
+    start: u32,
+    end: u32,
+    kind: &'static str,
+}
 
-/// A text, with the faults that it has.
+/// A text, with the marks of the faults that it has.
 #[derive(Drop)]
 pub struct TextTrial<'a> {
     alloc: Global,
     text: &'a [u8],
     known: HashSet<Mark>,
+    ghost knows: { ∥ Knows text.now (keys known) ∥₁ },
 }
 
-fn mark_of_parsed(fault: SyntaxFault) -> Mark {
+fn mark_of_parsed(fault: SyntaxFault) -> Mark
+    ensures { mark_in result ≡ mark_of (fault_of fault) }
+{
     match fault {
-        SyntaxFault::Added { place, holes: _ } => (place, place, "added"),
-        SyntaxFault::Skipped { span } => (span.start, span.end, "skipped"),
-        SyntaxFault::TooDeep { span } => (span.start, span.end, "deep"),
+        SyntaxFault::Added { place, holes: _ } => Mark {
+            start: place,
+            end: place,
+            kind: "added",
+        },
+        SyntaxFault::Skipped { span } => Mark {
+            start: span.start,
+            end: span.end,
+            kind: "skipped",
+        },
+        SyntaxFault::TooDeep { span } => Mark {
+            start: span.start,
+            end: span.end,
+            kind: "deep",
+        },
     }
 }
 
-fn mark_of_typed(fault: &Fault) -> Mark {
-    (fault.span.start, fault.span.end, kind_name(fault.kind))
+fn mark_of_typed(fault: &Fault) -> Mark
+    ensures { mark_in result ≡ mark_of (by_typer (typer_fault_of fault.now)) }
+{
+    Mark {
+        start: fault.span.start,
+        end: fault.span.end,
+        kind: kind_name(fault.kind),
+    }
 }
 
-fn put(marks: &mut Vec<Mark>, mark: Mark) -> Result<(), NoMemory> {
+fn put(marks: &mut Vec<Mark>, mark: Mark) -> Result<(), NoMemory>
+    ensures { OnOk result (map mark_in marks.new.items ≡ map mark_in marks.old.items ++ mark_in mark ∷ []) }
+{
     match marks.push(mark) {
         Ok(()) => Ok(()),
         Err(_) => Err(NoMemory),
     }
 }
 
-fn put_typed(marks: &mut Vec<Mark>, faults: &[Fault]) -> Result<(), NoMemory> {
-    for fault in faults {
-        put(marks, mark_of_typed(fault))?;
-    }
-    Ok(())
-}
-
-/// The faults of a text, the parser's first.
-fn marks_of(alloc: Global, parsed: &[SyntaxFault], typed: &[Fault]) -> Result<Vec<Mark>, NoMemory> {
+/// The marks of the parser's faults.
+fn marks_of_parsed(alloc: Global, faults: &[SyntaxFault]) -> Result<Vec<Mark>, NoMemory>
+    ensures { IfOk result (λ v. map mark_in v.items ≡ map mark_of (map fault_of faults.now)) }
+{
     let mut marks = Vec::new(alloc);
-    for fault in parsed {
+    for fault in faults {
         put(&mut marks, mark_of_parsed(*fault))?;
     }
-    put_typed(&mut marks, typed)?;
     Ok(marks)
 }
 
+/// The marks of a text's faults, the parser's first.
+fn marks_of(alloc: Global, parsed: &[SyntaxFault], typed: &[Fault]) -> Result<Vec<Mark>, NoMemory>
+    ensures { IfOk result (λ v. map mark_in v.items ≡ map mark_of (map fault_of parsed.now ++ map by_typer (map typer_fault_of typed.now))) }
+{
+    let mut marks = marks_of_parsed(alloc, parsed)?;
+    for fault in typed {
+        put(&mut marks, mark_of_typed(fault))?;
+    }
+    Ok(marks)
+}
+
+/// The set of these marks.
+fn set_of(alloc: Global, marks: &[Mark]) -> Result<HashSet<Mark>, NoMemory>
+    ensures { IfOk result (HasMarks marks.now) }
+{
+    let mut known = HashSet::new(alloc);
+    for mark in marks {
+        if known.insert(*mark).is_err() {
+            return Err(NoMemory);
+        }
+    }
+    Ok(known)
+}
+
 /// A place of the changed text in the text: one inside of what was put there is where that starts.
-fn moved(place: u32, replaced: Span, put: u32) -> u32 {
-    let behind = replaced.start.saturating_add(put);
+fn moved(place: u32, replaced: Span, put: u32) -> u32
+    requires { replaced.start + put < 2 ^ 32 }
+    ensures { result ≡ moved (place_of replaced) put place }
+{
+    let behind = replaced.start + put;
     if place <= replaced.start {
         place
     } else if place < behind {
         replaced.start
     } else {
-        replaced.end.saturating_add(place.saturating_sub(behind))
+        replaced.end.saturating_add(place - behind)
     }
 }
 
 /// A fault of the changed text as one of the text.
-fn moved_mark(mark: Mark, replacement: &Replacement) -> Mark {
-    let put = u32::try_from(replacement.text.as_str().len()).unwrap_or(u32::MAX);
-    (
-        moved(mark.0, replacement.span, put),
-        moved(mark.1, replacement.span, put),
-        mark.2,
-    )
+fn moved_mark(mark: Mark, replacement: &Replacement) -> Mark
+    requires { replacement.now.span.start + length (str_bytes replacement.now.text) < 2 ^ 32 }
+    ensures { mark_in result ≡ moved_mark (place_of replacement.now.span) (length (str_bytes replacement.now.text)) (mark_in mark) }
+{
+    let put = replacement.text.as_str().len() as u32;
+    Mark {
+        start: moved(mark.start, replacement.span, put),
+        end: moved(mark.end, replacement.span, put),
+        kind: mark.kind,
+    }
 }
 
 /// The first of two places, of which one may be none.
-fn first_of(first: Option<u32>, place: u32) -> Option<u32> {
+fn first_of(first: Option<u32>, place: u32) -> u32
+    ensures { result ≡ lesser first place }
+{
     match first {
-        Some(before) if before <= place => Some(before),
-        _ => Some(place),
+        Some(before) if before <= place => before,
+        _ => place,
     }
 }
 
@@ -112,7 +169,9 @@ fn changed_text(
     text: &[u8],
     replacement: &Replacement,
 ) -> Result<Option<Vec<u8>>, NoMemory>
-    ensures { IfOk result (λ r. IfSome r (λ v. v.items ≡ apply text.now replacement.now.span.start replacement.now.span.end (str_bytes replacement.now.text))) }
+    ensures made { IfOk result (λ r. IfSome r (λ v. v.items ≡ apply text.now replacement.now.span.start replacement.now.span.end (str_bytes replacement.now.text))) }
+    ensures within { IfOk result (λ r. IfSome r (λ v. (replacement.now.span.start ≤ replacement.now.span.end) × (replacement.now.span.end ≤ length text.now))) }
+    ensures outside { IfOk result (λ r. IfNone r (replacement.now.span.start ≤ replacement.now.span.end → replacement.now.span.end ≤ length text.now → ⊥)) }
 {
     let (start, end) = (
         replacement.span.start as usize,
@@ -129,49 +188,49 @@ fn changed_text(
 }
 
 impl<'a> TextTrial<'a> {
-    /// A text with these faults of the parser and of the typer.
+    /// A text with its faults: those of the parser, and some of the typer.
     pub fn new(
         alloc: Global,
         text: &'a [u8],
         parsed: &[SyntaxFault],
         typed: &[Fault],
     ) -> Result<TextTrial<'a>, NoMemory>
+        requires parsed { IsParserOf text.now parsed.now }
         ensures { IfOk result (λ t. t.text.now ≡ text.now) }
     {
-        let mut known = HashSet::new(alloc);
-        for mark in marks_of(alloc, parsed, typed)? {
-            if known.insert(mark).is_err() {
-                return Err(NoMemory);
-            }
-        }
+        let marks = marks_of(alloc, parsed, typed)?;
+        let known = set_of(alloc, &marks)?;
         Ok(TextTrial { alloc, text, known })
     }
 
-    /// The first place of a fault of the changed text that the text hasn't.
-    fn first_new(&self, replacement: &Replacement, marks: &[Mark]) -> Option<u32> {
+    /// The first place in the text of a mark of the changed text that isn't known.
+    fn first_new(&self, replacement: &Replacement, marks: &[Mark]) -> Option<u32>
+        requires { replacement.now.span.start + length (str_bytes replacement.now.text) < 2 ^ 32 }
+        ensures { IsLeast result (new_starts (map mark_in (keys self.now.known)) (map (moved_mark (place_of replacement.now.span) (length (str_bytes replacement.now.text))) (map mark_in marks.now))) }
+    {
         let mut first = None;
         for mark in marks {
             let there = moved_mark(*mark, replacement);
             if !self.known.contains(&there) {
-                first = first_of(first, there.0);
+                first = Some(first_of(first, there.start));
             }
         }
         first
     }
 
-    /// The same, of a changed text.
+    /// The same, of a changed text within the limit.
     fn first_in<C: Counts>(
         &self,
         replacement: &Replacement,
         changed: &str,
         counts: &mut C,
     ) -> Result<Option<u32>, NoMemory>
-        ensures short { IfOk result (λ r. IfNone r (length changed.now ≤ 1048576)) }
+        requires made { changed.now ≡ apply self.now.text.now replacement.now.span.start replacement.now.span.end (str_bytes replacement.now.text) }
+        requires short { length changed.now ≤ text_limit }
+        requires put { replacement.now.span.start + length (str_bytes replacement.now.text) < 2 ^ 32 }
+        ensures first { IfOk result (FirstAdded self.now.text.now (place_of replacement.now.span) (str_bytes replacement.now.text)) }
         ensures grows { Grows (C.tallies counts.old) (C.tallies counts.new) }
     {
-        if changed.len() > TEXT_LIMIT {
-            return Ok(Some(replacement.span.start));
-        }
         let parsed = parse_text(self.alloc, changed.as_bytes(), &[], counts)?;
         let analysis = analyse(self.alloc, &parsed.tree, counts)?;
         let marks = marks_of(self.alloc, &parsed.faults, &analysis.faults.list)?;
@@ -195,8 +254,8 @@ impl<'a> Trial for TextTrial<'a> {
             return Ok(Some(replacement.span.start));
         };
         match std::str::from_utf8(&changed) {
-            Ok(text) => self.first_in(replacement, text, counts),
-            Err(_) => Ok(Some(replacement.span.start)),
+            Ok(text) if text.len() <= TEXT_LIMIT => self.first_in(replacement, text, counts),
+            _ => Ok(Some(replacement.span.start)),
         }
     }
 }

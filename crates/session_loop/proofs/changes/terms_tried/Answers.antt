@@ -1,6 +1,6 @@
 use Rattle.std.proofs.Common.{◌≡◌, List, ℕ, All, map, sym, ap, subst, ◌∙◌}
 use Rattle.text_terms.specs.Bytes.{str_bytes}
-use Rattle.service_model.specs.Answers.{LeavesText}
+use Rattle.service_model.specs.Trials.{AddsNoFault}
 use Rattle.syntax_tree.specs.View.{place_of}
 use Rattle.construct_terms.specs.Terms.{AreKept, told_by}
 use Rattle.session_loop.specs.Changes.{Tells, text_in}
@@ -15,4 +15,4 @@ returns-clause-said g c =
     let same : map str_bytes c.in_ok-texts_of.field-0.items ≡ map text_in kept = c.in_ok-texts_of.ensures ∙ ap (map text_in) c.deref.ensures.value in
     let are = subst (λ (t : List ℕ). AreKept (told_by (Tells t)) c.args.candidates.items kept) c.requires.text c.in_ok-changes.ensures.kept in
     let fit = kept_fit text c.args.span c.args.candidates.items kept are c.requires.placed in
-    (map str_bytes c.in_ok-texts_of.field-0.items, cc, subst (λ (ts : List (List ℕ)). All (LeavesText text (place_of c.args.span)) ts) (sym same) fit)
+    (map str_bytes c.in_ok-texts_of.field-0.items, cc, subst (λ (ts : List (List ℕ)). All (AddsNoFault text (place_of c.args.span)) ts) (sym same) fit)

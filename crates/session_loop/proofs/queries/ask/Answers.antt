@@ -4,6 +4,9 @@ use Rattle.session_loop.specs.Structures.{IsParsedAs}
 use Rattle.session_loop.proofs.Naming.{of_items}
 use Rattle.session_loop.proofs.queries.ask.Goals as goal
 
+pub answer-requires : goal.answer-requires
+answer-requires g c = record { parsed = subst (λ (t : List ℕ). IsParsedAs t c.in_ok-parsed.parsed) c.slices.ensures.text c.in_ok-parsed.ensures.parsed }
+
 pub returns-clause-said : goal.returns-clause-said
 returns-clause-said g c =
     let text = c.args.store.now in
