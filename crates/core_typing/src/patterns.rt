@@ -1,4 +1,6 @@
 //! Patterns.
+ghost use Rattle.std.specs.Prelude.{◌≡◌, ◌∷◌, List, IfOk};
+ghost use Rattle.core_typing.specs.declared.patterns.Matched.{Matched};
 ghost use Rattle.decl_typing.specs.Goes.{Goes};
 
 use crate::constants::{Sign, constant};
@@ -389,6 +391,7 @@ fn alternatives<'a>(
 
 /// The first of some sides; where there is none, any type.
 fn first_side<'a>(at: &mut Parts, sides: Vec<Matched<'a>>) -> Result<Matched<'a>, NoMemory>
+    ensures first { IfOk result (λ m. (side : Matched) (later : List Matched) → sides.entry.items ≡ side ∷ later → m ≡ side) }
     ensures goes { Goes at.old at.new }
 {
     match sides.into_iter().next() {
