@@ -228,12 +228,7 @@ impl Copies {
     }
 
     /// A node over the copies of its parts: itself where none is another.
-    fn rebuilt(
-        &self,
-        at: &mut Parts,
-        n: NodeRef,
-        how: Copying<'_>,
-    ) -> Result<NodeRef, NoMemory>
+    fn rebuilt(&self, at: &mut Parts, n: NodeRef, how: Copying<'_>) -> Result<NodeRef, NoMemory>
         ensures goes { Goes at.old at.new }
     {
         match view_of(at, n)? {

@@ -93,11 +93,7 @@ impl Parts {
     }
 
     /// The root of a declaration: its type, behind its parameters where it has some.
-    fn declared_root(
-        &mut self,
-        parameters: &[NodeRef],
-        body: NodeRef,
-    ) -> Result<NodeRef, NoMemory>
+    fn declared_root(&mut self, parameters: &[NodeRef], body: NodeRef) -> Result<NodeRef, NoMemory>
         ensures goes { Goes self.old self.new }
     {
         if parameters.is_empty() {
@@ -330,11 +326,7 @@ impl Parts {
     }
 
     /// The demand that a name is new behind those before; it is one of them then.
-    pub fn is_new<'a>(
-        &mut self,
-        seen: &mut Vec<&'a Token>,
-        name: &'a Token,
-    ) -> Result<(), NoMemory>
+    pub fn is_new<'a>(&mut self, seen: &mut Vec<&'a Token>, name: &'a Token) -> Result<(), NoMemory>
         ensures goes { Goes self.old self.new }
     {
         if seen.iter().any(|other| other.name.is(name.name.as_str())) {
@@ -406,8 +398,7 @@ impl Parts {
         let nodes = self.nodes_of(&parameters)?;
         let own = self.own_type(part, &parameters)?;
         let variables = Variables::Parameters(parameters);
-        let (root, body) =
-            self.right_side(part, renames, &nodes, own, inner, &variables, depth)?;
+        let (root, body) = self.right_side(part, renames, &nodes, own, inner, &variables, depth)?;
         let shape = self.read_told(part, body, inner, &variables, depth)?;
         Ok((root, body, shape))
     }
@@ -734,11 +725,7 @@ impl Parts {
     }
 
     /// Reports a re-export that doesn't tell the same as the type that it names.
-    fn report_reexport(
-        &mut self,
-        part: &DeclarationPart<'_>,
-        renamed: bool,
-    ) -> Result<(), NoMemory>
+    fn report_reexport(&mut self, part: &DeclarationPart<'_>, renamed: bool) -> Result<(), NoMemory>
         ensures goes { Goes self.old self.new }
     {
         if renamed {

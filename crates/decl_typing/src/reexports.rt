@@ -38,9 +38,9 @@ impl Parts {
     {
         let mut renames = renames;
         for (place, part) in parts.iter().enumerate() {
-            if let Some(more) =
-                self.with_reexport(parts, mentions, &renames, place, part, env, depth)?
-            {
+            if let Some(more) = self.with_reexport(
+                parts, mentions, &renames, place, part, env, depth,
+            )? {
                 renames = more;
             }
         }

@@ -187,11 +187,7 @@ impl Parts {
     }
 
     /// 'a
-    fn variable(
-        &mut self,
-        name: Option<&Token>,
-        variables: &Variables,
-    ) -> Result<NodeRef, NoMemory>
+    fn variable(&mut self, name: Option<&Token>, variables: &Variables) -> Result<NodeRef, NoMemory>
         ensures goes { Goes self.old self.new }
     {
         let Some(name) = name else {
