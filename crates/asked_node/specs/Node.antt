@@ -15,9 +15,11 @@ use Rattle.asked_node.specs.Rows.{row_at}
 abbrev pub typed_as : Seen → Option (ℕ × List Entry)
 typed_as s = option_map (λ n. (n.0, s.env)) s.ty
 
+-- the same of the node of a number in an item
 abbrev pub typing_at : Asked → ℕ → ℕ → Option (ℕ × List Entry)
 typing_at a i n = option_and_then typed_as (seen_at a.index.now i n)
 
+-- what the code tells: the node of a type, and the names in scope
 abbrev pub typing_of : Typing → ℕ × List Entry
 typing_of t = (t.ty.0, t.env.now)
 

@@ -65,9 +65,12 @@ split_text subject.Any source os = codes "(" ++ (separated (codes " | ") (map pa
 split_text subject.Name source os = codes "((" ++ (separated (codes " | ") (map pattern_text os) ++ (codes ") as " ++ (source ++ codes ")")))
 
 -- the source text at a place, where the place stands in the text and has whole characters
+
+-- bytes that are whole characters
 abbrev pub whole : List ℕ → Option (List ℕ)
 whole bytes = if is_utf8 bytes then Some bytes else None
 
+-- the bytes of a place, where it stands in the text and has whole characters
 abbrev pub source_at : List ℕ → Place → Option (List ℕ)
 source_at text x = if nat_le x.start x.end && nat_le x.end (length text) then whole (take (x.end - x.start) (drop x.start text)) else None
 
@@ -84,6 +87,7 @@ answer_of s source os (Some name) = hidden_constructor name
 answer_of s None os None = nothing_to_split
 answer_of s (Some bytes) os None = replaced (split_text s bytes os)
 
+-- by what is told of the values of the subject's type
 abbrev pub answer_by : Subject → Option (List ℕ) → Values → Answer
 answer_by s source (known os) = answer_of s source os (hidden_among os)
 answer_by s source functions = nothing_to_split

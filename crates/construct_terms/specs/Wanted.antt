@@ -57,6 +57,7 @@ unfoldable pub hole_in : Row → Option Hole
 hole_in hole_row = Some hole.Written
 hole_in _ = None
 
+-- which hole a node is, by its row
 abbrev pub hole_of : Option Row → Option Hole
 hole_of None = Some hole.Missing
 hole_of (Some r) = hole_in r
@@ -65,6 +66,7 @@ hole_of (Some r) = hole_in r
 abbrev pub goes_on : ℕ → Bool
 goes_on b = nat_le 97 b && nat_le b 122 || nat_le 65 b && nat_le b 90 || nat_le 48 b && nat_le b 57 || b == 95 || b == 39
 
+-- the blank that keeps a term apart from the byte behind it
 abbrev pub blank_behind : Option ℕ → List ℕ
 blank_behind None = []
 blank_behind (Some b) = if goes_on b then codes " " else []

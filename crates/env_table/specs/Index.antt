@@ -21,13 +21,16 @@ code_of rules.type_kind = 3
 code_of rules.module_kind = 4
 code_of rules.module_type_kind = 5
 
+-- a hash, after these bytes as well
 abbrev pub hash_from : ℕ → List ℕ → ℕ
 hash_from h [] = h
 hash_from h (b ∷ bs) = hash_from ((h * 403 + b) % 65536) bs
 
+-- the hash of a name of a kind, of 16 bits
 abbrev pub hash_of : rules.Kind → Name → ℕ
 hash_of k n = hash_from (code_of k) n
 
+-- the hash of an entry, by its kind and its name
 abbrev pub hash_of_entry : Entry → ℕ
 hash_of_entry e = hash_of (kind_of e.kind) (str_bytes e.name)
 
@@ -36,6 +39,7 @@ unfoldable pub bits_of : ℕ → ℕ → List Bool
 bits_of zero h = []
 bits_of (suc n) h = (h % 2 == 1) ∷ bits_of n (h / 2)
 
+-- whether two lists of bits are the same
 abbrev pub same_bits : List Bool → List Bool → Bool
 same_bits [] [] = true
 same_bits [] (k ∷ ks) = false
@@ -50,17 +54,21 @@ abbrev pub shared_at : Option (Rc (List Bool → List Entry) Global) → List Bo
 shared_at None ks = []
 shared_at (Some r) ks = r.value ks
 
+-- the entries behind bits in a fork: its bucket at their end, or what its half for the next bit has
 abbrev pub fork_step : Fork-F (List Bool → List Entry) → List Bool → List Entry
 fork_step f [] = links_view f.bucket
 fork_step f (true ∷ ks) = shared_at f.odd ks
 fork_step f (false ∷ ks) = shared_at f.even ks
 
+-- the entries behind bits in a fork
 abbrev pub fork_at : Fork → List Bool → List Entry
 fork_at = fold-Fork (List Bool → List Entry) fork_step
 
+-- an index of the code, empty or a fork
 abbrev pub Index : Type 0
 Index = Option (Rc Fork Global)
 
+-- the entries behind bits in an index
 abbrev pub index_at : Index → List Bool → List Entry
 index_at None ks = []
 index_at (Some r) ks = fork_at r.value ks

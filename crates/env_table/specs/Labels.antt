@@ -26,6 +26,7 @@ abbrev pub record_by_kind : Kind → What → Option types.Path
 record_by_kind kind.Label (what.Label d k) = option_map path_of d.value.defines
 record_by_kind _ _ = None
 
+-- the same of an entry
 abbrev pub record_of : Entry → Option types.Path
 record_of e = record_by_kind e.kind e.what
 

@@ -8,12 +8,14 @@ use Rattle.env_table.specs.declared.lookup.Scope.{Scope}
 use Rattle.env_table.specs.declared.lookup.Scope.TheVariants as scope
 use Rattle.env_table.specs.Views.{names_of, is_named, inside}
 
+-- a scope of the code, as the rules have it
 abbrev pub scope_view : Scope → ScopeOf Entry
 scope_view (scope.Env env) = known env.now
 scope_view (scope.Inside es) = known (names_of es)
 scope_view scope.Unknown = unknown_scope
 scope_view scope.Absent = no_scope
 
+-- whether a path led to no module, so that there is no scope
 abbrev pub is_no_scope : ScopeOf Entry → Bool
 is_no_scope (known env) = false
 is_no_scope unknown_scope = false

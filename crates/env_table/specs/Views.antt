@@ -27,16 +27,20 @@ abbrev pub shared : {A : Type 0} → Option (Rc (List A) Global) → List A
 shared None = []
 shared (Some r) = r.value
 
+-- an entry in front of those before it
 abbrev pub link_step : Link-F (List Entry) → List Entry
 link_step l = l.entry.value ∷ shared l.before
 
+-- the entries from a link on, the newest first
 abbrev pub link_view : Link → List Entry
 link_view = fold-Link (List Entry) link_step
 
+-- the entries of a chain, the newest first
 abbrev pub links_view : Option (Rc Link Global) → List Entry
 links_view None = []
 links_view (Some r) = link_view r.value
 
+-- a kind of the code, as the rules have it
 abbrev pub kind_of : Kind → rules.Kind
 kind_of kind.Value = rules.value_kind
 kind_of kind.Constructor = rules.constructor_kind
@@ -59,6 +63,7 @@ inside_opened (Sig-F.Structure c) = known (newest_first (out-Components c).entri
 inside_opened (Sig-F.Functor p b) = known []
 inside_opened Sig-F.Hole = unknown_scope
 
+-- what is in scope in a module of this signature
 abbrev pub inside_sig : Sig → ScopeOf Entry
 inside_sig s = inside_opened (out-Sig s)
 
@@ -72,6 +77,7 @@ what_opened (What-F.Type d) = no_scope
 what_opened (What-F.Module s) = inside_sig s.value
 what_opened (What-F.ModuleType t) = no_scope
 
+-- what is in scope inside an entry; only in a module anything may be
 abbrev pub inside : Entry → ScopeOf Entry
 inside e = what_opened (out-What e.what)
 
@@ -97,5 +103,6 @@ rest_view rest.Nothing = []
 rest_view (rest.Link l) = link_view l.now
 rest_view (rest.Components es) = newest_first es.now
 
+-- the entries that a walk has still before it
 abbrev pub names_of : Entries → List Entry
 names_of e = rest_view e.rest

@@ -14,6 +14,7 @@ pub record State : Type 0 where
   pub stack : Stack
   pub place : ℕ
 
+-- the frames behind a token that ends at this place
 abbrev pub state : Stack → ℕ → State
 state S p = record { stack = S; place = p }
 
@@ -45,6 +46,7 @@ pub data Told : Type 0 where
   skipped : Place → Told
   too_deep : Place → Told
 
+-- what a fault tells, with the place of its token
 abbrev pub told : Fault → Told
 told (recovery.added p h) = added p h
 told (recovery.skipped t) = skipped (place t.start t.end)

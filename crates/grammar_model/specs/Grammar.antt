@@ -40,6 +40,7 @@ BeginsWith G r true p c = (p ≡ 0) × (G.left_ok r (left_last c) ≡ true)
 BeginsWith G r false p c = MayCome (G.next r 0) plain p × StandsIn G (G.what r p) c
 
 abbrev mutual
+  -- a node whose parts are those of its row
   pub WellFormed : Table → Tree → Type 0
   WellFormed G (node r f) = IsFilled G r f
 
@@ -53,6 +54,7 @@ abbrev mutual
   Follows G r at last no_parts = G.ends r at ≡ true
   Follows G r at last (part p c f) = MayCome (G.next r at) last p × StandsIn G (G.what r p) c × IsPartFormed G c × Follows G r p (last_in (G.what r p) c) f
 
+  -- a part that is well formed, as a token and a missing part are
   pub IsPartFormed : Table → Part → Type 0
   IsPartFormed G (taken t) = Unit {0}
   IsPartFormed G (inner t) = WellFormed G t

@@ -13,6 +13,7 @@ pub record Frame : Type 0 where
   pub at : ℕ
   pub done : List (ℕ × Part)
 
+-- a row in progress: its number, the spot of its last part, and its parts
 abbrev pub frame : ℕ → ℕ → List (ℕ × Part) → Frame
 frame r at done = record { number = r; at = at; done = done }
 

@@ -37,6 +37,7 @@ pub record Way : Type 0 where
   pub past : Option ℕ
   pub place : Place
 
+-- the way past so many missing parts, and past this operand, if any, to this place
 abbrev pub way : ℕ → Option ℕ → Place → Way
 way n o p = record { musts = n; past = o; place = p }
 

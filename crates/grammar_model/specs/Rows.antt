@@ -31,9 +31,11 @@ edge p = record { spot = p; behind = None }
 abbrev pub edge_behind : ℕ → ℕ → Edge
 edge_behind p r = record { spot = p; behind = Some r }
 
+-- a spot: what stands at it, what may come behind it, and whether the row may end there
 abbrev pub spot : What → List Edge → Bool → Spot
 spot w es b = record { what = w; next = es; ends = b }
 
+-- a row: its name, sort, left operand, level, highest level of a slot in which it may stand, and spots
 abbrev pub a_row : ℕ → ℕ → Left → ℕ → ℕ → List Spot → Row
 a_row n s l v st ps = record { name = n; sort = s; left = l; level = v; stand = st; spots = ps }
 
@@ -45,6 +47,7 @@ no_row = a_row 0 0 no_left 0 0 []
 abbrev pub no_spot : Spot
 no_spot = spot nothing [] true
 
+-- the value of an option, or this one where it has none
 abbrev pub or_else : {A : Type 0} → A → Option A → A
 or_else a None = a
 or_else a (Some b) = b

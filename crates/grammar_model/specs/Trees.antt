@@ -18,6 +18,7 @@ mutual
     inner : Tree → Part
     missing : ℕ → Part
 
+-- the number of the row of a node
 abbrev pub row_of : Tree → ℕ
 row_of (node r f) = r
 
@@ -36,6 +37,7 @@ abbrev mutual
   part_yield (missing place) = []
 
 abbrev mutual
+  -- how many nodes stand in one another at most
   pub height_of : Tree → ℕ
   height_of (node r f) = 1 + forest_height f
 

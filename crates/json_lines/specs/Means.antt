@@ -37,16 +37,20 @@ entry_kind_text entry.ModuleType = codes "ModuleType"
 entry_kind_text entry.Type = codes "Type"
 entry_kind_text entry.Value = codes "Value"
 
+-- an entry of a completion
 abbrev pub entry_of : Entry → said.Entry
 entry_of e = record { desc = str_bytes e.desc; kind = entry_kind_text e.kind; name = str_bytes e.name }
 
+-- where a part starts and ends, each by line and column
 abbrev pub span_of : PosSpan → (ℕ × ℕ) × (ℕ × ℕ)
 span_of s = (pair_of s.start, pair_of s.end)
 
+-- the name of a file in a reply
 abbrev pub file_text : File → List ℕ
 file_text Buffer = codes "buffer"
 file_text Prelude = codes "prelude"
 
+-- the kind of an outline's member, as it is printed
 abbrev pub outline_kind_text : OutlineKind → List ℕ
 outline_kind_text k = kind_text (kind_of k)
 
@@ -63,6 +67,7 @@ outlined_step o = said.outlined (pair_of o.start) (pair_of o.end) (outline_kind_
 abbrev pub outlined_of : Outlined → said.Outlined
 outlined_of = fold-Outlined said.Outlined outlined_step
 
+-- a fault of the page
 abbrev pub fault_of : Listed → said.Fault
 fault_of f = record { start = pair_of f.start; end = pair_of f.end; kind = str_bytes f.kind; message = str_bytes f.message; source = str_bytes f.ty }
 

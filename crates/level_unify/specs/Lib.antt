@@ -1,3 +1,4 @@
+-- Unification by level: walks through types, solutions, limits, generalisation and copies.
 pub mod Walks
 pub mod Plans
 pub mod Solutions

@@ -72,6 +72,7 @@ SameButLimit (Arrow a b) d = d ≡ Arrow a b
 SameButLimit (Tuple ms) d = d ≡ Tuple ms
 SameButLimit (Con path name ms) d = d ≡ Con path name ms
 
+-- the same nodes, each but for the limit of a free variable
 pub record SameButLimits (old new : List Node) : Type 0 where
   pub len : length new ≡ length old
   pub each : (n : ℕ) (c : Node) → slice_get old n ≡ Some c → (d : Node) × (slice_get new n ≡ Some d) × SameButLimit c d
@@ -105,6 +106,7 @@ pub record LeastOf (old : List Node) (caps : List Cap) (at n own value : ℕ) (o
   pub bound : (k : ℕ) (x : Cap) → k < at → slice_get caps k ≡ Some x → StandsIn old n x.0 → value ≤ of x
   pub source : (value ≡ own) ⊎ ((x : Cap) × IsListed caps x × StandsIn old n x.0 × (value ≡ of x))
 
+-- a free variable whose level and scope are the least that its own and the first limits allow
 pub record LeastLimits (old : List Node) (caps : List Cap) (at n level scope : ℕ) : Type 0 where
   pub own_level : ℕ
   pub own_scope : ℕ
@@ -142,6 +144,7 @@ abbrev pub cap_in : Pass → Cap → Cap
 cap_in Levels x = (x.0, x.1, max x.2 no_scope)
 cap_in Scopes x = (x.0, max x.1 highest_level, x.2)
 
+-- the limits in one pass
 abbrev pub caps_in : Pass → List Cap → List Cap
 caps_in pass caps = map (cap_in pass) caps
 

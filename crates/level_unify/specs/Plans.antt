@@ -6,6 +6,7 @@ use Rattle.type_nodes.specs.declared.view.View.{View}
 use Rattle.level_unify.specs.declared.plan.Plan.{Plan}
 use Rattle.level_unify.specs.declared.plan.Plan.TheVariants.{BindLeft, BindRight, LinkParts, Clash}
 
+-- a node that is a variable and isn't bound
 abbrev pub IsFreeVar : Node → Type 0
 IsFreeVar (Var level scope) = level ≢ bound_level
 IsFreeVar Rigid = ⊥

@@ -30,12 +30,15 @@ pub record Tightens (old new : List Node) : Type 0 where
 abbrev pub Cap : Type 0
 Cap = ℕ × ℕ × ℕ
 
+-- a limit of the code: the variable that was bound, its level and its scope
 abbrev pub cap_of : Limit → Cap
 cap_of l = (l.var.0, l.level, l.scope)
 
+-- the limits of the code, in order
 abbrev pub caps_of : List Limit → List Cap
 caps_of ls = map cap_of ls
 
+-- a limit is one of these
 abbrev pub IsListed : List Cap → Cap → Type 0
 IsListed caps x = (k : ℕ) × (slice_get caps k ≡ Some x)
 
@@ -43,9 +46,11 @@ IsListed caps x = (k : ℕ) × (slice_get caps k ≡ Some x)
 abbrev pub Equation : Type 0
 Equation = ℕ × ℕ
 
+-- a pair of the code as an equation
 abbrev pub equation_of : Pair → Equation
 equation_of p = (p.left.0, p.right.0)
 
+-- the pairs of the code, in order
 abbrev pub equations_of : List Pair → List Equation
 equations_of ps = map equation_of ps
 
@@ -91,6 +96,7 @@ weight_of (Arrow a b) = 3
 weight_of (Tuple ms) = suc (length ms)
 weight_of (Con path name ms) = suc (length ms)
 
+-- what is left to do for all nodes of a store
 abbrev pub weight : List Node → ℕ
 weight [] = 0
 weight (c ∷ nodes) = weight_of c + weight nodes

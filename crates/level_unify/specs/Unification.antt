@@ -30,6 +30,7 @@ pub record IsUnscopedReading (nodes : List Node) (V : Types) : Type 0 where
 abbrev pub IsInside : List Node → ℕ → ℕ → Type 0
 IsInside nodes a b = IsFree nodes a × (root nodes a ≢ root nodes b) × StandsIn nodes (root nodes a) b
 
+-- one of two nodes is a free variable that stands in the other, so no type is theirs
 abbrev pub IsCyclic : List Node → ℕ → ℕ → Type 0
 IsCyclic nodes a b = IsInside nodes a b ⊎ IsInside nodes b a
 

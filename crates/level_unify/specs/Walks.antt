@@ -55,6 +55,7 @@ Visit = ℕ × ℕ
 abbrev pub visit_of : CodeVisit → Visit
 visit_of s = (s.node.0, s.done)
 
+-- the code's way, visit by visit
 abbrev pub visits_of : List CodeVisit → List Visit
 visits_of ss = map visit_of ss
 
@@ -68,6 +69,7 @@ pub record Course : Type 0 where
 abbrev pub course : (ℕ → Bool) → List ℕ → List Visit → Course
 course done found way = record { done = done; found = found; way = way }
 
+-- where a walk of the code stands, with its set of roots that are done
 abbrev pub course_of : {S : Type 0} → HashSet ℕ S → Walk → Course
 course_of done w = course (contains nat_eq done) (numbers w.found.items) (visits_of w.way.items)
 

@@ -1,3 +1,4 @@
+-- Which values patterns match, and what rows of patterns miss.
 pub mod Values
 pub mod Forms
 pub mod Rows

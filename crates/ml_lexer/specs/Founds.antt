@@ -18,6 +18,7 @@ pub record Fits (f : Found) (bytes : List ℕ) : Type 0 where
   pub reached : f.size ≤ f.reach
   pub near : f.reach ≤ length bytes + 1
 
+-- what the code's scan of an operator gives: its kind and its end
 abbrev pub ended_of : Ended → Kind × ℕ
 ended_of e = (kind_of e.kind, e.end)
 

@@ -5,6 +5,7 @@ use Rattle.ml_lexer.specs.declared.comments.Piece.{Piece}
 use Rattle.ml_lexer.specs.declared.comments.Piece.TheVariants.{Begins, Ends, Passes, Unclosed}
 use Rattle.ml_lexer.specs.Scans as scan
 
+-- a piece of the code, in the definitions
 abbrev pub piece_view : Piece → scan.Piece
 piece_view Begins = scan.opens
 piece_view Ends = scan.closes

@@ -19,6 +19,7 @@ rest_of r = drop r.at (whole r)
 abbrev pub IsPlaced : Rest → Type 0
 IsPlaced r = (length (whole r) < 2 ^ 32 - 1) × (r.at ≤ length (whole r))
 
+-- the test of a sort of bytes
 abbrev pub test_of : Sort → ℕ → Bool
 test_of Blank = is_blank
 test_of LowerLetter = is_lower

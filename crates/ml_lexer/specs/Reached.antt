@@ -11,12 +11,15 @@ pub record Reached : Type 0 where
   pub token : Tok
   pub reach : ℕ
 
+-- a token of the code, with its reach
 abbrev pub reached_of : Token → Reached
 reached_of t = record { token = tok_of t; reach = t.reach }
 
+-- where a token ends
 abbrev pub end_of : Reached → ℕ
 end_of t = t.token.end
 
+-- how far the bytes go that decided a token
 abbrev pub reach_of : Reached → ℕ
 reach_of t = t.reach
 

@@ -16,6 +16,7 @@ abbrev pub steady : {T : Type 0} → (T → ℕ) → ℕ → List T → List T
 steady reach_of place [] = []
 steady reach_of place (t ∷ ts) = if nat_lt place (reach_of t) then [] else t ∷ steady reach_of place ts
 
+-- by what the first token behind a place is, and where a token ends
 module _ {T : Type 0} (first : List ℕ → ℕ → Option T → Type 0) (end_of : T → ℕ) where
   -- these are the tokens of a text from a place on
   abbrev pub AllTokens : List ℕ → ℕ → List T → Type 0

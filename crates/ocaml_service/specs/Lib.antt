@@ -1,1 +1,2 @@
+-- The program's exit status.
 pub mod Numbers

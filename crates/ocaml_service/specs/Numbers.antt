@@ -3,6 +3,7 @@ use Rattle.std.specs.Prelude.{ℕ}
 use Rattle.session_loop.specs.declared.service.Status.{Status}
 use Rattle.session_loop.specs.declared.service.Status.TheVariants.{Done, BadWords, ReadFault, WriteFault, InputTooLong, NoMemory}
 
+-- the exit status of a run's end
 abbrev pub number_of : Status → ℕ
 number_of Done = 0
 number_of BadWords = 2

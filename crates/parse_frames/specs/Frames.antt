@@ -13,6 +13,7 @@ pub record Frame : Type 0 where
   pub spot : ℕ
   pub done : List (ℕ × Part)
 
+-- a row in progress: its number, the spot of its newest part, and its parts with their slots
 abbrev pub frame : ℕ → ℕ → List (ℕ × Part) → Frame
 frame r p done = record { number = r; spot = p; done = done }
 
@@ -23,6 +24,7 @@ pub record Stack : Type 0 where
   pub last : Last
   pub place : ℕ
 
+-- the innermost frame, those below it, what its newest part is, and the end of the last token taken
 abbrev pub stack : Frame → List Frame → Last → ℕ → Stack
 stack f fs last p = record { top = f; below = fs; last = last; place = p }
 

@@ -14,6 +14,7 @@ use Rattle.pattern_matrix.specs.declared.patterns.PatRow.{PatRow}
 abbrev pub row_of : PatRow → Row
 row_of r = record { patterns = plains (listed (line_of r)); guarded = r.guarded }
 
+-- rows as they match values, in order
 abbrev pub rows_of : List PatRow → List Row
 rows_of = map row_of
 
@@ -21,6 +22,7 @@ rows_of = map row_of
 abbrev pub IsRowTyped : World → List Typ → PatRow → Type 0
 IsRowTyped w ts r = AreTyped w ts (listed (line_of r))
 
+-- each row is so typed
 abbrev pub AreRowsTyped : World → List Typ → List PatRow → Type 0
 AreRowsTyped w ts [] = Unit {0}
 AreRowsTyped w ts (r ∷ rs) = IsRowTyped w ts r × AreRowsTyped w ts rs
@@ -49,10 +51,13 @@ pub data AreThose (P : ℕ → Type 0) : ℕ → List ℕ → Type 0 where
   other : {n : ℕ} {us : List ℕ} → (P n → ⊥) → AreThose P n us → AreThose P (suc n) us
 
 -- the lines of the rows without a guard
+
+-- a line, unless its row has a guard
 abbrev pub unless : Bool → Line → List Line
 unless true l = []
 unless false l = l ∷ []
 
+-- the lines of these rows, in order, but for those with a guard
 abbrev pub open_lines : List Row → List Line
 open_lines [] = []
 open_lines (r ∷ rows) = unless r.guarded (list_of r.patterns) ++ open_lines rows

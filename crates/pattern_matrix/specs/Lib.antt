@@ -1,3 +1,4 @@
+-- Rows and lines of patterns, the search for a value that none matches, and what the code's values mean.
 pub mod Lines
 pub mod Weights
 pub mod Search

@@ -7,9 +7,11 @@ use Rattle.pattern_matrix.specs.Search.{Finds, row_in}
 use Rattle.pattern_matrix.specs.Views.{typed_of}
 use Rattle.pattern_matrix.specs.declared.patterns.PatRow.{PatRow}
 
+-- the patterns of a row
 abbrev pub line_of : PatRow → Line
 line_of r = map typed_of r.pats.items
 
+-- the line of a row, if the row has no guard
 abbrev pub unless_guarded : Bool → Line → List Line
 unless_guarded true l = []
 unless_guarded false l = l ∷ []

@@ -21,12 +21,15 @@ abbrev pub with_head : Head → List Shape → List Shape
 with_head (built_head n parts) ss = of_built n (shapes_in (take parts ss)) ∷ drop parts ss
 with_head (literal_head n) ss = of_spelling n ∷ ss
 
+-- what is found behind a head, with the head in front
 abbrev pub under_head : Head → Option (List Shape) → Option (List Shape)
 under_head h found = option_map (with_head h) found
 
+-- what is found behind the first column, with the shape of that column in front
 abbrev pub behind : Shape → Option (List Shape) → Option (List Shape)
 behind s found = option_map (λ ss. s ∷ ss) found
 
+-- what is searched for
 pub data Task : Type 0 where
   -- a row in lines
   row_in : List Line → Line → Task
@@ -35,6 +38,7 @@ pub data Task : Type 0 where
   -- each of several constructors before the rest of a row
   members_in : List Line → List Member → Line → Task
 
+-- a search finds these shapes, or nothing (Maranget 2007, for the usefulness of a row)
 pub data Finds : Task → Option (List Shape) → Type 0 where
   -- no column is left
   missed : Finds (row_in [] []) (Some [])

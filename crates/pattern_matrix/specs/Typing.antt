@@ -14,10 +14,12 @@ abbrev mutual
   plain (lit n) = of_literal n
   plain (either ps) = model.either (plains ps)
 
+  -- patterns as they match values, in order
   pub plains : Typeds → Patterns
   plains none = no_patterns
   plains (also p ps) = also_pattern (plain p) (plains ps)
 
+-- a constructor of the world, with the number of its parts
 abbrev pub member : Built → Member
 member k = record { name = k.name; parts = length k.parts }
 

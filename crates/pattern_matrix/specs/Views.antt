@@ -18,12 +18,15 @@ use Rattle.pattern_matrix.specs.declared.columns.Line.{Line as CodeLine}
 use Rattle.pattern_matrix.specs.declared.columns.Head.{Head}
 use Rattle.pattern_matrix.specs.declared.columns.Head.TheVariants as head
 
+-- a constructor of the code
 abbrev pub member_of : Built → Member
 member_of k = record { name = str_bytes k.name; parts = k.parts }
 
+-- the constructors of the code, in order
 abbrev pub members_of : List Built → List Member
 members_of = map member_of
 
+-- a pattern whose parts are read already
 abbrev pub typed_step : Pat-F Typed → Typed
 typed_step Pat-F.Any = any
 typed_step (Pat-F.Con all name parts) = con (members_of all.value.items) (str_bytes name) (listed parts.items)
@@ -34,31 +37,39 @@ typed_step (Pat-F.Either ps) = either (listed ps.items)
 abbrev pub typed_of : Pat → Typed
 typed_of = fold-Pat Typed typed_step
 
+-- a shape whose parts are read already
 abbrev pub shape_step : Shape-F plain → plain
 shape_step Shape-F.Any = open_shape
 shape_step (Shape-F.Con name parts) = of_built (str_bytes name) (shapes_in parts.items)
 shape_step (Shape-F.Tuple parts) = of_built tuple_name (shapes_in parts.items)
 shape_step (Shape-F.Literal n) = of_spelling (str_bytes n)
 
+-- a shape of the code
 abbrev pub shape_of : Shape → plain
 shape_of = fold-Shape plain shape_step
 
+-- a cell of a line: any value, or a pattern
 abbrev pub cell_view : Cell → Typed
 cell_view cell.Any = any
 cell_view (cell.Of p) = typed_of p.now
 
+-- the cells of a line
 abbrev pub cells_view : List Cell → Line
 cells_view = map cell_view
 
+-- a line of the code
 abbrev pub line_view : CodeLine → Line
 line_view l = cells_view l.cells.items
 
+-- the lines of the code, in order
 abbrev pub lines_view : List CodeLine → List Line
 lines_view = map line_view
 
+-- a head of the code
 abbrev pub head_view : Head → PlainHead
 head_view (head.Built n parts) = built_head (str_bytes n.now) parts
 head_view (head.Literal n) = literal_head (str_bytes n.now)
 
+-- the shapes that the code found, if it did
 abbrev pub shapes_view : Option (Vec Shape Global) → Option (List plain)
 shapes_view found = option_map (λ v. map shape_of v.items) found

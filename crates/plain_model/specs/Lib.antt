@@ -1,1 +1,2 @@
+-- Plain texts, their trees and their types.
 pub mod Plain

@@ -6,19 +6,23 @@ use Rattle.tree_model.specs.Rows.{Row, let_row, binding_row, pname_row, econst_r
 use Rattle.tree_model.specs.Trees.{Place, place, extent, Tree, Part, node, no_parts, part, taken, inner}
 use Rattle.tree_model.specs.Nodes.{Id, id}
 
+-- the types of a plain text
 pub data Plain : Type 0 where
   int_type : Plain
   str_type : Plain
   bool_type : Plain
 
+-- whether a token of this kind is `let`
 unfoldable pub is_let : Kind → Bool
 is_let let_word = true
 is_let _ = false
 
+-- whether a token of this kind is a name with a small first letter
 unfoldable pub is_lower : Kind → Bool
 is_lower lower = true
 is_lower _ = false
 
+-- whether a token of this kind is an operator of the level of comparisons, as `=` is
 unfoldable pub is_comparison : Kind → Bool
 is_comparison op9 = true
 is_comparison _ = false
@@ -31,12 +35,15 @@ literal_type true_word = Some bool_type
 literal_type false_word = Some bool_type
 literal_type _ = None
 
+-- whether a token is `=`
 abbrev pub is_equal_sign : Tok → Bool
 is_equal_sign t = is_comparison t.kind && bytes_eq t.name (codes "=")
 
+-- whether a token is a literal or a name, and so may be a right side
 abbrev pub is_value : Tok → Bool
 is_value t = is_some (literal_type t.kind) || is_lower t.kind
 
+-- whether four tokens have the form of an item
 abbrev pub is_item : Tok → Tok → Tok → Tok → Bool
 is_item word name sign value = is_let word.kind && is_lower name.kind && is_equal_sign sign && is_value value
 
@@ -44,6 +51,7 @@ is_item word name sign value = is_let word.kind && is_lower name.kind && is_equa
 abbrev pub leaf : Row → Tok → Part
 leaf r t = inner (node r (extent (place t.start t.end) 1 1) (part 0 (taken t) no_parts))
 
+-- the row of a right side: of a name, or of a constant
 abbrev pub value_row : Tok → Row
 value_row t = if is_lower t.kind then name_row else econst_row
 
@@ -83,10 +91,12 @@ abbrev pub type_in : List (List ℕ × Plain) → List ℕ → Option Plain
 type_in [] n = None
 type_in (b ∷ bs) n = if bytes_eq b.0 n then Some b.1 else type_in bs n
 
+-- the first type, if there is one, and else the second
 abbrev pub or_else : Option Plain → Option Plain → Option Plain
 or_else (Some ty) other = Some ty
 or_else None other = other
 
+-- the type of a right side: that of the literal, or that of the name, if it is bound
 abbrev pub type_of : List (List ℕ × Plain) → Tok → Option Plain
 type_of env t = or_else (literal_type t.kind) (if is_lower t.kind then type_in env t.name else None)
 
@@ -96,6 +106,7 @@ pub record Seen : Type 0 where
   pub span : Place
   pub ty : Plain
 
+-- a token as a typed node with its number in its item
 abbrev pub seen : ℕ → ℕ → Tok → Plain → Seen
 seen item pre t ty = record { id = id item pre; span = place t.start t.end; ty = ty }
 

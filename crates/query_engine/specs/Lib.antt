@@ -1,3 +1,4 @@
+-- What the answers of queries mean in the definitions of `query_model`.
 pub mod View
 pub mod Completions
 pub mod Environments

@@ -59,6 +59,7 @@ pub record AreNewest (es : List Entry) (beginning : Name) (all : List Entry) : T
 abbrev pub Kept : Type 0
 Kept = Key × Bor (Rc Entry Global)
 
+-- the entry that is kept
 abbrev pub entry_of : Kept → Entry
 entry_of p = p.1.now.value
 
@@ -70,6 +71,7 @@ listed ps = map entry_of ps
 abbrev pub IsKeyOf : Key → Entry → Type 0
 IsKeyOf key e = (key.name.now ≡ str_bytes e.name) × (key.kind ≡ told_kind e.kind)
 
+-- each entry is kept under its own key
 abbrev pub AreKeyed : List Kept → Type 0
 AreKeyed [] = Unit {0}
 AreKeyed (p ∷ ps) = IsKeyOf p.0 (entry_of p) × AreKeyed ps

@@ -23,6 +23,7 @@ place_in (Some e) = Some e.value.place
 abbrev pub entry_place : TypedIndex Seen → Name → Option Place
 entry_place index n = option_and_then (λ s. option_and_then place_in (slice_get s.names.items n.index)) (seen_at index n.node.item n.node.pre)
 
+-- whether two places start and end alike
 abbrev pub same_span : Span → Span → Bool
 same_span a b = nat_eq a.start b.start && nat_eq a.end b.end
 

@@ -6,6 +6,7 @@ use Rattle.query_engine.specs.declared.asked.QueryFault.TheVariants.{NoNode, Not
 use Rattle.query_engine.specs.declared.prefixes.Read.{Read}
 use Rattle.query_engine.specs.declared.prefixes.Read.TheVariants as code
 
+-- what the code has read of a prefix
 abbrev pub read_of : Read → model.Read
 read_of code.Start = model.at_start
 read_of code.Module = model.in_module

@@ -11,6 +11,7 @@ use Rattle.query_engine.specs.declared.types.Typed as code
 use Rattle.query_engine.specs.declared.typed_nodes.Role.{Role}
 use Rattle.query_engine.specs.declared.typed_nodes.Role.TheVariants.{Plain, MaybeLabel}
 
+-- a typed node of the code
 abbrev pub node_of : TypedNode → Typed
 node_of n = typed (id_of n.id) (place_of n.span)
 

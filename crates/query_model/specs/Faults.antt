@@ -25,6 +25,7 @@ pub record Fault : Type 0 where
 
 -- ---- the parser's faults
 
+-- a fault that the parser tells, with its kind and message
 abbrev pub by_parser : Place → List ℕ → List ℕ → Fault
 by_parser p kind message = record { span = p; source = parser; kind = kind; message = message }
 
@@ -32,12 +33,15 @@ by_parser p kind message = record { span = p; source = parser; kind = kind; mess
 abbrev pub missing_text : ℕ → List ℕ
 missing_text n = if nat_eq n 1 then codes "1 part is missing here" else decimal n ++ codes " parts are missing here"
 
+-- parts are missing at a place between two tokens
 abbrev pub parts_missing : ℕ → ℕ → Fault
 parts_missing p n = by_parser (place p p) (codes "added") (missing_text n)
 
+-- a token that recovery skips
 abbrev pub token_skipped : Place → Fault
 token_skipped p = by_parser p (codes "skipped") (codes "This token does not fit here")
 
+-- a token that is nested deeper than the parser follows
 abbrev pub token_too_deep : Place → Fault
 token_too_deep p = by_parser p (codes "deep") (codes "This token is nested too deeply")
 
@@ -111,6 +115,7 @@ by_typer f = record { span = f.span; source = source_of f.kind; kind = kind_name
 abbrev pub place_before : Place → Place → Bool
 place_before p q = nat_lt p.start q.start || nat_eq p.start q.start && nat_lt p.end q.end
 
+-- whether two places start and end alike
 abbrev pub same_place : Place → Place → Bool
 same_place p q = nat_eq p.start q.start && nat_eq p.end q.end
 
@@ -162,6 +167,7 @@ pub record Listed : Type 0 where
   pub message : List ℕ
   pub source : List ℕ
 
+-- a fault as the page shows it
 abbrev pub listed : Fault → Listed
 listed f = record { span = f.span; kind = f.kind; message = f.message; source = source_name f.source }
 

@@ -1,3 +1,4 @@
+-- What the queries tell of a text, over plain trees.
 pub mod Faults
 pub mod NameTokens
 pub mod Numbered

@@ -18,10 +18,12 @@ is_name_kind op_name = true
 is_name_kind prefix = true
 is_name_kind _ = false
 
+-- whether a token of this kind is a numeral with a point or an exponent
 unfoldable pub is_float : Kind → Bool
 is_float float = true
 is_float _ = false
 
+-- whether the row is that of a constant as an expression
 unfoldable pub is_constant_row : Row → Bool
 is_constant_row econst_row = true
 is_constant_row _ = false
@@ -67,6 +69,7 @@ pub record Name : Type 0 where
   pub span : Place
   pub name : List ℕ
 
+-- a token as a name of a node, with so many names before it there
 abbrev pub name_at : Id → ℕ → Tok → Name
 name_at i k t = record { node = i; index = k; span = place t.start t.end; name = t.name }
 
@@ -86,6 +89,7 @@ abbrev mutual
   names_among i n k next r sign no_parts = []
   names_among i n k next r sign (part slot p ps) = names_of i n k next sign slot p ++ names_among i n (k + name_count sign slot p) (next + part_size r slot p) r sign ps
 
+  -- the names that a part is or holds; the node of the part has the number next
   pub names_of : ℕ → ℕ → ℕ → ℕ → Option ℕ → ℕ → Part → List Name
   names_of i n k next sign slot (taken t) = if is_name sign slot t then name_at (id i n) k t ∷ [] else []
   names_of i n k next sign slot (inner t) = names_in i next t
@@ -102,9 +106,11 @@ text_names items = names_items 1 items
 
 -- ---- the name at an offset
 
+-- whether a name stands round an offset
 abbrev pub holds_offset : ℕ → Name → Bool
 holds_offset o n = holds o n.span
 
+-- whether a name ends at an offset
 abbrev pub ends_at : ℕ → Name → Bool
 ends_at o n = nat_eq n.span.end o
 

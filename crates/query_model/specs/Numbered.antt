@@ -10,10 +10,12 @@ abbrev mutual
   pub numbered : ℕ → ℕ → Tree → Option Tree
   numbered w n (node r x ps) = if n == w then Some (node r x ps) else numbered_among w (n + 1) r ps
 
+  -- the same among the parts of a node, the first of which has the number n
   pub numbered_among : ℕ → ℕ → Row → Forest → Option Tree
   numbered_among w n r no_parts = None
   numbered_among w n r (part slot p ps) = option_or (numbered_part w n p) (numbered_among w (n + part_size r slot p) r ps)
 
+  -- the same of a part with the number n
   pub numbered_part : ℕ → ℕ → Part → Option Tree
   numbered_part w n (taken t) = None
   numbered_part w n (inner t) = numbered w n t
@@ -23,6 +25,7 @@ abbrev mutual
 abbrev pub HasNumbers : ℕ → Tree → Type 0
 HasNumbers n t = IsSized t × (n + size_of t < 2 ^ 32)
 
+-- the same of a part in a slot of a row
 abbrev pub HasPartNumbers : ℕ → Row → ℕ → Part → Type 0
 HasPartNumbers n r slot p = IsPartSized p × (n + part_size r slot p < 2 ^ 32)
 

@@ -17,6 +17,7 @@ mutual
   pub data Member : Type 0 where
     member : Kind → List ℕ → Place → Members → Member
 
+  -- what is bound inside, in text order
   pub data Members : Type 0 where
     no_members : Members
     also : Member → Members → Members
@@ -55,10 +56,12 @@ abbrev mutual
   pub pattern_names : Tree → List (List ℕ)
   pattern_names (node r x ps) = names_in r (name_slot r (has_slot 3 ps)) ps
 
+  -- the names that a pattern's parts bind, where the token in slot s is a name
   pub names_in : Row → Option ℕ → Forest → List (List ℕ)
   names_in r s no_parts = []
   names_in r s (part slot p ps) = part_names r s slot p ++ names_in r s ps
 
+  -- the names that one part of a pattern binds
   pub part_names : Row → Option ℕ → ℕ → Part → List (List ℕ)
   part_names r s slot (taken t) = if is_slot s slot then t.name ∷ [] else []
   part_names r s slot (inner t) = if binds_in r slot then pattern_names t else []
@@ -90,10 +93,12 @@ abbrev mutual
   pub names_under : List ℕ → Tree → List (List ℕ)
   names_under way (node r x ps) = names_among way ps
 
+  -- the names that the parts on the way lead to
   pub names_among : List ℕ → Forest → List (List ℕ)
   names_among way no_parts = []
   names_among way (part slot p ps) = (if leads_to slot way then names_at (rest_of way) p else []) ++ names_among way ps
 
+  -- the names at the end of a way through a part; at its end it is a token or a pattern
   pub names_at : List ℕ → Part → List (List ℕ)
   names_at [] (taken t) = t.name ∷ []
   names_at [] (inner t) = pattern_names t
@@ -122,10 +127,12 @@ abbrev mutual
   pub bound : Tree → List Member
   bound (node r x ps) = bound_as (binder r) x.span (node r x ps) (bound_inside (inner_slot r) ps)
 
+  -- what the parts in the slot for members inside bind
   pub bound_inside : Option ℕ → Forest → List Member
   bound_inside s no_parts = []
   bound_inside s (part slot p ps) = (if is_slot s slot then bound_by p else []) ++ bound_inside s ps
 
+  -- what a part binds
   pub bound_by : Part → List Member
   bound_by (taken t) = []
   bound_by (inner t) = bound t

@@ -3,6 +3,7 @@ use Rattle.std.specs.Prelude.{ℕ, ◌==◌, Bool, List, [], ◌∷◌, unwrap_o
 use Rattle.std.specs.List.{slice_split, join_with_byte}
 use Rattle.tree_model.specs.Nodes.{last_of}
 
+-- whether a byte is a point
 abbrev pub is_point : ℕ → Bool
 is_point b = b == 46
 

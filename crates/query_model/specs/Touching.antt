@@ -10,6 +10,7 @@ use Rattle.tree_model.specs.Nodes.{Id, id}
 abbrev pub touches : ℕ → Place → Bool
 touches o p = nat_le p.start o && nat_le o p.end
 
+-- the identity of a node, if a condition holds
 abbrev pub id_if : Bool → Id → Option Id
 id_if b i = if b then Some i else None
 
@@ -18,10 +19,12 @@ abbrev mutual
   pub touched : ℕ → ℕ → ℕ → Tree → Option Id
   touched o i n (node r x ps) = option_or (touched_among o i (n + 1) r ps) (id_if (touches o x.span) (id i n))
 
+  -- the same among the parts of a node, the first of which has the number n
   pub touched_among : ℕ → ℕ → ℕ → Row → Forest → Option Id
   touched_among o i n r no_parts = None
   touched_among o i n r (part slot p ps) = option_or (touched_among o i (n + part_size r slot p) r ps) (touched_part o i n r slot p)
 
+  -- the same of a part with the number n; a token counts for nothing
   pub touched_part : ℕ → ℕ → ℕ → Row → ℕ → Part → Option Id
   touched_part o i n r slot (taken t) = None
   touched_part o i n r slot (inner t) = touched o i n t
@@ -32,5 +35,6 @@ abbrev pub touched_items : ℕ → ℕ → List Tree → Option Id
 touched_items o i [] = None
 touched_items o i (t ∷ ts) = option_or (touched_items o (i + 1) ts) (touched o i 0 t)
 
+-- the last node of a text that an offset touches
 abbrev pub touched_at : ℕ → List Tree → Option Id
 touched_at o items = touched_items o 1 items

@@ -93,6 +93,7 @@ last_name_slot name_row = Some 0
 last_name_slot epath_row = Some 1
 last_name_slot _ = None
 
+-- whether a token of this kind is a name with a small first letter
 unfoldable pub is_lower : Kind → Bool
 is_lower lower = true
 is_lower _ = false
@@ -114,6 +115,7 @@ is_taken_in s slot (taken t) = nat_eq s slot
 is_taken_in s slot (inner t) = false
 is_taken_in s slot (missing p) = false
 
+-- such a token stands among these parts
 abbrev pub has_taken_in : ℕ → Forest → Bool
 has_taken_in s no_parts = false
 has_taken_in s (part slot p ps) = is_taken_in s slot p || has_taken_in s ps
@@ -130,6 +132,7 @@ pub record Typed : Type 0 where
   pub id : Id
   pub span : Place
 
+-- a typed node of this identity, at this place
 abbrev pub typed : Id → Place → Typed
 typed i p = record { id = i; span = p }
 
@@ -143,10 +146,12 @@ abbrev mutual
   typed_in o i n may_be_label (node r x ps) =
       typed_if (is_typed_row r && not (may_be_label && has_name_in (last_name_slot r) ps)) o (id i n) x.span ++ typed_among o i (n + 1) r (label_slot r (has_taken_in 4 ps)) ps
 
+  -- the same among the parts of a node, the first of which has the number n
   pub typed_among : ℕ → ℕ → ℕ → Row → Option ℕ → Forest → List Typed
   typed_among o i n r label no_parts = []
   typed_among o i n r label (part slot p ps) = typed_part o i n r (is_slot label slot) slot p ++ typed_among o i (n + part_size r slot p) r label ps
 
+  -- the same of a part with the number n: a missing part counts where an expression belongs
   pub typed_part : ℕ → ℕ → ℕ → Row → Bool → ℕ → Part → List Typed
   typed_part o i n r may_be_label slot (taken t) = []
   typed_part o i n r may_be_label slot (inner t) = typed_in o i n may_be_label t

@@ -21,6 +21,7 @@ use Rattle.service_model.specs.Trials.{AddsNoFault, TrialTells}
 abbrev pub is_exact : Asked → Bool
 is_exact a = true
 
+-- the piece is the line of what is said, where the exact bytes are proved, or else some reply line
 abbrev pub IsPieceBy : Bool → said.Said → List ℕ → Type 0
 IsPieceBy true s piece = piece ≡ said.line_of s
 IsPieceBy false s piece = said.IsReplyLine piece
@@ -32,6 +33,7 @@ abbrev pub end_key : Bool → List ℕ
 end_key false = codes "start"
 end_key true = codes "end"
 
+-- what is said of an edit that is refused
 abbrev pub edit_refusal : edit.Refusal → said.Said
 edit_refusal (edit.bad_position end) = said.bad_position (end_key end)
 edit_refusal edit.bad_range = said.bad_range
@@ -54,9 +56,11 @@ ToldIs text (edit.refused r) s after = (s ≡ edit_refusal r) × (after ≡ text
 
 -- ---- types round an offset
 
+-- whether a typed node of a plain text is the one with this identity
 abbrev pub is_id : Id → Seen → Bool
 is_id i s = nat_eq s.id.item i.item && nat_eq s.id.pre i.pre
 
+-- a typed node of a plain text, with lines and columns and the name of its type
 abbrev pub plain_typed : List ℕ → Seen → said.Typed
 plain_typed text s = record { start = position_of text s.span.start; end = position_of text s.span.end; type_text = type_text s.ty }
 
@@ -68,10 +72,12 @@ typed_among text seen ids = filter_map (λ i. option_map (plain_typed text) (fin
 abbrev pub shown_place : List ℕ → Place → (ℕ × ℕ) × (ℕ × ℕ)
 shown_place text p = (position_of text p.start, position_of text p.end)
 
+-- the reply with these types; without any, that there is no node
 abbrev pub types_or_none : List said.Typed → said.Said
 types_or_none [] = said.no_node
 types_or_none (t ∷ ts) = said.types (t ∷ ts)
 
+-- where a typed node of a reply starts and ends
 abbrev pub start_and_end : said.Typed → (ℕ × ℕ) × (ℕ × ℕ)
 start_and_end t = (t.start, t.end)
 
@@ -95,9 +101,11 @@ abbrev pub PlacedIs : Option ℕ → (ℕ → said.Said → Type 0) → said.Sai
 PlacedIs None P s = s ≡ said.bad_position (codes "at")
 PlacedIs (Some o) P s = P o s
 
+-- what is said to a query of a position; the text stays as it is
 abbrev pub QueryIs : List ℕ → ℕ × ℕ → (ℕ → said.Said → Type 0) → said.Said → List ℕ → Type 0
 QueryIs text at P s after = PlacedIs (offset text at.0 at.1) P s × (after ≡ text)
 
+-- what is said of the types round an offset
 abbrev pub EnclosingIs : List ℕ → ℕ → said.Said → Type 0
 EnclosingIs text o s = (tokens : List Tok) × Lex text tokens × EnclosingBy text o tokens (plain_text tokens) s
 
@@ -116,9 +124,11 @@ PlaceIs text n s = ((o : ℕ) × (s ≡ said.place (codes "buffer") (position_of
 abbrev pub UsesAre : List ℕ → List Name → Name → said.Said → Type 0
 UsesAre text names n s = (same : Name → Bool) × (same n ≡ true) × (s ≡ said.spans (map (shown_place text) (map (λ m. m.span) (filter same names))))
 
+-- what is said of where the name round an offset is defined, by the items of the text
 abbrev pub LocatedBy : List ℕ → ℕ → List Tree → said.Said → Type 0
 LocatedBy text o items s = NameIs (PlaceIs text) (name_round o (text_names items)) s
 
+-- what is said of the occurrences of the name round an offset, by the items of the text
 abbrev pub UsedBy : List ℕ → ℕ → List Tree → said.Said → Type 0
 UsedBy text o items s = NameIs (UsesAre text (text_names items)) (name_round o (text_names items)) s
 
@@ -126,9 +136,11 @@ UsedBy text o items s = NameIs (UsesAre text (text_names items)) (name_round o (
 abbrev pub ItemsAre : List ℕ → (List Tree → said.Said → Type 0) → said.Said → Type 0
 ItemsAre text P s = (tokens : List Tok) × Lex text tokens × P (items_in tokens) s
 
+-- what is said to `locate` at an offset
 abbrev pub LocateIs : List ℕ → ℕ → said.Said → Type 0
 LocateIs text o s = ItemsAre text (LocatedBy text o) s
 
+-- what is said to `occurrences` at an offset
 abbrev pub OccurrencesAre : List ℕ → ℕ → said.Said → Type 0
 OccurrencesAre text o s = ItemsAre text (UsedBy text o) s
 
@@ -164,9 +176,11 @@ abbrev pub TermsBy : List ℕ → Option Typed → said.Said → Type 0
 TermsBy text None s = s ≡ said.no_node
 TermsBy text (Some n) s = TermsAt text n s
 
+-- what is said to `case-analysis` at an offset: of the innermost typed node there
 abbrev pub CasesAre : List ℕ → ℕ → said.Said → Type 0
 CasesAre text o s = ItemsAre text (λ items x. CasesBy text (innermost_at o items) x) s
 
+-- what is said to `construct` at an offset: of the innermost typed node there
 abbrev pub TermsAre : List ℕ → ℕ → said.Said → Type 0
 TermsAre text o s = ItemsAre text (λ items x. TermsBy text (innermost_at o items) x) s
 

@@ -1,3 +1,4 @@
+-- What the service says to a line: requests, answers and replies, over the text that it holds.
 pub mod Requests
 pub mod Replies
 pub mod Answers

@@ -30,6 +30,7 @@ mutual
   pub data Outlined : Type 0 where
     outlined : ℕ × ℕ → ℕ × ℕ → List ℕ → List ℕ → Outline → Outlined
 
+  -- the members of an outline, in order
   pub data Outline : Type 0 where
     no_more : Outline
     next : Outlined → Outline → Outline
@@ -102,6 +103,7 @@ abbrev mutual
   pub outlined_data : Outlined → Data
   outlined_data (outlined start end kind name inner) = member_data (array (outline_items inner)) start end kind name
 
+  -- the members of an outline as the items of an array
   pub outline_items : Outline → Items
   outline_items no_more = no_items
   outline_items (next o os) = item (outlined_data o) (outline_items os)

@@ -17,6 +17,7 @@ request_lines bytes = ended_from [] bytes ++ last_line (rest_from [] bytes)
 abbrev pub is_blank_byte : ℕ → Bool
 is_blank_byte b = b == 32 || b == 9 || b == 13
 
+-- a line of such bytes alone
 abbrev pub is_blank_line : List ℕ → Bool
 is_blank_line = list_all is_blank_byte
 
@@ -25,6 +26,7 @@ abbrev pub StepBy : Bool → List ℕ → List ℕ → List ℕ → List ℕ →
 StepBy true text line piece after = (piece ≡ []) × (after ≡ text)
 StepBy false text line piece after = Answers text line piece after
 
+-- what one line puts at a text, and the text behind it
 abbrev pub Step : List ℕ → List ℕ → List ℕ → List ℕ → Type 0
 Step text line piece after = StepBy (is_blank_line line) text line piece after
 

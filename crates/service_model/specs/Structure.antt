@@ -35,6 +35,7 @@ abbrev mutual
   pub shown_member : List ℕ → Member → said.Outlined
   shown_member text (member k n p ms) = said.outlined (position_of text p.start) (position_of text p.end) (kind_text k) n (shown_members text ms)
 
+  -- the same of each of these members
   pub shown_members : List ℕ → Members → said.Outline
   shown_members text no_members = said.no_more
   shown_members text (also m ms) = said.next (shown_member text m) (shown_members text ms)

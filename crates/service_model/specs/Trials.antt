@@ -21,9 +21,11 @@ pub record Mark : Type 0 where
   pub end : ℕ
   pub kind : List ℕ
 
+-- the mark of a fault
 abbrev pub mark_of : Fault → Mark
 mark_of f = record { start = f.span.start; end = f.span.end; kind = f.kind }
 
+-- whether two marks have the same place and the same kind
 abbrev pub same_mark : Mark → Mark → Bool
 same_mark a b = nat_eq a.start b.start && (nat_eq a.end b.end && bytes_eq a.kind b.kind)
 

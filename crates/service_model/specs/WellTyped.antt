@@ -4,6 +4,7 @@ use Rattle.std.specs.List.{list_all}
 use Rattle.token_model.specs.Kinds.{Kind, int, Tok}
 use Rattle.plain_model.specs.Plain.{plain_text}
 
+-- whether a token of this kind is an integer numeral
 unfoldable pub is_int : Kind → Bool
 is_int int = true
 is_int _ = false

@@ -1,3 +1,4 @@
+-- What a session and its runs do with the lines of an input, and what the values of the code mean there.
 pub mod Begun
 pub mod Causes
 pub mod Changes

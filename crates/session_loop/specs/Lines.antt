@@ -12,6 +12,7 @@ use Rattle.service_model.specs.Answers.{Replies, edit_refusal}
 use Rattle.session_loop.specs.declared.session.Line.{Line}
 use Rattle.session_loop.specs.declared.session.Line.TheVariants.{Written, Memory}
 
+-- the bytes of an answer's line; where memory is short, the line that tells so
 abbrev pub line_bytes : Line → List ℕ
 line_bytes (Written v) = v.items
 line_bytes Memory = said.memory_line

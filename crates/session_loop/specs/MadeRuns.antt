@@ -8,6 +8,7 @@ use Rattle.session_loop.specs.declared.made.Summary.{Summary}
 use Rattle.session_loop.specs.declared.service.Status.{Status}
 use Rattle.session_loop.specs.declared.service.Status.TheVariants.{Done, BadWords, WriteFault, NoMemory}
 
+-- the code's summary of a made run, in the definitions
 abbrev pub summary_of : Summary → made.Summary
 summary_of s = record { bytes = s.bytes; faults = s.faults; items = s.items; typed = s.typed }
 

@@ -13,6 +13,7 @@ use Rattle.query_engine.specs.Faults.{fault_of}
 use Rattle.session_loop.specs.declared.plain.PlainText.{PlainText}
 use Rattle.session_loop.specs.declared.reading.ReadText.{ReadText}
 
+-- a plain text of the code: its items, and its typed nodes with their types
 abbrev pub plain_of : PlainText → List Tree × List plain.Seen
 plain_of p = (trees_of p.tree, map seen_of p.seen.items)
 

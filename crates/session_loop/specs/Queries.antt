@@ -21,6 +21,7 @@ AnswersQuery (Complete prefix) text o items s = CompletedBy (is_name_prefix (str
 AnswersQuery Cases text o items s = CasesBy text (innermost_at o items) s
 AnswersQuery Terms text o items s = TermsBy text (innermost_at o items) s
 
+-- what is said to a query at an offset of a text
 abbrev pub IsAnswered : Query → List ℕ → ℕ → said.Said → Type 0
 IsAnswered q text o s = ItemsAre text (AnswersQuery q text o) s
 

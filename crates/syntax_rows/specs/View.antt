@@ -50,12 +50,16 @@ abbrev pub row_over : List Key → List Edge → List Spot → Row → w.Row
 row_over keys edges spots r = w.a_row (name_number r.name) (sort_number r.sort) (left_of r.left) r.level r.stand (map (spot_over keys edges) (take r.count (drop r.first spots)))
 
 -- the same in a table
+
+-- what stands at a spot of the table
 abbrev pub what_of : Table → What → t.What
 what_of t w = what_over t.keys.now w
 
+-- a spot of the table
 abbrev pub spot_of : Table → Spot → w.Spot
 spot_of t s = spot_over t.keys.now t.edges.now s
 
+-- a row of the table
 abbrev pub row_of : Table → Row → w.Row
 row_of t r = row_over t.keys.now t.edges.now t.spots.now r
 

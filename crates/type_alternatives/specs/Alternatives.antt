@@ -42,9 +42,11 @@ pub data Values : Type 0 where
   literal : List ℕ → Values
   untold : Values
 
+-- a name of the code, with its path
 abbrev pub named_of : PathTo → Named
 named_of p = record { name = str_bytes p.name; path = option_map str_bytes p.path }
 
+-- an outermost part of the code
 abbrev pub outermost_of : Alternative → Outermost
 outermost_of (code.Constructor p a) = constructor (named_of p) a
 outermost_of (code.Constant s) = constant s.now
@@ -52,6 +54,7 @@ outermost_of code.Cons = cons
 outermost_of (code.Tuple parts) = tuple parts
 outermost_of (code.Record ps) = record_with (map named_of ps.items)
 
+-- what the code found of the values of a type
 abbrev pub values_of : Alternatives → Values
 values_of (found.Known list) = known (map outermost_of list.items)
 values_of found.Arrow = functions
@@ -68,6 +71,7 @@ tuple_or_one (Some (Arrow a b)) = argument.One
 tuple_or_one (Some (Tuple ms)) = argument.Tuple (length ms)
 tuple_or_one (Some (Con path name ms)) = argument.One
 
+-- what a constructor is applied to, by its type: what stands left of the arrow
 abbrev pub left_of_arrow : List Node → Option Node → Argument
 left_of_arrow nodes None = argument.One
 left_of_arrow nodes (Some (Var level scope)) = argument.One
@@ -77,6 +81,7 @@ left_of_arrow nodes (Some (Arrow a b)) = tuple_or_one (reading nodes a)
 left_of_arrow nodes (Some (Tuple ms)) = argument.One
 left_of_arrow nodes (Some (Con path name ms)) = argument.One
 
+-- what a constructor of a declaration is applied to
 abbrev pub argument_of : List Node → Constructor → Argument
 argument_of nodes c = if c.has_argument then left_of_arrow nodes (reading nodes c.root.0) else argument.None
 
@@ -91,6 +96,7 @@ Pairwise R k (x ∷ xs) (y ∷ ys) = R k x y × Pairwise R (k + 1) xs ys
 abbrev pub IsPart : rules.Kind → List Entry → Path → ℕ → Name → Named → Type 0
 IsPart kind env o k name n = (n.name ≡ name) × IsWritten (part_naming kind name k) env o n.path
 
+-- an outermost part is a constructor of an origin's declaration, as it is written, and what it is applied to
 abbrev pub IsConstructor : List Node → List Entry → Path → ℕ → Constructor → Outermost → Type 0
 IsConstructor nodes env o k c (constructor n a) = IsPart rules.constructor_kind env o k (str_bytes c.name) n × (a ≡ argument_of nodes c)
 IsConstructor nodes env o k c (constant s) = ⊥
@@ -98,6 +104,7 @@ IsConstructor nodes env o k c cons = ⊥
 IsConstructor nodes env o k c (tuple parts) = ⊥
 IsConstructor nodes env o k c (record_with ns) = ⊥
 
+-- a label of an origin's declaration, as it is written
 abbrev pub IsLabel : List Entry → Path → ℕ → Label → Named → Type 0
 IsLabel env o k l n = IsPart rules.label_kind env o k (str_bytes l.name) n
 
@@ -138,6 +145,7 @@ of_built_in k =
     else if k == 7 then known (constant (codes "[]") ∷ cons ∷ [])
     else untold
 
+-- the values of a type constructor, built in or declared
 abbrev pub OfOrigin : List Node → List Entry → Path → Option ℕ → Values → Type 0
 OfOrigin nodes env o (Some k) vs = vs ≡ of_built_in k
 OfOrigin nodes env o None vs = OfDeclared nodes env o vs

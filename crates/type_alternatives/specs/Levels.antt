@@ -16,9 +16,11 @@ use Rattle.type_alternatives.specs.Parts.{part_at}
 abbrev pub Searched : Type 0
 Searched = List ℕ × List Entry
 
+-- a module of the code that is searched
 abbrev pub searched : Inside → Searched
 searched i = (str_bytes i.path, names_of i.entries)
 
+-- the modules of a level, in order
 abbrev pub level_of : List Inside → List Searched
 level_of is = map searched is
 

@@ -22,6 +22,7 @@ part_by place (What-F.Type d) = None
 part_by place (What-F.Module s) = None
 part_by place (What-F.ModuleType t) = None
 
+-- the same of an entry
 abbrev pub part_at : ℕ → Entry → Option Path
 part_at place e = part_by place (out-What e.what)
 

@@ -26,6 +26,7 @@ declared_by (What-F.Type d) = Some d.value
 declared_by (What-F.Module s) = None
 declared_by (What-F.ModuleType t) = None
 
+-- the declaration in an entry, where it is a type
 abbrev pub declaration_in : Entry → Option Declaration
 declaration_in e = declared_by (out-What e.what)
 

@@ -8,6 +8,7 @@ abbrev pub written_by : Name → Option (List ℕ) → List ℕ
 written_by name None = name
 written_by name (Some path) = path
 
+-- a name as it is written
 abbrev pub written : Named → List ℕ
 written n = written_by n.name n.path
 

@@ -1,3 +1,4 @@
+-- Types, substitutions, schemes and their instances.
 pub mod Types
 pub mod Substitutions
 pub mod Schemes

@@ -1,3 +1,4 @@
+-- The store of type nodes: links, readings, states, and what its writes change.
 pub mod Nodes
 pub mod Links
 pub mod States

@@ -12,6 +12,7 @@ linked_from n (Some (Arrow a b)) = n
 linked_from n (Some (Tuple ms)) = n
 linked_from n (Some (Con path name ms)) = n
 
+-- where a node of a store leads by one link
 abbrev pub next : List Node → ℕ → ℕ
 next nodes n = linked_from n (slice_get nodes n)
 
@@ -28,6 +29,7 @@ root nodes n = follow (length nodes) nodes n
 abbrev pub reading : List Node → ℕ → Option Node
 reading nodes n = slice_get nodes (root nodes n)
 
+-- a node that isn't a link
 abbrev pub IsNoLink : Node → Type 0
 IsNoLink (Var level scope) = Unit {0}
 IsNoLink Rigid = Unit {0}
@@ -50,6 +52,7 @@ pub record IsFree (nodes : List Node) (n : ℕ) : Type 0 where
   pub reads : reading nodes n ≡ Some (Var level scope)
   pub unbound : level ≢ bound_level
 
+-- a node that has parts: an arrow, a tuple or a type constructor
 abbrev pub IsComposite : Node → Type 0
 IsComposite (Var level scope) = ⊥
 IsComposite Rigid = ⊥

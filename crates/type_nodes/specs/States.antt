@@ -8,10 +8,12 @@ pub data Change : Type 0 where
   Made : Change
   Was : ℕ → Node → Change
 
+-- a state of the store: its nodes, and the writes that led to it
 pub record State : Type 0 where
   pub nodes : List Node
   pub trail : List Change
 
+-- the state of these nodes and this trail
 abbrev pub state : List Node → List Change → State
 state nodes trail = record { nodes = nodes; trail = trail }
 

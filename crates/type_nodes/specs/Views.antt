@@ -20,6 +20,7 @@ use Rattle.type_nodes.specs.declared.view.View.TheVariants as view
 abbrev pub numbers : List NodeRef → List ℕ
 numbers ns = map (λ n. n.0) ns
 
+-- a cell of the code as a node
 abbrev pub node_of : Cell → Node
 node_of (Var level scope) = plain.Var level scope
 node_of Rigid = plain.Rigid
@@ -28,13 +29,16 @@ node_of (Arrow a b) = plain.Arrow a.0 b.0
 node_of (Tuple ms) = plain.Tuple (numbers ms.items)
 node_of (Con o ms) = plain.Con o.path.items (str_bytes o.name) (numbers ms.items)
 
+-- the nodes of the code's cells
 abbrev pub nodes_of : Cells → List Node
 nodes_of cells = map node_of cells.list.items
 
+-- a write of the code
 abbrev pub change_of : Write → Change
 change_of Made = change.Made
 change_of (Was n c) = change.Was n.0 (node_of c)
 
+-- the state of the code's cells and trail
 abbrev pub state_of : Cells → Trail Write → State
 state_of cells trail = state (nodes_of cells) (map change_of (writes_of trail))
 

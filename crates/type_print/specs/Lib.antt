@@ -1,3 +1,4 @@
+-- The text of a type: the types that nodes show, the names of variables, the paths of origins, and the pieces that are written.
 pub mod Shown
 pub mod Pieces
 pub mod Ways

@@ -20,6 +20,7 @@ roots_of nodes ns = map (root nodes) ns
 abbrev pub is_weak : List ℕ → ℕ → Bool
 is_weak weak v = is_among v weak
 
+-- whether a variable isn't weak, so that its name is a letter
 abbrev pub has_letter : List ℕ → ℕ → Bool
 has_letter weak v = if is_among v weak then false else true
 
@@ -45,6 +46,7 @@ pub record Met : Type 0 where
   pub weaks : ℕ
   pub done : ℕ → Bool
 
+-- what the code keeps of the variables that it met
 abbrev pub met_of : Variables → Met
 met_of vs = record { weak = contains nat_eq vs.weak; name = get nat_eq vs.names; letters = vs.letters; weaks = vs.weaks; done = contains nat_eq vs.done }
 
@@ -91,6 +93,7 @@ pub data Move : Type 0 where
   enters : ℕ → Move
   leaves : ℕ → Move
 
+-- a step of the code as a move
 abbrev pub move_of : Step → Move
 move_of (step.Into n) = enters n.0
 move_of (step.Behind n) = leaves n.0
@@ -99,18 +102,22 @@ move_of (step.Behind n) = leaves n.0
 abbrev pub moves_of : List Step → List Move
 moves_of ss = reverse (map move_of ss)
 
+-- the moves into these nodes, in order
 abbrev pub entries : List ℕ → List Move
 entries [] = []
 entries (n ∷ ns) = enters n ∷ entries ns
 
+-- a move to a node of the store, or back from a root
 abbrev pub IsMove : List Node → Move → Type 0
 IsMove nodes (enters n) = n < length nodes
 IsMove nodes (leaves n) = Unit {0}
 
+-- each is such a move
 abbrev pub AreMoves : List Node → List Move → Type 0
 AreMoves nodes [] = Unit {0}
 AreMoves nodes (m ∷ ms) = IsMove nodes m × AreMoves nodes ms
 
+-- what is left to do for a move
 abbrev pub move_weight : List Node → Move → ℕ
 move_weight nodes (enters n) = weight (shown nodes n)
 move_weight nodes (leaves n) = 1
@@ -132,6 +139,7 @@ Closes nodes all [] = Unit {0}
 Closes nodes all (enters n ∷ ms) = Closes nodes (all ++ variables_of (shown nodes n)) ms
 Closes nodes all (leaves n ∷ ms) = AreAmong all (variables_of (shown nodes n)) × Closes nodes all ms
 
+-- a node that is a variable, free, bound or rigid
 abbrev pub is_variable : Node → Bool
 is_variable (Var level scope) = true
 is_variable Rigid = true

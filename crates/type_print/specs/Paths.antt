@@ -24,6 +24,7 @@ made_by (What-F.Type d) = option_map path_of d.value.origin
 made_by (What-F.Module s) = None
 made_by (What-F.ModuleType t) = None
 
+-- the same of an entry
 abbrev pub makes : Entry → Option Path
 makes e = made_by (out-What e.what)
 
@@ -31,6 +32,7 @@ makes e = made_by (out-What e.what)
 abbrev pub naming : Naming Entry
 naming = record { is_named = is_named; inside = inside; makes = makes }
 
+-- the origin that is made, where there is an entry
 abbrev pub makes_of : Option Entry → Option Path
 makes_of None = None
 makes_of (Some e) = makes e
@@ -39,9 +41,11 @@ makes_of (Some e) = makes e
 abbrev pub finds : Path → Name → List Entry → Bool
 finds o n es = is_of_type o (makes_of (newest_by (is_named rules.type_kind n) es))
 
+-- whether an entry is a module
 abbrev pub is_module : Entry → Bool
 is_module e = same_kind rules.module_kind (kind_of e.kind)
 
+-- whether a name is one of a list
 abbrev pub among : Name → List Name → Bool
 among n [] = false
 among n (m ∷ ms) = if bytes_eq m n then true else among n ms
@@ -63,15 +67,19 @@ modules_behind way seen (e ∷ es) =
     else modules_behind way seen es
 
 -- how many entries stand in an entry, in modules in it and so on, with itself
+
+-- these numbers together
 abbrev pub sum_of : List ℕ → ℕ
 sum_of [] = 0
 sum_of (n ∷ ns) = n + sum_of ns
 
+-- in a signature: those in its components; in a functor nothing is searched
 abbrev pub sig_step : Sig-F ℕ ℕ ℕ ℕ ℕ → ℕ
 sig_step (Sig-F.Structure c) = c
 sig_step (Sig-F.Functor p b) = 0
 sig_step Sig-F.Hole = 0
 
+-- in what an entry is: only a module has any
 abbrev pub what_step : What-F ℕ ℕ ℕ ℕ ℕ → ℕ
 what_step (What-F.Scheme n) = 0
 what_step (What-F.Constructor d k) = 0
@@ -81,22 +89,28 @@ what_step (What-F.Type d) = 0
 what_step (What-F.Module s) = s.value
 what_step (What-F.ModuleType t) = 0
 
+-- in components: those of all of them together
 abbrev pub components_step : Components-F ℕ ℕ ℕ ℕ ℕ → ℕ
 components_step c = sum_of (map (λ r. r.value) c.entries.items)
 
+-- in an entry: itself, and those in what it is
 abbrev pub entry_step : Entry-F ℕ ℕ ℕ ℕ ℕ → ℕ
 entry_step e = suc e.what
 
+-- in a template: none
 abbrev pub template_step : Template-F ℕ ℕ ℕ ℕ ℕ → ℕ
 template_step t = 0
 
+-- in an entry, with itself
 unfoldable pub entry_weight : Entry → ℕ
 entry_weight e = fold-Entry ℕ ℕ ℕ ℕ ℕ sig_step what_step components_step entry_step template_step e
 
+-- in several entries, with themselves
 abbrev pub entries_weight : List Entry → ℕ
 entries_weight [] = 0
 entries_weight (e ∷ es) = entry_weight e + entries_weight es
 
+-- what is left to search in a queue: one for each module, and its entries
 abbrev pub queue_weight : List Scoped → ℕ
 queue_weight [] = 0
 queue_weight (s ∷ q) = suc (entries_weight s.1 + queue_weight q)
@@ -116,6 +130,7 @@ abbrev pub way_text : List Name → List ℕ
 way_text [] = []
 way_text (m ∷ way) = way_text way ++ m ++ codes "."
 
+-- the text of a name: behind its way, or marked as hidden where there is no way
 abbrev pub named : Name → Option (List Name) → List ℕ
 named n None = n ++ codes "/hidden"
 named n (Some way) = way_text way ++ n

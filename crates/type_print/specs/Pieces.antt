@@ -18,11 +18,13 @@ pub data Part : Type 0 where
   a_head : ℕ → Part
   a_text : List ℕ → Part
 
+-- where a type stands, in the model
 abbrev pub within_of : Within → model.Within
 within_of within.Alone = model.alone
 within_of within.LeftOfArrow = model.left_of_arrow
 within_of within.Inner = model.inner
 
+-- the text of a sign
 abbrev pub text_of_sign : Sign → List ℕ
 text_of_sign sign.Open = codes "("
 text_of_sign sign.Close = codes ")"
@@ -31,6 +33,7 @@ text_of_sign sign.Star = codes " * "
 text_of_sign sign.Comma = codes ", "
 text_of_sign sign.Blank = codes " "
 
+-- a piece of the code
 abbrev pub part_of : Piece → Part
 part_of (piece.Type n w) = a_type n.0 (within_of w)
 part_of (piece.Head n) = a_head n.0
@@ -50,6 +53,7 @@ abbrev pub list_parts : model.Within → List ℕ → List ℕ → List Part
 list_parts w between [] = []
 list_parts w between (n ∷ ns) = a_type n w ∷ rest_parts w between ns
 
+-- an arrow without parentheses: its left side, the sign and its right side
 abbrev pub arrow_alone : ℕ → ℕ → List Part → List Part
 arrow_alone a b rest = a_type a model.left_of_arrow ∷ a_text (codes " -> ") ∷ a_type b model.alone ∷ rest
 
@@ -81,6 +85,7 @@ opened_node n w (Some (Arrow a b)) rest = arrow_parts w a b rest
 opened_node n w (Some (Tuple ms)) rest = tuple_parts w ms rest
 opened_node n w (Some (Con path name ms)) rest = argument_parts ms (a_head n ∷ rest)
 
+-- the pieces that stand in place of a piece, in front of what is left
 abbrev pub opened : List Node → Part → List Part → List Part
 opened nodes (a_type n w) rest = opened_node n w (reading nodes n) rest
 opened nodes (a_head n) rest = rest
@@ -92,10 +97,12 @@ IsPart nodes (a_type n w) = n < length nodes
 IsPart nodes (a_head n) = n < length nodes
 IsPart nodes (a_text s) = Unit {0}
 
+-- the same of several pieces
 abbrev pub AreParts : List Node → List Part → Type 0
 AreParts nodes [] = Unit {0}
 AreParts nodes (p ∷ ps) = IsPart nodes p × AreParts nodes ps
 
+-- what is left to do for a piece
 abbrev pub part_weight : List Node → Part → ℕ
 part_weight nodes (a_type n w) = weight (shown nodes n)
 part_weight nodes (a_head n) = 1

@@ -11,9 +11,11 @@ use Rattle.type_print.specs.declared.paths.Inside.{Inside}
 use Rattle.type_print.specs.Ways.{way_view}
 use Rattle.type_print.specs.Paths.{Scoped, finds, modules_behind}
 
+-- a module of the code that is still to be searched: the way to it, and what is in scope in it
 abbrev pub scope_of : Inside → Scoped
 scope_of i = (way_view i.way, names_of i.entries)
 
+-- the modules that are still to be searched, in order
 abbrev pub scopes_of : List Inside → List Scoped
 scopes_of xs = map scope_of xs
 

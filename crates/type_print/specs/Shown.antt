@@ -32,6 +32,7 @@ abbrev mutual
   weight (type.Tuple ts) = weights ts + 4
   weight (type.Con o ts) = weights ts + 6
 
+  -- the same for several types
   pub weights : Typs → ℕ
   weights Nil = 0
   weights (Cons t ts) = weight t + 1 + weights ts

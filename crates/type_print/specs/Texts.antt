@@ -31,6 +31,7 @@ name_text None = []
 name_text (Some (name.Letter k)) = letter_name k
 name_text (Some (name.Weak k)) = codes "'_weak" ++ decimal k
 
+-- the text of a variable, by the names that were given
 abbrev pub variable_text : Variables → ℕ → List ℕ
 variable_text vs v = name_text (get nat_eq vs.names v)
 
@@ -77,6 +78,7 @@ said_node ns r (Some (Arrow a b)) = []
 said_node ns r (Some (Tuple ms)) = []
 said_node ns r (Some (Con path name ms)) = []
 
+-- the name of a node's type constructor, if the node has one
 abbrev pub said_head : Names → Option Node → List ℕ
 said_head ns None = []
 said_head ns (Some (Var level scope)) = []
@@ -86,6 +88,7 @@ said_head ns (Some (Arrow a b)) = []
 said_head ns (Some (Tuple ms)) = []
 said_head ns (Some (Con path name ms)) = ns.origin path
 
+-- the same by the piece: a type, the name of a constructor, or some bytes
 abbrev pub said : List Node → Names → Part → List ℕ
 said nodes ns (a_type n w) = said_node ns (root nodes n) (reading nodes n)
 said nodes ns (a_head n) = said_head ns (reading nodes n)
@@ -97,6 +100,7 @@ part_text nodes ns (a_type n w) = text_of ns w (shown nodes n)
 part_text nodes ns (a_head n) = head_text ns (shown nodes n)
 part_text nodes ns (a_text s) = s
 
+-- the whole text of several pieces
 abbrev pub parts_text : List Node → Names → List Part → List ℕ
 parts_text nodes ns [] = []
 parts_text nodes ns (p ∷ ps) = part_text nodes ns p ++ parts_text nodes ns ps

@@ -24,12 +24,14 @@ abbrev pub path_in : Path → Path
 path_in [] = []
 path_in (n ∷ spelling) = take n spelling
 
+-- a type whose parts are read already; `label` gives the path of each origin
 abbrev pub type_step : (Origin → Path) → Ty-F Typ → Typ
 type_step label (Ty-F.Var v) = plain.Var v
 type_step label (Ty-F.Arrow a b) = plain.Arrow a.value b.value
 type_step label (Ty-F.Tuple ts) = plain.Tuple (types_of ts.items)
 type_step label (Ty-F.Con o ts) = plain.Con (label o) (types_of ts.items)
 
+-- a type of the code, with the paths that `label` gives its origins
 abbrev pub type_by : (Origin → Path) → Ty → Typ
 type_by label = fold-Ty Typ (type_step label)
 
@@ -45,6 +47,7 @@ spelled = type_by spelling_of
 abbrev pub replacements_by : (Origin → Path) → OriginMap → Replacements
 replacements_by label m = map (λ p. (p.0.path.items, type_by label p.1)) m.pairs.items
 
+-- the same, where each origin has its own path
 abbrev pub replacements_of : OriginMap → Replacements
 replacements_of = replacements_by path_of
 

@@ -1,1 +1,2 @@
+-- What an index has for each node.
 pub mod Seen

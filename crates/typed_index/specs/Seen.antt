@@ -16,6 +16,7 @@ seen_among [] i p = None
 seen_among (nodes ∷ items) zero p = seen_in nodes.items p
 seen_among (nodes ∷ items) (suc i) p = seen_among items i p
 
+-- what an index has for an item and a number in it
 abbrev pub seen_at : {S : Type 0} → TypedIndex S → ℕ → ℕ → Option S
 seen_at x i p = seen_among x.items.items i p
 

@@ -24,10 +24,12 @@ mutual
     of_structure : {A B : Components} → AreUnder s A B → IsSignatureUnder s (Structure A) (Structure B)
     of_functor : {pm bm : List Path} {P Q B C : Signature} → IsSignatureUnder s P Q → IsSignatureUnder s B C → IsSignatureUnder s (Functor pm P bm B) (Functor pm Q bm C)
 
+  -- the same of components, one by one
   pub data AreUnder (s : Subst) : Components → Components → Type 0 where
     no_components : AreUnder s Done Done
     component : {n : Name} {at : Place} {m k : Meaning} {A B : Components} → IsMeaningUnder s m k → AreUnder s A B → AreUnder s (Component n at m A) (Component n at k B)
 
+  -- the same of what a component stands for
   pub data IsMeaningUnder (s : Subst) : Meaning → Meaning → Type 0 where
     of_value : {before behind : Scheme} → IsSchemeUnder s before behind → IsMeaningUnder s (Value before) (Value behind)
     of_type : {d : Declaration} → IsMeaningUnder s (TypeName d) (TypeName d)

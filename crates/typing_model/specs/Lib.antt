@@ -1,3 +1,4 @@
+-- Which typings a text has: its demands, its faults, and the first environment.
 pub mod Demands
 pub mod Contexts
 pub mod Parts
