@@ -2,7 +2,7 @@
 use Rattle.std.proofs.Common.{◌≡◌, ◌≢◌, ◌∙◌, ◌++◌, [], ◌∷◌, List, ℕ, refl, sym, ap, subst, append_assoc, append-nil}
 use Rattle.std.specs.Prelude.{Option, IfOk, OnOk, OnErr, Result, Ok, Err}
 use Rattle.type_terms.specs.declared.types.NodeRef.{NodeRef}
-use Rattle.text_terms.specs.declared.NoMemory.{NoMemory}
+use Rattle.std.specs.declared.alloc.AllocError.{AllocError}
 use Rattle.type_nodes.specs.Nodes.{Node}
 use Rattle.type_nodes.specs.Changes.{Makes, Quantifies}
 use Rattle.level_unify.specs.Generalising.{Generalised}
@@ -124,21 +124,21 @@ pub failed_tightens : (old new : State) → new ≡ old → Tightens old.nodes n
 failed_tightens old new e = tightens_same old.nodes new.nodes (ap (λ x. x.nodes) e)
 
 -- one that makes a node, or answers want of memory
-pub made_goes : (r : Result NodeRef NoMemory) (at : Parts) (s : State) (c : Node) → IfOk r (λ n. Makes at.store s n.0 c) → OnErr r (s ≡ at.store) → Keeps at.store s → Goes at (with_store at s)
+pub made_goes : (r : Result NodeRef AllocError) (at : Parts) (s : State) (c : Node) → IfOk r (λ n. Makes at.store s n.0 c) → OnErr r (s ≡ at.store) → Keeps at.store s → Goes at (with_store at s)
 made_goes (Ok n) at s c made failed k = put_goes at s k (makes_tightens at.store s n.0 c made)
 made_goes (Err e) at s c made failed k = put_goes at s k (failed_tightens at.store s failed)
 
 -- one that binds a variable
-pub bound_goes : {A : Type 0} (r : Result A NoMemory) (at : Parts) (s : State) (v : ℕ) → OnOk r (Quantifies at.store s v) → OnErr r (s ≡ at.store) → Keeps at.store s → Goes at (with_store at s)
+pub bound_goes : {A : Type 0} (r : Result A AllocError) (at : Parts) (s : State) (v : ℕ) → OnOk r (Quantifies at.store s v) → OnErr r (s ≡ at.store) → Keeps at.store s → Goes at (with_store at s)
 bound_goes (Ok a) at s v bound failed k = put_goes at s k (quantifies_tightens at.store s v bound)
 bound_goes (Err e) at s v bound failed k = put_goes at s k (failed_tightens at.store s failed)
 
 -- one that binds the variables above a level
-pub generalised_goes : {A : Type 0} (r : Result A NoMemory) (at : Parts) (s : State) (n level : ℕ) → OnOk r (Generalised at.store.nodes s.nodes n level) → OnErr r (s ≡ at.store) → Keeps at.store s → Goes at (with_store at s)
+pub generalised_goes : {A : Type 0} (r : Result A AllocError) (at : Parts) (s : State) (n level : ℕ) → OnOk r (Generalised at.store.nodes s.nodes n level) → OnErr r (s ≡ at.store) → Keeps at.store s → Goes at (with_store at s)
 generalised_goes (Ok a) at s n level bound failed k = put_goes at s k (generalised_tightens at.store.nodes s.nodes n level bound)
 generalised_goes (Err e) at s n level bound failed k = put_goes at s k (failed_tightens at.store s failed)
 
 -- one that makes an instance
-pub instance_goes : (r : Result NodeRef NoMemory) (at : Parts) (s : State) (n level : ℕ) → IfOk r (λ m. Instantiated at.store.nodes s.nodes n level m.0) → OnErr r (s ≡ at.store) → Keeps at.store s → Goes at (with_store at s)
+pub instance_goes : (r : Result NodeRef AllocError) (at : Parts) (s : State) (n level : ℕ) → IfOk r (λ m. Instantiated at.store.nodes s.nodes n level m.0) → OnErr r (s ≡ at.store) → Keeps at.store s → Goes at (with_store at s)
 instance_goes (Ok m) at s n level made failed k = put_goes at s k (extends_tightens at.store.nodes s.nodes made.extends)
 instance_goes (Err e) at s n level made failed k = put_goes at s k (failed_tightens at.store s failed)

@@ -4,3 +4,8 @@ pub mod Faulting
 pub mod Recording
 pub mod Joining
 pub mod Differing
+pub mod Extending
+pub mod Copied
+pub mod Tasks
+pub mod Imaging
+pub mod Answering

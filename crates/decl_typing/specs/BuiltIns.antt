@@ -14,6 +14,7 @@ number_of built.Bool = 5
 number_of built.Exn = 6
 number_of built.List = 7
 
+-- their names
 abbrev pub name_of : BuiltIn → List ℕ
 name_of built.Int = codes "int"
 name_of built.Char = codes "char"

@@ -85,7 +85,7 @@ impl BuiltIn {
         ensures name { IfOk result (λ o. str_bytes o.name ≡ name_of self) }
     {
         Ok(Origin {
-            path: vec![in alloc; self.path()].map_err(|_| NoMemory)?,
+            path: vec![in alloc; self.path()]?,
             name: RcStr::from_str(alloc, self.name())?,
         })
     }

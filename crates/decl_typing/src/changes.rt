@@ -1,4 +1,8 @@
 //! What stands in the place of origins.
+ghost use Rattle.std.specs.Prelude.{◌≡◌};
+ghost use Rattle.signature_model.specs.Changes.{among};
+ghost use Rattle.decl_typing.specs.Copying.{paths_of, put_of};
+
 use std::alloc::Global;
 use type_nodes::{NodeRef, Origin};
 
@@ -40,9 +44,11 @@ impl Changes {
         }
     }
 
-    pub fn put(&self, origin: &Origin) -> Put {
+    pub fn put(&self, origin: &Origin) -> Put
+        ensures { result ≡ put_of self.now origin.now.path.items }
+    {
         for real in &self.real {
-            if real.origin.path == origin.path {
+            if origin.path == real.origin.path {
                 return Put::Type {
                     root: real.root,
                     arity: real.arity,
@@ -63,6 +69,13 @@ impl Changes {
 }
 
 /// Whether an origin is one of a list.
-pub fn is_among(origins: &[Origin], origin: &Origin) -> bool {
-    origins.iter().any(|other| other.path == origin.path)
+pub fn is_among(origins: &[Origin], origin: &Origin) -> bool
+    ensures { result ≡ among origin.now.path.items (paths_of origins.now) }
+{
+    for other in origins {
+        if origin.path == other.path {
+            return true;
+        }
+    }
+    false
 }

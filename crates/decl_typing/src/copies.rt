@@ -1,9 +1,20 @@
 //! Copies of types with something else in place of bound variables, unknown types and origins.
+ghost use Rattle.std.specs.Prelude.{◌≡◌, ◌∷◌, ◌++◌, [], ℕ, List, All, Some, false, true, map, IfOk, OnOk};
+ghost use Rattle.text_terms.specs.Bytes.{str_bytes};
+ghost use Rattle.type_model.specs.Types.{Path as TypePath};
+ghost use Rattle.type_nodes.specs.Nodes.{Node as plain, IsNode, IsSound, parts};
+ghost use Rattle.type_nodes.specs.Links.{root as root_of, reading, IsComposite};
+ghost use Rattle.type_nodes.specs.Views.{numbers};
+ghost use Rattle.signature_model.specs.Changes.{Change, in_front as moving};
+ghost use Rattle.level_unify.specs.Copies.{Extends, table_of, image as image_in};
 ghost use Rattle.decl_typing.specs.Goes.{Goes};
+ghost use Rattle.decl_typing.specs.Copying.{moved, MovesAlone, IsChanged, AreCopied, Stands, SetsCopy, KeepsCopies, seen_node};
 
 use crate::changes::{Changes, Put};
+use crate::nodes::is_node;
 use crate::parts::Parts;
 use owned_lists::push;
+use std::alloc::AllocError;
 use std::collections::HashMap;
 use type_nodes::{NoMemory, NodeRef, Origin, View};
 
@@ -70,38 +81,46 @@ enum Seen {
     Con(Origin, Vec<NodeRef>),
 }
 
-fn copied_list(at: &Parts, nodes: &[NodeRef]) -> Result<Vec<NodeRef>, NoMemory> {
-    nodes
-        .iter()
-        .copied()
-        .collect(at.alloc())
-        .map_err(|_| NoMemory)
+fn copied_list(at: &Parts, nodes: &[NodeRef]) -> Result<Vec<NodeRef>, NoMemory>
+    ensures { IfOk result (λ v. v.items ≡ nodes.now) }
+{
+    match nodes.iter().copied().collect(at.alloc()) {
+        Ok(list) => Ok(list),
+        Err(_) => Err(AllocError),
+    }
 }
 
 /// A copy of an origin.
-pub fn copied_origin(at: &Parts, origin: &Origin) -> Result<Origin, NoMemory> {
-    let path = origin.path.iter().copied().collect(at.alloc());
-    Ok(Origin {
-        path: path.map_err(|_| NoMemory)?,
-        name: origin.name.share()?,
-    })
+pub fn copied_origin(at: &Parts, origin: &Origin) -> Result<Origin, NoMemory>
+    ensures path { IfOk result (λ o. o.path.items ≡ origin.now.path.items) }
+    ensures name { IfOk result (λ o. str_bytes o.name ≡ str_bytes origin.now.name) }
+{
+    origin.copied(at.alloc())
 }
 
-fn view_of(at: &Parts, n: NodeRef) -> Result<Seen, NoMemory> {
-    match at.read(n) {
-        Some(View::Var { level, scope }) => Ok(Seen::Variable { level, scope }),
-        Some(View::Arrow(from, to)) => Ok(Seen::Arrow(from, to)),
-        Some(View::Tuple(parts)) => Ok(Seen::Tuple(copied_list(at, parts)?)),
-        Some(View::Con(origin, args)) => Ok(Seen::Con(
-            copied_origin(at, origin)?,
-            copied_list(at, args)?,
-        )),
-        _ => Ok(Seen::Other),
+fn view_of(at: &Parts, n: NodeRef) -> Result<Seen, NoMemory>
+    ensures seen { IfOk result (λ s. IsNode at.now.store.nodes n.0 → reading at.now.store.nodes n.0 ≡ Some (seen_node s)) }
+    ensures sound { IsSound at.now.store.nodes }
+{
+    if at.store.len() <= n.0 as usize {
+        return Ok(Seen::Other);
+    }
+    match at.store.read(n) {
+        View::Var { level, scope } => Ok(Seen::Variable { level, scope }),
+        View::Rigid(_) => Ok(Seen::Other),
+        View::Arrow(from, to) => Ok(Seen::Arrow(from, to)),
+        View::Tuple(parts) => Ok(Seen::Tuple(copied_list(at, parts)?)),
+        View::Con(origin, args) => {
+            let origin = copied_origin(at, origin)?;
+            Ok(Seen::Con(origin, copied_list(at, args)?))
+        }
     }
 }
 
 impl Copies {
-    pub fn new(at: &Parts) -> Copies {
+    pub fn new(at: &Parts) -> Copies
+        ensures { (c : Change) → KeepsCopies at.now.store.nodes c result }
+    {
         Copies {
             table: HashMap::new(at.alloc()),
             todo: Vec::new(at.alloc()),
@@ -121,31 +140,65 @@ impl Copies {
         Ok(())
     }
 
-    /// The copy of a type. What nothing changes in is the type itself.
+    /// The copy of a type. What nothing changes in is the type itself, and so is a number that is no node.
+    /// Where paths alone are moved, its type is that of the node after the change at each reading at which the change leaves
+    /// the variables that aren't bound as they are, and no other node changes.
     pub fn copy(
         &mut self,
         at: &mut Parts,
         n: NodeRef,
         how: Copying<'_>,
     ) -> Result<NodeRef, NoMemory>
+        ensures otherwise { IfOk result (λ m. (IsNode at.old.store.nodes n.0 → ⊥) → m ≡ n) }
+        ensures changed { IfOk result (λ m. MovesAlone how.entry → KeepsCopies at.old.store.nodes (moved how.entry.changes.now) self.old → IsNode at.old.store.nodes n.0 → KeepsCopies at.new.store.nodes (moved how.entry.changes.now) self.new × IsChanged at.new.store.nodes (moved how.entry.changes.now) n.0 m.0) }
+        ensures extends { OnOk result (MovesAlone how.entry → Extends at.old.store.nodes at.new.store.nodes) }
         ensures goes { Goes at.old at.new }
     {
-        self.push(Task::Enter(n))?;
-        for _ in 0..u64::MAX {
-            match self.todo.pop() {
-                None => break,
-                Some(Task::Enter(n)) => self.enter(at, n, how)?,
-                Some(Task::Leave(n)) => self.leave(at, n, how)?,
-            }
+        if !is_node(&at.store, n) {
+            return Ok(n);
         }
+        self.push(Task::Enter(n))?;
+        self.work(at, how)?;
         Ok(self.image(at, n))
     }
 
-    fn push(&mut self, task: Task) -> Result<(), NoMemory> {
+    /// Does all that is still to be done.
+    fn work(&mut self, at: &mut Parts, how: Copying<'_>) -> Result<(), NoMemory>
+        ensures stands { OnOk result (MovesAlone how.entry → (aim : ℕ) → Stands at.old.store.nodes (moved how.entry.changes.now) (table_of self.old.table) self.old.todo.items aim → Stands at.new.store.nodes (moved how.entry.changes.now) (table_of self.new.table) [] aim) }
+        ensures done { OnOk result (self.new.todo.items ≡ []) }
+        ensures extends { OnOk result (MovesAlone how.entry → Extends at.old.store.nodes at.new.store.nodes) }
+        ensures goes { Goes at.old at.new }
+    {
+        for _ in 0..u64::MAX {
+            let Some(task) = self.todo.pop() else {
+                return Ok(());
+            };
+            self.step(at, task, how)?;
+        }
+        Err(AllocError)
+    }
+
+    fn step(&mut self, at: &mut Parts, task: Task, how: Copying<'_>) -> Result<(), NoMemory>
+        ensures stands { OnOk result (MovesAlone how.entry → (aim : ℕ) → Stands at.old.store.nodes (moved how.entry.changes.now) (table_of self.old.table) (self.old.todo.items ++ task ∷ []) aim → Stands at.new.store.nodes (moved how.entry.changes.now) (table_of self.new.table) self.new.todo.items aim) }
+        ensures extends { OnOk result (MovesAlone how.entry → Extends at.old.store.nodes at.new.store.nodes) }
+        ensures goes { Goes at.old at.new }
+    {
+        match task {
+            Task::Enter(n) => self.enter(at, n, how),
+            Task::Leave(n) => self.leave(at, n, how),
+        }
+    }
+
+    fn push(&mut self, task: Task) -> Result<(), NoMemory>
+        ensures pushed { OnOk result (self.new.todo.items ≡ self.old.todo.items ++ task ∷ []) }
+        ensures rest { self.new.table ≡ self.old.table }
+    {
         push(&mut self.todo, task)
     }
 
-    fn image(&self, at: &Parts, n: NodeRef) -> NodeRef {
+    fn image(&self, at: &Parts, n: NodeRef) -> NodeRef
+        ensures { IsNode at.now.store.nodes n.0 → result.0 ≡ image_in at.now.store.nodes (table_of self.now.table) n.0 }
+    {
         let root = at.root(n);
         match self.table.get(&root.0) {
             Some(copy) => *copy,
@@ -153,14 +206,19 @@ impl Copies {
         }
     }
 
-    fn set(&mut self, n: NodeRef, copy: NodeRef) -> Result<(), NoMemory> {
+    fn set(&mut self, n: NodeRef, copy: NodeRef) -> Result<(), NoMemory>
+        ensures set { OnOk result (SetsCopy (table_of self.old.table) (table_of self.new.table) n.0 copy.0) }
+        ensures rest { self.new.todo ≡ self.old.todo }
+    {
         match self.table.insert(n.0, copy) {
             Ok(_) => Ok(()),
-            Err(_) => Err(NoMemory),
+            Err(_) => Err(AllocError),
         }
     }
 
     fn enter(&mut self, at: &mut Parts, n: NodeRef, how: Copying<'_>) -> Result<(), NoMemory>
+        ensures stands { OnOk result (MovesAlone how.entry → (aim : ℕ) → Stands at.old.store.nodes (moved how.entry.changes.now) (table_of self.old.table) (self.old.todo.items ++ Task.Enter n ∷ []) aim → Stands at.new.store.nodes (moved how.entry.changes.now) (table_of self.new.table) self.new.todo.items aim) }
+        ensures same { OnOk result (MovesAlone how.entry → at.new ≡ at.old) }
         ensures goes { Goes at.old at.new }
     {
         let root = at.root(n);
@@ -168,14 +226,7 @@ impl Copies {
             return Ok(());
         }
         match view_of(at, root)? {
-            Seen::Variable { level, scope } => {
-                let copy = if level == BOUND {
-                    self.variable(at, root, scope, how)?
-                } else {
-                    root
-                };
-                self.set(root, copy)
-            }
+            Seen::Variable { level, scope } => self.enter_variable(at, root, level, scope, how),
             Seen::Other => self.set(root, root),
             Seen::Arrow(from, to) => self.later(root, &[from, to]),
             Seen::Tuple(parts) => self.later(root, &parts),
@@ -183,16 +234,40 @@ impl Copies {
         }
     }
 
-    /// What stands for a bound variable.
+    fn enter_variable(
+        &mut self,
+        at: &mut Parts,
+        n: NodeRef,
+        level: u32,
+        scope: u64,
+        how: Copying<'_>,
+    ) -> Result<(), NoMemory>
+        ensures set { OnOk result (MovesAlone how.entry → SetsCopy (table_of self.old.table) (table_of self.new.table) n.0 n.0) }
+        ensures same { OnOk result (MovesAlone how.entry → at.new ≡ at.old) }
+        ensures rest { self.new.todo ≡ self.old.todo }
+        ensures goes { Goes at.old at.new }
+    {
+        let copy = self.variable(at, n, level, scope, how)?;
+        self.set(n, copy)
+    }
+
+    /// What stands for a variable: itself where it isn't bound.
     fn variable(
         &mut self,
         at: &mut Parts,
         n: NodeRef,
+        level: u32,
         scope: u64,
         how: Copying<'_>,
     ) -> Result<NodeRef, NoMemory>
+        ensures itself { IfOk result (λ m. MovesAlone how.entry → (m ≡ n) × (at.new ≡ at.old)) }
+        ensures table { self.new.table ≡ self.old.table }
+        ensures todo { self.new.todo ≡ self.old.todo }
         ensures goes { Goes at.old at.new }
     {
+        if level != BOUND {
+            return Ok(n);
+        }
         if scope == 0 {
             return match how.unknown {
                 ForUnknown::Itself => Ok(n),
@@ -212,7 +287,10 @@ impl Copies {
         }
     }
 
-    fn later(&mut self, n: NodeRef, parts: &[NodeRef]) -> Result<(), NoMemory> {
+    fn later(&mut self, n: NodeRef, parts: &[NodeRef]) -> Result<(), NoMemory>
+        ensures pushed { OnOk result (self.new.todo.items ≡ self.old.todo.items ++ Task.Leave n ∷ map (λ p. Task.Enter p) parts.now) }
+        ensures rest { self.new.table ≡ self.old.table }
+    {
         self.push(Task::Leave(n))?;
         for part in parts {
             self.push(Task::Enter(*part))?;
@@ -221,6 +299,8 @@ impl Copies {
     }
 
     fn leave(&mut self, at: &mut Parts, n: NodeRef, how: Copying<'_>) -> Result<(), NoMemory>
+        ensures stands { OnOk result (MovesAlone how.entry → (aim : ℕ) → Stands at.old.store.nodes (moved how.entry.changes.now) (table_of self.old.table) (self.old.todo.items ++ Task.Leave n ∷ []) aim → Stands at.new.store.nodes (moved how.entry.changes.now) (table_of self.new.table) self.new.todo.items aim) }
+        ensures extends { OnOk result (MovesAlone how.entry → Extends at.old.store.nodes at.new.store.nodes) }
         ensures goes { Goes at.old at.new }
     {
         let copy = self.rebuilt(at, n, how)?;
@@ -229,74 +309,107 @@ impl Copies {
 
     /// A node over the copies of its parts: itself where none is another.
     fn rebuilt(&self, at: &mut Parts, n: NodeRef, how: Copying<'_>) -> Result<NodeRef, NoMemory>
+        ensures changed { IfOk result (λ m. MovesAlone how.entry → IsNode at.old.store.nodes n.0 → (c : plain) → reading at.old.store.nodes n.0 ≡ Some c → IsComposite c → AreCopied at.old.store.nodes (moved how.entry.changes.now) (table_of self.now.table) (parts c) → IsChanged at.new.store.nodes (moved how.entry.changes.now) n.0 m.0) }
+        ensures extends { OnOk result (MovesAlone how.entry → Extends at.old.store.nodes at.new.store.nodes) }
         ensures goes { Goes at.old at.new }
     {
         match view_of(at, n)? {
-            Seen::Arrow(from, to) => {
-                let (left, right) = (self.image(at, from), self.image(at, to));
-                if left.0 == at.root(from).0 && right.0 == at.root(to).0 {
-                    Ok(n)
-                } else {
-                    at.arrow(left, right)
-                }
-            }
-            Seen::Tuple(parts) => {
-                let images = self.images(at, &parts)?;
-                if are_roots(at, &images, &parts) {
-                    Ok(n)
-                } else {
-                    at.tuple(&images)
-                }
-            }
-            Seen::Con(origin, args) => {
-                let images = self.images(at, &args)?;
-                let same = are_roots(at, &images, &args);
-                constructor(at, n, &origin, &images, same, how)
-            }
+            Seen::Arrow(from, to) => self.arrow(at, n, from, to),
+            Seen::Tuple(parts) => self.tuple(at, n, &parts),
+            Seen::Con(origin, args) => self.constructor(at, n, &origin, &args, how),
             _ => Ok(n),
         }
     }
 
-    fn images(&self, at: &Parts, parts: &[NodeRef]) -> Result<Vec<NodeRef>, NoMemory> {
+    fn arrow(
+        &self,
+        at: &mut Parts,
+        n: NodeRef,
+        from: NodeRef,
+        to: NodeRef,
+    ) -> Result<NodeRef, NoMemory>
+        ensures changed { IfOk result (λ m. (made : List TypePath) (u : ℕ) → IsNode at.old.store.nodes n.0 → reading at.old.store.nodes n.0 ≡ Some (plain.Arrow from.0 to.0) → AreCopied at.old.store.nodes (moving made u) (table_of self.now.table) (from.0 ∷ to.0 ∷ []) → IsChanged at.new.store.nodes (moving made u) n.0 m.0) }
+        ensures extends { OnOk result (Extends at.old.store.nodes at.new.store.nodes) }
+        ensures goes { Goes at.old at.new }
+    {
+        if !self.is_any_changed(at, &[from, to]) {
+            return Ok(n);
+        }
+        let left = self.image(at, from);
+        let right = self.image(at, to);
+        at.arrow(left, right)
+    }
+
+    fn tuple(&self, at: &mut Parts, n: NodeRef, parts: &[NodeRef]) -> Result<NodeRef, NoMemory>
+        ensures changed { IfOk result (λ m. (made : List TypePath) (u : ℕ) → IsNode at.old.store.nodes n.0 → reading at.old.store.nodes n.0 ≡ Some (plain.Tuple (numbers parts.now)) → AreCopied at.old.store.nodes (moving made u) (table_of self.now.table) (numbers parts.now) → IsChanged at.new.store.nodes (moving made u) n.0 m.0) }
+        ensures extends { OnOk result (Extends at.old.store.nodes at.new.store.nodes) }
+        ensures goes { Goes at.old at.new }
+    {
+        if !self.is_any_changed(at, parts) {
+            return Ok(n);
+        }
+        let images = self.images(at, parts)?;
+        at.tuple(&images)
+    }
+
+    /// What stands for a constructor over the copies of its arguments.
+    fn constructor(
+        &self,
+        at: &mut Parts,
+        n: NodeRef,
+        origin: &Origin,
+        args: &[NodeRef],
+        how: Copying<'_>,
+    ) -> Result<NodeRef, NoMemory>
+        ensures changed { IfOk result (λ m. MovesAlone how.entry → IsNode at.old.store.nodes n.0 → reading at.old.store.nodes n.0 ≡ Some (plain.Con origin.now.path.items (str_bytes origin.now.name) (numbers args.now)) → AreCopied at.old.store.nodes (moved how.entry.changes.now) (table_of self.now.table) (numbers args.now) → IsChanged at.new.store.nodes (moved how.entry.changes.now) n.0 m.0) }
+        ensures extends { OnOk result (MovesAlone how.entry → Extends at.old.store.nodes at.new.store.nodes) }
+        ensures goes { Goes at.old at.new }
+    {
+        let images = self.images(at, args)?;
+        match how.changes.put(origin) {
+            Put::Type { root, arity } => over(at, root, arity, &images),
+            Put::Path(number) => {
+                let moved = in_front(at, number, origin)?;
+                at.con(&moved, &images)
+            }
+            Put::Itself => {
+                if self.is_any_changed(at, args) {
+                    at.con(origin, &images)
+                } else {
+                    Ok(n)
+                }
+            }
+        }
+    }
+
+    fn images(&self, at: &Parts, parts: &[NodeRef]) -> Result<Vec<NodeRef>, NoMemory>
+        ensures { IfOk result (λ v. All (IsNode at.now.store.nodes) (numbers parts.now) → numbers v.items ≡ map (image_in at.now.store.nodes (table_of self.now.table)) (numbers parts.now)) }
+    {
         let mut images = Vec::new(at.alloc());
         for part in parts {
             push(&mut images, self.image(at, *part))?;
         }
         Ok(images)
     }
-}
 
-/// Whether images are the roots of the parts themselves.
-fn are_roots(at: &Parts, images: &[NodeRef], parts: &[NodeRef]) -> bool {
-    images
-        .iter()
-        .zip(parts.iter())
-        .all(|(image, part)| image.0 == at.root(*part).0)
-}
-
-/// What stands for a constructor over these arguments; `same` tells that no argument has changed.
-fn constructor(
-    at: &mut Parts,
-    n: NodeRef,
-    origin: &Origin,
-    args: &[NodeRef],
-    same: bool,
-    how: Copying<'_>,
-) -> Result<NodeRef, NoMemory>
-    ensures goes { Goes at.old at.new }
-{
-    match how.changes.put(origin) {
-        Put::Type { root, arity } => over(at, root, arity, args),
-        Put::Path(number) => {
-            let moved = in_front(at, number, origin)?;
-            at.con(&moved, args)
+    /// Whether a part has another copy than its root.
+    fn is_any_changed(&self, at: &Parts, parts: &[NodeRef]) -> bool
+        ensures { result ≡ false → All (IsNode at.now.store.nodes) (numbers parts.now) → All (λ p. image_in at.now.store.nodes (table_of self.now.table) p ≡ root_of at.now.store.nodes p) (numbers parts.now) }
+    {
+        for part in parts {
+            if self.image(at, *part).0 != at.root(*part).0 {
+                return true;
+            }
         }
-        Put::Itself => { if same { Ok(n) } else { at.con(origin, args) } }
+        false
     }
 }
 
 /// An origin with a number in front of its path.
-pub fn in_front(at: &Parts, number: u64, origin: &Origin) -> Result<Origin, NoMemory> {
+pub fn in_front(at: &Parts, number: u64, origin: &Origin) -> Result<Origin, NoMemory>
+    ensures path { IfOk result (λ o. o.path.items ≡ number ∷ origin.now.path.items) }
+    ensures name { IfOk result (λ o. str_bytes o.name ≡ str_bytes origin.now.name) }
+{
     let mut path = Vec::new(at.alloc());
     push(&mut path, number)?;
     for member in &origin.path {

@@ -12,7 +12,7 @@ use crate::types::{Depth, Parameter, Variables};
 use env_table::{Constructor, Declaration, Entry, Env, Kind, Label, Shape, What};
 use owned_lists::{owned, push};
 use row_parts::{Operand, first_operand, token};
-use std::alloc::Global;
+use std::alloc::{AllocError, Global};
 use std::rc::Rc;
 use syntax_tree::{Node, Span, Token};
 use text_terms::RcStr;
@@ -46,7 +46,7 @@ pub fn new_entry(
 fn share_declaration(declaration: &Rc<Declaration>) -> Result<Rc<Declaration>, NoMemory> {
     match Rc::clone(declaration) {
         Ok(declaration) => Ok(declaration),
-        Err(_) => Err(NoMemory),
+        Err(_) => Err(AllocError),
     }
 }
 
@@ -66,7 +66,7 @@ impl Parts {
             None => RcStr::from_str(self.alloc, "")?,
         };
         Ok(Origin {
-            path: vec![in self.alloc; self.node_number(number)].map_err(|_| NoMemory)?,
+            path: vec![in self.alloc; self.node_number(number)]?,
             name,
         })
     }
@@ -113,7 +113,7 @@ impl Parts {
             Some(type_nodes::View::Con(origin, _)) => {
                 let path = origin.path.iter().copied().collect(self.alloc);
                 Ok(Some(Origin {
-                    path: path.map_err(|_| NoMemory)?,
+                    path: path?,
                     name: origin.name.share()?,
                 }))
             }

@@ -13,6 +13,7 @@ use crate::nodes::is_node;
 use crate::parts::Parts;
 use env_table::{Env, FaultKind};
 use level_unify::{ClashKind, UnifyFault};
+use std::alloc::AllocError;
 use syntax_tree::Span;
 use text_terms::RcStr;
 use type_nodes::{NoMemory, NodeRef};
@@ -55,7 +56,7 @@ impl Parts {
     {
         match self.unify(found, wanted) {
             Ok(()) => Ok(Verdict::Kept),
-            Err(UnifyFault::NoMemory) => Err(NoMemory),
+            Err(UnifyFault::NoMemory) => Err(AllocError),
             Err(UnifyFault::Clash(clash)) => {
                 self.differ(at, found, wanted, clash.kind, env)?;
                 Ok(Verdict::Reported)

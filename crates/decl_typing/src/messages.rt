@@ -3,7 +3,7 @@ ghost use Rattle.std.specs.Prelude.{◌≡◌, IfOk, IsOk, string_bytes};
 ghost use Rattle.text_terms.specs.Bytes.{str_bytes};
 ghost use Rattle.decl_typing.specs.Messages.{word_text};
 
-use std::alloc::Global;
+use std::alloc::{AllocError, Global};
 use text_terms::RcStr;
 use type_nodes::NoMemory;
 
@@ -44,6 +44,6 @@ pub(crate) fn message(
 {
     match text {
         Ok(text) => RcStr::new(alloc, text),
-        Err(_) => Err(NoMemory),
+        Err(_) => Err(AllocError),
     }
 }

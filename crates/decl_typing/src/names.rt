@@ -6,7 +6,7 @@ use crate::parts::Parts;
 use env_table::{Entry, Env, Found, Kind, Path};
 use owned_lists::push;
 use row_parts::WrittenPath;
-use std::alloc::Global;
+use std::alloc::{AllocError, Global};
 use std::rc::Rc;
 use syntax_tree::{Span, Token};
 use text_terms::RcStr;
@@ -16,7 +16,7 @@ use type_nodes::NoMemory;
 pub fn share_entry(entry: &Rc<Entry>) -> Result<Rc<Entry>, NoMemory> {
     match Rc::clone(entry) {
         Ok(entry) => Ok(entry),
-        Err(_) => Err(NoMemory),
+        Err(_) => Err(AllocError),
     }
 }
 

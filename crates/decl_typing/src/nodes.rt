@@ -1,5 +1,5 @@
 //! New types, and what is asked of types. A number that is no node of the store stands for a type that nothing else restricts.
-ghost use Rattle.std.specs.Prelude.{◌≡◌, ◌↔◌, ℕ, ◌<◌, ◌≤◌, [], ◌∷◌, List, All, IsTrue, IfOk, IfErr, IfSome, IfNone, OnOk, OnErr, IsOk, length, Some, codes};
+ghost use Rattle.std.specs.Prelude.{◌≡◌, ◌↔◌, ℕ, ◌<◌, ◌≤◌, [], ◌∷◌, List, All, IsTrue, IfOk, IfErr, IfSome, IfNone, OnOk, OnErr, IsOk, length, true, false, Ok, Some, codes};
 ghost use Rattle.text_terms.specs.Bytes.{str_bytes};
 ghost use Rattle.type_nodes.specs.Nodes.{Node as plain, IsNode};
 ghost use Rattle.type_nodes.specs.Links.{root as root_of, reading, IsFree};
@@ -12,12 +12,16 @@ ghost use Rattle.level_unify.specs.Generalising.{Generalised};
 ghost use Rattle.level_unify.specs.Instances.{Instantiated};
 ghost use Rattle.level_unify.specs.Solutions.{HaveNoBound};
 ghost use Rattle.level_unify.specs.Unification.{Clashes};
+ghost use Rattle.scheme_match.specs.Covering.{KeepsOutRigid, Compared};
+ghost use Rattle.scheme_match.specs.Unknown.{HasUnknown};
 ghost use Rattle.decl_typing.specs.Goes.{Goes, OnlyStore};
 ghost use Rattle.decl_typing.specs.Types.{level_for, any_scope, list_path, MakesVar, MadeOne, JoinedIfNodes};
 
 use crate::built_ins::BuiltIn;
 use crate::parts::Parts;
 use level_unify::{UnifyFault, generalise, instantiate, unify};
+use scheme_match::{covers, has_unknown};
+use std::alloc::AllocError;
 use type_nodes::{Mark, NoMemory, NodeRef, Origin, Store, View};
 
 /// The level that is kept for bound variables.
@@ -242,7 +246,36 @@ impl Parts {
         match self.unify(a, b) {
             Ok(()) => Ok(()),
             Err(UnifyFault::Clash(_)) => Ok(()),
-            Err(UnifyFault::NoMemory) => Err(NoMemory),
+            Err(UnifyFault::NoMemory) => Err(AllocError),
+        }
+    }
+
+    /// Whether each instance of the wanted root's scheme is one of the actual root's; a mismatch leaves the store as before.
+    pub fn covers(&mut self, actual: NodeRef, wanted: NodeRef) -> Result<bool, NoMemory>
+        ensures compared { IfOk result (λ met. IsNode self.old.store.nodes actual.0 → IsNode self.old.store.nodes wanted.0 → KeepsOutRigid self.old.store.nodes actual.0 → KeepsOutRigid self.old.store.nodes wanted.0 → Compared self.old.store.nodes self.new.store.nodes actual.0 wanted.0 met) }
+        ensures otherwise { (IsNode self.old.store.nodes actual.0 → IsNode self.old.store.nodes wanted.0 → ⊥) → (result ≡ Ok true) × (self.new ≡ self.old) }
+        ensures mismatch { IfOk result (λ met. met ≡ false → self.new ≡ self.old) }
+        ensures failed { OnErr result (self.new ≡ self.old) }
+        ensures keeps { Keeps self.old.store self.new.store }
+        ensures rest { OnlyStore self.old self.new }
+        ensures goes { Goes self.old self.new }
+    {
+        if is_node(&self.store, actual) && is_node(&self.store, wanted) {
+            let level = self.level.min(HIGHEST);
+            covers(self.alloc, &mut self.store, actual, wanted, level)
+        } else {
+            Ok(true)
+        }
+    }
+
+    /// Whether an unknown type stands in a type.
+    pub fn has_unknown(&self, ty: NodeRef) -> Result<bool, NoMemory>
+        ensures { IfOk result (λ has. IsNode self.now.store.nodes ty.0 → IsTrue has ↔ HasUnknown self.now.store.nodes ty.0) }
+    {
+        if is_node(&self.store, ty) {
+            has_unknown(self.alloc, &self.store, ty)
+        } else {
+            Ok(false)
         }
     }
 

@@ -5,7 +5,7 @@ use crate::types::declaration_of;
 use env_table::{Env, Found, Kind};
 use owned_lists::push;
 use row_parts::{Operand, WrittenPath, written_path};
-use std::alloc::Global;
+use std::alloc::{AllocError, Global};
 use std::collections::HashMap;
 use syntax_tree::{Node, Part, RowName};
 use type_nodes::NoMemory;
@@ -34,7 +34,7 @@ fn places(
         if let Some(name) = part.name {
             let key = text(alloc, name.name.as_str())?;
             if places.insert(key, place).is_err() {
-                return Err(NoMemory);
+                return Err(AllocError);
             }
         }
     }
@@ -98,7 +98,7 @@ impl<'a> Known<'a> {
 fn text(alloc: Global, text: &str) -> Result<String, NoMemory> {
     match String::from_str(alloc, text) {
         Ok(text) => Ok(text),
-        Err(_) => Err(NoMemory),
+        Err(_) => Err(AllocError),
     }
 }
 
@@ -187,7 +187,7 @@ impl Mentions {
     /// cycle, or mention one, are left out.
     pub fn order(&self, alloc: Global, renames: &[bool]) -> Result<Vec<usize>, NoMemory> {
         let mut order = Vec::new(alloc);
-        let mut done = vec![in alloc; false; renames.len()].map_err(|_| NoMemory)?;
+        let mut done = vec![in alloc; false; renames.len()]?;
         for _ in 0..renames.len() {
             let before = order.len();
             self.go_on(renames, &mut done, &mut order)?;
@@ -224,7 +224,7 @@ impl Mentions {
         place: usize,
         renames: &[bool],
     ) -> Result<bool, NoMemory> {
-        let mut reached = vec![in alloc; false; renames.len()].map_err(|_| NoMemory)?;
+        let mut reached = vec![in alloc; false; renames.len()]?;
         self.reach(place, &mut reached);
         for _ in 0..renames.len() {
             let before = count(&reached);

@@ -9,6 +9,7 @@ use crate::types::{Depth, Parameter, Variables};
 use env_table::{Constructor, Declaration, Env, Label, Shape};
 use owned_lists::{push, shared};
 use row_parts::Operand;
+use std::alloc::AllocError;
 use std::rc::Rc;
 use syntax_tree::Token;
 use type_nodes::{NoMemory, NodeRef, View};
@@ -146,7 +147,7 @@ impl Parts {
                 Some(owner) => {
                     let owner = shared(owner)?;
                     let args = args.iter().copied().collect(self.alloc);
-                    Ok(Named::Declared(owner, args.map_err(|_| NoMemory)?))
+                    Ok(Named::Declared(owner, args?))
                 }
             },
             _ => Ok(Named::Nothing),
@@ -290,7 +291,7 @@ impl Parts {
         match self.unify(a, b) {
             Ok(()) => Ok(true),
             Err(level_unify::UnifyFault::Clash(_)) => Ok(false),
-            Err(level_unify::UnifyFault::NoMemory) => Err(NoMemory),
+            Err(level_unify::UnifyFault::NoMemory) => Err(AllocError),
         }
     }
 }
@@ -303,11 +304,7 @@ enum Side {
 }
 
 fn copied(at: &Parts, marks: &[bool]) -> Result<Vec<bool>, NoMemory> {
-    marks
-        .iter()
-        .copied()
-        .collect(at.alloc())
-        .map_err(|_| NoMemory)
+    marks.iter().copied().collect(at.alloc())
 }
 
 /// Whether no constructor has a name. A record without labels is told all the same.

@@ -10,7 +10,7 @@ use crate::parts::Parts;
 use env_table::{Declaration, Entry, Env, Kind, What};
 use owned_lists::push;
 use row_parts::{Operand, WrittenPath, operand_in, operands, token, written_path};
-use std::alloc::Global;
+use std::alloc::{AllocError, Global};
 use std::rc::Rc;
 use syntax_tree::{Node, RowName, Token};
 use text_terms::RcStr;
@@ -31,7 +31,7 @@ impl Depth {
     {
         match self.0.checked_sub(1) {
             Some(left) => Ok(Depth(left)),
-            None => Err(NoMemory),
+            None => Err(AllocError),
         }
     }
 }
@@ -213,7 +213,7 @@ impl Parts {
     {
         let key = match String::from_str(self.alloc, name.name.as_str()) {
             Ok(key) => key,
-            Err(_) => return Err(NoMemory),
+            Err(_) => return Err(AllocError),
         };
         if let Some(node) = self.written.variables.get(&key) {
             return Ok(*node);
@@ -225,7 +225,7 @@ impl Parts {
         let node = made?;
         match self.written.variables.insert(key, node) {
             Ok(_) => Ok(node),
-            Err(_) => Err(NoMemory),
+            Err(_) => Err(AllocError),
         }
     }
 

@@ -1,11 +1,11 @@
-mod Numbers
-mod Walking
+pub mod Numbers
+pub mod Walking
 mod Sizes
 mod Weights
 mod Loosely
-mod Steps
+pub mod Steps
 mod Differing
-mod Solving
+pub mod Solving
 mod Recording
 mod Limiting
 mod Under
@@ -13,7 +13,7 @@ mod SameNodes
 mod Lowering
 mod Capping
 mod Passes
-mod Unified
+pub mod Unified
 mod Inside
 mod Likeness
 mod Clashing
@@ -21,8 +21,8 @@ mod Binding
 pub mod AllFree
 mod Images
 mod Sources
-mod Variants
-mod Instances
+pub mod Variants
+pub mod Instances
 mod Instancing
 mod Freezing
 pub mod Unbound

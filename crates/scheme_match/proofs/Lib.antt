@@ -1,0 +1,5 @@
+pub mod Thawing
+pub mod Standing
+pub mod Covering
+pub mod Attempts
+pub mod Unknowns
