@@ -1,17 +1,25 @@
 //! Further owners.
+ghost use Rattle.std.specs.Prelude.{◌≡◌, IfOk};
+
 use decl_typing::NoMemory;
 use env_table::{Declaration, Sig, Template};
 use owned_lists::shared;
 use std::rc::Rc;
 
-pub fn share_declaration(declaration: &Rc<Declaration>) -> Result<Rc<Declaration>, NoMemory> {
+pub fn share_declaration(declaration: &Rc<Declaration>) -> Result<Rc<Declaration>, NoMemory>
+    ensures { IfOk result (λ r. r.value ≡ declaration.now.value) }
+{
     shared(declaration)
 }
 
-pub fn share_sig(sig: &Rc<Sig>) -> Result<Rc<Sig>, NoMemory> {
+pub fn share_sig(sig: &Rc<Sig>) -> Result<Rc<Sig>, NoMemory>
+    ensures { IfOk result (λ r. r.value ≡ sig.now.value) }
+{
     shared(sig)
 }
 
-pub fn share_template(template: &Rc<Template>) -> Result<Rc<Template>, NoMemory> {
+pub fn share_template(template: &Rc<Template>) -> Result<Rc<Template>, NoMemory>
+    ensures { IfOk result (λ r. r.value ≡ template.now.value) }
+{
     shared(template)
 }

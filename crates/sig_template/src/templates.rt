@@ -1,17 +1,25 @@
 //! Templates: made anew at a node, with a type given, and applied.
+ghost use Rattle.std.specs.Prelude.{◌≡◌, IfOk, option_map};
+ghost use Rattle.type_terms.specs.Views.{path_of};
+ghost use Rattle.signature_model.specs.Changes.{in_front};
+ghost use Rattle.signature_model.specs.Templates.{origins_at, without};
 ghost use Rattle.decl_typing.specs.Goes.{Goes};
+ghost use Rattle.decl_typing.specs.Copying.{paths_of};
+ghost use Rattle.sig_template.specs.Changed.{IsChangedSig};
+ghost use Rattle.sig_template.specs.Live.{AreLive};
+ghost use Rattle.sig_template.specs.Abstract.{abstract_declared, abstract_of, abstract_named};
 
 use crate::changing::changed;
 use crate::realising::realisation;
 use crate::shared::share_sig;
-use decl_typing::{
-    Changes, NoMemory, NodeRef, Parts, Real, copied_origin, declaration_of, in_front, is_among,
-};
-use env_table::{Declaration, Entry, Kind, Origin, Shape, Sig, Template};
+use decl_typing::{Changes, NoMemory, NodeRef, Parts, Real, copied_origin, in_front, is_among};
+use env_table::{Declaration, Entry, Kind, Origin, Shape, Sig, Template, What};
 use owned_lists::{owned, push};
 use std::rc::Rc;
 
-fn copied_origins(at: &Parts, origins: &[Origin]) -> Result<Vec<Origin>, NoMemory> {
+fn copied_origins(at: &Parts, origins: &[Origin]) -> Result<Vec<Origin>, NoMemory>
+    ensures { IfOk result (λ os. paths_of os.items ≡ paths_of origins.now) }
+{
     let mut copied = Vec::new(at.alloc());
     for origin in origins {
         push(&mut copied, copied_origin(at, origin)?)?;
@@ -19,15 +27,38 @@ fn copied_origins(at: &Parts, origins: &[Origin]) -> Result<Vec<Origin>, NoMemor
     Ok(copied)
 }
 
-/// The signature of a template whose origins are made anew at the node of this number, with these origins.
-pub fn made_at(at: &mut Parts, template: &Template, node: u64) -> Result<Template, NoMemory>
-    ensures goes { Goes at.old at.new }
+/// The origins that are made at the node of this number.
+fn origins_at(at: &Parts, origins: &[Origin], node: u64) -> Result<Vec<Origin>, NoMemory>
+    ensures { IfOk result (λ os. paths_of os.items ≡ origins_at (paths_of origins.now) node) }
 {
     let mut made = Vec::new(at.alloc());
-    for origin in &template.made {
+    for origin in origins {
         push(&mut made, in_front(at, node, origin)?)?;
     }
-    if made.is_empty() {
+    Ok(made)
+}
+
+/// The origins but one.
+fn without(at: &Parts, origin: &Origin, origins: &[Origin]) -> Result<Vec<Origin>, NoMemory>
+    ensures { IfOk result (λ os. paths_of os.items ≡ without (path_of origin.now) (paths_of origins.now)) }
+{
+    let mut others = Vec::new(at.alloc());
+    for other in origins {
+        if other.path != origin.path {
+            push(&mut others, copied_origin(at, other)?)?;
+        }
+    }
+    Ok(others)
+}
+
+/// The signature of a template whose origins are made anew at the node of this number, with these origins.
+pub fn made_at(at: &mut Parts, template: &Template, node: u64) -> Result<Template, NoMemory>
+    ensures made { IfOk result (λ t. paths_of t.made.items ≡ origins_at (paths_of template.now.made.items) node) }
+    ensures sig { IfOk result (λ t. AreLive at.old.store.nodes template.now.sig.value → IsChangedSig at.new.store.nodes (in_front (paths_of template.now.made.items) node) template.now.sig.value t.sig.value) }
+    ensures goes { Goes at.old at.new }
+{
+    let made = origins_at(at, &template.made, node)?;
+    if template.made.is_empty() {
         return Ok(Template {
             made,
             sig: share_sig(&template.sig)?,
@@ -45,11 +76,13 @@ pub fn made_at(at: &mut Parts, template: &Template, node: u64) -> Result<Templat
 }
 
 /// The origin of an abstract type that a declaration makes here.
-fn abstract_origin<'a>(
+fn abstract_declared<'a>(
     declaration: &'a Declaration,
     made: &[Origin],
     arity: u32,
-) -> Option<&'a Origin> {
+) -> Option<&'a Origin>
+    ensures { option_map (λ o. path_of o.now) result ≡ abstract_declared (paths_of made.now) arity declaration.now }
+{
     match (&declaration.origin, &declaration.shape) {
         (Some(origin), Shape::Opaque) if declaration.arity == arity && is_among(made, origin) => {
             Some(origin)
@@ -58,27 +91,36 @@ fn abstract_origin<'a>(
     }
 }
 
-/// The newest abstract type of a name and a number of parameters.
-fn abstract_named<'a>(template: &'a Template, name: &str, arity: u32) -> Option<&'a Origin> {
-    let Sig::Structure(components) = &*template.sig else {
+/// The origin of an abstract type of a name that an entry makes here.
+fn abstract_of<'a>(entry: &'a Entry, made: &[Origin], name: &str, arity: u32) -> Option<&'a Origin>
+    ensures { option_map (λ o. path_of o.now) result ≡ abstract_of (paths_of made.now) name.now arity entry.now }
+{
+    if entry.kind != Kind::TypeName || !entry.name.is(name) {
         return None;
-    };
-    let mut found = None;
-    for entry in &components.entries {
-        if entry.kind == Kind::TypeName && entry.name.is(name) {
-            if let Some(origin) = origin_of(entry, template, arity) {
-                found = Some(origin);
-            }
-        }
     }
-    found
+    match &entry.what {
+        What::Type(declaration) => abstract_declared(declaration, made, arity),
+        What::Scheme(_) => None,
+        What::Constructor(_, _) => None,
+        What::Exception(_) => None,
+        What::Label(_, _) => None,
+        What::Module(_) => None,
+        What::ModuleType(_) => None,
+    }
 }
 
-fn origin_of<'a>(entry: &'a Entry, template: &Template, arity: u32) -> Option<&'a Origin> {
-    match declaration_of(entry) {
-        Some(declaration) => abstract_origin(declaration, &template.made, arity),
-        None => None,
+/// The newest abstract type of a name and a number of parameters.
+fn abstract_named<'a>(template: &'a Template, name: &str, arity: u32) -> Option<&'a Origin>
+    ensures { option_map (λ o. path_of o.now) result ≡ abstract_named template.now name.now arity }
+{
+    let mut rest = template.sig.entries();
+    while let Some((entry, older)) = rest.split_first() {
+        if let Some(origin) = abstract_of(entry, &template.made, name, arity) {
+            return Some(origin);
+        }
+        rest = older;
     }
+    None
 }
 
 /// The template in which the newest abstract type of a name is this type, behind so many parameters; None exactly where there
@@ -90,17 +132,13 @@ pub fn with_type(
     arity: u32,
     root: NodeRef,
 ) -> Result<Option<Template>, NoMemory>
+    ensures made { IfOk result (λ with. option_map (λ t. paths_of t.made.items) with ≡ option_map (λ o. without o (paths_of template.now.made.items)) (abstract_named template.now name.now arity)) }
     ensures goes { Goes at.old at.new }
 {
     let Some(origin) = abstract_named(template, name, arity) else {
         return Ok(None);
     };
-    let mut made = Vec::new(at.alloc());
-    for other in &template.made {
-        if other.path != origin.path {
-            push(&mut made, copied_origin(at, other)?)?;
-        }
-    }
+    let made = without(at, origin, &template.made)?;
     let mut changes = Changes::none(at.alloc());
     let real = Real {
         origin: copied_origin(at, origin)?,
@@ -123,6 +161,7 @@ pub fn applied(
     parameter: &Template,
     body: &Template,
 ) -> Result<Template, NoMemory>
+    ensures made { IfOk result (λ t. paths_of t.made.items ≡ origins_at (paths_of body.now.made.items) node) }
     ensures goes { Goes at.old at.new }
 {
     let mut realised = realisation(at, argument, parameter)?;
@@ -130,11 +169,10 @@ pub fn applied(
     realised.changes.number = node;
     let sig = changed(at, &body.sig, &realised.changes)?;
     realised.close(at)?;
-    let mut made = Vec::new(at.alloc());
-    for origin in &body.made {
-        push(&mut made, in_front(at, node, origin)?)?;
-    }
-    Ok(Template { made, sig })
+    Ok(Template {
+        made: origins_at(at, &body.made, node)?,
+        sig,
+    })
 }
 
 /// An owner of a signature.

@@ -1,0 +1,98 @@
+-- A change of no path changes nothing.
+use Rattle.std.proofs.Common.{◌≡◌, ℕ, zero, suc, ◌<◌, List, [], ◌∷◌, length, map, Some, None, refl, sym, ap, ◌∙◌, subst, arith}
+use Rattle.std.specs.Prelude.{All, Option, option_map}
+use Rattle.std.specs.List.{AllZip}
+use Rattle.type_model.specs.Types.{Path, Typ, Typs, Var, Arrow, Tuple, Con, Nil, Cons}
+use Rattle.type_nodes.specs.Nodes.{Node, IsNode}
+use Rattle.signature_model.specs.Changes.{change, change_all, in_front}
+use Rattle.env_table.specs.declared.entries.Constructor.{Constructor}
+use Rattle.env_table.specs.declared.entries.Label.{Label}
+use Rattle.env_table.specs.declared.entries.Shape.{Shape}
+use Rattle.env_table.specs.declared.entries.Shape.TheVariants as shape
+use Rattle.env_table.specs.declared.entries.Declaration.{Declaration}
+use Rattle.env_table.specs.declared.entries.What.{What, out-What}
+use Rattle.env_table.specs.declared.entries.Entry.{Entry}
+use Rattle.env_table.specs.declared.entries.Sig.{Sig, out-Sig}
+use Rattle.env_table.specs.declared.entries.Sig.TheOpen.{Sig-F, What-F}
+use Rattle.env_table.specs.declared.entries.Components.{Components, out-Components}
+use Rattle.env_table.specs.declared.entries.Template.{Template}
+use Rattle.type_terms.specs.declared.types.Origin.{Origin}
+use Rattle.decl_typing.specs.Copying.{IsChanged, paths_of}
+use Rattle.sig_template.specs.Structures.{entries_of}
+use Rattle.sig_template.specs.Ways.{Step, sub}
+use Rattle.sig_template.specs.Changed.{made_of, IsChangedConstructor, IsChangedLabel, IsChangedShape, IsChangedDeclaration, IsChangedWhat, IsChangedEntry, IsChangedOpened, IsChangedHere, IsChangedSig}
+use Rattle.sig_template.specs.Live.{IsLiveConstructor, IsLiveLabel, IsLiveShape, IsLiveDeclaration, IsLiveWhat, IsLiveEntry, AreLiveOpened, AreLiveHere, AreLive}
+
+same_all : (ps : List Path) (u : ℕ) → map (in_front [] u).path ps ≡ ps
+same_all [] u = refl
+same_all (p ∷ ps) u = ap (λ qs. p ∷ qs) (same_all ps u)
+
+mutual
+  same_type : (u : ℕ) (t : Typ) → change (in_front [] u) t ≡ t
+  same_type u (Var v) = refl
+  same_type u (Arrow a b) = rw (same_type u a, same_type u b) refl
+  same_type u (Tuple ts) = rw (same_types u ts) refl
+  same_type u (Con o ts) = rw (same_types u ts) refl
+
+  same_types : (u : ℕ) (ts : Typs) → change_all (in_front [] u) ts ≡ ts
+  same_types u Nil = refl
+  same_types u (Cons t ts) = rw (same_type u t, same_types u ts) refl
+
+pub same_node : (nodes : List Node) (u n : ℕ) → IsNode nodes n → IsChanged nodes (in_front [] u) n n
+same_node nodes u n live = record { inside = live; reads = λ V reads keeps. sym (same_type u (V n)) }
+
+-- each item of a list, from what is known of each
+zip_same : {A : Type 0} (P : A → Type 0) (R : A → A → Type 0) (xs : List A) → ((x : A) → P x → R x x) → All P xs → AllZip R xs xs
+zip_same P R [] same all = tt
+zip_same P R (x ∷ xs) same all = (same x (all zero x (omega arith)), zip_same P R xs same (λ k d lt. all (suc k) d (omega arith)))
+
+constructor_same : (nodes : List Node) (u : ℕ) (k : Constructor) → IsLiveConstructor nodes k → IsChangedConstructor nodes (in_front [] u) k k
+constructor_same nodes u k live = record { name = refl; has_argument = refl; root = same_node nodes u k.root.0 live }
+
+label_same : (nodes : List Node) (u : ℕ) (l : Label) → IsLiveLabel nodes l → IsChangedLabel nodes (in_front [] u) l l
+label_same nodes u l live = record { name = refl; is_mutable = refl; root = same_node nodes u l.root.0 live }
+
+shape_same : (nodes : List Node) (u : ℕ) (s : Shape) → IsLiveShape nodes s → IsChangedShape nodes (in_front [] u) s s
+shape_same nodes u shape.Opaque live = tt
+shape_same nodes u (shape.Variant ks) live = zip_same (IsLiveConstructor nodes) (IsChangedConstructor nodes (in_front [] u)) ks.items (constructor_same nodes u) live
+shape_same nodes u (shape.Labels ls) live = zip_same (IsLiveLabel nodes) (IsChangedLabel nodes (in_front [] u)) ls.items (label_same nodes u) live
+
+declaration_same : (nodes : List Node) (u : ℕ) (d : Declaration) → IsLiveDeclaration nodes d → IsChangedDeclaration nodes (in_front [] u) d d
+declaration_same nodes u d live = record { arity = refl; origin = refl; root = same_node nodes u d.root.0 live.0; shape = shape_same nodes u d.shape live.1 }
+
+what_same : (nodes : List Node) (u : ℕ) (w : What-F Sig What Components Entry Template) → IsLiveWhat nodes w → IsChangedWhat nodes (in_front [] u) w w
+what_same nodes u (What-F.Scheme n) live = same_node nodes u n.0 live
+what_same nodes u (What-F.Constructor d k) live = refl
+what_same nodes u (What-F.Exception k) live = constructor_same nodes u k.value live
+what_same nodes u (What-F.Label d k) live = refl
+what_same nodes u (What-F.Type d) live = declaration_same nodes u d.value live
+what_same nodes u (What-F.Module s) live = tt
+what_same nodes u (What-F.ModuleType t) live = sym (same_all (made_of t.value) u)
+
+entry_same : (nodes : List Node) (u : ℕ) (e : Entry) → IsLiveEntry nodes e → IsChangedEntry nodes (in_front [] u) e e
+entry_same nodes u e live = record { name = refl; kind = refl; place = refl; what = what_same nodes u (out-What e.what) live }
+
+opened_same : (nodes : List Node) (u : ℕ) (s : Sig-F Sig What Components Entry Template) → AreLiveOpened nodes s → IsChangedOpened nodes (in_front [] u) s s
+opened_same nodes u (Sig-F.Structure c) live = zip_same (IsLiveEntry nodes) (IsChangedEntry nodes (in_front [] u)) (entries_of (out-Components c).entries.items) (entry_same nodes u) live
+opened_same nodes u (Sig-F.Functor p b) live = (sym (same_all (made_of p.value) u), sym (same_all (made_of b.value) u))
+opened_same nodes u Sig-F.Hole live = tt
+
+here_same : (nodes : List Node) (u : ℕ) (s : Option Sig) → AreLiveHere nodes s → IsChangedHere nodes (in_front [] u) s s
+here_same nodes u None live = tt
+here_same nodes u (Some s) live = opened_same nodes u (out-Sig s) live
+
+pub sig_same : (nodes : List Node) (u : ℕ) (s : Sig) → AreLive nodes s → IsChangedSig nodes (in_front [] u) s s
+sig_same nodes u s live = record { each = λ way. here_same nodes u (sub way (Some s)) (live.each way) }
+
+none_listed : (os : List Origin) → length os ≡ 0 → paths_of os ≡ []
+none_listed [] e = refl
+none_listed (o ∷ os) e = absurd (omega arith)
+
+-- a signature in which nothing is made anew
+pub shared_same : (nodes : List Node) (os : List Origin) (u : ℕ) (s t : Sig) → t ≡ s → length os ≡ 0 → AreLive nodes s → IsChangedSig nodes (in_front (paths_of os) u) s t
+shared_same nodes os u s t e none live = subst (IsChangedSig nodes (in_front (paths_of os) u) s) (sym e) (subst (λ qs. IsChangedSig nodes (in_front qs u) s s) (sym (none_listed os none)) (sig_same nodes u s live))
+
+-- one that is changed with copies of the paths
+pub copied_same : (old new : List Node) (ps qs : List Path) (u : ℕ) (s r t : Sig) → qs ≡ ps → r ≡ s → (AreLive old r → IsChangedSig new (in_front qs u) r t) → AreLive old s → IsChangedSig new (in_front ps u) s t
+copied_same old new ps qs u s r t e same is live =
+    subst (λ xs. IsChangedSig new (in_front xs u) s t) e (subst (λ x. IsChangedSig new (in_front qs u) x t) same (is (subst (AreLive old) (sym same) live)))

@@ -1,0 +1,142 @@
+-- What names stand for, one sort after the other.
+use Rattle.std.proofs.Common.{◌≡◌, ℕ, List, Some, None, refl, sym, ap, ◌∙◌, subst, map}
+use Rattle.std.specs.Prelude.{All, Result, Ok, Err, IfOk}
+use Rattle.std.specs.List.{AllZip}
+use Rattle.std.specs.declared.alloc.AllocError.{AllocError}
+use Rattle.std.specs.declared.rc.Rc.{Rc}
+use Rattle.std.specs.declared.alloc.Global.{Global}
+use Rattle.type_nodes.specs.Nodes.{Node, IsNode}
+use Rattle.type_terms.specs.declared.types.NodeRef.{NodeRef}
+use Rattle.signature_model.specs.Changes.{Change}
+use Rattle.env_table.specs.declared.entries.Constructor.{Constructor}
+use Rattle.env_table.specs.declared.entries.Declaration.{Declaration}
+use Rattle.env_table.specs.declared.entries.Sig.{Sig}
+use Rattle.env_table.specs.declared.entries.Template.{Template}
+use Rattle.env_table.specs.declared.entries.What.{What}
+use Rattle.env_table.specs.declared.entries.What as whats
+use Rattle.env_table.specs.declared.entries.What.TheVariants as what
+use Rattle.decl_typing.specs.Copying.{IsChanged}
+use Rattle.sig_template.specs.Changed.{IsChangedConstructor, IsChangedDeclaration, IsChangedSig}
+use Rattle.sig_template.specs.Live.{IsLiveConstructor, IsLiveDeclaration, AreLive}
+use Rattle.sig_template.specs.Turns.{IsTurnedWhat, IsTurnedTemplate, IsLiveWithin, IsLiveTemplate}
+use Rattle.decl_typing.specs.declared.copies.Copies.{Copies}
+use Rattle.env_table.specs.declared.entries.Entry.{Entry}
+use Rattle.env_table.specs.declared.entries.Components.{Components, out-Components}
+use Rattle.env_table.specs.declared.entries.Sig.TheVariants as sig
+use Rattle.sig_template.specs.Ways.{components_of}
+use Rattle.sig_template.specs.Turns.{Turns, IsTurnedEntry, IsLiveThrough}
+use Rattle.sig_template.proofs.Turning.{turns_as, turns_same, turns_then, owned_turns}
+use Rattle.sig_template.proofs.Within.{changed_none, changed_hole, changed_structure, changed_functor, of_structure, live_structure, live_parameter, live_body}
+
+pub live_scheme : (nodes : List Node) (n : NodeRef) → IsLiveWithin nodes (what.Scheme n) → IsNode nodes n.0
+unfolding whats.out-What denote.Hole.Carrier.out
+live_scheme nodes n live = live.what
+
+pub turned_scheme : (nodes : List Node) (c : Change) (n m : NodeRef) → IsChanged nodes c n.0 m.0 → IsTurnedWhat nodes c (what.Scheme n) (what.Scheme m)
+unfolding whats.out-What denote.Hole.Carrier.out
+turned_scheme nodes c n m is = record { what = is; within = changed_none nodes c }
+
+pub live_constructor : (nodes : List Node) (d : Rc Declaration Global) (k : ℕ) → IsLiveWithin nodes (what.Constructor d k) → IsLiveDeclaration nodes d.value
+unfolding whats.out-What denote.Hole.Carrier.out
+live_constructor nodes d k live = live.what
+
+pub turned_constructor : (nodes : List Node) (c : Change) (d e : Rc Declaration Global) (k : ℕ) → IsTurnedWhat nodes c (what.Constructor d k) (what.Constructor e k)
+unfolding whats.out-What denote.Hole.Carrier.out
+turned_constructor nodes c d e k = record { what = refl; within = changed_none nodes c }
+
+pub live_label : (nodes : List Node) (d : Rc Declaration Global) (k : ℕ) → IsLiveWithin nodes (what.Label d k) → IsLiveDeclaration nodes d.value
+unfolding whats.out-What denote.Hole.Carrier.out
+live_label nodes d k live = live.what
+
+pub turned_label : (nodes : List Node) (c : Change) (d e : Rc Declaration Global) (k : ℕ) → IsTurnedWhat nodes c (what.Label d k) (what.Label e k)
+unfolding whats.out-What denote.Hole.Carrier.out
+turned_label nodes c d e k = record { what = refl; within = changed_none nodes c }
+
+pub live_exception : (nodes : List Node) (k : Rc Constructor Global) → IsLiveWithin nodes (what.Exception k) → IsLiveConstructor nodes k.value
+unfolding whats.out-What denote.Hole.Carrier.out
+live_exception nodes k live = live.what
+
+pub turned_exception : (nodes : List Node) (c : Change) (k j : Rc Constructor Global) → IsChangedConstructor nodes c k.value j.value → IsTurnedWhat nodes c (what.Exception k) (what.Exception j)
+unfolding whats.out-What denote.Hole.Carrier.out
+turned_exception nodes c k j is = record { what = is; within = changed_none nodes c }
+
+pub live_type : (nodes : List Node) (d : Rc Declaration Global) → IsLiveWithin nodes (what.Type d) → IsLiveDeclaration nodes d.value
+unfolding whats.out-What denote.Hole.Carrier.out
+live_type nodes d live = live.what
+
+pub turned_type : (nodes : List Node) (c : Change) (d e : Rc Declaration Global) → IsChangedDeclaration nodes c d.value e.value → IsTurnedWhat nodes c (what.Type d) (what.Type e)
+unfolding whats.out-What denote.Hole.Carrier.out
+turned_type nodes c d e is = record { what = is; within = changed_none nodes c }
+
+pub live_module : (nodes : List Node) (s : Rc Sig Global) → IsLiveWithin nodes (what.Module s) → AreLive nodes s.value
+unfolding whats.out-What denote.Hole.Carrier.out
+live_module nodes s live = live.within
+
+pub turned_module : (nodes : List Node) (c : Change) (s t : Rc Sig Global) → IsChangedSig nodes c s.value t.value → IsTurnedWhat nodes c (what.Module s) (what.Module t)
+unfolding whats.out-What denote.Hole.Carrier.out
+turned_module nodes c s t is = record { what = tt; within = is }
+
+pub live_module_type : (nodes : List Node) (s : Rc Template Global) → IsLiveWithin nodes (what.ModuleType s) → IsLiveTemplate nodes s.value
+unfolding whats.out-What denote.Hole.Carrier.out
+live_module_type nodes s live = live.within
+
+pub turned_module_type : (nodes : List Node) (c : Change) (s t : Rc Template Global) → IsTurnedTemplate nodes c s.value t.value → IsTurnedWhat nodes c (what.ModuleType s) (what.ModuleType t)
+unfolding whats.out-What denote.Hole.Carrier.out
+turned_module_type nodes c s t is = record { what = is.made; within = is.sig }
+
+pub what_scheme : (c : Change) (old : What) (n m : NodeRef) (a b : List Node) (x y : Copies) → old ≡ what.Scheme n →
+    Turns c (λ ns. IsNode ns n.0) (λ ns. IsChanged ns c n.0 m.0) a b x y → Turns c (λ ns. IsLiveWithin ns old) (λ ns. IsTurnedWhat ns c old (what.Scheme m)) a b x y
+what_scheme c old n m a b x y is p = subst (λ w. Turns c (λ ns. IsLiveWithin ns w) (λ ns. IsTurnedWhat ns c w (what.Scheme m)) a b x y) (sym is)
+    (turns_as c (λ ns. IsNode ns n.0) (λ ns. IsChanged ns c n.0 m.0) (λ ns. IsLiveWithin ns (what.Scheme n)) (λ ns. IsTurnedWhat ns c (what.Scheme n) (what.Scheme m)) a b x y
+    (λ ns. live_scheme ns n) (λ ns. turned_scheme ns c n m) p)
+
+pub what_constructor : (c : Change) (old : What) (r s : Rc Declaration Global) (k : ℕ) (d : Declaration) (a b : List Node) (x y : Copies) → old ≡ what.Constructor r k → d ≡ r.value →
+    Turns c (λ ns. IsLiveDeclaration ns d) (λ ns. Unit {0}) a b x y → Turns c (λ ns. IsLiveWithin ns old) (λ ns. IsTurnedWhat ns c old (what.Constructor s k)) a b x y
+what_constructor c old r s k d a b x y is same p = subst (λ w. Turns c (λ ns. IsLiveWithin ns w) (λ ns. IsTurnedWhat ns c w (what.Constructor s k)) a b x y) (sym is)
+    (turns_as c (λ ns. IsLiveDeclaration ns d) (λ ns. Unit {0}) (λ ns. IsLiveWithin ns (what.Constructor r k)) (λ ns. IsTurnedWhat ns c (what.Constructor r k) (what.Constructor s k)) a b x y
+    (λ ns live. subst (IsLiveDeclaration ns) (sym same) (live_constructor ns r k live)) (λ ns done. turned_constructor ns c r s k) p)
+
+pub what_label : (c : Change) (old : What) (r s : Rc Declaration Global) (k : ℕ) (d : Declaration) (a b : List Node) (x y : Copies) → old ≡ what.Label r k → d ≡ r.value →
+    Turns c (λ ns. IsLiveDeclaration ns d) (λ ns. Unit {0}) a b x y → Turns c (λ ns. IsLiveWithin ns old) (λ ns. IsTurnedWhat ns c old (what.Label s k)) a b x y
+what_label c old r s k d a b x y is same p = subst (λ w. Turns c (λ ns. IsLiveWithin ns w) (λ ns. IsTurnedWhat ns c w (what.Label s k)) a b x y) (sym is)
+    (turns_as c (λ ns. IsLiveDeclaration ns d) (λ ns. Unit {0}) (λ ns. IsLiveWithin ns (what.Label r k)) (λ ns. IsTurnedWhat ns c (what.Label r k) (what.Label s k)) a b x y
+    (λ ns live. subst (IsLiveDeclaration ns) (sym same) (live_label ns r k live)) (λ ns done. turned_label ns c r s k) p)
+
+pub what_exception : (c : Change) (old : What) (r s : Rc Constructor Global) (d : Constructor) (a b : List Node) (x y : Copies) → old ≡ what.Exception r → d ≡ r.value →
+    Turns c (λ ns. IsLiveConstructor ns d) (λ ns. IsChangedConstructor ns c d s.value) a b x y → Turns c (λ ns. IsLiveWithin ns old) (λ ns. IsTurnedWhat ns c old (what.Exception s)) a b x y
+what_exception c old r s d a b x y is same p = subst (λ w. Turns c (λ ns. IsLiveWithin ns w) (λ ns. IsTurnedWhat ns c w (what.Exception s)) a b x y) (sym is)
+    (turns_as c (λ ns. IsLiveConstructor ns d) (λ ns. IsChangedConstructor ns c d s.value) (λ ns. IsLiveWithin ns (what.Exception r)) (λ ns. IsTurnedWhat ns c (what.Exception r) (what.Exception s)) a b x y
+    (λ ns live. subst (IsLiveConstructor ns) (sym same) (live_exception ns r live)) (λ ns done. turned_exception ns c r s (subst (λ z. IsChangedConstructor ns c z s.value) same done)) p)
+
+pub what_type : (c : Change) (old : What) (r s : Rc Declaration Global) (d : Declaration) (a b : List Node) (x y : Copies) → old ≡ what.Type r → d ≡ r.value →
+    Turns c (λ ns. IsLiveDeclaration ns d) (λ ns. IsChangedDeclaration ns c d s.value) a b x y → Turns c (λ ns. IsLiveWithin ns old) (λ ns. IsTurnedWhat ns c old (what.Type s)) a b x y
+what_type c old r s d a b x y is same p = subst (λ w. Turns c (λ ns. IsLiveWithin ns w) (λ ns. IsTurnedWhat ns c w (what.Type s)) a b x y) (sym is)
+    (turns_as c (λ ns. IsLiveDeclaration ns d) (λ ns. IsChangedDeclaration ns c d s.value) (λ ns. IsLiveWithin ns (what.Type r)) (λ ns. IsTurnedWhat ns c (what.Type r) (what.Type s)) a b x y
+    (λ ns live. subst (IsLiveDeclaration ns) (sym same) (live_type ns r live)) (λ ns done. turned_type ns c r s (subst (λ z. IsChangedDeclaration ns c z s.value) same done)) p)
+
+pub sig_hole : (r : Result (Rc Sig Global) AllocError) (N : Type 0) (c : Change) (old : Sig) (a : List Node) (x : Copies) → old ≡ sig.Hole → IfOk r (λ s. s.value ≡ sig.Hole) →
+    IfOk r (λ s. N → Turns c (λ ns. AreLive ns old) (λ ns. IsChangedSig ns c old s.value) a a x x)
+sig_hole r N c old a x is made = owned_turns r sig.Hole N c (λ ns. AreLive ns old) (λ ns s. IsChangedSig ns c old s) a a x x made
+    (λ n. subst (λ o. Turns c (λ ns. AreLive ns o) (λ ns. IsChangedSig ns c o sig.Hole) a a x x) (sym is) (turns_same c (λ ns. AreLive ns sig.Hole) (λ ns. IsChangedSig ns c sig.Hole sig.Hole) a x (λ ns. changed_hole ns c)))
+
+pub sig_structure : (r : Result (Rc Sig Global) AllocError) (N : Type 0) (c : Change) (old : Sig) (es : Components) (xs ys : List (Rc Entry Global)) (a b : List Node) (x y : Copies) →
+    old ≡ sig.Structure es → xs ≡ (out-Components es).entries.items → IfOk r (λ s. components_of s.value ≡ Some ys) →
+    (N → Turns c (λ ns. All (λ (e : Rc Entry Global). IsLiveThrough ns e.value) xs) (λ ns. AllZip (λ (e : Rc Entry Global) (f : Rc Entry Global). IsTurnedEntry ns c e.value f.value) xs ys) a b x y) →
+    IfOk r (λ s. N → Turns c (λ ns. AreLive ns old) (λ ns. IsChangedSig ns c old s.value) a b x y)
+sig_structure (Ok s) N c old es xs ys a b x y is same made p = λ n. subst (λ o. Turns c (λ ns. AreLive ns o) (λ ns. IsChangedSig ns c o s.value) a b x y) (sym is)
+    (turns_as c (λ ns. All (λ (e : Rc Entry Global). IsLiveThrough ns e.value) xs) (λ ns. AllZip (λ (e : Rc Entry Global) (f : Rc Entry Global). IsTurnedEntry ns c e.value f.value) xs ys)
+    (λ ns. AreLive ns (sig.Structure es)) (λ ns. IsChangedSig ns c (sig.Structure es) s.value) a b x y
+    (λ ns live. live_structure ns es xs same live) (λ ns z. changed_structure ns c (sig.Structure es) s.value xs ys (of_structure es ∙ ap (λ zs. Some zs) (sym same)) made z) (p n))
+sig_structure (Err e) N c old es xs ys a b x y is same made p = tt
+
+pub sig_functor : (r : Result (Rc Sig Global) AllocError) (N : Type 0) (c : Change) (old : Sig) (p b q d : Rc Template Global) (t u : Template) (i j k : List Node) (x y z : Copies) →
+    old ≡ sig.Functor p b → t ≡ p.value → u ≡ b.value → IfOk r (λ s. s.value ≡ sig.Functor q d) →
+    (N → Turns c (λ ns. IsLiveTemplate ns t) (λ ns. IsTurnedTemplate ns c t q.value) i j x y) → (N → Turns c (λ ns. IsLiveTemplate ns u) (λ ns. IsTurnedTemplate ns c u d.value) j k y z) →
+    IfOk r (λ s. N → Turns c (λ ns. AreLive ns old) (λ ns. IsChangedSig ns c old s.value) i k x z)
+sig_functor r N c old p b q d t u i j k x y z is same other made first second = owned_turns r (sig.Functor q d) N c (λ ns. AreLive ns old) (λ ns s. IsChangedSig ns c old s) i k x z made
+    (λ n. subst (λ o. Turns c (λ ns. AreLive ns o) (λ ns. IsChangedSig ns c o (sig.Functor q d)) i k x z) (sym is)
+    (turns_then c (λ ns. IsLiveTemplate ns t) (λ ns. IsTurnedTemplate ns c t q.value) (λ ns. IsLiveTemplate ns u) (λ ns. IsTurnedTemplate ns c u d.value)
+    (λ ns. AreLive ns (sig.Functor p b)) (λ ns. IsChangedSig ns c (sig.Functor p b) (sig.Functor q d)) i j k x y z
+    (λ ns live. subst (IsLiveTemplate ns) (sym same) (live_parameter ns p b live)) (λ ns live. subst (IsLiveTemplate ns) (sym other) (live_body ns p b live))
+    (λ ns one two. changed_functor ns c p b q d (subst (λ w. IsTurnedTemplate ns c w q.value) same one) (subst (λ w. IsTurnedTemplate ns c w d.value) other two))
+    (first n) (second n)))

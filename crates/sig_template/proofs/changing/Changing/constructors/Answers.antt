@@ -1,0 +1,21 @@
+use Rattle.std.proofs.Common.{◌≡◌, rules, List}
+use Rattle.type_nodes.specs.Nodes.{Node}
+use Rattle.decl_typing.specs.Copying.{moved}
+use Rattle.sig_template.specs.Changed.{IsChangedConstructor}
+use Rattle.sig_template.specs.Live.{IsLiveConstructor}
+use Rattle.decl_typing.proofs.Going.{goes_trans}
+use Rattle.sig_template.proofs.Turning.{turns_more, turns_whole}
+use Rattle.sig_template.proofs.changing.Changing.constructors.Goals as goal
+
+pub loop-constructor-preserved : goal.loop-constructor-preserved
+loop-constructor-preserved c = record {
+  goes = goes_trans c.args.at.now c.loop-constructor.at c.constructor.new.at c.loop-constructor.invariant.goes c.in_ok-constructor.ensures.goes;
+  turns = λ none. turns_more (moved c.args.self.changes.now) IsLiveConstructor (λ ns. IsChangedConstructor ns (moved c.args.self.changes.now)) c.args.old.now c.loop-constructor.new.items c.push.new.list.items c.loop-constructor.constructor-index
+      c.constructor-item.result c.in_ok-constructor.field-0 c.args.at.now.store.nodes c.loop-constructor.at.store.nodes c.constructor.new.at.store.nodes c.args.copies.now c.loop-constructor.copies c.constructor.new.copies
+      c.loop-constructor-test.true c.constructor-item.is c.in_ok-push.ensures.pushed (c.loop-constructor.invariant.turns none) (c.in_ok-constructor.ensures.changed none);
+}
+
+pub returns-clause-changed : goal.returns-clause-changed
+returns-clause-changed c = λ none.
+    turns_whole (moved c.args.self.changes.now) IsLiveConstructor (λ ns. IsChangedConstructor ns (moved c.args.self.changes.now)) c.args.old.now c.loop-constructor.new.items c.loop-constructor.constructor-index
+    c.args.at.now.store.nodes c.loop-constructor.at.store.nodes c.args.copies.now c.loop-constructor.copies c.loop-constructor-test.false (c.loop-constructor.invariant.turns none)

@@ -1,0 +1,15 @@
+use Rattle.std.proofs.Common.{◌≡◌, ◌∙◌, ap, length, rules}
+use Rattle.decl_typing.specs.Copying.{paths_of}
+use Rattle.sig_template.proofs.Same.{shared_same, copied_same}
+use Rattle.sig_template.proofs.templates.made_at.Goals as goal
+
+pub returns-then-is_empty-clause-sig : goal.returns-then-is_empty-clause-sig
+returns-then-is_empty-clause-sig c = λ live.
+    let none : length c.args.template.now.made.items ≡ 0 = search rules in
+    shared_same c.args.at.now.store.nodes c.args.template.now.made.items c.args.node c.args.template.now.sig.value c.in_ok-share_sig.field-0.value c.in_ok-share_sig.ensures none live
+
+pub returns-clause-sig : goal.returns-clause-sig
+returns-clause-sig c =
+    copied_same c.args.at.now.store.nodes c.changed.new.at.store.nodes (paths_of c.args.template.now.made.items) (paths_of c.in_ok-copied_origins.field-0.items) c.args.node
+    c.args.template.now.sig.value c.deref-3.result.now c.in_ok-changed.field-0.value (c.in_ok-copied_origins.ensures ∙ ap paths_of c.deref-2.ensures.value) c.deref-3.ensures
+    (c.in_ok-changed.ensures.changed c.new.ensures.items)
