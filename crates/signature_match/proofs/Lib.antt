@@ -1,1 +1,7 @@
 mod Undone
+mod Texts
+mod Zips
+mod Firsts
+mod Opened
+mod Values
+mod Unknowns

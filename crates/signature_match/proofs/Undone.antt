@@ -1,5 +1,5 @@
 -- What rolling back to a mark brings back.
-use Rattle.std.proofs.Common.{◌≡◌, ◌∙◌, ℕ, ◌≤◌, length, ap, subst, arith, refl, sym}
+use Rattle.std.proofs.Common.{◌≡◌, ◌∙◌, ℕ, length, ap, subst, arith}
 use Rattle.type_nodes.specs.States.{State, state, Keeps, Restored}
 use Rattle.type_nodes.proofs.Trails.{state_now}
 

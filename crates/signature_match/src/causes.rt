@@ -1,7 +1,13 @@
 //! Why a signature doesn't match.
+ghost use Rattle.std.specs.Prelude.{◌≡◌, [], map, IfOk, string_bytes};
+ghost use Rattle.std.specs.List.{join_with_byte};
+ghost use Rattle.text_terms.specs.Bytes.{str_bytes};
+ghost use Rattle.signature_model.specs.Failing.{blame, inside};
+ghost use Rattle.signature_match.specs.Blames.{cause_of, blame_of};
+
 use decl_typing::NoMemory;
 use owned_lists::push;
-use std::alloc::Global;
+use std::alloc::{AllocError, Global};
 use text_terms::RcStr;
 
 /// What is wrong with a component.
@@ -26,7 +32,9 @@ pub struct Mismatch {
 
 impl Mismatch {
     /// The component that stands here.
-    pub fn here(alloc: Global, cause: Cause) -> Mismatch {
+    pub fn here(alloc: Global, cause: Cause) -> Mismatch
+        ensures { blame_of result ≡ blame [] (cause_of cause) }
+    {
         Mismatch {
             path: Vec::new(alloc),
             cause,
@@ -34,7 +42,9 @@ impl Mismatch {
     }
 
     /// The same from one module further out.
-    pub fn inside(self, alloc: Global, name: &RcStr) -> Result<Mismatch, NoMemory> {
+    pub fn inside(self, alloc: Global, name: &RcStr) -> Result<Mismatch, NoMemory>
+        ensures { IfOk result (λ m. blame_of m ≡ inside (str_bytes name.now) (blame_of self)) }
+    {
         let mut path = Vec::new(alloc);
         push(&mut path, name.share()?)?;
         for member in self.path {
@@ -47,13 +57,15 @@ impl Mismatch {
     }
 
     /// The path with points between its names.
-    pub fn text(&self, alloc: Global) -> Result<String, NoMemory> {
+    pub fn text(&self, alloc: Global) -> Result<String, NoMemory>
+        ensures { IfOk result (λ s. string_bytes s ≡ join_with_byte 46 (map str_bytes self.now.path.items)) }
+    {
         let mut text = String::new(alloc);
         for (place, name) in self.path.iter().enumerate() {
             if place > 0 {
-                text.push_str(".").map_err(|_| NoMemory)?;
+                text.push_str(".").map_err(|_| AllocError)?;
             }
-            text.push_str(name.as_str()).map_err(|_| NoMemory)?;
+            text.push_str(name.as_str()).map_err(|_| AllocError)?;
         }
         Ok(text)
     }

@@ -1,5 +1,12 @@
 //! Values, declarations and exceptions, one against another.
+ghost use Rattle.std.specs.Prelude.{◌≡◌, ◌↔◌, ◌⊎◌, true, IsTrue, IfOk};
+ghost use Rattle.std.specs.List.{AllZip};
+ghost use Rattle.type_nodes.specs.Nodes.{IsNode};
+ghost use Rattle.scheme_match.specs.Covering.{Compared};
+ghost use Rattle.scheme_match.specs.Unknown.{HasUnknown};
 ghost use Rattle.decl_typing.specs.Goes.{Goes};
+ghost use Rattle.signature_match.specs.Shapes.{ConstructorsFit, LabelsFit, ShapesFit};
+ghost use Rattle.signature_match.specs.Values.{AreComparable};
 
 use decl_typing::{Changes, Copies, ForBound, ForUnknown, NoMemory, NodeRef, Parts, unchanged};
 use env_table::{Constructor, Declaration, Label, Shape};
@@ -18,13 +25,17 @@ fn copied(
     Copies::new(at).copy(at, root, unchanged(&none, bound, unknown))
 }
 
-/// Whether the wanted type, its variables taken as rigid, is an instance of the actual scheme. Unknown types may be any.
+/// Whether each instance of the wanted scheme is one of the actual scheme. Unknown types may be any.
 pub fn covers(at: &mut Parts, actual: NodeRef, wanted: NodeRef) -> Result<bool, NoMemory>
+    ensures compared { IfOk result (λ met. AreComparable at.old.store.nodes actual wanted → Compared at.old.store.nodes at.new.store.nodes actual.0 wanted.0 met) }
     ensures goes { Goes at.old at.new }
 {
-    let actual = at.instance(actual)?;
-    let wanted = copied(at, wanted, ForBound::Rigid, ForUnknown::Variable)?;
-    at.are_one(actual, wanted)
+    if at.has_unknown(wanted)? {
+        let known = copied(at, wanted, ForBound::Itself, ForUnknown::Variable)?;
+        at.covers(actual, known)
+    } else {
+        at.covers(actual, wanted)
+    }
 }
 
 /// The type of a declaration over arguments; in what is unknown no rigid variable may stand.
@@ -60,13 +71,43 @@ pub fn declares(
     actual: &Declaration,
     wanted: &Declaration,
 ) -> Result<bool, NoMemory>
+    ensures shape { IfOk result (λ met. met ≡ true → ShapesFit actual.now.shape wanted.now.shape) }
     ensures goes { Goes at.old at.new }
 {
     let arguments = rigid_arguments(at, wanted.arity)?;
-    if !are_one_over(at, actual, wanted, &arguments)? {
+    if !stand_for_one(at, actual, wanted, &arguments)? {
         return Ok(false);
     }
     shapes_agree(at, actual, wanted, &arguments)
+}
+
+/// Whether something unknown stands in one of two types.
+fn is_either_unknown(at: &Parts, one: NodeRef, other: NodeRef) -> Result<bool, NoMemory>
+    ensures { IfOk result (λ unknown. IsNode at.now.store.nodes one.0 → IsNode at.now.store.nodes other.0 → IsTrue unknown ↔ (HasUnknown at.now.store.nodes one.0 ⊎ HasUnknown at.now.store.nodes other.0)) }
+{
+    if at.has_unknown(one)? {
+        Ok(true)
+    } else {
+        at.has_unknown(other)
+    }
+}
+
+/// Whether two declarations of as many parameters stand for one type: as schemes of their parameters with the type behind them, or
+/// over these rigid types, where something unknown stands in one, in which no parameter may stand.
+fn stand_for_one(
+    at: &mut Parts,
+    actual: &Declaration,
+    wanted: &Declaration,
+    arguments: &[NodeRef],
+) -> Result<bool, NoMemory>
+    ensures compared { IfOk result (λ met. (HasUnknown at.old.store.nodes actual.now.root.0 → ⊥) → AreComparable at.old.store.nodes actual.now.root wanted.now.root → Compared at.old.store.nodes at.new.store.nodes actual.now.root.0 wanted.now.root.0 met) }
+    ensures goes { Goes at.old at.new }
+{
+    if is_either_unknown(at, actual.root, wanted.root)? {
+        are_one_over(at, actual, wanted, arguments)
+    } else {
+        at.covers(actual.root, wanted.root)
+    }
 }
 
 /// Whether two declarations give these arguments one type.
@@ -89,26 +130,41 @@ fn shapes_agree(
     wanted: &Declaration,
     arguments: &[NodeRef],
 ) -> Result<bool, NoMemory>
+    ensures shape { IfOk result (λ met. met ≡ true → ShapesFit actual.now.shape wanted.now.shape) }
     ensures goes { Goes at.old at.new }
 {
     match (&actual.shape, &wanted.shape) {
         (_, Shape::Opaque) => Ok(true),
         (Shape::Variant(found), Shape::Variant(asked)) => {
-            if found.len() != asked.len() {
-                return Ok(false);
-            }
-            for (one, other) in found.iter().zip(asked.iter()) {
-                if !constructors_agree(at, actual, one, wanted, other, arguments)? {
-                    return Ok(false);
-                }
-            }
-            Ok(true)
+            all_constructors_agree(at, actual, found, wanted, asked, arguments)
         }
         (Shape::Labels(found), Shape::Labels(asked)) => {
             labels_agree(at, actual, found, wanted, asked, arguments)
         }
         _ => Ok(false),
     }
+}
+
+fn all_constructors_agree(
+    at: &mut Parts,
+    actual: &Declaration,
+    found: &[Constructor],
+    wanted: &Declaration,
+    asked: &[Constructor],
+    arguments: &[NodeRef],
+) -> Result<bool, NoMemory>
+    ensures fit { IfOk result (λ met. met ≡ true → AllZip ConstructorsFit found.now asked.now) }
+    ensures goes { Goes at.old at.new }
+{
+    if found.len() != asked.len() {
+        return Ok(false);
+    }
+    for (one, other) in found.iter().zip(asked.iter()) {
+        if !constructors_agree(at, actual, one, wanted, other, arguments)? {
+            return Ok(false);
+        }
+    }
+    Ok(true)
 }
 
 /// A side of an arrow.
@@ -151,6 +207,7 @@ fn constructors_agree(
     asked: &Constructor,
     arguments: &[NodeRef],
 ) -> Result<bool, NoMemory>
+    ensures fit { IfOk result (λ met. met ≡ true → ConstructorsFit found.now asked.now) }
     ensures goes { Goes at.old at.new }
 {
     if !found.name.is(asked.name.as_str()) || found.has_argument != asked.has_argument {
@@ -164,6 +221,25 @@ fn constructors_agree(
     at.are_one(one, other)
 }
 
+fn label_agrees(
+    at: &mut Parts,
+    actual: &Declaration,
+    found: &Label,
+    wanted: &Declaration,
+    asked: &Label,
+    arguments: &[NodeRef],
+) -> Result<bool, NoMemory>
+    ensures fit { IfOk result (λ met. met ≡ true → LabelsFit found.now asked.now) }
+    ensures goes { Goes at.old at.new }
+{
+    if !found.name.is(asked.name.as_str()) || found.is_mutable != asked.is_mutable {
+        return Ok(false);
+    }
+    let one = side_over(at, found.root, actual, arguments, Side::To)?;
+    let other = side_over(at, asked.root, wanted, arguments, Side::To)?;
+    at.are_one(one, other)
+}
+
 fn labels_agree(
     at: &mut Parts,
     actual: &Declaration,
@@ -172,18 +248,14 @@ fn labels_agree(
     asked: &[Label],
     arguments: &[NodeRef],
 ) -> Result<bool, NoMemory>
+    ensures fit { IfOk result (λ met. met ≡ true → AllZip LabelsFit found.now asked.now) }
     ensures goes { Goes at.old at.new }
 {
     if found.len() != asked.len() {
         return Ok(false);
     }
     for (one, other) in found.iter().zip(asked.iter()) {
-        if !one.name.is(other.name.as_str()) || one.is_mutable != other.is_mutable {
-            return Ok(false);
-        }
-        let first = side_over(at, one.root, actual, arguments, Side::To)?;
-        let second = side_over(at, other.root, wanted, arguments, Side::To)?;
-        if !at.are_one(first, second)? {
+        if !label_agrees(at, actual, one, wanted, other, arguments)? {
             return Ok(false);
         }
     }
@@ -196,6 +268,7 @@ pub fn same_exception(
     actual: &Constructor,
     wanted: &Constructor,
 ) -> Result<bool, NoMemory>
+    ensures has_argument { IfOk result (λ met. met ≡ true → actual.now.has_argument ≡ wanted.now.has_argument) }
     ensures goes { Goes at.old at.new }
 {
     if actual.has_argument != wanted.has_argument {

@@ -1,21 +1,40 @@
 //! The walk over the components of a wanted signature.
-ghost use Rattle.std.specs.Prelude.{◌≡◌, IfOk, IfSome};
+ghost use Rattle.std.specs.Prelude.{◌≡◌, ◌+◌, ◌^◌, ◌-◌, [], true, None, map, option_map, IfOk, IfSome};
+ghost use Rattle.text_terms.specs.Bytes.{str_bytes};
+ghost use Rattle.signature_model.specs.Failing as rules;
+ghost use Rattle.signature_model.specs.Matching.{new_number};
+ghost use Rattle.env_table.specs.declared.entries.Template.{out-Template};
 ghost use Rattle.decl_typing.specs.Goes.{Goes};
+ghost use Rattle.signature_match.specs.Blames.{cause_of, blame_of, unless, MayFail};
+ghost use Rattle.signature_match.specs.Newest.{newest_value, newest_type, newest_exception, newest_module, newest_module_type, exception_in, exception_named};
+ghost use Rattle.signature_match.specs.Anew.{IsMadeAnew};
+ghost use Rattle.signature_match.specs.Values.{MeetsNewest};
+ghost use Rattle.signature_match.specs.Telling.{TellsValue, TellsType, TellsException, TellsModuleType, Tells, TellsFirst, TellsOne, TellsEntry};
 
 use crate::causes::{Cause, Mismatch};
 use crate::compare::{covers, declares, same_exception};
-use decl_typing::{Depth, NoMemory, Parts, declaration_of};
+use decl_typing::{Depth, NoMemory, NodeRef, Parts};
 use env_table::{Constructor, Declaration, Entry, Kind, Sig, Template, What};
-use owned_lists::push;
-use sig_template::{changed, made_at, realisation, share_sig};
+use owned_lists::{push, shared};
+use sig_template::{changed, made_at, realisation};
+use std::alloc::AllocError;
 use std::rc::Rc;
 
 /// The numbers from this one on are no node's: the origins of wanted parameters get them, each by the functors that stand
 /// round it.
 const NEW: u64 = 9_223_372_032_559_808_512;
 
+/// The number for the origins of a wanted parameter that so many functors stand round; None where it is too large.
+fn new_number(round: u64) -> Option<u64>
+    ensures { IfSome result (λ n. n ≡ new_number round) }
+{
+    NEW.checked_add(round)
+}
+
 /// A mismatch of one component, if there is one.
-fn unless(at: &Parts, met: bool, cause: Cause) -> Option<Mismatch> {
+fn unless(at: &Parts, met: bool, cause: Cause) -> Option<Mismatch>
+    ensures { option_map blame_of result ≡ unless met (cause_of cause) }
+{
     if met {
         None
     } else {
@@ -23,18 +42,117 @@ fn unless(at: &Parts, met: bool, cause: Cause) -> Option<Mismatch> {
     }
 }
 
+/// The root of the newest actual value of a name.
+fn newest_value(actual: &Sig, name: &str) -> Option<NodeRef>
+    ensures { result ≡ newest_value name.now actual.now }
+{
+    match actual.entries().newest(Kind::Value, name) {
+        Some(entry) => match &entry.what {
+            What::Scheme(root) => Some(*root),
+            What::Constructor(_, _)
+            | What::Exception(_)
+            | What::Label(_, _)
+            | What::Type(_)
+            | What::Module(_)
+            | What::ModuleType(_) => None,
+        },
+        None => None,
+    }
+}
+
+/// The newest actual type of a name.
+fn newest_type<'a>(actual: &'a Sig, name: &str) -> Option<&'a Rc<Declaration>>
+    ensures { option_map (λ d. d.now.value) result ≡ newest_type name.now actual.now }
+{
+    match actual.entries().newest(Kind::TypeName, name) {
+        Some(entry) => match &entry.what {
+            What::Type(declaration) => Some(declaration),
+            What::Scheme(_)
+            | What::Constructor(_, _)
+            | What::Exception(_)
+            | What::Label(_, _)
+            | What::Module(_)
+            | What::ModuleType(_) => None,
+        },
+        None => None,
+    }
+}
+
+/// The exception that an entry is.
+fn exception_in(entry: &Entry) -> Option<&Rc<Constructor>>
+    ensures { option_map (λ c. c.now.value) result ≡ exception_in entry.now }
+{
+    match &entry.what {
+        What::Exception(constructor) => Some(constructor),
+        What::Scheme(_)
+        | What::Constructor(_, _)
+        | What::Label(_, _)
+        | What::Type(_)
+        | What::Module(_)
+        | What::ModuleType(_) => None,
+    }
+}
+
+/// An entry's exception, where it has this name.
+fn exception_named<'a>(entry: &'a Entry, name: &str) -> Option<&'a Rc<Constructor>>
+    ensures { option_map (λ c. c.now.value) result ≡ exception_named name.now entry.now }
+{
+    if entry.name.is(name) {
+        exception_in(entry)
+    } else {
+        None
+    }
+}
+
 /// The newest actual exception of a name.
-fn newest_exception<'a>(actual: &'a Sig, name: &str) -> Option<&'a Constructor> {
+fn newest_exception<'a>(actual: &'a Sig, name: &str) -> Option<&'a Rc<Constructor>>
+    ensures { option_map (λ c. c.now.value) result ≡ newest_exception name.now actual.now }
+{
     let mut rest = actual.entries();
     while let Some((entry, older)) = rest.split_first() {
-        if let What::Exception(constructor) = &entry.what {
-            if entry.name.is(name) {
-                return Some(constructor);
-            }
+        let found = exception_named(entry, name);
+        if found.is_some() {
+            return found;
         }
         rest = older;
     }
     None
+}
+
+/// The signature of the newest actual module of a name.
+fn newest_module<'a>(actual: &'a Sig, name: &str) -> Option<&'a Rc<Sig>>
+    ensures { option_map (λ s. s.now.value) result ≡ newest_module name.now actual.now }
+{
+    match actual.entries().newest(Kind::Module, name) {
+        Some(entry) => match &entry.what {
+            What::Module(sig) => Some(sig),
+            What::Scheme(_)
+            | What::Constructor(_, _)
+            | What::Exception(_)
+            | What::Label(_, _)
+            | What::Type(_)
+            | What::ModuleType(_) => None,
+        },
+        None => None,
+    }
+}
+
+/// The newest actual module type of a name.
+fn newest_module_type<'a>(actual: &'a Sig, name: &str) -> Option<&'a Rc<Template>>
+    ensures { option_map (λ t. t.now.value) result ≡ newest_module_type name.now actual.now }
+{
+    match actual.entries().newest(Kind::ModuleType, name) {
+        Some(entry) => match &entry.what {
+            What::ModuleType(template) => Some(template),
+            What::Scheme(_)
+            | What::Constructor(_, _)
+            | What::Exception(_)
+            | What::Label(_, _)
+            | What::Type(_)
+            | What::Module(_) => None,
+        },
+        None => None,
+    }
 }
 
 /// A wanted value.
@@ -42,19 +160,18 @@ fn match_value(
     at: &mut Parts,
     actual: &Sig,
     wanted: &Entry,
-    root: decl_typing::NodeRef,
+    root: NodeRef,
 ) -> Result<Option<Mismatch>, NoMemory>
+    ensures told { IfOk result (λ met. TellsValue (newest_value (str_bytes wanted.now.name) actual.now) (option_map blame_of met)) }
+    ensures met { IfOk result (λ met. MeetsNewest at.old.store.nodes at.new.store.nodes (newest_value (str_bytes wanted.now.name) actual.now) root (option_map blame_of met)) }
     ensures goes { Goes at.old at.new }
 {
-    match actual.entries().newest(Kind::Value, wanted.name.as_str()) {
+    match newest_value(actual, wanted.name.as_str()) {
         None => Ok(unless(at, false, Cause::Absent)),
-        Some(entry) => match entry.what {
-            What::Scheme(found) => {
-                let met = covers(at, found, root)?;
-                Ok(unless(at, met, Cause::ValueDiffers))
-            }
-            _ => Ok(unless(at, false, Cause::Absent)),
-        },
+        Some(found) => {
+            let met = covers(at, found, root)?;
+            Ok(unless(at, met, Cause::ValueDiffers))
+        }
     }
 }
 
@@ -65,16 +182,10 @@ fn match_type(
     wanted: &Entry,
     declaration: &Declaration,
 ) -> Result<Option<Mismatch>, NoMemory>
+    ensures told { IfOk result (λ met. TellsType (newest_type (str_bytes wanted.now.name) actual.now) declaration.now (option_map blame_of met)) }
     ensures goes { Goes at.old at.new }
 {
-    let found = match actual
-        .entries()
-        .newest(Kind::TypeName, wanted.name.as_str())
-    {
-        Some(entry) => declaration_of(entry),
-        None => None,
-    };
-    match found {
+    match newest_type(actual, wanted.name.as_str()) {
         None => Ok(unless(at, false, Cause::Absent)),
         Some(found) if found.arity != declaration.arity => {
             Ok(unless(at, false, Cause::TypeArity))
@@ -90,38 +201,18 @@ fn match_type(
 fn match_exception(
     at: &mut Parts,
     actual: &Sig,
-    wanted: &Constructor,
+    wanted: &Entry,
+    constructor: &Constructor,
 ) -> Result<Option<Mismatch>, NoMemory>
+    ensures told { IfOk result (λ met. TellsException (newest_exception (str_bytes wanted.now.name) actual.now) constructor.now (option_map blame_of met)) }
     ensures goes { Goes at.old at.new }
 {
     match newest_exception(actual, wanted.name.as_str()) {
         None => Ok(unless(at, false, Cause::Absent)),
         Some(found) => {
-            let met = same_exception(at, found, wanted)?;
+            let met = same_exception(at, found, constructor)?;
             Ok(unless(at, met, Cause::ExceptionDiffers))
         }
-    }
-}
-
-/// The signature of the newest actual module of a name.
-fn newest_module<'a>(actual: &'a Sig, name: &str) -> Option<&'a Rc<Sig>> {
-    match actual.entries().newest(Kind::Module, name) {
-        Some(entry) => match &entry.what {
-            What::Module(sig) => Some(sig),
-            _ => None,
-        },
-        None => None,
-    }
-}
-
-/// The newest actual module type of a name.
-fn newest_module_type<'a>(actual: &'a Sig, name: &str) -> Option<&'a Rc<Template>> {
-    match actual.entries().newest(Kind::ModuleType, name) {
-        Some(entry) => match &entry.what {
-            What::ModuleType(template) => Some(template),
-            _ => None,
-        },
-        None => None,
     }
 }
 
@@ -134,6 +225,7 @@ fn match_entry(
     round: u64,
     depth: Depth,
 ) -> Result<Option<Mismatch>, NoMemory>
+    ensures told { IfOk result (λ met. TellsEntry actual.now wanted.now (option_map blame_of met)) }
     ensures goes { Goes at.old at.new }
 {
     match match_component(at, actual, wanted, round, depth)? {
@@ -151,12 +243,13 @@ fn match_component(
     round: u64,
     depth: Depth,
 ) -> Result<Option<Mismatch>, NoMemory>
+    ensures told { IfOk result (λ met. TellsOne actual.now wanted.now (option_map blame_of met)) }
     ensures goes { Goes at.old at.new }
 {
     match &wanted.what {
         What::Scheme(root) => match_value(at, actual, wanted, *root),
         What::Type(declaration) => match_type(at, actual, wanted, declaration),
-        What::Exception(constructor) => match_exception(at, actual, constructor),
+        What::Exception(constructor) => match_exception(at, actual, wanted, constructor),
         What::Module(sig) => match newest_module(actual, wanted.name.as_str()) {
             None => Ok(unless(at, false, Cause::Absent)),
             Some(found) => meets(at, found, sig, round, depth.inside()?),
@@ -165,7 +258,8 @@ fn match_component(
             None => Ok(unless(at, false, Cause::Absent)),
             Some(found) => match_both(at, found, template, round, depth.inside()?),
         },
-        _ => Ok(None),
+        What::Constructor(_, _) => Ok(None),
+        What::Label(_, _) => Ok(None),
     }
 }
 
@@ -178,10 +272,13 @@ fn match_both(
     round: u64,
     depth: Depth,
 ) -> Result<Option<Mismatch>, NoMemory>
+    ensures told { IfOk result (λ met. MayFail rules.ModuleTypeDiffers (option_map blame_of met)) }
     ensures goes { Goes at.old at.new }
 {
-    let met = matches(at, &actual.sig, wanted, round, depth.inside()?)?.is_none()
-        && matches(at, &wanted.sig, actual, round, depth.inside()?)?.is_none();
+    if matches(at, &actual.sig, wanted, round, depth.inside()?)?.is_some() {
+        return Ok(unless(at, false, Cause::ModuleTypeDiffers));
+    }
+    let met = matches(at, &wanted.sig, actual, round, depth.inside()?)?.is_none();
     Ok(unless(at, met, Cause::ModuleTypeDiffers))
 }
 
@@ -194,18 +291,15 @@ fn meets(
     round: u64,
     depth: Depth,
 ) -> Result<Option<Mismatch>, NoMemory>
+    ensures told { IfOk result (λ met. Tells actual.now wanted.now (option_map blame_of met)) }
     ensures goes { Goes at.old at.new }
 {
     match (actual, wanted) {
-        (Sig::Hole, _) | (_, Sig::Hole) => Ok(None),
+        (Sig::Hole, _) => Ok(None),
+        (Sig::Structure(_), Sig::Hole) => Ok(None),
+        (Sig::Functor(_, _), Sig::Hole) => Ok(None),
         (Sig::Structure(_), Sig::Structure(components)) => {
-            for entry in &components.entries {
-                let failed = match_entry(at, actual, entry, round, depth.inside()?)?;
-                if failed.is_some() {
-                    return Ok(failed);
-                }
-            }
-            Ok(None)
+            first_failing(at, actual, &components.entries, round, depth)
         }
         (Sig::Functor(parameter, body), Sig::Functor(wanted_parameter, wanted_body)) => {
             let met = functors_match(
@@ -217,8 +311,30 @@ fn meets(
             )?;
             Ok(unless(at, met, Cause::KindDiffers))
         }
-        _ => Ok(unless(at, false, Cause::KindDiffers)),
+        (Sig::Structure(_), Sig::Functor(_, _)) => Ok(unless(at, false, Cause::KindDiffers)),
+        (Sig::Functor(_, _), Sig::Structure(_)) => Ok(unless(at, false, Cause::KindDiffers)),
     }
+}
+
+/// The first of several wanted components that fails.
+#[cycle(matching)]
+fn first_failing(
+    at: &mut Parts,
+    actual: &Sig,
+    wanted: &[Rc<Entry>],
+    round: u64,
+    depth: Depth,
+) -> Result<Option<Mismatch>, NoMemory>
+    ensures told { IfOk result (λ met. TellsFirst actual.now (map (λ r. r.value) wanted.now) (option_map blame_of met)) }
+    ensures goes { Goes at.old at.new }
+{
+    for entry in wanted {
+        let failed = match_entry(at, actual, entry, round, depth.inside()?)?;
+        if failed.is_some() {
+            return Ok(failed);
+        }
+    }
+    Ok(None)
 }
 
 /// Two functors: the wanted parameter with new origins matches the actual one, and the actual body for it the wanted one.
@@ -232,16 +348,34 @@ fn functors_match(
 ) -> Result<bool, NoMemory>
     ensures goes { Goes at.old at.new }
 {
-    let Some(inner) = round.checked_add(1) else {
-        return Err(NoMemory);
+    let (Some(inner), Some(number)) = (round.checked_add(1), new_number(round)) else {
+        return Err(AllocError);
     };
-    let number = NEW.wrapping_add(round);
-    let renewed = made_at(at, wanted.0, number)?;
-    if matches(at, &renewed.sig, actual.0, inner, depth.inside()?)?.is_some() {
+    let (argument, met) = match_parameter(at, actual.0, wanted.0, number, inner, depth)?;
+    if !met {
         return Ok(false);
     }
-    let (body, wanted_body) = bodies(at, &renewed.sig, actual, wanted, number)?;
+    let (body, wanted_body) = bodies(at, &argument.sig, actual, wanted, number)?;
     Ok(matches(at, &body, &wanted_body, inner, depth.inside()?)?.is_none())
+}
+
+/// The wanted parameter with the number in front of its origins, and whether it matches the actual one.
+#[cycle(matching)]
+fn match_parameter(
+    at: &mut Parts,
+    actual: &Template,
+    wanted: &Template,
+    number: u64,
+    round: u64,
+    depth: Depth,
+) -> Result<(Template, bool), NoMemory>
+    ensures anew { IfOk result (λ p. IsMadeAnew at.old.store.nodes number wanted.now p.0) }
+    ensures told { IfOk result (λ p. p.1 ≡ true → (out-Template actual.now).made.items ≡ [] → Tells (out-Template p.0).sig.value (out-Template actual.now).sig.value None) }
+    ensures goes { Goes at.old at.new }
+{
+    let argument = made_at(at, wanted, number)?;
+    let failed = matches(at, &argument.sig, actual, round, depth.inside()?)?;
+    Ok((argument, failed.is_none()))
 }
 
 /// The actual body for an argument, and the wanted one for it.
@@ -298,6 +432,7 @@ fn renewed_body(
 
 /// A wanted signature whose origins are realised by an actual one.
 fn wanted_for(at: &mut Parts, actual: &Sig, wanted: &Template) -> Result<Rc<Sig>, NoMemory>
+    ensures same { IfOk result (λ s. (out-Template wanted.now).made.items ≡ [] → s.value ≡ (out-Template wanted.now).sig.value) }
     ensures goes { Goes at.old at.new }
 {
     let mut realised = realisation(at, actual, wanted)?;
@@ -312,10 +447,11 @@ fn with_changes(
     template: &Template,
     changes: &decl_typing::Changes,
 ) -> Result<Rc<Sig>, NoMemory>
+    ensures same { IfOk result (λ s. (out-Template template.now).made.items ≡ [] → s.value ≡ (out-Template template.now).sig.value) }
     ensures goes { Goes at.old at.new }
 {
     if template.made.is_empty() {
-        share_sig(&template.sig)
+        shared(&template.sig)
     } else {
         changed(at, &template.sig, changes)
     }
@@ -330,6 +466,7 @@ fn matches(
     round: u64,
     depth: Depth,
 ) -> Result<Option<Mismatch>, NoMemory>
+    ensures told { IfOk result (λ met. (out-Template wanted.now).made.items ≡ [] → Tells actual.now (out-Template wanted.now).sig.value (option_map blame_of met)) }
     ensures goes { Goes at.old at.new }
 {
     let sig = wanted_for(at, actual, wanted)?;
@@ -343,6 +480,7 @@ pub fn match_sig(
     actual: &Sig,
     wanted: &Template,
 ) -> Result<Option<Mismatch>, NoMemory>
+    ensures told { IfOk result (λ met. (out-Template wanted.now).made.items ≡ [] → Tells actual.now (out-Template wanted.now).sig.value (option_map blame_of met)) }
     ensures mismatch { IfOk result (λ met. IfSome met (λ m. at.new.store ≡ at.old.store)) }
     ensures goes { Goes at.old at.new }
 {

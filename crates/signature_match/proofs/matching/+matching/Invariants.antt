@@ -1,24 +1,33 @@
+use Rattle.std.proofs.Common.{◌+◌, ◌*◌, map, drop, Option}
+use Rattle.signature_model.specs.Failing.{Blame}
 use Rattle.decl_typing.specs.Goes.{Goes}
-use Rattle.std.proofs.Common.{◌+◌, ◌*◌}
+use Rattle.signature_match.specs.Telling.{TellsFirst}
 use Rattle.signature_match.proofs.matching.+matching.Given as goal
 
 abbrev pub decreases-match_entry : goal.decreases-match_entry
-decreases-match_entry l = 2 * l.depth.0 + 1
+decreases-match_entry l = 3 * l.depth.0 + 2
 
 abbrev pub decreases-match_component : goal.decreases-match_component
-decreases-match_component l = 2 * l.depth.0
+decreases-match_component l = 3 * l.depth.0 + 1
 
 abbrev pub decreases-match_both : goal.decreases-match_both
-decreases-match_both l = 2 * l.depth.0
+decreases-match_both l = 3 * l.depth.0 + 1
 
 abbrev pub decreases-meets : goal.decreases-meets
-decreases-meets l = 2 * l.depth.0
+decreases-meets l = 3 * l.depth.0 + 1
+
+abbrev pub decreases-first_failing : goal.decreases-first_failing
+decreases-first_failing l = 3 * l.depth.0
 
 abbrev pub decreases-functors_match : goal.decreases-functors_match
-decreases-functors_match l = 2 * l.depth.0
+decreases-functors_match l = 3 * l.depth.0 + 1
+
+abbrev pub decreases-match_parameter : goal.decreases-match_parameter
+decreases-match_parameter l = 3 * l.depth.0
 
 abbrev pub decreases-matches : goal.decreases-matches
-decreases-matches l = 2 * l.depth.0
+decreases-matches l = 3 * l.depth.0 + 1
 
-abbrev pub invariant-meets-loop-entry : goal.invariant-meets-loop-entry
-invariant-meets-loop-entry l = Goes l.fn.at l.at
+abbrev pub invariant-first_failing-loop-entry : goal.invariant-first_failing-loop-entry
+invariant-first_failing-loop-entry l =
+    Goes l.fn.at l.at × ((told : Option Blame) → TellsFirst l.actual (map (λ r. r.value) (drop l.entry-index l.wanted)) told → TellsFirst l.actual (map (λ r. r.value) l.wanted) told)

@@ -1,0 +1,7 @@
+-- What matching tells: the newest components that are compared, what fits, the first failure, and values at each reading.
+pub mod Blames
+pub mod Newest
+pub mod Shapes
+pub mod Telling
+pub mod Values
+pub mod Anew
