@@ -7,6 +7,7 @@
 mod closing;
 mod first;
 mod items;
+mod lists;
 mod modules;
 mod paths;
 mod scenes;

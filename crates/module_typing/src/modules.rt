@@ -1,17 +1,25 @@
 //! Module expressions and module types.
-ghost use Rattle.decl_typing.specs.Goes.{Goes};
+ghost use Rattle.std.specs.Prelude.{◌≡◌, ◌∷◌, [], ℕ, List, true, false, not, option_map, string_bytes, IfOk, OnOk};
+ghost use Rattle.text_terms.specs.Bytes.{str_bytes};
+ghost use Rattle.env_table.specs.declared.entries.Template.{Template};
+ghost use Rattle.decl_typing.specs.Goes.{Goes, faults_of, OnlyFaults, Told};
+ghost use Rattle.module_typing.specs.Listed.{seen_values};
+ghost use Rattle.decl_typing.specs.Copying.{paths_of};
+ghost use Rattle.module_typing.specs.Told.{mismatch_message, no_functor_text, with_text};
+ghost use Rattle.module_typing.specs.Modules.{is_hole, is_structure, is_functor, IsUnknown, IsUnknownType, IsBehind, IsTemplateAt, dotted, ToldUnless, ToldMismatch, AsksMatch, Given, templates_of, IsFunctorOver, IsFunctor, IsClosed, env_behind, named, TakesName};
 
+use crate::closing::ask_closed;
 use crate::items::{exception_item, let_item, type_group, value_item};
+use crate::lists::add_origins;
 use crate::paths::{module_path, module_type_path};
 use crate::scenes::Scene;
-use decl_typing::{
-    Depth, Env, NoMemory, NodeRef, Parameter, Parts, Variables, copied_origin, new_entry,
-};
+use decl_typing::{Depth, Env, NoMemory, NodeRef, Parameter, Parts, Variables};
 use env_table::{Entry, FaultKind, Kind, Origin, Sig, Template, What};
-use owned_lists::{owned, push};
+use owned_lists::{owned, push, shared};
 use row_parts::{Operand, first_operand, operand_in, operands, token, tokens, tokens_or_missing};
-use sig_template::{applied, made_at, owned_sig, share_sig, share_template, structure, with_type};
+use sig_template::{applied, made_at, structure, with_type};
 use signature_match::{Cause, Mismatch, match_sig};
+use std::alloc::Global;
 use std::rc::Rc;
 use syntax_tree::{Node, RowName, Span, Token};
 use text_terms::RcStr;
@@ -123,29 +131,44 @@ fn type_specifications(
     })
 }
 
-/// A module that isn't known.
-fn unknown(at: &Parts) -> Result<Made, NoMemory> {
+/// A module of which nothing is known, and that makes these origins.
+fn hole(at: &Parts, makes: Vec<Origin>) -> Result<Made, NoMemory>
+    ensures { IfOk result (λ m. IsUnknown m (paths_of makes.items)) }
+{
     Ok(Made {
-        sig: owned_sig(at, Sig::Hole)?,
-        makes: Vec::new(at.alloc()),
+        sig: owned(at.alloc(), Sig::Hole)?,
+        makes,
     })
 }
 
+/// A module that isn't known.
+fn unknown(at: &Parts) -> Result<Made, NoMemory>
+    ensures { IfOk result (λ m. IsUnknown m []) }
+{
+    hole(at, Vec::new(at.alloc()))
+}
+
 /// The template of a module type that isn't known.
-fn unknown_type(at: &Parts) -> Result<Rc<Template>, NoMemory> {
+fn unknown_type(at: &Parts) -> Result<Rc<Template>, NoMemory>
+    ensures { IfOk result (λ t. IsUnknownType t.value) }
+{
     let template = Template {
         made: Vec::new(at.alloc()),
-        sig: owned_sig(at, Sig::Hole)?,
+        sig: owned(at.alloc(), Sig::Hole)?,
     };
     owned(at.alloc(), template)
 }
 
-/// Adds copies of origins.
-fn add_origins(at: &Parts, makes: &mut Vec<Origin>, more: &[Origin]) -> Result<(), NoMemory> {
-    for origin in more {
-        push(makes, copied_origin(at, origin)?)?;
-    }
-    Ok(())
+/// The signature of a template, whose origins are made behind these.
+fn behind(at: &Parts, makes: Vec<Origin>, anew: Template) -> Result<Made, NoMemory>
+    ensures { IfOk result (λ m. IsBehind m (paths_of makes.items) anew) }
+{
+    let mut makes = makes;
+    add_origins(at, &mut makes, &anew.made)?;
+    Ok(Made {
+        sig: anew.sig,
+        makes,
+    })
 }
 
 /// Types a module expression, or a missing one, which isn't known.
@@ -193,36 +216,39 @@ fn type_module(at: &mut Parts, m: Operand<'_>, env: &Env, depth: Depth) -> Resul
     }
 }
 
-/// The dotted path of a mismatch in its message.
-fn mismatch_text(at: &Parts, mismatch: &Mismatch) -> Result<RcStr, NoMemory> {
-    let path = mismatch.text(at.alloc())?;
-    let path = path.as_str();
-    let text = match mismatch.cause {
-        Cause::Absent => format!(in at.alloc(); "The component {path} is absent"),
-        Cause::TypeArity => format!(in at.alloc();
-            "The type {path} has another number of parameters"
-        ),
-        Cause::TypeDiffers => format!(in at.alloc(); "The type {path} has another definition"),
-        Cause::ValueDiffers => format!(in at.alloc(); "The value {path} has another type"),
-        Cause::ExceptionDiffers => format!(in at.alloc();
-            "The exception {path} has another argument"
-        ),
-        Cause::KindDiffers => format!(in at.alloc(); "The module {path} is of another kind"),
-        Cause::ModuleTypeDiffers => format!(in at.alloc();
+/// What is wrong with the component that a path leads to.
+fn cause_text(alloc: Global, cause: Cause, path: &str) -> Result<String, NoMemory>
+    ensures { IfOk result (λ t. string_bytes t ≡ mismatch_message cause path.now) }
+{
+    match cause {
+        Cause::Absent => format!(in alloc; "The component {path} is absent"),
+        Cause::TypeArity => format!(in alloc; "The type {path} has another number of parameters"),
+        Cause::TypeDiffers => format!(in alloc; "The type {path} has another definition"),
+        Cause::ValueDiffers => format!(in alloc; "The value {path} has another type"),
+        Cause::ExceptionDiffers => format!(in alloc; "The exception {path} has another argument"),
+        Cause::KindDiffers => format!(in alloc; "The module {path} is of another kind"),
+        Cause::ModuleTypeDiffers => format!(in alloc;
             "The module type {path} has another definition"
         ),
-    };
-    match text {
-        Ok(text) => RcStr::new(at.alloc(), text),
-        Err(_) => Err(NoMemory),
     }
 }
 
-/// Whether the demand that a signature matches a template is kept.
-fn ask_match(at: &mut Parts, span: Span, actual: &Sig, wanted: &Template) -> Result<bool, NoMemory>
+/// The message of a mismatch, with its dotted path.
+fn mismatch_text(at: &Parts, mismatch: &Mismatch) -> Result<RcStr, NoMemory>
+    ensures { IfOk result (λ r. str_bytes r ≡ mismatch_message mismatch.now.cause (dotted mismatch.now)) }
+{
+    let path = mismatch.text(at.alloc())?;
+    let text = cause_text(at.alloc(), mismatch.cause, path.as_str())?;
+    RcStr::new(at.alloc(), text)
+}
+
+/// Whether there is no mismatch; one is reported.
+fn tell_mismatch(at: &mut Parts, span: Span, mismatch: Option<Mismatch>) -> Result<bool, NoMemory>
+    ensures told { IfOk result (λ kept. ToldMismatch mismatch kept at.old at.new span) }
+    ensures rest { OnlyFaults at.old at.new }
     ensures goes { Goes at.old at.new }
 {
-    match match_sig(at, actual, wanted)? {
+    match mismatch {
         None => Ok(true),
         Some(mismatch) => {
             let text = mismatch_text(at, &mismatch)?;
@@ -230,6 +256,15 @@ fn ask_match(at: &mut Parts, span: Span, actual: &Sig, wanted: &Template) -> Res
             Ok(false)
         }
     }
+}
+
+/// Whether the demand that a signature matches a template is kept.
+fn ask_match(at: &mut Parts, span: Span, actual: &Sig, wanted: &Template) -> Result<bool, NoMemory>
+    ensures asked { IfOk result (λ kept. AsksMatch kept at.old at.new span) }
+    ensures goes { Goes at.old at.new }
+{
+    let mismatch = match_sig(at, actual, wanted)?;
+    tell_mismatch(at, span, mismatch)
 }
 
 /// ( m ), ( m : y ): with a seal the signature is made anew at the node of this number, whether or not it matches
@@ -252,6 +287,7 @@ fn type_sealed(
     sealed(at, inner.span, made, &template, number)
 }
 
+/// A module behind a seal: the template made anew at the node of this number, whose origins stand behind those of the module.
 fn sealed(
     at: &mut Parts,
     span: Span,
@@ -259,16 +295,12 @@ fn sealed(
     template: &Template,
     number: u64,
 ) -> Result<Made, NoMemory>
+    ensures made { IfOk result (λ m. (anew : Template) × IsBehind m (paths_of made.makes.items) anew × IsTemplateAt at.old.store.nodes number template.now anew) }
     ensures goes { Goes at.old at.new }
 {
     ask_match(at, span, &made.sig, template)?;
     let anew = made_at(at, template, number)?;
-    let mut makes = made.makes;
-    add_origins(at, &mut makes, &anew.made)?;
-    Ok(Made {
-        sig: anew.sig,
-        makes,
-    })
+    behind(at, made.makes, anew)
 }
 
 /// m ( m ), m ( m : y )
@@ -293,10 +325,7 @@ fn type_application(
     let mut makes = functor.makes;
     add_origins(at, &mut makes, &given.makes)?;
     if !is_functor {
-        return Ok(Made {
-            sig: owned_sig(at, Sig::Hole)?,
-            makes,
-        });
+        return hole(at, makes);
     }
     apply(at, &functor.sig, argument.span, &given.sig, makes, number)
 }
@@ -316,8 +345,11 @@ fn type_head(
     Ok((functor, is_functor))
 }
 
-/// The demand that a module is a functor.
+/// The demand that a module is a functor; what isn't known may be one.
 fn ask_functor(at: &mut Parts, span: Span, sig: &Sig) -> Result<bool, NoMemory>
+    ensures kept { IfOk result (λ kept. kept ≡ not (is_structure sig.now)) }
+    ensures told { OnOk result (ToldUnless (not (is_structure sig.now)) at.old at.new span FaultKind.Functor no_functor_text) }
+    ensures rest { OnlyFaults at.old at.new }
     ensures goes { Goes at.old at.new }
 {
     match sig {
@@ -326,7 +358,8 @@ fn ask_functor(at: &mut Parts, span: Span, sig: &Sig) -> Result<bool, NoMemory>
             at.report(span, FaultKind::Functor, text)?;
             Ok(false)
         }
-        _ => Ok(true),
+        Sig::Functor(_, _) => Ok(true),
+        Sig::Hole => Ok(true),
     }
 }
 
@@ -339,28 +372,38 @@ fn apply(
     makes: Vec<Origin>,
     number: u32,
 ) -> Result<Made, NoMemory>
+    ensures unknown { IfOk result (λ m. is_functor functor.now ≡ false → IsUnknown m (paths_of makes.items)) }
     ensures goes { Goes at.old at.new }
 {
-    let Sig::Functor(parameter, body) = functor else {
-        return Ok(Made {
-            sig: owned_sig(at, Sig::Hole)?,
-            makes,
-        });
-    };
-    if !ask_match(at, span, argument, parameter)? {
-        return Ok(Made {
-            sig: owned_sig(at, Sig::Hole)?,
-            makes,
-        });
+    match functor {
+        Sig::Functor(parameter, body) => {
+            let kept = ask_match(at, span, argument, parameter)?;
+            applied_if(at, kept, (parameter, body), argument, makes, number)
+        }
+        Sig::Structure(_) => hole(at, makes),
+        Sig::Hole => hole(at, makes),
+    }
+}
+
+/// The body of a functor for an argument that matches; for another one it isn't known.
+fn applied_if(
+    at: &mut Parts,
+    matches: bool,
+    functor: (&Rc<Template>, &Rc<Template>),
+    argument: &Sig,
+    makes: Vec<Origin>,
+    number: u32,
+) -> Result<Made, NoMemory>
+    ensures unknown { IfOk result (λ m. matches ≡ false → IsUnknown m (paths_of makes.items)) }
+    ensures made { IfOk result (λ m. matches ≡ true → (anew : Template) × IsBehind m (paths_of makes.items) anew) }
+    ensures goes { Goes at.old at.new }
+{
+    if !matches {
+        return hole(at, makes);
     }
     let node = at.node_number(number);
-    let anew = applied(at, node, argument, parameter, body)?;
-    let mut makes = makes;
-    add_origins(at, &mut makes, &anew.made)?;
-    Ok(Made {
-        sig: anew.sig,
-        makes,
-    })
+    let anew = applied(at, node, argument, functor.0, functor.1)?;
+    behind(at, makes, anew)
 }
 
 /// A parameter of a functor: its name, and its signature made anew at the node of its module type.
@@ -399,6 +442,7 @@ fn type_parameters(
     Ok(taken)
 }
 
+/// A parameter behind an environment: its module type made anew at the node of this number, and its name.
 fn taken_as(
     at: &mut Parts,
     name: Option<&Token>,
@@ -406,39 +450,62 @@ fn taken_as(
     node: u64,
     env: &Env,
 ) -> Result<Taken, NoMemory>
+    ensures named { IfOk result (λ p. TakesName (option_map (λ t. t.now) name.entry) p.template.value env.now p) }
     ensures goes { Goes at.old at.new }
 {
     let anew = made_at(at, template, node)?;
-    let mut inner = env.share()?;
-    let mut entry = None;
-    if let Some(name) = name {
-        let what = What::Module(share_sig(&anew.sig)?);
-        let place = at.place(name.span);
-        let made = new_entry(at.alloc(), name.name.share()?, Kind::Module, place, what)?;
-        inner = inner.add(at.alloc(), decl_typing::share_entry(&made)?)?;
-        entry = Some(made);
+    let template = owned(at.alloc(), anew)?;
+    match name {
+        Some(name) => taken_named(at, name, template, env),
+        None => Ok(Taken {
+            entry: None,
+            template,
+            env: env.share()?,
+        }),
     }
+}
+
+/// The same with its name.
+fn taken_named(
+    at: &Parts,
+    name: &Token,
+    template: Rc<Template>,
+    env: &Env,
+) -> Result<Taken, NoMemory>
+    ensures { IfOk result (λ p. TakesName (Some name.now) template.value env.now p) }
+{
+    let entry = Entry {
+        name: name.name.share()?,
+        kind: Kind::Module,
+        place: at.place(name.span),
+        what: What::Module(shared(&template.sig)?),
+    };
+    let entry = owned(at.alloc(), entry)?;
     Ok(Taken {
-        entry,
-        template: owned(at.alloc(), anew)?,
-        env: inner,
+        env: env.add(at.alloc(), shared(&entry)?)?,
+        entry: Some(entry),
+        template,
     })
 }
 
 /// The environment behind parameters.
-fn env_behind(taken: &[Taken], env: &Env) -> Result<Env, NoMemory> {
-    match taken.last() {
-        Some(parameter) => parameter.env.share(),
+fn env_behind(taken: &[Taken], env: &Env) -> Result<Env, NoMemory>
+    ensures { IfOk result (λ e. e ≡ env_behind taken.now env.now) }
+{
+    match taken.split_last() {
+        Some((parameter, _)) => parameter.env.share(),
         None => env.share(),
     }
 }
 
 /// The entries of the names of parameters.
-fn names_of(at: &Parts, taken: &[Taken]) -> Result<Vec<Option<Rc<Entry>>>, NoMemory> {
+fn names_of(at: &Parts, taken: &[Taken]) -> Result<Vec<Option<Rc<Entry>>>, NoMemory>
+    ensures { IfOk result (λ v. seen_values v.items ≡ named taken.now) }
+{
     let mut names = Vec::new(at.alloc());
     for parameter in taken {
         if let Some(entry) = &parameter.entry {
-            let entry = decl_typing::share_entry(entry)?;
+            let entry = shared(entry)?;
             push(&mut names, Some(entry))?;
         }
     }
@@ -491,27 +558,29 @@ fn closed_functor(
     made: Made,
     scope: u64,
 ) -> Result<Made, NoMemory>
+    ensures closed { IfOk result (λ m. IsClosed taken.items made m) }
     ensures goes { Goes at.old at.new }
 {
-    if taken.is_empty() {
+    let parameters = taken.as_slice();
+    if parameters.is_empty() {
         return Ok(made);
     }
-    crate::closing::ask_closed(at, span, &made.sig, scope)?;
-    let mut body = Template {
+    ask_closed(at, span, &made.sig, scope)?;
+    functor_over(at, parameters, made)
+}
+
+/// A functor of parameters over a body. The body's origins are made where it is applied.
+fn functor_over(at: &Parts, taken: &[Taken], made: Made) -> Result<Made, NoMemory>
+    ensures { IfOk result (λ m. IsFunctor taken.now made m) }
+{
+    let body = Template {
         made: made.makes,
         sig: made.sig,
     };
-    for parameter in taken.iter().rev() {
-        let template = owned(at.alloc(), body)?;
-        let sig = Sig::Functor(share_template(&parameter.template)?, template);
-        body = Template {
-            made: Vec::new(at.alloc()),
-            sig: owned_sig(at, sig)?,
-        };
-    }
+    let functor = functor_template(at, taken, owned(at.alloc(), body)?)?;
     Ok(Made {
-        sig: body.sig,
-        makes: body.made,
+        sig: shared(&functor.sig)?,
+        makes: Vec::new(at.alloc()),
     })
 }
 
@@ -574,22 +643,37 @@ fn template_of(at: &Parts, kept: Kept) -> Result<Rc<Template>, NoMemory> {
     owned(at.alloc(), template)
 }
 
-/// The template of a functor type: of a body behind parameters.
+/// The template of a functor type: of a body behind parameters, the first of them outermost.
 fn functor_template(
     at: &Parts,
     taken: &[Taken],
     body: Rc<Template>,
-) -> Result<Rc<Template>, NoMemory> {
+) -> Result<Rc<Template>, NoMemory>
+    ensures { IfOk result (λ t. IsFunctorOver (templates_of taken.now) body.value t.value) }
+{
     let mut template = body;
-    for parameter in taken.iter().rev() {
-        let sig = Sig::Functor(share_template(&parameter.template)?, template);
-        let functor = Template {
-            made: Vec::new(at.alloc()),
-            sig: owned_sig(at, sig)?,
-        };
-        template = owned(at.alloc(), functor)?;
+    let mut rest = taken;
+    while let Some((parameter, outer)) = rest.split_last() {
+        template = functor_of(at, &parameter.template, template)?;
+        rest = outer;
     }
     Ok(template)
+}
+
+/// The template of a functor of one parameter.
+fn functor_of(
+    at: &Parts,
+    parameter: &Rc<Template>,
+    body: Rc<Template>,
+) -> Result<Rc<Template>, NoMemory>
+    ensures { IfOk result (λ t. IsFunctorOver (parameter.now.value ∷ []) body.value t.value) }
+{
+    let sig = Sig::Functor(shared(parameter)?, body);
+    let functor = Template {
+        made: Vec::new(at.alloc()),
+        sig: owned(at.alloc(), sig)?,
+    };
+    owned(at.alloc(), functor)
 }
 
 /// y with w and w
@@ -667,36 +751,58 @@ fn with_clause(
 ) -> Result<Rc<Template>, NoMemory>
     ensures goes { Goes at.old at.new }
 {
-    match with_type(at, &template, name.name.as_str(), arity, root)? {
+    let given = with_type(at, &template, name.name.as_str(), arity, root)?;
+    given_or_told(at, given, template, name, arity)
+}
+
+/// The template that a clause gives, if it gives one; else that is reported, and the template stays.
+fn given_or_told(
+    at: &mut Parts,
+    given: Option<Template>,
+    template: Rc<Template>,
+    name: &Token,
+    arity: u32,
+) -> Result<Rc<Template>, NoMemory>
+    ensures given { IfOk result (λ t. Given given template.value t.value at.old at.new name.now.span (str_bytes name.now.name) arity) }
+    ensures rest { OnlyFaults at.old at.new }
+    ensures goes { Goes at.old at.new }
+{
+    match given {
         Some(given) => owned(at.alloc(), given),
         None => {
-            report_with(at, &template, name, arity)?;
+            report_with(at, &template.sig, name, arity)?;
             Ok(template)
         }
     }
 }
 
-/// Reports a clause on a type that isn't abstract in the template.
-fn report_with(
-    at: &mut Parts,
-    template: &Template,
-    name: &Token,
-    arity: u32,
-) -> Result<(), NoMemory>
+/// Reports a clause on a type that isn't abstract in a signature; where nothing is known of that, it may be.
+fn report_with(at: &mut Parts, sig: &Sig, name: &Token, arity: u32) -> Result<(), NoMemory>
+    ensures told { OnOk result (ToldUnless (is_hole sig.now) at.old at.new name.now.span FaultKind.With (with_text (str_bytes name.now.name) arity)) }
+    ensures rest { OnlyFaults at.old at.new }
     ensures goes { Goes at.old at.new }
 {
-    if let Sig::Hole = &*template.sig {
-        return Ok(());
+    match sig {
+        Sig::Hole => Ok(()),
+        Sig::Structure(_) => tell_with(at, name, arity),
+        Sig::Functor(_, _) => tell_with(at, name, arity),
     }
-    let x = name.name.as_str();
-    let text = format!(in at.alloc();
-        "The signature has no abstract type {x} with {arity} parameters"
-    );
-    let text = match text {
-        Ok(text) => RcStr::new(at.alloc(), text)?,
-        Err(_) => return Err(NoMemory),
-    };
+}
+
+fn tell_with(at: &mut Parts, name: &Token, arity: u32) -> Result<(), NoMemory>
+    ensures told { OnOk result (Told at.old.telling (faults_of at.old) (faults_of at.new) name.now.span FaultKind.With (with_text (str_bytes name.now.name) arity)) }
+    ensures rest { OnlyFaults at.old at.new }
+    ensures goes { Goes at.old at.new }
+{
+    let text = with_message(at.alloc(), name.name.as_str(), arity)?;
+    let text = RcStr::new(at.alloc(), text)?;
     at.report(name.span, FaultKind::With, text)
+}
+
+fn with_message(alloc: Global, name: &str, arity: u32) -> Result<String, NoMemory>
+    ensures { IfOk result (λ t. string_bytes t ≡ with_text name.now arity) }
+{
+    format!(in alloc; "The signature has no abstract type {name} with {arity} parameters")
 }
 
 /// The type of a clause behind its parameters.
@@ -845,7 +951,7 @@ fn specified(
     }
     let functor = functor_template(at, taken, template)?;
     Ok(Made {
-        sig: share_sig(&functor.sig)?,
+        sig: shared(&functor.sig)?,
         makes: Vec::new(at.alloc()),
     })
 }

@@ -1,5 +1,0 @@
-use Rattle.decl_typing.specs.Goes.{Goes}
-use Rattle.module_typing.proofs.modules.closed_functor.Given as goal
-
-abbrev pub invariant-loop-parameter : goal.invariant-loop-parameter
-invariant-loop-parameter l = Goes l.fn.at l.at
