@@ -4,14 +4,14 @@ ghost use Rattle.syntax_tree.specs.Names.{row_of};
 ghost use Rattle.syntax_tree.specs.View.{node_view, part_view, trees_of};
 ghost use Rattle.asked_node.specs.Rows.{rows_view, rows_of, rows_in, missing_row, row_at, item_at, numbered};
 
-use std::alloc::Global;
+use std::alloc::{AllocError, Global};
 use syntax_tree::{Child, NoMemory, Node, NodeId, Part, RowName, Tree, is_operand};
 
 /// Puts the row of a node behind others, or none for a missing operand.
 fn push(rows: &mut Vec<Option<RowName>>, row: Option<RowName>) -> Result<(), NoMemory>
     ensures { OnOk result (rows_view rows.new.items ≡ rows_view rows.old.items ++ option_map row_of row ∷ []) }
 {
-    rows.push(row).map_err(|_| NoMemory)
+    rows.push(row).map_err(|_| AllocError)
 }
 
 /// Puts the rows of a node and of those inside behind others, in preorder.

@@ -14,7 +14,7 @@ use crate::holes::{Hole, hole_of, in_front};
 use crate::writing::{Hollow, terms_by};
 use asked_node::{AskedNode, asked_at};
 use query_engine::{Asked, Replacement, Trial};
-use std::alloc::Global;
+use std::alloc::{AllocError, Global};
 use syntax_tree::{Counts, NoMemory, Span};
 use type_alternatives::alternatives_of;
 use type_nodes::Store;
@@ -74,7 +74,7 @@ fn keep(kept: &mut Vec<Replacement>, candidate: Replacement) -> Result<(), NoMem
 {
     match kept.push(candidate) {
         Ok(()) => Ok(()),
-        Err(_) => Err(NoMemory),
+        Err(_) => Err(AllocError),
     }
 }
 

@@ -7,7 +7,7 @@ ghost use Rattle.construct_terms.specs.Terms.{IsAt};
 ghost use Rattle.construct_terms.specs.Wanted.{constructor_term, term_text, terms_of, terms_by, texts_of};
 
 use query_engine::Replacement;
-use std::alloc::Global;
+use std::alloc::{AllocError, Global};
 use syntax_tree::{NoMemory, RcStr, Span};
 use type_alternatives::{
     Alternative, Alternatives, Argument, hidden_in, put, put_record, put_tuple, written,
@@ -71,7 +71,7 @@ fn add(hollow: Hollow<'_>, text: RcStr, out: &mut Vec<Replacement>) -> Result<()
         span: hollow.span,
         text,
     };
-    out.push(candidate).map_err(|_| NoMemory)
+    out.push(candidate).map_err(|_| AllocError)
 }
 
 fn term_of(alloc: Global, front: &str, alternative: &Alternative) -> Result<RcStr, NoMemory>

@@ -7,7 +7,7 @@ use pattern_matrix::{Built, Pat};
 use row_parts::{
     Operand, WrittenPath, first_operand, operand_in, operands, operands_of, token, written_path,
 };
-use std::alloc::Global;
+use std::alloc::{AllocError, Global};
 use std::rc::Rc;
 use syntax_tree::{Node, RcStr, RowName, Token, TokenKind};
 
@@ -82,7 +82,7 @@ fn exception_name(alloc: Global, entry: &Entry) -> Result<RcStr, NoMemory> {
     };
     match text {
         Ok(text) => RcStr::new(alloc, text),
-        Err(_) => Err(NoMemory),
+        Err(_) => Err(AllocError),
     }
 }
 
@@ -122,14 +122,14 @@ fn constructor(
 
 /// The labels of a declaration in braces, the name of the one constructor that a record is.
 fn record_name(alloc: Global, labels: &[Label]) -> Result<RcStr, NoMemory> {
-    let mut text = String::from_str(alloc, "{").map_err(|_| NoMemory)?;
+    let mut text = String::from_str(alloc, "{")?;
     for (place, label) in labels.iter().enumerate() {
         if place > 0 {
-            text.push_str("; ").map_err(|_| NoMemory)?;
+            text.push_str("; ")?;
         }
-        text.push_str(label.name.as_str()).map_err(|_| NoMemory)?;
+        text.push_str(label.name.as_str())?;
     }
-    text.push_str("}").map_err(|_| NoMemory)?;
+    text.push_str("}")?;
     RcStr::new(alloc, text)
 }
 
@@ -203,7 +203,7 @@ fn negative(alloc: Global, node: &Node) -> Result<Option<Pat>, NoMemory> {
     let name = token.name.as_str();
     match format!(in alloc; "-{name}") {
         Ok(text) => Ok(Some(Pat::Literal(RcStr::new(alloc, text)?))),
-        Err(_) => Err(NoMemory),
+        Err(_) => Err(AllocError),
     }
 }
 

@@ -7,7 +7,7 @@ use env_table::FaultKind;
 use owned_lists::push;
 use pattern_matrix::{Matrix, Pat, PatRow, missed, print_shape, unused_rows};
 use row_parts::Operand;
-use std::alloc::Global;
+use std::alloc::{AllocError, Global};
 use syntax_tree::{Node, Part, RcStr, RowName, Span};
 
 /// The rows of a match while its cases are typed.
@@ -66,7 +66,7 @@ fn report_missed(at: &mut Parts, matrix: &Matrix, span: Span) -> Result<(), NoMe
     let shape = shape.as_str();
     let text = match format!(in alloc; "Not every value is matched: {shape}") {
         Ok(text) => RcStr::new(alloc, text)?,
-        Err(_) => return Err(NoMemory),
+        Err(_) => return Err(AllocError),
     };
     at.report(span, FaultKind::Missed, text)
 }

@@ -6,7 +6,7 @@ ghost use Rattle.env_table.specs.Index.{code_of, hash_from, hash_of, bits_of, in
 use crate::entries::{Entry, Kind};
 use crate::links::{Links, linked_before, share_links};
 use crate::walk::{Entries, linked, nothing};
-use std::alloc::Global;
+use std::alloc::{AllocError, Global};
 use std::rc::Rc;
 use text_terms::NoMemory;
 
@@ -86,7 +86,7 @@ pub(crate) fn with(
     let fork = added(alloc, copied(index)?, bits, hash, entry)?;
     match Rc::new(alloc, fork) {
         Ok(fork) => Ok(Some(fork)),
-        Err(_) => Err(NoMemory),
+        Err(_) => Err(AllocError),
     }
 }
 
@@ -143,7 +143,7 @@ pub(crate) fn share(index: &Index) -> Result<Index, NoMemory>
         None => Ok(None),
         Some(fork) => match Rc::clone(fork) {
             Ok(fork) => Ok(Some(fork)),
-            Err(_) => Err(NoMemory),
+            Err(_) => Err(AllocError),
         },
     }
 }

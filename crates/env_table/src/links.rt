@@ -3,7 +3,7 @@ ghost use Rattle.std.specs.Prelude.{◌≡◌, ◌∷◌, IfOk};
 ghost use Rattle.env_table.specs.Views.{links_view};
 
 use crate::entries::Entry;
-use std::alloc::Global;
+use std::alloc::{AllocError, Global};
 use std::rc::Rc;
 use text_terms::NoMemory;
 
@@ -46,7 +46,7 @@ pub(crate) fn linked_before(
     };
     match Rc::new(alloc, link) {
         Ok(link) => Ok(Some(link)),
-        Err(_) => Err(NoMemory),
+        Err(_) => Err(AllocError),
     }
 }
 
@@ -57,7 +57,7 @@ pub(crate) fn share_links(links: &Links) -> Result<Links, NoMemory>
         None => Ok(None),
         Some(link) => match Rc::clone(link) {
             Ok(link) => Ok(Some(link)),
-            Err(_) => Err(NoMemory),
+            Err(_) => Err(AllocError),
         },
     }
 }
@@ -67,6 +67,6 @@ pub(crate) fn share_entry(entry: &Rc<Entry>) -> Result<Rc<Entry>, NoMemory>
 {
     match Rc::clone(entry) {
         Ok(entry) => Ok(entry),
-        Err(_) => Err(NoMemory),
+        Err(_) => Err(AllocError),
     }
 }

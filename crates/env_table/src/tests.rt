@@ -1,7 +1,7 @@
 ghost use Rattle.std.specs.Prelude.{◌<◌, length};
 
 use crate::*;
-use std::alloc::Global;
+use std::alloc::{AllocError, Global};
 use std::rc::Rc;
 use std::test::Fail;
 use text_terms::{RcStr, Span};
@@ -19,14 +19,14 @@ fn entry(alloc: Global, name: &str, kind: Kind, what: What, at: u32) -> Result<R
         }),
         what,
     };
-    Rc::new(alloc, entry).map_err(|_| NoMemory)
+    Rc::new(alloc, entry).map_err(|_| AllocError)
 }
 
 /// A module of what is known of it.
 fn module(alloc: Global, name: &str, sig: Sig, at: u32) -> Result<Rc<Entry>, NoMemory>
     requires { at < 2000000 }
 {
-    let sig = Rc::new(alloc, sig).map_err(|_| NoMemory)?;
+    let sig = Rc::new(alloc, sig)?;
     entry(alloc, name, Kind::Module, What::Module(sig), at)
 }
 
@@ -37,7 +37,7 @@ fn structure(alloc: Global, name: &str, at: u32) -> Result<Sig, NoMemory>
     let mut entries = Vec::new(alloc);
     for k in 0..2 {
         let value = entry(alloc, name, Kind::Value, What::Scheme(NodeRef(0)), at + k)?;
-        entries.push(value).map_err(|_| NoMemory)?;
+        entries.push(value)?;
     }
     Ok(Sig::Structure(Components { entries }))
 }
@@ -45,9 +45,7 @@ fn structure(alloc: Global, name: &str, at: u32) -> Result<Sig, NoMemory>
 fn path(alloc: Global, module: Option<&str>, last: &str) -> Result<Path, NoMemory> {
     let mut modules = Vec::new(alloc);
     if let Some(name) = module {
-        modules
-            .push(RcStr::from_str(alloc, name)?)
-            .map_err(|_| NoMemory)?;
+        modules.push(RcStr::from_str(alloc, name)?)?;
     }
     Ok(Path {
         modules,
@@ -67,7 +65,7 @@ fn with_record(
     requires few { length names.now < 1000 }
 {
     let origin = Origin {
-        path: [made].to_vec(alloc).map_err(|_| NoMemory)?,
+        path: [made].to_vec(alloc)?,
         name: RcStr::from_str(alloc, "t")?,
     };
     let declaration = Rc::new(
@@ -79,11 +77,10 @@ fn with_record(
             root: NodeRef(0),
             shape: Shape::Labels(Vec::new(alloc)),
         },
-    )
-    .map_err(|_| NoMemory)?;
+    )?;
     let mut env = env.share()?;
     for (k, name) in names.iter().enumerate() {
-        let own = Rc::clone(&declaration).map_err(|_| NoMemory)?;
+        let own = Rc::clone(&declaration)?;
         let what = What::Label(own, k as u32);
         env = env.add(alloc, entry(alloc, name, Kind::Label, what, at + k as u32)?)?;
     }
@@ -192,9 +189,9 @@ fn a_functor_has_nothing_inside(rt: HostRuntime) -> Result<(), Fail> {
 }
 
 fn template(alloc: Global, sig: Sig) -> Result<Rc<Template>, NoMemory> {
-    let sig = Rc::new(alloc, sig).map_err(|_| NoMemory)?;
+    let sig = Rc::new(alloc, sig)?;
     let made = Vec::new(alloc);
-    Rc::new(alloc, Template { made, sig }).map_err(|_| NoMemory)
+    Rc::new(alloc, Template { made, sig }).map_err(|_| AllocError)
 }
 
 /// `M.N.O` where only M and its N are there, and N isn't known
@@ -224,9 +221,7 @@ fn the_first_module_that_is_not_there_is_told(rt: HostRuntime) -> Result<(), Fai
 fn path_names(alloc: Global, names: &[&str]) -> Result<Vec<RcStr>, NoMemory> {
     let mut modules = Vec::new(alloc);
     for name in names {
-        modules
-            .push(RcStr::from_str(alloc, name)?)
-            .map_err(|_| NoMemory)?;
+        modules.push(RcStr::from_str(alloc, name)?)?;
     }
     Ok(modules)
 }
@@ -274,7 +269,7 @@ fn many_names_are_found_and_let_go(rt: HostRuntime) -> Result<(), Fail> {
 }
 
 fn numbered(alloc: Global, at: u32) -> Result<String, NoMemory> {
-    format!(in alloc; "name_{at}").map_err(|_| NoMemory)
+    format!(in alloc; "name_{at}")
 }
 
 /// One name many times is let go without a call for each.

@@ -24,7 +24,7 @@ use crate::find::{Course, fitting_course, reaching_course};
 use crate::rules::row_named;
 use crate::stack::{Closed, Stack, Stepped, SyntaxFault};
 use parse_frames::Stack as FrameStack;
-use std::alloc::Global;
+use std::alloc::{AllocError, Global};
 use std::rc::Rc;
 use syntax_rows::{Key, Text, grammar, number_of_key};
 use syntax_tree::{Child, Counts, NoMemory, Node, Part, Token, Tree};
@@ -246,9 +246,9 @@ fn add_item(child: &Child, items: &mut Vec<Rc<Node>>) -> Result<(), NoMemory>
         Part::Inner(node) => match Rc::clone(node) {
             Ok(node) => match items.push(node) {
                 Ok(()) => Ok(()),
-                Err(_) => Err(NoMemory),
+                Err(_) => Err(AllocError),
             },
-            Err(_) => Err(NoMemory),
+            Err(_) => Err(AllocError),
         },
         Part::Taken(_) => Ok(()),
         Part::Missing(_) => Ok(()),

@@ -2,7 +2,7 @@
 use crate::{
     Counts, NoMemory, Parsed, Span, SyntaxFault, Text, Token, close, empty, empty_sig, parse, step,
 };
-use std::alloc::Global;
+use std::alloc::{AllocError, Global};
 use std::rc::Rc;
 use std::test::Fail;
 use syntax_tree::{Node, Part, RcStr, RowName, TokenKind};
@@ -56,7 +56,7 @@ fn tokens_of(alloc: Global, words: &[(TokenKind, &str)]) -> Result<Vec<Token>, N
         let next = token(alloc, *kind, name, start)?;
         start = next.span.end.saturating_add(1);
         if tokens.push(next).is_err() {
-            return Err(NoMemory);
+            return Err(AllocError);
         }
     }
     Ok(tokens)
@@ -66,7 +66,7 @@ fn parsed(alloc: Global, text: Text, words: &[(TokenKind, &str)]) -> Result<Pars
     let tokens = tokens_of(alloc, words)?;
     let mut counts = Shifted { tokens: 0 };
     if tokens.len() > 1_048_576 {
-        return Err(NoMemory);
+        return Err(AllocError);
     }
     parse(alloc, text, &tokens, &mut counts)
 }

@@ -11,7 +11,7 @@ ghost use Rattle.frame_parser.specs.View.{fault_of};
 
 use crate::stack::SyntaxFault;
 use crate::steps::{begun, close, step};
-use std::alloc::Global;
+use std::alloc::{AllocError, Global};
 use syntax_rows::Text;
 use syntax_tree::{Counts, NoMemory, Token, Tree};
 
@@ -59,7 +59,7 @@ fn add_fault(fault: Option<SyntaxFault>, faults: &mut Vec<SyntaxFault>) -> Resul
         None => Ok(()),
         Some(fault) => match faults.push(fault) {
             Ok(()) => Ok(()),
-            Err(_) => Err(NoMemory),
+            Err(_) => Err(AllocError),
         },
     }
 }

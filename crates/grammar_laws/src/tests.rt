@@ -1,8 +1,8 @@
 use frame_parser::{Text, parse};
 use ml_lexer::lex_all;
-use std::alloc::Global;
+use std::alloc::{AllocError, Global};
 use std::test::Fail;
-use syntax_tree::{Counts, NoMemory, Node, Part};
+use syntax_tree::{Counts, Node, Part};
 
 #[derive(Drop)]
 struct Tally {
@@ -66,7 +66,7 @@ fn drawn(alloc: Global, text: &str) -> Result<(String, usize), Fail> {
         typed: 0,
     };
     if text.len() > 1000 {
-        Err(NoMemory)?;
+        Err(AllocError)?;
     }
     let tokens = lex_all(alloc, text.as_bytes(), &[], &mut counts)?;
     let parsed = parse(alloc, Text::Program, &tokens, &mut counts)?;

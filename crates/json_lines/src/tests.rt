@@ -1,10 +1,10 @@
 use super::*;
-use std::alloc::{AllocError, Global};
+use std::alloc::Global;
 use std::test::Fail;
 use text_terms::{Pos, RcStr};
 
 fn text(alloc: Global, text: &str) -> Result<RcStr, Fail> {
-    Ok(RcStr::from_str(alloc, text).map_err(|_| AllocError)?)
+    Ok(RcStr::from_str(alloc, text)?)
 }
 
 fn pos(line: u32, col: u32) -> Pos {

@@ -1,13 +1,13 @@
 -- Instances with new rigid variables.
 use Rattle.std.proofs.Common.{◌≡◌, ℕ, ◌≤◌, true, false, List, length, sym, ◌∙◌, ap, subst, Result, Ok, Err, refl}
 use Rattle.std.specs.Prelude.{slice_get, IfOk}
-use Rattle.text_terms.specs.declared.NoMemory.{NoMemory}
+use Rattle.std.specs.declared.alloc.AllocError.{AllocError}
 use Rattle.type_terms.specs.declared.types.NodeRef.{NodeRef}
 use Rattle.type_model.specs.Types.{occurs}
 use Rattle.type_model.specs.Types.{Typ as type}
 use Rattle.type_model.specs.Substitutions.{Subst, apply}
 use Rattle.type_model.specs.Origins.{rigid}
-use Rattle.type_nodes.specs.Nodes.{Node, Var, Rigid, bound_level}
+use Rattle.type_nodes.specs.Nodes.{Node, Var, Rigid, bound_level, IsSound}
 use Rattle.type_nodes.specs.Readings.{Types}
 use Rattle.level_unify.specs.Limits.{FitsUnder}
 use Rattle.level_unify.specs.Copies.{image, Copied}
@@ -88,6 +88,11 @@ frozen old new r m' c = record {
     puts b e = on_bound old (λ k. rigid (image old c.table k)) type.Var b e
 
 -- the same with the answer
-pub frozen_answer : (old new : List Node) (r : ℕ) (res : Result NodeRef NoMemory) → IfOk res (λ m. Copied old new Rigid r m.0) → IfOk res (λ m. Frozen old new r m.0)
+pub frozen_answer : (old new : List Node) (r : ℕ) (res : Result NodeRef AllocError) → IfOk res (λ m. Copied old new Rigid r m.0) → IfOk res (λ m. Frozen old new r m.0)
 frozen_answer old new r (Ok m) c = frozen old new r m.0 c
 frozen_answer old new r (Err e) c = tt
+
+-- the nodes after it are sound
+pub frozen_sound : (old new : List Node) (r : ℕ) (res : Result NodeRef AllocError) → IfOk res (λ m. Copied old new Rigid r m.0) → IfOk res (λ _. IsSound new)
+frozen_sound old new r (Ok m) c = c.sound_after
+frozen_sound old new r (Err e) c = tt

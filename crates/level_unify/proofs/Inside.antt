@@ -1,7 +1,7 @@
 -- Whether a node reads as a free variable that stands in another.
 use Rattle.std.proofs.Common.{◌≡◌, ◌≢◌, ◌↔◌, ℕ, ◌<◌, Bool, true, false, List, length, Some, refl, sym, ◌∙◌, ap, subst}
 use Rattle.std.specs.Prelude.{slice_get, IsTrue, Result, Ok, Err, IfOk}
-use Rattle.text_terms.specs.declared.NoMemory.{NoMemory}
+use Rattle.std.specs.declared.alloc.AllocError.{AllocError}
 use Rattle.type_nodes.specs.Nodes.{Node, Var, Rigid, Link, Arrow, Tuple, Con, IsSound, Apart}
 use Rattle.type_nodes.specs.Links.{IsFree, root, reading}
 use Rattle.type_nodes.specs.Views.{Shows}
@@ -53,7 +53,7 @@ not_same nodes a b var other is is' same = ((λ h. absurd (no_truth h)), λ h. a
 pub not_free : (nodes : List Node) (a b : ℕ) (res : Bool) → IsTrue res ↔ IsFree nodes a → res ≡ false → IsTrue false ↔ IsInside nodes a b
 not_free nodes a b res test e = ((λ h. absurd (no_truth h)), λ h. absurd (is_false res e (test.1 h.0)))
 
-pub inside_answer : (nodes : List Node) (a b var other : ℕ) (free : Bool) (res : Result Bool NoMemory) → IsTrue free ↔ IsFree nodes a → free ≡ true → var ≡ root nodes a → other ≡ root nodes b → var ≢ other →
+pub inside_answer : (nodes : List Node) (a b var other : ℕ) (free : Bool) (res : Result Bool AllocError) → IsTrue free ↔ IsFree nodes a → free ≡ true → var ≡ root nodes a → other ≡ root nodes b → var ≢ other →
     IfOk res (λ yes. yes ≡ true → StandsIn nodes var b) → IfOk res (λ yes. yes ≡ false → Apart nodes var b) → IfOk res (λ yes. IsTrue yes ↔ IsInside nodes a b)
 inside_answer nodes a b var other free (Ok true) test e is is' away stands none =
     ((λ h. (test.0 (is_true free e), (λ f. away (is ∙ f ∙ sym is')), subst (λ k. StandsIn nodes k b) is (stands refl))), λ h. refl)

@@ -4,7 +4,7 @@ use Rattle.std.proofs.Common.{◌≡◌, ◌≢◌, ℕ, ◌<◌, Bool, true, fa
 use Rattle.std.specs.Prelude.{slice_get, IfOk}
 use Rattle.std.proofs.lemmas.Bool.{le-leb}
 use Rattle.std.proofs.lemmas.Option.{slice_get_within}
-use Rattle.text_terms.specs.declared.NoMemory.{NoMemory}
+use Rattle.std.specs.declared.alloc.AllocError.{AllocError}
 use Rattle.type_terms.specs.declared.types.NodeRef.{NodeRef}
 use Rattle.type_model.specs.Types.{Path, Typ, Typs, occurs}
 use Rattle.type_model.specs.Types.{Typ as type, Typs as types}
@@ -215,6 +215,6 @@ instantiated old new r level m' lt c = record {
             let not_in : occurs b (apply s (V r)) ≡ false = sym (ap (occurs b) eq) ∙ none b bound' in cc)
 
 -- the same with the answer
-pub instance_answer : (old new : List Node) (r level : ℕ) (res : Result NodeRef NoMemory) → level < bound_level → IfOk res (λ m. Copied old new (Var level no_scope) r m.0) → IfOk res (λ m. Instantiated old new r level m.0)
+pub instance_answer : (old new : List Node) (r level : ℕ) (res : Result NodeRef AllocError) → level < bound_level → IfOk res (λ m. Copied old new (Var level no_scope) r m.0) → IfOk res (λ m. Instantiated old new r level m.0)
 instance_answer old new r level (Ok m) lt c = instantiated old new r level m.0 lt c
 instance_answer old new r level (Err e) lt c = tt

@@ -54,9 +54,7 @@ fn images_of(
 {
     let mut images = Vec::new(alloc);
     for node in nodes {
-        images
-            .push(image_of(store, copies, *node))
-            .map_err(|_| NoMemory)?;
+        images.push(image_of(store, copies, *node))?;
     }
     Ok(images)
 }
@@ -159,7 +157,7 @@ fn copy_one(
         return Ok(());
     };
     let copy = make(store, shape, fresh)?;
-    copies.insert(node.0, copy).map_err(|_| NoMemory)?;
+    copies.insert(node.0, copy)?;
     Ok(())
 }
 

@@ -1,6 +1,6 @@
 //! Generalisation by level, instances and rigid instances.
 ghost use Rattle.std.specs.Prelude.{◌≡◌, ◌↔◌, ℕ, ◌<◌, IsTrue, IfOk, OnOk, OnErr};
-ghost use Rattle.type_nodes.specs.Nodes.{Node, IsNode, bound_level};
+ghost use Rattle.type_nodes.specs.Nodes.{Node, IsNode, IsSound, bound_level};
 ghost use Rattle.type_nodes.specs.Links.{root as root_of};
 ghost use Rattle.type_nodes.specs.States.{Keeps};
 ghost use Rattle.type_nodes.specs.Views.{numbers};
@@ -93,10 +93,11 @@ pub fn instantiate(
 
 /// An instance of `root` with a new rigid variable for each bound variable that stands in it.
 /// What has no bound variable is shared. After `NoMemory` the store is as before.
-#[tactic(auto, using(crate::proofs::Freezing::frozen_answer))]
+#[tactic(auto, using(crate::proofs::Freezing::frozen_answer, crate::proofs::Freezing::frozen_sound))]
 pub fn freeze(alloc: Global, store: &mut Store, root: NodeRef) -> Result<NodeRef, NoMemory>
     requires { IsNode store.old.nodes root.0 }
     ensures instance { IfOk result (λ m. Frozen store.old.nodes store.new.nodes root.0 m.0) }
+    ensures sound { IfOk result (λ _. IsSound store.new.nodes) }
     ensures failed { OnErr result (store.new ≡ store.old) }
     ensures keeps { Keeps store.old store.new }
 {

@@ -14,7 +14,7 @@ ghost use Rattle.level_unify.specs.Solutions.{Cap, Equation, equations_of, is_op
 
 use crate::plan::{Plan, plan_for};
 use crate::walk::occurs;
-use std::alloc::Global;
+use std::alloc::{AllocError, Global};
 use std::collections::{HashMap, HashSet};
 use type_nodes::{NoMemory, NodeRef, Store, View};
 
@@ -66,7 +66,7 @@ impl From<NoMemory> for Stop {
 fn push_pair(pairs: &mut Vec<Pair>, left: NodeRef, right: NodeRef) -> Result<(), NoMemory>
     ensures { OnOk result (equations_of pairs.new.items ≡ equations_of pairs.old.items ++ (left.0, right.0) ∷ []) }
 {
-    pairs.push(Pair { left, right }).map_err(|_| NoMemory)
+    pairs.push(Pair { left, right }).map_err(|_| AllocError)
 }
 
 fn push_pairs(pairs: &mut Vec<Pair>, lefts: &[NodeRef], rights: &[NodeRef]) -> Result<(), NoMemory>
@@ -176,7 +176,7 @@ fn bind(
         View::Var { level, scope } => {
             limits
                 .push(Limit { var, level, scope })
-                .map_err(|_| NoMemory)?;
+                .map_err(|_| AllocError)?;
         }
         _ => {}
     }
@@ -221,7 +221,7 @@ fn open(store: &Store, todo: &mut Todo, left: NodeRef, right: NodeRef) -> Result
     ensures opened { OnOk result ((n : ℕ) → is_opened todo.new n ≡ cond (nat_eq left.0 n) true (is_opened todo.old n)) }
     ensures cleared { todo.new.cleared ≡ todo.old.cleared }
 {
-    todo.opened.insert(left.0).map_err(|_| NoMemory)?;
+    todo.opened.insert(left.0).map_err(|_| AllocError)?;
     push_pair(&mut todo.pairs, left, right)?;
     push_parts(&mut todo.pairs, &store.read(left), &store.read(right))
 }
@@ -233,7 +233,7 @@ fn clear_alike(cleared: &mut HashSet<u64>, left: NodeRef, right: NodeRef) -> Res
     if !cleared.contains(&left.0) {
         return Ok(());
     }
-    cleared.insert(right.0).map_err(|_| NoMemory)?;
+    cleared.insert(right.0).map_err(|_| AllocError)?;
     Ok(())
 }
 
@@ -326,7 +326,7 @@ fn left_stays(depths: &HashMap<u64, u32>, left: NodeRef, right: NodeRef) -> bool
 fn deepen(depths: &mut HashMap<u64, u32>, from: NodeRef, to: NodeRef) -> Result<(), NoMemory> {
     let depth = depth_of(depths, from).saturating_add(1);
     if depth_of(depths, to) < depth {
-        depths.insert(to.0, depth).map_err(|_| NoMemory)?;
+        depths.insert(to.0, depth).map_err(|_| AllocError)?;
     }
     Ok(())
 }

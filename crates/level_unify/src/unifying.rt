@@ -13,7 +13,7 @@ use crate::limits::lower_all;
 use crate::plan::is_free;
 use crate::solve::{Stop, solve};
 use crate::walk::occurs;
-use std::alloc::Global;
+use std::alloc::{AllocError, Global};
 use std::collections::HashSet;
 use type_nodes::{NoMemory, NodeRef, Store};
 
@@ -75,7 +75,7 @@ fn kind_of(
             }
         }
         Failure::OutOfScope => Ok(ClashKind::Scope),
-        Failure::NoMemory => Err(NoMemory),
+        Failure::NoMemory => Err(AllocError),
     }
 }
 

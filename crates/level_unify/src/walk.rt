@@ -6,7 +6,7 @@ ghost use Rattle.type_nodes.specs.Links.{root, reading};
 ghost use Rattle.type_nodes.specs.Views.{numbers};
 ghost use Rattle.level_unify.specs.Walks.{StandsIn, Reached, ReachedBeyond, IsCleared, IsClearedWithout, AreDone, IsNext, Enters, Leaves, visit_of, visits_of, course_of};
 
-use std::alloc::Global;
+use std::alloc::{AllocError, Global};
 use std::collections::HashSet;
 use type_nodes::{NoMemory, NodeRef, Store, View};
 
@@ -61,7 +61,7 @@ fn next_part(store: &Store, done: &HashSet<u64>, visit: Visit) -> Option<(usize,
 fn push(way: &mut Vec<Visit>, node: NodeRef, done: usize) -> Result<(), NoMemory>
     ensures { OnOk result (visits_of way.new.items ≡ visits_of way.old.items ++ (node.0, done) ∷ []) }
 {
-    way.push(Visit { node, done }).map_err(|_| NoMemory)
+    way.push(Visit { node, done }).map_err(|_| AllocError)
 }
 
 // Goes on at a visit that was taken from the way: to its next part, or back.
@@ -81,8 +81,8 @@ fn step(
             push(&mut walk.way, part, 0)
         }
         None => {
-            done.insert(visit.node.0).map_err(|_| NoMemory)?;
-            walk.found.push(visit.node).map_err(|_| NoMemory)
+            done.insert(visit.node.0)?;
+            walk.found.push(visit.node).map_err(|_| AllocError)
         }
     }
 }

@@ -16,7 +16,7 @@ use crate::comments::comment_end;
 use crate::find::find;
 use crate::found::{Found, unclosed};
 use crate::rest::{Rest, ahead, copy, is_blank, len, peek};
-use std::alloc::Global;
+use std::alloc::{AllocError, Global};
 use syntax_tree::{Counts, NoMemory, RcStr, Span, Token};
 
 /// What stands behind a gap: places count from the gap's first byte.
@@ -73,7 +73,7 @@ fn shared_name(alloc: Global, text: Rest<'_>, found: Found) -> Result<RcStr, NoM
     let bytes = copy(alloc, text, found.name_start, end)?;
     match String::from_utf8_lossy(alloc, &bytes) {
         Ok(name) => RcStr::new(alloc, name),
-        Err(_) => Err(NoMemory),
+        Err(_) => Err(AllocError),
     }
 }
 
@@ -170,7 +170,7 @@ pub fn lex_all<C: Counts>(
     while let Some(token) = lex_from(alloc, left, right, at, counts)? {
         at = token.span.end;
         if tokens.push(token).is_err() {
-            return Err(NoMemory);
+            return Err(AllocError);
         }
     }
     Ok(tokens)

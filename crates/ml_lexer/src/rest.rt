@@ -4,7 +4,7 @@ ghost use Rattle.token_model.specs.Bytes.{is_blank as is_blank_byte, is_digit as
 ghost use Rattle.ml_lexer.specs.Places.{whole, rest_of, IsPlaced, test_of};
 ghost use Rattle.ml_lexer.specs.Scans.{run_end};
 
-use std::alloc::Global;
+use std::alloc::{AllocError, Global};
 use syntax_tree::NoMemory;
 
 /// A text in two parts, from a place on.
@@ -222,7 +222,7 @@ pub fn copy(alloc: Global, text: Rest<'_>, from: usize, to: usize) -> Result<Vec
     let mut bytes = Vec::new(alloc);
     for i in from..to {
         if bytes.push(peek(text, i)).is_err() {
-            return Err(NoMemory);
+            return Err(AllocError);
         }
     }
     Ok(bytes)

@@ -6,7 +6,7 @@
 
 ghost use Rattle.std.specs.Prelude.{◌≡◌, ◌++◌, ◌∷◌, [], IfOk, OnOk, OnErr};
 
-use std::alloc::Global;
+use std::alloc::{AllocError, Global};
 use std::rc::Rc;
 pub use text_terms::NoMemory;
 
@@ -17,7 +17,7 @@ pub fn push<T: Drop>(list: &mut Vec<T>, value: T) -> Result<(), NoMemory>
 {
     match list.push(value) {
         Ok(()) => Ok(()),
-        Err(_) => Err(NoMemory),
+        Err(_) => Err(AllocError),
     }
 }
 
@@ -27,7 +27,7 @@ pub fn owned<T: Drop>(alloc: Global, value: T) -> Result<Rc<T>, NoMemory>
 {
     match Rc::new(alloc, value) {
         Ok(owner) => Ok(owner),
-        Err(_) => Err(NoMemory),
+        Err(_) => Err(AllocError),
     }
 }
 
@@ -37,6 +37,6 @@ pub fn shared<T: Drop>(owner: &Rc<T>) -> Result<Rc<T>, NoMemory>
 {
     match Rc::clone(owner) {
         Ok(owner) => Ok(owner),
-        Err(_) => Err(NoMemory),
+        Err(_) => Err(AllocError),
     }
 }

@@ -10,7 +10,7 @@ ghost use Rattle.parse_frames.specs.declared.frames.Level.{out-Level};
 
 use crate::share::share_part;
 use crate::{Level, Parts};
-use std::alloc::Global;
+use std::alloc::{AllocError, Global};
 use std::rc::Rc;
 use syntax_tree::{Child, NoMemory, Node, Part, RowName, node_of, told_size};
 
@@ -26,7 +26,7 @@ fn children_of(alloc: Global, parts: &Parts) -> Result<Vec<Child>, NoMemory>
             part: share_part(&cell.part)?,
         };
         if children.push(child).is_err() {
-            return Err(NoMemory);
+            return Err(AllocError);
         }
         rest = &cell.before;
     }

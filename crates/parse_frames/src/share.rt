@@ -7,7 +7,7 @@ ghost use Rattle.parse_frames.specs.View.{frames_heights, frames_view, level_hei
 
 use crate::nodes::{height_of_part, height_of_parts};
 use crate::{Cell, Frames, Level, Parts};
-use std::alloc::Global;
+use std::alloc::{AllocError, Global};
 use std::rc::Rc;
 use syntax_tree::{NoMemory, Part};
 
@@ -19,7 +19,7 @@ pub(crate) fn share_part(part: &Part) -> Result<Part, NoMemory>
         Part::Taken(token) => Ok(Part::Taken(token.share()?)),
         Part::Inner(node) => match Rc::clone(node) {
             Ok(node) => Ok(Part::Inner(node)),
-            Err(_) => Err(NoMemory),
+            Err(_) => Err(AllocError),
         },
         Part::Missing(span) => Ok(Part::Missing(*span)),
     }
@@ -34,7 +34,7 @@ pub(crate) fn share_parts(parts: &Parts) -> Result<Parts, NoMemory>
         None => Ok(None),
         Some(cell) => match Rc::clone(cell) {
             Ok(cell) => Ok(Some(cell)),
-            Err(_) => Err(NoMemory),
+            Err(_) => Err(AllocError),
         },
     }
 }
@@ -48,7 +48,7 @@ pub(crate) fn share_frames(frames: &Frames) -> Result<Frames, NoMemory>
         None => Ok(None),
         Some(level) => match Rc::clone(level) {
             Ok(level) => Ok(Some(level)),
-            Err(_) => Err(NoMemory),
+            Err(_) => Err(AllocError),
         },
     }
 }
@@ -82,7 +82,7 @@ pub(crate) fn push_part(
     };
     match Rc::new(alloc, cell) {
         Ok(cell) => Ok(Some(cell)),
-        Err(_) => Err(NoMemory),
+        Err(_) => Err(AllocError),
     }
 }
 
@@ -107,6 +107,6 @@ pub(crate) fn push_frame(
     };
     match Rc::new(alloc, level) {
         Ok(level) => Ok(Some(level)),
-        Err(_) => Err(NoMemory),
+        Err(_) => Err(AllocError),
     }
 }

@@ -1,5 +1,5 @@
 use crate::{Last, NoMemory, Opening, RowName, Span, Stack, Token, height_of_level};
-use std::alloc::Global;
+use std::alloc::{AllocError, Global};
 use std::rc::Rc;
 use std::test::Fail;
 use syntax_tree::{RcStr, TokenKind};
@@ -22,17 +22,17 @@ fn token(alloc: Global, kind: TokenKind, start: u32) -> Result<Token, NoMemory> 
 
 fn closed(alloc: Global, stack: &Stack, name: RowName) -> Result<Stack, NoMemory> {
     if !stack.has_room(name) {
-        return Err(NoMemory);
+        return Err(AllocError);
     }
     match stack.close(alloc, name)? {
         Some(below) => Ok(below),
-        None => Err(NoMemory),
+        None => Err(AllocError),
     }
 }
 
 fn with_constant(alloc: Global, stack: &Stack, spot: u8, start: u32) -> Result<Stack, NoMemory> {
     if stack.waiting() > 9 {
-        return Err(NoMemory);
+        return Err(AllocError);
     }
     let token = token(alloc, TokenKind::Int, start)?;
     let chain = [Opening {
@@ -45,12 +45,12 @@ fn with_constant(alloc: Global, stack: &Stack, spot: u8, start: u32) -> Result<S
 
 fn with_sign(alloc: Global, stack: &Stack, start: u32) -> Result<Stack, NoMemory> {
     if stack.waiting() > 9 {
-        return Err(NoMemory);
+        return Err(AllocError);
     }
     let token = token(alloc, TokenKind::Op12, start)?;
     match stack.grow(alloc, SUM)? {
         Some(grown) => grown.take_token(alloc, 2, &token),
-        None => Err(NoMemory),
+        None => Err(AllocError),
     }
 }
 

@@ -7,7 +7,7 @@ ghost use Rattle.pattern_matrix.specs.Views.{member_of, members_of, typed_of, ce
 
 use crate::patterns::{Built, Pat};
 use crate::same::same_cells;
-use std::alloc::Global;
+use std::alloc::{AllocError, Global};
 use text_terms::{NoMemory, RcStr};
 
 /// A pattern in a column.
@@ -67,7 +67,7 @@ pub(crate) fn extended<'a>(
 {
     let mut cells = Vec::new(alloc);
     for pat in pats {
-        cells.push(Cell::Of(pat)).map_err(|_| NoMemory)?;
+        cells.push(Cell::Of(pat))?;
     }
     append(&mut cells, rest)?;
     Ok(cells)
@@ -92,14 +92,14 @@ pub(crate) fn opened<'a>(
 fn put_any<'a>(cells: &mut Vec<Cell<'a>>) -> Result<(), NoMemory>
     ensures { OnOk result (cells_view cells.new.items ≡ cells_view cells.old.items ++ any ∷ []) }
 {
-    cells.push(Cell::Any).map_err(|_| NoMemory)
+    cells.push(Cell::Any).map_err(|_| AllocError)
 }
 
 fn append<'a>(cells: &mut Vec<Cell<'a>>, rest: &[Cell<'a>]) -> Result<(), NoMemory>
     ensures { OnOk result (cells.new.items ≡ cells.old.items ++ rest.now) }
 {
     for cell in rest {
-        cells.push(*cell).map_err(|_| NoMemory)?;
+        cells.push(*cell)?;
     }
     Ok(())
 }
@@ -207,7 +207,7 @@ fn put<'a>(lines: &mut Vec<Line<'a>>, cells: Vec<Cell<'a>>, stem: Stem) -> Resul
             return Ok(());
         }
     }
-    lines.push(Line { cells, stem }).map_err(|_| NoMemory)
+    lines.push(Line { cells, stem }).map_err(|_| AllocError)
 }
 
 /// What is left of the lines that have no head in the first column.

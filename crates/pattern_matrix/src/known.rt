@@ -7,7 +7,7 @@ ghost use Rattle.pattern_matrix.specs.Known.{covered_task, IsKnown};
 use crate::columns::{Cell, Line};
 use crate::patterns::Pat;
 use crate::same::{same_cells, same_lines};
-use std::alloc::Global;
+use std::alloc::{AllocError, Global};
 use text_terms::NoMemory;
 
 /// Lines that match each value that a row matches.
@@ -66,7 +66,7 @@ impl<'a> Known<'a> {
     {
         match self.covered.push(Covered { mark, lines, row }) {
             Ok(()) => Ok(()),
-            Err(_) => Err(NoMemory),
+            Err(_) => Err(AllocError),
         }
     }
 }

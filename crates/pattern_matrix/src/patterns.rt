@@ -1,5 +1,5 @@
 //! The types of patterns and of shapes, and nothing else.
-use std::alloc::Global;
+use std::alloc::{AllocError, Global};
 use std::rc::Rc;
 use text_terms::{NoMemory, RcStr};
 
@@ -67,10 +67,10 @@ impl Pat {
             name: name.share()?,
             parts: parts.len(),
         };
-        all.push(built).map_err(|_| NoMemory)?;
+        all.push(built)?;
         match Rc::new(alloc, all) {
             Ok(all) => Ok(Pat::Con { all, name, parts }),
-            Err(_) => Err(NoMemory),
+            Err(_) => Err(AllocError),
         }
     }
 }

@@ -117,7 +117,7 @@ fn print_applied(
 }
 
 fn write(text: &mut String, more: &str) -> Result<(), NoMemory> {
-    text.push_str(more).map_err(|_| NoMemory)
+    text.push_str(more)
 }
 
 /// Prints the first label that stands in a record's name, and gives what is behind it.
@@ -125,7 +125,7 @@ fn print_label<'a>(text: &mut String, labels: &'a str) -> Result<&'a str, NoMemo
     let (label, rest) = labels.split_once(';').unwrap_or((labels, ""));
     for letter in label.chars() {
         if !matches!(letter, '{' | ' ' | '}') {
-            text.push(letter).map_err(|_| NoMemory)?;
+            text.push(letter)?;
         }
     }
     Ok(rest)

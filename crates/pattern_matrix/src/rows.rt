@@ -13,7 +13,7 @@ use crate::columns::{Cell, Line, Stem, opened};
 use crate::known::Known;
 use crate::patterns::{Matrix, PatRow, Shape};
 use crate::search::search;
-use std::alloc::Global;
+use std::alloc::{AllocError, Global};
 use text_terms::NoMemory;
 
 /// The shape that is shown for values that no row without a guard matches, or None where there are no such values.
@@ -90,7 +90,7 @@ fn is_covered(alloc: Global, rows: &[PatRow], at: usize) -> Result<bool, NoMemor
 fn put(numbers: &mut Vec<usize>, number: usize) -> Result<(), NoMemory>
     ensures { OnOk result (numbers.new.items ≡ numbers.old.items ++ number ∷ []) }
 {
-    numbers.push(number).map_err(|_| NoMemory)
+    numbers.push(number).map_err(|_| AllocError)
 }
 
 fn find<'a>(
@@ -114,7 +114,7 @@ fn lines_of(alloc: Global, rows: &[PatRow]) -> Result<Vec<Line<'_>>, NoMemory>
                 cells: cells_of(alloc, row)?,
                 stem: Stem::Row,
             };
-            lines.push(line).map_err(|_| NoMemory)?;
+            lines.push(line)?;
         }
     }
     Ok(lines)
@@ -125,7 +125,7 @@ fn cells_of(alloc: Global, row: &PatRow) -> Result<Vec<Cell<'_>>, NoMemory>
 {
     let mut cells = Vec::new(alloc);
     for pat in &row.pats {
-        cells.push(Cell::Of(pat)).map_err(|_| NoMemory)?;
+        cells.push(Cell::Of(pat))?;
     }
     Ok(cells)
 }

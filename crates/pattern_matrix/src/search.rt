@@ -12,7 +12,7 @@ use crate::columns::{
 };
 use crate::known::{Known, mark_of};
 use crate::patterns::{Built, Pat, Shape, TUPLE};
-use std::alloc::Global;
+use std::alloc::{AllocError, Global};
 use text_terms::{NoMemory, RcStr};
 
 /// The shapes of the columns, or None where the lines match each value that the row matches.
@@ -197,9 +197,9 @@ fn with_first(alloc: Global, first: Shape, rest: Vec<Shape>) -> Result<Vec<Shape
     ensures { IfOk result (λ v. map shape_of v.items ≡ shape_of first ∷ map shape_of rest.items) }
 {
     let mut shapes = Vec::new(alloc);
-    shapes.push(first).map_err(|_| NoMemory)?;
+    shapes.push(first)?;
     let mut rest = rest;
-    shapes.append(&mut rest).map_err(|_| NoMemory)?;
+    shapes.append(&mut rest)?;
     Ok(shapes)
 }
 
@@ -234,7 +234,7 @@ fn cut(alloc: Global, shapes: &mut Vec<Shape>, count: usize) -> Result<Vec<Shape
     if count < shapes.len() {
         match shapes.split_off(count) {
             Ok(rest) => Ok(rest),
-            Err(_) => Err(NoMemory),
+            Err(_) => Err(AllocError),
         }
     } else {
         Ok(Vec::new(alloc))
@@ -262,7 +262,7 @@ fn open_shapes(alloc: Global, count: usize) -> Result<Vec<Shape>, NoMemory>
 fn put_open(shapes: &mut Vec<Shape>) -> Result<(), NoMemory>
     ensures { OnOk result (map shape_of shapes.new.items ≡ map shape_of shapes.old.items ++ open_shape ∷ []) }
 {
-    shapes.push(Shape::Any).map_err(|_| NoMemory)
+    shapes.push(Shape::Any).map_err(|_| AllocError)
 }
 
 fn built_shape(name: RcStr, parts: Vec<Shape>) -> Shape

@@ -3,7 +3,7 @@ use Rattle.std.proofs.Common.{◌≡◌, ◌≤◌, ◌<◌, ◌-◌, ◌+◌, �
 use Rattle.std.proofs.lemmas.List.{length-map, take_all}
 use Rattle.token_model.specs.Kinds.{Tok}
 use Rattle.tree_model.specs.Trees.{Tree, AreItemsSized}
-use Rattle.text_terms.specs.declared.NoMemory.{NoMemory}
+use Rattle.std.specs.declared.alloc.AllocError.{AllocError}
 use Rattle.syntax_tree.specs.declared.tree.Token.{Token}
 use Rattle.syntax_tree.specs.declared.tree.Tree as made
 use Rattle.syntax_tree.specs.View.{tok_of, trees_of}
@@ -62,13 +62,13 @@ plain_told (a ∷ b ∷ c ∷ []) = tt
 plain_told (a ∷ b ∷ c ∷ d ∷ rest) = told_test a b c d rest (is_item a b c d) (plain_told rest)
 
 -- the trees of tokens tell their true sizes
-pub trees_sized : (ts : List Tok) (r : Result (Option made.Tree) NoMemory) → IfOk r (λ o. option_map trees_of o ≡ plain_trees ts) → IfOk r (λ o. IfSome o (λ t. AreItemsSized (trees_of t)))
+pub trees_sized : (ts : List Tok) (r : Result (Option made.Tree) AllocError) → IfOk r (λ o. option_map trees_of o ≡ plain_trees ts) → IfOk r (λ o. IfSome o (λ t. AreItemsSized (trees_of t)))
 trees_sized ts (Ok None) e = tt
 trees_sized ts (Ok (Some t)) e = (subst (λ o. Told ts o) (sym e) (plain_told ts)).0
 trees_sized ts (Err x) e = tt
 
 -- and there is one for four tokens
-pub trees_count : (tokens : List Token) (r : Result (Option made.Tree) NoMemory) → IfOk r (λ o. option_map trees_of o ≡ plain_trees (map tok_of tokens)) → IfOk r (λ o. IfSome o (λ t. length (trees_of t) * 4 ≡ length tokens))
+pub trees_count : (tokens : List Token) (r : Result (Option made.Tree) AllocError) → IfOk r (λ o. option_map trees_of o ≡ plain_trees (map tok_of tokens)) → IfOk r (λ o. IfSome o (λ t. length (trees_of t) * 4 ≡ length tokens))
 trees_count tokens (Ok None) e = tt
 trees_count tokens (Ok (Some t)) e = rw (← length-map tokens tok_of) (subst (λ o. Told (map tok_of tokens) o) (sym e) (plain_told (map tok_of tokens))).1
 trees_count tokens (Err x) e = tt

@@ -7,7 +7,7 @@ ghost use Rattle.syntax_tree.specs.Names.{row_of};
 ghost use Rattle.syntax_tree.specs.View.{child_view, node_view, tok_of, trees_of};
 
 use crate::kinds::{is_item, is_lower};
-use std::alloc::Global;
+use std::alloc::{AllocError, Global};
 use std::rc::Rc;
 use syntax_tree::{Child, NoMemory, Node, Part, RowName, Token, Tree, leaf, node_of};
 
@@ -41,7 +41,7 @@ fn add_item(items: &mut Vec<Rc<Node>>, item: Rc<Node>) -> Result<(), NoMemory>
 {
     match items.push(item) {
         Ok(()) => Ok(()),
-        Err(_) => Err(NoMemory),
+        Err(_) => Err(AllocError),
     }
 }
 
@@ -73,7 +73,7 @@ fn item_over(
     let bound = inner_child(2, binding);
     match vec![in alloc; word, bound] {
         Ok(children) => node_of(alloc, RowName::Let, children),
-        Err(_) => Err(NoMemory),
+        Err(_) => Err(AllocError),
     }
 }
 
@@ -91,7 +91,7 @@ fn binding_over(
     let right = leaf_child(alloc, 5, value_row(value), value)?;
     match vec![in alloc; pattern, sign, right] {
         Ok(children) => node_of(alloc, RowName::Binding, children),
-        Err(_) => Err(NoMemory),
+        Err(_) => Err(AllocError),
     }
 }
 

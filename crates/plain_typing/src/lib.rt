@@ -12,6 +12,7 @@ mod terms;
 mod typing;
 
 pub use build::plain_tree;
+use std::alloc::AllocError;
 pub use terms::{Plain, PlainSeen};
 pub use typing::type_plain;
 
@@ -34,7 +35,7 @@ mod tests {
                 name: RcStr::from_str(alloc, name)?,
             };
             if tokens.push(token).is_err() {
-                return Err(NoMemory);
+                return Err(AllocError);
             }
         }
         Ok(tokens)

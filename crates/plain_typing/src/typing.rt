@@ -7,7 +7,7 @@ ghost use Rattle.plain_typing.specs.View.{bound_of, env_of, plain_of, seen_of};
 use crate::bound::{Bound, item_of};
 use crate::scope::{Typed, type_of};
 use crate::{Plain, PlainSeen};
-use std::alloc::Global;
+use std::alloc::{AllocError, Global};
 use syntax_tree::{NoMemory, NodeId, Token, Tree};
 
 /// Each pattern and each right side in order, with its type.
@@ -50,7 +50,7 @@ fn note(seen: &mut Vec<PlainSeen>, id: NodeId, token: &Token, ty: Plain) -> Resu
     let span = token.span;
     match seen.push(PlainSeen { id, span, ty }) {
         Ok(()) => Ok(()),
-        Err(_) => Err(NoMemory),
+        Err(_) => Err(AllocError),
     }
 }
 
@@ -63,6 +63,6 @@ fn bind<'a>(env: &mut Vec<Typed<'a>>, name: &'a Token, ty: Plain) -> Result<(), 
     };
     match env.push(typed) {
         Ok(()) => Ok(()),
-        Err(_) => Err(NoMemory),
+        Err(_) => Err(AllocError),
     }
 }

@@ -15,7 +15,7 @@ use crate::scopes::entries_behind;
 use crate::shown_entries::{Completion, completion_of};
 use crate::touching::env_at;
 use env_table::Env;
-use std::alloc::Global;
+use std::alloc::{AllocError, Global};
 use syntax_tree::{NoMemory, RcStr};
 
 /// How many names are told.
@@ -38,11 +38,11 @@ fn dotted(alloc: Global, names: &[RcStr]) -> Result<RcStr, NoMemory>
         return RcStr::from_str(alloc, "");
     };
     let Ok(mut text) = String::from_str(alloc, first.as_str()) else {
-        return Err(NoMemory);
+        return Err(AllocError);
     };
     for name in others {
         if text.push_str(".").is_err() || text.push_str(name.as_str()).is_err() {
-            return Err(NoMemory);
+            return Err(AllocError);
         }
     }
     RcStr::new(alloc, text)
@@ -51,7 +51,7 @@ fn dotted(alloc: Global, names: &[RcStr]) -> Result<RcStr, NoMemory>
 fn push(told: &mut Vec<Completion>, one: Completion) -> Result<(), NoMemory>
     ensures { OnOk result (told.new.items ≡ told.old.items ++ one ∷ []) }
 {
-    told.push(one).map_err(|_| NoMemory)
+    told.push(one).map_err(|_| AllocError)
 }
 
 /// The first of some names, in their order.

@@ -9,7 +9,7 @@ use crate::order::{PAGE_LIMIT, first_faults};
 use crate::tellers::{Teller, Told, kind_name, place_of_fault, teller_of};
 use env_table::Fault;
 use frame_parser::SyntaxFault;
-use std::alloc::Global;
+use std::alloc::{AllocError, Global};
 use syntax_tree::{NoMemory, RcStr, Span};
 
 /// A fault of a text.
@@ -41,7 +41,7 @@ fn missing_text(alloc: Global, holes: u32) -> Result<RcStr, NoMemory>
     }
     match format!(in alloc; "{holes} parts are missing here") {
         Ok(text) => RcStr::new(alloc, text),
-        Err(_) => Err(NoMemory),
+        Err(_) => Err(AllocError),
     }
 }
 
@@ -106,7 +106,7 @@ fn listed_all(alloc: Global, faults: &[Told<'_>]) -> Result<Vec<Listed>, NoMemor
     for fault in faults {
         let member = listed_fault(alloc, *fault)?;
         if list.push(member).is_err() {
-            return Err(NoMemory);
+            return Err(AllocError);
         }
     }
     Ok(list)

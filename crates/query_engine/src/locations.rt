@@ -8,7 +8,7 @@ ghost use Rattle.query_engine.specs.Places.{entry_place, is_defined_at, same_pla
 use crate::asked::{Asked, QueryFault};
 use crate::name_tokens::{NameToken, name_round, text_names};
 use env_table::Place;
-use std::alloc::Global;
+use std::alloc::{AllocError, Global};
 use syntax_tree::{NoMemory, Span};
 
 /// Where the entry of a name is defined. None where its lookup finds nothing or a hole.
@@ -69,7 +69,7 @@ fn keep(
     }
     match spans.push(name.span) {
         Ok(()) => Ok(()),
-        Err(_) => Err(NoMemory),
+        Err(_) => Err(AllocError),
     }
 }
 

@@ -9,7 +9,7 @@ ghost use Rattle.query_engine.specs.NameTokens.{name_of};
 
 use crate::names::is_slot;
 use crate::typed_nodes::{holds_offset, number_behind};
-use std::alloc::Global;
+use std::alloc::{AllocError, Global};
 use syntax_tree::{
     Child, NoMemory, Node, NodeId, Part, RcStr, RowName, Span, Token, TokenKind, Tree, is_operand,
 };
@@ -167,7 +167,7 @@ fn add_token(
     };
     match out.push(name) {
         Ok(()) => Ok(()),
-        Err(_) => Err(NoMemory),
+        Err(_) => Err(AllocError),
     }
 }
 

@@ -6,7 +6,7 @@ ghost use Rattle.syntax_tree.specs.View.{child_view, forest_of, node_view, part_
 ghost use Rattle.query_engine.specs.View.{names_of};
 
 use crate::slots::{binds_in, name_slot};
-use std::alloc::Global;
+use std::alloc::{AllocError, Global};
 use syntax_tree::{Child, NoMemory, Node, Part, RcStr, RowName, Token};
 
 /// Whether a part stands in the slot.
@@ -35,7 +35,7 @@ fn push_name(token: &Token, names: &mut Vec<RcStr>) -> Result<(), NoMemory>
 {
     match names.push(token.name.share()?) {
         Ok(()) => Ok(()),
-        Err(_) => Err(NoMemory),
+        Err(_) => Err(AllocError),
     }
 }
 

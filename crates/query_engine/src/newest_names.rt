@@ -5,7 +5,7 @@ ghost use Rattle.env_table.specs.Views.{names_of};
 ghost use Rattle.query_engine.specs.NewestNames.{begins_with, listed, told_kind, AreKept, SameNewest};
 
 use env_table::{Entries, Entry, Kind};
-use std::alloc::Global;
+use std::alloc::{AllocError, Global};
 use std::collections::BTreeMap;
 use std::rc::Rc;
 use syntax_tree::NoMemory;
@@ -59,7 +59,7 @@ fn keep<'a>(newest: &mut Newest<'a>, entry: &'a Rc<Entry>) -> Result<(), NoMemor
     }
     match newest.insert(key, entry) {
         Ok(_) => Ok(()),
-        Err(_) => Err(NoMemory),
+        Err(_) => Err(AllocError),
     }
 }
 

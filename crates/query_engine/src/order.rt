@@ -6,7 +6,7 @@ ghost use Rattle.query_engine.specs.Faults.{fault_of, told_of, typer_fault_of, F
 use crate::tellers::{Told, is_earlier};
 use env_table::Fault;
 use frame_parser::SyntaxFault;
-use std::alloc::Global;
+use std::alloc::{AllocError, Global};
 use syntax_tree::NoMemory;
 
 /// How many faults are told.
@@ -62,7 +62,7 @@ fn keep<'a>(page: &mut Vec<Told<'a>>, fault: Told<'a>) -> Result<(), NoMemory>
             page.truncate(PAGE_LIMIT);
             Ok(())
         }
-        Err(_) => Err(NoMemory),
+        Err(_) => Err(AllocError),
     }
 }
 

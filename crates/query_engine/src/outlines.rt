@@ -8,7 +8,7 @@ ghost use Rattle.query_engine.specs.View.{inside, inside_by, member_of, named_as
 
 use crate::names::names_under;
 use crate::slots::{Binder, OutlineKind, binder_for, inner_slot};
-use std::alloc::Global;
+use std::alloc::{AllocError, Global};
 use syntax_tree::{NoMemory, Node, Part, RcStr, Span, Tree};
 
 /// A bound name, with what is bound inside its item.
@@ -55,7 +55,7 @@ fn add_named(
             span: node.span,
         };
         if out.push(member).is_err() {
-            return Err(NoMemory);
+            return Err(AllocError);
         }
     }
     Ok(())

@@ -121,7 +121,7 @@ fn owned(alloc: Global, parts: &[&str]) -> Result<Vec<RcStr>, NoMemory>
     let mut texts = Vec::new(alloc);
     for part in parts {
         if texts.push(RcStr::from_str(alloc, part)?).is_err() {
-            return Err(NoMemory);
+            return Err(AllocError);
         }
     }
     Ok(texts)
@@ -136,7 +136,7 @@ pub(crate) fn split_prefix<'a>(
     ensures beginning { IfOk result (λ p. p.1.now ≡ beginning_of prefix.now) }
 {
     let Ok(parts) = parts_of(alloc, prefix) else {
-        return Err(NoMemory);
+        return Err(AllocError);
     };
     match parts.split_last() {
         None => Ok((Vec::new(alloc), "")),

@@ -11,7 +11,7 @@ ghost use Rattle.syntax_tree.specs.View.{child_view, forest_of, id_of, node_view
 ghost use Rattle.query_engine.specs.Typed.{may_be_label, node_of};
 
 use crate::names::is_slot;
-use std::alloc::Global;
+use std::alloc::{AllocError, Global};
 use syntax_tree::{
     Child, NoMemory, Node, NodeId, Part, RowName, Span, TokenKind, Tree, is_operand,
 };
@@ -223,7 +223,7 @@ pub(crate) fn number_behind(number: u32) -> Result<u32, NoMemory>
 {
     match number.checked_add(1) {
         Some(next) => Ok(next),
-        None => Err(NoMemory),
+        None => Err(AllocError),
     }
 }
 
@@ -240,7 +240,7 @@ fn keep(search: Search, number: u32, span: Span, out: &mut Vec<TypedNode>) -> Re
     };
     match out.push(TypedNode { id, span }) {
         Ok(()) => Ok(()),
-        Err(_) => Err(NoMemory),
+        Err(_) => Err(AllocError),
     }
 }
 

@@ -12,7 +12,7 @@ ghost use Rattle.query_engine.specs.Typed.{IsNoNode, node_of, span_of};
 use crate::asked::{Asked, QueryFault};
 use crate::typed_nodes::{TypedNode, typed_around};
 use env_table::{Env, NodeRef};
-use std::alloc::Global;
+use std::alloc::{AllocError, Global};
 use syntax_tree::{NoMemory, NodeId, RcStr, Span};
 use type_nodes::Store;
 use type_print::print_type;
@@ -94,7 +94,7 @@ fn typed_of(alloc: Global, asked: &Asked<'_>, node: &TypedNode) -> Result<Typed,
 fn push(types: &mut Vec<Typed>, one: Typed) -> Result<(), NoMemory>
     ensures { OnOk result (types.new.items ≡ types.old.items ++ one ∷ []) }
 {
-    types.push(one).map_err(|_| NoMemory)
+    types.push(one).map_err(|_| AllocError)
 }
 
 /// These nodes with their types, in their order.

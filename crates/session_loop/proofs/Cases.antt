@@ -1,7 +1,7 @@
 -- What is said of cases that are tried.
 use Rattle.std.proofs.Common.{◌≡◌, inl, inr, ℕ, List, refl, sym, ◌∙◌, ap, subst, Result, Ok, Err, IfOk}
 use Rattle.std.specs.Prelude.{Option, Some, None}
-use Rattle.text_terms.specs.declared.NoMemory.{NoMemory}
+use Rattle.std.specs.declared.alloc.AllocError.{AllocError}
 use Rattle.text_terms.specs.Bytes.{str_bytes}
 use Rattle.text_model.specs.Positions.{position_of}
 use Rattle.query_model.specs.TypedNodes.{Typed}
@@ -29,7 +29,7 @@ kept_said text had c made a b same is start end told =
     )
 
 -- one of which it tells a place is refused
-pub refused_said : (text had : List ℕ) (c : Replacement) (r : Result Reply NoMemory) (e : SplitFault) → had ≡ text → IsRefusedByTrial (Tells had c.span (str_bytes c.text)) e
+pub refused_said : (text had : List ℕ) (c : Replacement) (r : Result Reply AllocError) (e : SplitFault) → had ≡ text → IsRefusedByTrial (Tells had c.span (str_bytes c.text)) e
     → IfOk r (λ y. IsCasesFailure text e (said_of y)) → IfOk r (λ y. IsSaidOfCandidate text c (said_of y))
 refused_said text had c (Err x) e is refused told = tt
 refused_said text had c (Ok y) split.NoNode is refused told = absurd refused
@@ -39,7 +39,7 @@ refused_said text had c (Ok y) (split.WouldFault at) is refused told = inr (at, 
 refused_said text had c (Ok y) split.NoMemory is refused told = absurd told
 
 -- what is said of a candidate at a typed node is said of the node
-pub candidate_said : (text : List ℕ) (c : Replacement) (n : Option Typed) (r : Result Reply NoMemory) → IsPlacedAt c.span n → IfOk r (λ y. IsSaidOfCandidate text c (said_of y)) → IfOk r (λ y. CasesBy text n (said_of y))
+pub candidate_said : (text : List ℕ) (c : Replacement) (n : Option Typed) (r : Result Reply AllocError) → IsPlacedAt c.span n → IfOk r (λ y. IsSaidOfCandidate text c (said_of y)) → IfOk r (λ y. CasesBy text n (said_of y))
 candidate_said text c None r at told = absurd at
 candidate_said text c (Some n) (Ok y) at (inl (same, adds)) =
     subst (CasesAt text n) (sym same) (ap (shown_place text) at, subst (λ p. AddsNoFault text p (str_bytes c.text)) at adds)

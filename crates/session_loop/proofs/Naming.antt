@@ -4,7 +4,7 @@ use Rattle.std.specs.Prelude.{Option, Some, None, nat_eq}
 use Rattle.std.proofs.lemmas.Bool.{eq-eqb}
 use Rattle.std.specs.declared.vec.Vec.{Vec}
 use Rattle.std.specs.declared.alloc.Global.{Global}
-use Rattle.text_terms.specs.declared.NoMemory.{NoMemory}
+use Rattle.std.specs.declared.alloc.AllocError.{AllocError}
 use Rattle.text_terms.specs.Bytes.{str_bytes}
 use Rattle.text_terms.specs.declared.Span.{Span}
 use Rattle.tree_model.specs.Trees.{Tree}
@@ -26,7 +26,7 @@ use Rattle.session_loop.specs.Queries.{IsSaidOfPlace}
 use Rattle.session_loop.specs.Structures.{IsParsedAs}
 
 -- what is said of the items of a parsed text is said of the text
-pub of_items : (text : List ℕ) (p : Parsed) (P : List Tree → said.Said → Type 0) (r : Result Reply NoMemory) → IsParsedAs text p
+pub of_items : (text : List ℕ) (p : Parsed) (P : List Tree → said.Said → Type 0) (r : Result Reply AllocError) → IsParsedAs text p
     → IfOk r (λ x. P (trees_of p.tree) (said_of x)) → IfOk r (λ x. ItemsAre text P (said_of x))
 of_items text p P (Ok x) h is = (h.tokens, h.lexed, subst (λ ts. P ts (said_of x)) h.items is)
 of_items text p P (Err e) h is = tt

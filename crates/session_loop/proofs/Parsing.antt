@@ -2,7 +2,7 @@
 use Rattle.std.proofs.Common.{◌≡◌, ℕ, List, [], ◌∷◌, map, refl, sym, ◌∙◌, ap, Result, Ok, Err, IfOk}
 use Rattle.text_model.specs.Positions.{position_of}
 use Rattle.text_terms.specs.Bytes.{str_bytes}
-use Rattle.text_terms.specs.declared.NoMemory.{NoMemory}
+use Rattle.std.specs.declared.alloc.AllocError.{AllocError}
 use Rattle.token_model.specs.Tokens.{Lex}
 use Rattle.grammar_model.specs.Named.{named, items_of}
 use Rattle.grammar_model.specs.Recovery.{recover}
@@ -23,7 +23,7 @@ use Rattle.json_lines.specs.Means.{outline_kind_text, outline_of}
 use Rattle.session_loop.specs.Structures.{IsParsedAs}
 
 -- the tokens of a text, with what they are parsed as
-pub parsed : (text : List ℕ) (ts : List Token) (r : Result Parsed NoMemory) → Lex text (map tok_of ts)
+pub parsed : (text : List ℕ) (ts : List Token) (r : Result Parsed AllocError) → Lex text (map tok_of ts)
     → IfOk r (λ p. trees_of p.tree ≡ items_of (named row_name (recover (grammar program_text) (map tok_of ts)).0))
     → IfOk r (λ p. map parser.fault_of p.faults.items ≡ map told (recover (grammar program_text) (map tok_of ts)).1)
     → IfOk r (λ p. IsParsedAs text p)

@@ -1,7 +1,7 @@
 -- Terms in place of a hole, as they are said.
 use Rattle.std.proofs.Common.{ℕ, List, [], ◌∷◌, inl, inr, map, arith, sym, ap, subst, All, Option, Some, None, Result, Ok, Err, IfOk}
 use Rattle.std.proofs.lemmas.List.Elements.{All-head, All-tail, All-cons}
-use Rattle.text_terms.specs.declared.NoMemory.{NoMemory}
+use Rattle.std.specs.declared.alloc.AllocError.{AllocError}
 use Rattle.text_terms.specs.declared.Span.{Span}
 use Rattle.query_model.specs.TypedNodes.{Typed}
 use Rattle.service_model.specs.Answers.{TermsAt, TermsBy, shown_place}
@@ -31,7 +31,7 @@ kept_fit text x (c ∷ cs) kept (inl (told, (rest, same, are))) at =
 kept_fit text x (c ∷ cs) kept (inr (p, told, are)) at = kept_fit text x cs kept are (All-tail (IsAt x) c cs at)
 
 -- terms at the span of a typed node are said of it
-pub said_at : (text : List ℕ) (x : Span) (n : Option Typed) (r : Result Reply NoMemory) → IsPlacedAt x n → IfOk r (λ y. AreSaidTerms text x (said_of y)) → IfOk r (λ y. TermsBy text n (said_of y))
+pub said_at : (text : List ℕ) (x : Span) (n : Option Typed) (r : Result Reply AllocError) → IsPlacedAt x n → IfOk r (λ y. AreSaidTerms text x (said_of y)) → IfOk r (λ y. TermsBy text n (said_of y))
 said_at text x None r at said = absurd at
 said_at text x (Some n) (Ok y) at (texts, same, fit) =
     subst (TermsAt text n) (sym same) (ap (shown_place text) at, subst (λ p. All (AddsNoFault text p) texts) at fit)

@@ -2,7 +2,7 @@
 use Rattle.std.proofs.Common.{◌≡◌, ℕ, List, [], ◌++◌, length, map, append-nil, refl, sym, ◌∙◌, ap, subst, Result, Ok, Err, IfOk, Bool, true, false, ◌&&◌}
 use Rattle.std.specs.Prelude.{Option, Some, None, option_map, is_some, reverse}
 use Rattle.std.specs.List.{list_all}
-use Rattle.text_terms.specs.declared.NoMemory.{NoMemory}
+use Rattle.std.specs.declared.alloc.AllocError.{AllocError}
 use Rattle.text_terms.specs.Bytes.{str_bytes}
 use Rattle.token_model.specs.Kinds.{Tok, AllWithin}
 use Rattle.token_model.specs.Tokens.{Lex}
@@ -58,7 +58,7 @@ pub plain_within : (text : List ℕ) (read : ReadText) (p : PlainText) → IsRea
 plain_within text read p h is = seen_within (length text) h.tokens (trees_of p.tree) (map seen_of p.seen.items) h.within (sym h.plain ∙ ap (option_map plain_of) is)
 
 -- the types of a plain text
-pub enclosing_plain : (text : List ℕ) (o : ℕ) (read : ReadText) (p : PlainText) (r : Result Reply NoMemory) → IsReadAs text read → read.plain ≡ Some p
+pub enclosing_plain : (text : List ℕ) (o : ℕ) (read : ReadText) (p : PlainText) (r : Result Reply AllocError) → IsReadAs text read → read.plain ≡ Some p
     → IfOk r (λ x. said_of x ≡ types_or_none (typed_among text (map seen_of p.seen.items) (reverse (nodes_at o (trees_of p.tree))))) → IfOk r (λ x. EnclosingIs text o (said_of x))
 enclosing_plain text o read p (Ok x) h is types =
     (h.tokens, h.lexed, subst (λ q. EnclosingBy text o h.tokens q (said_of x)) (sym (ap (option_map plain_of) is) ∙ h.plain) types)
@@ -74,7 +74,7 @@ unfolding is_well_typed
 well_typed text read h = rw (sym (some_mapped plain_of read.plain), h.plain, h.short) refl
 
 -- the faults of a text that is well typed
-pub errors_plain : (text : List ℕ) (read : ReadText) (r : Result Reply NoMemory) (b : Bool) → IsReadAs text read → b ≡ is_some read.plain && read.short_numerals → b ≡ true
+pub errors_plain : (text : List ℕ) (read : ReadText) (r : Result Reply AllocError) (b : Bool) → IsReadAs text read → b ≡ is_some read.plain && read.short_numerals → b ≡ true
     → IfOk r (λ x. said_of x ≡ faults_said text (map fault_of read.parsed.faults.items ++ [])) → IfOk r (λ x. ErrorsAre text (said_of x))
 errors_plain text read (Ok x) b h is holds page = (
   h.tokens,
@@ -85,7 +85,7 @@ errors_plain text read (Ok x) b h is holds page = (
 errors_plain text read (Err e) b h is holds page = tt
 
 -- the faults of another text
-pub errors_typed : (text : List ℕ) (read : ReadText) (r : Result Reply NoMemory) (b : Bool) → IsReadAs text read → b ≡ is_some read.plain && read.short_numerals → b ≡ false
+pub errors_typed : (text : List ℕ) (read : ReadText) (r : Result Reply AllocError) (b : Bool) → IsReadAs text read → b ≡ is_some read.plain && read.short_numerals → b ≡ false
     → IfOk r (λ x. FaultsAre text (map fault_of read.parsed.faults.items) (said_of x)) → IfOk r (λ x. ErrorsAre text (said_of x))
 errors_typed text read (Ok x) b h is holds page = (
   h.tokens,

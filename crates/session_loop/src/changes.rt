@@ -18,7 +18,7 @@ use construct_terms::{ConstructFault, construct, terms};
 use frame_parser::Parsed;
 use json_lines::{Failure, Reply};
 use query_engine::Replacement;
-use std::alloc::Global;
+use std::alloc::{AllocError, Global};
 use syntax_tree::{Counts, NoMemory, RcStr, Span};
 use text_analysis::Analysis;
 use text_store::TextStore;
@@ -30,7 +30,7 @@ fn bytes_of(alloc: Global, store: &TextStore) -> Result<Vec<u8>, NoMemory>
     let (left, right) = store.slices();
     let mut bytes = Vec::new(alloc);
     if bytes.extend_from_slice(left).is_err() || bytes.extend_from_slice(right).is_err() {
-        return Err(NoMemory);
+        return Err(AllocError);
     }
     Ok(bytes)
 }
@@ -49,7 +49,7 @@ fn cases_failure(store: &TextStore, fault: SplitFault) -> Result<Reply, NoMemory
             let at = position(store, at);
             Ok(Reply::Failure(Failure::WouldFault { at }))
         }
-        SplitFault::NoMemory => Err(NoMemory),
+        SplitFault::NoMemory => Err(AllocError),
     }
 }
 
@@ -105,7 +105,7 @@ fn terms_failure(fault: ConstructFault) -> Result<Reply, NoMemory>
     match fault {
         ConstructFault::NoNode => Ok(Reply::Failure(Failure::NoNode)),
         ConstructFault::NotAHole => Ok(Reply::Failure(Failure::NotAHole)),
-        ConstructFault::NoMemory => Err(NoMemory),
+        ConstructFault::NoMemory => Err(AllocError),
     }
 }
 
@@ -115,7 +115,7 @@ fn texts_of(alloc: Global, changes: &[Replacement]) -> Result<Vec<RcStr>, NoMemo
     let mut texts = Vec::new(alloc);
     for change in changes {
         if texts.push(change.text.share()?).is_err() {
-            return Err(NoMemory);
+            return Err(AllocError);
         }
     }
     Ok(texts)

@@ -8,7 +8,7 @@ ghost use Rattle.session_loop.specs.MadeRuns.{summary_of, IsTold, MadeOutcome, T
 
 use crate::session::Sizes;
 use crate::{Session, Sink, Status};
-use std::alloc::Global;
+use std::alloc::{AllocError, Global};
 use syntax_tree::{Counts, NoMemory, RcStr};
 
 /// The line that is put behind the made text.
@@ -30,7 +30,7 @@ fn value_item(alloc: Global, item: u32) -> Result<String, NoMemory>
 {
     match format!(in alloc; "let v{item} = {item}") {
         Ok(text) => Ok(text),
-        Err(_) => Err(NoMemory),
+        Err(_) => Err(AllocError),
     }
 }
 
@@ -40,7 +40,7 @@ fn function_item(alloc: Global, item: u32) -> Result<String, NoMemory>
     let before = item.saturating_sub(1);
     match format!(in alloc; "let f{item} x = x + v{before}") {
         Ok(text) => Ok(text),
-        Err(_) => Err(NoMemory),
+        Err(_) => Err(AllocError),
     }
 }
 
@@ -49,7 +49,7 @@ fn type_item(alloc: Global, item: u32) -> Result<String, NoMemory>
 {
     match format!(in alloc; "type t{item} = A{item} | B{item} of int") {
         Ok(text) => Ok(text),
-        Err(_) => Err(NoMemory),
+        Err(_) => Err(AllocError),
     }
 }
 
@@ -58,7 +58,7 @@ fn match_item(alloc: Global, item: u32, ty: u32, function: u32) -> Result<String
 {
     match format!(in alloc; "let g{item} y = match y with A{ty} -> 0 | B{ty} n -> f{function} n") {
         Ok(text) => Ok(text),
-        Err(_) => Err(NoMemory),
+        Err(_) => Err(AllocError),
     }
 }
 
@@ -69,7 +69,7 @@ fn module_item(alloc: Global, item: u32) -> Result<String, NoMemory>
     let second = item.saturating_sub(2);
     match format!(in alloc; "module M{item} = struct let w = g{before} A{second} end") {
         Ok(text) => Ok(text),
-        Err(_) => Err(NoMemory),
+        Err(_) => Err(AllocError),
     }
 }
 
@@ -93,7 +93,7 @@ fn add_item(alloc: Global, text: &mut String, item: u32) -> Result<(), NoMemory>
 {
     let line = made_item(alloc, item)?;
     if text.push_str(&line).is_err() || text.push('\n').is_err() {
-        return Err(NoMemory);
+        return Err(AllocError);
     }
     Ok(())
 }
@@ -155,7 +155,7 @@ fn summary_line(alloc: Global, summary: Summary) -> Result<String, NoMemory>
         "{{\"bytes\":{bytes},\"faults\":{faults},\"items\":{items},\"typed\":{typed}}}\n"
     ) {
         Ok(line) => Ok(line),
-        Err(_) => Err(NoMemory),
+        Err(_) => Err(AllocError),
     }
 }
 

@@ -10,7 +10,7 @@ ghost use Rattle.session_loop.specs.PlainTexts.{plain_of};
 
 use json_lines::Typed;
 use plain_typing::{Plain, PlainSeen, plain_tree, type_plain};
-use std::alloc::Global;
+use std::alloc::{AllocError, Global};
 use syntax_tree::{NoMemory, NodeId, RcStr, Token, Tree};
 use text_store::TextStore;
 
@@ -88,7 +88,7 @@ pub fn typed_among(
         if let Some(found) = find_seen(seen, *id) {
             let typed = shown(alloc, store, &found)?;
             if types.push(typed).is_err() {
-                return Err(NoMemory);
+                return Err(AllocError);
             }
         }
     }

@@ -19,7 +19,7 @@ use json_lines::{Entry, EntryKind, Failure, File, PosSpan, Reply};
 use query_engine::{
     Asked, Completion, CompletionKind, QueryFault, complete_prefix, locate, occurrences,
 };
-use std::alloc::Global;
+use std::alloc::{AllocError, Global};
 use syntax_tree::{Counts, NoMemory, Pos, RcStr, Span, Tree};
 use text_analysis::{Analysis, PRELUDE, analyse};
 use text_store::TextStore;
@@ -47,7 +47,7 @@ pub fn failure_of(fault: QueryFault) -> Result<Failure, NoMemory>
         QueryFault::NoNode => Ok(Failure::NoNode),
         QueryFault::NotAName => Ok(Failure::NotAName),
         QueryFault::Unbound { ident } => Ok(Failure::Unbound { ident }),
-        QueryFault::NoMemory => Err(NoMemory),
+        QueryFault::NoMemory => Err(AllocError),
     }
 }
 
@@ -197,7 +197,7 @@ fn shown_spans(alloc: Global, store: &TextStore, spans: &[Span]) -> Result<Vec<P
     let mut shown = Vec::new(alloc);
     for span in spans {
         if shown.push(shown_span(store, *span)).is_err() {
-            return Err(NoMemory);
+            return Err(AllocError);
         }
     }
     Ok(shown)
@@ -247,7 +247,7 @@ fn shown_entries(alloc: Global, entries: &[Completion]) -> Result<Vec<Entry>, No
     let mut shown = Vec::new(alloc);
     for entry in entries {
         if shown.push(shown_entry(entry)?).is_err() {
-            return Err(NoMemory);
+            return Err(AllocError);
         }
     }
     Ok(shown)

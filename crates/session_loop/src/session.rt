@@ -34,7 +34,7 @@ use json_lines::{
     read_request, write_reply,
 };
 use query_engine::{Asked, enclosing_types};
-use std::alloc::Global;
+use std::alloc::{AllocError, Global};
 use std::marker::Model;
 use syntax_tree::{Counts, NoMemory, Pos, RcStr, Tree, enclosing};
 use text_analysis::analyse;
@@ -279,7 +279,7 @@ impl Session {
         };
         match self.store.apply(&edit) {
             Ok(_) => Ok(()),
-            Err(_) => Err(NoMemory),
+            Err(_) => Err(AllocError),
         }
     }
 

@@ -16,7 +16,7 @@ ghost use Rattle.session_loop.specs.Structures.{IsParsedAs};
 use frame_parser::{Parsed, Text, parse};
 use ml_lexer::lex_all;
 use query_engine as engine;
-use std::alloc::Global;
+use std::alloc::{AllocError, Global};
 use syntax_tree::{Counts, NoMemory, Pos};
 use text_store::TextStore;
 
@@ -83,7 +83,7 @@ pub fn shown_outline(
     for member in members {
         let next = shown_member(alloc, store, member)?;
         if shown.push(next).is_err() {
-            return Err(NoMemory);
+            return Err(AllocError);
         }
     }
     Ok(shown)
@@ -114,7 +114,7 @@ pub fn shown_faults(
     for fault in faults {
         let next = shown_fault(store, fault)?;
         if shown.push(next).is_err() {
-            return Err(NoMemory);
+            return Err(AllocError);
         }
     }
     Ok(shown)
@@ -143,7 +143,7 @@ pub fn shown_types(
     for typed in types {
         let next = shown_type(store, typed)?;
         if shown.push(next).is_err() {
-            return Err(NoMemory);
+            return Err(AllocError);
         }
     }
     Ok(shown)

@@ -15,7 +15,7 @@ use crate::structure::parse_text;
 use env_table::Fault;
 use frame_parser::SyntaxFault;
 use query_engine::{Replacement, Trial, kind_name};
-use std::alloc::Global;
+use std::alloc::{AllocError, Global};
 use std::collections::HashSet;
 use syntax_tree::{Counts, NoMemory, Span};
 use text_analysis::analyse;
@@ -77,7 +77,7 @@ fn put(marks: &mut Vec<Mark>, mark: Mark) -> Result<(), NoMemory>
 {
     match marks.push(mark) {
         Ok(()) => Ok(()),
-        Err(_) => Err(NoMemory),
+        Err(_) => Err(AllocError),
     }
 }
 
@@ -110,7 +110,7 @@ fn set_of(alloc: Global, marks: &[Mark]) -> Result<HashSet<Mark>, NoMemory>
     let mut known = HashSet::new(alloc);
     for mark in marks {
         if known.insert(*mark).is_err() {
-            return Err(NoMemory);
+            return Err(AllocError);
         }
     }
     Ok(known)
@@ -159,7 +159,7 @@ fn extend(bytes: &mut Vec<u8>, more: &[u8]) -> Result<(), NoMemory>
 {
     match bytes.extend_from_slice(more) {
         Ok(()) => Ok(()),
-        Err(_) => Err(NoMemory),
+        Err(_) => Err(AllocError),
     }
 }
 

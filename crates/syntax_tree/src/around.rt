@@ -8,7 +8,7 @@ ghost use Rattle.syntax_tree.specs.View.{id_of, node_view, part_view, place_of, 
 
 use crate::at::{holds_offset, part_size_of};
 use crate::{NoMemory, Node, NodeId, Part, RowName, Span, Tree, is_operand};
-use std::alloc::Global;
+use std::alloc::{AllocError, Global};
 
 fn keep_holder(span: Span, offset: u32, at: NodeId, out: &mut Vec<NodeId>) -> Result<(), NoMemory>
     ensures { OnOk result (map id_of out.new.items
@@ -19,7 +19,7 @@ fn keep_holder(span: Span, offset: u32, at: NodeId, out: &mut Vec<NodeId>) -> Re
     }
     match out.push(at) {
         Ok(()) => Ok(()),
-        Err(_) => Err(NoMemory),
+        Err(_) => Err(AllocError),
     }
 }
 

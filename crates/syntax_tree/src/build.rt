@@ -7,7 +7,7 @@ ghost use Rattle.syntax_tree.specs.View.{child_view, forest_of, node_view, part_
 
 use crate::slots::missing_size;
 use crate::{Child, NoMemory, Node, Part, RowName, Span, Token};
-use std::alloc::Global;
+use std::alloc::{AllocError, Global};
 use std::rc::Rc;
 
 /// A node of one token in the given slot.
@@ -22,7 +22,7 @@ pub fn leaf(alloc: Global, row: RowName, slot: u8, token: Token) -> Result<Rc<No
     };
     match children.push(child) {
         Ok(()) => node_of(alloc, row, children),
-        Err(_) => Err(NoMemory),
+        Err(_) => Err(AllocError),
     }
 }
 
@@ -43,7 +43,7 @@ pub fn node_of(alloc: Global, row: RowName, children: Vec<Child>) -> Result<Rc<N
     };
     match Rc::new(alloc, node) {
         Ok(node) => Ok(node),
-        Err(_) => Err(NoMemory),
+        Err(_) => Err(AllocError),
     }
 }
 

@@ -6,7 +6,7 @@ ghost use Rattle.syntax_tree.specs.View.{node_view, part_view, place_of, trees_o
 ghost use Rattle.syntax_tree.specs.Yields.{place_of_tok, yields_of};
 
 use crate::{NoMemory, Node, Part, Span, Tree};
-use std::alloc::Global;
+use std::alloc::{AllocError, Global};
 
 #[cycle(yields)]
 fn add_part(part: &Part, out: &mut Vec<Span>) -> Result<(), NoMemory>
@@ -15,7 +15,7 @@ fn add_part(part: &Part, out: &mut Vec<Span>) -> Result<(), NoMemory>
     match part {
         Part::Taken(token) => match out.push(token.span) {
             Ok(()) => Ok(()),
-            Err(_) => Err(NoMemory),
+            Err(_) => Err(AllocError),
         },
         Part::Inner(node) => add_node(node, out),
         Part::Missing(_) => Ok(()),

@@ -26,7 +26,7 @@ impl Search {
         if self.seen.contains(&root.0) {
             return Ok(());
         }
-        self.seen.insert(root.0).map_err(|_| NoMemory)?;
+        self.seen.insert(root.0)?;
         match view {
             View::Var { level, .. } => {
                 if level != BOUND {

@@ -10,7 +10,7 @@ use frame_parser::{Text, parse};
 use ml_lexer::lex_all;
 use module_typing::{Scene, built_ins, type_item};
 use row_parts::Operand;
-use std::alloc::Global;
+use std::alloc::{AllocError, Global};
 use syntax_tree::{Counts, Tree};
 use type_nodes::Store;
 use typed_index::TypedIndex;
@@ -36,7 +36,7 @@ fn prelude_tree<C: Counts>(alloc: Global, counts: &mut C) -> Result<Tree, NoMemo
 {
     let bytes = PRELUDE.as_bytes();
     if bytes.len() > 1_048_576 {
-        return Err(NoMemory);
+        return Err(AllocError);
     }
     let tokens = lex_all(alloc, bytes, &[], counts)?;
     let parsed = parse(alloc, Text::Signature, &tokens, counts)?;

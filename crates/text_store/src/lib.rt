@@ -36,7 +36,7 @@ mod tests {
                 line: end.0,
                 col: end.1,
             },
-            text: RcStr::from_str(alloc, text).map_err(|_| AllocError)?,
+            text: RcStr::from_str(alloc, text)?,
         })
     }
 
@@ -250,7 +250,7 @@ mod tests {
     #[test]
     fn longest_text(rt: HostRuntime) -> Result<(), Fail> {
         let alloc = rt.alloc();
-        let blanks = String::from_utf8(vec![in alloc; b' '; 1_048_576]?).map_err(|_| AllocError)?;
+        let blanks = String::from_utf8(vec![in alloc; b' '; 1_048_576]?)?;
         let mut store = TextStore::new(alloc);
         assert_eq!(rt;
             store.apply(&edit_at(alloc, (1, 0), (1, 0), blanks.as_str())?),

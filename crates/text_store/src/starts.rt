@@ -4,7 +4,7 @@ ghost use Rattle.text_model.specs.Edits.{apply, text_limit};
 ghost use Rattle.text_store.specs.Starts.{starts_from, HasStarts, AllBehind, AllMovable};
 
 use crate::places::starts_until;
-use std::alloc::Global;
+use std::alloc::{AllocError, Global};
 use text_terms::NoMemory;
 
 /// Where lines start in a piece, the first byte of which is to stand at `at`.
@@ -15,7 +15,7 @@ fn starts_in(alloc: Global, piece: &[u8], at: u32) -> Result<Vec<u32>, NoMemory>
     let mut starts = Vec::new(alloc);
     for (i, byte) in piece.iter().enumerate() {
         if *byte == b'\n' && starts.push(at + i as u32 + 1).is_err() {
-            return Err(NoMemory);
+            return Err(AllocError);
         }
     }
     Ok(starts)
@@ -55,7 +55,7 @@ fn put_starts(
 {
     match starts.splice(from..to, fresh) {
         Ok(_) => Ok(()),
-        Err(_) => Err(NoMemory),
+        Err(_) => Err(AllocError),
     }
 }
 

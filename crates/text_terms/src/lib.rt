@@ -7,12 +7,11 @@ ghost use Rattle.std.specs.Prelude.{◌≡◌, IfOk, string_bytes};
 ghost use Rattle.std.specs.Str.{bytes_eq};
 ghost use Rattle.text_terms.specs.Bytes.{str_bytes};
 
-use std::alloc::Global;
+use std::alloc::{AllocError, Global};
 use std::rc::Rc;
 
-/// Want of memory.
-#[derive(Clone, Copy, Debug, PartialEq, Eq)]
-pub struct NoMemory;
+/// Want of memory: the library's own error of an allocation.
+pub type NoMemory = AllocError;
 
 /// A position: the line, from 1, and the column in bytes, from 0.
 #[derive(Clone, Copy, Debug, PartialEq, Eq)]
@@ -41,7 +40,7 @@ impl RcStr {
     {
         match Rc::new(alloc, text) {
             Ok(text) => Ok(RcStr { text }),
-            Err(_) => Err(NoMemory),
+            Err(_) => Err(AllocError),
         }
     }
 
@@ -51,7 +50,7 @@ impl RcStr {
     {
         match String::from_str(alloc, text) {
             Ok(text) => RcStr::new(alloc, text),
-            Err(_) => Err(NoMemory),
+            Err(_) => Err(AllocError),
         }
     }
 
@@ -67,7 +66,7 @@ impl RcStr {
     {
         match self.text.clone() {
             Ok(text) => Ok(RcStr { text }),
-            Err(_) => Err(NoMemory),
+            Err(_) => Err(AllocError),
         }
     }
 

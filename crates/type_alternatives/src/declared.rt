@@ -8,7 +8,7 @@ ghost use Rattle.type_print.specs.Paths.{contents};
 ghost use Rattle.type_alternatives.specs.Standing.{declaration_in, lists_of, IsFoundOrNone};
 
 use env_table::{Declaration, Entries, Entry, Env, What};
-use std::alloc::Global;
+use std::alloc::{AllocError, Global};
 use std::rc::Rc;
 use text_terms::NoMemory;
 use type_nodes::Origin;
@@ -67,7 +67,7 @@ fn declaration_of_origin<'a>(entry: &'a Entry, origin: &Origin) -> Option<&'a Rc
 fn add<'a>(left: &mut Vec<Entries<'a>>, entries: Entries<'a>) -> Result<(), NoMemory>
     ensures { OnOk result (lists_of left.new.items ≡ lists_of left.old.items ++ names_of entries.entry ∷ []) }
 {
-    left.push(entries).map_err(|_| NoMemory)
+    left.push(entries).map_err(|_| AllocError)
 }
 
 fn take_last<'a>(left: &mut Vec<Entries<'a>>) -> Option<Entries<'a>>

@@ -11,7 +11,7 @@ ghost use Rattle.type_alternatives.specs.Levels.{level_of, modules_among, next_l
 use crate::declared::contents;
 use crate::reached::Inside;
 use env_table::{Entries, Entry, Kind};
-use std::alloc::Global;
+use std::alloc::{AllocError, Global};
 use std::collections::HashSet;
 use text_terms::{NoMemory, RcStr};
 
@@ -72,7 +72,7 @@ fn is_new<'a>(names: &mut HashSet<&'a str>, name: &'a str) -> Result<bool, NoMem
     }
     match names.insert(name) {
         Ok(_) => Ok(true),
-        Err(_) => Err(NoMemory),
+        Err(_) => Err(AllocError),
     }
 }
 
@@ -90,7 +90,7 @@ fn add_module<'a>(
     };
     match out.push(module) {
         Ok(()) => Ok(()),
-        Err(_) => Err(NoMemory),
+        Err(_) => Err(AllocError),
     }
 }
 
@@ -105,6 +105,6 @@ pub(crate) fn joined(
 {
     match format!(in alloc; "{first}{second}{third}") {
         Ok(text) => RcStr::new(alloc, text),
-        Err(_) => Err(NoMemory),
+        Err(_) => Err(AllocError),
     }
 }

@@ -10,7 +10,7 @@ ghost use Rattle.type_alternatives.specs.Levels.{level_of, finds, first_path};
 use crate::declared::makes;
 use crate::levels::{joined, next_level};
 use env_table::{Declaration, Entries, Entry, Env, Kind, What};
-use std::alloc::Global;
+use std::alloc::{AllocError, Global};
 use std::rc::Rc;
 use text_terms::{NoMemory, RcStr};
 use type_nodes::Origin;
@@ -97,7 +97,7 @@ pub(crate) fn path_to(
         entries: env.entries(),
     };
     let Ok(mut level) = vec![in alloc; first] else {
-        return Err(NoMemory);
+        return Err(AllocError);
     };
     while !level.is_empty() {
         if let Some(path) = first_path(&level, wanted) {

@@ -20,7 +20,7 @@ pub fn written(path: &PathTo) -> &str
 pub fn put(text: &mut String, piece: &str) -> Result<(), NoMemory>
     ensures { OnOk result (string_bytes text.new ≡ string_bytes text.old ++ piece.now) }
 {
-    text.push_str(piece).map_err(|_| NoMemory)
+    text.push_str(piece)
 }
 
 /// Puts `(_, _)` of so many parts behind a text.

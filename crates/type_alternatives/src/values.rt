@@ -10,7 +10,7 @@ ghost use Rattle.type_alternatives.specs.Alternatives.{named_of, outermost_of, v
 use crate::declared::declaration_of;
 use crate::reached::{Wanted, path_to};
 use env_table::{Constructor, Declaration, Env, Kind, Label, NodeRef, Shape};
-use std::alloc::Global;
+use std::alloc::{AllocError, Global};
 use text_terms::{NoMemory, RcStr};
 use type_nodes::{Origin, Store, View};
 
@@ -82,7 +82,7 @@ fn known(alloc: Global, only: Alternative) -> Result<Alternatives, NoMemory>
 {
     match vec![in alloc; only] {
         Ok(list) => Ok(Alternatives::Known(list)),
-        Err(_) => Err(NoMemory),
+        Err(_) => Err(AllocError),
     }
 }
 
@@ -91,7 +91,7 @@ fn both(alloc: Global, first: Alternative, second: Alternative) -> Result<Altern
 {
     match vec![in alloc; first, second] {
         Ok(list) => Ok(Alternatives::Known(list)),
-        Err(_) => Err(NoMemory),
+        Err(_) => Err(AllocError),
     }
 }
 
@@ -187,7 +187,7 @@ fn of_constructors(
         )?;
         let next = Alternative::Constructor(path, argument_of(store, constructor));
         if list.push(next).is_err() {
-            return Err(NoMemory);
+            return Err(AllocError);
         }
     }
     Ok(Alternatives::Known(list))
@@ -205,7 +205,7 @@ fn of_labels(
     for (place, label) in labels.iter().enumerate() {
         let path = path_for(alloc, env, origin, Kind::Label, &label.name, place)?;
         if paths.push(path).is_err() {
-            return Err(NoMemory);
+            return Err(AllocError);
         }
     }
     let record = known(alloc, Alternative::Record(paths))?;

@@ -1,7 +1,7 @@
 -- What a call's answer says of the store after it, whatever the answer is.
 use Rattle.std.proofs.Common.{◌≡◌, ℕ, sym, subst}
 use Rattle.std.specs.Prelude.{All, Result, Ok, Err, IfOk, OnOk, OnErr}
-use Rattle.text_terms.specs.declared.NoMemory.{NoMemory}
+use Rattle.std.specs.declared.alloc.AllocError.{AllocError}
 use Rattle.type_terms.specs.declared.types.NodeRef.{NodeRef}
 use Rattle.type_nodes.specs.Nodes.{Node, Var, Link, IsNode, Apart, parts}
 use Rattle.type_nodes.specs.Links.{root, IsNoLink, IsVariable, ReadsAsComposite}
@@ -13,10 +13,10 @@ use Rattle.type_nodes.proofs.Writes.{makes, makes_store, relevels, relevels_stor
 use Rattle.type_nodes.proofs.LinkedReadings.{same_readings, roots_alike}
 
 abbrev pub Made : Type 0
-Made = Result NodeRef NoMemory
+Made = Result NodeRef AllocError
 
 abbrev pub Done : Type 0
-Done = Result (Unit {0}) NoMemory
+Done = Result (Unit {0}) AllocError
 
 pub made_store : (r : Made) (old new : State) (c : Node) → IsStore old → All (IsNode old.nodes) (parts c) →
     IfOk r (λ n. Added old new n.0 c) → OnErr r (new ≡ old) → IsStore new

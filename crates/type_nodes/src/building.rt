@@ -14,7 +14,7 @@ use type_terms::{NoMemory, NodeRef, Origin};
 fn copied(alloc: Global, nodes: &[NodeRef]) -> Result<Vec<NodeRef>, NoMemory>
     ensures { IfOk result (λ v. v.items ≡ nodes.now) }
 {
-    nodes.iter().copied().collect(alloc).map_err(|_| NoMemory)
+    nodes.iter().copied().collect(alloc)
 }
 
 // After `NoMemory` the store is as before.

@@ -74,8 +74,8 @@ pub fn make(cells: &mut Cells, trail: &mut Trail<Write>, cell: Cell) -> Result<N
     ensures failed { OnErr result (state_of cells.new trail.new ≡ state_of cells.old trail.old) }
 {
     let number = cells.list.len() as u64;
-    cells.list.reserve(1).map_err(|_| NoMemory)?;
-    trail.push(Write::Made).map_err(|_| NoMemory)?;
+    cells.list.reserve(1)?;
+    trail.push(Write::Made)?;
     match cells.list.push(cell) {
         Ok(()) => Ok(NodeRef(number)),
         Err(_) => unreachable!(),
@@ -93,7 +93,7 @@ pub fn replace(
     ensures done { OnOk result (Replaced (state_of cells.old trail.old) (state_of cells.new trail.new) n.0 (node_of cell)) }
     ensures failed { OnErr result (state_of cells.new trail.new ≡ state_of cells.old trail.old) }
 {
-    trail.reserve().map_err(|_| NoMemory)?;
+    trail.reserve()?;
     let before = mem::replace(&mut cells.list[n.0 as usize], cell);
     match trail.push(Write::Was(n, before)) {
         Ok(()) => Ok(()),

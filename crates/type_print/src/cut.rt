@@ -48,5 +48,5 @@ fn shortened(alloc: Global, shown: &str) -> Result<RcStr, NoMemory>
 pub(crate) fn push(text: &mut String, more: &str) -> Result<(), NoMemory>
     ensures { OnOk result (string_bytes text.new ≡ string_bytes text.old ++ more.now) }
 {
-    text.push_str(more).map_err(|_| NoMemory)
+    text.push_str(more)
 }

@@ -15,7 +15,7 @@ ghost use Rattle.type_print.specs.Scopes.{scope_of, scopes_of, has, Looks};
 use crate::cut::push;
 use crate::ways::{Way, into_module, share, text_of_way};
 use env_table::{Entries, Entry, Env, Kind, What};
-use std::alloc::Global;
+use std::alloc::{AllocError, Global};
 use std::collections::{HashSet, VecDeque};
 use std::rc::Rc;
 use text_terms::RcStr;
@@ -185,7 +185,7 @@ fn is_new<'a>(names: &mut HashSet<&'a str>, name: &'a str) -> Result<bool, NoMem
     }
     match names.insert(name) {
         Ok(_) => Ok(true),
-        Err(_) => Err(NoMemory),
+        Err(_) => Err(AllocError),
     }
 }
 
@@ -203,7 +203,7 @@ fn add_module<'a>(
     };
     match left.push_back(module) {
         Ok(()) => Ok(()),
-        Err(_) => Err(NoMemory),
+        Err(_) => Err(AllocError),
     }
 }
 

@@ -3,6 +3,7 @@ ghost use Rattle.std.specs.Prelude.{◌≡◌, [], ◌∷◌, ◌++◌, codes, O
 ghost use Rattle.type_nodes.specs.Views.{numbers};
 ghost use Rattle.type_print.specs.Pieces.{a_text, part_of, parts_of, within_of, text_of_sign, rest_parts, list_parts, arrow_alone, arrow_parts, tuple_parts, argument_parts, a_head};
 
+use std::alloc::AllocError;
 use type_nodes::{NoMemory, NodeRef};
 
 /// Where a type stands in another, which decides on its parentheses.
@@ -59,7 +60,7 @@ impl Pieces {
     pub(crate) fn add(&mut self, piece: Piece) -> Result<(), NoMemory>
         ensures { OnOk result (parts_of self.new ≡ part_of piece ∷ parts_of self.old) }
     {
-        self.list.push(piece).map_err(|_| NoMemory)
+        self.list.push(piece).map_err(|_| AllocError)
     }
 
     pub(crate) fn take_next(&mut self) -> Option<Piece>

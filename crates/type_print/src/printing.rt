@@ -19,7 +19,7 @@ use crate::paths::name_of;
 use crate::pieces::{Piece, Pieces, Within};
 use crate::variables::{VariableName, Variables};
 use env_table::Env;
-use std::alloc::Global;
+use std::alloc::{AllocError, Global};
 use text_terms::RcStr;
 use type_nodes::{NoMemory, NodeRef, Origin, Store, View};
 
@@ -154,9 +154,7 @@ fn write_variable(
     let name = match name {
         None => return Ok(()),
         Some(VariableName::Letter(place)) => letter(alloc, place)?,
-        Some(VariableName::Weak(number)) => {
-            format!(in alloc; "'_weak{number}").map_err(|_| NoMemory)?
-        }
+        Some(VariableName::Weak(number)) => { format!(in alloc; "'_weak{number}")? }
     };
     push(text, &name)
 }
@@ -168,9 +166,9 @@ fn letter(alloc: Global, place: u64) -> Result<String, NoMemory>
     let letter = char::from(b'a' + (place % 26) as u8);
     let round = place / 26;
     if round == 0 {
-        format!(in alloc; "'{letter}").map_err(|_| NoMemory)
+        format!(in alloc; "'{letter}")
     } else {
-        format!(in alloc; "'{letter}{round}").map_err(|_| NoMemory)
+        format!(in alloc; "'{letter}{round}")
     }
 }
 
@@ -211,7 +209,7 @@ fn remember(
 fn add_known(known: &mut Vec<Known>, one: Known) -> Result<(), NoMemory>
     ensures { OnOk result (known.new.items ≡ known.old.items ++ one ∷ []) }
 {
-    known.push(one).map_err(|_| NoMemory)
+    known.push(one).map_err(|_| AllocError)
 }
 
 fn copy_of(alloc: Global, path: &[u64]) -> Result<Vec<u64>, NoMemory>
@@ -219,7 +217,7 @@ fn copy_of(alloc: Global, path: &[u64]) -> Result<Vec<u64>, NoMemory>
 {
     match path.to_vec(alloc) {
         Ok(copy) => Ok(copy),
-        Err(_) => Err(NoMemory),
+        Err(_) => Err(AllocError),
     }
 }
 

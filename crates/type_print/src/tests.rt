@@ -4,7 +4,7 @@ ghost use Rattle.type_nodes.specs.Views.{numbers};
 
 use crate::*;
 use env_table::{Components, Declaration, Entry, Env, Kind, Place, Shape, Sig, What};
-use std::alloc::Global;
+use std::alloc::{AllocError, Global};
 use std::rc::Rc;
 use std::test::Fail;
 use text_terms::RcStr;
@@ -12,7 +12,7 @@ use type_nodes::{NoMemory, NodeRef, Origin, Store};
 
 fn origin(alloc: Global, number: u64, name: &str) -> Result<Origin, NoMemory> {
     Ok(Origin {
-        path: [number].to_vec(alloc).map_err(|_| NoMemory)?,
+        path: [number].to_vec(alloc)?,
         name: RcStr::from_str(alloc, name)?,
     })
 }
@@ -21,7 +21,7 @@ fn rc<T>(alloc: Global, value: T) -> Result<Rc<T>, NoMemory>
 where
     T: Drop,
 {
-    Rc::new(alloc, value).map_err(|_| NoMemory)
+    Rc::new(alloc, value).map_err(|_| AllocError)
 }
 
 fn entry(alloc: Global, name: &str, kind: Kind, what: What) -> Result<Rc<Entry>, NoMemory> {
@@ -75,9 +75,9 @@ fn module(
     second: Option<Rc<Entry>>,
 ) -> Result<Rc<Entry>, NoMemory> {
     let mut entries = Vec::new(alloc);
-    entries.push(first).map_err(|_| NoMemory)?;
+    entries.push(first)?;
     if let Some(second) = second {
-        entries.push(second).map_err(|_| NoMemory)?;
+        entries.push(second)?;
     }
     let sig = Sig::Structure(Components { entries });
     entry(alloc, name, Kind::Module, What::Module(rc(alloc, sig)?))
@@ -112,7 +112,7 @@ fn tuple(store: &mut Store, parts: &[NodeRef]) -> Result<NodeRef, NoMemory> {
     if are_nodes(store, parts) {
         store.tuple(parts)
     } else {
-        Err(NoMemory)
+        Err(AllocError)
     }
 }
 
@@ -121,7 +121,7 @@ fn arrow(store: &mut Store, from: NodeRef, to: NodeRef) -> Result<NodeRef, NoMem
     if (from.0 as usize) < count && (to.0 as usize) < count {
         store.arrow(from, to)
     } else {
-        Err(NoMemory)
+        Err(AllocError)
     }
 }
 
@@ -136,7 +136,7 @@ fn con(
     if are_nodes(store, args) {
         store.con(&origin, args)
     } else {
-        Err(NoMemory)
+        Err(AllocError)
     }
 }
 
@@ -150,7 +150,7 @@ fn printed(
     if (n.0 as usize) < store.len() && are_nodes(store, weak) {
         print_type(alloc, store, n, env, weak)
     } else {
-        Err(NoMemory)
+        Err(AllocError)
     }
 }
 

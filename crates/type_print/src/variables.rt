@@ -8,7 +8,7 @@ ghost use Rattle.type_print_model.specs.Variables.{variables_of};
 ghost use Rattle.type_print.specs.Shown.{shown};
 ghost use Rattle.type_print.specs.Meeting.{roots_of, met_of, AreNamed, Counts, Adds, Marks, Goes, IsMove, move_of, moves_of, entries, enters, leaves};
 
-use std::alloc::Global;
+use std::alloc::{AllocError, Global};
 use std::collections::{HashMap, HashSet};
 use type_nodes::{NoMemory, NodeRef, Store, View};
 
@@ -127,7 +127,7 @@ impl Variables {
         let name = self.next_name(root)?;
         match self.names.insert(root.0, name) {
             Ok(_) => self.mark(root),
-            Err(_) => Err(NoMemory),
+            Err(_) => Err(AllocError),
         }
     }
 
@@ -150,7 +150,7 @@ fn next(count: u64) -> Result<u64, NoMemory>
 {
     match count.checked_add(1) {
         Some(next) => Ok(next),
-        None => Err(NoMemory),
+        None => Err(AllocError),
     }
 }
 
@@ -159,7 +159,7 @@ fn insert(roots: &mut HashSet<u64>, root: NodeRef) -> Result<(), NoMemory>
 {
     match roots.insert(root.0) {
         Ok(_) => Ok(()),
-        Err(_) => Err(NoMemory),
+        Err(_) => Err(AllocError),
     }
 }
 
@@ -173,7 +173,7 @@ fn take_next(left: &mut Vec<Step>) -> Option<Step>
 fn push(left: &mut Vec<Step>, step: Step) -> Result<(), NoMemory>
     ensures { OnOk result (moves_of left.new.items ≡ move_of step ∷ moves_of left.old.items) }
 {
-    left.push(step).map_err(|_| NoMemory)
+    left.push(step).map_err(|_| AllocError)
 }
 
 /// The first of a root's parts comes next, and the way back behind them all.

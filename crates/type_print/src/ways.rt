@@ -5,7 +5,7 @@ ghost use Rattle.type_print.specs.Ways.{way_view, step_view};
 ghost use Rattle.type_print.specs.Paths.{way_text};
 
 use crate::cut::push;
-use std::alloc::Global;
+use std::alloc::{AllocError, Global};
 use std::rc::Rc;
 use text_terms::{NoMemory, RcStr};
 
@@ -42,7 +42,7 @@ pub(crate) fn share(way: &Way) -> Result<Way, NoMemory>
         None => Ok(None),
         Some(step) => match Rc::clone(step) {
             Ok(step) => Ok(Some(step)),
-            Err(_) => Err(NoMemory),
+            Err(_) => Err(AllocError),
         },
     }
 }
@@ -57,7 +57,7 @@ pub(crate) fn into_module(alloc: Global, name: &RcStr, way: &Way) -> Result<Way,
     };
     match Rc::new(alloc, step) {
         Ok(step) => Ok(Some(step)),
-        Err(_) => Err(NoMemory),
+        Err(_) => Err(AllocError),
     }
 }
 
@@ -91,5 +91,5 @@ fn names_of_way(alloc: Global, way: &Way) -> Result<Vec<RcStr>, NoMemory>
 fn add_name(names: &mut Vec<RcStr>, name: &RcStr) -> Result<(), NoMemory>
     ensures { OnOk result (map str_bytes names.new.items ≡ map str_bytes names.old.items ++ str_bytes name.now ∷ []) }
 {
-    names.push(name.share()?).map_err(|_| NoMemory)
+    names.push(name.share()?).map_err(|_| AllocError)
 }

@@ -4,7 +4,7 @@ ghost use Rattle.text_terms.specs.Bytes.{str_bytes};
 ghost use Rattle.type_terms.specs.Views.{type_of, spelled};
 
 use crate::types::{Origin, Ty};
-use std::alloc::Global;
+use std::alloc::{AllocError, Global};
 use text_terms::NoMemory;
 
 impl Origin {
@@ -18,7 +18,7 @@ impl Origin {
                 path,
                 name: self.name.share()?,
             }),
-            Err(_) => Err(NoMemory),
+            Err(_) => Err(AllocError),
         }
     }
 }
@@ -27,7 +27,7 @@ impl Origin {
 pub fn boxed(alloc: Global, ty: Ty) -> Result<Box<Ty>, NoMemory>
     ensures { IfOk result (λ b. b.value ≡ ty) }
 {
-    Box::new(alloc, ty).map_err(|_| NoMemory)
+    Box::new(alloc, ty).map_err(|_| AllocError)
 }
 
 /// The same type once more.
@@ -56,7 +56,7 @@ fn copies_of(alloc: Global, types: &[Ty]) -> Result<Vec<Ty>, NoMemory>
     let mut copies = Vec::new(alloc);
     for ty in types {
         let copy = copy_of(alloc, ty)?;
-        copies.push(copy).map_err(|_| NoMemory)?;
+        copies.push(copy)?;
     }
     Ok(copies)
 }

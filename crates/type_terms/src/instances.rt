@@ -48,7 +48,7 @@ fn all_filled(alloc: Global, types: &[Ty], args: &[Ty]) -> Result<Vec<Ty>, NoMem
     let mut all = Vec::new(alloc);
     for ty in types {
         let one = filled(alloc, ty, args)?;
-        all.push(one).map_err(|_| NoMemory)?;
+        all.push(one)?;
     }
     Ok(all)
 }
@@ -108,7 +108,7 @@ fn replace_in_all(alloc: Global, types: &[Ty], changes: &OriginMap) -> Result<Ve
     let mut all = Vec::new(alloc);
     for ty in types {
         let one = replace_origins(alloc, ty, changes)?;
-        all.push(one).map_err(|_| NoMemory)?;
+        all.push(one)?;
     }
     Ok(all)
 }

@@ -8,7 +8,8 @@ use crate::types::Ty;
 
 /// Whether two types are equal. Origins are compared by their paths, never by their names.
 pub fn same_type(a: &Ty, b: &Ty) -> bool
-    ensures { IsTrue result ↔ (type_of a.now ≡ type_of b.now) }
+    ensures equal { IsTrue result ↔ (type_of a.now ≡ type_of b.now) }
+    ensures decided { result ≡ same (type_of a.now) (type_of b.now) }
 {
     is_same(a, b)
 }

@@ -8,7 +8,7 @@
 ghost use Rattle.std.specs.Prelude.{◌≡◌, ℕ, ◌<◌, ◌^◌, length, option_map, None, OnOk, OnErr};
 ghost use Rattle.typed_index.specs.Seen.{seen_in, seen_among, seen_at, with_note, before_item, at_number};
 
-use std::alloc::Global;
+use std::alloc::{AllocError, Global};
 use syntax_tree::{NoMemory, NodeId};
 
 /// What is recorded for the nodes of one item, by their numbers; None where nothing is.
@@ -82,7 +82,7 @@ fn make_rows<S: Drop>(alloc: Global, items: &mut Vec<Nodes<S>>, item: usize) -> 
     ensures room { OnOk result (item < length items.new.items) }
 {
     for _ in items.len()..item + 1 {
-        items.push(Vec::new(alloc)).map_err(|_| NoMemory)?;
+        items.push(Vec::new(alloc))?;
     }
     Ok(())
 }
@@ -95,7 +95,7 @@ fn make_places<S: Drop>(nodes: &mut Nodes<S>, number: usize) -> Result<(), NoMem
     ensures room { OnOk result (number < length nodes.new.items) }
 {
     for _ in nodes.len()..number + 1 {
-        nodes.push(None).map_err(|_| NoMemory)?;
+        nodes.push(None)?;
     }
     Ok(())
 }

@@ -7,11 +7,10 @@ ghost use Rattle.std.specs.Prelude.{◌≡◌, ◌+◌, ◌≤◌, ◌<◌, [], 
 ghost use Rattle.undo_trail.specs.Undoing.{all_undone};
 ghost use Rattle.undo_trail.specs.Trails.{writes_of, HasRoom};
 
-use std::alloc::Global;
+use std::alloc::{AllocError, Global};
 
-/// Want of memory.
-#[derive(Clone, Copy, Debug, PartialEq, Eq)]
-pub struct NoMemory;
+/// Want of memory: the library's own error of an allocation.
+pub type NoMemory = AllocError;
 
 /// Cells whose writes can be undone.
 pub trait Undo {
@@ -53,7 +52,7 @@ impl<W: Drop> Trail<W> {
         ensures same { writes_of self.new ≡ writes_of self.old }
         ensures room { OnOk result (HasRoom self.new) }
     {
-        self.writes.reserve(1).map_err(|_| NoMemory)
+        self.writes.reserve(1)
     }
 
     /// Adds a write behind the others. `NoMemory` only where there is no room for it.
@@ -62,7 +61,7 @@ impl<W: Drop> Trail<W> {
         ensures err { OnErr result (writes_of self.new ≡ writes_of self.old) }
         ensures room { HasRoom self.old → IsOk result }
     {
-        self.writes.push(w).map_err(|_| NoMemory)
+        self.writes.push(w).map_err(|_| AllocError)
     }
 
     /// The end of the trail.
