@@ -73,13 +73,13 @@ pub extends : (old m1 m2 : List Node) (a w m f level : ℕ) → a < length old �
 extends old m1 m2 a w m f level ina inw fr ins V reads covers =
     let x : Typ = apply (rigid_for old fr.image) (V w) in
     let has = covers.each x (rigid_instance old V w fr.image) in
-    let (W1, r1, same1) = fr.read V reads in
+    let (U, r1, same1) = fr.read V reads in
     let longer = fr.extends.longer in
-    let has1 = same_instances V W1 old m1 a x (same_bound old m1 w f fr) (same1 a ina) has in
+    let has1 = same_instances V U old m1 a x (same_bound old m1 w f fr) (same1 a ina) has in
     let unbound : HasNoBoundVar m1 x = λ b bound. rigid_unbound old fr.image (V w) b (sym (same_bound old m1 w f fr b) ∙ bound) in
-    let (W2, r2, same2, is) = ins.read W1 x r1 has1 unbound in
-    let frozen : W1 f ≡ x = (fr.reads W1 r1).1 ∙ ap (apply (rigid_for old fr.image)) (same1 w inw) in
-    (W2, r2, (λ n lt. same2 n (omega arith) ∙ same1 n lt), is ∙ sym frozen ∙ sym (same2 f fr.inside))
+    let (X, r2, same2, is) = ins.read U x r1 has1 unbound in
+    let frozen : U f ≡ x = (fr.reads U r1).1 ∙ ap (apply (rigid_for old fr.image)) (same1 w inw) in
+    (X, r2, (λ n lt. same2 n (omega arith) ∙ same1 n lt), is ∙ sym frozen ∙ sym (same2 f fr.inside))
 
 abbrev first_of : Path → ℕ
 first_of [] = 0
