@@ -74,13 +74,22 @@ impl<'a> Group<'a> {
     ) -> Result<Group<'a>, NoMemory>
         ensures goes { Goes at.old at.new }
     {
+        let mut group = Group::begun(at, node, number, env)?;
+        group.patterns_first(at, depth)?;
+        Ok(group)
+    }
+
+    /// The same before its patterns, one level further in.
+    fn begun(at: &mut Parts, node: &'a Node, number: u32, env: &Env) -> Result<Group<'a>, NoMemory>
+        ensures goes { Goes at.old at.new }
+    {
         at.level = at.level.saturating_add(1);
         let recursion = if token(node, 1).is_some() {
             Recursion::Rec
         } else {
             Recursion::None
         };
-        let mut group = Group {
+        Ok(Group {
             env: env.share()?,
             recursion,
             bindings: there(at, env, operands(at.alloc(), node, number, 2)?)?,
@@ -90,9 +99,7 @@ impl<'a> Group<'a> {
             within: env.share()?,
             open: None,
             bound: Vec::new(at.alloc()),
-        };
-        group.patterns_first(at, depth)?;
-        Ok(group)
+        })
     }
 
     /// With `rec` all patterns come first, and their names have one type each in all right sides.
@@ -104,12 +111,24 @@ impl<'a> Group<'a> {
         }
         for place in 0..self.bindings.len() {
             if let Some(binding) = self.bindings.get(place).copied() {
-                at.note_plain(binding.number, &self.env)?;
-                self.match_pattern(at, binding, depth)?;
+                self.pattern_first(at, binding, depth)?;
             }
         }
         self.within = self.with_group(at)?;
         Ok(())
+    }
+
+    /// Records a binding, and types its pattern.
+    fn pattern_first(
+        &mut self,
+        at: &mut Parts,
+        binding: Operand<'a>,
+        depth: Depth,
+    ) -> Result<(), NoMemory>
+        ensures goes { Goes at.old at.new }
+    {
+        at.note_plain(binding.number, &self.env)?;
+        self.match_pattern(at, binding, depth)
     }
 
     /// The environment outside with the names of the group's patterns.
@@ -150,10 +169,32 @@ impl<'a> Group<'a> {
         let Some(node) = binding.node else {
             return Ok(None);
         };
+        self.note_binding(at, binding.number)?;
+        self.open_next(at, node, binding.number, depth)
+    }
+
+    /// Records a binding, where its pattern didn't come first.
+    fn note_binding(&self, at: &mut Parts, number: u32) -> Result<(), NoMemory>
+        ensures goes { Goes at.old at.new }
+    {
         if self.recursion == Recursion::None {
-            at.note_plain(binding.number, &self.env)?;
+            at.note_plain(number, &self.env)
+        } else {
+            Ok(())
         }
-        let open = self.open_binding(at, node, binding.number, depth)?;
+    }
+
+    /// Goes on to the right side of a binding.
+    fn open_next(
+        &mut self,
+        at: &mut Parts,
+        node: &'a Node,
+        number: u32,
+        depth: Depth,
+    ) -> Result<Option<Next<'a>>, NoMemory>
+        ensures goes { Goes at.old at.new }
+    {
+        let open = self.open_binding(at, node, number, depth)?;
         let next = next_of(Some(&open.body), &open.inner)?;
         self.open = Some(open);
         Ok(next)
@@ -171,18 +212,31 @@ impl<'a> Group<'a> {
     {
         let parameters = operands(at.alloc(), node, number, 1)?;
         let (parameters, inner) = type_parameters(at, &parameters, &self.within, depth)?;
-        let annotation = match first_operand(node, number, 3) {
-            Some(written) => {
-                Some(at.read_type(written, &self.within, &Variables::OfItem, depth)?)
-            }
-            None => None,
-        };
+        let annotation = self.annotation(at, first_operand(node, number, 3), depth)?;
         Ok(Open {
             parameters,
             annotation,
             body: operand_in(node, number, 5),
             inner,
         })
+    }
+
+    /// The type that is written for a right side, where one is.
+    fn annotation(
+        &self,
+        at: &mut Parts,
+        written: Option<Operand<'a>>,
+        depth: Depth,
+    ) -> Result<Option<NodeRef>, NoMemory>
+        ensures goes { Goes at.old at.new }
+    {
+        match written {
+            Some(written) => {
+                let ty = at.read_type(written, &self.within, &Variables::OfItem, depth)?;
+                Ok(Some(ty))
+            }
+            None => Ok(None),
+        }
     }
 
     /// Takes the type of a right side: it is the annotation, and the pattern is the whole.

@@ -2,7 +2,7 @@
 ghost use Rattle.decl_typing.specs.Goes.{Goes};
 
 use crate::functions::with_names;
-use crate::patterns::type_pattern;
+use crate::patterns::{Matched, type_pattern};
 use crate::rows::{Next, equal_if, next_of, type_or_var, unnamed};
 use crate::uses::Used;
 use crate::warnings::Rows;
@@ -111,6 +111,21 @@ impl<'a> Cases<'a> {
         Ok(())
     }
 
+    /// The pattern of a case, which is the subject's type.
+    fn match_subject(
+        &self,
+        at: &mut Parts,
+        pattern: Operand<'a>,
+        depth: Depth,
+    ) -> Result<Matched<'a>, NoMemory>
+        ensures goes { Goes at.old at.new }
+    {
+        let mut seen = Vec::new(at.alloc());
+        let matched = type_pattern(at, pattern, &self.env, &mut seen, depth.inside()?)?;
+        equal_if(at, pattern.span, matched.ty, self.subject_type, &self.env)?;
+        Ok(matched)
+    }
+
     fn open_node(
         &mut self,
         at: &mut Parts,
@@ -122,9 +137,7 @@ impl<'a> Cases<'a> {
     {
         let pattern = operand_in(node, number, 0);
         let faults_before = at.faults.list.len();
-        let mut seen = Vec::new(at.alloc());
-        let matched = type_pattern(at, pattern, &self.env, &mut seen, depth.inside()?)?;
-        equal_if(at, pattern.span, matched.ty, self.subject_type, &self.env)?;
+        let matched = self.match_subject(at, pattern, depth)?;
         let guard = first_operand(node, number, 2);
         self.rows.add(
             at,

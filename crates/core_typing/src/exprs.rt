@@ -1,5 +1,7 @@
 //! The walk over expressions.
+ghost use Rattle.std.specs.Prelude.{OnOk};
 ghost use Rattle.decl_typing.specs.Goes.{Goes};
+ghost use Rattle.decl_typing.specs.Notes.{IsRecorded};
 
 use crate::apply::{Application, constructor_path};
 use crate::bindings::LetIn;
@@ -15,13 +17,14 @@ use decl_typing::{Depth, Env, NoMemory, NodeRef, Parts};
 use row_parts::{Operand, operand_in, operands_of, token, written_path};
 use syntax_tree::{Node, RcStr, RowName, Token, TokenKind};
 
-/// Types an expression, or a missing one.
+/// Types an expression, or a missing one. It is recorded.
 pub fn type_expr(
     at: &mut Parts,
     e: Operand<'_>,
     env: &Env,
     depth: Depth,
 ) -> Result<NodeRef, NoMemory>
+    ensures recorded { OnOk result (IsRecorded at.new e.entry.number) }
     ensures goes { Goes at.old at.new }
 {
     type_under(at, e, Sign::None, env, depth)
@@ -36,6 +39,7 @@ fn type_under(
     env: &Env,
     depth: Depth,
 ) -> Result<NodeRef, NoMemory>
+    ensures recorded { OnOk result (IsRecorded at.new e.entry.number) }
     ensures goes { Goes at.old at.new }
 {
     let Some(node) = e.node else {
@@ -71,6 +75,7 @@ fn concluded(
     env: &Env,
     depth: Depth,
 ) -> Result<NodeRef, NoMemory>
+    ensures recorded { OnOk result (IsRecorded at.new number) }
     ensures goes { Goes at.old at.new }
 {
     let used = row.finish(at, depth)?;

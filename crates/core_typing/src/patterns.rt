@@ -1,7 +1,8 @@
 //! Patterns.
-ghost use Rattle.std.specs.Prelude.{◌≡◌, ◌∷◌, List, IfOk};
+ghost use Rattle.std.specs.Prelude.{◌≡◌, ◌∷◌, List, IfOk, OnOk};
 ghost use Rattle.core_typing.specs.declared.patterns.Matched.{Matched};
 ghost use Rattle.decl_typing.specs.Goes.{Goes};
+ghost use Rattle.decl_typing.specs.Notes.{IsRecorded};
 
 use crate::constants::{Sign, constant};
 use crate::rows::{equal_if, type_or_var};
@@ -61,7 +62,7 @@ fn is_new<'a>(at: &mut Parts, seen: &mut Mentioned<'a>, token: &'a Token) -> Res
     Ok(())
 }
 
-/// Types a pattern, or a missing one, behind the names that stand in front of it; those in it are added to them.
+/// Types a pattern, or a missing one, behind the names that stand in front of it; those in it are added to them. It is recorded.
 #[cycle(patterns)]
 pub fn type_pattern<'a>(
     at: &mut Parts,
@@ -70,11 +71,12 @@ pub fn type_pattern<'a>(
     seen: &mut Mentioned<'a>,
     depth: Depth,
 ) -> Result<Matched<'a>, NoMemory>
+    ensures recorded { OnOk result (IsRecorded at.new p.entry.number) }
     ensures goes { Goes at.old at.new }
 {
     let Some(node) = p.node else {
-        at.note_plain(p.number, env)?;
         let ty = at.var()?;
+        at.note_plain(p.number, env)?;
         return Ok(nothing_bound(at, ty));
     };
     match node.row {
@@ -149,6 +151,7 @@ fn formed<'a>(
     seen: &mut Mentioned<'a>,
     depth: Depth,
 ) -> Result<Matched<'a>, NoMemory>
+    ensures recorded { OnOk result (IsRecorded at.new number) }
     ensures goes { Goes at.old at.new }
 {
     match node.row {
@@ -201,6 +204,7 @@ fn name<'a>(
     env: &Env,
     seen: &mut Mentioned<'a>,
 ) -> Result<Matched<'a>, NoMemory>
+    ensures recorded { OnOk result (IsRecorded at.new number) }
     ensures goes { Goes at.old at.new }
 {
     let ty = at.var()?;
@@ -226,6 +230,7 @@ fn named<'a>(
     env: &Env,
     seen: &mut Mentioned<'a>,
 ) -> Result<Matched<'a>, NoMemory>
+    ensures recorded { OnOk result (IsRecorded at.new number) }
     ensures goes { Goes at.old at.new }
 {
     let ty = type_or_var(at, inner.types.first().copied())?;
@@ -307,6 +312,7 @@ fn applied<'a>(
     seen: &mut Mentioned<'a>,
     depth: Depth,
 ) -> Result<Matched<'a>, NoMemory>
+    ensures recorded { OnOk result (IsRecorded at.new number) }
     ensures goes { Goes at.old at.new }
 {
     let head = operand_in(node, number, 0);
@@ -330,6 +336,7 @@ fn ask_argument(
     env: &Env,
     built: NodeRef,
 ) -> Result<(), NoMemory>
+    ensures recorded { OnOk result (IsRecorded at.new number) }
     ensures goes { Goes at.old at.new }
 {
     equal_if(at, span, found, wanted, env)?;
@@ -371,6 +378,7 @@ fn alternatives<'a>(
     seen: &mut Mentioned<'a>,
     depth: Depth,
 ) -> Result<Matched<'a>, NoMemory>
+    ensures recorded { OnOk result (IsRecorded at.new number) }
     ensures goes { Goes at.old at.new }
 {
     let parts = operands_of(at.alloc(), node, number)?;
@@ -514,24 +522,36 @@ struct FieldPattern<'a> {
     pattern: Option<Operand<'a>>,
 }
 
-/// The fields of a record pattern.
+/// The fields of a record pattern; one that is missing is recorded.
 fn fields_of<'a>(
-    at: &Parts,
+    at: &mut Parts,
     node: &'a Node,
     number: u32,
-) -> Result<Vec<FieldPattern<'a>>, NoMemory> {
+    env: &Env,
+) -> Result<Vec<FieldPattern<'a>>, NoMemory>
+    ensures goes { Goes at.old at.new }
+{
     let mut fields = Vec::new(at.alloc());
     for part in operands(at.alloc(), node, number, 1)? {
-        if let Some(inner) = part.node {
-            let field = FieldPattern {
-                node: part,
-                label: written_path(at.alloc(), inner, 0, 1)?,
-                pattern: first_operand(inner, part.number, 3),
-            };
-            push(&mut fields, field)?;
+        match part.node {
+            Some(inner) => push(&mut fields, field_of(at, part, inner)?)?,
+            None => at.note_plain(part.number, env)?,
         }
     }
     Ok(fields)
+}
+
+/// l = p
+fn field_of<'a>(
+    at: &Parts,
+    part: Operand<'a>,
+    node: &'a Node,
+) -> Result<FieldPattern<'a>, NoMemory> {
+    Ok(FieldPattern {
+        node: part,
+        label: written_path(at.alloc(), node, 0, 1)?,
+        pattern: first_operand(node, part.number, 3),
+    })
 }
 
 /// { l = p }: the type by its labels, the fields, and the record
@@ -544,9 +564,10 @@ fn record<'a>(
     seen: &mut Mentioned<'a>,
     depth: Depth,
 ) -> Result<Matched<'a>, NoMemory>
+    ensures recorded { OnOk result (IsRecorded at.new number) }
     ensures goes { Goes at.old at.new }
 {
-    let fields = fields_of(at, node, number)?;
+    let fields = fields_of(at, node, number, env)?;
     let found = record_of_fields(at, env, &fields)?;
     let ty = type_or_var(at, found.ty())?;
     let mut matched = nothing_bound(at, ty);
@@ -620,27 +641,38 @@ fn bound_in<'a>(
 ) -> Result<Vec<BoundName<'a>>, NoMemory>
     ensures goes { Goes at.old at.new }
 {
-    let wanted = begin_field(at, env, found, field, labels)?;
+    let wanted = begin_field(at, found, field, labels)?;
     let Some(part) = field.pattern else {
-        return pun(at, env, field, wanted, seen);
+        return pun(at, env, found, field, wanted, seen);
     };
+    note_label(at, env, found, field)?;
     let inner = type_pattern(at, part, env, seen, depth.inside()?)?;
     equal_if(at, part.span, inner.ty, wanted, env)?;
     Ok(inner.names)
 }
 
-/// Records a field, and asks that its label is new where the record is found. The type of the field, where one is asked.
-fn begin_field<'a>(
+/// Records a field with what its label's names stand for.
+fn note_label(
     at: &mut Parts,
     env: &Env,
+    found: &RecordType,
+    field: &FieldPattern<'_>,
+) -> Result<(), NoMemory>
+    ensures goes { Goes at.old at.new }
+{
+    let names = field_names(at, env, found, &field.label)?;
+    at.note(field.node.number, env, None, names)
+}
+
+/// Asks that the label of a field is new where the record is found. The type of the field, where one is asked.
+fn begin_field<'a>(
+    at: &mut Parts,
     found: &RecordType,
     field: &FieldPattern<'a>,
     labels: &mut Mentioned<'a>,
 ) -> Result<Option<NodeRef>, NoMemory>
     ensures goes { Goes at.old at.new }
 {
-    let names = field_names(at, env, found, &field.label)?;
-    at.note(field.node.number, env, None, names)?;
     ask_new_label(at, found, labels, field.label.last)?;
     field_type(at, found, field.label.last)
 }
@@ -656,10 +688,11 @@ pub fn field_names(
     at.seen_names(env, label, entry.as_ref())
 }
 
-/// A field without a pattern of its own binds the name of its label, with the type of the field.
+/// A field without a pattern of its own binds the name of its label, with the type of the field. It is recorded with that.
 fn pun<'a>(
     at: &mut Parts,
     env: &Env,
+    found: &RecordType,
     field: &FieldPattern<'a>,
     wanted: Option<NodeRef>,
     seen: &mut Mentioned<'a>,
@@ -668,6 +701,7 @@ fn pun<'a>(
 {
     let mut names = Vec::new(at.alloc());
     let Some(token) = field.label.last else {
+        note_label(at, env, found, field)?;
         return Ok(names);
     };
     is_new(at, seen, token)?;

@@ -56,24 +56,32 @@ pub struct RecordRow<'a> {
     turn: Turn,
 }
 
-/// The fields behind the first part.
+/// The fields behind the first part; one that is missing is recorded.
 fn push_fields<'a>(
-    at: &Parts,
+    at: &mut Parts,
     node: &'a Node,
     number: u32,
+    env: &Env,
     fields: &mut Vec<Field<'a>>,
-) -> Result<(), NoMemory> {
+) -> Result<(), NoMemory>
+    ensures goes { Goes at.old at.new }
+{
     for part in operands(at.alloc(), node, number, 5)? {
-        if let Some(inner) = part.node {
-            let field = Field {
-                number: part.number,
-                label: written_path(at.alloc(), inner, 0, 1)?,
-                value: first_operand(inner, part.number, 3),
-            };
-            push(fields, field)?;
+        match part.node {
+            Some(inner) => push(fields, field_of(at, inner, part.number)?)?,
+            None => at.note_plain(part.number, env)?,
         }
     }
     Ok(())
+}
+
+/// l = e
+fn field_of<'a>(at: &Parts, node: &'a Node, number: u32) -> Result<Field<'a>, NoMemory> {
+    Ok(Field {
+        number,
+        label: written_path(at.alloc(), node, 0, 1)?,
+        value: first_operand(node, number, 3),
+    })
 }
 
 impl<'a> RecordRow<'a> {
@@ -103,7 +111,7 @@ impl<'a> RecordRow<'a> {
             turn: Turn::First,
         };
         row.first_field(at)?;
-        push_fields(at, node, number, &mut row.fields)?;
+        push_fields(at, node, number, env, &mut row.fields)?;
         row.find_at_once(at)?;
         Ok(row)
     }

@@ -3,6 +3,7 @@ use Rattle.std.proofs.Common.{◌≡◌, ◌≢◌, ℕ, zero, suc, ◌<◌, ◌
 use Rattle.std.specs.Prelude.{slice_get, All, unwrap_or}
 use Rattle.type_model.specs.Types.{Path, Typ, types_of}
 use Rattle.type_model.specs.Types.{Typ as type, Typs as types}
+use Rattle.type_model.specs.Substitutions.{apply}
 use Rattle.type_nodes.specs.Nodes.{Node, Var, Rigid, Link, Arrow, Tuple, Con, parts, bound_level, IsNode}
 use Rattle.type_nodes.specs.Links.{root, reading, IsComposite}
 use Rattle.type_nodes.specs.States.{State}
@@ -11,14 +12,15 @@ use Rattle.type_nodes.specs.Readings.{Types, IsReading, FitsNode}
 use Rattle.type_nodes.proofs.LinkedReadings.{root_type}
 use Rattle.type_nodes.proofs.Lists.{same_or_other}
 use Rattle.type_nodes.proofs.Roots.{closed_root}
-use Rattle.signature_model.specs.Changes.{Change, change, change_all, in_front}
+use Rattle.signature_model.specs.Changes.{Change, argument, change, change_all, put}
 use Rattle.level_unify.specs.Copies.{Table, image, with_parts, Extends}
 use Rattle.level_unify.specs.Walks.{StandsIn}
-use Rattle.decl_typing.specs.Copying.{KeepsUnbound, IsChanged, AreChanged, AreCopied}
+use Rattle.decl_typing.specs.declared.changes.Changes.{Changes}
+use Rattle.decl_typing.specs.Copying.{declared, IsDeclaredOver, real_at, change_by, KeepsUnbound, IsChanged, AreChanged, AreCopied}
 use Rattle.decl_typing.proofs.Extending.{reading_before, stands_after, unbound_after, makes_extends, made_here}
 
 -- a copy stays one when nodes are added
-pub changed_after : (old new : List Node) (c : Change) (n m : ℕ) → Extends old new → IsNode old n → IsChanged old c n m → IsChanged new c n m
+pub changed_after : (old new : List Node) (c : Types → Change) (n m : ℕ) → Extends old new → IsNode old n → IsChanged old c n m → IsChanged new c n m
 changed_after old new c n m extends lt changed = record {
   inside = let l = extends.longer in let i = changed.inside in omega arith;
   reads = λ V reads keeps. changed.reads V (reading_before old new V extends reads) (λ v stands free. keeps v (stands_after old new v n extends stands) (unbound_after old new v extends free));
@@ -34,14 +36,14 @@ stands_part nodes v n c k d reads lt stands = record {
 }
 
 -- the root's copy is the node's
-pub root_changed : (nodes : List Node) (c : Change) (n m : ℕ) → IsChanged nodes c (root nodes n) m → IsChanged nodes c n m
+pub root_changed : (nodes : List Node) (c : Types → Change) (n m : ℕ) → IsChanged nodes c (root nodes n) m → IsChanged nodes c n m
 root_changed nodes c n m changed = record {
   inside = changed.inside;
-  reads = λ V reads keeps. changed.reads V reads (λ v stands free. keeps v (stands_root nodes v n stands) free) ∙ ap (change c) (sym (root_type nodes V reads.fits n));
+  reads = λ V reads keeps. changed.reads V reads (λ v stands free. keeps v (stands_root nodes v n stands) free) ∙ ap (change (c V)) (sym (root_type nodes V reads.fits n));
 }
 
 -- where a node's root has a copy, the image is one of the node
-pub image_changed : (nodes : List Node) (c : Change) (T : Table) (n : ℕ) → AreChanged nodes c T → T (root nodes n) ≢ None → IsChanged nodes c n (image nodes T n)
+pub image_changed : (nodes : List Node) (c : Types → Change) (T : Table) (n : ℕ) → AreChanged nodes c T → T (root nodes n) ≢ None → IsChanged nodes c n (image nodes T n)
 image_changed nodes c T n kept has = at (T (root nodes n)) refl
   where
     at : (o : Option ℕ) → T (root nodes n) ≡ o → IsChanged nodes c n (image nodes T n)
@@ -65,14 +67,27 @@ fits_built V n (Arrow a b) is h = h
 fits_built V n (Tuple ms) is h = h
 fits_built V n (Con path name ms) is h = h
 
--- a node with its path after the change
-abbrev pub moved_node : Change → Node → Node
+-- the path of an origin after the changes
+abbrev pub path_after : Changes → Path → Path
+path_after c o = (change_by c (λ n. type.Var n)).path o
+
+-- a node with its path after the changes
+abbrev pub moved_node : Changes → Node → Node
 moved_node c (Var level scope) = Var level scope
 moved_node c Rigid = Rigid
 moved_node c (Link m) = Link m
 moved_node c (Arrow a b) = Arrow a b
 moved_node c (Tuple ms) = Tuple ms
-moved_node c (Con path name ms) = Con (c.path path) name ms
+moved_node c (Con path name ms) = Con (path_after c path) name ms
+
+-- no type stands in the place of a node's origin
+abbrev pub HasNoReal : Changes → Node → Type 0
+HasNoReal c (Var level scope) = Unit {0}
+HasNoReal c Rigid = Unit {0}
+HasNoReal c (Link m) = Unit {0}
+HasNoReal c (Arrow a b) = Unit {0}
+HasNoReal c (Tuple ms) = Unit {0}
+HasNoReal c (Con path name ms) = (V : Types) → real_at V path c.real.items ≡ None
 
 all_changed : (c : Change) (V : Types) (f : ℕ → ℕ) (ms : List ℕ) → All (λ p. V (f p) ≡ change c (V p)) ms → types_of (map V (map f ms)) ≡ change_all c (types_of (map V ms))
 all_changed c V f [] h = refl
@@ -81,18 +96,20 @@ all_changed c V f (m ∷ ms) h =
     let there : types_of (map V (map f ms)) ≡ change_all c (types_of (map V ms)) = all_changed c V f ms (λ k d lt. h (suc k) d (omega arith)) in
     cc
 
--- the type from the copies of the parts is the type after the change
-built_changed : (made : List Path) (u : ℕ) (V : Types) (f : ℕ → ℕ) (x : Node) → IsComposite x → All (λ p. V (f p) ≡ change (in_front made u) (V p)) (parts x) →
-    built V (moved_node (in_front made u) (with_parts f x)) ≡ change (in_front made u) (built V x)
-built_changed made u V f (Var level scope) is h = absurd is
-built_changed made u V f Rigid is h = absurd is
-built_changed made u V f (Link m) is h = absurd is
-built_changed made u V f (Arrow a b) is h =
-    let l : V (f a) ≡ change (in_front made u) (V a) = h zero zero (omega arith) in
-    let r : V (f b) ≡ change (in_front made u) (V b) = h 1 zero (omega arith) in
+-- the type from the copies of the parts is the type after the changes
+built_changed : (c : Changes) (V : Types) (f : ℕ → ℕ) (x : Node) → IsComposite x → HasNoReal c x → All (λ p. V (f p) ≡ change (change_by c V) (V p)) (parts x) →
+    built V (moved_node c (with_parts f x)) ≡ change (change_by c V) (built V x)
+built_changed c V f (Var level scope) is none h = absurd is
+built_changed c V f Rigid is none h = absurd is
+built_changed c V f (Link m) is none h = absurd is
+built_changed c V f (Arrow a b) is none h =
+    let l : V (f a) ≡ change (change_by c V) (V a) = h zero zero (omega arith) in
+    let r : V (f b) ≡ change (change_by c V) (V b) = h 1 zero (omega arith) in
     cc
-built_changed made u V f (Tuple ms) is h = ap type.Tuple (all_changed (in_front made u) V f ms h)
-built_changed made u V f (Con path name ms) is h = ap (type.Con ((in_front made u).path path)) (all_changed (in_front made u) V f ms h)
+built_changed c V f (Tuple ms) is none h = ap type.Tuple (all_changed (change_by c V) V f ms h)
+built_changed c V f (Con path name ms) is none h =
+    ap (type.Con (path_after c path)) (all_changed (change_by c V) V f ms h)
+    ∙ ap (λ o. put (path_after c path) o (change_all (change_by c V) (types_of (map V ms)))) (sym (none V))
 
 reads_built : (nodes : List Node) (V : Types) (n : ℕ) (x : Node) → IsReading nodes V → reading nodes n ≡ Some x → IsComposite x → V n ≡ built V x
 reads_built nodes V n x reads at is = root_type nodes V reads.fits n ∙ root_built x is at
@@ -100,25 +117,28 @@ reads_built nodes V n x reads at is = root_type nodes V reads.fits n ∙ root_bu
     root_built : (x : Node) → IsComposite x → reading nodes n ≡ Some x → V (root nodes n) ≡ built V x
     root_built x is at = fits_built V (root nodes n) x is (reads.fits.each (root nodes n) x at)
 
--- a node over the copies of another's parts is its copy
-pub over_changed : (old new : List Node) (made : List Path) (u : ℕ) (T : Table) (n m : ℕ) (x : Node) → Extends old new → IsComposite x → reading old n ≡ Some x → AreCopied old (in_front made u) T (parts x) → IsNode new m →
-    ((V : Types) → IsReading new V → V m ≡ built V (moved_node (in_front made u) (with_parts (image old T) x))) → IsNode old n → IsChanged new (in_front made u) n m
-over_changed old new made u T n m x extends is at copied inside types n_in = changed_new
+-- the copies of the parts have their types after the change
+abbrev pub PartsChanged : (Types → Change) → Types → (ℕ → ℕ) → Node → Type 0
+PartsChanged c V f x = All (λ p. V (f p) ≡ change (c V) (V p)) (parts x)
+
+-- a node is another's copy where it has the type after the change, once its parts' copies have
+over_changed : (old new : List Node) (c : Types → Change) (T : Table) (n m : ℕ) (x : Node) → Extends old new → IsComposite x → reading old n ≡ Some x → AreCopied old c T (parts x) → IsNode new m →
+    ((V : Types) → IsReading new V → PartsChanged c V (image old T) x → V m ≡ change (c V) (built V x)) → IsNode old n → IsChanged new c n m
+over_changed old new c T n m x extends is at copied inside types n_in = changed_new
   where
-    old_changed : (V : Types) → IsReading new V → KeepsUnbound old (in_front made u) V n → V m ≡ change (in_front made u) (V n)
+    old_changed : (V : Types) → IsReading new V → KeepsUnbound old c V n → V m ≡ change (c V) (V n)
     old_changed V reads keeps =
         let before = reading_before old new V extends reads in
-        types V reads
-        ∙ built_changed made u V (image old T) x is (λ k d lt. (copied k d lt).1.reads V before (λ v stands free. keeps v (stands_part old v n x k d at lt stands) free))
-        ∙ ap (change (in_front made u)) (sym (reads_built old V n x before at is))
+        types V reads (λ k d lt. (copied k d lt).1.reads V before (λ v stands free. keeps v (stands_part old v n x k d at lt stands) free))
+        ∙ ap (change (c V)) (sym (reads_built old V n x before at is))
 
-    changed_new : IsChanged new (in_front made u) n m
+    changed_new : IsChanged new c n m
     changed_new = record {
       inside = inside;
       reads = λ V reads keeps. old_changed V reads (λ v stands free. keeps v (stands_after old new v n extends stands) (unbound_after old new v extends free));
     }
 
-moved_composite : (c : Change) (f : ℕ → ℕ) (x : Node) → IsComposite x → IsComposite (moved_node c (with_parts f x))
+moved_composite : (c : Changes) (f : ℕ → ℕ) (x : Node) → IsComposite x → IsComposite (moved_node c (with_parts f x))
 moved_composite c f (Var level scope) is = is
 moved_composite c f Rigid is = is
 moved_composite c f (Link m) is = is
@@ -127,13 +147,21 @@ moved_composite c f (Tuple ms) is = tt
 moved_composite c f (Con path name ms) is = tt
 
 -- a node that was made over the copies
-pub made_changed : (old new : State) (made : List Path) (u : ℕ) (T : Table) (n m : ℕ) (x : Node) → IsComposite x → reading old.nodes n ≡ Some x → AreCopied old.nodes (in_front made u) T (parts x) →
-    Makes old new m (moved_node (in_front made u) (with_parts (image old.nodes T) x)) → IsNode old.nodes n → IsChanged new.nodes (in_front made u) n m
-made_changed old new made u T n m x is at copied makes n_in =
-    let y = moved_node (in_front made u) (with_parts (image old.nodes T) x) in
+pub made_changed : (old new : State) (c : Changes) (T : Table) (n m : ℕ) (x : Node) → IsComposite x → HasNoReal c x → reading old.nodes n ≡ Some x → AreCopied old.nodes (change_by c) T (parts x) →
+    Makes old new m (moved_node c (with_parts (image old.nodes T) x)) → IsNode old.nodes n → IsChanged new.nodes (change_by c) n m
+made_changed old new c T n m x is none at copied makes n_in =
+    let y = moved_node c (with_parts (image old.nodes T) x) in
     let here = made_here old new m y makes in
-    over_changed old.nodes new.nodes made u T n m x (makes_extends old new m y makes) is at copied here.0
-    (λ V reads. fits_built V m y (moved_composite (in_front made u) (image old.nodes T) x is) (reads.fits.each m y here.1)) n_in
+    over_changed old.nodes new.nodes (change_by c) T n m x (makes_extends old new m y makes) is at copied here.0
+    (λ V reads h. fits_built V m y (moved_composite c (image old.nodes T) x is) (reads.fits.each m y here.1) ∙ built_changed c V (image old.nodes T) x is none h) n_in
+
+-- a declared type over the copies of a constructor's arguments, where it stands in the place of the origin
+pub real_changed : (old new : List Node) (c : Changes) (T : Table) (n m r arity : ℕ) (path : Path) (name ms : List ℕ) → Extends old new → reading old n ≡ Some (Con path name ms) → AreCopied old (change_by c) T ms →
+    IsDeclaredOver new r arity (map (image old T) ms) m → ((V : Types) → real_at V path c.real.items ≡ Some (declared arity (V r))) → IsNode old n → IsChanged new (change_by c) n m
+real_changed old new c T n m r arity path name ms extends at copied over real n_in =
+    over_changed old new (change_by c) T n m (Con path name ms) extends tt at copied over.inside
+    (λ V reads h. over.reads V reads ∙ ap (λ ts. apply (argument ts) (declared arity (V r))) (all_changed (change_by c V) V (image old T) ms h)
+    ∙ ap (λ o. put (path_after c path) o (change_all (change_by c V) (types_of (map V ms)))) (sym (real V))) n_in
 
 map_types : (nodes : List Node) (V : Types) (f : ℕ → ℕ) (ms : List ℕ) → IsReading nodes V → All (λ p. f p ≡ root nodes p) ms → types_of (map V ms) ≡ types_of (map V (map f ms))
 map_types nodes V f [] reads h = refl
@@ -153,24 +181,24 @@ same_built nodes V f (Arrow a b) reads is h =
 same_built nodes V f (Tuple ms) reads is h = ap type.Tuple (map_types nodes V f ms reads h)
 same_built nodes V f (Con path name ms) reads is h = ap (type.Con path) (map_types nodes V f ms reads h)
 
--- the node itself, where its parts' copies are their roots and its path stays
-pub itself_changed : (nodes : List Node) (made : List Path) (u : ℕ) (T : Table) (n : ℕ) (x : Node) → Extends nodes nodes → IsComposite x → reading nodes n ≡ Some x → AreCopied nodes (in_front made u) T (parts x) →
-    All (λ p. image nodes T p ≡ root nodes p) (parts x) → moved_node (in_front made u) (with_parts (image nodes T) x) ≡ with_parts (image nodes T) x → IsNode nodes n → IsChanged nodes (in_front made u) n n
-itself_changed nodes made u T n x same is at copied roots path n_in =
-    over_changed nodes nodes made u T n n x same is at copied n_in
-    (λ V reads. reads_built nodes V n x reads at is ∙ same_built nodes V (image nodes T) x reads is roots ∙ ap (built V) (sym path)) n_in
+-- the node itself, where its parts' copies are their roots, and it keeps its path and origin
+pub itself_changed : (nodes : List Node) (c : Changes) (T : Table) (n : ℕ) (x : Node) → Extends nodes nodes → IsComposite x → HasNoReal c x → reading nodes n ≡ Some x → AreCopied nodes (change_by c) T (parts x) →
+    All (λ p. image nodes T p ≡ root nodes p) (parts x) → moved_node c (with_parts (image nodes T) x) ≡ with_parts (image nodes T) x → IsNode nodes n → IsChanged nodes (change_by c) n n
+itself_changed nodes c T n x same is none at copied roots path n_in =
+    over_changed nodes nodes (change_by c) T n n x same is at copied n_in
+    (λ V reads h. reads_built nodes V n x reads at is ∙ same_built nodes V (image nodes T) x reads is roots ∙ ap (built V) (sym path) ∙ built_changed c V (image nodes T) x is none h) n_in
 
 -- a variable is its own copy
-pub var_changed : (nodes : List Node) (c : Change) (n level scope : ℕ) → IsNode nodes n → root nodes n ≡ n → reading nodes n ≡ Some (Var level scope) → IsChanged nodes c n n
+pub var_changed : (nodes : List Node) (c : Types → Change) (n level scope : ℕ) → IsNode nodes n → root nodes n ≡ n → reading nodes n ≡ Some (Var level scope) → IsChanged nodes c n n
 var_changed nodes c n level scope inside end at = record { inside = inside; reads = λ V reads keeps. go (same_or_other level bound_level) V reads keeps }
   where
-    go : (level ≡ bound_level) ⊎ (level ≢ bound_level) → (V : Types) → IsReading nodes V → KeepsUnbound nodes c V n → V n ≡ change c (V n)
+    go : (level ≡ bound_level) ⊎ (level ≢ bound_level) → (V : Types) → IsReading nodes V → KeepsUnbound nodes c V n → V n ≡ change (c V) (V n)
     go (inl bound) V reads keeps =
         let here : slice_get nodes n ≡ Some (Var bound_level scope) = ap (slice_get nodes) (sym end) ∙ at ∙ ap (λ l. Some (Var l scope)) bound in
         let own : V n ≡ type.Var n = reads.own n scope here in
-        own ∙ sym (ap (change c) own)
+        own ∙ sym (ap (change (c V)) own)
     go (inr free) V reads keeps = sym (keeps n (record { each = λ F closed has. has }) (inl (record { inside = inside; level = level; scope = scope; reads = at; unbound = free })))
 
 -- a rigid variable is its own copy
-pub rigid_changed : (nodes : List Node) (c : Change) (n : ℕ) → IsNode nodes n → reading nodes n ≡ Some Rigid → IsChanged nodes c n n
+pub rigid_changed : (nodes : List Node) (c : Types → Change) (n : ℕ) → IsNode nodes n → reading nodes n ≡ Some Rigid → IsChanged nodes c n n
 rigid_changed nodes c n inside at = record { inside = inside; reads = λ V reads keeps. sym (keeps n (record { each = λ F closed has. has }) (inr (inside, at))) }

@@ -44,6 +44,11 @@ made_here old new n c made =
     let at : slice_get new.nodes n ≡ Some c = ap (λ xs. slice_get xs n) made.added.nodes ∙ ap (slice_get (old.nodes ++ c ∷ [])) made.added.number ∙ get-append_last old.nodes c in
     (slice_get_within new.nodes n c at, at)
 
+-- a call that makes a node
+pub node_extends : (r : Result NodeRef AllocError) (old new : State) (c : Node) → IfOk r (λ n. Makes old new n.0 c) → OnOk r (Extends old.nodes new.nodes)
+node_extends (Ok n) old new c made = makes_extends old new n.0 c made
+node_extends (Err e) old new c made = tt
+
 inside_or_not : (n k : ℕ) → (n < k) ⊎ (n < k → ⊥)
 inside_or_not n zero = inr (λ h. omega arith)
 inside_or_not zero (suc k) = inl (omega arith)

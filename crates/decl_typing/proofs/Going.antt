@@ -1,6 +1,6 @@
 -- What was there stays, through one call after another.
 use Rattle.std.proofs.Common.{◌≡◌, ◌≢◌, ◌∙◌, ◌++◌, [], ◌∷◌, List, ℕ, refl, sym, ap, subst, append_assoc, append-nil}
-use Rattle.std.specs.Prelude.{Option, IfOk, OnOk, OnErr, Result, Ok, Err}
+use Rattle.std.specs.Prelude.{Option, Some, IfOk, OnOk, OnErr, Result, Ok, Err}
 use Rattle.type_terms.specs.declared.types.NodeRef.{NodeRef}
 use Rattle.std.specs.declared.alloc.AllocError.{AllocError}
 use Rattle.type_nodes.specs.Nodes.{Node}
@@ -16,6 +16,7 @@ use Rattle.level_unify.specs.Solutions.{Tightens}
 use Rattle.level_unify.proofs.Tightening.{tightens_refl, tightens_same, tightens_trans, makes_tightens, quantifies_tightens, generalised_tightens, extends_tightens}
 use Rattle.env_table.specs.declared.faults.Fault.{Fault}
 use Rattle.env_table.specs.declared.faults.FaultKind.{FaultKind}
+use Rattle.env_table.specs.declared.seen.Seen.{Seen}
 use Rattle.decl_typing.specs.declared.parts.Parts.{Parts}
 use Rattle.decl_typing.specs.declared.parts.Telling.{Telling}
 use Rattle.decl_typing.specs.declared.parts.Telling.TheVariants.{Aloud, Quiet}
@@ -38,6 +39,7 @@ goes_refl at = record {
   types = tightens_refl at.store.nodes;
   faults = begins_same (faults_of at) (faults_of at) refl;
   index = λ i p other. refl;
+  recorded = λ i p seen is. is;
   item = refl;
   telling = refl;
   constants = refl;
@@ -50,6 +52,7 @@ goes_trans a b c p q = record {
   types = tightens_trans a.store.nodes b.store.nodes c.store.nodes p.types q.types;
   faults = begins_trans (faults_of a) (faults_of b) (faults_of c) p.faults q.faults;
   index = λ i k other. q.index i k (λ e. other (e ∙ p.item)) ∙ p.index i k other;
+  recorded = λ i k seen is. q.recorded i k seen (p.recorded i k seen is);
   item = q.item ∙ p.item;
   telling = q.telling ∙ p.telling;
   constants = q.constants ∙ p.constants;
@@ -65,6 +68,7 @@ store_goes old new k t s = record {
   types = t;
   faults = begins_same (faults_of old) (faults_of new) (ap (λ f. f.list.items) s.faults);
   index = λ i p other. ap (λ x. seen_at x i p) s.index;
+  recorded = λ i p seen is. ap (λ x. seen_at x i p) s.index ∙ is;
   item = s.item;
   telling = s.telling;
   constants = s.constants;
@@ -77,18 +81,20 @@ faults_goes old new b s = record {
   types = tightens_same old.store.nodes new.store.nodes (ap (λ x. x.nodes) s.store);
   faults = b;
   index = λ i p other. ap (λ x. seen_at x i p) s.index;
+  recorded = λ i p seen is. ap (λ x. seen_at x i p) s.index ∙ is;
   item = s.item;
   telling = s.telling;
   constants = s.constants;
 }
 
 -- a call that records something for a node of the item
-pub index_goes : (old new : Parts) → ((i p : ℕ) → i ≢ old.item → seen_at new.index i p ≡ seen_at old.index i p) → OnlyIndex old new → Goes old new
-index_goes old new n s = record {
+pub index_goes : (old new : Parts) → ((i p : ℕ) → i ≢ old.item → seen_at new.index i p ≡ seen_at old.index i p) → ((i p : ℕ) (seen : Seen) → seen_at old.index i p ≡ Some seen → seen_at new.index i p ≡ Some seen) → OnlyIndex old new → Goes old new
+index_goes old new n r s = record {
   store = keeps_same old.store new.store s.store;
   types = tightens_same old.store.nodes new.store.nodes (ap (λ x. x.nodes) s.store);
   faults = begins_same (faults_of old) (faults_of new) (ap (λ f. f.list.items) s.faults);
   index = n;
+  recorded = r;
   item = s.item;
   telling = s.telling;
   constants = s.constants;
@@ -103,6 +109,7 @@ inner_goes old inner after new p g q t = record {
   faults = begins_trans (faults_of old) (faults_of inner) (faults_of new) (begins_same (faults_of old) (faults_of inner) (ap (λ f. f.list.items) p.faults))
       (begins_trans (faults_of inner) (faults_of after) (faults_of new) g.faults (begins_same (faults_of after) (faults_of new) (ap (λ f. f.list.items) q.faults)));
   index = λ i k other. ap (λ x. seen_at x i k) q.index ∙ g.index i k (λ e. other (e ∙ p.item)) ∙ ap (λ x. seen_at x i k) p.index;
+  recorded = λ i k seen is. ap (λ x. seen_at x i k) q.index ∙ g.recorded i k seen (ap (λ x. seen_at x i k) p.index ∙ is);
   item = q.item ∙ g.item ∙ p.item;
   telling = t;
   constants = q.constants ∙ g.constants ∙ p.constants;

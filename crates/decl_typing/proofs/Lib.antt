@@ -5,6 +5,7 @@ pub mod Recording
 pub mod Joining
 pub mod Differing
 pub mod Extending
+pub mod Declaring
 pub mod Copied
 pub mod Tasks
 pub mod Imaging

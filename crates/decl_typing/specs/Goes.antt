@@ -1,5 +1,5 @@
 -- What a call changes of what typing works on, and what stays.
-use Rattle.std.specs.Prelude.{◌≡◌, ◌≢◌, List, [], ◌∷◌, ◌++◌, ℕ}
+use Rattle.std.specs.Prelude.{◌≡◌, ◌≢◌, List, [], ◌∷◌, ◌++◌, ℕ, Some}
 use Rattle.text_terms.specs.Bytes.{str_bytes}
 use Rattle.text_terms.specs.declared.Span.{Span}
 use Rattle.text_terms.specs.declared.RcStr.{RcStr}
@@ -8,6 +8,7 @@ use Rattle.typed_index.specs.Seen.{seen_at}
 use Rattle.level_unify.specs.Solutions.{Tightens}
 use Rattle.env_table.specs.declared.faults.Fault.{Fault}
 use Rattle.env_table.specs.declared.faults.FaultKind.{FaultKind}
+use Rattle.env_table.specs.declared.seen.Seen.{Seen}
 use Rattle.decl_typing.specs.declared.parts.Telling.{Telling}
 use Rattle.decl_typing.specs.declared.parts.Telling.TheVariants.{Aloud, Quiet}
 use Rattle.decl_typing.specs.declared.parts.Parts.{Parts}
@@ -65,13 +66,14 @@ abbrev pub Begins : (old new : List Fault) → Type 0
 Begins old new = (more : List Fault) × (new ≡ old ++ more)
 
 -- What was there stays, whatever is typed behind it: the states of the store at its marks; each node, whose type is never loosened;
--- the faults, behind which others may stand; what is recorded for the nodes of other items; the item, whether faults are told,
--- and the types of constants. The level isn't named, since a `let` that is begun stands between its parts.
+-- the faults, behind which others may stand; what is recorded, and that nothing is recorded for the nodes of other items; the item,
+-- whether faults are told, and the types of constants. The level isn't named, since a `let` that is begun stands between its parts.
 pub record Goes (old new : Parts) : Type 0 where
   pub store : Keeps old.store new.store
   pub types : Tightens old.store.nodes new.store.nodes
   pub faults : Begins (faults_of old) (faults_of new)
   pub index : (i p : ℕ) → i ≢ old.item → seen_at new.index i p ≡ seen_at old.index i p
+  pub recorded : (i p : ℕ) (seen : Seen) → seen_at old.index i p ≡ Some seen → seen_at new.index i p ≡ Some seen
   pub item : new.item ≡ old.item
   pub telling : new.telling ≡ old.telling
   pub constants : new.constants ≡ old.constants

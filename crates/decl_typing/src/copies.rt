@@ -1,22 +1,23 @@
 //! Copies of types with something else in place of bound variables, unknown types and origins.
 ghost use Rattle.std.specs.Prelude.{◌≡◌, ◌∷◌, ◌++◌, [], ℕ, List, All, Some, false, true, map, IfOk, OnOk};
 ghost use Rattle.text_terms.specs.Bytes.{str_bytes};
-ghost use Rattle.type_model.specs.Types.{Path as TypePath};
 ghost use Rattle.type_nodes.specs.Nodes.{Node as plain, IsNode, IsSound, parts};
 ghost use Rattle.type_nodes.specs.Links.{root as root_of, reading, IsComposite};
 ghost use Rattle.type_nodes.specs.Views.{numbers};
-ghost use Rattle.signature_model.specs.Changes.{Change, in_front as moving};
 ghost use Rattle.level_unify.specs.Copies.{Extends, table_of, image as image_in};
+ghost use Rattle.type_substitution.specs.Substituting.{IsSubstituted};
 ghost use Rattle.decl_typing.specs.Goes.{Goes};
-ghost use Rattle.decl_typing.specs.Copying.{moved, MovesAlone, IsChanged, AreCopied, Stands, SetsCopy, KeepsCopies, seen_node};
+ghost use Rattle.decl_typing.specs.declared.changes.Changes.{Changes as PlainChanges};
+ghost use Rattle.decl_typing.specs.Copying.{change_by, AreDeclared, IsDeclared, IsDeclaredOver, LeavesVariables, IsChanged, AreCopied, Stands, SetsCopy, KeepsCopies, seen_node};
 
 use crate::changes::{Changes, Put};
-use crate::nodes::is_node;
+use crate::nodes::{are_nodes, is_node};
 use crate::parts::Parts;
 use owned_lists::push;
 use std::alloc::AllocError;
 use std::collections::HashMap;
 use type_nodes::{NoMemory, NodeRef, Origin, View};
+use type_substitution::substituted;
 
 /// The level that is kept for bound variables.
 const BOUND: u32 = 4_294_967_295;
@@ -119,7 +120,7 @@ fn view_of(at: &Parts, n: NodeRef) -> Result<Seen, NoMemory>
 
 impl Copies {
     pub fn new(at: &Parts) -> Copies
-        ensures { (c : Change) → KeepsCopies at.now.store.nodes c result }
+        ensures { (changes : PlainChanges) → AreDeclared at.now.store.nodes changes.real.items → KeepsCopies at.now.store.nodes changes result }
     {
         Copies {
             table: HashMap::new(at.alloc()),
@@ -141,8 +142,8 @@ impl Copies {
     }
 
     /// The copy of a type. What nothing changes in is the type itself, and so is a number that is no node.
-    /// Where paths alone are moved, its type is that of the node after the change at each reading at which the change leaves
-    /// the variables that aren't bound as they are, and no other node changes.
+    /// Where bound variables and unknown types stay, its type is that of the node after the change at each reading at which the
+    /// change leaves the variables that aren't bound as they are, and no other node changes.
     pub fn copy(
         &mut self,
         at: &mut Parts,
@@ -150,8 +151,8 @@ impl Copies {
         how: Copying<'_>,
     ) -> Result<NodeRef, NoMemory>
         ensures otherwise { IfOk result (λ m. (IsNode at.old.store.nodes n.0 → ⊥) → m ≡ n) }
-        ensures changed { IfOk result (λ m. MovesAlone how.entry → KeepsCopies at.old.store.nodes (moved how.entry.changes.now) self.old → IsNode at.old.store.nodes n.0 → KeepsCopies at.new.store.nodes (moved how.entry.changes.now) self.new × IsChanged at.new.store.nodes (moved how.entry.changes.now) n.0 m.0) }
-        ensures extends { OnOk result (MovesAlone how.entry → Extends at.old.store.nodes at.new.store.nodes) }
+        ensures changed { IfOk result (λ m. LeavesVariables how.entry → KeepsCopies at.old.store.nodes how.entry.changes.now self.old → IsNode at.old.store.nodes n.0 → KeepsCopies at.new.store.nodes how.entry.changes.now self.new × IsChanged at.new.store.nodes (change_by how.entry.changes.now) n.0 m.0) }
+        ensures extends { OnOk result (Extends at.old.store.nodes at.new.store.nodes) }
         ensures goes { Goes at.old at.new }
     {
         if !is_node(&at.store, n) {
@@ -164,9 +165,9 @@ impl Copies {
 
     /// Does all that is still to be done.
     fn work(&mut self, at: &mut Parts, how: Copying<'_>) -> Result<(), NoMemory>
-        ensures stands { OnOk result (MovesAlone how.entry → (aim : ℕ) → Stands at.old.store.nodes (moved how.entry.changes.now) (table_of self.old.table) self.old.todo.items aim → Stands at.new.store.nodes (moved how.entry.changes.now) (table_of self.new.table) [] aim) }
+        ensures stands { OnOk result (LeavesVariables how.entry → (aim : ℕ) → Stands at.old.store.nodes how.entry.changes.now (table_of self.old.table) self.old.todo.items aim → Stands at.new.store.nodes how.entry.changes.now (table_of self.new.table) [] aim) }
         ensures done { OnOk result (self.new.todo.items ≡ []) }
-        ensures extends { OnOk result (MovesAlone how.entry → Extends at.old.store.nodes at.new.store.nodes) }
+        ensures extends { OnOk result (Extends at.old.store.nodes at.new.store.nodes) }
         ensures goes { Goes at.old at.new }
     {
         for _ in 0..u64::MAX {
@@ -179,8 +180,8 @@ impl Copies {
     }
 
     fn step(&mut self, at: &mut Parts, task: Task, how: Copying<'_>) -> Result<(), NoMemory>
-        ensures stands { OnOk result (MovesAlone how.entry → (aim : ℕ) → Stands at.old.store.nodes (moved how.entry.changes.now) (table_of self.old.table) (self.old.todo.items ++ task ∷ []) aim → Stands at.new.store.nodes (moved how.entry.changes.now) (table_of self.new.table) self.new.todo.items aim) }
-        ensures extends { OnOk result (MovesAlone how.entry → Extends at.old.store.nodes at.new.store.nodes) }
+        ensures stands { OnOk result (LeavesVariables how.entry → (aim : ℕ) → Stands at.old.store.nodes how.entry.changes.now (table_of self.old.table) (self.old.todo.items ++ task ∷ []) aim → Stands at.new.store.nodes how.entry.changes.now (table_of self.new.table) self.new.todo.items aim) }
+        ensures extends { OnOk result (Extends at.old.store.nodes at.new.store.nodes) }
         ensures goes { Goes at.old at.new }
     {
         match task {
@@ -217,8 +218,8 @@ impl Copies {
     }
 
     fn enter(&mut self, at: &mut Parts, n: NodeRef, how: Copying<'_>) -> Result<(), NoMemory>
-        ensures stands { OnOk result (MovesAlone how.entry → (aim : ℕ) → Stands at.old.store.nodes (moved how.entry.changes.now) (table_of self.old.table) (self.old.todo.items ++ Task.Enter n ∷ []) aim → Stands at.new.store.nodes (moved how.entry.changes.now) (table_of self.new.table) self.new.todo.items aim) }
-        ensures same { OnOk result (MovesAlone how.entry → at.new ≡ at.old) }
+        ensures stands { OnOk result (LeavesVariables how.entry → (aim : ℕ) → Stands at.old.store.nodes how.entry.changes.now (table_of self.old.table) (self.old.todo.items ++ Task.Enter n ∷ []) aim → Stands at.new.store.nodes how.entry.changes.now (table_of self.new.table) self.new.todo.items aim) }
+        ensures extends { OnOk result (Extends at.old.store.nodes at.new.store.nodes) }
         ensures goes { Goes at.old at.new }
     {
         let root = at.root(n);
@@ -242,8 +243,9 @@ impl Copies {
         scope: u64,
         how: Copying<'_>,
     ) -> Result<(), NoMemory>
-        ensures set { OnOk result (MovesAlone how.entry → SetsCopy (table_of self.old.table) (table_of self.new.table) n.0 n.0) }
-        ensures same { OnOk result (MovesAlone how.entry → at.new ≡ at.old) }
+        ensures set { OnOk result (LeavesVariables how.entry → SetsCopy (table_of self.old.table) (table_of self.new.table) n.0 n.0) }
+        ensures same { OnOk result (LeavesVariables how.entry → at.new ≡ at.old) }
+        ensures extends { OnOk result (Extends at.old.store.nodes at.new.store.nodes) }
         ensures rest { self.new.todo ≡ self.old.todo }
         ensures goes { Goes at.old at.new }
     {
@@ -260,7 +262,8 @@ impl Copies {
         scope: u64,
         how: Copying<'_>,
     ) -> Result<NodeRef, NoMemory>
-        ensures itself { IfOk result (λ m. MovesAlone how.entry → (m ≡ n) × (at.new ≡ at.old)) }
+        ensures itself { IfOk result (λ m. LeavesVariables how.entry → (m ≡ n) × (at.new ≡ at.old)) }
+        ensures extends { OnOk result (Extends at.old.store.nodes at.new.store.nodes) }
         ensures table { self.new.table ≡ self.old.table }
         ensures todo { self.new.todo ≡ self.old.todo }
         ensures goes { Goes at.old at.new }
@@ -299,8 +302,8 @@ impl Copies {
     }
 
     fn leave(&mut self, at: &mut Parts, n: NodeRef, how: Copying<'_>) -> Result<(), NoMemory>
-        ensures stands { OnOk result (MovesAlone how.entry → (aim : ℕ) → Stands at.old.store.nodes (moved how.entry.changes.now) (table_of self.old.table) (self.old.todo.items ++ Task.Leave n ∷ []) aim → Stands at.new.store.nodes (moved how.entry.changes.now) (table_of self.new.table) self.new.todo.items aim) }
-        ensures extends { OnOk result (MovesAlone how.entry → Extends at.old.store.nodes at.new.store.nodes) }
+        ensures stands { OnOk result (LeavesVariables how.entry → (aim : ℕ) → Stands at.old.store.nodes how.entry.changes.now (table_of self.old.table) (self.old.todo.items ++ Task.Leave n ∷ []) aim → Stands at.new.store.nodes how.entry.changes.now (table_of self.new.table) self.new.todo.items aim) }
+        ensures extends { OnOk result (Extends at.old.store.nodes at.new.store.nodes) }
         ensures goes { Goes at.old at.new }
     {
         let copy = self.rebuilt(at, n, how)?;
@@ -309,8 +312,9 @@ impl Copies {
 
     /// A node over the copies of its parts: itself where none is another.
     fn rebuilt(&self, at: &mut Parts, n: NodeRef, how: Copying<'_>) -> Result<NodeRef, NoMemory>
-        ensures changed { IfOk result (λ m. MovesAlone how.entry → IsNode at.old.store.nodes n.0 → (c : plain) → reading at.old.store.nodes n.0 ≡ Some c → IsComposite c → AreCopied at.old.store.nodes (moved how.entry.changes.now) (table_of self.now.table) (parts c) → IsChanged at.new.store.nodes (moved how.entry.changes.now) n.0 m.0) }
-        ensures extends { OnOk result (MovesAlone how.entry → Extends at.old.store.nodes at.new.store.nodes) }
+        ensures changed { IfOk result (λ m. AreDeclared at.old.store.nodes how.entry.changes.now.real.items → IsNode at.old.store.nodes n.0 → (c : plain) → reading at.old.store.nodes n.0 ≡ Some c → IsComposite c → AreCopied at.old.store.nodes (change_by how.entry.changes.now) (table_of self.now.table) (parts c) → IsChanged at.new.store.nodes (change_by how.entry.changes.now) n.0 m.0) }
+        ensures sound { IsSound at.old.store.nodes }
+        ensures extends { OnOk result (Extends at.old.store.nodes at.new.store.nodes) }
         ensures goes { Goes at.old at.new }
     {
         match view_of(at, n)? {
@@ -328,7 +332,7 @@ impl Copies {
         from: NodeRef,
         to: NodeRef,
     ) -> Result<NodeRef, NoMemory>
-        ensures changed { IfOk result (λ m. (made : List TypePath) (u : ℕ) → IsNode at.old.store.nodes n.0 → reading at.old.store.nodes n.0 ≡ Some (plain.Arrow from.0 to.0) → AreCopied at.old.store.nodes (moving made u) (table_of self.now.table) (from.0 ∷ to.0 ∷ []) → IsChanged at.new.store.nodes (moving made u) n.0 m.0) }
+        ensures changed { IfOk result (λ m. (changes : PlainChanges) → IsNode at.old.store.nodes n.0 → reading at.old.store.nodes n.0 ≡ Some (plain.Arrow from.0 to.0) → AreCopied at.old.store.nodes (change_by changes) (table_of self.now.table) (from.0 ∷ to.0 ∷ []) → IsChanged at.new.store.nodes (change_by changes) n.0 m.0) }
         ensures extends { OnOk result (Extends at.old.store.nodes at.new.store.nodes) }
         ensures goes { Goes at.old at.new }
     {
@@ -341,7 +345,7 @@ impl Copies {
     }
 
     fn tuple(&self, at: &mut Parts, n: NodeRef, parts: &[NodeRef]) -> Result<NodeRef, NoMemory>
-        ensures changed { IfOk result (λ m. (made : List TypePath) (u : ℕ) → IsNode at.old.store.nodes n.0 → reading at.old.store.nodes n.0 ≡ Some (plain.Tuple (numbers parts.now)) → AreCopied at.old.store.nodes (moving made u) (table_of self.now.table) (numbers parts.now) → IsChanged at.new.store.nodes (moving made u) n.0 m.0) }
+        ensures changed { IfOk result (λ m. (changes : PlainChanges) → IsNode at.old.store.nodes n.0 → reading at.old.store.nodes n.0 ≡ Some (plain.Tuple (numbers parts.now)) → AreCopied at.old.store.nodes (change_by changes) (table_of self.now.table) (numbers parts.now) → IsChanged at.new.store.nodes (change_by changes) n.0 m.0) }
         ensures extends { OnOk result (Extends at.old.store.nodes at.new.store.nodes) }
         ensures goes { Goes at.old at.new }
     {
@@ -361,8 +365,8 @@ impl Copies {
         args: &[NodeRef],
         how: Copying<'_>,
     ) -> Result<NodeRef, NoMemory>
-        ensures changed { IfOk result (λ m. MovesAlone how.entry → IsNode at.old.store.nodes n.0 → reading at.old.store.nodes n.0 ≡ Some (plain.Con origin.now.path.items (str_bytes origin.now.name) (numbers args.now)) → AreCopied at.old.store.nodes (moved how.entry.changes.now) (table_of self.now.table) (numbers args.now) → IsChanged at.new.store.nodes (moved how.entry.changes.now) n.0 m.0) }
-        ensures extends { OnOk result (MovesAlone how.entry → Extends at.old.store.nodes at.new.store.nodes) }
+        ensures changed { IfOk result (λ m. AreDeclared at.old.store.nodes how.entry.changes.now.real.items → IsNode at.old.store.nodes n.0 → reading at.old.store.nodes n.0 ≡ Some (plain.Con origin.now.path.items (str_bytes origin.now.name) (numbers args.now)) → AreCopied at.old.store.nodes (change_by how.entry.changes.now) (table_of self.now.table) (numbers args.now) → IsChanged at.new.store.nodes (change_by how.entry.changes.now) n.0 m.0) }
+        ensures extends { OnOk result (Extends at.old.store.nodes at.new.store.nodes) }
         ensures goes { Goes at.old at.new }
     {
         let images = self.images(at, args)?;
@@ -421,15 +425,40 @@ pub fn in_front(at: &Parts, number: u64, origin: &Origin) -> Result<Origin, NoMe
     })
 }
 
-/// A declared type over arguments. The unknown types in it are open, so that they are kept.
+/// A declared type over arguments: its body with the arguments in the place of its parameters, one without an argument as the empty tuple.
 fn over(at: &mut Parts, root: NodeRef, arity: u32, args: &[NodeRef]) -> Result<NodeRef, NoMemory>
+    ensures over { IfOk result (λ m. IsDeclared at.old.store.nodes root.0 arity → All (IsNode at.old.store.nodes) (numbers args.now) → IsDeclaredOver at.new.store.nodes root.0 arity (numbers args.now) m.0) }
+    ensures extends { OnOk result (Extends at.old.store.nodes at.new.store.nodes) }
     ensures goes { Goes at.old at.new }
 {
+    if at.store.len() <= root.0 as usize {
+        return at.var();
+    }
     if arity == 0 {
         return Ok(root);
     }
-    let instance = at.instance(root)?;
-    at.filled(instance, args)
+    if !are_nodes(&at.store, args) {
+        return at.var();
+    }
+    match view_of(at, root)? {
+        Seen::Tuple(parts) => applied(at, parts, args),
+        _ => at.var(),
+    }
+}
+
+/// The last of some types with arguments in the place of the variables that the others are.
+fn applied(at: &mut Parts, types: Vec<NodeRef>, args: &[NodeRef]) -> Result<NodeRef, NoMemory>
+    requires types { All (IsNode at.old.store.nodes) (numbers types.items) }
+    requires args { All (IsNode at.old.store.nodes) (numbers args.now) }
+    ensures applied { IfOk result (λ m. (ps : List ℕ) (body : ℕ) → numbers types.items ≡ ps ++ body ∷ [] → IsSubstituted at.old.store.nodes at.new.store.nodes ps (numbers args.now) body m.0) }
+    ensures extends { OnOk result (Extends at.old.store.nodes at.new.store.nodes) }
+    ensures goes { Goes at.old at.new }
+{
+    let mut parameters = types;
+    match parameters.pop() {
+        Some(body) => substituted(at.alloc, &mut at.store, &parameters, args, body),
+        None => at.var(),
+    }
 }
 
 /// A type as it is.

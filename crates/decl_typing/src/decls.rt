@@ -4,6 +4,7 @@ ghost use Rattle.decl_typing.specs.Goes.{Goes};
 use crate::built_ins::BuiltIn;
 use crate::groups::{
     ConstructorPart, DeclarationPart, LabelPart, Right, Told, declarations_of, last_token,
+    missing_in,
 };
 use crate::names::share_entry;
 use crate::orders::{Mentions, clear, is_set};
@@ -346,7 +347,7 @@ impl Parts {
     ) -> Result<Rc<Declaration>, NoMemory>
         ensures goes { Goes self.old self.new }
     {
-        self.note_plain(part.number, inner)?;
+        self.note_written(part, inner)?;
         self.parameters_are_new(&part.parameters)?;
         let (root, body, shape) = self.declared_deeper(part, renames, inner, depth)?;
         let origin = if renames {
@@ -364,6 +365,24 @@ impl Parts {
         owned(self.alloc, declaration)
     }
 
+    /// Records a declaration, and what is missing on its right side.
+    fn note_written(&mut self, part: &DeclarationPart<'_>, inner: &Env) -> Result<(), NoMemory>
+        ensures goes { Goes self.old self.new }
+    {
+        self.note_plain(part.number, inner)?;
+        self.note_all(&part.missing, inner)
+    }
+
+    /// Records nodes without names of their own, or missing operands, by their numbers.
+    fn note_all(&mut self, numbers: &[u32], env: &Env) -> Result<(), NoMemory>
+        ensures goes { Goes self.old self.new }
+    {
+        for number in numbers {
+            self.note_plain(*number, env)?;
+        }
+        Ok(())
+    }
+
     /// The root, the type and the shape of a declaration, with their variables bound.
     fn declared_deeper(
         &mut self,
@@ -379,9 +398,16 @@ impl Parts {
         let read = self.declared_in(part, renames, inner, depth);
         self.level = level;
         let (root, body, shape) = read?;
-        self.generalise(root)?;
-        self.generalise_shape(&shape)?;
+        self.generalise_declared(root, &shape)?;
         Ok((root, body, shape))
+    }
+
+    /// Binds the variables of a declaration's root and of the types of its shape.
+    fn generalise_declared(&mut self, root: NodeRef, shape: &Shape) -> Result<(), NoMemory>
+        ensures goes { Goes self.old self.new }
+    {
+        self.generalise(root)?;
+        self.generalise_shape(shape)
     }
 
     /// The root, the type and the shape of a declaration.
@@ -525,7 +551,27 @@ impl Parts {
         Ok(())
     }
 
-    /// A constructor; None where its name is missing.
+    /// The type of a constructor, from its argument where it has one.
+    fn constructor_root(
+        &mut self,
+        part: &ConstructorPart<'_>,
+        own: NodeRef,
+        inner: &Env,
+        variables: &Variables,
+        depth: Depth,
+    ) -> Result<NodeRef, NoMemory>
+        ensures goes { Goes self.old self.new }
+    {
+        match part.argument {
+            Some(argument) => {
+                let from = self.read_type(argument, inner, variables, depth)?;
+                self.arrow(from, own)
+            }
+            None => Ok(own),
+        }
+    }
+
+    /// A constructor; None where its name is missing. One with a name is recorded with its entry.
     fn read_constructor(
         &mut self,
         part: &ConstructorPart<'_>,
@@ -536,20 +582,42 @@ impl Parts {
     ) -> Result<Option<Constructor>, NoMemory>
         ensures goes { Goes self.old self.new }
     {
-        self.note_plain(part.number, inner)?;
-        let root = match part.argument {
-            Some(argument) => {
-                let from = self.read_type(argument, inner, variables, depth)?;
-                self.arrow(from, own)?
-            }
-            None => own,
-        };
+        let root = self.constructor_root(part, own, inner, variables, depth)?;
         match part.name {
-            None => Ok(None),
+            None => {
+                self.note_plain(part.number, inner)?;
+                Ok(None)
+            }
             Some(name) => Ok(Some(Constructor {
                 name: name.name.share()?,
                 root,
                 has_argument: part.argument.is_some(),
+            })),
+        }
+    }
+
+    /// A label; None where its name is missing. One with a name is recorded with its entry.
+    fn read_label(
+        &mut self,
+        part: &LabelPart<'_>,
+        record: NodeRef,
+        inner: &Env,
+        variables: &Variables,
+        depth: Depth,
+    ) -> Result<Option<Label>, NoMemory>
+        ensures goes { Goes self.old self.new }
+    {
+        let field = self.read_type(part.body, inner, variables, depth)?;
+        let root = self.arrow(record, field)?;
+        match part.name {
+            None => {
+                self.note_plain(part.number, inner)?;
+                Ok(None)
+            }
+            Some(name) => Ok(Some(Label {
+                name: name.name.share()?,
+                root,
+                is_mutable: part.is_mutable,
             })),
         }
     }
@@ -566,15 +634,7 @@ impl Parts {
     {
         let mut labels = Vec::new(self.alloc);
         for part in parts {
-            self.note_plain(part.number, inner)?;
-            let field = self.read_type(part.body, inner, variables, depth)?;
-            let root = self.arrow(record, field)?;
-            if let Some(name) = part.name {
-                let label = Label {
-                    name: name.name.share()?,
-                    root,
-                    is_mutable: part.is_mutable,
-                };
+            if let Some(label) = self.read_label(part, record, inner, variables, depth)? {
                 push(&mut labels, label)?;
             }
         }
@@ -797,18 +857,30 @@ impl Parts {
     ) -> Result<Declared, NoMemory>
         ensures goes { Goes self.old self.new }
     {
-        let parts = declarations_of(self.alloc, item, number)?;
-        let mentions = Mentions::new(self.alloc, &parts, env)?;
-        let renames = self.renames(&parts, &mentions)?;
-        let renames = self.with_reexports(&parts, &mentions, renames, env, depth)?;
-        let sketched = self.sketched_quietly(&parts, &mentions, &renames, env, depth)?;
-        let inner = self.with_names(&parts, &sketched, env)?;
-        let entries = self.declare_all(&parts, &renames, &inner, depth)?;
-        self.report_cycles(&parts, &renames)?;
+        self.note_all(&missing_in(self.alloc, item, number, 2)?, env)?;
+        self.declared_behind(&declarations_of(self.alloc, item, number)?, env, depth)
+    }
+
+    /// The environment behind declarations, with their entries and origins.
+    fn declared_behind(
+        &mut self,
+        parts: &[DeclarationPart<'_>],
+        env: &Env,
+        depth: Depth,
+    ) -> Result<Declared, NoMemory>
+        ensures goes { Goes self.old self.new }
+    {
+        let mentions = Mentions::new(self.alloc, parts, env)?;
+        let renames = self.renames(parts, &mentions)?;
+        let renames = self.with_reexports(parts, &mentions, renames, env, depth)?;
+        let sketched = self.sketched_quietly(parts, &mentions, &renames, env, depth)?;
+        let inner = self.with_names(parts, &sketched, env)?;
+        let entries = self.declare_all(parts, &renames, &inner, depth)?;
+        self.report_cycles(parts, &renames)?;
         Ok(Declared {
             env: self.with_entries(&entries, env)?,
             entries,
-            makes: self.origins_made(&parts, &renames)?,
+            makes: self.origins_made(parts, &renames)?,
         })
     }
 
@@ -823,14 +895,8 @@ impl Parts {
         ensures goes { Goes self.old self.new }
     {
         let mut entries = Vec::new(self.alloc);
-        if let Some(part) = first_operand(item, number, 1) {
-            if let Some(node) = part.node {
-                if let Some(entry) = self.exception(node, part.number, env, depth)? {
-                    push(&mut entries, entry)?;
-                }
-            } else {
-                self.note_plain(part.number, env)?;
-            }
+        if let Some(entry) = self.exception_part(first_operand(item, number, 1), env, depth)? {
+            push(&mut entries, entry)?;
         }
         Ok(Declared {
             env: self.with_entries(&entries, env)?,
@@ -855,6 +921,27 @@ impl Parts {
         Ok(makes)
     }
 
+    /// What stands behind `exception`; None where it or its name is missing.
+    fn exception_part(
+        &mut self,
+        part: Option<Operand<'_>>,
+        env: &Env,
+        depth: Depth,
+    ) -> Result<Option<Rc<Entry>>, NoMemory>
+        ensures goes { Goes self.old self.new }
+    {
+        let Some(part) = part else {
+            return Ok(None);
+        };
+        match part.node {
+            Some(node) => self.exception(node, part.number, env, depth),
+            None => {
+                self.note_plain(part.number, env)?;
+                Ok(None)
+            }
+        }
+    }
+
     /// A of t, behind `exception`; None where its name is missing.
     fn exception(
         &mut self,
@@ -865,16 +952,25 @@ impl Parts {
     ) -> Result<Option<Rc<Entry>>, NoMemory>
         ensures goes { Goes self.old self.new }
     {
-        let level = self.level;
-        self.level = level.saturating_add(1);
-        let read = self.exception_root(node, number, env, depth);
-        self.level = level;
-        let root = read?;
-        self.generalise(root)?;
+        let root = self.exception_type(node, number, env, depth)?;
         let Some(name) = token(node, 0) else {
             self.note_plain(number, env)?;
             return Ok(None);
         };
+        let entry = self.exception_entry(node, number, name, root)?;
+        let names = self.one_name(Some(&entry))?;
+        self.note(number, env, None, names)?;
+        Ok(Some(entry))
+    }
+
+    /// The entry of an exception of this name and type.
+    fn exception_entry(
+        &self,
+        node: &Node,
+        number: u32,
+        name: &Token,
+        root: NodeRef,
+    ) -> Result<Rc<Entry>, NoMemory> {
         let constructor = Constructor {
             name: name.name.share()?,
             root,
@@ -882,16 +978,32 @@ impl Parts {
         };
         let what = What::Exception(owned(self.alloc, constructor)?);
         let place = self.place(name.span);
-        let entry = new_entry(
+        new_entry(
             self.alloc,
             name.name.share()?,
             Kind::Constructor,
             place,
             what,
-        )?;
-        let names = self.one_name(Some(&entry))?;
-        self.note(number, env, None, names)?;
-        Ok(Some(entry))
+        )
+    }
+
+    /// The type of an exception, with its variables bound.
+    fn exception_type(
+        &mut self,
+        node: &Node,
+        number: u32,
+        env: &Env,
+        depth: Depth,
+    ) -> Result<NodeRef, NoMemory>
+        ensures goes { Goes self.old self.new }
+    {
+        let level = self.level;
+        self.level = level.saturating_add(1);
+        let read = self.exception_root(node, number, env, depth);
+        self.level = level;
+        let root = read?;
+        self.generalise(root)?;
+        Ok(root)
     }
 
     fn exception_root(

@@ -53,6 +53,8 @@ pub struct DeclarationPart<'a> {
     pub parameters: Vec<&'a Token>,
     pub name: Option<&'a Token>,
     pub right: Right<'a>,
+    /// The numbers of what is missing on the right side.
+    pub missing: Vec<u32>,
 }
 
 fn constructor_part<'a>(node: &'a Node, number: u32) -> ConstructorPart<'a> {
@@ -135,6 +137,39 @@ fn right_side<'a>(alloc: Global, operand: Option<Operand<'a>>) -> Result<Right<'
     }
 }
 
+/// The numbers of the operands that are missing in a slot.
+pub fn missing_in(alloc: Global, node: &Node, number: u32, slot: u8) -> Result<Vec<u32>, NoMemory> {
+    let mut missing = Vec::new(alloc);
+    for part in operands(alloc, node, number, slot)? {
+        if part.node.is_none() {
+            push(&mut missing, part.number)?;
+        }
+    }
+    Ok(missing)
+}
+
+/// The numbers of what is missing in a row that tells something of values.
+fn missing_told(alloc: Global, part: Operand<'_>) -> Result<Vec<u32>, NoMemory> {
+    match part.node {
+        None => Ok(vec![in alloc; part.number]?),
+        Some(node) => missing_in(alloc, node, part.number, 1),
+    }
+}
+
+/// The numbers of what is missing on a right side.
+fn missing_right(alloc: Global, right: Option<Operand<'_>>) -> Result<Vec<u32>, NoMemory> {
+    let Some(part) = right else {
+        return Ok(Vec::new(alloc));
+    };
+    match part.node {
+        Some(node) if node.row == RowName::Alias => match first_operand(node, part.number, 2) {
+            Some(kind) => missing_told(alloc, kind),
+            None => Ok(Vec::new(alloc)),
+        },
+        _ => missing_told(alloc, part),
+    }
+}
+
 fn declaration_part<'a>(
     alloc: Global,
     node: &'a Node,
@@ -145,12 +180,14 @@ fn declaration_part<'a>(
         Some(inner) => (tokens(alloc, inner, 1)?, token(inner, 4)),
         None => (Vec::new(alloc), None),
     };
+    let right = first_operand(node, number, 2);
     Ok(DeclarationPart {
         number,
         head: head.number,
         parameters,
         name,
-        right: right_side(alloc, first_operand(node, number, 2))?,
+        right: right_side(alloc, right)?,
+        missing: missing_right(alloc, right)?,
     })
 }
 

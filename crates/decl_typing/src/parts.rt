@@ -3,7 +3,7 @@ ghost use Rattle.std.specs.Prelude.{◌≡◌, ℕ, ◌+◌, ◌*◌, ◌^◌, [
 ghost use Rattle.text_terms.specs.Bytes.{str_bytes};
 ghost use Rattle.typed_index.specs.Seen.{seen_at};
 ghost use Rattle.decl_typing.specs.Goes.{Goes, faults_of, OnlyFaults, OnlyIndex, Told};
-ghost use Rattle.decl_typing.specs.Notes.{Noted, NotedNameless};
+ghost use Rattle.decl_typing.specs.Notes.{Noted, NotedNameless, IsRecorded};
 
 use crate::built_ins::Constants;
 use env_table::{Entry, Env, Fault, FaultKind, Faults, Place, Seen};
@@ -89,7 +89,7 @@ impl Parts {
         }
     }
 
-    /// Records what is seen at a node of the present item.
+    /// Records what is seen at a node of the present item, unless something is recorded for it: the first record stays.
     pub fn note(
         &mut self,
         number: u32,
@@ -98,6 +98,7 @@ impl Parts {
         names: Vec<Option<Rc<Entry>>>,
     ) -> Result<(), NoMemory>
         ensures noted { OnOk result (Noted self.old.telling self.old self.new number (record { env = env.now; ty = ty; names = names })) }
+        ensures recorded { OnOk result (IsRecorded self.new number) }
         ensures failed { OnErr result ((i p : ℕ) → seen_at self.new.index i p ≡ seen_at self.old.index i p) }
         ensures rest { OnlyIndex self.old self.new }
         ensures goes { Goes self.old self.new }
@@ -109,6 +110,9 @@ impl Parts {
             item: self.item,
             pre: number,
         };
+        if self.index.get(id).is_some() {
+            return Ok(());
+        }
         let env = env.share()?;
         self.index.note(id, Seen { env, ty, names })
     }
@@ -116,6 +120,7 @@ impl Parts {
     /// Records that a node without names of its own is treated in an environment.
     pub fn note_plain(&mut self, number: u32, env: &Env) -> Result<(), NoMemory>
         ensures noted { OnOk result (NotedNameless self.old self.new number env.now None) }
+        ensures recorded { OnOk result (IsRecorded self.new number) }
         ensures failed { OnErr result ((i p : ℕ) → seen_at self.new.index i p ≡ seen_at self.old.index i p) }
         ensures rest { OnlyIndex self.old self.new }
         ensures goes { Goes self.old self.new }
@@ -126,6 +131,7 @@ impl Parts {
     /// Records the type of a node without names of its own.
     pub fn note_type(&mut self, number: u32, env: &Env, ty: NodeRef) -> Result<(), NoMemory>
         ensures noted { OnOk result (NotedNameless self.old self.new number env.now (Some ty)) }
+        ensures recorded { OnOk result (IsRecorded self.new number) }
         ensures failed { OnErr result ((i p : ℕ) → seen_at self.new.index i p ≡ seen_at self.old.index i p) }
         ensures rest { OnlyIndex self.old self.new }
         ensures goes { Goes self.old self.new }

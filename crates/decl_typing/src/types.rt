@@ -1,6 +1,7 @@
 //! Type expressions.
+ghost use Rattle.std.specs.Prelude.{◌<◌, IfOk, OnOk};
 ghost use Rattle.decl_typing.specs.Goes.{Goes};
-ghost use Rattle.std.specs.Prelude.{◌<◌, IfOk};
+ghost use Rattle.decl_typing.specs.Notes.{IsRecorded};
 
 use crate::changes::Changes;
 use crate::copies::{Copies, ForBound, ForUnknown, unchanged};
@@ -63,6 +64,13 @@ fn parameter_named(parameters: &[Parameter], name: &str) -> Option<NodeRef> {
     found
 }
 
+/// A type that was read, with the entries of the names in it.
+#[derive(Drop)]
+struct Read {
+    ty: NodeRef,
+    names: Vec<Option<Rc<Entry>>>,
+}
+
 /// The declaration behind a type's entry.
 pub fn declaration_of(entry: &Entry) -> Option<&Rc<Declaration>> {
     match &entry.what {
@@ -72,7 +80,7 @@ pub fn declaration_of(entry: &Entry) -> Option<&Rc<Declaration>> {
 }
 
 impl Parts {
-    /// The type that a type expression, or a missing one, stands for.
+    /// The type that a type expression, or a missing one, stands for. It is recorded with the names in it.
     #[cycle(types)]
     pub fn read_type(
         &mut self,
@@ -81,17 +89,42 @@ impl Parts {
         variables: &Variables,
         depth: Depth,
     ) -> Result<NodeRef, NoMemory>
+        ensures recorded { OnOk result (IsRecorded self.new ty.entry.number) }
+        ensures goes { Goes self.old self.new }
+    {
+        let read = self.read_row(ty, env, variables, depth)?;
+        self.note(ty.number, env, None, read.names)?;
+        Ok(read.ty)
+    }
+
+    /// The same with the names in it.
+    #[cycle(types)]
+    fn read_row(
+        &mut self,
+        ty: Operand<'_>,
+        env: &Env,
+        variables: &Variables,
+        depth: Depth,
+    ) -> Result<Read, NoMemory>
         ensures goes { Goes self.old self.new }
     {
         match ty.node {
             None => {
-                self.note_plain(ty.number, env)?;
-                self.unresolved(variables)
+                let any = self.unresolved(variables)?;
+                Ok(self.unnamed(any))
             }
             Some(node) => {
                 let types = self.read_parts(node, ty.number, env, variables, depth)?;
-                self.formed(node, ty.number, &types, env, variables)
+                self.formed(node, &types, env, variables)
             }
+        }
+    }
+
+    /// A type in which no name stands.
+    fn unnamed(&self, ty: NodeRef) -> Read {
+        Read {
+            ty,
+            names: Vec::new(self.alloc),
         }
     }
 
@@ -129,41 +162,56 @@ impl Parts {
     fn formed(
         &mut self,
         node: &Node,
-        number: u32,
         types: &[NodeRef],
         env: &Env,
         variables: &Variables,
-    ) -> Result<NodeRef, NoMemory>
+    ) -> Result<Read, NoMemory>
         ensures goes { Goes self.old self.new }
     {
         match node.row {
             RowName::Tcon => {
                 let path = written_path(self.alloc, node, 0, 1)?;
-                self.constructed(number, &path, types, env, variables)
+                self.constructed(&path, types, env, variables)
             }
             RowName::Tapp => {
                 let path = written_path(self.alloc, node, 1, 2)?;
-                self.constructed(number, &path, types, env, variables)
-            }
-            RowName::Tvar => {
-                self.note_plain(number, env)?;
-                self.variable(token(node, 0), variables)
-            }
-            RowName::Ttuple => {
-                self.note_plain(number, env)?;
-                self.tuple(types)
-            }
-            RowName::Tarrow => {
-                self.note_plain(number, env)?;
-                match types {
-                    [from, to] => self.arrow(*from, *to),
-                    _ => self.unresolved(variables),
-                }
+                self.constructed(&path, types, env, variables)
             }
             _ => {
-                self.note_plain(number, env)?;
-                self.in_parentheses(node, types, variables)
+                let ty = self.composed(node, types, variables)?;
+                Ok(self.unnamed(ty))
             }
+        }
+    }
+
+    /// The same of a row in which no constructor stands.
+    fn composed(
+        &mut self,
+        node: &Node,
+        types: &[NodeRef],
+        variables: &Variables,
+    ) -> Result<NodeRef, NoMemory>
+        ensures goes { Goes self.old self.new }
+    {
+        match node.row {
+            RowName::Tvar => self.variable(token(node, 0), variables),
+            RowName::Ttuple => self.tuple(types),
+            RowName::Tarrow => self.arrow_between(types, variables),
+            _ => self.in_parentheses(node, types, variables),
+        }
+    }
+
+    /// t -> t
+    fn arrow_between(
+        &mut self,
+        types: &[NodeRef],
+        variables: &Variables,
+    ) -> Result<NodeRef, NoMemory>
+        ensures goes { Goes self.old self.new }
+    {
+        match types {
+            [from, to] => self.arrow(*from, *to),
+            _ => self.unresolved(variables),
         }
     }
 
@@ -232,25 +280,37 @@ impl Parts {
     /// t, (t, t) u: `bound`, `arity`, and the type that the declaration gives the arguments.
     fn constructed(
         &mut self,
-        number: u32,
         path: &WrittenPath<'_>,
         types: &[NodeRef],
         env: &Env,
         variables: &Variables,
-    ) -> Result<NodeRef, NoMemory>
+    ) -> Result<Read, NoMemory>
         ensures goes { Goes self.old self.new }
     {
         let Some(last) = path.last else {
             let names = self.seen_names(env, path, None)?;
-            self.note(number, env, None, names)?;
-            return self.unresolved(variables);
+            let ty = self.unresolved(variables)?;
+            return Ok(Read { ty, names });
         };
         let entry = self.bound(env, path, last, Kind::TypeName)?;
         let names = self.seen_names(env, path, entry.as_ref())?;
-        self.note(number, env, None, names)?;
+        let ty = self.named_type(last, entry.as_ref(), types, variables)?;
+        Ok(Read { ty, names })
+    }
+
+    /// The type that a name's declaration gives the arguments; any type where the name isn't bound.
+    fn named_type(
+        &mut self,
+        last: &Token,
+        entry: Option<&Rc<Entry>>,
+        types: &[NodeRef],
+        variables: &Variables,
+    ) -> Result<NodeRef, NoMemory>
+        ensures goes { Goes self.old self.new }
+    {
         match entry {
             None => self.unresolved(variables),
-            Some(entry) => self.declared(last, &entry, types, variables),
+            Some(entry) => self.declared(last, entry, types, variables),
         }
     }
 

@@ -1,3 +1,5 @@
 pub mod Naming
 pub mod Functors
 pub mod Opening
+mod Asked
+pub mod Finding

@@ -15,7 +15,7 @@ use Rattle.env_table.specs.declared.faults.Fault.{Fault}
 use Rattle.env_table.specs.Views.{kind_of}
 use Rattle.decl_typing.specs.declared.parts.Telling.{Telling}
 use Rattle.module_typing.specs.declared.scenes.Scene.{Scene}
-use Rattle.module_typing.specs.Listed.{values}
+use Rattle.sig_template.specs.Structures.{entries_of}
 use Rattle.module_typing.specs.Scenes.{has_name, stands_once, with_name, SameNames, told_again, repeated, with_names, ToldTwice}
 
 -- scenes with the same three sets have the same names
@@ -61,11 +61,11 @@ told_more t u tu f g e es span a b c k n ke ne h one rest =
 pub noted_more : (f g : Kind → List ℕ → Bool) (e : Entry) (es : List Entry) (k : Kind) (n : List ℕ) → k ≡ e.kind → n ≡ str_bytes e.name → ((j : Kind) (m : List ℕ) → g j m ≡ with_name f k n j m) → (j : Kind) (m : List ℕ) → with_names g es j m ≡ with_names f (e ∷ es) j m
 noted_more f g e es k n ke ne h j m = with_names_same (with_name f e.kind (str_bytes e.name)) g es (same_after f g e k n ke ne h) j m
 
-pub rest_of : (es : List (Rc Entry Global)) (i : ℕ) (r : Rc Entry Global) → i < length es → r ≡ get_or es i r → values (drop i es) ≡ r.value ∷ values (drop (i + 1) es)
-rest_of es i r inside is = ap values (drop_more es i r inside) ∙ ap (λ (x : Rc Entry Global). x.value ∷ values (drop (i + 1) es)) (sym is)
+pub rest_of : (es : List (Rc Entry Global)) (i : ℕ) (r : Rc Entry Global) → i < length es → r ≡ get_or es i r → entries_of (drop i es) ≡ r.value ∷ entries_of (drop (i + 1) es)
+rest_of es i r inside is = ap entries_of (drop_more es i r inside) ∙ ap (λ (x : Rc Entry Global). x.value ∷ entries_of (drop (i + 1) es)) (sym is)
 
-pub none_left : (es : List (Rc Entry Global)) (i : ℕ) → length es ≤ i → values (drop i es) ≡ []
-none_left es i out = ap values (drop_all i es out)
+pub none_left : (es : List (Rc Entry Global)) (i : ℕ) → length es ≤ i → entries_of (drop i es) ≡ []
+none_left es i out = ap entries_of (drop_all i es out)
 
 pub always : {A E : Type 0} {P : Type 0} (r : Result A E) → P → OnOk r P
 always (Ok a) p = p
@@ -79,6 +79,6 @@ pub on_ok : {A E : Type 0} {P Q : Type 0} (r : Result A E) → (P → Q) → OnO
 on_ok (Ok a) f p = f p
 on_ok (Err a) f p = tt
 
-pub values_more : (es : List (Rc Entry Global)) (e : Rc Entry Global) → values (es ++ e ∷ []) ≡ values es ++ e.value ∷ []
+pub values_more : (es : List (Rc Entry Global)) (e : Rc Entry Global) → entries_of (es ++ e ∷ []) ≡ entries_of es ++ e.value ∷ []
 values_more [] e = refl
 values_more (x ∷ es) e = ap (λ vs. x.value ∷ vs) (values_more es e)

@@ -1,5 +1,5 @@
 -- Modules, module types and functors.
-use Rattle.std.specs.Prelude.{◌≡◌, ℕ, Bool, true, false, List, [], ◌∷◌, ◌++◌, map, Option, Some, None}
+use Rattle.std.specs.Prelude.{◌≡◌, ℕ, Bool, true, false, List, [], ◌∷◌, ◌++◌, map, Option, Some, None, IfSome, option_map}
 use Rattle.std.specs.List.{join_with_byte}
 use Rattle.std.specs.declared.rc.Rc.{Rc}
 use Rattle.std.specs.declared.alloc.Global.{Global}
@@ -18,9 +18,10 @@ use Rattle.env_table.specs.declared.faults.FaultKind.{FaultKind}
 use Rattle.env_table.specs.declared.faults.FaultKind.TheVariants as fault
 use Rattle.decl_typing.specs.declared.parts.Parts.{Parts}
 use Rattle.decl_typing.specs.Goes.{faults_of, Begins, Told}
-use Rattle.signature_match.specs.declared.causes.Cause.{Cause}
 use Rattle.signature_match.specs.declared.causes.Mismatch.{Mismatch}
 use Rattle.signature_match.specs.Anew.{IsMadeAnew}
+use Rattle.signature_match.specs.Blames.{blame_of}
+use Rattle.signature_match.specs.Telling.{TellsMatch}
 use Rattle.signature_model.specs.Templates.{origins_at}
 use Rattle.type_nodes.specs.Nodes.{Node}
 use Rattle.module_typing.specs.declared.modules.Made.{Made}
@@ -87,10 +88,14 @@ abbrev pub ToldMismatch : Option Mismatch → (kept : Bool) → (old new : Parts
 ToldMismatch None kept old new span = (kept ≡ true) × (new ≡ old)
 ToldMismatch (Some m) kept old new span = (kept ≡ false) × Told old.telling (faults_of old) (faults_of new) span fault.Match (mismatch_message m.cause (dotted m))
 
--- what comes of the demand that a signature matches: where it doesn't, a fault is told of one component behind the others, and the types are as before
-abbrev pub AsksMatch : (kept : Bool) → (old new : Parts) → Span → Type 0
-AsksMatch true old new span = Begins (faults_of old) (faults_of new)
-AsksMatch false old new span = (new.store ≡ old.store) × ((mid : List Fault) × Begins (faults_of old) mid × ((cause : Cause) × (path : List ℕ) × Told old.telling mid (faults_of new) span fault.Match (mismatch_message cause path)))
+-- what comes of the demand that a signature matches: what the match tells decides whether it is kept; where it isn't, its one fault names the component and the cause, and the types are as before
+pub record AsksMatch (kept : Bool) (old new : Parts) (span : Span) (actual : Sig) (wanted : Template) : Type 0 where
+  pub mid : Parts
+  pub mismatch : Option Mismatch
+  pub tells : TellsMatch old.store.nodes mid.store.nodes actual wanted (option_map blame_of mismatch)
+  pub before : IfSome mismatch (λ m. mid.store ≡ old.store)
+  pub faults : Begins (faults_of old) (faults_of mid)
+  pub told : ToldMismatch mismatch kept mid new span
 
 -- what comes of a clause on a type: the template that it gives, or the one before, where exactly one fault tells it unless nothing is known of that
 abbrev pub Given : Option Template → (template result : Template) → (old new : Parts) → Span → (name : List ℕ) → (arity : ℕ) → Type 0

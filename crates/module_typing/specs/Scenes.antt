@@ -22,7 +22,8 @@ use Rattle.decl_typing.specs.Goes.{faults_of, Told}
 use Rattle.decl_typing.specs.Messages.{twice_text}
 use Rattle.decl_typing.specs.Notes.{Noted}
 use Rattle.module_typing.specs.declared.scenes.Scene.{Scene}
-use Rattle.module_typing.specs.Listed.{values, seen_values}
+use Rattle.sig_template.specs.Structures.{entries_of}
+use Rattle.module_typing.specs.Listed.{seen_values}
 
 -- whether a name of a kind stands already; names of values, constructors and labels may stand again
 abbrev pub has_name : Scene → Kind → List ℕ → Bool
@@ -100,7 +101,7 @@ pub record AddsEntry (old new : Scene) (at at' : Parts) (number : ℕ) (t : Toke
   pub entry : Entry
   pub is : IsEntry entry t k what
   pub env : new.env ≡ entry ∷ old.env
-  pub components : values new.components.items ≡ values old.components.items ++ entry ∷ []
+  pub components : entries_of new.components.items ≡ entries_of old.components.items ++ entry ∷ []
   pub noted : NotedNames at at' number old.env (Some entry ∷ parameters)
 
 -- an item that names something adds it; without its name it adds nothing

@@ -4,9 +4,10 @@ ghost use Rattle.decl_typing.specs.Goes.{Goes};
 use crate::scenes::Scene;
 use core_typing::type_bindings;
 use decl_typing::{Depth, Env, NoMemory, NodeRef, Parameter, Parts, Variables, new_entry};
-use env_table::{Kind, What};
+use env_table::{Entry, Kind, What};
 use owned_lists::push;
 use row_parts::{operand_in, operands, token};
+use std::rc::Rc;
 use syntax_tree::{Node, Part, Token, TokenKind};
 
 /// let b and b
@@ -107,23 +108,49 @@ pub fn value_item(
 ) -> Result<(), NoMemory>
     ensures goes { Goes at.old at.new }
 {
-    at.level = at.level.saturating_add(1);
-    let read = specified(at, node, number, &scene.env, depth);
-    at.level = at.level.saturating_sub(1);
-    let root = read?;
-    at.generalise(root)?;
+    let root = specified_scheme(at, node, number, &scene.env, depth)?;
     let Some(name) = token(node, 1) else {
         return at.note_plain(number, &scene.env);
     };
-    let place = at.place(name.span);
-    let what = What::Scheme(root);
-    let entry = new_entry(at.alloc(), name.name.share()?, Kind::Value, place, what)?;
-    let names = at.one_name(Some(&entry))?;
-    at.note(number, &scene.env, None, names)?;
+    let entry = value_entry(at, name, root)?;
+    note_value(at, number, &scene.env, &entry)?;
     let mut entries = Vec::new(at.alloc());
     push(&mut entries, entry)?;
     let env = at.with_entries(&entries, &scene.env)?;
     scene.add(env, &entries)
+}
+
+/// The entry of a value of this name and scheme.
+fn value_entry(at: &Parts, name: &Token, root: NodeRef) -> Result<Rc<Entry>, NoMemory> {
+    let place = at.place(name.span);
+    let what = What::Scheme(root);
+    new_entry(at.alloc(), name.name.share()?, Kind::Value, place, what)
+}
+
+/// Records a value's specification with its entry.
+fn note_value(at: &mut Parts, number: u32, env: &Env, entry: &Rc<Entry>) -> Result<(), NoMemory>
+    ensures goes { Goes at.old at.new }
+{
+    let names = at.one_name(Some(entry))?;
+    at.note(number, env, None, names)
+}
+
+/// The scheme that is written for a value: one level further in, then its variables are bound.
+fn specified_scheme(
+    at: &mut Parts,
+    node: &Node,
+    number: u32,
+    env: &Env,
+    depth: Depth,
+) -> Result<NodeRef, NoMemory>
+    ensures goes { Goes at.old at.new }
+{
+    at.level = at.level.saturating_add(1);
+    let read = specified(at, node, number, env, depth);
+    at.level = at.level.saturating_sub(1);
+    let root = read?;
+    at.generalise(root)?;
+    Ok(root)
 }
 
 /// The type that is written for a value.

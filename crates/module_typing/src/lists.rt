@@ -1,7 +1,7 @@
 //! Entries and origins behind others.
 ghost use Rattle.std.specs.Prelude.{◌≡◌, ◌++◌, IfOk, OnOk};
 ghost use Rattle.type_terms.specs.Views.{path_of};
-ghost use Rattle.module_typing.specs.Listed.{values};
+ghost use Rattle.sig_template.specs.Structures.{entries_of};
 ghost use Rattle.decl_typing.specs.Copying.{paths_of};
 
 use decl_typing::{NoMemory, Parts};
@@ -11,7 +11,7 @@ use std::rc::Rc;
 
 /// Adds owners of entries, in order.
 pub fn add_entries(list: &mut Vec<Rc<Entry>>, entries: &[Rc<Entry>]) -> Result<(), NoMemory>
-    ensures { OnOk result (values list.new.items ≡ values list.old.items ++ values entries.now) }
+    ensures { OnOk result (entries_of list.new.items ≡ entries_of list.old.items ++ entries_of entries.now) }
 {
     for entry in entries {
         let entry = shared(entry)?;

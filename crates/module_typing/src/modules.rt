@@ -260,7 +260,7 @@ fn tell_mismatch(at: &mut Parts, span: Span, mismatch: Option<Mismatch>) -> Resu
 
 /// Whether the demand that a signature matches a template is kept.
 fn ask_match(at: &mut Parts, span: Span, actual: &Sig, wanted: &Template) -> Result<bool, NoMemory>
-    ensures asked { IfOk result (λ kept. AsksMatch kept at.old at.new span) }
+    ensures asked { IfOk result (λ kept. AsksMatch kept at.old at.new span actual.now wanted.now) }
     ensures goes { Goes at.old at.new }
 {
     let mismatch = match_sig(at, actual, wanted)?;
@@ -688,14 +688,28 @@ fn behind_clauses(
 {
     let mut template = base;
     for clause in clauses {
-        match clause.node {
-            None => at.note_plain(clause.number, env)?,
-            Some(node) => {
-                template = behind_clause(at, template, node, clause.number, env, depth)?;
-            }
-        }
+        template = behind_written(at, template, *clause, env, depth)?;
     }
     Ok(template)
+}
+
+/// The same behind one clause, which may be missing.
+fn behind_written(
+    at: &mut Parts,
+    template: Rc<Template>,
+    clause: Operand<'_>,
+    env: &Env,
+    depth: Depth,
+) -> Result<Rc<Template>, NoMemory>
+    ensures goes { Goes at.old at.new }
+{
+    match clause.node {
+        None => {
+            at.note_plain(clause.number, env)?;
+            Ok(template)
+        }
+        Some(node) => behind_clause(at, template, node, clause.number, env, depth),
+    }
 }
 
 /// type h = t, behind `with`: the type is abstract in the template, then it is read

@@ -6,7 +6,8 @@ ghost use Rattle.text_terms.specs.Bytes.{str_bytes};
 ghost use Rattle.env_table.specs.declared.entries.Kind.{Kind};
 ghost use Rattle.env_table.specs.Views.{names_in, inside_sig};
 ghost use Rattle.decl_typing.specs.Goes.{Goes, faults_of, OnlyFaults, OnlyIndex};
-ghost use Rattle.module_typing.specs.Listed.{values, seen_values, components_of};
+ghost use Rattle.sig_template.specs.Structures.{entries_of};
+ghost use Rattle.module_typing.specs.Listed.{seen_values, components_of};
 ghost use Rattle.decl_typing.specs.Copying.{paths_of};
 ghost use Rattle.module_typing.specs.Scenes.{has_name, SameNames, NamesOne, OnlyNames, told_again, ToldTwice, repeated, with_names, AsksNew, AddsNamed, AddsEntry};
 
@@ -136,7 +137,7 @@ impl Scene {
     /// Goes on behind an item that adds entries, in order.
     pub fn add(&mut self, env: Env, entries: &[Rc<Entry>]) -> Result<(), NoMemory>
         ensures env { OnOk result (self.new.env ≡ env) }
-        ensures components { OnOk result (values self.new.components.items ≡ values self.old.components.items ++ values entries.now) }
+        ensures components { OnOk result (entries_of self.new.components.items ≡ entries_of self.old.components.items ++ entries_of entries.now) }
         ensures makes { self.new.makes ≡ self.old.makes }
         ensures names { SameNames self.old self.new }
     {
@@ -219,8 +220,8 @@ impl Scene {
 
     /// The demand that the name of each entry is new, in order, told at this span.
     fn ask_all(&mut self, at: &mut Parts, span: Span, entries: &[Rc<Entry>]) -> Result<(), NoMemory>
-        ensures told { OnOk result (ToldTwice at.old.telling (faults_of at.old) (faults_of at.new) span (repeated (has_name self.old) (values entries.now))) }
-        ensures noted { OnOk result ((k : Kind) (n : List ℕ) → has_name self.new k n ≡ with_names (has_name self.old) (values entries.now) k n) }
+        ensures told { OnOk result (ToldTwice at.old.telling (faults_of at.old) (faults_of at.new) span (repeated (has_name self.old) (entries_of entries.now))) }
+        ensures noted { OnOk result ((k : Kind) (n : List ℕ) → has_name self.new k n ≡ with_names (has_name self.old) (entries_of entries.now) k n) }
         ensures rest { OnlyNames self.old self.new }
         ensures faults { OnlyFaults at.old at.new }
         ensures goes { Goes at.old at.new }
@@ -235,7 +236,7 @@ impl Scene {
     /// that are included with it, reported at the item.
     pub fn include(&mut self, at: &mut Parts, span: Span, sig: &Sig) -> Result<(), NoMemory>
         ensures env { OnOk result (self.new.env ≡ names_in (inside_sig sig.now) ++ self.old.env) }
-        ensures components { OnOk result (values self.new.components.items ≡ values self.old.components.items ++ components_of sig.now) }
+        ensures components { OnOk result (entries_of self.new.components.items ≡ entries_of self.old.components.items ++ components_of sig.now) }
         ensures told { OnOk result (ToldTwice at.old.telling (faults_of at.old) (faults_of at.new) span (repeated (has_name self.old) (components_of sig.now))) }
         ensures noted { OnOk result ((k : Kind) (n : List ℕ) → has_name self.new k n ≡ with_names (has_name self.old) (components_of sig.now) k n) }
         ensures makes { self.new.makes ≡ self.old.makes }

@@ -1,17 +1,16 @@
 -- Signatures whose types are nodes, in a store with more nodes.
-use Rattle.std.proofs.Common.{◌<◌, ◌≤◌, List, length, Option, Some, None, arith}
-use Rattle.std.specs.Prelude.{All}
+use Rattle.std.proofs.Common.{◌≤◌, List, length, Option, Some, None, arith}
 use Rattle.type_nodes.specs.Nodes.{Node}
 use Rattle.env_table.specs.declared.entries.Shape.{Shape}
 use Rattle.env_table.specs.declared.entries.Shape.TheVariants as shape
 use Rattle.env_table.specs.declared.entries.Declaration.{Declaration}
-use Rattle.env_table.specs.declared.entries.What.{What, out-What}
+use Rattle.env_table.specs.declared.entries.What.{What}
 use Rattle.env_table.specs.declared.entries.Entry.{Entry}
 use Rattle.env_table.specs.declared.entries.Sig.{Sig, out-Sig}
 use Rattle.env_table.specs.declared.entries.Sig.TheOpen.{Sig-F, What-F}
 use Rattle.env_table.specs.declared.entries.Components.{Components}
 use Rattle.sig_template.specs.Ways.{sub}
-use Rattle.sig_template.specs.Live.{IsLiveShape, IsLiveDeclaration, IsLiveWhat, IsLiveEntry, AreLiveOpened, AreLiveHere, AreLive}
+use Rattle.sig_template.specs.Live.{IsLiveShape, IsLiveDeclaration, IsLiveWhat, AreLiveOpened, AreLiveHere, AreLive}
 
 shape_later : (old new : List Node) → length old ≤ length new → (s : Shape) → IsLiveShape old s → IsLiveShape new s
 shape_later old new le shape.Opaque live = tt

@@ -4,3 +4,7 @@ pub mod Newest
 pub mod Whats
 pub mod Same
 pub mod Later
+pub mod Putting
+pub mod Staying
+pub mod Reals
+pub mod Applying

@@ -1,9 +1,10 @@
 -- Ways into signatures whose components are changed.
-use Rattle.std.proofs.Common.{◌≡◌, ℕ, zero, suc, ◌<◌, arith, List, [], ◌∷◌, length, map, get_or, Some, None, refl, sym, ap, subst}
+use Rattle.std.proofs.Common.{◌≡◌, ℕ, zero, suc, arith, List, [], ◌∷◌, Some, None, refl, sym, ap, subst}
 use Rattle.std.specs.Prelude.{All, Option, slice_get}
 use Rattle.std.specs.List.{AllZip}
 use Rattle.type_nodes.specs.Nodes.{Node}
 use Rattle.signature_model.specs.Changes.{Change}
+use Rattle.type_nodes.specs.Readings.{Types}
 use Rattle.env_table.specs.declared.entries.Entry.{Entry}
 use Rattle.env_table.specs.declared.entries.Components.{Components, out-Components}
 use Rattle.env_table.specs.declared.entries.What.{What}
@@ -15,26 +16,26 @@ use Rattle.env_table.specs.declared.entries.Template.{Template}
 use Rattle.std.specs.declared.rc.Rc.{Rc}
 use Rattle.std.specs.declared.alloc.Global.{Global}
 use Rattle.sig_template.specs.Structures.{entries_of}
-use Rattle.sig_template.specs.Ways.{Step, Component, Parameter, Body, sub, within, sig_of, next_opened, components_opened, components_of}
+use Rattle.sig_template.specs.Ways.{Step, Component, Parameter, Body, sub, within, next_opened, components_opened, components_of}
 use Rattle.sig_template.specs.Changed.{IsChangedEntry, IsChangedOpened, IsChangedHere, IsChangedIn, IsChangedSig}
-use Rattle.sig_template.specs.Live.{IsLiveEntry, AreLiveHere, AreLiveIn, AreLive}
+use Rattle.sig_template.specs.Live.{IsLiveEntry, AreLiveHere, AreLive}
 use Rattle.sig_template.specs.Turns.{IsTurnedEntry, IsTurnedTemplate, IsLiveThrough, IsLiveTemplate}
 
-here_none : (nodes : List Node) (c : Change) (way : List Step) → IsChangedHere nodes c (sub way None) (sub way None)
+here_none : (nodes : List Node) (c : Types → Change) (way : List Step) → IsChangedHere nodes c (sub way None) (sub way None)
 here_none nodes c [] = tt
 here_none nodes c (step ∷ way) = here_none nodes c way
 
-pub changed_none : (nodes : List Node) (c : Change) → IsChangedIn nodes c None None
+pub changed_none : (nodes : List Node) (c : Types → Change) → IsChangedIn nodes c None None
 changed_none nodes c = record { each = here_none nodes c }
 
 -- the components, without the signatures in them
-zip_here : (nodes : List Node) (c : Change) (es fs : List Entry) → AllZip (IsTurnedEntry nodes c) es fs → AllZip (IsChangedEntry nodes c) es fs
+zip_here : (nodes : List Node) (c : Types → Change) (es fs : List Entry) → AllZip (IsTurnedEntry nodes c) es fs → AllZip (IsChangedEntry nodes c) es fs
 zip_here nodes c [] [] z = tt
 zip_here nodes c [] (f ∷ fs) z = absurd z
 zip_here nodes c (e ∷ es) [] z = absurd z
 zip_here nodes c (e ∷ es) (f ∷ fs) z = (z.0.entry, zip_here nodes c es fs z.1)
 
-zip_within : (nodes : List Node) (c : Change) (es fs : List Entry) (k : ℕ) (way : List Step) → AllZip (IsTurnedEntry nodes c) es fs →
+zip_within : (nodes : List Node) (c : Types → Change) (es fs : List Entry) (k : ℕ) (way : List Step) → AllZip (IsTurnedEntry nodes c) es fs →
     IsChangedHere nodes c (sub way (within (slice_get es k))) (sub way (within (slice_get fs k)))
 zip_within nodes c [] [] k way z = here_none nodes c way
 zip_within nodes c [] (f ∷ fs) k way z = absurd z
@@ -42,7 +43,7 @@ zip_within nodes c (e ∷ es) [] k way z = absurd z
 zip_within nodes c (e ∷ es) (f ∷ fs) zero way z = z.0.within.each way
 zip_within nodes c (e ∷ es) (f ∷ fs) (suc k) way z = zip_within nodes c es fs k way z.1
 
-pub changed_hole : (nodes : List Node) (c : Change) → IsChangedSig nodes c sig.Hole sig.Hole
+pub changed_hole : (nodes : List Node) (c : Types → Change) → IsChangedSig nodes c sig.Hole sig.Hole
 unfolding sigs.out-Sig denote.Hole.Carrier.out
 changed_hole nodes c = record { each = λ way. at way }
   where
@@ -53,7 +54,7 @@ changed_hole nodes c = record { each = λ way. at way }
     at (Body ∷ way) = here_none nodes c way
 
 -- components behind owners
-pub zip_owned : (nodes : List Node) (c : Change) (rs ss : List (Rc Entry Global)) → AllZip (λ (r : Rc Entry Global) (s : Rc Entry Global). IsTurnedEntry nodes c r.value s.value) rs ss →
+pub zip_owned : (nodes : List Node) (c : Types → Change) (rs ss : List (Rc Entry Global)) → AllZip (λ (r : Rc Entry Global) (s : Rc Entry Global). IsTurnedEntry nodes c r.value s.value) rs ss →
     AllZip (IsTurnedEntry nodes c) (entries_of rs) (entries_of ss)
 zip_owned nodes c [] [] z = tt
 zip_owned nodes c [] (s ∷ ss) z = absurd z
@@ -76,7 +77,7 @@ same_some : {A : Type 0} (x y : A) → Some x ≡ Some y → x ≡ y
 same_some x y e = cc
 
 -- structures that are opened
-opened_structure : (nodes : List Node) (c : Change) (s t : Sig-F Sig What Components Entry Template) (es fs : List (Rc Entry Global)) → components_opened s ≡ Some es → components_opened t ≡ Some fs →
+opened_structure : (nodes : List Node) (c : Types → Change) (s t : Sig-F Sig What Components Entry Template) (es fs : List (Rc Entry Global)) → components_opened s ≡ Some es → components_opened t ≡ Some fs →
     AllZip (IsTurnedEntry nodes c) (entries_of es) (entries_of fs) → IsChangedOpened nodes c s t
 opened_structure nodes c (Sig-F.Structure d) (Sig-F.Structure f) es fs p q z =
     let e : (out-Components d).entries.items ≡ es = same_some (out-Components d).entries.items es p in
@@ -102,7 +103,7 @@ no_body (Sig-F.Structure d) es p = refl
 no_body (Sig-F.Functor x y) es p = absurd (cc)
 no_body Sig-F.Hole es p = absurd (cc)
 
-pub changed_structure : (nodes : List Node) (c : Change) (s t : Sig) (es fs : List (Rc Entry Global)) → components_of s ≡ Some es → components_of t ≡ Some fs →
+pub changed_structure : (nodes : List Node) (c : Types → Change) (s t : Sig) (es fs : List (Rc Entry Global)) → components_of s ≡ Some es → components_of t ≡ Some fs →
     AllZip (λ (x : Rc Entry Global) (y : Rc Entry Global). IsTurnedEntry nodes c x.value y.value) es fs → IsChangedSig nodes c s t
 changed_structure nodes c s t es fs p q owned = record { each = λ way. at way }
   where
@@ -121,13 +122,13 @@ changed_structure nodes c s t es fs p q owned = record { each = λ way. at way }
     at (Parameter ∷ way) = none (next_opened Parameter (out-Sig s)) (next_opened Parameter (out-Sig t)) way (no_parameter (out-Sig s) es p) (no_parameter (out-Sig t) fs q)
     at (Body ∷ way) = none (next_opened Body (out-Sig s)) (next_opened Body (out-Sig t)) way (no_body (out-Sig s) es p) (no_body (out-Sig t) fs q)
 
-pub changed_functor : (nodes : List Node) (c : Change) (p b q d : Rc Template Global) → IsTurnedTemplate nodes c p.value q.value → IsTurnedTemplate nodes c b.value d.value →
+pub changed_functor : (nodes : List Node) (c : Types → Change) (p b q d : Rc Template Global) → IsTurnedTemplate nodes c p.value q.value → IsTurnedTemplate nodes c b.value d.value →
     IsChangedSig nodes c (sig.Functor p b) (sig.Functor q d)
 unfolding sigs.out-Sig denote.Hole.Carrier.out
 changed_functor nodes c p b q d parameter body = record { each = λ way. at way }
   where
     at : (way : List Step) → IsChangedHere nodes c (sub way (Some (sig.Functor p b))) (sub way (Some (sig.Functor q d)))
-    at [] = (parameter.made, body.made)
+    at [] = λ V. (parameter.made V, body.made V)
     at (Component k ∷ way) = here_none nodes c way
     at (Parameter ∷ way) = parameter.sig.each way
     at (Body ∷ way) = body.sig.each way

@@ -5,3 +5,5 @@ pub mod Ways
 pub mod Changed
 pub mod Live
 pub mod Turns
+pub mod Realising
+pub mod Finding

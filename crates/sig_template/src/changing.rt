@@ -3,17 +3,18 @@ ghost use Rattle.std.specs.Prelude.{◌≡◌, [], All, List, Option, Some, map,
 ghost use Rattle.std.specs.List.{AllZip};
 ghost use Rattle.type_terms.specs.Views.{path_of};
 ghost use Rattle.type_nodes.specs.Nodes.{Node, IsNode};
+ghost use Rattle.type_nodes.specs.Readings.{Types};
 ghost use Rattle.decl_typing.specs.Goes.{Goes};
-ghost use Rattle.decl_typing.specs.Copying.{moved, paths_of, IsChanged};
+ghost use Rattle.decl_typing.specs.Copying.{change_by, paths_of, AreDeclared, IsChanged};
 ghost use Rattle.sig_template.specs.Ways.{components_of};
-ghost use Rattle.sig_template.specs.Changed.{IsChangedConstructor, IsChangedLabel, IsChangedShape, IsChangedDeclaration, IsChangedSig};
+ghost use Rattle.sig_template.specs.Changed.{origin_after, IsChangedConstructor, IsChangedLabel, IsChangedShape, IsChangedDeclaration, IsChangedSig};
 ghost use Rattle.sig_template.specs.Live.{IsLiveConstructor, IsLiveLabel, IsLiveShape, IsLiveDeclaration, AreLive};
 ghost use Rattle.sig_template.specs.Turns.{Turns, IsTurnedWhat, IsTurnedEntry, IsTurnedTemplate, IsLiveWithin, IsLiveThrough, IsLiveTemplate};
 
 use crate::shared::share_declaration;
 use decl_typing::{
     Changes, Copies, Copying, Depth, ForBound, ForUnknown, NoMemory, NodeRef, Parts, Put,
-    copied_origin, in_front,
+    copied_origin, in_front, is_among,
 };
 use env_table::{
     Components, Constructor, Declaration, Entry, Label, Origin, Shape, Sig, Template, What,
@@ -36,7 +37,7 @@ struct Latest {
 
 impl<'a> Changing<'a> {
     fn ty(self, at: &mut Parts, copies: &mut Copies, n: NodeRef) -> Result<NodeRef, NoMemory>
-        ensures changed { IfOk result (λ m. self.entry.changes.now.real.items ≡ [] → Turns (moved self.entry.changes.now) (λ ns. IsNode ns n.0) (λ ns. IsChanged ns (moved self.entry.changes.now) n.0 m.0) at.old.store.nodes at.new.store.nodes copies.old copies.new) }
+        ensures changed { IfOk result (λ m. Turns self.entry.changes.now (λ ns. IsNode ns n.0) (λ ns. IsChanged ns (change_by self.entry.changes.now) n.0 m.0) at.old.store.nodes at.new.store.nodes copies.old copies.new) }
         ensures goes { Goes at.old at.new }
     {
         let how = Copying {
@@ -53,7 +54,7 @@ impl<'a> Changing<'a> {
         copies: &mut Copies,
         old: &Constructor,
     ) -> Result<Constructor, NoMemory>
-        ensures changed { IfOk result (λ new. self.entry.changes.now.real.items ≡ [] → Turns (moved self.entry.changes.now) (λ ns. IsLiveConstructor ns old.now) (λ ns. IsChangedConstructor ns (moved self.entry.changes.now) old.now new) at.old.store.nodes at.new.store.nodes copies.old copies.new) }
+        ensures changed { IfOk result (λ new. Turns self.entry.changes.now (λ ns. IsLiveConstructor ns old.now) (λ ns. IsChangedConstructor ns (change_by self.entry.changes.now) old.now new) at.old.store.nodes at.new.store.nodes copies.old copies.new) }
         ensures goes { Goes at.old at.new }
     {
         Ok(Constructor {
@@ -69,7 +70,7 @@ impl<'a> Changing<'a> {
         copies: &mut Copies,
         old: &[Constructor],
     ) -> Result<Vec<Constructor>, NoMemory>
-        ensures changed { IfOk result (λ new. self.entry.changes.now.real.items ≡ [] → Turns (moved self.entry.changes.now) (λ ns. All (IsLiveConstructor ns) old.now) (λ ns. AllZip (IsChangedConstructor ns (moved self.entry.changes.now)) old.now new.items) at.old.store.nodes at.new.store.nodes copies.old copies.new) }
+        ensures changed { IfOk result (λ new. Turns self.entry.changes.now (λ ns. All (IsLiveConstructor ns) old.now) (λ ns. AllZip (IsChangedConstructor ns (change_by self.entry.changes.now)) old.now new.items) at.old.store.nodes at.new.store.nodes copies.old copies.new) }
         ensures goes { Goes at.old at.new }
     {
         let mut new = Vec::new(at.alloc());
@@ -80,7 +81,7 @@ impl<'a> Changing<'a> {
     }
 
     fn label(self, at: &mut Parts, copies: &mut Copies, old: &Label) -> Result<Label, NoMemory>
-        ensures changed { IfOk result (λ new. self.entry.changes.now.real.items ≡ [] → Turns (moved self.entry.changes.now) (λ ns. IsLiveLabel ns old.now) (λ ns. IsChangedLabel ns (moved self.entry.changes.now) old.now new) at.old.store.nodes at.new.store.nodes copies.old copies.new) }
+        ensures changed { IfOk result (λ new. Turns self.entry.changes.now (λ ns. IsLiveLabel ns old.now) (λ ns. IsChangedLabel ns (change_by self.entry.changes.now) old.now new) at.old.store.nodes at.new.store.nodes copies.old copies.new) }
         ensures goes { Goes at.old at.new }
     {
         Ok(Label {
@@ -96,7 +97,7 @@ impl<'a> Changing<'a> {
         copies: &mut Copies,
         old: &[Label],
     ) -> Result<Vec<Label>, NoMemory>
-        ensures changed { IfOk result (λ new. self.entry.changes.now.real.items ≡ [] → Turns (moved self.entry.changes.now) (λ ns. All (IsLiveLabel ns) old.now) (λ ns. AllZip (IsChangedLabel ns (moved self.entry.changes.now)) old.now new.items) at.old.store.nodes at.new.store.nodes copies.old copies.new) }
+        ensures changed { IfOk result (λ new. Turns self.entry.changes.now (λ ns. All (IsLiveLabel ns) old.now) (λ ns. AllZip (IsChangedLabel ns (change_by self.entry.changes.now)) old.now new.items) at.old.store.nodes at.new.store.nodes copies.old copies.new) }
         ensures goes { Goes at.old at.new }
     {
         let mut new = Vec::new(at.alloc());
@@ -107,7 +108,7 @@ impl<'a> Changing<'a> {
     }
 
     fn shape(self, at: &mut Parts, copies: &mut Copies, old: &Shape) -> Result<Shape, NoMemory>
-        ensures changed { IfOk result (λ new. self.entry.changes.now.real.items ≡ [] → Turns (moved self.entry.changes.now) (λ ns. IsLiveShape ns old.now) (λ ns. IsChangedShape ns (moved self.entry.changes.now) old.now new) at.old.store.nodes at.new.store.nodes copies.old copies.new) }
+        ensures changed { IfOk result (λ new. Turns self.entry.changes.now (λ ns. IsLiveShape ns old.now) (λ ns. IsChangedShape ns (change_by self.entry.changes.now) old.now new) at.old.store.nodes at.new.store.nodes copies.old copies.new) }
         ensures goes { Goes at.old at.new }
     {
         match old {
@@ -119,27 +120,28 @@ impl<'a> Changing<'a> {
         }
     }
 
-    /// An origin with the path that it has after the change.
+    /// An origin with the path that it has after the change, also where a type stands in its place.
     fn moved(self, at: &Parts, origin: &Origin) -> Result<Origin, NoMemory>
-        ensures { IfOk result (λ o. self.entry.changes.now.real.items ≡ [] → path_of o ≡ (moved self.entry.changes.now).path (path_of origin.now)) }
+        ensures { IfOk result (λ o. (V : Types) → path_of o ≡ (change_by self.entry.changes.now V).path (path_of origin.now)) }
     {
-        match self.changes.put(origin) {
-            Put::Path(number) => in_front(at, number, origin),
-            _ => copied_origin(at, origin),
+        if is_among(&self.changes.made, origin) {
+            in_front(at, self.changes.number, origin)
+        } else {
+            copied_origin(at, origin)
         }
     }
 
     /// The origin that a declaration makes after the change; None where it is another type then.
     fn origin(self, at: &Parts, old: &Declaration) -> Result<Option<Origin>, NoMemory>
-        ensures { IfOk result (λ new. self.entry.changes.now.real.items ≡ [] → option_map path_of new ≡ option_map (λ o. (moved self.entry.changes.now).path (path_of o)) old.now.origin) }
+        ensures { IfOk result (λ new. (V : Types) → option_map path_of new ≡ origin_after (change_by self.entry.changes.now V) (option_map path_of old.now.origin)) }
     {
         let Some(origin) = &old.origin else {
             return Ok(None);
         };
         match self.changes.put(origin) {
             Put::Type { .. } => Ok(None),
-            Put::Path(number) => Ok(Some(in_front(at, number, origin)?)),
-            Put::Itself => Ok(Some(copied_origin(at, origin)?)),
+            Put::Path(_) => Ok(Some(self.moved(at, origin)?)),
+            Put::Itself => Ok(Some(self.moved(at, origin)?)),
         }
     }
 
@@ -149,7 +151,7 @@ impl<'a> Changing<'a> {
         copies: &mut Copies,
         old: &Declaration,
     ) -> Result<Rc<Declaration>, NoMemory>
-        ensures changed { IfOk result (λ new. self.entry.changes.now.real.items ≡ [] → Turns (moved self.entry.changes.now) (λ ns. IsLiveDeclaration ns old.now) (λ ns. IsChangedDeclaration ns (moved self.entry.changes.now) old.now new.value) at.old.store.nodes at.new.store.nodes copies.old copies.new) }
+        ensures changed { IfOk result (λ new. Turns self.entry.changes.now (λ ns. IsLiveDeclaration ns old.now) (λ ns. IsChangedDeclaration ns (change_by self.entry.changes.now) old.now new.value) at.old.store.nodes at.new.store.nodes copies.old copies.new) }
         ensures goes { Goes at.old at.new }
     {
         let root = self.ty(at, copies, old.root)?;
@@ -171,7 +173,7 @@ impl<'a> Changing<'a> {
         old: &Declaration,
         latest: &Latest,
     ) -> Result<Rc<Declaration>, NoMemory>
-        ensures changed { IfOk result (λ _. self.entry.changes.now.real.items ≡ [] → Turns (moved self.entry.changes.now) (λ ns. IsLiveDeclaration ns old.now) (λ _. Unit {0}) at.old.store.nodes at.new.store.nodes copies.old copies.new) }
+        ensures changed { IfOk result (λ _. Turns self.entry.changes.now (λ ns. IsLiveDeclaration ns old.now) (λ _. Unit {0}) at.old.store.nodes at.new.store.nodes copies.old copies.new) }
         ensures goes { Goes at.old at.new }
     {
         match &latest.declaration {
@@ -187,7 +189,7 @@ impl<'a> Changing<'a> {
         old: &Declaration,
         latest: &mut Latest,
     ) -> Result<Rc<Declaration>, NoMemory>
-        ensures changed { IfOk result (λ new. self.entry.changes.now.real.items ≡ [] → Turns (moved self.entry.changes.now) (λ ns. IsLiveDeclaration ns old.now) (λ ns. IsChangedDeclaration ns (moved self.entry.changes.now) old.now new.value) at.old.store.nodes at.new.store.nodes copies.old copies.new) }
+        ensures changed { IfOk result (λ new. Turns self.entry.changes.now (λ ns. IsLiveDeclaration ns old.now) (λ ns. IsChangedDeclaration ns (change_by self.entry.changes.now) old.now new.value) at.old.store.nodes at.new.store.nodes copies.old copies.new) }
         ensures goes { Goes at.old at.new }
     {
         let new = self.declaration(at, copies, old)?;
@@ -201,7 +203,7 @@ impl<'a> Changing<'a> {
         copies: &mut Copies,
         old: &Constructor,
     ) -> Result<Rc<Constructor>, NoMemory>
-        ensures changed { IfOk result (λ new. self.entry.changes.now.real.items ≡ [] → Turns (moved self.entry.changes.now) (λ ns. IsLiveConstructor ns old.now) (λ ns. IsChangedConstructor ns (moved self.entry.changes.now) old.now new.value) at.old.store.nodes at.new.store.nodes copies.old copies.new) }
+        ensures changed { IfOk result (λ new. Turns self.entry.changes.now (λ ns. IsLiveConstructor ns old.now) (λ ns. IsChangedConstructor ns (change_by self.entry.changes.now) old.now new.value) at.old.store.nodes at.new.store.nodes copies.old copies.new) }
         ensures goes { Goes at.old at.new }
     {
         let new = self.constructor(at, copies, old)?;
@@ -210,7 +212,7 @@ impl<'a> Changing<'a> {
 
     /// The paths of origins after the change.
     fn made(self, at: &Parts, old: &[Origin]) -> Result<Vec<Origin>, NoMemory>
-        ensures { IfOk result (λ new. self.entry.changes.now.real.items ≡ [] → paths_of new.items ≡ map (moved self.entry.changes.now).path (paths_of old.now)) }
+        ensures { IfOk result (λ new. (V : Types) → paths_of new.items ≡ map (change_by self.entry.changes.now V).path (paths_of old.now)) }
     {
         let mut new = Vec::new(at.alloc());
         for origin in old {
@@ -256,7 +258,7 @@ impl<'a> Changing<'a> {
         latest: &mut Latest,
         depth: Depth,
     ) -> Result<What, NoMemory>
-        ensures changed { IfOk result (λ new. self.entry.changes.now.real.items ≡ [] → Turns (moved self.entry.changes.now) (λ ns. IsLiveWithin ns old.now) (λ ns. IsTurnedWhat ns (moved self.entry.changes.now) old.now new) at.old.store.nodes at.new.store.nodes copies.old copies.new) }
+        ensures changed { IfOk result (λ new. Turns self.entry.changes.now (λ ns. IsLiveWithin ns old.now) (λ ns. IsTurnedWhat ns (change_by self.entry.changes.now) old.now new) at.old.store.nodes at.new.store.nodes copies.old copies.new) }
         ensures goes { Goes at.old at.new }
     {
         match old {
@@ -293,7 +295,7 @@ impl<'a> Changing<'a> {
         latest: &mut Latest,
         depth: Depth,
     ) -> Result<Rc<Entry>, NoMemory>
-        ensures changed { IfOk result (λ new. self.entry.changes.now.real.items ≡ [] → Turns (moved self.entry.changes.now) (λ ns. IsLiveThrough ns old.now) (λ ns. IsTurnedEntry ns (moved self.entry.changes.now) old.now new.value) at.old.store.nodes at.new.store.nodes copies.old copies.new) }
+        ensures changed { IfOk result (λ new. Turns self.entry.changes.now (λ ns. IsLiveThrough ns old.now) (λ ns. IsTurnedEntry ns (change_by self.entry.changes.now) old.now new.value) at.old.store.nodes at.new.store.nodes copies.old copies.new) }
         ensures goes { Goes at.old at.new }
     {
         let new = Entry {
@@ -313,7 +315,7 @@ impl<'a> Changing<'a> {
         old: &[Rc<Entry>],
         depth: Depth,
     ) -> Result<Vec<Rc<Entry>>, NoMemory>
-        ensures changed { IfOk result (λ new. self.entry.changes.now.real.items ≡ [] → Turns (moved self.entry.changes.now) (λ ns. All (λ r. IsLiveThrough ns r.value) old.now) (λ ns. AllZip (λ r s. IsTurnedEntry ns (moved self.entry.changes.now) r.value s.value) old.now new.items) at.old.store.nodes at.new.store.nodes copies.old copies.new) }
+        ensures changed { IfOk result (λ new. Turns self.entry.changes.now (λ ns. All (λ r. IsLiveThrough ns r.value) old.now) (λ ns. AllZip (λ r s. IsTurnedEntry ns (change_by self.entry.changes.now) r.value s.value) old.now new.items) at.old.store.nodes at.new.store.nodes copies.old copies.new) }
         ensures goes { Goes at.old at.new }
     {
         let mut new = Vec::new(at.alloc());
@@ -332,7 +334,7 @@ impl<'a> Changing<'a> {
         old: &Sig,
         depth: Depth,
     ) -> Result<Rc<Sig>, NoMemory>
-        ensures changed { IfOk result (λ new. self.entry.changes.now.real.items ≡ [] → Turns (moved self.entry.changes.now) (λ ns. AreLive ns old.now) (λ ns. IsChangedSig ns (moved self.entry.changes.now) old.now new.value) at.old.store.nodes at.new.store.nodes copies.old copies.new) }
+        ensures changed { IfOk result (λ new. Turns self.entry.changes.now (λ ns. AreLive ns old.now) (λ ns. IsChangedSig ns (change_by self.entry.changes.now) old.now new.value) at.old.store.nodes at.new.store.nodes copies.old copies.new) }
         ensures goes { Goes at.old at.new }
     {
         match old {
@@ -357,7 +359,7 @@ impl<'a> Changing<'a> {
         old: &Template,
         depth: Depth,
     ) -> Result<Rc<Template>, NoMemory>
-        ensures changed { IfOk result (λ new. self.entry.changes.now.real.items ≡ [] → Turns (moved self.entry.changes.now) (λ ns. IsLiveTemplate ns old.now) (λ ns. IsTurnedTemplate ns (moved self.entry.changes.now) old.now new.value) at.old.store.nodes at.new.store.nodes copies.old copies.new) }
+        ensures changed { IfOk result (λ new. Turns self.entry.changes.now (λ ns. IsLiveTemplate ns old.now) (λ ns. IsTurnedTemplate ns (change_by self.entry.changes.now) old.now new.value) at.old.store.nodes at.new.store.nodes copies.old copies.new) }
         ensures goes { Goes at.old at.new }
     {
         let new = Template {
@@ -368,9 +370,10 @@ impl<'a> Changing<'a> {
     }
 }
 
-/// A signature after a change of origins. Where paths alone are moved, it is at each reading that of before after the change.
+/// A signature after a change of origins: at each reading that of before after the change, where the types that stand in the place
+/// of origins are those of declarations.
 pub fn changed(at: &mut Parts, sig: &Sig, changes: &Changes) -> Result<Rc<Sig>, NoMemory>
-    ensures changed { IfOk result (λ s. changes.now.real.items ≡ [] → AreLive at.old.store.nodes sig.now → IsChangedSig at.new.store.nodes (moved changes.now) sig.now s.value) }
+    ensures changed { IfOk result (λ s. AreDeclared at.old.store.nodes changes.now.real.items → AreLive at.old.store.nodes sig.now → IsChangedSig at.new.store.nodes (change_by changes.now) sig.now s.value) }
     ensures goes { Goes at.old at.new }
 {
     let mut copies = Copies::new(at);

@@ -15,4 +15,4 @@ pub use changing::changed;
 pub use realising::{Realised, realisation};
 pub use shared::{share_declaration, share_sig, share_template};
 pub use structures::{newest_alone, structure};
-pub use templates::{applied, made_at, owned_sig, with_type};
+pub use templates::{applied, copied_origins, made_at, owned_sig, with_type};

@@ -1,7 +1,7 @@
 //! Further owners.
-ghost use Rattle.std.specs.Prelude.{◌≡◌, IfOk};
+ghost use Rattle.std.specs.Prelude.{◌≡◌, [], IfOk};
 
-use decl_typing::NoMemory;
+use decl_typing::{Changes, NoMemory, Parts};
 use env_table::{Declaration, Sig, Template};
 use owned_lists::shared;
 use std::rc::Rc;
@@ -22,4 +22,16 @@ pub fn share_template(template: &Rc<Template>) -> Result<Rc<Template>, NoMemory>
     ensures { IfOk result (λ r. r.value ≡ template.now.value) }
 {
     shared(template)
+}
+
+/// No change.
+pub(crate) fn no_changes(at: &Parts) -> Changes
+    ensures made { result.made.items ≡ [] }
+    ensures real { result.real.items ≡ [] }
+{
+    Changes {
+        made: Vec::new(at.alloc()),
+        number: 0,
+        real: Vec::new(at.alloc()),
+    }
 }

@@ -1,23 +1,25 @@
 //! Templates: made anew at a node, with a type given, and applied.
-ghost use Rattle.std.specs.Prelude.{◌≡◌, IfOk, option_map};
+ghost use Rattle.std.specs.Prelude.{◌≡◌, IfOk, IfSome, option_map};
 ghost use Rattle.type_terms.specs.Views.{path_of};
-ghost use Rattle.signature_model.specs.Changes.{in_front};
-ghost use Rattle.signature_model.specs.Templates.{origins_at, without};
+ghost use Rattle.signature_model.specs.Changes.{in_front, realised};
+ghost use Rattle.signature_model.specs.Templates.{origins_at, without, only};
 ghost use Rattle.decl_typing.specs.Goes.{Goes};
-ghost use Rattle.decl_typing.specs.Copying.{paths_of};
+ghost use Rattle.decl_typing.specs.Copying.{paths_of, declared, IsDeclared};
+ghost use Rattle.sig_template.specs.Realising.{IsApplied};
 ghost use Rattle.sig_template.specs.Changed.{IsChangedSig};
 ghost use Rattle.sig_template.specs.Live.{AreLive};
 ghost use Rattle.sig_template.specs.Abstract.{abstract_declared, abstract_of, abstract_named};
 
 use crate::changing::changed;
 use crate::realising::realisation;
-use crate::shared::share_sig;
+use crate::shared::{no_changes, share_sig};
 use decl_typing::{Changes, NoMemory, NodeRef, Parts, Real, copied_origin, in_front, is_among};
 use env_table::{Declaration, Entry, Kind, Origin, Shape, Sig, Template, What};
 use owned_lists::{owned, push};
 use std::rc::Rc;
 
-fn copied_origins(at: &Parts, origins: &[Origin]) -> Result<Vec<Origin>, NoMemory>
+/// Copies of origins, in their order.
+pub fn copied_origins(at: &Parts, origins: &[Origin]) -> Result<Vec<Origin>, NoMemory>
     ensures { IfOk result (λ os. paths_of os.items ≡ paths_of origins.now) }
 {
     let mut copied = Vec::new(at.alloc());
@@ -54,7 +56,7 @@ fn without(at: &Parts, origin: &Origin, origins: &[Origin]) -> Result<Vec<Origin
 /// The signature of a template whose origins are made anew at the node of this number, with these origins.
 pub fn made_at(at: &mut Parts, template: &Template, node: u64) -> Result<Template, NoMemory>
     ensures made { IfOk result (λ t. paths_of t.made.items ≡ origins_at (paths_of template.now.made.items) node) }
-    ensures sig { IfOk result (λ t. AreLive at.old.store.nodes template.now.sig.value → IsChangedSig at.new.store.nodes (in_front (paths_of template.now.made.items) node) template.now.sig.value t.sig.value) }
+    ensures sig { IfOk result (λ t. AreLive at.old.store.nodes template.now.sig.value → IsChangedSig at.new.store.nodes (λ _. in_front (paths_of template.now.made.items) node) template.now.sig.value t.sig.value) }
     ensures goes { Goes at.old at.new }
 {
     let made = origins_at(at, &template.made, node)?;
@@ -133,13 +135,14 @@ pub fn with_type(
     root: NodeRef,
 ) -> Result<Option<Template>, NoMemory>
     ensures made { IfOk result (λ with. option_map (λ t. paths_of t.made.items) with ≡ option_map (λ o. without o (paths_of template.now.made.items)) (abstract_named template.now name.now arity)) }
+    ensures sig { IfOk result (λ with. IfSome with (λ t. IfSome (abstract_named template.now name.now arity) (λ o. IsDeclared at.old.store.nodes root.0 arity → AreLive at.old.store.nodes template.now.sig.value → IsChangedSig at.new.store.nodes (λ V. realised (only o (declared arity (V root.0)))) template.now.sig.value t.sig.value))) }
     ensures goes { Goes at.old at.new }
 {
     let Some(origin) = abstract_named(template, name, arity) else {
         return Ok(None);
     };
     let made = without(at, origin, &template.made)?;
-    let mut changes = Changes::none(at.alloc());
+    let mut changes = no_changes(at);
     let real = Real {
         origin: copied_origin(at, origin)?,
         root,
@@ -162,6 +165,7 @@ pub fn applied(
     body: &Template,
 ) -> Result<Template, NoMemory>
     ensures made { IfOk result (λ t. paths_of t.made.items ≡ origins_at (paths_of body.now.made.items) node) }
+    ensures sig { IfOk result (λ t. IsApplied at.old.store.nodes at.new.store.nodes node argument.now parameter.now body.now t) }
     ensures goes { Goes at.old at.new }
 {
     let mut realised = realisation(at, argument, parameter)?;

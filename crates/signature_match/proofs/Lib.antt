@@ -3,5 +3,7 @@ mod Texts
 mod Zips
 mod Firsts
 mod Opened
-mod Values
+mod Sides
+mod Puts
 mod Unknowns
+mod Compared

@@ -9,4 +9,4 @@ use Rattle.sig_template.specs.Live.{AreLive}
 
 -- a template whose signature is another's with a number in front of its origins, where its types were nodes
 abbrev pub IsMadeAnew : List Node → (number : ℕ) → (wanted anew : Template) → Type 0
-IsMadeAnew nodes number wanted anew = AreLive nodes (sig_of wanted) → (later : List Node) × IsChangedSig later (in_front (made_of wanted) number) (sig_of wanted) (sig_of anew)
+IsMadeAnew nodes number wanted anew = AreLive nodes (sig_of wanted) → (later : List Node) × IsChangedSig later (λ _. in_front (made_of wanted) number) (sig_of wanted) (sig_of anew)

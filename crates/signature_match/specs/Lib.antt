@@ -2,6 +2,8 @@
 pub mod Blames
 pub mod Newest
 pub mod Shapes
-pub mod Telling
 pub mod Values
+pub mod Comparing
+pub mod Wanting
+pub mod Telling
 pub mod Anew

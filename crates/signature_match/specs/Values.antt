@@ -1,5 +1,5 @@
 -- Values against values, at each reading of the types.
-use Rattle.std.specs.Prelude.{List, Option, IfSome}
+use Rattle.std.specs.Prelude.{List, Option}
 use Rattle.std.specs.Option.{is_none}
 use Rattle.type_terms.specs.declared.types.NodeRef.{NodeRef}
 use Rattle.type_nodes.specs.Nodes.{Node, IsNode}
@@ -18,7 +18,3 @@ pub record AreComparable (nodes : List Node) (actual wanted : NodeRef) : Type 0 
 -- a value is met exactly at the readings at which its scheme covers the wanted one, and these are left
 abbrev pub MeetsValue : (old new : List Node) → (actual wanted : NodeRef) → Option rules.Blame → Type 0
 MeetsValue old new actual wanted told = AreComparable old actual wanted → Compared old new actual.0 wanted.0 (is_none told)
-
--- the same by the newest actual value, where there is one
-abbrev pub MeetsNewest : (old new : List Node) → (actual : Option NodeRef) → (wanted : NodeRef) → Option rules.Blame → Type 0
-MeetsNewest old new actual wanted told = IfSome actual (λ a. MeetsValue old new a wanted told)

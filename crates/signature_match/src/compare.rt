@@ -7,6 +7,7 @@ ghost use Rattle.scheme_match.specs.Unknown.{HasUnknown};
 ghost use Rattle.decl_typing.specs.Goes.{Goes};
 ghost use Rattle.signature_match.specs.Shapes.{ConstructorsFit, LabelsFit, ShapesFit};
 ghost use Rattle.signature_match.specs.Values.{AreComparable};
+ghost use Rattle.signature_match.specs.Comparing.{ComparesRoots, ComparesConstructor, ComparesConstructors, ComparesLabel, ComparesLabels, ComparesShapes, ComparesDeclarations, ComparesExceptions};
 
 use decl_typing::{Changes, Copies, ForBound, ForUnknown, NoMemory, NodeRef, Parts, unchanged};
 use env_table::{Constructor, Declaration, Label, Shape};
@@ -72,13 +73,14 @@ pub fn declares(
     wanted: &Declaration,
 ) -> Result<bool, NoMemory>
     ensures shape { IfOk result (λ met. met ≡ true → ShapesFit actual.now.shape wanted.now.shape) }
+    ensures judged { IfOk result (λ met. ComparesDeclarations at.old.store.nodes at.new.store.nodes actual.now wanted.now met) }
     ensures goes { Goes at.old at.new }
 {
-    let arguments = rigid_arguments(at, wanted.arity)?;
-    if !stand_for_one(at, actual, wanted, &arguments)? {
-        return Ok(false);
+    if stand_for_one(at, actual, wanted)? {
+        shapes_agree(at, actual, wanted)
+    } else {
+        Ok(false)
     }
-    shapes_agree(at, actual, wanted, &arguments)
 }
 
 /// Whether something unknown stands in one of two types.
@@ -93,78 +95,57 @@ fn is_either_unknown(at: &Parts, one: NodeRef, other: NodeRef) -> Result<bool, N
 }
 
 /// Whether two declarations of as many parameters stand for one type: as schemes of their parameters with the type behind them, or
-/// over these rigid types, where something unknown stands in one, in which no parameter may stand.
+/// over rigid types, where something unknown stands in one, in which no parameter may stand.
 fn stand_for_one(
     at: &mut Parts,
     actual: &Declaration,
     wanted: &Declaration,
-    arguments: &[NodeRef],
 ) -> Result<bool, NoMemory>
-    ensures compared { IfOk result (λ met. (HasUnknown at.old.store.nodes actual.now.root.0 → ⊥) → AreComparable at.old.store.nodes actual.now.root wanted.now.root → Compared at.old.store.nodes at.new.store.nodes actual.now.root.0 wanted.now.root.0 met) }
+    ensures compared { IfOk result (λ met. ComparesRoots at.old.store.nodes at.new.store.nodes actual.now.root wanted.now.root met) }
     ensures goes { Goes at.old at.new }
 {
     if is_either_unknown(at, actual.root, wanted.root)? {
-        are_one_over(at, actual, wanted, arguments)
+        are_one_over(at, actual, wanted)
     } else {
         at.covers(actual.root, wanted.root)
     }
 }
 
-/// Whether two declarations give these arguments one type.
+/// Whether two declarations give the same rigid types one type.
 fn are_one_over(
     at: &mut Parts,
     actual: &Declaration,
     wanted: &Declaration,
-    arguments: &[NodeRef],
 ) -> Result<bool, NoMemory>
     ensures goes { Goes at.old at.new }
 {
-    let found = over(at, actual, arguments)?;
-    let asked = over(at, wanted, arguments)?;
+    let arguments = rigid_arguments(at, wanted.arity)?;
+    let found = over(at, actual, &arguments)?;
+    let asked = over(at, wanted, &arguments)?;
     at.are_one(found, asked)
 }
 
+/// Whether two declarations tell the same of their values, where the wanted one tells something.
 fn shapes_agree(
     at: &mut Parts,
     actual: &Declaration,
     wanted: &Declaration,
-    arguments: &[NodeRef],
 ) -> Result<bool, NoMemory>
     ensures shape { IfOk result (λ met. met ≡ true → ShapesFit actual.now.shape wanted.now.shape) }
+    ensures compared { IfOk result (λ met. ComparesShapes at.old.store.nodes at.new.store.nodes actual.now.shape wanted.now.shape met) }
     ensures goes { Goes at.old at.new }
 {
+    let both = Both { actual, wanted };
     match (&actual.shape, &wanted.shape) {
         (_, Shape::Opaque) => Ok(true),
         (Shape::Variant(found), Shape::Variant(asked)) => {
-            all_constructors_agree(at, actual, found, wanted, asked, arguments)
+            both.all_constructors_agree(at, found, asked)
         }
-        (Shape::Labels(found), Shape::Labels(asked)) => {
-            labels_agree(at, actual, found, wanted, asked, arguments)
-        }
-        _ => Ok(false),
+        (Shape::Labels(found), Shape::Labels(asked)) => both.labels_agree(at, found, asked),
+        (Shape::Opaque, _) => Ok(false),
+        (Shape::Variant(_), Shape::Labels(_)) => Ok(false),
+        (Shape::Labels(_), Shape::Variant(_)) => Ok(false),
     }
-}
-
-fn all_constructors_agree(
-    at: &mut Parts,
-    actual: &Declaration,
-    found: &[Constructor],
-    wanted: &Declaration,
-    asked: &[Constructor],
-    arguments: &[NodeRef],
-) -> Result<bool, NoMemory>
-    ensures fit { IfOk result (λ met. met ≡ true → AllZip ConstructorsFit found.now asked.now) }
-    ensures goes { Goes at.old at.new }
-{
-    if found.len() != asked.len() {
-        return Ok(false);
-    }
-    for (one, other) in found.iter().zip(asked.iter()) {
-        if !constructors_agree(at, actual, one, wanted, other, arguments)? {
-            return Ok(false);
-        }
-    }
-    Ok(true)
 }
 
 /// A side of an arrow.
@@ -199,67 +180,120 @@ fn side_over(
     }
 }
 
-fn constructors_agree(
-    at: &mut Parts,
-    actual: &Declaration,
-    found: &Constructor,
-    wanted: &Declaration,
-    asked: &Constructor,
-    arguments: &[NodeRef],
-) -> Result<bool, NoMemory>
-    ensures fit { IfOk result (λ met. met ≡ true → ConstructorsFit found.now asked.now) }
-    ensures goes { Goes at.old at.new }
-{
-    if !found.name.is(asked.name.as_str()) || found.has_argument != asked.has_argument {
-        return Ok(false);
-    }
-    if !found.has_argument {
-        return Ok(true);
-    }
-    let one = side_over(at, found.root, actual, arguments, Side::From)?;
-    let other = side_over(at, asked.root, wanted, arguments, Side::From)?;
-    at.are_one(one, other)
+/// Two declarations of as many parameters that stand for one type.
+#[derive(Clone, Copy)]
+struct Both<'a> {
+    actual: &'a Declaration,
+    wanted: &'a Declaration,
 }
 
-fn label_agrees(
-    at: &mut Parts,
-    actual: &Declaration,
-    found: &Label,
-    wanted: &Declaration,
-    asked: &Label,
-    arguments: &[NodeRef],
-) -> Result<bool, NoMemory>
-    ensures fit { IfOk result (λ met. met ≡ true → LabelsFit found.now asked.now) }
-    ensures goes { Goes at.old at.new }
-{
-    if !found.name.is(asked.name.as_str()) || found.is_mutable != asked.is_mutable {
-        return Ok(false);
-    }
-    let one = side_over(at, found.root, actual, arguments, Side::To)?;
-    let other = side_over(at, asked.root, wanted, arguments, Side::To)?;
-    at.are_one(one, other)
-}
-
-fn labels_agree(
-    at: &mut Parts,
-    actual: &Declaration,
-    found: &[Label],
-    wanted: &Declaration,
-    asked: &[Label],
-    arguments: &[NodeRef],
-) -> Result<bool, NoMemory>
-    ensures fit { IfOk result (λ met. met ≡ true → AllZip LabelsFit found.now asked.now) }
-    ensures goes { Goes at.old at.new }
-{
-    if found.len() != asked.len() {
-        return Ok(false);
-    }
-    for (one, other) in found.iter().zip(asked.iter()) {
-        if !label_agrees(at, actual, one, wanted, other, arguments)? {
-            return Ok(false);
+impl<'a> Both<'a> {
+    /// Whether two roots of constructors or of labels are one: as schemes, or by one side over rigid types, where something unknown
+    /// stands in one.
+    fn roots_agree(
+        self,
+        at: &mut Parts,
+        found: NodeRef,
+        asked: NodeRef,
+        side: Side,
+    ) -> Result<bool, NoMemory>
+        ensures compared { IfOk result (λ met. ComparesRoots at.old.store.nodes at.new.store.nodes found asked met) }
+        ensures goes { Goes at.old at.new }
+    {
+        if is_either_unknown(at, found, asked)? {
+            self.sides_are_one(at, found, asked, side)
+        } else {
+            at.covers(found, asked)
         }
     }
-    Ok(true)
+
+    /// Whether one side of both roots is one type, over the same rigid types.
+    fn sides_are_one(
+        self,
+        at: &mut Parts,
+        found: NodeRef,
+        asked: NodeRef,
+        side: Side,
+    ) -> Result<bool, NoMemory>
+        ensures goes { Goes at.old at.new }
+    {
+        let arguments = rigid_arguments(at, self.wanted.arity)?;
+        let one = side_over(at, found, self.actual, &arguments, side)?;
+        let other = side_over(at, asked, self.wanted, &arguments, side)?;
+        at.are_one(one, other)
+    }
+
+    fn all_constructors_agree(
+        self,
+        at: &mut Parts,
+        found: &[Constructor],
+        asked: &[Constructor],
+    ) -> Result<bool, NoMemory>
+        ensures fit { IfOk result (λ met. met ≡ true → AllZip ConstructorsFit found.now asked.now) }
+        ensures compared { IfOk result (λ met. ComparesConstructors at.old.store.nodes at.new.store.nodes found.now asked.now met) }
+        ensures goes { Goes at.old at.new }
+    {
+        if found.len() != asked.len() {
+            return Ok(false);
+        }
+        for (one, other) in found.iter().zip(asked.iter()) {
+            if !self.constructors_agree(at, one, other)? {
+                return Ok(false);
+            }
+        }
+        Ok(true)
+    }
+
+    fn constructors_agree(
+        self,
+        at: &mut Parts,
+        found: &Constructor,
+        asked: &Constructor,
+    ) -> Result<bool, NoMemory>
+        ensures fit { IfOk result (λ met. met ≡ true → ConstructorsFit found.now asked.now) }
+        ensures compared { IfOk result (λ met. ComparesConstructor at.old.store.nodes at.new.store.nodes found.now asked.now met) }
+        ensures goes { Goes at.old at.new }
+    {
+        if !found.name.is(asked.name.as_str()) || found.has_argument != asked.has_argument {
+            return Ok(false);
+        }
+        if !found.has_argument {
+            return Ok(true);
+        }
+        self.roots_agree(at, found.root, asked.root, Side::From)
+    }
+
+    fn labels_agree(
+        self,
+        at: &mut Parts,
+        found: &[Label],
+        asked: &[Label],
+    ) -> Result<bool, NoMemory>
+        ensures fit { IfOk result (λ met. met ≡ true → AllZip LabelsFit found.now asked.now) }
+        ensures compared { IfOk result (λ met. ComparesLabels at.old.store.nodes at.new.store.nodes found.now asked.now met) }
+        ensures goes { Goes at.old at.new }
+    {
+        if found.len() != asked.len() {
+            return Ok(false);
+        }
+        for (one, other) in found.iter().zip(asked.iter()) {
+            if !self.label_agrees(at, one, other)? {
+                return Ok(false);
+            }
+        }
+        Ok(true)
+    }
+
+    fn label_agrees(self, at: &mut Parts, found: &Label, asked: &Label) -> Result<bool, NoMemory>
+        ensures fit { IfOk result (λ met. met ≡ true → LabelsFit found.now asked.now) }
+        ensures compared { IfOk result (λ met. ComparesLabel at.old.store.nodes at.new.store.nodes found.now asked.now met) }
+        ensures goes { Goes at.old at.new }
+    {
+        if !found.name.is(asked.name.as_str()) || found.is_mutable != asked.is_mutable {
+            return Ok(false);
+        }
+        self.roots_agree(at, found.root, asked.root, Side::To)
+    }
 }
 
 /// Whether two exceptions have the same argument, or none.
@@ -269,12 +303,32 @@ pub fn same_exception(
     wanted: &Constructor,
 ) -> Result<bool, NoMemory>
     ensures has_argument { IfOk result (λ met. met ≡ true → actual.now.has_argument ≡ wanted.now.has_argument) }
+    ensures judged { IfOk result (λ met. ComparesExceptions at.old.store.nodes at.new.store.nodes actual.now wanted.now met) }
     ensures goes { Goes at.old at.new }
 {
     if actual.has_argument != wanted.has_argument {
         return Ok(false);
     }
-    let one = copied(at, actual.root, ForBound::Variable, ForUnknown::Closed)?;
-    let other = copied(at, wanted.root, ForBound::Variable, ForUnknown::Closed)?;
+    types_agree(at, actual.root, wanted.root)
+}
+
+/// Whether two types without parameters are one: as schemes, or with any types for what is unknown in them.
+fn types_agree(at: &mut Parts, one: NodeRef, other: NodeRef) -> Result<bool, NoMemory>
+    ensures compared { IfOk result (λ met. ComparesRoots at.old.store.nodes at.new.store.nodes one other met) }
+    ensures goes { Goes at.old at.new }
+{
+    if is_either_unknown(at, one, other)? {
+        known_are_one(at, one, other)
+    } else {
+        at.covers(one, other)
+    }
+}
+
+/// Whether two types are one, with any types for what is unknown in them.
+fn known_are_one(at: &mut Parts, actual: NodeRef, wanted: NodeRef) -> Result<bool, NoMemory>
+    ensures goes { Goes at.old at.new }
+{
+    let one = copied(at, actual, ForBound::Variable, ForUnknown::Closed)?;
+    let other = copied(at, wanted, ForBound::Variable, ForUnknown::Closed)?;
     at.are_one(one, other)
 }

@@ -1,22 +1,23 @@
 //! The walk over the components of a wanted signature.
-ghost use Rattle.std.specs.Prelude.{◌≡◌, ◌+◌, ◌^◌, ◌-◌, [], true, None, map, option_map, IfOk, IfSome};
+ghost use Rattle.std.specs.Prelude.{◌≡◌, ◌+◌, ◌^◌, ◌-◌, map, option_map, IfOk, IfSome};
 ghost use Rattle.text_terms.specs.Bytes.{str_bytes};
 ghost use Rattle.signature_model.specs.Failing as rules;
 ghost use Rattle.signature_model.specs.Matching.{new_number};
-ghost use Rattle.env_table.specs.declared.entries.Template.{out-Template};
+ghost use Rattle.decl_typing.specs.Copying.{paths_of};
 ghost use Rattle.decl_typing.specs.Goes.{Goes};
+ghost use Rattle.sig_template.specs.Ways.{sig_of};
 ghost use Rattle.signature_match.specs.Blames.{cause_of, blame_of, unless, MayFail};
 ghost use Rattle.signature_match.specs.Newest.{newest_value, newest_type, newest_exception, newest_module, newest_module_type, exception_in, exception_named};
 ghost use Rattle.signature_match.specs.Anew.{IsMadeAnew};
-ghost use Rattle.signature_match.specs.Values.{MeetsNewest};
-ghost use Rattle.signature_match.specs.Telling.{TellsValue, TellsType, TellsException, TellsModuleType, Tells, TellsFirst, TellsOne, TellsEntry};
+ghost use Rattle.signature_match.specs.Wanting.{IsRealisedIn, IsWanted, IsRenewedBody, AreBodies};
+ghost use Rattle.signature_match.specs.Telling.{TellsValue, TellsType, TellsException, Tells, TellsWanted, TellsFirst, TellsOne, TellsBoth, TellsFunctors, TellsEntry, TellsParameter, TellsMatch};
 
 use crate::causes::{Cause, Mismatch};
 use crate::compare::{covers, declares, same_exception};
-use decl_typing::{Depth, NoMemory, NodeRef, Parts};
+use decl_typing::{Changes, Depth, NoMemory, NodeRef, Parts};
 use env_table::{Constructor, Declaration, Entry, Kind, Sig, Template, What};
-use owned_lists::{push, shared};
-use sig_template::{changed, made_at, realisation};
+use owned_lists::shared;
+use sig_template::{changed, copied_origins, made_at, realisation};
 use std::alloc::AllocError;
 use std::rc::Rc;
 
@@ -162,8 +163,7 @@ fn match_value(
     wanted: &Entry,
     root: NodeRef,
 ) -> Result<Option<Mismatch>, NoMemory>
-    ensures told { IfOk result (λ met. TellsValue (newest_value (str_bytes wanted.now.name) actual.now) (option_map blame_of met)) }
-    ensures met { IfOk result (λ met. MeetsNewest at.old.store.nodes at.new.store.nodes (newest_value (str_bytes wanted.now.name) actual.now) root (option_map blame_of met)) }
+    ensures told { IfOk result (λ met. TellsValue at.old.store.nodes at.new.store.nodes (newest_value (str_bytes wanted.now.name) actual.now) root (option_map blame_of met)) }
     ensures goes { Goes at.old at.new }
 {
     match newest_value(actual, wanted.name.as_str()) {
@@ -182,7 +182,7 @@ fn match_type(
     wanted: &Entry,
     declaration: &Declaration,
 ) -> Result<Option<Mismatch>, NoMemory>
-    ensures told { IfOk result (λ met. TellsType (newest_type (str_bytes wanted.now.name) actual.now) declaration.now (option_map blame_of met)) }
+    ensures told { IfOk result (λ met. TellsType at.old.store.nodes at.new.store.nodes (newest_type (str_bytes wanted.now.name) actual.now) declaration.now (option_map blame_of met)) }
     ensures goes { Goes at.old at.new }
 {
     match newest_type(actual, wanted.name.as_str()) {
@@ -204,7 +204,7 @@ fn match_exception(
     wanted: &Entry,
     constructor: &Constructor,
 ) -> Result<Option<Mismatch>, NoMemory>
-    ensures told { IfOk result (λ met. TellsException (newest_exception (str_bytes wanted.now.name) actual.now) constructor.now (option_map blame_of met)) }
+    ensures told { IfOk result (λ met. TellsException at.old.store.nodes at.new.store.nodes (newest_exception (str_bytes wanted.now.name) actual.now) constructor.now (option_map blame_of met)) }
     ensures goes { Goes at.old at.new }
 {
     match newest_exception(actual, wanted.name.as_str()) {
@@ -225,7 +225,7 @@ fn match_entry(
     round: u64,
     depth: Depth,
 ) -> Result<Option<Mismatch>, NoMemory>
-    ensures told { IfOk result (λ met. TellsEntry actual.now wanted.now (option_map blame_of met)) }
+    ensures told { IfOk result (λ met. TellsEntry round at.old.store.nodes at.new.store.nodes actual.now wanted.now (option_map blame_of met)) }
     ensures goes { Goes at.old at.new }
 {
     match match_component(at, actual, wanted, round, depth)? {
@@ -243,7 +243,7 @@ fn match_component(
     round: u64,
     depth: Depth,
 ) -> Result<Option<Mismatch>, NoMemory>
-    ensures told { IfOk result (λ met. TellsOne actual.now wanted.now (option_map blame_of met)) }
+    ensures told { IfOk result (λ met. TellsOne round at.old.store.nodes at.new.store.nodes actual.now wanted.now (option_map blame_of met)) }
     ensures goes { Goes at.old at.new }
 {
     match &wanted.what {
@@ -272,7 +272,7 @@ fn match_both(
     round: u64,
     depth: Depth,
 ) -> Result<Option<Mismatch>, NoMemory>
-    ensures told { IfOk result (λ met. MayFail rules.ModuleTypeDiffers (option_map blame_of met)) }
+    ensures told { IfOk result (λ met. TellsBoth round at.old.store.nodes at.new.store.nodes actual.now wanted.now (option_map blame_of met)) }
     ensures goes { Goes at.old at.new }
 {
     if matches(at, &actual.sig, wanted, round, depth.inside()?)?.is_some() {
@@ -291,7 +291,7 @@ fn meets(
     round: u64,
     depth: Depth,
 ) -> Result<Option<Mismatch>, NoMemory>
-    ensures told { IfOk result (λ met. Tells actual.now wanted.now (option_map blame_of met)) }
+    ensures told { IfOk result (λ met. Tells round at.old.store.nodes at.new.store.nodes actual.now wanted.now (option_map blame_of met)) }
     ensures goes { Goes at.old at.new }
 {
     match (actual, wanted) {
@@ -325,7 +325,7 @@ fn first_failing(
     round: u64,
     depth: Depth,
 ) -> Result<Option<Mismatch>, NoMemory>
-    ensures told { IfOk result (λ met. TellsFirst actual.now (map (λ r. r.value) wanted.now) (option_map blame_of met)) }
+    ensures told { IfOk result (λ met. TellsFirst round at.old.store.nodes at.new.store.nodes actual.now (map (λ r. r.value) wanted.now) (option_map blame_of met)) }
     ensures goes { Goes at.old at.new }
 {
     for entry in wanted {
@@ -346,6 +346,7 @@ fn functors_match(
     round: u64,
     depth: Depth,
 ) -> Result<bool, NoMemory>
+    ensures told { IfOk result (λ met. TellsFunctors round at.old.store.nodes at.new.store.nodes actual.entry.0.now.value actual.entry.1.now.value wanted.entry.0.now.value wanted.entry.1.now.value met) }
     ensures goes { Goes at.old at.new }
 {
     let (Some(inner), Some(number)) = (round.checked_add(1), new_number(round)) else {
@@ -370,7 +371,7 @@ fn match_parameter(
     depth: Depth,
 ) -> Result<(Template, bool), NoMemory>
     ensures anew { IfOk result (λ p. IsMadeAnew at.old.store.nodes number wanted.now p.0) }
-    ensures told { IfOk result (λ p. p.1 ≡ true → (out-Template actual.now).made.items ≡ [] → Tells (out-Template p.0).sig.value (out-Template actual.now).sig.value None) }
+    ensures told { IfOk result (λ p. TellsParameter round number at.old.store.nodes at.new.store.nodes actual.now wanted.now p.0 p.1) }
     ensures goes { Goes at.old at.new }
 {
     let argument = made_at(at, wanted, number)?;
@@ -386,74 +387,73 @@ fn bodies(
     wanted: (&Rc<Template>, &Rc<Template>),
     number: u64,
 ) -> Result<(Rc<Sig>, Template), NoMemory>
+    ensures are { IfOk result (λ p. AreBodies at.old.store.nodes at.new.store.nodes number argument.now actual.entry.0.now.value actual.entry.1.now.value wanted.entry.0.now.value wanted.entry.1.now.value p.0.value p.1) }
     ensures goes { Goes at.old at.new }
 {
-    let wanted_body = renewed_body(at, wanted, number)?;
-    Ok((body_for(at, argument, actual)?, wanted_body))
+    let wanted_body = renewed_body(at, wanted.0, wanted.1, number)?;
+    let body = body_for(at, argument, actual.0, actual.1)?;
+    Ok((body, wanted_body))
 }
 
 /// The actual body for an argument.
 fn body_for(
     at: &mut Parts,
     argument: &Sig,
-    actual: (&Rc<Template>, &Rc<Template>),
+    parameter: &Template,
+    body: &Template,
 ) -> Result<Rc<Sig>, NoMemory>
+    ensures put { IfOk result (λ s. IsRealisedIn at.old.store.nodes at.new.store.nodes argument.now parameter.now (sig_of body.now) s.value) }
     ensures goes { Goes at.old at.new }
 {
-    let mut realised = realisation(at, argument, actual.0)?;
-    let body = changed(at, &actual.1.sig, &realised.changes)?;
-    realised.close(at)?;
-    Ok(body)
+    realised_in(at, argument, parameter, &body.sig)
 }
 
 /// The wanted body for the wanted parameter with new origins.
 fn renewed_body(
     at: &mut Parts,
-    wanted: (&Rc<Template>, &Rc<Template>),
+    parameter: &Template,
+    body: &Template,
     number: u64,
 ) -> Result<Template, NoMemory>
+    ensures renewed { IfOk result (λ t. IsRenewedBody at.old.store.nodes at.new.store.nodes number parameter.now body.now t) }
     ensures goes { Goes at.old at.new }
 {
-    let mut changes = decl_typing::Changes::none(at.alloc());
-    changes.number = number;
-    for origin in &wanted.0.made {
-        let copied = decl_typing::copied_origin(at, origin)?;
-        push(&mut changes.made, copied)?;
-    }
-    let mut made = Vec::new(at.alloc());
-    for origin in &wanted.1.made {
-        push(&mut made, decl_typing::copied_origin(at, origin)?)?;
-    }
+    let changes = Changes {
+        made: copied_origins(at, &parameter.made)?,
+        number,
+        real: Vec::new(at.alloc()),
+    };
     Ok(Template {
-        made,
-        sig: changed(at, &wanted.1.sig, &changes)?,
+        made: copied_origins(at, &body.made)?,
+        sig: changed(at, &body.sig, &changes)?,
     })
 }
 
-/// A wanted signature whose origins are realised by an actual one.
-fn wanted_for(at: &mut Parts, actual: &Sig, wanted: &Template) -> Result<Rc<Sig>, NoMemory>
-    ensures same { IfOk result (λ s. (out-Template wanted.now).made.items ≡ [] → s.value ≡ (out-Template wanted.now).sig.value) }
+/// A signature in which the origins of a template are realised by an actual signature.
+fn realised_in(
+    at: &mut Parts,
+    actual: &Sig,
+    template: &Template,
+    sig: &Sig,
+) -> Result<Rc<Sig>, NoMemory>
+    ensures put { IfOk result (λ s. IsRealisedIn at.old.store.nodes at.new.store.nodes actual.now template.now sig.now s.value) }
     ensures goes { Goes at.old at.new }
 {
-    let mut realised = realisation(at, actual, wanted)?;
-    let sig = with_changes(at, wanted, &realised.changes)?;
+    let mut realised = realisation(at, actual, template)?;
+    let put = changed(at, sig, &realised.changes)?;
     realised.close(at)?;
-    Ok(sig)
+    Ok(put)
 }
 
-/// The signature of a template after a change of its origins.
-fn with_changes(
-    at: &mut Parts,
-    template: &Template,
-    changes: &decl_typing::Changes,
-) -> Result<Rc<Sig>, NoMemory>
-    ensures same { IfOk result (λ s. (out-Template template.now).made.items ≡ [] → s.value ≡ (out-Template template.now).sig.value) }
+/// The wanted signature, where its origins are realised by an actual one. One that makes no origin is shared.
+fn wanted_for(at: &mut Parts, actual: &Sig, wanted: &Template) -> Result<Rc<Sig>, NoMemory>
+    ensures wanted { IfOk result (λ s. IsWanted at.old.store.nodes at.new.store.nodes actual.now wanted.now s.value) }
     ensures goes { Goes at.old at.new }
 {
-    if template.made.is_empty() {
-        shared(&template.sig)
+    if wanted.made.is_empty() {
+        shared(&wanted.sig)
     } else {
-        changed(at, &template.sig, changes)
+        realised_in(at, actual, wanted, &wanted.sig)
     }
 }
 
@@ -466,7 +466,7 @@ fn matches(
     round: u64,
     depth: Depth,
 ) -> Result<Option<Mismatch>, NoMemory>
-    ensures told { IfOk result (λ met. (out-Template wanted.now).made.items ≡ [] → Tells actual.now (out-Template wanted.now).sig.value (option_map blame_of met)) }
+    ensures told { IfOk result (λ met. TellsWanted round at.old.store.nodes at.new.store.nodes actual.now wanted.now (option_map blame_of met)) }
     ensures goes { Goes at.old at.new }
 {
     let sig = wanted_for(at, actual, wanted)?;
@@ -480,7 +480,7 @@ pub fn match_sig(
     actual: &Sig,
     wanted: &Template,
 ) -> Result<Option<Mismatch>, NoMemory>
-    ensures told { IfOk result (λ met. (out-Template wanted.now).made.items ≡ [] → Tells actual.now (out-Template wanted.now).sig.value (option_map blame_of met)) }
+    ensures told { IfOk result (λ met. TellsMatch at.old.store.nodes at.new.store.nodes actual.now wanted.now (option_map blame_of met)) }
     ensures mismatch { IfOk result (λ met. IfSome met (λ m. at.new.store ≡ at.old.store)) }
     ensures goes { Goes at.old at.new }
 {

@@ -1,10 +1,12 @@
-use Rattle.std.proofs.Common.{ap, ◌∙◌}
-use Rattle.std.specs.List.{filter}
-use Rattle.type_nodes.specs.Views.{numbers}
-use Rattle.module_typing.specs.Closing.{is_open, ToldOpen}
-use Rattle.module_typing.proofs.Opening.{closes}
+use Rattle.std.proofs.Common.{List, sym, subst}
+use Rattle.type_terms.specs.declared.types.NodeRef.{NodeRef}
+use Rattle.module_typing.specs.Closing.{HasOpenValue, Finds}
+use Rattle.module_typing.proofs.Finding.{closes}
 use Rattle.module_typing.proofs.closing.ask_closed.Goals as goal
 
 pub returns-clause-closes : goal.returns-clause-closes
 returns-clause-closes c =
-    closes c.tell_open.result c.deref-2.result.now c.args.at.now c.tell_open.new.at c.args.span c.args.scope (numbers c.deref.result.now) (ap numbers c.deref-2.ensures.value ∙ c.in_ok-free.ensures) c.tell_open.ensures.told
+    let there = HasOpenValue c.args.at.now.store.nodes c.args.scope c.args.body.now in
+    closes c.tell_open.result c.deref.result.now c.args.body.now c.args.at.now c.tell_open.new.at c.args.span c.args.scope
+    (subst (λ (ns : List NodeRef). Finds there ns c.deref.result.now) c.new-free.ensures.items
+    (subst (λ (ns : List NodeRef). Finds there c.new-free.result.items ns) (sym c.deref.ensures.value) c.in_ok-add_in_sig.ensures)) c.tell_open.ensures.told

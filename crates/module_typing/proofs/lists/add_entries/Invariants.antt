@@ -1,6 +1,6 @@
 use Rattle.std.proofs.Common.{◌≡◌, ◌++◌, drop}
-use Rattle.module_typing.specs.Listed.{values}
+use Rattle.sig_template.specs.Structures.{entries_of}
 use Rattle.module_typing.proofs.lists.add_entries.Given as goal
 
 abbrev pub invariant-loop-entry : goal.invariant-loop-entry
-invariant-loop-entry l = values l.list.items ++ values (drop l.entry-index l.entries) ≡ values l.fn.list.items ++ values l.entries
+invariant-loop-entry l = entries_of l.list.items ++ entries_of (drop l.entry-index l.entries) ≡ entries_of l.fn.list.items ++ entries_of l.entries

@@ -1,4 +1,4 @@
-use Rattle.std.proofs.Common.{◌≡◌, true, false, ◌∷◌, ◌++◌, List, [], refl, sym, ap, ◌∙◌, reverse, append_assoc, length, arith, subst}
+use Rattle.std.proofs.Common.{◌≡◌, true, false, ◌∷◌, ◌++◌, List, [], sym, ap, ◌∙◌, reverse, append_assoc, length, arith, subst}
 use Rattle.std.specs.declared.rc.Rc.{Rc}
 use Rattle.std.specs.declared.alloc.Global.{Global}
 use Rattle.env_table.specs.declared.entries.Entry.{Entry}

@@ -10,6 +10,6 @@ returns-then-is_empty-clause-sig c = λ live.
 
 pub returns-clause-sig : goal.returns-clause-sig
 returns-clause-sig c =
-    copied_same c.args.at.now.store.nodes c.changed.new.at.store.nodes (paths_of c.args.template.now.made.items) (paths_of c.in_ok-copied_origins.field-0.items) c.args.node
-    c.args.template.now.sig.value c.deref-3.result.now c.in_ok-changed.field-0.value (c.in_ok-copied_origins.ensures ∙ ap paths_of c.deref-2.ensures.value) c.deref-3.ensures
-    (c.in_ok-changed.ensures.changed c.new.ensures.items)
+    copied_same c.args.at.now.store.nodes c.changed.new.at.store.nodes (paths_of c.args.template.now.made.items) (paths_of c.in_ok-copied_origins.field-0.items) c.args.node c.new.result.items
+    c.args.template.now.sig.value c.deref-3.result.now c.in_ok-changed.field-0.value (c.in_ok-copied_origins.ensures ∙ ap paths_of c.deref-2.ensures.value) c.deref-3.ensures c.new.ensures.items
+    c.in_ok-changed.ensures.changed

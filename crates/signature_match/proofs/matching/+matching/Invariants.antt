@@ -1,4 +1,5 @@
-use Rattle.std.proofs.Common.{◌+◌, ◌*◌, map, drop, Option}
+use Rattle.std.proofs.Common.{◌+◌, ◌*◌, List, map, drop, Option}
+use Rattle.type_nodes.specs.Nodes.{Node}
 use Rattle.signature_model.specs.Failing.{Blame}
 use Rattle.decl_typing.specs.Goes.{Goes}
 use Rattle.signature_match.specs.Telling.{TellsFirst}
@@ -30,4 +31,6 @@ decreases-matches l = 3 * l.depth.0 + 1
 
 abbrev pub invariant-first_failing-loop-entry : goal.invariant-first_failing-loop-entry
 invariant-first_failing-loop-entry l =
-    Goes l.fn.at l.at × ((told : Option Blame) → TellsFirst l.actual (map (λ r. r.value) (drop l.entry-index l.wanted)) told → TellsFirst l.actual (map (λ r. r.value) l.wanted) told)
+    Goes l.fn.at l.at ×
+    ((new : List Node) (told : Option Blame) → TellsFirst l.round l.at.store.nodes new l.actual (map (λ r. r.value) (drop l.entry-index l.wanted)) told →
+    TellsFirst l.round l.fn.at.store.nodes new l.actual (map (λ r. r.value) l.wanted) told)

@@ -1,18 +1,18 @@
 use Rattle.std.proofs.Common.{refl, ◌∷◌, []}
 use Rattle.type_nodes.specs.Nodes.{Arrow}
 use Rattle.level_unify.specs.Copies.{table_of}
+use Rattle.decl_typing.specs.Copying.{change_by}
 use Rattle.decl_typing.proofs.Extending.{extends_refl, arrow_extends}
-use Rattle.signature_model.specs.Changes.{in_front}
 use Rattle.decl_typing.proofs.Copied.{itself_changed}
 use Rattle.decl_typing.proofs.Answering.{arrow_answer, copied_nodes}
 use Rattle.decl_typing.proofs.copies.Copies.arrow.Goals as goal
 
 pub returns-then-not-is_any_changed-clause-changed : goal.returns-then-not-is_any_changed-clause-changed
-returns-then-not-is_any_changed-clause-changed c = λ made u lt at copied.
+returns-then-not-is_any_changed-clause-changed c = λ changes lt at copied.
     let nodes = c.args.at.now.store.nodes in
     let T = table_of c.args.self.now.table in
-    itself_changed nodes made u T c.args.n.0 (Arrow c.args.from.0 c.args.to.0) (extends_refl nodes) tt at copied
-    (c.is_any_changed.ensures c.if-not-is_any_changed.true (copied_nodes nodes (in_front made u) T (c.args.from.0 ∷ c.args.to.0 ∷ []) copied)) refl lt
+    itself_changed nodes changes T c.args.n.0 (Arrow c.args.from.0 c.args.to.0) (extends_refl nodes) tt tt at copied
+    (c.is_any_changed.ensures c.if-not-is_any_changed.true (copied_nodes nodes (change_by changes) T (c.args.from.0 ∷ c.args.to.0 ∷ []) copied)) refl lt
 
 pub returns-clause-changed : goal.returns-clause-changed
 returns-clause-changed c = arrow_answer c.arrow.result c.args.at.now.store c.arrow.new.self.store (table_of c.args.self.now.table) c.args.n.0 c.args.from.0 c.args.to.0 c.image-left.result.0 c.image-right.result.0

@@ -5,48 +5,48 @@ use Rattle.level_unify.specs.Copies.{table_of}
 use Rattle.text_terms.specs.Bytes.{str_bytes}
 use Rattle.type_nodes.specs.Nodes.{Arrow, Tuple, Con}
 use Rattle.type_nodes.specs.Views.{numbers}
-use Rattle.decl_typing.specs.Copying.{moved, Stands, seen_node}
+use Rattle.decl_typing.specs.Copying.{change_by, Stands, seen_node}
 use Rattle.decl_typing.proofs.Copied.{var_changed, rigid_changed}
 use Rattle.decl_typing.proofs.Tasks.{entered_known, entered_leaf, entered_parts}
 use Rattle.decl_typing.proofs.Answering.{on_ok, on_both, has_key, moved_on}
 use Rattle.decl_typing.proofs.copies.Copies.enter.Goals as goal
 
 pub returns-then-contains_key-clause-stands : goal.returns-then-contains_key-clause-stands
-returns-then-contains_key-clause-stands c = λ alone aim s.
-    entered_known c.args.at.now.store.nodes (moved c.args.how.changes.now) (table_of c.args.self.now.table) c.args.self.now.todo.items c.args.n c.root-root.result aim c.root-root.ensures.node
+returns-then-contains_key-clause-stands c = λ leaves aim s.
+    entered_known c.args.at.now.store.nodes c.args.how.changes.now (table_of c.args.self.now.table) c.args.self.now.todo.items c.args.n c.root-root.result aim c.root-root.ensures.node
     (has_key (get nat_eq c.args.self.now.table c.root-root.result.0) (sym c.contains_key.ensures ∙ c.if-contains_key.true)) s
 
 pub returns-in-Variable-clause-stands : goal.returns-in-Variable-clause-stands
 returns-in-Variable-clause-stands c =
     let nodes = c.args.at.now.store.nodes in
-    let d = moved c.args.how.changes.now in
+    let d = c.args.how.changes.now in
     let T' = table_of c.enter_variable.new.self.table in
     on_both c.enter_variable.result
-    (λ sets same alone aim s.
+    (λ sets same leaves aim s.
     subst (λ ts. Stands c.enter_variable.new.at.store.nodes d T' ts aim) (sym (ap (λ v. v.items) c.enter_variable.ensures.rest))
-    (subst (λ ns. Stands ns d T' c.args.self.now.todo.items aim) (sym (ap (λ a. a.store.nodes) (same alone)))
-    (entered_leaf nodes d (table_of c.args.self.now.table) T' c.args.self.now.todo.items c.args.n c.root-root.result aim c.view_of.ensures.sound c.root-root.ensures.node (sets alone)
-    (λ lt end. var_changed nodes d c.root-root.result.0 c.in-Variable.level c.in-Variable.scope lt end (c.in_ok-level.ensures.seen lt ∙ ap (λ x. Some (seen_node x)) c.in-Variable.is)) s)))
+    (subst (λ ns. Stands ns d T' c.args.self.now.todo.items aim) (sym (ap (λ a. a.store.nodes) (same leaves)))
+    (entered_leaf nodes d (table_of c.args.self.now.table) T' c.args.self.now.todo.items c.args.n c.root-root.result aim c.view_of.ensures.sound c.root-root.ensures.node (sets leaves)
+    (λ lt end. var_changed nodes (change_by d) c.root-root.result.0 c.in-Variable.level c.in-Variable.scope lt end (c.in_ok-level.ensures.seen lt ∙ ap (λ x. Some (seen_node x)) c.in-Variable.is)) s)))
     c.enter_variable.ensures.set c.enter_variable.ensures.same
 
 pub returns-in-Other-clause-stands : goal.returns-in-Other-clause-stands
 returns-in-Other-clause-stands c =
     let nodes = c.args.at.now.store.nodes in
-    let d = moved c.args.how.changes.now in
+    let d = c.args.how.changes.now in
     let T' = table_of c.set.new.self.table in
     on_ok c.set.result
-    (λ sets alone aim s.
+    (λ sets leaves aim s.
     subst (λ ts. Stands nodes d T' ts aim) (sym (ap (λ v. v.items) c.set.ensures.rest))
     (entered_leaf nodes d (table_of c.args.self.now.table) T' c.args.self.now.todo.items c.args.n c.root-root.result aim c.view_of.ensures.sound c.root-root.ensures.node sets
-    (λ lt end. rigid_changed nodes d c.root-root.result.0 lt (c.in_ok-level.ensures.seen lt ∙ ap (λ x. Some (seen_node x)) c.in-Other.is)) s))
+    (λ lt end. rigid_changed nodes (change_by d) c.root-root.result.0 lt (c.in_ok-level.ensures.seen lt ∙ ap (λ x. Some (seen_node x)) c.in-Other.is)) s))
     c.set.ensures.set
 
 pub returns-in-Arrow-clause-stands : goal.returns-in-Arrow-clause-stands
 returns-in-Arrow-clause-stands c =
     let nodes = c.args.at.now.store.nodes in
-    let d = moved c.args.how.changes.now in
+    let d = c.args.how.changes.now in
     on_ok c.later.result
-    (λ pushed alone aim s. moved_on nodes d _ _ aim _ _ (ap table_of c.later.ensures.rest) pushed
+    (λ pushed leaves aim s. moved_on nodes d _ _ aim _ _ (ap table_of c.later.ensures.rest) pushed
     (entered_parts nodes d (table_of c.args.self.now.table) c.args.self.now.todo.items c.args.n c.root-root.result (c.in-Arrow.from ∷ c.in-Arrow.to ∷ []) (Arrow c.in-Arrow.from.0 c.in-Arrow.to.0) aim c.view_of.ensures.sound tt c.root-root.ensures.node
     (λ lt. c.in_ok-level.ensures.seen lt ∙ ap (λ x. Some (seen_node x)) c.in-Arrow.is) refl s))
     c.later.ensures.pushed
@@ -54,10 +54,10 @@ returns-in-Arrow-clause-stands c =
 pub returns-in-Tuple-clause-stands : goal.returns-in-Tuple-clause-stands
 returns-in-Tuple-clause-stands c =
     let nodes = c.args.at.now.store.nodes in
-    let d = moved c.args.how.changes.now in
+    let d = c.args.how.changes.now in
     let ps = c.deref.result.now in
     on_ok c.later-in-Tuple.result
-    (λ pushed alone aim s. moved_on nodes d _ _ aim _ _ (ap table_of c.later-in-Tuple.ensures.rest) pushed
+    (λ pushed leaves aim s. moved_on nodes d _ _ aim _ _ (ap table_of c.later-in-Tuple.ensures.rest) pushed
     (entered_parts nodes d (table_of c.args.self.now.table) c.args.self.now.todo.items c.args.n c.root-root.result ps (Tuple (numbers ps)) aim c.view_of.ensures.sound tt c.root-root.ensures.node
     (λ lt. c.in_ok-level.ensures.seen lt ∙ ap (λ x. Some (seen_node x)) c.in-Tuple.is ∙ ap (λ ns. Some (Tuple (numbers ns))) (sym c.deref.ensures.value)) refl s))
     c.later-in-Tuple.ensures.pushed
@@ -65,11 +65,11 @@ returns-in-Tuple-clause-stands c =
 pub returns-clause-stands : goal.returns-clause-stands
 returns-clause-stands c =
     let nodes = c.args.at.now.store.nodes in
-    let d = moved c.args.how.changes.now in
+    let d = c.args.how.changes.now in
     let ps = c.deref-in-Con.result.now in
     let o = c.in-Con.field-0 in
     on_ok c.later-in-Con.result
-    (λ pushed alone aim s. moved_on nodes d _ _ aim _ _ (ap table_of c.later-in-Con.ensures.rest) pushed
+    (λ pushed leaves aim s. moved_on nodes d _ _ aim _ _ (ap table_of c.later-in-Con.ensures.rest) pushed
     (entered_parts nodes d (table_of c.args.self.now.table) c.args.self.now.todo.items c.args.n c.root-root.result ps (Con o.path.items (str_bytes o.name) (numbers ps)) aim c.view_of.ensures.sound tt c.root-root.ensures.node
     (λ lt. c.in_ok-level.ensures.seen lt ∙ ap (λ x. Some (seen_node x)) c.in-Con.is ∙ ap (λ ns. Some (Con o.path.items (str_bytes o.name) (numbers ns))) (sym c.deref-in-Con.ensures.value)) refl s))
     c.later-in-Con.ensures.pushed

@@ -2,18 +2,18 @@ use Rattle.std.proofs.Common.{refl, ◌∙◌, ap}
 use Rattle.type_nodes.specs.Nodes.{Tuple}
 use Rattle.type_nodes.specs.Views.{numbers}
 use Rattle.level_unify.specs.Copies.{table_of}
-use Rattle.signature_model.specs.Changes.{in_front}
+use Rattle.decl_typing.specs.Copying.{change_by}
 use Rattle.decl_typing.proofs.Extending.{extends_refl, over_extends}
 use Rattle.decl_typing.proofs.Copied.{itself_changed}
 use Rattle.decl_typing.proofs.Answering.{tuple_answer, copied_nodes}
 use Rattle.decl_typing.proofs.copies.Copies.tuple.Goals as goal
 
 pub returns-then-not-is_any_changed-clause-changed : goal.returns-then-not-is_any_changed-clause-changed
-returns-then-not-is_any_changed-clause-changed c = λ made u lt at copied.
+returns-then-not-is_any_changed-clause-changed c = λ changes lt at copied.
     let nodes = c.args.at.now.store.nodes in
     let T = table_of c.args.self.now.table in
-    itself_changed nodes made u T c.args.n.0 (Tuple (numbers c.args.parts.now)) (extends_refl nodes) tt at copied
-    (c.is_any_changed.ensures c.if-not-is_any_changed.true (copied_nodes nodes (in_front made u) T (numbers c.args.parts.now) copied)) refl lt
+    itself_changed nodes changes T c.args.n.0 (Tuple (numbers c.args.parts.now)) (extends_refl nodes) tt tt at copied
+    (c.is_any_changed.ensures c.if-not-is_any_changed.true (copied_nodes nodes (change_by changes) T (numbers c.args.parts.now) copied)) refl lt
 
 pub returns-clause-changed : goal.returns-clause-changed
 returns-clause-changed c = tuple_answer c.tuple.result c.args.at.now.store c.tuple.new.self.store (table_of c.args.self.now.table) c.args.n.0 (numbers c.args.parts.now) (numbers c.deref.result.now)

@@ -1,7 +1,7 @@
 use Rattle.std.proofs.Common.{◌∙◌, ◌∷◌, ap}
 use Rattle.text_terms.specs.Bytes.{str_bytes}
 use Rattle.env_table.specs.declared.entries.Entry.{Entry}
-use Rattle.module_typing.specs.Listed.{values}
+use Rattle.sig_template.specs.Structures.{entries_of}
 use Rattle.module_typing.proofs.Naming.{on_ok, values_more}
 use Rattle.module_typing.proofs.scenes.Scene.add_entry.Goals as goal
 
@@ -15,6 +15,6 @@ returns-clause-added c =
         what = ap (λ (e : Entry). e.what) c.in_ok-entry.ensures;
       };
       env = c.in_ok-self.ensures ∙ ap (λ (e : Entry). e ∷ c.args.self.now.env) c.in_ok-shared.ensures;
-      components = ap values pushed ∙ values_more c.args.self.now.components.items c.in_ok-entry.entry;
+      components = ap entries_of pushed ∙ values_more c.args.self.now.components.items c.in_ok-entry.entry;
       noted = (c.in_ok-names.names, c.in_ok-names.ensures, c.in_ok-note.ensures.noted);
     }) c.push.ensures.pushed

@@ -5,7 +5,7 @@ use Rattle.env_table.specs.declared.faults.Fault.{Fault}
 use Rattle.env_table.specs.declared.entries.Kind.{Kind}
 use Rattle.decl_typing.specs.Goes.{faults_of}
 use Rattle.decl_typing.proofs.Going.{goes_trans}
-use Rattle.module_typing.specs.Listed.{values}
+use Rattle.sig_template.specs.Structures.{entries_of}
 use Rattle.module_typing.specs.Scenes.{has_name, ToldTwice, repeated, with_names}
 use Rattle.module_typing.proofs.Naming.{told_more, noted_more, rest_of, none_left}
 use Rattle.module_typing.proofs.scenes.Scene.ask_all.Goals as goal
@@ -17,8 +17,8 @@ loop-entry-preserved c =
     let asked = c.in_ok-ask.ensures in
     let t = c.args.at.now.telling in
     let e : Entry = c.entry-item.result.value in
-    let es : List Entry = values (drop (i + 1) c.args.entries.now) in
-    let left : values (drop i c.args.entries.now) ≡ e ∷ es = rest_of c.args.entries.now i c.entry-item.result c.loop-entry-test.true c.entry-item.is in
+    let es : List Entry = entries_of (drop (i + 1) c.args.entries.now) in
+    let left : entries_of (drop i c.args.entries.now) ≡ e ∷ es = rest_of c.args.entries.now i c.entry-item.result c.loop-entry-test.true c.entry-item.is in
     let of_kind : c.deref.result.now.kind ≡ e.kind = ap (λ (x : Entry). x.kind) c.deref.ensures in
     let of_name : c.as_str.result.now ≡ str_bytes e.name = c.as_str.ensures ∙ ap (λ (x : Entry). str_bytes x.name) c.deref-in-loop-entry.ensures in
     record {

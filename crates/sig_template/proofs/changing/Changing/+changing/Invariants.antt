@@ -1,8 +1,8 @@
-use Rattle.std.proofs.Common.{◌≡◌, ◌+◌, ◌*◌, [], take}
+use Rattle.std.proofs.Common.{◌+◌, ◌*◌, take}
 use Rattle.std.specs.Prelude.{All}
 use Rattle.std.specs.List.{AllZip}
 use Rattle.decl_typing.specs.Goes.{Goes}
-use Rattle.decl_typing.specs.Copying.{moved}
+use Rattle.decl_typing.specs.Copying.{change_by}
 use Rattle.sig_template.specs.Turns.{Turns, IsLiveThrough, IsTurnedEntry}
 use Rattle.sig_template.proofs.changing.Changing.+changing.Given as goal
 
@@ -24,5 +24,5 @@ decreases-template l = 3 * l.depth.0
 abbrev pub invariant-entries-loop-entry : goal.invariant-entries-loop-entry
 invariant-entries-loop-entry l = record {
   goes : Goes l.fn.at l.at;
-  turns : l.self.changes.now.real.items ≡ [] → Turns (moved l.self.changes.now) (λ ns. All (λ r. IsLiveThrough ns r.value) l.old) (λ ns. AllZip (λ r s. IsTurnedEntry ns (moved l.self.changes.now) r.value s.value) (take l.entry-index l.old) l.new.items) l.fn.at.store.nodes l.at.store.nodes l.fn.copies l.copies;
+  turns : Turns l.self.changes.now (λ ns. All (λ r. IsLiveThrough ns r.value) l.old) (λ ns. AllZip (λ r s. IsTurnedEntry ns (change_by l.self.changes.now) r.value s.value) (take l.entry-index l.old) l.new.items) l.fn.at.store.nodes l.at.store.nodes l.fn.copies l.copies;
 }

@@ -1,6 +1,4 @@
-use Rattle.std.proofs.Common.{◌≡◌, rules, List}
-use Rattle.type_nodes.specs.Nodes.{Node}
-use Rattle.decl_typing.specs.Copying.{moved}
+use Rattle.decl_typing.specs.Copying.{change_by}
 use Rattle.sig_template.specs.Changed.{IsChangedConstructor}
 use Rattle.sig_template.specs.Live.{IsLiveConstructor}
 use Rattle.decl_typing.proofs.Going.{goes_trans}
@@ -10,12 +8,12 @@ use Rattle.sig_template.proofs.changing.Changing.constructors.Goals as goal
 pub loop-constructor-preserved : goal.loop-constructor-preserved
 loop-constructor-preserved c = record {
   goes = goes_trans c.args.at.now c.loop-constructor.at c.constructor.new.at c.loop-constructor.invariant.goes c.in_ok-constructor.ensures.goes;
-  turns = λ none. turns_more (moved c.args.self.changes.now) IsLiveConstructor (λ ns. IsChangedConstructor ns (moved c.args.self.changes.now)) c.args.old.now c.loop-constructor.new.items c.push.new.list.items c.loop-constructor.constructor-index
+  turns = turns_more c.args.self.changes.now IsLiveConstructor (λ ns. IsChangedConstructor ns (change_by c.args.self.changes.now)) c.args.old.now c.loop-constructor.new.items c.push.new.list.items c.loop-constructor.constructor-index
       c.constructor-item.result c.in_ok-constructor.field-0 c.args.at.now.store.nodes c.loop-constructor.at.store.nodes c.constructor.new.at.store.nodes c.args.copies.now c.loop-constructor.copies c.constructor.new.copies
-      c.loop-constructor-test.true c.constructor-item.is c.in_ok-push.ensures.pushed (c.loop-constructor.invariant.turns none) (c.in_ok-constructor.ensures.changed none);
+      c.loop-constructor-test.true c.constructor-item.is c.in_ok-push.ensures.pushed (c.loop-constructor.invariant.turns) (c.in_ok-constructor.ensures.changed);
 }
 
 pub returns-clause-changed : goal.returns-clause-changed
-returns-clause-changed c = λ none.
-    turns_whole (moved c.args.self.changes.now) IsLiveConstructor (λ ns. IsChangedConstructor ns (moved c.args.self.changes.now)) c.args.old.now c.loop-constructor.new.items c.loop-constructor.constructor-index
-    c.args.at.now.store.nodes c.loop-constructor.at.store.nodes c.args.copies.now c.loop-constructor.copies c.loop-constructor-test.false (c.loop-constructor.invariant.turns none)
+returns-clause-changed c =
+    turns_whole c.args.self.changes.now IsLiveConstructor (λ ns. IsChangedConstructor ns (change_by c.args.self.changes.now)) c.args.old.now c.loop-constructor.new.items c.loop-constructor.constructor-index
+    c.args.at.now.store.nodes c.loop-constructor.at.store.nodes c.args.copies.now c.loop-constructor.copies c.loop-constructor-test.false (c.loop-constructor.invariant.turns)

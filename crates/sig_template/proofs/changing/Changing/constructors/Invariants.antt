@@ -1,8 +1,8 @@
-use Rattle.std.proofs.Common.{◌≡◌, [], take}
+use Rattle.std.proofs.Common.{take}
 use Rattle.std.specs.Prelude.{All}
 use Rattle.std.specs.List.{AllZip}
 use Rattle.decl_typing.specs.Goes.{Goes}
-use Rattle.decl_typing.specs.Copying.{moved}
+use Rattle.decl_typing.specs.Copying.{change_by}
 use Rattle.sig_template.specs.Changed.{IsChangedConstructor}
 use Rattle.sig_template.specs.Live.{IsLiveConstructor}
 use Rattle.sig_template.specs.Turns.{Turns}
@@ -11,5 +11,5 @@ use Rattle.sig_template.proofs.changing.Changing.constructors.Given as goal
 abbrev pub invariant-loop-constructor : goal.invariant-loop-constructor
 invariant-loop-constructor l = record {
   goes : Goes l.fn.at l.at;
-  turns : l.self.changes.now.real.items ≡ [] → Turns (moved l.self.changes.now) (λ ns. All (IsLiveConstructor ns) l.old) (λ ns. AllZip (IsChangedConstructor ns (moved l.self.changes.now)) (take l.constructor-index l.old) l.new.items) l.fn.at.store.nodes l.at.store.nodes l.fn.copies l.copies;
+  turns : Turns l.self.changes.now (λ ns. All (IsLiveConstructor ns) l.old) (λ ns. AllZip (IsChangedConstructor ns (change_by l.self.changes.now)) (take l.constructor-index l.old) l.new.items) l.fn.at.store.nodes l.at.store.nodes l.fn.copies l.copies;
 }

@@ -1,0 +1,6 @@
+use Rattle.sig_template.proofs.Reals.{unknown_stood}
+use Rattle.sig_template.proofs.realising.Realised.root_for.Goals as goal
+
+pub returns-then-branch-clause-known : goal.returns-then-branch-clause-known
+returns-then-branch-clause-known c =
+    unknown_stood c.opened_copy.result c.args.root c.args.older c.args.at.now.store.nodes c.in_ok-has_unknown.field-0 c.if-root-older.true c.in_ok-has_unknown.ensures c.if-branch.true

@@ -1,0 +1,6 @@
+use Rattle.level_unify.specs.Copies.{Extends}
+use Rattle.decl_typing.specs.Goes.{Goes}
+use Rattle.sig_template.proofs.realising.opened_copy.Given as goal
+
+abbrev pub invariant-loop-n : goal.invariant-loop-n
+invariant-loop-n l = Goes l.fn.at l.at × Extends l.fn.at.store.nodes l.at.store.nodes

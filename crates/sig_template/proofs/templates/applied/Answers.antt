@@ -1,0 +1,11 @@
+use Rattle.std.proofs.Common.{refl, ◌∙◌, ap}
+use Rattle.decl_typing.specs.declared.parts.Parts.{Parts}
+use Rattle.decl_typing.specs.Copying.{paths_of}
+use Rattle.sig_template.proofs.Applying.{applied_by}
+use Rattle.sig_template.proofs.templates.applied.Goals as goal
+
+pub returns-clause-sig : goal.returns-clause-sig
+returns-clause-sig c =
+    applied_by c.args.at.now.store.nodes c.realisation.new.at.store.nodes c.changed.new.at.store.nodes c.close.new.at.store.nodes c.args.node c.args.argument.now c.args.parameter.now c.args.body.now _
+    (paths_of c.in_ok-realised-2.field-0.items) c.in_ok-realised.realised c.deref-2.result.now c.in_ok-sig.sig.value c.in_ok-realised.ensures.realises c.in_ok-realised.ensures.declared c.in_ok-realised.ensures.extends
+    (c.in_ok-realised-2.ensures ∙ ap paths_of c.deref.ensures.value) c.deref-2.ensures refl c.in_ok-sig.ensures.changed (λ none. ap (λ (at : Parts). at.store.nodes) (c.in_ok-close.ensures.none none))

@@ -1,8 +1,0 @@
-use Rattle.std.proofs.Common.{ℕ, ◌<◌, length, get_or}
-use Rattle.decl_typing.specs.Goes.{Goes}
-use Rattle.signature_match.specs.Shapes.{ConstructorsFit}
-use Rattle.env_table.specs.declared.entries.Constructor.{Constructor}
-use Rattle.signature_match.proofs.compare.all_constructors_agree.Given as goal
-
-abbrev pub invariant-loop-one : goal.invariant-loop-one
-invariant-loop-one l = Goes l.fn.at l.at × ((k : ℕ) (d e : Constructor) → k < length l.yielded → ConstructorsFit (get_or l.found k d) (get_or l.asked k e))

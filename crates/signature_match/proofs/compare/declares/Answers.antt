@@ -1,0 +1,11 @@
+use Rattle.signature_match.proofs.Compared.{by_shapes, by_roots}
+use Rattle.signature_match.proofs.compare.declares.Goals as goal
+
+pub returns-then-branch-clause-judged : goal.returns-then-branch-clause-judged
+returns-then-branch-clause-judged c =
+    by_shapes c.shapes_agree.result c.args.at.now.store.nodes c.stand_for_one.new.at.store.nodes c.shapes_agree.new.at.store.nodes c.args.actual.now c.args.wanted.now
+    c.in_ok-stand_for_one.field-0 c.if-branch.true c.in_ok-stand_for_one.ensures.compared c.shapes_agree.ensures.compared
+
+pub returns-else-branch-clause-judged : goal.returns-else-branch-clause-judged
+returns-else-branch-clause-judged c =
+    by_roots c.args.at.now.store.nodes c.stand_for_one.new.at.store.nodes c.args.actual.now c.args.wanted.now c.in_ok-stand_for_one.field-0 c.if-branch.false c.in_ok-stand_for_one.ensures.compared
