@@ -1,17 +1,16 @@
 -- What was there stays, through one call after another.
 use Rattle.std.proofs.Common.{◌≡◌, ◌≢◌, ◌∙◌, ◌++◌, [], ◌∷◌, List, ℕ, refl, sym, ap, subst, append_assoc, append-nil}
-use Rattle.std.specs.Prelude.{Option, Some, IfOk, OnOk, OnErr, Result, Ok, Err}
+use Rattle.std.specs.Prelude.{Some, IfOk, OnOk, OnErr, Result, Ok, Err}
 use Rattle.type_terms.specs.declared.types.NodeRef.{NodeRef}
 use Rattle.std.specs.declared.alloc.AllocError.{AllocError}
 use Rattle.type_nodes.specs.Nodes.{Node}
 use Rattle.type_nodes.specs.Changes.{Makes, Quantifies}
 use Rattle.level_unify.specs.Generalising.{Generalised}
 use Rattle.level_unify.specs.Instances.{Instantiated}
-use Rattle.text_terms.specs.Bytes.{str_bytes}
 use Rattle.text_terms.specs.declared.Span.{Span}
 use Rattle.type_nodes.specs.States.{State, Keeps}
 use Rattle.type_nodes.proofs.Trails.{keeps_refl, keeps_same, keeps_trans}
-use Rattle.typed_index.specs.Seen.{seen_at, with_note}
+use Rattle.typed_index.specs.Seen.{seen_at}
 use Rattle.level_unify.specs.Solutions.{Tightens}
 use Rattle.level_unify.proofs.Tightening.{tightens_refl, tightens_same, tightens_trans, makes_tightens, quantifies_tightens, generalised_tightens, extends_tightens}
 use Rattle.env_table.specs.declared.faults.Fault.{Fault}
@@ -20,7 +19,7 @@ use Rattle.env_table.specs.declared.seen.Seen.{Seen}
 use Rattle.decl_typing.specs.declared.parts.Parts.{Parts}
 use Rattle.decl_typing.specs.declared.parts.Telling.{Telling}
 use Rattle.decl_typing.specs.declared.parts.Telling.TheVariants.{Aloud, Quiet}
-use Rattle.decl_typing.specs.Goes.{faults_of, Begins, Goes, Told, SameWork, OnlyStore, OnlyFaults, OnlyIndex, OnlyStoreAndFaults}
+use Rattle.decl_typing.specs.Goes.{faults_of, Begins, Goes, Told, SameWork, OnlyStore, OnlyFaults, OnlyIndex}
 
 pub begins_same : (old new : List Fault) → new ≡ old → Begins old new
 begins_same old new e = ([], e ∙ sym (append-nil old))

@@ -1,6 +1,6 @@
 -- What is recorded for nodes.
-use Rattle.std.proofs.Common.{◌≡◌, ℕ, Bool, true, false, List, [], Option, Some, None, option_map, Result, Ok, Err, refl, sym, ◌∙◌, ap, rules}
-use Rattle.std.specs.Prelude.{OnOk, is_some, nat_eq, ◌&&◌, ◌==◌}
+use Rattle.std.proofs.Common.{◌≡◌, ℕ, true, List, [], Option, Some, None, option_map, Result, Ok, Err, sym, ◌∙◌, rules}
+use Rattle.std.specs.Prelude.{OnOk, is_some}
 use Rattle.typed_index.specs.Seen.{seen_at, with_note}
 use Rattle.typed_index.specs.declared.TypedIndex.{TypedIndex}
 use Rattle.env_table.specs.declared.seen.Seen.{Seen}

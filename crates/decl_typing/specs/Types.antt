@@ -1,5 +1,5 @@
 -- What the calls on types do to the store.
-use Rattle.std.specs.Prelude.{◌≡◌, ◌⊎◌, ℕ, ◌-◌, ◌^◌, min, codes, List, [], ◌∷◌}
+use Rattle.std.specs.Prelude.{◌≡◌, ◌⊎◌, ℕ, ◌-◌, ◌^◌, min, List, [], ◌∷◌}
 use Rattle.type_nodes.specs.Nodes.{Node, Var, IsNode}
 use Rattle.type_nodes.specs.States.{State}
 use Rattle.type_nodes.specs.Changes.{Makes}

@@ -1,5 +1,5 @@
 -- The names that stand, and those that are told to stand twice.
-use Rattle.std.proofs.Common.{◌≡◌, ◌∙◌, ℕ, ◌+◌, ◌<◌, ◌≤◌, Bool, true, false, List, [], ◌∷◌, ◌++◌, map, length, get_or, drop, refl, sym, ap, subst}
+use Rattle.std.proofs.Common.{◌≡◌, ◌∙◌, ℕ, ◌+◌, ◌<◌, ◌≤◌, Bool, true, List, [], ◌∷◌, ◌++◌, length, get_or, drop, refl, sym, ap, subst}
 use Rattle.std.specs.Prelude.{◌&&◌, if◌then◌else◌, OnOk, IfOk, Result, Ok, Err}
 use Rattle.std.specs.Str.{bytes_eq}
 use Rattle.std.proofs.lemmas.List.{drop_more, drop_all}
@@ -16,7 +16,7 @@ use Rattle.env_table.specs.Views.{kind_of}
 use Rattle.decl_typing.specs.declared.parts.Telling.{Telling}
 use Rattle.module_typing.specs.declared.scenes.Scene.{Scene}
 use Rattle.sig_template.specs.Structures.{entries_of}
-use Rattle.module_typing.specs.Scenes.{has_name, stands_once, with_name, SameNames, told_again, repeated, with_names, ToldTwice}
+use Rattle.module_typing.specs.Scenes.{stands_once, with_name, SameNames, told_again, repeated, with_names, ToldTwice}
 
 -- scenes with the same three sets have the same names
 pub same_sets : (old new : Scene) → new.types ≡ old.types → new.modules ≡ old.modules → new.module_types ≡ old.module_types → SameNames old new

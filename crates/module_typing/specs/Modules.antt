@@ -7,13 +7,12 @@ use Rattle.text_terms.specs.Bytes.{str_bytes}
 use Rattle.text_terms.specs.declared.Span.{Span}
 use Rattle.type_model.specs.Types.{Path}
 use Rattle.syntax_tree.specs.declared.Token.{Token}
-use Rattle.env_table.specs.declared.entries.What.{What, out-What}
+use Rattle.env_table.specs.declared.entries.What.{out-What}
 use Rattle.env_table.specs.declared.entries.Entry.{Entry}
 use Rattle.env_table.specs.declared.entries.Sig.{Sig, out-Sig}
 use Rattle.env_table.specs.declared.entries.Sig.TheOpen.{Sig-F, What-F}
 use Rattle.env_table.specs.declared.entries.Kind.TheVariants as kind
 use Rattle.env_table.specs.declared.entries.Template.{Template}
-use Rattle.env_table.specs.declared.faults.Fault.{Fault}
 use Rattle.env_table.specs.declared.faults.FaultKind.{FaultKind}
 use Rattle.env_table.specs.declared.faults.FaultKind.TheVariants as fault
 use Rattle.decl_typing.specs.declared.parts.Parts.{Parts}

@@ -1,5 +1,5 @@
 -- The messages of faults of modules, and what is told.
-use Rattle.std.specs.Prelude.{◌≡◌, ℕ, List, ◌++◌, codes}
+use Rattle.std.specs.Prelude.{ℕ, List, ◌++◌, codes}
 use Rattle.std.specs.Fmt.{decimal}
 use Rattle.signature_match.specs.declared.causes.Cause.{Cause}
 use Rattle.signature_match.specs.declared.causes.Cause.TheVariants as cause

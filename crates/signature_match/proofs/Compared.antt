@@ -10,7 +10,7 @@ use Rattle.env_table.specs.declared.entries.Constructor.{Constructor}
 use Rattle.env_table.specs.declared.entries.Label.{Label}
 use Rattle.env_table.specs.declared.entries.Declaration.{Declaration}
 use Rattle.signature_match.specs.Shapes.{ConstructorsFit, LabelsFit}
-use Rattle.signature_match.specs.Comparing.{ComparesRoots, ComparesShapes, ComparesDeclarations, types_differ, types_agree, ComparesExceptions, one_has_none, by_types, ComparesConstructor, other_constructor, no_argument, arguments, ComparesLabel, other_label, label_types, ComparesEach, none_left, other_length, one_differs, one_agrees}
+use Rattle.signature_match.specs.Comparing.{ComparesRoots, ComparesShapes, ComparesDeclarations, types_differ, types_agree, ComparesExceptions, by_types, ComparesConstructor, arguments, ComparesLabel, label_types, ComparesEach, none_left, one_differs, one_agrees}
 
 -- where the types agree, what is told of the values decides
 pub by_shapes : (r : Result Bool AllocError) (old mid new : List Node) (d e : Declaration) (b : Bool) → b ≡ true → ComparesRoots old mid d.root e.root b → IfOk r (λ met. ComparesShapes mid new d.shape e.shape met) →

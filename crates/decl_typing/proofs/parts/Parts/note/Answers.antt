@@ -1,4 +1,4 @@
-use Rattle.std.proofs.Common.{rules, ◌≡◌, ℕ, Some, Ok, Err}
+use Rattle.std.proofs.Common.{rules}
 use Rattle.typed_index.specs.Seen.{seen_at}
 use Rattle.decl_typing.proofs.Recording.{there_is, recorded_there}
 use Rattle.decl_typing.proofs.parts.Parts.note.Goals as goal

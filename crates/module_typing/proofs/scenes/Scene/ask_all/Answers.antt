@@ -1,8 +1,6 @@
-use Rattle.std.proofs.Common.{◌≡◌, ◌∙◌, ℕ, ◌+◌, List, ◌∷◌, drop, refl, sym, ap, subst, arith}
+use Rattle.std.proofs.Common.{◌≡◌, ◌∙◌, ◌+◌, List, ◌∷◌, drop, refl, sym, ap, subst, arith}
 use Rattle.text_terms.specs.Bytes.{str_bytes}
 use Rattle.env_table.specs.declared.entries.Entry.{Entry}
-use Rattle.env_table.specs.declared.faults.Fault.{Fault}
-use Rattle.env_table.specs.declared.entries.Kind.{Kind}
 use Rattle.decl_typing.specs.Goes.{faults_of}
 use Rattle.decl_typing.proofs.Going.{goes_trans}
 use Rattle.sig_template.specs.Structures.{entries_of}

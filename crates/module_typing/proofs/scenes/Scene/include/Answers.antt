@@ -1,7 +1,6 @@
-use Rattle.std.proofs.Common.{◌≡◌, ◌∙◌, List, refl, sym, ap, rules}
-use Rattle.env_table.specs.declared.entries.Entry.{Entry}
+use Rattle.std.proofs.Common.{◌≡◌, ◌∙◌, refl, sym, ap}
 use Rattle.env_table.specs.declared.entries.Components.{Components, out-Components}
-use Rattle.env_table.specs.declared.entries.Sig.{Sig, out-Sig, out-roll-Sig}
+use Rattle.env_table.specs.declared.entries.Sig.{out-roll-Sig}
 use Rattle.env_table.specs.declared.entries.Sig.TheOpen.{Sig-F}
 use Rattle.env_table.specs.declared.entries.Sig.TheVariants.{Structure, rolls-Structure}
 use Rattle.sig_template.specs.Structures.{entries_of}
