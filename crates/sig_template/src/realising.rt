@@ -45,6 +45,7 @@ impl Realised {
     /// Closes the unknown types, once the types are put in. Where none is opened, all stays.
     pub fn close(&mut self, at: &mut Parts) -> Result<(), NoMemory>
         ensures none { OnOk result (self.old.opened.items ≡ [] → at.new ≡ at.old) }
+        ensures closed { OnOk result (self.new.opened.items ≡ []) }
         ensures goes { Goes at.old at.new }
     {
         while let Some(n) = self.opened.pop() {

@@ -180,6 +180,8 @@ pub fn applied(
 }
 
 /// An owner of a signature.
-pub fn owned_sig(at: &Parts, sig: Sig) -> Result<Rc<Sig>, NoMemory> {
+pub fn owned_sig(at: &Parts, sig: Sig) -> Result<Rc<Sig>, NoMemory>
+    ensures { IfOk result (λ r. r.value ≡ sig) }
+{
     owned(at.alloc(), sig)
 }
