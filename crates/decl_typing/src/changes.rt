@@ -61,11 +61,6 @@ impl Changes {
             Put::Itself
         }
     }
-
-    /// Whether an origin has a type in its place.
-    pub fn is_real(&self, origin: &Origin) -> bool {
-        self.real.iter().any(|real| real.origin.path == origin.path)
-    }
 }
 
 /// Whether an origin is one of a list.

@@ -32,4 +32,4 @@ pub use nodes::NO_SCOPE;
 pub use owners::{owner_among, owner_of};
 pub use parts::{Parts, Telling, Written};
 pub use type_nodes::{NoMemory, NodeRef};
-pub use types::{Depth, Parameter, Variables, declaration_of};
+pub use types::{Depth, Parameter, Variables};
