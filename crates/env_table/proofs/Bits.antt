@@ -1,5 +1,5 @@
 -- The bits of a hash.
-use Rattle.std.proofs.Common.{◌≡◌, ◌≢◌, ℕ, zero, suc, ◌+◌, ◌-◌, ◌/◌, ◌%◌, ◌<◌, List, [], ◌∷◌, Bool, true, false, arith, refl}
+use Rattle.std.proofs.Common.{◌≡◌, ◌≢◌, ℕ, zero, suc, ◌-◌, ◌/◌, ◌%◌, List, [], ◌∷◌, Bool, true, false, arith, refl}
 use Rattle.std.specs.Prelude.{◌==◌}
 use Rattle.env_table.specs.Index.{bits_of, same_bits}
 

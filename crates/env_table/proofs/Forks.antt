@@ -1,14 +1,14 @@
 -- What stands behind the bits of a fork, by its parts.
-use Rattle.std.proofs.Common.{◌≡◌, ℕ, List, [], ◌∷◌, Bool, true, false, refl, ap, ◌∙◌, sym, Option, Some, None}
+use Rattle.std.proofs.Common.{◌≡◌, List, [], ◌∷◌, Bool, true, false, refl, ap, ◌∙◌, sym, Option, Some, None}
 use Rattle.std.specs.declared.rc.Rc.{Rc}
 use Rattle.std.specs.declared.alloc.Global.{Global}
 use Rattle.env_table.specs.declared.entries.Entry.{Entry}
 use Rattle.env_table.specs.declared.links.Link.{Link}
-use Rattle.env_table.specs.declared.index.Fork.{Fork, fold-Fork, out-Fork, roll-Fork, fold-roll-Fork, fold_out-Fork}
+use Rattle.env_table.specs.declared.index.Fork.{Fork, out-Fork, roll-Fork, fold-roll-Fork, fold_out-Fork}
 use Rattle.env_table.specs.declared.index.Fork.TheOpen.{Fork-F}
 use Rattle.env_table.specs.declared.index.Fork.TheFolds.{map-Fork}
 use Rattle.env_table.specs.Views.{links_view}
-use Rattle.env_table.specs.Index.{Index, index_at, fork_at, fork_step, same_bits, Adds, IsIndex, bits_of, hash_of_entry}
+use Rattle.env_table.specs.Index.{Index, Key, index_at, fork_at, fork_step, Adds, AddsBy, IsIndex}
 
 abbrev pub parts_at : Option (Rc Link Global) → Index → Index → List Bool → List Entry
 parts_at b e o [] = links_view b
@@ -49,7 +49,7 @@ adds_even b e o p x key h (true ∷ ks) = refl
 adds_even b e o p x key h (false ∷ ks) = h ks
 
 -- the index of entries with one more of them
-pub more_indexed : (links more : Option (Rc Link Global)) (old new : Index) (x y : Entry) (h : ℕ) → IsIndex old links → Adds (index_at old) (bits_of 16 h) y (index_at new)
-    → links_view more ≡ (x ∷ links_view links) → y ≡ x → h ≡ hash_of_entry x → IsIndex new more
+pub more_indexed : (key : Key) (links more : Option (Rc Link Global)) (old new : Index) (x : Entry) → IsIndex key old links → AddsBy key (index_at old) x (index_at new)
+    → links_view more ≡ (x ∷ links_view links) → IsIndex key new more
 unfolding IsIndex
-more_indexed links more old new x y h index adds linked same hashed ks = adds ks ∙ rw (linked, same, hashed, index ks)
+more_indexed key links more old new x index adds linked ks = adds ks ∙ rw (linked, index ks)

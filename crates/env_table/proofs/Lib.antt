@@ -2,3 +2,4 @@ mod Bits
 mod Forks
 mod Newest
 mod Lost
+pub mod Makers

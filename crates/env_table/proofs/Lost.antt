@@ -1,11 +1,11 @@
 -- Scopes behind one module more.
-use Rattle.std.proofs.Common.{◌≡◌, ℕ, ◌+◌, List, [], ◌∷◌, ◌++◌, Bool, true, false, refl, ap, sym, ◌∙◌, Option, Some, None, append_assoc, ◌<◌, length, get_or, take, drop, map}
+use Rattle.std.proofs.Common.{◌≡◌, ℕ, ◌+◌, List, [], ◌∷◌, ◌++◌, true, false, refl, ◌∙◌, Option, Some, None, append_assoc, ◌<◌, length, get_or, take, drop, map}
 use Rattle.std.proofs.lemmas.List.{append-nil, take_more, drop_more, map-append}
 use Rattle.text_terms.specs.declared.RcStr.{RcStr}
 use Rattle.text_terms.specs.Bytes.{str_bytes}
 use Rattle.signature_model.specs.Declarations.{Name}
 use Rattle.signature_model.specs.Entries.{module_kind}
-use Rattle.signature_model.specs.Lookups.{ScopeOf, known, unknown_scope, no_scope, through, newest_by, scope_by, lookup_by, found_in}
+use Rattle.signature_model.specs.Lookups.{ScopeOf, known, unknown_scope, no_scope, through, newest_by, scope_by, lookup_by}
 use Rattle.env_table.specs.declared.entries.Entry.{Entry}
 use Rattle.env_table.specs.Views.{is_named, inside, module_scope}
 use Rattle.env_table.specs.Scopes.{module_behind, lost_behind, is_no_scope}

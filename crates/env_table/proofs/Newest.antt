@@ -1,22 +1,21 @@
 -- The newest entry of a list stands among those with its hash.
-use Rattle.std.proofs.Common.{◌≡◌, List, [], ◌∷◌, Bool, true, false, refl, sym, ap, ◌∙◌, Option, Some, None}
+use Rattle.std.proofs.Common.{◌≡◌, List, [], ◌∷◌, Bool, true, false, refl, Option, Some, None}
 use Rattle.std.specs.Prelude.{◌&&◌}
 use Rattle.std.specs.List.{filter}
 use Rattle.std.specs.Str.{bytes_eq}
 use Rattle.std.proofs.lemmas.Slice.Eq.{bytes_eq-Decides}
 use Rattle.text_terms.specs.Bytes.{str_bytes}
-use Rattle.type_terms.specs.Views.{path_of}
 use Rattle.type_model.specs.Types.{Path}
 use Rattle.signature_model.specs.Declarations.{Name}
 use Rattle.signature_model.specs.Entries as rules
 use Rattle.signature_model.specs.Lookups.{newest_by, same_kind, ScopeOf}
-use Rattle.signature_model.specs.Records.{Written, is_label_of, belongs_to, has_name, is_of_type}
+use Rattle.signature_model.specs.Records.{Written, is_label_of, belongs_to, is_of_type}
 use Rattle.env_table.specs.declared.entries.Kind.{Kind}
 use Rattle.env_table.specs.declared.entries.Kind.TheVariants as kind
 use Rattle.env_table.specs.declared.entries.What.{What}
 use Rattle.env_table.specs.declared.entries.Entry.{Entry}
 use Rattle.env_table.specs.Views.{is_named, kind_of}
-use Rattle.env_table.specs.Index.{stands_at, bits_of, hash_of, same_bits}
+use Rattle.env_table.specs.Index.{stands_at, bits_of, hash_of}
 use Rattle.env_table.specs.Labels.{labelled, record_of, record_by_kind, scope_for, has_all, candidates}
 use Rattle.env_table.proofs.Bits.{same_bits_itself}
 

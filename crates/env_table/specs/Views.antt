@@ -1,9 +1,11 @@
 -- What an environment of the code is: the list of its entries, and what each is for the rules of names.
-use Rattle.std.specs.Prelude.{Bool, ◌&&◌, List, [], ◌∷◌, map, reverse, Option, Some, None}
+use Rattle.std.specs.Prelude.{Bool, ◌&&◌, List, [], ◌∷◌, map, reverse, Option, Some, None, option_map}
 use Rattle.std.specs.Str.{bytes_eq}
 use Rattle.std.specs.declared.rc.Rc.{Rc}
 use Rattle.std.specs.declared.alloc.Global.{Global}
 use Rattle.text_terms.specs.Bytes.{str_bytes}
+use Rattle.type_terms.specs.Views.{path_of}
+use Rattle.type_model.specs.Types.{Path}
 use Rattle.signature_model.specs.Declarations.{Name}
 use Rattle.signature_model.specs.Entries as rules
 use Rattle.signature_model.specs.Lookups.{same_kind, FoundAmong, an_entry, a_hole, nothing, ScopeOf, known, unknown_scope, no_scope, newest_by}
@@ -80,6 +82,20 @@ what_opened (What-F.ModuleType t) = no_scope
 -- what is in scope inside an entry; only in a module anything may be
 abbrev pub inside : Entry → ScopeOf Entry
 inside e = what_opened (out-What e.what)
+
+-- the origin that a declaration makes
+abbrev pub made_by : {S W C E T : Type 0} → What-F S W C E T → Option Path
+made_by (What-F.Scheme n) = None
+made_by (What-F.Constructor d k) = None
+made_by (What-F.Exception c) = None
+made_by (What-F.Label d k) = None
+made_by (What-F.Type d) = option_map path_of d.value.origin
+made_by (What-F.Module s) = None
+made_by (What-F.ModuleType t) = None
+
+-- the origin that an entry makes: that of its declaration, where it is a type's
+abbrev pub makes : Entry → Option Path
+makes e = made_by (out-What e.what)
 
 -- what is in scope in the newest module of a name
 abbrev pub module_scope : Name → List Entry → ScopeOf Entry

@@ -1,21 +1,24 @@
 //! Environments: immutable lists of entries that share their ends.
 ghost use Rattle.std.specs.Prelude.{◌≡◌, ◌∷◌, ◌++◌, [], List, option_map, IfOk};
+ghost use Rattle.type_terms.specs.Views.{path_of};
 ghost use Rattle.std.specs.List.{filter};
 ghost use Rattle.signature_model.specs.Lookups.{newest_by};
 ghost use Rattle.std.specs.Coded.{codes};
 ghost use Rattle.env_table.specs.contracts.entries.What as what;
 ghost use Rattle.env_table.specs.declared.entries.Entry.{Entry};
 ghost use Rattle.env_table.specs.Views.{links_view, newest_first, names_of, names_in, inside_sig, is_named, kind_of};
-ghost use Rattle.env_table.specs.Index.{bits_of, hash_of, stands_at, IsIndex};
+ghost use Rattle.env_table.specs.Index.{bits_of, hash_of, stands_at, named_key, origin_key, IsIndex, makers};
 
 use crate::entries::{Entry, Kind, Sig};
-use crate::index::{self, BITS, Index, bucket, hash};
+use crate::index::{self, BITS, Index, bucket, hash, with_maker, with_named};
 use crate::links::{Links, linked_before, share_entry, share_links};
+use crate::origins::origin_hash;
 use crate::walk::{Entries, linked};
 use std::alloc::Global;
 use std::marker::Model;
 use std::rc::Rc;
 use text_terms::NoMemory;
+use type_nodes::Origin;
 
 /// The names in scope. It is never written: a call that adds a name makes a new one, which shares its entries.
 #[derive(Drop)]
@@ -23,6 +26,8 @@ pub struct Env {
     links: Links,
     /// The same entries by their kinds and names.
     index: Index,
+    /// Those of them that make an origin, by its path.
+    origins: Index,
 }
 
 impl Model for Env {
@@ -33,7 +38,7 @@ impl Model for Env {
 
     ghost view = { λ e. links_view e.links };
 
-    ghost invariant = { λ e. IsIndex e.index e.links };
+    ghost invariant = { λ e. IsIndex named_key e.index e.links × IsIndex origin_key e.origins e.links };
 }
 
 impl Env {
@@ -44,6 +49,7 @@ impl Env {
         Env {
             links: None,
             index: None,
+            origins: None,
         }
     }
 
@@ -54,6 +60,7 @@ impl Env {
         Ok(Env {
             links: share_links(&self.links)?,
             index: index::share(&self.index)?,
+            origins: index::share(&self.origins)?,
         })
     }
 
@@ -61,11 +68,12 @@ impl Env {
     pub fn add(&self, alloc: Global, entry: Rc<Entry>) -> Result<Env, NoMemory>
         ensures { IfOk result (λ r. r ≡ entry.value ∷ self.now) }
     {
-        let key = hash(entry.kind, entry.name.as_str());
-        let index = index::with(alloc, &self.index, BITS, key, share_entry(&entry)?)?;
+        let index = with_named(alloc, &self.index, &entry)?;
+        let origins = with_maker(alloc, &self.origins, &entry)?;
         Ok(Env {
             links: linked_before(alloc, entry, &self.links)?,
             index,
+            origins,
         })
     }
 
@@ -105,6 +113,13 @@ impl Env {
         ensures { names_of result ≡ self.now }
     {
         linked(&self.links)
+    }
+
+    /// The entries that may make an origin, the newest first: all that make it are among them.
+    pub fn makers(&self, origin: &Origin) -> Entries<'_>
+        ensures { names_of result ≡ makers (path_of origin.now) self.now }
+    {
+        bucket(&self.origins, BITS, origin_hash(origin))
     }
 
     /// The entries with the hash of a kind and a name.

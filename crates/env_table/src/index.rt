@@ -1,10 +1,11 @@
-//! The index of an environment: its entries by their kinds and names.
+//! The indexes of an environment: its entries by their kinds and names, and by the origins that they make.
 ghost use Rattle.std.specs.Prelude.{◌≡◌, ◌<◌, IfOk, List, Bool};
 ghost use Rattle.env_table.specs.Views.{names_of, kind_of};
-ghost use Rattle.env_table.specs.Index.{code_of, hash_from, hash_of, bits_of, index_at, fork_at, Adds};
+ghost use Rattle.env_table.specs.Index.{code_of, hash_from, hash_of, bits_of, index_at, fork_at, Adds, AddsBy, named_key, origin_key};
 
 use crate::entries::{Entry, Kind};
-use crate::links::{Links, linked_before, share_links};
+use crate::links::{Links, linked_before, share_entry, share_links};
+use crate::origins::origin_hash;
 use crate::walk::{Entries, linked, nothing};
 use std::alloc::{AllocError, Global};
 use std::rc::Rc;
@@ -45,6 +46,24 @@ fn code(kind: Kind) -> u32
         Kind::TypeName => 3,
         Kind::Module => 4,
         Kind::ModuleType => 5,
+    }
+}
+
+/// An index by kinds and names with one entry more, the newest.
+pub(crate) fn with_named(alloc: Global, index: &Index, entry: &Rc<Entry>) -> Result<Index, NoMemory>
+    ensures { IfOk result (λ after. AddsBy named_key (index_at index.now) entry.now.value (index_at after)) }
+{
+    let hash = hash(entry.kind, entry.name.as_str());
+    with(alloc, index, BITS, hash, share_entry(entry)?)
+}
+
+/// An index by origins with one entry more, the newest; as it is where the entry makes none.
+pub(crate) fn with_maker(alloc: Global, index: &Index, entry: &Rc<Entry>) -> Result<Index, NoMemory>
+    ensures { IfOk result (λ after. AddsBy origin_key (index_at index.now) entry.now.value (index_at after)) }
+{
+    match entry.makes() {
+        None => share(index),
+        Some(origin) => with(alloc, index, BITS, origin_hash(origin), share_entry(entry)?),
     }
 }
 

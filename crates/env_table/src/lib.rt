@@ -11,6 +11,7 @@ mod faults;
 mod index;
 mod links;
 mod lookup;
+mod origins;
 mod records;
 mod seen;
 #[cfg(test)]

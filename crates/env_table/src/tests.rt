@@ -87,6 +87,35 @@ fn with_record(
     Ok(env)
 }
 
+/// A type of a declaration that makes an origin, where one is given.
+fn type_entry(
+    alloc: Global,
+    name: &str,
+    made: Option<Origin>,
+    at: u32,
+) -> Result<Rc<Entry>, NoMemory>
+    requires { at < 1000 }
+{
+    let declaration = Rc::new(
+        alloc,
+        Declaration {
+            arity: 0,
+            origin: made,
+            defines: None,
+            root: NodeRef(0),
+            shape: Shape::Opaque,
+        },
+    )?;
+    entry(alloc, name, Kind::TypeName, What::Type(declaration), at)
+}
+
+fn origin(alloc: Global, number: u64) -> Result<Origin, NoMemory> {
+    Ok(Origin {
+        path: [number].to_vec(alloc)?,
+        name: RcStr::from_str(alloc, "t")?,
+    })
+}
+
 /// Where what was found starts; None for a hole and for nothing.
 fn start_of(found: Found<'_>) -> Option<u32> {
     match found {
@@ -144,6 +173,30 @@ fn a_module_that_is_not_known_may_have_anything(rt: HostRuntime) -> Result<(), F
             .split_first()
             .is_some()
     );
+    Ok(())
+}
+
+/// The types that make an origin are found by it, the newest first, whatever they are named, and no other of these.
+#[test]
+fn an_origin_finds_what_makes_it(rt: HostRuntime) -> Result<(), Fail> {
+    let alloc = rt.alloc();
+    let mut env = Env::empty();
+    env = env.add(alloc, type_entry(alloc, "t", Some(origin(alloc, 5)?), 1)?)?;
+    env = env.add(alloc, type_entry(alloc, "u", Some(origin(alloc, 6)?), 2)?)?;
+    env = env.add(alloc, type_entry(alloc, "v", Some(origin(alloc, 5)?), 3)?)?;
+    env = env.add(alloc, type_entry(alloc, "t", None, 4)?)?;
+    let five = env.makers(&origin(alloc, 5)?);
+    let Some((newest, older)) = five.split_first() else {
+        return Err(Fail::new("no type"));
+    };
+    assert!(rt; newest.name.is("v"));
+    let Some((oldest, others)) = older.split_first() else {
+        return Err(Fail::new("no type"));
+    };
+    assert!(rt; oldest.name.is("t"));
+    assert!(rt; others.split_first().is_none());
+    let seven = env.makers(&origin(alloc, 7)?);
+    assert!(rt; seven.split_first().is_none());
     Ok(())
 }
 

@@ -11,3 +11,4 @@ mod ToldNames
 mod Answered
 mod ShownTypes
 mod Items
+pub mod TypeTexts

@@ -13,8 +13,8 @@ use Rattle.type_print_model.specs.Paths.{NamePath, Reaches, IsNewer, GoesBefore,
 use Rattle.env_table.specs.declared.entries.Entry.{Entry}
 use Rattle.env_table.specs.Views.{is_named, inside}
 use Rattle.type_print.specs.Paths.{is_module, among, contents, Scoped, modules_behind, way_text}
-use Rattle.type_print.proofs.Ranks.{tells}
-use Rattle.type_print.proofs.Levels.{opt_tells, both, IsIn, outward, onto, out_onto, onto_out, length_onto, length_out, ages_behind, newer_more, newer_not, newer_self, Ascends, children, IsSo, level, level_is, spelled_way, comes_found}
+use Rattle.type_print.proofs.Ranks.{tells, opt_tells, both}
+use Rattle.type_print.proofs.Levels.{IsIn, outward, onto, out_onto, onto_out, length_onto, length_out, ages_behind, newer_more, newer_not, newer_self, Ascends, children, IsSo, level, level_is, spelled_way, comes_found}
 use Rattle.type_alternatives.specs.Parts.{part_at, part_of, part_naming, IsWritten}
 use Rattle.type_alternatives.specs.Levels.{Searched, finds, first_path, modules_among, next_level}
 

@@ -1,6 +1,5 @@
 -- The search goes by levels, modules of fewer names first and of these the newer first; so what it finds is the path by which an origin is named.
 use Rattle.std.proofs.Common.{◌≡◌, ◌≢◌, ◌⊎◌, inl, inr, ℕ, zero, suc, ◌+◌, ◌<◌, ◌≤◌, Bool, true, false, List, [], ◌∷◌, ◌++◌, length, codes, Option, Some, None, append_assoc, append-nil, refl, sym, ◌∙◌, ap, subst, arith}
-use Rattle.std.specs.Prelude.{if◌then◌else◌, ◌&&◌}
 use Rattle.std.proofs.lemmas.Bool.Decides.{eqb_tells}
 use Rattle.std.specs.Str.{bytes_eq}
 use Rattle.std.proofs.lemmas.Slice.Eq.{bytes_eq-Decides}
@@ -13,27 +12,13 @@ use Rattle.signature_model.specs.Lookups.{an_entry, nothing, ScopeOf, known, unk
 use Rattle.signature_model.specs.Records.{is_of_type}
 use Rattle.type_print_model.specs.Paths.{NamePath, Reaches, IsNameOf, shown, hidden, IsNewer, GoesBefore, age, age_in, ages, dotted}
 use Rattle.env_table.specs.declared.entries.Entry.{Entry}
-use Rattle.env_table.specs.Views.{is_named, inside, names_in, module_scope}
-use Rattle.type_print.specs.Paths.{naming, makes, finds, is_module, among, contents, Scoped, modules_behind, queue_weight, way_among, way_text, named, name_in}
+use Rattle.env_table.specs.Views.{is_named, inside, names_in, module_scope, makes}
+use Rattle.type_print.specs.Paths.{naming, finds, name_for, is_module, among, contents, Scoped, Found, found_or, modules_behind, queue_weight, way_among, way_text, named, name_in}
 use Rattle.type_print_model.specs.Variables.{variable_name}
 use Rattle.type_print.specs.Texts.{PrintsWith, PrintsBy}
-use Rattle.type_print.proofs.Ranks.{tells}
+use Rattle.type_print.proofs.Makers.{name_finds, HasName, has_name}
+use Rattle.type_print.proofs.Ranks.{tells, opt_tells, both, both_true}
 use Rattle.type_print.proofs.Searching.{modules_weight, weight_append, way_step, way_none}
-
--- an option has something or nothing
-pub opt_tells : {A : Type 0} (o : Option A) → (o ≡ None) ⊎ ((a : A) × (o ≡ Some a))
-opt_tells None = inl refl
-opt_tells (Some a) = inr (a, refl)
-
--- two tests hold where both together do
-pub both : (a b : Bool) → (a && b) ≡ true → (a ≡ true) × (b ≡ true)
-both true b h = (refl, h)
-both false b h = absurd (cc)
-
--- and the other way round
-both_true : (a b : Bool) → a ≡ true → b ≡ true → (a && b) ≡ true
-both_true true b h i = i
-both_true false b h i = absurd (cc)
 
 -- an entry is the module of a name where it is a module and has the name
 named_is : (m : Name) (e : Entry) → is_named rules.module_kind m e ≡ true → (is_module e ≡ true) × (m ≡ str_bytes e.name)
@@ -415,52 +400,52 @@ pub level_is : (env : List Entry) (k : ℕ) → IsLevel env k (level env k)
 level_is env zero = first_level env
 level_is env (suc k) = next_level_is env k (level env k) (level_is env k)
 
--- the first of some modules in which an origin is found
-abbrev first_found : Path → Name → List Scoped → Option (List Name)
-first_found o n [] = None
-first_found o n (s ∷ q) = if finds o n s.1 then Some s.0 else first_found o n q
+-- how an origin is found in the first of some modules in which it has a name
+abbrev first_found : Path → List Scoped → Option Found
+first_found o [] = None
+first_found o (s ∷ q) = found_or s.0 (name_for o s.1) (first_found o q)
 
-abbrev or_else : Option (List Name) → Option (List Name) → Option (List Name)
+abbrev or_else : Option Found → Option Found → Option Found
 or_else None r = r
-or_else (Some way) r = Some way
+or_else (Some f) r = Some f
 
 -- a choice before another
-if_or : (b : Bool) (way : List Name) (f g : Option (List Name)) → (if b then Some way else or_else f g) ≡ or_else (if b then Some way else f) g
-if_or true way f g = refl
-if_or false way f g = refl
+found_or_else : (way : List Name) (m : Option Name) (f g : Option Found) → found_or way m (or_else f g) ≡ or_else (found_or way m f) g
+found_or_else way None f g = refl
+found_or_else way (Some n) f g = refl
 
 -- the search goes through a level, and on to the modules in it
-level_step : (o : Path) (n : Name) (q r : List Scoped) → way_among o n (q ++ r) ≡ or_else (first_found o n q) (way_among o n (r ++ children q))
-level_step o n [] r = ap (way_among o n) (sym (append-nil r))
-level_step o n (s ∷ q) r =
+level_step : (o : Path) (q r : List Scoped) → way_among o (q ++ r) ≡ or_else (first_found o q) (way_among o (r ++ children q))
+level_step o [] r = ap (way_among o) (sym (append-nil r))
+level_step o (s ∷ q) r =
     let mods = modules_behind s.0 [] s.1 in
-    way_step o n s (q ++ r)
-    ∙ (ap (λ w. if finds o n s.1 then Some s.0 else w) (ap (way_among o n) (append_assoc q r mods) ∙ (level_step o n q (r ++ mods) ∙ ap (λ xs. or_else (first_found o n q) (way_among o n xs)) (append_assoc r mods (children q))))
-    ∙ if_or (finds o n s.1) s.0 (first_found o n q) (way_among o n (r ++ (mods ++ children q))))
+    way_step o s (q ++ r)
+    ∙ (ap (found_or s.0 (name_for o s.1)) (ap (way_among o) (append_assoc q r mods) ∙ (level_step o q (r ++ mods) ∙ ap (λ xs. or_else (first_found o q) (way_among o xs)) (append_assoc r mods (children q))))
+    ∙ found_or_else s.0 (name_for o s.1) (first_found o q) (way_among o (r ++ (mods ++ children q))))
 
 -- the search through a level alone
-next_level : (o : Path) (n : Name) (q : List Scoped) → way_among o n q ≡ or_else (first_found o n q) (way_among o n (children q))
-next_level o n q = ap (way_among o n) (sym (append-nil q)) ∙ level_step o n q []
+next_level : (o : Path) (q : List Scoped) → way_among o q ≡ or_else (first_found o q) (way_among o (children q))
+next_level o q = ap (way_among o) (sym (append-nil q)) ∙ level_step o q []
 
 -- neither has something where both together have nothing
-or_none : (f g : Option (List Name)) → or_else f g ≡ None → (f ≡ None) × (g ≡ None)
+or_none : (f g : Option Found) → or_else f g ≡ None → (f ≡ None) × (g ≡ None)
 or_none None g h = (refl, h)
-or_none (Some way) g h = absurd (cc)
+or_none (Some f) g h = absurd (cc)
 
 -- where the search finds nothing no level has it
-none_levels : (o : Path) (n : Name) (env : List Entry) → way_among o n (level env 0) ≡ None → (k : ℕ) → (way_among o n (level env k) ≡ None) × (first_found o n (level env k) ≡ None)
-none_levels o n env h zero = let (a, b) = or_none _ _ (sym (next_level o n (level env 0)) ∙ h) in (h, a)
-none_levels o n env h (suc k) =
-    let before = none_levels o n env h k in
-    let (a, b) = or_none _ _ (sym (next_level o n (level env k)) ∙ before.0) in
-    let (c, d) = or_none _ _ (sym (next_level o n (level env (suc k))) ∙ b) in
+none_levels : (o : Path) (env : List Entry) → way_among o (level env 0) ≡ None → (k : ℕ) → (way_among o (level env k) ≡ None) × (first_found o (level env k) ≡ None)
+none_levels o env h zero = let (a, b) = or_none _ _ (sym (next_level o (level env 0)) ∙ h) in (h, a)
+none_levels o env h (suc k) =
+    let before = none_levels o env h k in
+    let (a, b) = or_none _ _ (sym (next_level o (level env k)) ∙ before.0) in
+    let (c, d) = or_none _ _ (sym (next_level o (level env (suc k))) ∙ b) in
     (b, c)
 
 -- the first level that has it
-record FirstAt (o : Path) (n : Name) (env : List Entry) (way : List Name) : Type 0 where
+record FirstAt (o : Path) (env : List Entry) (f : Found) : Type 0 where
   pub at : ℕ
-  pub here : first_found o n (level env at) ≡ Some way
-  pub before : (j : ℕ) → j < at → first_found o n (level env j) ≡ None
+  pub here : first_found o (level env at) ≡ Some f
+  pub before : (j : ℕ) → j < at → first_found o (level env j) ≡ None
 
 -- a level leaves at least one less for each of its modules
 children_weight : (q : List Scoped) → queue_weight (children q) + length q ≤ queue_weight q
@@ -468,8 +453,8 @@ children_weight [] = omega arith
 children_weight (s ∷ q) = let h = children_weight q in let i = modules_weight s.0 [] s.1 in let a = weight_append (modules_behind s.0 [] s.1) (children q) in omega arith
 
 -- what holds below a number and at it holds below the next
-before_more : (o : Path) (n : Name) (env : List Entry) (k : ℕ) → ((j : ℕ) → j < k → first_found o n (level env j) ≡ None) → first_found o n (level env k) ≡ None → (j : ℕ) → j < suc k → first_found o n (level env j) ≡ None
-before_more o n env k h e j lt = elim (eqb_tells j k) [ inl (t, same) ↦ subst (λ i. first_found o n (level env i) ≡ None) (sym same) e | inr (t, other) ↦ h j (below j k lt other) ] where
+before_more : (o : Path) (env : List Entry) (k : ℕ) → ((j : ℕ) → j < k → first_found o (level env j) ≡ None) → first_found o (level env k) ≡ None → (j : ℕ) → j < suc k → first_found o (level env j) ≡ None
+before_more o env k h e j lt = elim (eqb_tells j k) [ inl (t, same) ↦ subst (λ i. first_found o (level env i) ≡ None) (sym same) e | inr (t, other) ↦ h j (below j k lt other) ] where
   below : (j k : ℕ) → j < suc k → j ≢ k → j < k
   below j k lt other = omega arith
 
@@ -479,55 +464,56 @@ empty_or_some [] = inl refl
 empty_or_some (s ∷ q) = inr (omega arith)
 
 -- what the search finds stands in a first level
-found_levels : (o : Path) (n : Name) (env : List Entry) (way : List Name) (fuel k : ℕ) → queue_weight (level env k) < fuel → way_among o n (level env k) ≡ Some way → ((j : ℕ) → j < k → first_found o n (level env j) ≡ None) → FirstAt o n env way
-found_levels o n env way zero k h e before = absurd (omega arith)
-found_levels o n env way (suc fuel) k h e before =
-    let steps : or_else (first_found o n (level env k)) (way_among o n (level env (suc k))) ≡ Some way = sym (next_level o n (level env k)) ∙ e in
-    elim (opt_tells (first_found o n (level env k))) [
-      | inr (w, some) ↦ record { at = k; here = some ∙ rw some at steps; before = before }
+found_levels : (o : Path) (env : List Entry) (f : Found) (fuel k : ℕ) → queue_weight (level env k) < fuel → way_among o (level env k) ≡ Some f → ((j : ℕ) → j < k → first_found o (level env j) ≡ None) → FirstAt o env f
+found_levels o env f zero k h e before = absurd (omega arith)
+found_levels o env f (suc fuel) k h e before =
+    let steps : or_else (first_found o (level env k)) (way_among o (level env (suc k))) ≡ Some f = sym (next_level o (level env k)) ∙ e in
+    elim (opt_tells (first_found o (level env k))) [
+      | inr (g, some) ↦ record { at = k; here = some ∙ rw some at steps; before = before }
       | inl none ↦ elim (empty_or_some (level env k)) [
-        | inl empty ↦ let bad : None ≡ Some way = sym (way_none o n) ∙ (ap (way_among o n) (sym empty) ∙ e) in absurd (cc)
-        | inr some ↦ let w = children_weight (level env k) in found_levels o n env way fuel (suc k) (omega arith) (rw none at steps) (before_more o n env k before none)
+        | inl empty ↦ let bad : None ≡ Some f = sym (way_none o) ∙ (ap (way_among o) (sym empty) ∙ e) in absurd (cc)
+        | inr some ↦ let w = children_weight (level env k) in found_levels o env f fuel (suc k) (omega arith) (rw none at steps) (before_more o env k before none)
       ]
     ]
 
--- where nothing is found in a list, none of it has it
-none_found : (o : Path) (n : Name) (q : List Scoped) (t : Scoped) → first_found o n q ≡ None → IsIn t q → finds o n t.1 ≡ true → ⊥
-none_found o n [] t h i f = i
-none_found o n (s ∷ q) t h i f = elim (tells (finds o n s.1)) [
-  | inl there ↦ let bad : Some s.0 ≡ None = rw there at h in absurd (cc)
-  | inr away ↦ elim i [
-    | inl e ↦ let also : finds o n s.1 ≡ true = subst (λ (u : Scoped). finds o n u.1 ≡ true) e f in absurd (cc)
-    | inr later ↦ none_found o n q t (rw away at h) later f
+-- where nothing is found in a list, it has no name in any of it
+none_found : (o : Path) (q : List Scoped) (t : Scoped) (m : Name) → first_found o q ≡ None → IsIn t q → name_for o t.1 ≡ Some m → ⊥
+none_found o [] t m h i f = i
+none_found o (s ∷ q) t m h i f = elim (opt_tells (name_for o s.1)) [
+  | inr (n, there) ↦ let bad : ◌≡◌ {A = Option Found} (Some (s.0, n)) None = rw there at h in absurd (cc)
+  | inl away ↦ elim i [
+    | inl e ↦ let also : name_for o s.1 ≡ Some m = subst (λ (u : Scoped). name_for o u.1 ≡ Some m) e f in absurd (cc)
+    | inr later ↦ none_found o q t m (rw away at h) later f
   ]
 ]
 
--- the first in which it is found goes before each other
-record IsFirst (env : List Entry) (o : Path) (n : Name) (q : List Scoped) (way : List Name) : Type 0 where
+-- the first module in which it has a name goes before each other
+record IsFirst (env : List Entry) (o : Path) (q : List Scoped) (f : Found) : Type 0 where
   pub inner : List Entry
-  pub stands : IsIn (way, inner) q
-  pub found : finds o n inner ≡ true
-  pub first : (t : Scoped) → IsIn t q → finds o n t.1 ≡ true → (t.0 ≡ way) ⊎ IsNewer (ages_behind env way) (ages_behind env t.0)
+  pub stands : IsIn (f.0, inner) q
+  pub found : name_for o inner ≡ Some f.1
+  pub first : (t : Scoped) (m : Name) → IsIn t q → name_for o t.1 ≡ Some m → (t.0 ≡ f.0) ⊎ IsNewer (ages_behind env f.0) (ages_behind env t.0)
 
 -- what is found first in a list that is in order is such a one
-first_is : (env : List Entry) (o : Path) (n : Name) (q : List Scoped) (way : List Name) → Ascends env q → first_found o n q ≡ Some way → IsFirst env o n q way
-first_is env o n [] way h e = absurd (cc)
-first_is env o n (s ∷ q) way h e = elim (tells (finds o n s.1)) [
-  | inl there ↦
-      let same : s.0 ≡ way = (let some : Some s.0 ≡ Some way = rw there at e in cc) in
+first_is : (env : List Entry) (o : Path) (q : List Scoped) (f : Found) → Ascends env q → first_found o q ≡ Some f → IsFirst env o q f
+first_is env o [] f h e = absurd (cc)
+first_is env o (s ∷ q) f h e = elim (opt_tells (name_for o s.1)) [
+  | inr (n, there) ↦
+      let is : ◌≡◌ {A = Found} (s.0, n) f = (let some : Some (s.0, n) ≡ Some f = rw there at e in cc) in
+      let same : s.0 ≡ f.0 = ap (λ (g : Found). g.0) is in
       record {
         inner = s.1;
         stands = inl (ap (λ w. (w, s.1)) (sym same));
-        found = there;
-        first = λ t i f. elim i [ inl is ↦ inl (ap (λ (u : Scoped). u.0) is ∙ same) | inr later ↦ inr (subst (λ w. IsNewer (ages_behind env w) (ages_behind env t.0)) same (h.0 t later)) ];
+        found = there ∙ ap (λ (g : Found). Some g.1) is;
+        first = λ t m i g. elim i [ inl one ↦ inl (ap (λ (u : Scoped). u.0) one ∙ same) | inr later ↦ inr (subst (λ w. IsNewer (ages_behind env w) (ages_behind env t.0)) same (h.0 t later)) ];
       }
-  | inr away ↦
-      let r = first_is env o n q way h.1 (rw away at e) in
+  | inl away ↦
+      let r = first_is env o q f h.1 (rw away at e) in
       record {
         inner = r.inner;
         stands = inr r.stands;
         found = r.found;
-        first = λ t i f. elim i [ inl is ↦ (let also : finds o n s.1 ≡ true = subst (λ (u : Scoped). finds o n u.1 ≡ true) is f in absurd (cc)) | inr later ↦ r.first t later f ];
+        first = λ t m i g. elim i [ inl one ↦ (let also : name_for o s.1 ≡ Some m = subst (λ (u : Scoped). name_for o u.1 ≡ Some m) one g in absurd (cc)) | inr later ↦ r.first t m later g ];
       }
 ]
 
@@ -583,32 +569,69 @@ pub length_out : (way : List Name) → length (outward way) ≡ length way
 length_out way = let a = length_onto (outward way) [] in let b : length (onto (outward way) []) ≡ length way = ap (λ (w : List Name). length w) (onto_out way) in omega arith
 
 -- a path that reaches an origin stands in its level
-in_level : (env : List Entry) (o : Path) (n : Name) (q : NamePath) → q.name ≡ n → Reaches naming env o q → (inner : List Entry) × IsIn (onto q.modules [], inner) (level env (length q.modules)) × (finds o n inner ≡ true)
-in_level env o n q e r =
+record InLevel (env : List Entry) (o : Path) (q : NamePath) : Type 0 where
+  pub inner : List Entry
+  pub scope : scope_by is_named inside env q.modules ≡ known inner
+  pub stands : IsIn (onto q.modules [], inner) (level env (length q.modules))
+  pub has : HasName o q.name inner
+
+-- and the origin has a name there
+in_level : (env : List Entry) (o : Path) (q : NamePath) → Reaches naming env o q → InLevel env o q
+in_level env o q r =
     let c = comes env o q r in
     let size : length (onto q.modules []) ≡ length q.modules = (let h = length_onto q.modules [] in omega arith) in
-    (c.inner, (level_is env (length q.modules)).whole (onto q.modules []) c.inner size (ap (scope_by is_named inside env) (out_onto q.modules []) ∙ c.scope), subst (λ m. finds o m c.inner ≡ true) e c.found)
+    record {
+      inner = c.inner;
+      scope = c.scope;
+      stands = (level_is env (length q.modules)).whole (onto q.modules []) c.inner size (ap (scope_by is_named inside env) (out_onto q.modules []) ∙ c.scope);
+      has = has_name o q.name c.inner c.found;
+    }
+
+-- of two lists that differ in the last age alone the newer is less there
+last_newer : (is : List ℕ) (i j : ℕ) → IsNewer (is ++ i ∷ []) (is ++ j ∷ []) → i < j
+last_newer [] i j (inl h) = h
+last_newer [] i j (inr (e, h)) = absurd h
+last_newer (k ∷ is) i j (inl h) = absurd (omega arith)
+last_newer (k ∷ is) i j (inr (e, h)) = last_newer is i j h
+
+-- what is known of a scope is one list
+known_same : (s : ScopeOf Entry) (xs ys : List Entry) → s ≡ known xs → s ≡ known ys → xs ≡ ys
+known_same s xs ys h i = let same : known xs ≡ known ys = sym h ∙ i in cc
+
+-- no path by the same modules as the one that the search finds has a newer type at its end
+none_newer : (env : List Entry) (o : Path) (f : Found) (inner : List Entry) (q : NamePath) (l : InLevel env o q) → scope_by is_named inside env (outward f.0) ≡ known inner → name_for o inner ≡ Some f.1 → onto q.modules [] ≡ f.0 →
+    age_in (is_named rules.type_kind q.name) (scope_by is_named inside env (outward f.0)) < age_in (is_named rules.type_kind f.1) (scope_by is_named inside env (outward f.0)) → ⊥
+none_newer env o f inner q l scope found one less =
+    let out : outward f.0 ≡ q.modules = ap outward (sym one) ∙ out_onto q.modules [] in
+    let same : l.inner ≡ inner = known_same (scope_by is_named inside env (outward f.0)) l.inner inner (ap (scope_by is_named inside env) out ∙ l.scope) scope in
+    let names : Some l.has.name ≡ Some f.1 = sym l.has.is ∙ (ap (name_for o) same ∙ found) in
+    let name : l.has.name ≡ f.1 = cc in
+    let its : age_in (is_named rules.type_kind q.name) (scope_by is_named inside env (outward f.0)) ≡ age (is_named rules.type_kind q.name) inner = ap (age_in (is_named rules.type_kind q.name)) scope in
+    let mine : age_in (is_named rules.type_kind f.1) (scope_by is_named inside env (outward f.0)) ≡ age (is_named rules.type_kind f.1) inner = ap (age_in (is_named rules.type_kind f.1)) scope in
+    let no_older : age (is_named rules.type_kind f.1) inner ≤ age (is_named rules.type_kind q.name) inner =
+    subst (λ es. age (is_named rules.type_kind f.1) es ≤ age (is_named rules.type_kind q.name) es) same (subst (λ m. age (is_named rules.type_kind m) l.inner ≤ age (is_named rules.type_kind q.name) l.inner) name l.has.no_older) in
+    omega arith
 
 -- no path that reaches an origin goes before the one that the search finds
-none_before : (env : List Entry) (o : Path) (n : Name) (way : List Name) → (at : FirstAt o n env way) → IsFirst env o n (level env at.at) way → length way ≡ at.at → (q : NamePath) → q.name ≡ n → Reaches naming env o q → GoesBefore naming env q (record { modules = outward way; name = n }) → ⊥
-none_before env o n way at first size q e r (inl shorter) =
-    let (inner, stands, f) = in_level env o n q e r in
-    let l = length_out way in
-    none_found o n (level env (length q.modules)) (onto q.modules [], inner) (at.before (length q.modules) (omega arith)) stands f
-none_before env o n way at first size q e r (inr (long, newer)) =
-    let (inner, stands, f) = in_level env o n q e r in
-    let l = length_out way in
+none_before : (env : List Entry) (o : Path) (f : Found) → (at : FirstAt o env f) → (first : IsFirst env o (level env at.at) f) → scope_by is_named inside env (outward f.0) ≡ known first.inner → length f.0 ≡ at.at → (q : NamePath) → Reaches naming env o q → GoesBefore naming env q (record { modules = outward f.0; name = f.1 }) → ⊥
+none_before env o f at first scope size q r (inl shorter) =
+    let its = in_level env o q r in
+    let l = length_out f.0 in
+    none_found o (level env (length q.modules)) (onto q.modules [], its.inner) its.has.name (at.before (length q.modules) (omega arith)) its.stands its.has.is
+none_before env o f at first scope size q r (inr (long, newer)) =
+    let its = in_level env o q r in
+    let l = length_out f.0 in
     let same : length q.modules ≡ at.at = omega arith in
     let way_of_q = onto q.modules [] in
-    let mine = ages_are env way (outward way) n (onto_out way) in
-    let its = ages_are env way_of_q q.modules n refl in
-    let less = subst (λ m. IsNewer (ages naming env [] q.modules m) (ages naming env [] (outward way) n)) e newer in
-    let ordered : IsNewer (ages_behind env way_of_q ++ age_in (is_named rules.type_kind n) (scope_by is_named inside env (outward way_of_q)) ∷ []) (ages_behind env way ++ age_in (is_named rules.type_kind n) (scope_by is_named inside env (outward way)) ∷ []) =
-    subst (λ is. IsNewer is (ages_behind env way ++ age_in (is_named rules.type_kind n) (scope_by is_named inside env (outward way)) ∷ [])) its (subst (λ js. IsNewer (ages naming env [] q.modules n) js) mine less) in
-    elim (first.first (way_of_q, inner) (subst (λ k. IsIn (way_of_q, inner) (level env k)) same stands) f) [
-      | inl one ↦ newer_self (ages_behind env way ++ age_in (is_named rules.type_kind n) (scope_by is_named inside env (outward way)) ∷ [])
-          (subst (λ w. IsNewer (ages_behind env w ++ age_in (is_named rules.type_kind n) (scope_by is_named inside env (outward w)) ∷ []) (ages_behind env way ++ age_in (is_named rules.type_kind n) (scope_by is_named inside env (outward way)) ∷ [])) one ordered)
-      | inr other ↦ newer_not _ _ ordered (newer_more (ages_behind env way) (ages_behind env way_of_q) _ _ other)
+    let mine_are = ages_are env f.0 (outward f.0) f.1 (onto_out f.0) in
+    let its_are = ages_are env way_of_q q.modules q.name refl in
+    let ordered : IsNewer (ages_behind env way_of_q ++ age_in (is_named rules.type_kind q.name) (scope_by is_named inside env (outward way_of_q)) ∷ []) (ages_behind env f.0 ++ age_in (is_named rules.type_kind f.1) (scope_by is_named inside env (outward f.0)) ∷ []) =
+    subst (λ is. IsNewer is (ages_behind env f.0 ++ age_in (is_named rules.type_kind f.1) (scope_by is_named inside env (outward f.0)) ∷ [])) its_are (subst (λ js. IsNewer (ages naming env [] q.modules q.name) js) mine_are newer) in
+    elim (first.first (way_of_q, its.inner) its.has.name (subst (λ k. IsIn (way_of_q, its.inner) (level env k)) same its.stands) its.has.is) [
+      | inl one ↦ none_newer env o f first.inner q its scope first.found one
+          (last_newer (ages_behind env f.0) _ _
+          (subst (λ w. IsNewer (ages_behind env w ++ age_in (is_named rules.type_kind q.name) (scope_by is_named inside env (outward w)) ∷ []) (ages_behind env f.0 ++ age_in (is_named rules.type_kind f.1) (scope_by is_named inside env (outward f.0)) ∷ [])) one ordered))
+      | inr other ↦ newer_not _ _ ordered (newer_more (ages_behind env f.0) (ages_behind env way_of_q) _ _ other)
     ]
 
 -- what is found in an inner list is known, since something is found in it
@@ -616,25 +639,26 @@ known_inner : (env : List Entry) (o : Path) (n : Name) (way : List Name) (inner 
 known_inner env o n way inner (inr e) f = e
 known_inner env o n way inner (inl none) f = let bad : finds o n [] ≡ true = subst (λ es. finds o n es ≡ true) none f in absurd (cc)
 
--- The name that the search gives an origin is its name by the definition, where each path that reaches it ends with the name of its declaration.
-pub named_right : (env : List Entry) (o : Path) (n : Name) (declared : Path → Name) → declared o ≡ n → ((p : NamePath) → Reaches naming env o p → p.name ≡ n) → IsNameOf naming env declared o (name_in env o n)
-named_right env o n declared e only = elim (opt_tells (way_among o n (([], env) ∷ []))) [
+-- The name that the search gives an origin is its name by the definition.
+pub named_right : (env : List Entry) (o : Path) (n : Name) (declared : Path → Name) → declared o ≡ n → IsNameOf naming env declared o (name_in env o n)
+named_right env o n declared e = elim (opt_tells (way_among o (([], env) ∷ []))) [
   | inl none ↦
       let text : declared o ++ codes "/hidden" ≡ name_in env o n = ap (λ (m : Name). m ++ codes "/hidden") e ∙ ap (named n) (sym none) in
       subst (IsNameOf naming env declared o) text
       (hidden (λ p r.
-      let (inner, stands, f) = in_level env o n p (only p r) r in
-      none_found o n (level env (length p.modules)) (onto p.modules [], inner) (none_levels o n env none (length p.modules)).1 stands f))
-  | inr (way, some) ↦
-      let at = found_levels o n env way (suc (queue_weight (level env 0))) 0 (omega arith) some (λ j lt. absurd (omega arith)) in
+      let its = in_level env o p r in
+      none_found o (level env (length p.modules)) (onto p.modules [], its.inner) its.has.name (none_levels o env none (length p.modules)).1 its.stands its.has.is))
+  | inr (f, some) ↦
+      let at = found_levels o env f (suc (queue_weight (level env 0))) 0 (omega arith) some (λ j lt. absurd (omega arith)) in
       let l = level_is env at.at in
-      let first = first_is env o n (level env at.at) way l.ascends at.here in
-      let scope = known_inner env o n way first.inner (l.so (way, first.inner) first.stands) first.found in
-      let text : dotted (outward way) n ≡ name_in env o n = sym (spelled_way way n) ∙ ap (named n) (sym some) in
+      let first = first_is env o (level env at.at) f l.ascends at.here in
+      let found = name_finds o f.1 first.inner first.found in
+      let scope = known_inner env o f.1 f.0 first.inner (l.so (f.0, first.inner) first.stands) found in
+      let text : dotted (outward f.0) f.1 ≡ name_in env o n = sym (spelled_way f.0 f.1) ∙ ap (named n) (sym some) in
       subst (IsNameOf naming env declared o) text
       (shown (record {
-        reaches = reaches env o n (outward way) first.inner scope first.found;
-        first = λ q r before. none_before env o n way at first (l.sizes (way, first.inner) first.stands) q (only q r) r before;
+        reaches = reaches env o f.1 (outward f.0) first.inner scope found;
+        first = λ q r before. none_before env o f at first scope (l.sizes (f.0, first.inner) first.stands) q r before;
       }))
 ]
 
@@ -642,6 +666,6 @@ named_right env o n declared e only = elim (opt_tells (way_among o n (([], env) 
 pub printed_by : (nodes : List Node) (env : List Entry) (weak all : List ℕ) (t : Typ) (text : List ℕ) → PrintsWith nodes env (variable_name weak all) t text → PrintsBy nodes env weak all t text
 printed_by nodes env weak all t text prints declared declares ascii = record {
   origin = λ o. name_in env o (declared o);
-  named = λ o h. named_right env o (declared o) declared refl (declares.ends o h);
-  text = prints (record { variable = variable_name weak all; origin = λ o. name_in env o (declared o) }) (λ v. refl) (λ n p name ms e. ap (name_in env p) (declares.names n p name ms e)) ascii;
+  named = λ o h. named_right env o (declared o) declared refl;
+  text = prints (record { variable = variable_name weak all; origin = λ o. name_in env o (declared o) }) (λ v. refl) (λ n p name ms e. ap (name_in env p) (declares n p name ms e)) ascii;
 }

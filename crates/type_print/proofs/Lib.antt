@@ -8,4 +8,5 @@ pub mod Texts
 pub mod Ranks
 pub mod Meeting
 pub mod Named
+pub mod Makers
 pub mod Levels

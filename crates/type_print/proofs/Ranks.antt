@@ -1,6 +1,6 @@
 -- Ranks and counts of variables in a text, when one more follows.
-use Rattle.std.proofs.Common.{◌≡◌, ◌⊎◌, inl, inr, ℕ, suc, Bool, true, false, eqb, List, [], ◌∷◌, ◌++◌, refl, sym, ◌∙◌, ap, subst, append_assoc}
-use Rattle.std.specs.Prelude.{if◌then◌else◌, ◌||◌}
+use Rattle.std.proofs.Common.{◌≡◌, ◌⊎◌, inl, inr, ℕ, suc, Bool, true, false, eqb, List, [], ◌∷◌, ◌++◌, Option, Some, None, refl, sym, ◌∙◌, ap, subst, append_assoc}
+use Rattle.std.specs.Prelude.{if◌then◌else◌, ◌&&◌, ◌||◌}
 use Rattle.std.proofs.lemmas.Bool.{eqb-true, eq-eqb}
 use Rattle.std.proofs.lemmas.Bool.Decides.{eqb_tells}
 use Rattle.type_print_model.specs.Variables.{is_among, rank_in}
@@ -10,6 +10,21 @@ use Rattle.type_print.specs.Meeting.{is_weak, has_letter, name_given, count_in, 
 pub tells : (b : Bool) → (b ≡ true) ⊎ (b ≡ false)
 tells true = inl refl
 tells false = inr refl
+
+-- an option has something or nothing
+pub opt_tells : {A : Type 0} (o : Option A) → (o ≡ None) ⊎ ((a : A) × (o ≡ Some a))
+opt_tells None = inl refl
+opt_tells (Some a) = inr (a, refl)
+
+-- two tests hold where both together do
+pub both : (a b : Bool) → (a && b) ≡ true → (a ≡ true) × (b ≡ true)
+both true b h = (refl, h)
+both false b h = absurd (cc)
+
+-- and the other way round
+pub both_true : (a b : Bool) → a ≡ true → b ≡ true → (a && b) ≡ true
+both_true true b h i = i
+both_true false b h i = absurd (cc)
 
 -- of three tests it is the same which two come first
 or_assoc : (a b c : Bool) → (a || (b || c)) ≡ ((a || b) || c)

@@ -1,5 +1,5 @@
 -- The search for an origin, step by step.
-use Rattle.std.proofs.Common.{◌≡◌, ℕ, zero, suc, ◌+◌, ◌<◌, ◌≤◌, Bool, true, false, List, [], ◌∷◌, ◌++◌, map, Option, Some, None, append_assoc, refl, ◌∙◌, ap, arith}
+use Rattle.std.proofs.Common.{◌≡◌, ℕ, zero, suc, ◌+◌, ◌<◌, ◌≤◌, Bool, true, false, List, [], ◌∷◌, ◌++◌, map, None, append_assoc, refl, ◌∙◌, ap, arith}
 use Rattle.std.specs.Prelude.{if◌then◌else◌}
 use mathlib.Core.List.{reverse_aux}
 use Rattle.std.specs.declared.rc.Rc.{Rc}
@@ -14,7 +14,7 @@ use Rattle.env_table.specs.declared.entries.Sig.TheOpen.{Sig-F, What-F, Componen
 use Rattle.env_table.specs.declared.entries.Entry.{Entry, fold-Entry, fold_out-Entry}
 use Rattle.env_table.specs.declared.entries.Template.{Template, fold-Template}
 use Rattle.env_table.specs.Views.{names_in, newest_first, inside_sig, inside_opened, what_opened}
-use Rattle.type_print.specs.Paths.{contents, named, name_in, sum_of, entry_weight, entries_weight, queue_weight, sig_step, what_step, components_step, entry_step, template_step, search_in, way_among, modules_behind, is_module, among, finds, Scoped}
+use Rattle.type_print.specs.Paths.{contents, found_or, name_for, sum_of, entry_weight, entries_weight, queue_weight, sig_step, what_step, components_step, entry_step, template_step, search_in, way_among, modules_behind, is_module, among, Scoped}
 
 w1 : (e : Entry) → entry_weight e ≡ suc (fold-What ℕ ℕ ℕ ℕ ℕ sig_step what_step components_step entry_step template_step e.what)
 unfolding entry_weight
@@ -81,34 +81,27 @@ pub searched_less : (s : Scoped) (q : List Scoped) → queue_weight (q ++ module
 searched_less s q = let h = weight_append q (modules_behind s.0 [] s.1) in let i = modules_weight s.0 [] s.1 in omega arith
 
 -- more steps than there are entries find the same
-same_search : (o : Path) (n : Name) (k j : ℕ) (q : List Scoped) → queue_weight q ≤ k → queue_weight q ≤ j → search_in k o n q ≡ search_in j o n q
+same_search : (o : Path) (k j : ℕ) (q : List Scoped) → queue_weight q ≤ k → queue_weight q ≤ j → search_in k o q ≡ search_in j o q
 unfolding search_in
-same_search o n zero zero [] h i = refl
-same_search o n zero (suc j) [] h i = refl
-same_search o n (suc k) zero [] h i = refl
-same_search o n (suc k) (suc j) [] h i = refl
-same_search o n zero j (s ∷ q) h i = absurd (omega arith)
-same_search o n (suc k) zero (s ∷ q) h i = absurd (omega arith)
-same_search o n (suc k) (suc j) (s ∷ q) h i = let less = searched_less s q in ap (λ (r : Option (List Name)). if finds o n s.1 then Some s.0 else r) (same_search o n k j (q ++ modules_behind s.0 [] s.1) (omega arith) (omega arith))
+same_search o zero zero [] h i = refl
+same_search o zero (suc j) [] h i = refl
+same_search o (suc k) zero [] h i = refl
+same_search o (suc k) (suc j) [] h i = refl
+same_search o zero j (s ∷ q) h i = absurd (omega arith)
+same_search o (suc k) zero (s ∷ q) h i = absurd (omega arith)
+same_search o (suc k) (suc j) (s ∷ q) h i = let less = searched_less s q in ap (found_or s.0 (name_for o s.1)) (same_search o k j (q ++ modules_behind s.0 [] s.1) (omega arith) (omega arith))
 
 -- one step of the search
-pub way_step : (o : Path) (n : Name) (s : Scoped) (q : List Scoped) → way_among o n (s ∷ q) ≡ (if finds o n s.1 then Some s.0 else way_among o n (q ++ modules_behind s.0 [] s.1))
+pub way_step : (o : Path) (s : Scoped) (q : List Scoped) → way_among o (s ∷ q) ≡ found_or s.0 (name_for o s.1) (way_among o (q ++ modules_behind s.0 [] s.1))
 unfolding way_among search_in
-way_step o n s q = let less = searched_less s q in
-    ap (λ (r : Option (List Name)). if finds o n s.1 then Some s.0 else r) (same_search o n (entries_weight s.1 + queue_weight q) (queue_weight (q ++ modules_behind s.0 [] s.1)) (q ++ modules_behind s.0 [] s.1) (omega arith) (omega arith))
+way_step o s q = let less = searched_less s q in
+    ap (found_or s.0 (name_for o s.1)) (same_search o (entries_weight s.1 + queue_weight q) (queue_weight (q ++ modules_behind s.0 [] s.1)) (q ++ modules_behind s.0 [] s.1) (omega arith) (omega arith))
 
-pub way_none : (o : Path) (n : Name) → way_among o n [] ≡ None
+pub way_none : (o : Path) → way_among o [] ≡ None
 unfolding way_among search_in
-way_none o n = refl
+way_none o = refl
 
 -- a module more was added, which no newer one hides
 pub module_added : (way seen : List Name) (e : Entry) (older : List Entry) (before after : List Scoped) → is_module e ≡ true → among (str_bytes e.name) seen ≡ false →
     after ≡ before ++ (str_bytes e.name ∷ way, contents e) ∷ [] → after ++ modules_behind way (str_bytes e.name ∷ seen) older ≡ before ++ modules_behind way seen (e ∷ older)
 module_added way seen e older before after is new added = rw (is, new, added, append_assoc)
-
--- an origin is named by the type in scope that makes it, or behind a module
-pub name_here : (env : List Entry) (o : Path) (n : Name) → finds o n env ≡ true → name_in env o n ≡ n
-name_here env o n h = rw (way_step, h)
-
-pub name_later : (env : List Entry) (o : Path) (n : Name) → finds o n env ≡ false → name_in env o n ≡ named n (way_among o n (modules_behind [] [] env))
-name_later env o n h = rw (way_step, h)

@@ -1,32 +1,16 @@
--- The search for the path of an origin: module by module, those of fewer names first, and of these the newer first.
-use Rattle.std.specs.Prelude.{◌≡◌, ℕ, zero, suc, ◌+◌, Bool, true, false, List, [], ◌∷◌, ◌++◌, map, codes, Option, Some, None, option_map, if◌then◌else◌}
+-- The search for the path of an origin: module by module, those of fewer names first, and of these the newer first; in each the newest type that makes it.
+use Rattle.std.specs.Prelude.{ℕ, zero, suc, ◌+◌, Bool, true, false, ◌&&◌, List, [], ◌∷◌, ◌++◌, map, codes, Option, Some, None, option_map, if◌then◌else◌}
 use Rattle.std.specs.Str.{bytes_eq}
 use Rattle.text_terms.specs.Bytes.{str_bytes}
-use Rattle.type_terms.specs.Views.{path_of}
 use Rattle.type_model.specs.Types.{Path}
 use Rattle.signature_model.specs.Declarations.{Name}
 use Rattle.signature_model.specs.Entries as rules
 use Rattle.signature_model.specs.Lookups.{same_kind, newest_by}
 use Rattle.signature_model.specs.Records.{is_of_type}
-use Rattle.type_print_model.specs.Paths.{Naming, NamePath, Reaches}
-use Rattle.env_table.specs.declared.entries.What.{out-What}
+use Rattle.type_print_model.specs.Paths.{Naming}
 use Rattle.env_table.specs.declared.entries.Sig.TheOpen.{Sig-F, What-F, Components-F, Entry-F, Template-F}
 use Rattle.env_table.specs.declared.entries.Entry.{Entry, fold-Entry}
-use Rattle.env_table.specs.Views.{kind_of, is_named, inside, names_in}
-
--- the origin that an entry's declaration makes
-abbrev pub made_by : {S W C E T : Type 0} → What-F S W C E T → Option Path
-made_by (What-F.Scheme n) = None
-made_by (What-F.Constructor d k) = None
-made_by (What-F.Exception c) = None
-made_by (What-F.Label d k) = None
-made_by (What-F.Type d) = option_map path_of d.value.origin
-made_by (What-F.Module s) = None
-made_by (What-F.ModuleType t) = None
-
--- the same of an entry
-abbrev pub makes : Entry → Option Path
-makes e = made_by (out-What e.what)
+use Rattle.env_table.specs.Views.{kind_of, is_named, inside, names_in, makes}
 
 -- the entries of an environment, for the paths by which types are named
 abbrev pub naming : Naming Entry
@@ -40,6 +24,18 @@ makes_of (Some e) = makes e
 -- whether the newest type of a name makes an origin
 abbrev pub finds : Path → Name → List Entry → Bool
 finds o n es = is_of_type o (makes_of (newest_by (is_named rules.type_kind n) es))
+
+-- whether an entry is a type that makes an origin
+abbrev pub is_maker : Path → Entry → Bool
+is_maker o e = same_kind rules.type_kind (kind_of e.kind) && is_of_type o (makes e)
+
+-- whether an entry gives an origin a name among entries: it is a type that makes it, and so is the newest type of its name
+abbrev pub gives_name : Path → List Entry → Entry → Bool
+gives_name o es e = is_maker o e && finds o (str_bytes e.name) es
+
+-- the name of an origin among entries: that of the newest one which gives it a name
+abbrev pub name_for : Path → List Entry → Option Name
+name_for o es = option_map (λ e. str_bytes e.name) (newest_by (gives_name o es) es)
 
 -- whether an entry is a module
 abbrev pub is_module : Entry → Bool
@@ -115,30 +111,35 @@ abbrev pub queue_weight : List Scoped → ℕ
 queue_weight [] = 0
 queue_weight (s ∷ q) = suc (entries_weight s.1 + queue_weight q)
 
--- the way to the first module in which the newest type of a name makes an origin, in so many steps
-unfoldable pub search_in : ℕ → Path → Name → List Scoped → Option (List Name)
-search_in zero o n q = None
-search_in (suc k) o n [] = None
-search_in (suc k) o n (s ∷ q) = if finds o n s.1 then Some s.0 else search_in k o n (q ++ modules_behind s.0 [] s.1)
+-- how a type is found: the names of the modules on the way to it, the innermost first, and its own
+abbrev pub Found : Type 0
+Found = List Name × Name
+
+-- a type of a name behind a way, or what is found later where there is none
+abbrev pub found_or : List Name → Option Name → Option Found → Option Found
+found_or way None later = later
+found_or way (Some n) later = Some (way, n)
+
+-- how an origin is found in the first module in which it has a name, in so many steps
+unfoldable pub search_in : ℕ → Path → List Scoped → Option Found
+search_in zero o q = None
+search_in (suc k) o [] = None
+search_in (suc k) o (s ∷ q) = found_or s.0 (name_for o s.1) (search_in k o (q ++ modules_behind s.0 [] s.1))
 
 -- no search has more steps than there are entries
-unfoldable pub way_among : Path → Name → List Scoped → Option (List Name)
-way_among o n q = search_in (queue_weight q) o n q
+unfoldable pub way_among : Path → List Scoped → Option Found
+way_among o q = search_in (queue_weight q) o q
 
 -- the names of a way, the outermost first, with a point behind each
 abbrev pub way_text : List Name → List ℕ
 way_text [] = []
 way_text (m ∷ way) = way_text way ++ m ++ codes "."
 
--- the text of a name: behind its way, or marked as hidden where there is no way
-abbrev pub named : Name → Option (List Name) → List ℕ
+-- the text of a name: behind its way, or, where nothing is found, the declared one, marked as hidden
+abbrev pub named : Name → Option Found → List ℕ
 named n None = n ++ codes "/hidden"
-named n (Some way) = way_text way ++ n
+named n (Some f) = way_text f.0 ++ f.1
 
 -- the name of an origin in an environment, where its declaration gives it a name
 abbrev pub name_in : List Entry → Path → Name → List ℕ
-name_in env o n = named n (way_among o n (([], env) ∷ []))
-
--- each path that reaches an origin ends with this name
-abbrev pub EndWith : List Entry → Path → Name → Type 0
-EndWith env o n = (p : NamePath) → Reaches naming env o p → p.name ≡ n
+name_in env o n = named n (way_among o (([], env) ∷ []))

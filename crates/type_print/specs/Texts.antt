@@ -1,5 +1,5 @@
 -- What is written, piece by piece.
-use Rattle.std.specs.Prelude.{◌≡◌, ℕ, ◌<◌, List, [], ◌∷◌, ◌++◌, codes, length, true, nat_eq, Option, Some, None}
+use Rattle.std.specs.Prelude.{◌≡◌, ℕ, ◌<◌, List, [], ◌∷◌, ◌++◌, codes, length, nat_eq, Option, Some, None}
 use Rattle.std.specs.Str.{IsCharBoundary}
 use Rattle.std.specs.HashMap.{get}
 use Rattle.std.specs.Fmt.{decimal}
@@ -10,13 +10,13 @@ use Rattle.type_nodes.specs.Nodes.{Node, Var, Rigid, Link, Arrow, Tuple, Con}
 use Rattle.type_nodes.specs.Links.{root, reading}
 use Rattle.signature_model.specs.Declarations.{Name}
 use Rattle.type_print_model.specs.Variables.{letter_name, variable_name}
-use Rattle.type_print_model.specs.Printing.{Names, text_of, cut, alone, most_shown, mentions, PrintsAmong}
+use Rattle.type_print_model.specs.Printing.{Names, text_of, cut, alone, most_shown, PrintsAmong}
 use Rattle.env_table.specs.declared.entries.Entry.{Entry}
 use Rattle.type_print.specs.declared.variables.VariableName.{VariableName}
 use Rattle.type_print.specs.declared.variables.VariableName.TheVariants as name
 use Rattle.type_print.specs.declared.variables.Variables.{Variables}
 use Rattle.type_print.specs.declared.printing.Known.{Known}
-use Rattle.type_print.specs.Paths.{name_in, naming, EndWith}
+use Rattle.type_print.specs.Paths.{name_in, naming}
 use Rattle.type_print.specs.Shown.{shown}
 use Rattle.type_print.specs.Pieces.{Part, a_type, a_head, a_text}
 
@@ -51,15 +51,14 @@ PrintsWith nodes env variable t text =
     (ns : Names) → ((v : ℕ) → ns.variable v ≡ variable v) → ((n : ℕ) (p : Path) (name ms : List ℕ) → reading nodes n ≡ Some (Con p name ms) → ns.origin p ≡ name_in env p name) →
     IsAscii (text_of ns alone t) → text ≡ cut (text_of ns alone t)
 
--- origins that nodes have are declared by these names, and each path that reaches one in a type ends with its name
-pub record Declares (nodes : List Node) (env : List Entry) (declared : Path → Name) (t : Typ) : Type 0 where
-  pub names : (n : ℕ) (p : Path) (name ms : List ℕ) → reading nodes n ≡ Some (Con p name ms) → declared p ≡ name
-  pub ends : (o : Path) → mentions o t ≡ true → EndWith env o (declared o)
+-- origins that nodes have are declared by these names
+abbrev pub Declares : List Node → (Path → Name) → Type 0
+Declares nodes declared = (n : ℕ) (p : Path) (name ms : List ℕ) → reading nodes n ≡ Some (Con p name ms) → declared p ≡ name
 
 -- what a type is printed as, by the definition, among types with these variables of which some are weak
 abbrev pub PrintsBy : List Node → List Entry → (weak all : List ℕ) → Typ → List ℕ → Type 0
 PrintsBy nodes env weak all t text =
-    (declared : Path → Name) → Declares nodes env declared t → IsAscii (text_of (record { variable = variable_name weak all; origin = λ o. name_in env o (declared o) }) alone t) → PrintsAmong naming env declared weak all t text
+    (declared : Path → Name) → Declares nodes declared → IsAscii (text_of (record { variable = variable_name weak all; origin = λ o. name_in env o (declared o) }) alone t) → PrintsAmong naming env declared weak all t text
 
 -- the name of a type's constructor
 abbrev pub head_text : Names → Typ → List ℕ

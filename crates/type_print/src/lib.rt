@@ -7,6 +7,7 @@ mod cut;
 mod paths;
 mod pieces;
 mod printing;
+mod scopes;
 #[cfg(test)]
 mod tests;
 mod variables;

@@ -6,18 +6,17 @@ ghost use Rattle.text_terms.specs.Bytes.{str_bytes};
 ghost use Rattle.type_terms.specs.Views.{path_of};
 ghost use Rattle.type_model.specs.Types.{Path};
 ghost use Rattle.type_print_model.specs.Paths.{IsNameOf};
-ghost use Rattle.signature_model.specs.Records.{is_of_type};
 ghost use Rattle.env_table.specs.Views.{names_of, inside};
 ghost use Rattle.type_print.specs.Ways.{way_view};
-ghost use Rattle.type_print.specs.Paths.{makes_of, is_module, contents, modules_behind, finds, way_among, name_in, named, naming, EndWith};
-ghost use Rattle.type_print.specs.Scopes.{scope_of, scopes_of, has, Looks};
+ghost use Rattle.type_print.specs.Paths.{is_module, contents, modules_behind, way_among, way_text, name_in, named, naming};
+ghost use Rattle.type_print.specs.Scopes.{in_scope, scope_of, scopes_of, reached_view, has, Looks};
 
 use crate::cut::push;
-use crate::ways::{Way, into_module, share, text_of_way};
+use crate::scopes::{Scope, entries, name_for};
+use crate::ways::{Way, into_module, text_of_way};
 use env_table::{Entries, Entry, Env, Kind, What};
 use std::alloc::{AllocError, Global};
 use std::collections::{HashSet, VecDeque};
-use std::rc::Rc;
 use text_terms::RcStr;
 use type_nodes::{NoMemory, Origin};
 
@@ -25,67 +24,71 @@ use type_nodes::{NoMemory, Origin};
 #[derive(Drop)]
 struct Inside<'a> {
     way: Way,
-    entries: Entries<'a>,
+    names: Scope<'a>,
 }
 
-/// The name of an origin: the shortest path that finds the declaration that makes it, of these the newest from the outermost
-/// module inward; where no path does, the name that its declaration has and `/hidden`.
+/// A type that was found: the modules that it stands in, and its name there.
+#[derive(Drop)]
+struct Reached {
+    way: Way,
+    name: RcStr,
+}
+
+/// The name of an origin: the shortest path that finds a declaration that makes it, of these the newest from the outermost
+/// module inward, and of the names in the innermost one the newest; where no path does, the name that its declaration has and
+/// `/hidden`.
 pub fn name_of(alloc: Global, origin: &Origin, env: &Env) -> Result<RcStr, NoMemory>
     ensures search { IfOk result (λ r. str_bytes r ≡ name_in env.now (path_of origin.now) (str_bytes origin.now.name)) }
-    ensures named { IfOk result (λ r. (declared : Path → Name) → declared (path_of origin.now) ≡ str_bytes origin.now.name → EndWith env.now (path_of origin.now) (str_bytes origin.now.name) → IsNameOf naming env.now declared (path_of origin.now) (str_bytes r)) }
+    ensures named { IfOk result (λ r. (declared : Path → Name) → declared (path_of origin.now) ≡ str_bytes origin.now.name → IsNameOf naming env.now declared (path_of origin.now) (str_bytes r)) }
 {
     let name = searched_name(alloc, origin, env)?;
     Ok(name)
 }
 
-#[tactic(auto, using(crate::proofs::Searching::name_here, crate::proofs::Searching::name_later))]
 fn searched_name(alloc: Global, origin: &Origin, env: &Env) -> Result<RcStr, NoMemory>
     ensures { IfOk result (λ r. str_bytes r ≡ name_in env.now (path_of origin.now) (str_bytes origin.now.name)) }
 {
-    let name = origin.name.as_str();
-    if finds_in_scope(env, origin) {
-        return origin.name.share();
-    }
     let mut left = VecDeque::new(alloc);
-    add_modules(alloc, &mut left, &None, env.entries())?;
+    add_inside(&mut left, None, Scope::All(env))?;
     match search(alloc, origin, &mut left)? {
-        Some(way) => dotted(alloc, &way, name),
-        None => hidden(alloc, name),
+        Some(reached) => dotted(alloc, &reached),
+        None => hidden(alloc, origin.name.as_str()),
     }
 }
 
-/// The way to the first of the modules that are left, or of those in them, in which the declaration that makes an origin is found.
+/// How an origin is found in the first of the modules that are left, or of those in them, in which it has a name.
 #[tactic(auto, using(crate::proofs::Searching::way_step, crate::proofs::Searching::way_none, crate::proofs::Searching::searched_less))]
 fn search<'a>(
     alloc: Global,
     origin: &Origin,
     left: &mut VecDeque<Inside<'a>>,
-) -> Result<Option<Way>, NoMemory>
-    ensures { IfOk result (λ r. option_map way_view r ≡ way_among (path_of origin.now) (str_bytes origin.now.name) (scopes_of left.old.items)) }
+) -> Result<Option<Reached>, NoMemory>
+    ensures { IfOk result (λ r. option_map reached_view r ≡ way_among (path_of origin.now) (scopes_of left.old.items)) }
 {
     while let Some(inside) = take_first(left) {
         match look(alloc, origin, left, inside)? {
-            Some(way) => return Ok(Some(way)),
+            Some(reached) => return Ok(Some(reached)),
             None => {}
         }
     }
     Ok(None)
 }
 
-/// The way to a module in which the declaration that makes an origin is found; where it isn't, the modules in it come last.
+/// How an origin is found in a module; where it has no name in it, the modules in it come last.
 fn look<'a>(
     alloc: Global,
     origin: &Origin,
     left: &mut VecDeque<Inside<'a>>,
     inside: Inside<'a>,
-) -> Result<Option<Way>, NoMemory>
-    ensures { IfOk result (λ r. Looks (path_of origin.now) (str_bytes origin.now.name) (scope_of inside.entry) (scopes_of left.old.items) (scopes_of left.new.items) (option_map way_view r)) }
+) -> Result<Option<Reached>, NoMemory>
+    ensures { IfOk result (λ r. Looks (path_of origin.now) (scope_of inside.entry) (scopes_of left.old.items) (scopes_of left.new.items) (option_map reached_view r)) }
 {
-    let Inside { way, entries } = inside;
-    if finds(entries, origin) {
-        return Ok(Some(way));
+    let Inside { way, names } = inside;
+    if let Some(name) = name_for(names, origin) {
+        let name = name.share()?;
+        return Ok(Some(Reached { way, name }));
     }
-    add_modules(alloc, left, &way, entries)?;
+    add_modules(alloc, left, &way, entries(names))?;
     Ok(None)
 }
 
@@ -94,52 +97,6 @@ fn take_first<'a>(left: &mut VecDeque<Inside<'a>>) -> Option<Inside<'a>>
     ensures none { IfNone result (scopes_of left.old.items ≡ []) }
 {
     left.pop_front()
-}
-
-fn finds_in_scope(env: &Env, origin: &Origin) -> bool
-    ensures { result ≡ finds (path_of origin.now) (str_bytes origin.now.name) env.now }
-{
-    makes(env.newest(Kind::TypeName, origin.name.as_str()), origin)
-}
-
-/// Whether the newest type of an origin's name is the one that makes it.
-fn finds(entries: Entries<'_>, origin: &Origin) -> bool
-    ensures { result ≡ finds (path_of origin.now) (str_bytes origin.now.name) (names_of entries.entry) }
-{
-    makes(entries.newest(Kind::TypeName, origin.name.as_str()), origin)
-}
-
-/// Whether an entry is the declaration that makes an origin.
-fn makes(entry: Option<&Rc<Entry>>, origin: &Origin) -> bool
-    ensures { result ≡ is_of_type (path_of origin.now) (makes_of (option_map (λ e. e.now.value) entry.entry)) }
-{
-    match entry {
-        None => false,
-        Some(entry) => is_same(made_by(entry), origin),
-    }
-}
-
-fn made_by(entry: &Entry) -> Option<&Origin>
-    ensures { option_map (λ o. path_of o.now) result ≡ makes_of (Some entry.now) }
-{
-    match &entry.what {
-        What::Type(declaration) => declaration.origin.as_ref(),
-        What::Scheme(_) => None,
-        What::Constructor(_, _) => None,
-        What::Exception(_) => None,
-        What::Label(_, _) => None,
-        What::Module(_) => None,
-        What::ModuleType(_) => None,
-    }
-}
-
-fn is_same(made: Option<&Origin>, origin: &Origin) -> bool
-    ensures { result ≡ is_of_type (path_of origin.now) (option_map (λ o. path_of o.now) made.entry) }
-{
-    match made {
-        None => false,
-        Some(made) => origin.path == made.path,
-    }
 }
 
 /// The modules among entries that a newer one doesn't hide, the newest first.
@@ -197,11 +154,18 @@ fn add_module<'a>(
 ) -> Result<(), NoMemory>
     ensures { OnOk result (scopes_of left.new.items ≡ scopes_of left.old.items ++ (str_bytes entry.now.name ∷ way_view way.now, contents entry.now) ∷ []) }
 {
-    let module = Inside {
-        way: into_module(alloc, &entry.name, way)?,
-        entries: contents(entry),
-    };
-    match left.push_back(module) {
+    let way = into_module(alloc, &entry.name, way)?;
+    add_inside(left, way, Scope::Module(contents(entry)))
+}
+
+fn add_inside<'a>(
+    left: &mut VecDeque<Inside<'a>>,
+    way: Way,
+    names: Scope<'a>,
+) -> Result<(), NoMemory>
+    ensures { OnOk result (scopes_of left.new.items ≡ scopes_of left.old.items ++ (way_view way, in_scope names.entry) ∷ []) }
+{
+    match left.push_back(Inside { way, names }) {
         Ok(()) => Ok(()),
         Err(_) => Err(AllocError),
     }
@@ -222,11 +186,11 @@ fn contents(entry: &Entry) -> Entries<'_>
     }
 }
 
-fn dotted(alloc: Global, way: &Way, name: &str) -> Result<RcStr, NoMemory>
-    ensures { IfOk result (λ r. str_bytes r ≡ named name.now (Some (way_view way.now))) }
+fn dotted(alloc: Global, reached: &Reached) -> Result<RcStr, NoMemory>
+    ensures { IfOk result (λ r. str_bytes r ≡ way_text (way_view reached.now.way) ++ str_bytes reached.now.name) }
 {
-    let mut text = text_of_way(alloc, way)?;
-    push(&mut text, name)?;
+    let mut text = text_of_way(alloc, &reached.way)?;
+    push(&mut text, reached.name.as_str())?;
     RcStr::new(alloc, text)
 }
 

@@ -34,12 +34,17 @@ fn entry(alloc: Global, name: &str, kind: Kind, what: What) -> Result<Rc<Entry>,
     rc(alloc, entry)
 }
 
-/// The entry of a declaration that makes an origin.
+/// The entry of a declaration that makes an origin of the same name.
 fn made(alloc: Global, number: u64, name: &str) -> Result<Rc<Entry>, NoMemory> {
+    made_as(alloc, number, name, name)
+}
+
+/// The entry of a declaration that makes an origin, under a name that may be another than the origin's own.
+fn made_as(alloc: Global, number: u64, declared: &str, name: &str) -> Result<Rc<Entry>, NoMemory> {
     let declaration = Declaration {
         arity: 0,
-        origin: Some(origin(alloc, number, name)?),
-        defines: Some(origin(alloc, number, name)?),
+        origin: Some(origin(alloc, number, declared)?),
+        defines: Some(origin(alloc, number, declared)?),
         root: NodeRef(0),
         shape: Shape::Opaque,
     };
@@ -322,6 +327,66 @@ fn what_is_hidden_names_no_origin(rt: HostRuntime) -> Result<(), Fail> {
     )?;
     assert!(rt; is_named(alloc, &env, "M.t")?);
     env = env.add(alloc, module(alloc, "M", made(alloc, 8, "t")?, None)?)?;
+    assert!(rt; is_named(alloc, &env, "t/hidden")?);
+    Ok(())
+}
+
+/// A type names its origin by the name that it has in scope, whatever its declaration named it: in scope and in a module.
+#[test]
+fn another_name_names_an_origin(rt: HostRuntime) -> Result<(), Fail> {
+    let alloc = rt.alloc();
+    let mut env = plain(alloc)?;
+    env = env.add(
+        alloc,
+        module(alloc, "M", made_as(alloc, 7, "t", "u")?, None)?,
+    )?;
+    assert!(rt; is_named(alloc, &env, "M.u")?);
+    env = env.add(alloc, made_as(alloc, 7, "t", "v")?)?;
+    assert!(rt; is_named(alloc, &env, "v")?);
+    Ok(())
+}
+
+/// Of the names that an origin has in one scope the newest is its name.
+#[test]
+fn the_newer_of_two_names_names_an_origin(rt: HostRuntime) -> Result<(), Fail> {
+    let alloc = rt.alloc();
+    let mut env = plain(alloc)?;
+    env = env.add(
+        alloc,
+        module(
+            alloc,
+            "M",
+            made_as(alloc, 7, "t", "u")?,
+            Some(made(alloc, 7, "t")?),
+        )?,
+    )?;
+    assert!(rt; is_named(alloc, &env, "M.t")?);
+    env = env.add(alloc, made(alloc, 7, "t")?)?;
+    env = env.add(alloc, made_as(alloc, 7, "t", "u")?)?;
+    assert!(rt; is_named(alloc, &env, "u")?);
+    Ok(())
+}
+
+/// A name that a newer type has names no origin of an older one.
+#[test]
+fn a_hidden_name_names_no_origin(rt: HostRuntime) -> Result<(), Fail> {
+    let alloc = rt.alloc();
+    let mut env = plain(alloc)?;
+    env = env.add(
+        alloc,
+        module(
+            alloc,
+            "M",
+            made_as(alloc, 7, "t", "u")?,
+            Some(made(alloc, 8, "u")?),
+        )?,
+    )?;
+    assert!(rt; is_named(alloc, &env, "t/hidden")?);
+    env = env.add(alloc, made(alloc, 7, "t")?)?;
+    env = env.add(alloc, made_as(alloc, 7, "t", "u")?)?;
+    env = env.add(alloc, made(alloc, 8, "u")?)?;
+    assert!(rt; is_named(alloc, &env, "t")?);
+    env = env.add(alloc, alias(alloc, 7, "t")?)?;
     assert!(rt; is_named(alloc, &env, "t/hidden")?);
     Ok(())
 }

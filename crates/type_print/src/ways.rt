@@ -35,7 +35,7 @@ impl Drop for Step {
     }
 }
 
-pub(crate) fn share(way: &Way) -> Result<Way, NoMemory>
+fn share(way: &Way) -> Result<Way, NoMemory>
     ensures { IfOk result (λ w. way_view w ≡ way_view way.now) }
 {
     match way {

@@ -1,4 +1,3 @@
-use Rattle.std.proofs.Common.{◌≡◌, ◌∙◌, sym, ap}
 use Rattle.env_table.proofs.Bits.{bits_none, bits_odd, bits_even}
 use Rattle.env_table.proofs.Forks.{opened_at}
 use Rattle.env_table.proofs.index.+bucket.Goals as goal

@@ -1,4 +1,4 @@
-use Rattle.std.proofs.Common.{◌≡◌, ◌∙◌, sym, ◌-◌, ◌/◌}
+use Rattle.std.proofs.Common.{◌-◌, ◌/◌}
 use Rattle.env_table.specs.declared.index.Fork.{out-Fork}
 use Rattle.env_table.specs.Index.{bits_of}
 use Rattle.env_table.proofs.Bits.{bits_none, bits_odd, bits_even}

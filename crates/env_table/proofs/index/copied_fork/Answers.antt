@@ -1,4 +1,4 @@
-use Rattle.std.proofs.Common.{◌≡◌, List, [], ◌∷◌, Bool, true, false, ◌∙◌, sym}
+use Rattle.std.proofs.Common.{[], ◌∷◌, true, false, ◌∙◌, sym}
 use Rattle.env_table.proofs.Forks.{rolled_at, opened_at}
 use Rattle.env_table.proofs.index.copied_fork.Goals as goal
 

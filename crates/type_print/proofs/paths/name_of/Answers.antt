@@ -7,5 +7,5 @@ use Rattle.type_print.proofs.Levels.{named_right}
 use Rattle.type_print.proofs.paths.name_of.Goals as goal
 
 pub returns-clause-named : goal.returns-clause-named
-returns-clause-named c declared e only =
-    subst (IsNameOf naming c.args.env.now declared (path_of c.args.origin.now)) (sym c.in_ok-name.ensures) (named_right c.args.env.now (path_of c.args.origin.now) (str_bytes c.args.origin.now.name) declared e only)
+returns-clause-named c declared e =
+    subst (IsNameOf naming c.args.env.now declared (path_of c.args.origin.now)) (sym c.in_ok-name.ensures) (named_right c.args.env.now (path_of c.args.origin.now) (str_bytes c.args.origin.now.name) declared e)

@@ -1,5 +1,4 @@
 use Rattle.std.proofs.Common.{◌≡◌}
-use Rattle.text_terms.specs.Bytes.{str_bytes}
 use Rattle.type_terms.specs.Views.{path_of}
 use Rattle.type_print.specs.Paths.{queue_weight, way_among}
 use Rattle.type_print.specs.Scopes.{scopes_of}
@@ -7,7 +6,7 @@ use Rattle.type_print.proofs.paths.search.Given as goal
 
 abbrev pub invariant-loop-inside : goal.invariant-loop-inside
 invariant-loop-inside l =
-    way_among (path_of l.origin) (str_bytes l.origin.name) (scopes_of l.left.items) ≡ way_among (path_of l.origin) (str_bytes l.origin.name) (scopes_of l.fn.left.items)
+    way_among (path_of l.origin) (scopes_of l.left.items) ≡ way_among (path_of l.origin) (scopes_of l.fn.left.items)
 
 abbrev pub decreases-loop-inside : goal.decreases-loop-inside
 decreases-loop-inside l = queue_weight (scopes_of l.left.items)

@@ -1,4 +1,4 @@
-use Rattle.std.proofs.Common.{◌≡◌, ◌∙◌, sym, [], map}
+use Rattle.std.proofs.Common.{◌∙◌, sym, [], map}
 use Rattle.std.proofs.lemmas.List.{map-append}
 use Rattle.text_terms.specs.Bytes.{str_bytes}
 use Rattle.env_table.proofs.Lost.{last_behind}
