@@ -1,4 +1,8 @@
 //! Paths as they are written.
+ghost use Rattle.std.specs.Prelude.{◌≡◌, IfOk};
+ghost use Rattle.syntax_tree.specs.View.{node_view};
+ghost use Rattle.row_parts.specs.Numbered.{path_in, path_view};
+
 use crate::taken::{token, tokens};
 use std::alloc::Global;
 use syntax_tree::{NoMemory, Node, Token};
@@ -16,7 +20,9 @@ pub fn written_path<'a>(
     node: &'a Node,
     qualifiers: u8,
     last: u8,
-) -> Result<WrittenPath<'a>, NoMemory> {
+) -> Result<WrittenPath<'a>, NoMemory>
+    ensures { IfOk result (λ p. path_view p ≡ path_in (node_view node.now) qualifiers last) }
+{
     Ok(WrittenPath {
         qualifiers: tokens(alloc, node, qualifiers)?,
         last: token(node, last),

@@ -1,0 +1,3 @@
+-- The operands, tokens and paths of a row, by their slots.
+pub mod Numbered
+pub mod Folds
