@@ -10,3 +10,6 @@ pub mod Copied
 pub mod Tasks
 pub mod Imaging
 pub mod Answering
+pub mod Following
+pub mod TypeLaws
+pub mod RowSteps

@@ -6,3 +6,5 @@ pub mod Messages
 pub mod Types
 pub mod Demands
 pub mod Copying
+pub mod Steps
+pub mod TypeSteps

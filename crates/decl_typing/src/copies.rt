@@ -6,6 +6,7 @@ ghost use Rattle.type_nodes.specs.Links.{root as root_of, reading, IsComposite};
 ghost use Rattle.type_nodes.specs.Views.{numbers};
 ghost use Rattle.level_unify.specs.Copies.{Extends, table_of, image as image_in};
 ghost use Rattle.type_substitution.specs.Substituting.{IsSubstituted};
+ghost use Rattle.decl_typing.specs.Steps.{Silent};
 ghost use Rattle.decl_typing.specs.Goes.{Goes};
 ghost use Rattle.decl_typing.specs.declared.changes.Changes.{Changes as PlainChanges};
 ghost use Rattle.decl_typing.specs.Copying.{change_by, AreDeclared, IsDeclared, IsDeclaredOver, LeavesVariables, IsChanged, AreCopied, Stands, SetsCopy, KeepsCopies, seen_node};
@@ -131,6 +132,7 @@ impl Copies {
 
     /// Closes the unknown types that were made.
     pub fn close(&mut self, at: &mut Parts) -> Result<(), NoMemory>
+        ensures silent { Silent at.old at.new }
         ensures goes { Goes at.old at.new }
     {
         for _ in 0..self.opened.len() {
@@ -153,6 +155,7 @@ impl Copies {
         ensures otherwise { IfOk result (λ m. (IsNode at.old.store.nodes n.0 → ⊥) → m ≡ n) }
         ensures changed { IfOk result (λ m. LeavesVariables how.entry → KeepsCopies at.old.store.nodes how.entry.changes.now self.old → IsNode at.old.store.nodes n.0 → KeepsCopies at.new.store.nodes how.entry.changes.now self.new × IsChanged at.new.store.nodes (change_by how.entry.changes.now) n.0 m.0) }
         ensures extends { OnOk result (Extends at.old.store.nodes at.new.store.nodes) }
+        ensures silent { Silent at.old at.new }
         ensures goes { Goes at.old at.new }
     {
         if !is_node(&at.store, n) {
@@ -168,6 +171,7 @@ impl Copies {
         ensures stands { OnOk result (LeavesVariables how.entry → (aim : ℕ) → Stands at.old.store.nodes how.entry.changes.now (table_of self.old.table) self.old.todo.items aim → Stands at.new.store.nodes how.entry.changes.now (table_of self.new.table) [] aim) }
         ensures done { OnOk result (self.new.todo.items ≡ []) }
         ensures extends { OnOk result (Extends at.old.store.nodes at.new.store.nodes) }
+        ensures silent { Silent at.old at.new }
         ensures goes { Goes at.old at.new }
     {
         for _ in 0..u64::MAX {
@@ -182,6 +186,7 @@ impl Copies {
     fn step(&mut self, at: &mut Parts, task: Task, how: Copying<'_>) -> Result<(), NoMemory>
         ensures stands { OnOk result (LeavesVariables how.entry → (aim : ℕ) → Stands at.old.store.nodes how.entry.changes.now (table_of self.old.table) (self.old.todo.items ++ task ∷ []) aim → Stands at.new.store.nodes how.entry.changes.now (table_of self.new.table) self.new.todo.items aim) }
         ensures extends { OnOk result (Extends at.old.store.nodes at.new.store.nodes) }
+        ensures silent { Silent at.old at.new }
         ensures goes { Goes at.old at.new }
     {
         match task {
@@ -220,6 +225,7 @@ impl Copies {
     fn enter(&mut self, at: &mut Parts, n: NodeRef, how: Copying<'_>) -> Result<(), NoMemory>
         ensures stands { OnOk result (LeavesVariables how.entry → (aim : ℕ) → Stands at.old.store.nodes how.entry.changes.now (table_of self.old.table) (self.old.todo.items ++ Task.Enter n ∷ []) aim → Stands at.new.store.nodes how.entry.changes.now (table_of self.new.table) self.new.todo.items aim) }
         ensures extends { OnOk result (Extends at.old.store.nodes at.new.store.nodes) }
+        ensures silent { Silent at.old at.new }
         ensures goes { Goes at.old at.new }
     {
         let root = at.root(n);
@@ -247,6 +253,7 @@ impl Copies {
         ensures same { OnOk result (LeavesVariables how.entry → at.new ≡ at.old) }
         ensures extends { OnOk result (Extends at.old.store.nodes at.new.store.nodes) }
         ensures rest { self.new.todo ≡ self.old.todo }
+        ensures silent { Silent at.old at.new }
         ensures goes { Goes at.old at.new }
     {
         let copy = self.variable(at, n, level, scope, how)?;
@@ -266,6 +273,7 @@ impl Copies {
         ensures extends { OnOk result (Extends at.old.store.nodes at.new.store.nodes) }
         ensures table { self.new.table ≡ self.old.table }
         ensures todo { self.new.todo ≡ self.old.todo }
+        ensures silent { Silent at.old at.new }
         ensures goes { Goes at.old at.new }
     {
         if level != BOUND {
@@ -304,6 +312,7 @@ impl Copies {
     fn leave(&mut self, at: &mut Parts, n: NodeRef, how: Copying<'_>) -> Result<(), NoMemory>
         ensures stands { OnOk result (LeavesVariables how.entry → (aim : ℕ) → Stands at.old.store.nodes how.entry.changes.now (table_of self.old.table) (self.old.todo.items ++ Task.Leave n ∷ []) aim → Stands at.new.store.nodes how.entry.changes.now (table_of self.new.table) self.new.todo.items aim) }
         ensures extends { OnOk result (Extends at.old.store.nodes at.new.store.nodes) }
+        ensures silent { Silent at.old at.new }
         ensures goes { Goes at.old at.new }
     {
         let copy = self.rebuilt(at, n, how)?;
@@ -315,6 +324,7 @@ impl Copies {
         ensures changed { IfOk result (λ m. AreDeclared at.old.store.nodes how.entry.changes.now.real.items → IsNode at.old.store.nodes n.0 → (c : plain) → reading at.old.store.nodes n.0 ≡ Some c → IsComposite c → AreCopied at.old.store.nodes (change_by how.entry.changes.now) (table_of self.now.table) (parts c) → IsChanged at.new.store.nodes (change_by how.entry.changes.now) n.0 m.0) }
         ensures sound { IsSound at.old.store.nodes }
         ensures extends { OnOk result (Extends at.old.store.nodes at.new.store.nodes) }
+        ensures silent { Silent at.old at.new }
         ensures goes { Goes at.old at.new }
     {
         match view_of(at, n)? {
@@ -334,6 +344,7 @@ impl Copies {
     ) -> Result<NodeRef, NoMemory>
         ensures changed { IfOk result (λ m. (changes : PlainChanges) → IsNode at.old.store.nodes n.0 → reading at.old.store.nodes n.0 ≡ Some (plain.Arrow from.0 to.0) → AreCopied at.old.store.nodes (change_by changes) (table_of self.now.table) (from.0 ∷ to.0 ∷ []) → IsChanged at.new.store.nodes (change_by changes) n.0 m.0) }
         ensures extends { OnOk result (Extends at.old.store.nodes at.new.store.nodes) }
+        ensures silent { Silent at.old at.new }
         ensures goes { Goes at.old at.new }
     {
         if !self.is_any_changed(at, &[from, to]) {
@@ -347,6 +358,7 @@ impl Copies {
     fn tuple(&self, at: &mut Parts, n: NodeRef, parts: &[NodeRef]) -> Result<NodeRef, NoMemory>
         ensures changed { IfOk result (λ m. (changes : PlainChanges) → IsNode at.old.store.nodes n.0 → reading at.old.store.nodes n.0 ≡ Some (plain.Tuple (numbers parts.now)) → AreCopied at.old.store.nodes (change_by changes) (table_of self.now.table) (numbers parts.now) → IsChanged at.new.store.nodes (change_by changes) n.0 m.0) }
         ensures extends { OnOk result (Extends at.old.store.nodes at.new.store.nodes) }
+        ensures silent { Silent at.old at.new }
         ensures goes { Goes at.old at.new }
     {
         if !self.is_any_changed(at, parts) {
@@ -367,6 +379,7 @@ impl Copies {
     ) -> Result<NodeRef, NoMemory>
         ensures changed { IfOk result (λ m. AreDeclared at.old.store.nodes how.entry.changes.now.real.items → IsNode at.old.store.nodes n.0 → reading at.old.store.nodes n.0 ≡ Some (plain.Con origin.now.path.items (str_bytes origin.now.name) (numbers args.now)) → AreCopied at.old.store.nodes (change_by how.entry.changes.now) (table_of self.now.table) (numbers args.now) → IsChanged at.new.store.nodes (change_by how.entry.changes.now) n.0 m.0) }
         ensures extends { OnOk result (Extends at.old.store.nodes at.new.store.nodes) }
+        ensures silent { Silent at.old at.new }
         ensures goes { Goes at.old at.new }
     {
         let images = self.images(at, args)?;
@@ -429,6 +442,7 @@ pub fn in_front(at: &Parts, number: u64, origin: &Origin) -> Result<Origin, NoMe
 fn over(at: &mut Parts, root: NodeRef, arity: u32, args: &[NodeRef]) -> Result<NodeRef, NoMemory>
     ensures over { IfOk result (λ m. IsDeclared at.old.store.nodes root.0 arity → All (IsNode at.old.store.nodes) (numbers args.now) → IsDeclaredOver at.new.store.nodes root.0 arity (numbers args.now) m.0) }
     ensures extends { OnOk result (Extends at.old.store.nodes at.new.store.nodes) }
+    ensures silent { Silent at.old at.new }
     ensures goes { Goes at.old at.new }
 {
     if at.store.len() <= root.0 as usize {
@@ -452,6 +466,7 @@ fn applied(at: &mut Parts, types: Vec<NodeRef>, args: &[NodeRef]) -> Result<Node
     requires args { All (IsNode at.old.store.nodes) (numbers args.now) }
     ensures applied { IfOk result (λ m. (ps : List ℕ) (body : ℕ) → numbers types.items ≡ ps ++ body ∷ [] → IsSubstituted at.old.store.nodes at.new.store.nodes ps (numbers args.now) body m.0) }
     ensures extends { OnOk result (Extends at.old.store.nodes at.new.store.nodes) }
+    ensures silent { Silent at.old at.new }
     ensures goes { Goes at.old at.new }
 {
     let mut parameters = types;

@@ -1,5 +1,5 @@
 //! Demands: each is kept, or reported with its one fault.
-ghost use Rattle.std.specs.Prelude.{◌≡◌, IfOk, OnOk, OnErr};
+ghost use Rattle.std.specs.Prelude.{◌≡◌, [], ◌∷◌, IfOk, OnOk, OnErr};
 ghost use Rattle.text_terms.specs.Bytes.{str_bytes};
 ghost use Rattle.type_nodes.specs.Nodes.{IsNode};
 ghost use Rattle.type_nodes.specs.States.{Keeps};
@@ -7,6 +7,8 @@ ghost use Rattle.env_table.specs.declared.faults.FaultKind.{FaultKind};
 ghost use Rattle.decl_typing.specs.Goes.{Goes, faults_of, OnlyFaults, OnlyStoreAndFaults, Told};
 ghost use Rattle.decl_typing.specs.Messages.{ending_text, equal_text, unbound_text, twice_text, one_side_text, incomplete_text, not_mutable_text, cyclic_text, differs_text, no_label_text, too_large_text};
 ghost use Rattle.decl_typing.specs.Demands.{ShowTwo, DiffersBy, EqualIs, ArityIs};
+ghost use Rattle.decl_typing.specs.Steps.{asks, Follows};
+ghost use Rattle.syntax_tree.specs.View.{place_of};
 
 use crate::messages::{Word, message};
 use crate::nodes::is_node;
@@ -48,6 +50,7 @@ impl Parts {
         env: &Env,
     ) -> Result<Verdict, NoMemory>
         ensures verdict { IfOk result (λ v. EqualIs v self.old self.new at found wanted env.now) }
+        ensures follows { OnOk result (Follows (asks FaultKind.Equal (place_of at ∷ []) ∷ []) self.old self.new) }
         ensures store { OnErr result (self.new.store ≡ self.old.store) }
         ensures faults { OnErr result (faults_of self.new ≡ faults_of self.old) }
         ensures keeps { Keeps self.old.store self.new.store }
@@ -91,6 +94,7 @@ impl Parts {
         env: &Env,
     ) -> Result<(), NoMemory>
         ensures told { OnOk result (IsNode self.old.store.nodes found.0 → IsNode self.old.store.nodes wanted.0 → DiffersBy self.old self.new at found wanted kind env.now) }
+        ensures follows { OnOk result (Follows (asks FaultKind.Equal (place_of at ∷ []) ∷ []) self.old self.new) }
         ensures failed { OnErr result (faults_of self.new ≡ faults_of self.old) }
         ensures rest { OnlyFaults self.old self.new }
         ensures goes { Goes self.old self.new }
@@ -109,6 +113,7 @@ impl Parts {
         kind: ClashKind,
     ) -> Result<(), NoMemory>
         ensures told { OnOk result (Told self.old.telling (faults_of self.old) (faults_of self.new) at FaultKind.Equal (equal_text found.now wanted.now kind)) }
+        ensures follows { OnOk result (Follows (asks FaultKind.Equal (place_of at ∷ []) ∷ []) self.old self.new) }
         ensures failed { OnErr result (faults_of self.new ≡ faults_of self.old) }
         ensures rest { OnlyFaults self.old self.new }
         ensures goes { Goes self.old self.new }
@@ -122,6 +127,7 @@ impl Parts {
     /// A name isn't bound.
     pub fn unbound(&mut self, at: Span, word: Word, name: &str) -> Result<(), NoMemory>
         ensures told { OnOk result (Told self.old.telling (faults_of self.old) (faults_of self.new) at FaultKind.Bound (unbound_text word name.now)) }
+        ensures follows { OnOk result (Follows (asks FaultKind.Bound (place_of at ∷ []) ∷ []) self.old self.new) }
         ensures failed { OnErr result (faults_of self.new ≡ faults_of self.old) }
         ensures rest { OnlyFaults self.old self.new }
         ensures goes { Goes self.old self.new }
@@ -140,6 +146,7 @@ impl Parts {
         given: usize,
     ) -> Result<Verdict, NoMemory>
         ensures verdict { IfOk result (λ v. ArityIs v self.old self.new at name.now taken given) }
+        ensures follows { OnOk result (Follows (asks FaultKind.Arity (place_of at ∷ []) ∷ []) self.old self.new) }
         ensures failed { OnErr result (faults_of self.new ≡ faults_of self.old) }
         ensures rest { OnlyFaults self.old self.new }
         ensures goes { Goes self.old self.new }
@@ -156,6 +163,7 @@ impl Parts {
     /// A name is defined twice.
     pub fn twice(&mut self, at: Span, name: &str) -> Result<(), NoMemory>
         ensures told { OnOk result (Told self.old.telling (faults_of self.old) (faults_of self.new) at FaultKind.Unique (twice_text name.now)) }
+        ensures follows { OnOk result (Follows (asks FaultKind.Unique (place_of at ∷ []) ∷ []) self.old self.new) }
         ensures failed { OnErr result (faults_of self.new ≡ faults_of self.old) }
         ensures rest { OnlyFaults self.old self.new }
         ensures goes { Goes self.old self.new }
@@ -170,6 +178,7 @@ impl Parts {
     /// A name of an or-pattern is bound on one side only.
     pub fn one_side(&mut self, at: Span, name: &str) -> Result<(), NoMemory>
         ensures told { OnOk result (Told self.old.telling (faults_of self.old) (faults_of self.new) at FaultKind.Sides (one_side_text name.now)) }
+        ensures follows { OnOk result (Follows (asks FaultKind.Sides (place_of at ∷ []) ∷ []) self.old self.new) }
         ensures failed { OnErr result (faults_of self.new ≡ faults_of self.old) }
         ensures rest { OnlyFaults self.old self.new }
         ensures goes { Goes self.old self.new }
@@ -184,6 +193,7 @@ impl Parts {
     /// The field of a record isn't written.
     pub fn incomplete(&mut self, at: Span, name: &str) -> Result<(), NoMemory>
         ensures told { OnOk result (Told self.old.telling (faults_of self.old) (faults_of self.new) at FaultKind.Complete (incomplete_text name.now)) }
+        ensures follows { OnOk result (Follows (asks FaultKind.Complete (place_of at ∷ []) ∷ []) self.old self.new) }
         ensures failed { OnErr result (faults_of self.new ≡ faults_of self.old) }
         ensures rest { OnlyFaults self.old self.new }
         ensures goes { Goes self.old self.new }
@@ -198,6 +208,7 @@ impl Parts {
     /// A field that is set isn't mutable.
     pub fn not_mutable(&mut self, at: Span, name: &str) -> Result<(), NoMemory>
         ensures told { OnOk result (Told self.old.telling (faults_of self.old) (faults_of self.new) at FaultKind.Mutable (not_mutable_text name.now)) }
+        ensures follows { OnOk result (Follows (asks FaultKind.Mutable (place_of at ∷ []) ∷ []) self.old self.new) }
         ensures failed { OnErr result (faults_of self.new ≡ faults_of self.old) }
         ensures rest { OnlyFaults self.old self.new }
         ensures goes { Goes self.old self.new }
@@ -212,6 +223,7 @@ impl Parts {
     /// An abbreviation contains itself.
     pub fn cyclic(&mut self, at: Span, name: &str) -> Result<(), NoMemory>
         ensures told { OnOk result (Told self.old.telling (faults_of self.old) (faults_of self.new) at FaultKind.Cycle (cyclic_text name.now)) }
+        ensures follows { OnOk result (Follows (asks FaultKind.Cycle (place_of at ∷ []) ∷ []) self.old self.new) }
         ensures failed { OnErr result (faults_of self.new ≡ faults_of self.old) }
         ensures rest { OnlyFaults self.old self.new }
         ensures goes { Goes self.old self.new }
@@ -226,6 +238,7 @@ impl Parts {
     /// A re-export doesn't tell the same as the type that it names.
     pub fn differs_from(&mut self, at: Span, name: &str) -> Result<(), NoMemory>
         ensures told { OnOk result (Told self.old.telling (faults_of self.old) (faults_of self.new) at FaultKind.Reexport (differs_text name.now)) }
+        ensures follows { OnOk result (Follows (asks FaultKind.Reexport (place_of at ∷ []) ∷ []) self.old self.new) }
         ensures failed { OnErr result (faults_of self.new ≡ faults_of self.old) }
         ensures rest { OnlyFaults self.old self.new }
         ensures goes { Goes self.old self.new }
@@ -240,6 +253,7 @@ impl Parts {
     /// The first part of a record is no label.
     pub fn no_label(&mut self, at: Span) -> Result<(), NoMemory>
         ensures told { OnOk result (Told self.old.telling (faults_of self.old) (faults_of self.new) at FaultKind.Label (no_label_text)) }
+        ensures follows { OnOk result (Follows (asks FaultKind.Label (place_of at ∷ []) ∷ []) self.old self.new) }
         ensures failed { OnErr result (faults_of self.new ≡ faults_of self.old) }
         ensures rest { OnlyFaults self.old self.new }
         ensures goes { Goes self.old self.new }
@@ -251,6 +265,7 @@ impl Parts {
     /// An integer is out of range.
     pub fn too_large(&mut self, at: Span) -> Result<(), NoMemory>
         ensures told { OnOk result (Told self.old.telling (faults_of self.old) (faults_of self.new) at FaultKind.Range (too_large_text)) }
+        ensures follows { OnOk result (Follows (asks FaultKind.Range (place_of at ∷ []) ∷ []) self.old self.new) }
         ensures failed { OnErr result (faults_of self.new ≡ faults_of self.old) }
         ensures rest { OnlyFaults self.old self.new }
         ensures goes { Goes self.old self.new }

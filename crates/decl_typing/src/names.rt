@@ -1,5 +1,10 @@
 //! What names stand for.
+ghost use Rattle.std.specs.Prelude.{◌≡◌, ◌-◌, map, Some, IfSome, OnOk};
+ghost use Rattle.tree_model.specs.Trees.{place};
+ghost use Rattle.syntax_tree.specs.View.{place_of, tok_of};
+ghost use Rattle.row_parts.specs.Numbered.{path_view};
 ghost use Rattle.decl_typing.specs.Goes.{Goes};
+ghost use Rattle.decl_typing.specs.Steps.{Follows, IsAmong, asks_bound, place_without_point};
 
 use crate::messages::Word;
 use crate::parts::Parts;
@@ -38,10 +43,22 @@ pub fn path_of(alloc: Global, written: &WrittenPath<'_>, last: &Token) -> Result
 }
 
 /// Where the name of a qualifier stands, which ends with a point.
-fn without_point(span: Span) -> Span {
+fn without_point(span: Span) -> Span
+    ensures { place_of result ≡ place span.start (span.end - 1) }
+{
     Span {
         start: span.start,
         end: span.end.saturating_sub(1),
+    }
+}
+
+/// The first qualifier of a path that leads to no module.
+fn lost_qualifier<'a>(env: &Env, path: &Path, written: &WrittenPath<'a>) -> Option<&'a Token>
+    ensures { IfSome result (λ t. IsAmong (place_without_point (tok_of t.now)) (map place_without_point (path_view written.now).qualifiers)) }
+{
+    match env.lost_module(&path.modules) {
+        Some(place) => written.qualifiers.get(place).copied(),
+        None => None,
     }
 }
 
@@ -67,6 +84,7 @@ impl Parts {
         last: &Token,
         kind: Kind,
     ) -> Result<Option<Rc<Entry>>, NoMemory>
+        ensures follows { OnOk result (Follows (asks_bound (record (path_view written.now) { last = Some (tok_of last.now) })) self.old self.new) }
         ensures goes { Goes self.old self.new }
     {
         let path = path_of(self.alloc, written, last)?;
@@ -87,6 +105,7 @@ impl Parts {
         written: &WrittenPath<'_>,
         kind: Kind,
     ) -> Result<Option<Rc<Entry>>, NoMemory>
+        ensures follows { OnOk result (Follows (asks_bound (path_view written.now)) self.old self.new) }
         ensures goes { Goes self.old self.new }
     {
         match written.last {
@@ -104,13 +123,10 @@ impl Parts {
         last: &Token,
         word: Word,
     ) -> Result<(), NoMemory>
+        ensures follows { OnOk result (Follows (asks_bound (record (path_view written.now) { last = Some (tok_of last.now) })) self.old self.new) }
         ensures goes { Goes self.old self.new }
     {
-        let qualifier = match env.lost_module(&path.modules) {
-            Some(place) => written.qualifiers.get(place),
-            None => None,
-        };
-        match qualifier {
+        match lost_qualifier(env, path, written) {
             Some(token) => {
                 self.unbound(without_point(token.span), Word::Module, token.name.as_str())
             }

@@ -1,7 +1,16 @@
 //! Type expressions.
-ghost use Rattle.std.specs.Prelude.{◌<◌, IfOk, OnOk};
+#![tactic(auto, using(crate::proofs::Going::goes_trans, crate::proofs::Going::goes_refl, crate::proofs::Following::follows_both, crate::proofs::Following::follows_before, crate::proofs::Following::follows_behind, crate::proofs::Following::follows_silent, crate::proofs::Following::store_silent, crate::proofs::Following::ends_both, crate::proofs::Following::ends_behind, crate::proofs::Following::ends_before, crate::proofs::Following::ends_silent, crate::proofs::Following::gets_start, crate::proofs::Following::gets_more, crate::proofs::Following::gets_before, crate::proofs::Following::gets_done), unfolding(syntax_tree::specs::Names::row_of))]
+
+ghost use Rattle.std.specs.Prelude.{◌<◌, ◌≡◌, [], ◌∷◌, map, option_map, IfOk, OnOk};
+ghost use Rattle.syntax_tree.specs.Names.{row_of};
+ghost use Rattle.syntax_tree.specs.declared.tree.Node.{out-Node};
+ghost use Rattle.syntax_tree.specs.View.{place_of, tok_of, node_view};
+ghost use Rattle.row_parts.specs.Numbered.{operand_view, path_view, part_of};
+ghost use Rattle.env_table.specs.declared.faults.FaultKind.{FaultKind};
 ghost use Rattle.decl_typing.specs.Goes.{Goes};
 ghost use Rattle.decl_typing.specs.Notes.{IsRecorded};
+ghost use Rattle.decl_typing.specs.Steps.{asks, each, Follows, Silent};
+ghost use Rattle.decl_typing.specs.TypeSteps.{several, parts_read, type_steps, steps_given, type_parts, type_demands, type_unrecorded, variable_steps, constructor_steps};
 
 use crate::changes::Changes;
 use crate::copies::{Copies, ForBound, ForUnknown, unchanged};
@@ -10,7 +19,7 @@ use crate::messages::Word;
 use crate::parts::Parts;
 use env_table::{Declaration, Entry, Env, Kind, What};
 use owned_lists::push;
-use row_parts::{Operand, WrittenPath, operand_in, operands, token, written_path};
+use row_parts::{Operand, WrittenPath, operand_in, operands, operands_of, token, written_path};
 use std::alloc::{AllocError, Global};
 use std::rc::Rc;
 use syntax_tree::{Node, RowName, Token};
@@ -90,6 +99,7 @@ impl Parts {
         depth: Depth,
     ) -> Result<NodeRef, NoMemory>
         ensures recorded { OnOk result (IsRecorded self.new ty.entry.number) }
+        ensures follows { OnOk result (Follows (type_steps (operand_view ty.entry)) self.old self.new) }
         ensures goes { Goes self.old self.new }
     {
         let read = self.read_row(ty, env, variables, depth)?;
@@ -106,6 +116,7 @@ impl Parts {
         variables: &Variables,
         depth: Depth,
     ) -> Result<Read, NoMemory>
+        ensures follows { OnOk result (Follows (type_unrecorded ty.entry.number (part_of ty.entry.node ty.entry.span)) self.old self.new) }
         ensures goes { Goes self.old self.new }
     {
         match ty.node {
@@ -138,11 +149,57 @@ impl Parts {
         variables: &Variables,
         depth: Depth,
     ) -> Result<Vec<NodeRef>, NoMemory>
+        ensures follows { OnOk result (Follows (type_parts number (node_view node.now)) self.old self.new) }
+        ensures goes { Goes self.old self.new }
+    {
+        match node.row {
+            RowName::Tapp => { self.read_given(operand_in(node, number, 0), env, variables, depth) }
+            _ => {
+                let parts = parts_in(self.alloc, node, number)?;
+                self.read_each(&parts, env, variables, depth)
+            }
+        }
+    }
+
+    /// The types that stand in front of a constructor: several in parentheses, or one.
+    #[cycle(types)]
+    fn read_given(
+        &mut self,
+        left: Operand<'_>,
+        env: &Env,
+        variables: &Variables,
+        depth: Depth,
+    ) -> Result<Vec<NodeRef>, NoMemory>
+        ensures follows { OnOk result (Follows (steps_given (operand_view left.entry)) self.old self.new) }
+        ensures goes { Goes self.old self.new }
+    {
+        match several_in(self.alloc, left)? {
+            Some(several) => {
+                self.note_plain(left.number, env)?;
+                self.read_each(&several, env, variables, depth)
+            }
+            None => {
+                let ty = self.read_type(left, env, variables, depth.inside()?)?;
+                one_of(self.alloc, ty)
+            }
+        }
+    }
+
+    /// The types of some type expressions, in order.
+    #[cycle(types)]
+    fn read_each(
+        &mut self,
+        parts: &[Operand<'_>],
+        env: &Env,
+        variables: &Variables,
+        depth: Depth,
+    ) -> Result<Vec<NodeRef>, NoMemory>
+        ensures follows { OnOk result (Follows (each (λ o. type_steps (operand_view o)) parts.now) self.old self.new) }
         ensures goes { Goes self.old self.new }
     {
         let mut types = Vec::new(self.alloc);
-        for part in parts_in(self, node, number, env)? {
-            let ty = self.read_type(part, env, variables, depth.inside()?)?;
+        for part in parts {
+            let ty = self.read_type(*part, env, variables, depth.inside()?)?;
             push(&mut types, ty)?;
         }
         Ok(types)
@@ -150,6 +207,7 @@ impl Parts {
 
     /// A type expression that names no type: any type in an item, and in a declaration an unknown one.
     fn unresolved(&mut self, variables: &Variables) -> Result<NodeRef, NoMemory>
+        ensures silent { Silent self.old self.new }
         ensures goes { Goes self.old self.new }
     {
         match variables {
@@ -166,6 +224,7 @@ impl Parts {
         env: &Env,
         variables: &Variables,
     ) -> Result<Read, NoMemory>
+        ensures follows { OnOk result (Follows (type_demands (node_view node.now)) self.old self.new) }
         ensures goes { Goes self.old self.new }
     {
         match node.row {
@@ -185,19 +244,22 @@ impl Parts {
     }
 
     /// The same of a row in which no constructor stands.
+    #[tactic(auto, using(crate::proofs::Going::goes_trans, crate::proofs::Going::goes_refl, crate::proofs::Following::ends_silent, crate::proofs::Following::store_silent, crate::proofs::RowSteps::no_record), unfolding(syntax_tree::specs::Names::row_of))]
     fn composed(
         &mut self,
         node: &Node,
         types: &[NodeRef],
         variables: &Variables,
     ) -> Result<NodeRef, NoMemory>
+        ensures follows { OnOk result (Follows (type_demands (node_view node.now)) self.old self.new) }
         ensures goes { Goes self.old self.new }
     {
         match node.row {
             RowName::Tvar => self.variable(token(node, 0), variables),
+            RowName::Tparen => self.in_parentheses(node, types, variables),
             RowName::Ttuple => self.tuple(types),
             RowName::Tarrow => self.arrow_between(types, variables),
-            _ => self.in_parentheses(node, types, variables),
+            _ => self.unresolved(variables),
         }
     }
 
@@ -207,6 +269,7 @@ impl Parts {
         types: &[NodeRef],
         variables: &Variables,
     ) -> Result<NodeRef, NoMemory>
+        ensures silent { Silent self.old self.new }
         ensures goes { Goes self.old self.new }
     {
         match types {
@@ -222,6 +285,7 @@ impl Parts {
         types: &[NodeRef],
         variables: &Variables,
     ) -> Result<NodeRef, NoMemory>
+        ensures follows { OnOk result (Follows (asks FaultKind.Arity (place_of (out-Node node.now).span ∷ []) ∷ []) self.old self.new) }
         ensures goes { Goes self.old self.new }
     {
         match types {
@@ -236,6 +300,7 @@ impl Parts {
 
     /// 'a
     fn variable(&mut self, name: Option<&Token>, variables: &Variables) -> Result<NodeRef, NoMemory>
+        ensures follows { OnOk result (Follows (variable_steps (option_map (λ t. tok_of t.now) name.entry)) self.old self.new) }
         ensures goes { Goes self.old self.new }
     {
         let Some(name) = name else {
@@ -257,6 +322,7 @@ impl Parts {
 
     /// The type that a type variable of the item stands for: one of the item's own level.
     fn written_variable(&mut self, name: &Token) -> Result<NodeRef, NoMemory>
+        ensures silent { Silent self.old self.new }
         ensures goes { Goes self.old self.new }
     {
         let key = match String::from_str(self.alloc, name.name.as_str()) {
@@ -285,6 +351,7 @@ impl Parts {
         env: &Env,
         variables: &Variables,
     ) -> Result<Read, NoMemory>
+        ensures follows { OnOk result (Follows (constructor_steps (path_view path.now)) self.old self.new) }
         ensures goes { Goes self.old self.new }
     {
         let Some(last) = path.last else {
@@ -306,6 +373,7 @@ impl Parts {
         types: &[NodeRef],
         variables: &Variables,
     ) -> Result<NodeRef, NoMemory>
+        ensures follows { OnOk result (Follows (asks FaultKind.Arity (place_of last.now.span ∷ []) ∷ []) self.old self.new) }
         ensures goes { Goes self.old self.new }
     {
         match entry {
@@ -321,6 +389,7 @@ impl Parts {
         types: &[NodeRef],
         variables: &Variables,
     ) -> Result<NodeRef, NoMemory>
+        ensures follows { OnOk result (Follows (asks FaultKind.Arity (place_of last.now.span ∷ []) ∷ []) self.old self.new) }
         ensures goes { Goes self.old self.new }
     {
         let Some(declaration) = declaration_of(entry) else {
@@ -342,6 +411,7 @@ impl Parts {
         declaration: &Declaration,
         types: &[NodeRef],
     ) -> Result<NodeRef, NoMemory>
+        ensures silent { Silent self.old self.new }
         ensures goes { Goes self.old self.new }
     {
         if let Some(origin) = &declaration.origin {
@@ -362,6 +432,7 @@ impl Parts {
         declaration: &Declaration,
         types: &[NodeRef],
     ) -> Result<NodeRef, NoMemory>
+        ensures silent { Silent self.old self.new }
         ensures goes { Goes self.old self.new }
     {
         if let Some(origin) = &declaration.origin {
@@ -376,6 +447,7 @@ impl Parts {
 
     /// The last part of a tuple whose other parts are these types.
     pub fn filled(&mut self, tuple: NodeRef, types: &[NodeRef]) -> Result<NodeRef, NoMemory>
+        ensures silent { Silent self.old self.new }
         ensures goes { Goes self.old self.new }
     {
         for (place, ty) in types.iter().enumerate() {
@@ -397,37 +469,39 @@ impl Parts {
     }
 }
 
-/// The parts of a type expression as they are read: of an application those in the parentheses in front of the constructor.
-fn parts_in<'a>(
-    at: &mut Parts,
-    node: &'a Node,
-    number: u32,
-    env: &Env,
-) -> Result<Vec<Operand<'a>>, NoMemory>
-    ensures goes { Goes at.old at.new }
+/// The parts of a type expression as they are read; those of an application stand in front of its constructor.
+#[tactic(auto, unfolding(crate::specs::TypeSteps::parts_by_row, syntax_tree::specs::Names::row_of))]
+fn parts_in<'a>(alloc: Global, node: &'a Node, number: u32) -> Result<Vec<Operand<'a>>, NoMemory>
+    ensures { IfOk result (λ os. map operand_view os.items ≡ parts_read number (node_view node.now)) }
 {
     match node.row {
-        RowName::Tapp => grouped(at, operand_in(node, number, 0), env),
-        RowName::Tparen => operands(at.alloc, node, number, 1),
-        RowName::Ttuple | RowName::Tarrow => row_parts::operands_of(at.alloc, node, number),
-        _ => Ok(Vec::new(at.alloc)),
+        RowName::Tparen => operands(alloc, node, number, 1),
+        RowName::Ttuple | RowName::Tarrow => operands_of(alloc, node, number),
+        _ => Ok(Vec::new(alloc)),
     }
 }
 
-/// Several types in parentheses in front of a constructor, or the one type there.
-fn grouped<'a>(at: &mut Parts, left: Operand<'a>, env: &Env) -> Result<Vec<Operand<'a>>, NoMemory>
-    ensures goes { Goes at.old at.new }
+/// The types in parentheses, where there are several.
+fn several_in(alloc: Global, left: Operand<'_>) -> Result<Option<Vec<Operand<'_>>>, NoMemory>
+    ensures { IfOk result (λ r. option_map (λ os. map operand_view os.items) r ≡ several (operand_view left.entry)) }
 {
-    if let Some(node) = left.node {
-        if node.row == RowName::Tparen {
-            let inner = operands(at.alloc, node, left.number, 1)?;
-            if inner.len() >= 2 {
-                at.note_plain(left.number, env)?;
-                return Ok(inner);
-            }
-        }
+    let Some(node) = left.node else {
+        return Ok(None);
+    };
+    if node.row != RowName::Tparen {
+        return Ok(None);
     }
-    let mut one = Vec::new(at.alloc);
-    push(&mut one, left)?;
+    let inner = operands(alloc, node, left.number, 1)?;
+    if inner.len() >= 2 {
+        Ok(Some(inner))
+    } else {
+        Ok(None)
+    }
+}
+
+/// A list of one type.
+fn one_of(alloc: Global, ty: NodeRef) -> Result<Vec<NodeRef>, NoMemory> {
+    let mut one = Vec::new(alloc);
+    push(&mut one, ty)?;
     Ok(one)
 }

@@ -1,3 +1,4 @@
+use Rattle.decl_typing.proofs.Following.{store_silent}
 use Rattle.std.proofs.Common.{Some, ◌∙◌, ap, arith}
 use Rattle.type_nodes.specs.Nodes.{Tuple, IsNode}
 use Rattle.type_nodes.specs.Links.{root}
@@ -29,5 +30,6 @@ returns c =
     record {
       over = no_tuple_answer c.var-in_default.result c.args.at.now.store.nodes c.var-in_default.new.self.store.nodes c.args.root.0 c.args.arity (numbers c.args.args.now) c.in_ok-parts.field-0 c.if-arity-eq0.false c.in_default.not-Tuple (c.in_ok-parts.ensures.seen lt);
       extends = node_extends c.var-in_default.result c.args.at.now.store c.var-in_default.new.self.store _ c.var-in_default.ensures.made;
+      silent = store_silent c.args.at.now c.var-in_default.new.self c.var-in_default.ensures.rest;
       goes = c.var-in_default.ensures.goes;
     }
