@@ -1,9 +1,11 @@
 //! Bindings: their demands in order, and their names with generalised types.
 ghost use Rattle.decl_typing.specs.Goes.{Goes};
 
+use crate::constants::Sign;
+use crate::exprs::type_under;
 use crate::functions::{arrows, type_parameters, with_names};
 use crate::patterns::{BoundName, Matched, Mentioned, type_pattern};
-use crate::rows::{Next, equal_if, next_of, type_or_var, unnamed};
+use crate::rows::{equal_if, unnamed};
 use crate::uses::Used;
 use crate::values::{has_parameters, is_value};
 use crate::warnings::report_pattern;
@@ -15,45 +17,48 @@ use row_parts::{Operand, first_operand, operand_in, operands, token};
 use std::rc::Rc;
 use syntax_tree::Node;
 
-/// Whether the names of a group stand in their own right sides.
-#[derive(Clone, Copy, Debug, PartialEq, Eq)]
-enum Recursion {
-    None,
-    Rec,
+/// A binding that is there.
+#[derive(Clone, Copy)]
+struct Binding<'a> {
+    node: &'a Node,
+    number: u32,
 }
 
-/// A binding whose right side is typed next.
-#[derive(Drop)]
-struct Open<'a> {
-    parameters: Vec<NodeRef>,
-    annotation: Option<NodeRef>,
-    body: Operand<'a>,
-    inner: Env,
+impl<'a> Binding<'a> {
+    fn pattern(self) -> Operand<'a> {
+        operand_in(self.node, self.number, 0)
+    }
+
+    /// The expression behind the equals sign.
+    fn body(self) -> Operand<'a> {
+        operand_in(self.node, self.number, 5)
+    }
 }
 
-/// A binding whose right side is typed.
+/// A binding whose pattern is typed.
 #[derive(Drop)]
-struct Bound {
+struct Opened<'a> {
+    binding: Binding<'a>,
+    matched: Matched<'a>,
+    /// Whether no fault was reported in the pattern.
+    faultless: bool,
+}
+
+/// A right side that is typed.
+#[derive(Clone, Copy, Drop)]
+struct RightSide {
+    /// The type of the expression behind the equals sign.
+    right: NodeRef,
+    /// The type of the binding: from its parameters to its annotation, or else to its expression.
+    whole: NodeRef,
+}
+
+/// A binding that is typed.
+#[derive(Drop)]
+pub struct Bound<'a> {
+    matched: Matched<'a>,
     right: NodeRef,
     generalises: bool,
-}
-
-/// A group of bindings, as far as its right sides are typed. All that it makes has a level more than what stands round it.
-#[derive(Drop)]
-pub struct Group<'a> {
-    env: Env,
-    recursion: Recursion,
-    /// The bindings that are there.
-    bindings: Vec<Operand<'a>>,
-    /// What the patterns bind, in order; with `rec` from the start.
-    patterns: Vec<Matched<'a>>,
-    /// For each pattern, whether no fault was reported in it.
-    faultless: Vec<bool>,
-    seen: Mentioned<'a>,
-    /// With `rec`, the environment with the names of the group.
-    within: Env,
-    open: Option<Open<'a>>,
-    bound: Vec<Bound>,
 }
 
 /// What a group adds: the environment behind it, and its entries in order.
@@ -63,294 +68,299 @@ pub struct Behind {
     pub entries: Vec<Rc<Entry>>,
 }
 
-impl<'a> Group<'a> {
-    /// The group of a `let`; its bindings stand in slot 2.
-    pub fn new(
-        at: &mut Parts,
-        node: &'a Node,
-        number: u32,
-        env: &Env,
-        depth: Depth,
-    ) -> Result<Group<'a>, NoMemory>
-        ensures goes { Goes at.old at.new }
-    {
-        let mut group = Group::begun(at, node, number, env)?;
-        group.patterns_first(at, depth)?;
-        Ok(group)
-    }
+/// let b and b in e
+#[cycle(exprs)]
+pub fn let_in(
+    at: &mut Parts,
+    node: &Node,
+    number: u32,
+    env: &Env,
+    depth: Depth,
+) -> Result<Used, NoMemory>
+    ensures goes { Goes at.old at.new }
+{
+    let bound = type_group(at, node, number, env, depth)?;
+    let behind = close(at, &bound, env, NO_SCOPE)?;
+    let body = operand_in(node, number, 5);
+    let ty = type_under(at, body, Sign::None, &behind.env, depth.inside()?)?;
+    Ok(unnamed(at, ty))
+}
 
-    /// The same before its patterns, one level further in.
-    fn begun(at: &mut Parts, node: &'a Node, number: u32, env: &Env) -> Result<Group<'a>, NoMemory>
-        ensures goes { Goes at.old at.new }
-    {
-        at.level = at.level.saturating_add(1);
-        let recursion = if token(node, 1).is_some() {
-            Recursion::Rec
-        } else {
-            Recursion::None
-        };
-        Ok(Group {
-            env: env.share()?,
-            recursion,
-            bindings: there(at, env, operands(at.alloc(), node, number, 2)?)?,
-            patterns: Vec::new(at.alloc()),
-            faultless: Vec::new(at.alloc()),
-            seen: Vec::new(at.alloc()),
-            within: env.share()?,
-            open: None,
-            bound: Vec::new(at.alloc()),
-        })
-    }
+/// Types the bindings of an item of the row `let` with this number. The types of its names have origins made before the item alone.
+pub fn type_bindings(
+    at: &mut Parts,
+    item: &Node,
+    number: u32,
+    env: &Env,
+    depth: Depth,
+) -> Result<Behind, NoMemory>
+    ensures goes { Goes at.old at.new }
+{
+    let bound = type_group(at, item, number, env, depth)?;
+    close(at, &bound, env, at.node_number(number))
+}
 
-    /// With `rec` all patterns come first, and their names have one type each in all right sides.
-    fn patterns_first(&mut self, at: &mut Parts, depth: Depth) -> Result<(), NoMemory>
-        ensures goes { Goes at.old at.new }
-    {
-        if self.recursion == Recursion::None {
-            return Ok(());
-        }
-        for place in 0..self.bindings.len() {
-            if let Some(binding) = self.bindings.get(place).copied() {
-                self.pattern_first(at, binding, depth)?;
-            }
-        }
-        self.within = self.with_group(at)?;
-        Ok(())
-    }
-
-    /// Records a binding, and types its pattern.
-    fn pattern_first(
-        &mut self,
-        at: &mut Parts,
-        binding: Operand<'a>,
-        depth: Depth,
-    ) -> Result<(), NoMemory>
-        ensures goes { Goes at.old at.new }
-    {
-        at.note_plain(binding.number, &self.env)?;
-        self.match_pattern(at, binding, depth)
-    }
-
-    /// The environment outside with the names of the group's patterns.
-    fn with_group(&self, at: &Parts) -> Result<Env, NoMemory> {
-        let mut within = self.env.share()?;
-        for matched in &self.patterns {
-            within = with_names(at.alloc(), &matched.names, &within)?;
-        }
-        Ok(within)
-    }
-
-    /// The pattern of a binding, in the environment outside.
-    fn match_pattern(
-        &mut self,
-        at: &mut Parts,
-        binding: Operand<'a>,
-        depth: Depth,
-    ) -> Result<(), NoMemory>
-        ensures goes { Goes at.old at.new }
-    {
-        if let Some(node) = binding.node {
-            let pattern = operand_in(node, binding.number, 0);
-            let faults_before = at.faults.list.len();
-            let matched = type_pattern(at, pattern, &self.env, &mut self.seen, depth.inside()?)?;
-            push(&mut self.patterns, matched)?;
-            push(&mut self.faultless, at.faults.list.len() == faults_before)?;
-        }
-        Ok(())
-    }
-
-    /// The next right side; None where all are typed.
-    pub fn next(&mut self, at: &mut Parts, depth: Depth) -> Result<Option<Next<'a>>, NoMemory>
-        ensures goes { Goes at.old at.new }
-    {
-        let Some(binding) = self.bindings.get(self.bound.len()).copied() else {
-            return Ok(None);
-        };
-        let Some(node) = binding.node else {
-            return Ok(None);
-        };
-        self.note_binding(at, binding.number)?;
-        self.open_next(at, node, binding.number, depth)
-    }
-
-    /// Records a binding, where its pattern didn't come first.
-    fn note_binding(&self, at: &mut Parts, number: u32) -> Result<(), NoMemory>
-        ensures goes { Goes at.old at.new }
-    {
-        if self.recursion == Recursion::None {
-            at.note_plain(number, &self.env)
-        } else {
-            Ok(())
-        }
-    }
-
-    /// Goes on to the right side of a binding.
-    fn open_next(
-        &mut self,
-        at: &mut Parts,
-        node: &'a Node,
-        number: u32,
-        depth: Depth,
-    ) -> Result<Option<Next<'a>>, NoMemory>
-        ensures goes { Goes at.old at.new }
-    {
-        let open = self.open_binding(at, node, number, depth)?;
-        let next = next_of(Some(&open.body), &open.inner)?;
-        self.open = Some(open);
-        Ok(next)
-    }
-
-    /// The parameters and the annotation of a binding.
-    fn open_binding(
-        &self,
-        at: &mut Parts,
-        node: &'a Node,
-        number: u32,
-        depth: Depth,
-    ) -> Result<Open<'a>, NoMemory>
-        ensures goes { Goes at.old at.new }
-    {
-        let parameters = operands(at.alloc(), node, number, 1)?;
-        let (parameters, inner) = type_parameters(at, &parameters, &self.within, depth)?;
-        let annotation = self.annotation(at, first_operand(node, number, 3), depth)?;
-        Ok(Open {
-            parameters,
-            annotation,
-            body: operand_in(node, number, 5),
-            inner,
-        })
-    }
-
-    /// The type that is written for a right side, where one is.
-    fn annotation(
-        &self,
-        at: &mut Parts,
-        written: Option<Operand<'a>>,
-        depth: Depth,
-    ) -> Result<Option<NodeRef>, NoMemory>
-        ensures goes { Goes at.old at.new }
-    {
-        match written {
-            Some(written) => {
-                let ty = at.read_type(written, &self.within, &Variables::OfItem, depth)?;
-                Ok(Some(ty))
-            }
-            None => Ok(None),
-        }
-    }
-
-    /// Takes the type of a right side: it is the annotation, and the pattern is the whole.
-    pub fn take(&mut self, at: &mut Parts, ty: NodeRef, depth: Depth) -> Result<(), NoMemory>
-        ensures goes { Goes at.old at.new }
-    {
-        let place = self.bound.len();
-        let Some(open) = self.open.take() else {
-            return Ok(());
-        };
-        let Some(binding) = self.bindings.get(place).copied() else {
-            return Ok(());
-        };
-        let whole = self.whole(at, &open, ty)?;
-        self.match_behind(at, binding, depth)?;
-        self.pattern_has(at, place, binding, whole, depth)?;
-        let generalises = match binding.node {
-            Some(node) => {
-                has_parameters(node, binding.number) || is_value(at, open.body, &self.env, depth)?
-            }
-            None => true,
-        };
-        push(
-            &mut self.bound,
-            Bound {
-                right: ty,
-                generalises,
-            },
-        )
-    }
-
-    /// The type of a binding: from its parameters to its annotation, which its right side is, or else to its right side.
-    fn whole(&self, at: &mut Parts, open: &Open<'a>, ty: NodeRef) -> Result<NodeRef, NoMemory>
-        ensures goes { Goes at.old at.new }
-    {
-        equal_if(at, open.body.span, ty, open.annotation, &self.env)?;
-        arrows(at, &open.parameters, open.annotation.unwrap_or(ty))
-    }
-
-    /// Without `rec` a pattern comes behind its right side.
-    fn match_behind(
-        &mut self,
-        at: &mut Parts,
-        binding: Operand<'a>,
-        depth: Depth,
-    ) -> Result<(), NoMemory>
-        ensures goes { Goes at.old at.new }
-    {
-        match self.recursion {
-            Recursion::Rec => Ok(()),
-            Recursion::None => self.match_pattern(at, binding, depth),
-        }
-    }
-
-    /// The demand that a pattern is the whole.
-    fn pattern_has(
-        &self,
-        at: &mut Parts,
-        place: usize,
-        binding: Operand<'a>,
-        whole: NodeRef,
-        depth: Depth,
-    ) -> Result<(), NoMemory>
-        ensures goes { Goes at.old at.new }
-    {
-        if let (Some(matched), Some(node)) = (self.patterns.get(place), binding.node) {
-            let pattern = operand_in(node, binding.number, 0);
-            let verdict = at.equal(pattern.span, matched.ty, whole, &self.env)?;
-            if verdict == Verdict::Kept && self.faultless.get(place) == Some(&true) {
-                report_pattern(at, pattern, &self.env, depth)?;
-            }
-        }
-        Ok(())
-    }
-
-    /// Closes the group. What stands in the types of right sides that are expansive, and of their names, is held; the types of
-    /// names get this scope at most, and their variables are generalised.
-    pub fn close(self, at: &mut Parts, scope: u64) -> Result<Behind, NoMemory>
-        ensures goes { Goes at.old at.new }
-    {
-        at.level = at.level.saturating_sub(1);
-        let level = at.level;
-        for (bound, matched) in self.bound.iter().zip(self.patterns.iter()) {
-            if !bound.generalises {
-                at.limit(bound.right, level, NO_SCOPE)?;
-                hold(at, &matched.names, level)?;
-            }
-        }
-        let mut entries = Vec::new(at.alloc());
-        let mut env = self.env.share()?;
-        for matched in &self.patterns {
-            close_names(at, &matched.names, scope, &mut entries)?;
-            env = with_names(at.alloc(), &matched.names, &env)?;
-        }
-        Ok(Behind { env, entries })
+/// The group of a `let`; its bindings stand in slot 2. Those that are missing come first. It is left open, one level further in.
+#[cycle(exprs)]
+fn type_group<'a>(
+    at: &mut Parts,
+    node: &'a Node,
+    number: u32,
+    env: &Env,
+    depth: Depth,
+) -> Result<Vec<Bound<'a>>, NoMemory>
+    ensures goes { Goes at.old at.new }
+{
+    let bindings = begun(at, node, number, env)?;
+    match token(node, 1) {
+        None => in_turn(at, &bindings, env, depth),
+        Some(_) => together(at, &bindings, env, depth),
     }
 }
 
-/// The bindings that are there; a missing one is recorded.
-fn there<'a>(
+/// Without `rec`: of each binding the right side and then the pattern.
+#[cycle(exprs)]
+fn in_turn<'a>(
     at: &mut Parts,
+    bindings: &[Binding<'a>],
     env: &Env,
-    operands: Vec<Operand<'a>>,
-) -> Result<Vec<Operand<'a>>, NoMemory>
+    depth: Depth,
+) -> Result<Vec<Bound<'a>>, NoMemory>
     ensures goes { Goes at.old at.new }
 {
+    let mut seen = Vec::new(at.alloc());
+    let mut bound = Vec::new(at.alloc());
+    for binding in bindings {
+        at.note_plain(binding.number, env)?;
+        let side = type_right(at, *binding, env, env, depth)?;
+        let opened = open_pattern(at, *binding, &mut seen, env, depth)?;
+        push(&mut bound, conclude(at, opened, side, env, depth)?)?;
+    }
+    Ok(bound)
+}
+
+/// With `rec`: all patterns, and then the right sides, in which their names have one type each.
+#[cycle(exprs)]
+fn together<'a>(
+    at: &mut Parts,
+    bindings: &[Binding<'a>],
+    env: &Env,
+    depth: Depth,
+) -> Result<Vec<Bound<'a>>, NoMemory>
+    ensures goes { Goes at.old at.new }
+{
+    let opened = open_all(at, bindings, env, depth)?;
+    let within = with_group(at, &opened, env)?;
+    let mut bound = Vec::new(at.alloc());
+    for one in opened {
+        let side = type_right(at, one.binding, &within, env, depth)?;
+        push(&mut bound, conclude(at, one, side, env, depth)?)?;
+    }
+    Ok(bound)
+}
+
+/// A right side: the parameters, the annotation, the expression, which has that type. A fault of the last demand shows the names
+/// of `env`.
+#[cycle(exprs)]
+fn type_right(
+    at: &mut Parts,
+    binding: Binding<'_>,
+    within: &Env,
+    env: &Env,
+    depth: Depth,
+) -> Result<RightSide, NoMemory>
+    ensures goes { Goes at.old at.new }
+{
+    let given = operands(at.alloc(), binding.node, binding.number, 1)?;
+    let (parameters, inner) = type_parameters(at, &given, within, depth)?;
+    let annotation = annotation_of(at, binding, within, depth)?;
+    let body = binding.body();
+    let right = type_under(at, body, Sign::None, &inner, depth.inside()?)?;
+    let whole = whole(at, body, right, annotation, &parameters, env)?;
+    Ok(RightSide { right, whole })
+}
+
+/// The type that is written for a right side, where one is.
+fn annotation_of(
+    at: &mut Parts,
+    binding: Binding<'_>,
+    within: &Env,
+    depth: Depth,
+) -> Result<Option<NodeRef>, NoMemory>
+    ensures goes { Goes at.old at.new }
+{
+    match first_operand(binding.node, binding.number, 3) {
+        Some(written) => {
+            let ty = at.read_type(written, within, &Variables::OfItem, depth)?;
+            Ok(Some(ty))
+        }
+        None => Ok(None),
+    }
+}
+
+/// The type of a binding: from its parameters to its annotation, which its expression has, or else to its expression.
+fn whole(
+    at: &mut Parts,
+    body: Operand<'_>,
+    right: NodeRef,
+    annotation: Option<NodeRef>,
+    parameters: &[NodeRef],
+    env: &Env,
+) -> Result<NodeRef, NoMemory>
+    ensures goes { Goes at.old at.new }
+{
+    equal_if(at, body.span, right, annotation, env)?;
+    arrows(at, parameters, annotation.unwrap_or(right))
+}
+
+/// Begins a group, one level further in: its bindings that are there. A missing one is recorded.
+fn begun<'a>(
+    at: &mut Parts,
+    node: &'a Node,
+    number: u32,
+    env: &Env,
+) -> Result<Vec<Binding<'a>>, NoMemory>
+    ensures goes { Goes at.old at.new }
+{
+    at.level = at.level.saturating_add(1);
     let mut found = Vec::new(at.alloc());
-    for operand in operands {
-        match operand.node {
-            Some(_) => push(&mut found, operand)?,
-            None => at.note_plain(operand.number, env)?,
+    for binding in operands(at.alloc(), node, number, 2)? {
+        match binding.node {
+            Some(node) => push(
+                &mut found,
+                Binding {
+                    node,
+                    number: binding.number,
+                },
+            )?,
+            None => at.note_plain(binding.number, env)?,
         }
     }
     Ok(found)
+}
+
+/// The patterns of bindings, each of which is recorded before.
+fn open_all<'a>(
+    at: &mut Parts,
+    bindings: &[Binding<'a>],
+    env: &Env,
+    depth: Depth,
+) -> Result<Vec<Opened<'a>>, NoMemory>
+    ensures goes { Goes at.old at.new }
+{
+    let mut seen = Vec::new(at.alloc());
+    let mut all = Vec::new(at.alloc());
+    for binding in bindings {
+        at.note_plain(binding.number, env)?;
+        push(&mut all, open_pattern(at, *binding, &mut seen, env, depth)?)?;
+    }
+    Ok(all)
+}
+
+/// The pattern of a binding, in the environment outside.
+fn open_pattern<'a>(
+    at: &mut Parts,
+    binding: Binding<'a>,
+    seen: &mut Mentioned<'a>,
+    env: &Env,
+    depth: Depth,
+) -> Result<Opened<'a>, NoMemory>
+    ensures goes { Goes at.old at.new }
+{
+    let faults_before = at.faults.list.len();
+    let matched = type_pattern(at, binding.pattern(), env, seen, depth.inside()?)?;
+    Ok(Opened {
+        binding,
+        matched,
+        faultless: at.faults.list.len() == faults_before,
+    })
+}
+
+/// The environment outside with the names of the group's patterns.
+fn with_group(at: &Parts, opened: &[Opened<'_>], env: &Env) -> Result<Env, NoMemory> {
+    let mut within = env.share()?;
+    for one in opened {
+        within = with_names(at.alloc(), &one.matched.names, &within)?;
+    }
+    Ok(within)
+}
+
+/// A binding whose right side and pattern are typed: the pattern is the whole.
+fn conclude<'a>(
+    at: &mut Parts,
+    opened: Opened<'a>,
+    side: RightSide,
+    env: &Env,
+    depth: Depth,
+) -> Result<Bound<'a>, NoMemory>
+    ensures goes { Goes at.old at.new }
+{
+    let generalises = is_general(at, opened.binding, env, depth)?;
+    pattern_has(at, &opened, side.whole, env, depth)?;
+    Ok(Bound {
+        matched: opened.matched,
+        right: side.right,
+        generalises,
+    })
+}
+
+/// Whether a right side is non-expansive.
+fn is_general(at: &Parts, binding: Binding<'_>, env: &Env, depth: Depth) -> Result<bool, NoMemory> {
+    if has_parameters(binding.node, binding.number) {
+        return Ok(true);
+    }
+    is_value(at, binding.body(), env, depth)
+}
+
+/// The demand that a pattern is the whole, and the warning of what it misses, where there is no fault.
+fn pattern_has(
+    at: &mut Parts,
+    opened: &Opened<'_>,
+    whole: NodeRef,
+    env: &Env,
+    depth: Depth,
+) -> Result<(), NoMemory>
+    ensures goes { Goes at.old at.new }
+{
+    let pattern = opened.binding.pattern();
+    let verdict = at.equal(pattern.span, opened.matched.ty, whole, env)?;
+    if verdict == Verdict::Kept && opened.faultless {
+        report_pattern(at, pattern, env, depth)?;
+    }
+    Ok(())
+}
+
+/// Closes a group. What stands in the types of right sides that are expansive, and of their names, is held; the types of names get
+/// this scope at most, and their variables are generalised.
+fn close(at: &mut Parts, bound: &[Bound<'_>], env: &Env, scope: u64) -> Result<Behind, NoMemory>
+    ensures goes { Goes at.old at.new }
+{
+    at.level = at.level.saturating_sub(1);
+    let level = at.level;
+    hold_all(at, bound, level)?;
+    let mut entries = Vec::new(at.alloc());
+    let mut behind = env.share()?;
+    for one in bound {
+        close_names(at, &one.matched.names, scope, &mut entries)?;
+        behind = with_names(at.alloc(), &one.matched.names, &behind)?;
+    }
+    Ok(Behind {
+        env: behind,
+        entries,
+    })
+}
+
+/// The variables in expansive right sides, and in the types of their names, aren't generalised.
+fn hold_all(at: &mut Parts, bound: &[Bound<'_>], level: u32) -> Result<(), NoMemory>
+    ensures goes { Goes at.old at.new }
+{
+    for one in bound {
+        if !one.generalises {
+            at.limit(one.right, level, NO_SCOPE)?;
+            hold(at, &one.matched.names, level)?;
+        }
+    }
+    Ok(())
 }
 
 /// The variables in the types of names aren't generalised.
@@ -380,110 +390,4 @@ fn close_names(
         push(entries, share_entry(&name.entry)?)?;
     }
     Ok(())
-}
-
-/// let b and b in e
-#[derive(Drop)]
-pub struct LetIn<'a> {
-    body: Operand<'a>,
-    stage: Stage<'a>,
-}
-
-#[derive(Drop)]
-enum Stage<'a> {
-    Bindings(Group<'a>),
-    Body(Env),
-    Done(NodeRef),
-}
-
-impl<'a> LetIn<'a> {
-    pub fn new(
-        at: &mut Parts,
-        node: &'a Node,
-        number: u32,
-        env: &Env,
-        depth: Depth,
-    ) -> Result<LetIn<'a>, NoMemory>
-        ensures goes { Goes at.old at.new }
-    {
-        Ok(LetIn {
-            body: operand_in(node, number, 5),
-            stage: Stage::Bindings(Group::new(at, node, number, env, depth)?),
-        })
-    }
-
-    pub fn next(&mut self, at: &mut Parts, depth: Depth) -> Result<Option<Next<'a>>, NoMemory>
-        ensures goes { Goes at.old at.new }
-    {
-        match &mut self.stage {
-            Stage::Bindings(group) => match group.next(at, depth)? {
-                Some(next) => Ok(Some(next)),
-                None => self.enter(at),
-            },
-            Stage::Body(env) => next_of(Some(&self.body), env),
-            Stage::Done(_) => Ok(None),
-        }
-    }
-
-    /// Closes the group and enters the body.
-    fn enter(&mut self, at: &mut Parts) -> Result<Option<Next<'a>>, NoMemory>
-        ensures goes { Goes at.old at.new }
-    {
-        let unknown = at.var()?;
-        match std::mem::replace(&mut self.stage, Stage::Done(unknown)) {
-            Stage::Bindings(group) => {
-                let behind = group.close(at, NO_SCOPE)?;
-                let next = next_of(Some(&self.body), &behind.env)?;
-                self.stage = Stage::Body(behind.env);
-                Ok(next)
-            }
-            _ => Ok(None),
-        }
-    }
-
-    pub fn take(&mut self, at: &mut Parts, ty: NodeRef, depth: Depth) -> Result<(), NoMemory>
-        ensures goes { Goes at.old at.new }
-    {
-        match &mut self.stage {
-            Stage::Bindings(group) => group.take(at, ty, depth),
-            _ => {
-                self.stage = Stage::Done(ty);
-                Ok(())
-            }
-        }
-    }
-
-    pub fn finish(self, at: &mut Parts) -> Result<Used, NoMemory>
-        ensures goes { Goes at.old at.new }
-    {
-        let done = match self.stage {
-            Stage::Done(ty) => Some(ty),
-            _ => None,
-        };
-        let ty = type_or_var(at, done)?;
-        Ok(unnamed(at, ty))
-    }
-}
-
-/// Types the bindings of an item of the row `let` with this number. The types of its names have origins made before the item alone.
-pub fn type_bindings(
-    at: &mut Parts,
-    item: &Node,
-    number: u32,
-    env: &Env,
-    depth: Depth,
-) -> Result<Behind, NoMemory>
-    ensures goes { Goes at.old at.new }
-{
-    let mut group = Group::new(at, item, number, env, depth)?;
-    for _ in 0..item.children.len() {
-        match group.next(at, depth)? {
-            None => return group.close(at, at.node_number(number)),
-            Some(next) => {
-                let ty = crate::exprs::type_expr(at, next.part, &next.env, depth)?;
-                group.take(at, ty, depth)?;
-            }
-        }
-    }
-    group.close(at, at.node_number(number))
 }

@@ -1,232 +1,177 @@
 //! Matches: `match`, `try` and `function`.
 ghost use Rattle.decl_typing.specs.Goes.{Goes};
 
+use crate::constants::Sign;
+use crate::exprs::{type_under, typed_as};
 use crate::functions::with_names;
 use crate::patterns::{Matched, type_pattern};
-use crate::rows::{Next, equal_if, next_of, type_or_var, unnamed};
+use crate::rows::{type_or_var, unnamed};
 use crate::uses::Used;
 use crate::warnings::Rows;
 use decl_typing::{Depth, Env, NoMemory, NodeRef, Parts};
 use row_parts::{Operand, first_operand, operand_in, operands};
-use syntax_tree::{Node, RowName, Span};
+use syntax_tree::{Node, RowName};
 
-/// Which part of a match is typed next.
-#[derive(Clone, Copy, Debug, PartialEq, Eq)]
-enum Turn {
-    Subject,
-    /// A case, from its pattern on.
-    Pattern,
-    Guard,
-    Body,
+/// match e with p -> e, try e with p -> e
+#[cycle(exprs)]
+pub fn match_of(
+    at: &mut Parts,
+    node: &Node,
+    number: u32,
+    env: &Env,
+    depth: Depth,
+) -> Result<Used, NoMemory>
+    ensures goes { Goes at.old at.new }
+{
+    let subject = operand_in(node, number, 1);
+    let ty = type_under(at, subject, Sign::None, env, depth.inside()?)?;
+    let (matched, bodies) = sides_of(at, node.row, ty);
+    let ty = type_cases(at, node, number, matched, bodies, env, depth)?;
+    Ok(unnamed(at, ty))
 }
 
-/// A case with the names of its pattern in scope.
-#[derive(Drop)]
-struct Open<'a> {
-    env: Env,
-    guard: Option<Operand<'a>>,
-    body: Operand<'a>,
+/// The type of what is matched, and of the bodies, where it is known before them. A `try` matches exceptions, and its bodies have
+/// the type of what is tried.
+fn sides_of(at: &Parts, row: RowName, ty: NodeRef) -> (NodeRef, Option<NodeRef>) {
+    match row {
+        RowName::Etry => (at.constants.exn, Some(ty)),
+        _ => (ty, None),
+    }
 }
 
-/// A match, as far as its parts are typed.
-#[derive(Drop)]
-pub struct Cases<'a> {
-    row: RowName,
-    env: Env,
-    subject: Option<Operand<'a>>,
-    subject_type: Option<NodeRef>,
-    result_type: Option<NodeRef>,
-    cases: Vec<Operand<'a>>,
-    done: usize,
-    turn: Turn,
-    open: Option<Open<'a>>,
-    /// Where the match stands.
-    span: Span,
-    rows: Rows,
+/// function p -> e
+#[cycle(exprs)]
+pub fn function_of_cases(
+    at: &mut Parts,
+    node: &Node,
+    number: u32,
+    env: &Env,
+    depth: Depth,
+) -> Result<Used, NoMemory>
+    ensures goes { Goes at.old at.new }
+{
+    let from = at.var()?;
+    let to = type_cases(at, node, number, from, None, env, depth)?;
+    let ty = at.arrow(from, to)?;
+    Ok(unnamed(at, ty))
 }
 
-impl<'a> Cases<'a> {
-    pub fn new(
-        at: &mut Parts,
-        node: &'a Node,
-        number: u32,
-        env: &Env,
-    ) -> Result<Cases<'a>, NoMemory>
-        ensures goes { Goes at.old at.new }
-    {
-        let mut row = Cases {
-            row: node.row,
-            env: env.share()?,
-            subject: None,
-            subject_type: None,
-            result_type: None,
-            cases: operands(at.alloc(), node, number, 4)?,
-            done: 0,
-            turn: Turn::Pattern,
-            open: None,
-            span: node.span,
-            rows: Rows::new(at.alloc()),
-        };
-        if node.row != RowName::Efunction {
-            row.subject = Some(operand_in(node, number, 1));
-            row.turn = Turn::Subject;
-            return Ok(row);
-        }
-        row.subject_type = Some(at.var()?);
-        Ok(row)
+/// The cases of a match in order, and their warnings: the type of their bodies.
+#[cycle(exprs)]
+fn type_cases(
+    at: &mut Parts,
+    node: &Node,
+    number: u32,
+    matched: NodeRef,
+    known: Option<NodeRef>,
+    env: &Env,
+    depth: Depth,
+) -> Result<NodeRef, NoMemory>
+    ensures goes { Goes at.old at.new }
+{
+    let cases = operands(at.alloc(), node, number, 4)?;
+    let mut rows = Rows::new(at.alloc());
+    let mut bodies = known;
+    for case in &cases {
+        bodies = type_case(at, *case, matched, bodies, &mut rows, env, depth)?;
     }
+    rows.report(at, node.row, node.span)?;
+    type_or_var(at, bodies)
+}
 
-    pub fn next(&mut self, at: &mut Parts, depth: Depth) -> Result<Option<Next<'a>>, NoMemory>
-        ensures goes { Goes at.old at.new }
-    {
-        match self.turn {
-            Turn::Subject => return next_of(self.subject.as_ref(), &self.env),
-            Turn::Pattern => self.open_case(at, depth)?,
-            _ => {}
-        }
-        match &self.open {
-            None => Ok(None),
-            Some(open) => match (self.turn, &open.guard) {
-                (Turn::Guard, Some(guard)) => next_of(Some(guard), &open.env),
-                _ => next_of(Some(&open.body), &open.env),
-            },
-        }
-    }
+/// A case, which is recorded, or a missing one: the type of the bodies.
+#[cycle(exprs)]
+fn type_case(
+    at: &mut Parts,
+    case: Operand<'_>,
+    matched: NodeRef,
+    bodies: Option<NodeRef>,
+    rows: &mut Rows,
+    env: &Env,
+    depth: Depth,
+) -> Result<Option<NodeRef>, NoMemory>
+    ensures goes { Goes at.old at.new }
+{
+    at.note_plain(case.number, env)?;
+    let Some(node) = case.node else {
+        return Ok(bodies);
+    };
+    typed_case(at, node, case.number, matched, bodies, rows, env, depth)
+}
 
-    /// Types the pattern of the next case that is there.
-    fn open_case(&mut self, at: &mut Parts, depth: Depth) -> Result<(), NoMemory>
-        ensures goes { Goes at.old at.new }
-    {
-        self.open = None;
-        for place in self.done..self.cases.len() {
-            self.done = place.saturating_add(1);
-            let Some(case) = self.cases.get(place).copied() else {
-                return Ok(());
-            };
-            at.note_plain(case.number, &self.env)?;
-            if let Some(node) = case.node {
-                return self.open_node(at, node, case.number, depth);
-            }
-        }
-        Ok(())
-    }
+/// A case that is there: its pattern, which has the type of what is matched; the guard, which is a bool; the body, which has the type
+/// of the bodies, and gives it where it is the first.
+#[cycle(exprs)]
+fn typed_case(
+    at: &mut Parts,
+    node: &Node,
+    number: u32,
+    matched: NodeRef,
+    bodies: Option<NodeRef>,
+    rows: &mut Rows,
+    env: &Env,
+    depth: Depth,
+) -> Result<Option<NodeRef>, NoMemory>
+    ensures goes { Goes at.old at.new }
+{
+    let inner = within_case(at, node, number, matched, rows, env, depth)?;
+    let guard = first_operand(node, number, 2);
+    type_guard(at, guard, &inner, env, depth)?;
+    let body = operand_in(node, number, 4);
+    let ty = typed_as(at, body, bodies, &inner, env, depth)?;
+    Ok(Some(bodies.unwrap_or(ty)))
+}
 
-    /// The pattern of a case, which is the subject's type.
-    fn match_subject(
-        &self,
-        at: &mut Parts,
-        pattern: Operand<'a>,
-        depth: Depth,
-    ) -> Result<Matched<'a>, NoMemory>
-        ensures goes { Goes at.old at.new }
-    {
-        let mut seen = Vec::new(at.alloc());
-        let matched = type_pattern(at, pattern, &self.env, &mut seen, depth.inside()?)?;
-        equal_if(at, pattern.span, matched.ty, self.subject_type, &self.env)?;
-        Ok(matched)
+/// A guard, where there is one, is a bool.
+#[cycle(exprs)]
+fn type_guard(
+    at: &mut Parts,
+    guard: Option<Operand<'_>>,
+    inner: &Env,
+    env: &Env,
+    depth: Depth,
+) -> Result<(), NoMemory>
+    ensures goes { Goes at.old at.new }
+{
+    let bool = at.constants.bool;
+    if let Some(guard) = guard {
+        typed_as(at, guard, Some(bool), inner, env, depth)?;
     }
+    Ok(())
+}
 
-    fn open_node(
-        &mut self,
-        at: &mut Parts,
-        node: &'a Node,
-        number: u32,
-        depth: Depth,
-    ) -> Result<(), NoMemory>
-        ensures goes { Goes at.old at.new }
-    {
-        let pattern = operand_in(node, number, 0);
-        let faults_before = at.faults.list.len();
-        let matched = self.match_subject(at, pattern, depth)?;
-        let guard = first_operand(node, number, 2);
-        self.rows.add(
-            at,
-            node.span,
-            pattern,
-            guard,
-            faults_before,
-            &self.env,
-            depth,
-        )?;
-        self.turn = if guard.is_some() {
-            Turn::Guard
-        } else {
-            Turn::Body
-        };
-        self.open = Some(Open {
-            env: with_names(at.alloc(), &matched.names, &self.env)?,
-            guard,
-            body: operand_in(node, number, 4),
-        });
-        Ok(())
-    }
+/// The pattern of a case, which is a row of the match: the environment with its names.
+fn within_case(
+    at: &mut Parts,
+    node: &Node,
+    number: u32,
+    matched: NodeRef,
+    rows: &mut Rows,
+    env: &Env,
+    depth: Depth,
+) -> Result<Env, NoMemory>
+    ensures goes { Goes at.old at.new }
+{
+    let pattern = operand_in(node, number, 0);
+    let guard = first_operand(node, number, 2);
+    let faults_before = at.faults.list.len();
+    let bound = type_matched(at, pattern, matched, env, depth)?;
+    rows.add(at, node.span, pattern, guard, faults_before, env, depth)?;
+    with_names(at.alloc(), &bound.names, env)
+}
 
-    pub fn take(&mut self, at: &mut Parts, ty: NodeRef) -> Result<(), NoMemory>
-        ensures goes { Goes at.old at.new }
-    {
-        match self.turn {
-            Turn::Subject => {
-                if self.row == RowName::Etry {
-                    self.result_type = Some(ty);
-                    self.subject_type = Some(at.constants.exn);
-                } else {
-                    self.subject_type = Some(ty);
-                }
-                self.turn = Turn::Pattern;
-                Ok(())
-            }
-            Turn::Pattern => Ok(()),
-            Turn::Guard => {
-                self.turn = Turn::Body;
-                self.guarded(at, ty)
-            }
-            Turn::Body => {
-                self.turn = Turn::Pattern;
-                self.concluded(at, ty)
-            }
-        }
-    }
-
-    /// A guard is a bool.
-    fn guarded(&mut self, at: &mut Parts, ty: NodeRef) -> Result<(), NoMemory>
-        ensures goes { Goes at.old at.new }
-    {
-        if let Some(open) = &self.open {
-            if let Some(guard) = open.guard {
-                let bool = at.constants.bool;
-                at.equal(guard.span, ty, bool, &self.env)?;
-            }
-        }
-        Ok(())
-    }
-
-    /// A body has the type of the first.
-    fn concluded(&mut self, at: &mut Parts, ty: NodeRef) -> Result<(), NoMemory>
-        ensures goes { Goes at.old at.new }
-    {
-        let Some(open) = &self.open else {
-            return Ok(());
-        };
-        match self.result_type {
-            None => self.result_type = Some(ty),
-            Some(wanted) => {
-                at.equal(open.body.span, ty, wanted, &self.env)?;
-            }
-        }
-        Ok(())
-    }
-
-    pub fn finish(self, at: &mut Parts) -> Result<Used, NoMemory>
-        ensures goes { Goes at.old at.new }
-    {
-        self.rows.report(at, self.row, self.span)?;
-        let body = type_or_var(at, self.result_type)?;
-        match (self.row, self.subject_type) {
-            (RowName::Efunction, Some(subject)) => {
-                let ty = at.arrow(subject, body)?;
-                Ok(unnamed(at, ty))
-            }
-            _ => Ok(unnamed(at, body)),
-        }
-    }
+/// A pattern, which has the type of what is matched.
+fn type_matched<'a>(
+    at: &mut Parts,
+    pattern: Operand<'a>,
+    matched: NodeRef,
+    env: &Env,
+    depth: Depth,
+) -> Result<Matched<'a>, NoMemory>
+    ensures goes { Goes at.old at.new }
+{
+    let mut seen = Vec::new(at.alloc());
+    let bound = type_pattern(at, pattern, env, &mut seen, depth.inside()?)?;
+    at.equal(pattern.span, bound.ty, matched, env)?;
+    Ok(bound)
 }

@@ -1,5 +1,12 @@
 //! Constants: their types and ranges.
+#![tactic(auto, using(decl_typing::proofs::Going::goes_trans, decl_typing::proofs::Going::goes_refl, decl_typing::proofs::Following::follows_both, decl_typing::proofs::Following::follows_before, decl_typing::proofs::Following::follows_behind, decl_typing::proofs::Following::follows_silent, decl_typing::proofs::Following::store_silent, decl_typing::proofs::Following::silent_refl, decl_typing::proofs::Following::silent_trans, decl_typing::proofs::Following::ends_both, decl_typing::proofs::Following::ends_behind, decl_typing::proofs::Following::ends_before, decl_typing::proofs::Following::ends_silent), unfolding(syntax_tree::specs::Names::kind_of))]
+
+ghost use Rattle.std.specs.Prelude.{OnOk, option_map};
+ghost use Rattle.syntax_tree.specs.Names.{kind_of};
+ghost use Rattle.syntax_tree.specs.View.{tok_of};
 ghost use Rattle.decl_typing.specs.Goes.{Goes};
+ghost use Rattle.decl_typing.specs.Steps.{Follows};
+ghost use Rattle.core_typing.specs.PatternSteps.{range_steps};
 
 use decl_typing::{NoMemory, NodeRef, Parts};
 use syntax_tree::{Token, TokenKind};
@@ -62,6 +69,7 @@ pub fn in_range(digits: &[u8], sign: Sign) -> bool {
 
 /// The type of a constant, with its demand `range`; a missing one may have any type.
 pub fn constant(at: &mut Parts, token: Option<&Token>, sign: Sign) -> Result<NodeRef, NoMemory>
+    ensures follows { OnOk result (Follows (range_steps (option_map (λ t. tok_of t.now) token.entry)) at.old at.new) }
     ensures goes { Goes at.old at.new }
 {
     let Some(token) = token else {

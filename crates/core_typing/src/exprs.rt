@@ -1,21 +1,21 @@
-//! The walk over expressions.
+//! The walk over expressions: each row types its parts in order, with its demands between and behind them.
 ghost use Rattle.std.specs.Prelude.{OnOk};
 ghost use Rattle.decl_typing.specs.Goes.{Goes};
 ghost use Rattle.decl_typing.specs.Notes.{IsRecorded};
 
-use crate::apply::{Application, constructor_path};
-use crate::bindings::LetIn;
-use crate::cases::Cases;
+use crate::apply::{application, constructor_path, minus, operation};
+use crate::bindings::let_in;
+use crate::cases::{function_of_cases, match_of};
 use crate::constants::{Sign, constant};
-use crate::functions::Function;
-use crate::plain::Plain;
-use crate::records::RecordRow;
-use crate::rows::{Row, unnamed};
+use crate::functions::function;
+use crate::plain::{parenthesised, plain};
+use crate::records::record;
+use crate::rows::{equal_if, unnamed};
 use crate::uses::{Used, constructor, value};
 use crate::values::is_constructor;
 use decl_typing::{Depth, Env, NoMemory, NodeRef, Parts};
-use row_parts::{Operand, operand_in, operands_of, token, written_path};
-use syntax_tree::{Node, RcStr, RowName, Token, TokenKind};
+use row_parts::{Operand, token, written_path};
+use syntax_tree::{Node, RowName};
 
 /// Types an expression, or a missing one. It is recorded.
 pub fn type_expr(
@@ -32,7 +32,7 @@ pub fn type_expr(
 
 /// Types an expression behind what stands directly in front of it.
 #[cycle(exprs)]
-fn type_under(
+pub fn type_under(
     at: &mut Parts,
     e: Operand<'_>,
     sign: Sign,
@@ -47,68 +47,71 @@ fn type_under(
         at.note_type(e.number, env, ty)?;
         return Ok(ty);
     };
-    let mut row = begin(at, node, e.number, sign, env, depth)?;
-    type_parts(at, &mut row, node.size, depth)?;
-    concluded(at, row, e.number, env, depth)
-}
-
-/// Types the parts of a row in order, of which there are so many at most.
-#[cycle(exprs)]
-fn type_parts(at: &mut Parts, row: &mut Row<'_>, most: u32, depth: Depth) -> Result<(), NoMemory>
-    ensures goes { Goes at.old at.new }
-{
-    for _ in 0..most {
-        let Some(next) = row.next(at, depth)? else {
-            return Ok(());
-        };
-        let ty = type_under(at, next.part, next.sign, &next.env, depth.inside()?)?;
-        row.take(at, ty, depth)?;
-    }
-    Ok(())
-}
-
-/// Records a row whose parts are typed: its type.
-fn concluded(
-    at: &mut Parts,
-    row: Row<'_>,
-    number: u32,
-    env: &Env,
-    depth: Depth,
-) -> Result<NodeRef, NoMemory>
-    ensures recorded { OnOk result (IsRecorded at.new number) }
-    ensures goes { Goes at.old at.new }
-{
-    let used = row.finish(at, depth)?;
-    at.note(number, env, Some(used.ty), used.names)?;
+    let used = typed_row(at, node, e.number, sign, env, depth)?;
+    at.note(e.number, env, Some(used.ty), used.names)?;
     Ok(used.ty)
 }
 
-/// The machine of a row.
-fn begin<'a>(
+/// The type of a row, and what its own names stand for.
+#[cycle(exprs)]
+fn typed_row(
     at: &mut Parts,
-    node: &'a Node,
+    node: &Node,
     number: u32,
     sign: Sign,
     env: &Env,
     depth: Depth,
-) -> Result<Row<'a>, NoMemory>
+) -> Result<Used, NoMemory>
     ensures goes { Goes at.old at.new }
 {
     match node.row {
         RowName::Name | RowName::Econ | RowName::Epath | RowName::Econst | RowName::Hole => {
-            Ok(Row::Done(leaf(at, node, number, sign, env)?))
+            leaf(at, node, number, sign, env)
         }
-        RowName::Eapp => Ok(Row::Application(Application::new(at, node, number, env)?)),
-        RowName::Prefix | RowName::Infix => operator(at, node, number, env),
-        RowName::Eneg => minus(at, node, number, env),
-        RowName::Erecord => Ok(Row::Record(RecordRow::new(at, node, number, env)?)),
-        RowName::Elet => Ok(Row::LetIn(LetIn::new(at, node, number, env, depth)?)),
-        RowName::Ematch | RowName::Etry | RowName::Efunction => {
-            Ok(Row::Cases(Cases::new(at, node, number, env)?))
-        }
-        RowName::Efun => Ok(Row::Function(Function::new(at, node, number, env, depth)?)),
-        _ => Ok(Row::Plain(Plain::new(at, node, number, env)?)),
+        RowName::Eapp => application(at, node, number, env, depth),
+        RowName::Prefix | RowName::Infix => operation(at, node, number, env, depth),
+        RowName::Eneg => minus(at, node, number, env, depth),
+        RowName::Erecord => record(at, node, number, env, depth),
+        RowName::Elet => let_in(at, node, number, env, depth),
+        RowName::Ematch | RowName::Etry => match_of(at, node, number, env, depth),
+        RowName::Efunction => function_of_cases(at, node, number, env, depth),
+        RowName::Efun => function(at, node, number, env, depth),
+        RowName::Eparen => parenthesised(at, node, number, env, depth),
+        _ => plain(at, node, number, env, depth),
     }
+}
+
+/// Types expressions, of which nothing is asked.
+#[cycle(exprs)]
+pub fn type_each(
+    at: &mut Parts,
+    es: &[Operand<'_>],
+    env: &Env,
+    depth: Depth,
+) -> Result<(), NoMemory>
+    ensures goes { Goes at.old at.new }
+{
+    for e in es {
+        type_under(at, *e, Sign::None, env, depth.inside()?)?;
+    }
+    Ok(())
+}
+
+/// Types an expression in a scope, and asks that it has the wanted type, where one is wanted. A fault shows the names of `env`.
+#[cycle(exprs)]
+pub fn typed_as(
+    at: &mut Parts,
+    e: Operand<'_>,
+    wanted: Option<NodeRef>,
+    scope: &Env,
+    env: &Env,
+    depth: Depth,
+) -> Result<NodeRef, NoMemory>
+    ensures goes { Goes at.old at.new }
+{
+    let ty = type_under(at, e, Sign::None, scope, depth.inside()?)?;
+    equal_if(at, e.span, ty, wanted, env)?;
+    Ok(ty)
 }
 
 /// A row without parts.
@@ -141,57 +144,4 @@ fn leaf(at: &mut Parts, node: &Node, number: u32, sign: Sign, env: &Env) -> Resu
             Ok(unnamed(at, ty))
         }
     }
-}
-
-/// ! e, e + e
-fn operator<'a>(at: &mut Parts, node: &'a Node, number: u32, env: &Env) -> Result<Row<'a>, NoMemory>
-    ensures goes { Goes at.old at.new }
-{
-    let sign = match node.row {
-        RowName::Prefix => token(node, 0),
-        _ => token(node, 1),
-    };
-    let sign = match sign {
-        Some(sign) => Some((sign, sign.name.share()?)),
-        None => None,
-    };
-    let arguments = operands_of(at.alloc(), node, number)?;
-    let row = Application::operator(at, sign, Sign::None, arguments, env)?;
-    Ok(Row::Application(row))
-}
-
-/// A constant that stands directly under a sign.
-fn constant_under(e: Operand<'_>) -> Option<&Token> {
-    match e.node {
-        Some(node) if node.row == RowName::Econst => token(node, 0),
-        _ => None,
-    }
-}
-
-/// - e, -. e: over a numeral with a point its type is float, and elsewhere it is ~- or ~-. with its argument
-fn minus<'a>(at: &mut Parts, node: &'a Node, number: u32, env: &Env) -> Result<Row<'a>, NoMemory>
-    ensures goes { Goes at.old at.new }
-{
-    let part = operand_in(node, number, 1);
-    if let Some(literal) = constant_under(part) {
-        if literal.kind == TokenKind::Float {
-            let float = at.constants.float;
-            at.note_type(part.number, env, float)?;
-            return Ok(Row::Done(unnamed(at, float)));
-        }
-    }
-    let (operator, sign) = match token(node, 0) {
-        Some(sign) if sign.name.is("-.") => (
-            Some((sign, RcStr::from_str(at.alloc(), "~-.")?)),
-            Sign::None,
-        ),
-        Some(sign) => (
-            Some((sign, RcStr::from_str(at.alloc(), "~-")?)),
-            Sign::Minus,
-        ),
-        None => (None, Sign::None),
-    };
-    let arguments = operands_of(at.alloc(), node, number)?;
-    let row = Application::operator(at, operator, sign, arguments, env)?;
-    Ok(Row::Application(row))
 }

@@ -1,8 +1,10 @@
 //! fun p p -> e
 ghost use Rattle.decl_typing.specs.Goes.{Goes};
 
+use crate::constants::Sign;
+use crate::exprs::type_under;
 use crate::patterns::{BoundName, Matched, type_pattern};
-use crate::rows::{Next, next_of, type_or_var, unnamed};
+use crate::rows::unnamed;
 use crate::uses::Used;
 use crate::warnings::report_pattern;
 use decl_typing::{Depth, Env, NoMemory, NodeRef, Parts, share_entry};
@@ -11,13 +13,23 @@ use row_parts::{Operand, operand_in, operands};
 use std::alloc::Global;
 use syntax_tree::Node;
 
-/// A function with its parameters typed.
-#[derive(Drop)]
-pub struct Function<'a> {
-    env: Env,
-    body: Operand<'a>,
-    parameters: Vec<NodeRef>,
-    ty: Option<NodeRef>,
+/// fun p p -> e
+#[cycle(exprs)]
+pub fn function(
+    at: &mut Parts,
+    node: &Node,
+    number: u32,
+    env: &Env,
+    depth: Depth,
+) -> Result<Used, NoMemory>
+    ensures goes { Goes at.old at.new }
+{
+    let parameters = operands(at.alloc(), node, number, 1)?;
+    let (types, inner) = type_parameters(at, &parameters, env, depth)?;
+    let body = operand_in(node, number, 3);
+    let to = type_under(at, body, Sign::None, &inner, depth.inside()?)?;
+    let ty = arrows(at, &types, to)?;
+    Ok(unnamed(at, ty))
 }
 
 /// Types parameters, each a pattern of its own: their types, and the environment with their names.
@@ -76,45 +88,4 @@ pub fn arrows(at: &mut Parts, parameters: &[NodeRef], to: NodeRef) -> Result<Nod
         ty = at.arrow(*parameter, ty)?;
     }
     Ok(ty)
-}
-
-impl<'a> Function<'a> {
-    pub fn new(
-        at: &mut Parts,
-        node: &'a Node,
-        number: u32,
-        env: &Env,
-        depth: Depth,
-    ) -> Result<Function<'a>, NoMemory>
-        ensures goes { Goes at.old at.new }
-    {
-        let parameters = operands(at.alloc(), node, number, 1)?;
-        let (parameters, inner) = type_parameters(at, &parameters, env, depth)?;
-        Ok(Function {
-            env: inner,
-            body: operand_in(node, number, 3),
-            parameters,
-            ty: None,
-        })
-    }
-
-    pub fn next(&mut self) -> Result<Option<Next<'a>>, NoMemory> {
-        match self.ty {
-            Some(_) => Ok(None),
-            None => next_of(Some(&self.body), &self.env),
-        }
-    }
-
-    pub fn take(&mut self, ty: NodeRef) -> Result<(), NoMemory> {
-        self.ty = Some(ty);
-        Ok(())
-    }
-
-    pub fn finish(self, at: &mut Parts) -> Result<Used, NoMemory>
-        ensures goes { Goes at.old at.new }
-    {
-        let body = type_or_var(at, self.ty)?;
-        let ty = arrows(at, &self.parameters, body)?;
-        Ok(unnamed(at, ty))
-    }
 }

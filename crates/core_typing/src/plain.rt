@@ -1,271 +1,125 @@
 //! Rows whose parts are typed one after the other, with demands between and behind them.
 ghost use Rattle.decl_typing.specs.Goes.{Goes};
 
-use crate::rows::{Next, next_of, type_or_var};
-use crate::uses::{LabelUse, Names, Used, field_label};
+use crate::constants::Sign;
+use crate::exprs::type_under;
+use crate::rows::{type_or_var, unnamed};
+use crate::uses::{Names, Used, field_label, label_of};
 use crate::values::is_false;
-use decl_typing::{Depth, Env, NoMemory, NodeRef, Parts, Variables, new_entry};
-use env_table::{Kind, What};
+use decl_typing::{Depth, Env, NoMemory, NodeRef, Parts, Variables, new_entry, path_of};
+use env_table::{Found, Kind, What};
 use owned_lists::push;
-use row_parts::{Operand, first_operand, operand_in, operands_of, token, written_path};
-use syntax_tree::{Node, RowName};
+use row_parts::{
+    Operand, WrittenPath, first_operand, operand_in, operands_of, token, written_path,
+};
+use syntax_tree::{Node, RowName, Token};
 
-/// A row with its parts, as far as they are typed.
-#[derive(Drop)]
-pub struct Plain<'a> {
-    node: &'a Node,
+/// A row whose parts are typed in order.
+#[cycle(exprs)]
+pub fn plain(
+    at: &mut Parts,
+    node: &Node,
     number: u32,
+    env: &Env,
+    depth: Depth,
+) -> Result<Used, NoMemory>
+    ensures goes { Goes at.old at.new }
+{
+    let parts = operands_of(at.alloc(), node, number)?;
+    let scope = last_scope(at, node, env)?;
+    let types = type_parts(at, node.row, &parts, env, &scope.env, depth)?;
+    behind_parts(at, node, &parts, &types, scope.names, env)
+}
+
+/// The environment of the third part of a row, and what the row's own names stand for.
+#[derive(Drop)]
+struct Scope {
     env: Env,
-    parts: Vec<Operand<'a>>,
-    types: Vec<NodeRef>,
     names: Names,
 }
 
-impl<'a> Plain<'a> {
-    pub fn new(
-        at: &mut Parts,
-        node: &'a Node,
-        number: u32,
-        env: &Env,
-    ) -> Result<Plain<'a>, NoMemory>
-        ensures goes { Goes at.old at.new }
-    {
-        let parts = match node.row {
-            RowName::Eparen => {
-                let mut parts = Vec::new(at.alloc());
-                push(&mut parts, operand_in(node, number, 1))?;
-                parts
-            }
-            _ => operands_of(at.alloc(), node, number)?,
-        };
-        Ok(Plain {
-            node,
-            number,
+/// In the body of a `for` its variable stands; elsewhere all parts have the environment of the row.
+fn last_scope(at: &Parts, node: &Node, env: &Env) -> Result<Scope, NoMemory> {
+    match (node.row, token(node, 1)) {
+        (RowName::Efor, Some(name)) => scope_in_loop(at, name, env),
+        _ => Ok(Scope {
             env: env.share()?,
-            parts,
-            types: Vec::new(at.alloc()),
             names: Vec::new(at.alloc()),
-        })
-    }
-
-    pub fn next(&mut self, at: &mut Parts) -> Result<Option<Next<'a>>, NoMemory>
-        ensures goes { Goes at.old at.new }
-    {
-        let place = self.types.len();
-        if self.node.row == RowName::Efor && place == 2 {
-            return self.loop_body(at);
-        }
-        next_of(self.parts.get(place), &self.env)
-    }
-
-    /// The body of a `for`, in which its variable stands.
-    fn loop_body(&mut self, at: &mut Parts) -> Result<Option<Next<'a>>, NoMemory>
-        ensures goes { Goes at.old at.new }
-    {
-        let Some(name) = token(self.node, 1) else {
-            return next_of(self.parts.get(2), &self.env);
-        };
-        let what = What::Scheme(at.constants.int);
-        let place = at.place(name.span);
-        let entry = new_entry(at.alloc(), name.name.share()?, Kind::Value, place, what)?;
-        self.names = at.one_name(Some(&entry))?;
-        let inner = self.env.add(at.alloc(), entry)?;
-        next_of(self.parts.get(2), &inner)
-    }
-
-    pub fn take(&mut self, at: &mut Parts, ty: NodeRef) -> Result<(), NoMemory>
-        ensures goes { Goes at.old at.new }
-    {
-        let place = self.types.len();
-        push(&mut self.types, ty)?;
-        let Some(part) = self.parts.get(place) else {
-            return Ok(());
-        };
-        match wanted_of(self.node.row, place, *part) {
-            Wanted::Nothing => Ok(()),
-            Wanted::Mutable => ask_mutable(at, *part, &self.env),
-            Wanted::Bool => {
-                let bool = at.constants.bool;
-                at.equal(part.span, ty, bool, &self.env)?;
-                Ok(())
-            }
-            Wanted::Int => {
-                let int = at.constants.int;
-                at.equal(part.span, ty, int, &self.env)?;
-                Ok(())
-            }
-        }
-    }
-
-    /// The demand that a part behind the first one has a type.
-    fn has(&self, at: &mut Parts, place: usize, wanted: NodeRef) -> Result<(), NoMemory>
-        ensures goes { Goes at.old at.new }
-    {
-        if let (Some(part), Some(ty)) = (self.parts.get(place), self.types.get(place)) {
-            at.equal(part.span, *ty, wanted, &self.env)?;
-        }
-        Ok(())
-    }
-
-    pub fn finish(self, at: &mut Parts, depth: Depth) -> Result<Used, NoMemory>
-        ensures goes { Goes at.old at.new }
-    {
-        match self.node.row {
-            RowName::Field => self.field(at),
-            RowName::Eset => {
-                let ty = self.set(at)?;
-                self.used(ty)
-            }
-            _ => {
-                let ty = self.type_of(at, depth)?;
-                self.used(ty)
-            }
-        }
-    }
-
-    fn used(self, ty: NodeRef) -> Result<Used, NoMemory> {
-        Ok(Used {
-            ty,
-            names: self.names,
-        })
-    }
-
-    /// The type of a row that has no name of its own.
-    fn type_of(&self, at: &mut Parts, depth: Depth) -> Result<NodeRef, NoMemory>
-        ensures goes { Goes at.old at.new }
-    {
-        match self.node.row {
-            RowName::Eparen => self.parenthesised(at, depth),
-            RowName::Ebegin => match self.types.first() {
-                Some(ty) => Ok(*ty),
-                None => Ok(at.constants.unit),
-            },
-            RowName::Elist => self.list(at),
-            RowName::Econs => self.cons(at),
-            RowName::Etuple => at.tuple(&self.types),
-            RowName::Eseq => match self.types.last() {
-                Some(ty) => Ok(*ty),
-                None => at.var(),
-            },
-            RowName::Eif => self.branches(at),
-            RowName::Eassert => match self.parts.first() {
-                Some(part) if is_false(*part) => at.var(),
-                _ => Ok(at.constants.unit),
-            },
-            RowName::Ewhile | RowName::Efor => Ok(at.constants.unit),
-            _ => at.var(),
-        }
-    }
-
-    /// ( e ), ( e : t ): the part has the written type
-    fn parenthesised(&self, at: &mut Parts, depth: Depth) -> Result<NodeRef, NoMemory>
-        ensures goes { Goes at.old at.new }
-    {
-        match first_operand(self.node, self.number, 3) {
-            Some(written) => {
-                let wanted = at.read_type(written, &self.env, &Variables::OfItem, depth)?;
-                self.has(at, 0, wanted)?;
-                Ok(wanted)
-            }
-            None => match self.types.first() {
-                Some(ty) => Ok(*ty),
-                None => at.var(),
-            },
-        }
-    }
-
-    /// [ e; e ]: each part behind the first has its type
-    fn list(&self, at: &mut Parts) -> Result<NodeRef, NoMemory>
-        ensures goes { Goes at.old at.new }
-    {
-        let element = type_or_var(at, self.types.first().copied())?;
-        for place in 1..self.types.len() {
-            self.has(at, place, element)?;
-        }
-        at.list(element)
-    }
-
-    /// e :: e: the right part is a list of the left
-    fn cons(&self, at: &mut Parts) -> Result<NodeRef, NoMemory>
-        ensures goes { Goes at.old at.new }
-    {
-        match self.types.first() {
-            Some(left) => {
-                let whole = at.list(*left)?;
-                self.has(at, 1, whole)?;
-                Ok(whole)
-            }
-            None => at.var(),
-        }
-    }
-
-    /// if e then e else e; without `else` the part is a unit
-    fn branches(&self, at: &mut Parts) -> Result<NodeRef, NoMemory>
-        ensures goes { Goes at.old at.new }
-    {
-        let Some(yes) = self.types.get(1) else {
-            return at.var();
-        };
-        if self.types.len() > 2 {
-            self.has(at, 2, *yes)?;
-            Ok(*yes)
-        } else {
-            let unit = at.constants.unit;
-            self.has(at, 1, unit)?;
-            Ok(unit)
-        }
-    }
-
-    /// e . l: `bound` of the label; the left part is the record; the field
-    fn field(self, at: &mut Parts) -> Result<Used, NoMemory>
-        ensures goes { Goes at.old at.new }
-    {
-        let path = written_path(at.alloc(), self.node, 2, 3)?;
-        let (found, names) = field_label(at, &self.env, &path)?;
-        match found {
-            Some(label) => {
-                self.has(at, 0, label.record)?;
-                Ok(Used {
-                    ty: label.field,
-                    names,
-                })
-            }
-            None => Ok(Used {
-                ty: at.var()?,
-                names,
-            }),
-        }
-    }
-
-    /// e . l <- e: `mutable`; the right part is the field
-    fn set(&self, at: &mut Parts) -> Result<NodeRef, NoMemory>
-        ensures goes { Goes at.old at.new }
-    {
-        if let Some(ty) = self.types.first() {
-            self.has(at, 1, *ty)?;
-        }
-        Ok(at.constants.unit)
+        }),
     }
 }
 
-/// What is asked of a part as soon as it is typed.
-#[derive(Clone, Copy, Debug, PartialEq, Eq)]
-enum Wanted {
-    Nothing,
-    Bool,
-    Int,
-    /// That the label of the field is mutable.
-    Mutable,
+/// The environment with the variable of a `for`, an int.
+fn scope_in_loop(at: &Parts, name: &Token, env: &Env) -> Result<Scope, NoMemory> {
+    let what = What::Scheme(at.constants.int);
+    let place = at.place(name.span);
+    let entry = new_entry(at.alloc(), name.name.share()?, Kind::Value, place, what)?;
+    let names = at.one_name(Some(&entry))?;
+    Ok(Scope {
+        env: env.add(at.alloc(), entry)?,
+        names,
+    })
 }
 
-fn wanted_of(row: RowName, place: usize, part: Operand<'_>) -> Wanted {
+/// The types of the parts of a row, each with what is asked of it as soon as it is typed. The third one is typed in `inner`.
+#[cycle(exprs)]
+fn type_parts(
+    at: &mut Parts,
+    row: RowName,
+    parts: &[Operand<'_>],
+    env: &Env,
+    inner: &Env,
+    depth: Depth,
+) -> Result<Vec<NodeRef>, NoMemory>
+    ensures goes { Goes at.old at.new }
+{
+    let mut types = Vec::new(at.alloc());
+    for part in parts {
+        let place = types.len();
+        let scope = if place == 2 { inner } else { env };
+        let ty = type_under(at, *part, Sign::None, scope, depth.inside()?)?;
+        behind_part(at, row, place, *part, ty, env)?;
+        push(&mut types, ty)?;
+    }
+    Ok(types)
+}
+
+/// What is asked of a part of a row as soon as it is typed, by its place among the parts.
+fn behind_part(
+    at: &mut Parts,
+    row: RowName,
+    place: usize,
+    part: Operand<'_>,
+    ty: NodeRef,
+    env: &Env,
+) -> Result<(), NoMemory>
+    ensures goes { Goes at.old at.new }
+{
     match (row, place) {
-        (RowName::Eif | RowName::Ewhile, 0) => Wanted::Bool,
-        (RowName::Efor, 0 | 1) => Wanted::Int,
-        (RowName::Eset, 0) => Wanted::Mutable,
-        (RowName::Eassert, 0) if !is_false(part) => Wanted::Bool,
-        _ => Wanted::Nothing,
+        (RowName::Eif | RowName::Ewhile, 0) => ask_bool(at, part, ty, env),
+        (RowName::Eassert, 0) if !is_false(part) => ask_bool(at, part, ty, env),
+        (RowName::Efor, 0 | 1) => ask_int(at, part, ty, env),
+        (RowName::Eset, 0) => ask_mutable(at, part, env),
+        _ => Ok(()),
     }
+}
+
+/// The demand that a part is a bool.
+fn ask_bool(at: &mut Parts, part: Operand<'_>, ty: NodeRef, env: &Env) -> Result<(), NoMemory>
+    ensures goes { Goes at.old at.new }
+{
+    let bool = at.constants.bool;
+    at.equal(part.span, ty, bool, env)?;
+    Ok(())
+}
+
+/// The demand that a part is an int.
+fn ask_int(at: &mut Parts, part: Operand<'_>, ty: NodeRef, env: &Env) -> Result<(), NoMemory>
+    ensures goes { Goes at.old at.new }
+{
+    let int = at.constants.int;
+    at.equal(part.span, ty, int, env)?;
+    Ok(())
 }
 
 /// `mutable` of the label of a field that is set, where it is found.
@@ -279,27 +133,227 @@ fn ask_mutable(at: &mut Parts, field: Operand<'_>, env: &Env) -> Result<(), NoMe
         return Ok(());
     }
     let path = written_path(at.alloc(), node, 2, 3)?;
-    let label = quiet_label(at, env, &path)?;
-    match (path.last, label) {
-        (Some(last), Some(label)) if !label.is_mutable => {
-            at.not_mutable(last.span, last.name.as_str())
-        }
-        _ => Ok(()),
+    let Some(last) = path.last else {
+        return Ok(());
+    };
+    if is_fixed(at, env, &path, last)? {
+        return at.not_mutable(last.span, last.name.as_str());
+    }
+    Ok(())
+}
+
+/// Whether a path finds a label that isn't mutable.
+fn is_fixed(at: &Parts, env: &Env, path: &WrittenPath<'_>, last: &Token) -> Result<bool, NoMemory> {
+    let path = path_of(at.alloc(), path, last)?;
+    match env.lookup(&path, Kind::Label) {
+        Found::Entry(entry) => match label_of(entry) {
+            Some(label) => Ok(!label.is_mutable),
+            None => Ok(false),
+        },
+        _ => Ok(false),
     }
 }
 
-/// The label that a path finds, with no demand.
-fn quiet_label(
+/// What is asked behind all parts of a row: its type and its names.
+fn behind_parts(
     at: &mut Parts,
+    node: &Node,
+    parts: &[Operand<'_>],
+    types: &[NodeRef],
+    names: Names,
     env: &Env,
-    path: &row_parts::WrittenPath<'_>,
-) -> Result<Option<LabelUse>, NoMemory>
+) -> Result<Used, NoMemory>
     ensures goes { Goes at.old at.new }
 {
-    let telling = at.telling;
-    at.telling = decl_typing::Telling::Quiet;
-    let found = field_label(at, env, path);
-    at.telling = telling;
-    let (found, _) = found?;
-    Ok(found)
+    match node.row {
+        RowName::Field => field(at, node, parts, types, env),
+        _ => {
+            let ty = type_of(at, node.row, parts, types, env)?;
+            Ok(Used { ty, names })
+        }
+    }
+}
+
+/// The type of a row that has no path of its own.
+fn type_of(
+    at: &mut Parts,
+    row: RowName,
+    parts: &[Operand<'_>],
+    types: &[NodeRef],
+    env: &Env,
+) -> Result<NodeRef, NoMemory>
+    ensures goes { Goes at.old at.new }
+{
+    match row {
+        RowName::Ebegin => match types.first() {
+            Some(ty) => Ok(*ty),
+            None => Ok(at.constants.unit),
+        },
+        RowName::Elist => list(at, parts, types, env),
+        RowName::Econs => cons(at, parts, types, env),
+        RowName::Etuple => at.tuple(types),
+        RowName::Eseq => type_or_var(at, types.last().copied()),
+        RowName::Eset => set(at, parts, types, env),
+        RowName::Eif => branches(at, parts, types, env),
+        RowName::Eassert => match parts.first() {
+            Some(part) if is_false(*part) => at.var(),
+            _ => Ok(at.constants.unit),
+        },
+        RowName::Ewhile | RowName::Efor => Ok(at.constants.unit),
+        _ => at.var(),
+    }
+}
+
+/// The demand that the part at a place has a type.
+fn has(
+    at: &mut Parts,
+    parts: &[Operand<'_>],
+    types: &[NodeRef],
+    place: usize,
+    wanted: NodeRef,
+    env: &Env,
+) -> Result<(), NoMemory>
+    ensures goes { Goes at.old at.new }
+{
+    if let (Some(part), Some(ty)) = (parts.get(place), types.get(place)) {
+        at.equal(part.span, *ty, wanted, env)?;
+    }
+    Ok(())
+}
+
+/// [ e; e ]: each part behind the first has its type
+fn list(
+    at: &mut Parts,
+    parts: &[Operand<'_>],
+    types: &[NodeRef],
+    env: &Env,
+) -> Result<NodeRef, NoMemory>
+    ensures goes { Goes at.old at.new }
+{
+    let element = type_or_var(at, types.first().copied())?;
+    for (ty, part) in types.iter().zip(parts.iter()).skip(1) {
+        at.equal(part.span, *ty, element, env)?;
+    }
+    at.list(element)
+}
+
+/// e :: e: the right part is a list of the left
+fn cons(
+    at: &mut Parts,
+    parts: &[Operand<'_>],
+    types: &[NodeRef],
+    env: &Env,
+) -> Result<NodeRef, NoMemory>
+    ensures goes { Goes at.old at.new }
+{
+    match types.first() {
+        Some(left) => {
+            let whole = at.list(*left)?;
+            has(at, parts, types, 1, whole, env)?;
+            Ok(whole)
+        }
+        None => at.var(),
+    }
+}
+
+/// if e then e else e; without `else` the part is a unit
+fn branches(
+    at: &mut Parts,
+    parts: &[Operand<'_>],
+    types: &[NodeRef],
+    env: &Env,
+) -> Result<NodeRef, NoMemory>
+    ensures goes { Goes at.old at.new }
+{
+    let Some(yes) = types.get(1) else {
+        return at.var();
+    };
+    if types.len() > 2 {
+        has(at, parts, types, 2, *yes, env)?;
+        Ok(*yes)
+    } else {
+        let unit = at.constants.unit;
+        has(at, parts, types, 1, unit, env)?;
+        Ok(unit)
+    }
+}
+
+/// e . l <- e: the right part is the field
+fn set(
+    at: &mut Parts,
+    parts: &[Operand<'_>],
+    types: &[NodeRef],
+    env: &Env,
+) -> Result<NodeRef, NoMemory>
+    ensures goes { Goes at.old at.new }
+{
+    if let Some(ty) = types.first() {
+        has(at, parts, types, 1, *ty, env)?;
+    }
+    Ok(at.constants.unit)
+}
+
+/// e . l: `bound` of the label; the left part is the record; the field
+fn field(
+    at: &mut Parts,
+    node: &Node,
+    parts: &[Operand<'_>],
+    types: &[NodeRef],
+    env: &Env,
+) -> Result<Used, NoMemory>
+    ensures goes { Goes at.old at.new }
+{
+    let path = written_path(at.alloc(), node, 2, 3)?;
+    let (found, names) = field_label(at, env, &path)?;
+    match found {
+        Some(label) => {
+            has(at, parts, types, 0, label.record, env)?;
+            Ok(Used {
+                ty: label.field,
+                names,
+            })
+        }
+        None => Ok(Used {
+            ty: at.var()?,
+            names,
+        }),
+    }
+}
+
+/// ( e ), ( e : t )
+#[cycle(exprs)]
+pub fn parenthesised(
+    at: &mut Parts,
+    node: &Node,
+    number: u32,
+    env: &Env,
+    depth: Depth,
+) -> Result<Used, NoMemory>
+    ensures goes { Goes at.old at.new }
+{
+    let part = operand_in(node, number, 1);
+    let ty = type_under(at, part, Sign::None, env, depth.inside()?)?;
+    let ty = as_written(at, first_operand(node, number, 3), part, ty, env, depth)?;
+    Ok(unnamed(at, ty))
+}
+
+/// The type that is written behind a part, which has it; without one the part's own.
+fn as_written(
+    at: &mut Parts,
+    written: Option<Operand<'_>>,
+    part: Operand<'_>,
+    ty: NodeRef,
+    env: &Env,
+    depth: Depth,
+) -> Result<NodeRef, NoMemory>
+    ensures goes { Goes at.old at.new }
+{
+    match written {
+        Some(written) => {
+            let wanted = at.read_type(written, env, &Variables::OfItem, depth)?;
+            at.equal(part.span, ty, wanted, env)?;
+            Ok(wanted)
+        }
+        None => Ok(ty),
+    }
 }

@@ -1,14 +1,16 @@
 //! Records: { l = e }, { e with l = e }
 ghost use Rattle.decl_typing.specs.Goes.{Goes};
 
+use crate::constants::Sign;
+use crate::exprs::{type_each, type_under, typed_as};
 use crate::patterns::field_names;
-use crate::rows::{Next, equal_if, next_of, type_or_var, unnamed};
+use crate::rows::{equal_if, type_or_var, unnamed};
 use crate::uses::{
     RecordType, Used, ask_new_label, field_type, labels_in, push_label, record_type, report_lost,
     report_unbound, value,
 };
 use crate::values::label_path;
-use decl_typing::{Env, NoMemory, NodeRef, Parts};
+use decl_typing::{Depth, Env, NoMemory, NodeRef, Parts};
 use env_table::Path;
 use owned_lists::push;
 use row_parts::{Operand, WrittenPath, first_operand, operand_in, operands, token, written_path};
@@ -22,41 +24,224 @@ struct Field<'a> {
     value: Option<Operand<'a>>,
 }
 
-/// Which part is typed next.
-#[derive(Clone, Copy, Debug, PartialEq, Eq)]
-enum Turn {
-    /// The first part, which is no label, or stands before `with`.
-    First,
-    /// The value behind a first part that is no label.
-    Loose,
-    Fields,
+/// The labels of fields so far.
+type Labels<'a> = Vec<&'a Token>;
+
+/// { l = e }, { e with l = e }: of a record that is made, a first part that is a path to a lower-case name is a label
+#[cycle(exprs)]
+pub fn record(
+    at: &mut Parts,
+    node: &Node,
+    number: u32,
+    env: &Env,
+    depth: Depth,
+) -> Result<Used, NoMemory>
+    ensures goes { Goes at.old at.new }
+{
+    let first = operand_in(node, number, 1);
+    if token(node, 4).is_some() {
+        return updated(at, node, number, first, env, depth);
+    }
+    match label_path(at, first)? {
+        Some(label) => {
+            let field = Field {
+                number: first.number,
+                label,
+                value: first_operand(node, number, 3),
+            };
+            made(at, node, number, field, env, depth)
+        }
+        None => loose(at, node, number, first, env, depth),
+    }
 }
 
-/// Whether a record is made of another.
-#[derive(Clone, Copy, Debug, PartialEq, Eq)]
-enum Making {
-    New,
-    Update,
+/// { l = e; l = e }: fields that are missing; the type by its labels; the fields; `complete`
+#[cycle(exprs)]
+fn made<'a>(
+    at: &mut Parts,
+    node: &'a Node,
+    number: u32,
+    first: Field<'a>,
+    env: &Env,
+    depth: Depth,
+) -> Result<Used, NoMemory>
+    ensures goes { Goes at.old at.new }
+{
+    let fields = fields_behind(at, node, number, first, env)?;
+    let found = record_of_fields(at, env, &fields)?;
+    typed_fields(at, &found, &fields, Some(node.span), env, depth)
 }
 
-/// A record, as far as its parts are typed.
-#[derive(Drop)]
-pub struct RecordRow<'a> {
-    env: Env,
+/// The same where the first part is no label: it is told, and typed before the type is looked for, and the value behind it is typed.
+#[cycle(exprs)]
+fn loose(
+    at: &mut Parts,
+    node: &Node,
+    number: u32,
+    first: Operand<'_>,
+    env: &Env,
+    depth: Depth,
+) -> Result<Used, NoMemory>
+    ensures goes { Goes at.old at.new }
+{
+    let fields = loose_fields(at, node, number, first, env)?;
+    let value = listed(at, first_operand(node, number, 3))?;
+    type_under(at, first, Sign::None, env, depth.inside()?)?;
+    let found = record_of_fields(at, env, &fields)?;
+    behind_loose(at, &found, &value, &fields, node.span, env, depth)
+}
+
+/// The value behind a first part that is no label, and the fields.
+#[cycle(exprs)]
+fn behind_loose(
+    at: &mut Parts,
+    found: &RecordType,
+    value: &[Operand<'_>],
+    fields: &[Field<'_>],
     span: Span,
-    making: Making,
-    first: Option<Operand<'a>>,
-    loose: Option<Operand<'a>>,
-    fields: Vec<Field<'a>>,
-    found: RecordType,
-    labels: Vec<&'a Token>,
-    done: usize,
-    /// The type that is asked of the field whose value is typed next.
-    wanted: Option<NodeRef>,
-    turn: Turn,
+    env: &Env,
+    depth: Depth,
+) -> Result<Used, NoMemory>
+    ensures goes { Goes at.old at.new }
+{
+    type_each(at, value, env, depth)?;
+    typed_fields(at, found, fields, Some(span), env, depth)
+}
+
+/// { e with l = e }: fields that are missing; the part, which is the record; the fields
+#[cycle(exprs)]
+fn updated(
+    at: &mut Parts,
+    node: &Node,
+    number: u32,
+    first: Operand<'_>,
+    env: &Env,
+    depth: Depth,
+) -> Result<Used, NoMemory>
+    ensures goes { Goes at.old at.new }
+{
+    let fields = fields_of(at, node, number, env)?;
+    let ty = type_under(at, first, Sign::None, env, depth.inside()?)?;
+    let found = record_of_part(at, first.span, ty, &fields, env)?;
+    typed_fields(at, &found, &fields, None, env, depth)
+}
+
+/// The fields of a record, and `complete` of one that is made at a place: its type.
+#[cycle(exprs)]
+fn typed_fields(
+    at: &mut Parts,
+    found: &RecordType,
+    fields: &[Field<'_>],
+    made_at: Option<Span>,
+    env: &Env,
+    depth: Depth,
+) -> Result<Used, NoMemory>
+    ensures goes { Goes at.old at.new }
+{
+    let labels = type_fields(at, found, fields, env, depth)?;
+    complete(at, found, &labels, made_at)
+}
+
+/// The values of fields in order, each of which is the field: the labels that are written.
+#[cycle(exprs)]
+fn type_fields<'a>(
+    at: &mut Parts,
+    found: &RecordType,
+    fields: &[Field<'a>],
+    env: &Env,
+    depth: Depth,
+) -> Result<Labels<'a>, NoMemory>
+    ensures goes { Goes at.old at.new }
+{
+    let mut labels = Vec::new(at.alloc());
+    for field in fields {
+        let wanted = begin_field(at, found, field, &mut labels, env)?;
+        if let Some(value) = field.value {
+            typed_as(at, value, wanted, env, env, depth)?;
+        }
+    }
+    Ok(labels)
+}
+
+/// One operand or none, as a list.
+fn listed<'a>(at: &Parts, operand: Option<Operand<'a>>) -> Result<Vec<Operand<'a>>, NoMemory> {
+    let mut list = Vec::new(at.alloc());
+    if let Some(operand) = operand {
+        push(&mut list, operand)?;
+    }
+    Ok(list)
+}
+
+/// The demand that the first part of a record that is made is a label, where it is there.
+fn ask_label(at: &mut Parts, first: Operand<'_>) -> Result<(), NoMemory>
+    ensures goes { Goes at.old at.new }
+{
+    match first.node {
+        Some(_) => at.no_label(first.span),
+        None => Ok(()),
+    }
+}
+
+/// The demand that a first part is a label, which it isn't, and the fields behind it.
+fn loose_fields<'a>(
+    at: &mut Parts,
+    node: &'a Node,
+    number: u32,
+    first: Operand<'_>,
+    env: &Env,
+) -> Result<Vec<Field<'a>>, NoMemory>
+    ensures goes { Goes at.old at.new }
+{
+    ask_label(at, first)?;
+    fields_of(at, node, number, env)
+}
+
+/// `bound` of the record type by the labels of its fields; the part before `with` has it.
+fn record_of_part(
+    at: &mut Parts,
+    span: Span,
+    ty: NodeRef,
+    fields: &[Field<'_>],
+    env: &Env,
+) -> Result<RecordType, NoMemory>
+    ensures goes { Goes at.old at.new }
+{
+    let found = record_of_fields(at, env, fields)?;
+    equal_if(at, span, ty, found.ty(), env)?;
+    Ok(found)
 }
 
 /// The fields behind the first part; one that is missing is recorded.
+fn fields_of<'a>(
+    at: &mut Parts,
+    node: &'a Node,
+    number: u32,
+    env: &Env,
+) -> Result<Vec<Field<'a>>, NoMemory>
+    ensures goes { Goes at.old at.new }
+{
+    let mut fields = Vec::new(at.alloc());
+    push_fields(at, node, number, env, &mut fields)?;
+    Ok(fields)
+}
+
+/// A first field and those behind it.
+fn fields_behind<'a>(
+    at: &mut Parts,
+    node: &'a Node,
+    number: u32,
+    first: Field<'a>,
+    env: &Env,
+) -> Result<Vec<Field<'a>>, NoMemory>
+    ensures goes { Goes at.old at.new }
+{
+    let mut fields = Vec::new(at.alloc());
+    push(&mut fields, first)?;
+    push_fields(at, node, number, env, &mut fields)?;
+    Ok(fields)
+}
+
+/// Puts the fields of slot 5 behind others; one that is missing is recorded.
 fn push_fields<'a>(
     at: &mut Parts,
     node: &'a Node,
@@ -84,245 +269,84 @@ fn field_of<'a>(at: &Parts, node: &'a Node, number: u32) -> Result<Field<'a>, No
     })
 }
 
-impl<'a> RecordRow<'a> {
-    pub fn new(
-        at: &mut Parts,
-        node: &'a Node,
-        number: u32,
-        env: &Env,
-    ) -> Result<RecordRow<'a>, NoMemory>
-        ensures goes { Goes at.old at.new }
-    {
-        let (making, loose) = match token(node, 4) {
-            Some(_) => (Making::Update, None),
-            None => (Making::New, first_operand(node, number, 3)),
-        };
-        let mut row = RecordRow {
-            env: env.share()?,
-            span: node.span,
-            making,
-            first: Some(operand_in(node, number, 1)),
-            loose,
-            fields: Vec::new(at.alloc()),
-            found: RecordType::Open,
-            labels: Vec::new(at.alloc()),
-            done: 0,
-            wanted: None,
-            turn: Turn::First,
-        };
-        row.first_field(at)?;
-        push_fields(at, node, number, env, &mut row.fields)?;
-        row.find_at_once(at)?;
-        Ok(row)
+/// `bound` of the record type by the labels of its fields.
+fn record_of_fields(at: &mut Parts, env: &Env, fields: &[Field<'_>]) -> Result<RecordType, NoMemory>
+    ensures goes { Goes at.old at.new }
+{
+    let labels = labels_of(at, fields)?;
+    match record_type(at, env, &labels)? {
+        Some(found) => Ok(found),
+        None => {
+            report_labels(at, env, fields)?;
+            Ok(RecordType::Open)
+        }
     }
+}
 
-    /// Finds the record type, where no part is to be typed before.
-    fn find_at_once(&mut self, at: &mut Parts) -> Result<(), NoMemory>
-        ensures goes { Goes at.old at.new }
-    {
-        if self.first.is_some() {
+fn labels_of(at: &Parts, fields: &[Field<'_>]) -> Result<Vec<Path>, NoMemory> {
+    let mut labels = Vec::new(at.alloc());
+    for field in fields {
+        push_label(at, &mut labels, &field.label)?;
+    }
+    Ok(labels)
+}
+
+/// No record type has the labels: told at the first qualifier that leads to no module, or else at the first written label.
+fn report_labels(at: &mut Parts, env: &Env, fields: &[Field<'_>]) -> Result<(), NoMemory>
+    ensures goes { Goes at.old at.new }
+{
+    for field in fields {
+        if report_lost(at, env, &field.label)? {
             return Ok(());
         }
-        self.find(at)
     }
+    report_first(at, fields)
+}
 
-    /// Of a record that is made, a first part that is a path to a lower-case name is a label; any other one that is there is
-    /// reported.
-    fn first_field(&mut self, at: &mut Parts) -> Result<(), NoMemory>
-        ensures goes { Goes at.old at.new }
-    {
-        let (Making::New, Some(first)) = (self.making, self.first) else {
+fn report_first(at: &mut Parts, fields: &[Field<'_>]) -> Result<(), NoMemory>
+    ensures goes { Goes at.old at.new }
+{
+    for field in fields {
+        if report_unbound(at, &field.label)? {
             return Ok(());
-        };
-        match label_path(at, first)? {
-            Some(label) => {
-                let field = Field {
-                    number: first.number,
-                    label,
-                    value: self.loose,
-                };
-                push(&mut self.fields, field)?;
-                self.first = None;
-                self.loose = None;
-                Ok(())
-            }
-            None => {
-                if first.node.is_some() {
-                    at.no_label(first.span)?;
-                }
-                Ok(())
-            }
         }
     }
+    Ok(())
+}
 
-    /// `bound` of the type by its labels.
-    fn find(&mut self, at: &mut Parts) -> Result<(), NoMemory>
-        ensures goes { Goes at.old at.new }
-    {
-        let labels = self.labels(at)?;
-        self.found = match record_type(at, &self.env, &labels)? {
-            Some(found) => found,
-            None => {
-                self.tell_labels(at)?;
-                RecordType::Open
-            }
-        };
-        self.turn = if self.loose.is_some() {
-            Turn::Loose
-        } else {
-            Turn::Fields
-        };
-        Ok(())
-    }
+/// Records a field and asks that its label is new where the record is found. The type of the field, where one is asked; a field
+/// without a value of its own has that of its label's name.
+fn begin_field<'a>(
+    at: &mut Parts,
+    found: &RecordType,
+    field: &Field<'a>,
+    labels: &mut Labels<'a>,
+    env: &Env,
+) -> Result<Option<NodeRef>, NoMemory>
+    ensures goes { Goes at.old at.new }
+{
+    ask_new_label(at, found, labels, field.label.last)?;
+    let wanted = field_type(at, found, field.label.last)?;
+    note_field(at, found, field, wanted, env)?;
+    Ok(wanted)
+}
 
-    fn labels(&self, at: &Parts) -> Result<Vec<Path>, NoMemory> {
-        let mut labels = Vec::new(at.alloc());
-        for field in &self.fields {
-            push_label(at, &mut labels, &field.label)?;
+/// Records a field; one without a value of its own behind the value of its label's name.
+fn note_field(
+    at: &mut Parts,
+    found: &RecordType,
+    field: &Field<'_>,
+    wanted: Option<NodeRef>,
+    env: &Env,
+) -> Result<(), NoMemory>
+    ensures goes { Goes at.old at.new }
+{
+    match field.value {
+        Some(_) => {
+            let names = field_names(at, env, found, &field.label)?;
+            at.note(field.number, env, None, names)
         }
-        Ok(labels)
-    }
-
-    /// No record type has the labels: told at the first qualifier that leads to no module, or else at the first written label.
-    fn tell_labels(&self, at: &mut Parts) -> Result<(), NoMemory>
-        ensures goes { Goes at.old at.new }
-    {
-        for field in &self.fields {
-            if report_lost(at, &self.env, &field.label)? {
-                return Ok(());
-            }
-        }
-        self.tell_first(at)
-    }
-
-    fn tell_first(&self, at: &mut Parts) -> Result<(), NoMemory>
-        ensures goes { Goes at.old at.new }
-    {
-        for field in &self.fields {
-            if report_unbound(at, &field.label)? {
-                return Ok(());
-            }
-        }
-        Ok(())
-    }
-
-    pub fn next(&mut self, at: &mut Parts) -> Result<Option<Next<'a>>, NoMemory>
-        ensures goes { Goes at.old at.new }
-    {
-        match self.turn {
-            Turn::First => next_of(self.first.as_ref(), &self.env),
-            Turn::Loose => next_of(self.loose.as_ref(), &self.env),
-            Turn::Fields => self.next_field(at),
-        }
-    }
-
-    /// Goes on to the next field with a value of its own; a field without one uses the value of its label's name.
-    fn next_field(&mut self, at: &mut Parts) -> Result<Option<Next<'a>>, NoMemory>
-        ensures goes { Goes at.old at.new }
-    {
-        for place in self.done..self.fields.len() {
-            let value = self.begin_field(at, place)?;
-            if value.is_some() {
-                return next_of(value.as_ref(), &self.env);
-            }
-            self.done = place.saturating_add(1);
-        }
-        Ok(None)
-    }
-
-    /// Records a field and asks that its label is new where the record is found. Its value, where it has one of its own.
-    fn begin_field(&mut self, at: &mut Parts, place: usize) -> Result<Option<Operand<'a>>, NoMemory>
-        ensures goes { Goes at.old at.new }
-    {
-        let Some(field) = self.fields.get(place) else {
-            return Ok(None);
-        };
-        ask_new_label(at, &self.found, &mut self.labels, field.label.last)?;
-        self.wanted = field_type(at, &self.found, field.label.last)?;
-        match field.value {
-            Some(value) => {
-                let names = field_names(at, &self.env, &self.found, &field.label)?;
-                at.note(field.number, &self.env, None, names)?;
-                Ok(Some(value))
-            }
-            None => {
-                pun(at, &self.env, field, self.wanted)?;
-                Ok(None)
-            }
-        }
-    }
-
-    pub fn take(&mut self, at: &mut Parts, ty: NodeRef) -> Result<(), NoMemory>
-        ensures goes { Goes at.old at.new }
-    {
-        match self.turn {
-            Turn::First => {
-                self.find(at)?;
-                self.updated(at, ty)
-            }
-            Turn::Loose => {
-                self.turn = Turn::Fields;
-                Ok(())
-            }
-            Turn::Fields => {
-                self.has_field(at, ty)?;
-                self.done = self.done.saturating_add(1);
-                Ok(())
-            }
-        }
-    }
-
-    /// The value of the present field is the field.
-    fn has_field(&self, at: &mut Parts, ty: NodeRef) -> Result<(), NoMemory>
-        ensures goes { Goes at.old at.new }
-    {
-        let value = match self.fields.get(self.done) {
-            Some(field) => field.value,
-            None => None,
-        };
-        match value {
-            Some(value) => equal_if(at, value.span, ty, self.wanted, &self.env),
-            None => Ok(()),
-        }
-    }
-
-    /// The part before `with` is the record.
-    fn updated(&self, at: &mut Parts, ty: NodeRef) -> Result<(), NoMemory>
-        ensures goes { Goes at.old at.new }
-    {
-        if self.making == Making::Update {
-            if let (RecordType::Known(_, wanted), Some(first)) = (&self.found, self.first) {
-                at.equal(first.span, ty, *wanted, &self.env)?;
-            }
-        }
-        Ok(())
-    }
-
-    /// `complete` of a record that is made: the first label of the declaration that isn't written.
-    fn complete(&self, at: &mut Parts) -> Result<(), NoMemory>
-        ensures goes { Goes at.old at.new }
-    {
-        let (RecordType::Known(declaration, _), Making::New) = (&self.found, self.making) else {
-            return Ok(());
-        };
-        for label in labels_in(declaration) {
-            let written = self
-                .labels
-                .iter()
-                .any(|other| other.name.is(label.name.as_str()));
-            if !written {
-                return at.incomplete(self.span, label.name.as_str());
-            }
-        }
-        Ok(())
-    }
-
-    pub fn finish(self, at: &mut Parts) -> Result<Used, NoMemory>
-        ensures goes { Goes at.old at.new }
-    {
-        self.complete(at)?;
-        let ty = type_or_var(at, self.found.ty())?;
-        Ok(unnamed(at, ty))
+        None => pun(at, env, field, wanted),
     }
 }
 
@@ -350,4 +374,54 @@ fn pun(
     };
     let names = at.seen_names(env, &field.label, entry)?;
     at.note(field.number, env, None, names)
+}
+
+/// `complete` of a record that is made at a place: the first label of the declaration that isn't written. The type of the record.
+fn complete(
+    at: &mut Parts,
+    found: &RecordType,
+    written: &[&Token],
+    made_at: Option<Span>,
+) -> Result<Used, NoMemory>
+    ensures goes { Goes at.old at.new }
+{
+    match made_at {
+        Some(span) => {
+            ask_complete(at, found, written, span)?;
+            type_of(at, found)
+        }
+        None => type_of(at, found),
+    }
+}
+
+/// The demand that all labels of a record type are written.
+fn ask_complete(
+    at: &mut Parts,
+    found: &RecordType,
+    written: &[&Token],
+    span: Span,
+) -> Result<(), NoMemory>
+    ensures goes { Goes at.old at.new }
+{
+    let RecordType::Known(declaration, _) = found else {
+        return Ok(());
+    };
+    for label in labels_in(declaration) {
+        if !is_written(written, label.name.as_str()) {
+            return at.incomplete(span, label.name.as_str());
+        }
+    }
+    Ok(())
+}
+
+fn is_written(written: &[&Token], label: &str) -> bool {
+    written.iter().any(|other| other.name.is(label))
+}
+
+/// The type of a record; any type where it isn't known.
+fn type_of(at: &mut Parts, found: &RecordType) -> Result<Used, NoMemory>
+    ensures goes { Goes at.old at.new }
+{
+    let ty = type_or_var(at, found.ty())?;
+    Ok(unnamed(at, ty))
 }

@@ -1,88 +1,19 @@
-//! A row of an expression as a machine: it gives its next part, takes the part's type, and tells its own type at the end.
+//! What rows of expressions have in common.
+#![tactic(auto, using(decl_typing::proofs::Going::goes_trans, decl_typing::proofs::Going::goes_refl, decl_typing::proofs::Following::follows_both, decl_typing::proofs::Following::follows_before, decl_typing::proofs::Following::follows_behind, decl_typing::proofs::Following::follows_silent, decl_typing::proofs::Following::store_silent, decl_typing::proofs::Following::silent_refl, decl_typing::proofs::Following::silent_trans, decl_typing::proofs::Following::ends_both, decl_typing::proofs::Following::ends_behind, decl_typing::proofs::Following::ends_before, decl_typing::proofs::Following::ends_silent))]
+
+ghost use Rattle.std.specs.Prelude.{[], ◌∷◌, OnOk};
+ghost use Rattle.syntax_tree.specs.View.{place_of};
+ghost use Rattle.env_table.specs.declared.faults.FaultKind.{FaultKind};
 ghost use Rattle.decl_typing.specs.Goes.{Goes};
+ghost use Rattle.decl_typing.specs.Steps.{Follows, Silent, asks};
 
-use crate::apply::Application;
-use crate::bindings::LetIn;
-use crate::cases::Cases;
-use crate::constants::Sign;
-use crate::functions::Function;
-use crate::plain::Plain;
-use crate::records::RecordRow;
 use crate::uses::{Names, Used};
-use decl_typing::{Depth, Env, NoMemory, NodeRef, Parts};
-use row_parts::Operand;
+use decl_typing::{Env, NoMemory, NodeRef, Parts};
 use syntax_tree::Span;
-
-/// A part of a row that is to be typed, with what stands directly in front of it and the names in scope there.
-#[derive(Drop)]
-pub struct Next<'a> {
-    pub part: Operand<'a>,
-    pub sign: Sign,
-    pub env: Env,
-}
-
-/// A row in progress.
-#[derive(Drop)]
-pub enum Row<'a> {
-    /// Nothing is left to be typed.
-    Done(Used),
-    Plain(Plain<'a>),
-    Application(Application<'a>),
-    Record(RecordRow<'a>),
-    Cases(Cases<'a>),
-    Function(Function<'a>),
-    LetIn(LetIn<'a>),
-}
-
-impl<'a> Row<'a> {
-    /// The next part, behind the demands that stand before it; None where all parts are typed.
-    pub fn next(&mut self, at: &mut Parts, depth: Depth) -> Result<Option<Next<'a>>, NoMemory>
-        ensures goes { Goes at.old at.new }
-    {
-        match self {
-            Row::Done(_) => Ok(None),
-            Row::Plain(row) => row.next(at),
-            Row::Application(row) => row.next(at),
-            Row::Record(row) => row.next(at),
-            Row::Cases(row) => row.next(at, depth),
-            Row::Function(row) => row.next(),
-            Row::LetIn(row) => row.next(at, depth),
-        }
-    }
-
-    /// Takes the type of the part that was given last, with the demands that stand behind it.
-    pub fn take(&mut self, at: &mut Parts, ty: NodeRef, depth: Depth) -> Result<(), NoMemory>
-        ensures goes { Goes at.old at.new }
-    {
-        match self {
-            Row::Done(_) => Ok(()),
-            Row::Plain(row) => row.take(at, ty),
-            Row::Application(row) => row.take(at, ty),
-            Row::Record(row) => row.take(at, ty),
-            Row::Cases(row) => row.take(at, ty),
-            Row::Function(row) => row.take(ty),
-            Row::LetIn(row) => row.take(at, ty, depth),
-        }
-    }
-
-    /// The type of the row, once all parts are typed, and what its own names stand for.
-    pub fn finish(self, at: &mut Parts, depth: Depth) -> Result<Used, NoMemory>
-        ensures goes { Goes at.old at.new }
-    {
-        match self {
-            Row::Done(used) => Ok(used),
-            Row::Plain(row) => row.finish(at, depth),
-            Row::Application(row) => row.finish(at),
-            Row::Record(row) => row.finish(at),
-            Row::Cases(row) => row.finish(at),
-            Row::Function(row) => row.finish(at),
-            Row::LetIn(row) => row.finish(at),
-        }
-    }
-}
 
 /// A type, or a new variable where there is none.
 pub fn type_or_var(at: &mut Parts, ty: Option<NodeRef>) -> Result<NodeRef, NoMemory>
+    ensures silent { Silent at.old at.new }
     ensures goes { Goes at.old at.new }
 {
     match ty {
@@ -99,6 +30,7 @@ pub fn equal_if(
     wanted: Option<NodeRef>,
     env: &Env,
 ) -> Result<(), NoMemory>
+    ensures follows { OnOk result (Follows (asks FaultKind.Equal (place_of span ∷ []) ∷ []) at.old at.new) }
     ensures goes { Goes at.old at.new }
 {
     if let Some(wanted) = wanted {
@@ -113,14 +45,11 @@ pub fn unnamed(at: &Parts, ty: NodeRef) -> Used {
     Used { ty, names }
 }
 
-/// The part at a place with the names in scope.
-pub fn next_of<'a>(part: Option<&Operand<'a>>, env: &Env) -> Result<Option<Next<'a>>, NoMemory> {
-    match part {
-        None => Ok(None),
-        Some(part) => Ok(Some(Next {
-            part: *part,
-            sign: Sign::None,
-            env: env.share()?,
-        })),
-    }
+/// Any type, without names.
+pub fn any_type(at: &mut Parts) -> Result<Used, NoMemory>
+    ensures silent { Silent at.old at.new }
+    ensures goes { Goes at.old at.new }
+{
+    let ty = at.var()?;
+    Ok(unnamed(at, ty))
 }

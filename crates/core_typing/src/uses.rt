@@ -1,5 +1,15 @@
 //! Uses of values, constructors, labels and record types.
+#![tactic(auto, using(decl_typing::proofs::Going::goes_trans, decl_typing::proofs::Going::goes_refl, decl_typing::proofs::Following::follows_both, decl_typing::proofs::Following::follows_before, decl_typing::proofs::Following::follows_behind, decl_typing::proofs::Following::follows_silent, decl_typing::proofs::Following::store_silent, decl_typing::proofs::Following::silent_refl, decl_typing::proofs::Following::silent_trans, decl_typing::proofs::Following::ends_both, decl_typing::proofs::Following::ends_behind, decl_typing::proofs::Following::ends_before, decl_typing::proofs::Following::ends_silent))]
+
+ghost use Rattle.std.specs.Prelude.{IfOk, OnOk, option_map};
+ghost use Rattle.syntax_tree.specs.View.{tok_of};
+ghost use Rattle.row_parts.specs.Numbered.{path_view};
+ghost use Rattle.env_table.specs.declared.faults.FaultKind.{FaultKind};
 ghost use Rattle.decl_typing.specs.Goes.{Goes};
+ghost use Rattle.decl_typing.specs.Steps.{Follows, Silent, asks_bound, asks_at_last};
+ghost use Rattle.decl_typing.specs.TypeSteps.{constructor_steps};
+ghost use Rattle.core_typing.specs.PatternSteps.{asks_token};
+ghost use Rattle.core_typing.specs.Told.{FollowsIfTold};
 
 use decl_typing::{Entry, Env, NoMemory, NodeRef, Parts, path_of, share_entry};
 use env_table::{Constructor, Declaration, Found, Kind, Label, Path, Shape, What};
@@ -32,6 +42,7 @@ pub struct Construction {
 
 /// A value by its path: `bound`, and an instance of its scheme.
 pub fn value(at: &mut Parts, env: &Env, path: &WrittenPath<'_>) -> Result<Used, NoMemory>
+    ensures follows { OnOk result (Follows (asks_bound (path_view path.now)) at.old at.new) }
     ensures goes { Goes at.old at.new }
 {
     let Some(last) = path.last else {
@@ -49,6 +60,7 @@ pub fn value(at: &mut Parts, env: &Env, path: &WrittenPath<'_>) -> Result<Used, 
 
 /// An instance of the scheme behind an entry, or a new variable where there is none.
 fn instance_of(at: &mut Parts, entry: Option<&Rc<Entry>>) -> Result<NodeRef, NoMemory>
+    ensures silent { Silent at.old at.new }
     ensures goes { Goes at.old at.new }
 {
     let Some(entry) = entry else {
@@ -79,6 +91,7 @@ pub fn constructor(
     path: &WrittenPath<'_>,
     given: usize,
 ) -> Result<Construction, NoMemory>
+    ensures follows { OnOk result (Follows (constructor_steps (path_view path.now)) at.old at.new) }
     ensures goes { Goes at.old at.new }
 {
     let entry = at.bound_last(env, path, Kind::Constructor)?;
@@ -99,6 +112,7 @@ pub fn constructor(
 }
 
 fn built(at: &mut Parts, constructor: &Constructor, names: Names) -> Result<Construction, NoMemory>
+    ensures silent { Silent at.old at.new }
     ensures goes { Goes at.old at.new }
 {
     let instance = at.instance(constructor.root)?;
@@ -141,6 +155,7 @@ pub fn label_of(entry: &Entry) -> Option<&Label> {
 
 /// The two sides of an arrow, or new variables.
 fn sides_or_vars(at: &mut Parts, arrow: NodeRef) -> Result<(NodeRef, NodeRef), NoMemory>
+    ensures silent { Silent at.old at.new }
     ensures goes { Goes at.old at.new }
 {
     match at.sides_of_arrow(arrow) {
@@ -151,6 +166,7 @@ fn sides_or_vars(at: &mut Parts, arrow: NodeRef) -> Result<(NodeRef, NodeRef), N
 
 /// An instance of a label: the record and the field.
 pub fn label_use(at: &mut Parts, label: &Label) -> Result<LabelUse, NoMemory>
+    ensures silent { Silent at.old at.new }
     ensures goes { Goes at.old at.new }
 {
     let instance = at.instance(label.root)?;
@@ -208,6 +224,7 @@ pub fn record_type(
     env: &Env,
     labels: &[Path],
 ) -> Result<Option<RecordType>, NoMemory>
+    ensures silent { Silent at.old at.new }
     ensures goes { Goes at.old at.new }
 {
     let declaration = match env.record_type(labels) {
@@ -224,6 +241,7 @@ pub fn record_type(
 
 /// An instance of the type of a declaration.
 fn record_instance(at: &mut Parts, declaration: &Declaration) -> Result<NodeRef, NoMemory>
+    ensures silent { Silent at.old at.new }
     ensures goes { Goes at.old at.new }
 {
     let instance = at.instance(declaration.root)?;
@@ -241,6 +259,7 @@ fn record_instance(at: &mut Parts, declaration: &Declaration) -> Result<NodeRef,
 
 /// Reports a label at the first of its qualifiers that leads to no module; false, and no report, where all lead to one.
 pub fn report_lost(at: &mut Parts, env: &Env, label: &WrittenPath<'_>) -> Result<bool, NoMemory>
+    ensures follows { IfOk result (λ told. FollowsIfTold told (asks_bound (path_view label.now)) at.old at.new) }
     ensures goes { Goes at.old at.new }
 {
     let last = match label.last {
@@ -257,6 +276,7 @@ pub fn report_lost(at: &mut Parts, env: &Env, label: &WrittenPath<'_>) -> Result
 
 /// Reports a label that no record type has; false, and no report, where its last token is missing.
 pub fn report_unbound(at: &mut Parts, label: &WrittenPath<'_>) -> Result<bool, NoMemory>
+    ensures follows { IfOk result (λ told. FollowsIfTold told (asks_at_last FaultKind.Bound (path_view label.now)) at.old at.new) }
     ensures goes { Goes at.old at.new }
 {
     match label.last {
@@ -282,6 +302,7 @@ pub fn field_type(
     record: &RecordType,
     name: Option<&Token>,
 ) -> Result<Option<NodeRef>, NoMemory>
+    ensures silent { Silent at.old at.new }
     ensures goes { Goes at.old at.new }
 {
     let (RecordType::Known(declaration, ty), Some(name)) = (record, name) else {
@@ -350,6 +371,7 @@ pub fn field_label(
     env: &Env,
     path: &WrittenPath<'_>,
 ) -> Result<(Option<LabelUse>, Names), NoMemory>
+    ensures follows { OnOk result (Follows (asks_bound (path_view path.now)) at.old at.new) }
     ensures goes { Goes at.old at.new }
 {
     let entry = at.bound_last(env, path, Kind::Label)?;
@@ -360,6 +382,7 @@ pub fn field_label(
 
 /// An instance of the label behind an entry, if it is one.
 fn used_label(at: &mut Parts, entry: Option<&Rc<Entry>>) -> Result<Option<LabelUse>, NoMemory>
+    ensures silent { Silent at.old at.new }
     ensures goes { Goes at.old at.new }
 {
     let label = match entry {
@@ -386,6 +409,7 @@ pub fn ask_new_label<'a>(
     labels: &mut Vec<&'a Token>,
     label: Option<&'a Token>,
 ) -> Result<(), NoMemory>
+    ensures follows { OnOk result (Follows (asks_token FaultKind.Unique (option_map (λ t. tok_of t.now) label.entry)) at.old at.new) }
     ensures goes { Goes at.old at.new }
 {
     let Some(label) = label else {

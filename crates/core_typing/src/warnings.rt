@@ -1,5 +1,13 @@
 //! Match warnings: values that are missed, and cases that no value reaches.
+#![tactic(auto, using(decl_typing::proofs::Going::goes_trans, decl_typing::proofs::Going::goes_refl, decl_typing::proofs::Following::follows_both, decl_typing::proofs::Following::follows_before, decl_typing::proofs::Following::follows_behind, decl_typing::proofs::Following::follows_silent, decl_typing::proofs::Following::store_silent, decl_typing::proofs::Following::silent_refl, decl_typing::proofs::Following::silent_trans, decl_typing::proofs::Following::ends_both, decl_typing::proofs::Following::ends_behind, decl_typing::proofs::Following::ends_before, decl_typing::proofs::Following::ends_silent, decl_typing::proofs::Following::gets_start, decl_typing::proofs::Following::gets_more, decl_typing::proofs::Following::gets_before, decl_typing::proofs::Following::gets_done), unfolding(syntax_tree::specs::Names::row_of))]
+
+ghost use Rattle.std.specs.Prelude.{◌≡◌, [], ◌∷◌, ◌++◌, map, OnOk};
+ghost use Rattle.syntax_tree.specs.Names.{row_of};
+ghost use Rattle.syntax_tree.specs.View.{place_of};
+ghost use Rattle.env_table.specs.declared.faults.FaultKind.{FaultKind};
 ghost use Rattle.decl_typing.specs.Goes.{Goes};
+ghost use Rattle.decl_typing.specs.Steps.{Follows, asks};
+ghost use Rattle.core_typing.specs.Warnings.{spans_of, missed_steps, unused_steps, warning_steps};
 
 use crate::pats::pat_of;
 use decl_typing::{Depth, Env, NoMemory, Parts};
@@ -14,9 +22,9 @@ use syntax_tree::{Node, Part, RcStr, RowName, Span};
 #[derive(Drop)]
 pub struct Rows {
     rows: Vec<PatRow>,
-    /// Where the case of each row stands.
+    /// Where each case stands; it has a row at the same place, unless the match is open.
     spans: Vec<Span>,
-    /// Whether a pattern holds a missing part or a fault, so that no warning is given.
+    /// Whether a pattern holds a missing part or a fault, so that no warning is given. It stays open.
     is_open: bool,
 }
 
@@ -56,6 +64,7 @@ fn row(alloc: Global, pat: Pat, guarded: bool) -> Result<PatRow, NoMemory> {
 
 /// Reports the first shape that rows miss, if they miss one.
 fn report_missed(at: &mut Parts, matrix: &Matrix, span: Span) -> Result<(), NoMemory>
+    ensures follows { OnOk result (Follows (asks FaultKind.Missed (place_of span ∷ []) ∷ []) at.old at.new) }
     ensures goes { Goes at.old at.new }
 {
     let alloc = at.alloc();
@@ -72,7 +81,9 @@ fn report_missed(at: &mut Parts, matrix: &Matrix, span: Span) -> Result<(), NoMe
 }
 
 impl Rows {
-    pub fn new(alloc: Global) -> Rows {
+    pub fn new(alloc: Global) -> Rows
+        ensures spans { spans_of result ≡ [] }
+    {
         Rows {
             rows: Vec::new(alloc),
             spans: Vec::new(alloc),
@@ -90,7 +101,10 @@ impl Rows {
         faults_before: usize,
         env: &Env,
         depth: Depth,
-    ) -> Result<(), NoMemory> {
+    ) -> Result<(), NoMemory>
+        ensures spans { OnOk result (spans_of self.new ≡ spans_of self.old ++ place_of case ∷ []) }
+    {
+        push(&mut self.spans, case)?;
         if at.faults.list.len() != faults_before || is_unfinished(pattern) {
             self.is_open = true;
             return Ok(());
@@ -100,7 +114,6 @@ impl Rows {
             Some(pat) => {
                 let row = row(at.alloc(), pat, guard.is_some())?;
                 push(&mut self.rows, row)?;
-                push(&mut self.spans, case)?;
             }
         }
         Ok(())
@@ -108,6 +121,7 @@ impl Rows {
 
     /// The warnings of a match at this place: the first missed shape, but not of a `try`, and the cases that no value reaches.
     pub fn report(self, at: &mut Parts, match_row: RowName, span: Span) -> Result<(), NoMemory>
+        ensures follows { OnOk result (Follows (warning_steps (row_of match_row) (place_of span) (spans_of self)) at.old at.new) }
         ensures goes { Goes at.old at.new }
     {
         if self.is_open || self.rows.is_empty() {
@@ -115,14 +129,37 @@ impl Rows {
         }
         let matrix = Matrix { rows: self.rows };
         report_missed_in(at, match_row, &matrix, span)?;
-        for place in unused_rows(at.alloc(), &matrix)? {
-            if let Some(case) = self.spans.get(place) {
-                let text = RcStr::from_str(at.alloc(), "No value reaches this case")?;
-                at.report(*case, FaultKind::Unused, text)?;
-            }
-        }
-        Ok(())
+        let unused = unused_rows(at.alloc(), &matrix)?;
+        report_unused(at, &self.spans, &unused)
     }
+}
+
+/// The warnings of cases that no value reaches, by their places among all.
+fn report_unused(at: &mut Parts, cases: &[Span], unused: &[usize]) -> Result<(), NoMemory>
+    ensures follows { OnOk result (Follows (unused_steps (map place_of cases.now)) at.old at.new) }
+    ensures goes { Goes at.old at.new }
+{
+    for place in 0..cases.len() {
+        report_if_unused(at, cases[place], place, unused)?;
+    }
+    Ok(())
+}
+
+/// The warning of a case, where its place is among these.
+fn report_if_unused(
+    at: &mut Parts,
+    case: Span,
+    place: usize,
+    unused: &[usize],
+) -> Result<(), NoMemory>
+    ensures follows { OnOk result (Follows (asks FaultKind.Unused (place_of case ∷ []) ∷ []) at.old at.new) }
+    ensures goes { Goes at.old at.new }
+{
+    if !unused.contains(&place) {
+        return Ok(());
+    }
+    let text = RcStr::from_str(at.alloc(), "No value reaches this case")?;
+    at.report(case, FaultKind::Unused, text)
 }
 
 /// The warning of the first missed shape, but not of a `try`.
@@ -132,6 +169,7 @@ fn report_missed_in(
     matrix: &Matrix,
     span: Span,
 ) -> Result<(), NoMemory>
+    ensures follows { OnOk result (Follows (missed_steps (row_of match_row) (place_of span)) at.old at.new) }
     ensures goes { Goes at.old at.new }
 {
     if match_row == RowName::Etry {
@@ -147,6 +185,7 @@ pub fn report_pattern(
     env: &Env,
     depth: Depth,
 ) -> Result<(), NoMemory>
+    ensures follows { OnOk result (Follows (asks FaultKind.Missed (place_of pattern.entry.span ∷ []) ∷ []) at.old at.new) }
     ensures goes { Goes at.old at.new }
 {
     if is_plain(pattern) || is_unfinished(pattern) {

@@ -1,5 +1,5 @@
 use Rattle.decl_typing.specs.Goes.{Goes}
-use Rattle.core_typing.proofs.records.RecordRow.complete.Given as goal
+use Rattle.core_typing.proofs.records.ask_complete.Given as goal
 
 abbrev pub invariant-loop-label : goal.invariant-loop-label
 invariant-loop-label l = Goes l.fn.at l.at
