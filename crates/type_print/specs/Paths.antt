@@ -29,7 +29,7 @@ finds o n es = is_of_type o (makes_of (newest_by (is_named rules.type_kind n) es
 abbrev pub is_maker : Path → Entry → Bool
 is_maker o e = same_kind rules.type_kind (kind_of e.kind) && is_of_type o (makes e)
 
--- whether an entry gives an origin a name among entries: it is a type that makes it, and so is the newest type of its name
+-- whether an entry gives an origin a name among entries: it is a type that makes it, and so does the newest type of its name
 abbrev pub gives_name : Path → List Entry → Entry → Bool
 gives_name o es e = is_maker o e && finds o (str_bytes e.name) es
 

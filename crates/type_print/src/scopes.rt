@@ -68,7 +68,7 @@ fn candidates<'a>(scope: Scope<'a>, origin: &Origin) -> Entries<'a>
     }
 }
 
-/// Whether an entry is a type that makes an origin, and the newest type of its name is, too.
+/// Whether an entry is a type that makes an origin, as the newest type of its name does, too.
 fn gives_name(scope: Scope<'_>, entry: &Entry, origin: &Origin) -> bool
     ensures { result ≡ gives_name (path_of origin.now) (in_scope scope.entry) entry.now }
 {
