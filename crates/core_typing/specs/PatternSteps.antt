@@ -1,25 +1,22 @@
 -- The steps of patterns, row by row, and the names that they bind.
-use Rattle.std.specs.Prelude.{ℕ, List, [], ◌∷◌, ◌++◌, map, Option, Some, None, if◌then◌else◌}
+use Rattle.std.specs.Prelude.{ℕ, Bool, true, false, List, [], ◌∷◌, ◌++◌, map, Option, Some, None, if◌then◌else◌}
 use Rattle.std.specs.Str.{bytes_eq}
 use Rattle.token_model.specs.Kinds.{Tok, Kind, int}
-use Rattle.tree_model.specs.Trees.{Place, place, Tree, node, inner, missing}
+use Rattle.tree_model.specs.Trees.{Place, Tree, Part, node, taken, inner, missing}
 use Rattle.tree_model.specs.Rows.{Row, pname_row, pconst_row, pneg_row, pcon_row, pparen_row, plist_row, precord_row, papp_row, pcons_row, ptuple_row, por_row, pas_row}
-use Rattle.row_parts.specs.Numbered.{Numbered, numbered, Written, in_slot, in_slots, first_in, first_of, token_in, path_in, missing_at_end}
-use Rattle.row_parts.specs.Folds.{Rule, operand_by}
+use Rattle.row_parts.specs.Numbered.{Numbered, Written, behind, in_slot, in_slots, operands_in, all_operands, first_in, filled_in, first_of, token_in, path_in, missing_at_end}
+use Rattle.row_parts.specs.Folds.{Rule, operands_by, operand_by, tree_by}
 use Rattle.env_table.specs.declared.faults.FaultKind.{FaultKind}
 use Rattle.env_table.specs.declared.faults.FaultKind.TheVariants as fault
-use Rattle.decl_typing.specs.Steps.{Steps, asks, records, each, place_of_tok, place_without_point, asks_at_last}
+use Rattle.decl_typing.specs.Steps.{Steps, asks, records, each, place_of_tok, place_without_point}
 use Rattle.decl_typing.specs.TypeSteps.{constructor_steps, type_steps}
 
--- what an operand comes to as a pattern and as a field of a record pattern: itself, its steps, the names that it binds; the path in it, its steps as a field, the names that it binds as one, and its record where it is missing
+-- what an operand comes to: its steps as a pattern and the names that it binds, and the same as a field of a record pattern
 pub record PatternSteps : Type 0 where
-  pub self : Numbered
   pub matched : Steps
   pub names : List Tok
-  pub path : Written
   pub field : Steps
   pub field_names : List Tok
-  pub lost : Steps
 
 -- each of these is matched
 abbrev pub match_each : List PatternSteps → Steps
@@ -39,11 +36,12 @@ names_of_fields (p ∷ ps) = p.field_names ++ names_of_fields ps
 abbrev pub asks_equal : Numbered → Steps
 asks_equal o = asks fault.Equal (o.at ∷ []) ∷ []
 
--- the same of each pattern
-abbrev pub each_equal : List PatternSteps → Steps
-each_equal ps = each (λ p. asks_equal p.self) ps
+-- the same of one that may be there
+abbrev pub asks_equal_if : Option Numbered → Steps
+asks_equal_if None = []
+asks_equal_if (Some o) = asks_equal o
 
--- those behind the first
+-- all but the first
 abbrev pub later : {A : Type 0} → List A → List A
 later [] = []
 later (x ∷ xs) = xs
@@ -64,14 +62,15 @@ abbrev pub name_of : Option Tok → List Tok
 name_of None = []
 name_of (Some t) = t ∷ []
 
+-- the kind of an integer
+abbrev pub is_int : Kind → Bool
+is_int int = true
+is_int _ = false
+
 -- `range` of an integer
 abbrev pub range_steps : Option Tok → Steps
 range_steps None = []
-range_steps (Some t) = by t.kind
-  where
-    by : Kind → Steps
-    by int = asks fault.Range (place_of_tok t ∷ []) ∷ []
-    by _ = []
+range_steps (Some t) = if is_int t.kind then asks fault.Range (place_of_tok t ∷ []) ∷ [] else []
 
 -- the name among others
 abbrev pub find_name : List ℕ → List Tok → Option Tok
@@ -83,14 +82,30 @@ abbrev pub common_names : List Tok → List Tok → Steps
 common_names [] others = []
 common_names (t ∷ ts) others = asks_token fault.Equal (find_name t.name others) ++ common_names ts others
 
--- what is asked of a later side of an or-pattern beside the first: the same names, each with one type, and one type of both
-abbrev pub beside : PatternSteps → PatternSteps → Steps
-beside first side = asks fault.Sides (side.self.at ∷ []) ∷ common_names first.names side.names ++ asks_equal side.self
+-- a side of an or-pattern: where it stands, and the names that it binds
+pub record Side : Type 0 where
+  pub at : Place
+  pub names : List Tok
+
+-- the sides that these operands are, by what they come to
+abbrev pub sides_of : List Numbered → List PatternSteps → List Side
+sides_of [] ps = []
+sides_of (o ∷ os) [] = []
+sides_of (o ∷ os) (p ∷ ps) = record { at = o.at; names = p.names } ∷ sides_of os ps
+
+-- what is asked of a later side beside the first: the same names, each with one type, and one type of both
+abbrev pub beside : Side → Side → Steps
+beside first s = asks fault.Sides (s.at ∷ []) ∷ common_names first.names s.names ++ asks fault.Equal (s.at ∷ []) ∷ []
 
 -- of all later sides
-abbrev pub sides_beside : List PatternSteps → Steps
+abbrev pub sides_beside : List Side → Steps
 sides_beside [] = []
 sides_beside (first ∷ rest) = each (beside first) rest
+
+-- the names of the first
+abbrev pub names_of_first : List Side → List Tok
+names_of_first [] = []
+names_of_first (first ∷ rest) = first.names
 
 -- the places at which `bound` of a label is told
 abbrev pub label_places : Written → List Place
@@ -101,46 +116,56 @@ abbrev pub places_of_labels : List Written → List Place
 places_of_labels [] = []
 places_of_labels (p ∷ ps) = label_places p ++ places_of_labels ps
 
+-- the path that stands at an operand as a constructor or as a field
+abbrev pub path_at : Part → Written
+path_at (taken t) = record { qualifiers = []; last = None }
+path_at (inner t) = path_in t 0 1
+path_at (missing at) = record { qualifiers = []; last = None }
+
+-- a field that is missing is recorded
+abbrev pub lost_steps : Numbered → Steps
+lost_steps o = by o.part
+  where
+    by : Part → Steps
+    by (inner t) = []
+    by _ = records o.number ∷ []
+
 -- a written type behind a pattern in parentheses, which has it
-abbrev pub annotation_steps : Option PatternSteps → Option Numbered → Steps
+abbrev pub annotation_steps : Option Numbered → Option Numbered → Steps
 annotation_steps None t = []
 annotation_steps (Some p) None = []
-annotation_steps (Some p) (Some t) = type_steps t ++ asks_equal p.self
+annotation_steps (Some p) (Some t) = type_steps t ++ asks_equal p
 
 -- a field: its label is new; then its pattern, which has the type of the field, or the name of its label, which is new
-abbrev pub field_steps : ℕ → Written → Option PatternSteps → Steps
-field_steps n label None = asks_at_last fault.Unique label ++ asks_at_last fault.Unique label ++ records n ∷ []
-field_steps n label (Some p) = asks_at_last fault.Unique label ++ records n ∷ p.matched ++ asks_equal p.self
+abbrev pub field_steps : ℕ → Tree → Option PatternSteps → Steps
+field_steps n t None = asks_token fault.Unique (token_in t 1) ++ asks_token fault.Unique (token_in t 1) ++ records n ∷ []
+field_steps n t (Some p) = asks_token fault.Unique (token_in t 1) ++ records n ∷ p.matched ++ asks_equal_if (first_in n t 3)
 
 -- the names that a field binds
-abbrev pub names_in_field : Written → Option PatternSteps → List Tok
-names_in_field label None = name_of label.last
-names_in_field label (Some p) = p.names
+abbrev pub names_in_field : Tree → Option PatternSteps → List Tok
+names_in_field t None = name_of (token_in t 1)
+names_in_field t (Some p) = p.names
 
 -- a missing pattern, or a missing field
 abbrev pub no_pattern : ℕ → Place → PatternSteps
-no_pattern n at = record {
-  self = numbered n at (missing at);
-  matched = records n ∷ [];
-  names = [];
-  path = record { qualifiers = []; last = None };
-  field = [];
-  field_names = [];
-  lost = records n ∷ [];
-}
+no_pattern n at = record { matched = records n ∷ []; names = []; field = []; field_names = [] }
 
 -- the first of some patterns; where there is none it is missing at the end of their node
 abbrev pub pattern_or_missing : ℕ → Tree → List PatternSteps → PatternSteps
 pattern_or_missing n t [] = no_pattern n (missing_at_end n t).at
 pattern_or_missing n t (p ∷ ps) = p
 
--- A p: `bound`, `arity`; the argument, which is the declared one
-abbrev pub applied_steps : PatternSteps → PatternSteps → Steps
-applied_steps head p = constructor_steps head.path ++ records head.self.number ∷ p.matched ++ asks_equal p.self
+-- a constructor in front of its argument: `bound`, `arity`; it is recorded
+abbrev pub construction_steps : Numbered → Steps
+construction_steps h = constructor_steps (path_at h.part) ++ records h.number ∷ []
 
--- { l = p }: fields that are missing, the type by its labels, and the fields
-abbrev pub record_steps : List PatternSteps → Steps
-record_steps fs = each (λ f. f.lost) fs ++ asks fault.Bound (places_of_labels (map (λ f. f.path) fs)) ∷ each (λ f. f.field) fs
+-- the labels of fields
+abbrev pub labels_of : List Numbered → List Written
+labels_of fs = map (λ f. path_at f.part) fs
+
+-- the type of a record by its labels
+abbrev pub asks_labels : List Written → Steps
+asks_labels ps = asks fault.Bound (places_of_labels ps) ∷ []
 
 -- the steps of a row without its record
 abbrev pub steps_of_row : Row → ℕ → Tree → List (ℕ × PatternSteps) → Steps
@@ -148,13 +173,13 @@ steps_of_row pname_row n t ps = asks_token fault.Unique (token_in t 0)
 steps_of_row pconst_row n t ps = range_steps (token_in t 0)
 steps_of_row pneg_row n t ps = range_steps (token_in t 1)
 steps_of_row pcon_row n t ps = constructor_steps (path_in t 0 1)
-steps_of_row pparen_row n t ps = match_each (in_slot 1 ps) ++ annotation_steps (first_of (in_slot 1 ps)) (first_in n t 3)
-steps_of_row plist_row n t ps = match_each (in_slot 1 ps) ++ each_equal (later (in_slot 1 ps))
-steps_of_row precord_row n t ps = record_steps (in_slot 1 ps)
-steps_of_row papp_row n t ps = applied_steps (pattern_or_missing n t (in_slot 0 ps)) (pattern_or_missing n t (in_slot 1 ps))
-steps_of_row pcons_row n t ps = match_each (in_slots ps) ++ elim (last_of (in_slots ps)) [ None ↦ [] | Some p ↦ asks_equal p.self ]
+steps_of_row pparen_row n t ps = match_each (in_slot 1 ps) ++ annotation_steps (first_in n t 1) (first_in n t 3)
+steps_of_row plist_row n t ps = match_each (in_slot 1 ps) ++ each asks_equal (later (operands_in n t 1))
+steps_of_row precord_row n t ps = each lost_steps (operands_in n t 1) ++ asks_labels (labels_of (operands_in n t 1)) ++ each (λ p. p.field) (in_slot 1 ps)
+steps_of_row papp_row n t ps = construction_steps (filled_in n t 0) ++ (pattern_or_missing n t (in_slot 1 ps)).matched ++ asks_equal (filled_in n t 1)
+steps_of_row pcons_row n t ps = match_each (in_slots ps) ++ asks_equal_if (last_of (all_operands n t))
 steps_of_row ptuple_row n t ps = match_each (in_slots ps)
-steps_of_row por_row n t ps = match_each (in_slots ps) ++ sides_beside (in_slots ps)
+steps_of_row por_row n t ps = match_each (in_slots ps) ++ sides_beside (sides_of (all_operands n t) (in_slots ps))
 steps_of_row pas_row n t ps = match_each (in_slots ps) ++ asks_token fault.Unique (token_in t 2)
 steps_of_row _ n t ps = []
 
@@ -167,34 +192,64 @@ names_of_row precord_row n t ps = names_of_fields (in_slot 1 ps)
 names_of_row papp_row n t ps = (pattern_or_missing n t (in_slot 1 ps)).names
 names_of_row pcons_row n t ps = names_of (in_slots ps)
 names_of_row ptuple_row n t ps = names_of (in_slots ps)
-names_of_row por_row n t ps = elim (first_of (in_slots ps)) [ None ↦ [] | Some p ↦ p.names ]
+names_of_row por_row n t ps = names_of_first (sides_of (all_operands n t) (in_slots ps))
 names_of_row pas_row n t ps = names_of (in_slots ps) ++ name_of (token_in t 2)
 names_of_row _ n t ps = []
 
 -- a row, by what its parts come to
 abbrev pub pattern_row : ℕ → Tree → List (ℕ × PatternSteps) → PatternSteps
 pattern_row n (node r x ps) parts = record {
-  self = numbered n x.span (inner (node r x ps));
   matched = steps_of_row r n (node r x ps) parts ++ records n ∷ [];
   names = names_of_row r n (node r x ps) parts;
-  path = path_in (node r x ps) 0 1;
-  field = field_steps n (path_in (node r x ps) 0 1) (first_of (in_slot 3 parts));
-  field_names = names_in_field (path_in (node r x ps) 0 1) (first_of (in_slot 3 parts));
-  lost = [];
+  field = field_steps n (node r x ps) (first_of (in_slot 3 parts));
+  field_names = names_in_field (node r x ps) (first_of (in_slot 3 parts));
 }
 
 -- the rule of patterns
 abbrev pub pattern_rule : Rule PatternSteps
 pattern_rule = record { row = pattern_row; none = no_pattern }
 
--- what an operand comes to as a pattern
-abbrev pub pattern_of : Numbered → PatternSteps
-pattern_of o = operand_by pattern_rule o
+-- the parts of a pattern with this number
+unfoldable pub parts_of_pattern : ℕ → Tree → List (ℕ × PatternSteps)
+parts_of_pattern n (node r x ps) = operands_by pattern_rule (behind n 1) r ps
 
--- its steps
+-- the steps of a pattern with this number as one of a row
+abbrev pub matched_as : Row → ℕ → Tree → Steps
+matched_as r n t = steps_of_row r n t (parts_of_pattern n t) ++ records n ∷ []
+
+-- the names that it binds as one
+abbrev pub bound_as : Row → ℕ → Tree → List Tok
+bound_as r n t = names_of_row r n t (parts_of_pattern n t)
+
+-- the steps of a tree with this number
+unfoldable pub matched_tree : ℕ → Tree → Steps
+matched_tree n t = (tree_by pattern_rule n t).matched
+
+-- the names that it binds
+unfoldable pub names_of_tree : ℕ → Tree → List Tok
+names_of_tree n t = (tree_by pattern_rule n t).names
+
+-- the steps of a pattern, be it there or missing
 unfoldable pub pattern_steps : Numbered → Steps
-pattern_steps o = (pattern_of o).matched
+pattern_steps o = (operand_by pattern_rule o).matched
 
 -- the names that it binds
 unfoldable pub pattern_names : Numbered → List Tok
-pattern_names o = (pattern_of o).names
+pattern_names o = (operand_by pattern_rule o).names
+
+-- an operand as a side of an or-pattern
+abbrev pub side_at : Numbered → Side
+side_at o = record { at = o.at; names = pattern_names o }
+
+-- the steps of a field of a record pattern
+unfoldable pub field_pattern_steps : Numbered → Steps
+field_pattern_steps o = (operand_by pattern_rule o).field
+
+-- the names that it binds
+unfoldable pub field_pattern_names : Numbered → List Tok
+field_pattern_names o = (operand_by pattern_rule o).field_names
+
+-- the names that some bind, in order
+abbrev pub names_in : (Numbered → List Tok) → List Numbered → List Tok
+names_in f [] = []
+names_in f (o ∷ os) = f o ++ names_in f os

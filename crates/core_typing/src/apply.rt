@@ -1,11 +1,22 @@
 //! Applications: of an expression, of an operator and of a constructor.
+#![tactic(auto, using(decl_typing::proofs::Going::goes_trans, decl_typing::proofs::Going::goes_refl, decl_typing::proofs::Following::follows_both, decl_typing::proofs::Following::follows_then, decl_typing::proofs::Following::follows_before, decl_typing::proofs::Following::follows_behind, decl_typing::proofs::Following::follows_none, decl_typing::proofs::Following::follows_silent, decl_typing::proofs::Following::store_silent, decl_typing::proofs::Following::silent_refl, decl_typing::proofs::Following::silent_trans, decl_typing::proofs::Following::ends_both, decl_typing::proofs::Following::ends_behind, decl_typing::proofs::Following::ends_before, decl_typing::proofs::Following::ends_silent, decl_typing::proofs::Following::gets_start, decl_typing::proofs::Following::gets_more, decl_typing::proofs::Following::gets_before, decl_typing::proofs::Following::gets_done, crate::proofs::ExpressionLaws::ends_then), unfolding(syntax_tree::specs::Names::row_of))]
+
+ghost use Rattle.std.specs.Prelude.{◌≡◌, [], ◌∷◌, ◌++◌, map, option_map, IfOk, OnOk};
+ghost use Rattle.token_model.specs.Kinds.{Tok};
+ghost use Rattle.syntax_tree.specs.Names.{row_of, kind_of};
+ghost use Rattle.syntax_tree.specs.View.{place_of, tok_of, node_view};
+ghost use Rattle.row_parts.specs.Numbered.{operand_view, path_view};
+ghost use Rattle.env_table.specs.declared.faults.FaultKind.{FaultKind};
 ghost use Rattle.decl_typing.specs.Goes.{Goes};
+ghost use Rattle.decl_typing.specs.Steps.{asks, records, each, Follows, Silent};
+ghost use Rattle.decl_typing.specs.TypeSteps.{constructor_steps};
+ghost use Rattle.core_typing.specs.declared.exprs.RowForm.{RowForm};
+ghost use Rattle.core_typing.specs.ExpressionSteps.{expression_at, expression_steps, argument_steps, arguments_steps, constructed_steps, constructor_at, is_float_at, is_float_token, operator_in, recorded_constructor, row_at, steps_as, upper_path};
 
 use crate::constants::Sign;
 use crate::exprs::{type_each, type_under, typed_as};
 use crate::rows::{any_type, unnamed};
 use crate::uses::{Construction, Names, Used, constructor, value};
-use crate::values::is_constructor;
 use decl_typing::{Depth, Env, NoMemory, NodeRef, Parts};
 use row_parts::{Operand, WrittenPath, operand_in, operands, operands_of, token, written_path};
 use syntax_tree::{Node, RcStr, RowName, Span, Token, TokenKind};
@@ -19,15 +30,31 @@ pub fn application(
     env: &Env,
     depth: Depth,
 ) -> Result<Used, NoMemory>
+    ensures follows { OnOk result (Follows (steps_as RowForm.Application number (node_view node.now)) at.old at.new) }
     ensures goes { Goes at.old at.new }
 {
     let head = operand_in(node, number, 0);
     let given = operands(at.alloc(), node, number, 1)?;
-    if is_constructor(head) {
-        return constructed(at, head, &given, env, depth);
+    match constructor_path(at, head)? {
+        Some(path) => constructed(at, head, &path, &given, env, depth),
+        None => applied(at, head, &given, env, depth),
     }
+}
+
+/// A head that is no constructor, with its arguments.
+#[cycle(exprs)]
+fn applied(
+    at: &mut Parts,
+    head: Operand<'_>,
+    given: &[Operand<'_>],
+    env: &Env,
+    depth: Depth,
+) -> Result<Used, NoMemory>
+    ensures follows { OnOk result (Follows (expression_steps (operand_view head.entry) ++ arguments_steps (place_of head.entry.span) (map expression_at (map operand_view given.now))) at.old at.new) }
+    ensures goes { Goes at.old at.new }
+{
     let ty = type_under(at, head, Sign::None, env, depth.inside()?)?;
-    let ty = arguments(at, head.span, ty, &given, Sign::None, env, depth)?;
+    let ty = arguments(at, head.span, ty, given, Sign::None, env, depth)?;
     Ok(unnamed(at, ty))
 }
 
@@ -37,23 +64,55 @@ pub fn application(
 fn constructed(
     at: &mut Parts,
     head: Operand<'_>,
+    path: &WrittenPath<'_>,
     given: &[Operand<'_>],
     env: &Env,
     depth: Depth,
 ) -> Result<Used, NoMemory>
+    ensures follows { OnOk result (Follows (constructed_steps (expression_at (operand_view head.entry)) (path_view path.now) (map expression_at (map operand_view given.now))) at.old at.new) }
     ensures goes { Goes at.old at.new }
 {
     let Some((first, later)) = given.split_first() else {
         let ty = type_under(at, head, Sign::None, env, depth.inside()?)?;
         return Ok(unnamed(at, ty));
     };
-    let found = construction(at, head, env)?;
-    if !found.known {
-        type_each(at, given, env, depth)?;
-        return built_by_unknown(at, found.ty, later);
+    let built = recorded_constructor(at, head.number, path, env)?;
+    typed_as(at, *first, built.argument, env, env, depth)?;
+    later_arguments(at, head.span, built, later, env, depth)
+}
+
+/// A constructor in front of arguments, which is recorded.
+fn recorded_constructor(
+    at: &mut Parts,
+    number: u32,
+    path: &WrittenPath<'_>,
+    env: &Env,
+) -> Result<Head, NoMemory>
+    ensures follows { OnOk result (Follows (recorded_constructor number (path_view path.now)) at.old at.new) }
+    ensures goes { Goes at.old at.new }
+{
+    let found = constructor(at, env, path, 1)?;
+    note_head(at, number, found, env)
+}
+
+/// The further arguments of a constructor.
+#[cycle(exprs)]
+fn later_arguments(
+    at: &mut Parts,
+    place: Span,
+    head: Head,
+    later: &[Operand<'_>],
+    env: &Env,
+    depth: Depth,
+) -> Result<Used, NoMemory>
+    ensures follows { OnOk result (Follows (arguments_steps (place_of place) (map expression_at (map operand_view later.now))) at.old at.new) }
+    ensures goes { Goes at.old at.new }
+{
+    if !head.known {
+        type_each(at, later, env, depth)?;
+        return built_by_unknown(at, head.ty, later);
     }
-    typed_as(at, *first, found.argument, env, env, depth)?;
-    let ty = arguments(at, head.span, found.ty, later, Sign::None, env, depth)?;
+    let ty = arguments(at, place, head.ty, later, Sign::None, env, depth)?;
     Ok(unnamed(at, ty))
 }
 
@@ -62,22 +121,14 @@ fn constructed(
 struct Head {
     /// The type of what it builds.
     ty: NodeRef,
-    /// The type of its argument; None where it takes none.
+    /// The type of its argument; None where it takes none, and where it isn't known.
     argument: Option<NodeRef>,
     known: bool,
 }
 
-/// The constructor in front of arguments: `bound`, `arity`.
-fn construction(at: &mut Parts, head: Operand<'_>, env: &Env) -> Result<Head, NoMemory>
-    ensures goes { Goes at.old at.new }
-{
-    let path = constructor_path(at, head)?;
-    let found = constructor(at, env, &path, 1)?;
-    note_head(at, head.number, found, env)
-}
-
 /// Records the constructor in front of arguments.
 fn note_head(at: &mut Parts, number: u32, found: Construction, env: &Env) -> Result<Head, NoMemory>
+    ensures follows { OnOk result (Follows (records number ∷ []) at.old at.new) }
     ensures goes { Goes at.old at.new }
 {
     at.note(number, env, Some(found.built), found.names)?;
@@ -90,6 +141,7 @@ fn note_head(at: &mut Parts, number: u32, found: Construction, env: &Env) -> Res
 
 /// What an unknown constructor builds: with one argument what it is, with more any type.
 fn built_by_unknown(at: &mut Parts, built: NodeRef, later: &[Operand<'_>]) -> Result<Used, NoMemory>
+    ensures silent { Silent at.old at.new }
     ensures goes { Goes at.old at.new }
 {
     if later.is_empty() {
@@ -109,16 +161,51 @@ fn arguments(
     env: &Env,
     depth: Depth,
 ) -> Result<NodeRef, NoMemory>
+    ensures follows { OnOk result (Follows (arguments_steps (place_of place) (map expression_at (map operand_view given.now))) at.old at.new) }
     ensures goes { Goes at.old at.new }
 {
     let mut ty = head;
-    for argument in given {
-        let (from, to) = ask_arrow(at, place, ty, env)?;
-        let found = type_under(at, *argument, sign, env, depth.inside()?)?;
-        at.equal(argument.span, found, from, env)?;
-        ty = to;
+    for one in given {
+        ty = argument(at, place, ty, *one, sign, env, depth)?;
     }
     Ok(ty)
+}
+
+/// The type of a head with an argument: the head is an arrow, and the argument is its left side.
+#[cycle(exprs)]
+fn argument(
+    at: &mut Parts,
+    place: Span,
+    head: NodeRef,
+    one: Operand<'_>,
+    sign: Sign,
+    env: &Env,
+    depth: Depth,
+) -> Result<NodeRef, NoMemory>
+    ensures follows { OnOk result (Follows (argument_steps (place_of place) (expression_at (operand_view one.entry))) at.old at.new) }
+    ensures goes { Goes at.old at.new }
+{
+    let (from, to) = ask_arrow(at, place, head, env)?;
+    typed_argument(at, one, from, sign, env, depth)?;
+    Ok(to)
+}
+
+/// An argument, which is the left side of its head.
+#[cycle(exprs)]
+fn typed_argument(
+    at: &mut Parts,
+    one: Operand<'_>,
+    from: NodeRef,
+    sign: Sign,
+    env: &Env,
+    depth: Depth,
+) -> Result<(), NoMemory>
+    ensures follows { OnOk result (Follows (expression_steps (operand_view one.entry) ++ asks FaultKind.Equal (place_of one.entry.span ∷ []) ∷ []) at.old at.new) }
+    ensures goes { Goes at.old at.new }
+{
+    let found = type_under(at, one, sign, env, depth.inside()?)?;
+    at.equal(one.span, found, from, env)?;
+    Ok(())
 }
 
 /// The demand that a head's type is an arrow: its sides.
@@ -128,12 +215,22 @@ fn ask_arrow(
     head: NodeRef,
     env: &Env,
 ) -> Result<(NodeRef, NodeRef), NoMemory>
+    ensures follows { OnOk result (Follows (asks FaultKind.Equal (place_of place ∷ []) ∷ []) at.old at.new) }
+    ensures goes { Goes at.old at.new }
+{
+    let (from, to) = two_types(at)?;
+    let arrow = at.arrow(from, to)?;
+    at.equal(place, head, arrow, env)?;
+    Ok((from, to))
+}
+
+/// Two new variables.
+fn two_types(at: &mut Parts) -> Result<(NodeRef, NodeRef), NoMemory>
+    ensures silent { Silent at.old at.new }
     ensures goes { Goes at.old at.new }
 {
     let from = at.var()?;
     let to = at.var()?;
-    let arrow = at.arrow(from, to)?;
-    at.equal(place, head, arrow, env)?;
     Ok((from, to))
 }
 
@@ -144,16 +241,31 @@ struct Operator {
     sign: Sign,
 }
 
-/// The operator of a row; None where it is missing. Over an argument alone - is ~-, and -. is ~-.
-fn operator_of(at: &Parts, node: &Node) -> Result<Option<Operator>, NoMemory> {
-    let written = match node.row {
+/// The token of the operator of a row.
+fn sign_of(node: &Node) -> Option<&Token>
+    ensures { option_map (λ t. place_of t.now.span) result ≡ operator_in (row_at (node_view node.now)) (node_view node.now) }
+{
+    match node.row {
         RowName::Infix => token(node, 1),
         _ => token(node, 0),
-    };
-    let Some(token) = written else {
-        return Ok(None);
-    };
-    let (name, sign) = match node.row {
+    }
+}
+
+/// The operator of a row; None where it is missing.
+fn operator_of(at: &Parts, node: &Node) -> Result<Option<Operator>, NoMemory>
+    ensures { IfOk result (λ o. option_map (λ o. place_of o.named.span) o ≡ operator_in (row_at (node_view node.now)) (node_view node.now)) }
+{
+    match sign_of(node) {
+        Some(token) => Ok(Some(operator_by(at, node.row, token)?)),
+        None => Ok(None),
+    }
+}
+
+/// The operator by its token. Over an argument alone - is ~-, and -. is ~-.
+fn operator_by(at: &Parts, row: RowName, token: &Token) -> Result<Operator, NoMemory>
+    ensures { IfOk result (λ o. place_of o.named.span ≡ place_of token.now.span) }
+{
+    let (name, sign) = match row {
         RowName::Eneg if token.name.is("-.") => (RcStr::from_str(at.alloc(), "~-.")?, Sign::None),
         RowName::Eneg => (RcStr::from_str(at.alloc(), "~-")?, Sign::Minus),
         _ => (token.name.share()?, Sign::None),
@@ -164,11 +276,12 @@ fn operator_of(at: &Parts, node: &Node) -> Result<Option<Operator>, NoMemory> {
         reach: token.reach,
         name,
     };
-    Ok(Some(Operator { named, sign }))
+    Ok(Operator { named, sign })
 }
 
 /// `bound` of an operator.
 fn operator_value(at: &mut Parts, operator: &Token, env: &Env) -> Result<Used, NoMemory>
+    ensures follows { OnOk result (Follows (asks FaultKind.Bound (place_of operator.now.span ∷ []) ∷ []) at.old at.new) }
     ensures goes { Goes at.old at.new }
 {
     let path = WrittenPath {
@@ -187,16 +300,34 @@ pub fn operation(
     env: &Env,
     depth: Depth,
 ) -> Result<Used, NoMemory>
+    ensures follows { OnOk result (Follows (steps_as RowForm.Operation number (node_view node.now)) at.old at.new) }
     ensures goes { Goes at.old at.new }
 {
     let given = operands_of(at.alloc(), node, number)?;
-    let Some(operator) = operator_of(at, node)? else {
-        type_each(at, &given, env, depth)?;
-        return any_type(at);
-    };
+    match operator_of(at, node)? {
+        Some(operator) => operated(at, &operator, &given, env, depth),
+        None => {
+            type_each(at, &given, env, depth)?;
+            any_type(at)
+        }
+    }
+}
+
+/// An operator with its arguments.
+#[cycle(exprs)]
+fn operated(
+    at: &mut Parts,
+    operator: &Operator,
+    given: &[Operand<'_>],
+    env: &Env,
+    depth: Depth,
+) -> Result<Used, NoMemory>
+    ensures follows { OnOk result (Follows (asks FaultKind.Bound (place_of operator.now.named.span ∷ []) ∷ arguments_steps (place_of operator.now.named.span) (map expression_at (map operand_view given.now))) at.old at.new) }
+    ensures goes { Goes at.old at.new }
+{
     let found = operator_value(at, &operator.named, env)?;
     let place = operator.named.span;
-    let ty = arguments(at, place, found.ty, &given, operator.sign, env, depth)?;
+    let ty = arguments(at, place, found.ty, given, operator.sign, env, depth)?;
     let names: Names = found.names;
     Ok(Used { ty, names })
 }
@@ -210,6 +341,7 @@ pub fn minus(
     env: &Env,
     depth: Depth,
 ) -> Result<Used, NoMemory>
+    ensures follows { OnOk result (Follows (steps_as RowForm.Minus number (node_view node.now)) at.old at.new) }
     ensures goes { Goes at.old at.new }
 {
     let part = operand_in(node, number, 1);
@@ -220,18 +352,32 @@ pub fn minus(
 }
 
 /// Whether an expression is a numeral with a point.
-fn is_float(e: Operand<'_>) -> bool {
-    match e.node {
-        Some(node) => match (node.row, token(node, 0)) {
-            (RowName::Econst, Some(token)) => token.kind == TokenKind::Float,
-            _ => false,
-        },
+fn is_float(e: Operand<'_>) -> bool
+    ensures { result ≡ is_float_at (operand_view e.entry).part }
+{
+    let Some(node) = e.node else {
+        return false;
+    };
+    match node.row {
+        RowName::Econst => is_point(token(node, 0)),
+        _ => false,
+    }
+}
+
+/// Whether a token is a numeral with a point.
+#[tactic(auto, unfolding(syntax_tree::specs::Names::kind_of))]
+fn is_point(token: Option<&Token>) -> bool
+    ensures { result ≡ is_float_token (option_map (λ t. tok_of t.now) token.entry) }
+{
+    match token {
+        Some(token) => token.kind == TokenKind::Float,
         None => false,
     }
 }
 
 /// A numeral with a point under a minus, by its number.
 fn negative_float(at: &mut Parts, number: u32, env: &Env) -> Result<Used, NoMemory>
+    ensures follows { OnOk result (Follows (records number ∷ []) at.old at.new) }
     ensures goes { Goes at.old at.new }
 {
     let float = at.constants.float;
@@ -239,14 +385,28 @@ fn negative_float(at: &mut Parts, number: u32, env: &Env) -> Result<Used, NoMemo
     Ok(unnamed(at, float))
 }
 
-/// The path of a constructor.
-pub fn constructor_path<'a>(at: &Parts, e: Operand<'a>) -> Result<WrittenPath<'a>, NoMemory> {
-    match e.node {
-        Some(node) if node.row == RowName::Epath => written_path(at.alloc(), node, 0, 1),
-        Some(node) => written_path(at.alloc(), node, 9, 0),
-        None => Ok(WrittenPath {
-            qualifiers: Vec::new(at.alloc()),
-            last: None,
-        }),
+/// The path of an operand that is a constructor alone; None where it is none.
+pub fn constructor_path<'a>(at: &Parts, e: Operand<'a>) -> Result<Option<WrittenPath<'a>>, NoMemory>
+    ensures { IfOk result (λ r. option_map path_view r ≡ constructor_at (operand_view e.entry).part) }
+{
+    let Some(node) = e.node else {
+        return Ok(None);
+    };
+    match node.row {
+        RowName::Econ => Ok(Some(written_path(at.alloc(), node, 9, 0)?)),
+        RowName::Epath => Ok(if_upper(written_path(at.alloc(), node, 0, 1)?)),
+        _ => Ok(None),
     }
+}
+
+/// A path, where its last token is the name of a constructor.
+#[tactic(auto, unfolding(syntax_tree::specs::Names::kind_of))]
+fn if_upper(path: WrittenPath<'_>) -> Option<WrittenPath<'_>>
+    ensures { option_map path_view result ≡ upper_path (path_view path.entry) }
+{
+    let upper = match path.last {
+        Some(last) => last.kind == TokenKind::Upper,
+        None => false,
+    };
+    if upper { Some(path) } else { None }
 }

@@ -1,11 +1,23 @@
 //! Bindings: their demands in order, and their names with generalised types.
+#![tactic(auto, using(decl_typing::proofs::Going::goes_trans, decl_typing::proofs::Going::goes_refl, decl_typing::proofs::Following::follows_both, decl_typing::proofs::Following::follows_then, decl_typing::proofs::Following::follows_before, decl_typing::proofs::Following::follows_behind, decl_typing::proofs::Following::follows_none, decl_typing::proofs::Following::follows_silent, decl_typing::proofs::Following::store_silent, decl_typing::proofs::Following::silent_refl, decl_typing::proofs::Following::silent_trans, decl_typing::proofs::Following::ends_both, decl_typing::proofs::Following::ends_behind, decl_typing::proofs::Following::ends_before, decl_typing::proofs::Following::ends_silent, decl_typing::proofs::Following::gets_start, decl_typing::proofs::Following::gets_more, decl_typing::proofs::Following::gets_before, decl_typing::proofs::Following::gets_done))]
+
+ghost use Rattle.std.specs.Prelude.{◌≡◌, [], ◌∷◌, ◌++◌, map, option_map, is_some, IfOk, OnOk};
+ghost use Rattle.syntax_tree.specs.View.{node_view, place_of};
+ghost use Rattle.row_parts.specs.Numbered.{operand_view, operands_in, filled_in, token_in};
+ghost use Rattle.env_table.specs.declared.faults.FaultKind.{FaultKind};
 ghost use Rattle.decl_typing.specs.Goes.{Goes};
+ghost use Rattle.decl_typing.specs.Steps.{asks, each, records, Follows, Silent};
+ghost use Rattle.core_typing.specs.declared.exprs.RowForm.{RowForm};
+ghost use Rattle.core_typing.specs.PatternSteps.{asks_equal, pattern_steps};
+ghost use Rattle.core_typing.specs.ExpressionSteps.{bindings_at, bound_pattern, concluded_at, concluded_steps, expression_at, expression_steps, opened_steps, parameter_steps, right_at, right_steps, steps_as, turn_steps, type_steps_if, typed_as_written, asks_equal_written, whole_steps};
+ghost use Rattle.core_typing.specs.Concluding.{conclusion};
 
 use crate::constants::Sign;
 use crate::exprs::type_under;
 use crate::functions::{arrows, type_parameters, with_names};
+use crate::labels::note_missing;
 use crate::patterns::{BoundName, Matched, Mentioned, type_pattern};
-use crate::rows::{equal_if, unnamed};
+use crate::rows::unnamed;
 use crate::uses::Used;
 use crate::values::{has_parameters, is_value};
 use crate::warnings::report_pattern;
@@ -15,24 +27,27 @@ use decl_typing::{
 use owned_lists::push;
 use row_parts::{Operand, first_operand, operand_in, operands, token};
 use std::rc::Rc;
-use syntax_tree::Node;
+use syntax_tree::{Node, Token};
 
-/// A binding that is there.
+/// A binding that is there, with its number.
 #[derive(Clone, Copy)]
 struct Binding<'a> {
     node: &'a Node,
     number: u32,
 }
 
-impl<'a> Binding<'a> {
-    fn pattern(self) -> Operand<'a> {
-        operand_in(self.node, self.number, 0)
-    }
+/// The pattern of a binding.
+fn pattern_in(binding: Binding<'_>) -> Operand<'_>
+    ensures { operand_view result ≡ bound_pattern binding.entry.number (node_view binding.entry.node.now) }
+{
+    operand_in(binding.node, binding.number, 0)
+}
 
-    /// The expression behind the equals sign.
-    fn body(self) -> Operand<'a> {
-        operand_in(self.node, self.number, 5)
-    }
+/// The expression behind the equals sign.
+fn body_in(binding: Binding<'_>) -> Operand<'_>
+    ensures { operand_view result ≡ filled_in binding.entry.number (node_view binding.entry.node.now) 5 }
+{
+    operand_in(binding.node, binding.number, 5)
 }
 
 /// A binding whose pattern is typed.
@@ -77,6 +92,7 @@ pub fn let_in(
     env: &Env,
     depth: Depth,
 ) -> Result<Used, NoMemory>
+    ensures follows { OnOk result (Follows (steps_as RowForm.Let number (node_view node.now)) at.old at.new) }
     ensures goes { Goes at.old at.new }
 {
     let bound = type_group(at, node, number, env, depth)?;
@@ -94,6 +110,7 @@ pub fn type_bindings(
     env: &Env,
     depth: Depth,
 ) -> Result<Behind, NoMemory>
+    ensures follows { OnOk result (Follows (bindings_at number (node_view item.now)) at.old at.new) }
     ensures goes { Goes at.old at.new }
 {
     let bound = type_group(at, item, number, env, depth)?;
@@ -109,9 +126,12 @@ fn type_group<'a>(
     env: &Env,
     depth: Depth,
 ) -> Result<Vec<Bound<'a>>, NoMemory>
+    ensures follows { OnOk result (Follows (bindings_at number (node_view node.now)) at.old at.new) }
     ensures goes { Goes at.old at.new }
 {
-    let bindings = begun(at, node, number, env)?;
+    at.level = at.level.saturating_add(1);
+    let bindings = operands(at.alloc(), node, number, 2)?;
+    note_missing(at, &bindings, env)?;
     match token(node, 1) {
         None => in_turn(at, &bindings, env, depth),
         Some(_) => together(at, &bindings, env, depth),
@@ -122,41 +142,129 @@ fn type_group<'a>(
 #[cycle(exprs)]
 fn in_turn<'a>(
     at: &mut Parts,
-    bindings: &[Binding<'a>],
+    bindings: &[Operand<'a>],
     env: &Env,
     depth: Depth,
 ) -> Result<Vec<Bound<'a>>, NoMemory>
+    ensures follows { OnOk result (Follows (each (λ b. turn_steps (expression_at b)) (map operand_view bindings.now)) at.old at.new) }
     ensures goes { Goes at.old at.new }
 {
     let mut seen = Vec::new(at.alloc());
     let mut bound = Vec::new(at.alloc());
     for binding in bindings {
-        at.note_plain(binding.number, env)?;
-        let side = type_right(at, *binding, env, env, depth)?;
-        let opened = open_pattern(at, *binding, &mut seen, env, depth)?;
-        push(&mut bound, conclude(at, opened, side, env, depth)?)?;
+        take_turn(at, *binding, &mut bound, &mut seen, env, depth)?;
     }
     Ok(bound)
+}
+
+/// A binding without `rec`, if it is there.
+#[cycle(exprs)]
+fn take_turn<'a>(
+    at: &mut Parts,
+    binding: Operand<'a>,
+    bound: &mut Vec<Bound<'a>>,
+    seen: &mut Mentioned<'a>,
+    env: &Env,
+    depth: Depth,
+) -> Result<(), NoMemory>
+    ensures follows { OnOk result (Follows (turn_steps (expression_at (operand_view binding.entry))) at.old at.new) }
+    ensures goes { Goes at.old at.new }
+{
+    let Some(node) = binding.node else {
+        return Ok(());
+    };
+    let binding = Binding {
+        node,
+        number: binding.number,
+    };
+    let one = turn(at, binding, seen, env, depth)?;
+    push(bound, one)
+}
+
+/// A binding without `rec`: its right side and then its pattern, which is the whole.
+#[cycle(exprs)]
+fn turn<'a>(
+    at: &mut Parts,
+    binding: Binding<'a>,
+    seen: &mut Mentioned<'a>,
+    env: &Env,
+    depth: Depth,
+) -> Result<Bound<'a>, NoMemory>
+    ensures follows { OnOk result (Follows ((records binding.entry.number ∷ right_at binding.entry.number (node_view binding.entry.node.now)) ++ pattern_steps (bound_pattern binding.entry.number (node_view binding.entry.node.now)) ++ whole_steps (bound_pattern binding.entry.number (node_view binding.entry.node.now))) at.old at.new) }
+    ensures goes { Goes at.old at.new }
+{
+    let side = recorded_right(at, binding, env, depth)?;
+    let opened = open_pattern(at, binding, seen, env, depth)?;
+    conclude(at, opened, side, env, depth)
+}
+
+/// The right side of a binding without `rec`, which is recorded before.
+#[cycle(exprs)]
+fn recorded_right(
+    at: &mut Parts,
+    binding: Binding<'_>,
+    env: &Env,
+    depth: Depth,
+) -> Result<RightSide, NoMemory>
+    ensures follows { OnOk result (Follows (records binding.entry.number ∷ right_at binding.entry.number (node_view binding.entry.node.now)) at.old at.new) }
+    ensures goes { Goes at.old at.new }
+{
+    at.note_plain(binding.number, env)?;
+    type_right(at, binding, env, env, depth)
 }
 
 /// With `rec`: all patterns, and then the right sides, in which their names have one type each.
 #[cycle(exprs)]
 fn together<'a>(
     at: &mut Parts,
-    bindings: &[Binding<'a>],
+    bindings: &[Operand<'a>],
     env: &Env,
     depth: Depth,
 ) -> Result<Vec<Bound<'a>>, NoMemory>
+    ensures follows { OnOk result (Follows (each opened_steps (map operand_view bindings.now) ++ each (λ b. concluded_steps (expression_at b)) (map operand_view bindings.now)) at.old at.new) }
     ensures goes { Goes at.old at.new }
 {
     let opened = open_all(at, bindings, env, depth)?;
     let within = with_group(at, &opened, env)?;
+    conclude_all(at, opened, &within, env, depth)
+}
+
+/// The right sides of bindings whose patterns are typed, in order; each pattern is the whole.
+#[cycle(exprs)]
+fn conclude_all<'a>(
+    at: &mut Parts,
+    opened: Vec<Opened<'a>>,
+    within: &Env,
+    env: &Env,
+    depth: Depth,
+) -> Result<Vec<Bound<'a>>, NoMemory>
+    ensures follows { OnOk result (Follows (each conclusion opened.entry.items) at.old at.new) }
+    ensures goes { Goes at.old at.new }
+{
+    let mut left = opened;
     let mut bound = Vec::new(at.alloc());
-    for one in opened {
-        let side = type_right(at, one.binding, &within, env, depth)?;
-        push(&mut bound, conclude(at, one, side, env, depth)?)?;
+    while !left.is_empty() {
+        let one = left.remove(0);
+        let done = conclude_one(at, one, within, env, depth)?;
+        push(&mut bound, done)?;
     }
     Ok(bound)
+}
+
+/// The right side of a binding whose pattern is typed, which is the whole.
+#[cycle(exprs)]
+fn conclude_one<'a>(
+    at: &mut Parts,
+    opened: Opened<'a>,
+    within: &Env,
+    env: &Env,
+    depth: Depth,
+) -> Result<Bound<'a>, NoMemory>
+    ensures follows { OnOk result (Follows (conclusion opened.entry) at.old at.new) }
+    ensures goes { Goes at.old at.new }
+{
+    let side = type_right(at, opened.binding, within, env, depth)?;
+    conclude(at, opened, side, env, depth)
 }
 
 /// A right side: the parameters, the annotation, the expression, which has that type. A fault of the last demand shows the names
@@ -169,27 +277,64 @@ fn type_right(
     env: &Env,
     depth: Depth,
 ) -> Result<RightSide, NoMemory>
+    ensures follows { OnOk result (Follows (right_at binding.entry.number (node_view binding.entry.node.now)) at.old at.new) }
     ensures goes { Goes at.old at.new }
 {
     let given = operands(at.alloc(), binding.node, binding.number, 1)?;
-    let (parameters, inner) = type_parameters(at, &given, within, depth)?;
-    let annotation = annotation_of(at, binding, within, depth)?;
-    let body = binding.body();
-    let right = type_under(at, body, Sign::None, &inner, depth.inside()?)?;
-    let whole = whole(at, body, right, annotation, &parameters, env)?;
+    let written = first_operand(binding.node, binding.number, 3);
+    right_of(at, &given, written, body_in(binding), within, env, depth)
+}
+
+/// The same by its parts.
+#[cycle(exprs)]
+fn right_of(
+    at: &mut Parts,
+    given: &[Operand<'_>],
+    written: Option<Operand<'_>>,
+    body: Operand<'_>,
+    within: &Env,
+    env: &Env,
+    depth: Depth,
+) -> Result<RightSide, NoMemory>
+    ensures follows { OnOk result (Follows (right_steps (map operand_view given.now) (option_map operand_view written.entry) (expression_at (operand_view body.entry))) at.old at.new) }
+    ensures goes { Goes at.old at.new }
+{
+    let (parameters, inner) = type_parameters(at, given, within, depth)?;
+    let annotation = annotation_of(at, written, within, depth)?;
+    typed_body(at, body, annotation, &parameters, &inner, env, depth)
+}
+
+/// The expression of a right side, which has the type that is written.
+#[cycle(exprs)]
+fn typed_body(
+    at: &mut Parts,
+    body: Operand<'_>,
+    annotation: Option<NodeRef>,
+    parameters: &[NodeRef],
+    inner: &Env,
+    env: &Env,
+    depth: Depth,
+) -> Result<RightSide, NoMemory>
+    ensures follows { OnOk result (Follows (typed_as_written annotation (expression_at (operand_view body.entry))) at.old at.new) }
+    ensures goes { Goes at.old at.new }
+{
+    let right = type_under(at, body, Sign::None, inner, depth.inside()?)?;
+    let whole = whole(at, body, right, annotation, parameters, env)?;
     Ok(RightSide { right, whole })
 }
 
 /// The type that is written for a right side, where one is.
 fn annotation_of(
     at: &mut Parts,
-    binding: Binding<'_>,
+    written: Option<Operand<'_>>,
     within: &Env,
     depth: Depth,
 ) -> Result<Option<NodeRef>, NoMemory>
+    ensures follows { OnOk result (Follows (type_steps_if (option_map operand_view written.entry)) at.old at.new) }
+    ensures there { IfOk result (λ ty. is_some ty ≡ is_some written.entry) }
     ensures goes { Goes at.old at.new }
 {
-    match first_operand(binding.node, binding.number, 3) {
+    match written {
         Some(written) => {
             let ty = at.read_type(written, within, &Variables::OfItem, depth)?;
             Ok(Some(ty))
@@ -207,54 +352,60 @@ fn whole(
     parameters: &[NodeRef],
     env: &Env,
 ) -> Result<NodeRef, NoMemory>
+    ensures follows { OnOk result (Follows (asks_equal_written annotation (operand_view body.entry)) at.old at.new) }
     ensures goes { Goes at.old at.new }
 {
-    equal_if(at, body.span, right, annotation, env)?;
-    arrows(at, parameters, annotation.unwrap_or(right))
-}
-
-/// Begins a group, one level further in: its bindings that are there. A missing one is recorded.
-fn begun<'a>(
-    at: &mut Parts,
-    node: &'a Node,
-    number: u32,
-    env: &Env,
-) -> Result<Vec<Binding<'a>>, NoMemory>
-    ensures goes { Goes at.old at.new }
-{
-    at.level = at.level.saturating_add(1);
-    let mut found = Vec::new(at.alloc());
-    for binding in operands(at.alloc(), node, number, 2)? {
-        match binding.node {
-            Some(node) => push(
-                &mut found,
-                Binding {
-                    node,
-                    number: binding.number,
-                },
-            )?,
-            None => at.note_plain(binding.number, env)?,
+    match annotation {
+        Some(annotation) => {
+            at.equal(body.span, right, annotation, env)?;
+            arrows(at, parameters, annotation)
         }
+        None => arrows(at, parameters, right),
     }
-    Ok(found)
 }
 
-/// The patterns of bindings, each of which is recorded before.
+/// The patterns of bindings that are there, each of which is recorded before.
 fn open_all<'a>(
     at: &mut Parts,
-    bindings: &[Binding<'a>],
+    bindings: &[Operand<'a>],
     env: &Env,
     depth: Depth,
 ) -> Result<Vec<Opened<'a>>, NoMemory>
+    ensures follows { OnOk result (Follows (each opened_steps (map operand_view bindings.now)) at.old at.new) }
+    ensures left { IfOk result (λ os. each conclusion os.items ≡ each (λ b. concluded_steps (expression_at b)) (map operand_view bindings.now)) }
     ensures goes { Goes at.old at.new }
 {
     let mut seen = Vec::new(at.alloc());
     let mut all = Vec::new(at.alloc());
     for binding in bindings {
-        at.note_plain(binding.number, env)?;
-        push(&mut all, open_pattern(at, *binding, &mut seen, env, depth)?)?;
+        open_if(at, *binding, &mut all, &mut seen, env, depth)?;
     }
     Ok(all)
+}
+
+/// The pattern of a binding, if it is there.
+fn open_if<'a>(
+    at: &mut Parts,
+    binding: Operand<'a>,
+    all: &mut Vec<Opened<'a>>,
+    seen: &mut Mentioned<'a>,
+    env: &Env,
+    depth: Depth,
+) -> Result<(), NoMemory>
+    ensures follows { OnOk result (Follows (opened_steps (operand_view binding.entry)) at.old at.new) }
+    ensures left { OnOk result (each conclusion all.new.items ≡ each conclusion all.old.items ++ concluded_steps (expression_at (operand_view binding.entry))) }
+    ensures goes { Goes at.old at.new }
+{
+    let Some(node) = binding.node else {
+        return Ok(());
+    };
+    let binding = Binding {
+        node,
+        number: binding.number,
+    };
+    at.note_plain(binding.number, env)?;
+    let one = open_pattern(at, binding, seen, env, depth)?;
+    push(all, one)
 }
 
 /// The pattern of a binding, in the environment outside.
@@ -265,10 +416,12 @@ fn open_pattern<'a>(
     env: &Env,
     depth: Depth,
 ) -> Result<Opened<'a>, NoMemory>
+    ensures follows { OnOk result (Follows (pattern_steps (bound_pattern binding.entry.number (node_view binding.entry.node.now))) at.old at.new) }
+    ensures binding { IfOk result (λ o. o.binding ≡ binding.entry) }
     ensures goes { Goes at.old at.new }
 {
     let faults_before = at.faults.list.len();
-    let matched = type_pattern(at, binding.pattern(), env, seen, depth.inside()?)?;
+    let matched = type_pattern(at, pattern_in(binding), env, seen, depth.inside()?)?;
     Ok(Opened {
         binding,
         matched,
@@ -293,6 +446,7 @@ fn conclude<'a>(
     env: &Env,
     depth: Depth,
 ) -> Result<Bound<'a>, NoMemory>
+    ensures follows { OnOk result (Follows (whole_steps (bound_pattern opened.entry.binding.number (node_view opened.entry.binding.node.now))) at.old at.new) }
     ensures goes { Goes at.old at.new }
 {
     let generalises = is_general(at, opened.binding, env, depth)?;
@@ -309,7 +463,7 @@ fn is_general(at: &Parts, binding: Binding<'_>, env: &Env, depth: Depth) -> Resu
     if has_parameters(binding.node, binding.number) {
         return Ok(true);
     }
-    is_value(at, binding.body(), env, depth)
+    is_value(at, body_in(binding), env, depth)
 }
 
 /// The demand that a pattern is the whole, and the warning of what it misses, where there is no fault.
@@ -320,19 +474,36 @@ fn pattern_has(
     env: &Env,
     depth: Depth,
 ) -> Result<(), NoMemory>
+    ensures follows { OnOk result (Follows (whole_steps (bound_pattern opened.now.binding.number (node_view opened.now.binding.node.now))) at.old at.new) }
     ensures goes { Goes at.old at.new }
 {
-    let pattern = opened.binding.pattern();
+    let pattern = pattern_in(opened.binding);
     let verdict = at.equal(pattern.span, opened.matched.ty, whole, env)?;
-    if verdict == Verdict::Kept && opened.faultless {
-        report_pattern(at, pattern, env, depth)?;
+    let faultless = verdict == Verdict::Kept && opened.faultless;
+    warn_pattern(at, pattern, faultless, env, depth)
+}
+
+/// The warning of what a pattern misses, where there is no fault.
+fn warn_pattern(
+    at: &mut Parts,
+    pattern: Operand<'_>,
+    faultless: bool,
+    env: &Env,
+    depth: Depth,
+) -> Result<(), NoMemory>
+    ensures follows { OnOk result (Follows (asks FaultKind.Missed (place_of pattern.entry.span ∷ []) ∷ []) at.old at.new) }
+    ensures goes { Goes at.old at.new }
+{
+    if !faultless {
+        return Ok(());
     }
-    Ok(())
+    report_pattern(at, pattern, env, depth)
 }
 
 /// Closes a group. What stands in the types of right sides that are expansive, and of their names, is held; the types of names get
 /// this scope at most, and their variables are generalised.
 fn close(at: &mut Parts, bound: &[Bound<'_>], env: &Env, scope: u64) -> Result<Behind, NoMemory>
+    ensures silent { Silent at.old at.new }
     ensures goes { Goes at.old at.new }
 {
     at.level = at.level.saturating_sub(1);
@@ -352,6 +523,7 @@ fn close(at: &mut Parts, bound: &[Bound<'_>], env: &Env, scope: u64) -> Result<B
 
 /// The variables in expansive right sides, and in the types of their names, aren't generalised.
 fn hold_all(at: &mut Parts, bound: &[Bound<'_>], level: u32) -> Result<(), NoMemory>
+    ensures silent { Silent at.old at.new }
     ensures goes { Goes at.old at.new }
 {
     for one in bound {
@@ -365,6 +537,7 @@ fn hold_all(at: &mut Parts, bound: &[Bound<'_>], level: u32) -> Result<(), NoMem
 
 /// The variables in the types of names aren't generalised.
 fn hold(at: &mut Parts, names: &[BoundName<'_>], level: u32) -> Result<(), NoMemory>
+    ensures silent { Silent at.old at.new }
     ensures goes { Goes at.old at.new }
 {
     for name in names {
@@ -380,6 +553,7 @@ fn close_names(
     scope: u64,
     entries: &mut Vec<Rc<Entry>>,
 ) -> Result<(), NoMemory>
+    ensures silent { Silent at.old at.new }
     ensures goes { Goes at.old at.new }
 {
     for name in names {

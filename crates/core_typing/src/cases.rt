@@ -1,5 +1,14 @@
 //! Matches: `match`, `try` and `function`.
+#![tactic(auto, using(decl_typing::proofs::Going::goes_trans, decl_typing::proofs::Going::goes_refl, decl_typing::proofs::Following::follows_both, decl_typing::proofs::Following::follows_then, decl_typing::proofs::Following::follows_before, decl_typing::proofs::Following::follows_behind, decl_typing::proofs::Following::follows_none, decl_typing::proofs::Following::follows_silent, decl_typing::proofs::Following::store_silent, decl_typing::proofs::Following::silent_refl, decl_typing::proofs::Following::silent_trans, decl_typing::proofs::Following::ends_both, decl_typing::proofs::Following::ends_behind, decl_typing::proofs::Following::ends_before, decl_typing::proofs::Following::ends_silent, decl_typing::proofs::Following::gets_start, decl_typing::proofs::Following::gets_more, decl_typing::proofs::Following::gets_before, decl_typing::proofs::Following::gets_done))]
+
+ghost use Rattle.std.specs.Prelude.{◌≡◌, [], ◌∷◌, ◌++◌, map, option_map, IfOk, OnOk};
+ghost use Rattle.syntax_tree.specs.View.{node_view, place_of};
+ghost use Rattle.row_parts.specs.Numbered.{filled_in, first_of, operand_view};
 ghost use Rattle.decl_typing.specs.Goes.{Goes};
+ghost use Rattle.decl_typing.specs.Steps.{each, Follows};
+ghost use Rattle.core_typing.specs.declared.exprs.RowForm.{RowForm};
+ghost use Rattle.core_typing.specs.Warnings.{spans_of, unused_steps};
+ghost use Rattle.core_typing.specs.ExpressionSteps.{case_parts, cases_at, expression_at, expression_case, expressions_in, filled_expression, steps_as, typed_as_if, typed_pattern, unused_case};
 
 use crate::constants::Sign;
 use crate::exprs::{type_under, typed_as};
@@ -10,7 +19,16 @@ use crate::uses::Used;
 use crate::warnings::Rows;
 use decl_typing::{Depth, Env, NoMemory, NodeRef, Parts};
 use row_parts::{Operand, first_operand, operand_in, operands};
-use syntax_tree::{Node, RowName};
+use syntax_tree::{Node, RowName, Span};
+
+/// A case by its parts, and where it stands.
+#[derive(Clone, Copy)]
+struct Case<'a> {
+    span: Span,
+    pattern: Operand<'a>,
+    guard: Option<Operand<'a>>,
+    body: Operand<'a>,
+}
 
 /// match e with p -> e, try e with p -> e
 #[cycle(exprs)]
@@ -21,6 +39,7 @@ pub fn match_of(
     env: &Env,
     depth: Depth,
 ) -> Result<Used, NoMemory>
+    ensures follows { OnOk result (Follows (steps_as RowForm.Match number (node_view node.now)) at.old at.new) }
     ensures goes { Goes at.old at.new }
 {
     let subject = operand_in(node, number, 1);
@@ -48,6 +67,7 @@ pub fn function_of_cases(
     env: &Env,
     depth: Depth,
 ) -> Result<Used, NoMemory>
+    ensures follows { OnOk result (Follows (steps_as RowForm.Cases number (node_view node.now)) at.old at.new) }
     ensures goes { Goes at.old at.new }
 {
     let from = at.var()?;
@@ -67,16 +87,36 @@ fn type_cases(
     env: &Env,
     depth: Depth,
 ) -> Result<NodeRef, NoMemory>
+    ensures follows { OnOk result (Follows (cases_at number (node_view node.now)) at.old at.new) }
     ensures goes { Goes at.old at.new }
 {
     let cases = operands(at.alloc(), node, number, 4)?;
     let mut rows = Rows::new(at.alloc());
-    let mut bodies = known;
-    for case in &cases {
-        bodies = type_case(at, *case, matched, bodies, &mut rows, env, depth)?;
-    }
+    let bodies = type_each_case(at, &cases, matched, known, &mut rows, env, depth)?;
     rows.report(at, node.row, node.span)?;
     type_or_var(at, bodies)
+}
+
+/// Cases in order, each of which becomes a row of the match: the type of the bodies.
+#[cycle(exprs)]
+fn type_each_case(
+    at: &mut Parts,
+    cases: &[Operand<'_>],
+    matched: NodeRef,
+    known: Option<NodeRef>,
+    rows: &mut Rows,
+    env: &Env,
+    depth: Depth,
+) -> Result<Option<NodeRef>, NoMemory>
+    ensures follows { OnOk result (Follows (each expression_case (map operand_view cases.now)) at.old at.new) }
+    ensures spans { OnOk result (unused_steps (spans_of rows.new) ≡ unused_steps (spans_of rows.old) ++ each unused_case (map operand_view cases.now)) }
+    ensures goes { Goes at.old at.new }
+{
+    let mut bodies = known;
+    for case in cases {
+        bodies = type_case(at, *case, matched, bodies, rows, env, depth)?;
+    }
+    Ok(bodies)
 }
 
 /// A case, which is recorded, or a missing one: the type of the bodies.
@@ -90,13 +130,25 @@ fn type_case(
     env: &Env,
     depth: Depth,
 ) -> Result<Option<NodeRef>, NoMemory>
+    ensures follows { OnOk result (Follows (expression_case (operand_view case.entry)) at.old at.new) }
+    ensures spans { OnOk result (unused_steps (spans_of rows.new) ≡ unused_steps (spans_of rows.old) ++ unused_case (operand_view case.entry)) }
     ensures goes { Goes at.old at.new }
 {
     at.note_plain(case.number, env)?;
     let Some(node) = case.node else {
         return Ok(bodies);
     };
-    typed_case(at, node, case.number, matched, bodies, rows, env, depth)
+    typed_case(
+        at,
+        case.span,
+        node,
+        case.number,
+        matched,
+        bodies,
+        rows,
+        env,
+        depth,
+    )
 }
 
 /// A case that is there: its pattern, which has the type of what is matched; the guard, which is a bool; the body, which has the type
@@ -104,6 +156,7 @@ fn type_case(
 #[cycle(exprs)]
 fn typed_case(
     at: &mut Parts,
+    span: Span,
     node: &Node,
     number: u32,
     matched: NodeRef,
@@ -112,13 +165,37 @@ fn typed_case(
     env: &Env,
     depth: Depth,
 ) -> Result<Option<NodeRef>, NoMemory>
+    ensures follows { OnOk result (Follows (case_parts (filled_in number (node_view node.now) 0) (first_of (expressions_in number (node_view node.now) 2)) (filled_expression number (node_view node.now) 4)) at.old at.new) }
+    ensures spans { OnOk result (spans_of rows.new ≡ spans_of rows.old ++ place_of span ∷ []) }
     ensures goes { Goes at.old at.new }
 {
-    let inner = within_case(at, node, number, matched, rows, env, depth)?;
-    let guard = first_operand(node, number, 2);
-    type_guard(at, guard, &inner, env, depth)?;
-    let body = operand_in(node, number, 4);
-    let ty = typed_as(at, body, bodies, &inner, env, depth)?;
+    let case = Case {
+        span,
+        pattern: operand_in(node, number, 0),
+        guard: first_operand(node, number, 2),
+        body: operand_in(node, number, 4),
+    };
+    case_of(at, case, matched, bodies, rows, env, depth)
+}
+
+/// The same by its parts.
+#[cycle(exprs)]
+fn case_of(
+    at: &mut Parts,
+    case: Case<'_>,
+    matched: NodeRef,
+    bodies: Option<NodeRef>,
+    rows: &mut Rows,
+    env: &Env,
+    depth: Depth,
+) -> Result<Option<NodeRef>, NoMemory>
+    ensures follows { OnOk result (Follows (case_parts (operand_view case.entry.pattern) (option_map (λ o. expression_at (operand_view o)) case.entry.guard) (expression_at (operand_view case.entry.body))) at.old at.new) }
+    ensures spans { OnOk result (spans_of rows.new ≡ spans_of rows.old ++ place_of case.entry.span ∷ []) }
+    ensures goes { Goes at.old at.new }
+{
+    let inner = within_case(at, case, matched, rows, env, depth)?;
+    type_guard(at, case.guard, &inner, env, depth)?;
+    let ty = typed_as(at, case.body, bodies, &inner, env, depth)?;
     Ok(Some(bodies.unwrap_or(ty)))
 }
 
@@ -131,6 +208,7 @@ fn type_guard(
     env: &Env,
     depth: Depth,
 ) -> Result<(), NoMemory>
+    ensures follows { OnOk result (Follows (typed_as_if (option_map (λ o. expression_at (operand_view o)) guard.entry)) at.old at.new) }
     ensures goes { Goes at.old at.new }
 {
     let bool = at.constants.bool;
@@ -143,20 +221,27 @@ fn type_guard(
 /// The pattern of a case, which is a row of the match: the environment with its names.
 fn within_case(
     at: &mut Parts,
-    node: &Node,
-    number: u32,
+    case: Case<'_>,
     matched: NodeRef,
     rows: &mut Rows,
     env: &Env,
     depth: Depth,
 ) -> Result<Env, NoMemory>
+    ensures follows { OnOk result (Follows (typed_pattern (operand_view case.entry.pattern)) at.old at.new) }
+    ensures spans { OnOk result (spans_of rows.new ≡ spans_of rows.old ++ place_of case.entry.span ∷ []) }
     ensures goes { Goes at.old at.new }
 {
-    let pattern = operand_in(node, number, 0);
-    let guard = first_operand(node, number, 2);
     let faults_before = at.faults.list.len();
-    let bound = type_matched(at, pattern, matched, env, depth)?;
-    rows.add(at, node.span, pattern, guard, faults_before, env, depth)?;
+    let bound = type_matched(at, case.pattern, matched, env, depth)?;
+    rows.add(
+        at,
+        case.span,
+        case.pattern,
+        case.guard,
+        faults_before,
+        env,
+        depth,
+    )?;
     with_names(at.alloc(), &bound.names, env)
 }
 
@@ -168,6 +253,7 @@ fn type_matched<'a>(
     env: &Env,
     depth: Depth,
 ) -> Result<Matched<'a>, NoMemory>
+    ensures follows { OnOk result (Follows (typed_pattern (operand_view pattern.entry)) at.old at.new) }
     ensures goes { Goes at.old at.new }
 {
     let mut seen = Vec::new(at.alloc());

@@ -1,7 +1,17 @@
 //! The walk over expressions: each row types its parts in order, with its demands between and behind them.
-ghost use Rattle.std.specs.Prelude.{OnOk};
+#![tactic(auto, using(decl_typing::proofs::Going::goes_trans, decl_typing::proofs::Going::goes_refl, decl_typing::proofs::Following::follows_both, decl_typing::proofs::Following::follows_then, decl_typing::proofs::Following::follows_before, decl_typing::proofs::Following::follows_behind, decl_typing::proofs::Following::follows_none, decl_typing::proofs::Following::follows_silent, decl_typing::proofs::Following::store_silent, decl_typing::proofs::Following::silent_refl, decl_typing::proofs::Following::silent_trans, decl_typing::proofs::Following::ends_both, decl_typing::proofs::Following::ends_behind, decl_typing::proofs::Following::ends_before, decl_typing::proofs::Following::ends_silent, decl_typing::proofs::Following::gets_start, decl_typing::proofs::Following::gets_more, decl_typing::proofs::Following::gets_before, decl_typing::proofs::Following::gets_done, crate::proofs::ExpressionLaws::value_no_record, crate::proofs::ExpressionLaws::form_follows), unfolding(syntax_tree::specs::Names::row_of))]
+
+ghost use Rattle.std.specs.Prelude.{◌≡◌, [], ◌∷◌, ◌++◌, OnOk};
+ghost use Rattle.syntax_tree.specs.View.{place_of, node_view};
+ghost use Rattle.syntax_tree.specs.Names.{row_of};
+ghost use Rattle.row_parts.specs.Numbered.{operand_view, path_view};
+ghost use Rattle.env_table.specs.declared.faults.FaultKind.{FaultKind};
 ghost use Rattle.decl_typing.specs.Goes.{Goes};
+ghost use Rattle.decl_typing.specs.Steps.{asks, each, Follows, Silent};
 ghost use Rattle.decl_typing.specs.Notes.{IsRecorded};
+ghost use Rattle.decl_typing.specs.TypeSteps.{constructor_steps};
+ghost use Rattle.core_typing.specs.declared.exprs.RowForm.{RowForm};
+ghost use Rattle.core_typing.specs.ExpressionSteps.{expression_steps, form_of, row_at, steps_as, unrecorded_steps, value_in, value_steps};
 
 use crate::apply::{application, constructor_path, minus, operation};
 use crate::bindings::let_in;
@@ -10,11 +20,10 @@ use crate::constants::{Sign, constant};
 use crate::functions::function;
 use crate::plain::{parenthesised, plain};
 use crate::records::record;
-use crate::rows::{equal_if, unnamed};
+use crate::rows::{any_type, equal_if, unnamed};
 use crate::uses::{Used, constructor, value};
-use crate::values::is_constructor;
 use decl_typing::{Depth, Env, NoMemory, NodeRef, Parts};
-use row_parts::{Operand, token, written_path};
+use row_parts::{Operand, WrittenPath, token, written_path};
 use syntax_tree::{Node, RowName};
 
 /// Types an expression, or a missing one. It is recorded.
@@ -24,6 +33,7 @@ pub fn type_expr(
     env: &Env,
     depth: Depth,
 ) -> Result<NodeRef, NoMemory>
+    ensures follows { OnOk result (Follows (expression_steps (operand_view e.entry)) at.old at.new) }
     ensures recorded { OnOk result (IsRecorded at.new e.entry.number) }
     ensures goes { Goes at.old at.new }
 {
@@ -39,6 +49,7 @@ pub fn type_under(
     env: &Env,
     depth: Depth,
 ) -> Result<NodeRef, NoMemory>
+    ensures follows { OnOk result (Follows (expression_steps (operand_view e.entry)) at.old at.new) }
     ensures recorded { OnOk result (IsRecorded at.new e.entry.number) }
     ensures goes { Goes at.old at.new }
 {
@@ -52,6 +63,50 @@ pub fn type_under(
     Ok(used.ty)
 }
 
+/// How the parts of a row are typed.
+#[derive(Clone, Copy, PartialEq, Eq)]
+pub enum RowForm {
+    /// A name, a constant or a hole: a row without parts.
+    Leaf,
+    Application,
+    /// An operator with its arguments.
+    Operation,
+    /// A minus, which may stand over a numeral with a point.
+    Minus,
+    Record,
+    Let,
+    /// `match` or `try`.
+    Match,
+    /// `function`.
+    Cases,
+    /// `fun`.
+    Function,
+    Parenthesised,
+    /// Parts in order, with demands between and behind them.
+    Plain,
+}
+
+/// The form of a row.
+fn form_of(row: RowName) -> RowForm
+    ensures { result ≡ form_of (row_of row) }
+{
+    match row {
+        RowName::Name | RowName::Econ | RowName::Epath | RowName::Econst | RowName::Hole => {
+            RowForm::Leaf
+        }
+        RowName::Eapp => RowForm::Application,
+        RowName::Prefix | RowName::Infix => RowForm::Operation,
+        RowName::Eneg => RowForm::Minus,
+        RowName::Erecord => RowForm::Record,
+        RowName::Elet => RowForm::Let,
+        RowName::Ematch | RowName::Etry => RowForm::Match,
+        RowName::Efunction => RowForm::Cases,
+        RowName::Efun => RowForm::Function,
+        RowName::Eparen => RowForm::Parenthesised,
+        _ => RowForm::Plain,
+    }
+}
+
 /// The type of a row, and what its own names stand for.
 #[cycle(exprs)]
 fn typed_row(
@@ -62,22 +117,21 @@ fn typed_row(
     env: &Env,
     depth: Depth,
 ) -> Result<Used, NoMemory>
+    ensures follows { OnOk result (Follows (unrecorded_steps number (node_view node.now)) at.old at.new) }
     ensures goes { Goes at.old at.new }
 {
-    match node.row {
-        RowName::Name | RowName::Econ | RowName::Epath | RowName::Econst | RowName::Hole => {
-            leaf(at, node, number, sign, env)
-        }
-        RowName::Eapp => application(at, node, number, env, depth),
-        RowName::Prefix | RowName::Infix => operation(at, node, number, env, depth),
-        RowName::Eneg => minus(at, node, number, env, depth),
-        RowName::Erecord => record(at, node, number, env, depth),
-        RowName::Elet => let_in(at, node, number, env, depth),
-        RowName::Ematch | RowName::Etry => match_of(at, node, number, env, depth),
-        RowName::Efunction => function_of_cases(at, node, number, env, depth),
-        RowName::Efun => function(at, node, number, env, depth),
-        RowName::Eparen => parenthesised(at, node, number, env, depth),
-        _ => plain(at, node, number, env, depth),
+    match form_of(node.row) {
+        RowForm::Leaf => leaf(at, node, number, sign, env),
+        RowForm::Application => application(at, node, number, env, depth),
+        RowForm::Operation => operation(at, node, number, env, depth),
+        RowForm::Minus => minus(at, node, number, env, depth),
+        RowForm::Record => record(at, node, number, env, depth),
+        RowForm::Let => let_in(at, node, number, env, depth),
+        RowForm::Match => match_of(at, node, number, env, depth),
+        RowForm::Cases => function_of_cases(at, node, number, env, depth),
+        RowForm::Function => function(at, node, number, env, depth),
+        RowForm::Parenthesised => parenthesised(at, node, number, env, depth),
+        RowForm::Plain => plain(at, node, number, env, depth),
     }
 }
 
@@ -89,6 +143,7 @@ pub fn type_each(
     env: &Env,
     depth: Depth,
 ) -> Result<(), NoMemory>
+    ensures follows { OnOk result (Follows (each (λ o. expression_steps (operand_view o)) es.now) at.old at.new) }
     ensures goes { Goes at.old at.new }
 {
     for e in es {
@@ -107,6 +162,7 @@ pub fn typed_as(
     env: &Env,
     depth: Depth,
 ) -> Result<NodeRef, NoMemory>
+    ensures follows { OnOk result (Follows (expression_steps (operand_view e.entry) ++ asks FaultKind.Equal (place_of e.entry.span ∷ []) ∷ []) at.old at.new) }
     ensures goes { Goes at.old at.new }
 {
     let ty = type_under(at, e, Sign::None, scope, depth.inside()?)?;
@@ -116,16 +172,32 @@ pub fn typed_as(
 
 /// A row without parts.
 fn leaf(at: &mut Parts, node: &Node, number: u32, sign: Sign, env: &Env) -> Result<Used, NoMemory>
+    ensures follows { OnOk result (Follows (steps_as RowForm.Leaf number (node_view node.now)) at.old at.new) }
     ensures goes { Goes at.old at.new }
 {
-    if is_constructor(Operand::of(node, number)) {
-        let path = constructor_path(at, Operand::of(node, number))?;
-        let found = constructor(at, env, &path, 0)?;
-        return Ok(Used {
-            ty: found.built,
-            names: found.names,
-        });
+    match constructor_path(at, Operand::of(node, number))? {
+        Some(path) => constructor_alone(at, env, &path),
+        None => leaf_value(at, node, sign, env),
     }
+}
+
+/// A constructor without arguments.
+fn constructor_alone(at: &mut Parts, env: &Env, path: &WrittenPath<'_>) -> Result<Used, NoMemory>
+    ensures follows { OnOk result (Follows (constructor_steps (path_view path.now)) at.old at.new) }
+    ensures goes { Goes at.old at.new }
+{
+    let found = constructor(at, env, path, 0)?;
+    Ok(Used {
+        ty: found.built,
+        names: found.names,
+    })
+}
+
+/// A row without parts that is no constructor.
+fn leaf_value(at: &mut Parts, node: &Node, sign: Sign, env: &Env) -> Result<Used, NoMemory>
+    ensures follows { OnOk result (Follows (value_steps (value_in (row_at (node_view node.now)) (node_view node.now))) at.old at.new) }
+    ensures goes { Goes at.old at.new }
+{
     match node.row {
         RowName::Name => {
             let path = written_path(at.alloc(), node, 9, 0)?;
@@ -139,9 +211,6 @@ fn leaf(at: &mut Parts, node: &Node, number: u32, sign: Sign, env: &Env) -> Resu
             let ty = constant(at, token(node, 0), sign)?;
             Ok(unnamed(at, ty))
         }
-        _ => {
-            let ty = at.var()?;
-            Ok(unnamed(at, ty))
-        }
+        _ => any_type(at),
     }
 }

@@ -1,5 +1,14 @@
 //! fun p p -> e
+#![tactic(auto, using(decl_typing::proofs::Going::goes_trans, decl_typing::proofs::Going::goes_refl, decl_typing::proofs::Following::follows_both, decl_typing::proofs::Following::follows_then, decl_typing::proofs::Following::follows_before, decl_typing::proofs::Following::follows_behind, decl_typing::proofs::Following::follows_none, decl_typing::proofs::Following::follows_silent, decl_typing::proofs::Following::store_silent, decl_typing::proofs::Following::silent_refl, decl_typing::proofs::Following::silent_trans, decl_typing::proofs::Following::ends_both, decl_typing::proofs::Following::ends_behind, decl_typing::proofs::Following::ends_before, decl_typing::proofs::Following::ends_silent, decl_typing::proofs::Following::gets_start, decl_typing::proofs::Following::gets_more, decl_typing::proofs::Following::gets_before, decl_typing::proofs::Following::gets_done))]
+
+ghost use Rattle.std.specs.Prelude.{[], ◌∷◌, map, OnOk};
+ghost use Rattle.syntax_tree.specs.View.{node_view};
+ghost use Rattle.row_parts.specs.Numbered.{operand_view};
+ghost use Rattle.env_table.specs.declared.faults.FaultKind.{FaultKind};
 ghost use Rattle.decl_typing.specs.Goes.{Goes};
+ghost use Rattle.decl_typing.specs.Steps.{asks, each, Follows, Silent};
+ghost use Rattle.core_typing.specs.declared.exprs.RowForm.{RowForm};
+ghost use Rattle.core_typing.specs.ExpressionSteps.{parameter_steps, steps_as};
 
 use crate::constants::Sign;
 use crate::exprs::type_under;
@@ -22,6 +31,7 @@ pub fn function(
     env: &Env,
     depth: Depth,
 ) -> Result<Used, NoMemory>
+    ensures follows { OnOk result (Follows (steps_as RowForm.Function number (node_view node.now)) at.old at.new) }
     ensures goes { Goes at.old at.new }
 {
     let parameters = operands(at.alloc(), node, number, 1)?;
@@ -39,6 +49,7 @@ pub fn type_parameters(
     env: &Env,
     depth: Depth,
 ) -> Result<(Vec<NodeRef>, Env), NoMemory>
+    ensures follows { OnOk result (Follows (each parameter_steps (map operand_view parameters.now)) at.old at.new) }
     ensures goes { Goes at.old at.new }
 {
     let mut types = Vec::new(at.alloc());
@@ -58,16 +69,31 @@ fn type_parameter<'a>(
     env: &Env,
     depth: Depth,
 ) -> Result<Matched<'a>, NoMemory>
+    ensures follows { OnOk result (Follows (parameter_steps (operand_view parameter.entry)) at.old at.new) }
     ensures goes { Goes at.old at.new }
 {
     let faults_before = at.faults.list.len();
     let mut seen = Vec::new(at.alloc());
     let matched = type_pattern(at, parameter, env, &mut seen, depth.inside()?)?;
-    if at.faults.list.len() != faults_before {
-        return Ok(matched);
-    }
-    report_pattern(at, parameter, env, depth)?;
+    warn_parameter(at, parameter, faults_before, env, depth)?;
     Ok(matched)
+}
+
+/// The warning of a parameter's pattern, where there were as many faults before it.
+fn warn_parameter(
+    at: &mut Parts,
+    parameter: Operand<'_>,
+    faults_before: usize,
+    env: &Env,
+    depth: Depth,
+) -> Result<(), NoMemory>
+    ensures follows { OnOk result (Follows (asks FaultKind.Missed ((operand_view parameter.entry).at ∷ []) ∷ []) at.old at.new) }
+    ensures goes { Goes at.old at.new }
+{
+    if at.faults.list.len() != faults_before {
+        return Ok(());
+    }
+    report_pattern(at, parameter, env, depth)
 }
 
 /// The environment with the names of a pattern, in order.
@@ -81,6 +107,7 @@ pub fn with_names(alloc: Global, names: &[BoundName<'_>], env: &Env) -> Result<E
 
 /// The arrow from the types of parameters to a type.
 pub fn arrows(at: &mut Parts, parameters: &[NodeRef], to: NodeRef) -> Result<NodeRef, NoMemory>
+    ensures silent { Silent at.old at.new }
     ensures goes { Goes at.old at.new }
 {
     let mut ty = to;

@@ -11,6 +11,7 @@ mod cases;
 mod constants;
 mod exprs;
 mod functions;
+mod labels;
 mod pats;
 mod patterns;
 mod plain;

@@ -1,12 +1,23 @@
 //! Rows whose parts are typed one after the other, with demands between and behind them.
+#![tactic(auto, using(decl_typing::proofs::Going::goes_trans, decl_typing::proofs::Going::goes_refl, decl_typing::proofs::Following::follows_both, decl_typing::proofs::Following::follows_before, decl_typing::proofs::Following::follows_behind, decl_typing::proofs::Following::follows_none, decl_typing::proofs::Following::follows_silent, decl_typing::proofs::Following::store_silent, decl_typing::proofs::Following::silent_refl, decl_typing::proofs::Following::silent_trans, decl_typing::proofs::Following::ends_both, decl_typing::proofs::Following::ends_behind, decl_typing::proofs::Following::ends_before, decl_typing::proofs::Following::ends_silent, decl_typing::proofs::Following::gets_start, decl_typing::proofs::Following::gets_more, decl_typing::proofs::Following::gets_before, decl_typing::proofs::Following::gets_done, crate::proofs::ExpressionLaws::types_no_record, crate::proofs::ExpressionLaws::token_no_record), unfolding(syntax_tree::specs::Names::row_of))]
+
+ghost use Rattle.std.specs.Prelude.{◌≡◌, [], ◌∷◌, ◌++◌, map, option_map, IfOk, OnOk};
+ghost use Rattle.syntax_tree.specs.Names.{row_of};
+ghost use Rattle.syntax_tree.specs.View.{place_of, tok_of, node_view};
+ghost use Rattle.row_parts.specs.Numbered.{operand_view, path_view, path_in};
+ghost use Rattle.env_table.specs.declared.faults.FaultKind.{FaultKind};
 ghost use Rattle.decl_typing.specs.Goes.{Goes};
+ghost use Rattle.decl_typing.specs.Steps.{asks, each, Follows, Silent, asks_bound};
+ghost use Rattle.core_typing.specs.PatternSteps.{asks_equal, asks_token, later};
+ghost use Rattle.core_typing.specs.declared.exprs.RowForm.{RowForm};
+ghost use Rattle.core_typing.specs.ExpressionSteps.{asked_behind, asked_branch, behind_part_steps, behind_parts, expression_at, expression_steps, has_type, label_steps, part_at, part_steps, parts_from, row_at, set_label_at, steps_as};
 
 use crate::constants::Sign;
 use crate::exprs::type_under;
-use crate::rows::{type_or_var, unnamed};
+use crate::rows::{as_written, type_or_var, unnamed};
 use crate::uses::{Names, Used, field_label, label_of};
 use crate::values::is_false;
-use decl_typing::{Depth, Env, NoMemory, NodeRef, Parts, Variables, new_entry, path_of};
+use decl_typing::{Depth, Env, NoMemory, NodeRef, Parts, new_entry, path_of};
 use env_table::{Found, Kind, What};
 use owned_lists::push;
 use row_parts::{
@@ -23,6 +34,7 @@ pub fn plain(
     env: &Env,
     depth: Depth,
 ) -> Result<Used, NoMemory>
+    ensures follows { OnOk result (Follows (steps_as RowForm.Plain number (node_view node.now)) at.old at.new) }
     ensures goes { Goes at.old at.new }
 {
     let parts = operands_of(at.alloc(), node, number)?;
@@ -71,17 +83,36 @@ fn type_parts(
     inner: &Env,
     depth: Depth,
 ) -> Result<Vec<NodeRef>, NoMemory>
+    ensures follows { OnOk result (Follows (parts_from (row_of row) 0 (map expression_at (map operand_view parts.now))) at.old at.new) }
     ensures goes { Goes at.old at.new }
 {
     let mut types = Vec::new(at.alloc());
     for part in parts {
         let place = types.len();
         let scope = if place == 2 { inner } else { env };
-        let ty = type_under(at, *part, Sign::None, scope, depth.inside()?)?;
-        behind_part(at, row, place, *part, ty, env)?;
+        let ty = type_part(at, row, place, *part, scope, env, depth)?;
         push(&mut types, ty)?;
     }
     Ok(types)
+}
+
+/// The type of a part of a row in a scope, with what is asked of it as soon as it is typed. A fault shows the names of `env`.
+#[cycle(exprs)]
+fn type_part(
+    at: &mut Parts,
+    row: RowName,
+    place: usize,
+    part: Operand<'_>,
+    scope: &Env,
+    env: &Env,
+    depth: Depth,
+) -> Result<NodeRef, NoMemory>
+    ensures follows { OnOk result (Follows (part_steps (row_of row) place (expression_at (operand_view part.entry))) at.old at.new) }
+    ensures goes { Goes at.old at.new }
+{
+    let ty = type_under(at, part, Sign::None, scope, depth.inside()?)?;
+    behind_part(at, row, place, part, ty, env)?;
+    Ok(ty)
 }
 
 /// What is asked of a part of a row as soon as it is typed, by its place among the parts.
@@ -93,6 +124,7 @@ fn behind_part(
     ty: NodeRef,
     env: &Env,
 ) -> Result<(), NoMemory>
+    ensures follows { OnOk result (Follows (behind_part_steps (row_of row) place (expression_at (operand_view part.entry))) at.old at.new) }
     ensures goes { Goes at.old at.new }
 {
     match (row, place) {
@@ -106,6 +138,7 @@ fn behind_part(
 
 /// The demand that a part is a bool.
 fn ask_bool(at: &mut Parts, part: Operand<'_>, ty: NodeRef, env: &Env) -> Result<(), NoMemory>
+    ensures follows { OnOk result (Follows (asks_equal (operand_view part.entry)) at.old at.new) }
     ensures goes { Goes at.old at.new }
 {
     let bool = at.constants.bool;
@@ -115,6 +148,7 @@ fn ask_bool(at: &mut Parts, part: Operand<'_>, ty: NodeRef, env: &Env) -> Result
 
 /// The demand that a part is an int.
 fn ask_int(at: &mut Parts, part: Operand<'_>, ty: NodeRef, env: &Env) -> Result<(), NoMemory>
+    ensures follows { OnOk result (Follows (asks_equal (operand_view part.entry)) at.old at.new) }
     ensures goes { Goes at.old at.new }
 {
     let int = at.constants.int;
@@ -124,6 +158,7 @@ fn ask_int(at: &mut Parts, part: Operand<'_>, ty: NodeRef, env: &Env) -> Result<
 
 /// `mutable` of the label of a field that is set, where it is found.
 fn ask_mutable(at: &mut Parts, field: Operand<'_>, env: &Env) -> Result<(), NoMemory>
+    ensures follows { OnOk result (Follows (asks_token FaultKind.Mutable (set_label_at (operand_view field.entry).part)) at.old at.new) }
     ensures goes { Goes at.old at.new }
 {
     let Some(node) = field.node else {
@@ -133,10 +168,18 @@ fn ask_mutable(at: &mut Parts, field: Operand<'_>, env: &Env) -> Result<(), NoMe
         return Ok(());
     }
     let path = written_path(at.alloc(), node, 2, 3)?;
+    ask_mutable_label(at, &path, env)
+}
+
+/// The same by the label's path.
+fn ask_mutable_label(at: &mut Parts, path: &WrittenPath<'_>, env: &Env) -> Result<(), NoMemory>
+    ensures follows { OnOk result (Follows (asks_token FaultKind.Mutable (path_view path.now).last) at.old at.new) }
+    ensures goes { Goes at.old at.new }
+{
     let Some(last) = path.last else {
         return Ok(());
     };
-    if is_fixed(at, env, &path, last)? {
+    if is_fixed(at, env, path, last)? {
         return at.not_mutable(last.span, last.name.as_str());
     }
     Ok(())
@@ -163,6 +206,7 @@ fn behind_parts(
     names: Names,
     env: &Env,
 ) -> Result<Used, NoMemory>
+    ensures follows { OnOk result (Follows (behind_parts (row_at (node_view node.now)) (node_view node.now) (map expression_at (map operand_view parts.now))) at.old at.new) }
     ensures goes { Goes at.old at.new }
 {
     match node.row {
@@ -182,6 +226,7 @@ fn type_of(
     types: &[NodeRef],
     env: &Env,
 ) -> Result<NodeRef, NoMemory>
+    ensures follows { OnOk result (Follows (each has_type (asked_behind (row_of row) (map expression_at (map operand_view parts.now)))) at.old at.new) }
     ensures goes { Goes at.old at.new }
 {
     match row {
@@ -213,10 +258,13 @@ fn has(
     wanted: NodeRef,
     env: &Env,
 ) -> Result<(), NoMemory>
+    ensures follows { OnOk result (Follows (each has_type (part_at place (map expression_at (map operand_view parts.now)))) at.old at.new) }
     ensures goes { Goes at.old at.new }
 {
-    if let (Some(part), Some(ty)) = (parts.get(place), types.get(place)) {
-        at.equal(part.span, *ty, wanted, env)?;
+    if let Some(part) = parts.get(place) {
+        if let Some(ty) = types.get(place) {
+            at.equal(part.span, *ty, wanted, env)?;
+        }
     }
     Ok(())
 }
@@ -228,13 +276,29 @@ fn list(
     types: &[NodeRef],
     env: &Env,
 ) -> Result<NodeRef, NoMemory>
+    ensures follows { OnOk result (Follows (each has_type (later (map expression_at (map operand_view parts.now)))) at.old at.new) }
     ensures goes { Goes at.old at.new }
 {
     let element = type_or_var(at, types.first().copied())?;
-    for (ty, part) in types.iter().zip(parts.iter()).skip(1) {
-        at.equal(part.span, *ty, element, env)?;
-    }
+    later_have(at, parts, types, element, env)?;
     at.list(element)
+}
+
+/// The demand that each part behind the first has a type.
+fn later_have(
+    at: &mut Parts,
+    parts: &[Operand<'_>],
+    types: &[NodeRef],
+    wanted: NodeRef,
+    env: &Env,
+) -> Result<(), NoMemory>
+    ensures follows { OnOk result (Follows (each has_type (later (map expression_at (map operand_view parts.now)))) at.old at.new) }
+    ensures goes { Goes at.old at.new }
+{
+    for place in 1..parts.len() {
+        has(at, parts, types, place, wanted, env)?;
+    }
+    Ok(())
 }
 
 /// e :: e: the right part is a list of the left
@@ -244,6 +308,7 @@ fn cons(
     types: &[NodeRef],
     env: &Env,
 ) -> Result<NodeRef, NoMemory>
+    ensures follows { OnOk result (Follows (each has_type (part_at 1 (map expression_at (map operand_view parts.now)))) at.old at.new) }
     ensures goes { Goes at.old at.new }
 {
     match types.first() {
@@ -263,12 +328,13 @@ fn branches(
     types: &[NodeRef],
     env: &Env,
 ) -> Result<NodeRef, NoMemory>
+    ensures follows { OnOk result (Follows (each has_type (asked_branch (map expression_at (map operand_view parts.now)))) at.old at.new) }
     ensures goes { Goes at.old at.new }
 {
     let Some(yes) = types.get(1) else {
         return at.var();
     };
-    if types.len() > 2 {
+    if parts.len() > 2 {
         has(at, parts, types, 2, *yes, env)?;
         Ok(*yes)
     } else {
@@ -285,6 +351,7 @@ fn set(
     types: &[NodeRef],
     env: &Env,
 ) -> Result<NodeRef, NoMemory>
+    ensures follows { OnOk result (Follows (each has_type (part_at 1 (map expression_at (map operand_view parts.now)))) at.old at.new) }
     ensures goes { Goes at.old at.new }
 {
     if let Some(ty) = types.first() {
@@ -301,6 +368,7 @@ fn field(
     types: &[NodeRef],
     env: &Env,
 ) -> Result<Used, NoMemory>
+    ensures follows { OnOk result (Follows (label_steps (path_in (node_view node.now) 2 3) (map expression_at (map operand_view parts.now))) at.old at.new) }
     ensures goes { Goes at.old at.new }
 {
     let path = written_path(at.alloc(), node, 2, 3)?;
@@ -329,31 +397,11 @@ pub fn parenthesised(
     env: &Env,
     depth: Depth,
 ) -> Result<Used, NoMemory>
+    ensures follows { OnOk result (Follows (steps_as RowForm.Parenthesised number (node_view node.now)) at.old at.new) }
     ensures goes { Goes at.old at.new }
 {
     let part = operand_in(node, number, 1);
     let ty = type_under(at, part, Sign::None, env, depth.inside()?)?;
     let ty = as_written(at, first_operand(node, number, 3), part, ty, env, depth)?;
     Ok(unnamed(at, ty))
-}
-
-/// The type that is written behind a part, which has it; without one the part's own.
-fn as_written(
-    at: &mut Parts,
-    written: Option<Operand<'_>>,
-    part: Operand<'_>,
-    ty: NodeRef,
-    env: &Env,
-    depth: Depth,
-) -> Result<NodeRef, NoMemory>
-    ensures goes { Goes at.old at.new }
-{
-    match written {
-        Some(written) => {
-            let wanted = at.read_type(written, env, &Variables::OfItem, depth)?;
-            at.equal(part.span, ty, wanted, env)?;
-            Ok(wanted)
-        }
-        None => Ok(ty),
-    }
 }

@@ -1,31 +1,39 @@
 //! Records: { l = e }, { e with l = e }
+#![tactic(auto, using(decl_typing::proofs::Going::goes_trans, decl_typing::proofs::Going::goes_refl, decl_typing::proofs::Following::follows_both, decl_typing::proofs::Following::follows_then, decl_typing::proofs::Following::follows_before, decl_typing::proofs::Following::follows_behind, decl_typing::proofs::Following::follows_none, decl_typing::proofs::Following::follows_silent, decl_typing::proofs::Following::store_silent, decl_typing::proofs::Following::silent_refl, decl_typing::proofs::Following::silent_trans, decl_typing::proofs::Following::ends_both, decl_typing::proofs::Following::ends_behind, decl_typing::proofs::Following::ends_before, decl_typing::proofs::Following::ends_silent, decl_typing::proofs::Following::gets_start, decl_typing::proofs::Following::gets_more, decl_typing::proofs::Following::gets_before, decl_typing::proofs::Following::gets_done))]
+
+ghost use Rattle.std.specs.Prelude.{◌≡◌, [], ◌∷◌, ◌++◌, map, option_map, IfOk, OnOk};
+ghost use Rattle.syntax_tree.specs.View.{node_view, place_of, tok_of};
+ghost use Rattle.row_parts.specs.Numbered.{operand_view, path_view};
+ghost use Rattle.env_table.specs.declared.faults.FaultKind.{FaultKind};
 ghost use Rattle.decl_typing.specs.Goes.{Goes};
+ghost use Rattle.decl_typing.specs.Steps.{asks, each, records, Follows, Silent};
+ghost use Rattle.core_typing.specs.PatternSteps.{asks_equal, asks_labels, labels_of, lost_steps};
+ghost use Rattle.core_typing.specs.declared.exprs.RowForm.{RowForm};
+ghost use Rattle.core_typing.specs.ExpressionSteps.{expression_at, expression_field, expression_steps, field_steps, fields_steps, label_at, loose_steps, made_or_loose, made_steps, pun_steps, record_steps, steps_as, typed_as, typed_if, updated_steps};
+ghost use Rattle.core_typing.specs.RecordView.{record_parts};
 
 use crate::constants::Sign;
-use crate::exprs::{type_each, type_under, typed_as};
-use crate::patterns::field_names;
-use crate::rows::{equal_if, type_or_var, unnamed};
-use crate::uses::{
-    RecordType, Used, ask_new_label, field_type, labels_in, push_label, record_type, report_lost,
-    report_unbound, value,
+use crate::exprs::{type_under, typed_as};
+use crate::labels::{
+    Fields, begin_field, labels_behind, note_label, note_missing, record_of_fields,
+    record_of_labels,
 };
+use crate::rows::{equal_if, type_or_var, unnamed};
+use crate::uses::{Names, RecordType, Used, labels_in, value};
 use crate::values::label_path;
-use decl_typing::{Depth, Env, NoMemory, NodeRef, Parts};
-use env_table::Path;
-use owned_lists::push;
+use decl_typing::{Depth, Entry, Env, NoMemory, NodeRef, Parts};
 use row_parts::{Operand, WrittenPath, first_operand, operand_in, operands, token, written_path};
+use std::rc::Rc;
 use syntax_tree::{Node, Span, Token};
 
-/// A field, by the number of its own node.
+/// What a record has: where it stands, its first part, the value behind that, and its fields.
 #[derive(Drop)]
-struct Field<'a> {
-    number: u32,
-    label: WrittenPath<'a>,
+struct Pieces<'a> {
+    span: Span,
+    first: Operand<'a>,
     value: Option<Operand<'a>>,
+    fields: Vec<Operand<'a>>,
 }
-
-/// The labels of fields so far.
-type Labels<'a> = Vec<&'a Token>;
 
 /// { l = e }, { e with l = e }: of a record that is made, a first part that is a path to a lower-case name is a label
 #[cycle(exprs)]
@@ -36,22 +44,50 @@ pub fn record(
     env: &Env,
     depth: Depth,
 ) -> Result<Used, NoMemory>
+    ensures follows { OnOk result (Follows (steps_as RowForm.Record number (node_view node.now)) at.old at.new) }
     ensures goes { Goes at.old at.new }
 {
-    let first = operand_in(node, number, 1);
-    if token(node, 4).is_some() {
-        return updated(at, node, number, first, env, depth);
+    let pieces = Pieces {
+        span: node.span,
+        first: operand_in(node, number, 1),
+        value: first_operand(node, number, 3),
+        fields: operands(at.alloc(), node, number, 5)?,
+    };
+    record_of(at, &pieces, token(node, 4), env, depth)
+}
+
+/// The same by its pieces, and by the word `with`.
+#[cycle(exprs)]
+fn record_of(
+    at: &mut Parts,
+    pieces: &Pieces<'_>,
+    with_word: Option<&Token>,
+    env: &Env,
+    depth: Depth,
+) -> Result<Used, NoMemory>
+    ensures follows { OnOk result (Follows (record_steps (option_map (λ t. tok_of t.now) with_word.entry) (record_parts pieces.now)) at.old at.new) }
+    ensures goes { Goes at.old at.new }
+{
+    match with_word {
+        Some(_) => updated(at, pieces, env, depth),
+        None => made_or_loose(at, pieces, env, depth),
     }
-    match label_path(at, first)? {
-        Some(label) => {
-            let field = Field {
-                number: first.number,
-                label,
-                value: first_operand(node, number, 3),
-            };
-            made(at, node, number, field, env, depth)
-        }
-        None => loose(at, node, number, first, env, depth),
+}
+
+/// A record that is made, by the label that its first part is.
+#[cycle(exprs)]
+fn made_or_loose(
+    at: &mut Parts,
+    pieces: &Pieces<'_>,
+    env: &Env,
+    depth: Depth,
+) -> Result<Used, NoMemory>
+    ensures follows { OnOk result (Follows (made_or_loose (label_at (operand_view pieces.now.first).part) (record_parts pieces.now)) at.old at.new) }
+    ensures goes { Goes at.old at.new }
+{
+    match label_path(at, pieces.first)? {
+        Some(label) => made(at, pieces, &label, env, depth),
+        None => loose(at, pieces, env, depth),
     }
 }
 
@@ -59,121 +95,93 @@ pub fn record(
 #[cycle(exprs)]
 fn made<'a>(
     at: &mut Parts,
-    node: &'a Node,
-    number: u32,
-    first: Field<'a>,
+    pieces: &Pieces<'a>,
+    label: &WrittenPath<'a>,
     env: &Env,
     depth: Depth,
 ) -> Result<Used, NoMemory>
+    ensures follows { OnOk result (Follows (made_steps (path_view label.now) (record_parts pieces.now)) at.old at.new) }
     ensures goes { Goes at.old at.new }
 {
-    let fields = fields_behind(at, node, number, first, env)?;
-    let found = record_of_fields(at, env, &fields)?;
-    typed_fields(at, &found, &fields, Some(node.span), env, depth)
+    let found = record_of_made(at, pieces, label, env)?;
+    let mut fields = fields_in(at, found);
+    type_field(
+        at,
+        &mut fields,
+        pieces.first.number,
+        label,
+        pieces.value,
+        env,
+        depth,
+    )?;
+    type_fields(at, &mut fields, &pieces.fields, env, depth)?;
+    complete(at, &fields, pieces.span)
+}
+
+/// The type of a record that is made, by its labels, behind the fields that are missing.
+fn record_of_made<'a>(
+    at: &mut Parts,
+    pieces: &Pieces<'a>,
+    label: &WrittenPath<'a>,
+    env: &Env,
+) -> Result<RecordType, NoMemory>
+    ensures follows { OnOk result (Follows (each lost_steps (map operand_view pieces.now.fields.items) ++ asks_labels (path_view label.now ∷ labels_of (map operand_view pieces.now.fields.items))) at.old at.new) }
+    ensures goes { Goes at.old at.new }
+{
+    note_missing(at, &pieces.fields, env)?;
+    let labels = labels_behind(at, label, &pieces.fields)?;
+    record_of_labels(at, env, &labels)
+}
+
+/// No fields so far of a record.
+fn fields_in<'a>(at: &Parts, found: RecordType) -> Fields<'a> {
+    Fields {
+        found,
+        labels: Vec::new(at.alloc()),
+    }
 }
 
 /// The same where the first part is no label: it is told, and typed before the type is looked for, and the value behind it is typed.
 #[cycle(exprs)]
-fn loose(
-    at: &mut Parts,
-    node: &Node,
-    number: u32,
-    first: Operand<'_>,
-    env: &Env,
-    depth: Depth,
-) -> Result<Used, NoMemory>
+fn loose(at: &mut Parts, pieces: &Pieces<'_>, env: &Env, depth: Depth) -> Result<Used, NoMemory>
+    ensures follows { OnOk result (Follows (loose_steps (record_parts pieces.now)) at.old at.new) }
     ensures goes { Goes at.old at.new }
 {
-    let fields = loose_fields(at, node, number, first, env)?;
-    let value = listed(at, first_operand(node, number, 3))?;
-    type_under(at, first, Sign::None, env, depth.inside()?)?;
-    let found = record_of_fields(at, env, &fields)?;
-    behind_loose(at, &found, &value, &fields, node.span, env, depth)
+    let found = record_behind(at, pieces, env, depth)?;
+    let mut fields = fields_in(at, found);
+    type_if(at, pieces.value, env, depth)?;
+    type_fields(at, &mut fields, &pieces.fields, env, depth)?;
+    complete(at, &fields, pieces.span)
 }
 
-/// The value behind a first part that is no label, and the fields.
+/// A first part that is no label, which is told, and the type by the labels of the fields behind it.
 #[cycle(exprs)]
-fn behind_loose(
+fn record_behind(
     at: &mut Parts,
-    found: &RecordType,
-    value: &[Operand<'_>],
-    fields: &[Field<'_>],
-    span: Span,
+    pieces: &Pieces<'_>,
     env: &Env,
     depth: Depth,
-) -> Result<Used, NoMemory>
+) -> Result<RecordType, NoMemory>
+    ensures follows { OnOk result (Follows ((asks FaultKind.Label (place_of pieces.now.first.span ∷ []) ∷ each lost_steps (map operand_view pieces.now.fields.items)) ++ expression_steps (operand_view pieces.now.first) ++ asks_labels (labels_of (map operand_view pieces.now.fields.items))) at.old at.new) }
     ensures goes { Goes at.old at.new }
 {
-    type_each(at, value, env, depth)?;
-    typed_fields(at, found, fields, Some(span), env, depth)
+    begin_loose(at, pieces, env)?;
+    type_under(at, pieces.first, Sign::None, env, depth.inside()?)?;
+    record_of_fields(at, env, &pieces.fields)
 }
 
-/// { e with l = e }: fields that are missing; the part, which is the record; the fields
-#[cycle(exprs)]
-fn updated(
-    at: &mut Parts,
-    node: &Node,
-    number: u32,
-    first: Operand<'_>,
-    env: &Env,
-    depth: Depth,
-) -> Result<Used, NoMemory>
+/// The demand that the first part of a record that is made is a label, and the fields that are missing.
+fn begin_loose(at: &mut Parts, pieces: &Pieces<'_>, env: &Env) -> Result<(), NoMemory>
+    ensures follows { OnOk result (Follows (asks FaultKind.Label (place_of pieces.now.first.span ∷ []) ∷ each lost_steps (map operand_view pieces.now.fields.items)) at.old at.new) }
     ensures goes { Goes at.old at.new }
 {
-    let fields = fields_of(at, node, number, env)?;
-    let ty = type_under(at, first, Sign::None, env, depth.inside()?)?;
-    let found = record_of_part(at, first.span, ty, &fields, env)?;
-    typed_fields(at, &found, &fields, None, env, depth)
-}
-
-/// The fields of a record, and `complete` of one that is made at a place: its type.
-#[cycle(exprs)]
-fn typed_fields(
-    at: &mut Parts,
-    found: &RecordType,
-    fields: &[Field<'_>],
-    made_at: Option<Span>,
-    env: &Env,
-    depth: Depth,
-) -> Result<Used, NoMemory>
-    ensures goes { Goes at.old at.new }
-{
-    let labels = type_fields(at, found, fields, env, depth)?;
-    complete(at, found, &labels, made_at)
-}
-
-/// The values of fields in order, each of which is the field: the labels that are written.
-#[cycle(exprs)]
-fn type_fields<'a>(
-    at: &mut Parts,
-    found: &RecordType,
-    fields: &[Field<'a>],
-    env: &Env,
-    depth: Depth,
-) -> Result<Labels<'a>, NoMemory>
-    ensures goes { Goes at.old at.new }
-{
-    let mut labels = Vec::new(at.alloc());
-    for field in fields {
-        let wanted = begin_field(at, found, field, &mut labels, env)?;
-        if let Some(value) = field.value {
-            typed_as(at, value, wanted, env, env, depth)?;
-        }
-    }
-    Ok(labels)
-}
-
-/// One operand or none, as a list.
-fn listed<'a>(at: &Parts, operand: Option<Operand<'a>>) -> Result<Vec<Operand<'a>>, NoMemory> {
-    let mut list = Vec::new(at.alloc());
-    if let Some(operand) = operand {
-        push(&mut list, operand)?;
-    }
-    Ok(list)
+    ask_label(at, pieces.first)?;
+    note_missing(at, &pieces.fields, env)
 }
 
 /// The demand that the first part of a record that is made is a label, where it is there.
 fn ask_label(at: &mut Parts, first: Operand<'_>) -> Result<(), NoMemory>
+    ensures follows { OnOk result (Follows (asks FaultKind.Label (place_of first.entry.span ∷ []) ∷ []) at.old at.new) }
     ensures goes { Goes at.old at.new }
 {
     match first.node {
@@ -182,216 +190,196 @@ fn ask_label(at: &mut Parts, first: Operand<'_>) -> Result<(), NoMemory>
     }
 }
 
-/// The demand that a first part is a label, which it isn't, and the fields behind it.
-fn loose_fields<'a>(
-    at: &mut Parts,
-    node: &'a Node,
-    number: u32,
-    first: Operand<'_>,
-    env: &Env,
-) -> Result<Vec<Field<'a>>, NoMemory>
+/// An expression that may be there.
+#[cycle(exprs)]
+fn type_if(at: &mut Parts, e: Option<Operand<'_>>, env: &Env, depth: Depth) -> Result<(), NoMemory>
+    ensures follows { OnOk result (Follows (typed_if (option_map expression_at (option_map operand_view e.entry))) at.old at.new) }
     ensures goes { Goes at.old at.new }
 {
-    ask_label(at, first)?;
-    fields_of(at, node, number, env)
+    if let Some(e) = e {
+        type_under(at, e, Sign::None, env, depth.inside()?)?;
+    }
+    Ok(())
 }
 
-/// `bound` of the record type by the labels of its fields; the part before `with` has it.
-fn record_of_part(
-    at: &mut Parts,
-    span: Span,
-    ty: NodeRef,
-    fields: &[Field<'_>],
-    env: &Env,
-) -> Result<RecordType, NoMemory>
+/// { e with l = e }: fields that are missing; the part, which is the record that has the labels; the fields
+#[cycle(exprs)]
+fn updated(at: &mut Parts, pieces: &Pieces<'_>, env: &Env, depth: Depth) -> Result<Used, NoMemory>
+    ensures follows { OnOk result (Follows (updated_steps (record_parts pieces.now)) at.old at.new) }
     ensures goes { Goes at.old at.new }
 {
-    let found = record_of_fields(at, env, fields)?;
-    equal_if(at, span, ty, found.ty(), env)?;
+    let found = record_of_part(at, pieces, env, depth)?;
+    let mut fields = fields_in(at, found);
+    type_fields(at, &mut fields, &pieces.fields, env, depth)?;
+    type_of(at, &fields.found)
+}
+
+/// The part before `with`, which is the record that has the labels.
+#[cycle(exprs)]
+fn record_of_part(
+    at: &mut Parts,
+    pieces: &Pieces<'_>,
+    env: &Env,
+    depth: Depth,
+) -> Result<RecordType, NoMemory>
+    ensures follows { OnOk result (Follows (each lost_steps (map operand_view pieces.now.fields.items) ++ expression_steps (operand_view pieces.now.first) ++ asks_labels (labels_of (map operand_view pieces.now.fields.items)) ++ asks_equal (operand_view pieces.now.first)) at.old at.new) }
+    ensures goes { Goes at.old at.new }
+{
+    note_missing(at, &pieces.fields, env)?;
+    let ty = type_under(at, pieces.first, Sign::None, env, depth.inside()?)?;
+    let found = record_of_fields(at, env, &pieces.fields)?;
+    equal_if(at, pieces.first.span, ty, found.ty(), env)?;
     Ok(found)
 }
 
-/// The fields behind the first part; one that is missing is recorded.
-fn fields_of<'a>(
+/// Fields in order.
+#[cycle(exprs)]
+fn type_fields<'a>(
     at: &mut Parts,
-    node: &'a Node,
-    number: u32,
+    fields: &mut Fields<'a>,
+    given: &[Operand<'a>],
     env: &Env,
-) -> Result<Vec<Field<'a>>, NoMemory>
-    ensures goes { Goes at.old at.new }
-{
-    let mut fields = Vec::new(at.alloc());
-    push_fields(at, node, number, env, &mut fields)?;
-    Ok(fields)
-}
-
-/// A first field and those behind it.
-fn fields_behind<'a>(
-    at: &mut Parts,
-    node: &'a Node,
-    number: u32,
-    first: Field<'a>,
-    env: &Env,
-) -> Result<Vec<Field<'a>>, NoMemory>
-    ensures goes { Goes at.old at.new }
-{
-    let mut fields = Vec::new(at.alloc());
-    push(&mut fields, first)?;
-    push_fields(at, node, number, env, &mut fields)?;
-    Ok(fields)
-}
-
-/// Puts the fields of slot 5 behind others; one that is missing is recorded.
-fn push_fields<'a>(
-    at: &mut Parts,
-    node: &'a Node,
-    number: u32,
-    env: &Env,
-    fields: &mut Vec<Field<'a>>,
+    depth: Depth,
 ) -> Result<(), NoMemory>
+    ensures follows { OnOk result (Follows (fields_steps (map expression_at (map operand_view given.now))) at.old at.new) }
     ensures goes { Goes at.old at.new }
 {
-    for part in operands(at.alloc(), node, number, 5)? {
-        match part.node {
-            Some(inner) => push(fields, field_of(at, inner, part.number)?)?,
-            None => at.note_plain(part.number, env)?,
-        }
+    for field in given {
+        type_if_there(at, fields, *field, env, depth)?;
     }
     Ok(())
 }
 
-/// l = e
-fn field_of<'a>(at: &Parts, node: &'a Node, number: u32) -> Result<Field<'a>, NoMemory> {
-    Ok(Field {
-        number,
-        label: written_path(at.alloc(), node, 0, 1)?,
-        value: first_operand(node, number, 3),
-    })
-}
-
-/// `bound` of the record type by the labels of its fields.
-fn record_of_fields(at: &mut Parts, env: &Env, fields: &[Field<'_>]) -> Result<RecordType, NoMemory>
-    ensures goes { Goes at.old at.new }
-{
-    let labels = labels_of(at, fields)?;
-    match record_type(at, env, &labels)? {
-        Some(found) => Ok(found),
-        None => {
-            report_labels(at, env, fields)?;
-            Ok(RecordType::Open)
-        }
-    }
-}
-
-fn labels_of(at: &Parts, fields: &[Field<'_>]) -> Result<Vec<Path>, NoMemory> {
-    let mut labels = Vec::new(at.alloc());
-    for field in fields {
-        push_label(at, &mut labels, &field.label)?;
-    }
-    Ok(labels)
-}
-
-/// No record type has the labels: told at the first qualifier that leads to no module, or else at the first written label.
-fn report_labels(at: &mut Parts, env: &Env, fields: &[Field<'_>]) -> Result<(), NoMemory>
-    ensures goes { Goes at.old at.new }
-{
-    for field in fields {
-        if report_lost(at, env, &field.label)? {
-            return Ok(());
-        }
-    }
-    report_first(at, fields)
-}
-
-fn report_first(at: &mut Parts, fields: &[Field<'_>]) -> Result<(), NoMemory>
-    ensures goes { Goes at.old at.new }
-{
-    for field in fields {
-        if report_unbound(at, &field.label)? {
-            return Ok(());
-        }
-    }
-    Ok(())
-}
-
-/// Records a field and asks that its label is new where the record is found. The type of the field, where one is asked; a field
-/// without a value of its own has that of its label's name.
-fn begin_field<'a>(
+/// A field, if it is there.
+#[cycle(exprs)]
+fn type_if_there<'a>(
     at: &mut Parts,
-    found: &RecordType,
-    field: &Field<'a>,
-    labels: &mut Labels<'a>,
+    fields: &mut Fields<'a>,
+    field: Operand<'a>,
     env: &Env,
-) -> Result<Option<NodeRef>, NoMemory>
+    depth: Depth,
+) -> Result<(), NoMemory>
+    ensures follows { OnOk result (Follows (expression_field (operand_view field.entry)) at.old at.new) }
     ensures goes { Goes at.old at.new }
 {
-    ask_new_label(at, found, labels, field.label.last)?;
-    let wanted = field_type(at, found, field.label.last)?;
-    note_field(at, found, field, wanted, env)?;
-    Ok(wanted)
+    let Some(node) = field.node else {
+        return Ok(());
+    };
+    let label = written_path(at.alloc(), node, 0, 1)?;
+    let value = first_operand(node, field.number, 3);
+    type_field(at, fields, field.number, &label, value, env, depth)
 }
 
-/// Records a field; one without a value of its own behind the value of its label's name.
-fn note_field(
+/// A field by its number, its label and its value: the label is new; the field is recorded; its value is the field. A field without
+/// a value of its own has that of its label's name.
+#[cycle(exprs)]
+fn type_field<'a>(
+    at: &mut Parts,
+    fields: &mut Fields<'a>,
+    number: u32,
+    label: &WrittenPath<'a>,
+    value: Option<Operand<'_>>,
+    env: &Env,
+    depth: Depth,
+) -> Result<(), NoMemory>
+    ensures follows { OnOk result (Follows (field_steps number (path_view label.now).last (option_map expression_at (option_map operand_view value.entry))) at.old at.new) }
+    ensures goes { Goes at.old at.new }
+{
+    let wanted = begin_field(at, fields, label)?;
+    match value {
+        Some(value) => type_value(at, &fields.found, number, label, value, wanted, env, depth),
+        None => pun(at, number, label, wanted, env),
+    }
+}
+
+/// A field that is recorded, and its value, which is the field.
+#[cycle(exprs)]
+fn type_value(
     at: &mut Parts,
     found: &RecordType,
-    field: &Field<'_>,
+    number: u32,
+    label: &WrittenPath<'_>,
+    value: Operand<'_>,
     wanted: Option<NodeRef>,
     env: &Env,
+    depth: Depth,
 ) -> Result<(), NoMemory>
+    ensures follows { OnOk result (Follows (records number ∷ typed_as (expression_at (operand_view value.entry))) at.old at.new) }
     ensures goes { Goes at.old at.new }
 {
-    match field.value {
-        Some(_) => {
-            let names = field_names(at, env, found, &field.label)?;
-            at.note(field.number, env, None, names)
-        }
-        None => pun(at, env, field, wanted),
-    }
+    note_label(at, number, env, found, label)?;
+    typed_as(at, value, wanted, env, env, depth)?;
+    Ok(())
 }
 
 /// A field without a value of its own: the value of its label's name, which is the field.
 fn pun(
     at: &mut Parts,
-    env: &Env,
-    field: &Field<'_>,
+    number: u32,
+    label: &WrittenPath<'_>,
     wanted: Option<NodeRef>,
+    env: &Env,
 ) -> Result<(), NoMemory>
+    ensures follows { OnOk result (Follows (pun_steps number (path_view label.now).last) at.old at.new) }
     ensures goes { Goes at.old at.new }
 {
-    let Some(last) = field.label.last else {
-        return at.note_plain(field.number, env);
-    };
-    let path = WrittenPath {
-        qualifiers: Vec::new(at.alloc()),
-        last: Some(last),
-    };
-    let used = value(at, env, &path)?;
-    equal_if(at, last.span, used.ty, wanted, env)?;
-    let entry = match used.names.last() {
+    match label.last {
+        None => at.note_plain(number, env),
+        Some(last) => pun_of(at, number, label, last, wanted, env),
+    }
+}
+
+/// The same by the last token of the label.
+fn pun_of(
+    at: &mut Parts,
+    number: u32,
+    label: &WrittenPath<'_>,
+    last: &Token,
+    wanted: Option<NodeRef>,
+    env: &Env,
+) -> Result<(), NoMemory>
+    ensures follows { OnOk result (Follows (asks FaultKind.Bound (place_of last.now.span ∷ []) ∷ asks FaultKind.Equal (place_of last.now.span ∷ []) ∷ records number ∷ []) at.old at.new) }
+    ensures goes { Goes at.old at.new }
+{
+    let used = value_of_name(at, last, wanted, env)?;
+    let names = at.seen_names(env, label, last_entry(&used.names))?;
+    at.note(number, env, None, names)
+}
+
+/// What the last of some names stands for.
+fn last_entry(names: &Names) -> Option<&Rc<Entry>> {
+    match names.last() {
         Some(entry) => entry.as_ref(),
         None => None,
+    }
+}
+
+/// The value of a name, which has the wanted type, where one is wanted.
+fn value_of_name(
+    at: &mut Parts,
+    name: &Token,
+    wanted: Option<NodeRef>,
+    env: &Env,
+) -> Result<Used, NoMemory>
+    ensures follows { OnOk result (Follows (asks FaultKind.Bound (place_of name.now.span ∷ []) ∷ asks FaultKind.Equal (place_of name.now.span ∷ []) ∷ []) at.old at.new) }
+    ensures goes { Goes at.old at.new }
+{
+    let path = WrittenPath {
+        qualifiers: Vec::new(at.alloc()),
+        last: Some(name),
     };
-    let names = at.seen_names(env, &field.label, entry)?;
-    at.note(field.number, env, None, names)
+    let used = value(at, env, &path)?;
+    equal_if(at, name.span, used.ty, wanted, env)?;
+    Ok(used)
 }
 
 /// `complete` of a record that is made at a place: the first label of the declaration that isn't written. The type of the record.
-fn complete(
-    at: &mut Parts,
-    found: &RecordType,
-    written: &[&Token],
-    made_at: Option<Span>,
-) -> Result<Used, NoMemory>
+fn complete(at: &mut Parts, fields: &Fields<'_>, span: Span) -> Result<Used, NoMemory>
+    ensures follows { OnOk result (Follows (asks FaultKind.Complete (place_of span ∷ []) ∷ []) at.old at.new) }
     ensures goes { Goes at.old at.new }
 {
-    match made_at {
-        Some(span) => {
-            ask_complete(at, found, written, span)?;
-            type_of(at, found)
-        }
-        None => type_of(at, found),
-    }
+    ask_complete(at, &fields.found, &fields.labels, span)?;
+    type_of(at, &fields.found)
 }
 
 /// The demand that all labels of a record type are written.
@@ -401,6 +389,7 @@ fn ask_complete(
     written: &[&Token],
     span: Span,
 ) -> Result<(), NoMemory>
+    ensures follows { OnOk result (Follows (asks FaultKind.Complete (place_of span ∷ []) ∷ []) at.old at.new) }
     ensures goes { Goes at.old at.new }
 {
     let RecordType::Known(declaration, _) = found else {
@@ -420,6 +409,7 @@ fn is_written(written: &[&Token], label: &str) -> bool {
 
 /// The type of a record; any type where it isn't known.
 fn type_of(at: &mut Parts, found: &RecordType) -> Result<Used, NoMemory>
+    ensures silent { Silent at.old at.new }
     ensures goes { Goes at.old at.new }
 {
     let ty = type_or_var(at, found.ty())?;

@@ -1,14 +1,17 @@
-//! What rows of expressions have in common.
+//! What rows have in common.
 #![tactic(auto, using(decl_typing::proofs::Going::goes_trans, decl_typing::proofs::Going::goes_refl, decl_typing::proofs::Following::follows_both, decl_typing::proofs::Following::follows_before, decl_typing::proofs::Following::follows_behind, decl_typing::proofs::Following::follows_silent, decl_typing::proofs::Following::store_silent, decl_typing::proofs::Following::silent_refl, decl_typing::proofs::Following::silent_trans, decl_typing::proofs::Following::ends_both, decl_typing::proofs::Following::ends_behind, decl_typing::proofs::Following::ends_before, decl_typing::proofs::Following::ends_silent))]
 
-ghost use Rattle.std.specs.Prelude.{[], ◌∷◌, OnOk};
+ghost use Rattle.std.specs.Prelude.{[], ◌∷◌, option_map, Some, OnOk};
+ghost use Rattle.row_parts.specs.Numbered.{operand_view};
 ghost use Rattle.syntax_tree.specs.View.{place_of};
 ghost use Rattle.env_table.specs.declared.faults.FaultKind.{FaultKind};
 ghost use Rattle.decl_typing.specs.Goes.{Goes};
 ghost use Rattle.decl_typing.specs.Steps.{Follows, Silent, asks};
+ghost use Rattle.core_typing.specs.PatternSteps.{annotation_steps};
 
 use crate::uses::{Names, Used};
-use decl_typing::{Env, NoMemory, NodeRef, Parts};
+use decl_typing::{Depth, Env, NoMemory, NodeRef, Parts, Variables};
+use row_parts::Operand;
 use syntax_tree::Span;
 
 /// A type, or a new variable where there is none.
@@ -52,4 +55,26 @@ pub fn any_type(at: &mut Parts) -> Result<Used, NoMemory>
 {
     let ty = at.var()?;
     Ok(unnamed(at, ty))
+}
+
+/// The type that is written behind a part, which has it; without one the part's own.
+pub fn as_written(
+    at: &mut Parts,
+    written: Option<Operand<'_>>,
+    part: Operand<'_>,
+    ty: NodeRef,
+    env: &Env,
+    depth: Depth,
+) -> Result<NodeRef, NoMemory>
+    ensures follows { OnOk result (Follows (annotation_steps (Some (operand_view part.entry)) (option_map operand_view written.entry)) at.old at.new) }
+    ensures goes { Goes at.old at.new }
+{
+    match written {
+        Some(written) => {
+            let wanted = at.read_type(written, env, &Variables::OfItem, depth)?;
+            at.equal(part.span, ty, wanted, env)?;
+            Ok(wanted)
+        }
+        None => Ok(ty),
+    }
 }

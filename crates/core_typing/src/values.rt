@@ -1,4 +1,8 @@
 //! Which expressions are non-expansive, so that the names of their bindings are generalised (the value restriction).
+ghost use Rattle.std.specs.Prelude.{◌≡◌, option_map, IfOk};
+ghost use Rattle.row_parts.specs.Numbered.{operand_view, path_view};
+ghost use Rattle.core_typing.specs.ExpressionSteps.{label_at, lower_path};
+
 use crate::uses::labels_in;
 use decl_typing::{Depth, Env, NoMemory, Parts, path_of};
 use env_table::{Found, Path, What};
@@ -165,19 +169,30 @@ fn is_let_value(
 }
 
 /// The path of a first part of a record that is read as a label: one to a lower-case name.
-pub fn label_path<'a>(at: &Parts, e: Operand<'a>) -> Result<Option<WrittenPath<'a>>, NoMemory> {
+#[tactic(auto, unfolding(syntax_tree::specs::Names::row_of))]
+pub fn label_path<'a>(at: &Parts, e: Operand<'a>) -> Result<Option<WrittenPath<'a>>, NoMemory>
+    ensures { IfOk result (λ r. option_map path_view r ≡ label_at (operand_view e.entry).part) }
+{
     let Some(node) = e.node else {
         return Ok(None);
     };
-    let path = match node.row {
-        RowName::Name => written_path(at.alloc(), node, 9, 0)?,
-        RowName::Epath => written_path(at.alloc(), node, 0, 1)?,
-        _ => return Ok(None),
-    };
-    match path.last {
-        Some(last) if last.kind == TokenKind::Lower => Ok(Some(path)),
+    match node.row {
+        RowName::Name => Ok(if_lower(written_path(at.alloc(), node, 9, 0)?)),
+        RowName::Epath => Ok(if_lower(written_path(at.alloc(), node, 0, 1)?)),
         _ => Ok(None),
     }
+}
+
+/// A path, where its last token is a lower-case name.
+#[tactic(auto, unfolding(syntax_tree::specs::Names::kind_of))]
+fn if_lower(path: WrittenPath<'_>) -> Option<WrittenPath<'_>>
+    ensures { option_map path_view result ≡ lower_path (path_view path.entry) }
+{
+    let lower = match path.last {
+        Some(last) => last.kind == TokenKind::Lower,
+        None => false,
+    };
+    if lower { Some(path) } else { None }
 }
 
 /// A record of non-expansive values without a mutable field; with `with` its first part is one as well.

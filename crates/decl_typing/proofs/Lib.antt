@@ -10,6 +10,7 @@ pub mod Copied
 pub mod Tasks
 pub mod Imaging
 pub mod Answering
+pub mod Binding
 pub mod Following
 pub mod TypeLaws
 pub mod RowSteps

@@ -8,3 +8,4 @@ pub mod Demands
 pub mod Copying
 pub mod Steps
 pub mod TypeSteps
+pub mod Bound

@@ -1,8 +1,11 @@
 //! What names stand for.
-ghost use Rattle.std.specs.Prelude.{◌≡◌, ◌-◌, map, Some, IfSome, OnOk};
+ghost use Rattle.std.specs.Prelude.{◌≡◌, ◌-◌, [], map, option_map, Some, IfOk, IfSome, OnOk};
+ghost use Rattle.text_terms.specs.Bytes.{str_bytes};
 ghost use Rattle.tree_model.specs.Trees.{place};
 ghost use Rattle.syntax_tree.specs.View.{place_of, tok_of};
 ghost use Rattle.row_parts.specs.Numbered.{path_view};
+ghost use Rattle.env_table.specs.Scopes.{lost_behind};
+ghost use Rattle.decl_typing.specs.Bound.{BoundIs, BoundLastIs, TellsLost, found_at, lost_among, names_of_tokens, token_at, word_of};
 ghost use Rattle.decl_typing.specs.Goes.{Goes};
 ghost use Rattle.decl_typing.specs.Steps.{Follows, IsAmong, asks_bound, place_without_point};
 
@@ -18,7 +21,9 @@ use text_terms::RcStr;
 use type_nodes::NoMemory;
 
 /// One owner more of an entry.
-pub fn share_entry(entry: &Rc<Entry>) -> Result<Rc<Entry>, NoMemory> {
+pub fn share_entry(entry: &Rc<Entry>) -> Result<Rc<Entry>, NoMemory>
+    ensures { IfOk result (λ e. e.value ≡ entry.now.value) }
+{
     match Rc::clone(entry) {
         Ok(entry) => Ok(entry),
         Err(_) => Err(AllocError),
@@ -26,7 +31,9 @@ pub fn share_entry(entry: &Rc<Entry>) -> Result<Rc<Entry>, NoMemory> {
 }
 
 /// The names of qualifiers.
-pub fn modules_of(alloc: Global, qualifiers: &[&Token]) -> Result<Vec<RcStr>, NoMemory> {
+pub fn modules_of(alloc: Global, qualifiers: &[&Token]) -> Result<Vec<RcStr>, NoMemory>
+    ensures { IfOk result (λ ms. map str_bytes ms.items ≡ names_of_tokens (map (λ t. tok_of t.now) qualifiers.now)) }
+{
     let mut names = Vec::new(alloc);
     for qualifier in qualifiers {
         push(&mut names, qualifier.name.share()?)?;
@@ -35,7 +42,10 @@ pub fn modules_of(alloc: Global, qualifiers: &[&Token]) -> Result<Vec<RcStr>, No
 }
 
 /// The path of names to a last token.
-pub fn path_of(alloc: Global, written: &WrittenPath<'_>, last: &Token) -> Result<Path, NoMemory> {
+pub fn path_of(alloc: Global, written: &WrittenPath<'_>, last: &Token) -> Result<Path, NoMemory>
+    ensures modules { IfOk result (λ p. map str_bytes p.modules.items ≡ names_of_tokens (path_view written.now).qualifiers) }
+    ensures last { IfOk result (λ p. str_bytes p.last ≡ (tok_of last.now).name) }
+{
     Ok(Path {
         modules: modules_of(alloc, &written.qualifiers)?,
         last: last.name.share()?,
@@ -54,7 +64,8 @@ fn without_point(span: Span) -> Span
 
 /// The first qualifier of a path that leads to no module.
 fn lost_qualifier<'a>(env: &Env, path: &Path, written: &WrittenPath<'a>) -> Option<&'a Token>
-    ensures { IfSome result (λ t. IsAmong (place_without_point (tok_of t.now)) (map place_without_point (path_view written.now).qualifiers)) }
+    ensures among { IfSome result (λ t. IsAmong (place_without_point (tok_of t.now)) (map place_without_point (path_view written.now).qualifiers)) }
+    ensures first { option_map (λ t. tok_of t.now) result ≡ token_at (path_view written.now).qualifiers (lost_behind env.now [] 0 (map str_bytes path.now.modules.items)) }
 {
     match env.lost_module(&path.modules) {
         Some(place) => written.qualifiers.get(place).copied(),
@@ -63,7 +74,9 @@ fn lost_qualifier<'a>(env: &Env, path: &Path, written: &WrittenPath<'a>) -> Opti
 }
 
 /// What a word of messages names.
-fn word_of(kind: Kind) -> Word {
+fn word_of(kind: Kind) -> Word
+    ensures { result ≡ word_of kind }
+{
     match kind {
         Kind::Value => Word::Value,
         Kind::Constructor => Word::Constructor,
@@ -84,6 +97,7 @@ impl Parts {
         last: &Token,
         kind: Kind,
     ) -> Result<Option<Rc<Entry>>, NoMemory>
+        ensures verdict { IfOk result (λ r. BoundIs (found_at env.now (path_view written.now).qualifiers kind (tok_of last.now)) (option_map (λ e. e.value) r) self.old self.new (lost_among env.now (path_view written.now).qualifiers) (tok_of last.now) (word_of kind)) }
         ensures follows { OnOk result (Follows (asks_bound (record (path_view written.now) { last = Some (tok_of last.now) })) self.old self.new) }
         ensures goes { Goes self.old self.new }
     {
@@ -105,6 +119,7 @@ impl Parts {
         written: &WrittenPath<'_>,
         kind: Kind,
     ) -> Result<Option<Rc<Entry>>, NoMemory>
+        ensures verdict { IfOk result (λ r. BoundLastIs (path_view written.now).last kind (option_map (λ e. e.value) r) self.old self.new env.now (path_view written.now).qualifiers) }
         ensures follows { OnOk result (Follows (asks_bound (path_view written.now)) self.old self.new) }
         ensures goes { Goes self.old self.new }
     {
@@ -123,6 +138,7 @@ impl Parts {
         last: &Token,
         word: Word,
     ) -> Result<(), NoMemory>
+        ensures told { OnOk result (TellsLost (token_at (path_view written.now).qualifiers (lost_behind env.now [] 0 (map str_bytes path.now.modules.items))) self.old self.new (tok_of last.now) word) }
         ensures follows { OnOk result (Follows (asks_bound (record (path_view written.now) { last = Some (tok_of last.now) })) self.old self.new) }
         ensures goes { Goes self.old self.new }
     {

@@ -1,117 +1,213 @@
+use Rattle.std.proofs.Common.{◌≡◌, ◌++◌, ◌+◌, ◌*◌, map, drop, length}
+use Rattle.syntax_tree.specs.Names.{row_of}
+use Rattle.syntax_tree.specs.View.{place_of}
+use Rattle.row_parts.specs.Numbered.{operand_view}
 use Rattle.decl_typing.specs.Goes.{Goes}
-use Rattle.std.proofs.Common.{◌+◌, ◌*◌}
+use Rattle.decl_typing.specs.Steps.{each, GetsOn}
+use Rattle.core_typing.specs.Warnings.{spans_of, unused_steps}
+use Rattle.core_typing.specs.ExpressionSteps.{arguments_steps, expression_at, expression_case, expression_steps, fields_steps, parts_from, turn_steps, unused_case}
+use Rattle.core_typing.specs.Concluding.{conclusion}
 use Rattle.core_typing.proofs.+exprs.Given as goal
 
 abbrev pub decreases-exprs::type_under : goal.decreases-exprs::type_under
-decreases-exprs::type_under l = 8 * l.depth.0 + 7
+decreases-exprs::type_under l = 16 * l.depth.0 + 15
 
 abbrev pub decreases-exprs::typed_row : goal.decreases-exprs::typed_row
-decreases-exprs::typed_row l = 8 * l.depth.0 + 6
+decreases-exprs::typed_row l = 16 * l.depth.0 + 14
 
 abbrev pub decreases-plain::plain : goal.decreases-plain::plain
-decreases-plain::plain l = 8 * l.depth.0 + 5
+decreases-plain::plain l = 16 * l.depth.0 + 13
 
 abbrev pub decreases-plain::parenthesised : goal.decreases-plain::parenthesised
-decreases-plain::parenthesised l = 8 * l.depth.0 + 5
+decreases-plain::parenthesised l = 16 * l.depth.0 + 13
 
 abbrev pub decreases-apply::application : goal.decreases-apply::application
-decreases-apply::application l = 8 * l.depth.0 + 5
+decreases-apply::application l = 16 * l.depth.0 + 13
 
 abbrev pub decreases-apply::minus : goal.decreases-apply::minus
-decreases-apply::minus l = 8 * l.depth.0 + 5
-
-abbrev pub decreases-records::record : goal.decreases-records::record
-decreases-records::record l = 8 * l.depth.0 + 5
-
-abbrev pub decreases-cases::match_of : goal.decreases-cases::match_of
-decreases-cases::match_of l = 8 * l.depth.0 + 5
-
-abbrev pub decreases-cases::function_of_cases : goal.decreases-cases::function_of_cases
-decreases-cases::function_of_cases l = 8 * l.depth.0 + 5
-
-abbrev pub decreases-functions::function : goal.decreases-functions::function
-decreases-functions::function l = 8 * l.depth.0 + 5
-
-abbrev pub decreases-bindings::let_in : goal.decreases-bindings::let_in
-decreases-bindings::let_in l = 8 * l.depth.0 + 5
+decreases-apply::minus l = 16 * l.depth.0 + 13
 
 abbrev pub decreases-apply::operation : goal.decreases-apply::operation
-decreases-apply::operation l = 8 * l.depth.0 + 4
+decreases-apply::operation l = 16 * l.depth.0 + 12
+
+abbrev pub decreases-apply::applied : goal.decreases-apply::applied
+decreases-apply::applied l = 16 * l.depth.0 + 12
 
 abbrev pub decreases-apply::constructed : goal.decreases-apply::constructed
-decreases-apply::constructed l = 8 * l.depth.0 + 4
+decreases-apply::constructed l = 16 * l.depth.0 + 12
 
-abbrev pub decreases-records::made : goal.decreases-records::made
-decreases-records::made l = 8 * l.depth.0 + 4
+abbrev pub decreases-apply::operated : goal.decreases-apply::operated
+decreases-apply::operated l = 16 * l.depth.0 + 11
 
-abbrev pub decreases-records::loose : goal.decreases-records::loose
-decreases-records::loose l = 8 * l.depth.0 + 4
-
-abbrev pub decreases-records::updated : goal.decreases-records::updated
-decreases-records::updated l = 8 * l.depth.0 + 4
-
-abbrev pub decreases-cases::type_cases : goal.decreases-cases::type_cases
-decreases-cases::type_cases l = 8 * l.depth.0 + 4
-
-abbrev pub decreases-bindings::type_group : goal.decreases-bindings::type_group
-decreases-bindings::type_group l = 8 * l.depth.0 + 4
-
-abbrev pub decreases-bindings::in_turn : goal.decreases-bindings::in_turn
-decreases-bindings::in_turn l = 8 * l.depth.0 + 3
-
-abbrev pub decreases-bindings::together : goal.decreases-bindings::together
-decreases-bindings::together l = 8 * l.depth.0 + 3
-
-abbrev pub decreases-cases::type_case : goal.decreases-cases::type_case
-decreases-cases::type_case l = 8 * l.depth.0 + 3
-
-abbrev pub decreases-cases::type_guard : goal.decreases-cases::type_guard
-decreases-cases::type_guard l = 8 * l.depth.0 + 1
-
-abbrev pub decreases-records::type_fields : goal.decreases-records::type_fields
-decreases-records::type_fields l = 8 * l.depth.0 + 1
+abbrev pub decreases-apply::later_arguments : goal.decreases-apply::later_arguments
+decreases-apply::later_arguments l = 16 * l.depth.0 + 11
 
 abbrev pub decreases-exprs::type_each : goal.decreases-exprs::type_each
-decreases-exprs::type_each l = 8 * l.depth.0 + 1
-
-abbrev pub decreases-apply::arguments : goal.decreases-apply::arguments
-decreases-apply::arguments l = 8 * l.depth.0 + 1
-
-abbrev pub decreases-plain::type_parts : goal.decreases-plain::type_parts
-decreases-plain::type_parts l = 8 * l.depth.0
+decreases-exprs::type_each l = 16 * l.depth.0 + 1
 
 abbrev pub decreases-exprs::typed_as : goal.decreases-exprs::typed_as
-decreases-exprs::typed_as l = 8 * l.depth.0
+decreases-exprs::typed_as l = 16 * l.depth.0 + 1
 
-abbrev pub decreases-bindings::type_right : goal.decreases-bindings::type_right
-decreases-bindings::type_right l = 8 * l.depth.0
+abbrev pub decreases-apply::arguments : goal.decreases-apply::arguments
+decreases-apply::arguments l = 16 * l.depth.0 + 3
 
-abbrev pub decreases-records::typed_fields : goal.decreases-records::typed_fields
-decreases-records::typed_fields l = 8 * l.depth.0 + 2
+abbrev pub decreases-apply::argument : goal.decreases-apply::argument
+decreases-apply::argument l = 16 * l.depth.0 + 2
 
-abbrev pub decreases-records::behind_loose : goal.decreases-records::behind_loose
-decreases-records::behind_loose l = 8 * l.depth.0 + 3
+abbrev pub decreases-apply::typed_argument : goal.decreases-apply::typed_argument
+decreases-apply::typed_argument l = 16 * l.depth.0 + 1
 
-abbrev pub decreases-cases::typed_case : goal.decreases-cases::typed_case
-decreases-cases::typed_case l = 8 * l.depth.0 + 2
+abbrev pub decreases-plain::type_parts : goal.decreases-plain::type_parts
+decreases-plain::type_parts l = 16 * l.depth.0 + 2
+
+abbrev pub decreases-plain::type_part : goal.decreases-plain::type_part
+decreases-plain::type_part l = 16 * l.depth.0 + 1
 
 abbrev pub invariant-exprs::type_each-loop-e : goal.invariant-exprs::type_each-loop-e
-invariant-exprs::type_each-loop-e l = Goes l.fn.at l.at
+invariant-exprs::type_each-loop-e l = record {
+  goes : Goes l.fn.at l.at;
+  gets : GetsOn l.fn.at l.at (each (λ o. expression_steps (operand_view o)) l.es) (each (λ o. expression_steps (operand_view o)) (drop l.e-index l.es));
+}
 
-abbrev pub invariant-apply::arguments-loop-argument : goal.invariant-apply::arguments-loop-argument
-invariant-apply::arguments-loop-argument l = Goes l.fn.at l.at
+abbrev pub invariant-apply::arguments-loop-one : goal.invariant-apply::arguments-loop-one
+invariant-apply::arguments-loop-one l = record {
+  goes : Goes l.fn.at l.at;
+  gets : GetsOn l.fn.at l.at (arguments_steps (place_of l.place) (map expression_at (map operand_view l.given))) (arguments_steps (place_of l.place) (map expression_at (map operand_view (drop l.one-index l.given))));
+}
 
 abbrev pub invariant-plain::type_parts-loop-part : goal.invariant-plain::type_parts-loop-part
-invariant-plain::type_parts-loop-part l = Goes l.fn.at l.at
+invariant-plain::type_parts-loop-part l = record {
+  goes : Goes l.fn.at l.at;
+  places : length l.types.items ≡ l.part-index;
+  gets : GetsOn l.fn.at l.at (parts_from (row_of l.row) 0 (map expression_at (map operand_view l.parts))) (parts_from (row_of l.row) l.part-index (map expression_at (map operand_view (drop l.part-index l.parts))));
+}
 
-abbrev pub invariant-records::type_fields-loop-field : goal.invariant-records::type_fields-loop-field
-invariant-records::type_fields-loop-field l = Goes l.fn.at l.at
+abbrev pub decreases-cases::match_of : goal.decreases-cases::match_of
+decreases-cases::match_of l = 16 * l.depth.0 + 13
 
-abbrev pub invariant-cases::type_cases-loop-case : goal.invariant-cases::type_cases-loop-case
-invariant-cases::type_cases-loop-case l = Goes l.fn.at l.at
+abbrev pub decreases-cases::function_of_cases : goal.decreases-cases::function_of_cases
+decreases-cases::function_of_cases l = 16 * l.depth.0 + 13
+
+abbrev pub decreases-cases::type_cases : goal.decreases-cases::type_cases
+decreases-cases::type_cases l = 16 * l.depth.0 + 12
+
+abbrev pub decreases-cases::type_each_case : goal.decreases-cases::type_each_case
+decreases-cases::type_each_case l = 16 * l.depth.0 + 11
+
+abbrev pub decreases-cases::type_case : goal.decreases-cases::type_case
+decreases-cases::type_case l = 16 * l.depth.0 + 10
+
+abbrev pub decreases-cases::typed_case : goal.decreases-cases::typed_case
+decreases-cases::typed_case l = 16 * l.depth.0 + 9
+
+abbrev pub decreases-cases::case_of : goal.decreases-cases::case_of
+decreases-cases::case_of l = 16 * l.depth.0 + 8
+
+abbrev pub decreases-cases::type_guard : goal.decreases-cases::type_guard
+decreases-cases::type_guard l = 16 * l.depth.0 + 2
+
+abbrev pub decreases-functions::function : goal.decreases-functions::function
+decreases-functions::function l = 16 * l.depth.0 + 13
+
+abbrev pub decreases-bindings::let_in : goal.decreases-bindings::let_in
+decreases-bindings::let_in l = 16 * l.depth.0 + 13
+
+abbrev pub decreases-bindings::type_group : goal.decreases-bindings::type_group
+decreases-bindings::type_group l = 16 * l.depth.0 + 12
+
+abbrev pub decreases-bindings::in_turn : goal.decreases-bindings::in_turn
+decreases-bindings::in_turn l = 16 * l.depth.0 + 11
+
+abbrev pub decreases-bindings::take_turn : goal.decreases-bindings::take_turn
+decreases-bindings::take_turn l = 16 * l.depth.0 + 10
+
+abbrev pub decreases-bindings::turn : goal.decreases-bindings::turn
+decreases-bindings::turn l = 16 * l.depth.0 + 9
+
+abbrev pub decreases-bindings::recorded_right : goal.decreases-bindings::recorded_right
+decreases-bindings::recorded_right l = 16 * l.depth.0 + 8
+
+abbrev pub decreases-bindings::together : goal.decreases-bindings::together
+decreases-bindings::together l = 16 * l.depth.0 + 11
+
+abbrev pub decreases-bindings::conclude_all : goal.decreases-bindings::conclude_all
+decreases-bindings::conclude_all l = 16 * l.depth.0 + 10
+
+abbrev pub decreases-bindings::conclude_one : goal.decreases-bindings::conclude_one
+decreases-bindings::conclude_one l = 16 * l.depth.0 + 9
+
+abbrev pub decreases-bindings::type_right : goal.decreases-bindings::type_right
+decreases-bindings::type_right l = 16 * l.depth.0 + 7
+
+abbrev pub decreases-bindings::right_of : goal.decreases-bindings::right_of
+decreases-bindings::right_of l = 16 * l.depth.0 + 6
+
+abbrev pub decreases-bindings::typed_body : goal.decreases-bindings::typed_body
+decreases-bindings::typed_body l = 16 * l.depth.0 + 5
+
+abbrev pub decreases-bindings::conclude_all-loop-depth : goal.decreases-bindings::conclude_all-loop-depth
+decreases-bindings::conclude_all-loop-depth l = length l.left.items
+
+abbrev pub invariant-cases::type_each_case-loop-case : goal.invariant-cases::type_each_case-loop-case
+invariant-cases::type_each_case-loop-case l = record {
+  goes : Goes l.fn.at l.at;
+  gets : GetsOn l.fn.at l.at (each expression_case (map operand_view l.cases)) (each expression_case (map operand_view (drop l.case-index l.cases)));
+  spans : unused_steps (spans_of l.rows) ++ each unused_case (map operand_view (drop l.case-index l.cases)) ≡ unused_steps (spans_of l.fn.rows) ++ each unused_case (map operand_view l.cases);
+}
 
 abbrev pub invariant-bindings::in_turn-loop-binding : goal.invariant-bindings::in_turn-loop-binding
-invariant-bindings::in_turn-loop-binding l = Goes l.fn.at l.at
+invariant-bindings::in_turn-loop-binding l = record {
+  goes : Goes l.fn.at l.at;
+  gets : GetsOn l.fn.at l.at (each (λ b. turn_steps (expression_at b)) (map operand_view l.bindings)) (each (λ b. turn_steps (expression_at b)) (map operand_view (drop l.binding-index l.bindings)));
+}
 
-abbrev pub invariant-bindings::together-loop-one : goal.invariant-bindings::together-loop-one
-invariant-bindings::together-loop-one l = Goes l.fn.at l.at
+abbrev pub invariant-bindings::conclude_all-loop-depth : goal.invariant-bindings::conclude_all-loop-depth
+invariant-bindings::conclude_all-loop-depth l = record {
+  goes : Goes l.fn.at l.at;
+  gets : GetsOn l.fn.at l.at (each conclusion l.fn.opened.items) (each conclusion l.left.items);
+}
+
+abbrev pub decreases-records::record : goal.decreases-records::record
+decreases-records::record l = 16 * l.depth.0 + 13
+
+abbrev pub decreases-records::record_of : goal.decreases-records::record_of
+decreases-records::record_of l = 16 * l.depth.0 + 12
+
+abbrev pub decreases-records::made_or_loose : goal.decreases-records::made_or_loose
+decreases-records::made_or_loose l = 16 * l.depth.0 + 11
+
+abbrev pub decreases-records::made : goal.decreases-records::made
+decreases-records::made l = 16 * l.depth.0 + 10
+
+abbrev pub decreases-records::loose : goal.decreases-records::loose
+decreases-records::loose l = 16 * l.depth.0 + 10
+
+abbrev pub decreases-records::updated : goal.decreases-records::updated
+decreases-records::updated l = 16 * l.depth.0 + 11
+
+abbrev pub decreases-records::record_behind : goal.decreases-records::record_behind
+decreases-records::record_behind l = 16 * l.depth.0 + 1
+
+abbrev pub decreases-records::record_of_part : goal.decreases-records::record_of_part
+decreases-records::record_of_part l = 16 * l.depth.0 + 1
+
+abbrev pub decreases-records::type_if : goal.decreases-records::type_if
+decreases-records::type_if l = 16 * l.depth.0 + 1
+
+abbrev pub decreases-records::type_fields : goal.decreases-records::type_fields
+decreases-records::type_fields l = 16 * l.depth.0 + 5
+
+abbrev pub decreases-records::type_if_there : goal.decreases-records::type_if_there
+decreases-records::type_if_there l = 16 * l.depth.0 + 4
+
+abbrev pub decreases-records::type_value : goal.decreases-records::type_value
+decreases-records::type_value l = 16 * l.depth.0 + 2
+
+abbrev pub decreases-records::type_field : goal.decreases-records::type_field
+decreases-records::type_field l = 16 * l.depth.0 + 3
+
+abbrev pub invariant-records::type_fields-loop-field : goal.invariant-records::type_fields-loop-field
+invariant-records::type_fields-loop-field l = record {
+  goes : Goes l.fn.at l.at;
+  gets : GetsOn l.fn.at l.at (fields_steps (map expression_at (map operand_view l.given))) (fields_steps (map expression_at (map operand_view (drop l.field-index l.given))));
+}

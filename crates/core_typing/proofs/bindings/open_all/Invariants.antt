@@ -1,5 +1,14 @@
+use Rattle.std.proofs.Common.{◌≡◌, ◌++◌, map, drop}
+use Rattle.row_parts.specs.Numbered.{operand_view}
 use Rattle.decl_typing.specs.Goes.{Goes}
+use Rattle.decl_typing.specs.Steps.{each, GetsOn}
+use Rattle.core_typing.specs.ExpressionSteps.{concluded_steps, expression_at, opened_steps}
+use Rattle.core_typing.specs.Concluding.{conclusion}
 use Rattle.core_typing.proofs.bindings.open_all.Given as goal
 
 abbrev pub invariant-loop-binding : goal.invariant-loop-binding
-invariant-loop-binding l = Goes l.fn.at l.at
+invariant-loop-binding l = record {
+  goes : Goes l.fn.at l.at;
+  gets : GetsOn l.fn.at l.at (each opened_steps (map operand_view l.bindings)) (each opened_steps (map operand_view (drop l.binding-index l.bindings)));
+  left : each conclusion l.all.items ++ each (λ b. concluded_steps (expression_at b)) (map operand_view (drop l.binding-index l.bindings)) ≡ each (λ b. concluded_steps (expression_at b)) (map operand_view l.bindings);
+}

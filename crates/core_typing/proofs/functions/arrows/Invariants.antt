@@ -1,5 +1,6 @@
 use Rattle.decl_typing.specs.Goes.{Goes}
+use Rattle.decl_typing.specs.Steps.{Silent}
 use Rattle.core_typing.proofs.functions.arrows.Given as goal
 
 abbrev pub invariant-loop-parameter : goal.invariant-loop-parameter
-invariant-loop-parameter l = Goes l.fn.at l.at
+invariant-loop-parameter l = Goes l.fn.at l.at × Silent l.fn.at l.at

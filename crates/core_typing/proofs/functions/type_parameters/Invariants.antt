@@ -1,5 +1,12 @@
+use Rattle.std.proofs.Common.{map, drop}
+use Rattle.row_parts.specs.Numbered.{operand_view}
 use Rattle.decl_typing.specs.Goes.{Goes}
+use Rattle.decl_typing.specs.Steps.{each, GetsOn}
+use Rattle.core_typing.specs.ExpressionSteps.{parameter_steps}
 use Rattle.core_typing.proofs.functions.type_parameters.Given as goal
 
 abbrev pub invariant-loop-parameter : goal.invariant-loop-parameter
-invariant-loop-parameter l = Goes l.fn.at l.at
+invariant-loop-parameter l = record {
+  goes : Goes l.fn.at l.at;
+  gets : GetsOn l.fn.at l.at (each parameter_steps (map operand_view l.parameters)) (each parameter_steps (map operand_view (drop l.parameter-index l.parameters)));
+}

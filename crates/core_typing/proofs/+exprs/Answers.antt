@@ -1,0 +1,345 @@
+use Rattle.std.proofs.Common.{◌≡◌, ◌∙◌, ◌++◌, ◌+◌, ◌<◌, [], ◌∷◌, length, map, drop, sym, ap, subst, arith, length-append, refl, rules, ◌==◌}
+use Rattle.std.specs.Prelude.{OnOk, None, option_map}
+use Rattle.syntax_tree.specs.Names.{row_of}
+use Rattle.syntax_tree.specs.View.{node_view, place_of, tok_of}
+use Rattle.syntax_tree.specs.declared.tree.Node.{out-Node}
+use Rattle.row_parts.specs.Numbered.{operand_view, path_view, filled_in, operands_in}
+use Rattle.decl_typing.specs.Steps.{records, each, Follows, GetsOn, asks}
+use Rattle.decl_typing.proofs.Going.{goes_trans}
+use Rattle.decl_typing.proofs.Following.{ends_both, ends_before, follows_both, follows_behind, gets_more, store_silent, follows_before, follows_none, ends_behind}
+use Rattle.decl_typing.proofs.TypeLaws.{drop_read}
+use Rattle.core_typing.specs.declared.exprs.RowForm.TheVariants as form
+use Rattle.core_typing.specs.ExpressionSteps.{argument_steps, arguments_steps, behind_parts, constructed_steps, expression_at, expression_steps, part_steps, parts_from, recorded_constructor, row_at, steps_as, typed_as, unrecorded_steps, cases_at, expression_case, parameter_steps, typed_as_if, typed_pattern, unused_case, expression_field, field_steps, fields_steps, typed_if, turn_steps, bindings_at, bound_pattern, right_at, whole_steps}
+use Rattle.core_typing.proofs.ExpressionLaws.{each_typed, follows_more, operand_missing, operand_there, operation_as, plain_as, skips_arguments}
+use Rattle.core_typing.specs.Warnings.{spans_of, unused_steps}
+use Rattle.core_typing.proofs.GroupLaws.{case_lost, case_parts_are, case_there, cases_follow, same_follows, steps_read, unused_follow, unused_same, done_follows, together_follow, turn_of, turns_follow}
+use Rattle.core_typing.proofs.Reading.{gets_read}
+use Rattle.env_table.specs.declared.faults.FaultKind.TheVariants as fault
+use Rattle.core_typing.specs.PatternSteps.{asks_equal, asks_labels, labels_of, lost_steps, pattern_steps}
+use Rattle.core_typing.specs.declared.records.Pieces.{Pieces}
+use Rattle.core_typing.specs.RecordView.{record_parts}
+use Rattle.core_typing.proofs.MatchedRows.{follows_three}
+use Rattle.core_typing.proofs.RecordLaws.{field_is, field_lost, record_is}
+use Rattle.decl_typing.specs.declared.parts.Parts.{Parts}
+use Rattle.core_typing.specs.Concluding.{conclusion}
+use Rattle.core_typing.proofs.BindingLaws.{first_gets, let_follow, no_token, right_follow, some_token}
+use Rattle.core_typing.proofs.+exprs.Goals as goal
+
+pub exprs::type_each-loop-e-preserved : goal.exprs::type_each-loop-e-preserved
+exprs::type_each-loop-e-preserved t c =
+    let all = c.args.es.now in
+    let i = c.loop-e.e-index in
+    let x = c.e-item.result in
+    let lt : i < length all = let n = c.loop-e-test.true in omega arith in
+    record {
+      goes = goes_trans c.args.at.now c.loop-e.at c.type_under.new.at c.loop-e.invariant.goes c.type_under.ensures.goes;
+      gets = gets_more (each (λ o. expression_steps (operand_view o)) all) (expression_steps (operand_view x)) (each (λ o. expression_steps (operand_view o)) (drop (i + 1) all)) c.args.at.now c.loop-e.at c.type_under.new.at
+          (subst (λ os. GetsOn c.args.at.now c.loop-e.at (each (λ o. expression_steps (operand_view o)) all) (each (λ o. expression_steps (operand_view o)) os)) (drop_read all i x lt c.e-item.is) c.loop-e.invariant.gets)
+          c.type_under.ensures.goes c.in_ok-type_under.ensures.follows;
+    }
+
+pub apply::arguments-loop-one-preserved : goal.apply::arguments-loop-one-preserved
+apply::arguments-loop-one-preserved t c =
+    let all = c.args.given.now in
+    let i = c.loop-one.one-index in
+    let x = c.one-item.result in
+    let lt : i < length all = let n = c.loop-one-test.true in omega arith in
+    let at = place_of c.args.place in
+    record {
+      goes = goes_trans c.args.at.now c.loop-one.at c.argument.new.at c.loop-one.invariant.goes c.argument.ensures.goes;
+      gets = gets_more (arguments_steps at (map expression_at (map operand_view all))) (argument_steps at (expression_at (operand_view x))) (arguments_steps at (map expression_at (map operand_view (drop (i + 1) all)))) c.args.at.now c.loop-one.at c.argument.new.at
+          (subst (λ os. GetsOn c.args.at.now c.loop-one.at (arguments_steps at (map expression_at (map operand_view all))) (arguments_steps at (map expression_at (map operand_view os)))) (drop_read all i x lt c.one-item.is) c.loop-one.invariant.gets)
+          c.argument.ensures.goes c.in_ok-ty.ensures.follows;
+    }
+
+pub apply::constructed-returns-clause-follows : goal.apply::constructed-returns-clause-follows
+apply::constructed-returns-clause-follows t c =
+    let h = expression_at (operand_view c.args.head) in
+    let p = path_view c.args.path.now in
+    let x = c.in-Some.first.now in
+    let ys = c.in-Some.later.now in
+    let front = recorded_constructor c.args.head.number p in
+    let first = typed_as (expression_at (operand_view x)) in
+    subst (λ os. OnOk c.later_arguments.result (Follows (constructed_steps h p (map expression_at (map operand_view os))) c.args.at.now c.later_arguments.new.at)) (sym c.in-Some.ensures.cases.0)
+    (ends_both c.later_arguments.result (front ++ first) (arguments_steps (place_of c.args.head.span) (map expression_at (map operand_view ys))) c.args.at.now c.typed_as.new.at c.later_arguments.new.at
+    (follows_both front first c.args.at.now c.recorded_constructor.new.at c.typed_as.new.at c.in_ok-built.ensures.follows c.typed_as.ensures.goes c.in_ok-typed_as.ensures.follows)
+    c.later_arguments.ensures.goes c.later_arguments.ensures.follows)
+
+pub apply::later_arguments-returns-then-not-head-clause-follows : goal.apply::later_arguments-returns-then-not-head-clause-follows
+apply::later_arguments-returns-then-not-head-clause-follows t c =
+    let os = c.args.later.now in
+    let some = each (λ o. expression_steps (operand_view o)) os in
+    let all = arguments_steps (place_of c.args.place) (map expression_at (map operand_view os)) in
+    ends_before c.built_by_unknown.result all c.args.at.now c.type_each.new.at c.built_by_unknown.new.at
+    (follows_more some all c.args.at.now c.type_each.new.at (skips_arguments (place_of c.args.place) os) c.in_ok-type_each.ensures.follows)
+    c.built_by_unknown.ensures.goes c.built_by_unknown.ensures.silent
+
+pub exprs::type_under-returns-in_default-clause-follows : goal.exprs::type_under-returns-in_default-clause-follows
+exprs::type_under-returns-in_default-clause-follows t c =
+    let n = c.args.e.number in
+    subst (λ ss. Follows ss c.args.at.now c.note_type.new.self) (sym (operand_missing c.args.e c.in_default.is))
+    (follows_behind (records n ∷ []) c.args.at.now c.var.new.self c.note_type.new.self (store_silent c.args.at.now c.var.new.self c.var.ensures.rest) c.in_ok-note_type.ensures.follows)
+
+pub exprs::type_under-returns-clause-follows : goal.exprs::type_under-returns-clause-follows
+exprs::type_under-returns-clause-follows t c =
+    let o = c.args.e in
+    let nd = c.in-Some.node.now in
+    subst (λ ss. Follows ss c.args.at.now c.note.new.self) (sym (operand_there o c.in-Some.node c.in-Some.is))
+    (follows_both (unrecorded_steps o.number (node_view nd)) (records o.number ∷ []) c.args.at.now c.typed_row.new.at c.note.new.self c.in_ok-used.ensures.follows c.note.ensures.goes c.in_ok-note.ensures.follows)
+
+pub apply::operation-returns-clause-follows : goal.apply::operation-returns-clause-follows
+apply::operation-returns-clause-follows t c =
+    let items = c.in_ok-given.given.items in
+    let tree = node_view c.args.node.now in
+    let none = sym (ap (λ o. option_map (λ x. place_of x.named.span) o) c.in-None.is) ∙ c.in_ok-operator.ensures in
+    let typed = subst (λ os. Follows (each (λ o. expression_steps (operand_view o)) os) c.args.at.now c.type_each.new.at) c.deref-in-None.ensures.value c.in_ok-type_each-in-None.ensures.follows in
+    let same = sym (each_typed items) ∙ operation_as c.args.number tree None (map operand_view items) none c.in_ok-given.ensures in
+    ends_before c.any_type.result (steps_as form.Operation c.args.number tree) c.args.at.now c.type_each.new.at c.any_type.new.at
+    (subst (λ ss. Follows ss c.args.at.now c.type_each.new.at) same typed) c.any_type.ensures.goes c.any_type.ensures.silent
+
+pub plain::plain-returns-clause-follows : goal.plain::plain-returns-clause-follows
+plain::plain-returns-clause-follows t c =
+    let items = c.in_ok-parts.parts.items in
+    let nd = c.args.node.now in
+    let tree = node_view nd in
+    let front = subst (λ os. Follows (parts_from (row_of (out-Node nd).row) 0 (map expression_at (map operand_view os))) c.args.at.now c.type_parts.new.at) c.deref.ensures.value c.in_ok-types.ensures.follows in
+    let back = subst (λ os. OnOk c.behind_parts.result (Follows (behind_parts (row_at tree) tree (map expression_at (map operand_view os))) c.type_parts.new.at c.behind_parts.new.at)) c.deref-2.ensures.value c.behind_parts.ensures.follows in
+    subst (λ ss. OnOk c.behind_parts.result (Follows ss c.args.at.now c.behind_parts.new.at)) (plain_as c.args.number nd (map operand_view items) c.in_ok-parts.ensures)
+    (ends_both c.behind_parts.result (parts_from (row_of (out-Node nd).row) 0 (map expression_at (map operand_view items))) (behind_parts (row_at tree) tree (map expression_at (map operand_view items)))
+    c.args.at.now c.type_parts.new.at c.behind_parts.new.at front c.behind_parts.ensures.goes back)
+
+pub plain::type_parts-loop-part-preserved : goal.plain::type_parts-loop-part-preserved
+plain::type_parts-loop-part-preserved t c =
+    let all = c.args.parts.now in
+    let i = c.loop-part.part-index in
+    let x = c.part-item.result in
+    let r = row_of c.args.row in
+    let lt : i < length all = let n = c.loop-part-test.true in omega arith in
+    let place : c.len-place.result ≡ i = let got = c.len-place.ensures in let listed = c.loop-part.types.ok in let before = c.loop-part.invariant.places in omega arith in
+    let one = subst (λ k. Follows (part_steps r k (expression_at (operand_view x))) c.loop-part.at c.type_part.new.at) place c.in_ok-ty.ensures.follows in
+    record {
+      goes = goes_trans c.args.at.now c.loop-part.at c.type_part.new.at c.loop-part.invariant.goes c.type_part.ensures.goes;
+      places = let pushed = ap length c.in_ok-push.ensures.pushed in let before = c.loop-part.invariant.places in grind (arith, length-append);
+      gets = gets_more (parts_from r 0 (map expression_at (map operand_view all))) (part_steps r i (expression_at (operand_view x))) (parts_from r (i + 1) (map expression_at (map operand_view (drop (i + 1) all)))) c.args.at.now c.loop-part.at c.type_part.new.at
+          (subst (λ os. GetsOn c.args.at.now c.loop-part.at (parts_from r 0 (map expression_at (map operand_view all))) (parts_from r i (map expression_at (map operand_view os)))) (drop_read all i x lt c.part-item.is) c.loop-part.invariant.gets)
+          c.type_part.ensures.goes one;
+    }
+
+pub cases::type_each_case-loop-case-preserved : goal.cases::type_each_case-loop-case-preserved
+cases::type_each_case-loop-case-preserved t c =
+    let all = c.args.cases.now in
+    let i = c.loop-case.case-index in
+    let x = c.case-item.result in
+    let lt : i < length all = let n = c.loop-case-test.true in omega arith in
+    record {
+      goes = goes_trans c.args.at.now c.loop-case.at c.type_case.new.at c.loop-case.invariant.goes c.type_case.ensures.goes;
+      gets = gets_read expression_case operand_view _ all i x _ _ _ lt c.case-item.is c.loop-case.invariant.gets c.type_case.ensures.goes c.in_ok-bodies.ensures.follows;
+      spans = steps_read unused_case operand_view all i x (unused_steps (spans_of c.loop-case.rows)) (unused_steps (spans_of c.type_case.new.rows)) _ lt c.case-item.is c.in_ok-bodies.ensures.spans c.loop-case.invariant.spans;
+    }
+
+pub cases::match_of-returns-clause-follows : goal.cases::match_of-returns-clause-follows
+cases::match_of-returns-clause-follows t c =
+    let n = c.args.number in
+    let tree = node_view c.args.node.now in
+    follows_both (expression_steps (filled_in n tree 1)) (cases_at n tree) c.args.at.now c.type_under.new.at c.type_cases.new.at
+    (subst (λ o. Follows (expression_steps o) c.args.at.now c.type_under.new.at) c.operand_in-subject.ensures c.in_ok-ty.ensures.follows)
+    c.type_cases.ensures.goes c.in_ok-ty-2.ensures.follows
+
+pub cases::function_of_cases-returns-clause-follows : goal.cases::function_of_cases-returns-clause-follows
+cases::function_of_cases-returns-clause-follows t c =
+    let x = cases_at c.args.number (node_view c.args.node.now) in
+    follows_before x c.args.at.now c.type_cases.new.at c.arrow.new.self
+    (follows_behind x c.args.at.now c.var.new.self c.type_cases.new.at (store_silent c.args.at.now c.var.new.self c.var.ensures.rest) c.in_ok-to.ensures.follows)
+    c.arrow.ensures.goes (store_silent c.type_cases.new.at c.arrow.new.self c.arrow.ensures.rest)
+
+pub functions::function-returns-clause-follows : goal.functions::function-returns-clause-follows
+functions::function-returns-clause-follows t c =
+    let n = c.args.number in
+    let tree = node_view c.args.node.now in
+    let x = each parameter_steps (operands_in n tree 1) in
+    let y = expression_steps (filled_in n tree 3) in
+    let same : map operand_view c.deref.result.now ≡ operands_in c.args.number (node_view c.args.node.now) 1 = ap (map operand_view) c.deref.ensures.value ∙ c.in_ok-parameters.ensures in
+    follows_before (x ++ y) c.args.at.now c.type_under.new.at c.arrows.new.at
+    (follows_both x y c.args.at.now c.type_parameters.new.at c.type_under.new.at
+    (subst (λ os. Follows (each parameter_steps os) c.args.at.now c.type_parameters.new.at) same c.in_ok-types.ensures.follows)
+    c.type_under.ensures.goes
+    (subst (λ o. Follows (expression_steps o) c.type_parameters.new.at c.type_under.new.at) c.operand_in-body.ensures c.in_ok-to.ensures.follows))
+    c.arrows.ensures.goes c.arrows.ensures.silent
+
+pub cases::case_of-returns-clause-follows : goal.cases::case_of-returns-clause-follows
+cases::case_of-returns-clause-follows t c =
+    let k = c.args.case in
+    let x = typed_pattern (operand_view k.pattern) in
+    let y = typed_as_if (option_map (λ o. expression_at (operand_view o)) k.guard) in
+    let z = typed_as (expression_at (operand_view k.body)) in
+    follows_both (x ++ y) z c.args.at.now c.type_guard.new.at c.typed_as.new.at
+    (follows_both x y c.args.at.now c.within_case.new.at c.type_guard.new.at c.in_ok-inner.ensures.follows c.type_guard.ensures.goes c.in_ok-type_guard.ensures.follows)
+    c.typed_as.ensures.goes c.in_ok-ty.ensures.follows
+
+pub cases::type_case-returns-in_default-clause-follows : goal.cases::type_case-returns-in_default-clause-follows
+cases::type_case-returns-in_default-clause-follows t c =
+    subst (λ ss. Follows ss c.args.at.now c.note_plain.new.self) (sym (case_lost c.args.case c.in_default.is)) c.in_ok-note_plain.ensures.follows
+
+pub cases::type_case-returns-in_default-clause-spans : goal.cases::type_case-returns-in_default-clause-spans
+cases::type_case-returns-in_default-clause-spans t c = unused_same (spans_of c.args.rows.now) c.args.case c.in_default.is
+
+pub cases::type_case-returns-clause-follows : goal.cases::type_case-returns-clause-follows
+cases::type_case-returns-clause-follows t c =
+    same_follows c.typed_case.result _ _ _ _ (sym (case_there c.args.case c.in-Some.node c.in-Some.is))
+    (ends_both c.typed_case.result (records c.args.case.number ∷ []) _ _ _ _ c.in_ok-note_plain.ensures.follows c.typed_case.ensures.goes c.typed_case.ensures.follows)
+
+pub cases::type_case-returns-clause-spans : goal.cases::type_case-returns-clause-spans
+cases::type_case-returns-clause-spans t c = unused_follow c.typed_case.result _ _ c.args.case c.in-Some.node c.in-Some.is c.typed_case.ensures.spans
+
+pub cases::typed_case-returns-clause-follows : goal.cases::typed_case-returns-clause-follows
+cases::typed_case-returns-clause-follows t c =
+    let tree = node_view c.args.node.now in
+    same_follows c.case_of.result _ _ _ _ (case_parts_are _ _ c.first_operand.result (operands_in c.args.number tree 2) _ _ c.operand_in.ensures c.first_operand.ensures c.operand_in-2.ensures) c.case_of.ensures.follows
+
+pub cases::type_cases-returns-clause-follows : goal.cases::type_cases-returns-clause-follows
+cases::type_cases-returns-clause-follows t c =
+    let items = c.deref.result.now in
+    cases_follow c.type_or_var.result c.args.number c.args.node.now items (spans_of c.type_each_case.new.rows) _ _ _ _ (ap (map operand_view) c.deref.ensures.value ∙ c.in_ok-cases.ensures)
+    (c.in_ok-bodies.ensures.spans ∙ ap (λ ps. unused_steps ps ++ each unused_case (map operand_view items)) c.new-rows.ensures.spans)
+    c.in_ok-bodies.ensures.follows c.report.ensures.goes c.in_ok-report.ensures.follows c.type_or_var.ensures.goes c.type_or_var.ensures.silent
+
+pub records::record-returns-clause-follows : goal.records::record-returns-clause-follows
+records::record-returns-clause-follows t c =
+    let p : Pieces = record { span = (out-Node c.args.node.now).span; first = c.operand_in.result; value = c.first_operand.result; fields = c.in_ok-operands.field-0 } in
+    subst (λ ss. OnOk c.record_of.result (Follows ss c.args.at.now c.record_of.new.at)) (record_is c.args.number c.args.node.now p _ refl c.operand_in.ensures c.first_operand.ensures c.in_ok-operands.ensures c.token.ensures)
+    c.record_of.ensures.follows
+
+pub records::made-returns-clause-follows : goal.records::made-returns-clause-follows
+records::made-returns-clause-follows t c =
+    let p = record_parts c.args.pieces.now in
+    let label = path_view c.args.label.now in
+    let begun = each lost_steps p.operands ++ asks_labels (label ∷ labels_of p.operands) in
+    let first = field_steps c.args.pieces.now.first.number label.last p.value in
+    ends_both c.complete.result ((begun ++ first) ++ fields_steps p.fields) (asks fault.Complete (p.at ∷ []) ∷ []) c.args.at.now c.type_fields.new.at c.complete.new.at
+    (follows_three begun first (fields_steps p.fields) c.args.at.now c.record_of_made.new.at c.type_field.new.at c.type_fields.new.at c.in_ok-found.ensures.follows
+    c.type_field.ensures.goes c.in_ok-type_field.ensures.follows c.type_fields.ensures.goes
+    (subst (λ os. Follows (fields_steps (map expression_at (map operand_view os))) c.type_field.new.at c.type_fields.new.at) c.deref.ensures.value c.in_ok-type_fields.ensures.follows))
+    c.complete.ensures.goes c.complete.ensures.follows
+
+pub records::loose-returns-clause-follows : goal.records::loose-returns-clause-follows
+records::loose-returns-clause-follows t c =
+    let p = record_parts c.args.pieces.now in
+    let begun = ((asks fault.Label (p.first.self.at ∷ []) ∷ each lost_steps p.operands) ++ p.first.typed) ++ asks_labels (labels_of p.operands) in
+    ends_both c.complete.result ((begun ++ typed_if p.value) ++ fields_steps p.fields) (asks fault.Complete (p.at ∷ []) ∷ []) c.args.at.now c.type_fields.new.at c.complete.new.at
+    (follows_three begun (typed_if p.value) (fields_steps p.fields) c.args.at.now c.record_behind.new.at c.type_if.new.at c.type_fields.new.at c.in_ok-found.ensures.follows
+    c.type_if.ensures.goes c.in_ok-type_if.ensures.follows c.type_fields.ensures.goes
+    (subst (λ os. Follows (fields_steps (map expression_at (map operand_view os))) c.type_if.new.at c.type_fields.new.at) c.deref.ensures.value c.in_ok-type_fields.ensures.follows))
+    c.complete.ensures.goes c.complete.ensures.follows
+
+pub records::record_behind-returns-clause-follows : goal.records::record_behind-returns-clause-follows
+records::record_behind-returns-clause-follows t c =
+    let p = record_parts c.args.pieces.now in
+    let begun = asks fault.Label (p.first.self.at ∷ []) ∷ each lost_steps p.operands in
+    ends_both c.record_of_fields.result (begun ++ p.first.typed) (asks_labels (labels_of p.operands)) c.args.at.now c.type_under.new.at c.record_of_fields.new.at
+    (follows_both begun p.first.typed c.args.at.now c.begin_loose.new.at c.type_under.new.at c.in_ok-begin_loose.ensures.follows c.type_under.ensures.goes c.in_ok-type_under.ensures.follows)
+    c.record_of_fields.ensures.goes
+    (subst (λ os. OnOk c.record_of_fields.result (Follows (asks_labels (labels_of (map operand_view os))) c.type_under.new.at c.record_of_fields.new.at)) c.deref.ensures.value c.record_of_fields.ensures.follows)
+
+pub records::type_fields-loop-field-preserved : goal.records::type_fields-loop-field-preserved
+records::type_fields-loop-field-preserved t c =
+    let all = c.args.given.now in
+    let i = c.loop-field.field-index in
+    let x = c.field-item.result in
+    let lt : i < length all = let n = c.loop-field-test.true in omega arith in
+    let cut = drop_read all i x lt c.field-item.is in
+    record {
+      goes = goes_trans c.args.at.now c.loop-field.at c.type_if_there.new.at c.loop-field.invariant.goes c.type_if_there.ensures.goes;
+      gets = gets_more (fields_steps (map expression_at (map operand_view all))) (expression_field (operand_view x)) (fields_steps (map expression_at (map operand_view (drop (i + 1) all)))) c.args.at.now c.loop-field.at c.type_if_there.new.at
+          (subst (λ os. GetsOn c.args.at.now c.loop-field.at (fields_steps (map expression_at (map operand_view all))) (fields_steps (map expression_at (map operand_view os)))) cut c.loop-field.invariant.gets)
+          c.type_if_there.ensures.goes c.in_ok-type_if_there.ensures.follows;
+    }
+
+pub records::record_of_part-returns-clause-follows : goal.records::record_of_part-returns-clause-follows
+records::record_of_part-returns-clause-follows t c =
+    let p = record_parts c.args.pieces.now in
+    let lost = each lost_steps p.operands in
+    let labels = asks_labels (labels_of p.operands) in
+    follows_both ((lost ++ p.first.typed) ++ labels) (asks_equal p.first.self) c.args.at.now c.record_of_fields.new.at c.equal_if.new.at
+    (follows_three lost p.first.typed labels c.args.at.now c.note_missing.new.at c.type_under.new.at c.record_of_fields.new.at
+    (subst (λ os. Follows (each lost_steps (map operand_view os)) c.args.at.now c.note_missing.new.at) c.deref.ensures.value c.in_ok-note_missing.ensures.follows)
+    c.type_under.ensures.goes c.in_ok-ty.ensures.follows c.record_of_fields.ensures.goes
+    (subst (λ os. Follows (asks_labels (labels_of (map operand_view os))) c.type_under.new.at c.record_of_fields.new.at) c.deref-2.ensures.value c.in_ok-found.ensures.follows))
+    c.equal_if.ensures.goes c.in_ok-equal_if.ensures.follows
+
+pub records::type_if_there-returns-in_default-clause-follows : goal.records::type_if_there-returns-in_default-clause-follows
+records::type_if_there-returns-in_default-clause-follows t c =
+    subst (λ ss. Follows ss c.args.at.now c.args.at.now) (sym (field_lost c.args.field c.in_default.is)) (follows_none c.args.at.now c.args.at.now refl)
+
+pub records::type_if_there-returns-clause-follows : goal.records::type_if_there-returns-clause-follows
+records::type_if_there-returns-clause-follows t c =
+    subst (λ ss. OnOk c.type_field.result (Follows ss c.args.at.now c.type_field.new.at))
+    (field_is c.args.field c.in-Some.node (path_view c.in_ok-label.label) c.first_operand-value.result c.in-Some.is c.in_ok-label.ensures c.first_operand-value.ensures) c.type_field.ensures.follows
+
+pub bindings::in_turn-loop-binding-preserved : goal.bindings::in_turn-loop-binding-preserved
+bindings::in_turn-loop-binding-preserved t c =
+    let all = c.args.bindings.now in
+    let i = c.loop-binding.binding-index in
+    let x = c.binding-item.result in
+    let lt : i < length all = let n = c.loop-binding-test.true in omega arith in
+    record {
+      goes = goes_trans c.args.at.now c.loop-binding.at c.take_turn.new.at c.loop-binding.invariant.goes c.take_turn.ensures.goes;
+      gets = gets_read (λ b. turn_steps (expression_at b)) operand_view _ all i x _ _ _ lt c.binding-item.is c.loop-binding.invariant.gets c.take_turn.ensures.goes c.in_ok-take_turn.ensures.follows;
+    }
+
+pub bindings::let_in-returns-clause-follows : goal.bindings::let_in-returns-clause-follows
+bindings::let_in-returns-clause-follows t c =
+    let_follow c.args.number (node_view c.args.node.now) (operand_view c.operand_in-body.result) c.args.at.now c.type_group.new.at c.close.new.at c.type_under.new.at c.operand_in-body.ensures c.in_ok-bound.ensures.follows c.close.ensures.goes c.close.ensures.silent c.type_under.ensures.goes c.in_ok-ty.ensures.follows
+
+pub bindings::turn-returns-clause-follows : goal.bindings::turn-returns-clause-follows
+bindings::turn-returns-clause-follows t c =
+    let b = c.args.binding in
+    let tree = node_view b.node.now in
+    let r = records b.number ∷ right_at b.number tree in
+    let p = pattern_steps (bound_pattern b.number tree) in
+    let w = whole_steps (bound_pattern b.number tree) in
+    ends_both c.conclude.result (r ++ p) w c.args.at.now c.open_pattern.new.at c.conclude.new.at
+    (follows_both r p c.args.at.now c.recorded_right.new.at c.open_pattern.new.at c.in_ok-side.ensures.follows c.open_pattern.ensures.goes c.in_ok-opened.ensures.follows)
+    c.conclude.ensures.goes
+    (subst (λ o. OnOk c.conclude.result (Follows (whole_steps (bound_pattern o.number (node_view o.node.now))) c.open_pattern.new.at c.conclude.new.at)) c.in_ok-opened.ensures.binding c.conclude.ensures.follows)
+
+pub bindings::take_turn-returns-clause-follows : goal.bindings::take_turn-returns-clause-follows
+bindings::take_turn-returns-clause-follows t c = done_follows c.push.result _ _ _ _ (sym (turn_of c.args.binding c.in-Some.node c.in-Some.is)) c.in_ok-one.ensures.follows
+
+pub bindings::right_of-returns-clause-follows : goal.bindings::right_of-returns-clause-follows
+bindings::right_of-returns-clause-follows t c =
+    right_follow c.typed_body.result (map operand_view c.args.given.now) c.args.written c.in_ok-annotation.annotation (expression_at (operand_view c.args.body)) c.args.at.now c.type_parameters.new.at c.annotation_of.new.at c.typed_body.new.at c.in_ok-annotation.ensures.there
+    c.in_ok-parameters.ensures.follows c.annotation_of.ensures.goes c.in_ok-annotation.ensures.follows c.typed_body.ensures.goes c.typed_body.ensures.follows
+
+pub bindings::conclude_all-loop-depth-preserved : goal.bindings::conclude_all-loop-depth-preserved
+bindings::conclude_all-loop-depth-preserved t c =
+    let left = c.loop-depth.left in
+    let len : length left.items ≡ left.len = search rules in
+    record {
+      goes = goes_trans c.args.at.now c.loop-depth.at c.conclude_one.new.at c.loop-depth.invariant.goes c.conclude_one.ensures.goes;
+      gets = first_gets conclusion left.items c.remove-one.new.self.items c.remove-one.result (each conclusion c.args.opened.items) c.args.at.now c.loop-depth.at c.conclude_one.new.at
+          (ap (λ n. n == 0) len ∙ (sym c.is_empty.ensures ∙ c.loop-depth-test.true)) c.remove-one.ensures.value c.remove-one.ensures.items c.loop-depth.invariant.gets c.conclude_one.ensures.goes c.in_ok-done.ensures.follows;
+    }
+
+pub bindings::type_group-returns-in-None-clause-follows : goal.bindings::type_group-returns-in-None-clause-follows
+bindings::type_group-returns-in-None-clause-follows t c =
+    let n = c.args.number in
+    let tree = node_view c.args.node.now in
+    let begun : Parts = record (c.args.at.now) { level = c.saturating_add-at.result } in
+    let os = map operand_view c.deref-in-None.result.now in
+    ends_behind c.in_turn.result (bindings_at n tree) c.args.at.now begun c.in_turn.new.at refl
+    (turns_follow c.in_turn.result n tree os begun c.note_missing.new.at c.in_turn.new.at (ap (map operand_view) c.deref-in-None.ensures.value ∙ c.in_ok-bindings.ensures)
+    (no_token tree c.token.result c.token.ensures c.in-None.is)
+    (subst (λ xs. Follows (each lost_steps (map operand_view xs)) begun c.note_missing.new.at) (c.deref.ensures.value ∙ sym c.deref-in-None.ensures.value) c.in_ok-note_missing.ensures.follows)
+    c.in_turn.ensures.goes c.in_turn.ensures.follows)
+
+pub bindings::type_group-returns-clause-follows : goal.bindings::type_group-returns-clause-follows
+bindings::type_group-returns-clause-follows t c =
+    let n = c.args.number in
+    let tree = node_view c.args.node.now in
+    let begun : Parts = record (c.args.at.now) { level = c.saturating_add-at.result } in
+    let os = map operand_view c.deref-in-Some.result.now in
+    ends_behind c.together.result (bindings_at n tree) c.args.at.now begun c.together.new.at refl
+    (together_follow c.together.result n tree os (tok_of c.in-Some.field-0.now) begun c.note_missing.new.at c.together.new.at (ap (map operand_view) c.deref-in-Some.ensures.value ∙ c.in_ok-bindings.ensures)
+    (some_token tree c.token.result c.in-Some.field-0 c.token.ensures c.in-Some.is)
+    (subst (λ xs. Follows (each lost_steps (map operand_view xs)) begun c.note_missing.new.at) (c.deref.ensures.value ∙ sym c.deref-in-Some.ensures.value) c.in_ok-note_missing.ensures.follows)
+    c.together.ensures.goes c.together.ensures.follows)

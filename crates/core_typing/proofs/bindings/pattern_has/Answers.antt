@@ -1,0 +1,15 @@
+use Rattle.std.proofs.Common.{[], ◌∷◌, subst}
+use Rattle.std.specs.Prelude.{OnOk}
+use Rattle.row_parts.specs.Numbered.{operand_view}
+use Rattle.env_table.specs.declared.faults.FaultKind.TheVariants as fault
+use Rattle.decl_typing.specs.Steps.{asks, Follows}
+use Rattle.decl_typing.proofs.Following.{ends_both}
+use Rattle.core_typing.specs.PatternSteps.{asks_equal}
+use Rattle.core_typing.specs.ExpressionSteps.{whole_steps}
+use Rattle.core_typing.proofs.bindings.pattern_has.Goals as goal
+
+pub returns-clause-follows : goal.returns-clause-follows
+returns-clause-follows c =
+    let o = operand_view c.pattern_in-pattern.result in
+    subst (λ p. OnOk c.warn_pattern.result (Follows (whole_steps p) c.args.at.now c.warn_pattern.new.at)) c.pattern_in-pattern.ensures
+    (ends_both c.warn_pattern.result (asks_equal o) (asks fault.Missed (o.at ∷ []) ∷ []) c.args.at.now c.equal.new.self c.warn_pattern.new.at c.in_ok-verdict.ensures.follows c.warn_pattern.ensures.goes c.warn_pattern.ensures.follows)

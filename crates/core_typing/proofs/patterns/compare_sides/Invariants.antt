@@ -1,5 +1,0 @@
-use Rattle.decl_typing.specs.Goes.{Goes}
-use Rattle.core_typing.proofs.patterns.compare_sides.Given as goal
-
-abbrev pub invariant-loop-part : goal.invariant-loop-part
-invariant-loop-part l = Goes l.fn.at l.at

@@ -1,5 +1,0 @@
-use Rattle.decl_typing.specs.Goes.{Goes}
-use Rattle.core_typing.proofs.patterns.list.Given as goal
-
-abbrev pub invariant-loop-ty : goal.invariant-loop-ty
-invariant-loop-ty l = Goes l.fn.at l.at
