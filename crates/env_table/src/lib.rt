@@ -14,8 +14,6 @@ mod lookup;
 mod origins;
 mod records;
 mod seen;
-#[cfg(test)]
-mod tests;
 mod walk;
 
 pub use entries::{

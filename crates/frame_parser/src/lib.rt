@@ -18,6 +18,3 @@ pub use steps::{close, empty, empty_sig, step};
 pub use syntax_rows::Text;
 pub use syntax_tree::{Counts, NoMemory, Span, Token, Tree};
 pub use whole::{Parsed, parse};
-
-#[cfg(test)]
-mod tests;

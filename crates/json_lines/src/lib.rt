@@ -16,6 +16,3 @@ pub use reply::{
 };
 pub use request::{LINE_LIMIT, Malformed, Request, read_request};
 pub use write::{MEMORY_LINE, memory_line, write_reply};
-
-#[cfg(test)]
-mod tests;

@@ -13,8 +13,6 @@ mod limits;
 mod plan;
 mod schemes;
 mod solve;
-#[cfg(test)]
-mod tests;
 mod unifying;
 mod walk;
 

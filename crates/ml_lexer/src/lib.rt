@@ -18,6 +18,3 @@ mod strings;
 mod words;
 
 pub use lexer::{lex_all, lex_from};
-
-#[cfg(test)]
-mod tests;

@@ -14,6 +14,3 @@ pub use nodes::height_of_level;
 pub use stack::Stack;
 pub use syntax_rows::Last;
 pub use syntax_tree::{NoMemory, Node, Part, RowName, Span, Token};
-
-#[cfg(test)]
-mod tests;

@@ -10,8 +10,6 @@ mod printing;
 mod rows;
 mod same;
 mod search;
-#[cfg(test)]
-mod tests;
 
 pub use patterns::{Built, Matrix, Pat, PatRow, Shape};
 pub use printing::print_shape;

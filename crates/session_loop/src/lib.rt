@@ -28,6 +28,3 @@ pub use service::{Report, Status, serve};
 pub use session::{Line, Session};
 pub use std_ends::{ReadEnd, WriteEnd};
 pub use sure_ends::{SureSink, SureSource};
-
-#[cfg(test)]
-mod tests;

@@ -8,8 +8,6 @@ mod paths;
 mod pieces;
 mod printing;
 mod scopes;
-#[cfg(test)]
-mod tests;
 mod variables;
 mod ways;
 

@@ -13,8 +13,6 @@ ghost use Rattle.type_substitution.specs.Substituting.{IsSubstituted};
 
 mod copies;
 mod shapes;
-#[cfg(test)]
-mod tests;
 
 use copies::copy_all;
 use level_unify::reached;
