@@ -25,7 +25,8 @@ use Rattle.decl_typing.specs.Steps.{Step, Steps, asks, records, each, place_of_t
 use Rattle.decl_typing.proofs.Following.{ends_both}
 use Rattle.core_typing.specs.declared.exprs.RowForm.{RowForm}
 use Rattle.core_typing.specs.declared.exprs.RowForm.TheVariants as form
-use Rattle.core_typing.specs.PatternSteps.{asks_token, is_int, range_steps, later}
+use Rattle.use_typing.specs.UseSteps.{asks_token, is_int, range_steps}
+use Rattle.pattern_typing.specs.PatternSteps.{later}
 use Rattle.core_typing.specs.ExpressionSteps.{ExpressionSteps, no_expression, expression_rule, expression_or_missing, expression_at, expression_steps, expression_field, expression_case, right_side, expressions_in, all_expressions, filled_expression, pieces_of, pieces_at, form_of, steps_of_form, row_at, place_at, steps_as, unrecorded_steps, field_steps, case_steps, right_steps, Value, named, constant, anything, value_steps, has_type, part_at, arguments_steps, asked_part, asked_label, asked_branch, behind_part_steps, behind_parts, type_each, parts_from, plain_steps, operator_in, operator_steps}
 
 -- what a node with a number comes to as an operand

@@ -15,13 +15,14 @@ use Rattle.decl_typing.specs.Goes.{Goes}
 use Rattle.decl_typing.specs.Steps.{Steps, asks, records, each, Follows, Silent}
 use Rattle.decl_typing.proofs.Following.{follows_both, follows_before, ends_both}
 use Rattle.decl_typing.proofs.TypeLaws.{each_map}
-use Rattle.core_typing.specs.PatternSteps.{pattern_steps, lost_steps}
-use Rattle.core_typing.specs.Warnings.{missed_steps, unused_steps, warning_steps}
+use Rattle.use_typing.specs.UseSteps.{lost_steps}
+use Rattle.pattern_typing.specs.PatternSteps.{pattern_steps}
+use Rattle.pattern_typing.specs.Warnings.{missed_steps, unused_steps, warning_steps}
 use Rattle.core_typing.specs.ExpressionSteps.{ExpressionSteps, expression_at, expression_case, expressions_in, filled_expression, case_parts, cases_at, unused_case, row_at, place_at, bound_pattern, whole_steps, right_at, concluded_at, turn_steps, concluded_steps, opened_steps, group_steps, bindings_at, typed_as_written}
 use Rattle.core_typing.specs.declared.bindings.Opened.{Opened}
 use Rattle.core_typing.specs.Concluding.{conclusion}
 use Rattle.core_typing.proofs.ExpressionLaws.{case_of_node, case_of_missing, right_of_node, first_come, row_of_node, place_of_node}
-use Rattle.core_typing.proofs.Reading.{rest_read}
+use Rattle.use_typing.proofs.Reading.{rest_read, same_follows}
 
 -- the steps so far and those that are left
 pub steps_read : {A B : Type 0} (f : B → Steps) (view : A → B) (xs : List A) (i : ℕ) (x : A) (old new all : Steps) → i < length xs → x ≡ slice_index_or xs i x →
@@ -122,10 +123,6 @@ together_are n t os w is some =
     ap (λ qs. each lost_steps qs ++ each opened_steps qs ++ each (λ b. concluded_steps (expression_at b)) qs) is
     ∙ ap (λ ss. each lost_steps (operands_in n t 2) ++ each opened_steps (operands_in n t 2) ++ ss) (sym (each_map concluded_steps expression_at (operands_in n t 2)))
     ∙ ap (λ w. group_steps w (operands_in n t 2) (expressions_in n t 2)) (sym some)
-
--- equal steps
-pub same_follows : {A E : Type 0} (r : Result A E) (ss ts : Steps) (a b : Parts) → ss ≡ ts → OnOk r (Follows ss a b) → OnOk r (Follows ts a b)
-same_follows r ss ts a b e p = subst (λ us. OnOk r (Follows us a b)) e p
 
 -- whatever the last call answers, which tells nothing
 pub done_follows : {A E : Type 0} (r : Result A E) (ss ts : Steps) (a b : Parts) → ss ≡ ts → Follows ss a b → OnOk r (Follows ts a b)

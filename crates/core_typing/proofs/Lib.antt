@@ -1,11 +1,6 @@
--- The laws of the steps of patterns and expressions.
-pub mod Reading
-pub mod Binding
-pub mod LabelLaws
-pub mod MatchedRows
-pub mod OtherRows
-pub mod PatternLaws
+-- The laws of the steps of expressions.
 pub mod ExpressionLaws
 pub mod GroupLaws
+pub mod LeafLaws
 pub mod BindingLaws
 pub mod RecordLaws

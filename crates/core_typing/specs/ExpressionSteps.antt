@@ -11,8 +11,9 @@ use Rattle.decl_typing.specs.Steps.{Steps, asks, records, each, place_of_tok, as
 use Rattle.decl_typing.specs.TypeSteps.{constructor_steps, type_steps}
 use Rattle.core_typing.specs.declared.exprs.RowForm.{RowForm}
 use Rattle.core_typing.specs.declared.exprs.RowForm.TheVariants as form
-use Rattle.core_typing.specs.Warnings.{missed_steps}
-use Rattle.core_typing.specs.PatternSteps.{pattern_steps, asks_equal, asks_token, range_steps, later, lost_steps, labels_of, asks_labels, annotation_steps}
+use Rattle.pattern_typing.specs.Warnings.{missed_steps}
+use Rattle.use_typing.specs.UseSteps.{asks_equal, asks_token, range_steps, lost_steps, labels_of, asks_labels, annotation_steps}
+use Rattle.pattern_typing.specs.PatternSteps.{pattern_steps, later}
 
 -- what an operand comes to: itself, and its steps as an expression, as a field of a record, as a case, and as the right side of a binding
 pub record ExpressionSteps : Type 0 where

@@ -1,7 +1,7 @@
 //! Applications: of an expression, of an operator and of a constructor.
 #![tactic(auto, using(decl_typing::proofs::Going::goes_trans, decl_typing::proofs::Going::goes_refl, decl_typing::proofs::Following::follows_both, decl_typing::proofs::Following::follows_then, decl_typing::proofs::Following::follows_before, decl_typing::proofs::Following::follows_behind, decl_typing::proofs::Following::follows_none, decl_typing::proofs::Following::follows_silent, decl_typing::proofs::Following::store_silent, decl_typing::proofs::Following::silent_refl, decl_typing::proofs::Following::silent_trans, decl_typing::proofs::Following::ends_both, decl_typing::proofs::Following::ends_behind, decl_typing::proofs::Following::ends_before, decl_typing::proofs::Following::ends_silent, decl_typing::proofs::Following::gets_start, decl_typing::proofs::Following::gets_more, decl_typing::proofs::Following::gets_before, decl_typing::proofs::Following::gets_done, crate::proofs::ExpressionLaws::ends_then), unfolding(syntax_tree::specs::Names::row_of))]
 
-ghost use Rattle.std.specs.Prelude.{◌≡◌, [], ◌∷◌, ◌++◌, map, option_map, IfOk, OnOk};
+ghost use Rattle.std.specs.Prelude.{◌≡◌, [], ◌∷◌, ◌++◌, map, option_map, Some, IfOk, OnOk};
 ghost use Rattle.token_model.specs.Kinds.{Tok};
 ghost use Rattle.syntax_tree.specs.Names.{row_of, kind_of};
 ghost use Rattle.syntax_tree.specs.View.{place_of, tok_of, node_view};
@@ -10,16 +10,16 @@ ghost use Rattle.env_table.specs.declared.faults.FaultKind.{FaultKind};
 ghost use Rattle.decl_typing.specs.Goes.{Goes};
 ghost use Rattle.decl_typing.specs.Steps.{asks, records, each, Follows, Silent};
 ghost use Rattle.decl_typing.specs.TypeSteps.{constructor_steps};
+ghost use Rattle.env_table.specs.declared.entries.Kind.{Kind};
+ghost use Rattle.use_typing.specs.Uses.{TellsBound, TellsUse};
 ghost use Rattle.core_typing.specs.declared.exprs.RowForm.{RowForm};
 ghost use Rattle.core_typing.specs.ExpressionSteps.{expression_at, expression_steps, argument_steps, arguments_steps, constructed_steps, constructor_at, is_float_at, is_float_token, operator_in, recorded_constructor, row_at, steps_as, upper_path};
 
-use crate::constants::Sign;
 use crate::exprs::{type_each, type_under, typed_as};
-use crate::rows::{any_type, unnamed};
-use crate::uses::{Construction, Names, Used, constructor, value};
 use decl_typing::{Depth, Env, NoMemory, NodeRef, Parts};
 use row_parts::{Operand, WrittenPath, operand_in, operands, operands_of, token, written_path};
 use syntax_tree::{Node, RcStr, RowName, Span, Token, TokenKind};
+use use_typing::{Construction, Names, Sign, Used, any_type, constructor, unnamed, value};
 
 /// e e e
 #[cycle(exprs)]
@@ -88,6 +88,7 @@ fn recorded_constructor(
     path: &WrittenPath<'_>,
     env: &Env,
 ) -> Result<Head, NoMemory>
+    ensures tells { OnOk result (TellsUse (path_view path.now) 1 at.old at.new env.now) }
     ensures follows { OnOk result (Follows (recorded_constructor number (path_view path.now)) at.old at.new) }
     ensures goes { Goes at.old at.new }
 {
@@ -281,6 +282,7 @@ fn operator_by(at: &Parts, row: RowName, token: &Token) -> Result<Operator, NoMe
 
 /// `bound` of an operator.
 fn operator_value(at: &mut Parts, operator: &Token, env: &Env) -> Result<Used, NoMemory>
+    ensures tells { OnOk result (TellsBound (record { qualifiers = []; last = Some (tok_of operator.now) }) Kind.Value at.old at.new env.now) }
     ensures follows { OnOk result (Follows (asks FaultKind.Bound (place_of operator.now.span ∷ []) ∷ []) at.old at.new) }
     ensures goes { Goes at.old at.new }
 {

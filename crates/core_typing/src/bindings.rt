@@ -8,26 +8,23 @@ ghost use Rattle.env_table.specs.declared.faults.FaultKind.{FaultKind};
 ghost use Rattle.decl_typing.specs.Goes.{Goes};
 ghost use Rattle.decl_typing.specs.Steps.{asks, each, records, Follows, Silent};
 ghost use Rattle.core_typing.specs.declared.exprs.RowForm.{RowForm};
-ghost use Rattle.core_typing.specs.PatternSteps.{asks_equal, pattern_steps};
+ghost use Rattle.use_typing.specs.UseSteps.{asks_equal};
+ghost use Rattle.pattern_typing.specs.PatternSteps.{pattern_steps};
 ghost use Rattle.core_typing.specs.ExpressionSteps.{bindings_at, bound_pattern, concluded_at, concluded_steps, expression_at, expression_steps, opened_steps, parameter_steps, right_at, right_steps, steps_as, turn_steps, type_steps_if, typed_as_written, asks_equal_written, whole_steps};
 ghost use Rattle.core_typing.specs.Concluding.{conclusion};
 
-use crate::constants::Sign;
 use crate::exprs::type_under;
 use crate::functions::{arrows, type_parameters, with_names};
-use crate::labels::note_missing;
-use crate::patterns::{BoundName, Matched, Mentioned, type_pattern};
-use crate::rows::unnamed;
-use crate::uses::Used;
 use crate::values::{has_parameters, is_value};
-use crate::warnings::report_pattern;
 use decl_typing::{
     Depth, Entry, Env, NO_SCOPE, NoMemory, NodeRef, Parts, Variables, Verdict, share_entry,
 };
 use owned_lists::push;
+use pattern_typing::{BoundName, Matched, Mentioned, report_pattern, type_pattern};
 use row_parts::{Operand, first_operand, operand_in, operands, token};
 use std::rc::Rc;
 use syntax_tree::{Node, Token};
+use use_typing::{Sign, Used, note_missing, unnamed};
 
 /// A binding that is there, with its number.
 #[derive(Clone, Copy)]

@@ -7,19 +7,16 @@ ghost use Rattle.row_parts.specs.Numbered.{filled_in, first_of, operand_view};
 ghost use Rattle.decl_typing.specs.Goes.{Goes};
 ghost use Rattle.decl_typing.specs.Steps.{each, Follows};
 ghost use Rattle.core_typing.specs.declared.exprs.RowForm.{RowForm};
-ghost use Rattle.core_typing.specs.Warnings.{spans_of, unused_steps};
+ghost use Rattle.pattern_typing.specs.Warnings.{spans_of, unused_steps};
 ghost use Rattle.core_typing.specs.ExpressionSteps.{case_parts, cases_at, expression_at, expression_case, expressions_in, filled_expression, steps_as, typed_as_if, typed_pattern, unused_case};
 
-use crate::constants::Sign;
 use crate::exprs::{type_under, typed_as};
 use crate::functions::with_names;
-use crate::patterns::{Matched, type_pattern};
-use crate::rows::{type_or_var, unnamed};
-use crate::uses::Used;
-use crate::warnings::Rows;
 use decl_typing::{Depth, Env, NoMemory, NodeRef, Parts};
+use pattern_typing::{Matched, Rows, type_pattern};
 use row_parts::{Operand, first_operand, operand_in, operands};
 use syntax_tree::{Node, RowName, Span};
+use use_typing::{Sign, Used, type_or_var, unnamed};
 
 /// A case by its parts, and where it stands.
 #[derive(Clone, Copy)]

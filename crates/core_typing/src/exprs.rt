@@ -1,7 +1,7 @@
 //! The walk over expressions: each row types its parts in order, with its demands between and behind them.
 #![tactic(auto, using(decl_typing::proofs::Going::goes_trans, decl_typing::proofs::Going::goes_refl, decl_typing::proofs::Following::follows_both, decl_typing::proofs::Following::follows_then, decl_typing::proofs::Following::follows_before, decl_typing::proofs::Following::follows_behind, decl_typing::proofs::Following::follows_none, decl_typing::proofs::Following::follows_silent, decl_typing::proofs::Following::store_silent, decl_typing::proofs::Following::silent_refl, decl_typing::proofs::Following::silent_trans, decl_typing::proofs::Following::ends_both, decl_typing::proofs::Following::ends_behind, decl_typing::proofs::Following::ends_before, decl_typing::proofs::Following::ends_silent, decl_typing::proofs::Following::gets_start, decl_typing::proofs::Following::gets_more, decl_typing::proofs::Following::gets_before, decl_typing::proofs::Following::gets_done, crate::proofs::ExpressionLaws::value_no_record, crate::proofs::ExpressionLaws::form_follows), unfolding(syntax_tree::specs::Names::row_of))]
 
-ghost use Rattle.std.specs.Prelude.{◌≡◌, [], ◌∷◌, ◌++◌, OnOk};
+ghost use Rattle.std.specs.Prelude.{◌≡◌, false, [], ◌∷◌, ◌++◌, OnOk};
 ghost use Rattle.syntax_tree.specs.View.{place_of, node_view};
 ghost use Rattle.syntax_tree.specs.Names.{row_of};
 ghost use Rattle.row_parts.specs.Numbered.{operand_view, path_view};
@@ -10,21 +10,22 @@ ghost use Rattle.decl_typing.specs.Goes.{Goes};
 ghost use Rattle.decl_typing.specs.Steps.{asks, each, Follows, Silent};
 ghost use Rattle.decl_typing.specs.Notes.{IsRecorded};
 ghost use Rattle.decl_typing.specs.TypeSteps.{constructor_steps};
+ghost use Rattle.use_typing.specs.Constants.{is_negated};
+ghost use Rattle.use_typing.specs.Uses.{TellsUse};
 ghost use Rattle.core_typing.specs.declared.exprs.RowForm.{RowForm};
+ghost use Rattle.core_typing.specs.Leaves.{TellsAlone, TellsAs, TellsLeaf, TellsValue};
 ghost use Rattle.core_typing.specs.ExpressionSteps.{expression_steps, form_of, row_at, steps_as, unrecorded_steps, value_in, value_steps};
 
 use crate::apply::{application, constructor_path, minus, operation};
 use crate::bindings::let_in;
 use crate::cases::{function_of_cases, match_of};
-use crate::constants::{Sign, constant};
 use crate::functions::function;
 use crate::plain::{parenthesised, plain};
 use crate::records::record;
-use crate::rows::{any_type, equal_if, unnamed};
-use crate::uses::{Used, constructor, value};
 use decl_typing::{Depth, Env, NoMemory, NodeRef, Parts};
 use row_parts::{Operand, WrittenPath, token, written_path};
 use syntax_tree::{Node, RowName};
+use use_typing::{Sign, Used, any_type, constant, constructor, equal_if, unnamed, value};
 
 /// Types an expression, or a missing one. It is recorded.
 pub fn type_expr(
@@ -33,6 +34,7 @@ pub fn type_expr(
     env: &Env,
     depth: Depth,
 ) -> Result<NodeRef, NoMemory>
+    ensures alone { OnOk result (TellsAlone (operand_view e.entry).part false at.old at.new env.now) }
     ensures follows { OnOk result (Follows (expression_steps (operand_view e.entry)) at.old at.new) }
     ensures recorded { OnOk result (IsRecorded at.new e.entry.number) }
     ensures goes { Goes at.old at.new }
@@ -49,6 +51,7 @@ pub fn type_under(
     env: &Env,
     depth: Depth,
 ) -> Result<NodeRef, NoMemory>
+    ensures alone { OnOk result (TellsAlone (operand_view e.entry).part (is_negated sign) at.old at.new env.now) }
     ensures follows { OnOk result (Follows (expression_steps (operand_view e.entry)) at.old at.new) }
     ensures recorded { OnOk result (IsRecorded at.new e.entry.number) }
     ensures goes { Goes at.old at.new }
@@ -117,6 +120,7 @@ fn typed_row(
     env: &Env,
     depth: Depth,
 ) -> Result<Used, NoMemory>
+    ensures alone { OnOk result (TellsAs (form_of (row_at (node_view node.now))) (node_view node.now) (is_negated sign) at.old at.new env.now) }
     ensures follows { OnOk result (Follows (unrecorded_steps number (node_view node.now)) at.old at.new) }
     ensures goes { Goes at.old at.new }
 {
@@ -172,6 +176,7 @@ pub fn typed_as(
 
 /// A row without parts.
 fn leaf(at: &mut Parts, node: &Node, number: u32, sign: Sign, env: &Env) -> Result<Used, NoMemory>
+    ensures tells { OnOk result (TellsLeaf (node_view node.now) (is_negated sign) at.old at.new env.now) }
     ensures follows { OnOk result (Follows (steps_as RowForm.Leaf number (node_view node.now)) at.old at.new) }
     ensures goes { Goes at.old at.new }
 {
@@ -183,6 +188,7 @@ fn leaf(at: &mut Parts, node: &Node, number: u32, sign: Sign, env: &Env) -> Resu
 
 /// A constructor without arguments.
 fn constructor_alone(at: &mut Parts, env: &Env, path: &WrittenPath<'_>) -> Result<Used, NoMemory>
+    ensures tells { OnOk result (TellsUse (path_view path.now) 0 at.old at.new env.now) }
     ensures follows { OnOk result (Follows (constructor_steps (path_view path.now)) at.old at.new) }
     ensures goes { Goes at.old at.new }
 {
@@ -195,6 +201,7 @@ fn constructor_alone(at: &mut Parts, env: &Env, path: &WrittenPath<'_>) -> Resul
 
 /// A row without parts that is no constructor.
 fn leaf_value(at: &mut Parts, node: &Node, sign: Sign, env: &Env) -> Result<Used, NoMemory>
+    ensures tells { OnOk result (TellsValue (value_in (row_at (node_view node.now)) (node_view node.now)) (is_negated sign) at.old at.new env.now) }
     ensures follows { OnOk result (Follows (value_steps (value_in (row_at (node_view node.now)) (node_view node.now))) at.old at.new) }
     ensures goes { Goes at.old at.new }
 {

@@ -10,17 +10,14 @@ ghost use Rattle.decl_typing.specs.Steps.{asks, each, Follows, Silent};
 ghost use Rattle.core_typing.specs.declared.exprs.RowForm.{RowForm};
 ghost use Rattle.core_typing.specs.ExpressionSteps.{parameter_steps, steps_as};
 
-use crate::constants::Sign;
 use crate::exprs::type_under;
-use crate::patterns::{BoundName, Matched, type_pattern};
-use crate::rows::unnamed;
-use crate::uses::Used;
-use crate::warnings::report_pattern;
 use decl_typing::{Depth, Env, NoMemory, NodeRef, Parts, share_entry};
 use owned_lists::push;
+use pattern_typing::{BoundName, Matched, report_pattern, type_pattern};
 use row_parts::{Operand, operand_in, operands};
 use std::alloc::Global;
 use syntax_tree::Node;
+use use_typing::{Sign, Used, unnamed};
 
 /// fun p p -> e
 #[cycle(exprs)]

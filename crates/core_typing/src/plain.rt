@@ -8,14 +8,12 @@ ghost use Rattle.row_parts.specs.Numbered.{operand_view, path_view, path_in};
 ghost use Rattle.env_table.specs.declared.faults.FaultKind.{FaultKind};
 ghost use Rattle.decl_typing.specs.Goes.{Goes};
 ghost use Rattle.decl_typing.specs.Steps.{asks, each, Follows, Silent, asks_bound};
-ghost use Rattle.core_typing.specs.PatternSteps.{asks_equal, asks_token, later};
+ghost use Rattle.use_typing.specs.UseSteps.{asks_equal, asks_token};
+ghost use Rattle.pattern_typing.specs.PatternSteps.{later};
 ghost use Rattle.core_typing.specs.declared.exprs.RowForm.{RowForm};
 ghost use Rattle.core_typing.specs.ExpressionSteps.{asked_behind, asked_branch, behind_part_steps, behind_parts, expression_at, expression_steps, has_type, label_steps, part_at, part_steps, parts_from, row_at, set_label_at, steps_as};
 
-use crate::constants::Sign;
 use crate::exprs::type_under;
-use crate::rows::{as_written, type_or_var, unnamed};
-use crate::uses::{Names, Used, field_label, label_of};
 use crate::values::is_false;
 use decl_typing::{Depth, Env, NoMemory, NodeRef, Parts, new_entry, path_of};
 use env_table::{Found, Kind, What};
@@ -24,6 +22,7 @@ use row_parts::{
     Operand, WrittenPath, first_operand, operand_in, operands_of, token, written_path,
 };
 use syntax_tree::{Node, RowName, Token};
+use use_typing::{Names, Sign, Used, as_written, field_label, label_of, type_or_var, unnamed};
 
 /// A row whose parts are typed in order.
 #[cycle(exprs)]

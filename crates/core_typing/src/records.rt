@@ -7,24 +7,21 @@ ghost use Rattle.row_parts.specs.Numbered.{operand_view, path_view};
 ghost use Rattle.env_table.specs.declared.faults.FaultKind.{FaultKind};
 ghost use Rattle.decl_typing.specs.Goes.{Goes};
 ghost use Rattle.decl_typing.specs.Steps.{asks, each, records, Follows, Silent};
-ghost use Rattle.core_typing.specs.PatternSteps.{asks_equal, asks_labels, labels_of, lost_steps};
+ghost use Rattle.use_typing.specs.UseSteps.{asks_equal, asks_labels, labels_of, lost_steps};
 ghost use Rattle.core_typing.specs.declared.exprs.RowForm.{RowForm};
 ghost use Rattle.core_typing.specs.ExpressionSteps.{expression_at, expression_field, expression_steps, field_steps, fields_steps, label_at, loose_steps, made_or_loose, made_steps, pun_steps, record_steps, steps_as, typed_as, typed_if, updated_steps};
 ghost use Rattle.core_typing.specs.RecordView.{record_parts};
 
-use crate::constants::Sign;
 use crate::exprs::{type_under, typed_as};
-use crate::labels::{
-    Fields, begin_field, labels_behind, note_label, note_missing, record_of_fields,
-    record_of_labels,
-};
-use crate::rows::{equal_if, type_or_var, unnamed};
-use crate::uses::{Names, RecordType, Used, labels_in, value};
 use crate::values::label_path;
 use decl_typing::{Depth, Entry, Env, NoMemory, NodeRef, Parts};
 use row_parts::{Operand, WrittenPath, first_operand, operand_in, operands, token, written_path};
 use std::rc::Rc;
 use syntax_tree::{Node, Span, Token};
+use use_typing::{
+    Fields, Names, RecordType, Sign, Used, begin_field, equal_if, labels_behind, labels_in,
+    note_label, note_missing, record_of_fields, record_of_labels, type_or_var, unnamed, value,
+};
 
 /// What a record has: where it stands, its first part, the value behind that, and its fields.
 #[derive(Drop)]

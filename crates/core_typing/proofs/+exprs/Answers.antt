@@ -11,18 +11,20 @@ use Rattle.decl_typing.proofs.TypeLaws.{drop_read}
 use Rattle.core_typing.specs.declared.exprs.RowForm.TheVariants as form
 use Rattle.core_typing.specs.ExpressionSteps.{argument_steps, arguments_steps, behind_parts, constructed_steps, expression_at, expression_steps, part_steps, parts_from, recorded_constructor, row_at, steps_as, typed_as, unrecorded_steps, cases_at, expression_case, parameter_steps, typed_as_if, typed_pattern, unused_case, expression_field, field_steps, fields_steps, typed_if, turn_steps, bindings_at, bound_pattern, right_at, whole_steps}
 use Rattle.core_typing.proofs.ExpressionLaws.{each_typed, follows_more, operand_missing, operand_there, operation_as, plain_as, skips_arguments}
-use Rattle.core_typing.specs.Warnings.{spans_of, unused_steps}
-use Rattle.core_typing.proofs.GroupLaws.{case_lost, case_parts_are, case_there, cases_follow, same_follows, steps_read, unused_follow, unused_same, done_follows, together_follow, turn_of, turns_follow}
-use Rattle.core_typing.proofs.Reading.{gets_read}
+use Rattle.pattern_typing.specs.Warnings.{spans_of, unused_steps}
+use Rattle.core_typing.proofs.GroupLaws.{case_lost, case_parts_are, case_there, cases_follow, steps_read, unused_follow, unused_same, done_follows, together_follow, turn_of, turns_follow}
+use Rattle.use_typing.proofs.Reading.{gets_read, same_follows, follows_three}
 use Rattle.env_table.specs.declared.faults.FaultKind.TheVariants as fault
-use Rattle.core_typing.specs.PatternSteps.{asks_equal, asks_labels, labels_of, lost_steps, pattern_steps}
+use Rattle.use_typing.specs.UseSteps.{asks_equal, asks_labels, labels_of, lost_steps}
+use Rattle.pattern_typing.specs.PatternSteps.{pattern_steps}
 use Rattle.core_typing.specs.declared.records.Pieces.{Pieces}
 use Rattle.core_typing.specs.RecordView.{record_parts}
-use Rattle.core_typing.proofs.MatchedRows.{follows_three}
 use Rattle.core_typing.proofs.RecordLaws.{field_is, field_lost, record_is}
 use Rattle.decl_typing.specs.declared.parts.Parts.{Parts}
 use Rattle.core_typing.specs.Concluding.{conclusion}
 use Rattle.core_typing.proofs.BindingLaws.{first_gets, let_follow, no_token, right_follow, some_token}
+use Rattle.use_typing.specs.Constants.{is_negated}
+use Rattle.core_typing.proofs.LeafLaws.{alone_missing, alone_there, records_silent}
 use Rattle.core_typing.proofs.+exprs.Goals as goal
 
 pub exprs::type_each-loop-e-preserved : goal.exprs::type_each-loop-e-preserved
@@ -86,6 +88,15 @@ exprs::type_under-returns-clause-follows t c =
     let nd = c.in-Some.node.now in
     subst (λ ss. Follows ss c.args.at.now c.note.new.self) (sym (operand_there o c.in-Some.node c.in-Some.is))
     (follows_both (unrecorded_steps o.number (node_view nd)) (records o.number ∷ []) c.args.at.now c.typed_row.new.at c.note.new.self c.in_ok-used.ensures.follows c.note.ensures.goes c.in_ok-note.ensures.follows)
+
+pub exprs::type_under-returns-in_default-clause-alone : goal.exprs::type_under-returns-in_default-clause-alone
+exprs::type_under-returns-in_default-clause-alone t c =
+    alone_missing c.args.e (is_negated c.args.sign) c.args.env.now c.args.at.now c.note_type.new.self c.in_default.is
+    (records_silent c.args.e.number c.var.new.self c.note_type.new.self c.in_ok-note_type.ensures.follows ∙ store_silent c.args.at.now c.var.new.self c.var.ensures.rest)
+
+pub exprs::type_under-returns-clause-alone : goal.exprs::type_under-returns-clause-alone
+exprs::type_under-returns-clause-alone t c =
+    alone_there c.args.e c.in-Some.node (is_negated c.args.sign) c.args.env.now c.args.at.now c.typed_row.new.at c.note.new.self c.in-Some.is c.in_ok-used.ensures.alone c.in_ok-note.ensures.follows
 
 pub apply::operation-returns-clause-follows : goal.apply::operation-returns-clause-follows
 apply::operation-returns-clause-follows t c =

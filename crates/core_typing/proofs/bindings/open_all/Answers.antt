@@ -5,7 +5,7 @@ use Rattle.decl_typing.proofs.Going.{goes_trans}
 use Rattle.core_typing.specs.Concluding.{conclusion}
 use Rattle.core_typing.specs.ExpressionSteps.{concluded_steps, expression_at, opened_steps}
 use Rattle.core_typing.proofs.GroupLaws.{steps_read}
-use Rattle.core_typing.proofs.Reading.{gets_read}
+use Rattle.use_typing.proofs.Reading.{gets_read}
 use Rattle.core_typing.proofs.bindings.open_all.Goals as goal
 
 pub loop-binding-preserved : goal.loop-binding-preserved

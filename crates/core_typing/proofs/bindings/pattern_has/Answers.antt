@@ -4,7 +4,7 @@ use Rattle.row_parts.specs.Numbered.{operand_view}
 use Rattle.env_table.specs.declared.faults.FaultKind.TheVariants as fault
 use Rattle.decl_typing.specs.Steps.{asks, Follows}
 use Rattle.decl_typing.proofs.Following.{ends_both}
-use Rattle.core_typing.specs.PatternSteps.{asks_equal}
+use Rattle.use_typing.specs.UseSteps.{asks_equal}
 use Rattle.core_typing.specs.ExpressionSteps.{whole_steps}
 use Rattle.core_typing.proofs.bindings.pattern_has.Goals as goal
 

@@ -1,8 +1,0 @@
-use Rattle.std.proofs.Common.{◌≡◌, drop}
-use Rattle.syntax_tree.specs.View.{tok_of}
-use Rattle.core_typing.specs.PatternSteps.{find_name}
-use Rattle.core_typing.specs.Matching.{tokens_of}
-use Rattle.core_typing.proofs.patterns.find.Given as goal
-
-abbrev pub invariant-loop-other : goal.invariant-loop-other
-invariant-loop-other l = find_name (tok_of l.name).name (tokens_of (drop l.other-index l.names)) ≡ find_name (tok_of l.name).name (tokens_of l.names)

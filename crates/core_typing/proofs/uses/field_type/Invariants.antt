@@ -1,6 +1,0 @@
-use Rattle.decl_typing.specs.Goes.{Goes}
-use Rattle.decl_typing.specs.Steps.{Silent}
-use Rattle.core_typing.proofs.uses.field_type.Given as goal
-
-abbrev pub invariant-loop-label : goal.invariant-loop-label
-invariant-loop-label l = Goes l.fn.at l.at × Silent l.fn.at l.at

@@ -1,0 +1,5 @@
+-- The laws of the steps of patterns and of the names that they bind.
+pub mod Binding
+pub mod MatchedRows
+pub mod OtherRows
+pub mod PatternLaws

@@ -1,0 +1,12 @@
+use Rattle.std.proofs.Common.{map, drop}
+use Rattle.decl_typing.specs.Goes.{Goes}
+use Rattle.decl_typing.specs.Steps.{each, GetsOn}
+use Rattle.pattern_typing.specs.PatternSteps.{beside}
+use Rattle.pattern_typing.specs.Matching.{side_view}
+use Rattle.pattern_typing.proofs.patterns.compare_later.Given as goal
+
+abbrev pub invariant-loop-side : goal.invariant-loop-side
+invariant-loop-side l = record {
+  goes : Goes l.fn.at l.at;
+  gets : GetsOn l.fn.at l.at (each (beside (side_view l.first)) (map side_view l.sides)) (each (beside (side_view l.first)) (map side_view (drop l.side-index l.sides)));
+}

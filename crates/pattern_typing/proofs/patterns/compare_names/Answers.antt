@@ -1,0 +1,25 @@
+use Rattle.std.proofs.Common.{◌+◌, ◌<◌, length, drop, subst, arith}
+use Rattle.decl_typing.specs.Steps.{GetsOn}
+use Rattle.decl_typing.proofs.Going.{goes_trans}
+use Rattle.decl_typing.proofs.Following.{gets_more}
+use Rattle.decl_typing.proofs.TypeLaws.{drop_read}
+use Rattle.syntax_tree.specs.View.{tok_of}
+use Rattle.env_table.specs.declared.faults.FaultKind.TheVariants as fault
+use Rattle.use_typing.specs.UseSteps.{asks_token}
+use Rattle.pattern_typing.specs.PatternSteps.{common_names, find_name}
+use Rattle.pattern_typing.specs.Matching.{tokens_of}
+use Rattle.pattern_typing.proofs.patterns.compare_names.Goals as goal
+
+pub loop-name-preserved : goal.loop-name-preserved
+loop-name-preserved c =
+    let all = c.args.first.now in
+    let i = c.loop-name.name-index in
+    let x = c.name-item.result in
+    let lt : i < length all = let n = c.loop-name-test.true in omega arith in
+    let cut = drop_read all i x lt c.name-item.is in
+    record {
+      goes = goes_trans c.args.at.now c.loop-name.at c.compare_name.new.at c.loop-name.invariant.goes c.compare_name.ensures.goes;
+      gets = gets_more (common_names (tokens_of all) (tokens_of c.args.later.now)) (asks_token fault.Equal (find_name (tok_of x.token.now).name (tokens_of c.args.later.now))) (common_names (tokens_of (drop (i + 1) all)) (tokens_of c.args.later.now)) c.args.at.now c.loop-name.at c.compare_name.new.at
+          (subst (λ os. GetsOn c.args.at.now c.loop-name.at (common_names (tokens_of all) (tokens_of c.args.later.now)) (common_names (tokens_of os) (tokens_of c.args.later.now))) cut c.loop-name.invariant.gets)
+          c.compare_name.ensures.goes c.in_ok-compare_name.ensures.follows;
+    }

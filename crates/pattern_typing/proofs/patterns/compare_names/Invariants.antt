@@ -1,0 +1,12 @@
+use Rattle.std.proofs.Common.{drop}
+use Rattle.decl_typing.specs.Goes.{Goes}
+use Rattle.decl_typing.specs.Steps.{GetsOn}
+use Rattle.pattern_typing.specs.PatternSteps.{common_names}
+use Rattle.pattern_typing.specs.Matching.{tokens_of}
+use Rattle.pattern_typing.proofs.patterns.compare_names.Given as goal
+
+abbrev pub invariant-loop-name : goal.invariant-loop-name
+invariant-loop-name l = record {
+  goes : Goes l.fn.at l.at;
+  gets : GetsOn l.fn.at l.at (common_names (tokens_of l.first) (tokens_of l.later)) (common_names (tokens_of (drop l.name-index l.first)) (tokens_of l.later));
+}

@@ -1,0 +1,10 @@
+use Rattle.std.proofs.Common.{ap, option_map}
+use Rattle.syntax_tree.specs.View.{tok_of}
+use Rattle.use_typing.specs.Constants.{is_negated}
+use Rattle.use_typing.proofs.Telling.{range_stays}
+use Rattle.pattern_typing.proofs.patterns.number_row.Goals as goal
+
+pub returns-clause-tells : goal.returns-clause-tells
+returns-clause-tells c =
+    range_stays (option_map (λ t. tok_of t.now) c.args.token) (is_negated c.args.sign) c.args.at.now c.constant.new.at c.note_type.new.self c.in_ok-ty.ensures.tells
+    (ap (λ f. f.list.items) c.note_type.ensures.rest.faults)

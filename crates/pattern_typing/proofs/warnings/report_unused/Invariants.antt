@@ -1,0 +1,12 @@
+use Rattle.std.proofs.Common.{map, drop}
+use Rattle.syntax_tree.specs.View.{place_of}
+use Rattle.decl_typing.specs.Goes.{Goes}
+use Rattle.decl_typing.specs.Steps.{GetsOn}
+use Rattle.pattern_typing.specs.Warnings.{unused_steps}
+use Rattle.pattern_typing.proofs.warnings.report_unused.Given as goal
+
+abbrev pub invariant-loop-place : goal.invariant-loop-place
+invariant-loop-place l = record {
+  goes : Goes l.fn.at l.at;
+  gets : GetsOn l.fn.at l.at (unused_steps (map place_of l.cases)) (unused_steps (map place_of (drop l.place l.cases)));
+}

@@ -1,0 +1,25 @@
+-- The warnings of a match.
+use Rattle.std.specs.Prelude.{List, [], ◌∷◌, ◌++◌, map}
+use Rattle.tree_model.specs.Trees.{Place}
+use Rattle.tree_model.specs.Rows.{Row, etry_row}
+use Rattle.syntax_tree.specs.View.{place_of}
+use Rattle.env_table.specs.declared.faults.FaultKind.TheVariants as fault
+use Rattle.decl_typing.specs.Steps.{Steps, asks, each}
+use Rattle.pattern_typing.specs.declared.warnings.Rows.{Rows}
+
+-- what is missed, but not of a `try`
+abbrev pub missed_steps : Row → Place → Steps
+missed_steps etry_row at = []
+missed_steps _ at = asks fault.Missed (at ∷ []) ∷ []
+
+-- each case that no value reaches
+abbrev pub unused_steps : List Place → Steps
+unused_steps cases = each (λ case. asks fault.Unused (case ∷ []) ∷ []) cases
+
+-- the warnings of a match at a place, by the places of its cases
+abbrev pub warning_steps : Row → Place → List Place → Steps
+warning_steps r at cases = missed_steps r at ++ unused_steps cases
+
+-- where the cases stand
+abbrev pub spans_of : Rows → List Place
+spans_of r = map place_of r.spans.items

@@ -1,0 +1,1053 @@
+//! Patterns.
+#![tactic(auto, using(decl_typing::proofs::Going::goes_trans, decl_typing::proofs::Going::goes_refl, decl_typing::proofs::Following::follows_both, decl_typing::proofs::Following::follows_then, decl_typing::proofs::Following::follows_before, decl_typing::proofs::Following::follows_behind, decl_typing::proofs::Following::follows_silent, decl_typing::proofs::Following::store_silent, decl_typing::proofs::Following::ends_both, decl_typing::proofs::Following::ends_behind, decl_typing::proofs::Following::ends_before, decl_typing::proofs::Following::ends_silent, decl_typing::proofs::Following::gets_start, decl_typing::proofs::Following::gets_more, decl_typing::proofs::Following::gets_before, decl_typing::proofs::Following::gets_done, crate::proofs::Binding::binds_none, crate::proofs::Binding::binds_both, crate::proofs::Binding::binds_ends, crate::proofs::Binding::binds_one, crate::proofs::PatternLaws::slot_follows, crate::proofs::PatternLaws::slot_binds, crate::proofs::PatternLaws::slots_follow, crate::proofs::PatternLaws::slots_bind))]
+
+ghost use Rattle.std.specs.Prelude.{◌≡◌, [], ◌∷◌, ◌++◌, List, map, option_map, None, Some, IfOk, OnOk};
+ghost use Rattle.tree_model.specs.Rows.{pparen_row, plist_row, precord_row, papp_row, pcons_row, ptuple_row, por_row, pas_row};
+ghost use Rattle.syntax_tree.specs.View.{place_of, tok_of, node_view};
+ghost use Rattle.row_parts.specs.Numbered.{all_operands, first_in, first_of, in_slot, in_slots, operand_view, operands_in, path_in, path_view, token_in};
+ghost use Rattle.env_table.specs.declared.faults.FaultKind.{FaultKind};
+ghost use Rattle.decl_typing.specs.Goes.{Goes};
+ghost use Rattle.decl_typing.specs.Notes.{IsRecorded};
+ghost use Rattle.decl_typing.specs.Steps.{asks, each, records, Follows, Silent};
+ghost use Rattle.decl_typing.specs.TypeSteps.{constructor_steps};
+ghost use Rattle.pattern_typing.specs.declared.patterns.BoundName.{BoundName};
+ghost use Rattle.use_typing.specs.Constants.{TellsRange, is_negated};
+ghost use Rattle.use_typing.specs.Labels.{toks_of};
+ghost use Rattle.use_typing.specs.Uses.{TellsUse};
+ghost use Rattle.pattern_typing.specs.Names.{TellsName, TellsNameIf};
+ghost use Rattle.use_typing.specs.UseSteps.{annotation_steps, asks_equal, asks_equal_if, asks_labels, labels_of, asks_token, lost_steps, path_at, range_steps};
+ghost use Rattle.pattern_typing.specs.PatternSteps.{beside, bound_as, common_names, construction_steps, field_pattern_names, field_pattern_steps, find_name, last_of, later, match_each, matched_as, matched_tree, name_of, names_in, names_of, names_of_first, names_of_tree, parts_of_pattern, pattern_names, pattern_steps, side_at, sides_beside, sides_of};
+ghost use Rattle.pattern_typing.specs.Matching.{Binds, side_view, tokens_of, typed_view};
+
+use decl_typing::{Depth, Env, NoMemory, NodeRef, Parts, new_entry, share_entry};
+use env_table::{Entry, Kind, What};
+use owned_lists::push;
+use row_parts::{
+    Operand, WrittenPath, first_operand, operand_in, operands, operands_of, token, written_path,
+};
+use std::alloc::Global;
+use std::rc::Rc;
+use syntax_tree::{Node, RowName, Span, Token};
+use use_typing::{
+    Fields, RecordType, Sign, as_written, begin_field, constant, constructor, equal_if, is_again,
+    note_label, note_missing, record_of_fields, type_or_var, written_at,
+};
+
+/// A name that a pattern binds, with its type.
+#[derive(Drop)]
+pub struct BoundName<'a> {
+    pub token: &'a Token,
+    pub node: NodeRef,
+    pub entry: Rc<Entry>,
+}
+
+/// A pattern's type and the names that it binds, in order.
+#[derive(Drop)]
+pub struct Matched<'a> {
+    pub ty: NodeRef,
+    pub names: Vec<BoundName<'a>>,
+}
+
+/// All names that stand in patterns so far, bound or not.
+pub type Mentioned<'a> = Vec<&'a Token>;
+
+/// A pattern in a row with its type.
+#[derive(Clone, Copy)]
+struct TypedPart<'a> {
+    part: Operand<'a>,
+    ty: NodeRef,
+}
+
+/// A side of an or-pattern with its type and the names that it binds.
+#[derive(Drop)]
+struct SideMatch<'a> {
+    part: Operand<'a>,
+    ty: NodeRef,
+    names: Vec<BoundName<'a>>,
+}
+
+/// A name with a type, as an entry.
+fn bound_name<'a>(at: &Parts, token: &'a Token, node: NodeRef) -> Result<BoundName<'a>, NoMemory>
+    ensures { IfOk result (λ b. b.token ≡ token.entry) }
+{
+    let name = token.name.share()?;
+    let place = at.place(token.span);
+    let entry = new_entry(at.alloc(), name, Kind::Value, place, What::Scheme(node))?;
+    Ok(BoundName { token, node, entry })
+}
+
+/// The demand that a name is new within its pattern.
+fn is_new<'a>(at: &mut Parts, seen: &mut Mentioned<'a>, token: &'a Token) -> Result<(), NoMemory>
+    ensures tells { OnOk result (TellsName (toks_of seen.old.items) (tok_of token.now) at.old at.new) }
+    ensures seen { OnOk result (toks_of seen.new.items ≡ toks_of seen.old.items ++ tok_of token.now ∷ []) }
+    ensures follows { OnOk result (Follows (asks FaultKind.Unique (place_of token.now.span ∷ []) ∷ []) at.old at.new) }
+    ensures goes { Goes at.old at.new }
+{
+    if is_again(seen, token)? {
+        at.twice(token.span, token.name.as_str())?;
+    }
+    Ok(())
+}
+
+/// Types a pattern, or a missing one, behind the names that stand in front of it; those in it are added to them. It is recorded.
+pub fn type_pattern<'a>(
+    at: &mut Parts,
+    p: Operand<'a>,
+    env: &Env,
+    seen: &mut Mentioned<'a>,
+    depth: Depth,
+) -> Result<Matched<'a>, NoMemory>
+    ensures follows { OnOk result (Follows (pattern_steps (operand_view p.entry)) at.old at.new) }
+    ensures names { IfOk result (λ m. Binds [] m.names.items (pattern_names (operand_view p.entry))) }
+    ensures recorded { OnOk result (IsRecorded at.new p.entry.number) }
+    ensures goes { Goes at.old at.new }
+{
+    let mut names = Vec::new(at.alloc());
+    let ty = match_pattern(at, p, env, &mut names, seen, depth)?;
+    Ok(Matched { ty, names })
+}
+
+/// The same, where the names that it binds are put behind others.
+#[cycle(patterns)]
+fn match_pattern<'a>(
+    at: &mut Parts,
+    p: Operand<'a>,
+    env: &Env,
+    names: &mut Vec<BoundName<'a>>,
+    seen: &mut Mentioned<'a>,
+    depth: Depth,
+) -> Result<NodeRef, NoMemory>
+    ensures follows { OnOk result (Follows (pattern_steps (operand_view p.entry)) at.old at.new) }
+    ensures names { OnOk result (Binds names.old.items names.new.items (pattern_names (operand_view p.entry))) }
+    ensures recorded { OnOk result (IsRecorded at.new p.entry.number) }
+    ensures goes { Goes at.old at.new }
+{
+    match p.node {
+        Some(node) => match_node(at, node, p.number, env, names, seen, depth),
+        None => missing(at, p.number, env),
+    }
+}
+
+/// A missing pattern may have any type.
+fn missing(at: &mut Parts, number: u32, env: &Env) -> Result<NodeRef, NoMemory>
+    ensures follows { OnOk result (Follows (records number ∷ []) at.old at.new) }
+    ensures recorded { OnOk result (IsRecorded at.new number) }
+    ensures goes { Goes at.old at.new }
+{
+    let ty = at.var()?;
+    at.note_plain(number, env)?;
+    Ok(ty)
+}
+
+/// A pattern by its row.
+#[cycle(patterns)]
+fn match_node<'a>(
+    at: &mut Parts,
+    node: &'a Node,
+    number: u32,
+    env: &Env,
+    names: &mut Vec<BoundName<'a>>,
+    seen: &mut Mentioned<'a>,
+    depth: Depth,
+) -> Result<NodeRef, NoMemory>
+    ensures follows { OnOk result (Follows (matched_tree number (node_view node.now)) at.old at.new) }
+    ensures names { OnOk result (Binds names.old.items names.new.items (names_of_tree number (node_view node.now))) }
+    ensures recorded { OnOk result (IsRecorded at.new number) }
+    ensures goes { Goes at.old at.new }
+{
+    match node.row {
+        RowName::Papp => applied(at, node, number, env, names, seen, depth),
+        RowName::Precord => record(at, node, number, env, names, seen, depth),
+        RowName::Por => alternatives(at, node, number, env, names, seen, depth),
+        RowName::Pparen => parenthesised(at, node, number, env, names, seen, depth),
+        RowName::Plist => list(at, node, number, env, names, seen, depth),
+        RowName::Pcons => cons(at, node, number, env, names, seen, depth),
+        RowName::Ptuple => tuple(at, node, number, env, names, seen, depth),
+        RowName::Pas => named(at, node, number, env, names, seen, depth),
+        RowName::Pname => name(at, node, number, env, names, seen),
+        RowName::Pcon => constant_constructor(at, node, number, env),
+        RowName::Pconst => number_row(at, token(node, 0), Sign::None, number, env),
+        RowName::Pneg => number_row(at, token(node, 1), Sign::Minus, number, env),
+        _ => anything(at, number, env),
+    }
+}
+
+/// The patterns between brackets, one after the other.
+#[cycle(patterns)]
+fn in_brackets<'a>(
+    at: &mut Parts,
+    node: &'a Node,
+    number: u32,
+    env: &Env,
+    names: &mut Vec<BoundName<'a>>,
+    seen: &mut Mentioned<'a>,
+    depth: Depth,
+) -> Result<Vec<TypedPart<'a>>, NoMemory>
+    ensures follows { OnOk result (Follows (match_each (in_slot 1 (parts_of_pattern number (node_view node.now)))) at.old at.new) }
+    ensures names { OnOk result (Binds names.old.items names.new.items (names_of (in_slot 1 (parts_of_pattern number (node_view node.now))))) }
+    ensures typed { IfOk result (λ ts. typed_view ts.items ≡ operands_in number (node_view node.now) 1) }
+    ensures goes { Goes at.old at.new }
+{
+    let parts = operands(at.alloc(), node, number, 1)?;
+    in_order(at, &parts, env, names, seen, depth)
+}
+
+/// All patterns that are the parts of a row, one after the other.
+#[cycle(patterns)]
+fn in_row<'a>(
+    at: &mut Parts,
+    node: &'a Node,
+    number: u32,
+    env: &Env,
+    names: &mut Vec<BoundName<'a>>,
+    seen: &mut Mentioned<'a>,
+    depth: Depth,
+) -> Result<Vec<TypedPart<'a>>, NoMemory>
+    ensures follows { OnOk result (Follows (match_each (in_slots (parts_of_pattern number (node_view node.now)))) at.old at.new) }
+    ensures names { OnOk result (Binds names.old.items names.new.items (names_of (in_slots (parts_of_pattern number (node_view node.now))))) }
+    ensures typed { IfOk result (λ ts. typed_view ts.items ≡ all_operands number (node_view node.now)) }
+    ensures goes { Goes at.old at.new }
+{
+    let parts = operands_of(at.alloc(), node, number)?;
+    in_order(at, &parts, env, names, seen, depth)
+}
+
+/// Some patterns, one after the other.
+#[cycle(patterns)]
+fn in_order<'a>(
+    at: &mut Parts,
+    parts: &[Operand<'a>],
+    env: &Env,
+    names: &mut Vec<BoundName<'a>>,
+    seen: &mut Mentioned<'a>,
+    depth: Depth,
+) -> Result<Vec<TypedPart<'a>>, NoMemory>
+    ensures follows { OnOk result (Follows (each pattern_steps (map operand_view parts.now)) at.old at.new) }
+    ensures names { OnOk result (Binds names.old.items names.new.items (names_in pattern_names (map operand_view parts.now))) }
+    ensures typed { IfOk result (λ ts. typed_view ts.items ≡ map operand_view parts.now) }
+    ensures goes { Goes at.old at.new }
+{
+    let mut typed = Vec::new(at.alloc());
+    for part in parts {
+        let ty = match_pattern(at, *part, env, names, seen, depth.inside()?)?;
+        push(&mut typed, TypedPart { part: *part, ty })?;
+    }
+    Ok(typed)
+}
+
+/// A constant, directly under this sign.
+fn number_row(
+    at: &mut Parts,
+    token: Option<&Token>,
+    sign: Sign,
+    number: u32,
+    env: &Env,
+) -> Result<NodeRef, NoMemory>
+    ensures tells { OnOk result (TellsRange (option_map (λ t. tok_of t.now) token.entry) (is_negated sign) at.old at.new) }
+    ensures follows { OnOk result (Follows (range_steps (option_map (λ t. tok_of t.now) token.entry) ++ records number ∷ []) at.old at.new) }
+    ensures recorded { OnOk result (IsRecorded at.new number) }
+    ensures goes { Goes at.old at.new }
+{
+    let ty = constant(at, token, sign)?;
+    at.note_type(number, env, ty)?;
+    Ok(ty)
+}
+
+/// _, and what is no pattern
+fn anything(at: &mut Parts, number: u32, env: &Env) -> Result<NodeRef, NoMemory>
+    ensures follows { OnOk result (Follows (records number ∷ []) at.old at.new) }
+    ensures recorded { OnOk result (IsRecorded at.new number) }
+    ensures goes { Goes at.old at.new }
+{
+    let ty = at.var()?;
+    at.note_type(number, env, ty)?;
+    Ok(ty)
+}
+
+/// A
+fn constant_constructor(
+    at: &mut Parts,
+    node: &Node,
+    number: u32,
+    env: &Env,
+) -> Result<NodeRef, NoMemory>
+    ensures tells { OnOk result (TellsUse (path_in (node_view node.now) 0 1) 0 at.old at.new env.now) }
+    ensures follows { OnOk result (Follows (constructor_steps (path_in (node_view node.now) 0 1) ++ records number ∷ []) at.old at.new) }
+    ensures recorded { OnOk result (IsRecorded at.new number) }
+    ensures goes { Goes at.old at.new }
+{
+    let path = written_path(at.alloc(), node, 0, 1)?;
+    let found = constructor(at, env, &path, 0)?;
+    at.note(number, env, Some(found.built), found.names)?;
+    Ok(found.built)
+}
+
+/// x
+fn name<'a>(
+    at: &mut Parts,
+    node: &'a Node,
+    number: u32,
+    env: &Env,
+    names: &mut Vec<BoundName<'a>>,
+    seen: &mut Mentioned<'a>,
+) -> Result<NodeRef, NoMemory>
+    ensures tells { OnOk result (TellsNameIf (toks_of seen.old.items) (token_in (node_view node.now) 0) at.old at.new) }
+    ensures seen { OnOk result (toks_of seen.new.items ≡ toks_of seen.old.items ++ name_of (token_in (node_view node.now) 0)) }
+    ensures follows { OnOk result (Follows (asks_token FaultKind.Unique (token_in (node_view node.now) 0) ++ records number ∷ []) at.old at.new) }
+    ensures names { OnOk result (Binds names.old.items names.new.items (name_of (token_in (node_view node.now) 0))) }
+    ensures recorded { OnOk result (IsRecorded at.new number) }
+    ensures goes { Goes at.old at.new }
+{
+    let ty = at.var()?;
+    bind_if(at, token(node, 0), ty, number, env, names, seen)?;
+    Ok(ty)
+}
+
+/// Binds the name of a row to its type, where the name is written; the row is recorded.
+fn bind_if<'a>(
+    at: &mut Parts,
+    token: Option<&'a Token>,
+    ty: NodeRef,
+    number: u32,
+    env: &Env,
+    names: &mut Vec<BoundName<'a>>,
+    seen: &mut Mentioned<'a>,
+) -> Result<(), NoMemory>
+    ensures tells { OnOk result (TellsNameIf (toks_of seen.old.items) (option_map (λ t. tok_of t.now) token.entry) at.old at.new) }
+    ensures seen { OnOk result (toks_of seen.new.items ≡ toks_of seen.old.items ++ name_of (option_map (λ t. tok_of t.now) token.entry)) }
+    ensures follows { OnOk result (Follows (asks_token FaultKind.Unique (option_map (λ t. tok_of t.now) token.entry) ++ records number ∷ []) at.old at.new) }
+    ensures names { OnOk result (Binds names.old.items names.new.items (name_of (option_map (λ t. tok_of t.now) token.entry))) }
+    ensures recorded { OnOk result (IsRecorded at.new number) }
+    ensures goes { Goes at.old at.new }
+{
+    match token {
+        Some(token) => bind(at, token, ty, number, env, names, seen),
+        None => at.note_type(number, env, ty),
+    }
+}
+
+/// Binds the name of a row to its type; the row is recorded.
+fn bind<'a>(
+    at: &mut Parts,
+    token: &'a Token,
+    ty: NodeRef,
+    number: u32,
+    env: &Env,
+    names: &mut Vec<BoundName<'a>>,
+    seen: &mut Mentioned<'a>,
+) -> Result<(), NoMemory>
+    ensures tells { OnOk result (TellsName (toks_of seen.old.items) (tok_of token.now) at.old at.new) }
+    ensures seen { OnOk result (toks_of seen.new.items ≡ toks_of seen.old.items ++ tok_of token.now ∷ []) }
+    ensures follows { OnOk result (Follows (asks FaultKind.Unique (place_of token.now.span ∷ []) ∷ records number ∷ []) at.old at.new) }
+    ensures names { OnOk result (Binds names.old.items names.new.items (tok_of token.now ∷ [])) }
+    ensures recorded { OnOk result (IsRecorded at.new number) }
+    ensures goes { Goes at.old at.new }
+{
+    is_new(at, seen, token)?;
+    let bound = bound_name(at, token, ty)?;
+    let seen_names = at.one_name(Some(&bound.entry))?;
+    at.note(number, env, Some(ty), seen_names)?;
+    push(names, bound)
+}
+
+/// p as x: the name has the type of the pattern
+#[cycle(patterns)]
+fn named<'a>(
+    at: &mut Parts,
+    node: &'a Node,
+    number: u32,
+    env: &Env,
+    names: &mut Vec<BoundName<'a>>,
+    seen: &mut Mentioned<'a>,
+    depth: Depth,
+) -> Result<NodeRef, NoMemory>
+    ensures follows { OnOk result (Follows (matched_as pas_row number (node_view node.now)) at.old at.new) }
+    ensures names { OnOk result (Binds names.old.items names.new.items (bound_as pas_row number (node_view node.now))) }
+    ensures recorded { OnOk result (IsRecorded at.new number) }
+    ensures goes { Goes at.old at.new }
+{
+    let typed = in_row(at, node, number, env, names, seen, depth)?;
+    let ty = first_type(at, &typed)?;
+    bind_if(at, token(node, 2), ty, number, env, names, seen)?;
+    Ok(ty)
+}
+
+/// The type of the first part; where there is none, any type.
+fn first_type(at: &mut Parts, typed: &[TypedPart<'_>]) -> Result<NodeRef, NoMemory>
+    ensures silent { Silent at.old at.new }
+    ensures goes { Goes at.old at.new }
+{
+    match typed.first() {
+        Some(first) => Ok(first.ty),
+        None => at.var(),
+    }
+}
+
+/// ( p ), ( p : t ): the part has the written type
+#[cycle(patterns)]
+fn parenthesised<'a>(
+    at: &mut Parts,
+    node: &'a Node,
+    number: u32,
+    env: &Env,
+    names: &mut Vec<BoundName<'a>>,
+    seen: &mut Mentioned<'a>,
+    depth: Depth,
+) -> Result<NodeRef, NoMemory>
+    ensures follows { OnOk result (Follows (matched_as pparen_row number (node_view node.now)) at.old at.new) }
+    ensures names { OnOk result (Binds names.old.items names.new.items (bound_as pparen_row number (node_view node.now))) }
+    ensures recorded { OnOk result (IsRecorded at.new number) }
+    ensures goes { Goes at.old at.new }
+{
+    let typed = in_brackets(at, node, number, env, names, seen, depth)?;
+    let ty = annotated(at, &typed, first_operand(node, number, 3), env, depth)?;
+    at.note_type(number, env, ty)?;
+    Ok(ty)
+}
+
+/// The type of the pattern in parentheses, which is the written one where one is written.
+fn annotated(
+    at: &mut Parts,
+    typed: &[TypedPart<'_>],
+    written: Option<Operand<'_>>,
+    env: &Env,
+    depth: Depth,
+) -> Result<NodeRef, NoMemory>
+    ensures follows { OnOk result (Follows (annotation_steps (first_of (typed_view typed.now)) (option_map operand_view written.entry)) at.old at.new) }
+    ensures goes { Goes at.old at.new }
+{
+    match typed.split_first() {
+        Some((first, _)) => as_written(at, written, first.part, first.ty, env, depth),
+        None => at.var(),
+    }
+}
+
+/// [ p; p ]: each part behind the first has its type
+#[cycle(patterns)]
+fn list<'a>(
+    at: &mut Parts,
+    node: &'a Node,
+    number: u32,
+    env: &Env,
+    names: &mut Vec<BoundName<'a>>,
+    seen: &mut Mentioned<'a>,
+    depth: Depth,
+) -> Result<NodeRef, NoMemory>
+    ensures follows { OnOk result (Follows (matched_as plist_row number (node_view node.now)) at.old at.new) }
+    ensures names { OnOk result (Binds names.old.items names.new.items (bound_as plist_row number (node_view node.now))) }
+    ensures recorded { OnOk result (IsRecorded at.new number) }
+    ensures goes { Goes at.old at.new }
+{
+    let typed = in_brackets(at, node, number, env, names, seen, depth)?;
+    let ty = list_of(at, &typed, env)?;
+    at.note_type(number, env, ty)?;
+    Ok(ty)
+}
+
+/// The list of some parts, which all have the type of the first.
+fn list_of(at: &mut Parts, typed: &[TypedPart<'_>], env: &Env) -> Result<NodeRef, NoMemory>
+    ensures follows { OnOk result (Follows (each asks_equal (later (typed_view typed.now))) at.old at.new) }
+    ensures goes { Goes at.old at.new }
+{
+    match typed.split_first() {
+        Some((first, rest)) => {
+            all_equal(at, first.ty, rest, env)?;
+            at.list(first.ty)
+        }
+        None => {
+            let element = at.var()?;
+            at.list(element)
+        }
+    }
+}
+
+/// The demands that parts have a type.
+fn all_equal(
+    at: &mut Parts,
+    wanted: NodeRef,
+    typed: &[TypedPart<'_>],
+    env: &Env,
+) -> Result<(), NoMemory>
+    ensures follows { OnOk result (Follows (each asks_equal (typed_view typed.now)) at.old at.new) }
+    ensures goes { Goes at.old at.new }
+{
+    for one in typed {
+        at.equal(one.part.span, one.ty, wanted, env)?;
+    }
+    Ok(())
+}
+
+/// p :: p: the right part is a list of the left
+#[cycle(patterns)]
+fn cons<'a>(
+    at: &mut Parts,
+    node: &'a Node,
+    number: u32,
+    env: &Env,
+    names: &mut Vec<BoundName<'a>>,
+    seen: &mut Mentioned<'a>,
+    depth: Depth,
+) -> Result<NodeRef, NoMemory>
+    ensures follows { OnOk result (Follows (matched_as pcons_row number (node_view node.now)) at.old at.new) }
+    ensures names { OnOk result (Binds names.old.items names.new.items (bound_as pcons_row number (node_view node.now))) }
+    ensures recorded { OnOk result (IsRecorded at.new number) }
+    ensures goes { Goes at.old at.new }
+{
+    let typed = in_row(at, node, number, env, names, seen, depth)?;
+    let ty = cons_of(at, &typed, env)?;
+    at.note_type(number, env, ty)?;
+    Ok(ty)
+}
+
+/// The list of two parts.
+fn cons_of(at: &mut Parts, typed: &[TypedPart<'_>], env: &Env) -> Result<NodeRef, NoMemory>
+    ensures follows { OnOk result (Follows (asks_equal_if (last_of (typed_view typed.now))) at.old at.new) }
+    ensures goes { Goes at.old at.new }
+{
+    let [left, right] = typed else {
+        return at.var();
+    };
+    let whole = at.list(left.ty)?;
+    at.equal(right.part.span, right.ty, whole, env)?;
+    Ok(whole)
+}
+
+/// p, p
+#[cycle(patterns)]
+fn tuple<'a>(
+    at: &mut Parts,
+    node: &'a Node,
+    number: u32,
+    env: &Env,
+    names: &mut Vec<BoundName<'a>>,
+    seen: &mut Mentioned<'a>,
+    depth: Depth,
+) -> Result<NodeRef, NoMemory>
+    ensures follows { OnOk result (Follows (matched_as ptuple_row number (node_view node.now)) at.old at.new) }
+    ensures names { OnOk result (Binds names.old.items names.new.items (bound_as ptuple_row number (node_view node.now))) }
+    ensures recorded { OnOk result (IsRecorded at.new number) }
+    ensures goes { Goes at.old at.new }
+{
+    let typed = in_row(at, node, number, env, names, seen, depth)?;
+    let ty = at.tuple(&types_of(at.alloc(), &typed)?)?;
+    at.note_type(number, env, ty)?;
+    Ok(ty)
+}
+
+fn types_of(alloc: Global, typed: &[TypedPart<'_>]) -> Result<Vec<NodeRef>, NoMemory> {
+    let mut types = Vec::new(alloc);
+    for one in typed {
+        push(&mut types, one.ty)?;
+    }
+    Ok(types)
+}
+
+/// A p: `bound`, `arity`; the argument, which is the declared one; the result, which the constructor has too
+#[cycle(patterns)]
+fn applied<'a>(
+    at: &mut Parts,
+    node: &'a Node,
+    number: u32,
+    env: &Env,
+    names: &mut Vec<BoundName<'a>>,
+    seen: &mut Mentioned<'a>,
+    depth: Depth,
+) -> Result<NodeRef, NoMemory>
+    ensures follows { OnOk result (Follows (matched_as papp_row number (node_view node.now)) at.old at.new) }
+    ensures names { OnOk result (Binds names.old.items names.new.items (bound_as papp_row number (node_view node.now))) }
+    ensures recorded { OnOk result (IsRecorded at.new number) }
+    ensures goes { Goes at.old at.new }
+{
+    let head = operand_in(node, number, 0);
+    let (built, wanted) = construction(at, head, env)?;
+    let argument = operand_in(node, number, 1);
+    match_wanted(at, argument, wanted, env, names, seen, depth.inside()?)?;
+    at.note_type(number, env, built)?;
+    Ok(built)
+}
+
+/// A pattern, and the demand that it has the wanted type, where one is wanted.
+#[cycle(patterns)]
+fn match_wanted<'a>(
+    at: &mut Parts,
+    p: Operand<'a>,
+    wanted: Option<NodeRef>,
+    env: &Env,
+    names: &mut Vec<BoundName<'a>>,
+    seen: &mut Mentioned<'a>,
+    depth: Depth,
+) -> Result<(), NoMemory>
+    ensures follows { OnOk result (Follows (pattern_steps (operand_view p.entry) ++ asks_equal (operand_view p.entry)) at.old at.new) }
+    ensures names { OnOk result (Binds names.old.items names.new.items (pattern_names (operand_view p.entry))) }
+    ensures goes { Goes at.old at.new }
+{
+    let found = match_pattern(at, p, env, names, seen, depth)?;
+    equal_if(at, p.span, found, wanted, env)
+}
+
+/// The constructor in front of an argument: the type of its result, and that of the argument, where it has one.
+fn construction(
+    at: &mut Parts,
+    head: Operand<'_>,
+    env: &Env,
+) -> Result<(NodeRef, Option<NodeRef>), NoMemory>
+    ensures tells { OnOk result (TellsUse (path_at (operand_view head.entry).part) 1 at.old at.new env.now) }
+    ensures follows { OnOk result (Follows (construction_steps (operand_view head.entry)) at.old at.new) }
+    ensures goes { Goes at.old at.new }
+{
+    let path = written_at(at, head)?;
+    let found = constructor(at, env, &path, 1)?;
+    at.note(head.number, env, Some(found.built), found.names)?;
+    Ok((found.built, found.argument))
+}
+
+/// p | p: its sides bind the same names with the same types; it binds those of the first
+#[cycle(patterns)]
+fn alternatives<'a>(
+    at: &mut Parts,
+    node: &'a Node,
+    number: u32,
+    env: &Env,
+    names: &mut Vec<BoundName<'a>>,
+    seen: &mut Mentioned<'a>,
+    depth: Depth,
+) -> Result<NodeRef, NoMemory>
+    ensures follows { OnOk result (Follows (matched_as por_row number (node_view node.now)) at.old at.new) }
+    ensures names { OnOk result (Binds names.old.items names.new.items (bound_as por_row number (node_view node.now))) }
+    ensures recorded { OnOk result (IsRecorded at.new number) }
+    ensures goes { Goes at.old at.new }
+{
+    let sides = sides_in(at, node, number, env, seen, depth)?;
+    compare_sides(at, &sides, env)?;
+    let first = first_side(at, sides, names)?;
+    at.note_type(number, env, first)?;
+    Ok(first)
+}
+
+/// The sides of an or-pattern, each with its own names.
+#[cycle(patterns)]
+fn sides_in<'a>(
+    at: &mut Parts,
+    node: &'a Node,
+    number: u32,
+    env: &Env,
+    seen: &mut Mentioned<'a>,
+    depth: Depth,
+) -> Result<Vec<SideMatch<'a>>, NoMemory>
+    ensures follows { OnOk result (Follows (match_each (in_slots (parts_of_pattern number (node_view node.now)))) at.old at.new) }
+    ensures sides { IfOk result (λ ss. map side_view ss.items ≡ sides_of (all_operands number (node_view node.now)) (in_slots (parts_of_pattern number (node_view node.now)))) }
+    ensures goes { Goes at.old at.new }
+{
+    let parts = operands_of(at.alloc(), node, number)?;
+    match_sides(at, &parts, env, seen, depth)
+}
+
+/// The sides of an or-pattern; a name of one of them doesn't count against those of another.
+#[cycle(patterns)]
+fn match_sides<'a>(
+    at: &mut Parts,
+    parts: &[Operand<'a>],
+    env: &Env,
+    seen: &mut Mentioned<'a>,
+    depth: Depth,
+) -> Result<Vec<SideMatch<'a>>, NoMemory>
+    ensures follows { OnOk result (Follows (each pattern_steps (map operand_view parts.now)) at.old at.new) }
+    ensures sides { IfOk result (λ ss. map side_view ss.items ≡ map side_at (map operand_view parts.now)) }
+    ensures goes { Goes at.old at.new }
+{
+    let before = seen.len();
+    let mut all: Mentioned<'a> = Vec::new(at.alloc());
+    let mut sides = Vec::new(at.alloc());
+    for part in parts {
+        let side = match_side(at, *part, env, seen, depth.inside()?)?;
+        keep_apart(seen, before, &mut all)?;
+        push(&mut sides, side)?;
+    }
+    append(seen, all)?;
+    Ok(sides)
+}
+
+/// A side of an or-pattern.
+#[cycle(patterns)]
+fn match_side<'a>(
+    at: &mut Parts,
+    part: Operand<'a>,
+    env: &Env,
+    seen: &mut Mentioned<'a>,
+    depth: Depth,
+) -> Result<SideMatch<'a>, NoMemory>
+    ensures follows { OnOk result (Follows (pattern_steps (operand_view part.entry)) at.old at.new) }
+    ensures side { IfOk result (λ s. side_view s ≡ side_at (operand_view part.entry)) }
+    ensures goes { Goes at.old at.new }
+{
+    let mut names = Vec::new(at.alloc());
+    let ty = match_pattern(at, part, env, &mut names, seen, depth)?;
+    Ok(SideMatch { part, ty, names })
+}
+
+/// The type of the first of some sides, whose names are bound; where there is none, any type.
+fn first_side<'a>(
+    at: &mut Parts,
+    sides: Vec<SideMatch<'a>>,
+    names: &mut Vec<BoundName<'a>>,
+) -> Result<NodeRef, NoMemory>
+    ensures silent { Silent at.old at.new }
+    ensures names { OnOk result (Binds names.old.items names.new.items (names_of_first (map side_view sides.entry.items))) }
+    ensures goes { Goes at.old at.new }
+{
+    match sides.into_iter().next() {
+        Some(first) => {
+            bind_all(names, first.names)?;
+            Ok(first.ty)
+        }
+        None => at.var(),
+    }
+}
+
+/// Binds names behind others.
+fn bind_all<'a>(names: &mut Vec<BoundName<'a>>, more: Vec<BoundName<'a>>) -> Result<(), NoMemory>
+    ensures names { OnOk result (Binds names.old.items names.new.items (tokens_of more.entry.items)) }
+{
+    for name in more {
+        push(names, name)?;
+    }
+    Ok(())
+}
+
+fn append<T: Drop>(list: &mut Vec<T>, more: Vec<T>) -> Result<(), NoMemory> {
+    for item in more {
+        push(list, item)?;
+    }
+    Ok(())
+}
+
+/// Moves the names behind a place into a list of their own.
+fn keep_apart<'a>(
+    seen: &mut Mentioned<'a>,
+    before: usize,
+    all: &mut Mentioned<'a>,
+) -> Result<(), NoMemory> {
+    for name in seen.iter().skip(before) {
+        push(all, *name)?;
+    }
+    seen.truncate(before);
+    Ok(())
+}
+
+/// The demands of each later side beside the first.
+fn compare_sides(at: &mut Parts, sides: &[SideMatch<'_>], env: &Env) -> Result<(), NoMemory>
+    ensures follows { OnOk result (Follows (sides_beside (map side_view sides.now)) at.old at.new) }
+    ensures goes { Goes at.old at.new }
+{
+    match sides.split_first() {
+        Some((first, rest)) => compare_later(at, first, rest, env),
+        None => Ok(()),
+    }
+}
+
+/// The demands of later sides.
+fn compare_later(
+    at: &mut Parts,
+    first: &SideMatch<'_>,
+    sides: &[SideMatch<'_>],
+    env: &Env,
+) -> Result<(), NoMemory>
+    ensures follows { OnOk result (Follows (each (beside (side_view first.now)) (map side_view sides.now)) at.old at.new) }
+    ensures goes { Goes at.old at.new }
+{
+    for side in sides {
+        compare_side(at, first, side, env)?;
+    }
+    Ok(())
+}
+
+/// The demands of a later side: it has the names of the first, with their types, and its type.
+fn compare_side(
+    at: &mut Parts,
+    first: &SideMatch<'_>,
+    side: &SideMatch<'_>,
+    env: &Env,
+) -> Result<(), NoMemory>
+    ensures follows { OnOk result (Follows (beside (side_view first.now) (side_view side.now)) at.old at.new) }
+    ensures goes { Goes at.old at.new }
+{
+    ask_sides(at, first, side)?;
+    compare_types(at, first, side, env)
+}
+
+/// The types of the common names of a later side, and its own.
+fn compare_types(
+    at: &mut Parts,
+    first: &SideMatch<'_>,
+    side: &SideMatch<'_>,
+    env: &Env,
+) -> Result<(), NoMemory>
+    ensures follows { OnOk result (Follows (common_names (tokens_of first.now.names.items) (tokens_of side.now.names.items) ++ asks FaultKind.Equal (place_of side.now.part.span ∷ []) ∷ []) at.old at.new) }
+    ensures goes { Goes at.old at.new }
+{
+    compare_names(at, &first.names, &side.names, env)?;
+    at.equal(side.part.span, side.ty, first.ty, env)?;
+    Ok(())
+}
+
+/// The demand that no name stands on one of two sides alone.
+fn ask_sides(at: &mut Parts, first: &SideMatch<'_>, side: &SideMatch<'_>) -> Result<(), NoMemory>
+    ensures follows { OnOk result (Follows (asks FaultKind.Sides (place_of side.now.part.span ∷ []) ∷ []) at.old at.new) }
+    ensures goes { Goes at.old at.new }
+{
+    match name_apart(&first.names, &side.names) {
+        Some(name) => at.one_side(side.part.span, name.name.as_str()),
+        None => Ok(()),
+    }
+}
+
+fn find<'a, 'b>(name: &Token, names: &'b [BoundName<'a>]) -> Option<&'b BoundName<'a>>
+    ensures { option_map (λ b. tok_of b.now.token.now) result ≡ find_name (tok_of name.now).name (tokens_of names.now) }
+{
+    for other in names {
+        if other.token.name.is(name.name.as_str()) {
+            return Some(other);
+        }
+    }
+    None
+}
+
+/// The first name of some that isn't among others.
+fn first_apart<'a>(names: &[BoundName<'a>], others: &[BoundName<'_>]) -> Option<&'a Token> {
+    for name in names {
+        if find(name.token, others).is_none() {
+            return Some(name.token);
+        }
+    }
+    None
+}
+
+/// The first name that one of two sides has and the other hasn't, those of the first side before those of the second.
+fn name_apart<'a>(first: &[BoundName<'a>], later: &[BoundName<'a>]) -> Option<&'a Token> {
+    match first_apart(first, later) {
+        Some(name) => Some(name),
+        None => first_apart(later, first),
+    }
+}
+
+/// Each common name has on the later side the type that it has on the first.
+fn compare_names(
+    at: &mut Parts,
+    first: &[BoundName<'_>],
+    later: &[BoundName<'_>],
+    env: &Env,
+) -> Result<(), NoMemory>
+    ensures follows { OnOk result (Follows (common_names (tokens_of first.now) (tokens_of later.now)) at.old at.new) }
+    ensures goes { Goes at.old at.new }
+{
+    for name in first {
+        compare_name(at, name, later, env)?;
+    }
+    Ok(())
+}
+
+/// A name of the first side has on the later one, where it is there, the same type.
+fn compare_name(
+    at: &mut Parts,
+    name: &BoundName<'_>,
+    later: &[BoundName<'_>],
+    env: &Env,
+) -> Result<(), NoMemory>
+    ensures follows { OnOk result (Follows (asks_token FaultKind.Equal (find_name (tok_of name.now.token.now).name (tokens_of later.now))) at.old at.new) }
+    ensures goes { Goes at.old at.new }
+{
+    if let Some(other) = find(name.token, later) {
+        at.equal(other.token.span, other.node, name.node, env)?;
+    }
+    Ok(())
+}
+
+/// { l = p }: the type by its labels, the fields, and the record
+#[cycle(patterns)]
+fn record<'a>(
+    at: &mut Parts,
+    node: &'a Node,
+    number: u32,
+    env: &Env,
+    names: &mut Vec<BoundName<'a>>,
+    seen: &mut Mentioned<'a>,
+    depth: Depth,
+) -> Result<NodeRef, NoMemory>
+    ensures follows { OnOk result (Follows (matched_as precord_row number (node_view node.now)) at.old at.new) }
+    ensures names { OnOk result (Binds names.old.items names.new.items (bound_as precord_row number (node_view node.now))) }
+    ensures recorded { OnOk result (IsRecorded at.new number) }
+    ensures goes { Goes at.old at.new }
+{
+    let fields = operands(at.alloc(), node, number, 1)?;
+    let ty = match_record(at, &fields, env, names, seen, depth)?;
+    at.note_type(number, env, ty)?;
+    Ok(ty)
+}
+
+/// A record pattern with these fields. Those that are missing are recorded.
+#[cycle(patterns)]
+fn match_record<'a>(
+    at: &mut Parts,
+    fields: &[Operand<'a>],
+    env: &Env,
+    names: &mut Vec<BoundName<'a>>,
+    seen: &mut Mentioned<'a>,
+    depth: Depth,
+) -> Result<NodeRef, NoMemory>
+    ensures follows { OnOk result (Follows (each lost_steps (map operand_view fields.now) ++ asks_labels (labels_of (map operand_view fields.now)) ++ each field_pattern_steps (map operand_view fields.now)) at.old at.new) }
+    ensures names { OnOk result (Binds names.old.items names.new.items (names_in field_pattern_names (map operand_view fields.now))) }
+    ensures goes { Goes at.old at.new }
+{
+    note_missing(at, fields, env)?;
+    let found = record_of_fields(at, env, fields)?;
+    let ty = type_or_var(at, found.ty())?;
+    match_fields(at, env, found, fields, names, seen, depth)?;
+    Ok(ty)
+}
+
+/// The fields of a record pattern, one after the other.
+#[cycle(patterns)]
+fn match_fields<'a>(
+    at: &mut Parts,
+    env: &Env,
+    found: RecordType,
+    fields: &[Operand<'a>],
+    names: &mut Vec<BoundName<'a>>,
+    seen: &mut Mentioned<'a>,
+    depth: Depth,
+) -> Result<(), NoMemory>
+    ensures follows { OnOk result (Follows (each field_pattern_steps (map operand_view fields.now)) at.old at.new) }
+    ensures names { OnOk result (Binds names.old.items names.new.items (names_in field_pattern_names (map operand_view fields.now))) }
+    ensures goes { Goes at.old at.new }
+{
+    let mut record = Fields {
+        found,
+        labels: Vec::new(at.alloc()),
+    };
+    for field in fields {
+        match_field(at, env, &mut record, *field, names, seen, depth)?;
+    }
+    Ok(())
+}
+
+/// A field, if it is there.
+#[cycle(patterns)]
+fn match_field<'a>(
+    at: &mut Parts,
+    env: &Env,
+    record: &mut Fields<'a>,
+    field: Operand<'a>,
+    names: &mut Vec<BoundName<'a>>,
+    seen: &mut Mentioned<'a>,
+    depth: Depth,
+) -> Result<(), NoMemory>
+    ensures follows { OnOk result (Follows (field_pattern_steps (operand_view field.entry)) at.old at.new) }
+    ensures names { OnOk result (Binds names.old.items names.new.items (field_pattern_names (operand_view field.entry))) }
+    ensures goes { Goes at.old at.new }
+{
+    let Some(node) = field.node else {
+        return Ok(());
+    };
+    match first_operand(node, field.number, 3) {
+        Some(part) => match_written(at, env, record, field, part, names, seen, depth),
+        None => pun(at, env, record, field, names, seen),
+    }
+}
+
+/// l = p: the pattern is the field
+#[cycle(patterns)]
+fn match_written<'a>(
+    at: &mut Parts,
+    env: &Env,
+    record: &mut Fields<'a>,
+    field: Operand<'a>,
+    part: Operand<'a>,
+    names: &mut Vec<BoundName<'a>>,
+    seen: &mut Mentioned<'a>,
+    depth: Depth,
+) -> Result<(), NoMemory>
+    ensures follows { OnOk result (Follows (asks_token FaultKind.Unique (path_at (operand_view field.entry).part).last ++ records field.entry.number ∷ pattern_steps (operand_view part.entry) ++ asks_equal (operand_view part.entry)) at.old at.new) }
+    ensures names { OnOk result (Binds names.old.items names.new.items (pattern_names (operand_view part.entry))) }
+    ensures goes { Goes at.old at.new }
+{
+    let label = written_at(at, field)?;
+    let wanted = begin_field(at, record, &label)?;
+    note_label(at, field.number, env, &record.found, &label)?;
+    match_wanted(at, part, wanted, env, names, seen, depth.inside()?)
+}
+
+/// A field without a pattern of its own binds the name of its label, with the type of the field. It is recorded with that.
+fn pun<'a>(
+    at: &mut Parts,
+    env: &Env,
+    record: &mut Fields<'a>,
+    field: Operand<'a>,
+    names: &mut Vec<BoundName<'a>>,
+    seen: &mut Mentioned<'a>,
+) -> Result<(), NoMemory>
+    ensures follows { OnOk result (Follows (asks_token FaultKind.Unique (path_at (operand_view field.entry).part).last ++ asks_token FaultKind.Unique (path_at (operand_view field.entry).part).last ++ records field.entry.number ∷ []) at.old at.new) }
+    ensures names { OnOk result (Binds names.old.items names.new.items (name_of (path_at (operand_view field.entry).part).last)) }
+    ensures goes { Goes at.old at.new }
+{
+    let label = written_at(at, field)?;
+    let wanted = begin_field(at, record, &label)?;
+    pun_of(
+        at,
+        env,
+        &record.found,
+        &label,
+        wanted,
+        field.number,
+        names,
+        seen,
+    )
+}
+
+/// The same behind the demand on the label.
+fn pun_of<'a>(
+    at: &mut Parts,
+    env: &Env,
+    found: &RecordType,
+    label: &WrittenPath<'a>,
+    wanted: Option<NodeRef>,
+    number: u32,
+    names: &mut Vec<BoundName<'a>>,
+    seen: &mut Mentioned<'a>,
+) -> Result<(), NoMemory>
+    ensures follows { OnOk result (Follows (asks_token FaultKind.Unique (path_view label.now).last ++ records number ∷ []) at.old at.new) }
+    ensures names { OnOk result (Binds names.old.items names.new.items (name_of (path_view label.now).last)) }
+    ensures goes { Goes at.old at.new }
+{
+    match label.last {
+        Some(token) => {
+            let ty = type_or_var(at, wanted)?;
+            bind_label(at, env, label, token, ty, number, names, seen)
+        }
+        None => note_label(at, number, env, found, label),
+    }
+}
+
+/// Binds the name of a label; the field is recorded with it.
+fn bind_label<'a>(
+    at: &mut Parts,
+    env: &Env,
+    label: &WrittenPath<'a>,
+    token: &'a Token,
+    ty: NodeRef,
+    number: u32,
+    names: &mut Vec<BoundName<'a>>,
+    seen: &mut Mentioned<'a>,
+) -> Result<(), NoMemory>
+    ensures tells { OnOk result (TellsName (toks_of seen.old.items) (tok_of token.now) at.old at.new) }
+    ensures seen { OnOk result (toks_of seen.new.items ≡ toks_of seen.old.items ++ tok_of token.now ∷ []) }
+    ensures follows { OnOk result (Follows (asks FaultKind.Unique (place_of token.now.span ∷ []) ∷ records number ∷ []) at.old at.new) }
+    ensures names { OnOk result (Binds names.old.items names.new.items (tok_of token.now ∷ [])) }
+    ensures goes { Goes at.old at.new }
+{
+    is_new(at, seen, token)?;
+    let bound = bound_name(at, token, ty)?;
+    let entry = share_entry(&bound.entry)?;
+    let seen_names = at.seen_names(env, label, Some(&entry))?;
+    at.note(number, env, None, seen_names)?;
+    push(names, bound)
+}

@@ -1,0 +1,7 @@
+-- The laws of names, labels and constants, and of what is read on the way.
+pub mod Reading
+pub mod LabelLaws
+pub mod Telling
+pub mod ConstantLaws
+pub mod Asked
+pub mod LostLaws

@@ -1,0 +1,6 @@
+-- What uses of names, labels and constants ask, tell and give.
+pub mod UseSteps
+pub mod Told
+pub mod Uses
+pub mod Constants
+pub mod Labels

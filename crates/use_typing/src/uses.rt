@@ -1,0 +1,264 @@
+//! Uses of values, constructors and labels by their paths.
+#![tactic(auto, using(decl_typing::proofs::Going::goes_trans, decl_typing::proofs::Going::goes_refl, decl_typing::proofs::Following::follows_both, decl_typing::proofs::Following::follows_before, decl_typing::proofs::Following::follows_behind, decl_typing::proofs::Following::follows_silent, decl_typing::proofs::Following::store_silent, decl_typing::proofs::Following::silent_refl, decl_typing::proofs::Following::silent_trans, decl_typing::proofs::Following::ends_both, decl_typing::proofs::Following::ends_behind, decl_typing::proofs::Following::ends_before, decl_typing::proofs::Following::ends_silent))]
+
+ghost use Rattle.std.specs.Prelude.{◌≡◌, IfOk, OnOk, option_map, option_and_then};
+ghost use Rattle.std.specs.Option.{option_copied};
+ghost use Rattle.row_parts.specs.Numbered.{path_view};
+ghost use Rattle.env_table.specs.declared.faults.FaultKind.{FaultKind};
+ghost use Rattle.decl_typing.specs.Goes.{Goes, OnlyFaults};
+ghost use Rattle.decl_typing.specs.Steps.{Follows, Silent, asks_at_last, asks_bound};
+ghost use Rattle.decl_typing.specs.TypeSteps.{constructor_steps};
+ghost use Rattle.env_table.specs.declared.entries.Kind.{Kind};
+ghost use Rattle.use_typing.specs.Uses.{BuildsBy, BuildsIf, BuildsNew, TellsCountsLast, taken_by, LastHas, TellsBound, TellsUse, UsesScheme, SidesOf, UsesLabel, UsesLabelIf, label_named, constructor_in, constructor_named, label_in, scheme_in};
+
+use decl_typing::{Entry, Env, NoMemory, NodeRef, Parts};
+use env_table::{Constructor, Kind, Label, Shape, What};
+use row_parts::WrittenPath;
+use std::rc::Rc;
+
+/// What the name tokens of a node stand for, in text order.
+pub type Names = Vec<Option<Rc<Entry>>>;
+
+/// A type with the names of the node that has it.
+#[derive(Drop)]
+pub struct Used {
+    pub ty: NodeRef,
+    pub names: Names,
+}
+
+/// A use of a constructor.
+#[derive(Drop)]
+pub struct Construction {
+    /// The type of what it builds.
+    pub built: NodeRef,
+    /// The type of its argument; None where it takes none.
+    pub argument: Option<NodeRef>,
+    /// Whether its demand `bound` is kept and it is known.
+    pub known: bool,
+    pub names: Names,
+}
+
+/// A value by its path: `bound`, and an instance of its scheme.
+pub fn value(at: &mut Parts, env: &Env, path: &WrittenPath<'_>) -> Result<Used, NoMemory>
+    ensures tells { OnOk result (TellsBound (path_view path.now) Kind.Value at.old at.new env.now) }
+    ensures ty { IfOk result (λ u. LastHas (path_view path.now).last Kind.Value at.old at.new env.now (path_view path.now).qualifiers u.ty) }
+    ensures follows { OnOk result (Follows (asks_bound (path_view path.now)) at.old at.new) }
+    ensures goes { Goes at.old at.new }
+{
+    let Some(last) = path.last else {
+        let names = at.seen_names(env, path, None)?;
+        return Ok(Used {
+            ty: at.var()?,
+            names,
+        });
+    };
+    let entry = at.bound(env, path, last, Kind::Value)?;
+    let names = at.seen_names(env, path, entry.as_ref())?;
+    let ty = instance_of(at, entry.as_ref())?;
+    Ok(Used { ty, names })
+}
+
+/// An instance of the scheme behind an entry, or a new variable where there is none.
+fn instance_of(at: &mut Parts, entry: Option<&Rc<Entry>>) -> Result<NodeRef, NoMemory>
+    ensures ty { IfOk result (λ n. UsesScheme (option_and_then scheme_in (option_map (λ e. e.what) (option_map (λ r. r.value) (option_copied entry.entry)))) at.old at.new n) }
+    ensures silent { Silent at.old at.new }
+    ensures goes { Goes at.old at.new }
+{
+    let Some(entry) = entry else {
+        return at.var();
+    };
+    match entry.what {
+        What::Scheme(root) => at.instance(root),
+        _ => at.var(),
+    }
+}
+
+/// The constructor behind an entry.
+fn constructor_of(entry: &Entry) -> Option<&Constructor>
+    ensures { option_map (λ c. c.now) result ≡ constructor_in entry.now.what }
+{
+    match &entry.what {
+        What::Constructor(declaration, place) => match &declaration.shape {
+            Shape::Variant(constructors) => constructors.get(*place as usize),
+            _ => None,
+        },
+        What::Exception(constructor) => Some(constructor),
+        _ => None,
+    }
+}
+
+/// A constructor by its path with so many arguments: `bound`, `arity`, and an instance.
+pub fn constructor(
+    at: &mut Parts,
+    env: &Env,
+    path: &WrittenPath<'_>,
+    given: usize,
+) -> Result<Construction, NoMemory>
+    ensures tells { OnOk result (TellsUse (path_view path.now) given at.old at.new env.now) }
+    ensures builds { IfOk result (λ r. BuildsIf (constructor_named (path_view path.now).last env.now (path_view path.now).qualifiers) at.old at.new r) }
+    ensures follows { OnOk result (Follows (constructor_steps (path_view path.now)) at.old at.new) }
+    ensures goes { Goes at.old at.new }
+{
+    let entry = at.bound_last(env, path, Kind::Constructor)?;
+    let names = at.seen_names(env, path, entry.as_ref())?;
+    let Some(constructor) = constructor_behind(entry.as_ref()) else {
+        return built_by_unknown(at, names);
+    };
+    ask_count(at, path, constructor, given)?;
+    built(at, constructor, names)
+}
+
+/// The constructor behind an entry, if there is one.
+fn constructor_behind(entry: Option<&Rc<Entry>>) -> Option<&Constructor>
+    ensures { option_map (λ c. c.now) result ≡ option_and_then constructor_in (option_map (λ e. e.what) (option_map (λ r. r.value) (option_copied entry.entry))) }
+{
+    match entry {
+        Some(entry) => constructor_of(entry),
+        None => None,
+    }
+}
+
+/// The demand that a constructor is given as many arguments as it takes.
+fn ask_count(
+    at: &mut Parts,
+    path: &WrittenPath<'_>,
+    constructor: &Constructor,
+    given: usize,
+) -> Result<(), NoMemory>
+    ensures tells { OnOk result (TellsCountsLast (path_view path.now).last (taken_by constructor.now) given at.old at.new) }
+    ensures follows { OnOk result (Follows (asks_at_last FaultKind.Arity (path_view path.now)) at.old at.new) }
+    ensures rest { OnlyFaults at.old at.new }
+    ensures goes { Goes at.old at.new }
+{
+    let Some(last) = path.last else {
+        return Ok(());
+    };
+    let taken = if constructor.has_argument { 1 } else { 0 };
+    at.arity(last.span, last.name.as_str(), taken, given)?;
+    Ok(())
+}
+
+/// What a constructor builds that isn't known: a new type.
+fn built_by_unknown(at: &mut Parts, names: Names) -> Result<Construction, NoMemory>
+    ensures builds { IfOk result (λ r. BuildsNew at.old at.new r) }
+    ensures silent { Silent at.old at.new }
+    ensures goes { Goes at.old at.new }
+{
+    Ok(Construction {
+        built: at.var()?,
+        argument: None,
+        known: false,
+        names,
+    })
+}
+
+fn built(at: &mut Parts, constructor: &Constructor, names: Names) -> Result<Construction, NoMemory>
+    ensures builds { IfOk result (λ r. BuildsBy constructor.now at.old at.new r) }
+    ensures silent { Silent at.old at.new }
+    ensures goes { Goes at.old at.new }
+{
+    let instance = at.instance(constructor.root)?;
+    if constructor.has_argument {
+        if let Some((from, to)) = at.sides_of_arrow(instance) {
+            return Ok(Construction {
+                built: to,
+                argument: Some(from),
+                known: true,
+                names,
+            });
+        }
+    }
+    Ok(Construction {
+        built: instance,
+        argument: None,
+        known: true,
+        names,
+    })
+}
+
+/// A label that is found, with the types of its record and of its field.
+#[derive(Drop)]
+pub struct LabelUse {
+    pub record: NodeRef,
+    pub field: NodeRef,
+    pub is_mutable: bool,
+}
+
+/// The label behind an entry.
+pub fn label_of(entry: &Entry) -> Option<&Label>
+    ensures { option_map (λ l. l.now) result ≡ label_in entry.now.what }
+{
+    match &entry.what {
+        What::Label(declaration, place) => match &declaration.shape {
+            Shape::Labels(labels) => labels.get(*place as usize),
+            _ => None,
+        },
+        _ => None,
+    }
+}
+
+/// The two sides of an arrow, or new variables.
+fn sides_or_vars(at: &mut Parts, arrow: NodeRef) -> Result<(NodeRef, NodeRef), NoMemory>
+    ensures sides { IfOk result (λ p. SidesOf at.old at.new arrow p.0 p.1) }
+    ensures silent { Silent at.old at.new }
+    ensures goes { Goes at.old at.new }
+{
+    match at.sides_of_arrow(arrow) {
+        Some(sides) => Ok(sides),
+        None => Ok((at.var()?, at.var()?)),
+    }
+}
+
+/// An instance of a label: the record and the field.
+pub fn label_use(at: &mut Parts, label: &Label) -> Result<LabelUse, NoMemory>
+    ensures label { IfOk result (λ u. UsesLabel label.now at.old at.new u) }
+    ensures silent { Silent at.old at.new }
+    ensures goes { Goes at.old at.new }
+{
+    let instance = at.instance(label.root)?;
+    let (record, field) = sides_or_vars(at, instance)?;
+    Ok(LabelUse {
+        record,
+        field,
+        is_mutable: label.is_mutable,
+    })
+}
+
+/// A label by its path: `bound`, and an instance.
+pub fn field_label(
+    at: &mut Parts,
+    env: &Env,
+    path: &WrittenPath<'_>,
+) -> Result<(Option<LabelUse>, Names), NoMemory>
+    ensures tells { OnOk result (TellsBound (path_view path.now) Kind.Label at.old at.new env.now) }
+    ensures label { IfOk result (λ r. UsesLabelIf (label_named (path_view path.now).last env.now (path_view path.now).qualifiers) at.old at.new r.0) }
+    ensures follows { OnOk result (Follows (asks_bound (path_view path.now)) at.old at.new) }
+    ensures goes { Goes at.old at.new }
+{
+    let entry = at.bound_last(env, path, Kind::Label)?;
+    let names = at.seen_names(env, path, entry.as_ref())?;
+    let used = used_label(at, label_behind(entry.as_ref()))?;
+    Ok((used, names))
+}
+
+/// The label behind an entry, if it is one.
+fn label_behind(entry: Option<&Rc<Entry>>) -> Option<&Label>
+    ensures { option_map (λ l. l.now) result ≡ option_and_then label_in (option_map (λ e. e.what) (option_map (λ r. r.value) (option_copied entry.entry))) }
+{
+    match entry {
+        Some(entry) => label_of(entry),
+        None => None,
+    }
+}
+
+/// An instance of a label, if there is one.
+fn used_label(at: &mut Parts, label: Option<&Label>) -> Result<Option<LabelUse>, NoMemory>
+    ensures label { IfOk result (λ u. UsesLabelIf (option_map (λ l. l.now) label.entry) at.old at.new u) }
+    ensures silent { Silent at.old at.new }
+    ensures goes { Goes at.old at.new }
+{
+    match label {
+        Some(label) => Ok(Some(label_use(at, label)?)),
+        None => Ok(None),
+    }
+}
