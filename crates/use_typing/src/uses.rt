@@ -1,7 +1,9 @@
 //! Uses of values, constructors and labels by their paths.
 #![tactic(auto, using(decl_typing::proofs::Going::goes_trans, decl_typing::proofs::Going::goes_refl, decl_typing::proofs::Following::follows_both, decl_typing::proofs::Following::follows_before, decl_typing::proofs::Following::follows_behind, decl_typing::proofs::Following::follows_silent, decl_typing::proofs::Following::store_silent, decl_typing::proofs::Following::silent_refl, decl_typing::proofs::Following::silent_trans, decl_typing::proofs::Following::ends_both, decl_typing::proofs::Following::ends_behind, decl_typing::proofs::Following::ends_before, decl_typing::proofs::Following::ends_silent))]
 
-ghost use Rattle.std.specs.Prelude.{◌≡◌, IfOk, OnOk, option_map, option_and_then};
+ghost use Rattle.std.specs.Prelude.{◌≡◌, true, Some, IfNone, IfOk, IfSome, OnOk, option_map, option_and_then};
+ghost use Rattle.type_nodes.specs.Nodes.{Node as plain};
+ghost use Rattle.type_nodes.specs.Links.{reading};
 ghost use Rattle.std.specs.Option.{option_copied};
 ghost use Rattle.row_parts.specs.Numbered.{path_view};
 ghost use Rattle.env_table.specs.declared.faults.FaultKind.{FaultKind};
@@ -9,7 +11,7 @@ ghost use Rattle.decl_typing.specs.Goes.{Goes, OnlyFaults};
 ghost use Rattle.decl_typing.specs.Steps.{Follows, Silent, asks_at_last, asks_bound};
 ghost use Rattle.decl_typing.specs.TypeSteps.{constructor_steps};
 ghost use Rattle.env_table.specs.declared.entries.Kind.{Kind};
-ghost use Rattle.use_typing.specs.Uses.{BuildsBy, BuildsIf, BuildsNew, TellsCountsLast, taken_by, LastHas, TellsBound, TellsUse, UsesScheme, SidesOf, UsesLabel, UsesLabelIf, label_named, constructor_in, constructor_named, label_in, scheme_in};
+ghost use Rattle.use_typing.specs.Uses.{BuildsBy, BuildsIf, BuildsNew, IsNoArrow, TellsCountsLast, taken_by, LastHas, TellsBound, TellsUse, UsesScheme, SidesOf, UsesLabel, UsesLabelIf, label_named, constructor_in, constructor_named, label_in, scheme_in};
 
 use decl_typing::{Entry, Env, NoMemory, NodeRef, Parts};
 use env_table::{Constructor, Kind, Label, Shape, What};
@@ -152,28 +154,43 @@ fn built_by_unknown(at: &mut Parts, names: Names) -> Result<Construction, NoMemo
     })
 }
 
+/// What a known constructor builds, from its argument, where it takes one.
 fn built(at: &mut Parts, constructor: &Constructor, names: Names) -> Result<Construction, NoMemory>
     ensures builds { IfOk result (λ r. BuildsBy constructor.now at.old at.new r) }
     ensures silent { Silent at.old at.new }
     ensures goes { Goes at.old at.new }
 {
     let instance = at.instance(constructor.root)?;
-    if constructor.has_argument {
-        if let Some((from, to)) = at.sides_of_arrow(instance) {
-            return Ok(Construction {
-                built: to,
-                argument: Some(from),
-                known: true,
-                names,
-            });
-        }
-    }
+    let Some((from, to)) = argument_sides(at, constructor, instance) else {
+        return Ok(Construction {
+            built: instance,
+            argument: None,
+            known: true,
+            names,
+        });
+    };
     Ok(Construction {
-        built: instance,
-        argument: None,
+        built: to,
+        argument: Some(from),
         known: true,
         names,
     })
+}
+
+/// The two sides of the type of a constructor that takes an argument.
+fn argument_sides(
+    at: &Parts,
+    constructor: &Constructor,
+    instance: NodeRef,
+) -> Option<(NodeRef, NodeRef)>
+    ensures some { IfSome result (λ p. (constructor.now.has_argument ≡ true) × (reading at.now.store.nodes instance.0 ≡ Some (plain.Arrow p.0.0 p.1.0))) }
+    ensures none { IfNone result (constructor.now.has_argument ≡ true → IsNoArrow at.now instance) }
+{
+    if constructor.has_argument {
+        at.sides_of_arrow(instance)
+    } else {
+        None
+    }
 }
 
 /// A label that is found, with the types of its record and of its field.
