@@ -37,6 +37,3 @@ pub fn no_token_is_lost()
 pub fn trees_are_low()
     ensures { (text : Text) (ts : List Tok) → (extent_of (named row_name (recover (grammar text) ts).0)).height ≤ 512 }
 {}
-
-#[cfg(test)]
-mod tests;

@@ -8,8 +8,6 @@ mod building;
 mod cells;
 mod changing;
 mod store;
-#[cfg(test)]
-mod tests;
 mod view;
 
 pub use store::Store;

@@ -6,8 +6,6 @@
 mod copies;
 mod instances;
 mod sameness;
-#[cfg(test)]
-mod tests;
 mod types;
 
 pub use instances::{instance_of, replace_origins};
