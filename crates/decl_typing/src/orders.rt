@@ -1,7 +1,5 @@
 //! In which order the types of a group are read that are other names of types: each behind those that it mentions.
 use crate::groups::{DeclarationPart, Right, Standing, arguments_in_front, is_several};
-use crate::names::path_of;
-use crate::types::declaration_of;
 use env_table::{Env, Found, Kind};
 use owned_lists::push;
 use row_parts::{Operand, WrittenPath, written_path};
@@ -9,6 +7,7 @@ use std::alloc::{AllocError, Global};
 use std::collections::HashMap;
 use syntax_tree::{Node, Part, RowName};
 use type_nodes::NoMemory;
+use typing_state::{declaration_of, path_of};
 
 /// What the names of types in a group stand for: their places in it, of two the later one, and what is in scope outside.
 #[derive(Drop)]
