@@ -198,7 +198,7 @@ fn type_entry(
 }
 
 /// The environment with the names of a group, in order.
-pub fn with_names(
+fn with_names(
     at: &Parts,
     parts: &[DeclarationPart<'_>],
     declared: &[Rc<Declaration>],
@@ -215,7 +215,7 @@ pub fn with_names(
 
 /// What the names of a group stand for, quietly: those that rename are read in an order in which each stands behind those
 /// that it mentions.
-pub fn sketched(
+fn sketched(
     at: &mut Parts,
     parts: &[DeclarationPart<'_>],
     mentions: &Mentions,
@@ -781,22 +781,37 @@ fn report_cycles(
     Ok(())
 }
 
-/// Runs quietly.
-fn sketched_quietly(
+/// The environment in which the declarations of a group stand: with what their names stand for.
+pub fn group_env(
     at: &mut Parts,
     parts: &[DeclarationPart<'_>],
     mentions: &Mentions,
     renames: &[bool],
     env: &Env,
     depth: Depth,
-) -> Result<Vec<Rc<Declaration>>, NoMemory>
+) -> Result<Env, NoMemory>
+    ensures goes { Goes at.old at.new }
+{
+    let declared = sketched(at, parts, mentions, renames, env, depth)?;
+    with_names(at, parts, &declared, env)
+}
+
+/// The same quietly.
+fn group_env_quietly(
+    at: &mut Parts,
+    parts: &[DeclarationPart<'_>],
+    mentions: &Mentions,
+    renames: &[bool],
+    env: &Env,
+    depth: Depth,
+) -> Result<Env, NoMemory>
     ensures goes { Goes at.old at.new }
 {
     let telling = at.telling;
     at.telling = Telling::Quiet;
-    let declared = sketched(at, parts, mentions, renames, env, depth);
+    let inner = group_env(at, parts, mentions, renames, env, depth);
     at.telling = telling;
-    declared
+    inner
 }
 
 /// Types an item of the row `type` or `exception` with this number: what it adds. That the names of types are new in their
@@ -826,16 +841,43 @@ fn declared_behind(
     ensures goes { Goes at.old at.new }
 {
     let mentions = Mentions::new(at.alloc(), parts, env)?;
-    let renames = which_rename(at, parts, &mentions)?;
-    let renames = with_reexports(at, parts, &mentions, renames, env, depth)?;
-    let sketched = sketched_quietly(at, parts, &mentions, &renames, env, depth)?;
-    let inner = with_names(at, parts, &sketched, env)?;
-    let entries = declare_all(at, parts, &renames, &inner, depth)?;
-    report_cycles(at, parts, &renames)?;
+    let renames = all_renames(at, parts, &mentions, env, depth)?;
+    let inner = group_env_quietly(at, parts, &mentions, &renames, env, depth)?;
+    added(at, parts, &renames, env, &inner, depth)
+}
+
+/// Which declarations of a group are other types, its re-exports included.
+fn all_renames(
+    at: &mut Parts,
+    parts: &[DeclarationPart<'_>],
+    mentions: &Mentions,
+    env: &Env,
+    depth: Depth,
+) -> Result<Vec<bool>, NoMemory>
+    ensures goes { Goes at.old at.new }
+{
+    let renames = which_rename(at, parts, mentions)?;
+    with_reexports(at, parts, mentions, renames, env, depth)
+}
+
+/// What declarations add that stand in the environment of their group, `inner`.
+fn added(
+    at: &mut Parts,
+    parts: &[DeclarationPart<'_>],
+    renames: &[bool],
+    env: &Env,
+    inner: &Env,
+    depth: Depth,
+) -> Result<Declared, NoMemory>
+    ensures goes { Goes at.old at.new }
+{
+    let entries = declare_all(at, parts, renames, inner, depth)?;
+    report_cycles(at, parts, renames)?;
+    let makes = origins_made(at, parts, renames)?;
     Ok(Declared {
         env: at.with_entries(&entries, env)?,
         entries,
-        makes: origins_made(at, parts, &renames)?,
+        makes,
     })
 }
 

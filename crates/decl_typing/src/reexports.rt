@@ -1,7 +1,7 @@
 //! Re-exports: whether a declaration tells the same as the type that it names.
 ghost use Rattle.typing_state.specs.Goes.{Goes};
 
-use crate::decls::{sketched, with_names};
+use crate::decls::group_env;
 use crate::groups::{ConstructorPart, DeclarationPart, LabelPart, Right, Told};
 use crate::orders::{Mentions, set};
 use env_table::{Constructor, Declaration, Env, Label, Shape};
@@ -109,23 +109,28 @@ fn compared(
 ) -> Result<bool, NoMemory>
     ensures goes { Goes at.old at.new }
 {
-    let declared = sketched(at, parts, mentions, renames, env, depth)?;
-    let inner = with_names(at, parts, &declared, env)?;
+    let inner = group_env(at, parts, mentions, renames, env, depth)?;
     let variables = Variables::Parameters(rigid_parameters(at, &part.parameters)?);
-    let named = read_type(at, ty, &inner, &variables, depth)?;
-    match named_by(at, named, &inner)? {
+    is_told_by(at, ty, told, &inner, &variables, depth)
+}
+
+/// Whether the type that a type expression names tells what is told here.
+fn is_told_by(
+    at: &mut Parts,
+    ty: Operand<'_>,
+    told: &Told<'_>,
+    env: &Env,
+    variables: &Variables,
+    depth: Depth,
+) -> Result<bool, NoMemory>
+    ensures goes { Goes at.old at.new }
+{
+    let ty = read_type(at, ty, env, variables, depth)?;
+    match named_by(at, ty, env)? {
         Named::Anything => Ok(true),
         Named::Nothing => Ok(tells_nothing(told)),
         Named::Declared(declaration, arguments) => {
-            agree(
-                at,
-                &declaration,
-                &arguments,
-                told,
-                &inner,
-                &variables,
-                depth,
-            )
+            agree(at, &declaration, &arguments, told, env, variables, depth)
         }
     }
 }
