@@ -8,10 +8,10 @@ use Rattle.syntax_tree.specs.View.{tok_of}
 use Rattle.syntax_tree.specs.declared.tree.Token.{Token}
 use Rattle.row_parts.specs.declared.slots.Operand.{Operand}
 use Rattle.row_parts.specs.Numbered.{Numbered, filled_in, operand_view, token_in}
-use Rattle.decl_typing.specs.declared.parts.Parts.{Parts}
-use Rattle.decl_typing.specs.Goes.{Goes}
-use Rattle.decl_typing.specs.Steps.{Steps, each, Follows, GetsOn, Silent}
-use Rattle.decl_typing.proofs.Following.{ends_both, follows_before, follows_both, gets_more}
+use Rattle.typing_state.specs.declared.parts.Parts.{Parts}
+use Rattle.typing_state.specs.Goes.{Goes}
+use Rattle.typing_state.specs.Steps.{Steps, each, Follows, GetsOn, Silent}
+use Rattle.typing_state.proofs.Following.{ends_both, follows_before, follows_both, gets_more}
 use Rattle.core_typing.specs.declared.exprs.RowForm.TheVariants as form
 use Rattle.core_typing.specs.ExpressionSteps.{ExpressionSteps, bindings_at, expression_steps, parameter_steps, right_steps, steps_as, type_steps_if, typed_as_written}
 use Rattle.core_typing.proofs.GroupLaws.{written_of}

@@ -19,10 +19,10 @@ use Rattle.row_parts.specs.Folds.{tree_by, operands_by}
 use Rattle.env_table.specs.declared.faults.Fault.{Fault}
 use Rattle.env_table.specs.declared.faults.FaultKind.{FaultKind}
 use Rattle.env_table.specs.declared.faults.FaultKind.TheVariants as fault
-use Rattle.decl_typing.specs.declared.parts.Parts.{Parts}
-use Rattle.decl_typing.specs.Goes.{Goes}
-use Rattle.decl_typing.specs.Steps.{Step, Steps, asks, records, each, place_of_tok, asks_bound, TellInOrder, AreRecorded, Follows, HasNoRecord}
-use Rattle.decl_typing.proofs.Following.{ends_both}
+use Rattle.typing_state.specs.declared.parts.Parts.{Parts}
+use Rattle.typing_state.specs.Goes.{Goes}
+use Rattle.typing_state.specs.Steps.{Step, Steps, asks, records, each, place_of_tok, asks_bound, TellInOrder, AreRecorded, Follows, HasNoRecord}
+use Rattle.typing_state.proofs.Following.{ends_both}
 use Rattle.core_typing.specs.declared.exprs.RowForm.{RowForm}
 use Rattle.core_typing.specs.declared.exprs.RowForm.TheVariants as form
 use Rattle.use_typing.specs.UseSteps.{asks_token, is_int, range_steps}

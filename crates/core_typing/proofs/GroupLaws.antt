@@ -10,11 +10,11 @@ use Rattle.syntax_tree.specs.declared.tree.Node.{Node, out-Node}
 use Rattle.row_parts.specs.declared.slots.Operand.{Operand}
 use Rattle.row_parts.specs.Numbered.{Numbered, numbered, operands_in, first_of, filled_in, token_in, operand_view, part_of}
 use Rattle.env_table.specs.declared.faults.FaultKind.TheVariants as fault
-use Rattle.decl_typing.specs.declared.parts.Parts.{Parts}
-use Rattle.decl_typing.specs.Goes.{Goes}
-use Rattle.decl_typing.specs.Steps.{Steps, asks, records, each, Follows, Silent}
-use Rattle.decl_typing.proofs.Following.{follows_both, follows_before, ends_both}
-use Rattle.decl_typing.proofs.TypeLaws.{each_map}
+use Rattle.typing_state.specs.declared.parts.Parts.{Parts}
+use Rattle.typing_state.specs.Goes.{Goes}
+use Rattle.typing_state.specs.Steps.{Steps, asks, records, each, Follows, Silent}
+use Rattle.typing_state.proofs.Following.{follows_both, follows_before, ends_both}
+use Rattle.type_reading.proofs.TypeLaws.{each_map}
 use Rattle.use_typing.specs.UseSteps.{lost_steps}
 use Rattle.pattern_typing.specs.PatternSteps.{pattern_steps}
 use Rattle.pattern_typing.specs.Warnings.{missed_steps, unused_steps, warning_steps}

@@ -9,9 +9,9 @@ use Rattle.row_parts.specs.declared.slots.Operand.{Operand}
 use Rattle.row_parts.specs.Numbered.{Written, operand_view, part_of}
 use Rattle.env_table.specs.declared.entries.Entry.{Entry}
 use Rattle.env_table.specs.declared.entries.Kind.TheVariants as kind
-use Rattle.decl_typing.specs.declared.parts.Parts.{Parts}
-use Rattle.decl_typing.specs.Goes.{faults_of}
-use Rattle.decl_typing.specs.Steps.{Follows, Silent, records}
+use Rattle.typing_state.specs.declared.parts.Parts.{Parts}
+use Rattle.typing_state.specs.Goes.{faults_of}
+use Rattle.typing_state.specs.Steps.{Follows, Silent, records}
 use Rattle.use_typing.proofs.Telling.{bound_stays, range_stays, use_stays}
 use Rattle.core_typing.specs.declared.exprs.RowForm.{RowForm}
 use Rattle.core_typing.specs.declared.exprs.RowForm.TheVariants as form

@@ -1,6 +1,6 @@
 -- What is left to do of bindings whose patterns are typed.
 use Rattle.syntax_tree.specs.View.{node_view}
-use Rattle.decl_typing.specs.Steps.{Steps}
+use Rattle.typing_state.specs.Steps.{Steps}
 use Rattle.core_typing.specs.ExpressionSteps.{concluded_at}
 use Rattle.core_typing.specs.declared.bindings.Opened.{Opened}
 

@@ -7,8 +7,8 @@ use Rattle.tree_model.specs.Rows.{Row, name_row, econ_row, epath_row, econst_row
 use Rattle.row_parts.specs.Numbered.{Numbered, numbered, Written, in_slot, in_slots, operands_in, all_operands, first_in, filled_in, first_of, token_in, path_in, missing_at_end}
 use Rattle.row_parts.specs.Folds.{Rule, operand_by}
 use Rattle.env_table.specs.declared.faults.FaultKind.TheVariants as fault
-use Rattle.decl_typing.specs.Steps.{Steps, asks, records, each, place_of_tok, asks_bound}
-use Rattle.decl_typing.specs.TypeSteps.{constructor_steps, type_steps}
+use Rattle.typing_state.specs.Steps.{Steps, asks, records, each, place_of_tok, asks_bound}
+use Rattle.type_reading.specs.TypeSteps.{constructor_steps, type_steps}
 use Rattle.core_typing.specs.declared.exprs.RowForm.{RowForm}
 use Rattle.core_typing.specs.declared.exprs.RowForm.TheVariants as form
 use Rattle.pattern_typing.specs.Warnings.{missed_steps}

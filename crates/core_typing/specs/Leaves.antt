@@ -4,8 +4,8 @@ use Rattle.tree_model.specs.Trees.{Tree, Part, taken, inner, missing}
 use Rattle.row_parts.specs.Numbered.{Written}
 use Rattle.env_table.specs.declared.entries.Entry.{Entry}
 use Rattle.env_table.specs.declared.entries.Kind.TheVariants as kind
-use Rattle.decl_typing.specs.declared.parts.Parts.{Parts}
-use Rattle.decl_typing.specs.Steps.{Silent}
+use Rattle.typing_state.specs.declared.parts.Parts.{Parts}
+use Rattle.typing_state.specs.Steps.{Silent}
 use Rattle.use_typing.specs.Constants.{TellsRange}
 use Rattle.use_typing.specs.Uses.{TellsBound, TellsUse}
 use Rattle.core_typing.specs.declared.exprs.RowForm.{RowForm}

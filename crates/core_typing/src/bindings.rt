@@ -1,12 +1,12 @@
 //! Bindings: their demands in order, and their names with generalised types.
-#![tactic(auto, using(decl_typing::proofs::Going::goes_trans, decl_typing::proofs::Going::goes_refl, decl_typing::proofs::Following::follows_both, decl_typing::proofs::Following::follows_then, decl_typing::proofs::Following::follows_before, decl_typing::proofs::Following::follows_behind, decl_typing::proofs::Following::follows_none, decl_typing::proofs::Following::follows_silent, decl_typing::proofs::Following::store_silent, decl_typing::proofs::Following::silent_refl, decl_typing::proofs::Following::silent_trans, decl_typing::proofs::Following::ends_both, decl_typing::proofs::Following::ends_behind, decl_typing::proofs::Following::ends_before, decl_typing::proofs::Following::ends_silent, decl_typing::proofs::Following::gets_start, decl_typing::proofs::Following::gets_more, decl_typing::proofs::Following::gets_before, decl_typing::proofs::Following::gets_done))]
+#![tactic(auto, using(typing_state::proofs::Going::goes_trans, typing_state::proofs::Going::goes_refl, typing_state::proofs::Following::follows_both, typing_state::proofs::Following::follows_then, typing_state::proofs::Following::follows_before, typing_state::proofs::Following::follows_behind, typing_state::proofs::Following::follows_none, typing_state::proofs::Following::follows_silent, typing_state::proofs::Following::store_silent, typing_state::proofs::Following::silent_refl, typing_state::proofs::Following::silent_trans, typing_state::proofs::Following::ends_both, typing_state::proofs::Following::ends_behind, typing_state::proofs::Following::ends_before, typing_state::proofs::Following::ends_silent, typing_state::proofs::Following::gets_start, typing_state::proofs::Following::gets_more, typing_state::proofs::Following::gets_before, typing_state::proofs::Following::gets_done))]
 
 ghost use Rattle.std.specs.Prelude.{◌≡◌, [], ◌∷◌, ◌++◌, map, option_map, is_some, IfOk, OnOk};
 ghost use Rattle.syntax_tree.specs.View.{node_view, place_of};
 ghost use Rattle.row_parts.specs.Numbered.{operand_view, operands_in, filled_in, token_in};
 ghost use Rattle.env_table.specs.declared.faults.FaultKind.{FaultKind};
-ghost use Rattle.decl_typing.specs.Goes.{Goes};
-ghost use Rattle.decl_typing.specs.Steps.{asks, each, records, Follows, Silent};
+ghost use Rattle.typing_state.specs.Goes.{Goes};
+ghost use Rattle.typing_state.specs.Steps.{asks, each, records, Follows, Silent};
 ghost use Rattle.core_typing.specs.declared.exprs.RowForm.{RowForm};
 ghost use Rattle.use_typing.specs.UseSteps.{asks_equal};
 ghost use Rattle.pattern_typing.specs.PatternSteps.{pattern_steps};
@@ -16,14 +16,13 @@ ghost use Rattle.core_typing.specs.Concluding.{conclusion};
 use crate::exprs::type_under;
 use crate::functions::{arrows, type_parameters, with_names};
 use crate::values::{has_parameters, is_value};
-use decl_typing::{
-    Depth, Entry, Env, NO_SCOPE, NoMemory, NodeRef, Parts, Variables, Verdict, share_entry,
-};
 use owned_lists::push;
 use pattern_typing::{BoundName, Matched, Mentioned, report_pattern, type_pattern};
 use row_parts::{Operand, first_operand, operand_in, operands, token};
 use std::rc::Rc;
 use syntax_tree::{Node, Token};
+use type_reading::{Variables, read_type};
+use typing_state::{Depth, Entry, Env, NO_SCOPE, NoMemory, NodeRef, Parts, Verdict, share_entry};
 use use_typing::{Sign, Used, note_missing, unnamed};
 
 /// A binding that is there, with its number.
@@ -333,7 +332,7 @@ fn annotation_of(
 {
     match written {
         Some(written) => {
-            let ty = at.read_type(written, within, &Variables::OfItem, depth)?;
+            let ty = read_type(at, written, within, &Variables::OfItem, depth)?;
             Ok(Some(ty))
         }
         None => Ok(None),

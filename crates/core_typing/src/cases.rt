@@ -1,21 +1,21 @@
 //! Matches: `match`, `try` and `function`.
-#![tactic(auto, using(decl_typing::proofs::Going::goes_trans, decl_typing::proofs::Going::goes_refl, decl_typing::proofs::Following::follows_both, decl_typing::proofs::Following::follows_then, decl_typing::proofs::Following::follows_before, decl_typing::proofs::Following::follows_behind, decl_typing::proofs::Following::follows_none, decl_typing::proofs::Following::follows_silent, decl_typing::proofs::Following::store_silent, decl_typing::proofs::Following::silent_refl, decl_typing::proofs::Following::silent_trans, decl_typing::proofs::Following::ends_both, decl_typing::proofs::Following::ends_behind, decl_typing::proofs::Following::ends_before, decl_typing::proofs::Following::ends_silent, decl_typing::proofs::Following::gets_start, decl_typing::proofs::Following::gets_more, decl_typing::proofs::Following::gets_before, decl_typing::proofs::Following::gets_done))]
+#![tactic(auto, using(typing_state::proofs::Going::goes_trans, typing_state::proofs::Going::goes_refl, typing_state::proofs::Following::follows_both, typing_state::proofs::Following::follows_then, typing_state::proofs::Following::follows_before, typing_state::proofs::Following::follows_behind, typing_state::proofs::Following::follows_none, typing_state::proofs::Following::follows_silent, typing_state::proofs::Following::store_silent, typing_state::proofs::Following::silent_refl, typing_state::proofs::Following::silent_trans, typing_state::proofs::Following::ends_both, typing_state::proofs::Following::ends_behind, typing_state::proofs::Following::ends_before, typing_state::proofs::Following::ends_silent, typing_state::proofs::Following::gets_start, typing_state::proofs::Following::gets_more, typing_state::proofs::Following::gets_before, typing_state::proofs::Following::gets_done))]
 
 ghost use Rattle.std.specs.Prelude.{◌≡◌, [], ◌∷◌, ◌++◌, map, option_map, IfOk, OnOk};
 ghost use Rattle.syntax_tree.specs.View.{node_view, place_of};
 ghost use Rattle.row_parts.specs.Numbered.{filled_in, first_of, operand_view};
-ghost use Rattle.decl_typing.specs.Goes.{Goes};
-ghost use Rattle.decl_typing.specs.Steps.{each, Follows};
+ghost use Rattle.typing_state.specs.Goes.{Goes};
+ghost use Rattle.typing_state.specs.Steps.{each, Follows};
 ghost use Rattle.core_typing.specs.declared.exprs.RowForm.{RowForm};
 ghost use Rattle.pattern_typing.specs.Warnings.{spans_of, unused_steps};
 ghost use Rattle.core_typing.specs.ExpressionSteps.{case_parts, cases_at, expression_at, expression_case, expressions_in, filled_expression, steps_as, typed_as_if, typed_pattern, unused_case};
 
 use crate::exprs::{type_under, typed_as};
 use crate::functions::with_names;
-use decl_typing::{Depth, Env, NoMemory, NodeRef, Parts};
 use pattern_typing::{Matched, Rows, type_pattern};
 use row_parts::{Operand, first_operand, operand_in, operands};
 use syntax_tree::{Node, RowName, Span};
+use typing_state::{Depth, Env, NoMemory, NodeRef, Parts};
 use use_typing::{Sign, Used, type_or_var, unnamed};
 
 /// A case by its parts, and where it stands.

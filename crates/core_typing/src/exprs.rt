@@ -1,15 +1,15 @@
 //! The walk over expressions: each row types its parts in order, with its demands between and behind them.
-#![tactic(auto, using(decl_typing::proofs::Going::goes_trans, decl_typing::proofs::Going::goes_refl, decl_typing::proofs::Following::follows_both, decl_typing::proofs::Following::follows_then, decl_typing::proofs::Following::follows_before, decl_typing::proofs::Following::follows_behind, decl_typing::proofs::Following::follows_none, decl_typing::proofs::Following::follows_silent, decl_typing::proofs::Following::store_silent, decl_typing::proofs::Following::silent_refl, decl_typing::proofs::Following::silent_trans, decl_typing::proofs::Following::ends_both, decl_typing::proofs::Following::ends_behind, decl_typing::proofs::Following::ends_before, decl_typing::proofs::Following::ends_silent, decl_typing::proofs::Following::gets_start, decl_typing::proofs::Following::gets_more, decl_typing::proofs::Following::gets_before, decl_typing::proofs::Following::gets_done, crate::proofs::ExpressionLaws::value_no_record, crate::proofs::ExpressionLaws::form_follows), unfolding(syntax_tree::specs::Names::row_of))]
+#![tactic(auto, using(typing_state::proofs::Going::goes_trans, typing_state::proofs::Going::goes_refl, typing_state::proofs::Following::follows_both, typing_state::proofs::Following::follows_then, typing_state::proofs::Following::follows_before, typing_state::proofs::Following::follows_behind, typing_state::proofs::Following::follows_none, typing_state::proofs::Following::follows_silent, typing_state::proofs::Following::store_silent, typing_state::proofs::Following::silent_refl, typing_state::proofs::Following::silent_trans, typing_state::proofs::Following::ends_both, typing_state::proofs::Following::ends_behind, typing_state::proofs::Following::ends_before, typing_state::proofs::Following::ends_silent, typing_state::proofs::Following::gets_start, typing_state::proofs::Following::gets_more, typing_state::proofs::Following::gets_before, typing_state::proofs::Following::gets_done, crate::proofs::ExpressionLaws::value_no_record, crate::proofs::ExpressionLaws::form_follows), unfolding(syntax_tree::specs::Names::row_of))]
 
 ghost use Rattle.std.specs.Prelude.{◌≡◌, false, [], ◌∷◌, ◌++◌, OnOk};
 ghost use Rattle.syntax_tree.specs.View.{place_of, node_view};
 ghost use Rattle.syntax_tree.specs.Names.{row_of};
 ghost use Rattle.row_parts.specs.Numbered.{operand_view, path_view};
 ghost use Rattle.env_table.specs.declared.faults.FaultKind.{FaultKind};
-ghost use Rattle.decl_typing.specs.Goes.{Goes};
-ghost use Rattle.decl_typing.specs.Steps.{asks, each, Follows, Silent};
-ghost use Rattle.decl_typing.specs.Notes.{IsRecorded};
-ghost use Rattle.decl_typing.specs.TypeSteps.{constructor_steps};
+ghost use Rattle.typing_state.specs.Goes.{Goes};
+ghost use Rattle.typing_state.specs.Steps.{asks, each, Follows, Silent};
+ghost use Rattle.typing_state.specs.Notes.{IsRecorded};
+ghost use Rattle.type_reading.specs.TypeSteps.{constructor_steps};
 ghost use Rattle.use_typing.specs.Constants.{is_negated};
 ghost use Rattle.use_typing.specs.Uses.{TellsUse};
 ghost use Rattle.core_typing.specs.declared.exprs.RowForm.{RowForm};
@@ -22,9 +22,9 @@ use crate::cases::{function_of_cases, match_of};
 use crate::functions::function;
 use crate::plain::{parenthesised, plain};
 use crate::records::record;
-use decl_typing::{Depth, Env, NoMemory, NodeRef, Parts};
 use row_parts::{Operand, WrittenPath, token, written_path};
 use syntax_tree::{Node, RowName};
+use typing_state::{Depth, Env, NoMemory, NodeRef, Parts};
 use use_typing::{Sign, Used, any_type, constant, constructor, equal_if, unnamed, value};
 
 /// Types an expression, or a missing one. It is recorded.

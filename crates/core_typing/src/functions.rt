@@ -1,22 +1,22 @@
 //! fun p p -> e
-#![tactic(auto, using(decl_typing::proofs::Going::goes_trans, decl_typing::proofs::Going::goes_refl, decl_typing::proofs::Following::follows_both, decl_typing::proofs::Following::follows_then, decl_typing::proofs::Following::follows_before, decl_typing::proofs::Following::follows_behind, decl_typing::proofs::Following::follows_none, decl_typing::proofs::Following::follows_silent, decl_typing::proofs::Following::store_silent, decl_typing::proofs::Following::silent_refl, decl_typing::proofs::Following::silent_trans, decl_typing::proofs::Following::ends_both, decl_typing::proofs::Following::ends_behind, decl_typing::proofs::Following::ends_before, decl_typing::proofs::Following::ends_silent, decl_typing::proofs::Following::gets_start, decl_typing::proofs::Following::gets_more, decl_typing::proofs::Following::gets_before, decl_typing::proofs::Following::gets_done))]
+#![tactic(auto, using(typing_state::proofs::Going::goes_trans, typing_state::proofs::Going::goes_refl, typing_state::proofs::Following::follows_both, typing_state::proofs::Following::follows_then, typing_state::proofs::Following::follows_before, typing_state::proofs::Following::follows_behind, typing_state::proofs::Following::follows_none, typing_state::proofs::Following::follows_silent, typing_state::proofs::Following::store_silent, typing_state::proofs::Following::silent_refl, typing_state::proofs::Following::silent_trans, typing_state::proofs::Following::ends_both, typing_state::proofs::Following::ends_behind, typing_state::proofs::Following::ends_before, typing_state::proofs::Following::ends_silent, typing_state::proofs::Following::gets_start, typing_state::proofs::Following::gets_more, typing_state::proofs::Following::gets_before, typing_state::proofs::Following::gets_done))]
 
 ghost use Rattle.std.specs.Prelude.{[], ◌∷◌, map, OnOk};
 ghost use Rattle.syntax_tree.specs.View.{node_view};
 ghost use Rattle.row_parts.specs.Numbered.{operand_view};
 ghost use Rattle.env_table.specs.declared.faults.FaultKind.{FaultKind};
-ghost use Rattle.decl_typing.specs.Goes.{Goes};
-ghost use Rattle.decl_typing.specs.Steps.{asks, each, Follows, Silent};
+ghost use Rattle.typing_state.specs.Goes.{Goes};
+ghost use Rattle.typing_state.specs.Steps.{asks, each, Follows, Silent};
 ghost use Rattle.core_typing.specs.declared.exprs.RowForm.{RowForm};
 ghost use Rattle.core_typing.specs.ExpressionSteps.{parameter_steps, steps_as};
 
 use crate::exprs::type_under;
-use decl_typing::{Depth, Env, NoMemory, NodeRef, Parts, share_entry};
 use owned_lists::push;
 use pattern_typing::{BoundName, Matched, report_pattern, type_pattern};
 use row_parts::{Operand, operand_in, operands};
 use std::alloc::Global;
 use syntax_tree::Node;
+use typing_state::{Depth, Env, NoMemory, NodeRef, Parts, share_entry};
 use use_typing::{Sign, Used, unnamed};
 
 /// fun p p -> e

@@ -1,9 +1,9 @@
 //! Expressions and bindings, row by row: their types, and the demands of each in order.
-//! It stands on `use_typing` and `pattern_typing`, and below them on `decl_typing`, whose `Parts` keep the store, the index and the faults.
+//! It stands on `use_typing` and `pattern_typing`, and below them on `typing_state`, whose `Parts` keep the store, the index and the faults.
 //! A row of an expression is a function that types its parts in order, with its demands between and behind them: a part leads back
 //! to `type_under`, which records it when its row is typed (`type_expr` from outside). Above, a binding's names are entries whose
 //! types are generalised by level (`type_bindings`), and each node and missing operand that is treated is recorded in the index.
-#![tactic(auto, using(decl_typing::proofs::Going::goes_trans, decl_typing::proofs::Going::goes_refl))]
+#![tactic(auto, using(typing_state::proofs::Going::goes_trans, typing_state::proofs::Going::goes_refl))]
 
 mod apply;
 mod bindings;

@@ -1,13 +1,13 @@
 //! Rows whose parts are typed one after the other, with demands between and behind them.
-#![tactic(auto, using(decl_typing::proofs::Going::goes_trans, decl_typing::proofs::Going::goes_refl, decl_typing::proofs::Following::follows_both, decl_typing::proofs::Following::follows_before, decl_typing::proofs::Following::follows_behind, decl_typing::proofs::Following::follows_none, decl_typing::proofs::Following::follows_silent, decl_typing::proofs::Following::store_silent, decl_typing::proofs::Following::silent_refl, decl_typing::proofs::Following::silent_trans, decl_typing::proofs::Following::ends_both, decl_typing::proofs::Following::ends_behind, decl_typing::proofs::Following::ends_before, decl_typing::proofs::Following::ends_silent, decl_typing::proofs::Following::gets_start, decl_typing::proofs::Following::gets_more, decl_typing::proofs::Following::gets_before, decl_typing::proofs::Following::gets_done, crate::proofs::ExpressionLaws::types_no_record, crate::proofs::ExpressionLaws::token_no_record), unfolding(syntax_tree::specs::Names::row_of))]
+#![tactic(auto, using(typing_state::proofs::Going::goes_trans, typing_state::proofs::Going::goes_refl, typing_state::proofs::Following::follows_both, typing_state::proofs::Following::follows_before, typing_state::proofs::Following::follows_behind, typing_state::proofs::Following::follows_none, typing_state::proofs::Following::follows_silent, typing_state::proofs::Following::store_silent, typing_state::proofs::Following::silent_refl, typing_state::proofs::Following::silent_trans, typing_state::proofs::Following::ends_both, typing_state::proofs::Following::ends_behind, typing_state::proofs::Following::ends_before, typing_state::proofs::Following::ends_silent, typing_state::proofs::Following::gets_start, typing_state::proofs::Following::gets_more, typing_state::proofs::Following::gets_before, typing_state::proofs::Following::gets_done, crate::proofs::ExpressionLaws::types_no_record, crate::proofs::ExpressionLaws::token_no_record), unfolding(syntax_tree::specs::Names::row_of))]
 
 ghost use Rattle.std.specs.Prelude.{◌≡◌, [], ◌∷◌, ◌++◌, map, option_map, IfOk, OnOk};
 ghost use Rattle.syntax_tree.specs.Names.{row_of};
 ghost use Rattle.syntax_tree.specs.View.{place_of, tok_of, node_view};
 ghost use Rattle.row_parts.specs.Numbered.{operand_view, path_view, path_in};
 ghost use Rattle.env_table.specs.declared.faults.FaultKind.{FaultKind};
-ghost use Rattle.decl_typing.specs.Goes.{Goes};
-ghost use Rattle.decl_typing.specs.Steps.{asks, each, Follows, Silent, asks_bound};
+ghost use Rattle.typing_state.specs.Goes.{Goes};
+ghost use Rattle.typing_state.specs.Steps.{asks, each, Follows, Silent, asks_bound};
 ghost use Rattle.use_typing.specs.UseSteps.{asks_equal, asks_token};
 ghost use Rattle.pattern_typing.specs.PatternSteps.{later};
 ghost use Rattle.core_typing.specs.declared.exprs.RowForm.{RowForm};
@@ -15,13 +15,13 @@ ghost use Rattle.core_typing.specs.ExpressionSteps.{asked_behind, asked_branch, 
 
 use crate::exprs::type_under;
 use crate::values::is_false;
-use decl_typing::{Depth, Env, NoMemory, NodeRef, Parts, new_entry, path_of};
 use env_table::{Found, Kind, What};
 use owned_lists::push;
 use row_parts::{
     Operand, WrittenPath, first_operand, operand_in, operands_of, token, written_path,
 };
 use syntax_tree::{Node, RowName, Token};
+use typing_state::{Depth, Env, NoMemory, NodeRef, Parts, new_entry, path_of};
 use use_typing::{Names, Sign, Used, as_written, field_label, label_of, type_or_var, unnamed};
 
 /// A row whose parts are typed in order.

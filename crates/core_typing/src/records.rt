@@ -1,12 +1,12 @@
 //! Records: { l = e }, { e with l = e }
-#![tactic(auto, using(decl_typing::proofs::Going::goes_trans, decl_typing::proofs::Going::goes_refl, decl_typing::proofs::Following::follows_both, decl_typing::proofs::Following::follows_then, decl_typing::proofs::Following::follows_before, decl_typing::proofs::Following::follows_behind, decl_typing::proofs::Following::follows_none, decl_typing::proofs::Following::follows_silent, decl_typing::proofs::Following::store_silent, decl_typing::proofs::Following::silent_refl, decl_typing::proofs::Following::silent_trans, decl_typing::proofs::Following::ends_both, decl_typing::proofs::Following::ends_behind, decl_typing::proofs::Following::ends_before, decl_typing::proofs::Following::ends_silent, decl_typing::proofs::Following::gets_start, decl_typing::proofs::Following::gets_more, decl_typing::proofs::Following::gets_before, decl_typing::proofs::Following::gets_done))]
+#![tactic(auto, using(typing_state::proofs::Going::goes_trans, typing_state::proofs::Going::goes_refl, typing_state::proofs::Following::follows_both, typing_state::proofs::Following::follows_then, typing_state::proofs::Following::follows_before, typing_state::proofs::Following::follows_behind, typing_state::proofs::Following::follows_none, typing_state::proofs::Following::follows_silent, typing_state::proofs::Following::store_silent, typing_state::proofs::Following::silent_refl, typing_state::proofs::Following::silent_trans, typing_state::proofs::Following::ends_both, typing_state::proofs::Following::ends_behind, typing_state::proofs::Following::ends_before, typing_state::proofs::Following::ends_silent, typing_state::proofs::Following::gets_start, typing_state::proofs::Following::gets_more, typing_state::proofs::Following::gets_before, typing_state::proofs::Following::gets_done))]
 
 ghost use Rattle.std.specs.Prelude.{◌≡◌, [], ◌∷◌, ◌++◌, map, option_map, IfOk, OnOk};
 ghost use Rattle.syntax_tree.specs.View.{node_view, place_of, tok_of};
 ghost use Rattle.row_parts.specs.Numbered.{operand_view, path_view};
 ghost use Rattle.env_table.specs.declared.faults.FaultKind.{FaultKind};
-ghost use Rattle.decl_typing.specs.Goes.{Goes};
-ghost use Rattle.decl_typing.specs.Steps.{asks, each, records, Follows, Silent};
+ghost use Rattle.typing_state.specs.Goes.{Goes};
+ghost use Rattle.typing_state.specs.Steps.{asks, each, records, Follows, Silent};
 ghost use Rattle.use_typing.specs.UseSteps.{asks_equal, asks_labels, labels_of, lost_steps};
 ghost use Rattle.core_typing.specs.declared.exprs.RowForm.{RowForm};
 ghost use Rattle.core_typing.specs.ExpressionSteps.{expression_at, expression_field, expression_steps, field_steps, fields_steps, label_at, loose_steps, made_or_loose, made_steps, pun_steps, record_steps, steps_as, typed_as, typed_if, updated_steps};
@@ -14,10 +14,10 @@ ghost use Rattle.core_typing.specs.RecordView.{record_parts};
 
 use crate::exprs::{type_under, typed_as};
 use crate::values::label_path;
-use decl_typing::{Depth, Entry, Env, NoMemory, NodeRef, Parts};
 use row_parts::{Operand, WrittenPath, first_operand, operand_in, operands, token, written_path};
 use std::rc::Rc;
 use syntax_tree::{Node, Span, Token};
+use typing_state::{Depth, Entry, Env, NoMemory, NodeRef, Parts};
 use use_typing::{
     Fields, Names, RecordType, Sign, Used, begin_field, equal_if, labels_behind, labels_in,
     note_label, note_missing, record_of_fields, record_of_labels, type_or_var, unnamed, value,

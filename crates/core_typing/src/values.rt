@@ -3,13 +3,13 @@ ghost use Rattle.std.specs.Prelude.{◌≡◌, option_map, IfOk};
 ghost use Rattle.row_parts.specs.Numbered.{operand_view, path_view};
 ghost use Rattle.core_typing.specs.ExpressionSteps.{label_at, lower_path};
 
-use decl_typing::{Depth, Env, NoMemory, Parts, path_of};
 use env_table::{Found, Path, What};
 use owned_lists::push;
 use row_parts::{
     Operand, WrittenPath, first_operand, operand_in, operands, operands_of, token, written_path,
 };
 use syntax_tree::{Node, RowName, TokenKind};
+use typing_state::{Depth, Env, NoMemory, Parts, path_of};
 use use_typing::labels_in;
 
 /// Whether an expression is non-expansive in an environment. A missing one is.

@@ -2,7 +2,7 @@
 use owned_lists::push;
 use row_parts::{Operand, first_operand, operand_in, operands, token, tokens};
 use std::alloc::Global;
-use syntax_tree::{Node, Part, RowName, Span, Token};
+use syntax_tree::{Node, Part, RowName, Token};
 use type_nodes::NoMemory;
 
 /// What a declaration tells of its values.
@@ -208,7 +208,7 @@ pub fn declarations_of<'a>(
 }
 
 /// Where a type expression stands.
-#[derive(Clone, Copy, Debug, PartialEq, Eq)]
+#[derive(Clone, Copy, PartialEq, Eq)]
 pub enum Standing {
     Alone,
     /// In front of a constructor, where several types may stand in parentheses.
@@ -264,12 +264,4 @@ pub fn last_token(node: &Node) -> Option<&Token> {
         }
     }
     last
-}
-
-/// Where a name stands; where it is missing, the given place.
-pub fn span_of(name: Option<&Token>, missing: Span) -> Span {
-    match name {
-        Some(token) => token.span,
-        None => missing,
-    }
 }

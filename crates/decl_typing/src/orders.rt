@@ -1,7 +1,5 @@
 //! In which order the types of a group are read that are other names of types: each behind those that it mentions.
 use crate::groups::{DeclarationPart, Right, Standing, arguments_in_front, is_several};
-use crate::names::path_of;
-use crate::types::declaration_of;
 use env_table::{Env, Found, Kind};
 use owned_lists::push;
 use row_parts::{Operand, WrittenPath, written_path};
@@ -9,6 +7,7 @@ use std::alloc::{AllocError, Global};
 use std::collections::HashMap;
 use syntax_tree::{Node, Part, RowName};
 use type_nodes::NoMemory;
+use typing_state::{declaration_of, path_of};
 
 /// What the names of types in a group stand for: their places in it, of two the later one, and what is in scope outside.
 #[derive(Drop)]
@@ -114,6 +113,26 @@ fn constructor_of<'a>(
     }
 }
 
+/// Whether a type expression has no constructor, or one that is known and has as many arguments as it takes. The place of one in the
+/// group is added to those found so far.
+fn is_known(
+    alloc: Global,
+    known: &Known<'_>,
+    node: &Node,
+    found: &mut Vec<usize>,
+) -> Result<bool, NoMemory> {
+    let Some((path, given)) = constructor_of(alloc, node)? else {
+        return Ok(true);
+    };
+    if known.arity(alloc, &path)? != Some(given) {
+        return Ok(false);
+    }
+    if let Some(place) = known.place(alloc, &path)? {
+        push(found, place)?;
+    }
+    Ok(true)
+}
+
 /// The places in the group of the types that stand in a type expression, added to those found so far. What stands in a type that
 /// isn't known doesn't count.
 fn mentioned_in(
@@ -126,13 +145,8 @@ fn mentioned_in(
     if is_several(node, standing) {
         return Ok(());
     }
-    if let Some((path, given)) = constructor_of(alloc, node)? {
-        if known.arity(alloc, &path)? != Some(given) {
-            return Ok(());
-        }
-        if let Some(place) = known.place(alloc, &path)? {
-            push(found, place)?;
-        }
+    if !is_known(alloc, known, node, found)? {
+        return Ok(());
     }
     let inner = if node.row == RowName::Tapp {
         Standing::InFront

@@ -5,8 +5,8 @@ use Rattle.std.specs.declared.alloc.AllocError.{AllocError}
 use Rattle.text_terms.specs.declared.Span.{Span}
 use Rattle.env_table.specs.declared.entries.Sig.{Sig}
 use Rattle.env_table.specs.declared.entries.Template.{Template}
-use Rattle.decl_typing.specs.declared.parts.Parts.{Parts}
-use Rattle.decl_typing.specs.Goes.{faults_of, Begins}
+use Rattle.typing_state.specs.declared.parts.Parts.{Parts}
+use Rattle.typing_state.specs.Goes.{faults_of, Begins}
 use Rattle.signature_match.specs.declared.causes.Mismatch.{Mismatch}
 use Rattle.signature_match.specs.Blames.{blame_of}
 use Rattle.signature_match.specs.Telling.{TellsMatch}

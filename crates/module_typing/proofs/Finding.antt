@@ -21,7 +21,7 @@ use Rattle.env_table.specs.declared.entries.Sig.{Sig, out-Sig}
 use Rattle.env_table.specs.declared.entries.Sig as sigs
 use Rattle.env_table.specs.declared.entries.Sig.TheVariants as sig
 use Rattle.env_table.specs.declared.entries.Sig.TheOpen.{Sig-F, What-F}
-use Rattle.decl_typing.specs.declared.parts.Parts.{Parts}
+use Rattle.typing_state.specs.declared.parts.Parts.{Parts}
 use Rattle.sig_template.specs.Ways.{sig_of}
 use Rattle.module_typing.specs.Closing.{is_open, open_cell, HasValue, component, in_module, in_parameter, in_body, HasOpen, HasOpenValue, HasOpenWhat, HasOpenEntry, HasOpenAmong, Finds, ToldOpen, Closes}
 

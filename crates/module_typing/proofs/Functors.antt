@@ -11,7 +11,7 @@ use Rattle.env_table.specs.declared.entries.Sig.{Sig, out-Sig, out-roll-Sig}
 use Rattle.env_table.specs.declared.entries.Sig.TheOpen.{Sig-F, Template-F, What-F}
 use Rattle.env_table.specs.declared.entries.Sig.TheVariants.{Functor, rolls-Functor, Structure, rolls-Structure}
 use Rattle.module_typing.specs.declared.modules.Taken.{Taken}
-use Rattle.decl_typing.specs.Copying.{paths_of}
+use Rattle.type_reading.specs.Copying.{paths_of}
 use Rattle.sig_template.specs.Ways.{sig_of}
 use Rattle.sig_template.specs.Changed.{made_of}
 use Rattle.module_typing.specs.Modules.{templates_of, IsFunctorOver, env_behind, is_structure, opened_structure, opened_is}

@@ -13,7 +13,7 @@ use Rattle.env_table.specs.declared.entries.Kind.TheVariants as kind
 use Rattle.env_table.specs.declared.entries.Entry.{Entry}
 use Rattle.env_table.specs.declared.faults.Fault.{Fault}
 use Rattle.env_table.specs.Views.{kind_of}
-use Rattle.decl_typing.specs.declared.parts.Telling.{Telling}
+use Rattle.typing_state.specs.declared.parts.Telling.{Telling}
 use Rattle.module_typing.specs.declared.scenes.Scene.{Scene}
 use Rattle.sig_template.specs.Structures.{entries_of}
 use Rattle.module_typing.specs.Scenes.{stands_once, with_name, SameNames, told_again, repeated, with_names, ToldTwice}

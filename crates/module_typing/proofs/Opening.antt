@@ -4,8 +4,8 @@ use Rattle.std.specs.Prelude.{OnOk}
 use Rattle.text_terms.specs.declared.Span.{Span}
 use Rattle.type_terms.specs.declared.types.NodeRef.{NodeRef}
 use Rattle.env_table.specs.declared.faults.FaultKind.TheVariants as fault
-use Rattle.decl_typing.specs.declared.parts.Parts.{Parts}
-use Rattle.decl_typing.specs.Goes.{faults_of, Told}
+use Rattle.typing_state.specs.declared.parts.Parts.{Parts}
+use Rattle.typing_state.specs.Goes.{faults_of, Told}
 use Rattle.module_typing.specs.declared.modules.Made.{Made}
 use Rattle.module_typing.specs.declared.modules.Taken.{Taken}
 use Rattle.module_typing.specs.Told.{open_text}

@@ -14,8 +14,8 @@ use Rattle.env_table.specs.declared.entries.Sig.{Sig, out-Sig}
 use Rattle.env_table.specs.declared.entries.Sig.TheOpen.{Sig-F, What-F}
 use Rattle.env_table.specs.declared.entries.Template.{Template}
 use Rattle.env_table.specs.declared.faults.FaultKind.TheVariants as fault
-use Rattle.decl_typing.specs.declared.parts.Parts.{Parts}
-use Rattle.decl_typing.specs.Goes.{faults_of, Told}
+use Rattle.typing_state.specs.declared.parts.Parts.{Parts}
+use Rattle.typing_state.specs.Goes.{faults_of, Told}
 use Rattle.sig_template.specs.Ways.{sig_of}
 use Rattle.module_typing.specs.Told.{open_text}
 

@@ -4,8 +4,8 @@ use Rattle.text_terms.specs.Bytes.{str_bytes}
 use Rattle.env_table.specs.declared.entries.Entry.{Entry}
 use Rattle.env_table.specs.declared.entries.Kind.TheVariants as kind
 use Rattle.env_table.specs.declared.entries.Place.TheVariants as place
-use Rattle.decl_typing.specs.declared.built_ins.BuiltIn.{BuiltIn}
-use Rattle.decl_typing.specs.BuiltIns.{name_of, number_of}
+use Rattle.typing_state.specs.declared.built_ins.BuiltIn.{BuiltIn}
+use Rattle.typing_state.specs.BuiltIns.{name_of, number_of}
 
 -- the entry of a built-in type
 pub record IsBuiltIn (e : Entry) (b : BuiltIn) : Type 0 where

@@ -15,8 +15,8 @@ use Rattle.env_table.specs.declared.entries.Kind.TheVariants as kind
 use Rattle.env_table.specs.declared.entries.Template.{Template}
 use Rattle.env_table.specs.declared.faults.FaultKind.{FaultKind}
 use Rattle.env_table.specs.declared.faults.FaultKind.TheVariants as fault
-use Rattle.decl_typing.specs.declared.parts.Parts.{Parts}
-use Rattle.decl_typing.specs.Goes.{faults_of, Begins, Told}
+use Rattle.typing_state.specs.declared.parts.Parts.{Parts}
+use Rattle.typing_state.specs.Goes.{faults_of, Begins, Told}
 use Rattle.signature_match.specs.declared.causes.Mismatch.{Mismatch}
 use Rattle.signature_match.specs.Anew.{IsMadeAnew}
 use Rattle.signature_match.specs.Blames.{blame_of}
@@ -25,7 +25,7 @@ use Rattle.signature_model.specs.Templates.{origins_at}
 use Rattle.type_nodes.specs.Nodes.{Node}
 use Rattle.module_typing.specs.declared.modules.Made.{Made}
 use Rattle.module_typing.specs.declared.modules.Taken.{Taken}
-use Rattle.decl_typing.specs.Copying.{paths_of}
+use Rattle.type_reading.specs.Copying.{paths_of}
 use Rattle.sig_template.specs.Ways.{sig_of}
 use Rattle.sig_template.specs.Changed.{made_of}
 use Rattle.module_typing.specs.Told.{mismatch_message, with_text}

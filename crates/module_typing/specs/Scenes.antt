@@ -16,11 +16,11 @@ use Rattle.env_table.specs.declared.entries.Entry.{Entry}
 use Rattle.env_table.specs.declared.faults.Fault.{Fault}
 use Rattle.env_table.specs.declared.faults.FaultKind.TheVariants as fault
 use Rattle.env_table.specs.Views.{kind_of}
-use Rattle.decl_typing.specs.declared.parts.Parts.{Parts}
-use Rattle.decl_typing.specs.declared.parts.Telling.{Telling}
-use Rattle.decl_typing.specs.Goes.{faults_of, Told}
-use Rattle.decl_typing.specs.Messages.{twice_text}
-use Rattle.decl_typing.specs.Notes.{Noted}
+use Rattle.typing_state.specs.declared.parts.Parts.{Parts}
+use Rattle.typing_state.specs.declared.parts.Telling.{Telling}
+use Rattle.typing_state.specs.Goes.{faults_of, Told}
+use Rattle.typing_state.specs.Messages.{twice_text}
+use Rattle.typing_state.specs.Notes.{Noted}
 use Rattle.module_typing.specs.declared.scenes.Scene.{Scene}
 use Rattle.sig_template.specs.Structures.{entries_of}
 use Rattle.module_typing.specs.Listed.{seen_values}

@@ -3,16 +3,16 @@ ghost use Rattle.std.specs.Prelude.{◌≡◌, ◌++◌, OnOk};
 ghost use Rattle.std.specs.List.{filter};
 ghost use Rattle.type_nodes.specs.Views.{numbers};
 ghost use Rattle.env_table.specs.Views.{names_of};
-ghost use Rattle.decl_typing.specs.Goes.{Goes, OnlyStore};
+ghost use Rattle.typing_state.specs.Goes.{Goes, OnlyStore};
 ghost use Rattle.module_typing.specs.Closing.{is_open, HasOpen, HasOpenEntry, HasOpenAmong, HasOpenValue, Finds, ToldOpen, Closes};
 
-use decl_typing::{Depth, NoMemory, NodeRef, Parts};
 use env_table::{Entries, Entry, FaultKind, Sig, What};
 use level_unify::reached;
 use owned_lists::push;
 use syntax_tree::Span;
 use text_terms::RcStr;
 use type_nodes::View;
+use typing_state::{Depth, NoMemory, NodeRef, Parts};
 
 /// The level that is kept for bound variables.
 const BOUND: u32 = 4_294_967_295;

@@ -1,13 +1,13 @@
 //! The first environment: the built-in types.
 ghost use Rattle.std.specs.Prelude.{[], IfOk};
-ghost use Rattle.decl_typing.specs.Goes.{Goes};
+ghost use Rattle.typing_state.specs.Goes.{Goes};
 ghost use Rattle.module_typing.specs.First.{IsBuiltIn, HasBuiltIns};
 
-use decl_typing::{BuiltIn, Env, NoMemory, NodeRef, Parts};
 use env_table::{Declaration, Entry, Kind, Place, Shape, What};
 use owned_lists::owned;
 use std::rc::Rc;
 use text_terms::RcStr;
+use typing_state::{BuiltIn, Env, NoMemory, NodeRef, Parts};
 
 /// The root of the type that a built-in type's declaration gives its parameters.
 fn built_in_root(at: &mut Parts, which: BuiltIn) -> Result<NodeRef, NoMemory>

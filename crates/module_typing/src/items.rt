@@ -1,14 +1,16 @@
 //! Items without modules.
-ghost use Rattle.decl_typing.specs.Goes.{Goes};
+ghost use Rattle.typing_state.specs.Goes.{Goes};
 
 use crate::scenes::Scene;
 use core_typing::type_bindings;
-use decl_typing::{Depth, Env, NoMemory, NodeRef, Parameter, Parts, Variables, new_entry};
+use decl_typing::{type_decls, type_exception};
 use env_table::{Entry, Kind, What};
 use owned_lists::push;
 use row_parts::{operand_in, operands, token};
 use std::rc::Rc;
 use syntax_tree::{Node, Part, Token, TokenKind};
+use type_reading::{Parameter, Variables, read_type};
+use typing_state::{Depth, Env, NoMemory, NodeRef, Parts, new_entry};
 
 /// let b and b
 pub fn let_item(
@@ -40,7 +42,7 @@ pub fn type_group(
     for name in names_of_types(at, node, number)? {
         scene.ask_new(at, Kind::TypeName, Some(name))?;
     }
-    let declared = at.type_decls(node, number, &scene.env, depth)?;
+    let declared = type_decls(at, node, number, &scene.env, depth)?;
     scene.add_made(at, &declared.makes)?;
     scene.add(declared.env, &declared.entries)
 }
@@ -71,7 +73,7 @@ pub fn exception_item(
     ensures goes { Goes at.old at.new }
 {
     at.note_plain(number, &scene.env)?;
-    let declared = at.type_exception(node, number, &scene.env, depth)?;
+    let declared = type_exception(at, node, number, &scene.env, depth)?;
     scene.add(declared.env, &declared.entries)
 }
 
@@ -172,5 +174,5 @@ fn specified(
         push(&mut parameters, Parameter { name, node })?;
     }
     let variables = Variables::Parameters(parameters);
-    at.read_type(operand_in(node, number, 3), env, &variables, depth)
+    read_type(at, operand_in(node, number, 3), env, &variables, depth)
 }

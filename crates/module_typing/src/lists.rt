@@ -2,12 +2,12 @@
 ghost use Rattle.std.specs.Prelude.{◌≡◌, ◌++◌, IfOk, OnOk};
 ghost use Rattle.type_terms.specs.Views.{path_of};
 ghost use Rattle.sig_template.specs.Structures.{entries_of};
-ghost use Rattle.decl_typing.specs.Copying.{paths_of};
+ghost use Rattle.type_reading.specs.Copying.{paths_of};
 
-use decl_typing::{NoMemory, Parts};
 use env_table::{Entry, Origin};
 use owned_lists::{push, shared};
 use std::rc::Rc;
+use typing_state::{NoMemory, Parts};
 
 /// Adds owners of entries, in order.
 pub fn add_entries(list: &mut Vec<Rc<Entry>>, entries: &[Rc<Entry>]) -> Result<(), NoMemory>

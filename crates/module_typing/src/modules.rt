@@ -2,9 +2,9 @@
 ghost use Rattle.std.specs.Prelude.{◌≡◌, ◌∷◌, [], ℕ, List, true, false, not, option_map, string_bytes, IfOk, OnOk};
 ghost use Rattle.text_terms.specs.Bytes.{str_bytes};
 ghost use Rattle.env_table.specs.declared.entries.Template.{Template};
-ghost use Rattle.decl_typing.specs.Goes.{Goes, faults_of, OnlyFaults, Told};
+ghost use Rattle.typing_state.specs.Goes.{Goes, faults_of, OnlyFaults, Told};
 ghost use Rattle.module_typing.specs.Listed.{seen_values};
-ghost use Rattle.decl_typing.specs.Copying.{paths_of};
+ghost use Rattle.type_reading.specs.Copying.{paths_of};
 ghost use Rattle.module_typing.specs.Told.{mismatch_message, no_functor_text, with_text};
 ghost use Rattle.module_typing.specs.Modules.{is_hole, is_structure, is_functor, IsUnknown, IsUnknownType, IsBehind, IsTemplateAt, dotted, ToldUnless, ToldMismatch, AsksMatch, Given, templates_of, IsFunctorOver, IsFunctor, IsClosed, env_behind, named, TakesName};
 
@@ -13,7 +13,6 @@ use crate::items::{exception_item, let_item, type_group, value_item};
 use crate::lists::add_origins;
 use crate::paths::{module_path, module_type_path};
 use crate::scenes::Scene;
-use decl_typing::{Depth, Env, NoMemory, NodeRef, Parameter, Parts, Variables};
 use env_table::{Entry, FaultKind, Kind, Origin, Sig, Template, What};
 use owned_lists::{owned, push, shared};
 use row_parts::{Operand, first_operand, operand_in, operands, token, tokens, tokens_or_missing};
@@ -23,6 +22,8 @@ use std::alloc::Global;
 use std::rc::Rc;
 use syntax_tree::{Node, RowName, Span, Token};
 use text_terms::RcStr;
+use type_reading::{Parameter, Variables, read_type};
+use typing_state::{Depth, Env, NoMemory, NodeRef, Parts};
 
 /// What a module expression comes to: its signature, and the origins that it makes.
 #[derive(Drop)]
@@ -854,7 +855,7 @@ fn clause_type(
         push(&mut parts, node)?;
         push(&mut parameters, Parameter { name, node })?;
     }
-    let body = at.read_type(ty, env, &Variables::Parameters(parameters), depth)?;
+    let body = read_type(at, ty, env, &Variables::Parameters(parameters), depth)?;
     if parts.is_empty() {
         return Ok(body);
     }

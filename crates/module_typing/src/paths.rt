@@ -1,13 +1,13 @@
 //! Paths to modules and module types.
-ghost use Rattle.decl_typing.specs.Goes.{Goes};
+ghost use Rattle.typing_state.specs.Goes.{Goes};
 
-use decl_typing::{Env, NoMemory, Parts};
 use env_table::{Entry, Kind, Sig, Template, What};
 use owned_lists::owned;
 use row_parts::written_path;
 use sig_template::{owned_sig, share_sig, share_template};
 use std::rc::Rc;
 use syntax_tree::Node;
+use typing_state::{Env, NoMemory, Parts};
 
 /// The signature of the module that a path in two slots of a node finds; what isn't found isn't known.
 pub fn module_path(

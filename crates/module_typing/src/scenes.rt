@@ -5,20 +5,20 @@ ghost use Rattle.std.specs.HashSet.{contains_text};
 ghost use Rattle.text_terms.specs.Bytes.{str_bytes};
 ghost use Rattle.env_table.specs.declared.entries.Kind.{Kind};
 ghost use Rattle.env_table.specs.Views.{names_in, inside_sig};
-ghost use Rattle.decl_typing.specs.Goes.{Goes, faults_of, OnlyFaults, OnlyIndex};
+ghost use Rattle.typing_state.specs.Goes.{Goes, faults_of, OnlyFaults, OnlyIndex};
 ghost use Rattle.sig_template.specs.Structures.{entries_of};
 ghost use Rattle.module_typing.specs.Listed.{seen_values, components_of};
-ghost use Rattle.decl_typing.specs.Copying.{paths_of};
+ghost use Rattle.type_reading.specs.Copying.{paths_of};
 ghost use Rattle.module_typing.specs.Scenes.{has_name, SameNames, NamesOne, OnlyNames, told_again, ToldTwice, repeated, with_names, AsksNew, AddsNamed, AddsEntry};
 
 use crate::lists::{add_entries, add_origins};
-use decl_typing::{Env, NoMemory, Parts};
 use env_table::{Entry, Kind, Origin, Sig, What};
 use owned_lists::{owned, push, shared};
 use std::alloc::{AllocError, Global};
 use std::collections::HashSet;
 use std::rc::Rc;
 use syntax_tree::{Span, Token};
+use typing_state::{Env, NoMemory, Parts};
 
 /// The names in scope behind the items so far, their components, the origins that they make, and the names of their types,
 /// modules and module types.

@@ -13,10 +13,10 @@ use Rattle.row_parts.specs.Numbered.{Numbered, operand_view, part_of, operands_i
 use Rattle.row_parts.specs.Folds.{tree_by, part_at, operand_by}
 use Rattle.row_parts.specs.declared.slots.Operand.{Operand}
 use Rattle.env_table.specs.declared.faults.FaultKind.TheVariants as fault
-use Rattle.decl_typing.specs.declared.parts.Parts.{Parts}
-use Rattle.decl_typing.specs.Goes.{Goes}
-use Rattle.decl_typing.specs.Steps.{records, each, Follows}
-use Rattle.decl_typing.proofs.Following.{follows_both}
+use Rattle.typing_state.specs.declared.parts.Parts.{Parts}
+use Rattle.typing_state.specs.Goes.{Goes}
+use Rattle.typing_state.specs.Steps.{records, each, Follows}
+use Rattle.typing_state.proofs.Following.{follows_both}
 use Rattle.pattern_typing.specs.declared.patterns.BoundName.{BoundName}
 use Rattle.pattern_typing.specs.declared.patterns.SideMatch.{SideMatch}
 use Rattle.pattern_typing.specs.Matching.{Binds, side_view, tokens_of}

@@ -10,9 +10,9 @@ use Rattle.syntax_tree.proofs.Views.{node_view_parts}
 use Rattle.row_parts.specs.Numbered.{Numbered, behind, operands_with_slots, operands_in, all_operands, in_slot, in_slots, first_of, filled_in, missing_at_end}
 use Rattle.row_parts.specs.Folds.{operand_by}
 use Rattle.row_parts.proofs.Folding.{comes_to, folds_from, slot_comes, slots_come}
-use Rattle.decl_typing.specs.declared.parts.Parts.{Parts}
-use Rattle.decl_typing.specs.Steps.{each, Follows}
-use Rattle.decl_typing.proofs.TypeLaws.{each_map}
+use Rattle.typing_state.specs.declared.parts.Parts.{Parts}
+use Rattle.typing_state.specs.Steps.{each, Follows}
+use Rattle.type_reading.proofs.TypeLaws.{each_map}
 use Rattle.pattern_typing.specs.declared.patterns.BoundName.{BoundName}
 use Rattle.use_typing.proofs.Reading.{same_follows}
 use Rattle.pattern_typing.specs.Matching.{Binds}

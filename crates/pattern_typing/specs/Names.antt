@@ -1,8 +1,8 @@
 -- What is told of the names that patterns bind.
 use Rattle.std.specs.Prelude.{List, Option, Some, None}
 use Rattle.token_model.specs.Kinds.{Tok}
-use Rattle.decl_typing.specs.declared.parts.Parts.{Parts}
-use Rattle.decl_typing.specs.Steps.{Silent}
+use Rattle.typing_state.specs.declared.parts.Parts.{Parts}
+use Rattle.typing_state.specs.Steps.{Silent}
 use Rattle.use_typing.specs.Labels.{TellsTwice, is_named_in}
 
 -- a name is told where it stands among those before it, and else nothing is

@@ -7,8 +7,8 @@ use Rattle.tree_model.specs.Rows.{Row, pname_row, pconst_row, pneg_row, pcon_row
 use Rattle.row_parts.specs.Numbered.{Numbered, behind, in_slot, in_slots, operands_in, all_operands, first_in, filled_in, first_of, token_in, path_in, missing_at_end}
 use Rattle.row_parts.specs.Folds.{Rule, operands_by, operand_by, tree_by}
 use Rattle.env_table.specs.declared.faults.FaultKind.TheVariants as fault
-use Rattle.decl_typing.specs.Steps.{Steps, asks, records, each}
-use Rattle.decl_typing.specs.TypeSteps.{constructor_steps}
+use Rattle.typing_state.specs.Steps.{Steps, asks, records, each}
+use Rattle.type_reading.specs.TypeSteps.{constructor_steps}
 use Rattle.use_typing.specs.UseSteps.{asks_equal, asks_equal_if, asks_token, range_steps, path_at, lost_steps, annotation_steps, labels_of, asks_labels}
 
 -- what an operand comes to: its steps as a pattern and the names that it binds, and the same as a field of a record pattern

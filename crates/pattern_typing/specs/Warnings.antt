@@ -4,7 +4,7 @@ use Rattle.tree_model.specs.Trees.{Place}
 use Rattle.tree_model.specs.Rows.{Row, etry_row}
 use Rattle.syntax_tree.specs.View.{place_of}
 use Rattle.env_table.specs.declared.faults.FaultKind.TheVariants as fault
-use Rattle.decl_typing.specs.Steps.{Steps, asks, each}
+use Rattle.typing_state.specs.Steps.{Steps, asks, each}
 use Rattle.pattern_typing.specs.declared.warnings.Rows.{Rows}
 
 -- what is missed, but not of a `try`

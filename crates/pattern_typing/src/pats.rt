@@ -1,5 +1,4 @@
 //! Patterns of the tree as rows of a match see them.
-use decl_typing::{Depth, Env, NoMemory, Parts, path_of};
 use env_table::{Constructor, Declaration, Entry, Found, Kind, Label, Path, Place, Shape, What};
 use owned_lists::{owned, push};
 use pattern_matrix::{Built, Pat};
@@ -9,6 +8,7 @@ use row_parts::{
 use std::alloc::{AllocError, Global};
 use std::rc::Rc;
 use syntax_tree::{Node, RcStr, RowName, Token, TokenKind};
+use typing_state::{Depth, Env, NoMemory, Parts, path_of};
 use use_typing::labels_in;
 
 fn name_of(alloc: Global, text: &str) -> Result<RcStr, NoMemory> {

@@ -1,15 +1,15 @@
 //! Patterns.
-#![tactic(auto, using(decl_typing::proofs::Going::goes_trans, decl_typing::proofs::Going::goes_refl, decl_typing::proofs::Following::follows_both, decl_typing::proofs::Following::follows_then, decl_typing::proofs::Following::follows_before, decl_typing::proofs::Following::follows_behind, decl_typing::proofs::Following::follows_silent, decl_typing::proofs::Following::store_silent, decl_typing::proofs::Following::ends_both, decl_typing::proofs::Following::ends_behind, decl_typing::proofs::Following::ends_before, decl_typing::proofs::Following::ends_silent, decl_typing::proofs::Following::gets_start, decl_typing::proofs::Following::gets_more, decl_typing::proofs::Following::gets_before, decl_typing::proofs::Following::gets_done, crate::proofs::Binding::binds_none, crate::proofs::Binding::binds_both, crate::proofs::Binding::binds_ends, crate::proofs::Binding::binds_one, crate::proofs::PatternLaws::slot_follows, crate::proofs::PatternLaws::slot_binds, crate::proofs::PatternLaws::slots_follow, crate::proofs::PatternLaws::slots_bind))]
+#![tactic(auto, using(typing_state::proofs::Going::goes_trans, typing_state::proofs::Going::goes_refl, typing_state::proofs::Following::follows_both, typing_state::proofs::Following::follows_then, typing_state::proofs::Following::follows_before, typing_state::proofs::Following::follows_behind, typing_state::proofs::Following::follows_silent, typing_state::proofs::Following::store_silent, typing_state::proofs::Following::ends_both, typing_state::proofs::Following::ends_behind, typing_state::proofs::Following::ends_before, typing_state::proofs::Following::ends_silent, typing_state::proofs::Following::gets_start, typing_state::proofs::Following::gets_more, typing_state::proofs::Following::gets_before, typing_state::proofs::Following::gets_done, crate::proofs::Binding::binds_none, crate::proofs::Binding::binds_both, crate::proofs::Binding::binds_ends, crate::proofs::Binding::binds_one, crate::proofs::PatternLaws::slot_follows, crate::proofs::PatternLaws::slot_binds, crate::proofs::PatternLaws::slots_follow, crate::proofs::PatternLaws::slots_bind))]
 
 ghost use Rattle.std.specs.Prelude.{◌≡◌, [], ◌∷◌, ◌++◌, List, map, option_map, None, Some, IfOk, OnOk};
 ghost use Rattle.tree_model.specs.Rows.{pparen_row, plist_row, precord_row, papp_row, pcons_row, ptuple_row, por_row, pas_row};
 ghost use Rattle.syntax_tree.specs.View.{place_of, tok_of, node_view};
 ghost use Rattle.row_parts.specs.Numbered.{all_operands, first_in, first_of, in_slot, in_slots, operand_view, operands_in, path_in, path_view, token_in};
 ghost use Rattle.env_table.specs.declared.faults.FaultKind.{FaultKind};
-ghost use Rattle.decl_typing.specs.Goes.{Goes};
-ghost use Rattle.decl_typing.specs.Notes.{IsRecorded};
-ghost use Rattle.decl_typing.specs.Steps.{asks, each, records, Follows, Silent};
-ghost use Rattle.decl_typing.specs.TypeSteps.{constructor_steps};
+ghost use Rattle.typing_state.specs.Goes.{Goes};
+ghost use Rattle.typing_state.specs.Notes.{IsRecorded};
+ghost use Rattle.typing_state.specs.Steps.{asks, each, records, Follows, Silent};
+ghost use Rattle.type_reading.specs.TypeSteps.{constructor_steps};
 ghost use Rattle.pattern_typing.specs.declared.patterns.BoundName.{BoundName};
 ghost use Rattle.use_typing.specs.Constants.{TellsRange, is_negated};
 ghost use Rattle.use_typing.specs.Labels.{toks_of};
@@ -19,7 +19,6 @@ ghost use Rattle.use_typing.specs.UseSteps.{annotation_steps, asks_equal, asks_e
 ghost use Rattle.pattern_typing.specs.PatternSteps.{beside, bound_as, common_names, construction_steps, field_pattern_names, field_pattern_steps, find_name, last_of, later, match_each, matched_as, matched_tree, name_of, names_in, names_of, names_of_first, names_of_tree, parts_of_pattern, pattern_names, pattern_steps, side_at, sides_beside, sides_of};
 ghost use Rattle.pattern_typing.specs.Matching.{Binds, side_view, tokens_of, typed_view};
 
-use decl_typing::{Depth, Env, NoMemory, NodeRef, Parts, new_entry, share_entry};
 use env_table::{Entry, Kind, What};
 use owned_lists::push;
 use row_parts::{
@@ -28,6 +27,7 @@ use row_parts::{
 use std::alloc::Global;
 use std::rc::Rc;
 use syntax_tree::{Node, RowName, Span, Token};
+use typing_state::{Depth, Env, NoMemory, NodeRef, Parts, new_entry, share_entry};
 use use_typing::{
     Fields, RecordType, Sign, as_written, begin_field, constant, constructor, equal_if, is_again,
     note_label, note_missing, record_of_fields, type_or_var, written_at,

@@ -1,22 +1,22 @@
 //! Match warnings: values that are missed, and cases that no value reaches.
-#![tactic(auto, using(decl_typing::proofs::Going::goes_trans, decl_typing::proofs::Going::goes_refl, decl_typing::proofs::Following::follows_both, decl_typing::proofs::Following::follows_before, decl_typing::proofs::Following::follows_behind, decl_typing::proofs::Following::follows_silent, decl_typing::proofs::Following::store_silent, decl_typing::proofs::Following::silent_refl, decl_typing::proofs::Following::silent_trans, decl_typing::proofs::Following::ends_both, decl_typing::proofs::Following::ends_behind, decl_typing::proofs::Following::ends_before, decl_typing::proofs::Following::ends_silent, decl_typing::proofs::Following::gets_start, decl_typing::proofs::Following::gets_more, decl_typing::proofs::Following::gets_before, decl_typing::proofs::Following::gets_done), unfolding(syntax_tree::specs::Names::row_of))]
+#![tactic(auto, using(typing_state::proofs::Going::goes_trans, typing_state::proofs::Going::goes_refl, typing_state::proofs::Following::follows_both, typing_state::proofs::Following::follows_before, typing_state::proofs::Following::follows_behind, typing_state::proofs::Following::follows_silent, typing_state::proofs::Following::store_silent, typing_state::proofs::Following::silent_refl, typing_state::proofs::Following::silent_trans, typing_state::proofs::Following::ends_both, typing_state::proofs::Following::ends_behind, typing_state::proofs::Following::ends_before, typing_state::proofs::Following::ends_silent, typing_state::proofs::Following::gets_start, typing_state::proofs::Following::gets_more, typing_state::proofs::Following::gets_before, typing_state::proofs::Following::gets_done), unfolding(syntax_tree::specs::Names::row_of))]
 
 ghost use Rattle.std.specs.Prelude.{◌≡◌, [], ◌∷◌, ◌++◌, map, OnOk};
 ghost use Rattle.syntax_tree.specs.Names.{row_of};
 ghost use Rattle.syntax_tree.specs.View.{place_of};
 ghost use Rattle.env_table.specs.declared.faults.FaultKind.{FaultKind};
-ghost use Rattle.decl_typing.specs.Goes.{Goes};
-ghost use Rattle.decl_typing.specs.Steps.{Follows, asks};
+ghost use Rattle.typing_state.specs.Goes.{Goes};
+ghost use Rattle.typing_state.specs.Steps.{Follows, asks};
 ghost use Rattle.pattern_typing.specs.Warnings.{spans_of, missed_steps, unused_steps, warning_steps};
 
 use crate::pats::pat_of;
-use decl_typing::{Depth, Env, NoMemory, Parts};
 use env_table::FaultKind;
 use owned_lists::push;
 use pattern_matrix::{Matrix, Pat, PatRow, missed, print_shape, unused_rows};
 use row_parts::Operand;
 use std::alloc::{AllocError, Global};
 use syntax_tree::{Node, Part, RcStr, RowName, Span};
+use typing_state::{Depth, Env, NoMemory, Parts};
 
 /// The rows of a match while its cases are typed.
 #[derive(Drop)]

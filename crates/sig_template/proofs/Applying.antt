@@ -5,7 +5,7 @@ use Rattle.type_nodes.specs.Nodes.{Node}
 use Rattle.level_unify.specs.Copies.{Extends}
 use Rattle.env_table.specs.declared.entries.Sig.{Sig}
 use Rattle.env_table.specs.declared.entries.Template.{Template}
-use Rattle.decl_typing.specs.Copying.{AreDeclared}
+use Rattle.type_reading.specs.Copying.{AreDeclared}
 use Rattle.sig_template.specs.declared.realising.Realised.{Realised}
 use Rattle.sig_template.specs.Ways.{sig_of}
 use Rattle.sig_template.specs.Changed.{made_of, IsChangedSig}

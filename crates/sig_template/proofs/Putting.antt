@@ -9,11 +9,11 @@ use Rattle.type_terms.specs.declared.types.Origin.{Origin}
 use Rattle.type_terms.specs.declared.types.NodeRef.{NodeRef}
 use Rattle.signature_model.specs.Changes.{among}
 use Rattle.type_nodes.specs.Readings.{Types}
-use Rattle.decl_typing.specs.declared.changes.Real.{Real}
-use Rattle.decl_typing.specs.declared.changes.Changes.{Changes}
-use Rattle.decl_typing.specs.declared.changes.Put.{Put}
-use Rattle.decl_typing.specs.declared.changes.Put.TheVariants as put
-use Rattle.decl_typing.specs.Copying.{declared, paths_of, real_or, put_of, real_at, change_by}
+use Rattle.type_reading.specs.declared.changes.Real.{Real}
+use Rattle.type_reading.specs.declared.changes.Changes.{Changes}
+use Rattle.type_reading.specs.declared.changes.Put.{Put}
+use Rattle.type_reading.specs.declared.changes.Put.TheVariants as put
+use Rattle.type_reading.specs.Copying.{declared, paths_of, real_or, put_of, real_at, change_by}
 use Rattle.sig_template.specs.Changed.{path_after, origin_after}
 use Rattle.sig_template.specs.Realising.{real_of}
 

@@ -28,10 +28,10 @@ use Rattle.env_table.specs.declared.entries.Sig.TheVariants as sig
 use Rattle.env_table.specs.declared.entries.Components.{Components, out-Components}
 use Rattle.env_table.specs.declared.entries.Template.{Template}
 use Rattle.env_table.specs.Views.{names_in, inside_sig}
-use Rattle.decl_typing.specs.declared.changes.Real.{Real}
-use Rattle.decl_typing.specs.declared.changes.Changes.{Changes}
-use Rattle.decl_typing.specs.declared.changes.Put.TheVariants as put
-use Rattle.decl_typing.specs.Copying.{paths_of, put_of}
+use Rattle.type_reading.specs.declared.changes.Real.{Real}
+use Rattle.type_reading.specs.declared.changes.Changes.{Changes}
+use Rattle.type_reading.specs.declared.changes.Put.TheVariants as put
+use Rattle.type_reading.specs.Copying.{paths_of, put_of}
 use Rattle.sig_template.specs.declared.realising.Realised.{Realised}
 use Rattle.sig_template.specs.Abstract.{made_here}
 use Rattle.sig_template.specs.Structures.{entries_of}
@@ -42,7 +42,7 @@ use Rattle.sig_template.specs.Finding.{made_by, IsBefore, AddsReal, IsUnknownFor
 use Rattle.sig_template.proofs.Staying.{unknown_before}
 use Rattle.sig_template.proofs.Putting.{has_real}
 use Rattle.sig_template.proofs.Within.{of_structure}
-use Rattle.decl_typing.proofs.Extending.{extends_trans}
+use Rattle.type_reading.proofs.Extending.{extends_trans}
 
 or_none : {A : Type 0} (x : Option A) → option_or x None ≡ x
 or_none None = refl

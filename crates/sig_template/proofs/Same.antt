@@ -20,8 +20,8 @@ use Rattle.env_table.specs.declared.entries.Template.{Template}
 use Rattle.type_terms.specs.declared.types.Origin.{Origin}
 use Rattle.type_terms.specs.Views.{path_of}
 use Rattle.type_nodes.specs.Readings.{Types}
-use Rattle.decl_typing.specs.declared.changes.Real.{Real}
-use Rattle.decl_typing.specs.Copying.{IsChanged, IsDeclared, AreDeclared, declared, real_at, paths_of}
+use Rattle.type_reading.specs.declared.changes.Real.{Real}
+use Rattle.type_reading.specs.Copying.{IsChanged, IsDeclared, AreDeclared, declared, real_at, paths_of}
 use Rattle.sig_template.specs.Structures.{entries_of}
 use Rattle.sig_template.specs.Ways.{sub}
 use Rattle.sig_template.specs.Changed.{made_of, origin_after, IsChangedConstructor, IsChangedLabel, IsChangedShape, IsChangedDeclaration, IsChangedWhat, IsChangedEntry, IsChangedOpened, IsChangedHere, IsChangedSig}

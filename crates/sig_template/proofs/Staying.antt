@@ -9,8 +9,8 @@ use Rattle.type_nodes.specs.Links.{linked_from, follow, root, reading}
 use Rattle.level_unify.specs.Walks.{StandsIn}
 use Rattle.level_unify.specs.Copies.{Extends}
 use Rattle.scheme_match.specs.Unknown.{HasUnknown}
-use Rattle.decl_typing.specs.declared.changes.Real.{Real}
-use Rattle.decl_typing.specs.Copying.{IsBehind, IsDeclared, AreDeclared, ReadsBound}
+use Rattle.type_reading.specs.declared.changes.Real.{Real}
+use Rattle.type_reading.specs.Copying.{IsBehind, IsDeclared, AreDeclared, ReadsBound}
 
 -- what stands in a node of before is one, and stood in it
 pub stands_before : (old new : List Node) (v n : ℕ) → IsSound old → Extends old new → n < length old → StandsIn new v n → (v < length old) × StandsIn old v n

@@ -12,13 +12,13 @@ use Rattle.type_nodes.specs.Nodes.{Node, IsNode}
 use Rattle.signature_model.specs.Changes.{Change}
 use Rattle.type_nodes.specs.Readings.{Types}
 use Rattle.level_unify.specs.Copies.{Extends}
-use Rattle.decl_typing.specs.declared.copies.Copies.{Copies}
-use Rattle.decl_typing.specs.declared.changes.Changes.{Changes}
-use Rattle.decl_typing.specs.declared.copies.Copying.{Copying}
-use Rattle.decl_typing.specs.declared.copies.ForBound.TheVariants as bound
-use Rattle.decl_typing.specs.declared.copies.ForUnknown.TheVariants as unknown
-use Rattle.decl_typing.specs.Copying.{IsChanged, KeepsCopies, LeavesVariables, change_by}
-use Rattle.decl_typing.proofs.Extending.{extends_refl, extends_trans, reading_before, stands_after, unbound_after}
+use Rattle.type_reading.specs.declared.copies.Copies.{Copies}
+use Rattle.type_reading.specs.declared.changes.Changes.{Changes}
+use Rattle.type_reading.specs.declared.copies.Copying.{Copying}
+use Rattle.type_reading.specs.declared.copies.ForBound.TheVariants as bound
+use Rattle.type_reading.specs.declared.copies.ForUnknown.TheVariants as unknown
+use Rattle.type_reading.specs.Copying.{IsChanged, KeepsCopies, LeavesVariables, change_by}
+use Rattle.type_reading.proofs.Extending.{extends_refl, extends_trans, reading_before, stands_after, unbound_after}
 use Rattle.sig_template.specs.Turns.{Stays, Turns}
 
 -- what was changed stays changed

@@ -10,7 +10,7 @@ use Rattle.type_terms.specs.declared.types.NodeRef.{NodeRef}
 use Rattle.type_terms.specs.declared.types.Origin.{Origin}
 use Rattle.signature_model.specs.Changes.{Change}
 use Rattle.type_nodes.specs.Readings.{Types}
-use Rattle.decl_typing.specs.declared.changes.Changes.{Changes}
+use Rattle.type_reading.specs.declared.changes.Changes.{Changes}
 use Rattle.env_table.specs.declared.entries.Constructor.{Constructor}
 use Rattle.env_table.specs.declared.entries.Declaration.{Declaration}
 use Rattle.env_table.specs.declared.entries.Sig.{Sig}
@@ -18,11 +18,11 @@ use Rattle.env_table.specs.declared.entries.Template.{Template, out-Template}
 use Rattle.env_table.specs.declared.entries.What.{What}
 use Rattle.env_table.specs.declared.entries.What as whats
 use Rattle.env_table.specs.declared.entries.What.TheVariants as what
-use Rattle.decl_typing.specs.Copying.{IsChanged, change_by, paths_of}
+use Rattle.type_reading.specs.Copying.{IsChanged, change_by, paths_of}
 use Rattle.sig_template.specs.Changed.{made_of, IsChangedConstructor, IsChangedDeclaration, IsChangedSig}
 use Rattle.sig_template.specs.Live.{IsLiveConstructor, IsLiveDeclaration, AreLive}
 use Rattle.sig_template.specs.Turns.{IsTurnedWhat, IsTurnedTemplate, IsLiveWithin, IsLiveTemplate}
-use Rattle.decl_typing.specs.declared.copies.Copies.{Copies}
+use Rattle.type_reading.specs.declared.copies.Copies.{Copies}
 use Rattle.env_table.specs.declared.entries.Entry.{Entry}
 use Rattle.env_table.specs.declared.entries.Components.{Components, out-Components}
 use Rattle.env_table.specs.declared.entries.Sig.TheVariants as sig

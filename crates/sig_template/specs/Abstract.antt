@@ -15,7 +15,7 @@ use Rattle.env_table.specs.declared.entries.Entry.{Entry}
 use Rattle.env_table.specs.declared.entries.Sig.TheOpen.{What-F}
 use Rattle.env_table.specs.declared.entries.Template.{Template}
 use Rattle.env_table.specs.Views.{is_named, names_in, inside_sig}
-use Rattle.decl_typing.specs.Copying.{paths_of}
+use Rattle.type_reading.specs.Copying.{paths_of}
 
 -- an origin that is one of those made
 abbrev pub made_here : List Path → Option Origin → Option Path

@@ -18,7 +18,7 @@ use Rattle.env_table.specs.declared.entries.Sig.{Sig, out-Sig}
 use Rattle.env_table.specs.declared.entries.Sig.TheOpen.{Sig-F, What-F}
 use Rattle.env_table.specs.declared.entries.Components.{Components, out-Components}
 use Rattle.env_table.specs.declared.entries.Template.{Template, out-Template}
-use Rattle.decl_typing.specs.Copying.{paths_of, IsChanged}
+use Rattle.type_reading.specs.Copying.{paths_of, IsChanged}
 use Rattle.sig_template.specs.Structures.{entries_of}
 use Rattle.sig_template.specs.Ways.{Step, sub}
 

@@ -14,7 +14,7 @@ use Rattle.env_table.specs.declared.entries.Declaration.{Declaration}
 use Rattle.env_table.specs.declared.entries.Entry.{Entry}
 use Rattle.env_table.specs.declared.entries.Sig.{Sig}
 use Rattle.env_table.specs.Views.{is_named, names_in, inside_sig}
-use Rattle.decl_typing.specs.declared.changes.Real.{Real}
+use Rattle.type_reading.specs.declared.changes.Real.{Real}
 use Rattle.sig_template.specs.declared.realising.Actual.{Actual}
 use Rattle.sig_template.specs.declared.realising.Actual.TheVariants as actual
 use Rattle.sig_template.specs.Abstract.{made_here}

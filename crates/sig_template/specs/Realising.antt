@@ -23,8 +23,8 @@ use Rattle.env_table.specs.declared.entries.Sig.{Sig, out-Sig}
 use Rattle.env_table.specs.declared.entries.Sig.TheOpen.{Sig-F, What-F}
 use Rattle.env_table.specs.declared.entries.Template.{Template}
 use Rattle.env_table.specs.Views.{is_named, names_in, inside_sig}
-use Rattle.decl_typing.specs.declared.changes.Real.{Real}
-use Rattle.decl_typing.specs.Copying.{real_at, change_by, AreDeclared}
+use Rattle.type_reading.specs.declared.changes.Real.{Real}
+use Rattle.type_reading.specs.Copying.{real_at, change_by, AreDeclared}
 use Rattle.sig_template.specs.declared.realising.Realised.{Realised}
 use Rattle.sig_template.specs.Structures.{entries_of}
 use Rattle.sig_template.specs.Ways.{sig_of, components_of}

@@ -3,10 +3,10 @@ use Rattle.std.specs.Prelude.{◌≡◌, List, map}
 use Rattle.type_nodes.specs.Nodes.{Node}
 use Rattle.signature_model.specs.Changes.{Change}
 use Rattle.type_nodes.specs.Readings.{Types}
-use Rattle.decl_typing.specs.declared.changes.Changes.{Changes}
+use Rattle.type_reading.specs.declared.changes.Changes.{Changes}
 use Rattle.level_unify.specs.Copies.{Extends}
-use Rattle.decl_typing.specs.declared.copies.Copies.{Copies}
-use Rattle.decl_typing.specs.Copying.{KeepsCopies}
+use Rattle.type_reading.specs.declared.copies.Copies.{Copies}
+use Rattle.type_reading.specs.Copying.{KeepsCopies}
 use Rattle.env_table.specs.declared.entries.What.{What, out-What}
 use Rattle.env_table.specs.declared.entries.Entry.{Entry}
 use Rattle.env_table.specs.declared.entries.Template.{Template}

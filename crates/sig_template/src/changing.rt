@@ -4,24 +4,24 @@ ghost use Rattle.std.specs.List.{AllZip};
 ghost use Rattle.type_terms.specs.Views.{path_of};
 ghost use Rattle.type_nodes.specs.Nodes.{Node, IsNode};
 ghost use Rattle.type_nodes.specs.Readings.{Types};
-ghost use Rattle.decl_typing.specs.Goes.{Goes};
-ghost use Rattle.decl_typing.specs.Copying.{change_by, paths_of, AreDeclared, IsChanged};
+ghost use Rattle.typing_state.specs.Goes.{Goes};
+ghost use Rattle.type_reading.specs.Copying.{change_by, paths_of, AreDeclared, IsChanged};
 ghost use Rattle.sig_template.specs.Ways.{components_of};
 ghost use Rattle.sig_template.specs.Changed.{origin_after, IsChangedConstructor, IsChangedLabel, IsChangedShape, IsChangedDeclaration, IsChangedSig};
 ghost use Rattle.sig_template.specs.Live.{IsLiveConstructor, IsLiveLabel, IsLiveShape, IsLiveDeclaration, AreLive};
 ghost use Rattle.sig_template.specs.Turns.{Turns, IsTurnedWhat, IsTurnedEntry, IsTurnedTemplate, IsLiveWithin, IsLiveThrough, IsLiveTemplate};
 
 use crate::shared::share_declaration;
-use decl_typing::{
-    Changes, Copies, Copying, Depth, ForBound, ForUnknown, NoMemory, NodeRef, Parts, Put,
-    copied_origin, in_front, is_among,
-};
 use env_table::{
     Components, Constructor, Declaration, Entry, Label, Origin, Shape, Sig, Template, What,
 };
 use owned_lists::{owned, push};
 use std::rc::Rc;
 use type_nodes::View;
+use type_reading::{
+    Changes, Copies, Copying, ForBound, ForUnknown, Put, copied_origin, in_front, is_among,
+};
+use typing_state::{Depth, NoMemory, NodeRef, Parts};
 
 /// A change under way.
 #[derive(Clone, Copy)]

@@ -1,9 +1,9 @@
 //! Signatures with other paths and types in the place of origins: made anew at a node, realised by another signature, with a type
 //! given by `with`, and applied.
-//! It stands on the copies of types in `decl_typing` and on the signatures of `env_table`.
+//! It stands on the copies of types in `type_reading` and on the signatures of `env_table`.
 //! Above, `made_at` makes a template anew at a node, `with_type` gives one of its abstract types, `realisation` tells which types of an
 //! actual signature stand for the origins of a wanted one, `changed` puts them in, and `applied` is the body of a functor for an argument.
-#![tactic(auto, using(decl_typing::proofs::Going::goes_trans, decl_typing::proofs::Going::goes_refl))]
+#![tactic(auto, using(typing_state::proofs::Going::goes_trans, typing_state::proofs::Going::goes_refl))]
 
 mod changing;
 mod realising;

@@ -9,19 +9,19 @@ ghost use Rattle.scheme_match.specs.Unknown.{HasUnknown};
 ghost use Rattle.env_table.specs.declared.entries.What.{out-What};
 ghost use Rattle.env_table.specs.declared.entries.Entry.{Entry as PlainEntry};
 ghost use Rattle.env_table.specs.Views.{kind_of};
-ghost use Rattle.decl_typing.specs.Goes.{Goes};
-ghost use Rattle.decl_typing.specs.Copying.{paths_of, AreDeclared};
+ghost use Rattle.typing_state.specs.Goes.{Goes};
+ghost use Rattle.type_reading.specs.Copying.{paths_of, AreDeclared};
 ghost use Rattle.sig_template.specs.Realising.{Realises, a_declaration, an_unknown, declared_by, module_by, side_of, side_in, inner_side, newest_declared, given_for};
 ghost use Rattle.sig_template.specs.Finding.{side_at, newest_on, made_by, IsBefore, AddsReal, IsUnknownFor, Gives, Finding, FindingAll};
 
 use crate::shared::no_changes;
-use decl_typing::{
-    Changes, Copies, Depth, ForBound, ForUnknown, NoMemory, NodeRef, Parts, Put, Real,
-    copied_origin, is_among, unchanged,
-};
 use env_table::{Declaration, Entry, Kind, Origin, Sig, Template, What};
 use owned_lists::push;
 use std::rc::Rc;
+use type_reading::{
+    Changes, Copies, ForBound, ForUnknown, Put, Real, copied_origin, is_among, unchanged,
+};
+use typing_state::{Depth, NoMemory, NodeRef, Parts};
 
 /// The types of origins. The unknown types in them are open until they are closed.
 #[derive(Drop)]

@@ -1,10 +1,11 @@
 //! Further owners.
 ghost use Rattle.std.specs.Prelude.{◌≡◌, [], IfOk};
 
-use decl_typing::{Changes, NoMemory, Parts};
 use env_table::{Declaration, Sig, Template};
 use owned_lists::shared;
 use std::rc::Rc;
+use type_reading::Changes;
+use typing_state::{NoMemory, Parts};
 
 pub fn share_declaration(declaration: &Rc<Declaration>) -> Result<Rc<Declaration>, NoMemory>
     ensures { IfOk result (λ r. r.value ≡ declaration.now.value) }

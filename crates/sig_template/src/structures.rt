@@ -7,13 +7,13 @@ ghost use Rattle.env_table.specs.declared.entries.Entry.{Entry};
 ghost use Rattle.env_table.specs.Views.{inside_sig, names_in};
 ghost use Rattle.sig_template.specs.Structures.{is_replaced, newest_alone, AreMet, entries_of};
 
-use decl_typing::NoMemory;
 use env_table::{Components, Entry, Sig, What};
 use owned_lists::{owned, push, shared};
 use std::alloc::{AllocError, Global};
 use std::collections::HashSet;
 use std::rc::Rc;
 use text_terms::RcStr;
+use typing_state::NoMemory;
 
 /// The names that were met, by the kind of what they stand for.
 #[derive(Drop)]

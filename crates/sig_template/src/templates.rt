@@ -3,8 +3,8 @@ ghost use Rattle.std.specs.Prelude.{◌≡◌, IfOk, IfSome, option_map};
 ghost use Rattle.type_terms.specs.Views.{path_of};
 ghost use Rattle.signature_model.specs.Changes.{in_front, realised};
 ghost use Rattle.signature_model.specs.Templates.{origins_at, without, only};
-ghost use Rattle.decl_typing.specs.Goes.{Goes};
-ghost use Rattle.decl_typing.specs.Copying.{paths_of, declared, IsDeclared};
+ghost use Rattle.typing_state.specs.Goes.{Goes};
+ghost use Rattle.type_reading.specs.Copying.{paths_of, declared, IsDeclared};
 ghost use Rattle.sig_template.specs.Realising.{IsApplied};
 ghost use Rattle.sig_template.specs.Changed.{IsChangedSig};
 ghost use Rattle.sig_template.specs.Live.{AreLive};
@@ -13,10 +13,11 @@ ghost use Rattle.sig_template.specs.Abstract.{abstract_declared, abstract_of, ab
 use crate::changing::changed;
 use crate::realising::realisation;
 use crate::shared::{no_changes, share_sig};
-use decl_typing::{Changes, NoMemory, NodeRef, Parts, Real, copied_origin, in_front, is_among};
 use env_table::{Declaration, Entry, Kind, Origin, Shape, Sig, Template, What};
 use owned_lists::{owned, push};
 use std::rc::Rc;
+use type_reading::{Changes, Real, copied_origin, in_front, is_among};
+use typing_state::{NoMemory, NodeRef, Parts};
 
 /// Copies of origins, in their order.
 pub fn copied_origins(at: &Parts, origins: &[Origin]) -> Result<Vec<Origin>, NoMemory>

@@ -12,9 +12,9 @@ use Rattle.env_table.specs.declared.entries.Sig.{Sig}
 use Rattle.env_table.specs.declared.entries.Sig.TheOpen.{Template-F}
 use Rattle.env_table.specs.declared.entries.Template.{Template, out-Template, roll-Template, out-roll-Template}
 use Rattle.env_table.specs.declared.entries.What.{What}
-use Rattle.decl_typing.specs.declared.changes.Changes.{Changes}
-use Rattle.decl_typing.specs.declared.changes.Real.{Real}
-use Rattle.decl_typing.specs.Copying.{paths_of, change_by, real_at, AreDeclared}
+use Rattle.type_reading.specs.declared.changes.Changes.{Changes}
+use Rattle.type_reading.specs.declared.changes.Real.{Real}
+use Rattle.type_reading.specs.Copying.{paths_of, change_by, real_at, AreDeclared}
 use Rattle.sig_template.specs.declared.realising.Realised.{Realised}
 use Rattle.sig_template.specs.Ways.{sig_of}
 use Rattle.sig_template.specs.Live.{AreLive}

@@ -4,7 +4,7 @@ use Rattle.type_nodes.specs.Nodes.{Node}
 use Rattle.signature_model.specs.Changes.{in_front}
 use Rattle.env_table.specs.declared.entries.Sig.{Sig}
 use Rattle.env_table.specs.declared.entries.Template.{Template, out-Template}
-use Rattle.decl_typing.specs.Copying.{change_by}
+use Rattle.type_reading.specs.Copying.{change_by}
 use Rattle.sig_template.specs.declared.realising.Realised.{Realised}
 use Rattle.sig_template.specs.Ways.{sig_of}
 use Rattle.sig_template.specs.Live.{AreLive}

@@ -5,10 +5,10 @@ ghost use Rattle.text_terms.specs.Bytes.{str_bytes};
 ghost use Rattle.signature_model.specs.Failing.{blame, inside};
 ghost use Rattle.signature_match.specs.Blames.{cause_of, blame_of};
 
-use decl_typing::NoMemory;
 use owned_lists::push;
 use std::alloc::{AllocError, Global};
 use text_terms::RcStr;
+use typing_state::NoMemory;
 
 /// What is wrong with a component.
 #[derive(Clone, Copy, Debug, PartialEq, Eq)]

@@ -4,14 +4,15 @@ ghost use Rattle.std.specs.List.{AllZip};
 ghost use Rattle.type_nodes.specs.Nodes.{IsNode};
 ghost use Rattle.scheme_match.specs.Covering.{Compared};
 ghost use Rattle.scheme_match.specs.Unknown.{HasUnknown};
-ghost use Rattle.decl_typing.specs.Goes.{Goes};
+ghost use Rattle.typing_state.specs.Goes.{Goes};
 ghost use Rattle.signature_match.specs.Shapes.{ConstructorsFit, LabelsFit, ShapesFit};
 ghost use Rattle.signature_match.specs.Values.{AreComparable};
 ghost use Rattle.signature_match.specs.Comparing.{ComparesRoots, ComparesConstructor, ComparesConstructors, ComparesLabel, ComparesLabels, ComparesShapes, ComparesDeclarations, ComparesExceptions};
 
-use decl_typing::{Changes, Copies, ForBound, ForUnknown, NoMemory, NodeRef, Parts, unchanged};
 use env_table::{Constructor, Declaration, Label, Shape};
 use owned_lists::push;
+use type_reading::{Changes, Copies, ForBound, ForUnknown, filled, unchanged};
+use typing_state::{NoMemory, NodeRef, Parts};
 
 /// A copy of a type with something for its bound variables and its unknown types.
 fn copied(
@@ -51,7 +52,7 @@ fn over(
     if declaration.arity == 0 {
         return Ok(instance);
     }
-    at.filled(instance, arguments)
+    filled(at, instance, arguments)
 }
 
 fn rigid_arguments(at: &mut Parts, arity: u32) -> Result<Vec<NodeRef>, NoMemory>

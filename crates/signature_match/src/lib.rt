@@ -4,7 +4,7 @@
 //! are met, the weak variables that the match needs are bound. A contract sees a mismatch as its path and cause (`blame_of`), and what
 //! is told as `TellsMatch`: with which signature a template's origins are realised, which components are compared, by the newest of their
 //! names, what follows, and at which readings of the types it is so.
-#![tactic(auto, using(decl_typing::proofs::Going::goes_trans, decl_typing::proofs::Going::goes_refl))]
+#![tactic(auto, using(typing_state::proofs::Going::goes_trans, typing_state::proofs::Going::goes_refl))]
 
 mod causes;
 mod compare;

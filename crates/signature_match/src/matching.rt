@@ -3,8 +3,8 @@ ghost use Rattle.std.specs.Prelude.{◌≡◌, ◌+◌, ◌^◌, ◌-◌, map, o
 ghost use Rattle.text_terms.specs.Bytes.{str_bytes};
 ghost use Rattle.signature_model.specs.Failing as rules;
 ghost use Rattle.signature_model.specs.Matching.{new_number};
-ghost use Rattle.decl_typing.specs.Copying.{paths_of};
-ghost use Rattle.decl_typing.specs.Goes.{Goes};
+ghost use Rattle.type_reading.specs.Copying.{paths_of};
+ghost use Rattle.typing_state.specs.Goes.{Goes};
 ghost use Rattle.sig_template.specs.Ways.{sig_of};
 ghost use Rattle.signature_match.specs.Blames.{cause_of, blame_of, unless, MayFail};
 ghost use Rattle.signature_match.specs.Newest.{newest_value, newest_type, newest_exception, newest_module, newest_module_type, exception_in, exception_named};
@@ -14,12 +14,13 @@ ghost use Rattle.signature_match.specs.Telling.{TellsValue, TellsType, TellsExce
 
 use crate::causes::{Cause, Mismatch};
 use crate::compare::{covers, declares, same_exception};
-use decl_typing::{Changes, Depth, NoMemory, NodeRef, Parts};
 use env_table::{Constructor, Declaration, Entry, Kind, Sig, Template, What};
 use owned_lists::shared;
 use sig_template::{changed, copied_origins, made_at, realisation};
 use std::alloc::AllocError;
 use std::rc::Rc;
+use type_reading::Changes;
+use typing_state::{Depth, NoMemory, NodeRef, Parts};
 
 /// The numbers from this one on are no node's: the origins of wanted parameters get them, each by the functors that stand
 /// round it.

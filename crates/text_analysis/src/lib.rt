@@ -2,7 +2,7 @@
 //! It stands on the parser and on the typing of items.
 //! Above, `analyse` takes the tree of a text and gives the store of its types, what is recorded for each node and missing operand,
 //! the faults in the order of their demands, the names in scope behind the last item, and the variables that are free in these.
-#![tactic(auto, using(decl_typing::proofs::Going::goes_trans, decl_typing::proofs::Going::goes_refl))]
+#![tactic(auto, using(typing_state::proofs::Going::goes_trans, typing_state::proofs::Going::goes_refl))]
 
 mod prelude;
 mod weak;

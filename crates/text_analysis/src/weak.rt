@@ -1,9 +1,9 @@
 //! Weak variables: those that are free in the types of the names behind the last item.
-use decl_typing::{Depth, NoMemory, NodeRef, Parts};
 use env_table::{Entries, Entry, Env, Sig, What};
 use owned_lists::push;
 use std::collections::HashSet;
 use type_nodes::View;
+use typing_state::{Depth, NoMemory, NodeRef, Parts};
 
 /// The level that is kept for bound variables.
 const BOUND: u32 = 4_294_967_295;

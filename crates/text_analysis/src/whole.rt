@@ -1,10 +1,9 @@
 //! The analysis of a whole text.
-ghost use Rattle.decl_typing.specs.Goes.{Goes};
+ghost use Rattle.typing_state.specs.Goes.{Goes};
 ghost use Rattle.syntax_tree.specs.Tallies.{Grows};
 
 use crate::prelude::PRELUDE;
 use crate::weak::weak_variables;
-use decl_typing::{Depth, Env, NoMemory, NodeRef, Parts};
 use env_table::{Faults, Seen};
 use frame_parser::{Text, parse};
 use ml_lexer::lex_all;
@@ -14,6 +13,7 @@ use std::alloc::{AllocError, Global};
 use syntax_tree::{Counts, Tree};
 use type_nodes::Store;
 use typed_index::TypedIndex;
+use typing_state::{Depth, Env, NoMemory, NodeRef, Parts};
 
 /// What is found of a text's types and names.
 #[derive(Drop)]

@@ -1,5 +1,5 @@
 //! Uses of values, constructors and labels by their paths.
-#![tactic(auto, using(decl_typing::proofs::Going::goes_trans, decl_typing::proofs::Going::goes_refl, decl_typing::proofs::Following::follows_both, decl_typing::proofs::Following::follows_before, decl_typing::proofs::Following::follows_behind, decl_typing::proofs::Following::follows_silent, decl_typing::proofs::Following::store_silent, decl_typing::proofs::Following::silent_refl, decl_typing::proofs::Following::silent_trans, decl_typing::proofs::Following::ends_both, decl_typing::proofs::Following::ends_behind, decl_typing::proofs::Following::ends_before, decl_typing::proofs::Following::ends_silent))]
+#![tactic(auto, using(typing_state::proofs::Going::goes_trans, typing_state::proofs::Going::goes_refl, typing_state::proofs::Following::follows_both, typing_state::proofs::Following::follows_before, typing_state::proofs::Following::follows_behind, typing_state::proofs::Following::follows_silent, typing_state::proofs::Following::store_silent, typing_state::proofs::Following::silent_refl, typing_state::proofs::Following::silent_trans, typing_state::proofs::Following::ends_both, typing_state::proofs::Following::ends_behind, typing_state::proofs::Following::ends_before, typing_state::proofs::Following::ends_silent))]
 
 ghost use Rattle.std.specs.Prelude.{◌≡◌, true, Some, IfNone, IfOk, IfSome, OnOk, option_map, option_and_then};
 ghost use Rattle.type_nodes.specs.Nodes.{Node as plain};
@@ -7,16 +7,16 @@ ghost use Rattle.type_nodes.specs.Links.{reading};
 ghost use Rattle.std.specs.Option.{option_copied};
 ghost use Rattle.row_parts.specs.Numbered.{path_view};
 ghost use Rattle.env_table.specs.declared.faults.FaultKind.{FaultKind};
-ghost use Rattle.decl_typing.specs.Goes.{Goes, OnlyFaults};
-ghost use Rattle.decl_typing.specs.Steps.{Follows, Silent, asks_at_last, asks_bound};
-ghost use Rattle.decl_typing.specs.TypeSteps.{constructor_steps};
+ghost use Rattle.typing_state.specs.Goes.{Goes, OnlyFaults};
+ghost use Rattle.typing_state.specs.Steps.{Follows, Silent, asks_at_last, asks_bound};
+ghost use Rattle.type_reading.specs.TypeSteps.{constructor_steps};
 ghost use Rattle.env_table.specs.declared.entries.Kind.{Kind};
 ghost use Rattle.use_typing.specs.Uses.{BuildsBy, BuildsIf, BuildsNew, IsNoArrow, TellsCountsLast, taken_by, LastHas, TellsBound, TellsUse, UsesScheme, SidesOf, UsesLabel, UsesLabelIf, label_named, constructor_in, constructor_named, label_in, scheme_in};
 
-use decl_typing::{Entry, Env, NoMemory, NodeRef, Parts};
 use env_table::{Constructor, Kind, Label, Shape, What};
 use row_parts::WrittenPath;
 use std::rc::Rc;
+use typing_state::{Entry, Env, NoMemory, NodeRef, Parts};
 
 /// What the name tokens of a node stand for, in text order.
 pub type Names = Vec<Option<Rc<Entry>>>;

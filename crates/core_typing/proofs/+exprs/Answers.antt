@@ -4,10 +4,10 @@ use Rattle.syntax_tree.specs.Names.{row_of}
 use Rattle.syntax_tree.specs.View.{node_view, place_of, tok_of}
 use Rattle.syntax_tree.specs.declared.tree.Node.{out-Node}
 use Rattle.row_parts.specs.Numbered.{operand_view, path_view, filled_in, operands_in}
-use Rattle.decl_typing.specs.Steps.{records, each, Follows, GetsOn, asks}
-use Rattle.decl_typing.proofs.Going.{goes_trans}
-use Rattle.decl_typing.proofs.Following.{ends_both, ends_before, follows_both, follows_behind, gets_more, store_silent, follows_before, follows_none, ends_behind}
-use Rattle.decl_typing.proofs.TypeLaws.{drop_read}
+use Rattle.typing_state.specs.Steps.{records, each, Follows, GetsOn, asks}
+use Rattle.typing_state.proofs.Going.{goes_trans}
+use Rattle.typing_state.proofs.Following.{ends_both, ends_before, follows_both, follows_behind, gets_more, store_silent, follows_before, follows_none, ends_behind}
+use Rattle.type_reading.proofs.TypeLaws.{drop_read}
 use Rattle.core_typing.specs.declared.exprs.RowForm.TheVariants as form
 use Rattle.core_typing.specs.ExpressionSteps.{argument_steps, arguments_steps, behind_parts, constructed_steps, expression_at, expression_steps, part_steps, parts_from, recorded_constructor, row_at, steps_as, typed_as, unrecorded_steps, cases_at, expression_case, parameter_steps, typed_as_if, typed_pattern, unused_case, expression_field, field_steps, fields_steps, typed_if, turn_steps, bindings_at, bound_pattern, right_at, whole_steps}
 use Rattle.core_typing.proofs.ExpressionLaws.{each_typed, follows_more, operand_missing, operand_there, operation_as, plain_as, skips_arguments}
@@ -20,7 +20,7 @@ use Rattle.pattern_typing.specs.PatternSteps.{pattern_steps}
 use Rattle.core_typing.specs.declared.records.Pieces.{Pieces}
 use Rattle.core_typing.specs.RecordView.{record_parts}
 use Rattle.core_typing.proofs.RecordLaws.{field_is, field_lost, record_is}
-use Rattle.decl_typing.specs.declared.parts.Parts.{Parts}
+use Rattle.typing_state.specs.declared.parts.Parts.{Parts}
 use Rattle.core_typing.specs.Concluding.{conclusion}
 use Rattle.core_typing.proofs.BindingLaws.{first_gets, let_follow, no_token, right_follow, some_token}
 use Rattle.use_typing.specs.Constants.{is_negated}

@@ -2,8 +2,8 @@ use Rattle.std.proofs.Common.{◌≡◌, ◌++◌, ◌+◌, ◌*◌, map, drop, 
 use Rattle.syntax_tree.specs.Names.{row_of}
 use Rattle.syntax_tree.specs.View.{place_of}
 use Rattle.row_parts.specs.Numbered.{operand_view}
-use Rattle.decl_typing.specs.Goes.{Goes}
-use Rattle.decl_typing.specs.Steps.{each, GetsOn}
+use Rattle.typing_state.specs.Goes.{Goes}
+use Rattle.typing_state.specs.Steps.{each, GetsOn}
 use Rattle.pattern_typing.specs.Warnings.{spans_of, unused_steps}
 use Rattle.core_typing.specs.ExpressionSteps.{arguments_steps, expression_at, expression_case, expression_steps, fields_steps, parts_from, turn_steps, unused_case}
 use Rattle.core_typing.specs.Concluding.{conclusion}

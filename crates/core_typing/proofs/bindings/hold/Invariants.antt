@@ -1,5 +1,5 @@
-use Rattle.decl_typing.specs.Goes.{Goes}
-use Rattle.decl_typing.specs.Steps.{Silent}
+use Rattle.typing_state.specs.Goes.{Goes}
+use Rattle.typing_state.specs.Steps.{Silent}
 use Rattle.core_typing.proofs.bindings.hold.Given as goal
 
 abbrev pub invariant-loop-name : goal.invariant-loop-name

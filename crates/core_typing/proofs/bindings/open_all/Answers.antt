@@ -1,7 +1,7 @@
 use Rattle.std.proofs.Common.{◌<◌, length, arith}
 use Rattle.row_parts.specs.Numbered.{operand_view}
-use Rattle.decl_typing.specs.Steps.{each}
-use Rattle.decl_typing.proofs.Going.{goes_trans}
+use Rattle.typing_state.specs.Steps.{each}
+use Rattle.typing_state.proofs.Going.{goes_trans}
 use Rattle.core_typing.specs.Concluding.{conclusion}
 use Rattle.core_typing.specs.ExpressionSteps.{concluded_steps, expression_at, opened_steps}
 use Rattle.core_typing.proofs.GroupLaws.{steps_read}

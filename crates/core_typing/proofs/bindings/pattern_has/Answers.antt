@@ -2,8 +2,8 @@ use Rattle.std.proofs.Common.{[], ◌∷◌, subst}
 use Rattle.std.specs.Prelude.{OnOk}
 use Rattle.row_parts.specs.Numbered.{operand_view}
 use Rattle.env_table.specs.declared.faults.FaultKind.TheVariants as fault
-use Rattle.decl_typing.specs.Steps.{asks, Follows}
-use Rattle.decl_typing.proofs.Following.{ends_both}
+use Rattle.typing_state.specs.Steps.{asks, Follows}
+use Rattle.typing_state.proofs.Following.{ends_both}
 use Rattle.use_typing.specs.UseSteps.{asks_equal}
 use Rattle.core_typing.specs.ExpressionSteps.{whole_steps}
 use Rattle.core_typing.proofs.bindings.pattern_has.Goals as goal

@@ -1,5 +1,5 @@
-use Rattle.decl_typing.specs.Goes.{Goes}
-use Rattle.decl_typing.specs.Steps.{Silent}
+use Rattle.typing_state.specs.Goes.{Goes}
+use Rattle.typing_state.specs.Steps.{Silent}
 use Rattle.core_typing.proofs.functions.arrows.Given as goal
 
 abbrev pub invariant-loop-parameter : goal.invariant-loop-parameter

@@ -1,9 +1,9 @@
 use Rattle.std.proofs.Common.{◌+◌, ◌<◌, length, map, drop, subst, arith}
 use Rattle.row_parts.specs.Numbered.{operand_view}
-use Rattle.decl_typing.specs.Steps.{each, GetsOn}
-use Rattle.decl_typing.proofs.Going.{goes_trans}
-use Rattle.decl_typing.proofs.Following.{gets_more}
-use Rattle.decl_typing.proofs.TypeLaws.{drop_read}
+use Rattle.typing_state.specs.Steps.{each, GetsOn}
+use Rattle.typing_state.proofs.Going.{goes_trans}
+use Rattle.typing_state.proofs.Following.{gets_more}
+use Rattle.type_reading.proofs.TypeLaws.{drop_read}
 use Rattle.core_typing.specs.ExpressionSteps.{parameter_steps}
 use Rattle.core_typing.proofs.functions.type_parameters.Goals as goal
 

@@ -1,8 +1,8 @@
 use Rattle.std.proofs.Common.{refl}
 use Rattle.syntax_tree.specs.Names.{row_of}
 use Rattle.row_parts.specs.Numbered.{operand_view}
-use Rattle.decl_typing.proofs.Going.{goes_refl}
-use Rattle.decl_typing.proofs.Following.{follows_silent}
+use Rattle.typing_state.proofs.Going.{goes_refl}
+use Rattle.typing_state.proofs.Following.{follows_silent}
 use Rattle.core_typing.specs.ExpressionSteps.{expression_at, behind_part_steps}
 use Rattle.core_typing.proofs.ExpressionLaws.{behind_part_no_record}
 use Rattle.core_typing.proofs.plain.behind_part.Goals as goal

@@ -1,5 +1,5 @@
 use Rattle.std.proofs.Common.{sym, subst}
-use Rattle.decl_typing.specs.Steps.{Follows, each}
+use Rattle.typing_state.specs.Steps.{Follows, each}
 use Rattle.core_typing.specs.ExpressionSteps.{has_type}
 use Rattle.core_typing.proofs.ExpressionLaws.{asked_third, asked_second}
 use Rattle.core_typing.proofs.plain.branches.Goals as goal

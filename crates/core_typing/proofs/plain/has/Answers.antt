@@ -1,6 +1,6 @@
 use Rattle.std.proofs.Common.{◌<◌, length, sym, subst, refl, arith}
 use Rattle.std.proofs.lemmas.Option.{slice_get_read}
-use Rattle.decl_typing.specs.Steps.{Follows, each}
+use Rattle.typing_state.specs.Steps.{Follows, each}
 use Rattle.core_typing.specs.ExpressionSteps.{has_type}
 use Rattle.core_typing.proofs.ExpressionLaws.{part_read}
 use Rattle.core_typing.proofs.plain.has.Goals as goal

@@ -1,8 +1,8 @@
 use Rattle.std.proofs.Common.{◌<◌, ◌+◌, length, map, drop, subst, arith}
 use Rattle.row_parts.specs.Numbered.{operand_view}
-use Rattle.decl_typing.specs.Steps.{each, GetsOn}
-use Rattle.decl_typing.proofs.Going.{goes_trans}
-use Rattle.decl_typing.proofs.Following.{gets_more}
+use Rattle.typing_state.specs.Steps.{each, GetsOn}
+use Rattle.typing_state.proofs.Going.{goes_trans}
+use Rattle.typing_state.proofs.Following.{gets_more}
 use Rattle.pattern_typing.specs.PatternSteps.{later}
 use Rattle.core_typing.specs.ExpressionSteps.{expression_at, has_type, part_at}
 use Rattle.core_typing.proofs.ExpressionLaws.{left_from}

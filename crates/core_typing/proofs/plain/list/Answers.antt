@@ -1,7 +1,7 @@
 use Rattle.std.proofs.Common.{map}
 use Rattle.row_parts.specs.Numbered.{operand_view}
-use Rattle.decl_typing.specs.Steps.{each}
-use Rattle.decl_typing.proofs.Following.{ends_before, follows_behind, store_silent}
+use Rattle.typing_state.specs.Steps.{each}
+use Rattle.typing_state.proofs.Following.{ends_before, follows_behind, store_silent}
 use Rattle.pattern_typing.specs.PatternSteps.{later}
 use Rattle.core_typing.specs.ExpressionSteps.{expression_at, has_type}
 use Rattle.core_typing.proofs.plain.list.Goals as goal

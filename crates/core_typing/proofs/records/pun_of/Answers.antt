@@ -1,8 +1,8 @@
 use Rattle.std.proofs.Common.{[], ◌∷◌}
 use Rattle.env_table.specs.declared.faults.FaultKind.TheVariants as fault
 use Rattle.syntax_tree.specs.View.{place_of}
-use Rattle.decl_typing.specs.Steps.{asks, records}
-use Rattle.decl_typing.proofs.Following.{ends_both}
+use Rattle.typing_state.specs.Steps.{asks, records}
+use Rattle.typing_state.proofs.Following.{ends_both}
 use Rattle.core_typing.proofs.records.pun_of.Goals as goal
 
 pub returns-clause-follows : goal.returns-clause-follows

@@ -1,4 +1,4 @@
-use Rattle.decl_typing.specs.Goes.{Goes, OnlyStore}
+use Rattle.typing_state.specs.Goes.{Goes, OnlyStore}
 use Rattle.module_typing.proofs.closing.quantify_all.Given as goal
 
 abbrev pub invariant-loop-n : goal.invariant-loop-n

@@ -1,8 +1,8 @@
 use Rattle.std.proofs.Common.{◌+◌, List, refl, sym, subst, drop, arith}
 use Rattle.std.proofs.lemmas.List.{drop_more, drop_all}
 use Rattle.env_table.specs.declared.entries.Entry.{Entry}
-use Rattle.decl_typing.specs.declared.built_ins.BuiltIn.TheVariants.{Int}
-use Rattle.decl_typing.proofs.Going.{goes_refl, goes_trans}
+use Rattle.typing_state.specs.declared.built_ins.BuiltIn.TheVariants.{Int}
+use Rattle.typing_state.proofs.Going.{goes_refl, goes_trans}
 use Rattle.module_typing.specs.First.{HasBuiltIns}
 use Rattle.module_typing.proofs.first.with_all.Goals as goal
 

@@ -1,6 +1,6 @@
 use Rattle.std.proofs.Common.{[], List, drop}
 use Rattle.env_table.specs.declared.entries.Entry.{Entry}
-use Rattle.decl_typing.specs.Goes.{Goes}
+use Rattle.typing_state.specs.Goes.{Goes}
 use Rattle.module_typing.specs.First.{HasBuiltIns}
 use Rattle.module_typing.proofs.first.with_all.Given as goal
 

@@ -1,5 +1,5 @@
 use Rattle.std.proofs.Common.{◌≡◌, ◌++◌, drop}
-use Rattle.decl_typing.specs.Copying.{paths_of}
+use Rattle.type_reading.specs.Copying.{paths_of}
 use Rattle.module_typing.proofs.lists.add_origins.Given as goal
 
 abbrev pub invariant-loop-origin : goal.invariant-loop-origin

@@ -1,5 +1,5 @@
 use Rattle.std.proofs.Common.{◌+◌, ◌*◌}
-use Rattle.decl_typing.specs.Goes.{Goes}
+use Rattle.typing_state.specs.Goes.{Goes}
 use Rattle.module_typing.proofs.modules.+modules.Given as goal
 
 abbrev pub decreases-type_items : goal.decreases-type_items

@@ -1,7 +1,7 @@
 use Rattle.std.proofs.Common.{◌≡◌, ◌∙◌, sym, ap, subst, true}
 use Rattle.std.specs.Prelude.{not}
 use Rattle.env_table.specs.declared.faults.FaultKind.TheVariants as fault
-use Rattle.decl_typing.specs.Goes.{faults_of, Told}
+use Rattle.typing_state.specs.Goes.{faults_of, Told}
 use Rattle.module_typing.specs.Told.{no_functor_text}
 use Rattle.module_typing.specs.Modules.{is_structure, ToldUnless}
 use Rattle.module_typing.proofs.Functors.{structure_is}

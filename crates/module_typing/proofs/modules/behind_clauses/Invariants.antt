@@ -1,4 +1,4 @@
-use Rattle.decl_typing.specs.Goes.{Goes}
+use Rattle.typing_state.specs.Goes.{Goes}
 use Rattle.module_typing.proofs.modules.behind_clauses.Given as goal
 
 abbrev pub invariant-loop-clause : goal.invariant-loop-clause

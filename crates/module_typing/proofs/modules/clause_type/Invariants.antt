@@ -1,4 +1,4 @@
-use Rattle.decl_typing.specs.Goes.{Goes}
+use Rattle.typing_state.specs.Goes.{Goes}
 use Rattle.module_typing.proofs.modules.clause_type.Given as goal
 
 abbrev pub invariant-loop-name : goal.invariant-loop-name

@@ -1,6 +1,6 @@
 use Rattle.std.proofs.Common.{ap, sym, ◌∙◌}
 use Rattle.env_table.specs.declared.entries.Template.{Template}
-use Rattle.decl_typing.specs.Copying.{paths_of}
+use Rattle.type_reading.specs.Copying.{paths_of}
 use Rattle.sig_template.specs.Ways.{sig_of}
 use Rattle.module_typing.proofs.Functors.{rolled}
 use Rattle.module_typing.proofs.modules.functor_over.Goals as goal

@@ -1,6 +1,6 @@
 use Rattle.std.proofs.Common.{◌∙◌, ap, subst}
 use Rattle.env_table.specs.declared.faults.FaultKind.TheVariants as fault
-use Rattle.decl_typing.specs.Goes.{faults_of, Told}
+use Rattle.typing_state.specs.Goes.{faults_of, Told}
 use Rattle.module_typing.specs.Told.{with_text}
 use Rattle.module_typing.proofs.Naming.{on_ok}
 use Rattle.module_typing.proofs.modules.tell_with.Goals as goal

@@ -1,6 +1,6 @@
 use Rattle.std.proofs.Common.{drop}
-use Rattle.decl_typing.specs.Goes.{Goes}
-use Rattle.decl_typing.specs.Steps.{each, GetsOn}
+use Rattle.typing_state.specs.Goes.{Goes}
+use Rattle.typing_state.specs.Steps.{each, GetsOn}
 use Rattle.use_typing.specs.UseSteps.{asks_equal}
 use Rattle.pattern_typing.specs.Matching.{typed_view}
 use Rattle.pattern_typing.proofs.patterns.all_equal.Given as goal

@@ -1,8 +1,8 @@
 use Rattle.std.proofs.Common.{◌+◌, ◌<◌, length, map, drop, subst, arith}
-use Rattle.decl_typing.specs.Steps.{each, GetsOn}
-use Rattle.decl_typing.proofs.Going.{goes_trans}
-use Rattle.decl_typing.proofs.Following.{gets_more}
-use Rattle.decl_typing.proofs.TypeLaws.{drop_read}
+use Rattle.typing_state.specs.Steps.{each, GetsOn}
+use Rattle.typing_state.proofs.Going.{goes_trans}
+use Rattle.typing_state.proofs.Following.{gets_more}
+use Rattle.type_reading.proofs.TypeLaws.{drop_read}
 use Rattle.pattern_typing.specs.PatternSteps.{beside}
 use Rattle.pattern_typing.specs.Matching.{side_view}
 use Rattle.pattern_typing.proofs.patterns.compare_later.Goals as goal

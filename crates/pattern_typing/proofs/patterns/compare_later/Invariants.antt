@@ -1,6 +1,6 @@
 use Rattle.std.proofs.Common.{map, drop}
-use Rattle.decl_typing.specs.Goes.{Goes}
-use Rattle.decl_typing.specs.Steps.{each, GetsOn}
+use Rattle.typing_state.specs.Goes.{Goes}
+use Rattle.typing_state.specs.Steps.{each, GetsOn}
 use Rattle.pattern_typing.specs.PatternSteps.{beside}
 use Rattle.pattern_typing.specs.Matching.{side_view}
 use Rattle.pattern_typing.proofs.patterns.compare_later.Given as goal

@@ -1,8 +1,8 @@
 use Rattle.std.proofs.Common.{◌+◌, ◌<◌, length, drop, subst, arith}
-use Rattle.decl_typing.specs.Steps.{GetsOn}
-use Rattle.decl_typing.proofs.Going.{goes_trans}
-use Rattle.decl_typing.proofs.Following.{gets_more}
-use Rattle.decl_typing.proofs.TypeLaws.{drop_read}
+use Rattle.typing_state.specs.Steps.{GetsOn}
+use Rattle.typing_state.proofs.Going.{goes_trans}
+use Rattle.typing_state.proofs.Following.{gets_more}
+use Rattle.type_reading.proofs.TypeLaws.{drop_read}
 use Rattle.syntax_tree.specs.View.{tok_of}
 use Rattle.env_table.specs.declared.faults.FaultKind.TheVariants as fault
 use Rattle.use_typing.specs.UseSteps.{asks_token}

@@ -1,6 +1,6 @@
 use Rattle.std.proofs.Common.{drop}
-use Rattle.decl_typing.specs.Goes.{Goes}
-use Rattle.decl_typing.specs.Steps.{GetsOn}
+use Rattle.typing_state.specs.Goes.{Goes}
+use Rattle.typing_state.specs.Steps.{GetsOn}
 use Rattle.pattern_typing.specs.PatternSteps.{common_names}
 use Rattle.pattern_typing.specs.Matching.{tokens_of}
 use Rattle.pattern_typing.proofs.patterns.compare_names.Given as goal

@@ -1,8 +1,8 @@
 use Rattle.std.specs.Prelude.{Option, Some, None}
 use Rattle.std.proofs.Common.{◌≡◌, List, [], ◌∷◌, length, slice_index_or, ap, sym, subst, arith}
 use Rattle.row_parts.specs.Numbered.{Numbered, operand_view}
-use Rattle.decl_typing.specs.Steps.{Follows, HasNoRecord}
-use Rattle.decl_typing.proofs.Following.{ends_silent, follows_behind, store_silent}
+use Rattle.typing_state.specs.Steps.{Follows, HasNoRecord}
+use Rattle.typing_state.proofs.Following.{ends_silent, follows_behind, store_silent}
 use Rattle.pattern_typing.specs.declared.patterns.TypedPart.{TypedPart}
 use Rattle.use_typing.specs.UseSteps.{asks_equal, asks_equal_if}
 use Rattle.pattern_typing.specs.PatternSteps.{last_of}

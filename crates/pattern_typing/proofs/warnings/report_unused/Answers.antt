@@ -2,9 +2,9 @@ use Rattle.std.proofs.Common.{List, map, drop, ◌+◌, subst}
 use Rattle.std.proofs.lemmas.List.{drop_more}
 use Rattle.text_terms.specs.declared.Span.{Span}
 use Rattle.syntax_tree.specs.View.{place_of}
-use Rattle.decl_typing.specs.Steps.{GetsOn}
-use Rattle.decl_typing.proofs.Going.{goes_trans}
-use Rattle.decl_typing.proofs.Following.{gets_more}
+use Rattle.typing_state.specs.Steps.{GetsOn}
+use Rattle.typing_state.proofs.Going.{goes_trans}
+use Rattle.typing_state.proofs.Following.{gets_more}
 use Rattle.pattern_typing.specs.Warnings.{unused_steps}
 use Rattle.pattern_typing.proofs.warnings.report_unused.Goals as goal
 

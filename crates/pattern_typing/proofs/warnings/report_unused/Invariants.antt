@@ -1,7 +1,7 @@
 use Rattle.std.proofs.Common.{map, drop}
 use Rattle.syntax_tree.specs.View.{place_of}
-use Rattle.decl_typing.specs.Goes.{Goes}
-use Rattle.decl_typing.specs.Steps.{GetsOn}
+use Rattle.typing_state.specs.Goes.{Goes}
+use Rattle.typing_state.specs.Steps.{GetsOn}
 use Rattle.pattern_typing.specs.Warnings.{unused_steps}
 use Rattle.pattern_typing.proofs.warnings.report_unused.Given as goal
 

@@ -4,10 +4,10 @@ use Rattle.std.specs.declared.rc.Rc.{Rc}
 use Rattle.std.specs.declared.alloc.Global.{Global}
 use Rattle.type_nodes.specs.Nodes.{Node}
 use Rattle.env_table.specs.declared.entries.Sig.{Sig}
-use Rattle.decl_typing.specs.declared.changes.Changes.{Changes}
-use Rattle.decl_typing.specs.declared.copies.Copies.{Copies}
-use Rattle.decl_typing.specs.Copying.{KeepsCopies, AreDeclared, change_by}
-use Rattle.decl_typing.proofs.Extending.{extends_refl}
+use Rattle.type_reading.specs.declared.changes.Changes.{Changes}
+use Rattle.type_reading.specs.declared.copies.Copies.{Copies}
+use Rattle.type_reading.specs.Copying.{KeepsCopies, AreDeclared, change_by}
+use Rattle.type_reading.proofs.Extending.{extends_refl}
 use Rattle.sig_template.specs.Changed.{IsChangedSig}
 use Rattle.sig_template.specs.Live.{AreLive}
 use Rattle.sig_template.specs.Turns.{Turns}

@@ -1,5 +1,5 @@
 use Rattle.level_unify.specs.Copies.{Extends}
-use Rattle.decl_typing.specs.Goes.{Goes}
+use Rattle.typing_state.specs.Goes.{Goes}
 use Rattle.sig_template.proofs.realising.opened_copy.Given as goal
 
 abbrev pub invariant-loop-n : goal.invariant-loop-n

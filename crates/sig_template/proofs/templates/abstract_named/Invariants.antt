@@ -1,6 +1,6 @@
 use Rattle.std.proofs.Common.{◌≡◌, length}
 use Rattle.env_table.specs.Views.{names_of}
-use Rattle.decl_typing.specs.Copying.{paths_of}
+use Rattle.type_reading.specs.Copying.{paths_of}
 use Rattle.sig_template.specs.Abstract.{abstract_in, abstract_named}
 use Rattle.sig_template.proofs.templates.abstract_named.Given as goal
 

@@ -1,6 +1,6 @@
 use Rattle.std.proofs.Common.{refl, ◌∙◌, ap}
-use Rattle.decl_typing.specs.declared.parts.Parts.{Parts}
-use Rattle.decl_typing.specs.Copying.{paths_of}
+use Rattle.typing_state.specs.declared.parts.Parts.{Parts}
+use Rattle.type_reading.specs.Copying.{paths_of}
 use Rattle.sig_template.proofs.Applying.{applied_by}
 use Rattle.sig_template.proofs.templates.applied.Goals as goal
 

@@ -1,5 +1,5 @@
 use Rattle.std.proofs.Common.{◌≡◌, take}
-use Rattle.decl_typing.specs.Copying.{paths_of}
+use Rattle.type_reading.specs.Copying.{paths_of}
 use Rattle.sig_template.proofs.templates.copied_origins.Given as goal
 
 abbrev pub invariant-loop-origin : goal.invariant-loop-origin

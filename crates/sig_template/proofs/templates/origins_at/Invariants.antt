@@ -1,6 +1,6 @@
 use Rattle.std.proofs.Common.{◌≡◌, take}
 use Rattle.signature_model.specs.Templates.{origins_at}
-use Rattle.decl_typing.specs.Copying.{paths_of}
+use Rattle.type_reading.specs.Copying.{paths_of}
 use Rattle.sig_template.proofs.templates.origins_at.Given as goal
 
 abbrev pub invariant-loop-origin : goal.invariant-loop-origin

@@ -1,6 +1,6 @@
 use Rattle.type_terms.specs.Views.{path_of}
-use Rattle.decl_typing.specs.declared.changes.Real.{Real}
-use Rattle.decl_typing.specs.Copying.{paths_of}
+use Rattle.type_reading.specs.declared.changes.Real.{Real}
+use Rattle.type_reading.specs.Copying.{paths_of}
 use Rattle.sig_template.specs.Abstract.{abstract_named}
 use Rattle.sig_template.proofs.Same.{real_same}
 use Rattle.std.proofs.Common.{ap}

@@ -1,7 +1,7 @@
 use Rattle.std.proofs.Common.{◌≡◌, ◌++◌, drop}
 use Rattle.type_terms.specs.Views.{path_of}
 use Rattle.signature_model.specs.Templates.{without}
-use Rattle.decl_typing.specs.Copying.{paths_of}
+use Rattle.type_reading.specs.Copying.{paths_of}
 use Rattle.sig_template.proofs.templates.without.Given as goal
 
 abbrev pub invariant-loop-other : goal.invariant-loop-other

@@ -1,4 +1,4 @@
-use Rattle.decl_typing.specs.Goes.{Goes}
+use Rattle.typing_state.specs.Goes.{Goes}
 use Rattle.signature_match.proofs.compare.rigid_arguments.Given as goal
 
 abbrev pub invariant-loop : goal.invariant-loop

@@ -1,7 +1,7 @@
 use Rattle.std.proofs.Common.{rules, arith, ◌≡◌, ◌∙◌, None, Some, map, option_map, refl, sym, ap, subst}
 use Rattle.std.proofs.lemmas.Result.{IfOk-weaker}
 use Rattle.text_terms.specs.Bytes.{str_bytes}
-use Rattle.decl_typing.proofs.Going.{goes_trans}
+use Rattle.typing_state.proofs.Going.{goes_trans}
 use Rattle.signature_match.specs.Blames.{blame_of}
 use Rattle.signature_match.specs.Newest.{newest_module, newest_module_type}
 use Rattle.signature_match.specs.Telling.{Tells, TellsWanted, TellsFirst, TellsEntry, value, type_name, exception, no_module, «module», no_module_type, module_type, from_hole, to_hole, structures, functors, for_functor, for_structure, wants}

@@ -1,7 +1,7 @@
 use Rattle.std.proofs.Common.{◌+◌, ◌*◌, List, map, drop, Option}
 use Rattle.type_nodes.specs.Nodes.{Node}
 use Rattle.signature_model.specs.Failing.{Blame}
-use Rattle.decl_typing.specs.Goes.{Goes}
+use Rattle.typing_state.specs.Goes.{Goes}
 use Rattle.signature_match.specs.Telling.{TellsFirst}
 use Rattle.signature_match.proofs.matching.+matching.Given as goal
 

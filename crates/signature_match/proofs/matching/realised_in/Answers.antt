@@ -1,5 +1,5 @@
 use Rattle.std.proofs.Common.{ap}
-use Rattle.decl_typing.specs.declared.parts.Parts.{Parts}
+use Rattle.typing_state.specs.declared.parts.Parts.{Parts}
 use Rattle.signature_match.proofs.Puts.{put_into}
 use Rattle.signature_match.proofs.matching.realised_in.Goals as goal
 

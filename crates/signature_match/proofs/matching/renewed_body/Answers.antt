@@ -1,5 +1,5 @@
 use Rattle.std.proofs.Common.{refl, ap, ◌∙◌}
-use Rattle.decl_typing.specs.Copying.{paths_of}
+use Rattle.type_reading.specs.Copying.{paths_of}
 use Rattle.sig_template.specs.Ways.{sig_of}
 use Rattle.sig_template.specs.Changed.{made_of}
 use Rattle.signature_match.proofs.Puts.{renews, renewed_template}

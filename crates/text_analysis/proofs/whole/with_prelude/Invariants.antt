@@ -1,4 +1,4 @@
-use Rattle.decl_typing.specs.Goes.{Goes}
+use Rattle.typing_state.specs.Goes.{Goes}
 use Rattle.text_analysis.proofs.whole.with_prelude.Given as goal
 
 abbrev pub invariant-loop-item : goal.invariant-loop-item

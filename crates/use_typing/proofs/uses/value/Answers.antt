@@ -2,7 +2,7 @@ use Rattle.std.proofs.Common.{option_map, sym, subst, option_and_then}
 use Rattle.row_parts.specs.Numbered.{path_view, token_view}
 use Rattle.syntax_tree.specs.View.{tok_of}
 use Rattle.env_table.specs.declared.entries.Kind.TheVariants as kind
-use Rattle.decl_typing.specs.Bound.{found_at, lost_among, word_of}
+use Rattle.typing_state.specs.Bound.{found_at, lost_among, word_of}
 use Rattle.use_typing.specs.Uses.{LastHas, UsesScheme, scheme_in}
 use Rattle.use_typing.proofs.Telling.{value_has}
 use Rattle.use_typing.proofs.uses.value.Goals as goal

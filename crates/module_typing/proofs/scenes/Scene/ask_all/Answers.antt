@@ -1,8 +1,8 @@
 use Rattle.std.proofs.Common.{◌≡◌, ◌∙◌, ◌+◌, List, ◌∷◌, drop, refl, sym, ap, subst, arith}
 use Rattle.text_terms.specs.Bytes.{str_bytes}
 use Rattle.env_table.specs.declared.entries.Entry.{Entry}
-use Rattle.decl_typing.specs.Goes.{faults_of}
-use Rattle.decl_typing.proofs.Going.{goes_trans}
+use Rattle.typing_state.specs.Goes.{faults_of}
+use Rattle.typing_state.proofs.Going.{goes_trans}
 use Rattle.sig_template.specs.Structures.{entries_of}
 use Rattle.module_typing.specs.Scenes.{has_name, ToldTwice, repeated, with_names}
 use Rattle.module_typing.proofs.Naming.{told_more, noted_more, rest_of, none_left}

@@ -1,7 +1,7 @@
 use Rattle.std.proofs.Common.{◌≡◌, ℕ, List, drop}
 use Rattle.env_table.specs.declared.entries.Kind.{Kind}
 use Rattle.env_table.specs.declared.faults.Fault.{Fault}
-use Rattle.decl_typing.specs.Goes.{Goes, OnlyFaults, faults_of}
+use Rattle.typing_state.specs.Goes.{Goes, OnlyFaults, faults_of}
 use Rattle.sig_template.specs.Structures.{entries_of}
 use Rattle.module_typing.specs.Scenes.{has_name, OnlyNames, ToldTwice, repeated, with_names}
 use Rattle.module_typing.proofs.scenes.Scene.ask_all.Given as goal

@@ -3,8 +3,8 @@ use Rattle.tree_model.specs.Trees.{Place}
 use Rattle.tree_model.specs.Rows.{Row, etry_row}
 use Rattle.syntax_tree.specs.Names.{row_of}
 use Rattle.syntax_tree.specs.View.{place_of}
-use Rattle.decl_typing.specs.Steps.{HasNoRecord}
-use Rattle.decl_typing.proofs.Following.{follows_silent}
+use Rattle.typing_state.specs.Steps.{HasNoRecord}
+use Rattle.typing_state.proofs.Following.{follows_silent}
 use Rattle.pattern_typing.specs.Warnings.{spans_of, unused_steps, warning_steps}
 use Rattle.pattern_typing.proofs.warnings.Rows.report.Goals as goal
 

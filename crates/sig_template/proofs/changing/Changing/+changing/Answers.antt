@@ -3,8 +3,8 @@ use Rattle.std.specs.declared.rc.Rc.{Rc}
 use Rattle.std.specs.declared.alloc.Global.{Global}
 use Rattle.type_nodes.specs.Nodes.{Node}
 use Rattle.env_table.specs.declared.entries.Entry.{Entry}
-use Rattle.decl_typing.specs.Copying.{change_by}
-use Rattle.decl_typing.proofs.Going.{goes_trans}
+use Rattle.type_reading.specs.Copying.{change_by}
+use Rattle.typing_state.proofs.Going.{goes_trans}
 use Rattle.sig_template.specs.Turns.{Turns, IsTurnedEntry, IsLiveThrough}
 use Rattle.sig_template.proofs.Turning.{turns_more, turns_whole}
 use Rattle.sig_template.proofs.Whats.{what_scheme, what_constructor, what_exception, what_label, what_type, what_module, what_module_type, template_both, sig_hole, sig_structure, sig_functor}

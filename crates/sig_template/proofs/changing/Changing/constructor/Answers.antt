@@ -1,8 +1,8 @@
 use Rattle.std.proofs.Common.{refl}
 use Rattle.type_nodes.specs.Nodes.{IsNode}
 use Rattle.env_table.specs.declared.entries.Constructor.{Constructor}
-use Rattle.decl_typing.specs.declared.changes.Changes.{Changes}
-use Rattle.decl_typing.specs.Copying.{change_by, IsChanged}
+use Rattle.type_reading.specs.declared.changes.Changes.{Changes}
+use Rattle.type_reading.specs.Copying.{change_by, IsChanged}
 use Rattle.sig_template.specs.Changed.{IsChangedConstructor}
 use Rattle.sig_template.specs.Live.{IsLiveConstructor}
 use Rattle.sig_template.proofs.Turning.{turns_as}

@@ -1,7 +1,7 @@
-use Rattle.decl_typing.specs.Copying.{change_by}
+use Rattle.type_reading.specs.Copying.{change_by}
 use Rattle.sig_template.specs.Changed.{IsChangedConstructor}
 use Rattle.sig_template.specs.Live.{IsLiveConstructor}
-use Rattle.decl_typing.proofs.Going.{goes_trans}
+use Rattle.typing_state.proofs.Going.{goes_trans}
 use Rattle.sig_template.proofs.Turning.{turns_more, turns_whole}
 use Rattle.sig_template.proofs.changing.Changing.constructors.Goals as goal
 

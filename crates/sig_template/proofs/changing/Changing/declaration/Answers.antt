@@ -1,8 +1,8 @@
 use Rattle.std.proofs.Common.{refl}
 use Rattle.type_nodes.specs.Nodes.{IsNode}
 use Rattle.env_table.specs.declared.entries.Declaration.{Declaration}
-use Rattle.decl_typing.specs.declared.changes.Changes.{Changes}
-use Rattle.decl_typing.specs.Copying.{change_by, IsChanged}
+use Rattle.type_reading.specs.declared.changes.Changes.{Changes}
+use Rattle.type_reading.specs.Copying.{change_by, IsChanged}
 use Rattle.sig_template.specs.Changed.{IsChangedShape, IsChangedDeclaration}
 use Rattle.sig_template.specs.Live.{IsLiveShape, IsLiveDeclaration}
 use Rattle.sig_template.proofs.Turning.{turns_then, owned_turns}

@@ -1,8 +1,8 @@
 use Rattle.std.proofs.Common.{take}
 use Rattle.std.specs.Prelude.{All}
 use Rattle.std.specs.List.{AllZip}
-use Rattle.decl_typing.specs.Goes.{Goes}
-use Rattle.decl_typing.specs.Copying.{change_by}
+use Rattle.typing_state.specs.Goes.{Goes}
+use Rattle.type_reading.specs.Copying.{change_by}
 use Rattle.sig_template.specs.Changed.{IsChangedLabel}
 use Rattle.sig_template.specs.Live.{IsLiveLabel}
 use Rattle.sig_template.specs.Turns.{Turns}

@@ -1,6 +1,6 @@
 use Rattle.std.proofs.Common.{◌∙◌, ap, map}
 use Rattle.std.proofs.lemmas.List.{take_all}
-use Rattle.decl_typing.specs.Copying.{change_by, paths_of}
+use Rattle.type_reading.specs.Copying.{change_by, paths_of}
 use Rattle.sig_template.proofs.Putting.{moved_more}
 use Rattle.sig_template.proofs.changing.Changing.made.Goals as goal
 

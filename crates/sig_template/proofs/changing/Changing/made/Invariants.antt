@@ -1,6 +1,6 @@
 use Rattle.std.proofs.Common.{◌≡◌, take, map}
 use Rattle.type_nodes.specs.Readings.{Types}
-use Rattle.decl_typing.specs.Copying.{change_by, paths_of}
+use Rattle.type_reading.specs.Copying.{change_by, paths_of}
 use Rattle.sig_template.proofs.changing.Changing.made.Given as goal
 
 abbrev pub invariant-loop-origin : goal.invariant-loop-origin

@@ -1,8 +1,8 @@
 use Rattle.std.proofs.Common.{refl, sym, ◌∙◌}
 use Rattle.type_terms.specs.Views.{path_of}
-use Rattle.decl_typing.specs.Copying.{paths_of}
-use Rattle.decl_typing.proofs.Going.{goes_refl, goes_trans}
-use Rattle.decl_typing.proofs.Extending.{extends_refl, extends_trans}
+use Rattle.type_reading.specs.Copying.{paths_of}
+use Rattle.typing_state.proofs.Going.{goes_refl, goes_trans}
+use Rattle.type_reading.proofs.Extending.{extends_refl, extends_trans}
 use Rattle.sig_template.specs.Structures.{entries_of}
 use Rattle.sig_template.specs.Finding.{side_at}
 use Rattle.sig_template.proofs.Reals.{own_found, finding_other, module_found, nothing_found, before_later, finding_more, finding_structure, finding_functor, finding_hole}

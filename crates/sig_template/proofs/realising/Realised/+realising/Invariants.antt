@@ -2,8 +2,8 @@ use Rattle.std.proofs.Common.{◌≡◌, List, drop}
 use Rattle.type_model.specs.Types.{Path}
 use Rattle.type_nodes.specs.Nodes.{Node}
 use Rattle.level_unify.specs.Copies.{Extends}
-use Rattle.decl_typing.specs.Goes.{Goes}
-use Rattle.decl_typing.specs.Copying.{paths_of}
+use Rattle.typing_state.specs.Goes.{Goes}
+use Rattle.type_reading.specs.Copying.{paths_of}
 use Rattle.sig_template.specs.Structures.{entries_of}
 use Rattle.sig_template.specs.Finding.{side_at, IsBefore, Finding}
 use Rattle.sig_template.proofs.realising.Realised.+realising.Given as goal

@@ -1,6 +1,6 @@
 use Rattle.std.proofs.Common.{[], ◌∙◌}
-use Rattle.decl_typing.proofs.Going.{goes_trans}
-use Rattle.decl_typing.proofs.Extending.{extends_trans}
+use Rattle.typing_state.proofs.Going.{goes_trans}
+use Rattle.type_reading.proofs.Extending.{extends_trans}
 use Rattle.sig_template.proofs.Reals.{unknown_more}
 use Rattle.sig_template.proofs.realising.Realised.all_unknown.Goals as goal
 

@@ -1,7 +1,7 @@
 use Rattle.std.proofs.Common.{◌≡◌, [], take}
 use Rattle.std.specs.List.{AllZip}
 use Rattle.level_unify.specs.Copies.{Extends}
-use Rattle.decl_typing.specs.Goes.{Goes}
+use Rattle.typing_state.specs.Goes.{Goes}
 use Rattle.sig_template.specs.Finding.{IsUnknownFor}
 use Rattle.sig_template.proofs.realising.Realised.all_unknown.Given as goal
 

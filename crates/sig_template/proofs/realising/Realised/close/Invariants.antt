@@ -1,5 +1,5 @@
 use Rattle.std.proofs.Common.{◌≡◌, [], length}
-use Rattle.decl_typing.specs.Goes.{Goes}
+use Rattle.typing_state.specs.Goes.{Goes}
 use Rattle.sig_template.proofs.realising.Realised.close.Given as goal
 
 abbrev pub invariant-loop-n : goal.invariant-loop-n

@@ -2,8 +2,8 @@ use Rattle.std.proofs.Common.{◌≡◌, ◌++◌, ◌∷◌, [], refl, ap, subs
 use Rattle.std.specs.Prelude.{OnOk}
 use Rattle.type_terms.specs.Views.{path_of}
 use Rattle.level_unify.specs.Copies.{Extends}
-use Rattle.decl_typing.specs.declared.changes.Real.{Real}
-use Rattle.decl_typing.specs.declared.changes.Changes.{Changes}
+use Rattle.type_reading.specs.declared.changes.Real.{Real}
+use Rattle.type_reading.specs.declared.changes.Changes.{Changes}
 use Rattle.sig_template.proofs.Reals.{pushed_declared, after_any}
 use Rattle.sig_template.proofs.realising.Realised.declared.Goals as goal
 

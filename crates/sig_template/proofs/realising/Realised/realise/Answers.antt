@@ -1,5 +1,5 @@
 use Rattle.std.proofs.Common.{ap}
-use Rattle.decl_typing.specs.Copying.{paths_of}
+use Rattle.type_reading.specs.Copying.{paths_of}
 use Rattle.sig_template.proofs.Reals.{unknown_realises, walk_realises, known_structure, known_functor}
 use Rattle.sig_template.proofs.realising.Realised.realise.Goals as goal
 

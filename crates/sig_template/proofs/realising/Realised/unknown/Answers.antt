@@ -1,9 +1,9 @@
 use Rattle.type_terms.specs.Views.{path_of}
 use Rattle.type_nodes.specs.Nodes.{Var}
 use Rattle.level_unify.specs.Copies.{Extends}
-use Rattle.decl_typing.specs.Types.{level_for}
-use Rattle.decl_typing.proofs.Extending.{makes_extends}
-use Rattle.decl_typing.specs.declared.changes.Real.{Real}
+use Rattle.typing_state.specs.Types.{level_for}
+use Rattle.type_reading.proofs.Extending.{makes_extends}
+use Rattle.type_reading.specs.declared.changes.Real.{Real}
 use Rattle.sig_template.proofs.Reals.{pushed_unknown, after_any}
 use Rattle.std.proofs.Common.{refl}
 use Rattle.sig_template.proofs.realising.Realised.unknown.Goals as goal

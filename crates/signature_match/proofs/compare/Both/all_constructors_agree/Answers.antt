@@ -2,7 +2,7 @@ use Rattle.std.proofs.Common.{rules, arith, ◌≡◌, length, min, sym, subst}
 use Rattle.std.specs.Slice.Iter.{iter_rest}
 use Rattle.std.specs.Iterator.Adapters.{zip_first, zip_second}
 use Rattle.std.proofs.lemmas.Slice.Zip.{zip_turn, zip_end}
-use Rattle.decl_typing.proofs.Going.{goes_trans}
+use Rattle.typing_state.proofs.Going.{goes_trans}
 use Rattle.signature_match.specs.Shapes.{ConstructorsFit}
 use Rattle.signature_match.specs.Comparing.{ComparesConstructor, other_length}
 use Rattle.signature_match.proofs.Zips.{zipped_at, zipped_more}

@@ -1,5 +1,5 @@
 use Rattle.std.proofs.Common.{ℕ, ◌<◌, length, get_or}
-use Rattle.decl_typing.specs.Goes.{Goes}
+use Rattle.typing_state.specs.Goes.{Goes}
 use Rattle.env_table.specs.declared.entries.Constructor.{Constructor}
 use Rattle.signature_match.specs.Shapes.{ConstructorsFit}
 use Rattle.signature_match.specs.Comparing.{ComparesConstructor}

@@ -1,5 +1,5 @@
 use Rattle.std.proofs.Common.{ℕ, ◌<◌, length, get_or}
-use Rattle.decl_typing.specs.Goes.{Goes}
+use Rattle.typing_state.specs.Goes.{Goes}
 use Rattle.env_table.specs.declared.entries.Label.{Label}
 use Rattle.signature_match.specs.Shapes.{LabelsFit}
 use Rattle.signature_match.specs.Comparing.{ComparesLabel}

@@ -1,0 +1,5 @@
+use Rattle.typing_state.specs.Goes.{Goes}
+use Rattle.decl_typing.proofs.decls.generalise_shape.Given as goal
+
+abbrev pub invariant-loop-constructor : goal.invariant-loop-constructor
+invariant-loop-constructor l = Goes l.fn.at l.at

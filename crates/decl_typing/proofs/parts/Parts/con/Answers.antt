@@ -1,5 +1,0 @@
-use Rattle.decl_typing.proofs.Going.{made_goes}
-use Rattle.decl_typing.proofs.parts.Parts.con.Goals as goal
-
-pub returns-then-are_nodes-clause-goes : goal.returns-then-are_nodes-clause-goes
-returns-then-are_nodes-clause-goes c = made_goes c.con.result c.args.self.now c.con.new.self _ c.con.ensures.made c.con.ensures.failed c.con.ensures.keeps

@@ -1,8 +1,0 @@
-use Rattle.text_terms.specs.Bytes.{str_bytes}
-use Rattle.decl_typing.proofs.Differing.{differs_by}
-use Rattle.decl_typing.proofs.parts.Parts.differ.Goals as goal
-
-pub returns-clause-told : goal.returns-clause-told
-returns-clause-told c =
-    differs_by c.tell_two.result c.args.self.now c.tell_two.new.self c.args.at c.args.found c.args.wanted c.args.kind c.args.env.now (str_bytes c.in_ok-found.found) (str_bytes c.in_ok-found.wanted)
-    c.as_str-found.result.now c.as_str-wanted.result.now c.as_str-found.ensures c.as_str-wanted.ensures c.in_ok-found.ensures c.tell_two.ensures.told

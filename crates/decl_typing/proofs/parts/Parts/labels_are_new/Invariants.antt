@@ -1,5 +1,0 @@
-use Rattle.decl_typing.specs.Goes.{Goes}
-use Rattle.decl_typing.proofs.parts.Parts.labels_are_new.Given as goal
-
-abbrev pub invariant-loop-part : goal.invariant-loop-part
-invariant-loop-part l = Goes l.fn.self l.self

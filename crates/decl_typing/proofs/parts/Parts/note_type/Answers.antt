@@ -1,5 +1,0 @@
-use Rattle.decl_typing.proofs.Recording.{noted_nameless}
-use Rattle.decl_typing.proofs.parts.Parts.note_type.Goals as goal
-
-pub returns-clause-noted : goal.returns-clause-noted
-returns-clause-noted c = noted_nameless c.note.result c.args.self.now c.note.new.self c.args.number _ _ c.new.result c.new.ensures.items c.note.ensures.noted

@@ -1,5 +1,0 @@
-use Rattle.decl_typing.proofs.Going.{bound_goes}
-use Rattle.decl_typing.proofs.parts.Parts.quantify.Goals as goal
-
-pub returns-then-is_free-clause-goes : goal.returns-then-is_free-clause-goes
-returns-then-is_free-clause-goes c = bound_goes c.quantify.result c.args.self.now c.quantify.new.self c.args.n.0 c.quantify.ensures.done c.quantify.ensures.failed c.quantify.ensures.keeps

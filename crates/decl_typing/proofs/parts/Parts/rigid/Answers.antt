@@ -1,5 +1,0 @@
-use Rattle.decl_typing.proofs.Going.{made_goes}
-use Rattle.decl_typing.proofs.parts.Parts.rigid.Goals as goal
-
-pub returns-clause-goes : goal.returns-clause-goes
-returns-clause-goes c = made_goes c.rigid.result c.args.self.now c.rigid.new.self _ c.rigid.ensures.made c.rigid.ensures.failed c.rigid.ensures.keeps

@@ -1,8 +1,0 @@
-use Rattle.decl_typing.specs.Goes.{Goes}
-use Rattle.decl_typing.proofs.parts.Parts.sketched.Given as goal
-
-abbrev pub invariant-loop-part : goal.invariant-loop-part
-invariant-loop-part l = Goes l.fn.self l.self
-
-abbrev pub invariant-loop-place : goal.invariant-loop-place
-invariant-loop-place l = Goes l.fn.self l.self

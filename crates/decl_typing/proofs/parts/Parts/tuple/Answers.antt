@@ -1,5 +1,0 @@
-use Rattle.decl_typing.proofs.Going.{made_goes}
-use Rattle.decl_typing.proofs.parts.Parts.tuple.Goals as goal
-
-pub returns-then-are_nodes-clause-goes : goal.returns-then-are_nodes-clause-goes
-returns-then-are_nodes-clause-goes c = made_goes c.tuple.result c.args.self.now c.tuple.new.self _ c.tuple.ensures.made c.tuple.ensures.failed c.tuple.ensures.keeps

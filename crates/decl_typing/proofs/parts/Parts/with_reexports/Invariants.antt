@@ -1,5 +1,0 @@
-use Rattle.decl_typing.specs.Goes.{Goes}
-use Rattle.decl_typing.proofs.parts.Parts.with_reexports.Given as goal
-
-abbrev pub invariant-loop-place : goal.invariant-loop-place
-invariant-loop-place l = Goes l.fn.self l.self

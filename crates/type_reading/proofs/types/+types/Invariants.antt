@@ -1,0 +1,27 @@
+use Rattle.std.proofs.Common.{◌+◌, ◌*◌, ◌≡◌, ◌++◌, drop}
+use Rattle.row_parts.specs.Numbered.{operand_view}
+use Rattle.typing_state.specs.Goes.{Goes}
+use Rattle.typing_state.specs.Steps.{each, GetsOn}
+use Rattle.type_reading.specs.TypeSteps.{type_steps}
+use Rattle.type_reading.proofs.types.+types.Given as goal
+
+abbrev pub decreases-read_type : goal.decreases-read_type
+decreases-read_type l = 5 * l.depth.0 + 4
+
+abbrev pub decreases-read_row : goal.decreases-read_row
+decreases-read_row l = 5 * l.depth.0 + 3
+
+abbrev pub decreases-read_parts : goal.decreases-read_parts
+decreases-read_parts l = 5 * l.depth.0 + 2
+
+abbrev pub decreases-read_given : goal.decreases-read_given
+decreases-read_given l = 5 * l.depth.0 + 1
+
+abbrev pub decreases-read_each : goal.decreases-read_each
+decreases-read_each l = 5 * l.depth.0
+
+abbrev pub invariant-read_each-loop-part : goal.invariant-read_each-loop-part
+invariant-read_each-loop-part l = record {
+  goes : Goes l.fn.at l.at;
+  gets : GetsOn l.fn.at l.at (each (λ o. type_steps (operand_view o)) l.parts) (each (λ o. type_steps (operand_view o)) (drop l.part-index l.parts));
+}

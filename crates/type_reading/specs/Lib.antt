@@ -1,0 +1,3 @@
+-- Copies of types, and the steps of type expressions.
+pub mod Copying
+pub mod TypeSteps

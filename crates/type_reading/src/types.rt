@@ -1,0 +1,479 @@
+//! Type expressions.
+#![tactic(auto, using(typing_state::proofs::Going::goes_trans, typing_state::proofs::Going::goes_refl, typing_state::proofs::Following::follows_both, typing_state::proofs::Following::follows_before, typing_state::proofs::Following::follows_behind, typing_state::proofs::Following::follows_silent, typing_state::proofs::Following::store_silent, typing_state::proofs::Following::ends_both, typing_state::proofs::Following::ends_behind, typing_state::proofs::Following::ends_before, typing_state::proofs::Following::ends_silent, typing_state::proofs::Following::gets_start, typing_state::proofs::Following::gets_more, typing_state::proofs::Following::gets_before, typing_state::proofs::Following::gets_done), unfolding(syntax_tree::specs::Names::row_of))]
+
+ghost use Rattle.std.specs.Prelude.{◌≡◌, [], ◌∷◌, map, option_map, IfOk, OnOk};
+ghost use Rattle.syntax_tree.specs.Names.{row_of};
+ghost use Rattle.syntax_tree.specs.declared.tree.Node.{out-Node};
+ghost use Rattle.syntax_tree.specs.View.{place_of, tok_of, node_view};
+ghost use Rattle.row_parts.specs.Numbered.{operand_view, path_view, part_of};
+ghost use Rattle.env_table.specs.declared.faults.FaultKind.{FaultKind};
+ghost use Rattle.typing_state.specs.Goes.{Goes};
+ghost use Rattle.typing_state.specs.Notes.{IsRecorded};
+ghost use Rattle.typing_state.specs.Steps.{asks, each, Follows, Silent};
+ghost use Rattle.type_reading.specs.TypeSteps.{several, parts_read, type_steps, steps_given, type_parts, type_demands, type_unrecorded, variable_steps, constructor_steps};
+
+use crate::changes::Changes;
+use crate::copies::{Copies, ForBound, ForUnknown, unchanged};
+use env_table::{Declaration, Entry, Env, Kind};
+use owned_lists::push;
+use row_parts::{Operand, WrittenPath, operand_in, operands, operands_of, token, written_path};
+use std::alloc::{AllocError, Global};
+use std::rc::Rc;
+use syntax_tree::{Node, RowName, Token};
+use text_terms::RcStr;
+use type_nodes::{NoMemory, NodeRef};
+use typing_state::{Depth, Parts, Verdict, Word, declaration_of};
+
+/// A type variable by its name.
+#[derive(Drop)]
+pub struct Parameter {
+    pub name: RcStr,
+    pub node: NodeRef,
+}
+
+/// What a type variable stands for.
+#[derive(Drop)]
+pub enum Variables {
+    /// In an expression: a type of the item round it.
+    OfItem,
+    /// In a declaration: one of its parameters.
+    Parameters(Vec<Parameter>),
+}
+
+/// The parameter of a name, of two the later one.
+fn parameter_named(parameters: &[Parameter], name: &str) -> Option<NodeRef> {
+    let mut found = None;
+    for parameter in parameters {
+        if parameter.name.is(name) {
+            found = Some(parameter.node);
+        }
+    }
+    found
+}
+
+/// A type that was read, with the entries of the names in it.
+#[derive(Drop)]
+struct Read {
+    ty: NodeRef,
+    names: Vec<Option<Rc<Entry>>>,
+}
+
+/// The type that a type expression, or a missing one, stands for. It is recorded with the names in it.
+#[cycle(types)]
+pub fn read_type(
+    at: &mut Parts,
+    ty: Operand<'_>,
+    env: &Env,
+    variables: &Variables,
+    depth: Depth,
+) -> Result<NodeRef, NoMemory>
+    ensures recorded { OnOk result (IsRecorded at.new ty.entry.number) }
+    ensures follows { OnOk result (Follows (type_steps (operand_view ty.entry)) at.old at.new) }
+    ensures goes { Goes at.old at.new }
+{
+    let read = read_row(at, ty, env, variables, depth)?;
+    at.note(ty.number, env, None, read.names)?;
+    Ok(read.ty)
+}
+
+/// The same with the names in it.
+#[cycle(types)]
+fn read_row(
+    at: &mut Parts,
+    ty: Operand<'_>,
+    env: &Env,
+    variables: &Variables,
+    depth: Depth,
+) -> Result<Read, NoMemory>
+    ensures follows { OnOk result (Follows (type_unrecorded ty.entry.number (part_of ty.entry.node ty.entry.span)) at.old at.new) }
+    ensures goes { Goes at.old at.new }
+{
+    match ty.node {
+        None => {
+            let any = unresolved(at, variables)?;
+            Ok(unnamed(at, any))
+        }
+        Some(node) => {
+            let types = read_parts(at, node, ty.number, env, variables, depth)?;
+            formed(at, node, &types, env, variables)
+        }
+    }
+}
+
+/// A type in which no name stands.
+fn unnamed(at: &Parts, ty: NodeRef) -> Read {
+    Read {
+        ty,
+        names: Vec::new(at.alloc()),
+    }
+}
+
+/// The types of the parts of a type expression; in front of a constructor those in parentheses.
+#[cycle(types)]
+fn read_parts(
+    at: &mut Parts,
+    node: &Node,
+    number: u32,
+    env: &Env,
+    variables: &Variables,
+    depth: Depth,
+) -> Result<Vec<NodeRef>, NoMemory>
+    ensures follows { OnOk result (Follows (type_parts number (node_view node.now)) at.old at.new) }
+    ensures goes { Goes at.old at.new }
+{
+    match node.row {
+        RowName::Tapp => { read_given(at, operand_in(node, number, 0), env, variables, depth) }
+        _ => {
+            let parts = parts_in(at.alloc(), node, number)?;
+            read_each(at, &parts, env, variables, depth)
+        }
+    }
+}
+
+/// The types that stand in front of a constructor: several in parentheses, or one.
+#[cycle(types)]
+fn read_given(
+    at: &mut Parts,
+    left: Operand<'_>,
+    env: &Env,
+    variables: &Variables,
+    depth: Depth,
+) -> Result<Vec<NodeRef>, NoMemory>
+    ensures follows { OnOk result (Follows (steps_given (operand_view left.entry)) at.old at.new) }
+    ensures goes { Goes at.old at.new }
+{
+    match several_in(at.alloc(), left)? {
+        Some(several) => {
+            at.note_plain(left.number, env)?;
+            read_each(at, &several, env, variables, depth)
+        }
+        None => {
+            let ty = read_type(at, left, env, variables, depth.inside()?)?;
+            one_of(at.alloc(), ty)
+        }
+    }
+}
+
+/// The types of some type expressions, in order.
+#[cycle(types)]
+fn read_each(
+    at: &mut Parts,
+    parts: &[Operand<'_>],
+    env: &Env,
+    variables: &Variables,
+    depth: Depth,
+) -> Result<Vec<NodeRef>, NoMemory>
+    ensures follows { OnOk result (Follows (each (λ o. type_steps (operand_view o)) parts.now) at.old at.new) }
+    ensures goes { Goes at.old at.new }
+{
+    let mut types = Vec::new(at.alloc());
+    for part in parts {
+        let ty = read_type(at, *part, env, variables, depth.inside()?)?;
+        push(&mut types, ty)?;
+    }
+    Ok(types)
+}
+
+/// A type expression that names no type: any type in an item, and in a declaration an unknown one.
+fn unresolved(at: &mut Parts, variables: &Variables) -> Result<NodeRef, NoMemory>
+    ensures silent { Silent at.old at.new }
+    ensures goes { Goes at.old at.new }
+{
+    match variables {
+        Variables::OfItem => at.var(),
+        Variables::Parameters(_) => at.var_of_scope(0),
+    }
+}
+
+/// The type of a row over the types of its parts.
+fn formed(
+    at: &mut Parts,
+    node: &Node,
+    types: &[NodeRef],
+    env: &Env,
+    variables: &Variables,
+) -> Result<Read, NoMemory>
+    ensures follows { OnOk result (Follows (type_demands (node_view node.now)) at.old at.new) }
+    ensures goes { Goes at.old at.new }
+{
+    match node.row {
+        RowName::Tcon => {
+            let path = written_path(at.alloc(), node, 0, 1)?;
+            constructed(at, &path, types, env, variables)
+        }
+        RowName::Tapp => {
+            let path = written_path(at.alloc(), node, 1, 2)?;
+            constructed(at, &path, types, env, variables)
+        }
+        _ => {
+            let ty = composed(at, node, types, variables)?;
+            Ok(unnamed(at, ty))
+        }
+    }
+}
+
+/// The same of a row in which no constructor stands.
+#[tactic(auto, using(typing_state::proofs::Going::goes_trans, typing_state::proofs::Going::goes_refl, typing_state::proofs::Following::ends_silent, typing_state::proofs::Following::store_silent, crate::proofs::RowSteps::no_record), unfolding(syntax_tree::specs::Names::row_of))]
+fn composed(
+    at: &mut Parts,
+    node: &Node,
+    types: &[NodeRef],
+    variables: &Variables,
+) -> Result<NodeRef, NoMemory>
+    ensures follows { OnOk result (Follows (type_demands (node_view node.now)) at.old at.new) }
+    ensures goes { Goes at.old at.new }
+{
+    match node.row {
+        RowName::Tvar => variable(at, token(node, 0), variables),
+        RowName::Tparen => in_parentheses(at, node, types, variables),
+        RowName::Ttuple => at.tuple(types),
+        RowName::Tarrow => arrow_between(at, types, variables),
+        _ => unresolved(at, variables),
+    }
+}
+
+/// t -> t
+fn arrow_between(
+    at: &mut Parts,
+    types: &[NodeRef],
+    variables: &Variables,
+) -> Result<NodeRef, NoMemory>
+    ensures silent { Silent at.old at.new }
+    ensures goes { Goes at.old at.new }
+{
+    match types {
+        [from, to] => at.arrow(*from, *to),
+        _ => unresolved(at, variables),
+    }
+}
+
+/// ( t ); several types are one only in front of a constructor.
+fn in_parentheses(
+    at: &mut Parts,
+    node: &Node,
+    types: &[NodeRef],
+    variables: &Variables,
+) -> Result<NodeRef, NoMemory>
+    ensures follows { OnOk result (Follows (asks FaultKind.Arity (place_of (out-Node node.now).span ∷ []) ∷ []) at.old at.new) }
+    ensures goes { Goes at.old at.new }
+{
+    match types {
+        [] => unresolved(at, variables),
+        [ty] => Ok(*ty),
+        _ => {
+            at.arity(node.span, "(,)", 1, types.len())?;
+            unresolved(at, variables)
+        }
+    }
+}
+
+/// 'a
+fn variable(
+    at: &mut Parts,
+    name: Option<&Token>,
+    variables: &Variables,
+) -> Result<NodeRef, NoMemory>
+    ensures follows { OnOk result (Follows (variable_steps (option_map (λ t. tok_of t.now) name.entry)) at.old at.new) }
+    ensures goes { Goes at.old at.new }
+{
+    let Some(name) = name else {
+        return unresolved(at, variables);
+    };
+    match variables {
+        Variables::OfItem => written_variable(at, name),
+        Variables::Parameters(parameters) => {
+            match parameter_named(parameters, name.name.as_str()) {
+                Some(node) => Ok(node),
+                None => {
+                    at.unbound(name.span, Word::TypeVariable, name.name.as_str())?;
+                    unresolved(at, variables)
+                }
+            }
+        }
+    }
+}
+
+/// The type that a type variable of the item stands for: one of the item's own level.
+fn written_variable(at: &mut Parts, name: &Token) -> Result<NodeRef, NoMemory>
+    ensures silent { Silent at.old at.new }
+    ensures goes { Goes at.old at.new }
+{
+    let key = match String::from_str(at.alloc(), name.name.as_str()) {
+        Ok(key) => key,
+        Err(_) => return Err(AllocError),
+    };
+    if let Some(node) = at.written.variables.get(&key) {
+        return Ok(*node);
+    }
+    let level = at.level;
+    at.level = level.min(1);
+    let made = at.var();
+    at.level = level;
+    let node = made?;
+    match at.written.variables.insert(key, node) {
+        Ok(_) => Ok(node),
+        Err(_) => Err(AllocError),
+    }
+}
+
+/// t, (t, t) u: `bound`, `arity`, and the type that the declaration gives the arguments.
+fn constructed(
+    at: &mut Parts,
+    path: &WrittenPath<'_>,
+    types: &[NodeRef],
+    env: &Env,
+    variables: &Variables,
+) -> Result<Read, NoMemory>
+    ensures follows { OnOk result (Follows (constructor_steps (path_view path.now)) at.old at.new) }
+    ensures goes { Goes at.old at.new }
+{
+    let Some(last) = path.last else {
+        let names = at.seen_names(env, path, None)?;
+        let ty = unresolved(at, variables)?;
+        return Ok(Read { ty, names });
+    };
+    let entry = at.bound(env, path, last, Kind::TypeName)?;
+    let names = at.seen_names(env, path, entry.as_ref())?;
+    let ty = named_type(at, last, entry.as_ref(), types, variables)?;
+    Ok(Read { ty, names })
+}
+
+/// The type that a name's declaration gives the arguments; any type where the name isn't bound.
+fn named_type(
+    at: &mut Parts,
+    last: &Token,
+    entry: Option<&Rc<Entry>>,
+    types: &[NodeRef],
+    variables: &Variables,
+) -> Result<NodeRef, NoMemory>
+    ensures follows { OnOk result (Follows (asks FaultKind.Arity (place_of last.now.span ∷ []) ∷ []) at.old at.new) }
+    ensures goes { Goes at.old at.new }
+{
+    match entry {
+        None => unresolved(at, variables),
+        Some(entry) => declared(at, last, entry, types, variables),
+    }
+}
+
+fn declared(
+    at: &mut Parts,
+    last: &Token,
+    entry: &Entry,
+    types: &[NodeRef],
+    variables: &Variables,
+) -> Result<NodeRef, NoMemory>
+    ensures follows { OnOk result (Follows (asks FaultKind.Arity (place_of last.now.span ∷ []) ∷ []) at.old at.new) }
+    ensures goes { Goes at.old at.new }
+{
+    let Some(declaration) = declaration_of(entry) else {
+        return unresolved(at, variables);
+    };
+    let taken = declaration.arity as usize;
+    match at.arity(last.span, last.name.as_str(), taken, types.len())? {
+        Verdict::Reported => unresolved(at, variables),
+        Verdict::Kept => match variables {
+            Variables::OfItem => applied(at, declaration, types),
+            Variables::Parameters(_) => applied_with_unknowns(at, declaration, types),
+        },
+    }
+}
+
+/// The same in a declaration, where the unknown types in it become others.
+fn applied_with_unknowns(
+    at: &mut Parts,
+    declaration: &Declaration,
+    types: &[NodeRef],
+) -> Result<NodeRef, NoMemory>
+    ensures silent { Silent at.old at.new }
+    ensures goes { Goes at.old at.new }
+{
+    if let Some(origin) = &declaration.origin {
+        return at.con(origin, types);
+    }
+    let changes = Changes::none(at.alloc());
+    let how = unchanged(&changes, ForBound::Variable, ForUnknown::Open);
+    let instance = Copies::new(at).copy(at, declaration.root, how)?;
+    if types.is_empty() {
+        return Ok(instance);
+    }
+    filled(at, instance, types)
+}
+
+/// The type that a declaration gives arguments, abbreviations expanded.
+pub fn applied(
+    at: &mut Parts,
+    declaration: &Declaration,
+    types: &[NodeRef],
+) -> Result<NodeRef, NoMemory>
+    ensures silent { Silent at.old at.new }
+    ensures goes { Goes at.old at.new }
+{
+    if let Some(origin) = &declaration.origin {
+        return at.con(origin, types);
+    }
+    let instance = at.instance(declaration.root)?;
+    if types.is_empty() {
+        return Ok(instance);
+    }
+    filled(at, instance, types)
+}
+
+/// The last part of a tuple whose other parts are these types.
+pub fn filled(at: &mut Parts, tuple: NodeRef, types: &[NodeRef]) -> Result<NodeRef, NoMemory>
+    ensures silent { Silent at.old at.new }
+    ensures goes { Goes at.old at.new }
+{
+    for (place, ty) in types.iter().enumerate() {
+        let parameter = match at.parts_of_tuple(tuple) {
+            Some(parts) => parts.get(place).copied(),
+            None => None,
+        };
+        if let Some(parameter) = parameter {
+            at.join(parameter, *ty)?;
+        }
+    }
+    match at.parts_of_tuple(tuple) {
+        Some(parts) => match parts.last() {
+            Some(body) => Ok(*body),
+            None => at.var(),
+        },
+        None => at.var(),
+    }
+}
+
+/// The parts of a type expression as they are read; those of an application stand in front of its constructor.
+#[tactic(auto, unfolding(crate::specs::TypeSteps::parts_by_row, syntax_tree::specs::Names::row_of))]
+fn parts_in<'a>(alloc: Global, node: &'a Node, number: u32) -> Result<Vec<Operand<'a>>, NoMemory>
+    ensures { IfOk result (λ os. map operand_view os.items ≡ parts_read number (node_view node.now)) }
+{
+    match node.row {
+        RowName::Tparen => operands(alloc, node, number, 1),
+        RowName::Ttuple | RowName::Tarrow => operands_of(alloc, node, number),
+        _ => Ok(Vec::new(alloc)),
+    }
+}
+
+/// The types in parentheses, where there are several.
+fn several_in(alloc: Global, left: Operand<'_>) -> Result<Option<Vec<Operand<'_>>>, NoMemory>
+    ensures { IfOk result (λ r. option_map (λ os. map operand_view os.items) r ≡ several (operand_view left.entry)) }
+{
+    let Some(node) = left.node else {
+        return Ok(None);
+    };
+    if node.row != RowName::Tparen {
+        return Ok(None);
+    }
+    let inner = operands(alloc, node, left.number, 1)?;
+    if inner.len() >= 2 {
+        Ok(Some(inner))
+    } else {
+        Ok(None)
+    }
+}
+
+/// A list of one type.
+fn one_of(alloc: Global, ty: NodeRef) -> Result<Vec<NodeRef>, NoMemory> {
+    let mut one = Vec::new(alloc);
+    push(&mut one, ty)?;
+    Ok(one)
+}

@@ -1,0 +1,25 @@
+-- What is recorded for nodes.
+use Rattle.std.specs.Prelude.{◌≡◌, ℕ, List, [], Option, Some, unwrap_or}
+use Rattle.std.specs.declared.vec.Vec.{Vec}
+use Rattle.std.specs.declared.rc.Rc.{Rc}
+use Rattle.std.specs.declared.alloc.Global.{Global}
+use Rattle.type_terms.specs.declared.types.NodeRef.{NodeRef}
+use Rattle.env_table.specs.declared.entries.Entry.{Entry}
+use Rattle.env_table.specs.declared.seen.Seen.{Seen}
+use Rattle.typed_index.specs.Seen.{seen_at, with_note}
+use Rattle.typing_state.specs.declared.parts.Telling.{Telling}
+use Rattle.typing_state.specs.declared.parts.Telling.TheVariants.{Aloud, Quiet}
+use Rattle.typing_state.specs.declared.parts.Parts.{Parts}
+
+-- this is recorded for a node of the present item, unless something was, and nothing else changes; where it is quiet, nothing is recorded
+abbrev pub Noted : Telling → (old new : Parts) → (number : ℕ) → Seen → Type 0
+Noted Quiet old new number seen = new.index ≡ old.index
+Noted Aloud old new number seen = (i p : ℕ) → seen_at new.index i p ≡ with_note old.item number (unwrap_or (seen_at old.index old.item number) seen) (seen_at old.index) i p
+
+-- the same for a node without names of its own
+abbrev pub NotedNameless : (old new : Parts) → (number : ℕ) → List Entry → Option NodeRef → Type 0
+NotedNameless old new number env ty = (names : Vec (Option (Rc Entry Global)) Global) × (names.items ≡ []) × Noted old.telling old new number (record { env = env; ty = ty; names = names })
+
+-- something is recorded for a node of the present item, where faults are told
+abbrev pub IsRecorded : Parts → (number : ℕ) → Type 0
+IsRecorded at number = at.telling ≡ Aloud → (seen : Seen) × (seen_at at.index at.item number ≡ Some seen)
