@@ -1,5 +1,5 @@
 //! The program: a session over standard input and standard output.
-//! It stands on `session_loop`, makes the real ends and the counter, and ends with the number of the status.
+//! It is built on `session_loop` and on the typer, makes the real ends and the counter, and ends with the number of the status.
 #![tactic(auto)]
 
 ghost use Rattle.std.specs.Prelude.{◌≡◌};
@@ -11,6 +11,7 @@ use session_loop::{ReadEnd, Status, WriteEnd, serve};
 use std::process::ExitCode;
 use std::{env, io};
 use tally::Tally;
+use text_analysis::Typer;
 
 /// The program's exit status for the way in which a run ended.
 fn code_of(status: Status) -> u8
@@ -39,6 +40,6 @@ fn main(rt: HostRuntime) -> ExitCode {
     let mut src = ReadEnd::new(rt.stdin());
     let mut sink = WriteEnd::new(rt.stdout());
     let mut counts = Tally::new();
-    let report = serve(alloc, &words, &mut src, &mut sink, &mut counts);
+    let report = serve::<Typer, _, _, _>(alloc, &words, &mut src, &mut sink, &mut counts);
     ExitCode::from(code_of(report.status))
 }

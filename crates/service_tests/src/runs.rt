@@ -6,6 +6,7 @@ use session_loop::{
 use std::alloc::Global;
 use std::test::Fail;
 use syntax_tree::Counts;
+use text_analysis::Typer;
 
 const TELL: &[u8] = b"{\"query\":\"tell\",\"text\":\"let a = 1\\nlet b = a\"}\n";
 
@@ -88,7 +89,7 @@ fn run(
     let most = vec![in alloc; TELL.len()]?;
     let mut src = ListSource::new(input, takes, most);
     let mut sink = ListSink::new(alloc, puts);
-    let report = serve(alloc, &[], &mut src, &mut sink, &mut zero());
+    let report = serve::<Typer, _, _, _>(alloc, &[], &mut src, &mut sink, &mut zero());
     Ok((report, sink.bytes().to_vec(alloc)?))
 }
 
@@ -166,7 +167,7 @@ fn run_with(
     }
     let mut sink = ListSink::new(alloc, puts);
     let mut src = SureSource::new(joined(alloc, &[TELL])?);
-    let report = serve(alloc, &owned, &mut src, &mut sink, &mut zero());
+    let report = serve::<Typer, _, _, _>(alloc, &owned, &mut src, &mut sink, &mut zero());
     Ok((report, sink.bytes().to_vec(alloc)?))
 }
 
@@ -216,7 +217,7 @@ fn failing_put_leaves_a_front_of_the_summary(rt: HostRuntime) -> Result<(), Fail
 fn sure_ends_never_fail(rt: HostRuntime) -> Result<(), Fail> {
     let alloc = rt.alloc();
     let mut src = SureSource::new(joined(alloc, &[TELL, ASK])?);
-    let report = serve(alloc, &[], &mut src, &mut SureSink::new(), &mut zero());
+    let report = serve::<Typer, _, _, _>(alloc, &[], &mut src, &mut SureSink::new(), &mut zero());
     assert_eq!(rt; report.status, Status::Done);
     assert_eq!(rt; report.lexed, 8);
     Ok(())
@@ -228,7 +229,7 @@ fn standard_readers_and_writers_are_ends(rt: HostRuntime) -> Result<(), Fail> {
     let input = joined(alloc, &[TELL, ASK])?;
     let mut src = ReadEnd::new(input.as_slice());
     let mut sink = WriteEnd::new(Vec::new(alloc));
-    let report = serve(alloc, &[], &mut src, &mut sink, &mut zero());
+    let report = serve::<Typer, _, _, _>(alloc, &[], &mut src, &mut sink, &mut zero());
     assert_eq!(rt; report.status, Status::Done);
     Ok(())
 }

@@ -9,8 +9,7 @@ use Rattle.std.proofs.lemmas.Int.{ints}
 use Rattle.clap.specs.Lexer.{long_of, short_of}
 use Rattle.std.specs.Str.{bytes_eq}
 use Rattle.clap.specs.ValueTests.{accepts, is_unsigned_in}
-use Rattle.clap.specs.Words.{App, FailsBy, HasKind, HasMatchesOf, IsAmong, Kinds, ReadsOne, Text, app_of, fault_of, found_of, is_simple, is_simple_and_free, kind_of, matches_of, one_of, one_text, rows_of, without_minus}
-use Rattle.clap.specs.declared.builder.command.Command.{Command}
+use Rattle.clap.specs.Words.{App, HasKind, HasMatchesOf, IsAmong, Kinds, ReadsOne, Text, fault_of, found_of, is_simple, is_simple_and_free, kind_of, matches_of, one_of, one_text, without_minus}
 use Rattle.clap.specs.declared.builder.value_parser.ValueParser.TheVariants as value
 use Rattle.clap.specs.declared.error.Error.{Error}
 use Rattle.clap.specs.declared.error.kind.ErrorKind.TheVariants as kind

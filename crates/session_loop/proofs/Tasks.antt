@@ -1,5 +1,5 @@
 -- The outcome of a run, by what the words ask for.
-use Rattle.std.proofs.Common.{◌≡◌, ℕ, List, Option, Some, None, true, is_some, refl, sym, subst}
+use Rattle.std.proofs.Common.{◌≡◌, ℕ, List, Option, Some, None, true, is_some, refl, subst}
 use Rattle.syntax_tree.specs.Tallies.{Tallies}
 use Rattle.session_loop.specs.MadeRuns.{MadeOutcome}
 use Rattle.session_loop.specs.Outcomes.{Outcome, RunOutcome}

@@ -1,5 +1,5 @@
 -- The words of the command line, and what they ask for.
-use Rattle.std.specs.Prelude.{◌≡◌, ◌⊎◌, ◌≤◌, ℕ, List, [], ◌∷◌, ◌++◌, map, string_bytes, decimal, String, Bool, true, false, Option, Some, None, Result, Ok, Err, option_and_then, nat_lt, codes, pos, if◌then◌else◌}
+use Rattle.std.specs.Prelude.{◌≡◌, ◌⊎◌, ◌≤◌, ℕ, List, [], ◌∷◌, ◌++◌, map, string_bytes, decimal, String, Bool, true, false, Option, Some, None, Result, Ok, Err, option_and_then, codes, pos, if◌then◌else◌}
 use Rattle.std.specs.Str.Parse.{digits_value, without_leading_plus}
 use Rattle.std.specs.declared.alloc.Global.{Global}
 use Rattle.clap.specs.Words.{App, Kinds, Rule, fault_of, matches_of, new_app, new_rule, one_of, with_rule}

@@ -9,12 +9,14 @@ ghost use Rattle.session_loop.specs.Causes.{HasCause};
 ghost use Rattle.session_loop.specs.Progress.{SoFar, CutShort};
 
 use crate::begun::Begun;
-use crate::{Failed, Session, Sink};
+use crate::{Failed, Sink};
+use analysis_api::Analyser;
+use session::Session;
 use syntax_tree::Counts;
 
 /// Answers the line that has ended by one `put`, unless it is blank.
-pub fn answer_line<K: Sink, C: Counts>(
-    session: &mut Session,
+pub fn answer_line<A: Analyser, K: Sink, C: Counts>(
+    session: &mut Session<A>,
     begun: &Begun,
     sink: &mut K,
     counts: &mut C,
@@ -35,8 +37,8 @@ pub fn answer_line<K: Sink, C: Counts>(
 }
 
 /// Takes the next byte of the input.
-fn take_byte<K: Sink, C: Counts>(
-    session: &mut Session,
+fn take_byte<A: Analyser, K: Sink, C: Counts>(
+    session: &mut Session<A>,
     begun: &mut Begun,
     byte: u8,
     sink: &mut K,
@@ -61,8 +63,8 @@ fn take_byte<K: Sink, C: Counts>(
 }
 
 /// Takes the bytes of a chunk one by one.
-pub fn take_chunk<K: Sink, C: Counts>(
-    session: &mut Session,
+pub fn take_chunk<A: Analyser, K: Sink, C: Counts>(
+    session: &mut Session<A>,
     begun: &mut Begun,
     chunk: &[u8],
     sink: &mut K,

@@ -6,8 +6,9 @@ ghost use Rattle.syntax_tree.specs.Tallies.{Grows};
 ghost use Rattle.session_loop.specs.Causes.{Rose};
 ghost use Rattle.session_loop.specs.MadeRuns.{summary_of, IsTold, MadeOutcome, TypedWithin};
 
-use crate::session::Sizes;
-use crate::{Session, Sink, Status};
+use crate::{Sink, Status};
+use analysis_api::Analyser;
+use session::{Session, Sizes};
 use std::alloc::{AllocError, Global};
 use syntax_tree::{Counts, NoMemory, RcStr};
 
@@ -111,7 +112,10 @@ fn made_text(alloc: Global, items: u32) -> Result<RcStr, NoMemory>
 }
 
 /// The sizes of a session's text, and by how much the query for them made the count of typed items grow.
-fn asked<C: Counts>(session: &Session, counts: &mut C) -> Result<(Sizes, u64), NoMemory>
+fn asked<A: Analyser, C: Counts>(
+    session: &Session<A>,
+    counts: &mut C,
+) -> Result<(Sizes, u64), NoMemory>
     ensures sizes { IfOk result (λ r. SizesAre session.now r.0.items r.0.faults) }
     ensures typed { IfOk result (λ r. (C.tallies counts.new).typed ≡ (C.tallies counts.old).typed + r.1) }
     ensures grows { Grows (C.tallies counts.old) (C.tallies counts.new) }
@@ -122,12 +126,16 @@ fn asked<C: Counts>(session: &Session, counts: &mut C) -> Result<(Sizes, u64), N
 }
 
 /// Makes a text of so many items, asks for its faults, puts one more line behind it, and asks again.
-fn found_of_made<C: Counts>(alloc: Global, items: u32, counts: &mut C) -> Result<Summary, NoMemory>
+fn found_of_made<A: Analyser, C: Counts>(
+    alloc: Global,
+    items: u32,
+    counts: &mut C,
+) -> Result<Summary, NoMemory>
     ensures found { IfOk result (λ s. IsSummary items (summary_of s)) }
     ensures typed { IfOk result (λ s. TypedWithin (C.tallies counts.old) (C.tallies counts.new) s.typed) }
     ensures grows { Grows (C.tallies counts.old) (C.tallies counts.new) }
 {
-    let mut session = Session::new(alloc);
+    let mut session = Session::<A>::new(alloc);
     session.append(made_text(alloc, items)?)?;
     asked(&session, counts)?;
     session.append(RcStr::from_str(alloc, LAST_LINE)?)?;
@@ -160,15 +168,19 @@ fn summary_line(alloc: Global, summary: Summary) -> Result<String, NoMemory>
 }
 
 /// The line of a made run of so many items.
-fn made_line<C: Counts>(alloc: Global, items: u32, counts: &mut C) -> Result<String, NoMemory>
+fn made_line<A: Analyser, C: Counts>(
+    alloc: Global,
+    items: u32,
+    counts: &mut C,
+) -> Result<String, NoMemory>
     ensures told { IfOk result (λ line. IsTold items (C.tallies counts.old) (C.tallies counts.new) (string_bytes line)) }
     ensures grows { Grows (C.tallies counts.old) (C.tallies counts.new) }
 {
-    summary_line(alloc, found_of_made(alloc, items, counts)?)
+    summary_line(alloc, found_of_made::<A, C>(alloc, items, counts)?)
 }
 
 /// Runs over a made text of so many items, and puts one line. It takes no input; where memory is short it puts nothing.
-pub(crate) fn run_made<K: Sink, C: Counts>(
+pub(crate) fn run_made<A: Analyser, K: Sink, C: Counts>(
     alloc: Global,
     items: u32,
     sink: &mut K,
@@ -180,7 +192,7 @@ pub(crate) fn run_made<K: Sink, C: Counts>(
     ensures memory { result ≡ Status.NoMemory → sink.new ≡ sink.old }
     ensures counted { Grows (C.tallies counts.old) (C.tallies counts.new) }
 {
-    let Ok(line) = made_line(alloc, items, counts) else {
+    let Ok(line) = made_line::<A, C>(alloc, items, counts) else {
         return Status::NoMemory;
     };
     match sink.put(line.as_bytes()) {

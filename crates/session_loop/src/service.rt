@@ -10,7 +10,9 @@ use crate::begun::Begun;
 use crate::made::run_made;
 use crate::turns::{Turn, finish, take_turn};
 use crate::words::{Task, WordsFault, read_words};
-use crate::{Session, Sink, Source};
+use crate::{Sink, Source};
+use analysis_api::Analyser;
+use session::Session;
 use std::alloc::Global;
 use syntax_tree::Counts;
 
@@ -46,8 +48,8 @@ const INPUT_LIMIT: u64 = 1 << 40;
 const BUFFER_LEN: usize = 65_536;
 
 /// Reads lines and answers them until the input ends.
-fn read_lines<S: Source, K: Sink, C: Counts>(
-    session: &mut Session,
+fn read_lines<A: Analyser, S: Source, K: Sink, C: Counts>(
+    session: &mut Session<A>,
     begun: &mut Begun,
     buf: &mut [u8],
     src: &mut S,
@@ -82,7 +84,7 @@ fn read_lines<S: Source, K: Sink, C: Counts>(
 }
 
 /// Runs a session in the room that it is given.
-fn run<S: Source, K: Sink, C: Counts>(
+fn run<A: Analyser, S: Source, K: Sink, C: Counts>(
     alloc: Global,
     src: &mut S,
     sink: &mut K,
@@ -101,13 +103,13 @@ fn run<S: Source, K: Sink, C: Counts>(
     let Ok(mut buf) = vec![in alloc; 0u8; BUFFER_LEN] else {
         return Status::NoMemory;
     };
-    let mut session = Session::new(alloc);
+    let mut session = Session::<A>::new(alloc);
     read_lines(&mut session, &mut begun, &mut buf, src, sink, counts)
 }
 
 /// Runs what the words ask for.
 #[tactic(auto, using(crate::proofs::Tasks::session_outcome, crate::proofs::Tasks::made_outcome, crate::proofs::Tasks::refused_outcome, crate::proofs::Tasks::no_memory_outcome, crate::proofs::Tasks::no_items))]
-fn run_by<S: Source, K: Sink, C: Counts>(
+fn run_by<A: Analyser, S: Source, K: Sink, C: Counts>(
     alloc: Global,
     words: &[String],
     src: &mut S,
@@ -124,8 +126,8 @@ fn run_by<S: Source, K: Sink, C: Counts>(
     ensures counted { Grows (C.tallies counts.old) (C.tallies counts.new) }
 {
     match read_words(alloc, words) {
-        Ok(Task::Session) => run(alloc, src, sink, counts),
-        Ok(Task::Made(items)) => run_made(alloc, items, sink, counts),
+        Ok(Task::Session) => run::<A, S, K, C>(alloc, src, sink, counts),
+        Ok(Task::Made(items)) => run_made::<A, K, C>(alloc, items, sink, counts),
         Err(WordsFault::Refused) => Status::BadWords,
         Err(WordsFault::NoMemory) => Status::NoMemory,
     }
@@ -134,8 +136,8 @@ fn run_by<S: Source, K: Sink, C: Counts>(
 /// Without words, reads request lines from the source until it ends, and puts a reply line for each into the sink, by one
 /// `put` each. After any list of request lines each line has the answer that the present text alone determines, or the
 /// line that stands for want of memory. With `--make n` it reads nothing, and puts one line on a text that it makes of n
-/// items. Other words are refused.
-pub fn serve<S: Source, K: Sink, C: Counts>(
+/// items. Other words are refused. Types and names are found by an `A`.
+pub fn serve<A: Analyser, S: Source, K: Sink, C: Counts>(
     alloc: Global,
     words: &[String],
     src: &mut S,
@@ -160,7 +162,7 @@ pub fn serve<S: Source, K: Sink, C: Counts>(
     let lexed = counts.lexed();
     let shifted = counts.shifted();
     let typed = counts.typed();
-    let status = run_by(alloc, words, src, sink, counts);
+    let status = run_by::<A, S, K, C>(alloc, words, src, sink, counts);
     Report {
         status,
         lexed: counts.lexed() - lexed,

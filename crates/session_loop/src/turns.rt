@@ -10,7 +10,9 @@ ghost use Rattle.session_loop.specs.Turns.{Goes};
 
 use crate::begun::Begun;
 use crate::feed::{answer_line, take_chunk};
-use crate::{Failed, Session, Sink, Source};
+use crate::{Failed, Sink, Source};
+use analysis_api::Analyser;
+use session::Session;
 use syntax_tree::Counts;
 
 /// What a read led to.
@@ -25,8 +27,8 @@ pub enum Turn {
 }
 
 /// Reads at most `most` bytes into the buffer, and takes them.
-pub fn take_turn<S: Source, K: Sink, C: Counts>(
-    session: &mut Session,
+pub fn take_turn<A: Analyser, S: Source, K: Sink, C: Counts>(
+    session: &mut Session<A>,
     begun: &mut Begun,
     buf: &mut [u8],
     most: usize,
@@ -59,8 +61,8 @@ pub fn take_turn<S: Source, K: Sink, C: Counts>(
 }
 
 /// Answers a last line that no line feed ended.
-pub fn finish<K: Sink, C: Counts>(
-    session: &mut Session,
+pub fn finish<A: Analyser, K: Sink, C: Counts>(
+    session: &mut Session<A>,
     begun: &Begun,
     sink: &mut K,
     counts: &mut C,

@@ -4,31 +4,17 @@ ghost use Rattle.syntax_tree.specs.Tallies.{Grows};
 
 use crate::prelude::PRELUDE;
 use crate::weak::weak_variables;
-use env_table::{Faults, Seen};
+use analysis_api::{Analyser, Analysis};
 use frame_parser::{Text, parse};
 use ml_lexer::lex_all;
 use module_typing::{Scene, built_ins, type_item};
 use row_parts::Operand;
 use std::alloc::{AllocError, Global};
 use syntax_tree::{Counts, Tree};
-use type_nodes::Store;
-use typed_index::TypedIndex;
-use typing_state::{Depth, Env, NoMemory, NodeRef, Parts};
+use typing_state::{Depth, Env, NoMemory, Parts};
 
-/// What is found of a text's types and names.
-#[derive(Drop)]
-pub struct Analysis {
-    /// The nodes of the recorded types.
-    pub store: Store,
-    /// What is recorded for each node and each missing operand.
-    pub index: TypedIndex<Seen>,
-    /// What is wrong with types and names, and what matches miss, in the order of the demands.
-    pub faults: Faults,
-    /// The names in scope behind the last item.
-    pub end: Env,
-    /// The variables that are free in the types of these names.
-    pub weak: Vec<NodeRef>,
-}
+/// The typer, named where an `Analyser` is asked for. No value of it is needed.
+pub struct Typer;
 
 /// The tree of the prelude.
 fn prelude_tree<C: Counts>(alloc: Global, counts: &mut C) -> Result<Tree, NoMemory>
@@ -85,19 +71,26 @@ fn item_number(place: usize) -> u32 {
     }
 }
 
-/// What is found of the types and names of a text with this tree.
-pub fn analyse<C: Counts>(alloc: Global, tree: &Tree, counts: &mut C) -> Result<Analysis, NoMemory>
-    ensures grows { Grows (C.tallies counts.old) (C.tallies counts.new) }
-{
-    let mut at = Parts::new(alloc)?;
-    let first = with_prelude(&mut at, counts)?;
-    let end = with_items(&mut at, tree, first, counts)?;
-    let weak = weak_variables(&at, &end)?;
-    Ok(Analysis {
-        store: at.store,
-        index: at.index,
-        faults: at.faults,
-        end,
-        weak,
-    })
+impl Analyser for Typer {
+    fn analyse<C: Counts>(
+        alloc: Global,
+        tree: &Tree,
+        counts: &mut C,
+    ) -> Result<Analysis, NoMemory> {
+        let mut at = Parts::new(alloc)?;
+        let first = with_prelude(&mut at, counts)?;
+        let end = with_items(&mut at, tree, first, counts)?;
+        let weak = weak_variables(&at, &end)?;
+        Ok(Analysis {
+            store: at.store,
+            index: at.index,
+            faults: at.faults,
+            end,
+            weak,
+        })
+    }
+
+    fn prelude() -> &'static str {
+        PRELUDE
+    }
 }

@@ -3,7 +3,7 @@ use Rattle.std.proofs.KnownBytes.{Appends-nil}
 use Rattle.std.proofs.lemmas.Result.{on_ok_weaker, on_err_weaker}
 use Rattle.std.specs.Io.KnownBytes.{Appends}
 use Rattle.service_model.specs.Answers.{Answers}
-use Rattle.session_loop.specs.Lines.{line_bytes}
+use Rattle.session.specs.Lines.{line_bytes}
 use Rattle.session_loop.proofs.Steps.{step_answered, step_blank}
 use Rattle.session_loop.proofs.feed.answer_line.Goals as goal
 

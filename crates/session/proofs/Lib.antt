@@ -1,0 +1,10 @@
+mod Answering
+pub mod Cases
+pub mod Completing
+pub mod Naming
+pub mod Parsing
+pub mod Places
+pub mod Sizing
+pub mod Terms
+pub mod Trying
+pub mod Typing

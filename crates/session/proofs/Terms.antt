@@ -1,0 +1,38 @@
+-- Terms in place of a hole, as they are said.
+use Rattle.std.proofs.Common.{ℕ, List, [], ◌∷◌, inl, inr, map, arith, sym, ap, subst, All, Option, Some, None, Result, Ok, Err, IfOk}
+use Rattle.std.proofs.lemmas.List.Elements.{All-head, All-tail, All-cons}
+use Rattle.std.specs.declared.alloc.AllocError.{AllocError}
+use Rattle.text_terms.specs.declared.Span.{Span}
+use Rattle.query_model.specs.TypedNodes.{Typed}
+use Rattle.service_model.specs.Answers.{TermsAt, TermsBy, shown_place}
+use Rattle.service_model.specs.Trials.{AddsNoFault, TrialTells}
+use Rattle.tree_model.specs.Trees.{Place}
+use Rattle.syntax_tree.specs.View.{place_of}
+use Rattle.query_engine.specs.Typed.{IsPlacedAt}
+use Rattle.query_engine.specs.declared.trials.Replacement.{Replacement}
+use Rattle.construct_terms.specs.Terms.{AreKept, IsAt, told_by}
+use Rattle.json_lines.specs.Means.{said_of}
+use Rattle.json_lines.specs.declared.reply.Reply.{Reply}
+use Rattle.session.specs.Changes.{AreSaidTerms, Tells, text_in}
+
+-- where a trial tells no place, no fault is added
+pub untold : (text : List ℕ) (x : Place) (bytes : List ℕ) → TrialTells text x bytes None → AddsNoFault text x bytes
+untold text x bytes (inl (fits, added)) = (fits.2, added)
+untold text x bytes (inr (unfit, is)) = (let never : ⊥ = cc in absurd never)
+
+-- candidates at a span that are kept add no fault there
+pub kept_fit : (text : List ℕ) (x : Span) (cs kept : List Replacement) → AreKept (told_by (Tells text)) cs kept → All (IsAt x) cs → All (AddsNoFault text (place_of x)) (map text_in kept)
+kept_fit text x [] kept are at = subst (λ (ks : List Replacement). All (AddsNoFault text (place_of x)) (map text_in ks)) (sym are) (λ k d lt. absurd (omega arith))
+kept_fit text x (c ∷ cs) kept (inl (told, (rest, same, are))) at =
+    subst (λ (ks : List Replacement). All (AddsNoFault text (place_of x)) (map text_in ks)) (sym same)
+    (All-cons (AddsNoFault text (place_of x)) (text_in c) (map text_in rest)
+    (subst (λ (y : Span). AddsNoFault text (place_of y) (text_in c)) (All-head (IsAt x) c cs at) (untold text (place_of c.span) (text_in c) told))
+    (kept_fit text x cs rest are (All-tail (IsAt x) c cs at)))
+kept_fit text x (c ∷ cs) kept (inr (p, told, are)) at = kept_fit text x cs kept are (All-tail (IsAt x) c cs at)
+
+-- terms at the span of a typed node are said of it
+pub said_at : (text : List ℕ) (x : Span) (n : Option Typed) (r : Result Reply AllocError) → IsPlacedAt x n → IfOk r (λ y. AreSaidTerms text x (said_of y)) → IfOk r (λ y. TermsBy text n (said_of y))
+said_at text x None r at said = absurd at
+said_at text x (Some n) (Ok y) at (texts, same, fit) =
+    subst (TermsAt text n) (sym same) (ap (shown_place text) at, subst (λ p. All (AddsNoFault text p) texts) at fit)
+said_at text x (Some n) (Err e) at said = tt

@@ -1,0 +1,168 @@
+//! Queries that propose a change of the text: cases in place of a node, and terms in place of a hole.
+ghost use Rattle.std.specs.Prelude.{◌≡◌, All, map, IfOk};
+ghost use Rattle.text_terms.specs.Bytes.{str_bytes};
+ghost use Rattle.query_model.specs.TypedNodes.{innermost_at};
+ghost use Rattle.service_model.specs.Answers.{CasesBy, TermsBy};
+ghost use Rattle.syntax_tree.specs.Tallies.{Grows};
+ghost use Rattle.syntax_tree.specs.View.{trees_of};
+ghost use Rattle.json_lines.specs.Means.{said_of};
+ghost use Rattle.construct_terms.specs.Terms.{IsAt};
+ghost use Rattle.session.specs.Changes.{AreSaidTerms, IsCasesFailure, IsSaidOfCandidate, IsTermsFailure, text_in};
+ghost use Rattle.session.specs.Structures.{IsParsedAs};
+
+use crate::queries::asked;
+use crate::structure::position;
+use crate::trials::TextTrial;
+use analysis_api::{Analyser, Analysis};
+use case_analysis::{SplitFault, destruct, split};
+use construct_terms::{ConstructFault, construct, terms};
+use frame_parser::Parsed;
+use json_lines::{Failure, Reply};
+use query_engine::Replacement;
+use std::alloc::{AllocError, Global};
+use syntax_tree::{Counts, NoMemory, RcStr, Span};
+use text_store::TextStore;
+
+/// The bytes of the store's text.
+fn bytes_of(alloc: Global, store: &TextStore) -> Result<Vec<u8>, NoMemory>
+    ensures { IfOk result (λ v. v.items ≡ store.now) }
+{
+    let (left, right) = store.slices();
+    let mut bytes = Vec::new(alloc);
+    if bytes.extend_from_slice(left).is_err() || bytes.extend_from_slice(right).is_err() {
+        return Err(AllocError);
+    }
+    Ok(bytes)
+}
+
+/// Why there are no cases.
+fn cases_failure(store: &TextStore, fault: SplitFault) -> Result<Reply, NoMemory>
+    ensures { IfOk result (λ r. IsCasesFailure store.now fault (said_of r)) }
+{
+    match fault {
+        SplitFault::NoNode => Ok(Reply::Failure(Failure::NoNode)),
+        SplitFault::NothingToSplit => Ok(Reply::Failure(Failure::NothingToSplit)),
+        SplitFault::HiddenConstructor { name } => {
+            Ok(Reply::Failure(Failure::HiddenConstructor { constructor: name }))
+        }
+        SplitFault::WouldFault { at } => {
+            let at = position(store, at);
+            Ok(Reply::Failure(Failure::WouldFault { at }))
+        }
+        SplitFault::NoMemory => Err(AllocError),
+    }
+}
+
+/// The reply of a candidate, if it adds no fault.
+fn cases_tried<A: Analyser, C: Counts>(
+    store: &TextStore,
+    candidate: Replacement,
+    trial: &mut TextTrial<'_, A>,
+    counts: &mut C,
+) -> Result<Reply, NoMemory>
+    requires text { trial.old.text.now ≡ store.now }
+    ensures said { IfOk result (λ r. IsSaidOfCandidate store.now candidate (said_of r)) }
+    ensures grows { Grows (C.tallies counts.old) (C.tallies counts.new) }
+{
+    match destruct(candidate, trial, counts) {
+        Ok(change) => Ok(Reply::Split {
+            start: position(store, change.span.start),
+            end: position(store, change.span.end),
+            text: change.text,
+        }),
+        Err(fault) => cases_failure(store, fault),
+    }
+}
+
+/// Cases in place of the innermost typed node at an offset.
+pub fn cases<A: Analyser, C: Counts>(
+    alloc: Global,
+    store: &TextStore,
+    parsed: &Parsed,
+    analysis: &Analysis,
+    offset: u32,
+    counts: &mut C,
+) -> Result<Reply, NoMemory>
+    requires parsed { IsParsedAs store.now parsed.now }
+    ensures said { IfOk result (λ r. CasesBy store.now (innermost_at offset (trees_of parsed.now.tree)) (said_of r)) }
+    ensures grows { Grows (C.tallies counts.old) (C.tallies counts.new) }
+{
+    let text = bytes_of(alloc, store)?;
+    match split(alloc, &asked(&parsed.tree, analysis), &text, offset) {
+        Ok(candidate) => {
+            let faults = &analysis.faults.list;
+            let mut trial = TextTrial::<A>::new(alloc, &text, &parsed.faults, faults)?;
+            cases_tried(store, candidate, &mut trial, counts)
+        }
+        Err(fault) => cases_failure(store, fault),
+    }
+}
+
+/// Why there are no terms.
+fn terms_failure(fault: ConstructFault) -> Result<Reply, NoMemory>
+    ensures { IfOk result (λ r. IsTermsFailure fault (said_of r)) }
+{
+    match fault {
+        ConstructFault::NoNode => Ok(Reply::Failure(Failure::NoNode)),
+        ConstructFault::NotAHole => Ok(Reply::Failure(Failure::NotAHole)),
+        ConstructFault::NoMemory => Err(AllocError),
+    }
+}
+
+fn texts_of(alloc: Global, changes: &[Replacement]) -> Result<Vec<RcStr>, NoMemory>
+    ensures { IfOk result (λ v. map str_bytes v.items ≡ map text_in changes.now) }
+{
+    let mut texts = Vec::new(alloc);
+    for change in changes {
+        if texts.push(change.text.share()?).is_err() {
+            return Err(AllocError);
+        }
+    }
+    Ok(texts)
+}
+
+/// The reply of those candidates at a span that add no fault.
+fn terms_tried<A: Analyser, C: Counts>(
+    alloc: Global,
+    store: &TextStore,
+    span: Span,
+    candidates: Vec<Replacement>,
+    trial: &mut TextTrial<'_, A>,
+    counts: &mut C,
+) -> Result<Reply, NoMemory>
+    requires text { trial.old.text.now ≡ store.now }
+    requires placed { All (IsAt span) candidates.items }
+    ensures said { IfOk result (λ r. AreSaidTerms store.now span (said_of r)) }
+    ensures grows { Grows (C.tallies counts.old) (C.tallies counts.new) }
+{
+    let changes = construct(alloc, candidates, trial, counts)?;
+    Ok(Reply::Terms {
+        start: position(store, span.start),
+        end: position(store, span.end),
+        texts: texts_of(alloc, &changes)?,
+    })
+}
+
+/// Terms in place of the hole at an offset.
+pub fn terms_in<A: Analyser, C: Counts>(
+    alloc: Global,
+    store: &TextStore,
+    parsed: &Parsed,
+    analysis: &Analysis,
+    offset: u32,
+    counts: &mut C,
+) -> Result<Reply, NoMemory>
+    requires parsed { IsParsedAs store.now parsed.now }
+    ensures said { IfOk result (λ r. TermsBy store.now (innermost_at offset (trees_of parsed.now.tree)) (said_of r)) }
+    ensures grows { Grows (C.tallies counts.old) (C.tallies counts.new) }
+{
+    let text = bytes_of(alloc, store)?;
+    match terms(alloc, &asked(&parsed.tree, analysis), &text, offset) {
+        Ok((span, candidates)) => {
+            let faults = &analysis.faults.list;
+            let mut trial = TextTrial::<A>::new(alloc, &text, &parsed.faults, faults)?;
+            terms_tried(alloc, store, span, candidates, &mut trial, counts)
+        }
+        Err(fault) => terms_failure(fault),
+    }
+}

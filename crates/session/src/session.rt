@@ -1,0 +1,463 @@
+//! One text, and the answers to request lines on it.
+ghost use Rattle.std.specs.Prelude.{◌≡◌, ◌<◌, ◌+◌, ◌-◌, ◌^◌, ◌++◌, [], List, ℕ, length, map, option_map, reverse, IfOk, OnOk, Some};
+ghost use Rattle.text_terms.specs.Bytes.{str_bytes};
+ghost use Rattle.text_model.specs.Edits.{changed, outcome_of};
+ghost use Rattle.std.specs.Str.{IsUtf8};
+ghost use Rattle.text_model.specs.Positions.{offset, position_of};
+ghost use Rattle.tree_model.specs.Nodes.{nodes_at};
+ghost use Rattle.tree_model.specs.Trees.{AreItemsSized};
+ghost use Rattle.plain_model.specs.Plain.{AllSeenWithin};
+ghost use Rattle.query_model.specs.Faults.{TyperFault, by_typer};
+ghost use Rattle.service_model.specs.Requests.{tell as tell_spec};
+ghost use Rattle.service_model.specs.Answers.{Answers, PlacedIs, EnclosingIs, TypesAre, tell_outcome, end_key, typed_among as typed_among_spec, typed_round, types_or_none};
+ghost use Rattle.syntax_tree.specs.Tallies.{Grows};
+ghost use Rattle.syntax_tree.specs.View.{trees_of};
+ghost use Rattle.plain_typing.specs.View.{seen_of};
+ghost use Rattle.query_engine.specs.Faults.{fault_of, typer_fault_of};
+ghost use Rattle.text_store.specs.Edits.{edit_of};
+ghost use Rattle.json_lines.specs.Meets.{asked_of, key_text, range_of, refusal_of};
+ghost use Rattle.service_model.specs.Replies.{outline};
+ghost use Rattle.service_model.specs.Made.{SizesAre};
+ghost use Rattle.service_model.specs.Structure.{ErrorsAre, FaultsAre, OutlineIs, faults_said};
+ghost use Rattle.json_lines.specs.Means.{outline_of, outlined_of, said_of, typed_of};
+ghost use Rattle.session.specs.Queries.{IsAnswered};
+ghost use Rattle.session.specs.Lines.{line_bytes, refusal_in, IsWritten, RefusesBy, RefusesEditBy, RepliesBy, Says};
+
+use crate::plain::{PlainText, typed_among};
+use crate::queries::{Query, ask, asked, failure_of};
+use crate::reading::read_text;
+use crate::structure::{parse_text, shown_faults, shown_outline, shown_types};
+use analysis_api::Analyser;
+use env_table::Fault;
+use frame_parser::{Parsed, SyntaxFault};
+use json_lines::{
+    Failure, Key, Malformed, Outlined, Reply, Request, RequestError, Typed, memory_line,
+    read_request, write_reply,
+};
+use query_engine::{Asked, enclosing_types};
+use std::alloc::{AllocError, Global};
+use std::marker::{Model, PhantomData};
+use syntax_tree::{Counts, NoMemory, Pos, RcStr, Tree, enclosing};
+use text_store::{Edit, TextRefusal, TextStore};
+
+/// The line that answers a request line.
+#[derive(Drop)]
+pub enum Line {
+    /// The bytes of a reply line, its line feed included.
+    Written(Vec<u8>),
+    /// Want of memory. The text is as it was.
+    Memory,
+}
+
+impl Line {
+    /// The bytes of the line, its line feed included.
+    pub fn bytes(&self) -> &[u8]
+        ensures { result.now ≡ line_bytes self.now }
+    {
+        match self {
+            Line::Written(bytes) => bytes,
+            Line::Memory => memory_line(),
+        }
+    }
+}
+
+/// The line of a reply, or want of memory.
+fn written(alloc: Global, reply: &Reply) -> Line
+    ensures { IsWritten (said_of reply.now) result }
+{
+    match write_reply(alloc, reply) {
+        Ok(bytes) => Line::Written(bytes),
+        Err(_) => Line::Memory,
+    }
+}
+
+/// The line of an error, or want of memory.
+fn error_line(alloc: Global, error: RequestError) -> Line
+    ensures { IsWritten (said_of (Reply.Error error)) result }
+{
+    written(alloc, &Reply::Error(error))
+}
+
+/// The line of a line that is no request.
+fn malformed_line(alloc: Global, malformed: Malformed) -> Line
+    ensures { RefusesBy (refusal_of malformed) result }
+{
+    match malformed.error() {
+        Some(error) => error_line(alloc, error),
+        None => Line::Memory,
+    }
+}
+
+/// The key of an edit's end, or of its start.
+fn key_of(end: bool) -> Key
+    ensures { key_text result ≡ end_key end }
+{
+    if end { Key::End } else { Key::Start }
+}
+
+/// The line of an edit that the store refuses.
+fn refused_edit_line(alloc: Global, refusal: TextRefusal) -> Line
+    ensures { RefusesEditBy (refusal_in refusal) result }
+{
+    match refusal {
+        TextRefusal::BadPosition { end } => error_line(
+            alloc,
+            RequestError::BadPosition { key: key_of(end) },
+        ),
+        TextRefusal::BadRange => error_line(alloc, RequestError::BadRange),
+        TextRefusal::SplitsChar { end } => error_line(
+            alloc,
+            RequestError::SplitsChar { key: key_of(end) },
+        ),
+        TextRefusal::TextTooLong { bytes } => error_line(
+            alloc,
+            RequestError::TextTooLong { bytes },
+        ),
+        TextRefusal::NoMemory => Line::Memory,
+    }
+}
+
+/// The reply of these types, or of none.
+fn types_reply(types: Vec<Typed>) -> Reply
+    ensures { said_of result ≡ types_or_none (map typed_of types.items) }
+{
+    if types.is_empty() {
+        Reply::Failure(Failure::NoNode)
+    } else {
+        Reply::Types(types)
+    }
+}
+
+/// How many items and faults a text has.
+#[derive(Clone, Copy, Debug, PartialEq, Eq)]
+pub struct Sizes {
+    pub items: u64,
+    /// Those of the parser and of the typer with its warnings, all of them.
+    pub faults: u64,
+}
+
+/// The sizes of a parsed text with so many faults of the typer.
+fn sizes_of(parsed: &Parsed, typed: usize) -> Sizes
+    requires { typed < 2 ^ 63 }
+    ensures items { result.items ≡ length (trees_of parsed.now.tree) }
+    ensures faults { result.faults ≡ length (map fault_of parsed.now.faults.items) + typed }
+{
+    Sizes {
+        items: parsed.tree.items.len() as u64,
+        faults: parsed.faults.len() as u64 + typed as u64,
+    }
+}
+
+/// A session: one text, empty at first, whose types and names an `A` finds.
+#[derive(Drop)]
+pub struct Session<A: Analyser> {
+    alloc: Global,
+    store: TextStore,
+    analyser: PhantomData<A>,
+}
+
+/// A session is seen as the bytes of its text.
+impl<A: Analyser> Model for Session<A> {
+    ghost use Rattle.std.specs.Prelude.{List, ℕ};
+
+    ghost Value = { List ℕ };
+
+    ghost view = { λ s. s.store };
+}
+
+impl<A: Analyser> Session<A> {
+    /// A session with the empty text.
+    pub fn new(alloc: Global) -> Session<A>
+        ensures { result ≡ [] }
+    {
+        Session {
+            alloc,
+            store: TextStore::new(alloc),
+            analyser: PhantomData,
+        }
+    }
+
+    /// Answers one line that isn't blank. Only a `tell` that is accepted changes the text.
+    pub fn answer<C: Counts>(&mut self, line: &[u8], counts: &mut C) -> Line
+        ensures answers { Answers self.old line.now (line_bytes result) self.new }
+        ensures counted { Grows (C.tallies counts.old) (C.tallies counts.new) }
+    {
+        match read_request(self.alloc, line) {
+            Ok(request) => self.reply_to(request, counts),
+            Err(malformed) => malformed_line(self.alloc, malformed),
+        }
+    }
+
+    /// Answers a request.
+    fn reply_to<C: Counts>(&mut self, request: Request, counts: &mut C) -> Line
+        ensures replies { RepliesBy self.old (asked_of request) result self.new }
+        ensures counted { Grows (C.tallies counts.old) (C.tallies counts.new) }
+    {
+        match request {
+            Request::Tell { range, text } => self.tell(range, text),
+            Request::TypeEnclosing { at } => self.type_enclosing(at, counts),
+            Request::CompletePrefix { at, prefix } => self.query_at(
+                &Query::Complete(prefix),
+                at,
+                counts,
+            ),
+            Request::Locate { at } => self.query_at(&Query::Locate, at, counts),
+            Request::Occurrences { at } => self.query_at(&Query::Occurrences, at, counts),
+            Request::Outline => self.outline_line(counts),
+            Request::Errors => self.errors_line(counts),
+            Request::CaseAnalysis { at } => self.query_at(&Query::Cases, at, counts),
+            Request::Construct { at } => self.query_at(&Query::Terms, at, counts),
+        }
+    }
+
+    /// Makes an edit, or replaces the whole text. The reply is made before the text is changed.
+    fn tell(&mut self, range: Option<(Pos, Pos)>, text: RcStr) -> Line
+        ensures { RepliesBy self.old (tell_spec (option_map range_of range) (str_bytes text)) result self.new }
+    {
+        let edit = self.edit_for(range, text);
+        match written(self.alloc, &Reply::Size(self.len_after(&edit))) {
+            Line::Memory => Line::Memory,
+            Line::Written(bytes) => match self.store.apply(&edit) {
+                Ok(_) => Line::Written(bytes),
+                Err(refusal) => refused_edit_line(self.alloc, refusal),
+            },
+        }
+    }
+
+    /// The edit that a `tell` makes: without a range, one from the first place to the last.
+    fn edit_for(&self, range: Option<(Pos, Pos)>, text: RcStr) -> Edit
+        ensures { outcome_of self.now (edit_of result) ≡ tell_outcome self.now (option_map range_of range) (str_bytes text) }
+    {
+        match range {
+            Some((start, end)) => Edit { start, end, text },
+            None => Edit {
+                start: Pos { line: 1, col: 0 },
+                end: self.last_place(),
+                text,
+            },
+        }
+    }
+
+    /// The position behind the last byte.
+    fn last_place(&self) -> Pos
+        ensures place { (result.line, result.col) ≡ position_of self.now (length self.now) }
+        ensures utf8 { IsUtf8 self.now }
+    {
+        let (left, right) = self.store.slices();
+        self.store.pos_of((left.len() + right.len()) as u32)
+    }
+
+    /// How many bytes the text has once the edit is made; of an edit that is refused it tells nothing.
+    fn len_after(&self, edit: &Edit) -> u64
+        ensures { (first : ℕ) (new : List ℕ) → outcome_of self.now (edit_of edit.now) ≡ changed first new → result ≡ length new }
+    {
+        let Ok(start) = self.store.offset_of(edit.start) else {
+            return 0;
+        };
+        let Ok(end) = self.store.offset_of(edit.end) else {
+            return 0;
+        };
+        let cut = end.saturating_sub(start);
+        let kept = self.store.len().saturating_sub(cut);
+        (kept as u64).saturating_add(edit.text.as_str().len() as u64)
+    }
+
+    /// How many bytes the text has.
+    pub fn len(&self) -> u64
+        ensures { result ≡ length self.now }
+    {
+        self.store.len() as u64
+    }
+
+    /// Puts bytes behind the text, by the edit of a `tell`. Where the text would be too long, memory counts as short.
+    pub fn append(&mut self, text: RcStr) -> Result<(), NoMemory>
+        ensures { OnOk result (self.new ≡ self.old ++ str_bytes text) }
+    {
+        let end = self.last_place();
+        let edit = Edit {
+            start: end,
+            end,
+            text,
+        };
+        match self.store.apply(&edit) {
+            Ok(_) => Ok(()),
+            Err(_) => Err(AllocError),
+        }
+    }
+
+    /// A query of a position.
+    fn query_at<C: Counts>(&self, query: &Query, at: Pos, counts: &mut C) -> Line
+        ensures says { Says (PlacedIs (offset self.now at.line at.col) (IsAnswered query.now self.now)) result }
+        ensures counted { Grows (C.tallies counts.old) (C.tallies counts.new) }
+    {
+        match self.store.offset_of(at) {
+            Ok(offset) => self.query_line(query, offset, counts),
+            Err(_) => error_line(self.alloc, RequestError::BadPosition { key: Key::At }),
+        }
+    }
+
+    fn query_line<C: Counts>(&self, query: &Query, offset: u32, counts: &mut C) -> Line
+        ensures says { Says (IsAnswered query.now self.now offset) result }
+        ensures counted { Grows (C.tallies counts.old) (C.tallies counts.new) }
+    {
+        match ask::<A, C>(self.alloc, &self.store, query, offset, counts) {
+            Ok(reply) => written(self.alloc, &reply),
+            Err(_) => Line::Memory,
+        }
+    }
+
+    /// The outline of the text.
+    fn outline_line<C: Counts>(&self, counts: &mut C) -> Line
+        ensures says { Says (OutlineIs self.now) result }
+        ensures counted { Grows (C.tallies counts.old) (C.tallies counts.new) }
+    {
+        match self.outline(counts) {
+            Ok(members) => written(self.alloc, &Reply::Outline(members)),
+            Err(_) => Line::Memory,
+        }
+    }
+
+    fn outline<C: Counts>(&self, counts: &mut C) -> Result<Vec<Outlined>, NoMemory>
+        ensures said { IfOk result (λ v. OutlineIs self.now (outline (outline_of (map outlined_of v.items)))) }
+        ensures counted { Grows (C.tallies counts.old) (C.tallies counts.new) }
+    {
+        let (left, right) = self.store.slices();
+        let parsed = parse_text(self.alloc, left, right, counts)?;
+        let members = query_engine::outline(self.alloc, &parsed.tree)?;
+        shown_outline(self.alloc, &self.store, &members)
+    }
+
+    /// The faults of the text.
+    fn errors_line<C: Counts>(&self, counts: &mut C) -> Line
+        ensures says { Says (ErrorsAre self.now) result }
+        ensures counted { Grows (C.tallies counts.old) (C.tallies counts.new) }
+    {
+        match self.errors(counts) {
+            Ok(reply) => written(self.alloc, &reply),
+            Err(_) => Line::Memory,
+        }
+    }
+
+    fn errors<C: Counts>(&self, counts: &mut C) -> Result<Reply, NoMemory>
+        ensures said { IfOk result (λ r. ErrorsAre self.now (said_of r)) }
+        ensures counted { Grows (C.tallies counts.old) (C.tallies counts.new) }
+    {
+        let (left, right) = self.store.slices();
+        let read = read_text(self.alloc, left, right, counts)?;
+        if read.is_well_typed() {
+            return self.page_of(&read.parsed.faults, &[]);
+        }
+        self.typed_errors(&read.parsed, counts)
+    }
+
+    /// The faults of a parsed text, whose types may be wrong.
+    fn typed_errors<C: Counts>(&self, parsed: &Parsed, counts: &mut C) -> Result<Reply, NoMemory>
+        ensures said { IfOk result (λ r. FaultsAre self.now (map fault_of parsed.now.faults.items) (said_of r)) }
+        ensures counted { Grows (C.tallies counts.old) (C.tallies counts.new) }
+    {
+        let analysis = A::analyse(self.alloc, &parsed.tree, counts)?;
+        self.page_of(&parsed.faults, &analysis.faults.list)
+    }
+
+    /// The page of the parser's faults and of the typer's.
+    fn page_of(&self, parsed: &[SyntaxFault], typed: &[Fault]) -> Result<Reply, NoMemory>
+        ensures { IfOk result (λ r. said_of r ≡ faults_said self.now (map fault_of parsed.now ++ map by_typer (map typer_fault_of typed.now))) }
+    {
+        let page = query_engine::errors(self.alloc, parsed, typed)?;
+        Ok(Reply::Faults {
+            list: shown_faults(self.alloc, &self.store, &page.list)?,
+            more: page.more,
+        })
+    }
+
+    /// How many items and faults the text has, by the query that `errors` makes.
+    pub fn sizes<C: Counts>(&self, counts: &mut C) -> Result<Sizes, NoMemory>
+        ensures sizes { IfOk result (λ s. SizesAre self.now s.items s.faults) }
+        ensures counted { Grows (C.tallies counts.old) (C.tallies counts.new) }
+    {
+        let (left, right) = self.store.slices();
+        let read = read_text(self.alloc, left, right, counts)?;
+        if read.is_well_typed() {
+            return Ok(sizes_of(&read.parsed, 0));
+        }
+        let typed = self.count_typed(&read.parsed, counts)?;
+        Ok(sizes_of(&read.parsed, typed))
+    }
+
+    /// How many faults of the typer a parsed text has, its warnings among them.
+    fn count_typed<C: Counts>(&self, parsed: &Parsed, counts: &mut C) -> Result<usize, NoMemory>
+        ensures faults { IfOk result (λ n. (typed : List TyperFault) × (n ≡ length typed)) }
+        ensures fits { IfOk result (λ n. n < 2 ^ 63) }
+        ensures counted { Grows (C.tallies counts.old) (C.tallies counts.new) }
+    {
+        let analysis = A::analyse(self.alloc, &parsed.tree, counts)?;
+        Ok(analysis.faults.list.len())
+    }
+
+    /// The types round a position, innermost first.
+    fn type_enclosing<C: Counts>(&self, at: Pos, counts: &mut C) -> Line
+        ensures says { Says (PlacedIs (offset self.now at.line at.col) (EnclosingIs self.now)) result }
+        ensures counted { Grows (C.tallies counts.old) (C.tallies counts.new) }
+    {
+        match self.store.offset_of(at) {
+            Ok(offset) => self.enclosing_line(offset, counts),
+            Err(_) => error_line(self.alloc, RequestError::BadPosition { key: Key::At }),
+        }
+    }
+
+    fn enclosing_line<C: Counts>(&self, offset: u32, counts: &mut C) -> Line
+        ensures says { Says (EnclosingIs self.now offset) result }
+        ensures counted { Grows (C.tallies counts.old) (C.tallies counts.new) }
+    {
+        match self.enclosing(offset, counts) {
+            Ok(reply) => written(self.alloc, &reply),
+            Err(_) => Line::Memory,
+        }
+    }
+
+    fn enclosing<C: Counts>(&self, offset: u32, counts: &mut C) -> Result<Reply, NoMemory>
+        ensures said { IfOk result (λ r. EnclosingIs self.now offset (said_of r)) }
+        ensures counted { Grows (C.tallies counts.old) (C.tallies counts.new) }
+    {
+        let (left, right) = self.store.slices();
+        let read = read_text(self.alloc, left, right, counts)?;
+        match &read.plain {
+            Some(plain) => self.plain_types(plain, offset),
+            None => self.types_in(&read.parsed.tree, offset, counts),
+        }
+    }
+
+    /// The types round an offset of a plain text, innermost first.
+    fn plain_types(&self, plain: &PlainText, offset: u32) -> Result<Reply, NoMemory>
+        requires sized { AreItemsSized (trees_of plain.now.tree) }
+        requires items { length (trees_of plain.now.tree) < 2 ^ 32 - 1 }
+        requires within { AllSeenWithin (length self.now) (map seen_of plain.now.seen.items) }
+        ensures { IfOk result (λ r. said_of r ≡ types_or_none (typed_among_spec self.now (map seen_of plain.now.seen.items) (reverse (nodes_at offset (trees_of plain.now.tree))))) }
+    {
+        let ids = enclosing(self.alloc, &plain.tree, offset)?;
+        Ok(types_reply(typed_among(self.alloc, &self.store, &plain.seen, &ids)?))
+    }
+
+    /// The types round an offset of a text with this tree, innermost first.
+    fn types_in<C: Counts>(
+        &self,
+        tree: &Tree,
+        offset: u32,
+        counts: &mut C,
+    ) -> Result<Reply, NoMemory>
+        ensures said { IfOk result (λ r. TypesAre self.now (typed_round offset (trees_of tree.now)) (said_of r)) }
+        ensures counted { Grows (C.tallies counts.old) (C.tallies counts.new) }
+    {
+        let analysis = A::analyse(self.alloc, tree, counts)?;
+        self.types_of(&asked(tree, &analysis), offset)
+    }
+
+    fn types_of(&self, asked: &Asked<'_>, offset: u32) -> Result<Reply, NoMemory>
+        ensures { IfOk result (λ r. TypesAre self.now (typed_round offset (trees_of asked.now.tree.now)) (said_of r)) }
+    {
+        match enclosing_types(self.alloc, asked, offset) {
+            Ok(types) => Ok(types_reply(shown_types(self.alloc, &self.store, &types)?)),
+            Err(fault) => Ok(Reply::Failure(failure_of(fault)?)),
+        }
+    }
+}
