@@ -1,340 +1,369 @@
-ghost use Rattle.std.specs.Prelude.{◌<◌, length};
-
+//! What paths, labels and origins find in environments.
+use crate::entries::{Made, Name, Step, numbered, origin, with};
 use env_table::*;
 use std::alloc::{AllocError, Global};
-use std::rc::Rc;
 use std::test::Fail;
-use text_terms::{RcStr, Span};
+use text_terms::RcStr;
 
-/// An entry whose place tells it from others.
-fn entry(alloc: Global, name: &str, kind: Kind, what: What, at: u32) -> Result<Rc<Entry>, NoMemory>
-    requires { at < 2000000 }
-{
-    let entry = Entry {
-        name: RcStr::from_str(alloc, name)?,
-        kind,
-        place: Place::Buffer(Span {
-            start: at,
-            end: at + 1,
-        }),
-        what,
-    };
-    Rc::new(alloc, entry).map_err(|_| AllocError)
+/// What is found.
+enum Wanted {
+    /// An entry that starts here
+    At(u32),
+    Hole,
+    Nothing,
 }
 
-/// A module of what is known of it.
-fn module(alloc: Global, name: &str, sig: Sig, at: u32) -> Result<Rc<Entry>, NoMemory>
-    requires { at < 2000000 }
-{
-    let sig = Rc::new(alloc, sig)?;
-    entry(alloc, name, Kind::Module, What::Module(sig), at)
+/// A name after the names of modules.
+type Written = (&'static [Name], Name);
+
+/// What is asked of an environment, with the answer.
+enum Asked {
+    /// Where a path leads, to an entry of a kind
+    Path(Written, Kind, Wanted),
+    /// The record type of some labels
+    Labels(&'static [Name], Wanted),
+    /// The record type of one label of a module
+    LabelOf(Written, Wanted),
+    /// The module at the end of some names
+    Module(&'static [Name], Wanted),
+    /// The place of the first name that leads to no module
+    LostModule(&'static [Name], Option<usize>),
+    /// The names of the types that may make an origin, the newest first
+    Makers(Made, &'static [Name]),
+    /// The names of all entries, the newest first
+    Entries(&'static [Name]),
+    /// The names inside a module, the newest first
+    Inside(Name, &'static [Name]),
+    /// Whether each of so many values is found by its number
+    Numbered(u32),
 }
 
-/// A structure with values of a name, the second of which stands behind the first.
-fn structure(alloc: Global, name: &str, at: u32) -> Result<Sig, NoMemory>
-    requires { at < 1000 }
-{
-    let mut entries = Vec::new(alloc);
-    for k in 0..2 {
-        let value = entry(alloc, name, Kind::Value, What::Scheme(NodeRef(0)), at + k)?;
-        entries.push(value)?;
+/// The environment that is asked.
+enum Scope {
+    Whole,
+    /// Nothing but what opening a module adds
+    Opened(Name),
+    /// The whole with what opening a module adds
+    WholeWith(Name),
+}
+
+fn names_of(alloc: Global, names: &[Name]) -> Result<Vec<RcStr>, NoMemory> {
+    let mut found = Vec::new(alloc);
+    for name in names {
+        found.push(RcStr::from_str(alloc, name)?)?;
     }
-    Ok(Sig::Structure(Components { entries }))
+    Ok(found)
 }
 
-fn path(alloc: Global, module: Option<&str>, last: &str) -> Result<Path, NoMemory> {
-    let mut modules = Vec::new(alloc);
-    if let Some(name) = module {
-        modules.push(RcStr::from_str(alloc, name)?)?;
-    }
-    Ok(Path {
-        modules,
-        last: RcStr::from_str(alloc, last)?,
-    })
+fn path(alloc: Global, modules: &[Name], last: &str) -> Result<Path, NoMemory> {
+    let modules = names_of(alloc, modules)?;
+    let last = RcStr::from_str(alloc, last)?;
+    Ok(Path { modules, last })
 }
 
-/// An environment with labels of a record type, the first of them the oldest.
-fn with_record(
-    alloc: Global,
-    env: &Env,
-    made: u64,
-    names: &[&str],
-    at: u32,
-) -> Result<Env, NoMemory>
-    requires place { at < 1000 }
-    requires few { length names.now < 1000 }
-{
-    let origin = Origin {
-        path: [made].to_vec(alloc)?,
-        name: RcStr::from_str(alloc, "t")?,
-    };
-    let declaration = Rc::new(
-        alloc,
-        Declaration {
-            arity: 0,
-            origin: None,
-            defines: Some(origin),
-            root: NodeRef(0),
-            shape: Shape::Labels(Vec::new(alloc)),
-        },
-    )?;
-    let mut env = env.share()?;
-    for (k, name) in names.iter().enumerate() {
-        let own = Rc::clone(&declaration)?;
-        let what = What::Label(own, k as u32);
-        env = env.add(alloc, entry(alloc, name, Kind::Label, what, at + k as u32)?)?;
-    }
-    Ok(env)
-}
-
-/// A type of a declaration that makes an origin, where one is given.
-fn type_entry(
-    alloc: Global,
-    name: &str,
-    made: Option<Origin>,
-    at: u32,
-) -> Result<Rc<Entry>, NoMemory>
-    requires { at < 1000 }
-{
-    let declaration = Rc::new(
-        alloc,
-        Declaration {
-            arity: 0,
-            origin: made,
-            defines: None,
-            root: NodeRef(0),
-            shape: Shape::Opaque,
-        },
-    )?;
-    entry(alloc, name, Kind::TypeName, What::Type(declaration), at)
-}
-
-fn origin(alloc: Global, number: u64) -> Result<Origin, NoMemory> {
-    Ok(Origin {
-        path: [number].to_vec(alloc)?,
-        name: RcStr::from_str(alloc, "t")?,
-    })
-}
-
-/// Where what was found starts; None for a hole and for nothing.
-fn start_of(found: Found<'_>) -> Option<u32> {
+fn starts_at(found: Found<'_>, at: u32) -> bool {
     match found {
         Found::Entry(entry) => match entry.place {
-            Place::Buffer(span) => Some(span.start),
-            _ => None,
+            Place::Buffer(span) => span.start == at,
+            _ => false,
         },
-        _ => None,
-    }
-}
-
-fn is_hole(found: Found<'_>) -> bool {
-    match found {
-        Found::Hole => true,
         _ => false,
     }
 }
 
-fn is_nothing(found: Found<'_>) -> bool {
-    match found {
-        Found::Nothing => true,
+fn is_found(found: Found<'_>, wanted: &Wanted) -> bool {
+    match (found, wanted) {
+        (found, Wanted::At(at)) => starts_at(found, *at),
+        (Found::Hole, Wanted::Hole) => true,
+        (Found::Nothing, Wanted::Nothing) => true,
         _ => false,
     }
 }
 
-#[test]
-fn the_newest_of_a_kind_is_found(rt: HostRuntime) -> Result<(), Fail> {
-    let alloc = rt.alloc();
-    let x = path(alloc, None, "x")?;
-    let first = Env::empty().add(
-        alloc,
-        entry(alloc, "x", Kind::Value, What::Scheme(NodeRef(0)), 0)?,
-    )?;
-    let second = first.add(
-        alloc,
-        entry(alloc, "x", Kind::Value, What::Scheme(NodeRef(1)), 4)?,
-    )?;
-    assert_eq!(rt; start_of(first.lookup(&x, Kind::Value)), Some(0));
-    assert_eq!(rt; start_of(second.lookup(&x, Kind::Value)), Some(4));
-    assert!(rt; is_nothing(second.lookup(&x, Kind::TypeName)));
-    Ok(())
-}
-
-#[test]
-fn a_module_that_is_not_known_may_have_anything(rt: HostRuntime) -> Result<(), Fail> {
-    let alloc = rt.alloc();
-    let env = Env::empty().add(alloc, module(alloc, "M", Sig::Hole, 0)?)?;
-    assert!(rt; is_hole(env.lookup(&path(alloc, Some("M"), "x")?, Kind::Value)));
-    assert!(rt; is_nothing(env.lookup(&path(alloc, Some("N"), "x")?, Kind::Value)));
-    let label = path(alloc, Some("M"), "l")?;
-    assert!(rt; is_hole(env.record_type(&[label])));
-    assert!(rt;
-        env.open_module(alloc, &Sig::Hole)?
-            .entries()
-            .split_first()
-            .is_some()
-    );
-    Ok(())
-}
-
-/// The types that make an origin are found by it, the newest first, whatever they are named, and no other of these.
-#[test]
-fn an_origin_finds_what_makes_it(rt: HostRuntime) -> Result<(), Fail> {
-    let alloc = rt.alloc();
-    let mut env = Env::empty();
-    env = env.add(alloc, type_entry(alloc, "t", Some(origin(alloc, 5)?), 1)?)?;
-    env = env.add(alloc, type_entry(alloc, "u", Some(origin(alloc, 6)?), 2)?)?;
-    env = env.add(alloc, type_entry(alloc, "v", Some(origin(alloc, 5)?), 3)?)?;
-    env = env.add(alloc, type_entry(alloc, "t", None, 4)?)?;
-    let five = env.makers(&origin(alloc, 5)?);
-    let Some((newest, older)) = five.split_first() else {
-        return Err(Fail::new("no type"));
-    };
-    assert!(rt; newest.name.is("v"));
-    let Some((oldest, others)) = older.split_first() else {
-        return Err(Fail::new("no type"));
-    };
-    assert!(rt; oldest.name.is("t"));
-    assert!(rt; others.split_first().is_none());
-    let seven = env.makers(&origin(alloc, 7)?);
-    assert!(rt; seven.split_first().is_none());
-    Ok(())
-}
-
-/// `module M = struct let x = .. let x = .. end`
-#[test]
-fn a_module_has_its_newest_component(rt: HostRuntime) -> Result<(), Fail> {
-    let alloc = rt.alloc();
-    let sig = structure(alloc, "x", 5)?;
-    let opened = Env::empty().open_module(alloc, &sig)?;
-    let env = Env::empty().add(alloc, module(alloc, "M", sig, 0)?)?;
-    assert_eq!(rt;
-        start_of(env.lookup(&path(alloc, Some("M"), "x")?, Kind::Value)),
-        Some(6)
-    );
-    assert!(rt; is_nothing(env.lookup(&path(alloc, Some("M"), "y")?, Kind::Value)));
-    assert!(rt; is_nothing(env.lookup(&path(alloc, None, "x")?, Kind::Value)));
-    assert_eq!(rt;
-        start_of(opened.lookup(&path(alloc, None, "x")?, Kind::Value)),
-        Some(6)
-    );
-    let newer = env.add(alloc, module(alloc, "M", structure(alloc, "y", 20)?, 30)?)?;
-    assert!(rt; is_nothing(newer.lookup(&path(alloc, Some("M"), "x")?, Kind::Value)));
-    assert_eq!(rt;
-        start_of(newer.lookup(&path(alloc, Some("M"), "y")?, Kind::Value)),
-        Some(21)
-    );
-    Ok(())
-}
-
-/// `module F (X : S) = ..`
-#[test]
-fn a_functor_has_nothing_inside(rt: HostRuntime) -> Result<(), Fail> {
-    let alloc = rt.alloc();
-    let parameter = template(alloc, structure(alloc, "x", 0)?)?;
-    let body = template(alloc, structure(alloc, "y", 5)?)?;
-    let functor = Sig::Functor(parameter, body);
-    assert!(rt; functor.entries().split_first().is_none());
-    let opened = Env::empty().open_module(alloc, &functor)?;
-    assert!(rt; opened.entries().split_first().is_none());
-    let env = Env::empty().add(alloc, module(alloc, "F", functor, 9)?)?;
-    assert!(rt; is_nothing(env.lookup(&path(alloc, Some("F"), "y")?, Kind::Value)));
-    Ok(())
-}
-
-fn template(alloc: Global, sig: Sig) -> Result<Rc<Template>, NoMemory> {
-    let sig = Rc::new(alloc, sig)?;
-    let made = Vec::new(alloc);
-    Rc::new(alloc, Template { made, sig }).map_err(|_| AllocError)
-}
-
-/// `M.N.O` where only M and its N are there, and N isn't known
-#[test]
-fn the_first_module_that_is_not_there_is_told(rt: HostRuntime) -> Result<(), Fail> {
-    let alloc = rt.alloc();
-    let mut entries = Vec::new(alloc);
-    entries.push(module(alloc, "N", Sig::Hole, 1)?)?;
-    let outer = Sig::Structure(Components { entries });
-    let env = Env::empty().add(alloc, module(alloc, "M", outer, 0)?)?;
-    let names = path_names(alloc, &["M", "N", "O"])?;
-    assert_eq!(rt; env.lost_module(&names), None);
-    assert_eq!(rt; env.lost_module(&path_names(alloc, &["N", "O"])?), Some(0));
-    assert_eq!(rt;
-        env.lost_module(&path_names(alloc, &["M", "O", "N"])?),
-        Some(1)
-    );
-    assert_eq!(rt;
-        start_of(env.module_behind(&path_names(alloc, &["M", "N"])?)),
-        Some(1)
-    );
-    assert!(rt; is_hole(env.module_behind(&names)));
-    assert!(rt; is_nothing(env.module_behind(&[])));
-    Ok(())
-}
-
-fn path_names(alloc: Global, names: &[&str]) -> Result<Vec<RcStr>, NoMemory> {
-    let mut modules = Vec::new(alloc);
+fn are_named(entries: Entries<'_>, names: &[Name]) -> bool {
+    let mut rest = entries;
     for name in names {
-        modules.push(RcStr::from_str(alloc, name)?)?;
+        match rest.split_first() {
+            Some((entry, older)) if entry.name.is(name) => rest = older,
+            _ => return false,
+        }
     }
-    Ok(modules)
+    rest.split_first().is_none()
 }
 
-/// `type a = { l : int; m : int }  type b = { l : int; n : int }`
+fn module_of<'a>(env: &'a Env, name: &str) -> Result<&'a Sig, NoMemory> {
+    match env.newest(Kind::Module, name) {
+        Some(entry) => match &entry.what {
+            What::Module(sig) => Ok(sig),
+            _ => Err(AllocError),
+        },
+        None => Err(AllocError),
+    }
+}
+
+fn record(alloc: Global, env: &Env, labels: &[Name], wanted: &Wanted) -> Result<bool, NoMemory> {
+    let mut paths = Vec::new(alloc);
+    for label in labels {
+        paths.push(path(alloc, &[], label)?)?;
+    }
+    Ok(is_found(env.record_type(&paths), wanted))
+}
+
+fn is_at(alloc: Global, env: &Env, number: u32) -> Result<bool, NoMemory> {
+    let name = numbered(alloc, number)?;
+    let path = path(alloc, &[], &name)?;
+    Ok(starts_at(env.lookup(&path, Kind::Value), number))
+}
+
+fn are_at(alloc: Global, env: &Env, count: u32) -> Result<bool, NoMemory> {
+    for number in 0..count {
+        if !is_at(alloc, env, number)? {
+            return Ok(false);
+        }
+    }
+    Ok(true)
+}
+
+fn is_answered(alloc: Global, env: &Env, asked: &Asked) -> Result<bool, NoMemory> {
+    match asked {
+        Asked::Path(of, kind, wanted) => {
+            let path = path(alloc, of.0, of.1)?;
+            Ok(is_found(env.lookup(&path, *kind), wanted))
+        }
+        Asked::Labels(labels, wanted) => record(alloc, env, labels, wanted),
+        Asked::LabelOf(of, wanted) => {
+            let label = path(alloc, of.0, of.1)?;
+            Ok(is_found(env.record_type(&[label]), wanted))
+        }
+        Asked::Module(names, wanted) => {
+            let names = names_of(alloc, names)?;
+            Ok(is_found(env.module_behind(&names), wanted))
+        }
+        Asked::LostModule(names, wanted) => {
+            let names = names_of(alloc, names)?;
+            Ok(env.lost_module(&names) == *wanted)
+        }
+        Asked::Makers(made, names) => Ok(are_named(env.makers(&origin(alloc, *made)?), names)),
+        Asked::Entries(names) => Ok(are_named(env.entries(), names)),
+        Asked::Inside(module, names) => Ok(are_named(module_of(env, module)?.entries(), names)),
+        Asked::Numbered(count) => are_at(alloc, env, *count),
+    }
+}
+
+fn opened(alloc: Global, of: &Env, env: &Env, module: &str) -> Result<Env, NoMemory> {
+    of.open_module(alloc, module_of(env, module)?)
+}
+
+fn is_answered_in(
+    alloc: Global,
+    env: &Env,
+    scope: &Scope,
+    asked: &Asked,
+) -> Result<bool, NoMemory> {
+    match scope {
+        Scope::Whole => is_answered(alloc, env, asked),
+        Scope::Opened(name) => {
+            let empty = Env::empty();
+            is_answered(alloc, &opened(alloc, &empty, env, name)?, asked)
+        }
+        Scope::WholeWith(name) => is_answered(alloc, &opened(alloc, env, env, name)?, asked),
+    }
+}
+
+/// A name, what an environment has, and what is asked.
+type Case = (&'static str, &'static [Step], &'static [(Scope, Asked)]);
+
+const FIVE: Made = (5, "t");
+
+const CASES: &[Case] = &[
+    (
+        "one of a kind",
+        &[Step::Value("x", 0)],
+        &[(
+            Scope::Whole,
+            Asked::Path((&[], "x"), Kind::Value, Wanted::At(0)),
+        )],
+    ),
+    (
+        "the newest of a kind",
+        &[Step::Value("x", 0), Step::Value("x", 4)],
+        &[
+            (
+                Scope::Whole,
+                Asked::Path((&[], "x"), Kind::Value, Wanted::At(4)),
+            ),
+            (
+                Scope::Whole,
+                Asked::Path((&[], "x"), Kind::TypeName, Wanted::Nothing),
+            ),
+        ],
+    ),
+    (
+        "a module that is not known may have anything",
+        &[Step::Hole("M", 0)],
+        &[
+            (
+                Scope::Whole,
+                Asked::Path((&["M"], "x"), Kind::Value, Wanted::Hole),
+            ),
+            (
+                Scope::Whole,
+                Asked::Path((&["N"], "x"), Kind::Value, Wanted::Nothing),
+            ),
+            (Scope::Whole, Asked::LabelOf((&["M"], "l"), Wanted::Hole)),
+            (Scope::WholeWith("M"), Asked::Entries(&["M"])),
+        ],
+    ),
+    // the types that make an origin are found by it, whatever they are named, and no other of these
+    (
+        "an origin finds what makes it",
+        &[
+            Step::Type("t", Some(FIVE), None, 1),
+            Step::Type("u", Some((6, "t")), None, 2),
+            Step::Type("v", Some(FIVE), None, 3),
+            Step::Type("t", None, None, 4),
+        ],
+        &[
+            (Scope::Whole, Asked::Makers(FIVE, &["v", "t"])),
+            (Scope::Whole, Asked::Makers((7, "t"), &[])),
+        ],
+    ),
+    // module M = struct let x = .. let x = .. end
+    (
+        "a module has its newest component",
+        &[
+            Step::Value("x", 5),
+            Step::Value("x", 6),
+            Step::Structure("M", 2, 0),
+        ],
+        &[
+            (
+                Scope::Whole,
+                Asked::Path((&["M"], "x"), Kind::Value, Wanted::At(6)),
+            ),
+            (
+                Scope::Whole,
+                Asked::Path((&["M"], "y"), Kind::Value, Wanted::Nothing),
+            ),
+            (
+                Scope::Whole,
+                Asked::Path((&[], "x"), Kind::Value, Wanted::Nothing),
+            ),
+            (
+                Scope::Opened("M"),
+                Asked::Path((&[], "x"), Kind::Value, Wanted::At(6)),
+            ),
+        ],
+    ),
+    (
+        "a newer module hides an older one",
+        &[
+            Step::Value("x", 5),
+            Step::Value("x", 6),
+            Step::Structure("M", 2, 0),
+            Step::Value("y", 20),
+            Step::Value("y", 21),
+            Step::Structure("M", 2, 30),
+        ],
+        &[
+            (
+                Scope::Whole,
+                Asked::Path((&["M"], "x"), Kind::Value, Wanted::Nothing),
+            ),
+            (
+                Scope::Whole,
+                Asked::Path((&["M"], "y"), Kind::Value, Wanted::At(21)),
+            ),
+        ],
+    ),
+    // module F (X : S) = ..
+    (
+        "a functor has nothing inside",
+        &[
+            Step::Value("x", 0),
+            Step::Value("y", 5),
+            Step::Functor("F", 9),
+        ],
+        &[
+            (Scope::Whole, Asked::Inside("F", &[])),
+            (Scope::Opened("F"), Asked::Entries(&[])),
+            (
+                Scope::Whole,
+                Asked::Path((&["F"], "y"), Kind::Value, Wanted::Nothing),
+            ),
+        ],
+    ),
+    // M.N.O where only M and its N are there, and N isn't known
+    (
+        "the first module that is not there",
+        &[Step::Hole("N", 1), Step::Structure("M", 1, 0)],
+        &[
+            (Scope::Whole, Asked::LostModule(&["M", "N", "O"], None)),
+            (Scope::Whole, Asked::LostModule(&["N", "O"], Some(0))),
+            (Scope::Whole, Asked::LostModule(&["M", "O", "N"], Some(1))),
+            (Scope::Whole, Asked::Module(&["M", "N"], Wanted::At(1))),
+            (Scope::Whole, Asked::Module(&["M", "N", "O"], Wanted::Hole)),
+            (Scope::Whole, Asked::Module(&[], Wanted::Nothing)),
+        ],
+    ),
+    // type a = { l : int; m : int }  type b = { l : int; n : int }
+    (
+        "every label decides the record type",
+        &[
+            Step::Labels(5, &["l", "m"], 0),
+            Step::Labels(6, &["l", "n"], 10),
+        ],
+        &[
+            (Scope::Whole, Asked::Labels(&[], Wanted::At(11))),
+            (Scope::Whole, Asked::Labels(&["l"], Wanted::At(10))),
+            (Scope::Whole, Asked::Labels(&["l", "m"], Wanted::At(0))),
+            (
+                Scope::Whole,
+                Asked::Labels(&["l", "m", "n"], Wanted::Nothing),
+            ),
+        ],
+    ),
+    // as many names as a long text may have are found without a walk over all, and let go without a call for each
+    (
+        "many names",
+        &[Step::NumberedValues(20_000)],
+        &[(Scope::Whole, Asked::Numbered(20_000))],
+    ),
+    // one name many times is let go without a call for each
+    (
+        "a name many times",
+        &[Step::SameValues("x", 100_000)],
+        &[(
+            Scope::Whole,
+            Asked::Path((&[], "x"), Kind::Value, Wanted::At(99_999)),
+        )],
+    ),
+];
+
+fn are_answered(alloc: Global, steps: &[Step], asked: &[(Scope, Asked)]) -> Result<bool, NoMemory> {
+    let env = with(alloc, Env::empty(), steps)?;
+    for (scope, asked) in asked {
+        if !is_answered_in(alloc, &env, scope, asked)? {
+            return Ok(false);
+        }
+    }
+    Ok(true)
+}
+
+/// The name of the first case that is answered otherwise.
+fn first_wrong(alloc: Global, cases: &[Case]) -> Result<Option<&'static str>, NoMemory> {
+    for (name, steps, asked) in cases {
+        if !are_answered(alloc, steps, asked)? {
+            return Ok(Some(name));
+        }
+    }
+    Ok(None)
+}
+
 #[test]
-fn every_label_decides_the_record_type(rt: HostRuntime) -> Result<(), Fail> {
-    let alloc = rt.alloc();
-    let empty = Env::empty();
-    let first = with_record(alloc, &empty, 5, &["l", "m"], 0)?;
-    let env = with_record(alloc, &first, 6, &["l", "n"], 10)?;
-    let l = path(alloc, None, "l")?;
-    let m = path(alloc, None, "m")?;
-    let n = path(alloc, None, "n")?;
-    assert_eq!(rt; start_of(env.record_type(&[])), Some(11));
-    let mut labels = Vec::new(alloc);
-    labels.push(l)?;
-    assert_eq!(rt; start_of(env.record_type(&labels)), Some(10));
-    labels.push(m)?;
-    assert_eq!(rt; start_of(env.record_type(&labels)), Some(0));
-    labels.push(n)?;
-    assert!(rt; is_nothing(env.record_type(&labels)));
-    Ok(())
-}
-
-/// As many names as a long text may have are found without a walk over all, and let go without a call for each.
-#[test]
-fn many_names_are_found_and_let_go(rt: HostRuntime) -> Result<(), Fail> {
-    let alloc = rt.alloc();
-    let mut env = Env::empty();
-    for at in 0..20_000 {
-        let what = What::Scheme(NodeRef(0));
-        env = env.add(
-            alloc,
-            entry(alloc, &numbered(alloc, at)?, Kind::Value, what, at)?,
-        )?;
+fn lookups(rt: HostRuntime) -> Result<(), Fail> {
+    match first_wrong(rt.alloc(), CASES)? {
+        None => Ok(()),
+        Some(name) => Err(Fail::new(name)),
     }
-    let mut all = true;
-    for at in 0..20_000 {
-        let name = path(alloc, None, &numbered(alloc, at)?)?;
-        all = all && start_of(env.lookup(&name, Kind::Value)) == Some(at);
-    }
-    assert!(rt; all);
-    Ok(())
-}
-
-fn numbered(alloc: Global, at: u32) -> Result<String, NoMemory> {
-    format!(in alloc; "name_{at}")
-}
-
-/// One name many times is let go without a call for each.
-#[test]
-fn a_name_many_times_is_let_go(rt: HostRuntime) -> Result<(), Fail> {
-    let alloc = rt.alloc();
-    let mut env = Env::empty();
-    for at in 0..100_000 {
-        let what = What::Scheme(NodeRef(0));
-        env = env.add(alloc, entry(alloc, "x", Kind::Value, what, at)?)?;
-    }
-    let x = path(alloc, None, "x")?;
-    assert_eq!(rt; start_of(env.lookup(&x, Kind::Value)), Some(99_999));
-    Ok(())
 }

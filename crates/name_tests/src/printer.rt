@@ -1,100 +1,15 @@
+//! How types are printed, and which names origins have.
 ghost use Rattle.std.specs.Prelude.{◌≡◌, true, All};
 ghost use Rattle.type_nodes.specs.Nodes.{IsNode};
 ghost use Rattle.type_nodes.specs.Views.{numbers};
 
-use env_table::{Components, Declaration, Entry, Env, Kind, Place, Shape, Sig, What};
+use crate::entries::{Made, Step, origin, with};
+use env_table::Env;
 use std::alloc::{AllocError, Global};
-use std::rc::Rc;
 use std::test::Fail;
 use text_terms::RcStr;
-use type_nodes::{NoMemory, NodeRef, Origin, Store};
+use type_nodes::{NoMemory, NodeRef, Store};
 use type_print::*;
-
-fn origin(alloc: Global, number: u64, name: &str) -> Result<Origin, NoMemory> {
-    Ok(Origin {
-        path: [number].to_vec(alloc)?,
-        name: RcStr::from_str(alloc, name)?,
-    })
-}
-
-fn rc<T>(alloc: Global, value: T) -> Result<Rc<T>, NoMemory>
-where
-    T: Drop,
-{
-    Rc::new(alloc, value).map_err(|_| AllocError)
-}
-
-fn entry(alloc: Global, name: &str, kind: Kind, what: What) -> Result<Rc<Entry>, NoMemory> {
-    let entry = Entry {
-        name: RcStr::from_str(alloc, name)?,
-        kind,
-        place: Place::BuiltIn(0),
-        what,
-    };
-    rc(alloc, entry)
-}
-
-/// The entry of a declaration that makes an origin of the same name.
-fn made(alloc: Global, number: u64, name: &str) -> Result<Rc<Entry>, NoMemory> {
-    made_as(alloc, number, name, name)
-}
-
-/// The entry of a declaration that makes an origin, under a name that may be another than the origin's own.
-fn made_as(alloc: Global, number: u64, declared: &str, name: &str) -> Result<Rc<Entry>, NoMemory> {
-    let declaration = Declaration {
-        arity: 0,
-        origin: Some(origin(alloc, number, declared)?),
-        defines: Some(origin(alloc, number, declared)?),
-        root: NodeRef(0),
-        shape: Shape::Opaque,
-    };
-    entry(
-        alloc,
-        name,
-        Kind::TypeName,
-        What::Type(rc(alloc, declaration)?),
-    )
-}
-
-/// The entry of a declaration of another type.
-fn alias(alloc: Global, number: u64, name: &str) -> Result<Rc<Entry>, NoMemory> {
-    let declaration = Declaration {
-        arity: 0,
-        origin: None,
-        defines: Some(origin(alloc, number, name)?),
-        root: NodeRef(0),
-        shape: Shape::Opaque,
-    };
-    entry(
-        alloc,
-        name,
-        Kind::TypeName,
-        What::Type(rc(alloc, declaration)?),
-    )
-}
-
-fn module(
-    alloc: Global,
-    name: &str,
-    first: Rc<Entry>,
-    second: Option<Rc<Entry>>,
-) -> Result<Rc<Entry>, NoMemory> {
-    let mut entries = Vec::new(alloc);
-    entries.push(first)?;
-    if let Some(second) = second {
-        entries.push(second)?;
-    }
-    let sig = Sig::Structure(Components { entries });
-    entry(alloc, name, Kind::Module, What::Module(rc(alloc, sig)?))
-}
-
-/// An environment with int as 1, list as 2 and table as 3.
-fn plain(alloc: Global) -> Result<Env, NoMemory> {
-    let env = Env::empty();
-    let env = env.add(alloc, made(alloc, 1, "int")?)?;
-    let env = env.add(alloc, made(alloc, 2, "list")?)?;
-    env.add(alloc, made(alloc, 3, "table")?)
-}
 
 #[cycle(are_nodes)]
 #[tactic(auto, using(type_print::proofs::Numbers::all_more))]
@@ -122,8 +37,7 @@ fn tuple(store: &mut Store, parts: &[NodeRef]) -> Result<NodeRef, NoMemory> {
 }
 
 fn arrow(store: &mut Store, from: NodeRef, to: NodeRef) -> Result<NodeRef, NoMemory> {
-    let count = store.len();
-    if (from.0 as usize) < count && (to.0 as usize) < count {
+    if is_node(store, from) && is_node(store, to) {
         store.arrow(from, to)
     } else {
         Err(AllocError)
@@ -133,11 +47,10 @@ fn arrow(store: &mut Store, from: NodeRef, to: NodeRef) -> Result<NodeRef, NoMem
 fn con(
     alloc: Global,
     store: &mut Store,
-    number: u64,
-    name: &str,
+    made: Made,
     args: &[NodeRef],
 ) -> Result<NodeRef, NoMemory> {
-    let origin = origin(alloc, number, name)?;
+    let origin = origin(alloc, made)?;
     if are_nodes(store, args) {
         store.con(&origin, args)
     } else {
@@ -145,248 +58,388 @@ fn con(
     }
 }
 
-fn printed(
+fn put(nodes: &mut Vec<NodeRef>, node: NodeRef) -> Result<(), NoMemory> {
+    Ok(nodes.push(node)?)
+}
+
+/// Makes the first nodes of a store: two variables, a rigid one and a bound one.
+fn name_nodes(store: &mut Store) -> Result<(), NoMemory> {
+    store.var(1, 0)?;
+    store.var(1, 0)?;
+    store.rigid()?;
+    let bound = store.var(1, 0)?;
+    store.quantify(bound)
+}
+
+fn pop(nodes: &mut Vec<NodeRef>) -> Result<NodeRef, NoMemory> {
+    nodes.pop().ok_or(AllocError)
+}
+
+fn taken(alloc: Global, from: &mut Vec<NodeRef>, count: usize) -> Result<Vec<NodeRef>, NoMemory> {
+    let mut nodes = Vec::new(alloc);
+    for _ in 0..count {
+        put(&mut nodes, pop(from)?)?;
+    }
+    Ok(nodes)
+}
+
+/// The node of a head whose parts are the last nodes: `a` and `b` are variables, `q` is a bound one and `r` a rigid one.
+fn made(
     alloc: Global,
-    store: &Store,
-    n: NodeRef,
-    env: &Env,
-    weak: &[NodeRef],
-) -> Result<RcStr, NoMemory> {
-    if (n.0 as usize) < store.len() && are_nodes(store, weak) {
-        print_type(alloc, store, n, env, weak)
+    store: &mut Store,
+    from: &mut Vec<NodeRef>,
+    head: u8,
+) -> Result<NodeRef, NoMemory> {
+    match head {
+        b'a' => Ok(NodeRef(0)),
+        b'b' => Ok(NodeRef(1)),
+        b'r' => Ok(NodeRef(2)),
+        b'q' => Ok(NodeRef(3)),
+        b'>' => arrow(store, pop(from)?, pop(from)?),
+        b'2' => tuple(store, &taken(alloc, from, 2)?),
+        b'4' => tuple(store, &taken(alloc, from, 4)?),
+        b'L' => con(alloc, store, (2, "list"), &[pop(from)?]),
+        b'T' => con(alloc, store, (3, "table"), &taken(alloc, from, 2)?),
+        _ => con(alloc, store, (1, "int"), &[]),
+    }
+}
+
+/// The nodes of a text in prefix order, the first one last.
+fn nodes(alloc: Global, store: &mut Store, text: &str) -> Result<Vec<NodeRef>, NoMemory> {
+    let mut nodes = Vec::new(alloc);
+    for head in text.as_bytes().iter().rev() {
+        let node = made(alloc, store, &mut nodes, *head)?;
+        put(&mut nodes, node)?;
+    }
+    Ok(nodes)
+}
+
+/// How a type is made.
+enum Type {
+    /// By a text in prefix order
+    Written(&'static str),
+    /// A tuple of so many variables
+    Variables(u32),
+    /// (x, x) of a variable, so many times: as a tree it has as many parts as that power of two
+    Doubled(u32),
+    /// int list list .., so many times
+    Lists(u32),
+}
+
+fn variables(alloc: Global, store: &mut Store, count: u32) -> Result<NodeRef, NoMemory> {
+    let mut nodes = Vec::new(alloc);
+    for _ in 0..count {
+        put(&mut nodes, store.var(1, 0)?)?;
+    }
+    tuple(store, &nodes)
+}
+
+fn doubled(store: &mut Store, count: u32) -> Result<NodeRef, NoMemory> {
+    let mut node = NodeRef(0);
+    for _ in 0..count {
+        node = tuple(store, &[node, node])?;
+    }
+    Ok(node)
+}
+
+fn lists(alloc: Global, store: &mut Store, count: u32) -> Result<NodeRef, NoMemory> {
+    let mut node = con(alloc, store, (1, "int"), &[])?;
+    for _ in 0..count {
+        node = con(alloc, store, (2, "list"), &[node])?;
+    }
+    Ok(node)
+}
+
+fn node(alloc: Global, store: &mut Store, of: &Type) -> Result<NodeRef, NoMemory> {
+    match of {
+        Type::Written(text) => pop(&mut nodes(alloc, store, text)?),
+        Type::Variables(count) => variables(alloc, store, *count),
+        Type::Doubled(count) => doubled(store, *count),
+        Type::Lists(count) => lists(alloc, store, *count),
+    }
+}
+
+fn printed(alloc: Global, store: &Store, n: NodeRef, weak: &[NodeRef]) -> Result<RcStr, NoMemory> {
+    let env = plain(alloc)?;
+    if is_node(store, n) && are_nodes(store, weak) {
+        print_type(alloc, store, n, &env, weak)
     } else {
         Err(AllocError)
     }
 }
 
-fn is_printed(alloc: Global, store: &Store, n: NodeRef, text: &str) -> Result<bool, NoMemory> {
+fn printed_two(
+    alloc: Global,
+    store: &Store,
+    first: NodeRef,
+    second: NodeRef,
+) -> Result<(RcStr, RcStr), NoMemory> {
     let env = plain(alloc)?;
-    Ok(printed(alloc, store, n, &env, &[])?.is(text))
-}
-
-#[test]
-fn arrows_stand_in_parentheses(rt: HostRuntime) -> Result<(), Fail> {
-    let alloc = rt.alloc();
-    let mut store = Store::new(alloc);
-    let a = store.var(1, 0)?;
-    let b = store.var(1, 0)?;
-    let plain = arrow(&mut store, a, b)?;
-    let left = arrow(&mut store, plain, b)?;
-    let right = arrow(&mut store, a, plain)?;
-    let list = con(alloc, &mut store, 2, "list", &[plain])?;
-    assert!(rt; is_printed(alloc, &store, left, "('a -> 'b) -> 'b")?);
-    assert!(rt; is_printed(alloc, &store, right, "'a -> 'a -> 'b")?);
-    assert!(rt; is_printed(alloc, &store, list, "('a -> 'b) list")?);
-    Ok(())
-}
-
-#[test]
-fn tuples_stand_in_parentheses(rt: HostRuntime) -> Result<(), Fail> {
-    let alloc = rt.alloc();
-    let mut store = Store::new(alloc);
-    let a = store.var(1, 0)?;
-    let pair = tuple(&mut store, &[a, a])?;
-    let nested = tuple(&mut store, &[pair, a])?;
-    let to_pair = arrow(&mut store, pair, pair)?;
-    let list = con(alloc, &mut store, 2, "list", &[pair])?;
-    let table = con(alloc, &mut store, 3, "table", &[list, pair])?;
-    assert!(rt; is_printed(alloc, &store, nested, "('a * 'a) * 'a")?);
-    assert!(rt; is_printed(alloc, &store, to_pair, "'a * 'a -> 'a * 'a")?);
-    assert!(rt; is_printed(alloc, &store, table, "(('a * 'a) list, 'a * 'a) table")?);
-    Ok(())
-}
-
-/// Bound and rigid variables print as others; weak ones have names of their own.
-#[test]
-fn variables_are_named_as_they_come(rt: HostRuntime) -> Result<(), Fail> {
-    let alloc = rt.alloc();
-    let mut store = Store::new(alloc);
-    let env = plain(alloc)?;
-    let a = store.var(1, 0)?;
-    let b = store.var(1, 0)?;
-    let rigid = store.rigid()?;
-    store.quantify(b)?;
-    let all = tuple(&mut store, &[rigid, b, a, b])?;
-    assert_eq!(rt;
-        printed(alloc, &store, all, &env, &[])?.as_str(),
-        "'a * 'b * 'c * 'b"
-    );
-    assert_eq!(rt;
-        printed(alloc, &store, all, &env, &[a])?.as_str(),
-        "'a * 'b * '_weak1 * 'b"
-    );
-    Ok(())
-}
-
-#[test]
-fn two_types_share_their_variables(rt: HostRuntime) -> Result<(), Fail> {
-    let alloc = rt.alloc();
-    let mut store = Store::new(alloc);
-    let env = plain(alloc)?;
-    let a = store.var(1, 0)?;
-    let b = store.var(1, 0)?;
-    let (first, second) = print_two(alloc, &store, b, a, &env)?;
-    assert_eq!(rt; first.as_str(), "'a");
-    assert_eq!(rt; second.as_str(), "'b");
-    Ok(())
-}
-
-#[test]
-fn letters_have_numbers_behind_z(rt: HostRuntime) -> Result<(), Fail> {
-    let alloc = rt.alloc();
-    let mut store = Store::new(alloc);
-    let env = plain(alloc)?;
-    let mut nodes = Vec::new(alloc);
-    for _ in 0..54 {
-        nodes.push(store.var(1, 0)?)?;
+    if is_node(store, first) && is_node(store, second) {
+        print_two(alloc, store, first, second, &env)
+    } else {
+        Err(AllocError)
     }
-    let all = tuple(&mut store, &nodes)?;
-    let text = printed(alloc, &store, all, &env, &[])?;
-    assert!(rt; text.as_str().starts_with("'a * 'b * 'c * "));
-    assert!(rt;
-        text.as_str().ends_with(
-            "'z * 'a1 * 'b1 * 'c1 * 'd1 * 'e1 * 'f1 * 'g1 * 'h1 * 'i1 * 'j1 * 'k1 * 'l1 * 'm1 * 'n1 * 'o1 * 'p1 * 'q1 * 'r1 * 's1 * 't1 * 'u1 * 'v1 * 'w1 * 'x1 * 'y1 * 'z1 * 'a2 * 'b2"
-        )
-    );
-    Ok(())
 }
 
-/// A type with 2^40 parts as a tree, and one with 100,000 constructors in each other.
-#[test]
-fn long_texts_are_cut_at_once(rt: HostRuntime) -> Result<(), Fail> {
-    let alloc = rt.alloc();
+/// What is asked of the printer, with the answer.
+enum Asked {
+    /// The text of a type
+    Text(Type, &'static str),
+    /// The text of a type in which the variable a is weak
+    Weak(Type, &'static str),
+    /// The texts of b and of a, which share their variables
+    Two(&'static str, &'static str),
+    /// How the text of a type begins and ends
+    Long(Type, &'static str, &'static str),
+    /// The same, and that it is cut: it has 4099 bytes
+    Cut(Type, &'static str, &'static str),
+}
+
+/// int, list and table.
+const PLAIN: &[Step] = &[
+    Step::Type("int", Some((1, "int")), Some((1, "int")), 0),
+    Step::Type("list", Some((2, "list")), Some((2, "list")), 0),
+    Step::Type("table", Some((3, "table")), Some((3, "table")), 0),
+];
+
+const TEXTS: &[Asked] = &[
+    // arrows are in parentheses
+    Asked::Text(Type::Written(">>abb"), "('a -> 'b) -> 'b"),
+    Asked::Text(Type::Written(">a>ab"), "'a -> 'a -> 'b"),
+    Asked::Text(Type::Written("L>ab"), "('a -> 'b) list"),
+    // and so are tuples
+    Asked::Text(Type::Written("22aaa"), "('a * 'a) * 'a"),
+    Asked::Text(Type::Written(">2aa2aa"), "'a * 'a -> 'a * 'a"),
+    Asked::Text(Type::Written("TL2aa2aa"), "(('a * 'a) list, 'a * 'a) table"),
+    // bound and rigid variables print as others; weak ones have names of their own
+    Asked::Text(Type::Written("4rqaq"), "'a * 'b * 'c * 'b"),
+    Asked::Weak(Type::Written("4rqaq"), "'a * 'b * '_weak1 * 'b"),
+    Asked::Two("'a", "'b"),
+    // letters have numbers after z
+    Asked::Long(
+        Type::Variables(54),
+        "'a * 'b * 'c * ",
+        "'z * 'a1 * 'b1 * 'c1 * 'd1 * 'e1 * 'f1 * 'g1 * 'h1 * 'i1 * 'j1 * 'k1 * 'l1 * 'm1 * 'n1 * 'o1 * 'p1 * 'q1 * 'r1 * 's1 * 't1 * 'u1 * 'v1 * 'w1 * 'x1 * 'y1 * 'z1 * 'a2 * 'b2",
+    ),
+    // long texts are cut at once: a type with 2^40 parts as a tree, and one with 20,000 constructors in each other
+    Asked::Cut(
+        Type::Doubled(40),
+        "((((((((((((((((((((((((((((((((((((((('a * 'a) * ('a * 'a)) * ",
+        "...",
+    ),
+    Asked::Cut(
+        Type::Lists(20_000),
+        "int list list list list",
+        " list li...",
+    ),
+];
+
+fn text(alloc: Global, of: &Type, weak: &[NodeRef]) -> Result<RcStr, NoMemory> {
     let mut store = Store::new(alloc);
-    let env = plain(alloc)?;
-    let mut twice = store.var(1, 0)?;
-    for _ in 0..40 {
-        twice = tuple(&mut store, &[twice, twice])?;
+    name_nodes(&mut store)?;
+    let node = node(alloc, &mut store, of)?;
+    printed(alloc, &store, node, weak)
+}
+
+fn is_between(text: &RcStr, start: &str, end: &str) -> bool {
+    text.as_str().starts_with(start) && text.as_str().ends_with(end)
+}
+
+fn are_two(alloc: Global, first: &str, second: &str) -> Result<bool, NoMemory> {
+    let mut store = Store::new(alloc);
+    name_nodes(&mut store)?;
+    let texts = printed_two(alloc, &store, NodeRef(1), NodeRef(0))?;
+    Ok(texts.0.is(first) && texts.1.is(second))
+}
+
+fn is_answered(alloc: Global, asked: &Asked) -> Result<bool, NoMemory> {
+    match asked {
+        Asked::Text(of, wanted) => Ok(text(alloc, of, &[])?.is(wanted)),
+        Asked::Weak(of, wanted) => Ok(text(alloc, of, &[NodeRef(0)])?.is(wanted)),
+        Asked::Two(first, second) => are_two(alloc, first, second),
+        Asked::Long(of, start, end) => Ok(is_between(&text(alloc, of, &[])?, start, end)),
+        Asked::Cut(of, start, end) => {
+            let text = text(alloc, of, &[])?;
+            Ok(text.as_str().len() == 4099 && is_between(&text, start, end))
+        }
     }
-    let text = printed(alloc, &store, twice, &env, &[])?;
-    assert_eq!(rt; text.as_str().len(), 4099);
-    assert!(rt;
-        text.as_str().starts_with("((((((((((((((((((((((((((((((((((((((('a * 'a) * ('a * 'a)) * ")
-    );
-    assert!(rt; text.as_str().ends_with("..."));
-    let mut lists = con(alloc, &mut store, 1, "int", &[])?;
-    for _ in 0..20_000 {
-        lists = con(alloc, &mut store, 2, "list", &[lists])?;
+}
+
+#[test]
+fn texts(rt: HostRuntime) -> Result<(), Fail> {
+    for (i, asked) in TEXTS.iter().enumerate() {
+        assert!(rt; is_answered(rt.alloc(), asked)?, "text {i}");
     }
-    let text = printed(alloc, &store, lists, &env, &[])?;
-    assert_eq!(rt; text.as_str().len(), 4099);
-    assert!(rt; text.as_str().starts_with("int list list list list"));
-    assert!(rt; text.as_str().ends_with(" list li..."));
     Ok(())
 }
 
-/// Whether the type t of the origin 7 has this name.
-fn is_named(alloc: Global, env: &Env, text: &str) -> Result<bool, NoMemory> {
-    let t = origin(alloc, 7, "t")?;
-    Ok(name_of(alloc, &t, env)?.is(text))
+/// A name for a case, what comes after int, list and table, and the name of the type t of the origin 7 then.
+type Named = (&'static str, &'static [Step], &'static str);
+
+const SEVEN: Option<Made> = Some((7, "t"));
+
+const EIGHT: Option<Made> = Some((8, "t"));
+
+const OTHER: Option<Made> = Some((8, "u"));
+
+const NAMES: &[Named] = &[
+    // a shorter and a newer path names an origin
+    ("nothing", &[], "t/hidden"),
+    (
+        "a module in a module",
+        &[
+            Step::Type("t", SEVEN, SEVEN, 0),
+            Step::Structure("N", 1, 0),
+            Step::Structure("M", 1, 0),
+        ],
+        "M.N.t",
+    ),
+    (
+        "newer modules",
+        &[
+            Step::Type("t", SEVEN, SEVEN, 0),
+            Step::Structure("N", 1, 0),
+            Step::Structure("M", 1, 0),
+            Step::Type("t", SEVEN, SEVEN, 0),
+            Step::Structure("O", 1, 0),
+            Step::Type("t", SEVEN, SEVEN, 0),
+            Step::Structure("P", 1, 0),
+        ],
+        "P.t",
+    ),
+    // an abbreviation names no origin, and hides none in a module
+    (
+        "a type",
+        &[
+            Step::Type("t", SEVEN, SEVEN, 0),
+            Step::Structure("M", 1, 0),
+            Step::Type("t", SEVEN, SEVEN, 0),
+        ],
+        "t",
+    ),
+    (
+        "an abbreviation",
+        &[
+            Step::Type("t", SEVEN, SEVEN, 0),
+            Step::Structure("M", 1, 0),
+            Step::Type("t", SEVEN, SEVEN, 0),
+            Step::Type("t", None, SEVEN, 0),
+        ],
+        "M.t",
+    ),
+    // a newer module of the same name hides the one that has the type, and a newer type hides it there
+    (
+        "hidden in a module",
+        &[
+            Step::Type("t", SEVEN, SEVEN, 0),
+            Step::Structure("M", 1, 0),
+            Step::Type("t", SEVEN, SEVEN, 0),
+            Step::Type("t", EIGHT, EIGHT, 0),
+            Step::Structure("N", 2, 0),
+        ],
+        "M.t",
+    ),
+    (
+        "a hidden module",
+        &[
+            Step::Type("t", SEVEN, SEVEN, 0),
+            Step::Structure("M", 1, 0),
+            Step::Type("t", SEVEN, SEVEN, 0),
+            Step::Type("t", EIGHT, EIGHT, 0),
+            Step::Structure("N", 2, 0),
+            Step::Type("t", EIGHT, EIGHT, 0),
+            Step::Structure("M", 1, 0),
+        ],
+        "t/hidden",
+    ),
+    // a type names its origin by the name that it has in scope, whatever its declaration named it
+    (
+        "another name in a module",
+        &[Step::Type("u", SEVEN, SEVEN, 0), Step::Structure("M", 1, 0)],
+        "M.u",
+    ),
+    (
+        "another name",
+        &[
+            Step::Type("u", SEVEN, SEVEN, 0),
+            Step::Structure("M", 1, 0),
+            Step::Type("v", SEVEN, SEVEN, 0),
+        ],
+        "v",
+    ),
+    // of the names that an origin has in one scope the newest is its name
+    (
+        "the newer of two names in a module",
+        &[
+            Step::Type("u", SEVEN, SEVEN, 0),
+            Step::Type("t", SEVEN, SEVEN, 0),
+            Step::Structure("M", 2, 0),
+        ],
+        "M.t",
+    ),
+    (
+        "the newer of two names",
+        &[
+            Step::Type("u", SEVEN, SEVEN, 0),
+            Step::Type("t", SEVEN, SEVEN, 0),
+            Step::Structure("M", 2, 0),
+            Step::Type("t", SEVEN, SEVEN, 0),
+            Step::Type("u", SEVEN, SEVEN, 0),
+        ],
+        "u",
+    ),
+    // a name that a newer type has names no origin of an older one
+    (
+        "a hidden name in a module",
+        &[
+            Step::Type("u", SEVEN, SEVEN, 0),
+            Step::Type("u", OTHER, OTHER, 0),
+            Step::Structure("M", 2, 0),
+        ],
+        "t/hidden",
+    ),
+    (
+        "a hidden name",
+        &[
+            Step::Type("u", SEVEN, SEVEN, 0),
+            Step::Type("u", OTHER, OTHER, 0),
+            Step::Structure("M", 2, 0),
+            Step::Type("t", SEVEN, SEVEN, 0),
+            Step::Type("u", SEVEN, SEVEN, 0),
+            Step::Type("u", OTHER, OTHER, 0),
+        ],
+        "t",
+    ),
+    (
+        "both names hidden",
+        &[
+            Step::Type("u", SEVEN, SEVEN, 0),
+            Step::Type("u", OTHER, OTHER, 0),
+            Step::Structure("M", 2, 0),
+            Step::Type("t", SEVEN, SEVEN, 0),
+            Step::Type("u", SEVEN, SEVEN, 0),
+            Step::Type("u", OTHER, OTHER, 0),
+            Step::Type("t", None, SEVEN, 0),
+        ],
+        "t/hidden",
+    ),
+];
+
+fn plain(alloc: Global) -> Result<Env, NoMemory> {
+    with(alloc, Env::empty(), PLAIN)
 }
 
-/// A module that has the type t of the origin 7.
-fn with_t(alloc: Global, name: &str) -> Result<Rc<Entry>, NoMemory> {
-    module(alloc, name, made(alloc, 7, "t")?, None)
+fn is_named(alloc: Global, steps: &[Step], text: &str) -> Result<bool, NoMemory> {
+    let env = with(alloc, plain(alloc)?, steps)?;
+    let t = origin(alloc, (7, "t"))?;
+    Ok(name_of(alloc, &t, &env)?.is(text))
 }
 
 #[test]
-fn a_shorter_and_a_newer_path_name_an_origin(rt: HostRuntime) -> Result<(), Fail> {
-    let alloc = rt.alloc();
-    let mut env = plain(alloc)?;
-    assert!(rt; is_named(alloc, &env, "t/hidden")?);
-    env = env.add(alloc, module(alloc, "M", with_t(alloc, "N")?, None)?)?;
-    assert!(rt; is_named(alloc, &env, "M.N.t")?);
-    env = env.add(alloc, with_t(alloc, "O")?)?;
-    env = env.add(alloc, with_t(alloc, "P")?)?;
-    assert!(rt; is_named(alloc, &env, "P.t")?);
-    Ok(())
-}
-
-/// An abbreviation names no origin, and hides none in a module.
-#[test]
-fn an_abbreviation_names_no_origin(rt: HostRuntime) -> Result<(), Fail> {
-    let alloc = rt.alloc();
-    let mut env = plain(alloc)?;
-    env = env.add(alloc, with_t(alloc, "M")?)?;
-    env = env.add(alloc, made(alloc, 7, "t")?)?;
-    assert!(rt; is_named(alloc, &env, "t")?);
-    env = env.add(alloc, alias(alloc, 7, "t")?)?;
-    assert!(rt; is_named(alloc, &env, "M.t")?);
-    Ok(())
-}
-
-/// A newer module of the same name hides the one that has the type, and a newer type hides it there.
-#[test]
-fn what_is_hidden_names_no_origin(rt: HostRuntime) -> Result<(), Fail> {
-    let alloc = rt.alloc();
-    let mut env = plain(alloc)?;
-    env = env.add(alloc, with_t(alloc, "M")?)?;
-    env = env.add(
-        alloc,
-        module(alloc, "N", made(alloc, 7, "t")?, Some(made(alloc, 8, "t")?))?,
-    )?;
-    assert!(rt; is_named(alloc, &env, "M.t")?);
-    env = env.add(alloc, module(alloc, "M", made(alloc, 8, "t")?, None)?)?;
-    assert!(rt; is_named(alloc, &env, "t/hidden")?);
-    Ok(())
-}
-
-/// A type names its origin by the name that it has in scope, whatever its declaration named it: in scope and in a module.
-#[test]
-fn another_name_names_an_origin(rt: HostRuntime) -> Result<(), Fail> {
-    let alloc = rt.alloc();
-    let mut env = plain(alloc)?;
-    env = env.add(
-        alloc,
-        module(alloc, "M", made_as(alloc, 7, "t", "u")?, None)?,
-    )?;
-    assert!(rt; is_named(alloc, &env, "M.u")?);
-    env = env.add(alloc, made_as(alloc, 7, "t", "v")?)?;
-    assert!(rt; is_named(alloc, &env, "v")?);
-    Ok(())
-}
-
-/// Of the names that an origin has in one scope the newest is its name.
-#[test]
-fn the_newer_of_two_names_names_an_origin(rt: HostRuntime) -> Result<(), Fail> {
-    let alloc = rt.alloc();
-    let mut env = plain(alloc)?;
-    env = env.add(
-        alloc,
-        module(
-            alloc,
-            "M",
-            made_as(alloc, 7, "t", "u")?,
-            Some(made(alloc, 7, "t")?),
-        )?,
-    )?;
-    assert!(rt; is_named(alloc, &env, "M.t")?);
-    env = env.add(alloc, made(alloc, 7, "t")?)?;
-    env = env.add(alloc, made_as(alloc, 7, "t", "u")?)?;
-    assert!(rt; is_named(alloc, &env, "u")?);
-    Ok(())
-}
-
-/// A name that a newer type has names no origin of an older one.
-#[test]
-fn a_hidden_name_names_no_origin(rt: HostRuntime) -> Result<(), Fail> {
-    let alloc = rt.alloc();
-    let mut env = plain(alloc)?;
-    env = env.add(
-        alloc,
-        module(
-            alloc,
-            "M",
-            made_as(alloc, 7, "t", "u")?,
-            Some(made(alloc, 8, "u")?),
-        )?,
-    )?;
-    assert!(rt; is_named(alloc, &env, "t/hidden")?);
-    env = env.add(alloc, made(alloc, 7, "t")?)?;
-    env = env.add(alloc, made_as(alloc, 7, "t", "u")?)?;
-    env = env.add(alloc, made(alloc, 8, "u")?)?;
-    assert!(rt; is_named(alloc, &env, "t")?);
-    env = env.add(alloc, alias(alloc, 7, "t")?)?;
-    assert!(rt; is_named(alloc, &env, "t/hidden")?);
+fn names(rt: HostRuntime) -> Result<(), Fail> {
+    for (name, steps, text) in NAMES {
+        assert!(rt; is_named(rt.alloc(), steps, text)?, "{name}");
+    }
     Ok(())
 }

@@ -1,9 +1,19 @@
-//! Tests of unification, generalisation and instances, and of substitution, through their public calls.
-//! They stand in a crate of their own so that a crate is proved once for itself, and not again with its tests.
+//! Tests of types and their nodes, of trails, of unification, generalisation and instances, and of substitution, through
+//! their public calls. They are in a crate of their own so that a crate is proved once for itself, and not again with its tests.
 //! No program calls it.
 #![tactic(auto)]
 
 #[cfg(test)]
-mod substitution;
+mod checked;
 #[cfg(test)]
-mod unifier;
+mod nodes;
+#[cfg(test)]
+mod pairs;
+#[cfg(test)]
+mod robinson;
+#[cfg(test)]
+mod steps;
+#[cfg(test)]
+mod trails;
+#[cfg(test)]
+mod types;

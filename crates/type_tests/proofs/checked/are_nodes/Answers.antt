@@ -1,7 +1,7 @@
 use Rattle.std.proofs.Common.{length, arith}
 use Rattle.type_nodes.specs.Views.{numbers}
 use Rattle.level_unify.proofs.Numbers.{number_get, numbers_length, below_more, all_below}
-use Rattle.type_tests.proofs.substitution.are_nodes.Goals as goal
+use Rattle.type_tests.proofs.checked.are_nodes.Goals as goal
 
 pub loop-node-preserved : goal.loop-node-preserved
 loop-node-preserved c =

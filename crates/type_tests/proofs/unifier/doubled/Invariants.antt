@@ -1,6 +1,0 @@
-use Rattle.std.proofs.Common.{◌≤◌, length}
-use Rattle.type_nodes.specs.Nodes.{IsNode}
-use Rattle.type_tests.proofs.unifier.doubled.Given as goal
-
-abbrev pub invariant-loop-turn : goal.invariant-loop-turn
-invariant-loop-turn l = IsNode l.store.nodes l.node.0 × (length l.fn.store.nodes ≤ length l.store.nodes)
