@@ -16,6 +16,9 @@ use crate::search::search;
 use std::alloc::{AllocError, Global};
 use text_terms::NoMemory;
 
+/// How many columns deep a search goes, those of nested patterns counted as they are opened.
+const DEEPEST: u32 = 1_000;
+
 /// The shape that is shown for values that no row without a guard matches, or None where there are no such values.
 /// The rows have so many columns; of several columns it is the tuple of their shapes.
 pub fn missed(alloc: Global, matrix: &Matrix, columns: usize) -> Result<Option<Shape>, NoMemory>
@@ -101,7 +104,7 @@ fn find<'a>(
     ensures { IfOk result (λ r. Finds (row_in (lines_of rows.now) (cells_view row.entry.items)) (shapes_view r)) }
 {
     let mut known = Known::new(alloc);
-    search(alloc, &mut known, lines_of(alloc, rows)?, row)
+    search(alloc, &mut known, DEEPEST, lines_of(alloc, rows)?, row)
 }
 
 fn lines_of(alloc: Global, rows: &[PatRow]) -> Result<Vec<Line<'_>>, NoMemory>

@@ -15,11 +15,13 @@ use crate::patterns::{Built, Pat, Shape, TUPLE};
 use std::alloc::{AllocError, Global};
 use text_terms::{NoMemory, RcStr};
 
-/// The shapes of the columns, or None where the lines match each value that the row matches.
+/// The shapes of the columns, or None where the lines match each value that the row matches. It goes into so many columns, one
+/// call in the other; more are want of memory, since the stack is memory too.
 #[cycle(search)]
 pub(crate) fn search<'a>(
     alloc: Global,
     known: &mut Known<'a>,
+    depth: u32,
     lines: Vec<Line<'a>>,
     row: Vec<Cell<'a>>,
 ) -> Result<Option<Vec<Shape>>, NoMemory>
@@ -30,11 +32,14 @@ pub(crate) fn search<'a>(
     let Some((first, rest)) = row.split_first() else {
         return Ok(at_end(alloc, &lines));
     };
+    let Some(depth) = depth.checked_sub(1) else {
+        return Err(AllocError);
+    };
     let mark = mark_of(&lines, &row);
     if known.has(mark, &lines, &row) {
         return Ok(None);
     }
-    let found = search_first(alloc, known, &lines, *first, rest)?;
+    let found = search_first(alloc, known, depth, &lines, *first, rest)?;
     if found.is_none() {
         known.add(mark, lines, row)?;
     }
@@ -55,6 +60,7 @@ fn at_end(alloc: Global, lines: &[Line<'_>]) -> Option<Vec<Shape>>
 fn search_first<'a>(
     alloc: Global,
     known: &mut Known<'a>,
+    depth: u32,
     lines: &[Line<'a>],
     first: Cell<'a>,
     rest: &[Cell<'a>],
@@ -64,22 +70,29 @@ fn search_first<'a>(
     ensures found { IfOk result (λ r. Finds (row_in (lines_view lines.now) (cell_view first.entry ∷ cells_view rest.now)) (shapes_view r)) }
 {
     match first {
-        Cell::Any => search_any(alloc, known, lines, rest),
+        Cell::Any => search_any(alloc, known, depth, lines, rest),
         Cell::Of(pat) => match pat {
-            Pat::Any => search_any(alloc, known, lines, rest),
+            Pat::Any => search_any(alloc, known, depth, lines, rest),
             Pat::Con {
                 all: _,
                 name,
                 parts,
             } => {
                 let row = extended(alloc, parts, rest)?;
-                search_under(alloc, known, lines, Head::Built(name, parts.len()), row)
+                search_under(
+                    alloc,
+                    known,
+                    depth,
+                    lines,
+                    Head::Built(name, parts.len()),
+                    row,
+                )
             }
             Pat::Literal(name) => {
                 let row = extended(alloc, &[], rest)?;
-                search_under(alloc, known, lines, Head::Literal(name), row)
+                search_under(alloc, known, depth, lines, Head::Literal(name), row)
             }
-            Pat::Either(pats) => search_either(alloc, known, lines, pats, rest),
+            Pat::Either(pats) => search_either(alloc, known, depth, lines, pats, rest),
         },
     }
 }
@@ -88,6 +101,7 @@ fn search_first<'a>(
 fn search_either<'a>(
     alloc: Global,
     known: &mut Known<'a>,
+    depth: u32,
     lines: &[Line<'a>],
     pats: &'a [Pat],
     rest: &[Cell<'a>],
@@ -97,7 +111,7 @@ fn search_either<'a>(
     ensures found { IfOk result (λ r. Finds (some_in (lines_view lines.now) (listed (map typed_of pats.now)) (cells_view rest.now)) (shapes_view r)) }
 {
     for pat in pats {
-        let found = search_first(alloc, known, lines, Cell::Of(pat), rest)?;
+        let found = search_first(alloc, known, depth, lines, Cell::Of(pat), rest)?;
         if found.is_some() {
             return Ok(found);
         }
@@ -109,6 +123,7 @@ fn search_either<'a>(
 fn search_any<'a>(
     alloc: Global,
     known: &mut Known<'a>,
+    depth: u32,
     lines: &[Line<'a>],
     rest: &[Cell<'a>],
 ) -> Result<Option<Vec<Shape>>, NoMemory>
@@ -118,14 +133,14 @@ fn search_any<'a>(
 {
     let all = family(lines);
     if all.is_empty() {
-        return search_default(alloc, known, lines, Shape::Any, rest);
+        return search_default(alloc, known, depth, lines, Shape::Any, rest);
     }
     match first_absent(all, lines) {
         Some(absent) => {
             let shape = open_shape(alloc, absent)?;
-            search_default(alloc, known, lines, shape, rest)
+            search_default(alloc, known, depth, lines, shape, rest)
         }
-        None => search_members(alloc, known, lines, all, rest),
+        None => search_members(alloc, known, depth, lines, all, rest),
     }
 }
 
@@ -134,6 +149,7 @@ fn search_any<'a>(
 fn search_default<'a>(
     alloc: Global,
     known: &mut Known<'a>,
+    depth: u32,
     lines: &[Line<'a>],
     shape: Shape,
     rest: &[Cell<'a>],
@@ -144,7 +160,7 @@ fn search_default<'a>(
     ensures found { IfOk result (λ r. Finds (row_in (lines_view lines.now) (any ∷ cells_view rest.now)) (shapes_view r)) }
 {
     let row = extended(alloc, &[], rest)?;
-    match search(alloc, known, headless(alloc, lines)?, row)? {
+    match search(alloc, known, depth, headless(alloc, lines)?, row)? {
         Some(shapes) => Ok(Some(with_first(alloc, shape, shapes)?)),
         None => Ok(None),
     }
@@ -155,6 +171,7 @@ fn search_default<'a>(
 fn search_members<'a>(
     alloc: Global,
     known: &mut Known<'a>,
+    depth: u32,
     lines: &[Line<'a>],
     all: &[Built],
     rest: &[Cell<'a>],
@@ -166,7 +183,7 @@ fn search_members<'a>(
 {
     for built in all {
         let row = opened(alloc, built.parts, rest)?;
-        let found = search_under(alloc, known, lines, head_of(built), row)?;
+        let found = search_under(alloc, known, depth, lines, head_of(built), row)?;
         if found.is_some() {
             return Ok(found);
         }
@@ -179,6 +196,7 @@ fn search_members<'a>(
 fn search_under<'a>(
     alloc: Global,
     known: &mut Known<'a>,
+    depth: u32,
     lines: &[Line<'a>],
     head: Head<'_>,
     row: Vec<Cell<'a>>,
@@ -187,7 +205,7 @@ fn search_under<'a>(
     ensures kept { OnOk result (IsKnown known.new) }
     ensures found { IfOk result (λ r. FindsUnder (head_view head.entry) (lines_view lines.now) (cells_view row.entry.items) (shapes_view r)) }
 {
-    match search(alloc, known, lines_under(alloc, head, lines)?, row)? {
+    match search(alloc, known, depth, lines_under(alloc, head, lines)?, row)? {
         Some(shapes) => Ok(Some(with_head(alloc, head, shapes)?)),
         None => Ok(None),
     }

@@ -151,14 +151,26 @@ struct Written<'a> {
     pattern: Option<Operand<'a>>,
 }
 
-/// The pattern of a row, as rows of a match see it; None where a part is missing.
-#[cycle(pats)]
-pub fn pat_of(
+/// How many nodes a pattern may have. A list of many elements is as deep as it is long, so more are want of memory, since the stack
+/// is memory too.
+const MOST_NODES: u32 = 10_000;
+
+/// The pattern of a row, as rows of a match see it; None where a part is missing. Want of memory where it has over 10,000 nodes.
+pub fn row_pat(
     at: &Parts,
     p: Operand<'_>,
     env: &Env,
     depth: Depth,
 ) -> Result<Option<Pat>, NoMemory> {
+    match p.node {
+        Some(node) if node.size > MOST_NODES => Err(AllocError),
+        _ => pat_of(at, p, env, depth),
+    }
+}
+
+/// The same of a pattern or a part of one.
+#[cycle(pats)]
+fn pat_of(at: &Parts, p: Operand<'_>, env: &Env, depth: Depth) -> Result<Option<Pat>, NoMemory> {
     let Some(node) = p.node else {
         return Ok(None);
     };

@@ -9,7 +9,7 @@ ghost use Rattle.typing_state.specs.Goes.{Goes};
 ghost use Rattle.typing_state.specs.Steps.{Follows, asks};
 ghost use Rattle.pattern_typing.specs.Warnings.{spans_of, missed_steps, unused_steps, warning_steps};
 
-use crate::pats::pat_of;
+use crate::pats::row_pat;
 use env_table::FaultKind;
 use owned_lists::push;
 use pattern_matrix::{Matrix, Pat, PatRow, missed, print_shape, unused_rows};
@@ -109,7 +109,7 @@ impl Rows {
             self.is_open = true;
             return Ok(());
         }
-        match pat_of(at, pattern, env, depth)? {
+        match row_pat(at, pattern, env, depth)? {
             None => self.is_open = true,
             Some(pat) => {
                 let row = row(at.alloc(), pat, guard.is_some())?;
@@ -191,7 +191,7 @@ pub fn report_pattern(
     if is_plain(pattern) || is_unfinished(pattern) {
         return Ok(());
     }
-    if let Some(pat) = pat_of(at, pattern, env, depth)? {
+    if let Some(pat) = row_pat(at, pattern, env, depth)? {
         let alloc = at.alloc();
         let mut rows = Vec::new(alloc);
         push(&mut rows, row(alloc, pat, false)?)?;
