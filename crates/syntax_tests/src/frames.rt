@@ -1,6 +1,7 @@
+//! Frames of a parser's stack: what two stacks share, and what is missing.
+use crate::verdict::{none_wrong, wrong_unless};
 use parse_frames::{Last, NoMemory, Opening, RowName, Span, Stack, Token, height_of_level};
 use std::alloc::{AllocError, Global};
-use std::rc::Rc;
 use std::test::Fail;
 use syntax_tree::{RcStr, TokenKind};
 
@@ -30,7 +31,7 @@ fn closed(alloc: Global, stack: &Stack, name: RowName) -> Result<Stack, NoMemory
     }
 }
 
-fn with_constant(alloc: Global, stack: &Stack, spot: u8, start: u32) -> Result<Stack, NoMemory> {
+fn begun(alloc: Global, stack: &Stack, spot: u8, start: u32) -> Result<Stack, NoMemory> {
     if stack.waiting() > 9 {
         return Err(AllocError);
     }
@@ -39,66 +40,121 @@ fn with_constant(alloc: Global, stack: &Stack, spot: u8, start: u32) -> Result<S
         number: CONSTANT,
         first: 1,
     }];
-    let inside = stack.begin(alloc, spot, &chain, &token)?;
+    stack.begin(alloc, spot, &chain, &token)
+}
+
+fn with_constant(alloc: Global, stack: &Stack, spot: u8, start: u32) -> Result<Stack, NoMemory> {
+    let inside = begun(alloc, stack, spot, start)?;
     closed(alloc, &inside, RowName::Econst)
 }
 
-fn with_sign(alloc: Global, stack: &Stack, start: u32) -> Result<Stack, NoMemory> {
+fn grown(alloc: Global, stack: &Stack) -> Result<Stack, NoMemory> {
     if stack.waiting() > 9 {
         return Err(AllocError);
     }
-    let token = token(alloc, TokenKind::Op12, start)?;
     match stack.grow(alloc, SUM)? {
-        Some(grown) => grown.take_token(alloc, 2, &token),
+        Some(grown) => Ok(grown),
         None => Err(AllocError),
     }
 }
 
-/// `1 + 2`, and `1 +` from the same frames.
-#[test]
-fn frames_are_shared(rt: HostRuntime) -> Result<(), Fail> {
-    let alloc = rt.alloc();
-    let one = with_constant(alloc, &Stack::empty(PROGRAM), 1, 0)?;
-    assert_eq!(rt;
-        (one.number(), one.spot(), one.last()),
-        (PROGRAM, 1, Last::Row(CONSTANT))
-    );
-    let sign = with_sign(alloc, &one, 2)?;
-    assert_eq!(rt;
-        (sign.waiting(), sign.place(), sign.last()),
-        (1, 3, Last::Plain)
-    );
-    let whole = closed(alloc, &with_constant(alloc, &sign, 3, 4)?, RowName::Infix)?;
-    let short = closed(alloc, &sign.miss_operand(alloc, 3)?, RowName::Infix)?;
-    for (stack, end) in [(&whole, 5), (&short, 3)] {
-        assert!(rt; stack.has_room(RowName::Program));
-        let program = stack.node(alloc, RowName::Program)?;
-        assert_eq!(rt;
-            (program.span, program.size, program.height),
-            (Span { start: 0, end }, 4, 3)
-        );
-        assert_eq!(rt; (stack.height(), stack.newest_height()), (2, 2));
-    }
-    assert_eq!(rt; (one.height(), one.waiting()), (1, 0));
-    Ok(())
+fn with_sign(alloc: Global, stack: &Stack, start: u32) -> Result<Stack, NoMemory> {
+    let grown = grown(alloc, stack)?;
+    let token = token(alloc, TokenKind::Op12, start)?;
+    grown.take_token(alloc, 2, &token)
 }
 
-/// A frame that waits, with a missing token and no node.
-#[test]
-fn a_token_is_missing(rt: HostRuntime) -> Result<(), Fail> {
-    let alloc = rt.alloc();
-    let stack = Stack::empty(PROGRAM).miss_token(alloc, 1)?;
-    let outer = stack.open(alloc, 2, SUM, 1)?;
-    assert_eq!(rt;
-        (outer.share()?.last(), outer.spot(), outer.place()),
-        (Last::Plain, 1, 0)
-    );
-    match outer.below() {
-        Some(level) => assert_eq!(rt;
-            (level.number, level.spot, height_of_level(level)),
-            (PROGRAM, 2, 0)
-        ),
-        None => assert!(rt; false),
+fn with_hole(alloc: Global, stack: &Stack) -> Result<Stack, NoMemory> {
+    let stack = stack.miss_operand(alloc, 3)?;
+    closed(alloc, &stack, RowName::Infix)
+}
+
+fn with_operand(alloc: Global, stack: &Stack) -> Result<Stack, NoMemory> {
+    let stack = with_constant(alloc, stack, 3, 4)?;
+    closed(alloc, &stack, RowName::Infix)
+}
+
+/// Whether the text's node over a sum up to this end has four nodes and three levels.
+fn is_sum(alloc: Global, stack: &Stack, end: u32) -> bool {
+    if !stack.has_room(RowName::Program) {
+        return false;
     }
-    Ok(())
+    let Ok(program) = stack.node(alloc, RowName::Program) else {
+        return false;
+    };
+    program.span == Span { start: 0, end }
+        && program.size == 4
+        && program.height == 3
+        && stack.height() == 2
+        && stack.newest_height() == 2
+}
+
+/// Whether a sum ends here.
+fn ends_at(alloc: Global, stack: Result<Stack, NoMemory>, end: u32) -> bool {
+    match stack {
+        Ok(stack) => is_sum(alloc, &stack, end),
+        Err(_) => false,
+    }
+}
+
+/// Whether `1 + 2` and `1 +` come of the same frames.
+fn shares_sign(alloc: Global, one: &Stack) -> bool {
+    let Ok(sign) = with_sign(alloc, one, 2) else {
+        return false;
+    };
+    sign.waiting() == 1
+        && sign.place() == 3
+        && sign.last() == Last::Plain
+        && ends_at(alloc, with_operand(alloc, &sign), 5)
+        && ends_at(alloc, with_hole(alloc, &sign), 3)
+}
+
+fn is_one(stack: &Stack) -> bool {
+    stack.number() == PROGRAM
+        && stack.spot() == 1
+        && stack.last() == Last::Row(CONSTANT)
+        && stack.height() == 1
+        && stack.waiting() == 0
+}
+
+/// `1 + 2`, and `1 +` from the same frames; those of `1` stay.
+fn shares_frames(alloc: Global) -> bool {
+    match with_constant(alloc, &Stack::empty(PROGRAM), 1, 0) {
+        Ok(one) => is_one(&one) && shares_sign(alloc, &one) && is_one(&one),
+        Err(_) => false,
+    }
+}
+
+/// A sum's frame over the program's, where the program misses a token and has no node.
+fn over_missing(alloc: Global) -> Result<Stack, NoMemory> {
+    let stack = Stack::empty(PROGRAM).miss_token(alloc, 1)?;
+    stack.open(alloc, 2, SUM, 1)
+}
+
+fn has_missing_below(stack: &Stack) -> bool {
+    match stack.below() {
+        Some(level) => level.number == PROGRAM && level.spot == 2 && height_of_level(level) == 0,
+        None => false,
+    }
+}
+
+fn is_opened(stack: &Stack) -> bool {
+    match stack.share() {
+        Ok(shared) => shared.last() == Last::Plain && stack.spot() == 1 && stack.place() == 0,
+        Err(_) => false,
+    }
+}
+
+/// Whether a frame waits with a missing token and no node.
+fn waits_with_missing(alloc: Global) -> bool {
+    match over_missing(alloc) {
+        Ok(stack) => is_opened(&stack) && has_missing_below(&stack),
+        Err(_) => false,
+    }
+}
+
+#[test]
+fn frames_of_stacks(rt: HostRuntime) -> Result<(), Fail> {
+    none_wrong(wrong_unless(shares_frames(rt.alloc()), "shared frames"))?;
+    none_wrong(wrong_unless(waits_with_missing(rt.alloc()), "a missing token"))
 }

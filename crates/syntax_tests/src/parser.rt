@@ -1,74 +1,28 @@
-//! Trees and faults of some texts. Each text is told as its tokens, which stand with one blank between them.
+//! Trees and faults of some texts.
+ghost use Rattle.std.specs.Prelude.{◌<◌, List, [], length};
+ghost use Rattle.token_model.specs.Kinds.{Tok};
+ghost use Rattle.grammar_model.specs.Ocaml as ocaml;
+ghost use Rattle.frame_parser.specs.Behind.{Behind};
+
+use crate::counts::zero;
+use crate::verdict::{none_wrong, wrong_unless};
 use frame_parser::{
-    Counts, NoMemory, Parsed, Span, SyntaxFault, Text, Token, close, empty, empty_sig, parse, step,
+    Counts, NoMemory, Parsed, Span, Stack, SyntaxFault, Text, Token, close, empty, empty_sig,
+    parse, step,
 };
+use ml_lexer::lex_all;
 use std::alloc::{AllocError, Global};
 use std::rc::Rc;
 use std::test::Fail;
 use syntax_tree::{Node, Part, RcStr, RowName, TokenKind};
 
-/// Counts the tokens that are shifted.
-#[derive(Drop)]
-struct Shifted {
-    tokens: u64,
-}
-
-impl Counts for Shifted {
-    ghost use Rattle.std.specs.Prelude.{◌-◌, ◌^◌};
-
-    ghost tallies = { λ s. record { lexed = 2 ^ 64 - 1; shifted = s.tokens; typed = 2 ^ 64 - 1 } };
-
-    fn add_lexed(&mut self) {}
-
-    fn add_shifted(&mut self) {
-        self.tokens = self.tokens.saturating_add(1);
-    }
-
-    fn add_typed(&mut self) {}
-
-    fn lexed(&self) -> u64 {
-        u64::MAX
-    }
-
-    fn shifted(&self) -> u64 {
-        self.tokens
-    }
-
-    fn typed(&self) -> u64 {
-        u64::MAX
-    }
-}
-
-fn token(alloc: Global, kind: TokenKind, name: &str, start: u32) -> Result<Token, NoMemory> {
-    let end = start.saturating_add(u32::try_from(name.len()).unwrap_or(0));
-    Ok(Token {
-        kind,
-        span: Span { start, end },
-        reach: end,
-        name: RcStr::from_str(alloc, name)?,
-    })
-}
-
-fn tokens_of(alloc: Global, words: &[(TokenKind, &str)]) -> Result<Vec<Token>, NoMemory> {
-    let mut tokens: Vec<Token> = Vec::new(alloc);
-    let mut start: u32 = 0;
-    for (kind, name) in words {
-        let next = token(alloc, *kind, name, start)?;
-        start = next.span.end.saturating_add(1);
-        if tokens.push(next).is_err() {
-            return Err(AllocError);
-        }
-    }
-    Ok(tokens)
-}
-
-fn parsed(alloc: Global, text: Text, words: &[(TokenKind, &str)]) -> Result<Parsed, NoMemory> {
-    let tokens = tokens_of(alloc, words)?;
-    let mut counts = Shifted { tokens: 0 };
-    if tokens.len() > 1_048_576 {
+/// What the parser finds in a short text.
+pub fn parsed(alloc: Global, text: &str) -> Result<Parsed, NoMemory> {
+    if text.len() > 10_000 {
         return Err(AllocError);
     }
-    parse(alloc, text, &tokens, &mut counts)
+    let tokens = lex_all(alloc, text.as_bytes(), &[], &mut zero())?;
+    parse(alloc, Text::Program, &tokens, &mut zero())
 }
 
 /// The node of the last of a node's parts that is one.
@@ -82,106 +36,81 @@ fn last_node(node: &Node) -> Option<&Rc<Node>> {
     last
 }
 
-const LET_X: [(TokenKind, &str); 3] = [
-    (TokenKind::Let, "let"),
-    (TokenKind::Lower, "x"),
-    (TokenKind::Op9, "="),
-];
-
+/// Texts of one item, and their faults.
 /// `let = 1`: the sign fits nowhere, `1` is the pattern, and `=` and what it stands before are missing.
 /// `let x = + 1` misses the left operand at 7; `let x = ( 1` misses the closing parenthesis at 11.
-#[test]
-fn faults_tell_what_is_left_out_and_what_is_missing(rt: HostRuntime) -> Result<(), Fail> {
-    let alloc = rt.alloc();
-    let sign = parsed(
-        alloc,
-        Text::Program,
+const FAULTS: [(&str, &[SyntaxFault]); 3] = [
+    (
+        "let = 1",
         &[
-            (TokenKind::Let, "let"),
-            (TokenKind::Op9, "="),
-            (TokenKind::Int, "1"),
+            SyntaxFault::Skipped {
+                span: Span { start: 4, end: 5 },
+            },
+            SyntaxFault::Added { place: 7, holes: 2 },
         ],
-    )?;
-    let skipped = SyntaxFault::Skipped {
-        span: Span { start: 4, end: 5 },
-    };
-    let added = SyntaxFault::Added { place: 7, holes: 2 };
-    assert_eq!(rt; sign.faults.as_slice(), [skipped, added].as_slice());
-    let [a, b, c] = LET_X;
-    let left = parsed(
-        alloc,
-        Text::Program,
-        &[a, b, c, (TokenKind::Op12, "+"), (TokenKind::Int, "1")],
-    )?;
-    let added = SyntaxFault::Added { place: 7, holes: 1 };
-    assert_eq!(rt; left.faults.as_slice(), [added].as_slice());
-    let open = parsed(
-        alloc,
-        Text::Program,
-        &[a, b, c, (TokenKind::LeftParen, "("), (TokenKind::Int, "1")],
-    )?;
-    let added = SyntaxFault::Added {
-        place: 11,
-        holes: 1,
-    };
-    assert_eq!(rt; open.faults.as_slice(), [added].as_slice());
-    for parsed in [&sign, &left, &open] {
-        assert_eq!(rt; parsed.tree.items.len(), 1);
+    ),
+    ("let x = + 1", &[SyntaxFault::Added { place: 7, holes: 1 }]),
+    (
+        "let x = ( 1",
+        &[SyntaxFault::Added {
+            place: 11,
+            holes: 1,
+        }],
+    ),
+];
+
+fn has_faults(alloc: Global, text: &str, faults: &[SyntaxFault]) -> bool {
+    match parsed(alloc, text) {
+        Ok(parsed) => parsed.faults.as_slice() == faults && parsed.tree.items.len() == 1,
+        Err(_) => false,
     }
-    Ok(())
 }
 
-/// `let x = match a with p -> match b with q -> c | r -> d`: the bar belongs to the inner match.
-#[test]
-fn a_bar_belongs_to_the_innermost_match(rt: HostRuntime) -> Result<(), Fail> {
-    let alloc = rt.alloc();
-    let [a, b, c] = LET_X;
-    let (word, with) = ((TokenKind::Match, "match"), (TokenKind::With, "with"));
-    let arrow = (TokenKind::Arrow, "->");
-    let words = [
-        a,
-        b,
-        c,
-        word,
-        (TokenKind::Lower, "a"),
-        with,
-        (TokenKind::Lower, "p"),
-        arrow,
-        word,
-        (TokenKind::Lower, "b"),
-        with,
-        (TokenKind::Lower, "q"),
-        arrow,
-        (TokenKind::Lower, "c"),
-        (TokenKind::Bar, "|"),
-        (TokenKind::Lower, "r"),
-        arrow,
-        (TokenKind::Lower, "d"),
-    ];
-    let parsed = parsed(alloc, Text::Program, &words)?;
-    assert_eq!(rt; parsed.faults.len(), 0);
-    let mut rows = Vec::new(alloc);
-    let mut next = parsed.tree.items.get(0);
-    for _ in 0..7 {
-        if let Some(node) = next {
-            rows.push((node.row, node.children.len()))?;
-            next = last_node(node);
+fn wrong_faults(alloc: Global) -> Option<&'static str> {
+    for row in &FAULTS {
+        if !has_faults(alloc, row.0, row.1) {
+            return Some(row.0);
         }
     }
-    assert_eq!(rt;
-        rows.as_slice(),
-        [
-            (RowName::Let, 2),
-            (RowName::Binding, 3),
-            (RowName::Ematch, 4),
-            (RowName::Case, 3),
-            (RowName::Ematch, 6),
-            (RowName::Case, 3),
-            (RowName::Name, 1)
-        ]
-        .as_slice()
-    );
-    Ok(())
+    None
+}
+
+/// A text whose bar belongs to the inner match.
+const MATCHES: &str = "let x = match a with p -> match b with q -> c | r -> d";
+
+/// The rows of the nodes of `MATCHES`, each the last of those of the one before, and how many parts they have.
+const LAST_ROWS: [(RowName, usize); 7] = [
+    (RowName::Let, 2),
+    (RowName::Binding, 3),
+    (RowName::Ematch, 4),
+    (RowName::Case, 3),
+    (RowName::Ematch, 6),
+    (RowName::Case, 3),
+    (RowName::Name, 1),
+];
+
+/// Whether a node and those that are last in it have these rows.
+fn goes_down(item: Option<&Rc<Node>>, rows: &[(RowName, usize)]) -> bool {
+    let mut next = item;
+    for (row, parts) in rows {
+        let Some(node) = next else {
+            return false;
+        };
+        if node.row != *row || node.children.len() != *parts {
+            return false;
+        }
+        next = last_node(node);
+    }
+    true
+}
+
+fn has_inner_bar(alloc: Global) -> bool {
+    match parsed(alloc, MATCHES) {
+        Ok(parsed) => {
+            parsed.faults.is_empty() && goes_down(parsed.tree.items.first(), &LAST_ROWS)
+        }
+        Err(_) => false,
+    }
 }
 
 fn is_too_deep(fault: &SyntaxFault) -> bool {
@@ -191,61 +120,116 @@ fn is_too_deep(fault: &SyntaxFault) -> bool {
     }
 }
 
-/// Of 600 opening parentheses 509 stand in the frames 4 to 512, and 91 are too deep.
-#[test]
-fn parentheses_end_at_512_frames(rt: HostRuntime) -> Result<(), Fail> {
-    let alloc = rt.alloc();
-    let mut words = Vec::new(alloc);
-    for word in LET_X {
-        words.push(word)?;
-    }
+/// `let x =` and 600 opening parentheses, with a blank in front of each.
+fn opened(alloc: Global) -> Result<String, NoMemory> {
+    let mut text = String::new(alloc);
+    text.push_str("let x =")?;
     for _ in 0..600 {
-        words.push((TokenKind::LeftParen, "("))?;
+        text.push_str(" (")?;
     }
-    let parsed = parsed(alloc, Text::Program, &words)?;
-    let deep = parsed
-        .faults
-        .iter()
-        .filter(|fault| is_too_deep(fault))
-        .count();
-    assert_eq!(rt; (deep, parsed.faults.len()), (91, 92));
-    assert_eq!(rt;
-        parsed.faults.get(91),
-        Some(&SyntaxFault::Added {
-            place: 1025,
-            holes: 510
-        })
-    );
-    Ok(())
+    Ok(text)
 }
 
-/// Two tokens on one stack, which stays as it is; `val` begins an item of an interface alone.
+/// Whether 91 tokens are too deep, and what they would have closed is missing.
+fn has_91_too_deep(faults: &[SyntaxFault]) -> bool {
+    let added = SyntaxFault::Added {
+        place: 1025,
+        holes: 510,
+    };
+    faults.len() == 92
+        && faults.iter().filter(|fault| is_too_deep(fault)).count() == 91
+        && faults.last() == Some(&added)
+}
+
+fn parsed_opened(alloc: Global) -> Result<Parsed, NoMemory> {
+    let text = opened(alloc)?;
+    parsed(alloc, text.as_str())
+}
+
+/// Whether of 600 opening parentheses 509 are in the frames 4 to 512, and 91 are too deep.
+fn ends_at_512_frames(alloc: Global) -> bool {
+    match parsed_opened(alloc) {
+        Ok(parsed) => has_91_too_deep(&parsed.faults),
+        Err(_) => false,
+    }
+}
+
+#[test]
+fn trees_and_faults_of_texts(rt: HostRuntime) -> Result<(), Fail> {
+    none_wrong(wrong_faults(rt.alloc()))?;
+    none_wrong(wrong_unless(has_inner_bar(rt.alloc()), MATCHES))?;
+    none_wrong(wrong_unless(ends_at_512_frames(rt.alloc()), "600 parentheses"))
+}
+
+fn token(alloc: Global, kind: TokenKind, name: &str) -> Result<Token, NoMemory> {
+    let end = u32::try_from(name.len()).unwrap_or(0);
+    Ok(Token {
+        kind,
+        span: Span { start: 0, end },
+        reach: end,
+        name: RcStr::from_str(alloc, name)?,
+    })
+}
+
+fn closes(alloc: Global, stack: &Stack, items: usize, fault: Option<SyntaxFault>) -> bool
+    requires few { (text : ocaml.Text) × (ts : List Tok) × Behind text ts stack.now × (length ts < 1048576) }
+{
+    match close(alloc, stack) {
+        Ok(closed) => closed.tree.items.len() == items && closed.fault == fault,
+        Err(_) => false,
+    }
+}
+
+/// Whether a token on a stack without tokens has this fault, and how many items and which fault it leaves.
+fn takes(
+    alloc: Global,
+    stack: &Stack,
+    word: (TokenKind, &str),
+    fault: Option<SyntaxFault>,
+    left: (usize, Option<SyntaxFault>),
+) -> bool
+    requires begun { (text : ocaml.Text) × Behind text [] stack.now }
+{
+    let mut counts = zero();
+    let Ok(token) = token(alloc, word.0, word.1) else {
+        return false;
+    };
+    let Ok(stepped) = step(alloc, stack, &token, &mut counts) else {
+        return false;
+    };
+    counts.shifted() == 1 && stepped.fault == fault && closes(alloc, &stepped.stack, left.0, left.1)
+}
+
+const SEMICOLONS: (TokenKind, &str) = (TokenKind::SemiSemi, ";;");
+
+const VAL: (TokenKind, &str) = (TokenKind::Val, "val");
+
+const SKIPPED: Option<SyntaxFault> = Some(SyntaxFault::Skipped {
+    span: Span { start: 0, end: 3 },
+});
+
+const ADDED: Option<SyntaxFault> = Some(SyntaxFault::Added { place: 3, holes: 3 });
+
+/// Whether two tokens on one stack of a program leave it as it is.
+fn stays(alloc: Global) -> bool {
+    let Ok(begun) = empty(alloc) else {
+        return false;
+    };
+    takes(alloc, &begun, SEMICOLONS, None, (1, None))
+        && takes(alloc, &begun, VAL, SKIPPED, (0, None))
+        && closes(alloc, &begun, 0, None)
+}
+
+/// Whether `val` begins an item of an interface.
+fn begins_value(alloc: Global) -> bool {
+    match empty_sig(alloc) {
+        Ok(begun) => takes(alloc, &begun, VAL, None, (1, ADDED)),
+        Err(_) => false,
+    }
+}
+
 #[test]
 fn stacks_stay(rt: HostRuntime) -> Result<(), Fail> {
-    let alloc = rt.alloc();
-    let mut counts = Shifted { tokens: 0 };
-    let begun = empty(alloc)?;
-    let end = token(alloc, TokenKind::SemiSemi, ";;", 0)?;
-    let val = token(alloc, TokenKind::Val, "val", 0)?;
-    let first = step(alloc, &begun, &end, &mut counts)?;
-    let second = step(alloc, &begun, &val, &mut counts)?;
-    let interface = empty_sig(alloc)?;
-    let third = step(alloc, &interface, &val, &mut counts)?;
-    assert_eq!(rt; counts.shifted(), 3);
-    assert_eq!(rt; first.fault, None);
-    assert_eq!(rt;
-        second.fault,
-        Some(SyntaxFault::Skipped {
-            span: Span { start: 0, end: 3 }
-        })
-    );
-    assert_eq!(rt; third.fault, None);
-    let nothing = close(alloc, &begun)?;
-    assert_eq!(rt; (nothing.tree.items.len(), nothing.fault), (0, None));
-    let item = close(alloc, &first.stack)?;
-    assert_eq!(rt; (item.tree.items.len(), item.fault), (1, None));
-    let value = close(alloc, &third.stack)?;
-    let fault = SyntaxFault::Added { place: 3, holes: 3 };
-    assert_eq!(rt; (value.tree.items.len(), value.fault), (1, Some(fault)));
-    Ok(())
+    none_wrong(wrong_unless(stays(rt.alloc()), "a program"))?;
+    none_wrong(wrong_unless(begins_value(rt.alloc()), "an interface"))
 }
