@@ -1,11 +1,12 @@
 //! Runs of `serve` over each kind of end.
+use crate::verdict::{none_wrong, wrong_unless};
 use session_loop::{
     ListSink, ListSource, ReadEnd, Report, Sink, Source, Status, SureSink, SureSource, WriteEnd,
     serve,
 };
 use std::alloc::Global;
 use std::test::Fail;
-use syntax_tree::Counts;
+use syntax_tree::{Counts, NoMemory};
 
 const TELL: &[u8] = b"{\"query\":\"tell\",\"text\":\"let a = 1\\nlet b = a\"}\n";
 
@@ -18,15 +19,17 @@ const TYPED: &[u8] =
 
 const NOT_JSON: &[u8] = b"{\"class\":\"error\",\"value\":{\"name\":\"NotJson\"}}\n";
 
-const TOO_LONG: &[u8] = b"{\"class\":\"error\",\"value\":{\"name\":\"LineTooLong\"}}\n";
-
 const BAD_POSITION: &[u8] =
     b"{\"class\":\"error\",\"value\":{\"key\":\"end\",\"name\":\"BadPosition\"}}\n";
+
+/// A range past the end of the text of `TELL`.
+const MISPLACED: &[u8] =
+    b"{\"query\":\"tell\",\"start\":{\"line\":1,\"col\":0},\"end\":{\"line\":3,\"col\":0},\"text\":\"\"}\n";
 
 const MADE: &[u8] = b"{\"bytes\":151,\"faults\":0,\"items\":6,\"typed\":6}\n";
 
 /// A counter of its own.
-#[derive(Drop)]
+#[derive(Clone, Copy)]
 struct Three {
     lexed: u64,
     shifted: u64,
@@ -69,8 +72,18 @@ fn zero() -> Three {
     }
 }
 
-/// These pieces one behind another.
-fn joined(alloc: Global, pieces: &[&[u8]]) -> Result<Vec<u8>, Fail> {
+/// The one call of the tested function.
+fn served<S: Source, K: Sink>(
+    alloc: Global,
+    words: &[String],
+    src: &mut S,
+    sink: &mut K,
+) -> Report {
+    serve(alloc, words, src, sink, &mut zero())
+}
+
+/// These pieces one after another.
+fn joined(alloc: Global, pieces: &[&[u8]]) -> Result<Vec<u8>, NoMemory> {
     let mut bytes = Vec::new(alloc);
     for piece in pieces {
         bytes.extend_from_slice(piece)?;
@@ -78,157 +91,228 @@ fn joined(alloc: Global, pieces: &[&[u8]]) -> Result<Vec<u8>, Fail> {
     Ok(bytes)
 }
 
+/// Whether bytes are these pieces one after another.
+fn are_joined(bytes: &[u8], pieces: &[&[u8]]) -> bool {
+    let mut rest = bytes;
+    for piece in pieces {
+        match rest.strip_prefix(*piece) {
+            Some(left) => rest = left,
+            None => return false,
+        }
+    }
+    rest.is_empty()
+}
+
 /// A run without words over ends in memory.
-fn run(
-    alloc: Global,
-    input: Vec<u8>,
-    takes: Vec<u64>,
-    puts: Vec<(u64, u32)>,
-) -> Result<(Report, Vec<u8>), Fail> {
+struct Run {
+    what: &'static str,
+    input: &'static [&'static [u8]],
+    /// The calls of the source that fail, from 1.
+    takes: &'static [u64],
+    /// The calls of the sink that fail, from 1, each with how many bytes it puts before.
+    puts: &'static [(u64, u32)],
+    status: Status,
+    lexed: u64,
+    output: &'static [&'static [u8]],
+}
+
+const RUNS: [Run; 5] = [
+    Run {
+        what: "a plain text is answered",
+        input: &[TELL, ASK],
+        takes: &[],
+        puts: &[],
+        status: Status::Done,
+        lexed: 8,
+        output: &[TOLD, TYPED],
+    },
+    Run {
+        what: "what is refused leaves the text, and a blank line has no reply",
+        input: &[TELL, b"{\n \t\n", MISPLACED, ASK],
+        takes: &[],
+        puts: &[],
+        status: Status::Done,
+        lexed: 8,
+        output: &[TOLD, NOT_JSON, BAD_POSITION, TYPED],
+    },
+    Run {
+        what: "no input has no output",
+        input: &[],
+        takes: &[],
+        puts: &[],
+        status: Status::Done,
+        lexed: 0,
+        output: &[],
+    },
+    Run {
+        what: "a put that fails leaves a front",
+        input: &[TELL, ASK],
+        takes: &[],
+        puts: &[(2, 3)],
+        status: Status::WriteFault,
+        lexed: 8,
+        output: &[TOLD, b"{\"c"],
+    },
+    Run {
+        what: "a take that fails leaves the lines before it answered",
+        input: &[TELL, ASK],
+        takes: &[2],
+        puts: &[],
+        status: Status::ReadFault,
+        lexed: 0,
+        output: &[TOLD],
+    },
+];
+
+/// A source that gives at most the length of `TELL` at once.
+fn source(alloc: Global, pieces: &[&[u8]], takes: &[u64]) -> Result<ListSource, NoMemory> {
+    let input = joined(alloc, pieces)?;
+    let takes = takes.to_vec(alloc)?;
     let most = vec![in alloc; TELL.len()]?;
-    let mut src = ListSource::new(input, takes, most);
-    let mut sink = ListSink::new(alloc, puts);
-    let report = serve(alloc, &[], &mut src, &mut sink, &mut zero());
-    Ok((report, sink.bytes().to_vec(alloc)?))
+    Ok(ListSource::new(input, takes, most))
+}
+
+fn sink(alloc: Global, puts: &[(u64, u32)]) -> Result<ListSink, NoMemory> {
+    Ok(ListSink::new(alloc, puts.to_vec(alloc)?))
+}
+
+fn has_run(alloc: Global, run: &Run) -> bool {
+    let Ok(mut src) = source(alloc, run.input, run.takes) else {
+        return false;
+    };
+    let Ok(mut sink) = sink(alloc, run.puts) else {
+        return false;
+    };
+    let report = served(alloc, &[], &mut src, &mut sink);
+    report.status == run.status && report.lexed == run.lexed && are_joined(sink.bytes(), run.output)
+}
+
+fn wrong_run(alloc: Global) -> Option<&'static str> {
+    for run in &RUNS {
+        if !has_run(alloc, run) {
+            return Some(run.what);
+        }
+    }
+    None
 }
 
 #[test]
-fn plain_text_is_answered(rt: HostRuntime) -> Result<(), Fail> {
-    let alloc = rt.alloc();
-    let input = joined(alloc, &[TELL, ASK])?;
-    let (report, output) = run(alloc, input, Vec::new(alloc), Vec::new(alloc))?;
-    assert_eq!(rt; report.status, Status::Done);
-    assert_eq!(rt; report.lexed, 8);
-    assert_eq!(rt;
-        output.as_slice(),
-        joined(alloc, &[TOLD, TYPED])?.as_slice()
-    );
-    Ok(())
+fn runs_over_ends_in_memory(rt: HostRuntime) -> Result<(), Fail> {
+    none_wrong(wrong_run(rt.alloc()))
 }
 
-#[test]
-fn refusals_leave_the_text(rt: HostRuntime) -> Result<(), Fail> {
-    let alloc = rt.alloc();
-    let long = vec![in alloc; b'x'; 8_388_609]?;
-    let misplaced =
-        b"{\"query\":\"tell\",\"start\":{\"line\":1,\"col\":0},\"end\":{\"line\":3,\"col\":0},\"text\":\"\"}\n";
-    let input = joined(alloc, &[TELL, b"{\n \t\n", misplaced, &long, b"\n", ASK])?;
-    let (report, output) = run(alloc, input, Vec::new(alloc), Vec::new(alloc))?;
-    assert_eq!(rt; report.status, Status::Done);
-    assert_eq!(rt;
-        output.as_slice(),
-        joined(alloc, &[TOLD, NOT_JSON, BAD_POSITION, TOO_LONG, TYPED])?.as_slice()
-    );
-    Ok(())
-}
+/// Words: what they are, the words, which put fails and how many bytes it puts before, the status, how many nodes are typed,
+/// and the output.
+type WordRow = (
+    &'static str,
+    &'static [&'static str],
+    &'static [(u64, u32)],
+    Status,
+    u64,
+    &'static [u8],
+);
 
-#[test]
-fn no_input_has_no_output(rt: HostRuntime) -> Result<(), Fail> {
-    let alloc = rt.alloc();
-    let (report, output) = run(alloc, Vec::new(alloc), Vec::new(alloc), Vec::new(alloc))?;
-    assert_eq!(rt; report.status, Status::Done);
-    assert_eq!(rt; output.len(), 0);
-    Ok(())
-}
+const WORDS: [WordRow; 10] = [
+    ("x", &["x"], &[], Status::BadWords, 0, b""),
+    ("--help", &["--help"], &[], Status::BadWords, 0, b""),
+    ("--make", &["--make"], &[], Status::BadWords, 0, b""),
+    ("--make 0", &["--make", "0"], &[], Status::BadWords, 0, b""),
+    (
+        "--make 20001",
+        &["--make", "20001"],
+        &[],
+        Status::BadWords,
+        0,
+        b"",
+    ),
+    ("--make=0", &["--make=0"], &[], Status::BadWords, 0, b""),
+    (
+        "--make twice",
+        &["--make", "1", "--make", "2"],
+        &[],
+        Status::BadWords,
+        0,
+        b"",
+    ),
+    ("--make 5", &["--make", "5"], &[], Status::Done, 11, MADE),
+    ("--make=5", &["--make=5"], &[], Status::Done, 11, MADE),
+    (
+        "a put that fails",
+        &["--make", "5"],
+        &[(1, 4)],
+        Status::WriteFault,
+        11,
+        b"{\"by",
+    ),
+];
 
-#[test]
-fn failing_put_leaves_a_front(rt: HostRuntime) -> Result<(), Fail> {
-    let alloc = rt.alloc();
-    let input = joined(alloc, &[TELL, ASK])?;
-    let (report, output) = run(alloc, input, Vec::new(alloc), vec![in alloc; (2, 3)]?)?;
-    assert_eq!(rt; report.status, Status::WriteFault);
-    assert_eq!(rt;
-        output.as_slice(),
-        joined(alloc, &[TOLD, b"{\"c"])?.as_slice()
-    );
-    Ok(())
-}
-
-#[test]
-fn failing_take_answers_the_lines_before(rt: HostRuntime) -> Result<(), Fail> {
-    let alloc = rt.alloc();
-    let input = joined(alloc, &[TELL, ASK])?;
-    let (report, output) = run(alloc, input, vec![in alloc; 2]?, Vec::new(alloc))?;
-    assert_eq!(rt; report.status, Status::ReadFault);
-    assert_eq!(rt; output.as_slice(), TOLD);
-    Ok(())
-}
-
-/// A run with these words, over an input that it is not to read.
-fn run_with(
-    alloc: Global,
-    words: &[&str],
-    puts: Vec<(u64, u32)>,
-) -> Result<(Report, Vec<u8>), Fail> {
+fn owned(alloc: Global, words: &[&str]) -> Result<Vec<String>, NoMemory> {
     let mut owned = Vec::new(alloc);
     for word in words {
         owned.push(String::from_str(alloc, word)?)?;
     }
-    let mut sink = ListSink::new(alloc, puts);
-    let mut src = SureSource::new(joined(alloc, &[TELL])?);
-    let report = serve(alloc, &owned, &mut src, &mut sink, &mut zero());
-    Ok((report, sink.bytes().to_vec(alloc)?))
+    Ok(owned)
 }
 
-#[test]
-fn words_are_refused(rt: HostRuntime) -> Result<(), Fail> {
-    let alloc = rt.alloc();
-    let refused: [&[&str]; 7] = [
-        &["x"],
-        &["--help"],
-        &["--make"],
-        &["--make", "0"],
-        &["--make", "20001"],
-        &["--make=0"],
-        &["--make", "1", "--make", "2"],
-    ];
-    for words in refused.as_slice() {
-        let (report, output) = run_with(alloc, words, Vec::new(alloc))?;
-        assert_eq!(rt; report.status, Status::BadWords);
-        assert_eq!(rt; output.len(), 0);
+/// Whether words, over an input that isn't to be read, have this end, this count and this output.
+fn asks(alloc: Global, (_, words, puts, status, typed, output): WordRow) -> bool {
+    let Ok(words) = owned(alloc, words) else {
+        return false;
+    };
+    let Ok(mut sink) = sink(alloc, puts) else {
+        return false;
+    };
+    let Ok(unread) = joined(alloc, &[TELL]) else {
+        return false;
+    };
+    let mut src = SureSource::new(unread);
+    let report = served(alloc, &words, &mut src, &mut sink);
+    report.status == status && report.typed == typed && sink.bytes() == output
+}
+
+fn wrong_words(alloc: Global) -> Option<&'static str> {
+    for row in &WORDS {
+        if !asks(alloc, *row) {
+            return Some(row.0);
+        }
     }
-    Ok(())
+    None
 }
 
 #[test]
-fn made_runs_put_one_line(rt: HostRuntime) -> Result<(), Fail> {
-    let alloc = rt.alloc();
-    let asking: [&[&str]; 2] = [&["--make", "5"], &["--make=5"]];
-    for words in asking.as_slice() {
-        let (report, output) = run_with(alloc, words, Vec::new(alloc))?;
-        assert_eq!(rt; report.status, Status::Done);
-        assert_eq!(rt; output.as_slice(), MADE);
-        assert_eq!(rt; report.typed, 11);
+fn words_are_refused_or_ask_for_a_text(rt: HostRuntime) -> Result<(), Fail> {
+    none_wrong(wrong_words(rt.alloc()))
+}
+
+fn is_done(report: Report) -> bool {
+    report.status == Status::Done && report.lexed == 8
+}
+
+/// Whether ends that never fail are served.
+fn serves_sure_ends(alloc: Global) -> bool {
+    match joined(alloc, &[TELL, ASK]) {
+        Ok(input) => {
+            let mut src = SureSource::new(input);
+            is_done(served(alloc, &[], &mut src, &mut SureSink::new()))
+        }
+        Err(_) => false,
     }
-    Ok(())
+}
+
+/// Whether readers and writers of the standard library are served.
+fn serves_standard_ends(alloc: Global) -> bool {
+    match joined(alloc, &[TELL, ASK]) {
+        Ok(input) => {
+            let mut src = ReadEnd::new(input.as_slice());
+            let mut sink = WriteEnd::new(Vec::new(alloc));
+            is_done(served(alloc, &[], &mut src, &mut sink))
+        }
+        Err(_) => false,
+    }
 }
 
 #[test]
-fn failing_put_leaves_a_front_of_the_summary(rt: HostRuntime) -> Result<(), Fail> {
-    let alloc = rt.alloc();
-    let (report, output) = run_with(alloc, &["--make", "5"], vec![in alloc; (1, 4)]?)?;
-    assert_eq!(rt; report.status, Status::WriteFault);
-    assert_eq!(rt; output.as_slice(), b"{\"by".as_slice());
-    Ok(())
-}
-
-#[test]
-fn sure_ends_never_fail(rt: HostRuntime) -> Result<(), Fail> {
-    let alloc = rt.alloc();
-    let mut src = SureSource::new(joined(alloc, &[TELL, ASK])?);
-    let report = serve(alloc, &[], &mut src, &mut SureSink::new(), &mut zero());
-    assert_eq!(rt; report.status, Status::Done);
-    assert_eq!(rt; report.lexed, 8);
-    Ok(())
-}
-
-#[test]
-fn standard_readers_and_writers_are_ends(rt: HostRuntime) -> Result<(), Fail> {
-    let alloc = rt.alloc();
-    let input = joined(alloc, &[TELL, ASK])?;
-    let mut src = ReadEnd::new(input.as_slice());
-    let mut sink = WriteEnd::new(Vec::new(alloc));
-    let report = serve(alloc, &[], &mut src, &mut sink, &mut zero());
-    assert_eq!(rt; report.status, Status::Done);
-    Ok(())
+fn other_ends_are_served(rt: HostRuntime) -> Result<(), Fail> {
+    none_wrong(wrong_unless(serves_sure_ends(rt.alloc()), "sure ends"))?;
+    none_wrong(wrong_unless(serves_standard_ends(rt.alloc()), "standard ends"))
 }
