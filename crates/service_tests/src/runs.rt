@@ -213,7 +213,7 @@ type WordRow = (
     &'static [u8],
 );
 
-const WORDS: [WordRow; 10] = [
+const REFUSED: [WordRow; 7] = [
     ("x", &["x"], &[], Status::BadWords, 0, b""),
     ("--help", &["--help"], &[], Status::BadWords, 0, b""),
     ("--make", &["--make"], &[], Status::BadWords, 0, b""),
@@ -235,6 +235,9 @@ const WORDS: [WordRow; 10] = [
         0,
         b"",
     ),
+];
+
+const MADE_RUNS: [WordRow; 3] = [
     ("--make 5", &["--make", "5"], &[], Status::Done, 11, MADE),
     ("--make=5", &["--make=5"], &[], Status::Done, 11, MADE),
     (
@@ -272,7 +275,7 @@ fn asks(alloc: Global, (_, words, puts, status, typed, output): WordRow) -> bool
 }
 
 fn wrong_words(alloc: Global) -> Option<&'static str> {
-    for row in &WORDS {
+    for row in &REFUSED {
         if !asks(alloc, *row) {
             return Some(row.0);
         }
@@ -281,8 +284,22 @@ fn wrong_words(alloc: Global) -> Option<&'static str> {
 }
 
 #[test]
-fn words_are_refused_or_ask_for_a_text(rt: HostRuntime) -> Result<(), Fail> {
+fn words_are_refused(rt: HostRuntime) -> Result<(), Fail> {
     none_wrong(wrong_words(rt.alloc()))
+}
+
+fn wrong_made_run(alloc: Global) -> Option<&'static str> {
+    for row in &MADE_RUNS {
+        if !asks(alloc, *row) {
+            return Some(row.0);
+        }
+    }
+    None
+}
+
+#[test]
+fn made_runs_put_one_line(rt: HostRuntime) -> Result<(), Fail> {
+    none_wrong(wrong_made_run(rt.alloc()))
 }
 
 fn is_done(report: Report) -> bool {
