@@ -136,7 +136,8 @@ fn run_by<A: Analyser, S: Source, K: Sink, C: Counts>(
 /// Without words, reads request lines from the source until it ends, and puts a reply line for each into the sink, by one
 /// `put` each. Each line has a reply that the present text allows, or the line that stands for want of memory. Of a line that is
 /// no request, a `tell`, an `outline`, a position that doesn't exist, and the types of a plain text, the text allows one reply
-/// alone. With `--make n` it reads nothing, and puts one line on a text that it makes of n items. Other words are refused.
+/// alone. With `--make n` it reads nothing, and puts one line on a text that it makes of n items. Other words are refused. Types
+/// and names are found by an `A`.
 pub fn serve<A: Analyser, S: Source, K: Sink, C: Counts>(
     alloc: Global,
     words: &[String],
