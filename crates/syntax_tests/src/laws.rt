@@ -109,10 +109,11 @@ fn add(out: &mut String, text: &str) -> Result<(), NoMemory> {
 
 /// The parts of a node, in parentheses.
 fn draw(node: &Node, out: &mut String) -> Result<(), NoMemory> {
-    let mut mark = "(";
-    for child in &node.children {
-        add(out, mark)?;
-        mark = " ";
+    add(out, "(")?;
+    for (index, child) in node.children.iter().enumerate() {
+        if index > 0 {
+            add(out, " ")?;
+        }
         match &child.part {
             Part::Taken(token) => add(out, token.name.as_str())?,
             Part::Inner(inner) => draw(inner, out)?,
