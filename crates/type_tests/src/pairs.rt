@@ -125,12 +125,12 @@ fn make_at(
     at: usize,
     sharing: Sharing,
 ) -> Result<NodeRef, NoMemory> {
+    let Some(head) = term.get(at).copied() else {
+        return Err(AllocError);
+    };
     match (found(term, at, nodes), sharing) {
         (Some(node), Sharing::Types) => Ok(node),
-        _ => {
-            let head = term[at];
-            make(alloc, store, head, &parts_at(alloc, nodes, term, at, head)?)
-        }
+        _ => make(alloc, store, head, &parts_at(alloc, nodes, term, at, head)?),
     }
 }
 
