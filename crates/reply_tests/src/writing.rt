@@ -1,7 +1,7 @@
 //! The bytes of replies that no text gives in that form. All others are in the sessions.
 use crate::verdict::{none_wrong, wrong_unless};
 use json_lines::{Listed, OutlineKind, Outlined, Reply, memory_line, write_reply};
-use std::alloc::{AllocError, Global};
+use std::alloc::Global;
 use std::test::Fail;
 use text_terms::{NoMemory, Pos, RcStr};
 
@@ -38,10 +38,9 @@ const LINES: [(Sample, &str); 4] = [
 ];
 
 fn one<T: Drop>(alloc: Global, item: T) -> Result<Vec<T>, NoMemory> {
-    match vec![in alloc; item] {
-        Ok(items) => Ok(items),
-        Err(_) => Err(AllocError),
-    }
+    let mut items = Vec::new(alloc);
+    items.push(item)?;
+    Ok(items)
 }
 
 fn named(
