@@ -73,6 +73,30 @@ store_goes old new k t s = record {
   constants = s.constants;
 }
 
+-- where nothing changes, nothing but the faults does
+pub only_faults_same : (old new : Parts) → new ≡ old → OnlyFaults old new
+only_faults_same old new e = record {
+  store = ap (λ p. p.store) e;
+  index = ap (λ p. p.index) e;
+  written = ap (λ p. p.written) e;
+  item = ap (λ p. p.item) e;
+  level = ap (λ p. p.level) e;
+  telling = ap (λ p. p.telling) e;
+  constants = ap (λ p. p.constants) e;
+}
+
+-- one call that changes the faults alone, and then another
+pub only_faults_trans : (a b c : Parts) → OnlyFaults a b → OnlyFaults b c → OnlyFaults a c
+only_faults_trans a b c p q = record {
+  store = q.store ∙ p.store;
+  index = q.index ∙ p.index;
+  written = q.written ∙ p.written;
+  item = q.item ∙ p.item;
+  level = q.level ∙ p.level;
+  telling = q.telling ∙ p.telling;
+  constants = q.constants ∙ p.constants;
+}
+
 -- a call that tells faults
 pub faults_goes : (old new : Parts) → Begins (faults_of old) (faults_of new) → OnlyFaults old new → Goes old new
 faults_goes old new b s = record {

@@ -15,7 +15,7 @@ use Rattle.env_table.specs.Scopes.{lost_behind}
 use Rattle.typing_state.specs.declared.messages.Word.{Word}
 use Rattle.typing_state.specs.declared.messages.Word.TheVariants as word
 use Rattle.typing_state.specs.declared.parts.Parts.{Parts}
-use Rattle.typing_state.specs.Goes.{faults_of, Told}
+use Rattle.typing_state.specs.Goes.{faults_of, OnlyFaults, Told}
 use Rattle.typing_state.specs.Messages.{unbound_text}
 use Rattle.typing_state.specs.Steps.{place_of_tok, place_without_point}
 
@@ -31,6 +31,11 @@ TellsUnbound old new at kind name = (span : Span) × (place_of span ≡ at) × T
 abbrev pub TellsLost : Option Tok → (old new : Parts) → (last : Tok) → Word → Type 0
 TellsLost None old new last kind = TellsUnbound old new (place_of_tok last) kind last.name
 TellsLost (Some q) old new last kind = TellsUnbound old new (place_without_point q) word.Module q.name
+
+-- exactly one fault tells a path that finds nothing, and all but the faults is as before
+pub record ReportsLost (old new : Parts) (lost : Option Tok) (last : Tok) (kind : Word) : Type 0 where
+  pub told : TellsLost lost old new last kind
+  pub rest : OnlyFaults old new
 
 -- the one at a place
 abbrev pub token_at : List Tok → Option ℕ → Option Tok
@@ -54,11 +59,11 @@ word_of kind.TypeName = word.Type
 word_of kind.Module = word.Module
 word_of kind.ModuleType = word.ModuleType
 
--- what comes of the demand: the entry that a path finds, and none in a module that isn't known, where all is as before; where it finds nothing, that is told
+-- what comes of the demand: the entry that a path finds, and none in a module that isn't known, where all is as before; where it finds nothing, that is told, and nothing else changes
 abbrev pub BoundIs : FoundAmong Entry → Option Entry → (old new : Parts) → (lost : Option Tok) → (last : Tok) → Word → Type 0
 BoundIs (an_entry e) given old new lost last kind = (given ≡ Some e) × (new ≡ old)
 BoundIs a_hole given old new lost last kind = (given ≡ None) × (new ≡ old)
-BoundIs nothing given old new lost last kind = (given ≡ None) × TellsLost lost old new last kind
+BoundIs nothing given old new lost last kind = (given ≡ None) × ReportsLost old new lost last kind
 
 -- the same of a last name that may be missing, where the demand isn't made
 abbrev pub BoundLastIs : Option Tok → Kind → Option Entry → (old new : Parts) → List Entry → List Tok → Type 0

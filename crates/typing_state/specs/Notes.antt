@@ -1,5 +1,5 @@
 -- What is recorded for nodes.
-use Rattle.std.specs.Prelude.{◌≡◌, ℕ, List, [], Option, Some, unwrap_or}
+use Rattle.std.specs.Prelude.{◌≡◌, ℕ, List, [], Option, Some, None}
 use Rattle.std.specs.declared.vec.Vec.{Vec}
 use Rattle.std.specs.declared.rc.Rc.{Rc}
 use Rattle.std.specs.declared.alloc.Global.{Global}
@@ -11,10 +11,15 @@ use Rattle.typing_state.specs.declared.parts.Telling.{Telling}
 use Rattle.typing_state.specs.declared.parts.Telling.TheVariants.{Aloud, Quiet}
 use Rattle.typing_state.specs.declared.parts.Parts.{Parts}
 
--- this is recorded for a node of the present item, unless something was, and nothing else changes; where it is quiet, nothing is recorded
+-- nothing was recorded for a node of the present item, and now this is; what is recorded for the other nodes is as before
+pub record NotedFirst (old new : Parts) (number : ℕ) (seen : Seen) : Type 0 where
+  pub before : seen_at old.index old.item number ≡ None
+  pub after : (i p : ℕ) → seen_at new.index i p ≡ with_note old.item number seen (seen_at old.index) i p
+
+-- this is the one record of a node of the present item; where it is quiet, nothing is recorded
 abbrev pub Noted : Telling → (old new : Parts) → (number : ℕ) → Seen → Type 0
 Noted Quiet old new number seen = new.index ≡ old.index
-Noted Aloud old new number seen = (i p : ℕ) → seen_at new.index i p ≡ with_note old.item number (unwrap_or (seen_at old.index old.item number) seen) (seen_at old.index) i p
+Noted Aloud old new number seen = NotedFirst old new number seen
 
 -- the same for a node without names of its own
 abbrev pub NotedNameless : (old new : Parts) → (number : ℕ) → List Entry → Option NodeRef → Type 0

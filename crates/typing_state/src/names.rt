@@ -6,7 +6,7 @@ ghost use Rattle.syntax_tree.specs.View.{place_of, tok_of};
 ghost use Rattle.row_parts.specs.Numbered.{path_view};
 ghost use Rattle.env_table.specs.Scopes.{lost_behind};
 ghost use Rattle.typing_state.specs.Bound.{BoundIs, BoundLastIs, TellsLost, found_at, lost_among, names_of_tokens, token_at, word_of};
-ghost use Rattle.typing_state.specs.Goes.{Goes};
+ghost use Rattle.typing_state.specs.Goes.{Goes, OnlyFaults};
 ghost use Rattle.typing_state.specs.Steps.{Follows, IsAmong, asks_bound, place_without_point};
 
 use crate::entries::share_entry;
@@ -131,6 +131,7 @@ impl Parts {
     ) -> Result<(), NoMemory>
         ensures told { OnOk result (TellsLost (token_at (path_view written.now).qualifiers (lost_behind env.now [] 0 (map str_bytes path.now.modules.items))) self.old self.new (tok_of last.now) word) }
         ensures follows { OnOk result (Follows (asks_bound (record (path_view written.now) { last = Some (tok_of last.now) })) self.old self.new) }
+        ensures rest { OnlyFaults self.old self.new }
         ensures goes { Goes self.old self.new }
     {
         match lost_qualifier(env, path, written) {

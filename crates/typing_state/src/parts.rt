@@ -10,7 +10,7 @@ ghost use Rattle.syntax_tree.specs.View.{place_of};
 use crate::built_ins::Constants;
 use env_table::{Entry, Env, Fault, FaultKind, Faults, Place, Seen};
 use owned_lists::push;
-use std::alloc::Global;
+use std::alloc::{AllocError, Global};
 use std::collections::HashMap;
 use std::rc::Rc;
 use syntax_tree::{NodeId, Span};
@@ -91,7 +91,8 @@ impl Parts {
         }
     }
 
-    /// Records what is seen at a node of the present item, unless something is recorded for it: the first record stays.
+    /// Records what is seen at a node of the present item. A node is recorded once: where something is recorded for it
+    /// already, the call gives up with `NoMemory`, and changes nothing.
     pub fn note(
         &mut self,
         number: u32,
@@ -114,7 +115,7 @@ impl Parts {
             pre: number,
         };
         if self.index.get(id).is_some() {
-            return Ok(());
+            return Err(AllocError);
         }
         let env = env.share()?;
         self.index.note(id, Seen { env, ty, names })

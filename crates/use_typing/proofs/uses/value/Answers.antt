@@ -12,4 +12,4 @@ returns-clause-ty c =
     let p = path_view c.args.path.now in
     let last = tok_of c.in-Some.last.now in
     subst (λ o. LastHas (token_view o) kind.Value c.args.at.now c.instance_of.new.at c.args.env.now p.qualifiers c.in_ok-ty.ty) (sym c.in-Some.is)
-    (value_has (found_at c.args.env.now p.qualifiers kind.Value last) (option_map (λ e. e.value) c.in_ok-entry.entry) (lost_among c.args.env.now p.qualifiers) last (word_of kind.Value) c.args.at.now c.bound.new.self c.instance_of.new.at c.in_ok-ty.ty c.in_ok-entry.ensures.verdict c.bound.ensures.goes (subst (λ o. UsesScheme (option_and_then scheme_in (option_map (λ x. x.what) (option_map (λ e. e.value) o))) c.bound.new.self c.instance_of.new.at c.in_ok-ty.ty) c.as_ref-2.ensures.value c.in_ok-ty.ensures.ty))
+    (value_has (found_at c.args.env.now p.qualifiers kind.Value last) (option_map (λ e. e.value) c.in_ok-entry.entry) (lost_among c.args.env.now p.qualifiers) last (word_of kind.Value) c.args.at.now c.bound.new.self c.instance_of.new.at c.in_ok-ty.ty c.in_ok-entry.ensures.verdict (subst (λ o. UsesScheme (option_and_then scheme_in (option_map (λ x. x.what) (option_map (λ e. e.value) o))) c.bound.new.self c.instance_of.new.at c.in_ok-ty.ty) c.as_ref-2.ensures.value c.in_ok-ty.ensures.ty))
