@@ -144,7 +144,7 @@ module _ (D : Declaration → rules.Declaration → Type 0) (X : Constructor →
     pub let_fits : (V0 : Types) → SameTypes old V0 V → Loose new V → Stands SchemeFits D X old I C V0 env E →
         Stands SchemeFits D X new J (n.0 ∷ C) V (e ∷ env) (entry x at (a_value (generalised_in E held (V n.0))) ∷ E)
     let_fits V0 same loose s =
-        let s' = stands_fits_on D X old new I J (C ++ W) C H level before behind_own whole roots_inside V0 V env E same loose s in
+        let s' = stands_fits_on D X old new I J C before behind_own whole.refines roots_inside V0 V env E same loose s in
         let f = name_fits old nodes new I J (C ++ W) R H level before between context group names held_low closes V E held (fixes_fit s') k n.0 is_name in
         stands_named SchemeFits D X new J V C env E behind_own loose e x at n (generalised_in E held (V n.0)) named kind is f f (known_vars loose) s'
 
@@ -153,7 +153,7 @@ module _ (D : Declaration → rules.Declaration → Type 0) (X : Constructor →
         Stands SchemeReads D X new J (n.0 ∷ C) V (e ∷ env) (entry x at (a_value (generalised_in E held (V n.0))) ∷ E)
     let_reads reads none s =
         let loose = fits_loosely new V reads.fits in
-        let s' = stands_reads_on D X old new I J (C ++ W) C H level before behind_own whole roots_inside V env E loose s in
+        let s' = stands_reads_on D X old new I J C before behind_own whole.refines roots_inside V env E loose s in
         let f = name_reads old nodes new I J (C ++ W) R H level before between context group names held_low closes V E held (fixes_read s')
         (λ b h. let p = none_free D X new J V C env E behind_own reads s' b h in let q = none b h in (λ i. p i || q i)) k n.0 is_name in
         stands_named SchemeReads D X new J V C env E behind_own loose e x at n (generalised_in E held (V n.0)) named kind is f f.fits (known_vars loose) s'

@@ -12,7 +12,7 @@ use Rattle.type_nodes.proofs.Lists.{one_element}
 use Rattle.level_unify.specs.Solutions.{Loose, FitsLoosely}
 use Rattle.level_unify.proofs.Steps.{cell_at}
 use Rattle.typing_laws.proofs.Bools.{no_yes}
-use Rattle.typing_environments.specs.Locals.{IsVar, IsLow, IsOwn, stands_in_any, Within, Local, IsContext, IsResult, ClosesAll}
+use Rattle.typing_environments.specs.Locals.{IsVar, IsLow, IsOwn, stands_in_any, Within, Refines, Local, IsContext, IsResult, ClosesAll}
 use Rattle.typing_environments.proofs.Regions.{any_in, in_any, region, region_is, region_var}
 use Rattle.typing_environments.proofs.Steps.{same_node, stands_behind, stands_before, true_or_false, old_or_new}
 
@@ -27,14 +27,14 @@ pub var_of : (nodes : List Node) (v : ℕ) → IsVar nodes v → VarOf nodes v
 var_of nodes v var = record { level = var.level; scope = var.scope; at = var.at; kind = elim (eqb_tells var.level bound_level) [ inl (_, e) ↦ inl e | inr (_, e) ↦ inr e ] }
 
 -- a bound variable that stands in what a variable reads as later is that variable
-pub bound_itself : (old new : List Node) (I J : Types) (C : List ℕ) (H : ℕ → List ℕ) (level : ℕ) → IsOwn new J → Local old new I J C H level →
+pub bound_itself : (old new : List Node) (J : Types) → IsOwn new J → Refines old new J →
     (w v o : ℕ) → slice_get old w ≡ Some (Var bound_level o) → occurs v (J w) ≡ true → v ≡ w
-bound_itself old new I J C H level behind one w v o e h = eqb-true v w (ap (occurs v) (sym (behind.vars w bound_level o (one.bounds w o e))) ∙ h)
+bound_itself old new J behind one w v o e h = eqb-true v w (ap (occurs v) (sym (behind.vars w bound_level o (one.bounds w o e))) ∙ h)
 
 -- a context stays one
-pub context_behind : (old new : List Node) (I J : Types) (C R : List ℕ) (H : ℕ → List ℕ) (here level : ℕ) → IsOwn old I → IsOwn new J → Local old new I J C H here →
+pub context_behind : (old new : List Node) (I J : Types) (R : List ℕ) (level : ℕ) → IsOwn old I → IsOwn new J → Refines old new J →
     IsContext old I R level → IsContext new J R level
-context_behind old new I J C R H here level before behind one context = record {
+context_behind old new I J R level before behind one context = record {
   inside = λ k c e. let p = context.inside k c e in let q = one.longer in omega arith;
   low = λ v l o h e free.
       let a = in_any v J R h in
@@ -44,15 +44,15 @@ context_behind old new I J C R H here level before behind one context = record {
         | inr f ↦ let x = context.low w var.level var.scope (any_in w I R a.place a.node a.at p) var.at f in let y = one.falls w var.level var.scope v l o var.at f e q in omega arith
         | inl b ↦ absurd (
             let at : slice_get old w ≡ Some (Var bound_level var.scope) = var.at ∙ ap (λ k. Some (Var k var.scope)) b in
-            let s = bound_itself old new I J C H here behind one w v var.scope at q in
+            let s = bound_itself old new J behind one w v var.scope at q in
             free (same_node new w l o bound_level var.scope (ap (slice_get new) (sym s) ∙ e) (one.bounds w var.scope at)))
       ];
 }
 
 -- a result stays one
-pub result_behind : (old mid new : List Node) (J K : Types) (C D : List ℕ) (H : ℕ → List ℕ) (here level r : ℕ) → IsOwn mid J → IsOwn new K → Local mid new J K D H here →
+pub result_behind : (old mid new : List Node) (J K : Types) (C : List ℕ) (level r : ℕ) → IsOwn mid J → IsOwn new K → Refines mid new K →
     IsResult old mid J C level r → IsResult old new K C level r
-result_behind old mid new J K C D H here level r between behind two res = record {
+result_behind old mid new J K C level r between behind two res = record {
   inside = let p = res.inside in let q = two.longer in omega arith;
   within = res.within;
   free = λ v o.
@@ -200,7 +200,7 @@ module _ (old nodes new : List Node) (I J : Types) (C R : List ℕ) (H : ℕ →
       region_var old I C before v var ((between.stands a.node v n.0 a.occurs).each (region old I C) (group.closed (region old I C) r) (n.1.each (region old I C) r))
 
   in_context : (c u m : ℕ) (k : ℕ) → slice_get C k ≡ Some c → occurs m (I c) ≡ true → occurs u (J m) ≡ true → stands_in_any J C u ≡ true
-  in_context c u m k e p q = any_in u J C k c e (stands_behind old I J before (group.loose J between.loose) c m u p q)
+  in_context c u m k e p q = any_in u J C k c e (stands_behind old I J before (group.refines.loose J between.loose) c m u p q)
 
   from_context : (m u : ℕ) → stands_in_any I C m ≡ true → occurs u (J m) ≡ true → stands_in_any J C u ≡ true
   from_context m u h o = let a = in_any m I C h in in_context a.node u m a.place a.at a.occurs o
@@ -220,7 +220,7 @@ module _ (old nodes new : List Node) (I J : Types) (C R : List ℕ) (H : ℕ →
   -- and the other way round
   pub fixed_is_low : (u l o : ℕ) → slice_get nodes u ≡ Some (Var l o) → l ≢ bound_level → (stands_in_any J C u ≡ true) ⊎ (stands_in_any J (H level) u ≡ true) → l ≤ level
   fixed_is_low u l o e free h = elim h [
-    | inl i ↦ (context_behind old nodes I J C C H (suc level) level before between group context).low u l o i e free
+    | inl i ↦ (context_behind old nodes I J C level before between group.refines context).low u l o i e free
     | inr i ↦ held_low u l o i e free
   ]
 
@@ -231,7 +231,7 @@ module _ (old nodes new : List Node) (I J : Types) (C R : List ℕ) (H : ℕ →
       at : (t : Bool) → region old I C m ≡ t → ⊥
       at true t =
           let c = region_var old I C before m (record { level = l; scope = o; at = e }) t in
-          let x = group.falls m l o v l' o' e free e' h in
+          let x = group.refines.falls m l o v l' o' e free e' h in
           let y = context.low m l o c e free in omega arith
       at false t =
           let reg = region_is old I C before.loose in
@@ -241,18 +241,15 @@ module _ (old nodes new : List Node) (I J : Types) (C R : List ℕ) (H : ℕ →
           let y = context.low m l o c e free in
           let z : l' ≡ l = same_node nodes m l' o' l o (ap (slice_get nodes) (sym s) ∙ e') e'' in omega arith
 
-  pub local_closed : Local old new I J C H level
-  local_closed = record {
-    longer = let p = group.longer in let q = closes.len in omega arith;
-    loose = λ V h. group.loose V (closed_loose nodes new J R level closes V h);
-    closed = λ F r. closed_closed nodes new J R level closes F (group.closed F r);
-    outside = λ F r n h. closes.stays n (λ l o e free above stands.
-        let a = in_any n J R stands in
-        let w = names a.place a.node a.at in
-        no_yes (sym h ∙ (between.stands a.node n w.0 a.occurs).each F (group.closed F r) (w.1.each F r))) ∙ group.outside F r n h;
-    bounds = λ b scope e. closes.stays b (λ l o e' free above stands. free (same_node nodes b l o bound_level scope e' (group.bounds b scope e))) ∙ group.bounds b scope e;
+  pub refines_closed : Refines old new J
+  refines_closed = record {
+    longer = let p = group.refines.longer in let q = closes.len in omega arith;
+    loose = λ V h. group.refines.loose V (closed_loose nodes new J R level closes V h);
+    bounds = λ b scope e.
+        let e'' = group.refines.bounds b scope e in
+        closes.stays b (λ l o e' free above stands. free (same_node nodes b l o bound_level scope e' e'')) ∙ e'';
     frees = λ m v f h.
-        let g = group.frees m v f h in
+        let g = group.refines.frees m v f h in
         record {
           level = g.level;
           scope = g.scope;
@@ -260,9 +257,19 @@ module _ (old nodes new : List Node) (I J : Types) (C R : List ℕ) (H : ℕ →
           at = closes.stays v (λ l o e free above stands. old_stays m f.level f.scope v l o f.at f.free h e above stands) ∙ g.at;
         };
     falls = λ m l o u l' o' e free e' h.
-        let g = group.frees m u (record { level = l; scope = o; at = e; free = free }) h in
+        let g = group.refines.frees m u (record { level = l; scope = o; at = e; free = free }) h in
         let e'' = closes.stays u (λ k p q free' above stands. old_stays m l o u k p e free h q above stands) in
-        group.falls m l o u l' o' e free (sym e'' ∙ e') h;
+        group.refines.falls m l o u l' o' e free (sym e'' ∙ e') h;
+  }
+
+  pub local_closed : Local old new I J C H level
+  local_closed = record {
+    refines = refines_closed;
+    closed = λ F r. closed_closed nodes new J R level closes F (group.closed F r);
+    outside = λ F r n h. closes.stays n (λ l o e free above stands.
+        let a = in_any n J R stands in
+        let w = names a.place a.node a.at in
+        no_yes (sym h ∙ (between.stands a.node n w.0 a.occurs).each F (group.closed F r) (w.1.each F r))) ∙ group.outside F r n h;
     sources = λ k u lt low. group.sources k u (omega arith)
         (record { level = low.level; scope = low.scope; at = still_free nodes new J R level u low.level low.scope closes low.at low.free; free = low.free; low = low.low });
   }

@@ -64,13 +64,9 @@ open_nodes nodes J a b own fa fb = record {
 pub local_more : (old new : List Node) (I J : Types) (C D : List ℕ) (H G : ℕ → List ℕ) (level lower : ℕ) → IsOwn new J → lower ≤ level → ((k c : ℕ) → slice_get C k ≡ Some c → (j : ℕ) × (slice_get D j ≡ Some c)) →
     ((k u : ℕ) → k < lower → stands_in_any J (H k) u ≡ true → stands_in_any J (G k) u ≡ true) → Local old new I J C H level → Local old new I J D G lower
 local_more old new I J C D H G level lower behind le roots held one = record {
-  longer = one.longer;
-  loose = one.loose;
+  refines = one.refines;
   closed = λ F r. one.closed F (fewer F r);
   outside = λ F r. one.outside F (fewer F r);
-  bounds = one.bounds;
-  frees = one.frees;
-  falls = one.falls;
   sources = λ k u lt low. elim (one.sources k u (omega arith) low) [
     | inr i ↦ inr (held k u lt i)
     | inl s ↦ inl (record {
@@ -96,7 +92,7 @@ result_widens old mid new I J K C D H level lower r one within res = record {
     each = λ F reg. res.within.each F (record {
       closed = one.closed F reg;
       has = λ k d e. (within k d e).each F reg;
-      made = λ n le. reg.made n (let l = one.longer in omega arith);
+      made = λ n le. reg.made n (let l = one.refines.longer in omega arith);
     });
   };
   free = res.free;

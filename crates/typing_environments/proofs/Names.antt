@@ -1,5 +1,5 @@
--- A name that is used is typed: an instance of its scheme's root.
-use Rattle.std.proofs.Common.{◌≡◌, ℕ, zero, suc, List, [], ◌∷◌, ◌++◌, Option, Some, None, refl, sym, ◌∙◌, ap, subst}
+-- Where a path finds an entry that stands for a scheme, the definitions find that scheme.
+use Rattle.std.proofs.Common.{◌≡◌, ℕ, List, Option, Some, None, refl, sym, ◌∙◌, ap, subst}
 use Rattle.std.specs.declared.rc.Rc.{Rc}
 use Rattle.std.specs.declared.alloc.Global.{Global}
 use Rattle.type_model.specs.Types.{Typ}
@@ -10,12 +10,7 @@ use Rattle.signature_model.specs.Declarations.{Name}
 use Rattle.signature_model.specs.Entries.{Environment, value_kind}
 use Rattle.signature_model.specs.Entries.{Entry as Named, Referent}
 use Rattle.signature_model.specs.Lookups.{FoundAmong, an_entry, lookup, lookup_by}
-use Rattle.typing_model.specs.Contexts.{Choice}
 use Rattle.typing_model.specs.Names.{referent_of, then_by, scheme_in}
-use Rattle.typing_model.specs.Demands.{IsUse}
-use Rattle.type_nodes.specs.Nodes.{Node}
-use Rattle.type_nodes.specs.Readings.{Types}
-use Rattle.level_unify.specs.Instances.{Instantiated}
 use Rattle.env_table.specs.declared.entries.Constructor.{Constructor}
 use Rattle.env_table.specs.declared.entries.Declaration.{Declaration}
 use Rattle.env_table.specs.declared.entries.Entry.{Entry}
@@ -25,14 +20,8 @@ use Rattle.env_table.specs.declared.entries.What.{What}
 use Rattle.env_table.specs.declared.entries.What as whats
 use Rattle.env_table.specs.declared.entries.What.TheVariants as what
 use Rattle.env_table.specs.Views.{is_named, inside}
-use Rattle.typing_environments.specs.Locals.{IsPlain}
-use Rattle.typing_environments.specs.Assumptions.{SchemeFits, SchemeReads}
 use Rattle.typing_environments.specs.Environments.{WhatAs, of_value, of_constructor, of_exception, of_label, of_type, of_module, of_module_type, EntryAs, entry_as, EnvAs}
-use Rattle.typing_environments.specs.Standing.{IsIn, UsedIf}
-use Rattle.typing_environments.specs.Typed.{Typed}
 use Rattle.typing_environments.proofs.Environments.{ComesTo, to_entry, to_hole, to_nothing, lookup_alike}
-use Rattle.typing_environments.proofs.Naming.{named_sound, named_complete}
-use Rattle.typing_environments.proofs.Rows.{row_start, row_instance}
 
 -- the root of a value's scheme
 abbrev root_of : What → Option NodeRef
@@ -105,32 +94,3 @@ module _ (R : ℕ → Scheme → Type 0) (D : Declaration → rules.Declaration 
 
   pub finds_scheme : (ms : List Name) (x : Name) (e : Entry) {es : List Entry} {fs : Environment} → lookup_by is_named inside es ms value_kind x ≡ an_entry e → e.what ≡ what.Scheme root → EnvAs R D X es fs → FindsScheme (lookup fs ms value_kind x)
   finds_scheme ms x e f is h = found_scheme e f is (lookup_alike R D X ms value_kind x h)
-
--- the use of a name, whose type is a letter of the choice
-pub name_typed : (D : Declaration → rules.Declaration → Type 0) (X : Constructor → Option Typ → Type 0) (Given : Types → Choice → Type 0) (old new : List Node) (m level : ℕ) (C W : List ℕ) (env : List Entry)
-    (ms : List Name) (x : Name) (e : Entry) (root : NodeRef) → IsPlain old → lookup_by is_named inside env ms value_kind x ≡ an_entry e → e.what ≡ what.Scheme root →
-    Instantiated old new root.0 level m →
-    Typed D X (λ E ch. UsedIf (then_by (referent_of (lookup E ms value_kind x)) scheme_in) (ch.letter 0 0)) (λ ch. ch.letter 0 0) (λ V ch. ch.letter 0 0 ≡ V m) Given old new C W (λ k. W) level env m
-name_typed D X Given old new m level C W env ms x e root plain found is inst = record {
-  longer = inst.extends.longer;
-  reads = λ I V own around reads. (inst.reads V reads).0;
-  here = λ I J own own' around.
-      let at = finds_scheme (λ k sc. IsIn C k) D X root ms x e found is around.1.1 in
-      let place = in_front C W at.holds in
-      let row = row_instance (row_start old I (C ++ W) (λ k. W) level own around.0) new J place.0 root.0 m place.1 own' inst in
-      (row.local, row.open_nodes zero m refl);
-  sound = λ I V ch E own around reads s given agrees.
-      let at = finds_scheme (λ k sc. SchemeReads old V k sc × IsIn C k) D X root ms x e found is s.names in
-      let used = named_sound D X old I V C env E own plain new root.0 level m at.scheme s at.holds inst reads in
-      (subst (λ o. UsedIf o (ch.letter 0 0)) (sym at.is) (subst (IsUse at.scheme) (sym agrees) used), agrees);
-  complete = λ I V ch E own around fits s given asks.
-      let at = finds_scheme (λ k sc. SchemeFits old V k sc × IsIn C k) D X root ms x e found is s.names in
-      let (U, f, same, t) = named_complete D X old I V C env E own plain new root.0 level m at.scheme (ch.letter 0 0) s at.holds inst fits (subst (λ o. UsedIf o (ch.letter 0 0)) at.is asks) in
-      (U, f, same, sym t, t);
-  same_below = λ V U ch same agrees. agrees ∙ sym (same m inst.inside);
-}
-  where
-    in_front : (C W : List ℕ) → IsIn C root.0 → IsIn (C ++ W) root.0
-    in_front [] W (k, f) = absurd (cc)
-    in_front (c ∷ C) W (zero, f) = (zero, f)
-    in_front (c ∷ C) W (suc k, f) = let (j, g) = in_front C W (k, f) in (suc j, g)

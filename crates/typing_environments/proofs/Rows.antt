@@ -34,7 +34,7 @@ module _ {start now : List Node} {I J : Types} {C : List ℕ} {H : ℕ → List 
     own = own;
     context = row.context;
     local = local_then start now new I J K C D H H level row.before row.own own row.local step within (λ k u lt h. h);
-    open_nodes = λ k r e. result_behind start now new J K C D H level level r row.own own step (row.open_nodes k r e);
+    open_nodes = λ k r e. result_behind start now new J K C level r row.own own step.refines (row.open_nodes k r e);
   }
 
   -- one open node more
@@ -82,10 +82,10 @@ module _ {start now : List Node} {I J : Types} {C : List ℕ} {H : ℕ → List 
 
   -- the roots of the row are within it
   pub roots_within : (k d : ℕ) → slice_get C k ≡ Some d → Within start C d × (d < length now)
-  roots_within k d e = (root_within start C k d e, let a = row.context.inside k d e in let b = row.local.longer in omega arith)
+  roots_within k d e = (root_within start C k d e, let a = row.context.inside k d e in let b = row.local.refines.longer in omega arith)
 
   here_context : IsContext now J C level
-  here_context = context_behind start now I J C C H level level row.before row.own row.local row.context
+  here_context = context_behind start now I J C level row.before row.own row.local.refines row.context
 
   -- an instance of a root
   pub row_instance : (new : List Node) (K : Types) (k r m : ℕ) → slice_get C k ≡ Some r → IsOwn new K → Instantiated now new r level m → Row start new I K C H level (m ∷ rs)
@@ -144,7 +144,7 @@ module _ {start : List Node} {now new : State} {I J : Types} {C : List ℕ} {H :
   n_inside = let a = made.added.number in let b = ap length made.added.nodes ∙ length-snoc now.nodes c in omega (arith, a, b)
 
   n_within : Within start C n
-  n_within = new_within start C n (let a = made.added.number in let b = row.local.longer in omega (arith, a, b))
+  n_within = new_within start C n (let a = made.added.number in let b = row.local.refines.longer in omega (arith, a, b))
 
   pub row_var : (scope : ℕ) → c ≡ Var level scope → level ≢ bound_level → Row start new.nodes I K C H level (n ∷ rs)
   row_var scope is free =

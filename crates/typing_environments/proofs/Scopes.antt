@@ -47,7 +47,7 @@ scoped_then old mid new I J K C D H H' level s before between behind one two wit
       record {
         source = r.source;
         was = r.was;
-        stands = stands_behind mid J K between (two.loose K behind.loose) r.source t.source u r.stands t.stands;
+        stands = stands_behind mid J K between (two.refines.loose K behind.loose) r.source t.source u r.stands t.stands;
         within = elim r.within [
           | inr i ↦ inr i
           | inl same ↦ elim t.within [
@@ -57,8 +57,8 @@ scoped_then old mid new I J K C D H H' level s before between behind one two wit
         ];
       };
   falls = λ m l o u l' o' e f e' h.
-      let (w, p, q) = stands_before mid J K between (two.loose K behind.loose) m u h in
-      let v = one.frees m w (record { level = l; scope = o; at = e; free = f }) p in
+      let (w, p, q) = stands_before mid J K between (two.refines.loose K behind.loose) m u h in
+      let v = one.refines.frees m w (record { level = l; scope = o; at = e; free = f }) p in
       let a = first.falls m l o w v.level v.scope e f v.at p in
       let b = second.falls w v.level v.scope u l' o' v.at v.free e' q in omega arith;
 }
@@ -75,7 +75,7 @@ scoped_unified old new I J a b level s before behind u local = record {
         within = at m l o e v here (region old I (a ∷ b ∷ []) m) refl;
       };
   falls = λ m l o v l' o' e f e' h.
-      let g = local.frees m v (record { level = l; scope = o; at = e; free = f }) h in
+      let g = local.refines.frees m v (record { level = l; scope = o; at = e; free = f }) h in
       (u.scope_least v l' o' e' (λ x. g.free (sym (same_node new v l' o' g.level g.scope e' g.at) ∙ x))).bound m l o e f
       (behind.stands m v (let p = slice_get_within old m (Var l o) e in let q = u.len in omega arith) h);
 }

@@ -26,7 +26,7 @@ use Rattle.env_table.specs.declared.entries.Declaration.{Declaration}
 use Rattle.env_table.specs.declared.entries.What.TheVariants as what
 use Rattle.env_table.specs.declared.entries.Entry.{Entry}
 use Rattle.env_table.specs.Views.{kind_of}
-use Rattle.typing_environments.specs.Locals.{IsFreeVar, IsOwn, stands_in_any, Local}
+use Rattle.typing_environments.specs.Locals.{IsFreeVar, IsOwn, stands_in_any, Refines}
 use Rattle.typing_environments.specs.Assumptions.{SchemeFits, SchemeReads}
 use Rattle.typing_environments.specs.Environments.{of_value, entry_as, newest}
 use Rattle.typing_environments.specs.Standing.{IsIn, Stands}
@@ -50,8 +50,8 @@ mutual
   all_known_put W types.Nil u o h = absurd (no_yes o)
   all_known_put W (types.Cons t ts) u o h = elim (or_cases (occurs u t) (occurs_any u ts) o) [ inl i ↦ known_put W t u i h.0 | inr i ↦ all_known_put W ts u i h.1 ]
 
-module _ (D : Declaration → rules.Declaration → Type 0) (X : Constructor → Option Typ → Type 0) (old new : List Node) (I J : Types) (roots C : List ℕ) (H : ℕ → List ℕ) (level : ℕ)
-    (before : IsOwn old I) (behind : IsOwn new J) (step : Local old new I J roots H level) (inside : (k c : ℕ) → slice_get C k ≡ Some c → c < length old) where
+module _ (D : Declaration → rules.Declaration → Type 0) (X : Constructor → Option Typ → Type 0) (old new : List Node) (I J : Types) (C : List ℕ)
+    (before : IsOwn old I) (behind : IsOwn new J) (step : Refines old new J) (inside : (k c : ℕ) → slice_get C k ≡ Some c → c < length old) where
   -- the free variable of before that a free variable of the roots comes from
   root_var : (u : ℕ) → IsFreeVar new u → stands_in_any J C u ≡ true → (m : ℕ) × IsFreeVar old m × (stands_in_any I C m ≡ true) × (occurs u (J m) ≡ true)
   root_var u free h =
@@ -62,7 +62,7 @@ module _ (D : Declaration → rules.Declaration → Type 0) (X : Constructor →
         | inr f ↦ (m, record { level = var.level; scope = var.scope; at = var.at; free = f }, any_in m I C a.place a.node a.at p, q)
         | inl b ↦ absurd (
             let at : slice_get old m ≡ Some (Var bound_level var.scope) = var.at ∙ ap (λ k. Some (Var k var.scope)) b in
-            let s = bound_itself old new I J roots H level behind step m u var.scope at q in
+            let s = bound_itself old new J behind step m u var.scope at q in
             free.free (same_node new u free.level free.scope bound_level var.scope free.at (ap (slice_get new) s ∙ step.bounds m var.scope at)))
       ]
 
@@ -73,7 +73,7 @@ module _ (D : Declaration → rules.Declaration → Type 0) (X : Constructor →
   pub stands_fits_on : (V W : Types) (env : List Entry) (E : Environment) → SameTypes old V W → Loose new W → Stands SchemeFits D X old I C V env E → Stands SchemeFits D X new J C W env E
   stands_fits_on V W env E same loose s = record {
     names = env_map (λ r sc. SchemeFits old V r sc × IsIn C r) (λ r sc. SchemeFits new W r sc × IsIn C r) D D X X
-        (λ r sc h. (fits_behind old new I J roots H level before behind step V W same loose r sc h.0, h.1)) (λ d e h. h) (λ c o h. h) s.names;
+        (λ r sc h. (fits_behind old new I J before behind step V W same loose r sc h.0, h.1)) (λ d e h. h) (λ c o h. h) s.names;
     brings = λ u w free h o.
         let (m, f, p, q) = root_var u free h in
         s.brings m w f p (ap (occurs w) (sym (same_at V W same m f)) ∙ stands_behind new J W behind loose m u w q o);
@@ -86,7 +86,7 @@ module _ (D : Declaration → rules.Declaration → Type 0) (X : Constructor →
   pub stands_reads_on : (V : Types) (env : List Entry) (E : Environment) → Loose new V → Stands SchemeReads D X old I C V env E → Stands SchemeReads D X new J C V env E
   stands_reads_on V env E loose s = record {
     names = env_map (λ r sc. SchemeReads old V r sc × IsIn C r) (λ r sc. SchemeReads new V r sc × IsIn C r) D D X X
-        (λ r sc h. (reads_behind old new I J roots H level before behind step V loose r sc h.0, h.1)) (λ d e h. h) (λ c o h. h) s.names;
+        (λ r sc h. (reads_behind old new I J before behind step V loose r sc h.0, h.1)) (λ d e h. h) (λ c o h. h) s.names;
     brings = λ u w free h o. let (m, f, p, q) = root_var u free h in s.brings m w f p (stands_behind new J V behind loose m u w q o);
     known = λ u free h. let (m, f, p, q) = root_var u free h in known_put V (J m) u q (subst IsKnown (behind.comes V loose m) (s.known m f p));
   }

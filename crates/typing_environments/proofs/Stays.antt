@@ -11,12 +11,12 @@ use Rattle.level_unify.specs.Walks.{StandsIn}
 use Rattle.level_unify.specs.Solutions.{Loose}
 use Rattle.level_unify.specs.Instances.{is_bound, SameTypes}
 use Rattle.level_unify.proofs.Variants.{bound_cell, bound_there, stands_occurs}
-use Rattle.typing_environments.specs.Locals.{IsFreeVar, IsOwn, Local}
+use Rattle.typing_environments.specs.Locals.{IsFreeVar, IsOwn, Refines}
 use Rattle.typing_environments.specs.Assumptions.{SchemeFits, SchemeReads}
 use Rattle.typing_environments.proofs.Steps.{same_node, stands_behind, stands_before}
 use Rattle.typing_environments.proofs.Closing.{var_of, bound_itself}
 
-module _ (old new : List Node) (I J : Types) (C : List ℕ) (H : ℕ → List ℕ) (level : ℕ) (before : IsOwn old I) (behind : IsOwn new J) (step : Local old new I J C H level) where
+module _ (old new : List Node) (I J : Types) (before : IsOwn old I) (behind : IsOwn new J) (step : Refines old new J) where
   inside_behind : (r : ℕ) → r < length old → r < length new
   inside_behind r lt = let p = step.longer in omega arith
 
@@ -30,7 +30,7 @@ module _ (old new : List Node) (I J : Types) (C : List ℕ) (H : ℕ → List �
         | inr f ↦ (m, record { level = var.level; scope = var.scope; at = var.at; free = f }, before.stands r m lt p, q)
         | inl b ↦ absurd (
             let at : slice_get old m ≡ Some (Var bound_level var.scope) = var.at ∙ ap (λ k. Some (Var k var.scope)) b in
-            let s = bound_itself old new I J C H level behind step m u var.scope at q in
+            let s = bound_itself old new J behind step m u var.scope at q in
             free.free (same_node new u free.level free.scope bound_level var.scope free.at (ap (slice_get new) s ∙ step.bounds m var.scope at)))
       ]
 
@@ -64,7 +64,7 @@ module _ (old new : List Node) (I J : Types) (C : List ℕ) (H : ℕ → List �
           | inr f ↦ absurd (let g = step.frees m b (record { level = var.level; scope = var.scope; at = var.at; free = f }) q in g.free (same_node new b g.level g.scope bound_level scope g.at e))
           | inl i ↦
               let at : slice_get old m ≡ Some (Var bound_level var.scope) = var.at ∙ ap (λ k. Some (Var k var.scope)) i in
-              let s = bound_itself old new I J C H level behind step m b var.scope at q in
+              let s = bound_itself old new J behind step m b var.scope at q in
               reads.own b (bound_there old b (Var var.level var.scope) (ap (slice_get old) s ∙ var.at) i) (subst (λ k. StandsIn old k r) (sym s) (before.stands r m reads.fits.inside p))
         ];
   }

@@ -12,7 +12,7 @@ use Rattle.level_unify.specs.Solutions.{Loose, HaveNoBound}
 use Rattle.level_unify.specs.Unification.{Unified}
 use Rattle.level_unify.proofs.Variants.{stands_occurs}
 use Rattle.typing_laws.proofs.Bools.{no_yes}
-use Rattle.typing_environments.specs.Locals.{IsVar, IsFreeVar, IsOwn, stands_in_any, IsRegion, Within, Local}
+use Rattle.typing_environments.specs.Locals.{IsVar, IsFreeVar, IsOwn, stands_in_any, IsRegion, Within, Refines, Local}
 use Rattle.typing_environments.proofs.Regions.{any_in, in_any, region, region_is, region_var}
 
 pub true_or_false : (b : Bool) → (b ≡ true) ⊎ (b ≡ false)
@@ -29,18 +29,38 @@ stands_behind mid J K own loose n m u p q = ap (occurs u) (own.comes K loose n) 
 pub stands_before : (mid : List Node) (J K : Types) → IsOwn mid J → Loose mid K → (n u : ℕ) → occurs u (K n) ≡ true → (m : ℕ) × (occurs m (J n) ≡ true) × (occurs u (K m) ≡ true)
 stands_before mid J K own loose n u o = occurs_from K u (J n) (ap (occurs u) (sym (own.comes K loose n)) ∙ o)
 
--- no step
-pub local_none : (nodes : List Node) (I : Types) (C : List ℕ) (H : ℕ → List ℕ) (level : ℕ) → IsOwn nodes I → Local nodes nodes I I C H level
-local_none nodes I C H level own = record {
+-- no step refines
+pub refines_none : (nodes : List Node) (I : Types) → IsOwn nodes I → Refines nodes nodes I
+refines_none nodes I own = record {
   longer = omega arith;
   loose = λ V h. h;
-  closed = λ F r. r.closed;
-  outside = λ F r n h. refl;
   bounds = λ b scope e. e;
   frees = λ m v f o. let s = eqb-true v m (ap (occurs v) (sym (own.vars m f.level f.scope f.at)) ∙ o) in record { level = f.level; scope = f.scope; at = ap (slice_get nodes) s ∙ f.at; free = f.free };
   falls = λ m l o u l' o' e f e' h.
       let s = eqb-true u m (ap (occurs u) (sym (own.vars m l o e)) ∙ h) in
       let t : l' ≡ l = same_node nodes m l' o' l o (ap (slice_get nodes) (sym s) ∙ e') e in omega arith;
+}
+
+-- one step after another refines
+pub refines_then : (old mid new : List Node) (J K : Types) → IsOwn mid J → IsOwn new K → Refines old mid J → Refines mid new K → Refines old new K
+refines_then old mid new J K between behind one two = record {
+  longer = let l = one.longer in let l' = two.longer in omega arith;
+  loose = λ V h. one.loose V (two.loose V h);
+  bounds = λ b scope e. two.bounds b scope (one.bounds b scope e);
+  frees = λ m v f o. let (w, p, q) = stands_before mid J K between (two.loose K behind.loose) m v o in two.frees w v (one.frees m w f p) q;
+  falls = λ m l o u l' o' e f e' h.
+      let (w, p, q) = stands_before mid J K between (two.loose K behind.loose) m u h in
+      let v = one.frees m w (record { level = l; scope = o; at = e; free = f }) p in
+      let a = one.falls m l o w v.level v.scope e f v.at p in
+      let b = two.falls w v.level v.scope u l' o' v.at v.free e' q in omega arith;
+}
+
+-- no step
+pub local_none : (nodes : List Node) (I : Types) (C : List ℕ) (H : ℕ → List ℕ) (level : ℕ) → IsOwn nodes I → Local nodes nodes I I C H level
+local_none nodes I C H level own = record {
+  refines = refines_none nodes I own;
+  closed = λ F r. r.closed;
+  outside = λ F r n h. refl;
   sources = λ k u lt low. inl (record { source = u; was = low; stands = ap (occurs u) (own.vars u low.level low.scope low.at) ∙ eqb_same u; within = inl refl });
 }
 
@@ -53,11 +73,11 @@ module _ (old mid new : List Node) (I J K : Types) (C D : List ℕ) (H H' : ℕ 
   then_region F r = record {
     closed = one.closed F r;
     has = λ k d e. (within k d e).0.each F r;
-    made = λ n le. r.made n (let l = one.longer in omega arith);
+    made = λ n le. r.made n (let l = one.refines.longer in omega arith);
   }
 
   mid_loose : Loose mid K
-  mid_loose = two.loose K behind.loose
+  mid_loose = two.refines.loose K behind.loose
 
   -- an old variable that stands in the roots of the second part stands in those of the first
   pub root_before : (m : ℕ) → IsVar old m → stands_in_any J D m ≡ true → stands_in_any I C m ≡ true
@@ -74,17 +94,9 @@ module _ (old mid new : List Node) (I J K : Types) (C D : List ℕ) (H H' : ℕ 
 
   pub local_then : Local old new I K C H' level
   local_then = record {
-    longer = let l = one.longer in let l' = two.longer in omega arith;
-    loose = λ V h. one.loose V (two.loose V h);
+    refines = refines_then old mid new J K between behind one.refines two.refines;
     closed = λ F r. two.closed F (then_region F r);
     outside = λ F r n h. two.outside F (then_region F r) n h ∙ one.outside F r n h;
-    bounds = λ b scope e. two.bounds b scope (one.bounds b scope e);
-    frees = λ m v f o. let (w, p, q) = stands_before mid J K between mid_loose m v o in two.frees w v (one.frees m w f p) q;
-    falls = λ m l o u l' o' e f e' h.
-        let (w, p, q) = stands_before mid J K between mid_loose m u h in
-        let v = one.frees m w (record { level = l; scope = o; at = e; free = f }) p in
-        let a = one.falls m l o w v.level v.scope e f v.at p in
-        let b = two.falls w v.level v.scope u l' o' v.at v.free e' q in omega arith;
     sources = λ k u lt low. elim (two.sources k u lt low) [
       | inr held ↦ inr held
       | inl s ↦ elim (one.sources k s.source lt s.was) [
@@ -127,18 +139,23 @@ module _ (old new : List Node) (I J : Types) (a b level : ℕ) (before : IsOwn o
         record { level = f.level; scope = f.scope; at = ap (slice_get new) s ∙ e; free = f.free }
   ]
 
-  pub local_unified : Local old new I J roots (λ k. []) level
-  local_unified = record {
+  pub refines_unified : Refines old new J
+  refines_unified = record {
     longer = let e = u.len in omega arith;
     loose = tight;
-    closed = λ F r. u.closed F r.closed (r.has 0 a refl) (r.has 1 b refl);
-    outside = λ F r n h. u.outside F r.closed (r.has 0 a refl) (r.has 1 b refl) n h;
     bounds = u.bound;
     frees = unify_frees;
     falls = λ m l o v l' o' e f e' h.
         let g = unify_frees m v (record { level = l; scope = o; at = e; free = f }) h in
         let s = same_node new v l' o' g.level g.scope e' g.at in
         (u.level_least v l' o' e' (λ x. g.free (sym s ∙ x))).bound m l o e f (behind.stands m v (inside m (record { level = l; scope = o; at = e })) h);
+  }
+
+  pub local_unified : Local old new I J roots (λ k. []) level
+  local_unified = record {
+    refines = refines_unified;
+    closed = λ F r. u.closed F r.closed (r.has 0 a refl) (r.has 1 b refl);
+    outside = λ F r n h. u.outside F r.closed (r.has 0 a refl) (r.has 1 b refl) n h;
     sources = λ k v lt low.
         let (m, l, o, e, f, stands, is) = (u.level_least v low.level low.scope low.at low.free).source in
         let occurs_here = stands_occurs new J v m behind.loose (behind.vars v low.level low.scope low.at) stands in
@@ -165,27 +182,34 @@ pub record Grows (old new : List Node) : Type 0 where
 pub old_or_new : (n k : ℕ) → (n < k) ⊎ (k ≤ n)
 old_or_new n k = grind arith
 
--- New nodes, whose variables are of the present level or held.
-module _ (old new : List Node) (I J : Types) (C : List ℕ) (H : ℕ → List ℕ) (level : ℕ) (before : IsOwn old I) (behind : IsOwn new J) (grows : Grows old new)
-    (parts_in : (F : ℕ → Bool) → IsRegion old C F → IsClosed new F)
-    (vars : (k u l o : ℕ) → k < level → length old ≤ u → slice_get new u ≡ Some (Var l o) → l ≢ bound_level → l ≤ k → stands_in_any J (H k) u ≡ true) where
+-- New nodes refine.
+module _ (old new : List Node) (J : Types) (behind : IsOwn new J) (grows : Grows old new) where
   stays : (n : ℕ) (c : Node) → slice_get old n ≡ Some c → slice_get new n ≡ Some c
   stays n c e = grows.node n (slice_get_within old n c e) ∙ e
 
   itself : (m u l o : ℕ) → slice_get old m ≡ Some (Var l o) → occurs u (J m) ≡ true → u ≡ m
   itself m u l o e h = eqb-true u m (ap (occurs u) (sym (behind.vars m l o (stays m (Var l o) e))) ∙ h)
 
-  pub local_made : Local old new I J C H level
-  local_made = record {
+  pub refines_made : Refines old new J
+  refines_made = record {
     longer = grows.longer;
     loose = λ V h. record { each = λ n c e. h.each n c (stays n c e) };
-    closed = parts_in;
-    outside = λ F r n h. elim (old_or_new n (length old)) [ inl lt ↦ grows.node n lt | inr le ↦ absurd (no_yes (sym h ∙ r.made n le)) ];
     bounds = λ b scope e. stays b (Var bound_level scope) e;
     frees = λ m v f o. let s = itself m v f.level f.scope f.at o in record { level = f.level; scope = f.scope; at = ap (slice_get new) s ∙ stays m (Var f.level f.scope) f.at; free = f.free };
     falls = λ m l o u l' o' e f e' h.
         let s = itself m u l o e h in
         let t : l' ≡ l = same_node new m l' o' l o (ap (slice_get new) (sym s) ∙ e') (stays m (Var l o) e) in omega arith;
+  }
+
+-- New nodes, whose variables are of the present level or held.
+module _ (old new : List Node) (I J : Types) (C : List ℕ) (H : ℕ → List ℕ) (level : ℕ) (before : IsOwn old I) (behind : IsOwn new J) (grows : Grows old new)
+    (parts_in : (F : ℕ → Bool) → IsRegion old C F → IsClosed new F)
+    (vars : (k u l o : ℕ) → k < level → length old ≤ u → slice_get new u ≡ Some (Var l o) → l ≢ bound_level → l ≤ k → stands_in_any J (H k) u ≡ true) where
+  pub local_made : Local old new I J C H level
+  local_made = record {
+    refines = refines_made old new J behind grows;
+    closed = parts_in;
+    outside = λ F r n h. elim (old_or_new n (length old)) [ inl lt ↦ grows.node n lt | inr le ↦ absurd (no_yes (sym h ∙ r.made n le)) ];
     sources = λ k u lt low. elim (old_or_new u (length old)) [
       | inl was ↦ inl (record {
         source = u;

@@ -1,6 +1,5 @@
 -- How an environment of the code stands for one of the definitions, under types for the nodes.
-use Rattle.std.specs.Prelude.{◌≡◌, ℕ, true, List, slice_get, Option, Some, None}
-use Rattle.typing_model.specs.Demands.{IsUse}
+use Rattle.std.specs.Prelude.{◌≡◌, ℕ, true, List, slice_get, Option, Some}
 use Rattle.type_model.specs.Types.{Typ, occurs}
 use Rattle.type_model.specs.Schemes.{Scheme}
 use Rattle.signature_model.specs.Declarations as rules
@@ -29,8 +28,3 @@ pub record Stands (R : List Node → Types → ℕ → Scheme → Type 0) (D : D
   pub names : EnvAs (λ r sc. R nodes V r sc × IsIn C r) D X env E
   pub brings : (u w : ℕ) → IsFreeVar nodes u → stands_in_any J C u ≡ true → occurs w (V u) ≡ true → free_in w E ≡ true
   pub known : (u : ℕ) → IsFreeVar nodes u → stands_in_any J C u ≡ true → IsKnown (V u)
-
--- the types of the scheme that a name has, if it has one, are those of its uses
-abbrev pub UsedIf : Option Scheme → Typ → Type 0
-UsedIf None t = Unit {0}
-UsedIf (Some sc) t = IsUse sc t

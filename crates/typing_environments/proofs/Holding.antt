@@ -1,31 +1,23 @@
--- A part whose type is open: it is typed, so the contract can be met; and what holding a type at a level does.
-use Rattle.std.proofs.Common.{◌≡◌, ◌≢◌, ℕ, zero, suc, ◌<◌, ◌≤◌, true, false, List, [], ◌∷◌, ◌++◌, length, Option, Some, refl, sym, ◌∙◌, ap, subst, arith}
+-- Holding a type at a level: its variables are of at most that level, and a `let` around it doesn't generalise them.
+use Rattle.std.proofs.Common.{◌≡◌, ◌≢◌, ℕ, zero, suc, ◌<◌, ◌≤◌, true, false, List, [], ◌∷◌, ◌++◌, length, Some, refl, ◌∙◌, ap, subst, arith}
 use Rattle.std.specs.Prelude.{slice_get}
-use Rattle.std.proofs.lemmas.Bool.{eqb-true}
-use Rattle.type_model.specs.Types.{Typ, occurs}
+use Rattle.type_model.specs.Types.{occurs}
 use Rattle.type_model.specs.Limits.{no_scope}
 use Rattle.type_model.proofs.Applying.{or_left, eqb_same}
-use Rattle.signature_model.specs.Declarations as rules
 use Rattle.typing_laws.proofs.Bools.{no_yes}
-use Rattle.typing_model.specs.Contexts.{Choice}
-use Rattle.type_nodes.specs.Nodes.{Node, Var, bound_level, IsSound}
+use Rattle.type_nodes.specs.Nodes.{Node, Var, bound_level}
 use Rattle.type_nodes.specs.Readings.{Types}
 use Rattle.type_nodes.specs.States.{State}
 use Rattle.type_nodes.specs.Changes.{Makes}
-use Rattle.type_nodes.proofs.Lists.{get-append_left, get-append_last, length-snoc}
+use Rattle.type_nodes.proofs.Lists.{get-append_last, length-snoc}
 use Rattle.level_unify.specs.Solutions.{Loose, HaveNoBound}
 use Rattle.level_unify.specs.Unification.{Unified}
-use Rattle.env_table.specs.declared.entries.Constructor.{Constructor}
-use Rattle.env_table.specs.declared.entries.Declaration.{Declaration}
-use Rattle.env_table.specs.declared.entries.Entry.{Entry}
 use Rattle.typing_environments.specs.Locals.{IsOwn, stands_in_any, Within, Local}
-use Rattle.typing_environments.specs.Typed.{Typed}
 use Rattle.typing_environments.proofs.Steps.{local_then, local_unified}
-use Rattle.typing_environments.proofs.Naming.{new_variable}
 use Rattle.typing_environments.proofs.Instances.{local_node, local_more, new_within}
 use Rattle.level_unify.specs.Limits.{FitsUnder}
 use Rattle.level_unify.proofs.Unified.{fits_under}
-use Rattle.typing_environments.proofs.Let.{reads_fewer, own_fits}
+use Rattle.typing_environments.proofs.Fresh.{own_fits}
 
 -- where a new node is
 made_at : (old new : State) (n : ℕ) (c : Node) → Makes old new n c → slice_get new.nodes n ≡ Some c
@@ -33,35 +25,6 @@ made_at old new n c made = ap (λ ns. slice_get ns n) made.added.nodes ∙ ap (s
 
 made_in : (old new : State) (n : ℕ) (c : Node) → Makes old new n c → n < length new.nodes
 made_in old new n c made = let a = made.added.number in let b = ap length made.added.nodes ∙ length-snoc old.nodes c in omega (arith, a, b)
-
--- an open part: its type is a letter of the choice
-pub open_typed : (D : Declaration → rules.Declaration → Type 0) (X : Constructor → Option Typ → Type 0) (Given : Types → Choice → Type 0) (old new : State) (n level : ℕ) (C W : List ℕ) (env : List Entry) → IsSound old.nodes → level ≢ bound_level →
-    Makes old new n (Var level no_scope) → Typed D X (λ E ch. Unit {0}) (λ ch. ch.letter 0 0) (λ V ch. ch.letter 0 0 ≡ V n) Given old.nodes new.nodes C W (λ k. W) level env n
-open_typed D X Given old new n level C W env sound free made = record {
-  longer = len;
-  reads = λ I V own context reads. reads_fewer old.nodes new.nodes V (λ m lt. ap (λ ns. slice_get ns m) made.added.nodes ∙ get-append_left old.nodes (Var level no_scope ∷ []) m lt) reads;
-  here = λ I J own own' context. (
-    local_more old.nodes new.nodes I J [] (C ++ W) (λ k. []) (λ k. W) level level own' (omega arith) (λ k c e. absurd (none_there k c e)) (λ k u lt h. absurd (no_yes h))
-        (local_node old new n (Var level no_scope) I J (λ k. []) level own own' made (λ k l o lt e le. absurd (let s : level ≡ l = cc in omega arith))),
-    record {
-      inside = made_in old new n (Var level no_scope) made;
-      within = new_within old.nodes (C ++ W) n (let a = made.added.number in omega arith);
-      free = λ v o.
-          let s = eqb-true v n (ap (occurs v) (sym (own'.vars n level no_scope (made_at old new n (Var level no_scope) made))) ∙ o) in
-          record { level = level; scope = no_scope; at = ap (slice_get new.nodes) s ∙ made_at old new n (Var level no_scope) made; free = free; low = omega arith };
-    },
-  );
-  sound = λ I V ch E own context reads s given agrees. (tt, agrees);
-  complete = λ I V ch E own context fits s given asks.
-      let (U, f, same, is) = new_variable old new n level V (ch.letter 0 0) sound made fits in (U, f, same, sym is, is);
-  same_below = λ V U ch same agrees. agrees ∙ sym (same n (made_in old new n (Var level no_scope) made));
-}
-  where
-    none_there : (k c : ℕ) → slice_get [] k ≡ Some c → ⊥
-    none_there k c e = cc
-
-    len : length old.nodes ≤ length new.nodes
-    len = let b = ap length made.added.nodes ∙ length-snoc old.nodes (Var level no_scope) in omega (arith, b)
 
 -- Holding a type at a level: a new variable f of the level is made one with r. It is a step of a group at the next level, in which f is held.
 module _ (old mid : State) (new : List Node) (I J K : Types) (f r level : ℕ) (H : ℕ → List ℕ) (before : IsOwn old.nodes I) (between : IsOwn mid.nodes J) (behind : IsOwn new K)
@@ -81,7 +44,7 @@ module _ (old mid : State) (new : List Node) (I J K : Types) (f r level : ℕ) (
   pub held_is_low : (v l o : ℕ) → occurs v (K r) ≡ true → slice_get new v ≡ Some (Var l o) → l ≤ level
   held_is_low v l o h e =
       let same : K f ≡ K r = (one.fitted (λ x. 0) K own_under).1 in
-      hold_one.falls f level no_scope v l o (made_at old mid f (Var level no_scope) made) free e (ap (occurs v) same ∙ h)
+      hold_one.refines.falls f level no_scope v l o (made_at old mid f (Var level no_scope) made) free e (ap (occurs v) same ∙ h)
     where
       own_under : FitsUnder (λ x. 0) new K
       own_under = fits_under new K (own_fits new K behind)
