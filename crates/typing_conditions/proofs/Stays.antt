@@ -1,0 +1,71 @@
+-- What stays, through one call after another.
+use Rattle.std.proofs.Common.{◌∙◌, refl, arith, ℕ, Some, ◌≤◌, ◌≡◌}
+use Rattle.signature_model.specs.Declarations.{Name}
+use Rattle.typing_model.specs.Contexts.{Choice, Context}
+use Rattle.type_nodes.specs.Readings.{Types, Fits}
+use Rattle.typing_environments.proofs.Own.{own_of}
+use Rattle.typing_environments.proofs.Steps.{refines_none, refines_then}
+use Rattle.typing_conditions.specs.Sights.{Sight, Letters, Agrees}
+use Rattle.typing_conditions.specs.Frames.{Frame, HoldsWritten}
+use Rattle.typing_conditions.specs.Carrying.{Scope, Stays, GoesOn, Enters}
+
+-- where nothing is done everything stays
+pub stays_refl : {F : Frame} {a : Sight} {G : Letters} → Stays F a G a G
+stays_refl {F} {a} {G} = record {
+  longer = omega arith;
+  loose = λ V h. h;
+  reads = λ V h. h;
+  regular = λ r. r;
+  refines = λ r K own. refines_none a.nodes K own;
+  reaches = λ w r. r;
+  recorded = λ i p m h. h;
+  written = λ x m h. h;
+  given = λ V ch h. h;
+  inside = λ h. h;
+  aloud = refl;
+  item = refl;
+  level = refl;
+  fixed = refl;
+}
+
+-- type variables that are held after a call were held before
+holds_before : {F : Frame} {a b : Sight} {G H : Letters} → Stays F a G b H → HoldsWritten F b → HoldsWritten F a
+holds_before s w = record { each = λ x n k e le. w.each x n k (s.written x n e) le }
+
+-- one call after another
+pub stays_trans : {F : Frame} {a b c : Sight} {G H K : Letters} → Stays F a G b H → Stays F b H c K → Stays F a G c K
+stays_trans {F} {a} {b} {c} p q = record {
+  longer = let l = p.longer in let m = q.longer in omega arith;
+  loose = λ V h. p.loose V (q.loose V h);
+  reads = λ V h. p.reads V (q.reads V h);
+  regular = λ r. q.regular (p.regular r);
+  refines = λ r K own.
+      let mid = own_of b.nodes (p.regular r).sound in
+      refines_then a.nodes b.nodes c.nodes mid.0 K mid.1 own (p.refines r mid.0 mid.1) (q.refines (p.regular r) K own);
+  reaches = λ w r. q.reaches w (p.reaches (holds_before q w) r);
+  recorded = λ i k m h. q.recorded i k m (p.recorded i k m h);
+  written = λ x m h. q.written x m (p.written x m h);
+  given = λ V ch h. p.given V ch (q.given V ch h);
+  inside = λ h. q.inside (p.inside h);
+  aloud = q.aloud ∙ p.aloud;
+  item = q.item ∙ p.item;
+  level = q.level ∙ p.level;
+  fixed = q.fixed ∙ p.fixed;
+}
+
+-- a choice that agrees with what there is agrees with what there was
+pub agrees_before : {F : Frame} {a b : Sight} {G H : Letters} → Stays F a G b H → {owner : ℕ} {V : Types} {ch : Choice} → Agrees owner b H V ch → Agrees owner a G V ch
+agrees_before s {owner} {V} {ch} h = record {
+  recorded = λ i p m e. h.recorded i p m (s.recorded i p m e);
+  known = λ i p m e. h.known i p m (s.recorded i p m e);
+  written = λ x m e. h.written x m (s.written x m e);
+  given = s.given V ch h.given;
+}
+
+-- types that go on enter the next state
+pub enters_next : {F : Frame} {scope : Scope} {a b : Sight} {G H : Letters} {V W : Types} {c : Context} → Stays F a G b H → Enters F scope a G V c → GoesOn F a b H V W c.chosen → Enters F scope b H W c
+enters_next s e on = record { under = e.under; inside = s.inside e.inside; fits = on.fits; agrees = on.agrees }
+
+-- types that go on twice go on
+pub goes_further : {F : Frame} {a b c : Sight} {G H K : Letters} {V W U : Types} {ch : Choice} → Stays F a G b H → GoesOn F a b H V W ch → GoesOn F b c K W U ch → GoesOn F a c K V U ch
+goes_further s p q = record { fits = q.fits; before = λ n lt. q.before n (let m = s.longer in omega arith) ∙ p.before n lt; agrees = q.agrees }
