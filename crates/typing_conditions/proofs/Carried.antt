@@ -2,13 +2,13 @@
 use Rattle.std.proofs.Common.{◌≡◌, ◌∙◌, ◌++◌, ℕ, zero, suc, ◌+◌, ◌-◌, ◌≤◌, ◌<◌, ◌⊎◌, inl, inr, List, [], take, length, refl, sym, ap, subst, append_assoc, append-nil, arith}
 use Rattle.std.proofs.lemmas.List.{take-append-le}
 use Rattle.std.proofs.Math.Seq.{take-append-add}
-use Rattle.typing_model.specs.Demands.{Site, Condition, AllHold}
+use Rattle.typing_model.specs.Demands.{Condition, AllHold}
 use Rattle.typing_model.specs.Contexts.{Choice, Context}
 use Rattle.type_nodes.specs.Readings.{Types}
 use Rattle.typing_conditions.specs.Sights.{Sight, Letters, AreGiven, Agrees}
 use Rattle.typing_conditions.specs.Frames.{Frame}
-use Rattle.typing_conditions.specs.Judging.{Judgement, judgements, AreKept, StartsWith, FallsShort, TellAll, Meets}
-use Rattle.typing_conditions.specs.Carrying.{Asks, Scope, IsUnder, Enters, Leaves, GoesOn, Stays, Continues, Carried}
+use Rattle.typing_conditions.specs.Judging.{Judgement, judgements, AreKept, StartsWith, FallsShort, Meets}
+use Rattle.typing_conditions.specs.Carrying.{Asks, Scope, IsUnder, Enters, GoesOn, Continues, Carried}
 use Rattle.typing_conditions.proofs.Judged.{hold_both, hold_left, hold_right, judged_both, kept_left, kept_right, given_left, given_right, given_both, nodes_right, tell_both, short_left, short_right, short_of_more, starts_all, starts_left, starts_right}
 use Rattle.typing_conditions.proofs.Stays.{stays_refl, stays_trans, agrees_before, enters_next, goes_further}
 
@@ -16,7 +16,7 @@ use Rattle.typing_conditions.proofs.Stays.{stays_refl, stays_trans, agrees_befor
 abbrev pub Decides : Context → List Judgement → List Condition → Type 0
 Decides c judged cs = StartsWith judged (judgements c.kept cs) ⊎ FallsShort (judgements c.kept cs) judged
 
-pub take_none : {A : Type 0} (k : ℕ) → take k (let none : List A = [] in none) ≡ (let none : List A = [] in none)
+pub take_none : (k : ℕ) → let none : List Condition = [] in take k none ≡ none
 take_none zero = refl
 take_none (suc k) = refl
 
@@ -152,7 +152,6 @@ carried_closed {F} {scope} {asks} {a} {b} own {G} p = record {
     longer = p.stays.longer;
     loose = p.stays.loose;
     reads = p.stays.reads;
-    regular = p.stays.regular;
     refines = p.stays.refines;
     reaches = p.stays.reaches;
     recorded = p.stays.recorded;

@@ -2,3 +2,10 @@
 pub mod Judged
 pub mod Stays
 pub mod Carried
+pub mod Framing
+pub mod Making
+pub mod Refusing
+pub mod Meaning
+pub mod First
+pub mod Equals
+pub mod Tests

@@ -1,12 +1,11 @@
 -- What stays, through one call after another.
-use Rattle.std.proofs.Common.{◌∙◌, refl, arith, ℕ, Some, ◌≤◌, ◌≡◌}
-use Rattle.signature_model.specs.Declarations.{Name}
+use Rattle.std.proofs.Common.{◌∙◌, refl, arith, ℕ}
 use Rattle.typing_model.specs.Contexts.{Choice, Context}
-use Rattle.type_nodes.specs.Readings.{Types, Fits}
+use Rattle.type_nodes.specs.Readings.{Types}
 use Rattle.typing_environments.proofs.Own.{own_of}
 use Rattle.typing_environments.proofs.Steps.{refines_none, refines_then}
 use Rattle.typing_conditions.specs.Sights.{Sight, Letters, Agrees}
-use Rattle.typing_conditions.specs.Frames.{Frame, HoldsWritten}
+use Rattle.typing_conditions.specs.Frames.{Frame}
 use Rattle.typing_conditions.specs.Carrying.{Scope, Stays, GoesOn, Enters}
 
 -- where nothing is done everything stays
@@ -15,9 +14,8 @@ stays_refl {F} {a} {G} = record {
   longer = omega arith;
   loose = λ V h. h;
   reads = λ V h. h;
-  regular = λ r. r;
   refines = λ r K own. refines_none a.nodes K own;
-  reaches = λ w r. r;
+  reaches = λ r. r;
   recorded = λ i p m h. h;
   written = λ x m h. h;
   given = λ V ch h. h;
@@ -28,21 +26,16 @@ stays_refl {F} {a} {G} = record {
   fixed = refl;
 }
 
--- type variables that are held after a call were held before
-holds_before : {F : Frame} {a b : Sight} {G H : Letters} → Stays F a G b H → HoldsWritten F b → HoldsWritten F a
-holds_before s w = record { each = λ x n k e le. w.each x n k (s.written x n e) le }
-
 -- one call after another
 pub stays_trans : {F : Frame} {a b c : Sight} {G H K : Letters} → Stays F a G b H → Stays F b H c K → Stays F a G c K
 stays_trans {F} {a} {b} {c} p q = record {
   longer = let l = p.longer in let m = q.longer in omega arith;
   loose = λ V h. p.loose V (q.loose V h);
   reads = λ V h. p.reads V (q.reads V h);
-  regular = λ r. q.regular (p.regular r);
   refines = λ r K own.
-      let mid = own_of b.nodes (p.regular r).sound in
-      refines_then a.nodes b.nodes c.nodes mid.0 K mid.1 own (p.refines r mid.0 mid.1) (q.refines (p.regular r) K own);
-  reaches = λ w r. q.reaches w (p.reaches (holds_before q w) r);
+      let mid = own_of b.nodes (p.reaches r).sound in
+      refines_then a.nodes b.nodes c.nodes mid.0 K mid.1 own (p.refines r mid.0 mid.1) (q.refines (p.reaches r) K own);
+  reaches = λ r. q.reaches (p.reaches r);
   recorded = λ i k m h. q.recorded i k m (p.recorded i k m h);
   written = λ x m h. q.written x m (p.written x m h);
   given = λ V ch h. p.given V ch (q.given V ch h);

@@ -1,5 +1,5 @@
 -- What a call carries from one state to another: the conditions of what it types.
-use Rattle.std.specs.Prelude.{◌≡◌, ◌⊎◌, ℕ, ◌≤◌, true, List, ◌++◌, length, take, Some}
+use Rattle.std.specs.Prelude.{◌≡◌, ◌⊎◌, ℕ, ◌≤◌, List, ◌++◌, length, take, Some}
 use Rattle.signature_model.specs.Declarations.{Name}
 use Rattle.signature_model.specs.Entries.{Environment}
 use Rattle.typing_model.specs.Demands.{Condition, AllHold}
@@ -8,7 +8,7 @@ use Rattle.type_nodes.specs.Readings.{Types, Fits, IsReading}
 use Rattle.level_unify.specs.Solutions.{Loose}
 use Rattle.typing_environments.specs.Locals.{IsOwn, Refines}
 use Rattle.typing_conditions.specs.Sights.{Report, Sight, Letters, AreGiven, Agrees, IsInside, SameAt}
-use Rattle.typing_conditions.specs.Frames.{Frame, IsRegular, Reaches, HoldsWritten}
+use Rattle.typing_conditions.specs.Frames.{Frame, Reaches}
 use Rattle.typing_conditions.specs.Judging.{Judgement, judgements, AreKept, StartsWith, FallsShort, Meets}
 
 -- what a part asks, by the context in which it stands
@@ -53,9 +53,8 @@ pub record Stays (F : Frame) (a : Sight) (G : Letters) (b : Sight) (G' : Letters
   pub longer : length a.nodes ≤ length b.nodes
   pub loose : (V : Types) → Loose b.nodes V → Loose a.nodes V
   pub reads : (V : Types) → IsReading b.nodes V → IsReading a.nodes V
-  pub regular : IsRegular a.nodes → IsRegular b.nodes
-  pub refines : IsRegular a.nodes → (K : Types) → IsOwn b.nodes K → Refines a.nodes b.nodes K
-  pub reaches : HoldsWritten F b → Reaches F a → Reaches F b
+  pub refines : Reaches F a → (K : Types) → IsOwn b.nodes K → Refines a.nodes b.nodes K
+  pub reaches : Reaches F a → Reaches F b
   pub recorded : (i p m : ℕ) → a.types i p ≡ Some m → b.types i p ≡ Some m
   pub written : (x : Name) (m : ℕ) → a.written x ≡ Some m → b.written x ≡ Some m
   pub given : (V : Types) (ch : Choice) → AreGiven G' V ch → AreGiven G V ch

@@ -11,7 +11,7 @@ use Rattle.typing_conditions.specs.Frames.{Frame, IsOpen}
 
 -- a node has a type by the choice, under all types that fit and agree with it, and the row may unify it
 pub record Means (F : Frame) (a : Sight) (G : Letters) (type : Choice → Typ) (m : ℕ) : Type 0 where
-  pub open_node : IsOpen F a.nodes m
+  pub open_node : IsOpen F a m
   pub is : (V : Types) (ch : Choice) → Loose a.nodes V → Agrees F.owner a G V ch → type ch ≡ V m
 
 -- nodes have types, one by one
@@ -35,4 +35,4 @@ pub record KnowsFixed (F : Frame) (a : Sight) : Type 0 where
 
 -- the row may unify the nodes of the type variables written so far
 pub record KnowsWritten (F : Frame) (a : Sight) : Type 0 where
-  pub each : (x : Name) (m : ℕ) → a.written x ≡ Some m → IsOpen F a.nodes m
+  pub each : (x : Name) (m : ℕ) → a.written x ≡ Some m → IsOpen F a m

@@ -28,7 +28,7 @@ pub record Surrounds (D : Declared) (F : Frame) (a : Sight) (G : Letters) (env :
   pub fixed : KnowsFixed F a
   pub written : KnowsWritten F a
   pub roots : List ℕ
-  pub are_roots : (k r : ℕ) → slice_get roots k ≡ Some r → IsRoot F a.nodes r
+  pub are_roots : (k r : ℕ) → slice_get roots k ≡ Some r → IsRoot F a r
   pub covered : Covers D.declaration D.exception roots env
   pub reads : (J V : Types) (ch : Choice) → IsOwn a.nodes J → IsReading a.nodes V → Agrees F.owner a G V ch → Stands SchemeReads D.declaration D.exception a.nodes J roots V env (scope.env ch)
   pub fits : (J V : Types) (ch : Choice) → IsOwn a.nodes J → Loose a.nodes V → Agrees F.owner a G V ch → Stands SchemeFits D.declaration D.exception a.nodes J roots V env (scope.env ch)

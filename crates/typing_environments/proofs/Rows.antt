@@ -1,5 +1,5 @@
 -- The steps of a row, with what it carries in one record.
-use Rattle.std.proofs.Common.{◌≡◌, ◌≢◌, ℕ, zero, suc, ◌<◌, true, false, List, [], ◌∷◌, ◌++◌, length, get_or, Some, None, refl, sym, ◌∙◌, ap, subst, arith, inl, inr}
+use Rattle.std.proofs.Common.{◌≡◌, ◌≢◌, ℕ, zero, suc, ◌<◌, ◌≤◌, true, false, List, [], ◌∷◌, ◌++◌, length, get_or, Some, None, refl, sym, ◌∙◌, ap, subst, arith, inl, inr}
 use Rattle.std.specs.Prelude.{slice_get, All}
 use Rattle.std.proofs.lemmas.Bool.{eqb-true}
 use Rattle.type_model.specs.Types.{occurs}
@@ -84,32 +84,31 @@ module _ {start now : List Node} {I J : Types} {C : List ℕ} {H : ℕ → List 
   pub roots_within : (k d : ℕ) → slice_get C k ≡ Some d → Within start C d × (d < length now)
   roots_within k d e = (root_within start C k d e, let a = row.context.inside k d e in let b = row.local.refines.longer in omega arith)
 
-  here_context : IsContext now J C level
+  pub here_context : IsContext now J C level
   here_context = context_behind start now I J C level row.before row.own row.local.refines row.context
 
-  -- an instance of a root
-  pub row_instance : (new : List Node) (K : Types) (k r m : ℕ) → slice_get C k ≡ Some r → IsOwn new K → Instantiated now new r level m → Row start new I K C H level (m ∷ rs)
-  row_instance new K k r m e own inst = row_part new K (r ∷ []) m own one (
+  -- an instance of a root, or of a node that was made: one whose free variables are of at most the level
+  pub row_instance : (new : List Node) (K : Types) (r m : ℕ) → Within start C r × (r < length now) → ((v l o : ℕ) → occurs v (J r) ≡ true → slice_get now v ≡ Some (Var l o) → l ≢ bound_level → l ≤ level) →
+      IsOwn new K → Instantiated now new r level m → Row start new I K C H level (m ∷ rs)
+  row_instance new K r m here low_root own inst = row_part new K (r ∷ []) m own one (
     local_more now new J K (r ∷ []) (r ∷ []) (λ k. []) H level level own (omega arith) (λ i c g. (i, g)) (λ i u lt h. absurd (no_yes h)) (local_instance now new J K r level m level row.own own (omega arith) inst),
     record { inside = inst.inside; within = instance_within now new r level m inst; free = λ v o. low v o (var_of new v (own.only m v inst.inside o)) },
   )
     where
       one : (i d : ℕ) → slice_get (r ∷ []) i ≡ Some d → Within start C d × (d < length now)
-      one zero d g = let s : r ≡ d = cc in roots_within k d (e ∙ ap (λ x. Some x) s)
+      one zero d g = let s : r ≡ d = cc in subst (λ j. Within start C j × (j < length now)) s here
       one (suc i) d g = absurd (cc)
 
       -- an old variable of the copy stands in the root
-      old_var : (v l o : ℕ) → occurs v (K m) ≡ true → v < length now → slice_get new v ≡ Some (Var l o) → stands_in_any J (r ∷ []) v ≡ true
+      old_var : (v l o : ℕ) → occurs v (K m) ≡ true → v < length now → slice_get new v ≡ Some (Var l o) → occurs v (J r) ≡ true
       old_var v l o h lt at =
           let reg = region_is now J (r ∷ []) row.own.loose in
           let done = inst.within (region now J (r ∷ [])) reg.closed (reg.has zero r refl) reg.made in
-          region_var now J (r ∷ []) row.own v (record { level = l; scope = o; at = sym (inst.extends.node v lt) ∙ at }) ((own.stands m v inst.inside h).each (region now J (r ∷ [])) done.0 done.1)
+          let stands = region_var now J (r ∷ []) row.own v (record { level = l; scope = o; at = sym (inst.extends.node v lt) ∙ at }) ((own.stands m v inst.inside h).each (region now J (r ∷ [])) done.0 done.1) in
+          elim (or_cases (occurs v (J r)) false stands) [ inl i ↦ i | inr i ↦ absurd (no_yes i) ]
 
       unbound : (v l o : ℕ) → occurs v (K m) ≡ true → slice_get new v ≡ Some (Var l o) → l ≢ bound_level
       unbound v l o h at = inst.unbound.free v l o ((own.stands m v inst.inside h).each inst.unbound.set inst.unbound.closed inst.unbound.left) at
-
-      in_root : (v : ℕ) → stands_in_any J (r ∷ []) v ≡ true → stands_in_any J C v ≡ true
-      in_root v h = elim (or_cases (occurs v (J r)) false h) [ inl i ↦ any_in v J C k r e i | inr i ↦ absurd (no_yes i) ]
 
       low : (v : ℕ) → occurs v (K m) ≡ true → VarOf new v → IsLow new level v
       low v h var = record {
@@ -119,7 +118,7 @@ module _ {start now : List Node} {I J : Types} {C : List ℕ} {H : ℕ → List 
         free = unbound v var.level var.scope h var.at;
         low = elim (old_or_new v (length now)) [
           | inr le ↦ (let f = (inst.vars v var.level var.scope le var.at).0 in omega arith)
-          | inl lt ↦ here_context.low v var.level var.scope (in_root v (old_var v var.level var.scope h lt var.at)) (sym (inst.extends.node v lt) ∙ var.at) (unbound v var.level var.scope h var.at)
+          | inl lt ↦ low_root v var.level var.scope (old_var v var.level var.scope h lt var.at) (sym (inst.extends.node v lt) ∙ var.at) (unbound v var.level var.scope h var.at)
         ];
       }
 
