@@ -9,8 +9,8 @@ use Rattle.typing_conditions.specs.Sights.{Sight, Letters, AreGiven, Agrees}
 use Rattle.typing_conditions.specs.Frames.{Frame}
 use Rattle.typing_conditions.specs.Judging.{Judgement, judgements, AreKept, StartsWith, FallsShort, Meets}
 use Rattle.typing_conditions.specs.Carrying.{Asks, Scope, IsUnder, Enters, GoesOn, Continues, Carried}
-use Rattle.typing_conditions.proofs.Judged.{hold_both, hold_left, hold_right, judged_both, kept_left, kept_right, given_left, given_right, given_both, nodes_right, tell_both, short_left, short_right, short_of_more, starts_all, starts_left, starts_right}
-use Rattle.typing_conditions.proofs.Stays.{stays_refl, stays_trans, agrees_before, enters_next, goes_further}
+use Rattle.typing_conditions.proofs.Judged.{hold_both, hold_left, hold_right, judged_both, kept_left, kept_right, given_left, given_right, given_both, tell_both, short_left, short_right, short_of_more, starts_all, starts_left, starts_right}
+use Rattle.typing_conditions.proofs.Stays.{stays_refl, stays_trans, stays_closed, agrees_before, enters_next, goes_further}
 
 -- what the demands of some conditions come to: they are the first of those that were judged, or they fall short of them
 abbrev pub Decides : Context → List Judgement → List Condition → Type 0
@@ -145,24 +145,18 @@ carried_under {F} {scope} {inner} {asks} {a} {b} {G} {H} into still has p = reco
     enters : (V : Types) (c : Context) → Enters F scope a G V c → Enters F inner a G V (into c)
     enters V c e = record { under = has c e.under; inside = e.inside; fits = e.fits; agrees = subst (Agrees F.owner a G V) (sym (still c).1) e.agrees }
 
+-- fewer letters are given
+goes_closed : {F : Frame} {a b : Sight} (own : Letters) {G : Letters} {V W : Types} {ch : Choice} → GoesOn F a b (own ++ G) V W ch → GoesOn F a b G V W ch
+goes_closed own {G} {V} {W} {ch} on = record {
+  fits = on.fits;
+  before = on.before;
+  agrees = record { recorded = on.agrees.recorded; known = on.agrees.known; written = on.agrees.written; given = given_right W ch own G on.agrees.given };
+}
+
 -- letters that a row has no more use for are hidden
 pub carried_closed : {F : Frame} {scope : Scope} {asks : Asks} {a b : Sight} (own : Letters) {G : Letters} → Carried F scope asks a G b (own ++ G) → Carried F scope asks a G b G
 carried_closed {F} {scope} {asks} {a} {b} own {G} p = record {
-  stays = record {
-    longer = p.stays.longer;
-    loose = p.stays.loose;
-    reads = p.stays.reads;
-    refines = p.stays.refines;
-    reaches = p.stays.reaches;
-    recorded = p.stays.recorded;
-    written = p.stays.written;
-    given = λ V ch h. h;
-    inside = λ i. let j = p.stays.inside i in record { recorded = j.recorded; written = j.written; given = nodes_right own G b.nodes j.given };
-    aloud = p.stays.aloud;
-    item = p.stays.item;
-    level = p.stays.level;
-    fixed = p.stays.fixed;
-  };
+  stays = stays_closed own p.stays;
   hidden = p.hidden ++ own;
   judged = p.judged;
   told = p.told;
@@ -175,18 +169,11 @@ carried_closed {F} {scope} {asks} {a} {b} own {G} p = record {
     kept = l.kept;
   });
   complete = λ V c e h. elim (p.complete V c e h) [
-    | inl goes ↦ inl (record { same = goes.same; types = goes.types; on = fewer V goes.types c.chosen goes.on })
+    | inl goes ↦ inl (record { same = goes.same; types = goes.types; on = goes_closed own goes.on })
     | inr short ↦ inr short
   ];
   first = p.first;
 }
-  where
-    fewer : (V W : Types) (ch : Choice) → GoesOn F a b (own ++ G) V W ch → GoesOn F a b G V W ch
-    fewer V W ch on = record {
-      fits = on.fits;
-      before = on.before;
-      agrees = record { recorded = on.agrees.recorded; known = on.agrees.known; written = on.agrees.written; given = given_right W ch own G on.agrees.given };
-    }
 
 -- the conditions may be written in another way
 pub carried_as : {F : Frame} {scope : Scope} {asks others : Asks} {a b : Sight} {G H : Letters} → ((c : Context) → asks c ≡ others c) → Carried F scope asks a G b H → Carried F scope others a G b H

@@ -9,3 +9,5 @@ pub mod Meaning
 pub mod First
 pub mod Equals
 pub mod Tests
+pub mod Nodes
+pub mod Recording

@@ -1,12 +1,14 @@
 -- What stays, through one call after another.
-use Rattle.std.proofs.Common.{◌∙◌, refl, arith, ℕ}
+use Rattle.std.proofs.Common.{◌∙◌, ◌∷◌, ◌++◌, refl, arith, ℕ}
 use Rattle.typing_model.specs.Contexts.{Choice, Context}
+use Rattle.type_nodes.specs.Nodes.{IsNode}
 use Rattle.type_nodes.specs.Readings.{Types}
 use Rattle.typing_environments.proofs.Own.{own_of}
 use Rattle.typing_environments.proofs.Steps.{refines_none, refines_then}
-use Rattle.typing_conditions.specs.Sights.{Sight, Letters, Agrees}
+use Rattle.typing_conditions.specs.Sights.{Sight, Key, Letters, Agrees}
 use Rattle.typing_conditions.specs.Frames.{Frame}
 use Rattle.typing_conditions.specs.Carrying.{Scope, Stays, GoesOn, Enters}
+use Rattle.typing_conditions.proofs.Judged.{nodes_right}
 
 -- where nothing is done everything stays
 pub stays_refl : {F : Frame} {a : Sight} {G : Letters} → Stays F a G a G
@@ -46,6 +48,24 @@ stays_trans {F} {a} {b} {c} p q = record {
   fixed = q.fixed ∙ p.fixed;
 }
 
+-- letters that a row has no more use for need not stay
+pub stays_closed : {F : Frame} {a b : Sight} (own : Letters) {G : Letters} → Stays F a G b (own ++ G) → Stays F a G b G
+stays_closed {F} {a} {b} own {G} s = record {
+  longer = s.longer;
+  loose = s.loose;
+  reads = s.reads;
+  reaches = s.reaches;
+  refines = s.refines;
+  recorded = s.recorded;
+  written = s.written;
+  given = λ V ch h. h;
+  inside = λ i. let j = s.inside i in record { recorded = j.recorded; written = j.written; given = nodes_right own G b.nodes j.given };
+  aloud = s.aloud;
+  item = s.item;
+  level = s.level;
+  fixed = s.fixed;
+}
+
 -- a choice that agrees with what there is agrees with what there was
 pub agrees_before : {F : Frame} {a b : Sight} {G H : Letters} → Stays F a G b H → {owner : ℕ} {V : Types} {ch : Choice} → Agrees owner b H V ch → Agrees owner a G V ch
 agrees_before s {owner} {V} {ch} h = record {
@@ -62,3 +82,21 @@ enters_next s e on = record { under = e.under; inside = s.inside e.inside; fits 
 -- types that go on twice go on
 pub goes_further : {F : Frame} {a b c : Sight} {G H K : Letters} {V W U : Types} {ch : Choice} → Stays F a G b H → GoesOn F a b H V W ch → GoesOn F b c K W U ch → GoesOn F a c K V U ch
 goes_further s p q = record { fits = q.fits; before = λ n lt. q.before n (let m = s.longer in omega arith) ∙ p.before n lt; agrees = q.agrees }
+
+-- one letter more may be given, for a node of the store
+pub stays_opened : {F : Frame} {a : Sight} {G : Letters} (key : Key) {m : ℕ} → IsNode a.nodes m → Stays F a G a ((key, m) ∷ G)
+stays_opened {F} {a} {G} key {m} node = record {
+  longer = omega arith;
+  loose = λ V h. h;
+  reads = λ V h. h;
+  reaches = λ r. r;
+  refines = λ r K own. refines_none a.nodes K own;
+  recorded = λ i p n h. h;
+  written = λ x n h. h;
+  given = λ V ch h. h.1;
+  inside = λ i. record { recorded = i.recorded; written = i.written; given = (node, i.given) };
+  aloud = refl;
+  item = refl;
+  level = refl;
+  fixed = refl;
+}

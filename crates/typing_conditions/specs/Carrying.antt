@@ -1,5 +1,6 @@
 -- What a call carries from one state to another: the conditions of what it types.
 use Rattle.std.specs.Prelude.{◌≡◌, ◌⊎◌, ℕ, ◌≤◌, List, ◌++◌, length, take, Some}
+use Rattle.type_model.specs.Types.{Typ}
 use Rattle.signature_model.specs.Declarations.{Name}
 use Rattle.signature_model.specs.Entries.{Environment}
 use Rattle.typing_model.specs.Demands.{Condition, AllHold}
@@ -9,6 +10,7 @@ use Rattle.level_unify.specs.Solutions.{Loose}
 use Rattle.typing_environments.specs.Locals.{IsOwn, Refines}
 use Rattle.typing_conditions.specs.Sights.{Report, Sight, Letters, AreGiven, Agrees, IsInside, SameAt}
 use Rattle.typing_conditions.specs.Frames.{Frame, Reaches}
+use Rattle.typing_conditions.specs.Meanings.{Means}
 use Rattle.typing_conditions.specs.Judging.{Judgement, judgements, AreKept, StartsWith, FallsShort, Meets}
 
 -- what a part asks, by the context in which it stands
@@ -85,3 +87,8 @@ pub record Carried (F : Frame) (scope : Scope) (asks : Asks) (a : Sight) (G : Le
   pub complete : (V : Types) (c : Context) → Enters F scope a G V c → AllHold c.kept (asks c) → Continues F asks a b G' judged V c ⊎ FallsShort (judgements c.kept (asks c)) judged
   pub first : (k : ℕ) (V : Types) (c : Context) → Enters F scope a G V c → AllHold c.kept (take k (asks c)) →
       StartsWith judged (judgements c.kept (take k (asks c))) ⊎ FallsShort (judgements c.kept (take k (asks c))) judged
+
+-- conditions are carried, and then a node has a type
+pub record CarriedTo (F : Frame) (scope : Scope) (asks : Asks) (a : Sight) (G : Letters) (b : Sight) (G' : Letters) (type : Choice → Typ) (m : ℕ) : Type 0 where
+  pub carried : Carried F scope asks a G b G'
+  pub means : Means F b G' type m
