@@ -10,17 +10,17 @@ use Rattle.level_unify.specs.Solutions.{Loose, Tightens}
 use Rattle.level_unify.specs.Unification.{Unified, NeverAlike}
 use Rattle.level_unify.proofs.Unified.{fits_loosely, fits_under, under_fits}
 use Rattle.env_table.specs.declared.faults.FaultKind.TheVariants as fault
-use Rattle.typing_environments.specs.Locals.{Refines}
+use Rattle.typing_environments.specs.Locals.{IsOwn, Refines}
 use Rattle.typing_environments.proofs.Own.{own_of}
 use Rattle.typing_environments.proofs.Steps.{refines_unified, refines_none}
 use Rattle.typing_conditions.specs.Sights.{Sight, Letters}
-use Rattle.typing_conditions.specs.Frames.{Frame, IsOpen}
+use Rattle.typing_conditions.specs.Frames.{Frame, Reaches, IsOpen}
 use Rattle.typing_conditions.specs.Meanings.{Means}
 use Rattle.typing_conditions.specs.Judging.{Judgement, FallsShort, TellBy}
 use Rattle.typing_conditions.specs.Steps.{OnlyNodes, OnlyReports, Tells}
 use Rattle.typing_conditions.specs.Carrying.{Scope, Enters, GoesOn, Stays, Continues, Carried}
 use Rattle.typing_conditions.proofs.Stays.{agrees_before}
-use Rattle.typing_conditions.proofs.Framing.{no_bound, reaches_unified, reaches_same}
+use Rattle.typing_conditions.proofs.Framing.{no_bound, reaches_unified, reaches_same, written_next}
 use Rattle.typing_conditions.proofs.Meaning.{agrees_same, inside_longer}
 use Rattle.typing_conditions.proofs.First.{first_one}
 use Rattle.typing_conditions.proofs.Refusing.{never_fit}
@@ -31,8 +31,9 @@ reports_stay {F} {G} {a} {b} rest = record {
   longer = longer;
   loose = λ V h. subst (λ ns. Loose ns V) rest.nodes h;
   reads = λ V r. subst (λ ns. IsReading ns V) rest.nodes r;
-  reaches = reaches_same rest.nodes rest.level (λ x n e. rest.written x ∙ e);
-  refines = λ r K own. subst (λ ns. Refines ns b.nodes K) rest.nodes (refines_none b.nodes K own);
+  reaches = reaches;
+  writes = written_next rest.written reaches refines;
+  refines = refines;
   recorded = λ i k x e. rest.types i k ∙ e;
   written = λ x n e. rest.written x ∙ e;
   given = λ V ch h. h;
@@ -46,6 +47,12 @@ reports_stay {F} {G} {a} {b} rest = record {
     longer : length a.nodes ≤ length b.nodes
     longer = let e : length b.nodes ≡ length a.nodes = ap length rest.nodes in omega arith
 
+    reaches : Reaches F a → Reaches F b
+    reaches = reaches_same rest.nodes rest.level (λ x n e. rest.written x ∙ e)
+
+    refines : Reaches F a → (K : Types) → IsOwn b.nodes K → Refines a.nodes b.nodes K
+    refines r K own = subst (λ ns. Refines ns b.nodes K) rest.nodes (refines_none b.nodes K own)
+
 -- types that fit go on as they are
 pub goes_as : {F : Frame} {scope : Scope} {G : Letters} {V : Types} {c : Context} {a b : Sight} → OnlyReports a b → Enters F scope a G V c → GoesOn F a b G V V c.chosen
 goes_as {V = V} {a = a} {b = b} rest e = record { fits = subst (λ ns. Fits ns V) (sym rest.nodes) e.fits; before = λ k lt. refl; agrees = agrees_same a b rest.types rest.written e.inside (λ k lt. refl) e.agrees }
@@ -56,8 +63,9 @@ unified_stays {F} {G} {a} {b} {m} {n} sound rest tight p q one = record {
   longer = longer;
   loose = tight.types;
   reads = λ V r. (one.read V r).0;
-  reaches = λ r. reaches_unified sound rest tight one p q;
-  refines = λ r K own. let before = own_of a.nodes r.sound in refines_unified a.nodes b.nodes before.0 K m n F.level before.1 own one (no_bound p q) tight.types;
+  reaches = reaches;
+  writes = written_next rest.written reaches refines;
+  refines = refines;
   recorded = λ i k x e. rest.types i k ∙ e;
   written = λ x k e. rest.written x ∙ e;
   given = λ V ch h. h;
@@ -70,6 +78,12 @@ unified_stays {F} {G} {a} {b} {m} {n} sound rest tight p q one = record {
   where
     longer : length a.nodes ≤ length b.nodes
     longer = let e = one.len in omega arith
+
+    reaches : Reaches F a → Reaches F b
+    reaches r = reaches_unified sound rest tight one p q
+
+    refines : Reaches F a → (K : Types) → IsOwn b.nodes K → Refines a.nodes b.nodes K
+    refines r K own = let before = own_of a.nodes r.sound in refines_unified a.nodes b.nodes before.0 K m n F.level before.1 own one (no_bound p q) tight.types
 
 -- one demand that isn't that of a closing, as it is judged
 abbrev pub judged_as : Site → Bool → List Judgement

@@ -14,7 +14,7 @@ use Rattle.type_nodes.proofs.Ranks.{added_sound}
 use Rattle.level_unify.specs.Solutions.{HaveNoBound, Tightens}
 use Rattle.level_unify.specs.Unification.{Unified}
 use Rattle.level_unify.specs.Instances.{Instantiated}
-use Rattle.typing_environments.specs.Locals.{IsOwn, IsFreeVar, IsLow, Local, IsResult, IsContext}
+use Rattle.typing_environments.specs.Locals.{IsOwn, IsFreeVar, IsLow, Refines, Local, IsResult, IsContext}
 use Rattle.typing_environments.specs.Rows.{Row}
 use Rattle.typing_environments.proofs.Own.{own_of}
 use Rattle.typing_environments.proofs.Closing.{context_behind, result_behind}
@@ -22,6 +22,7 @@ use Rattle.typing_environments.proofs.Instances.{open_nodes}
 use Rattle.typing_environments.proofs.Rows.{row_unify, row_instance, row_var, row_node}
 use Rattle.typing_conditions.specs.Sights.{Sight, Letters}
 use Rattle.typing_conditions.specs.Frames.{Frame, Reaches, IsOpen, AreOpen, IsRoot}
+use Rattle.typing_conditions.specs.Meanings.{KnowsWritten}
 use Rattle.typing_conditions.specs.Carrying.{Stays}
 use Rattle.typing_conditions.specs.Steps.{OnlyNodes}
 
@@ -63,11 +64,19 @@ no_bound {F} {a} {m} {n} p q =
     let own = own_of a.nodes p.reached.sound in
     open_nodes a.nodes own.0 m n own.1 (λ v o. free_of (p.free own.0 own.1 v o)) (λ v o. free_of (q.free own.0 own.1 v o))
 
+-- open nodes are open in a further state that typing reaches
+pub open_next : {F : Frame} {a b : Sight} {n : ℕ} → (Reaches F a → Reaches F b) → (Reaches F a → (K : Types) → IsOwn b.nodes K → Refines a.nodes b.nodes K) → IsOpen F a n → IsOpen F b n
+open_next {F} {a} {b} {n} reaches refines o = open_from (reaches o.reached) (λ K own.
+    let before = own_of a.nodes o.reached.sound in
+    result_behind F.start a.nodes b.nodes before.0 K F.roots F.level n before.1 own (refines o.reached K own) (record { inside = o.inside; within = o.within; free = o.free before.0 before.1 }))
+
 -- open nodes stay open
 pub open_on : {F : Frame} {a b : Sight} {G H : Letters} {n : ℕ} → Stays F a G b H → IsOpen F a n → IsOpen F b n
-open_on {F} {a} {b} {n = n} s o = open_from (s.reaches o.reached) (λ K own.
-    let before = own_of a.nodes o.reached.sound in
-    result_behind F.start a.nodes b.nodes before.0 K F.roots F.level n before.1 own (s.refines o.reached K own) (record { inside = o.inside; within = o.within; free = o.free before.0 before.1 }))
+open_on s o = open_next s.reaches s.refines o
+
+-- the nodes of written type variables stay open where the same are written
+pub written_next : {F : Frame} {a b : Sight} → ((x : Name) → b.written x ≡ a.written x) → (Reaches F a → Reaches F b) → (Reaches F a → (K : Types) → IsOwn b.nodes K → Refines a.nodes b.nodes K) → KnowsWritten F a → KnowsWritten F b
+written_next written reaches refines k = record { each = λ x m e. open_next reaches refines (k.each x m (sym (written x) ∙ e)) }
 
 -- roots stay roots
 pub root_on : {F : Frame} {a b : Sight} {G H : Letters} {n : ℕ} → Stays F a G b H → Reaches F a → IsRoot F a n → IsRoot F b n

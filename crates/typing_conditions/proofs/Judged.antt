@@ -1,5 +1,5 @@
 -- Conditions one after the other, with their judgements and reports.
-use Rattle.std.proofs.Common.{◌≡◌, ◌∙◌, Bool, true, false, List, [], ◌∷◌, ◌++◌, refl, sym, ap, subst, append_assoc, append-nil}
+use Rattle.std.proofs.Common.{◌≡◌, ◌∙◌, ℕ, zero, suc, take, Bool, true, false, List, [], ◌∷◌, ◌++◌, refl, sym, ap, subst, append_assoc, append-nil}
 use Rattle.tree_model.specs.Trees.{Place}
 use Rattle.type_nodes.specs.Readings.{Types}
 use Rattle.type_nodes.specs.Nodes.{Node}
@@ -128,3 +128,19 @@ starts_right front js first s = record { rest = s.rest; split = ap (λ xs. front
 -- what falls short of a list falls short of it with more added
 pub short_of_more : (xs ys more : List Judgement) → FallsShort xs ys → FallsShort xs (ys ++ more)
 short_of_more xs ys more f = subst (λ zs. FallsShort zs (ys ++ more)) (append-nil xs) (short_left xs ys [] more f)
+
+-- the first of conditions that hold hold
+pub hold_first : (kept : Site → Bool) (k : ℕ) (cs : List Condition) → AllHold kept cs → AllHold kept (take k cs)
+hold_first kept zero cs h = tt
+hold_first kept (suc k) [] h = tt
+hold_first kept (suc k) (x ∷ cs) h = (h.0, hold_first kept k cs h.1)
+
+-- judgements are of what is kept
+pub judged_kept : (kept : Site → Bool) (cs : List Condition) → AreKept kept (judgements kept cs)
+judged_kept kept [] = tt
+judged_kept kept (same t u ∷ cs) = judged_kept kept cs
+judged_kept kept (instance s t ∷ cs) = judged_kept kept cs
+judged_kept kept (made n t ∷ cs) = judged_kept kept cs
+judged_kept kept (known t ∷ cs) = judged_kept kept cs
+judged_kept kept (demand s at d ∷ cs) = (refl, judged_kept kept cs)
+judged_kept kept (treated n env ∷ cs) = judged_kept kept cs

@@ -11,3 +11,7 @@ pub mod Equals
 pub mod Tests
 pub mod Nodes
 pub mod Recording
+pub mod Branching
+pub mod Adequate
+pub mod Surrounding
+pub mod Using

@@ -15,6 +15,7 @@ use Rattle.level_unify.specs.Solutions.{Loose}
 use Rattle.level_unify.specs.Copies.{Extends}
 use Rattle.level_unify.proofs.Unified.{fits_loosely}
 use Rattle.signature_model.specs.Matching.{IsKnown}
+use Rattle.typing_environments.specs.Locals.{IsOwn, Refines}
 use Rattle.typing_environments.proofs.Steps.{Grows, refines_made}
 use Rattle.typing_conditions.specs.Sights.{Sight, Key, letter, name, value_of, Letters, IsKnownFor, AreGiven, AreNodes, Agrees, SameAt}
 use Rattle.typing_conditions.specs.Frames.{Frame, Reaches, IsOpen, AreOpen}
@@ -24,7 +25,7 @@ use Rattle.typing_conditions.specs.Steps.{OnlyNodes}
 use Rattle.typing_conditions.specs.Carrying.{Scope, Enters, GoesOn, Stays, Continues, Carried, CarriedTo}
 use Rattle.typing_conditions.proofs.Judged.{given_right, nodes_both}
 use Rattle.typing_conditions.proofs.Stays.{agrees_before, stays_opened}
-use Rattle.typing_conditions.proofs.Framing.{open_var, open_made}
+use Rattle.typing_conditions.proofs.Framing.{open_var, open_made, written_next}
 use Rattle.typing_conditions.proofs.First.{first_none, first_one, nothing_met}
 use Rattle.typing_conditions.proofs.Making.{with_type, at_own, at_older, in_any_scope, makes_extends, made_here, loose_before, reading_before, fits_made}
 use Rattle.typing_conditions.proofs.Meaning.{all_open, all_types, nodes_in, agrees_same, inside_longer}
@@ -36,7 +37,8 @@ made_stays {F} {G} {a} {b} {s} {t} {n} {c} more opened made rest new = record {
   loose = λ V h. loose_before a.nodes b.nodes V extends h;
   reads = λ V r. reading_before a.nodes b.nodes V extends r;
   reaches = λ r. opened.reached;
-  refines = λ r K own. refines_made a.nodes b.nodes K own (record { longer = extends.longer; node = extends.node });
+  writes = written_next rest.written (λ r. opened.reached) refines;
+  refines = refines;
   recorded = λ i k x e. rest.types i k ∙ e;
   written = λ x k e. rest.written x ∙ e;
   given = λ V ch h. given_right V ch more G h;
@@ -49,6 +51,9 @@ made_stays {F} {G} {a} {b} {s} {t} {n} {c} more opened made rest new = record {
   where
     extends : Extends a.nodes b.nodes
     extends = makes_extends (state a.nodes s) (state b.nodes t) n c made
+
+    refines : Reaches F a → (K : Types) → IsOwn b.nodes K → Refines a.nodes b.nodes K
+    refines r K own = refines_made a.nodes b.nodes K own (record { longer = extends.longer; node = extends.node })
 
 -- a new variable stands for what a choice chooses, unless that is the type of a name
 pub letter_made : {F : Frame} {scope : Scope} {G : Letters} {a b : Sight} {s t : List Change} {n : ℕ} (key : Key) → ((x : Typ) → IsKnownFor key x) → Reaches F a → Makes (state a.nodes s) (state b.nodes t) n (Var F.level no_scope) → OnlyNodes a b →

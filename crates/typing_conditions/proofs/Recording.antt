@@ -14,17 +14,17 @@ use Rattle.type_nodes.specs.Nodes.{IsNode}
 use Rattle.type_nodes.specs.Readings.{Types, Fits, IsReading}
 use Rattle.level_unify.specs.Solutions.{Loose}
 use Rattle.level_unify.proofs.Unified.{fits_loosely}
-use Rattle.typing_environments.specs.Locals.{Refines}
+use Rattle.typing_environments.specs.Locals.{IsOwn, Refines}
 use Rattle.typing_environments.proofs.Steps.{refines_none}
 use Rattle.typing_conditions.specs.Sights.{Sight, number_in, Letters, AreGiven, AreNodes, Agrees, IsInside}
-use Rattle.typing_conditions.specs.Frames.{Frame, IsOpen}
+use Rattle.typing_conditions.specs.Frames.{Frame, Reaches, IsOpen}
 use Rattle.typing_conditions.specs.Meanings.{Means}
 use Rattle.typing_conditions.specs.Judging.{Judgement, judgements, StartsWith, FallsShort, TellAll, Meets}
 use Rattle.typing_conditions.specs.Steps.{Records}
 use Rattle.typing_conditions.specs.Carrying.{Asks, Scope, Enters, Leaves, GoesOn, Stays, Continues, Carried, CarriedTo}
 use Rattle.typing_conditions.proofs.Judged.{hold_both, hold_left, hold_right, judged_both, given_left, given_right, given_both, tell_both, short_left, starts_all}
 use Rattle.typing_conditions.proofs.Stays.{stays_trans, stays_closed}
-use Rattle.typing_conditions.proofs.Framing.{open_on, reaches_same}
+use Rattle.typing_conditions.proofs.Framing.{open_on, reaches_same, written_next}
 use Rattle.typing_conditions.proofs.Carried.{Decides, take_none, less_or_more}
 use Rattle.typing_conditions.proofs.First.{starts_none}
 
@@ -60,8 +60,9 @@ records_stay {F} {G} {a} {b} {p} {m} r node = record {
   longer = let e : length b.nodes ≡ length a.nodes = ap length r.nodes in omega arith;
   loose = λ V h. subst (λ ns. Loose ns V) r.nodes h;
   reads = λ V h. subst (λ ns. IsReading ns V) r.nodes h;
-  reaches = reaches_same r.nodes r.level (λ x n e. r.written x ∙ e);
-  refines = λ reached K own. subst (λ ns. Refines ns b.nodes K) r.nodes (refines_none b.nodes K own);
+  reaches = reaches;
+  writes = written_next r.written reaches refines;
+  refines = refines;
   recorded = still_there r;
   written = λ x n e. r.written x ∙ e;
   given = λ V ch h. h;
@@ -75,6 +76,12 @@ records_stay {F} {G} {a} {b} {p} {m} r node = record {
   level = r.level;
   fixed = r.fixed;
 }
+  where
+    reaches : Reaches F a → Reaches F b
+    reaches = reaches_same r.nodes r.level (λ x n e. r.written x ∙ e)
+
+    refines : Reaches F a → (K : Types) → IsOwn b.nodes K → Refines a.nodes b.nodes K
+    refines reached K own = subst (λ ns. Refines ns b.nodes K) r.nodes (refines_none b.nodes K own)
 
 -- What a row asks at its end so that its node has the row's type; it asks nothing where that is so already.
 pub record EndsAs (n : ℕ) (type : Choice → Typ) (ends : Asks) : Type 0 where

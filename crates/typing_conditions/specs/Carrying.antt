@@ -10,7 +10,7 @@ use Rattle.level_unify.specs.Solutions.{Loose}
 use Rattle.typing_environments.specs.Locals.{IsOwn, Refines}
 use Rattle.typing_conditions.specs.Sights.{Report, Sight, Letters, AreGiven, Agrees, IsInside, SameAt}
 use Rattle.typing_conditions.specs.Frames.{Frame, Reaches}
-use Rattle.typing_conditions.specs.Meanings.{Means}
+use Rattle.typing_conditions.specs.Meanings.{Means, KnowsWritten}
 use Rattle.typing_conditions.specs.Judging.{Judgement, judgements, AreKept, StartsWith, FallsShort, Meets}
 
 -- what a part asks, by the context in which it stands
@@ -57,6 +57,7 @@ pub record Stays (F : Frame) (a : Sight) (G : Letters) (b : Sight) (G' : Letters
   pub reads : (V : Types) → IsReading b.nodes V → IsReading a.nodes V
   pub refines : Reaches F a → (K : Types) → IsOwn b.nodes K → Refines a.nodes b.nodes K
   pub reaches : Reaches F a → Reaches F b
+  pub writes : KnowsWritten F a → KnowsWritten F b
   pub recorded : (i p m : ℕ) → a.types i p ≡ Some m → b.types i p ≡ Some m
   pub written : (x : Name) (m : ℕ) → a.written x ≡ Some m → b.written x ≡ Some m
   pub given : (V : Types) (ch : Choice) → AreGiven G' V ch → AreGiven G V ch
