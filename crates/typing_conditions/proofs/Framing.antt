@@ -49,7 +49,7 @@ reaches_step {F} {a} {b} r sound level written local = record {
 }
 
 -- a node that is a result in each of the nodes' own types is open
-open_from : {F : Frame} {b : Sight} {n : ℕ} → Reaches F b → ((K : Types) → IsOwn b.nodes K → IsResult F.start b.nodes K F.roots F.level n) → IsOpen F b n
+pub open_from : {F : Frame} {b : Sight} {n : ℕ} → Reaches F b → ((K : Types) → IsOwn b.nodes K → IsResult F.start b.nodes K F.roots F.level n) → IsOpen F b n
 open_from {F} {b} {n} reached result =
     let own = own_of b.nodes reached.sound in
     let here = result own.0 own.1 in
@@ -97,7 +97,7 @@ root_on {F} {a} {b} {n = n} s r root = record {
     context K own = let before = own_of a.nodes r.sound in context_behind a.nodes b.nodes before.0 K (n ∷ []) F.level before.1 own (s.refines r K own) (alone before.0 before.1)
 
 -- a new store is sound where the new node's parts are nodes
-sound_made : (a b : Sight) {s t : List Change} {n : ℕ} {c : Node} → IsSound a.nodes → Makes (state a.nodes s) (state b.nodes t) n c → All (IsNode a.nodes) (parts c) → IsSound b.nodes
+pub sound_made : (a b : Sight) {s t : List Change} {n : ℕ} {c : Node} → IsSound a.nodes → Makes (state a.nodes s) (state b.nodes t) n c → All (IsNode a.nodes) (parts c) → IsSound b.nodes
 sound_made a b {s} {t} {n} {c} sound made inside = subst IsSound (sym made.added.nodes) (added_sound a.nodes c inside sound)
 
 -- a new variable of the frame's level is open

@@ -15,3 +15,4 @@ pub mod Branching
 pub mod Adequate
 pub mod Surrounding
 pub mod Using
+pub mod Writing
