@@ -1,5 +1,5 @@
 -- What is carried says which demands are kept, and that the types are most general.
-use Rattle.std.proofs.Common.{◌⊎◌, ◌≢◌, ◌≡◌, ◌∙◌, ◌++◌, inl, inr, ℕ, Bool, true, false, if◌then◌else◌, List, [], ◌∷◌, take, Some, refl, sym, ap, subst, append_assoc}
+use Rattle.std.proofs.Common.{◌⊎◌, ◌≢◌, ◌≡◌, ◌∙◌, ◌++◌, inl, inr, ℕ, Bool, true, false, if◌then◌else◌, List, [], ◌∷◌, take, Some, sym, ap, subst, append_assoc}
 use Rattle.type_model.specs.Substitutions.{apply}
 use Rattle.typing_model.specs.Demands.{Site, same_site, Condition, AllHold}
 use Rattle.typing_model.specs.Contexts.{Context}
@@ -8,7 +8,7 @@ use Rattle.type_nodes.specs.Readings.{Types}
 use Rattle.type_nodes.proofs.Identity.{identity, identity_determines}
 use Rattle.typing_conditions.specs.Sights.{Sight, Letters, number_in}
 use Rattle.typing_conditions.specs.Frames.{Frame}
-use Rattle.typing_conditions.specs.Judging.{Judgement, judgements, AreKept, StartsWith, FallsShort}
+use Rattle.typing_conditions.specs.Judging.{Judgement, judgements, AreKept, FallsShort}
 use Rattle.typing_conditions.specs.Carrying.{Asks, Scope, Enters, Carried}
 use Rattle.typing_conditions.proofs.Judged.{judged_kept}
 

@@ -7,7 +7,7 @@ use Rattle.typing_model.specs.Contexts.{Context}
 use Rattle.type_nodes.specs.Readings.{Types}
 use Rattle.typing_conditions.specs.Sights.{Sight, Letters}
 use Rattle.typing_conditions.specs.Frames.{Frame}
-use Rattle.typing_conditions.specs.Judging.{Judgement, judgements, AreKept, FallsShort, Meets}
+use Rattle.typing_conditions.specs.Judging.{judgements, AreKept, FallsShort, Meets}
 use Rattle.typing_conditions.specs.Carrying.{Asks, Scope, Enters, Continues, Carried}
 use Rattle.typing_conditions.proofs.Judged.{hold_left, judged_both, judged_kept, kept_left, short_left, short_of_more, starts_left}
 use Rattle.typing_conditions.proofs.Carried.{Decides, carried_trans, less_or_more}

@@ -1,14 +1,13 @@
 -- New nodes: a variable for what a choice chooses, and nodes over others that have types.
-use Rattle.std.proofs.Common.{◌≡◌, ◌≢◌, ◌∙◌, ℕ, zero, suc, ◌<◌, ◌≤◌, List, map, length, refl, sym, ap, subst, arith, [], ◌∷◌, ◌++◌, inl, ◌⊎◌, append-nil, Some}
-use Rattle.std.specs.Prelude.{slice_get, All}
-use Rattle.std.proofs.lemmas.Option.{slice_get_within}
+use Rattle.std.proofs.Common.{◌≡◌, ◌∙◌, ℕ, zero, suc, ◌<◌, List, map, length, refl, sym, ap, subst, arith, [], ◌∷◌, ◌++◌, inl, ◌⊎◌, append-nil}
+use Rattle.std.specs.Prelude.{All}
 use Rattle.type_model.specs.Types.{Path, Typ, types_of}
 use Rattle.type_model.specs.Types.{Typ as type}
 use Rattle.type_model.specs.Limits.{no_scope}
-use Rattle.typing_model.specs.Demands.{Site, Condition, same, known, AllHold}
+use Rattle.typing_model.specs.Demands.{same, known, AllHold}
 use Rattle.typing_model.specs.Contexts.{Choice, Context}
-use Rattle.type_nodes.specs.Nodes.{Node, Var, Arrow, Tuple, Con, parts, IsNode}
-use Rattle.type_nodes.specs.Readings.{Types, FitsNode, IsReading}
+use Rattle.type_nodes.specs.Nodes.{Node, Var, Arrow, Tuple, Con, parts}
+use Rattle.type_nodes.specs.Readings.{Types, FitsNode}
 use Rattle.type_nodes.specs.States.{Change, state}
 use Rattle.type_nodes.specs.Changes.{Makes}
 use Rattle.level_unify.specs.Solutions.{Loose}
@@ -16,11 +15,11 @@ use Rattle.level_unify.specs.Copies.{Extends}
 use Rattle.level_unify.proofs.Unified.{fits_loosely}
 use Rattle.signature_model.specs.Matching.{IsKnown}
 use Rattle.typing_environments.specs.Locals.{IsOwn, Refines}
-use Rattle.typing_environments.proofs.Steps.{Grows, refines_made}
-use Rattle.typing_conditions.specs.Sights.{Sight, Key, letter, name, value_of, Letters, IsKnownFor, AreGiven, AreNodes, Agrees, SameAt}
+use Rattle.typing_environments.proofs.Steps.{refines_made}
+use Rattle.typing_conditions.specs.Sights.{Sight, Key, name, value_of, Letters, IsKnownFor, AreNodes, SameAt}
 use Rattle.typing_conditions.specs.Frames.{Frame, Reaches, IsOpen, AreOpen}
 use Rattle.typing_conditions.specs.Meanings.{Means, AllMean, none_mean, one_means, types_by}
-use Rattle.typing_conditions.specs.Judging.{FallsShort, Meets}
+use Rattle.typing_conditions.specs.Judging.{FallsShort}
 use Rattle.typing_conditions.specs.Steps.{OnlyNodes}
 use Rattle.typing_conditions.specs.Carrying.{Scope, Enters, GoesOn, Stays, Continues, Carried, CarriedTo}
 use Rattle.typing_conditions.proofs.Judged.{given_right, nodes_both}
@@ -28,7 +27,7 @@ use Rattle.typing_conditions.proofs.Stays.{agrees_before, stays_opened}
 use Rattle.typing_conditions.proofs.Framing.{open_var, open_made, written_next}
 use Rattle.typing_conditions.proofs.First.{first_none, first_one, nothing_met}
 use Rattle.typing_conditions.proofs.Making.{with_type, at_own, at_older, in_any_scope, makes_extends, made_here, loose_before, reading_before, fits_made}
-use Rattle.typing_conditions.proofs.Meaning.{all_open, all_types, nodes_in, agrees_same, inside_longer}
+use Rattle.typing_conditions.proofs.Meaning.{all_open, all_types, agrees_same, inside_longer}
 
 -- where a node was made everything stays
 made_stays : {F : Frame} {G : Letters} {a b : Sight} {s t : List Change} {n : ℕ} {c : Node} (more : Letters) → IsOpen F b n → Makes (state a.nodes s) (state b.nodes t) n c → OnlyNodes a b → AreNodes more b.nodes → Stays F a G b (more ++ G)

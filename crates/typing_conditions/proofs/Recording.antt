@@ -5,10 +5,9 @@ use Rattle.std.proofs.lemmas.List.{take-append-le}
 use Rattle.std.proofs.Math.Seq.{take-append-add}
 use Rattle.type_model.specs.Types.{Typ}
 use Rattle.type_model.proofs.Applying.{eqb_same}
-use Rattle.signature_model.specs.Declarations.{Name}
 use Rattle.signature_model.specs.Matching.{IsKnown}
 use Rattle.typing_laws.proofs.Bools.{and_cases, and_both}
-use Rattle.typing_model.specs.Demands.{Site, Condition, same, known, treated, AllHold}
+use Rattle.typing_model.specs.Demands.{Condition, same, AllHold}
 use Rattle.typing_model.specs.Contexts.{Choice, Context, tell_typed}
 use Rattle.type_nodes.specs.Nodes.{IsNode}
 use Rattle.type_nodes.specs.Readings.{Types, Fits, IsReading}
@@ -16,13 +15,12 @@ use Rattle.level_unify.specs.Solutions.{Loose}
 use Rattle.level_unify.proofs.Unified.{fits_loosely}
 use Rattle.typing_environments.specs.Locals.{IsOwn, Refines}
 use Rattle.typing_environments.proofs.Steps.{refines_none}
-use Rattle.typing_conditions.specs.Sights.{Sight, number_in, Letters, AreGiven, AreNodes, Agrees, IsInside}
-use Rattle.typing_conditions.specs.Frames.{Frame, Reaches, IsOpen}
-use Rattle.typing_conditions.specs.Meanings.{Means}
-use Rattle.typing_conditions.specs.Judging.{Judgement, judgements, StartsWith, FallsShort, TellAll, Meets}
+use Rattle.typing_conditions.specs.Sights.{Sight, number_in, Letters, AreNodes, Agrees}
+use Rattle.typing_conditions.specs.Frames.{Frame, Reaches}
+use Rattle.typing_conditions.specs.Judging.{judgements, StartsWith, FallsShort, TellAll, Meets}
 use Rattle.typing_conditions.specs.Steps.{Records}
 use Rattle.typing_conditions.specs.Carrying.{Asks, Scope, Enters, Leaves, GoesOn, Stays, Continues, Carried, CarriedTo}
-use Rattle.typing_conditions.proofs.Judged.{hold_both, hold_left, hold_right, judged_both, given_left, given_right, given_both, tell_both, short_left, starts_all}
+use Rattle.typing_conditions.proofs.Judged.{hold_both, hold_left, hold_right, judged_both, given_left, given_right, given_both, tell_both, starts_all}
 use Rattle.typing_conditions.proofs.Stays.{stays_trans, stays_closed}
 use Rattle.typing_conditions.proofs.Framing.{open_on, reaches_same, written_next}
 use Rattle.typing_conditions.proofs.Carried.{Decides, take_none, less_or_more}

@@ -1,5 +1,5 @@
 -- What a part is typed among, after a call and with a further name.
-use Rattle.std.proofs.Common.{◌≡◌, ◌∙◌, ℕ, zero, suc, ◌<◌, ◌≤◌, true, List, [], ◌∷◌, length, Option, Some, refl, sym, subst, arith}
+use Rattle.std.proofs.Common.{◌≡◌, ℕ, zero, suc, ◌≤◌, true, List, ◌∷◌, Some, refl, sym, subst, arith}
 use Rattle.std.specs.Prelude.{slice_get}
 use Rattle.text_terms.specs.Bytes.{str_bytes}
 use Rattle.type_model.specs.Types.{Typ, occurs}
@@ -11,7 +11,7 @@ use Rattle.typing_model.specs.Contexts.{Choice, monomorphic}
 use Rattle.typing_model.specs.Typings.{no_choice}
 use Rattle.type_terms.specs.declared.types.NodeRef.{NodeRef}
 use Rattle.type_nodes.specs.Nodes.{Var}
-use Rattle.type_nodes.specs.Readings.{Types, IsReading}
+use Rattle.type_nodes.specs.Readings.{Types}
 use Rattle.level_unify.specs.Solutions.{Loose}
 use Rattle.level_unify.proofs.Unified.{fits_loosely}
 use Rattle.env_table.specs.declared.entries.What.TheVariants as what
@@ -81,11 +81,11 @@ surrounds_named {D} {F} {a} {G} {env} {scope} {type} {e} {x} {n} place is p know
       let loose = fits_loosely a.nodes V reads.fits in
       subst (λ t. Stands SchemeReads D.declaration D.exception a.nodes J (n.0 ∷ at.roots) V (e ∷ env) (entry x place (a_value (monomorphic t)) ∷ scope.env ch)) (sym (p.is V ch loose g))
       (stands_named SchemeReads D.declaration D.exception a.nodes J V at.roots env (scope.env ch) own loose e x place n (monomorphic (V n.0)) is.named is.kind is.is
-          (one_type_reads a.nodes J V n.0 own p.open_node.inside (λ v o. free J own v o)) (one_type_fits a.nodes V n.0 p.open_node.inside) (known_vars J V ch own loose g) (at.reads J V ch own reads g));
+      (one_type_reads a.nodes J V n.0 own p.open_node.inside (λ v o. free J own v o)) (one_type_fits a.nodes V n.0 p.open_node.inside) (known_vars J V ch own loose g) (at.reads J V ch own reads g));
   fits = λ J V ch own loose g.
       subst (λ t. Stands SchemeFits D.declaration D.exception a.nodes J (n.0 ∷ at.roots) V (e ∷ env) (entry x place (a_value (monomorphic t)) ∷ scope.env ch)) (sym (p.is V ch loose g))
       (stands_named SchemeFits D.declaration D.exception a.nodes J V at.roots env (scope.env ch) own loose e x place n (monomorphic (V n.0)) is.named is.kind is.is
-          (one_type_fits a.nodes V n.0 p.open_node.inside) (one_type_fits a.nodes V n.0 p.open_node.inside) (known_vars J V ch own loose g) (at.fits J V ch own loose g));
+      (one_type_fits a.nodes V n.0 p.open_node.inside) (one_type_fits a.nodes V n.0 p.open_node.inside) (known_vars J V ch own loose g) (at.fits J V ch own loose g));
 }
   where
     no_types : Choice

@@ -1,18 +1,16 @@
 -- The use of a name: an instance of the scheme that the code finds is a use of the one that the definitions find.
-use Rattle.std.proofs.Common.{◌≡◌, ◌∙◌, ◌⊎◌, inl, ℕ, zero, suc, ◌<◌, ◌≤◌, Bool, List, [], ◌∷◌, ◌++◌, take, length, Option, Some, None, refl, sym, ap, subst, arith, append-nil}
-use Rattle.std.specs.Prelude.{slice_get}
+use Rattle.std.proofs.Common.{◌≡◌, ◌∙◌, inl, ℕ, zero, suc, Bool, List, [], ◌∷◌, take, Option, Some, None, refl, sym, ap, subst, append-nil}
 use Rattle.type_model.specs.Types.{Typ}
 use Rattle.type_model.specs.Schemes.{Scheme}
 use Rattle.signature_model.specs.Declarations.{Name}
 use Rattle.signature_model.specs.Entries.{Environment, value_kind}
 use Rattle.signature_model.specs.Lookups.{an_entry, lookup, lookup_by}
 use Rattle.typing_model.specs.Demands.{Site, IsUse, Condition, instance, AllHold}
-use Rattle.typing_model.specs.Contexts.{Choice, Context}
+use Rattle.typing_model.specs.Contexts.{Context}
 use Rattle.typing_model.specs.Names.{referent_of, then_by, scheme_in}
 use Rattle.type_terms.specs.declared.types.NodeRef.{NodeRef}
 use Rattle.type_nodes.specs.Nodes.{IsSound}
-use Rattle.type_nodes.specs.Readings.{Types, Fits}
-use Rattle.level_unify.specs.Copies.{Extends}
+use Rattle.type_nodes.specs.Readings.{Types}
 use Rattle.level_unify.specs.Instances.{Instantiated}
 use Rattle.level_unify.proofs.Unified.{fits_loosely}
 use Rattle.env_table.specs.declared.entries.Entry.{Entry}
@@ -27,13 +25,13 @@ use Rattle.typing_environments.proofs.Naming.{named_sound, named_complete}
 use Rattle.typing_environments.proofs.Names.{finds_scheme}
 use Rattle.typing_conditions.specs.Sights.{Sight, Key, value_of, Letters, IsKnownFor}
 use Rattle.typing_conditions.specs.Frames.{Frame, Reaches, IsOpen, IsRoot}
-use Rattle.typing_conditions.specs.Judging.{judgements, StartsWith, FallsShort, TellAll, Meets}
+use Rattle.typing_conditions.specs.Judging.{judgements, StartsWith, TellAll}
 use Rattle.typing_conditions.specs.Steps.{OnlyNodes}
-use Rattle.typing_conditions.specs.Carrying.{Scope, Enters, Leaves, Stays, Continues, Carried, CarriedTo}
+use Rattle.typing_conditions.specs.Carrying.{Scope, Enters, Leaves, Stays, Continues, CarriedTo}
 use Rattle.typing_conditions.specs.Surroundings.{Declared, Surrounds}
 use Rattle.typing_conditions.proofs.Stays.{agrees_before}
 use Rattle.typing_conditions.proofs.Framing.{open_instance, written_next}
-use Rattle.typing_conditions.proofs.Carried.{Decides, take_none}
+use Rattle.typing_conditions.proofs.Carried.{take_none}
 use Rattle.typing_conditions.proofs.First.{starts_none}
 use Rattle.typing_conditions.proofs.Making.{loose_before, reading_before}
 use Rattle.typing_conditions.proofs.Meaning.{agrees_same, inside_longer}

@@ -1,5 +1,5 @@
 -- A type variable that is written for the first time in an item: a new variable of a low level stands for it from then on.
-use Rattle.std.proofs.Common.{◌≡◌, ◌≢◌, ◌∙◌, ◌⊎◌, inl, inr, ℕ, zero, suc, ◌+◌, ◌<◌, ◌≤◌, min, true, List, [], ◌∷◌, ◌++◌, length, Some, None, refl, sym, ap, subst, arith, append-nil}
+use Rattle.std.proofs.Common.{◌≡◌, ◌∙◌, inl, inr, ℕ, zero, suc, ◌<◌, ◌≤◌, min, true, List, [], ◌∷◌, length, Some, refl, sym, ap, subst, arith, append-nil}
 use Rattle.std.specs.Prelude.{slice_get}
 use Rattle.std.proofs.lemmas.Bool.{eqb-true}
 use Rattle.std.proofs.lemmas.Option.{slice_get_within}
@@ -8,23 +8,22 @@ use Rattle.type_model.specs.Limits.{no_scope}
 use Rattle.type_model.proofs.Applying.{eqb_same}
 use Rattle.signature_model.specs.Declarations.{Name}
 use Rattle.signature_model.specs.Matching.{IsKnown}
-use Rattle.typing_model.specs.Contexts.{Choice, Context}
-use Rattle.type_nodes.specs.Nodes.{Node, Var, bound_level, parts}
+use Rattle.typing_model.specs.Contexts.{Context}
+use Rattle.type_nodes.specs.Nodes.{Var}
 use Rattle.type_nodes.specs.Readings.{Types}
 use Rattle.type_nodes.specs.States.{Change, state}
 use Rattle.type_nodes.specs.Changes.{Makes}
 use Rattle.level_unify.specs.Copies.{Extends}
-use Rattle.typing_environments.specs.Locals.{IsOwn, IsLow, Refines, Local, IsResult, stands_in_any}
+use Rattle.typing_environments.specs.Locals.{IsOwn, Refines, Local, stands_in_any}
 use Rattle.typing_environments.specs.Standing.{IsIn}
 use Rattle.typing_environments.proofs.Own.{own_of}
 use Rattle.typing_environments.proofs.Regions.{any_in, in_any}
 use Rattle.typing_environments.proofs.Steps.{local_then, refines_made}
-use Rattle.typing_environments.proofs.Instances.{local_node, local_more, new_within}
-use Rattle.typing_conditions.specs.Sights.{Sight, Letters, Agrees, IsInside, SameAt}
+use Rattle.typing_environments.proofs.Instances.{local_node, new_within}
+use Rattle.typing_conditions.specs.Sights.{Sight, Letters, SameAt}
 use Rattle.typing_conditions.specs.Frames.{Frame, Reaches, IsHeld, IsOpen}
-use Rattle.typing_conditions.specs.Meanings.{Means, KnowsWritten}
 use Rattle.typing_conditions.specs.Steps.{Writes}
-use Rattle.typing_conditions.specs.Carrying.{Scope, Enters, GoesOn, Stays, Carried, CarriedTo}
+use Rattle.typing_conditions.specs.Carrying.{Scope, Enters, GoesOn, Stays, CarriedTo}
 use Rattle.typing_conditions.proofs.Framing.{open_from, open_next, sound_made}
 use Rattle.typing_conditions.proofs.First.{first_none, nothing_met}
 use Rattle.typing_conditions.proofs.Making.{with_type, at_own, at_older, in_any_scope, makes_extends, made_here, loose_before, reading_before, fits_made}
@@ -64,7 +63,7 @@ module _ (F : Frame) (a b : Sight) (s t : List Change) (n : ℕ) (x : Name) (r :
   local K own =
       let before = own_of a.nodes r.sound in
       let step : Local a.nodes b.nodes before.0 K [] held F.level = local_node (state a.nodes s) (state b.nodes t) n (Var (min F.level 1) no_scope) before.0 K held F.level before.1 own made
-          (λ k l o lt e le. held_one K own k (low_level F.level k (let f : min F.level 1 ≡ l = cc in omega arith) lt)) in
+      (λ k l o lt e le. held_one K own k (low_level F.level k (let f : min F.level 1 ≡ l = cc in omega arith) lt)) in
       local_then F.start a.nodes b.nodes F.types before.0 K F.roots [] r.held held F.level r.frame.own before.1 own (r.local before.0 before.1) step (λ k d e. absurd (none_there k d e)) (λ k u lt h. more K k u h)
 
   reached : Reaches F b
