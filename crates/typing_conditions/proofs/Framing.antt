@@ -17,7 +17,7 @@ use Rattle.level_unify.specs.Instances.{Instantiated}
 use Rattle.typing_environments.specs.Locals.{IsOwn, IsFreeVar, IsLow, Refines, Local, IsResult, IsContext}
 use Rattle.typing_environments.specs.Rows.{Row}
 use Rattle.typing_environments.proofs.Own.{own_of}
-use Rattle.typing_environments.proofs.Closing.{context_behind, result_behind}
+use Rattle.typing_environments.proofs.Later.{context_after, result_after}
 use Rattle.typing_environments.proofs.Instances.{open_nodes}
 use Rattle.typing_environments.proofs.Rows.{row_unify, row_instance, row_var, row_node}
 use Rattle.typing_conditions.specs.Sights.{Sight, Letters}
@@ -68,7 +68,7 @@ no_bound {F} {a} {m} {n} p q =
 pub open_next : {F : Frame} {a b : Sight} {n : ℕ} → (Reaches F a → Reaches F b) → (Reaches F a → (K : Types) → IsOwn b.nodes K → Refines a.nodes b.nodes K) → IsOpen F a n → IsOpen F b n
 open_next {F} {a} {b} {n} reaches refines o = open_from (reaches o.reached) (λ K own.
     let before = own_of a.nodes o.reached.sound in
-    result_behind F.start a.nodes b.nodes before.0 K F.roots F.level n before.1 own (refines o.reached K own) (record { inside = o.inside; within = o.within; free = o.free before.0 before.1 }))
+    result_after F.start a.nodes b.nodes before.0 K F.roots F.level n before.1 own (refines o.reached K own) (record { inside = o.inside; within = o.within; free = o.free before.0 before.1 }))
 
 -- open nodes stay open
 pub open_on : {F : Frame} {a b : Sight} {G H : Letters} {n : ℕ} → Stays F a G b H → IsOpen F a n → IsOpen F b n
@@ -94,7 +94,7 @@ root_on {F} {a} {b} {n = n} s r root = record {
         inside (suc k) c e = absurd (cc)
 
     context : (K : Types) → IsOwn b.nodes K → IsContext b.nodes K (n ∷ []) F.level
-    context K own = let before = own_of a.nodes r.sound in context_behind a.nodes b.nodes before.0 K (n ∷ []) F.level before.1 own (s.refines r K own) (alone before.0 before.1)
+    context K own = let before = own_of a.nodes r.sound in context_after a.nodes b.nodes before.0 K (n ∷ []) F.level before.1 own (s.refines r K own) (alone before.0 before.1)
 
 -- a new store is sound where the new node's parts are nodes
 pub sound_made : (a b : Sight) {s t : List Change} {n : ℕ} {c : Node} → IsSound a.nodes → Makes (state a.nodes s) (state b.nodes t) n c → All (IsNode a.nodes) (parts c) → IsSound b.nodes

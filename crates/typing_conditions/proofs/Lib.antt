@@ -16,3 +16,4 @@ pub mod Adequate
 pub mod Surrounding
 pub mod Using
 pub mod Writing
+pub mod Answering

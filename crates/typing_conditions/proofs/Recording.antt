@@ -19,7 +19,7 @@ use Rattle.typing_conditions.specs.Sights.{Sight, number_in, Letters, AreNodes, 
 use Rattle.typing_conditions.specs.Frames.{Frame, Reaches}
 use Rattle.typing_conditions.specs.Judging.{judgements, StartsWith, FallsShort, TellAll, Meets}
 use Rattle.typing_conditions.specs.Steps.{Records}
-use Rattle.typing_conditions.specs.Carrying.{Asks, Scope, Enters, Leaves, GoesOn, Stays, Continues, Carried, CarriedTo}
+use Rattle.typing_conditions.specs.Carrying.{Asks, Scope, Enters, ReadsOff, GoesOn, Stays, Continues, Carried, CarriedTo}
 use Rattle.typing_conditions.proofs.Judged.{hold_both, hold_left, hold_right, judged_both, given_left, given_right, given_both, tell_both, starts_all}
 use Rattle.typing_conditions.proofs.Stays.{stays_trans, stays_closed}
 use Rattle.typing_conditions.proofs.Framing.{open_on, reaches_same, written_next}
@@ -139,7 +139,7 @@ row_recorded {F} {scope} {asks} {ends} {type} {a} {b} {d} {G} own n {p} {m} numb
     at_node : {H : Letters} (V : Types) (ch : Choice) → Agrees F.owner d H V ch → ch.type_at n ≡ V m
     at_node V ch g = ap ch.type_at (sym number) ∙ g.recorded b.item p m (here_now r)
 
-    sound : (V : Types) (c : Context) → Leaves F scope d G (it.hidden ++ own) it.judged V c → Meets c.kept (tell_typed n c ++ (asks c ++ ends c)) it.judged it.told
+    sound : (V : Types) (c : Context) → ReadsOff F scope d G (it.hidden ++ own) it.judged V c → Meets c.kept (tell_typed n c ++ (asks c ++ ends c)) it.judged it.told
     sound V c l =
         let g : Agrees F.owner b (own ++ G) V c.chosen = record {
           recorded = λ i q x e. l.agrees.recorded i q x (still_there r i q x e);

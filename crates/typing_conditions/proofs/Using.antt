@@ -27,7 +27,7 @@ use Rattle.typing_conditions.specs.Sights.{Sight, Key, value_of, Letters, IsKnow
 use Rattle.typing_conditions.specs.Frames.{Frame, Reaches, IsOpen, IsRoot}
 use Rattle.typing_conditions.specs.Judging.{judgements, StartsWith, TellAll}
 use Rattle.typing_conditions.specs.Steps.{OnlyNodes}
-use Rattle.typing_conditions.specs.Carrying.{Scope, Enters, Leaves, Stays, Continues, CarriedTo}
+use Rattle.typing_conditions.specs.Carrying.{Scope, Enters, ReadsOff, Stays, Continues, CarriedTo}
 use Rattle.typing_conditions.specs.Surroundings.{Declared, Surrounds}
 use Rattle.typing_conditions.proofs.Stays.{agrees_before}
 use Rattle.typing_conditions.proofs.Framing.{open_instance, written_next}
@@ -125,7 +125,7 @@ name_used {D} {F} {scope} {G} {env} {a} {b} {ms} {x} {m} key free at it = record
       fixed = it.rest.fixed;
     }
 
-    sound : (V : Types) (c : Context) → Leaves F scope b ((key, m) ∷ G) [] [] V c → AllHold c.kept (used_if (scheme_found c.env ms x) (value_of c.chosen key))
+    sound : (V : Types) (c : Context) → ReadsOff F scope b ((key, m) ∷ G) [] [] V c → AllHold c.kept (used_if (scheme_found c.env ms x) (value_of c.chosen key))
     sound V c l =
         let stand = at.reads own.0 V c.chosen own.1 (stays.reads V l.reads) (agrees_before stays l.agrees) in
         let found = finds_scheme (λ k sc. SchemeReads a.nodes V k sc × IsIn at.roots k) D.declaration D.exception it.root ms x it.entry it.finds it.is stand.names in

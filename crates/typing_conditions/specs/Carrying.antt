@@ -37,7 +37,7 @@ pub record Enters (F : Frame) (scope : Scope) (a : Sight) (G : Letters) (V : Typ
   pub agrees : Agrees F.owner a G V c.chosen
 
 -- types with which a choice is read off a state, under the demands that were kept
-pub record Leaves (F : Frame) (scope : Scope) (b : Sight) (G hidden : Letters) (judged : List Judgement) (V : Types) (c : Context) : Type 0 where
+pub record ReadsOff (F : Frame) (scope : Scope) (b : Sight) (G hidden : Letters) (judged : List Judgement) (V : Types) (c : Context) : Type 0 where
   pub under : IsUnder scope c
   pub reads : IsReading b.nodes V
   pub agrees : Agrees F.owner b G V c.chosen
@@ -84,7 +84,7 @@ pub record Carried (F : Frame) (scope : Scope) (asks : Asks) (a : Sight) (G : Le
   pub judged : List Judgement
   pub told : List Report
   pub reports : b.reports ≡ a.reports ++ told
-  pub sound : (V : Types) (c : Context) → Leaves F scope b G' hidden judged V c → Meets c.kept (asks c) judged told
+  pub sound : (V : Types) (c : Context) → ReadsOff F scope b G' hidden judged V c → Meets c.kept (asks c) judged told
   pub complete : (V : Types) (c : Context) → Enters F scope a G V c → AllHold c.kept (asks c) → Continues F asks a b G' judged V c ⊎ FallsShort (judgements c.kept (asks c)) judged
   pub first : (k : ℕ) (V : Types) (c : Context) → Enters F scope a G V c → AllHold c.kept (take k (asks c)) →
       StartsWith judged (judgements c.kept (take k (asks c))) ⊎ FallsShort (judgements c.kept (take k (asks c))) judged

@@ -14,53 +14,8 @@ use Rattle.level_unify.proofs.Steps.{cell_at}
 use Rattle.typing_laws.proofs.Bools.{no_yes}
 use Rattle.typing_environments.specs.Locals.{IsVar, IsLow, IsOwn, stands_in_any, Within, Refines, Local, IsContext, IsResult, ClosesAll}
 use Rattle.typing_environments.proofs.Regions.{any_in, in_any, region, region_is, region_var}
-use Rattle.typing_environments.proofs.Steps.{same_node, stands_behind, stands_before, true_or_false, old_or_new}
-
--- how a variable's node tells whether it is free
-pub record VarOf (nodes : List Node) (v : ℕ) : Type 0 where
-  pub level : ℕ
-  pub scope : ℕ
-  pub at : slice_get nodes v ≡ Some (Var level scope)
-  pub kind : (level ≡ bound_level) ⊎ (level ≢ bound_level)
-
-pub var_of : (nodes : List Node) (v : ℕ) → IsVar nodes v → VarOf nodes v
-var_of nodes v var = record { level = var.level; scope = var.scope; at = var.at; kind = elim (eqb_tells var.level bound_level) [ inl (_, e) ↦ inl e | inr (_, e) ↦ inr e ] }
-
--- a bound variable that stands in what a variable reads as later is that variable
-pub bound_itself : (old new : List Node) (J : Types) → IsOwn new J → Refines old new J →
-    (w v o : ℕ) → slice_get old w ≡ Some (Var bound_level o) → occurs v (J w) ≡ true → v ≡ w
-bound_itself old new J behind one w v o e h = eqb-true v w (ap (occurs v) (sym (behind.vars w bound_level o (one.bounds w o e))) ∙ h)
-
--- a context stays one
-pub context_behind : (old new : List Node) (I J : Types) (R : List ℕ) (level : ℕ) → IsOwn old I → IsOwn new J → Refines old new J →
-    IsContext old I R level → IsContext new J R level
-context_behind old new I J R level before behind one context = record {
-  inside = λ k c e. let p = context.inside k c e in let q = one.longer in omega arith;
-  low = λ v l o h e free.
-      let a = in_any v J R h in
-      let (w, p, q) = stands_before old I J before (one.loose J behind.loose) a.node v a.occurs in
-      let var = var_of old w (before.only a.node w (context.inside a.place a.node a.at) p) in
-      elim var.kind [
-        | inr f ↦ let x = context.low w var.level var.scope (any_in w I R a.place a.node a.at p) var.at f in let y = one.falls w var.level var.scope v l o var.at f e q in omega arith
-        | inl b ↦ absurd (
-            let at : slice_get old w ≡ Some (Var bound_level var.scope) = var.at ∙ ap (λ k. Some (Var k var.scope)) b in
-            let s = bound_itself old new J behind one w v var.scope at q in
-            free (same_node new w l o bound_level var.scope (ap (slice_get new) (sym s) ∙ e) (one.bounds w var.scope at)))
-      ];
-}
-
--- a result stays one
-pub result_behind : (old mid new : List Node) (J K : Types) (C : List ℕ) (level r : ℕ) → IsOwn mid J → IsOwn new K → Refines mid new K →
-    IsResult old mid J C level r → IsResult old new K C level r
-result_behind old mid new J K C level r between behind two res = record {
-  inside = let p = res.inside in let q = two.longer in omega arith;
-  within = res.within;
-  free = λ v o.
-      let (w, p, q) = stands_before mid J K between (two.loose K behind.loose) r v o in
-      let f = res.free w p in
-      let g = two.frees w v (record { level = f.level; scope = f.scope; at = f.at; free = f.free }) q in
-      record { level = g.level; scope = g.scope; at = g.at; free = g.free; low = let a = two.falls w f.level f.scope v g.level g.scope f.at f.free g.at q in let b = f.low in omega arith };
-}
+use Rattle.typing_environments.proofs.Steps.{same_node, stands_after, stands_before, true_or_false, old_or_new}
+use Rattle.typing_environments.proofs.Later.{context_after}
 
 -- a node that is none of the variables that are bound is as before
 same_where : (nodes new : List Node) (J : Types) (R : List ℕ) (level n : ℕ) (c : Node) → ClosesAll nodes new J R level → slice_get nodes n ≡ Some c →
@@ -200,7 +155,7 @@ module _ (old nodes new : List Node) (I J : Types) (C R : List ℕ) (H : ℕ →
       region_var old I C before v var ((between.stands a.node v n.0 a.occurs).each (region old I C) (group.closed (region old I C) r) (n.1.each (region old I C) r))
 
   in_context : (c u m : ℕ) (k : ℕ) → slice_get C k ≡ Some c → occurs m (I c) ≡ true → occurs u (J m) ≡ true → stands_in_any J C u ≡ true
-  in_context c u m k e p q = any_in u J C k c e (stands_behind old I J before (group.refines.loose J between.loose) c m u p q)
+  in_context c u m k e p q = any_in u J C k c e (stands_after old I J before (group.refines.loose J between.loose) c m u p q)
 
   from_context : (m u : ℕ) → stands_in_any I C m ≡ true → occurs u (J m) ≡ true → stands_in_any J C u ≡ true
   from_context m u h o = let a = in_any m I C h in in_context a.node u m a.place a.at a.occurs o
@@ -220,7 +175,7 @@ module _ (old nodes new : List Node) (I J : Types) (C R : List ℕ) (H : ℕ →
   -- and the other way round
   pub fixed_is_low : (u l o : ℕ) → slice_get nodes u ≡ Some (Var l o) → l ≢ bound_level → (stands_in_any J C u ≡ true) ⊎ (stands_in_any J (H level) u ≡ true) → l ≤ level
   fixed_is_low u l o e free h = elim h [
-    | inl i ↦ (context_behind old nodes I J C level before between group.refines context).low u l o i e free
+    | inl i ↦ (context_after old nodes I J C level before between group.refines context).low u l o i e free
     | inr i ↦ held_low u l o i e free
   ]
 

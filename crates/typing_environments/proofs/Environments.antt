@@ -112,7 +112,7 @@ module _ (R : ℕ → Scheme → Type 0) (D : Declaration → rules.Declaration 
   pub inside_alike : {e : Entry} {f : Named} → EntryAs R D X e f → ScopeAs (inside e) (lookups.inside f)
   inside_alike (entry_as n k w) = what_inside w
 
-  -- the scopes behind a path, for all names from which it may start
+  -- the scopes after a path, for all names from which it may start
   abbrev Onward : List Name → Type 0
   Onward ms = (es : List Entry) (fs : Environment) → EnvAs R D X es fs → ScopeAs (scope_by is_named inside es ms) (scope_behind fs ms)
 

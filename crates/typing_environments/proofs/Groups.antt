@@ -38,7 +38,7 @@ pub data NamesStand (R : List Node → Types → ℕ → Scheme → Type 0) (nod
       R nodes V n.0 (scheme (b.has_type c)) → SchemeFits nodes V n.0 (scheme (b.has_type c)) → ((u : ℕ) → IsFreeVar nodes u → occurs u (J n.0) ≡ true → IsKnown (V u)) →
       NamesStand R nodes J V scheme c es bs ns → NamesStand R nodes J V scheme c (e ∷ es) (b ∷ bs) (n.0 ∷ ns)
 
--- the environment behind the names, as the definitions have it
+-- the environment after the names, as the definitions have it
 pub stands_names : (R : List Node → Types → ℕ → Scheme → Type 0) (D : Declaration → rules.Declaration → Type 0) (X : Constructor → Option Typ → Type 0) (nodes : List Node) (J V : Types) (scheme : Typ → Scheme) (c : Context) → IsOwn nodes J → Loose nodes V →
     {es : List Entry} {bs : List Bound} {ns : List ℕ} → NamesStand R nodes J V scheme c es bs ns → (C : List ℕ) (env : List Entry) (E : Environment) →
     Stands R D X nodes J C V env E → Stands R D X nodes J (joined ns C) V (added es env) (entries_with scheme c bs E)

@@ -27,7 +27,7 @@ made_in : (old new : State) (n : ℕ) (c : Node) → Makes old new n c → n < l
 made_in old new n c made = let a = made.added.number in let b = ap length made.added.nodes ∙ length-snoc old.nodes c in omega (arith, a, b)
 
 -- Holding a type at a level: a new variable f of the level is made one with r. It is a step of a group at the next level, in which f is held.
-module _ (old mid : State) (new : List Node) (I J K : Types) (f r level : ℕ) (H : ℕ → List ℕ) (before : IsOwn old.nodes I) (between : IsOwn mid.nodes J) (behind : IsOwn new K)
+module _ (old mid : State) (new : List Node) (I J K : Types) (f r level : ℕ) (H : ℕ → List ℕ) (before : IsOwn old.nodes I) (between : IsOwn mid.nodes J) (after : IsOwn new K)
     (made : Makes old mid f (Var level no_scope)) (free : level ≢ bound_level)
     (one : Unified mid.nodes new f r) (none : HaveNoBound mid.nodes f r) (tight : (V : Types) → Loose new V → Loose mid.nodes V)
     (inside : r < length mid.nodes)
@@ -37,8 +37,8 @@ module _ (old mid : State) (new : List Node) (I J K : Types) (f r level : ℕ) (
       held k f (let s : level ≡ l = cc in omega arith) (or_left (occurs f (J f)) false (ap (occurs f) (between.vars f level no_scope (made_at old mid f (Var level no_scope) made)) ∙ eqb_same f)))
 
   hold_one : Local mid.nodes new J K (f ∷ r ∷ []) H (suc level)
-  hold_one = local_more mid.nodes new J K (f ∷ r ∷ []) (f ∷ r ∷ []) (λ k. []) H (suc level) (suc level) behind (omega arith) (λ k c e. (k, e)) (λ k u lt h. absurd (no_yes h))
-      (local_unified mid.nodes new J K f r (suc level) between behind one none tight)
+  hold_one = local_more mid.nodes new J K (f ∷ r ∷ []) (f ∷ r ∷ []) (λ k. []) H (suc level) (suc level) after (omega arith) (λ k c e. (k, e)) (λ k u lt h. absurd (no_yes h))
+      (local_unified mid.nodes new J K f r (suc level) between after one none tight)
 
   -- what stands in the type is of at most the level then
   pub held_is_low : (v l o : ℕ) → occurs v (K r) ≡ true → slice_get new v ≡ Some (Var l o) → l ≤ level
@@ -47,10 +47,10 @@ module _ (old mid : State) (new : List Node) (I J K : Types) (f r level : ℕ) (
       hold_one.refines.falls f level no_scope v l o (made_at old mid f (Var level no_scope) made) free e (ap (occurs v) same ∙ h)
     where
       own_under : FitsUnder (λ x. 0) new K
-      own_under = fits_under new K (own_fits new K behind)
+      own_under = fits_under new K (own_fits new K after)
 
   pub local_held : (C : List ℕ) → ((k c : ℕ) → slice_get (r ∷ []) k ≡ Some c → Within old.nodes C c) → Local old.nodes new I K C H (suc level)
-  local_held C within = local_then old.nodes mid.nodes new I J K C (f ∷ r ∷ []) H H (suc level) before between behind
+  local_held C within = local_then old.nodes mid.nodes new I J K C (f ∷ r ∷ []) H H (suc level) before between after
       (local_more old.nodes mid.nodes I J [] C H H (suc level) (suc level) between (omega arith) (λ k c e. absurd (none_there k c e)) (λ k u lt h. h) hold_var) hold_one both (λ k u lt h. h)
     where
       none_there : (k c : ℕ) → slice_get [] k ≡ Some c → ⊥

@@ -20,7 +20,7 @@ use Rattle.typing_environments.proofs.Steps.{local_made}
 
 -- an instance touches what stands in its root alone
 pub local_instance : (old new : List Node) (I J : Types) (r at m level : ℕ) → IsOwn old I → IsOwn new J → level ≤ at → Instantiated old new r at m → Local old new I J (r ∷ []) (λ k. []) level
-local_instance old new I J r at m level before behind le inst = local_made old new I J (r ∷ []) (λ k. []) level before behind
+local_instance old new I J r at m level before after le inst = local_made old new I J (r ∷ []) (λ k. []) level before after
     (record { longer = inst.extends.longer; node = inst.extends.node })
     (λ F reg. (inst.within F reg.closed (reg.has zero r refl) reg.made).0)
     (λ k u l o lt old_le e free low. absurd (let v = (inst.vars u l o old_le e).0 in omega arith))
@@ -32,7 +32,7 @@ instance_within old new r level m inst = record { each = λ F reg. (inst.within 
 -- a new node, whose variable is held or of the present level
 pub local_node : (old new : State) (n : ℕ) (c : Node) (I J : Types) (H : ℕ → List ℕ) (level : ℕ) → IsOwn old.nodes I → IsOwn new.nodes J → Makes old new n c →
     ((k l o : ℕ) → k < level → c ≡ Var l o → l ≤ k → stands_in_any J (H k) n ≡ true) → Local old.nodes new.nodes I J (parts c) H level
-local_node old new n c I J H level before behind made held = local_made old.nodes new.nodes I J (parts c) H level before behind
+local_node old new n c I J H level before after made held = local_made old.nodes new.nodes I J (parts c) H level before after
     (record {
       longer = let e = ap length made.added.nodes ∙ length-snoc old.nodes c in omega arith;
       node = λ m lt. ap (λ ns. slice_get ns m) made.added.nodes ∙ get-append_left old.nodes (c ∷ []) m lt;
@@ -63,7 +63,7 @@ open_nodes nodes J a b own fa fb = record {
 -- More roots, and more that is held, ask less.
 pub local_more : (old new : List Node) (I J : Types) (C D : List ℕ) (H G : ℕ → List ℕ) (level lower : ℕ) → IsOwn new J → lower ≤ level → ((k c : ℕ) → slice_get C k ≡ Some c → (j : ℕ) × (slice_get D j ≡ Some c)) →
     ((k u : ℕ) → k < lower → stands_in_any J (H k) u ≡ true → stands_in_any J (G k) u ≡ true) → Local old new I J C H level → Local old new I J D G lower
-local_more old new I J C D H G level lower behind le roots held one = record {
+local_more old new I J C D H G level lower after le roots held one = record {
   refines = one.refines;
   closed = λ F r. one.closed F (fewer F r);
   outside = λ F r. one.outside F (fewer F r);

@@ -31,7 +31,7 @@ use Rattle.typing_environments.specs.Locals.{IsOwn, IsPlain}
 use Rattle.typing_environments.specs.Assumptions.{SchemeFits, SchemeReads}
 use Rattle.typing_environments.specs.Standing.{IsIn, Stands}
 use Rattle.typing_environments.proofs.Regions.{any_in}
-use Rattle.typing_environments.proofs.Closing.{var_of}
+use Rattle.typing_environments.proofs.Later.{var_of}
 use Rattle.typing_environments.proofs.Uses.{use_sound, use_complete, under_any}
 
 -- what is put into a known type is known

@@ -20,7 +20,7 @@ use Rattle.typing_environments.specs.Rows.{Row}
 use Rattle.typing_environments.proofs.Own.{built_has}
 use Rattle.typing_environments.proofs.Regions.{any_in, region, region_is, region_var}
 use Rattle.typing_environments.proofs.Steps.{local_none, local_then, local_unified, old_or_new}
-use Rattle.typing_environments.proofs.Closing.{VarOf, var_of, context_behind, result_behind}
+use Rattle.typing_environments.proofs.Later.{VarOf, var_of, context_after, result_after}
 use Rattle.typing_environments.proofs.Instances.{local_instance, instance_within, local_node, local_more, open_nodes, result_widens, root_within, new_within}
 
 pub row_start : (nodes : List Node) (I : Types) (C : List ℕ) (H : ℕ → List ℕ) (level : ℕ) → IsOwn nodes I → IsContext nodes I C level → Row nodes nodes I I C H level []
@@ -34,7 +34,7 @@ module _ {start now : List Node} {I J : Types} {C : List ℕ} {H : ℕ → List 
     own = own;
     context = row.context;
     local = local_then start now new I J K C D H H level row.before row.own own row.local step within (λ k u lt h. h);
-    open_nodes = λ k r e. result_behind start now new J K C level r row.own own step.refines (row.open_nodes k r e);
+    open_nodes = λ k r e. result_after start now new J K C level r row.own own step.refines (row.open_nodes k r e);
   }
 
   -- one open node more
@@ -85,7 +85,7 @@ module _ {start now : List Node} {I J : Types} {C : List ℕ} {H : ℕ → List 
   roots_within k d e = (root_within start C k d e, let a = row.context.inside k d e in let b = row.local.refines.longer in omega arith)
 
   pub here_context : IsContext now J C level
-  here_context = context_behind start now I J C level row.before row.own row.local.refines row.context
+  here_context = context_after start now I J C level row.before row.own row.local.refines row.context
 
   -- an instance of a root, or of a node that was made: one whose free variables are of at most the level
   pub row_instance : (new : List Node) (K : Types) (r m : ℕ) → Within start C r × (r < length now) → ((v l o : ℕ) → occurs v (J r) ≡ true → slice_get now v ≡ Some (Var l o) → l ≢ bound_level → l ≤ level) →

@@ -31,10 +31,10 @@ use Rattle.typing_environments.specs.Assumptions.{SchemeFits, SchemeReads}
 use Rattle.typing_environments.specs.Environments.{of_value, entry_as, newest}
 use Rattle.typing_environments.specs.Standing.{IsIn, Stands}
 use Rattle.typing_environments.proofs.Regions.{any_in, in_any}
-use Rattle.typing_environments.proofs.Steps.{same_node, stands_behind, stands_before}
-use Rattle.typing_environments.proofs.Closing.{var_of, bound_itself}
+use Rattle.typing_environments.proofs.Steps.{same_node, stands_after, stands_before}
+use Rattle.typing_environments.proofs.Later.{var_of, bound_itself}
 use Rattle.typing_environments.proofs.Uses.{bound_stands}
-use Rattle.typing_environments.proofs.Stays.{fits_behind, reads_behind}
+use Rattle.typing_environments.proofs.Schemes.{fits_after, reads_after}
 use Rattle.typing_environments.proofs.Generalised.{Fixes}
 use Rattle.typing_environments.proofs.Environments.{env_map, env_free}
 
@@ -51,18 +51,18 @@ mutual
   all_known_put W (types.Cons t ts) u o h = elim (or_cases (occurs u t) (occurs_any u ts) o) [ inl i ↦ known_put W t u i h.0 | inr i ↦ all_known_put W ts u i h.1 ]
 
 module _ (D : Declaration → rules.Declaration → Type 0) (X : Constructor → Option Typ → Type 0) (old new : List Node) (I J : Types) (C : List ℕ)
-    (before : IsOwn old I) (behind : IsOwn new J) (step : Refines old new J) (inside : (k c : ℕ) → slice_get C k ≡ Some c → c < length old) where
+    (before : IsOwn old I) (after : IsOwn new J) (step : Refines old new J) (inside : (k c : ℕ) → slice_get C k ≡ Some c → c < length old) where
   -- the free variable of before that a free variable of the roots comes from
   root_var : (u : ℕ) → IsFreeVar new u → stands_in_any J C u ≡ true → (m : ℕ) × IsFreeVar old m × (stands_in_any I C m ≡ true) × (occurs u (J m) ≡ true)
   root_var u free h =
       let a = in_any u J C h in
-      let (m, p, q) = stands_before old I J before (step.loose J behind.loose) a.node u a.occurs in
+      let (m, p, q) = stands_before old I J before (step.loose J after.loose) a.node u a.occurs in
       let var = var_of old m (before.only a.node m (inside a.place a.node a.at) p) in
       elim var.kind [
         | inr f ↦ (m, record { level = var.level; scope = var.scope; at = var.at; free = f }, any_in m I C a.place a.node a.at p, q)
         | inl b ↦ absurd (
             let at : slice_get old m ≡ Some (Var bound_level var.scope) = var.at ∙ ap (λ k. Some (Var k var.scope)) b in
-            let s = bound_itself old new J behind step m u var.scope at q in
+            let s = bound_itself old new J after step m u var.scope at q in
             free.free (same_node new u free.level free.scope bound_level var.scope free.at (ap (slice_get new) s ∙ step.bounds m var.scope at)))
       ]
 
@@ -73,22 +73,22 @@ module _ (D : Declaration → rules.Declaration → Type 0) (X : Constructor →
   pub stands_fits_on : (V W : Types) (env : List Entry) (E : Environment) → SameTypes old V W → Loose new W → Stands SchemeFits D X old I C V env E → Stands SchemeFits D X new J C W env E
   stands_fits_on V W env E same loose s = record {
     names = env_map (λ r sc. SchemeFits old V r sc × IsIn C r) (λ r sc. SchemeFits new W r sc × IsIn C r) D D X X
-        (λ r sc h. (fits_behind old new I J before behind step V W same loose r sc h.0, h.1)) (λ d e h. h) (λ c o h. h) s.names;
+        (λ r sc h. (fits_after old new I J before after step V W same loose r sc h.0, h.1)) (λ d e h. h) (λ c o h. h) s.names;
     brings = λ u w free h o.
         let (m, f, p, q) = root_var u free h in
-        s.brings m w f p (ap (occurs w) (sym (same_at V W same m f)) ∙ stands_behind new J W behind loose m u w q o);
+        s.brings m w f p (ap (occurs w) (sym (same_at V W same m f)) ∙ stands_after new J W after loose m u w q o);
     known = λ u free h.
         let (m, f, p, q) = root_var u free h in
-        known_put W (J m) u q (subst IsKnown (sym (same_at V W same m f) ∙ behind.comes W loose m) (s.known m f p));
+        known_put W (J m) u q (subst IsKnown (sym (same_at V W same m f) ∙ after.comes W loose m) (s.known m f p));
   }
 
   -- at each reading
   pub stands_reads_on : (V : Types) (env : List Entry) (E : Environment) → Loose new V → Stands SchemeReads D X old I C V env E → Stands SchemeReads D X new J C V env E
   stands_reads_on V env E loose s = record {
     names = env_map (λ r sc. SchemeReads old V r sc × IsIn C r) (λ r sc. SchemeReads new V r sc × IsIn C r) D D X X
-        (λ r sc h. (reads_behind old new I J before behind step V loose r sc h.0, h.1)) (λ d e h. h) (λ c o h. h) s.names;
-    brings = λ u w free h o. let (m, f, p, q) = root_var u free h in s.brings m w f p (stands_behind new J V behind loose m u w q o);
-    known = λ u free h. let (m, f, p, q) = root_var u free h in known_put V (J m) u q (subst IsKnown (behind.comes V loose m) (s.known m f p));
+        (λ r sc h. (reads_after old new I J before after step V loose r sc h.0, h.1)) (λ d e h. h) (λ c o h. h) s.names;
+    brings = λ u w free h o. let (m, f, p, q) = root_var u free h in s.brings m w f p (stands_after new J V after loose m u w q o);
+    known = λ u free h. let (m, f, p, q) = root_var u free h in known_put V (J m) u q (subst IsKnown (after.comes V loose m) (s.known m f p));
   }
 
 -- one name more
@@ -108,7 +108,7 @@ stands_named R D X nodes J V C env E own loose e x at n sc named kind is r fits 
   brings = λ u w free h o. elim (or_cases (occurs u (J n.0)) (stands_in_any J C u) h) [
     | inr i ↦ or_right (free_in_scheme w sc) (free_in w E) (s.brings u w free i o)
     | inl i ↦ or_left (free_in_scheme w sc) (free_in w E)
-        (free_if_kept w sc (ap (occurs w) fits.body ∙ stands_behind nodes J V own loose n.0 u w i o) (fits.kept u w free (own.stands n.0 u fits.inside i) o))
+        (free_if_kept w sc (ap (occurs w) fits.body ∙ stands_after nodes J V own loose n.0 u w i o) (fits.kept u w free (own.stands n.0 u fits.inside i) o))
   ];
   known = λ u free h. elim (or_cases (occurs u (J n.0)) (stands_in_any J C u) h) [ inl i ↦ known u free i | inr i ↦ s.known u free i ];
 }

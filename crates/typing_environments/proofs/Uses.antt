@@ -22,7 +22,7 @@ use Rattle.level_unify.proofs.Variants.{bound_cell, bound_there, free_there, loo
 use Rattle.typing_laws.proofs.Bools.{no_yes}
 use Rattle.typing_environments.specs.Locals.{IsVar, IsFreeVar, IsPlain, IsOwn}
 use Rattle.typing_environments.specs.Assumptions.{SchemeFits, SchemeReads}
-use Rattle.typing_environments.proofs.Closing.{var_of}
+use Rattle.typing_environments.proofs.Later.{var_of}
 
 -- filling in unknown types leaves a type without any
 put_known : (f : Path → Typ) (o : Path) (ts : Typs) (b : Bool) → is_unknown o ≡ b → b ≡ false → put o (if b then Some (f o) else None) ts ≡ type.Con o ts
