@@ -1,5 +1,5 @@
 -- Steps in a frame: the states that they reach, and the nodes that are open then.
-use Rattle.std.proofs.Common.{◌≡◌, ◌∙◌, ℕ, zero, suc, ◌<◌, List, [], ◌∷◌, length, Some, refl, sym, subst, arith, inl, inr}
+use Rattle.std.proofs.Common.{◌≡◌, ◌∙◌, ℕ, zero, suc, ◌<◌, List, [], ◌∷◌, length, Some, refl, sym, subst, arith, inl, inr, ◌≤◌}
 use Rattle.std.specs.Prelude.{slice_get, All}
 use Rattle.type_model.specs.Types.{occurs}
 use Rattle.type_model.specs.Limits.{no_scope}
@@ -21,7 +21,7 @@ use Rattle.typing_environments.proofs.Later.{context_after, result_after}
 use Rattle.typing_environments.proofs.Instances.{open_nodes}
 use Rattle.typing_environments.proofs.Rows.{row_unify, row_instance, row_var, row_node}
 use Rattle.typing_conditions.specs.Sights.{Sight, Letters}
-use Rattle.typing_conditions.specs.Frames.{Frame, Reaches, IsOpen, AreOpen, IsRoot}
+use Rattle.typing_conditions.specs.Frames.{Frame, Reaches, IsOpenAt, IsOpen, AreOpen, IsRoot}
 use Rattle.typing_conditions.specs.Meanings.{KnowsWritten}
 use Rattle.typing_conditions.specs.Carrying.{Stays}
 use Rattle.typing_conditions.specs.Steps.{OnlyNodes}
@@ -44,13 +44,13 @@ reaches_step {F} {a} {b} r sound level written local = record {
   sound = sound;
   level = level ∙ r.level;
   held = r.held;
-  only_held = λ k n i. elim (r.only_held k n i) [ inl h ↦ inl h | inr (le, (x, e)) ↦ inr (le, (x, written x n e)) ];
+  only_held = λ k n lt i. elim (r.only_held k n lt i) [ inl h ↦ inl h | inr (le, (x, e)) ↦ inr (le, (x, written x n e)) ];
   local = λ K own. let before = own_of a.nodes r.sound in local before.0 K before.1 own;
 }
 
 -- a node that is a result in each of the nodes' own types is open
-pub open_from : {F : Frame} {b : Sight} {n : ℕ} → Reaches F b → ((K : Types) → IsOwn b.nodes K → IsResult F.start b.nodes K F.roots F.level n) → IsOpen F b n
-open_from {F} {b} {n} reached result =
+pub open_from : {F : Frame} {b : Sight} {level n : ℕ} → Reaches F b → ((K : Types) → IsOwn b.nodes K → IsResult F.start b.nodes K F.roots level n) → IsOpenAt F b level n
+open_from {F} {b} {level} {n} reached result =
     let own = own_of b.nodes reached.sound in
     let here = result own.0 own.1 in
     record { reached = reached; inside = here.inside; within = here.within; free = λ K o. (result K o).free }
@@ -65,13 +65,22 @@ no_bound {F} {a} {m} {n} p q =
     open_nodes a.nodes own.0 m n own.1 (λ v o. free_of (p.free own.0 own.1 v o)) (λ v o. free_of (q.free own.0 own.1 v o))
 
 -- open nodes are open in a further state that typing reaches
-pub open_next : {F : Frame} {a b : Sight} {n : ℕ} → (Reaches F a → Reaches F b) → (Reaches F a → (K : Types) → IsOwn b.nodes K → Refines a.nodes b.nodes K) → IsOpen F a n → IsOpen F b n
-open_next {F} {a} {b} {n} reaches refines o = open_from (reaches o.reached) (λ K own.
+pub open_next : {F : Frame} {a b : Sight} {level n : ℕ} → (Reaches F a → Reaches F b) → (Reaches F a → (K : Types) → IsOwn b.nodes K → Refines a.nodes b.nodes K) → IsOpenAt F a level n → IsOpenAt F b level n
+open_next {F} {a} {b} {level} {n} reaches refines o = open_from (reaches o.reached) (λ K own.
     let before = own_of a.nodes o.reached.sound in
-    result_after F.start a.nodes b.nodes before.0 K F.roots F.level n before.1 own (refines o.reached K own) (record { inside = o.inside; within = o.within; free = o.free before.0 before.1 }))
+    result_after F.start a.nodes b.nodes before.0 K F.roots level n before.1 own (refines o.reached K own) (record { inside = o.inside; within = o.within; free = o.free before.0 before.1 }))
+
+-- a node whose variables are of at most a lower level is open
+pub open_lower : {F : Frame} {a : Sight} {low level n : ℕ} → low ≤ level → IsOpenAt F a low n → IsOpenAt F a level n
+open_lower le o = record {
+  reached = o.reached;
+  inside = o.inside;
+  within = o.within;
+  free = λ J own v h. let f = o.free J own v h in record { level = f.level; scope = f.scope; at = f.at; free = f.free; low = let l = f.low in omega arith };
+}
 
 -- open nodes stay open
-pub open_on : {F : Frame} {a b : Sight} {G H : Letters} {n : ℕ} → Stays F a G b H → IsOpen F a n → IsOpen F b n
+pub open_on : {F : Frame} {a b : Sight} {G H : Letters} {level n : ℕ} → Stays F a G b H → IsOpenAt F a level n → IsOpenAt F b level n
 open_on s o = open_next s.reaches s.refines o
 
 -- the nodes of written type variables stay open where the same are written

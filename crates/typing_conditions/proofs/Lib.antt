@@ -17,3 +17,4 @@ pub mod Surrounding
 pub mod Using
 pub mod Writing
 pub mod Answering
+pub mod Inward

@@ -1,5 +1,5 @@
 -- What has a type still does after a call.
-use Rattle.std.proofs.Common.{◌≡◌, ◌∙◌, ℕ, zero, suc, ◌≤◌, List, [], ◌∷◌, ◌++◌, length, map, refl, sym, subst, arith}
+use Rattle.std.proofs.Common.{◌≡◌, ◌∙◌, ℕ, zero, suc, ◌≤◌, min, List, [], ◌∷◌, ◌++◌, length, map, refl, sym, subst, arith, Some}
 use Rattle.type_model.specs.Types.{Typ}
 use Rattle.signature_model.specs.Declarations.{Name}
 use Rattle.signature_model.specs.Matching.{IsKnown}
@@ -10,10 +10,10 @@ use Rattle.type_nodes.specs.Readings.{Types}
 use Rattle.level_unify.specs.Solutions.{Loose}
 use Rattle.typing_conditions.specs.Sights.{Sight, Letters, IsKnownFor, AreGiven, AreNodes, Agrees, IsInside, SameAt}
 use Rattle.typing_conditions.specs.Frames.{Frame, IsOpen, AreOpen}
-use Rattle.typing_conditions.specs.Meanings.{Means, AllMean, none_mean, one_means, types_by, KnowsFixed}
+use Rattle.typing_conditions.specs.Meanings.{Means, AllMean, none_mean, one_means, types_by, KnowsFixed, KnowsWritten}
 use Rattle.typing_conditions.specs.Carrying.{Stays}
 use Rattle.typing_conditions.proofs.Stays.{agrees_before}
-use Rattle.typing_conditions.proofs.Framing.{open_on}
+use Rattle.typing_conditions.proofs.Framing.{open_on, open_lower}
 
 -- what has a type still has it
 pub means_on : {F : Frame} {a b : Sight} {G H : Letters} {type : Choice → Typ} {m : ℕ} → Stays F a G b H → Means F a G type m → Means F b H type m
@@ -34,6 +34,13 @@ means_alone s h = record {
     given = tt;
   });
 }
+
+min_left : (l m : ℕ) → min l m ≤ l
+min_left l m = grind arith
+
+-- a type variable that is written has the type of its node
+pub written_means : {F : Frame} {a : Sight} {G : Letters} {x : Name} {m : ℕ} → KnowsWritten F a → a.written x ≡ Some m → Means F a G (λ ch. ch.written F.owner x) m
+written_means {F} {x = x} {m = m} k e = record { open_node = open_lower (min_left F.level 1) (k.each x m e); is = λ V ch loose g. g.written x m e }
 
 -- the built-in types still have nodes
 pub fixed_on : {F : Frame} {a b : Sight} {G H : Letters} → Stays F a G b H → KnowsFixed F a → KnowsFixed F b

@@ -21,10 +21,10 @@ use Rattle.typing_environments.proofs.Regions.{any_in, in_any}
 use Rattle.typing_environments.proofs.Steps.{local_then, refines_made}
 use Rattle.typing_environments.proofs.Instances.{local_node, new_within}
 use Rattle.typing_conditions.specs.Sights.{Sight, Letters, SameAt}
-use Rattle.typing_conditions.specs.Frames.{Frame, Reaches, IsHeld, IsOpen}
+use Rattle.typing_conditions.specs.Frames.{Frame, Reaches, IsHeld, IsOpen, IsOpenAt}
 use Rattle.typing_conditions.specs.Steps.{Writes}
 use Rattle.typing_conditions.specs.Carrying.{Scope, Enters, GoesOn, Stays, CarriedTo}
-use Rattle.typing_conditions.proofs.Framing.{open_from, open_next, sound_made}
+use Rattle.typing_conditions.proofs.Framing.{open_from, open_next, open_lower, sound_made}
 use Rattle.typing_conditions.proofs.First.{first_none, nothing_met}
 use Rattle.typing_conditions.proofs.Making.{with_type, at_own, at_older, in_any_scope, makes_extends, made_here, loose_before, reading_before, fits_made}
 use Rattle.typing_conditions.proofs.Meaning.{given_same, nodes_in}
@@ -72,7 +72,7 @@ module _ (F : Frame) (a b : Sight) (s t : List Change) (n : ℕ) (x : Name) (r :
     sound = sound_made a b r.sound made (λ k d lt. absurd (omega arith));
     level = w.level ∙ r.level;
     held = held;
-    only_held = λ k i h. only_held k i h;
+    only_held = λ k i lt h. only_held k i lt h;
     local = local;
   }
     where
@@ -80,15 +80,15 @@ module _ (F : Frame) (a b : Sight) (s t : List Change) (n : ℕ) (x : Name) (r :
       still k i (inl h) = inl h
       still k i (inr (le, (y, e))) = inr (le, (y, w.before y i e))
 
-      only_held : (k i : ℕ) → IsIn (held k) i → IsHeld F b k i
-      only_held zero i h = still zero i (r.only_held zero i h)
-      only_held (suc k) i (zero, e) = let f : n ≡ i = cc in inr (omega arith, (x, w.now ∙ ap (λ (j : ℕ). Some j) f))
-      only_held (suc k) i (suc j, e) = still (suc k) i (r.only_held (suc k) i (j, e))
+      only_held : (k i : ℕ) → k < F.level → IsIn (held k) i → IsHeld F b k i
+      only_held zero i lt h = still zero i (r.only_held zero i lt h)
+      only_held (suc k) i lt (zero, e) = let f : n ≡ i = cc in inr (omega arith, (x, w.now ∙ ap (λ (j : ℕ). Some j) f))
+      only_held (suc k) i lt (suc j, e) = still (suc k) i (r.only_held (suc k) i lt (j, e))
 
   refines : Reaches F a → (K : Types) → IsOwn b.nodes K → Refines a.nodes b.nodes K
   refines q K own = let e = makes_extends (state a.nodes s) (state b.nodes t) n (Var (min F.level 1) no_scope) made in refines_made a.nodes b.nodes K own (record { longer = e.longer; node = e.node })
 
-  pub written_open : IsOpen F b n
+  pub written_open : IsOpenAt F b (min F.level 1) n
   written_open = open_from reached (λ K own. record {
     inside = slice_get_within b.nodes n (Var (min F.level 1) no_scope) there;
     within = new_within F.start F.roots n (let before = own_of a.nodes r.sound in let l = (r.local before.0 before.1).refines.longer in let e = made.added.number in omega arith);
@@ -96,7 +96,7 @@ module _ (F : Frame) (a b : Sight) (s t : List Change) (n : ℕ) (x : Name) (r :
         let same = eqb-true v n (ap (occurs v) (sym (own.vars n (min F.level 1) no_scope there)) ∙ o) in
         let le = min_left F.level 1 in
         let lt = r.frame.free in
-        record { level = min F.level 1; scope = no_scope; at = ap (slice_get b.nodes) same ∙ there; free = λ e. absurd (omega (arith, le, lt, e)); low = le };
+        record { level = min F.level 1; scope = no_scope; at = ap (slice_get b.nodes) same ∙ there; free = λ e. absurd (omega (arith, le, lt, e)); low = omega arith };
   })
 
   older : (V : Types) (y : Typ) → SameAt a.nodes V (with_type V n y)
@@ -115,7 +115,7 @@ module _ (F : Frame) (a b : Sight) (s t : List Change) (n : ℕ) (x : Name) (r :
       complete = λ V c e h. inl (record { same = refl; types = with_type V n (c.chosen.written F.owner x); on = goes V c e });
       first = λ k V c e h. first_none k c;
     };
-    means = record { open_node = written_open; is = λ V ch loose g. g.written x n w.now };
+    means = record { open_node = open_lower (min_left F.level 1) written_open; is = λ V ch loose g. g.written x n w.now };
   }
     where
       extends : Extends a.nodes b.nodes
@@ -127,7 +127,7 @@ module _ (F : Frame) (a b : Sight) (s t : List Change) (n : ℕ) (x : Name) (r :
         loose = λ V h. loose_before a.nodes b.nodes V extends h;
         reads = λ V h. reading_before a.nodes b.nodes V extends h;
         reaches = λ q. reached;
-        writes = λ k. record { each = λ y m e. elim (w.others y m e) [ inl (_, same) ↦ subst (IsOpen F b) (sym same) written_open | inr f ↦ open_next (λ q. reached) refines (k.each y m f) ] };
+        writes = λ k. record { each = λ y m e. elim (w.others y m e) [ inl (_, same) ↦ subst (IsOpenAt F b (min F.level 1)) (sym same) written_open | inr f ↦ open_next (λ q. reached) refines (k.each y m f) ] };
         refines = refines;
         recorded = λ i k y e. w.types i k ∙ e;
         written = w.before;

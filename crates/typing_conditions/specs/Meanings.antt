@@ -1,5 +1,5 @@
 -- Nodes that have types by a choice.
-use Rattle.std.specs.Prelude.{◌≡◌, ℕ, List, [], ◌∷◌, map, Some}
+use Rattle.std.specs.Prelude.{◌≡◌, ℕ, min, List, [], ◌∷◌, map, Some}
 use Rattle.type_model.specs.Types.{Typ}
 use Rattle.signature_model.specs.Declarations.{Name}
 use Rattle.typing_model.specs.Contexts.{Choice}
@@ -7,7 +7,7 @@ use Rattle.typing_model.specs.BuiltIns.{int_type, char_type, string_type, float_
 use Rattle.type_nodes.specs.Readings.{Types}
 use Rattle.level_unify.specs.Solutions.{Loose}
 use Rattle.typing_conditions.specs.Sights.{Sight, Letters, Agrees}
-use Rattle.typing_conditions.specs.Frames.{Frame, IsOpen}
+use Rattle.typing_conditions.specs.Frames.{Frame, IsOpenAt, IsOpen}
 
 -- a node has a type by the choice, under all types that fit and agree with it, and the row may unify it
 pub record Means (F : Frame) (a : Sight) (G : Letters) (type : Choice → Typ) (m : ℕ) : Type 0 where
@@ -33,6 +33,6 @@ pub record KnowsFixed (F : Frame) (a : Sight) : Type 0 where
   pub bool : Means F a [] (λ ch. bool_type) a.fixed.bool
   pub exn : Means F a [] (λ ch. exn_type) a.fixed.exn
 
--- the row may unify the nodes of the type variables written so far
+-- the row may unify the nodes of the type variables written so far, whose variables are of level 1 at most: only the item's own `let` generalises them
 pub record KnowsWritten (F : Frame) (a : Sight) : Type 0 where
-  pub each : (x : Name) (m : ℕ) → a.written x ≡ Some m → IsOpen F a m
+  pub each : (x : Name) (m : ℕ) → a.written x ≡ Some m → IsOpenAt F a (min F.level 1) m

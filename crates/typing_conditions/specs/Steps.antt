@@ -61,3 +61,13 @@ pub record Writes (a b : Sight) (x : Name) (m : ℕ) : Type 0 where
   pub item : b.item ≡ a.item
   pub level : b.level ≡ a.level
   pub fixed : b.fixed ≡ a.fixed
+
+-- only the level changes
+pub record OnlyLevel (a b : Sight) : Type 0 where
+  pub nodes : b.nodes ≡ a.nodes
+  pub types : (i p : ℕ) → b.types i p ≡ a.types i p
+  pub written : (x : Name) → b.written x ≡ a.written x
+  pub reports : b.reports ≡ a.reports
+  pub aloud : b.aloud ≡ a.aloud
+  pub item : b.item ≡ a.item
+  pub fixed : b.fixed ≡ a.fixed

@@ -65,7 +65,7 @@ generalised_closes nodes new J r level own lt g = record {
   ];
 }
 
-any_before : (u : ℕ) (J : Types) (rs ss : List ℕ) → stands_in_any J rs u ≡ true → stands_in_any J (rs ++ ss) u ≡ true
+pub any_before : (u : ℕ) (J : Types) (rs ss : List ℕ) → stands_in_any J rs u ≡ true → stands_in_any J (rs ++ ss) u ≡ true
 any_before u J [] ss h = absurd (no_yes h)
 any_before u J (r ∷ rs) ss h = elim (or_cases (occurs u (J r)) (stands_in_any J rs u) h) [
   | inl i ↦ or_left (occurs u (J r)) (stands_in_any J (rs ++ ss) u) i

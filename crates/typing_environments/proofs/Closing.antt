@@ -137,6 +137,32 @@ closed_own nodes new J R level own closes = record {
   stands = λ n v lt o. record { each = λ F h. (own.stands n v (let q = closes.len in omega arith) o).each F (closed_before nodes new J R level closes F h) };
 }
 
+-- and types that are the nodes' own after closing were so before
+pub own_reopened : (nodes new : List Node) (J M : Types) (R : List ℕ) (level : ℕ) → IsOwn new M → ClosesAll nodes new J R level → IsOwn nodes M
+own_reopened nodes new J M R level own closes = record {
+  loose = closed_loose nodes new J R level closes M own.loose;
+  vars = λ n l o e. elim (became nodes new J R level n (Var l o) closes e) [ inl same ↦ own.vars n l o same | inr (d, f, b) ↦ own.vars n bound_level b.scope (f ∙ ap (λ k. Some k) b.now) ];
+  comes = λ V h. own.comes V (loose_closed nodes new J R level closes V h);
+  only = λ n v lt o.
+      let var = own.only n v (let q = closes.len in omega arith) o in
+      let in_old : v < length nodes = (let p = slice_get_within new v (Var var.level var.scope) var.at in let q = closes.len in omega arith) in
+      let (c, f) = cell_at nodes v in_old in
+      elim (became nodes new J R level v c closes f) [
+        | inl same ↦ record { level = var.level; scope = var.scope; at = f ∙ ap (λ k. Some k) (one_element c (Var var.level var.scope) (slice_get new v) same var.at) }
+        | inr (d, g, b) ↦ record { level = b.own_level; scope = b.scope; at = f ∙ ap (λ k. Some k) b.was }
+      ];
+  known = λ plain. own.known (record {
+    each = λ n p name ms e.
+        let lt : n < length nodes = (let q = slice_get_within new n (Con p name ms) e in let r = closes.len in omega arith) in
+        let (c, f) = cell_at nodes n lt in
+        elim (became nodes new J R level n c closes f) [
+          | inl same ↦ plain.each n p name ms (f ∙ ap (λ k. Some k) (one_element c (Con p name ms) (slice_get new n) same e))
+          | inr (d, g, b) ↦ absurd (let h : Con p name ms ≡ Var bound_level b.scope = one_element (Con p name ms) d (slice_get new n) e g ∙ b.now in cc)
+        ];
+  });
+  stands = λ n v lt o. record { each = λ F h. (own.stands n v (let q = closes.len in omega arith) o).each F (closed_closed nodes new J R level closes F h) };
+}
+
 -- The close of a `let` whose group was typed one level further in, from `old` to `nodes`; C are the roots of the environment and of
 -- the written types, R the types of the names, and what is held for the level is low.
 module _ (old nodes new : List Node) (I J : Types) (C R : List ℕ) (H : ℕ → List ℕ) (level : ℕ)
