@@ -6,7 +6,7 @@ use Rattle.type_model.specs.Types.{Typ, Var}
 use Rattle.typing_model.specs.BuiltIns.{built_in_names, int_type, string_type}
 use Rattle.typing_model.specs.Contexts.{Choice}
 use Rattle.typing_model.specs.Demands.{Site, site, equal, AllHold}
-use Rattle.typing_model.specs.Typings.{conditions_of, no_choice, demands_of, HasTyping, IsKept, IsMostGeneralChoice}
+use Rattle.typing_model.specs.Typings.{conditions_of, no_choice, demands_of, HasTyping, IsMetUpTo, IsKept, IsMostGeneralChoice}
 use Rattle.typing_model.specs.Faults.{IsFaultAt}
 use Rattle.model_checks.specs.Typings.{first, second, choice_of}
 use Rattle.model_checks.specs.Kept.{kept_at}
@@ -115,10 +115,10 @@ not_found : {a : Scheme} → ◌≡◌ {A = Option Scheme} None (Some a) → ⊥
 not_found e = cc e
 
 -- and none for the one that is refused
-refused : HasTyping built_in_names absent_component_tree (up_to absent_component_asked absent_component_kept (site (first 0) 0)) → ⊥
+refused : IsMetUpTo built_in_names absent_component_tree (up_to absent_component_asked absent_component_kept (site (first 0) 0)) (site (first 0) 0) → ⊥
 unfolding constant_by pattern_row expression_row type_row module_expression_row module_type_row item_row signature_item_row
 refused t =
-    let h = t.1.holds in
+    let h = t.holds in
     not_found (value_found (behind_value (structures_met (matched (h.1.1.1.1.1.1.1.1.1.1.1.1.1.1.1.1.1.1.1.1.1.1.1.1.1.0 refl))))).1
 
 -- the kept demands

@@ -5,8 +5,8 @@ use Rattle.type_model.proofs.Applying.{or_cases}
 use Rattle.tree_model.specs.Trees.{Tree}
 use Rattle.signature_model.specs.Signatures.{Signature}
 use Rattle.signature_model.specs.Entries.{Environment, free_in, free_in_signature}
-use Rattle.typing_model.specs.Demands.{Site, site, same_site, Demand, equal, test, agrees, matches, closes, Condition, same, instance, made, known, demand, treated, demand_of, environment_of}
-use Rattle.typing_model.specs.Typings.{conditions_of, no_choice, is_site_among, sites_before, demands_of, body_in, body_asked, body_at, is_closing, conditions_before, IsBody, HasTyping, IsKept, IsMostGeneral, IsMostGeneralChoice}
+use Rattle.typing_model.specs.Demands.{Site, site, same_site, Demand, equal, test, agrees, matches, closes, Condition, same, instance, made, known, demand, treated, demand_of, environment_of, AllHold}
+use Rattle.typing_model.specs.Typings.{conditions_of, no_choice, is_site_among, sites_before, demands_of, body_in, body_asked, body_at, is_closing, conditions_before, conditions_up_to, IsBody, HasTyping, IsMetUpTo, IsKept, IsMostGeneral, IsMostGeneralChoice}
 use Rattle.typing_model.specs.Contexts.{Choice}
 use Rattle.signature_model.specs.Functors.{IsClosed}
 use Rattle.typing_model.specs.Faults.{Fault, Tells, IsFaultAt}
@@ -39,6 +39,24 @@ each_of P (t ∷ ts) h s i =
 -- the kept demands before a site among those that are asked, and the site itself
 abbrev pub up_to : List Site → List Site → Site → Site → Bool
 up_to asked kept s x = same_site s x || (is_site_among x kept && is_site_among x (sites_before s asked))
+
+-- the first of conditions that hold hold, up to a demand
+first_hold : (kept : Site → Bool) (x : Site) (cs : List Condition) → AllHold kept cs → AllHold kept (conditions_up_to x cs)
+first_hold kept x [] h = tt
+first_hold kept x (same t u ∷ cs) h = (h.0, first_hold kept x cs h.1)
+first_hold kept x (instance s t ∷ cs) h = (h.0, first_hold kept x cs h.1)
+first_hold kept x (made n t ∷ cs) h = (h.0, first_hold kept x cs h.1)
+first_hold kept x (known t ∷ cs) h = (h.0, first_hold kept x cs h.1)
+first_hold kept x (treated n env ∷ cs) h = (h.0, first_hold kept x cs h.1)
+first_hold kept x (demand s at d ∷ cs) h = (h.0, by (same_site x s) (first_hold kept x cs h.1))
+  where
+    by : (b : Bool) → AllHold kept (conditions_up_to x cs) → AllHold kept (elim b [ true ↦ [] | false ↦ conditions_up_to x cs ])
+    by true held = tt
+    by false held = held
+
+-- where a typing exists its types meet the conditions up to each demand
+pub met_up_to : (env : Environment) (text : List Tree) (kept : Site → Bool) (s : Site) → HasTyping env text kept → IsMetUpTo env text kept s
+met_up_to env text kept s t = record { choice = t.1.choice; holds = first_hold kept s (conditions_of env text kept t.1.choice) t.1.holds }
 
 -- whether no condition is a `closing`
 abbrev closes_not : Demand → Bool
@@ -84,11 +102,11 @@ is_no_closing env text kept s h = ap (λ b. elim b [ None ↦ false | Some c ↦
 pub keeps : (env : Environment) (text : List Tree) (asked kept : List Site) → demands_of env text (kept_at kept) ≡ asked → no_closing (conditions_of env text (kept_at kept) no_choice) ≡ true →
     Each (λ s. is_site_among s asked ≡ true) kept →
     Each (λ s. HasTyping env text (up_to asked kept s)) kept →
-    Each (λ s. is_site_among s kept ≡ false → HasTyping env text (up_to asked kept s) → ⊥) asked → IsKept env text (kept_at kept)
+    Each (λ s. is_site_among s kept ≡ false → IsMetUpTo env text (up_to asked kept s) s → ⊥) asked → IsKept env text (kept_at kept)
 keeps env text asked kept all open_ among typed refused = record {
   only = λ s k. is_asked s (each_of (λ s. is_site_among s asked ≡ true) kept among s k);
-  exists = λ s k. subst (λ sites. HasTyping env text (up_to sites kept s)) (sym all) (each_of (λ s. HasTyping env text (up_to asked kept s)) kept typed s k);
-  fails = λ s i c k t. each_of (λ s. is_site_among s kept ≡ false → HasTyping env text (up_to asked kept s) → ⊥) asked refused s (was_asked s i) k (subst (λ sites. HasTyping env text (up_to sites kept s)) all t);
+  exists = λ s k. subst (λ sites. IsMetUpTo env text (up_to sites kept s) s) (sym all) (met_up_to env text (up_to asked kept s) s (each_of (λ s. HasTyping env text (up_to asked kept s)) kept typed s k));
+  fails = λ s i c k t. each_of (λ s. is_site_among s kept ≡ false → IsMetUpTo env text (up_to asked kept s) s → ⊥) asked refused s (was_asked s i) k (subst (λ sites. IsMetUpTo env text (up_to sites kept s) s) all t);
   closed = λ s c k. absurd (no_yes (sym (is_no_closing env text (kept_at kept) s open_) ∙ c));
   left_open = λ s i c k. absurd (no_yes (sym (is_no_closing env text (kept_at kept) s open_) ∙ c));
 }
@@ -143,12 +161,12 @@ pub keeps_open : (env : Environment) (text : List Tree) (asked kept : List Site)
     Each (λ s. is_site_among s asked ≡ true) kept →
     Each (λ s. is_closing env text (kept_at kept) s ≡ false) kept →
     Each (λ s. HasTyping env text (up_to asked kept s)) kept →
-    Each (λ s. is_site_among s kept ≡ false → is_closing env text (kept_at kept) s ≡ false → HasTyping env text (up_to asked kept s) → ⊥) asked →
+    Each (λ s. is_site_among s kept ≡ false → is_closing env text (kept_at kept) s ≡ false → IsMetUpTo env text (up_to asked kept s) s → ⊥) asked →
     Each (λ s. is_site_among s kept ≡ false → is_closing env text (kept_at kept) s ≡ true → LeavesOpen env text asked kept s) asked → IsKept env text (kept_at kept)
 keeps_open env text asked kept all among closed typed refused left = record {
   only = λ s k. is_asked s (each_of (λ s. is_site_among s asked ≡ true) kept among s k);
-  exists = λ s k. subst (λ sites. HasTyping env text (up_to sites kept s)) (sym all) (each_of (λ s. HasTyping env text (up_to asked kept s)) kept typed s k);
-  fails = λ s i c k t. each_of (λ s. is_site_among s kept ≡ false → is_closing env text (kept_at kept) s ≡ false → HasTyping env text (up_to asked kept s) → ⊥) asked refused s (was_asked s i) k c (subst (λ sites. HasTyping env text (up_to sites kept s)) all t);
+  exists = λ s k. subst (λ sites. IsMetUpTo env text (up_to sites kept s) s) (sym all) (met_up_to env text (up_to asked kept s) s (each_of (λ s. HasTyping env text (up_to asked kept s)) kept typed s k));
+  fails = λ s i c k t. each_of (λ s. is_site_among s kept ≡ false → is_closing env text (kept_at kept) s ≡ false → IsMetUpTo env text (up_to asked kept s) s → ⊥) asked refused s (was_asked s i) k c (subst (λ sites. IsMetUpTo env text (up_to sites kept s) s) all t);
   closed = λ s c k. absurd (no_yes (sym (each_of (λ s. is_closing env text (kept_at kept) s ≡ false) kept closed s k) ∙ c));
   left_open = λ s i c k. opened s (each_of (λ s. is_site_among s kept ≡ false → is_closing env text (kept_at kept) s ≡ true → LeavesOpen env text asked kept s) asked left s (was_asked s i) k c);
 }
@@ -229,11 +247,11 @@ pub keeps_one_closing : (env : Environment) (text : List Tree) (asked kept : Lis
     closings_of (conditions_of env text (kept_at kept) no_choice) ≡ c ∷ [] → is_site_among c kept ≡ true →
     Each (λ s. is_site_among s asked ≡ true) kept →
     Each (λ s. HasTyping env text (up_to asked kept s)) kept →
-    Each (λ s. is_site_among s kept ≡ false → HasTyping env text (up_to asked kept s) → ⊥) asked → Closes env text asked kept c → IsKept env text (kept_at kept)
+    Each (λ s. is_site_among s kept ≡ false → IsMetUpTo env text (up_to asked kept s) s → ⊥) asked → Closes env text asked kept c → IsKept env text (kept_at kept)
 keeps_one_closing env text asked kept c all one k among typed refused closed = record {
   only = λ s k. ap (is_site_among s) all ∙ each_of (λ s. is_site_among s asked ≡ true) kept among s k;
-  exists = λ s k. subst (λ sites. HasTyping env text (up_to sites kept s)) (sym all) (each_of (λ s. HasTyping env text (up_to asked kept s)) kept typed s k);
-  fails = λ s i n k t. each_of (λ s. is_site_among s kept ≡ false → HasTyping env text (up_to asked kept s) → ⊥) asked refused s (ap (is_site_among s) (sym all) ∙ i) k (subst (λ sites. HasTyping env text (up_to sites kept s)) all t);
+  exists = λ s k. subst (λ sites. IsMetUpTo env text (up_to sites kept s) s) (sym all) (met_up_to env text (up_to asked kept s) s (each_of (λ s. HasTyping env text (up_to asked kept s)) kept typed s k));
+  fails = λ s i n k t. each_of (λ s. is_site_among s kept ≡ false → IsMetUpTo env text (up_to asked kept s) s → ⊥) asked refused s (ap (is_site_among s) (sym all) ∙ i) k (subst (λ sites. IsMetUpTo env text (up_to sites kept s) s) all t);
   closed = λ s h k. shut s (subst (Closes env text asked kept) (sym (is_one s h)) closed);
   left_open = λ s i h n. absurd (no_yes (sym n ∙ ap (λ x. is_site_among x kept) (is_one s h) ∙ k));
 }

@@ -7,7 +7,7 @@ use Rattle.signature_model.specs.Entries.{Environment}
 use Rattle.typing_model.specs.BuiltIns.{built_in_origin, int_type, list_type, unit_type}
 use Rattle.typing_model.specs.Contexts.{Choice}
 use Rattle.typing_model.specs.Demands.{Site, site, equal, AllHold}
-use Rattle.typing_model.specs.Typings.{conditions_of, no_choice, demands_of, HasTyping, IsKept, IsMostGeneralChoice}
+use Rattle.typing_model.specs.Typings.{conditions_of, no_choice, demands_of, HasTyping, IsMetUpTo, IsKept, IsMostGeneralChoice}
 use Rattle.typing_model.specs.Faults.{Differ, IsCycle, IsFaultAt, types_differ, made_later, later, by_types}
 use Rattle.model_checks.specs.Typings.{first, second, third}
 use Rattle.model_checks.specs.Kept.{kept_at}
@@ -133,12 +133,12 @@ unfolding constant_by pattern_row expression_row type_expressions.type_row modul
 typed_15 = (choice.type_at, record { choice = choice; chosen = λ n. refl; holds = ((tt), ((tt), ((tt), (((refl {a = false}, ((refl {a = false}, ((refl {a = false}, tt), tt)), tt))), ((tt), ((((refl {a = false}, ((refl {a = false}, tt), tt)), (refl {a = false}, ((refl {a = false}, ((refl {a = false}, tt), tt)), tt)))), ((λ h. refl {a = true}), ((record { fill = λ o. int_type; instance = ((λ v. list_type (int_type)), (λ v h. absurd (yes_no h)), refl {a = Arrow (list_type (int_type)) (ref_type (list_type (int_type)))}) }), ((λ h. refl {a = Arrow (list_type (int_type)) (ref_type (list_type (int_type)))}), ((tt), (((refl {a = false}, ((refl {a = false}, tt), tt))), ((refl {a = list_type (int_type)}), ((λ h. refl {a = list_type (int_type)}), ((refl {a = ref_type (list_type (int_type))}), ((tt), (((refl {a = false}, ((refl {a = false}, ((refl {a = false}, tt), tt)), tt))), ((λ h. refl {a = true}), ((λ h. refl {a = ref_type (list_type (int_type))}), (((refl {a = true}, ((refl {a = true}, ((refl {a = true}, tt), tt)), tt))), ((tt), ((λ h. refl {a = true}), ((tt), ((tt), ((λ h. refl {a = true}), ((tt), ((tt), ((tt), (((refl {a = false}, tt)), ((λ h. refl {a = true}), ((record { fill = λ o. int_type; instance = ((λ v. list_type (int_type)), (λ v h. absurd (yes_no h)), refl {a = Arrow (ref_type (list_type (int_type))) (Arrow (list_type (int_type)) unit_type)}) }), ((λ h. refl {a = Arrow (ref_type (list_type (int_type))) (Arrow (list_type (int_type)) unit_type)}), ((tt), (((refl {a = false}, ((refl {a = false}, ((refl {a = false}, tt), tt)), tt))), ((λ h. refl {a = true}), ((record { fill = λ o. int_type; instance = ((λ v. Var v), (λ v h. refl {a = Var v}), refl {a = ref_type (list_type (int_type))}) }), ((λ h. refl {a = ref_type (list_type (int_type))}), ((λ h. refl {a = Arrow (list_type (int_type)) unit_type}), ((tt), (((refl {a = false}, ((refl {a = false}, tt), tt))), ((tt), (((refl {a = false}, tt)), ((λ h. refl {a = true}), ((λ h. refl {a = true}), ((refl {a = Con (second 1 ∷ []) Nil}), ((refl {a = list_type (Con (second 1 ∷ []) Nil)}), ((λ h. absurd (no_yes h)), ((refl {a = unit_type}), ((tt), (((refl {a = false}, tt)), ((refl {a = unit_type}), ((λ h. refl {a = unit_type}), tt))))))))))))))))))))))))))))))))))))))))))))))))))) })
 
 -- and none for the one that is refused
-refused_14 : HasTyping with_assignment later_type_tree (up_to later_type_asked later_type_kept (site (third 3) 4)) → ⊥
+refused_14 : IsMetUpTo with_assignment later_type_tree (up_to later_type_asked later_type_kept (site (third 3) 4)) (site (third 3) 4) → ⊥
 unfolding constant_by pattern_row expression_row type_expressions.type_row module_expression_row module_type_row item_row signature_item_row
 refused_14 t =
-    let h = t.1.holds in
-    let at : ℕ → Typ = t.1.choice.type_at in
-    let l : ℕ → Typ = t.1.choice.letter (third 3) in
+    let h = t.holds in
+    let at : ℕ → Typ = t.choice.type_at in
+    let l : ℕ → Typ = t.choice.letter (third 3) in
     let used : at (third 4) ≡ at (first 2) =
     use_of_fixed (generalised_in with_assignment (at (first 3) ∷ at (first 2) ∷ []) (at (first 2))) (at (third 4)) h.1.1.1.1.1.1.1.1.1.1.1.1.1.1.1.0
     (λ v o. held_is_free (free_in v with_assignment) (occurs v (at (first 3))) (occurs v (at (first 2))) o) h.1.1.1.1.1.1.1.1.1.1.1.1.1.1.1.1.1.1.1.1.1.1.1.1.1.1.1.1.1.1.1.1.1.1.0 in

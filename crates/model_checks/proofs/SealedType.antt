@@ -8,7 +8,7 @@ use Rattle.signature_model.specs.Entries.{Environment}
 use Rattle.typing_model.specs.BuiltIns.{built_in_origin, int_type}
 use Rattle.typing_model.specs.Contexts.{Choice}
 use Rattle.typing_model.specs.Demands.{Site, site, equal, AllHold}
-use Rattle.typing_model.specs.Typings.{conditions_of, no_choice, demands_of, HasTyping, IsKept, IsMostGeneralChoice}
+use Rattle.typing_model.specs.Typings.{conditions_of, no_choice, demands_of, HasTyping, IsMetUpTo, IsKept, IsMostGeneralChoice}
 use Rattle.typing_model.specs.Faults.{Differ, IsCycle, IsFaultAt, types_differ, plain, apart, by_types}
 use Rattle.model_checks.specs.Typings.{first, second}
 use Rattle.model_checks.specs.Kept.{kept_at}
@@ -158,11 +158,11 @@ not_int : Con (first 0 ∷ first 3 ∷ []) Nil ≡ int_type → ⊥
 not_int e = no_yes (ap is_int e)
 
 -- and none for the one that is refused
-refused : HasTyping with_plus sealed_type_tree (up_to sealed_type_asked sealed_type_kept (site (second 3) 2)) → ⊥
+refused : IsMetUpTo with_plus sealed_type_tree (up_to sealed_type_asked sealed_type_kept (site (second 3) 2)) (site (second 3) 2) → ⊥
 unfolding constant_by pattern_row expression_row type_expressions.type_row module_expression_row module_type_row item_row signature_item_row
 refused t =
-    let h = t.1.holds in
-    let at : ℕ → Typ = t.1.choice.type_at in
+    let h = t.holds in
+    let at : ℕ → Typ = t.choice.type_at in
     let used : at (second 4) ≡ Con (first 0 ∷ first 3 ∷ []) Nil = h.1.1.1.1.1.1.1.1.1.1.1.1.1.1.1.1.1.1.1.1.1.1.1.1.1.1.1.1.1.1.1.1.1.1.1.1.1.1.1.1.1.1.1.0.instance.2 ∙ ap (λ t. apply h.1.1.1.1.1.1.1.1.1.1.1.1.1.1.1.1.1.1.1.1.1.1.1.1.1.1.1.1.1.1.1.1.1.1.1.1.1.1.1.1.1.1.1.0.instance.0 (change (filling h.1.1.1.1.1.1.1.1.1.1.1.1.1.1.1.1.1.1.1.1.1.1.1.1.1.1.1.1.1.1.1.1.1.1.1.1.1.1.1.1.1.1.1.0.fill) (change (in_front ((first 3 ∷ []) ∷ []) (first 0)) t))) h.1.1.1.1.1.1.1.1.1.1.1.1.1.1.1.1.1.1.1.1.1.1.1.1.1.1.1.1.1.1.1.0 in
     not_int (sym used ∙ h.1.1.1.1.1.1.1.1.1.1.1.1.1.1.1.1.1.1.1.1.1.1.1.1.1.1.1.1.1.1.1.1.1.1.1.1.1.1.1.1.1.1.1.1.0 refl ∙ ap left (sym (h.1.1.1.1.1.1.1.1.1.1.1.1.1.1.1.1.1.1.1.1.1.1.1.1.1.1.1.1.1.1.1.1.1.1.1.1.1.1.1.0 refl) ∙ h.1.1.1.1.1.1.1.1.1.1.1.1.1.1.1.1.1.1.1.1.1.1.1.1.1.1.1.1.1.1.1.1.1.1.1.1.1.1.0.instance.2))
 

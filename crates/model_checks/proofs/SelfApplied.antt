@@ -9,7 +9,7 @@ use Rattle.signature_model.specs.Entries.{entry, a_value, Environment}
 use Rattle.typing_model.specs.BuiltIns.{built_in_names, int_type, bool_type}
 use Rattle.typing_model.specs.Contexts.{Choice, monomorphic}
 use Rattle.typing_model.specs.Demands.{Site, site, equal, AllHold}
-use Rattle.typing_model.specs.Typings.{conditions_of, no_choice, demands_of, HasTyping, IsKept, IsMostGeneralChoice}
+use Rattle.typing_model.specs.Typings.{conditions_of, no_choice, demands_of, HasTyping, IsMetUpTo, IsKept, IsMostGeneralChoice}
 use Rattle.typing_model.specs.Faults.{Differ, IsFaultAt, types_differ, contains_itself, in_itself, by_types}
 use Rattle.model_checks.specs.Typings.{first, choice_of}
 use Rattle.model_checks.specs.Kept.{kept_at}
@@ -87,10 +87,10 @@ unfolding constant_by pattern_row expression_row type_row module_expression_row 
 typed_6 = (choice.type_at, record { choice = choice; chosen = λ n. refl; holds = ((tt), ((tt), ((tt), ((((refl {a = false}, tt), (refl {a = false}, tt))), ((λ h. refl {a = true}), ((tt), (((refl {a = false}, tt)), ((tt), ((((refl {a = false}, tt), (refl {a = false}, tt))), ((λ h. refl {a = true}), ((record { fill = λ o. int_type; instance = ((λ v. Var v), (λ v h. refl {a = Var v}), refl {a = Arrow int_type bool_type}) }), ((λ h. refl {a = Arrow int_type bool_type}), ((tt), ((((refl {a = false}, tt), (refl {a = false}, tt))), ((λ h. refl {a = true}), ((record { fill = λ o. int_type; instance = ((λ v. Var v), (λ v h. refl {a = Var v}), refl {a = Arrow int_type bool_type}) }), ((λ h. absurd (no_yes h)), ((refl {a = bool_type}), ((tt), (((((refl {a = false}, tt), (refl {a = false}, tt)), (refl {a = false}, tt))), ((λ h. refl {a = true}), ((λ h. refl {a = Arrow (Arrow int_type bool_type) (bool_type)}), (((((refl {a = true}, tt), (refl {a = true}, tt)), (refl {a = true}, tt))), tt))))))))))))))))))))))) })
 
 -- and none for the one that is refused
-refused_4 : HasTyping built_in_names self_application_tree (up_to self_application_asked self_application_kept (site (first 4) 1)) → ⊥
+refused_4 : IsMetUpTo built_in_names self_application_tree (up_to self_application_asked self_application_kept (site (first 4) 1)) (site (first 4) 1) → ⊥
 unfolding constant_by pattern_row expression_row type_row module_expression_row module_type_row item_row signature_item_row
 refused_4 t =
-    let h = t.1.holds in let at : ℕ → Typ = t.1.choice.type_at in no_self_application (at (first 3)) (at (first 5)) (at (first 6)) (t.1.choice.letter (first 4) 0) (t.1.choice.letter (first 4) 1) (use_of_one (at (first 3)) (at (first 5)) h.1.1.1.0 h.1.1.1.1.1.1.1.1.1.1.0) (use_of_one (at (first 3)) (at (first 6)) h.1.1.1.0 h.1.1.1.1.1.1.1.1.1.1.1.1.1.1.1.0) (h.1.1.1.1.1.1.1.1.1.1.1.0 refl) (h.1.1.1.1.1.1.1.1.1.1.1.1.1.1.1.1.0 refl)
+    let h = t.holds in let at : ℕ → Typ = t.choice.type_at in no_self_application (at (first 3)) (at (first 5)) (at (first 6)) (t.choice.letter (first 4) 0) (t.choice.letter (first 4) 1) (use_of_one (at (first 3)) (at (first 5)) h.1.1.1.0 h.1.1.1.1.1.1.1.1.1.1.0) (use_of_one (at (first 3)) (at (first 6)) h.1.1.1.0 h.1.1.1.1.1.1.1.1.1.1.1.1.1.1.1.0) (h.1.1.1.1.1.1.1.1.1.1.1.0 refl) (h.1.1.1.1.1.1.1.1.1.1.1.1.1.1.1.1.0 refl)
 
 -- the kept demands
 pub kept_ones : IsKept built_in_names (parsed self_application) (kept_at self_application_kept)

@@ -10,7 +10,7 @@ use Rattle.signature_model.specs.Matching as matching
 use Rattle.typing_model.specs.BuiltIns.{built_in_names, list_type}
 use Rattle.typing_model.specs.Contexts.{Choice}
 use Rattle.typing_model.specs.Demands.{Site, site, equal, environment_of}
-use Rattle.typing_model.specs.Typings.{conditions_of, conditions_before, body_at, no_choice, demands_of, HasTyping, IsKept, IsMostGeneralChoice}
+use Rattle.typing_model.specs.Typings.{conditions_of, conditions_before, body_at, no_choice, demands_of, HasTyping, IsMetUpTo, IsKept, IsMostGeneralChoice}
 use Rattle.typing_model.specs.Faults.{Differ, IsCycle, IsFaultAt, types_differ, plain, apart, by_types}
 use Rattle.model_checks.specs.Typings.{first, second, third, fourth, fifth}
 use Rattle.model_checks.specs.Kept.{kept_at, two_of_one_kept}
@@ -180,11 +180,11 @@ are_two : of_second ≡ of_first → ⊥
 are_two e = no_yes (ap is_of_first e)
 
 -- no typing for the one that is refused
-refused : HasTyping built_in_names two_of_one_tree (up_to two_of_one_asked two_of_one_kept (site (fifth 3) 0)) → ⊥
+refused : IsMetUpTo built_in_names two_of_one_tree (up_to two_of_one_asked two_of_one_kept (site (fifth 3) 0)) (site (fifth 3) 0) → ⊥
 unfolding constant_by pattern_row expression_row type_expressions.type_row module_expression_row module_type_row item_row signature_item_row
 refused t =
-    let h = t.1.holds in
-    let at : ℕ → Typ = t.1.choice.type_at in
+    let h = t.holds in
+    let at : ℕ → Typ = t.choice.type_at in
     let one : at (fifth 4) ≡ of_first = h.1.1.1.1.1.1.1.1.1.1.1.1.1.1.1.1.1.1.1.1.1.1.1.1.1.1.1.1.1.1.1.1.1.1.1.1.1.1.1.0 in
     let other : at (fifth 5) ≡ of_second = h.1.1.1.1.1.1.1.1.1.1.1.1.1.1.1.1.1.1.1.1.1.1.1.1.1.1.1.1.1.1.1.1.1.1.1.1.1.1.1.1.1.1.1.1.0 in
     let both : at (fifth 5) ≡ at (fifth 4) = h.1.1.1.1.1.1.1.1.1.1.1.1.1.1.1.1.1.1.1.1.1.1.1.1.1.1.1.1.1.1.1.1.1.1.1.1.1.1.1.1.1.1.1.1.1.0 refl in

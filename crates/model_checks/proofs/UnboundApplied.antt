@@ -5,7 +5,7 @@ use Rattle.tree_model.specs.Extents.{node_over}
 use Rattle.typing_model.specs.BuiltIns.{built_in_names, int_type}
 use Rattle.typing_model.specs.Contexts.{Choice}
 use Rattle.typing_model.specs.Demands.{Site, site}
-use Rattle.typing_model.specs.Typings.{conditions_of, no_choice, demands_of, HasTyping, IsKept}
+use Rattle.typing_model.specs.Typings.{conditions_of, no_choice, demands_of, HasTyping, IsMetUpTo, IsKept}
 use Rattle.model_checks.specs.Typings.{first}
 use Rattle.model_checks.specs.Kept.{kept_at, unbound_applied_kept}
 use Rattle.model_checks.specs.Open.{open_choice}
@@ -66,9 +66,9 @@ unfolding constant_by pattern_row expression_row type_row module_expression_row 
 typed_2 = (choice.type_at, record { choice = choice; chosen = λ n. refl; holds = (tt, (tt, (tt, ((refl {a = false}, tt), (tt, ((refl {a = false}, tt), ((λ h. absurd (no_yes h)), (tt, ((refl {a = false}, tt), ((λ h. refl {a = true}), ((refl {a = int_type}), ((refl {a = int_type}), ((refl {a = int_type}), (tt, ((refl {a = false}, tt), ((λ h. refl {a = true}), ((λ h. refl {a = int_type}), ((refl {a = true}, tt), tt)))))))))))))))))) })
 
 -- and none for the one that is refused
-refused : HasTyping built_in_names unbound_applied_tree (up_to unbound_applied_asked unbound_applied_kept (site (first 3) 0)) → ⊥
+refused : IsMetUpTo built_in_names unbound_applied_tree (up_to unbound_applied_asked unbound_applied_kept (site (first 3) 0)) (site (first 3) 0) → ⊥
 unfolding constant_by pattern_row expression_row type_row module_expression_row module_type_row item_row signature_item_row
-refused t = no_yes (t.1.holds.1.1.1.1.1.1.0 refl)
+refused t = no_yes (t.holds.1.1.1.1.1.1.0 refl)
 
 -- the kept demands
 pub kept_ones : IsKept built_in_names (parsed unbound_applied) (kept_at unbound_applied_kept)

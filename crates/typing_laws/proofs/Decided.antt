@@ -6,7 +6,7 @@ use Rattle.tree_model.specs.Trees.{Tree}
 use Rattle.signature_model.specs.Signatures.{Signature}
 use Rattle.signature_model.specs.Entries.{Environment}
 use Rattle.typing_model.specs.Demands.{Site, same_site, Demand, equal, test, agrees, matches, closes, Condition, demand, sites_of}
-use Rattle.typing_model.specs.Typings.{conditions_of, no_choice, demands_of, is_site_among, sites_before, kept_before, kept_with, body_in, body_at, is_closing, HasTyping, IsKept}
+use Rattle.typing_model.specs.Typings.{conditions_of, no_choice, demands_of, is_site_among, sites_before, kept_before, kept_with, body_in, body_at, is_closing, IsMetUpTo, IsKept}
 use Rattle.typing_laws.proofs.Bools.{no_yes, and_both}
 use Rattle.typing_laws.proofs.Together.{Kept, is_end, Together, at_end, at_demand, at_same, at_instance, at_made, at_known, at_treated}
 use Rattle.typing_laws.proofs.SteadyTexts.{text_together}
@@ -16,12 +16,12 @@ both_keep : (env : Environment) (text : List Tree) (kept others : Site → Bool)
     is_closing env text others s ≡ false → ((x : Site) → kept_before env text kept s x ≡ kept_before env text others s x) → kept s ≡ true → others s ≡ true
 both_keep env text kept others s k o i c same h = by (others s) refl
   where
-    typed : HasTyping env text (kept_with env text others s)
-    typed = subst (HasTyping env text) (fun_ext (λ x. ap (λ b. same_site s x || b) (same x))) (k.exists s h)
+    met : IsMetUpTo env text (kept_with env text others s) s
+    met = subst (λ m. IsMetUpTo env text m s) (fun_ext (λ x. ap (λ b. same_site s x || b) (same x))) (k.exists s h)
 
     by : (b : Bool) → others s ≡ b → others s ≡ true
     by true e = e
-    by false e = absurd (o.fails s i c e typed)
+    by false e = absurd (o.fails s i c e met)
 
 -- two tests of which each holds where the other does
 alike : (a b : Bool) → (a ≡ true → b ≡ true) → (b ≡ true → a ≡ true) → a ≡ b

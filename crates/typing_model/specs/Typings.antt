@@ -85,6 +85,21 @@ conditions_before x (known t ∷ cs) = known t ∷ conditions_before x cs
 conditions_before x (demand s at d ∷ cs) = elim (same_site x s) [ true ↦ [] | false ↦ demand s at d ∷ conditions_before x cs ]
 conditions_before x (treated n env ∷ cs) = treated n env ∷ conditions_before x cs
 
+-- the conditions up to the demand of a site, and that demand; all of them where it isn't made
+abbrev pub conditions_up_to : Site → List Condition → List Condition
+conditions_up_to x [] = []
+conditions_up_to x (same t u ∷ cs) = same t u ∷ conditions_up_to x cs
+conditions_up_to x (instance s t ∷ cs) = instance s t ∷ conditions_up_to x cs
+conditions_up_to x (made n t ∷ cs) = made n t ∷ conditions_up_to x cs
+conditions_up_to x (known t ∷ cs) = known t ∷ conditions_up_to x cs
+conditions_up_to x (demand s at d ∷ cs) = demand s at d ∷ elim (same_site x s) [ true ↦ [] | false ↦ conditions_up_to x cs ]
+conditions_up_to x (treated n env ∷ cs) = treated n env ∷ conditions_up_to x cs
+
+-- some types meet the conditions of a text up to a demand, and the demand, under these kept demands; what stands after it may ask for other things
+pub record IsMetUpTo (env : Environment) (text : List Tree) (kept : Site → Bool) (s : Site) : Type 0 where
+  pub choice : Choice
+  pub holds : AllHold kept (conditions_up_to s (conditions_of env text kept choice))
+
 -- the body of a `closing`, and its environment
 abbrev pub body_in : Demand → Option (Environment × Signature)
 body_in (equal t u) = None
@@ -112,11 +127,12 @@ pub record IsBody (env : Environment) (text : List Tree) (kept : Site → Bool) 
   pub general : IsMostGeneralChoice (kept_before env text kept s) (λ choice. conditions_before s (conditions_of env text (kept_before env text kept s) choice)) choice
   pub stands : body_at s (conditions_of env text (kept_before env text kept s) choice) ≡ Some (outer, body)
 
--- the kept demands of a text: each one with which a typing exists beside those kept before it, and each `closing` whose body leaves nothing open
+-- The kept demands of a text: a demand is kept exactly where some types meet the conditions of the text up to it, under the demands kept before it and itself;
+-- but a `closing`, which asks nothing of the types, is kept exactly where its body leaves nothing open.
 pub record IsKept (env : Environment) (text : List Tree) (kept : Site → Bool) : Type 0 where
   pub only : (s : Site) → kept s ≡ true → is_site_among s (demands_of env text kept) ≡ true
-  pub exists : (s : Site) → kept s ≡ true → HasTyping env text (kept_with env text kept s)
-  pub fails : (s : Site) → is_site_among s (demands_of env text kept) ≡ true → is_closing env text kept s ≡ false → kept s ≡ false → HasTyping env text (kept_with env text kept s) → ⊥
+  pub exists : (s : Site) → kept s ≡ true → IsMetUpTo env text (kept_with env text kept s) s
+  pub fails : (s : Site) → is_site_among s (demands_of env text kept) ≡ true → is_closing env text kept s ≡ false → kept s ≡ false → IsMetUpTo env text (kept_with env text kept s) s → ⊥
   pub closed : (s : Site) → is_closing env text kept s ≡ true → kept s ≡ true → (outer : Environment) × (body : Signature) × IsBody env text kept s outer body × IsClosed outer body
   pub left_open : (s : Site) → is_site_among s (demands_of env text kept) ≡ true → is_closing env text kept s ≡ true → kept s ≡ false →
       (outer : Environment) × (body : Signature) × IsBody env text kept s outer body × (v : ℕ) × (free_in_signature v body ≡ true) × (free_in v outer ≡ false)

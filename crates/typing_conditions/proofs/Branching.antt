@@ -1,0 +1,71 @@
+-- Conditions that depend on which demands before them are kept.
+use Rattle.std.proofs.Common.{◌≡◌, ◌++◌, ◌⊎◌, inl, inr, ℕ, ◌+◌, ◌≤◌, Bool, false, if◌then◌else◌, List, [], ◌∷◌, take, length, sym, ap, subst, ◌∙◌}
+use Rattle.std.proofs.lemmas.List.{take-append-le}
+use Rattle.std.proofs.Math.Seq.{take-append-add}
+use Rattle.typing_model.specs.Demands.{Site, Condition, AllHold}
+use Rattle.typing_model.specs.Contexts.{Context}
+use Rattle.type_nodes.specs.Readings.{Types}
+use Rattle.typing_conditions.specs.Sights.{Sight, Letters}
+use Rattle.typing_conditions.specs.Frames.{Frame}
+use Rattle.typing_conditions.specs.Judging.{judgements, AreKept, FallsShort, Meets}
+use Rattle.typing_conditions.specs.Carrying.{Asks, Scope, Enters, Continues, Carried}
+use Rattle.typing_conditions.proofs.Judged.{hold_left, judged_both, judged_kept, kept_left, short_left, short_of_more, starts_left}
+use Rattle.typing_conditions.proofs.Carried.{Decides, carried_trans, less_or_more}
+
+-- What is asked after some conditions may depend on how those are judged: `actual` is what it is under these judgements.
+pub carried_then : {F : Frame} {scope : Scope} {asks further actual : Asks} {a b d : Sight} {G H K : Letters} (p : Carried F scope asks a G b H) → ((c : Context) → AreKept c.kept p.judged → further c ≡ actual c) →
+    Carried F scope actual b H d K → Carried F scope (λ c. asks c ++ further c) a G d K
+unfolding carried_trans
+carried_then {F} {scope} {asks} {further} {actual} {a} {b} {d} {G} {H} {K} p by_kept q = record {
+  stays = both.stays;
+  hidden = both.hidden;
+  judged = both.judged;
+  told = both.told;
+  reports = both.reports;
+  sound = λ V c l. subst (λ cs. Meets c.kept (asks c ++ cs) both.judged both.told) (sym (by_kept c (kept_left c.kept p.judged q.judged l.kept))) (both.sound V c l);
+  complete = complete;
+  first = λ k V c e h. first_of k V c e h (less_or_more k (length (asks c)));
+}
+  where
+    both : Carried F scope (λ c. asks c ++ actual c) a G d K
+    both = carried_trans p q
+
+    -- where the first conditions are judged as they were, what is asked after them is this
+    here : (V : Types) (c : Context) → Continues F asks a b H p.judged V c → further c ≡ actual c
+    here V c goes = by_kept c (subst (AreKept c.kept) goes.same (judged_kept c.kept (asks c)))
+
+    short_in_first : (c : Context) (cs : List Condition) → FallsShort (judgements c.kept (asks c)) p.judged → FallsShort (judgements c.kept (asks c ++ cs)) both.judged
+    short_in_first c cs short = subst (λ js. FallsShort js both.judged) (sym (judged_both c.kept (asks c) cs)) (short_left (judgements c.kept (asks c)) p.judged (judgements c.kept cs) q.judged short)
+
+    complete : (V : Types) (c : Context) → Enters F scope a G V c → AllHold c.kept (asks c ++ further c) → Continues F (λ x. asks x ++ further x) a d K both.judged V c ⊎ FallsShort (judgements c.kept (asks c ++ further c)) both.judged
+    complete V c e h = elim (p.complete V c e (hold_left c.kept (asks c) (further c) h)) [
+      | inl goes ↦
+          let eq = here V c goes in
+          elim (both.complete V c e (subst (λ cs. AllHold c.kept (asks c ++ cs)) eq h)) [
+            | inl on ↦ inl (record { same = ap (λ cs. judgements c.kept (asks c ++ cs)) eq ∙ on.same; types = on.types; on = on.on })
+            | inr short ↦ inr (subst (λ cs. FallsShort (judgements c.kept (asks c ++ cs)) both.judged) (sym eq) short)
+          ]
+      | inr short ↦ inr (short_in_first c (further c) short)
+    ]
+
+    first_of : (k : ℕ) (V : Types) (c : Context) → Enters F scope a G V c → AllHold c.kept (take k (asks c ++ further c)) → (k ≤ length (asks c)) ⊎ ((n : ℕ) × (k ≡ length (asks c) + n)) → Decides c both.judged (take k (asks c ++ further c))
+    first_of k V c e h (inl le) =
+        let at = take-append-le k (asks c) (further c) le in
+        subst (Decides c both.judged) (sym at) (elim (p.first k V c e (subst (AllHold c.kept) at h)) [
+          | inl starts ↦ inl (starts_left p.judged (judgements c.kept (take k (asks c))) q.judged starts)
+          | inr short ↦ inr (short_of_more (judgements c.kept (take k (asks c))) p.judged q.judged short)
+        ])
+    first_of k V c e h (inr (n, more)) =
+        let at = ap (λ i. take i (asks c ++ further c)) more ∙ take-append-add (asks c) (further c) n in
+        elim (p.complete V c e (hold_left c.kept (asks c) (take n (further c)) (subst (AllHold c.kept) at h))) [
+          | inl goes ↦
+              let eq = here V c goes in
+              subst (λ cs. Decides c both.judged (take k (asks c ++ cs))) (sym eq) (both.first k V c e (subst (λ cs. AllHold c.kept (take k (asks c ++ cs))) eq h))
+          | inr short ↦ subst (Decides c both.judged) (sym at) (inr (short_in_first c (take n (further c)) short))
+        ]
+
+-- after one demand: what is asked where it is kept, or what is asked where it isn't
+pub carried_if : {F : Frame} {scope : Scope} {asks : Asks} {a b d : Sight} {G H K : Letters} (kept_so other : Asks) (s : Site) (v : Bool) (p : Carried F scope asks a G b H) → p.judged ≡ (s, v, false) ∷ [] →
+    Carried F scope (λ c. if v then kept_so c else other c) b H d K → Carried F scope (λ c. asks c ++ (if c.kept s then kept_so c else other c)) a G d K
+carried_if kept_so other s v p one q =
+    carried_then p (λ c k. let h : AreKept c.kept ((s, v, false) ∷ []) = subst (AreKept c.kept) one k in ap (λ (t : Bool). if t then kept_so c else other c) h.0) q

@@ -1,0 +1,204 @@
+-- What is recorded for a node: its type is that of its row.
+use Rattle.std.proofs.Common.{◌≡◌, ◌∙◌, ◌⊎◌, inl, inr, ℕ, zero, suc, ◌+◌, ◌≤◌, Bool, true, false, ◌&&◌, ◌==◌, if◌then◌else◌, List, [], ◌∷◌, ◌++◌, take, length, refl, sym, ap, subst, arith, append-nil, Some, None}
+use Rattle.std.proofs.lemmas.Bool.{eqb-true}
+use Rattle.std.proofs.lemmas.List.{take-append-le}
+use Rattle.std.proofs.Math.Seq.{take-append-add}
+use Rattle.type_model.specs.Types.{Typ}
+use Rattle.type_model.proofs.Applying.{eqb_same}
+use Rattle.signature_model.specs.Matching.{IsKnown}
+use Rattle.typing_laws.proofs.Bools.{and_cases, and_both}
+use Rattle.typing_model.specs.Demands.{Condition, same, AllHold}
+use Rattle.typing_model.specs.Contexts.{Choice, Context, tell_typed}
+use Rattle.type_nodes.specs.Nodes.{IsNode}
+use Rattle.type_nodes.specs.Readings.{Types, Fits, IsReading}
+use Rattle.level_unify.specs.Solutions.{Loose}
+use Rattle.level_unify.proofs.Unified.{fits_loosely}
+use Rattle.typing_environments.specs.Locals.{IsOwn, Refines}
+use Rattle.typing_environments.proofs.Steps.{refines_none}
+use Rattle.typing_conditions.specs.Sights.{Sight, number_in, Letters, AreNodes, Agrees}
+use Rattle.typing_conditions.specs.Frames.{Frame, Reaches}
+use Rattle.typing_conditions.specs.Judging.{judgements, StartsWith, FallsShort, TellAll, Meets}
+use Rattle.typing_conditions.specs.Steps.{Records}
+use Rattle.typing_conditions.specs.Carrying.{Asks, Scope, Enters, ReadsOff, GoesOn, Stays, Continues, Carried, CarriedTo}
+use Rattle.typing_conditions.proofs.Judged.{hold_both, hold_left, hold_right, judged_both, given_left, given_right, given_both, tell_both, starts_all}
+use Rattle.typing_conditions.proofs.Stays.{stays_trans, stays_closed}
+use Rattle.typing_conditions.proofs.Framing.{open_on, reaches_same, written_next}
+use Rattle.typing_conditions.proofs.Carried.{Decides, take_none, less_or_more}
+use Rattle.typing_conditions.proofs.First.{starts_none}
+
+one_some : (x y : ℕ) → Some x ≡ Some y → x ≡ y
+one_some x y e = cc
+
+-- what is recorded now is the new node, or was recorded before
+now_or_before : {a b : Sight} {p m : ℕ} → Records a b p m → (i q x : ℕ) → b.types i q ≡ Some x → ((a.item ≡ i) × (p ≡ q) × (m ≡ x)) ⊎ (a.types i q ≡ Some x)
+now_or_before {a} {b} {p} {m} r i q x e = at (a.item == i && p == q) refl
+  where
+    at : (t : Bool) → (a.item == i && p == q) ≡ t → ((a.item ≡ i) × (p ≡ q) × (m ≡ x)) ⊎ (a.types i q ≡ Some x)
+    at true f =
+        let both = and_cases (a.item == i) (p == q) f in
+        inl (eqb-true a.item i both.0, eqb-true p q both.1, one_some m x (sym (ap (λ t. if t then Some m else a.types i q) f) ∙ sym (r.types i q) ∙ e))
+    at false f = inr (sym (ap (λ t. if t then Some m else a.types i q) f) ∙ sym (r.types i q) ∙ e)
+
+here_now : {a b : Sight} {p m : ℕ} → Records a b p m → b.types a.item p ≡ Some m
+here_now {a} {b} {p} {m} r = r.types a.item p ∙ ap (λ t. if t then Some m else a.types a.item p) (and_both (a.item == a.item) (p == p) (eqb_same a.item) (eqb_same p))
+
+still_there : {a b : Sight} {p m : ℕ} → Records a b p m → (i q x : ℕ) → a.types i q ≡ Some x → b.types i q ≡ Some x
+still_there {a} {b} {p} {m} r i q x e = at (a.item == i && p == q) refl
+  where
+    at : (t : Bool) → (a.item == i && p == q) ≡ t → b.types i q ≡ Some x
+    at true f =
+        let both = and_cases (a.item == i) (p == q) f in
+        let here : a.types i q ≡ a.types a.item p = (λ k. a.types (sym (eqb-true a.item i both.0) k) (sym (eqb-true p q both.1) k)) in
+        absurd (let none : a.types i q ≡ None = here ∙ r.none in cc)
+    at false f = r.types i q ∙ ap (λ t. if t then Some m else a.types i q) f ∙ e
+
+-- where a node is recorded everything stays
+pub records_stay : {F : Frame} {G : Letters} {a b : Sight} {p m : ℕ} → Records a b p m → IsNode a.nodes m → Stays F a G b G
+records_stay {F} {G} {a} {b} {p} {m} r node = record {
+  longer = let e : length b.nodes ≡ length a.nodes = ap length r.nodes in omega arith;
+  loose = λ V h. subst (λ ns. Loose ns V) r.nodes h;
+  reads = λ V h. subst (λ ns. IsReading ns V) r.nodes h;
+  reaches = reaches;
+  writes = written_next r.written reaches refines;
+  refines = refines;
+  recorded = still_there r;
+  written = λ x n e. r.written x ∙ e;
+  given = λ V ch h. h;
+  inside = λ h. record {
+    recorded = λ i q x e. subst (λ ns. IsNode ns x) (sym r.nodes) (elim (now_or_before r i q x e) [ inl (_, _, one) ↦ subst (IsNode a.nodes) one node | inr f ↦ h.recorded i q x f ]);
+    written = λ x n e. subst (λ ns. IsNode ns n) (sym r.nodes) (h.written x n (sym (r.written x) ∙ e));
+    given = subst (AreNodes G) (sym r.nodes) h.given;
+  };
+  aloud = r.aloud;
+  item = r.item;
+  level = r.level;
+  fixed = r.fixed;
+}
+  where
+    reaches : Reaches F a → Reaches F b
+    reaches = reaches_same r.nodes r.level (λ x n e. r.written x ∙ e)
+
+    refines : Reaches F a → (K : Types) → IsOwn b.nodes K → Refines a.nodes b.nodes K
+    refines reached K own = subst (λ ns. Refines ns b.nodes K) r.nodes (refines_none b.nodes K own)
+
+-- What a row asks at its end so that its node has the row's type; it asks nothing where that is so already.
+pub record EndsAs (n : ℕ) (type : Choice → Typ) (ends : Asks) : Type 0 where
+  pub gives : (c : Context) (t : Typ) → AllHold c.kept (ends c) → type c.chosen ≡ t → c.chosen.type_at n ≡ t
+  pub holds : (c : Context) → c.chosen.type_at n ≡ type c.chosen → AllHold c.kept (ends c)
+  pub silent : (c : Context) → judgements c.kept (ends c) ≡ []
+  pub silent_first : (k : ℕ) (c : Context) → judgements c.kept (take k (ends c)) ≡ []
+  pub reports_none : (c : Context) → TellAll c.kept (ends c) []
+
+-- the node has a type in any case
+pub ends_same : (n : ℕ) (type : Choice → Typ) → EndsAs n type (λ c. same (c.chosen.type_at n) (type c.chosen) ∷ [])
+ends_same n type = record {
+  gives = λ c t h e. h.0 ∙ e;
+  holds = λ c e. (e, tt);
+  silent = λ c. refl;
+  silent_first = first;
+  reports_none = λ c. refl;
+}
+  where
+    first : (k : ℕ) (c : Context) → judgements c.kept (take k (same (c.chosen.type_at n) (type c.chosen) ∷ [])) ≡ []
+    first zero c = refl
+    first (suc k) c = ap (judgements c.kept) (take_none k)
+
+-- the row's type is what the choice has for the node
+pub ends_own : (n : ℕ) → EndsAs n (λ ch. ch.type_at n) (λ c. [])
+ends_own n = record {
+  gives = λ c t h e. e;
+  holds = λ c e. tt;
+  silent = λ c. refl;
+  silent_first = λ k c. ap (judgements c.kept) (take_none k);
+  reports_none = λ c. refl;
+}
+
+-- A whole row: what its node tells first, what it asks, and that its node has its type, where the type is recorded. The row's own letters are hidden then.
+pub row_recorded : {F : Frame} {scope : Scope} {asks ends : Asks} {type : Choice → Typ} {a b d : Sight} {G : Letters} (own : Letters) (n : ℕ) {p m : ℕ} → number_in b.item p ≡ n → CarriedTo F scope asks a G b (own ++ G) type m → EndsAs n type ends →
+    Records b d p m → CarriedTo F scope (λ c. tell_typed n c ++ (asks c ++ ends c)) a G d G (λ ch. ch.type_at n) m
+row_recorded {F} {scope} {asks} {ends} {type} {a} {b} {d} {G} own n {p} {m} number row end r = record {
+  carried = record {
+    stays = stays_closed own (stays_trans it.stays (recorded (own ++ G)));
+    hidden = it.hidden ++ own;
+    judged = it.judged;
+    told = it.told;
+    reports = r.reports ∙ it.reports;
+    sound = sound;
+    complete = complete;
+    first = first;
+  };
+  means = record { open_node = open_on (recorded (own ++ G)) row.means.open_node; is = λ V ch loose g. at_node V ch g };
+}
+  where
+    it : Carried F scope asks a G b (own ++ G)
+    it = row.carried
+
+    recorded : (H : Letters) → Stays F b H d H
+    recorded H = records_stay r row.means.open_node.inside
+
+    at_node : {H : Letters} (V : Types) (ch : Choice) → Agrees F.owner d H V ch → ch.type_at n ≡ V m
+    at_node V ch g = ap ch.type_at (sym number) ∙ g.recorded b.item p m (here_now r)
+
+    sound : (V : Types) (c : Context) → ReadsOff F scope d G (it.hidden ++ own) it.judged V c → Meets c.kept (tell_typed n c ++ (asks c ++ ends c)) it.judged it.told
+    sound V c l =
+        let g : Agrees F.owner b (own ++ G) V c.chosen = record {
+          recorded = λ i q x e. l.agrees.recorded i q x (still_there r i q x e);
+          known = λ i q x e. l.agrees.known i q x (still_there r i q x e);
+          written = λ x y e. l.agrees.written x y (r.written x ∙ e);
+          given = given_both V c.chosen own G (given_right V c.chosen it.hidden own l.hidden_too) l.agrees.given;
+        } in
+        let meets = it.sound V c (record { under = l.under; reads = (recorded G).reads V l.reads; agrees = g; hidden_too = given_left V c.chosen it.hidden own l.hidden_too; kept = l.kept }) in
+        let here = at_node V c.chosen l.agrees in
+        let typed = row.means.is V c.chosen (fits_loosely b.nodes V ((recorded G).reads V l.reads).fits) g in
+        record {
+          same = judged_both c.kept (asks c) (ends c) ∙ ap (λ js. judgements c.kept (asks c) ++ js) (end.silent c) ∙ append-nil (judgements c.kept (asks c)) ∙ meets.same;
+          holds = (tt, (subst IsKnown (sym here) (l.agrees.known b.item p m (here_now r)), hold_both c.kept (asks c) (ends c) meets.holds (end.holds c (here ∙ sym typed))));
+          tells = subst (TellAll c.kept (asks c ++ ends c)) (append-nil it.told) (tell_both c.kept (asks c) (ends c) it.told [] meets.tells (end.reports_none c));
+        }
+
+    goes : (V : Types) (c : Context) → IsKnown (c.chosen.type_at n) → AllHold c.kept (ends c) → (on : Continues F asks a b (own ++ G) it.judged V c) → GoesOn F a d G V on.types c.chosen
+    goes V c is_known h on =
+        let g = on.on.agrees in
+        let here = end.gives c (on.types m) h (row.means.is on.types c.chosen (fits_loosely b.nodes on.types on.on.fits) g) in
+        record {
+          fits = subst (λ ns. Fits ns on.types) (sym r.nodes) on.on.fits;
+          before = on.on.before;
+          agrees = record {
+            recorded = λ i q x f. elim (now_or_before r i q x f) [
+              | inl (item, place, one) ↦ (λ k. c.chosen.type_at (number_in (sym item k) (sym place k))) ∙ ap c.chosen.type_at number ∙ here ∙ ap on.types one
+              | inr h ↦ g.recorded i q x h
+            ];
+            known = λ i q x f. elim (now_or_before r i q x f) [ inl (item, place, one) ↦ subst IsKnown (here ∙ ap on.types one) is_known | inr h ↦ g.known i q x h ];
+            written = λ x y e. g.written x y (sym (r.written x) ∙ e);
+            given = given_right on.types c.chosen own G g.given;
+          };
+        }
+
+    -- with what the row asks at its end nothing more is judged
+    judged_ends : (c : Context) (cs : List Condition) → judgements c.kept cs ≡ [] → judgements c.kept (asks c ++ cs) ≡ judgements c.kept (asks c)
+    judged_ends c cs e = judged_both c.kept (asks c) cs ∙ ap (λ js. judgements c.kept (asks c) ++ js) e ∙ append-nil (judgements c.kept (asks c))
+
+    complete : (V : Types) (c : Context) → Enters F scope a G V c → AllHold c.kept (tell_typed n c ++ (asks c ++ ends c)) →
+        Continues F (λ x. tell_typed n x ++ (asks x ++ ends x)) a d G it.judged V c ⊎ FallsShort (judgements c.kept (asks c ++ ends c)) it.judged
+    complete V c e h = elim (it.complete V c e (hold_left c.kept (asks c) (ends c) h.1.1)) [
+      | inl on ↦ inl (record { same = judged_ends c (ends c) (end.silent c) ∙ on.same; types = on.types; on = goes V c h.1.0 (hold_right c.kept (asks c) (ends c) h.1.1) on })
+      | inr short ↦ inr (subst (λ js. FallsShort js it.judged) (sym (judged_ends c (ends c) (end.silent c))) short)
+    ]
+
+    -- the first of what the row asks, and of its end
+    first_of : (k : ℕ) (V : Types) (c : Context) → Enters F scope a G V c → AllHold c.kept (take k (asks c ++ ends c)) → (k ≤ length (asks c)) ⊎ ((i : ℕ) × (k ≡ length (asks c) + i)) → Decides c it.judged (take k (asks c ++ ends c))
+    first_of k V c e h (inl le) =
+        let here = take-append-le k (asks c) (ends c) le in
+        subst (Decides c it.judged) (sym here) (it.first k V c e (subst (AllHold c.kept) here h))
+    first_of k V c e h (inr (i, eq)) =
+        let here = ap (λ j. take j (asks c ++ ends c)) eq ∙ take-append-add (asks c) (ends c) i in
+        let judged = judged_ends c (take i (ends c)) (end.silent_first i c) in
+        subst (Decides c it.judged) (sym here) (elim (it.complete V c e (hold_left c.kept (asks c) (take i (ends c)) (subst (AllHold c.kept) here h))) [
+          | inl on ↦ inl (subst (StartsWith it.judged) (sym (judged ∙ on.same)) (starts_all it.judged))
+          | inr short ↦ inr (subst (λ js. FallsShort js it.judged) (sym judged) short)
+        ])
+
+    first : (k : ℕ) (V : Types) (c : Context) → Enters F scope a G V c → AllHold c.kept (take k (tell_typed n c ++ (asks c ++ ends c))) → Decides c it.judged (take k (tell_typed n c ++ (asks c ++ ends c)))
+    first zero V c e h = inl (starts_none it.judged)
+    first (suc zero) V c e h = inl (starts_none it.judged)
+    first (suc (suc k)) V c e h = first_of k V c e h.1.1 (less_or_more k (length (asks c)))

@@ -1,0 +1,114 @@
+-- Demands whose truth the types don't decide: tests of names, and that a body closes.
+use Rattle.std.proofs.Common.{◌≡◌, ◌≢◌, ◌∙◌, ◌⊎◌, inl, inr, Bool, true, false, List, [], ◌∷◌, refl, sym, ap, subst, append-nil}
+use Rattle.tree_model.specs.Trees.{Place}
+use Rattle.signature_model.specs.Entries.{Environment}
+use Rattle.signature_model.specs.Signatures.{Signature}
+use Rattle.typing_model.specs.Demands.{Site, test, closes, Complaint, demand, AllHold}
+use Rattle.typing_model.specs.Contexts.{Context}
+use Rattle.type_nodes.specs.Readings.{Types}
+use Rattle.env_table.specs.declared.faults.FaultKind.{FaultKind}
+use Rattle.env_table.specs.declared.faults.FaultKind.TheVariants as fault
+use Rattle.typing_conditions.specs.Sights.{Sight, Letters}
+use Rattle.typing_conditions.specs.Frames.{Frame}
+use Rattle.typing_conditions.specs.Judging.{Judgement, FallsShort, TellBy, kind_of}
+use Rattle.typing_conditions.specs.Steps.{OnlyReports, IsTold}
+use Rattle.typing_conditions.specs.Carrying.{Scope, IsUnder, Enters, Continues, Carried}
+use Rattle.typing_conditions.proofs.First.{first_one}
+use Rattle.typing_conditions.proofs.Equals.{reports_stay, goes_as, judged_as, falls_short, not_both}
+
+-- what a test is in the contexts of a scope: whether it holds, where it is reported, and as which kind of fault
+pub record TestIs (scope : Scope) (complaint : Context → Complaint) (holds : Context → Bool) (at : Context → Place) (v : Bool) (place : Place) (kind : FaultKind) : Type 0 where
+  pub truth : (c : Context) → IsUnder scope c → holds c ≡ v
+  pub here : (c : Context) → IsUnder scope c → at c ≡ place
+  pub is_kind : (c : Context) → IsUnder scope c → kind_of (complaint c) ≡ kind
+
+-- a test of names that holds or doesn't, whatever the types
+pub test_judged : {F : Frame} {scope : Scope} {G : Letters} {complaint : Context → Complaint} {holds : Context → Bool} {at : Context → Place} {kind : FaultKind} {place : Place} {a b : Sight} (s : Site) (v : Bool) →
+    TestIs scope complaint holds at v place kind → OnlyReports a b → IsTold a b place kind v → Carried F scope (λ c. demand s (at c) (test (complaint c) (holds c)) ∷ []) a G b G
+test_judged {F} {scope} {G} {complaint} {holds} {at} {kind} {place} {a} {b} s true is rest tells = record {
+  stays = reports_stay rest;
+  hidden = [];
+  judged = judged_as s true;
+  told = [];
+  reports = tells ∙ sym (append-nil a.reports);
+  sound = λ V c l. record {
+    same = ap (judged_as s) l.kept.0;
+    holds = ((λ kept. is.truth c l.under), tt);
+    tells = subst (λ t. TellBy t (at c) (test (complaint c) (holds c)) (λ later. later ≡ []) []) (sym l.kept.0) refl;
+  };
+  complete = λ V c e h. by V c e (c.kept s) refl;
+  first = first_one (λ c. demand s (at c) (test (complaint c) (holds c))) (λ V c e h. by V c e (c.kept s) refl);
+}
+  where
+    by : (V : Types) (c : Context) → Enters F scope a G V c → (t : Bool) → c.kept s ≡ t →
+        Continues F (λ c. demand s (at c) (test (complaint c) (holds c)) ∷ []) a b G (judged_as s true) V c ⊎ FallsShort (judged_as s (c.kept s)) (judged_as s true)
+    by V c e true k = inl (record { same = ap (judged_as s) k; types = V; on = goes_as rest e })
+    by V c e false k = inr (falls_short s k)
+test_judged {F} {scope} {G} {complaint} {holds} {at} {kind} {place} {a} {b} s false is rest tells = record {
+  stays = reports_stay rest;
+  hidden = [];
+  judged = judged_as s false;
+  told = tells.report ∷ [];
+  reports = tells.reports;
+  sound = λ V c l. record {
+    same = ap (judged_as s) l.kept.0;
+    holds = ((λ kept. absurd (not_both l.kept.0 kept)), tt);
+    tells = subst (λ t. TellBy t (at c) (test (complaint c) (holds c)) (λ later. later ≡ []) (tells.report ∷ [])) (sym l.kept.0)
+        (tells.report, [], refl, record { place = tells.place ∙ sym (is.here c l.under); kind = tells.is_kind ∙ sym (is.is_kind c l.under) }, refl);
+  };
+  complete = λ V c e h. by V c e h.0 (c.kept s) refl;
+  first = first_one (λ c. demand s (at c) (test (complaint c) (holds c))) (λ V c e h. by V c e h.0 (c.kept s) refl);
+}
+  where
+    by : (V : Types) (c : Context) → Enters F scope a G V c → (c.kept s ≡ true → holds c ≡ true) → (t : Bool) → c.kept s ≡ t →
+        Continues F (λ c. demand s (at c) (test (complaint c) (holds c)) ∷ []) a b G (judged_as s false) V c ⊎ FallsShort (judged_as s (c.kept s)) (judged_as s false)
+    by V c e h true k = absurd (not_both (is.truth c e.under) (h k))
+    by V c e h false k = inl (record { same = ap (judged_as s) k; types = V; on = goes_as rest e })
+
+-- the demand of a closing, as it is judged
+abbrev pub closing_as : Site → Bool → List Judgement
+closing_as s t = (s, t, true) ∷ []
+
+same_or_not : (t v : Bool) → (t ≡ v) ⊎ (t ≢ v)
+same_or_not true true = inl refl
+same_or_not true false = inr (λ e. cc)
+same_or_not false true = inr (λ e. cc)
+same_or_not false false = inl refl
+
+-- The demand that a body closes asks nothing of the types: it is judged and reported, and no choice decides it.
+pub closing_judged : {F : Frame} {scope : Scope} {G : Letters} {env : Context → Environment} {body : Context → Signature} {a b : Sight} (s : Site) (at : Place) (v : Bool) → OnlyReports a b → IsTold a b at fault.Closing v →
+    Carried F scope (λ c. demand s at (closes (env c) (body c)) ∷ []) a G b G
+closing_judged {F} {scope} {G} {env} {body} {a} {b} s at v rest tells = by v tells
+  where
+    complete : (v : Bool) (V : Types) (c : Context) → Enters F scope a G V c → AllHold c.kept (demand s at (closes (env c) (body c)) ∷ []) →
+        Continues F (λ c. demand s at (closes (env c) (body c)) ∷ []) a b G (closing_as s v) V c ⊎ FallsShort (closing_as s (c.kept s)) (closing_as s v)
+    complete v V c e h = elim (same_or_not (c.kept s) v) [
+      | inl one ↦ inl (record { same = ap (closing_as s) one; types = V; on = goes_as rest e })
+      | inr other ↦ inr (record { before = []; site = s; mine = c.kept s; theirs = v; closing = true; left = []; right = []; short = refl; full = refl; why = inr (refl, other) })
+    ]
+
+    by : (v : Bool) → IsTold a b at fault.Closing v → Carried F scope (λ c. demand s at (closes (env c) (body c)) ∷ []) a G b G
+    by true tells = record {
+      stays = reports_stay rest;
+      hidden = [];
+      judged = closing_as s true;
+      told = [];
+      reports = tells ∙ sym (append-nil a.reports);
+      sound = λ V c l. record { same = ap (closing_as s) l.kept.0; holds = ((λ kept. tt), tt); tells = subst (λ t. TellBy t at (closes (env c) (body c)) (λ later. later ≡ []) []) (sym l.kept.0) refl };
+      complete = complete true;
+      first = first_one (λ c. demand s at (closes (env c) (body c))) (complete true);
+    }
+    by false tells = record {
+      stays = reports_stay rest;
+      hidden = [];
+      judged = closing_as s false;
+      told = tells.report ∷ [];
+      reports = tells.reports;
+      sound = λ V c l. record {
+        same = ap (closing_as s) l.kept.0;
+        holds = ((λ kept. tt), tt);
+        tells = subst (λ t. TellBy t at (closes (env c) (body c)) (λ later. later ≡ []) (tells.report ∷ [])) (sym l.kept.0) (tells.report, [], refl, record { place = tells.place; kind = tells.is_kind }, refl);
+      };
+      complete = complete false;
+      first = first_one (λ c. demand s at (closes (env c) (body c))) (complete false);
+    }

@@ -1,0 +1,95 @@
+-- What a call carries from one state to another: the conditions of what it types.
+use Rattle.std.specs.Prelude.{◌≡◌, ◌⊎◌, ℕ, ◌≤◌, List, ◌++◌, length, take, Some}
+use Rattle.type_model.specs.Types.{Typ}
+use Rattle.signature_model.specs.Declarations.{Name}
+use Rattle.signature_model.specs.Entries.{Environment}
+use Rattle.typing_model.specs.Demands.{Condition, AllHold}
+use Rattle.typing_model.specs.Contexts.{Choice, Variables, Context}
+use Rattle.type_nodes.specs.Readings.{Types, Fits, IsReading}
+use Rattle.level_unify.specs.Solutions.{Loose}
+use Rattle.typing_environments.specs.Locals.{IsOwn, Refines}
+use Rattle.typing_conditions.specs.Sights.{Report, Sight, Letters, AreGiven, Agrees, IsInside, SameAt}
+use Rattle.typing_conditions.specs.Frames.{Frame, Reaches}
+use Rattle.typing_conditions.specs.Meanings.{Means, KnowsWritten}
+use Rattle.typing_conditions.specs.Judging.{Judgement, judgements, AreKept, StartsWith, FallsShort, Meets}
+
+-- what a part asks, by the context in which it stands
+abbrev pub Asks : Type 0
+Asks = Context → List Condition
+
+-- the context in which a part stands, as far as the kept demands don't decide it: the environment by what is chosen, and the type variables
+pub record Scope : Type 0 where
+  pub env : Choice → Environment
+  pub variables : Variables
+  pub held : List Name
+
+-- a context is one of a scope
+pub record IsUnder (scope : Scope) (c : Context) : Type 0 where
+  pub env : c.env ≡ scope.env c.chosen
+  pub variables : c.variables ≡ scope.variables
+  pub held : c.held ≡ scope.held
+
+-- types with which a choice enters a state: they fit, and the choice agrees with what there is
+pub record Enters (F : Frame) (scope : Scope) (a : Sight) (G : Letters) (V : Types) (c : Context) : Type 0 where
+  pub under : IsUnder scope c
+  pub inside : IsInside a G
+  pub fits : Fits a.nodes V
+  pub agrees : Agrees F.owner a G V c.chosen
+
+-- types with which a choice is read off a state, under the demands that were kept
+pub record ReadsOff (F : Frame) (scope : Scope) (b : Sight) (G hidden : Letters) (judged : List Judgement) (V : Types) (c : Context) : Type 0 where
+  pub under : IsUnder scope c
+  pub reads : IsReading b.nodes V
+  pub agrees : Agrees F.owner b G V c.chosen
+  pub hidden_too : AreGiven hidden V c.chosen
+  pub kept : AreKept c.kept judged
+
+-- types go on: they fit what there is now, are as before at the nodes from before, and are those of the choice at what is recorded and given
+pub record GoesOn (F : Frame) (a b : Sight) (G : Letters) (V W : Types) (ch : Choice) : Type 0 where
+  pub fits : Fits b.nodes W
+  pub before : SameAt a.nodes V W
+  pub agrees : Agrees F.owner b G W ch
+
+-- What is made and recorded stays, and is read as before; and typing that reached the state before in a frame reaches the one after.
+pub record Stays (F : Frame) (a : Sight) (G : Letters) (b : Sight) (G' : Letters) : Type 0 where
+  pub longer : length a.nodes ≤ length b.nodes
+  pub loose : (V : Types) → Loose b.nodes V → Loose a.nodes V
+  pub reads : (V : Types) → IsReading b.nodes V → IsReading a.nodes V
+  pub refines : Reaches F a → (K : Types) → IsOwn b.nodes K → Refines a.nodes b.nodes K
+  pub reaches : Reaches F a → Reaches F b
+  pub writes : KnowsWritten F a → KnowsWritten F b
+  pub recorded : (i p m : ℕ) → a.types i p ≡ Some m → b.types i p ≡ Some m
+  pub written : (x : Name) (m : ℕ) → a.written x ≡ Some m → b.written x ≡ Some m
+  pub given : (V : Types) (ch : Choice) → AreGiven G' V ch → AreGiven G V ch
+  pub inside : IsInside a G → IsInside b G'
+  pub aloud : b.aloud ≡ a.aloud
+  pub item : b.item ≡ a.item
+  pub level : b.level ≡ a.level
+  pub fixed : b.fixed ≡ a.fixed
+
+-- the demands are judged as they were, and the types go on
+pub record Continues (F : Frame) (asks : Asks) (a b : Sight) (G : Letters) (judged : List Judgement) (V : Types) (c : Context) : Type 0 where
+  pub same : judgements c.kept (asks c) ≡ judged
+  pub types : Types
+  pub on : GoesOn F a b G V types c.chosen
+
+-- What conditions ask was done, from one state to another, where the letters G are open before and G' after.
+-- `sound`: each reading of the state after meets the conditions, under the demands that were kept, and what was reported are the others, in order.
+-- `complete`: types that fitted before and meet the conditions, under any set of kept demands, keep the same demands and go on; or they are the first not to
+-- keep one that was kept. So a demand that wasn't kept never is, together with those before it.
+-- `first`: the same of the demands alone for the first conditions, where only they are met.
+pub record Carried (F : Frame) (scope : Scope) (asks : Asks) (a : Sight) (G : Letters) (b : Sight) (G' : Letters) : Type 0 where
+  pub stays : Stays F a G b G'
+  pub hidden : Letters
+  pub judged : List Judgement
+  pub told : List Report
+  pub reports : b.reports ≡ a.reports ++ told
+  pub sound : (V : Types) (c : Context) → ReadsOff F scope b G' hidden judged V c → Meets c.kept (asks c) judged told
+  pub complete : (V : Types) (c : Context) → Enters F scope a G V c → AllHold c.kept (asks c) → Continues F asks a b G' judged V c ⊎ FallsShort (judgements c.kept (asks c)) judged
+  pub first : (k : ℕ) (V : Types) (c : Context) → Enters F scope a G V c → AllHold c.kept (take k (asks c)) →
+      StartsWith judged (judgements c.kept (take k (asks c))) ⊎ FallsShort (judgements c.kept (take k (asks c))) judged
+
+-- conditions are carried, and then a node has a type
+pub record CarriedTo (F : Frame) (scope : Scope) (asks : Asks) (a : Sight) (G : Letters) (b : Sight) (G' : Letters) (type : Choice → Typ) (m : ℕ) : Type 0 where
+  pub carried : Carried F scope asks a G b G'
+  pub means : Means F b G' type m

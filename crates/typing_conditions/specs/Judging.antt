@@ -1,0 +1,102 @@
+-- Which demands are kept, in order, and what is reported of the others.
+use Rattle.std.specs.Prelude.{◌≡◌, ◌≢◌, ◌⊎◌, Bool, true, false, List, [], ◌∷◌, ◌++◌}
+use Rattle.tree_model.specs.Trees.{Place}
+use Rattle.typing_model.specs.Demands.{Site, Demand, equal, test, agrees, matches, closes, Complaint, Condition, same, instance, made, known, demand, treated, AllHold}
+use Rattle.typing_model.specs.Demands as complaint
+use Rattle.env_table.specs.declared.faults.FaultKind.{FaultKind}
+use Rattle.env_table.specs.declared.faults.FaultKind.TheVariants as fault
+use Rattle.typing_conditions.specs.Sights.{Report}
+
+-- a demand by its site, whether it is kept, and whether it is that a body closes
+abbrev pub Judgement : Type 0
+Judgement = Site × Bool × Bool
+
+-- whether a demand is that a body closes, which asks nothing of the types
+abbrev pub is_closing : Demand → Bool
+is_closing (equal t u) = false
+is_closing (test c b) = false
+is_closing (agrees c n s t) = false
+is_closing (matches A t) = false
+is_closing (closes env s) = true
+
+-- what is kept of conditions, in order
+abbrev pub judgements : (Site → Bool) → List Condition → List Judgement
+judgements kept [] = []
+judgements kept (same t u ∷ cs) = judgements kept cs
+judgements kept (instance s t ∷ cs) = judgements kept cs
+judgements kept (made n t ∷ cs) = judgements kept cs
+judgements kept (known t ∷ cs) = judgements kept cs
+judgements kept (demand s at d ∷ cs) = (s, kept s, is_closing d) ∷ judgements kept cs
+judgements kept (treated n env ∷ cs) = judgements kept cs
+
+-- a set of kept demands has these judgements
+abbrev pub AreKept : (Site → Bool) → List Judgement → Type 0
+AreKept kept [] = Unit {0}
+AreKept kept (j ∷ js) = (kept j.0 ≡ j.1) × AreKept kept js
+
+-- the first difference of two lists of judgements: the second list keeps a demand that the first doesn't, or they judge a closing differently
+pub record FallsShort (xs ys : List Judgement) : Type 0 where
+  pub before : List Judgement
+  pub site : Site
+  pub mine : Bool
+  pub theirs : Bool
+  pub closing : Bool
+  pub left : List Judgement
+  pub right : List Judgement
+  pub short : xs ≡ before ++ (site, mine, closing) ∷ left
+  pub full : ys ≡ before ++ (site, theirs, closing) ∷ right
+  pub why : ((mine ≡ false) × (theirs ≡ true)) ⊎ ((closing ≡ true) × (mine ≢ theirs))
+
+-- a list of judgements begins with others
+pub record StartsWith (js first : List Judgement) : Type 0 where
+  pub rest : List Judgement
+  pub split : js ≡ first ++ rest
+
+-- the kind of fault that a complaint is
+abbrev pub kind_of : Complaint → FaultKind
+kind_of (complaint.unbound w x) = fault.Bound
+kind_of (complaint.arity x n m) = fault.Arity
+kind_of complaint.no_label = fault.Label
+kind_of (complaint.not_mutable x) = fault.Mutable
+kind_of (complaint.incomplete x) = fault.Complete
+kind_of (complaint.twice x) = fault.Unique
+kind_of (complaint.one_side x) = fault.Sides
+kind_of complaint.too_large = fault.Range
+kind_of (complaint.cyclic x) = fault.Cycle
+kind_of (complaint.differs x) = fault.Reexport
+kind_of complaint.no_functor = fault.Functor
+kind_of (complaint.no_abstract_type x n) = fault.With
+
+-- the kind of fault of a demand
+abbrev pub kind_of_demand : Demand → FaultKind
+kind_of_demand (equal t u) = fault.Equal
+kind_of_demand (test c b) = kind_of c
+kind_of_demand (agrees c n s t) = kind_of c
+kind_of_demand (matches A t) = fault.Match
+kind_of_demand (closes env s) = fault.Closing
+
+-- a report is that of a demand at a place
+pub record IsOf (at : Place) (d : Demand) (r : Report) : Type 0 where
+  pub place : r.at ≡ at
+  pub kind : r.kind ≡ kind_of_demand d
+
+-- a demand that is kept isn't reported, and one that isn't is reported first; `Rest` is for the reports after it
+abbrev pub TellBy : Bool → Place → Demand → (List Report → Type 0) → List Report → Type 0
+TellBy true at d Rest rs = Rest rs
+TellBy false at d Rest rs = (r : Report) × (later : List Report) × (rs ≡ r ∷ later) × IsOf at d r × Rest later
+
+-- the reports are those of the demands that aren't kept, in order
+abbrev pub TellAll : (Site → Bool) → List Condition → List Report → Type 0
+TellAll kept [] rs = rs ≡ []
+TellAll kept (same t u ∷ cs) rs = TellAll kept cs rs
+TellAll kept (instance s t ∷ cs) rs = TellAll kept cs rs
+TellAll kept (made n t ∷ cs) rs = TellAll kept cs rs
+TellAll kept (known t ∷ cs) rs = TellAll kept cs rs
+TellAll kept (demand s at d ∷ cs) rs = TellBy (kept s) at d (λ later. TellAll kept cs later) rs
+TellAll kept (treated n env ∷ cs) rs = TellAll kept cs rs
+
+-- Conditions are met under a set of kept demands: these are the judgements of their demands, they hold, and exactly the demands that aren't kept are reported.
+pub record Meets (kept : Site → Bool) (cs : List Condition) (judged : List Judgement) (told : List Report) : Type 0 where
+  pub same : judgements kept cs ≡ judged
+  pub holds : AllHold kept cs
+  pub tells : TellAll kept cs told

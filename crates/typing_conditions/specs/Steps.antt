@@ -1,0 +1,73 @@
+-- What single calls do to a state.
+use Rattle.std.specs.Prelude.{◌≡◌, ◌⊎◌, ℕ, ◌&&◌, ◌==◌, Bool, true, false, [], ◌∷◌, ◌++◌, Some, None, if◌then◌else◌}
+use Rattle.tree_model.specs.Trees.{Place}
+use Rattle.signature_model.specs.Declarations.{Name}
+use Rattle.env_table.specs.declared.faults.FaultKind.{FaultKind}
+use Rattle.typing_conditions.specs.Sights.{Report, Sight}
+
+-- only the nodes change
+pub record OnlyNodes (a b : Sight) : Type 0 where
+  pub types : (i p : ℕ) → b.types i p ≡ a.types i p
+  pub written : (x : Name) → b.written x ≡ a.written x
+  pub reports : b.reports ≡ a.reports
+  pub aloud : b.aloud ≡ a.aloud
+  pub item : b.item ≡ a.item
+  pub level : b.level ≡ a.level
+  pub fixed : b.fixed ≡ a.fixed
+
+-- a demand is reported once, with this kind at this place
+pub record Tells (a b : Sight) (at : Place) (kind : FaultKind) : Type 0 where
+  pub report : Report
+  pub reports : b.reports ≡ a.reports ++ report ∷ []
+  pub place : report.at ≡ at
+  pub is_kind : report.kind ≡ kind
+
+-- nodes, and what is recorded, are as before
+pub record OnlyReports (a b : Sight) : Type 0 where
+  pub nodes : b.nodes ≡ a.nodes
+  pub types : (i p : ℕ) → b.types i p ≡ a.types i p
+  pub written : (x : Name) → b.written x ≡ a.written x
+  pub aloud : b.aloud ≡ a.aloud
+  pub item : b.item ≡ a.item
+  pub level : b.level ≡ a.level
+  pub fixed : b.fixed ≡ a.fixed
+
+-- a node is recorded for a number of the item, for which none was
+pub record Records (a b : Sight) (p m : ℕ) : Type 0 where
+  pub none : a.types a.item p ≡ None
+  pub types : (i q : ℕ) → b.types i q ≡ (if a.item == i && p == q then Some m else a.types i q)
+  pub written : (x : Name) → b.written x ≡ a.written x
+  pub nodes : b.nodes ≡ a.nodes
+  pub reports : b.reports ≡ a.reports
+  pub aloud : b.aloud ≡ a.aloud
+  pub item : b.item ≡ a.item
+  pub level : b.level ≡ a.level
+  pub fixed : b.fixed ≡ a.fixed
+
+-- a demand that is kept isn't reported, and one that isn't is
+abbrev pub IsTold : Sight → Sight → Place → FaultKind → Bool → Type 0
+IsTold a b at kind true = b.reports ≡ a.reports
+IsTold a b at kind false = Tells a b at kind
+
+-- a new type variable is written, for which a node stands; only the nodes change besides
+pub record Writes (a b : Sight) (x : Name) (m : ℕ) : Type 0 where
+  pub none : a.written x ≡ None
+  pub now : b.written x ≡ Some m
+  pub others : (y : Name) (n : ℕ) → b.written y ≡ Some n → ((y ≡ x) × (n ≡ m)) ⊎ (a.written y ≡ Some n)
+  pub before : (y : Name) (n : ℕ) → a.written y ≡ Some n → b.written y ≡ Some n
+  pub types : (i p : ℕ) → b.types i p ≡ a.types i p
+  pub reports : b.reports ≡ a.reports
+  pub aloud : b.aloud ≡ a.aloud
+  pub item : b.item ≡ a.item
+  pub level : b.level ≡ a.level
+  pub fixed : b.fixed ≡ a.fixed
+
+-- only the level changes
+pub record OnlyLevel (a b : Sight) : Type 0 where
+  pub nodes : b.nodes ≡ a.nodes
+  pub types : (i p : ℕ) → b.types i p ≡ a.types i p
+  pub written : (x : Name) → b.written x ≡ a.written x
+  pub reports : b.reports ≡ a.reports
+  pub aloud : b.aloud ≡ a.aloud
+  pub item : b.item ≡ a.item
+  pub fixed : b.fixed ≡ a.fixed
