@@ -24,7 +24,7 @@ use Rattle.typing_state.specs.declared.demands.Verdict.TheVariants.{Kept, Report
 use Rattle.typing_state.specs.Goes.{faults_of, Told, Goes, OnlyStore}
 use Rattle.typing_state.specs.Notes.{IsRecorded}
 use Rattle.typing_state.specs.Demands.{EqualIs, ArityIs}
-use Rattle.typing_state.specs.Steps.{Step, Steps, asks, records, each, place_without_point, IsAmong, IsToldAt, TellInOrder, AreRecorded, Follows, GetsOn, Silent, HasNoRecord}
+use Rattle.typing_state.specs.Steps.{Step, Steps, asks, records, place_without_point, IsAmong, TellInOrder, AreRecorded, Follows, GetsOn, Silent, HasNoRecord}
 
 -- any steps may tell nothing
 pub tell_nothing : (ss : Steps) → TellInOrder ss []
