@@ -19,3 +19,4 @@ pub mod Writing
 pub mod Answering
 pub mod Inward
 pub mod Outward
+pub mod Closed
