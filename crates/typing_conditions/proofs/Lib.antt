@@ -18,3 +18,5 @@ pub mod Using
 pub mod Writing
 pub mod Answering
 pub mod Inward
+pub mod Outward
+pub mod Closed
