@@ -37,17 +37,8 @@ use Rattle.typing_conditions.specs.Frames.{Frame, Reaches, IsWritten, IsHeld, Is
 use Rattle.typing_conditions.specs.Meanings.{KnowsWritten}
 use Rattle.typing_conditions.specs.Steps.{OnlyLevel}
 use Rattle.typing_conditions.specs.Carrying.{Asks, Scope, Carried}
-use Rattle.typing_conditions.specs.Surroundings.{Declared, Surrounds}
-use Rattle.typing_conditions.proofs.Surrounding.{IsEntry}
+use Rattle.typing_conditions.specs.Surroundings.{Declared, Surrounds, IsEntry, context_of, with_closed}
 use Rattle.typing_conditions.proofs.Outward.{GroupTyped, I, inner_reached, before_closing, group_context, name_nodes, low_held, within_outer}
-
--- a context that has only what is chosen, for the types of names
-abbrev pub context_of : Choice → Context
-context_of ch = record { env = []; variables = in_item 0; held = []; kept = λ s. false; chosen = ch }
-
--- a scope after a `let`: its names with their types generalised in the environment outside, but for what is held
-abbrev pub with_closed : List Bound → (Choice → List Typ) → Scope → Scope
-with_closed bs held scope = record scope { env = λ ch. entries_with (generalised_in (scope.env ch) (held ch)) (context_of ch) bs (scope.env ch) }
 
 -- all variables of a node's type are held
 abbrev pub HasHeld : Frame → Sight → Letters → (Choice → List Typ) → ℕ → Type 0

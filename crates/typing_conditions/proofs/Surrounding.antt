@@ -29,7 +29,7 @@ use Rattle.typing_conditions.specs.Sights.{Sight, Letters, Agrees}
 use Rattle.typing_conditions.specs.Frames.{Frame, IsRoot}
 use Rattle.typing_conditions.specs.Meanings.{Means}
 use Rattle.typing_conditions.specs.Carrying.{Scope, Stays}
-use Rattle.typing_conditions.specs.Surroundings.{Declared, Surrounds}
+use Rattle.typing_conditions.specs.Surroundings.{Declared, Surrounds, with_one, IsEntry}
 use Rattle.typing_conditions.proofs.Stays.{agrees_before}
 use Rattle.typing_conditions.proofs.Framing.{root_on}
 use Rattle.typing_conditions.proofs.Meaning.{fixed_on}
@@ -52,16 +52,6 @@ surrounds_on {D} {F} {a} {b} {G} {H} {env} {scope} s at = record {
       stands_fits_on D.declaration D.exception a.nodes b.nodes before.0 K at.roots before.1 own (s.refines at.reached K own) (λ k c e. (at.are_roots k c e).inside) V V env (scope.env ch) (λ n lt. refl) loose
       (at.fits before.0 V ch before.1 (s.loose V loose) (agrees_before s g));
 }
-
--- a scope with a further name of one type, as a pattern brings it in
-abbrev pub with_one : Name → rules.Place → (Choice → Typ) → Scope → Scope
-with_one x at type scope = record scope { env = λ ch. entry x at (a_value (monomorphic (type ch))) ∷ scope.env ch }
-
--- the code's entry of such a name
-pub record IsEntry (e : Entry) (x : Name) (n : NodeRef) : Type 0 where
-  pub named : x ≡ str_bytes e.name
-  pub kind : kind_of e.kind ≡ value_kind
-  pub is : e.what ≡ what.Scheme n
 
 -- A part is typed among one name more: its type is that of an open node, in which no unknown type stands.
 pub surrounds_named : {D : Declared} {F : Frame} {a : Sight} {G : Letters} {env : List Entry} {scope : Scope} {type : Choice → Typ} {e : Entry} {x : Name} {n : NodeRef} (place : rules.Place) → IsEntry e x n → Means F a G type n.0 →

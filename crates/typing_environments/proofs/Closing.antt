@@ -198,13 +198,6 @@ module _ (old nodes new : List Node) (I J : Types) (C R : List ℕ) (H : ℕ →
     ]
   ]
 
-  -- and the other way round
-  pub fixed_is_low : (u l o : ℕ) → slice_get nodes u ≡ Some (Var l o) → l ≢ bound_level → (stands_in_any J C u ≡ true) ⊎ (stands_in_any J (H level) u ≡ true) → l ≤ level
-  fixed_is_low u l o e free h = elim h [
-    | inl i ↦ (context_after old nodes I J C level before between group.refines context).low u l o i e free
-    | inr i ↦ held_low u l o i e free
-  ]
-
   -- an old free variable reads as no variable that is bound now
   old_stays : (m l o v l' o' : ℕ) → slice_get old m ≡ Some (Var l o) → l ≢ bound_level → occurs v (J m) ≡ true → slice_get nodes v ≡ Some (Var l' o') → level < l' → stands_in_any J R v ≡ true → ⊥
   old_stays m l o v l' o' e free h e' above r = at (region old I C m) refl

@@ -62,14 +62,6 @@ fits_closed nodes new J V R level closes fits = record {
       ];
 }
 
--- fewer nodes read alike
-pub reads_fewer : (old new : List Node) (V : Types) → ((n : ℕ) → n < length old → slice_get new n ≡ slice_get old n) → IsReading new V → IsReading old V
-reads_fewer old new V same reads = record {
-  fits = record { each = λ n c e. reads.fits.each n c (same n (slice_get_within old n c e) ∙ e) };
-  own = λ n scope e. reads.own n scope (same n (slice_get_within old n (Var bound_level scope) e) ∙ e);
-  apart = λ n l o b scope e free e'. reads.apart n l o b scope (same n (slice_get_within old n (Var l o) e) ∙ e) free (same b (slice_get_within old b (Var bound_level scope) e') ∙ e');
-}
-
 -- own types are a reading
 pub own_fits : (nodes : List Node) (I : Types) → IsOwn nodes I → Fits nodes I
 own_fits nodes I own = record { each = λ n c e. each n c e (own.loose.each n c e) }

@@ -46,9 +46,3 @@ stands_names R D X nodes J V scheme c own loose no_more C env E s = s
 stands_names R D X nodes J V scheme c own loose (name_more {e = e} {b = b} n named kind is r fits known rest) C env E s =
     stands_names R D X nodes J V scheme c own loose rest (n.0 ∷ C) (e ∷ env) _
     (stands_named R D X nodes J V C env E own loose e b.name (rules.in_text b.place) n (scheme (b.has_type c)) named kind is r fits known s)
-
--- the names of patterns, with one type each: results of typing the pattern
-pub one_type_each : (old nodes : List Node) (J V : Types) (roots : List ℕ) (level : ℕ) (n : ℕ) (t : Typ) → IsOwn nodes J → IsResult old nodes J roots level n → t ≡ V n → SchemeReads nodes V n (monomorphic t)
-one_type_each old nodes J V roots level n t own res e =
-    subst (λ x. SchemeReads nodes V n (monomorphic x)) (sym e)
-    (one_type_reads nodes J V n own res.inside (λ v o. let f = res.free v o in record { level = f.level; scope = f.scope; at = f.at; free = f.free }))

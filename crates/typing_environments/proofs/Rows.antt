@@ -23,9 +23,6 @@ use Rattle.typing_environments.proofs.Steps.{local_none, local_then, local_unifi
 use Rattle.typing_environments.proofs.Later.{VarOf, var_of, context_after, result_after}
 use Rattle.typing_environments.proofs.Instances.{local_instance, instance_within, local_node, local_more, open_nodes, result_widens, root_within, new_within}
 
-pub row_start : (nodes : List Node) (I : Types) (C : List ℕ) (H : ℕ → List ℕ) (level : ℕ) → IsOwn nodes I → IsContext nodes I C level → Row nodes nodes I I C H level []
-row_start nodes I C H level own context = record { before = own; own = own; context = context; local = local_none nodes I C H level own; open_nodes = λ k r e. absurd (let f : None ≡ Some r = e in cc) }
-
 module _ {start now : List Node} {I J : Types} {C : List ℕ} {H : ℕ → List ℕ} {level : ℕ} {rs : List ℕ} (row : Row start now I J C H level rs) where
   -- a further step, whose roots are roots or open nodes
   pub row_step : (new : List Node) (K : Types) (D : List ℕ) → IsOwn new K → ((k d : ℕ) → slice_get D k ≡ Some d → Within start C d × (d < length now)) → Local now new J K D H level → Row start new I K C H level rs
@@ -79,13 +76,6 @@ module _ {start now : List Node} {I J : Types} {C : List ℕ} {H : ℕ → List 
       each : Row start new I K C H level rs → (k q : ℕ) → slice_get (r ∷ rs) k ≡ Some q → IsResult start new K C level q
       each next zero q e = let s : r ≡ q = cc in subst (IsResult start new K C level) s (result_widens start now new I J K C D H level level r row.local (λ k d f. (within k d f).0) part.1)
       each next (suc k) q e = next.open_nodes k q e
-
-  -- the roots of the row are within it
-  pub roots_within : (k d : ℕ) → slice_get C k ≡ Some d → Within start C d × (d < length now)
-  roots_within k d e = (root_within start C k d e, let a = row.context.inside k d e in let b = row.local.refines.longer in omega arith)
-
-  pub here_context : IsContext now J C level
-  here_context = context_after start now I J C level row.before row.own row.local.refines row.context
 
   -- an instance of a root, or of a node that was made: one whose free variables are of at most the level
   pub row_instance : (new : List Node) (K : Types) (r m : ℕ) → Within start C r × (r < length now) → ((v l o : ℕ) → occurs v (J r) ≡ true → slice_get now v ≡ Some (Var l o) → l ≢ bound_level → l ≤ level) →

@@ -68,22 +68,3 @@ module _ (old new : List Node) (I J : Types) (before : IsOwn old I) (after : IsO
               reads.own b (bound_there old b (Var var.level var.scope) (ap (slice_get old) s ∙ var.at) i) (subst (λ k. StandsIn old k r) (sym s) (before.stands r m reads.fits.inside p))
         ];
   }
-
-  -- and what holds now held before
-  pub reads_before : (V : Types) → Loose new V → (r : ℕ) (sc : Scheme) → r < length old → SchemeReads new V r sc → SchemeReads old V r sc
-  reads_before V loose r sc lt reads = record {
-    fits = record {
-      inside = lt;
-      body = reads.fits.body;
-      kept = λ u w free stands o.
-          let p : occurs u (I r) ≡ true = stands_occurs old I u r before.loose (before.vars u free.level free.scope free.at) stands in
-          let (v, q, h) = stands_before new J V after loose u w o in
-          reads.fits.kept v w (step.frees u v free q) (after.stands r v (inside_after r lt) (stands_after old I J before (step.loose J after.loose) r u v p q)) h;
-    };
-    own = λ b h stands.
-        let (scope, e) = bound_cell old b h in
-        let e' = step.bounds b scope e in
-        let p : occurs b (I r) ≡ true = stands_occurs old I b r before.loose (before.vars b bound_level scope e) stands in
-        let q : occurs b (J b) ≡ true = ap (occurs b) (after.vars b bound_level scope e') ∙ eqb_same b in
-        reads.own b (bound_there new b (Var bound_level scope) e' refl) (after.stands r b (inside_after r lt) (stands_after old I J before (step.loose J after.loose) r b b p q));
-  }

@@ -126,23 +126,6 @@ one_type_reads nodes J V n own lt free = record {
       absurd (f.free (same_node nodes b f.level f.scope bound_level scope f.at e));
 }
 
--- a variable in one of two lists of nodes
-any_append : (u : ℕ) (J : Types) (C W : List ℕ) → stands_in_any J (C ++ W) u ≡ true → (stands_in_any J C u ≡ true) ⊎ (stands_in_any J W u ≡ true)
-any_append u J [] W h = inr h
-any_append u J (c ∷ C) W h = elim (or_cases (occurs u (J c)) (stands_in_any J (C ++ W) u) h) [
-  | inl i ↦ inl (or_left (occurs u (J c)) (stands_in_any J C u) i)
-  | inr i ↦ elim (any_append u J C W i) [ inl j ↦ inl (or_right (occurs u (J c)) (stands_in_any J C u) j) | inr j ↦ inr j ]
-]
-
--- what an environment, the written types W and what is held fix
-pub fixes_of : (R : List Node → Types → ℕ → Scheme → Type 0) (D : Declaration → rules.Declaration → Type 0) (X : Constructor → Option Typ → Type 0) (nodes : List Node) (J V : Types) (C W K : List ℕ) (env : List Entry) (E : Environment) (held : List Typ) →
-    Stands R D X nodes J C V env E → ((u w : ℕ) → stands_in_any J W u ≡ true → occurs w (V u) ≡ true → occurs_in w held ≡ true) → ((u w : ℕ) → stands_in_any J K u ≡ true → occurs w (V u) ≡ true → occurs_in w held ≡ true) →
-    Fixes nodes J V (C ++ W) K E held
-fixes_of R D X nodes J V C W K env E held s written kept = record {
-  roots = λ u w free h o. elim (any_append u J C W h) [ inl i ↦ or_left (free_in w E) (occurs_in w held) (s.brings u w free i o) | inr i ↦ or_right (free_in w E) (occurs_in w held) (written u w i o) ];
-  extra = λ u w free h o. or_right (free_in w E) (occurs_in w held) (kept u w h o);
-}
-
 -- at a reading no bound variable is free in the environment
 pub none_free : (D : Declaration → rules.Declaration → Type 0) (X : Constructor → Option Typ → Type 0) (nodes : List Node) (J V : Types) (C : List ℕ) (env : List Entry) (E : Environment) → IsOwn nodes J → IsReading nodes V →
     Stands SchemeReads D X nodes J C V env E → (b : ℕ) → is_bound nodes b ≡ true → free_in b E ≡ false

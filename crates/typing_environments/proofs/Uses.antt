@@ -40,10 +40,7 @@ mutual
   filling_all_known f types.Nil h = refl
   filling_all_known f (types.Cons t ts) h = let p = filling_known f t h.0 in let q = filling_all_known f ts h.1 in (λ i. types.Cons (p i) (q i))
 
--- so a use of a scheme without unknown types is an instance
-pub use_is_instance : (sc : Scheme) (t : Typ) → IsKnown sc.body → IsUse sc t → HasInstance sc t
-use_is_instance sc t known h = let (s, fixes, e) = h.instance in (s, fixes, e ∙ ap (apply s) (filling_known h.fill sc.body known))
-
+-- an instance of a scheme without unknown types is a use of it
 pub instance_is_use : (sc : Scheme) (t : Typ) → IsKnown sc.body → HasInstance sc t → IsUse sc t
 instance_is_use sc t known (s, fixes, e) = record { fill = λ o. type.Var 0; instance = (s, fixes, e ∙ ap (apply s) (sym (filling_known (λ o. type.Var 0) sc.body known))) }
 
