@@ -88,6 +88,7 @@ module _ (F : Frame) (a b : Sight) (s t : List Change) (n : ℕ) (x : Name) (r :
   refines : Reaches F a → (K : Types) → IsOwn b.nodes K → Refines a.nodes b.nodes K
   refines q K own = let e = makes_extends (state a.nodes s) (state b.nodes t) n (Var (min F.level 1) no_scope) made in refines_made a.nodes b.nodes K own (record { longer = e.longer; node = e.node })
 
+  -- the node may be unified
   pub written_open : IsOpenAt F b (min F.level 1) n
   written_open = open_from reached (λ K own. record {
     inside = slice_get_within b.nodes n (Var (min F.level 1) no_scope) there;

@@ -1,39 +1,19 @@
 -- What generalising the types of names does, name by name.
-use Rattle.std.proofs.Common.{◌≡◌, ◌≢◌, ℕ, suc, ◌<◌, ◌≤◌, Bool, true, false, ◌||◌, List, [], ◌∷◌, ◌++◌, length, Option, Some, refl, sym, ◌∙◌, ap, subst, arith, ◌⊎◌, inl, inr}
+use Rattle.std.proofs.Common.{◌≡◌, ◌≢◌, ℕ, ◌<◌, ◌≤◌, Bool, true, false, List, [], ◌∷◌, ◌++◌, length, Some, refl, sym, ◌∙◌, ap, arith, ◌⊎◌, inl, inr}
 use Rattle.std.specs.Prelude.{slice_get}
 use Rattle.std.proofs.lemmas.Option.{slice_get_past}
-use Rattle.text_terms.specs.Bytes.{str_bytes}
-use Rattle.type_model.specs.Types.{Typ, occurs}
+use Rattle.type_model.specs.Types.{occurs}
 use Rattle.type_model.proofs.Applying.{or_left, or_right, or_cases}
-use Rattle.signature_model.specs.Declarations as rules
-use Rattle.signature_model.specs.Declarations.{Name}
-use Rattle.signature_model.specs.Entries.{Environment, entry, a_value, value_kind}
-use Rattle.signature_model.specs.Matching.{IsKnown}
-use Rattle.typing_model.specs.Contexts.{occurs_in, generalised_in}
 use Rattle.typing_laws.proofs.Bools.{no_yes}
-use Rattle.type_terms.specs.declared.types.NodeRef.{NodeRef}
 use Rattle.type_nodes.specs.Nodes.{Node, Var, Rigid, Link, Arrow, Tuple, Con, bound_level}
-use Rattle.type_nodes.specs.Readings.{Types, IsReading}
-use Rattle.level_unify.specs.Solutions.{Loose}
+use Rattle.type_nodes.specs.Readings.{Types}
 use Rattle.level_unify.specs.Generalising.{IsAbove, Generalised}
-use Rattle.level_unify.specs.Instances.{is_bound, SameTypes}
 use Rattle.level_unify.proofs.Steps.{cell_at}
-use Rattle.level_unify.proofs.Unified.{fits_loosely}
 use Rattle.level_unify.proofs.Variants.{stands_occurs}
-use Rattle.env_table.specs.declared.entries.Constructor.{Constructor}
-use Rattle.env_table.specs.declared.entries.Declaration.{Declaration}
-use Rattle.env_table.specs.declared.entries.What.TheVariants as what
-use Rattle.env_table.specs.declared.entries.Entry.{Entry}
-use Rattle.env_table.specs.Views.{kind_of}
-use Rattle.typing_environments.specs.Locals.{IsFreeVar, IsOwn, stands_in_any, Within, Local, IsContext, ClosesAll}
-use Rattle.typing_environments.specs.Assumptions.{SchemeFits, SchemeReads}
-use Rattle.typing_environments.specs.Standing.{Stands}
+use Rattle.typing_environments.specs.Locals.{IsOwn, stands_in_any, ClosesAll}
 use Rattle.typing_environments.proofs.Steps.{old_or_new}
-use Rattle.typing_environments.proofs.Closing.{closed_own, local_closed}
-use Rattle.typing_environments.proofs.Generalised.{Fixes, name_fits, name_reads}
 
-
--- nothing stands after the end
+-- there is no node after the end
 past_end : (nodes new : List Node) (n : ℕ) → length new ≡ length nodes → length nodes ≤ n → slice_get new n ≡ slice_get nodes n
 past_end nodes new n len le = slice_get_past new n (omega (arith, len)) ∙ sym (slice_get_past nodes n le)
 
@@ -65,6 +45,7 @@ generalised_closes nodes new J r level own lt g = record {
   ];
 }
 
+-- what stands in the first of two lists of nodes stands in both together
 pub any_before : (u : ℕ) (J : Types) (rs ss : List ℕ) → stands_in_any J rs u ≡ true → stands_in_any J (rs ++ ss) u ≡ true
 any_before u J [] ss h = absurd (no_yes h)
 any_before u J (r ∷ rs) ss h = elim (or_cases (occurs u (J r)) (stands_in_any J rs u) h) [
@@ -72,6 +53,7 @@ any_before u J (r ∷ rs) ss h = elim (or_cases (occurs u (J r)) (stands_in_any 
   | inr i ↦ or_right (occurs u (J r)) (stands_in_any J (rs ++ ss) u) (any_before u J rs ss i)
 ]
 
+-- and so does what stands in the second
 pub any_after : (u : ℕ) (J : Types) (rs ss : List ℕ) → stands_in_any J ss u ≡ true → stands_in_any J (rs ++ ss) u ≡ true
 any_after u J [] ss h = h
 any_after u J (r ∷ rs) ss h = or_right (occurs u (J r)) (stands_in_any J (rs ++ ss) u) (any_after u J rs ss h)

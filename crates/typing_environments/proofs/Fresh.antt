@@ -26,6 +26,7 @@ use Rattle.typing_environments.proofs.Naming.{new_variable}
 fits_var : (V : Types) (n l o : ℕ) (c : Node) → c ≡ Var l o → (l ≢ bound_level → IsInScope o (V n)) → FitsNode V n c
 fits_var V n l o c e h = subst (FitsNode V n) (sym e) h
 
+-- a reading after closing was one before
 pub reads_closed : (nodes new : List Node) (J V : Types) (R : List ℕ) (level : ℕ) → ClosesAll nodes new J R level → IsReading new V → IsReading nodes V
 reads_closed nodes new J V R level closes reads = record {
   fits = record {
@@ -51,6 +52,7 @@ reads_closed nodes new J V R level closes reads = record {
       | inr (f, _) ↦ f
     ]
 
+-- types that fitted fit after closing
 pub fits_closed : (nodes new : List Node) (J V : Types) (R : List ℕ) (level : ℕ) → ClosesAll nodes new J R level → Fits nodes V → Fits new V
 fits_closed nodes new J V R level closes fits = record {
   each = λ n d e.

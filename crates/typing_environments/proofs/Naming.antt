@@ -1,4 +1,4 @@
--- The use of a name that stands for a scheme, or for none.
+-- The use of a name: the copy of a root, or a new variable.
 use Rattle.std.proofs.Common.{◌≡◌, ◌≢◌, ℕ, ◌<◌, true, cond, eqb, List, [], ◌∷◌, ◌++◌, length, get_or, Option, Some, refl, sym, ◌∙◌, ap, subst, arith, inl, inr}
 use Rattle.std.specs.Prelude.{slice_get}
 use Rattle.std.proofs.lemmas.Bool.Decides.{eqb_tells}
@@ -36,6 +36,7 @@ use Rattle.typing_environments.proofs.Uses.{use_sound, use_complete, under_any}
 
 -- what is put into a known type is known
 mutual
+  -- in a type there is no unknown one where there is none in what is put in
   pub known_apply : (V : Subst) (t : Typ) → IsKnown t → ((u : ℕ) → occurs u t ≡ true → IsKnown (V u)) → IsKnown (apply V t)
   known_apply V (type.Var v) h k = k v (eqb_same v)
   known_apply V (type.Arrow a b) h k = (known_apply V a h.0 (λ u o. k u (or_left (occurs u a) (occurs u b) o)), known_apply V b h.1 (λ u o. k u (or_right (occurs u a) (occurs u b) o)))
@@ -56,9 +57,11 @@ module _ (D : Declaration → rules.Declaration → Type 0) (X : Constructor →
         | inr f ↦ s.known u (record { level = var.level; scope = var.scope; at = var.at; free = f }) (any_in u I C k r e o)
       ]))
 
+  -- a reading gives the copy of a root a use of its scheme
   pub named_sound : (new : List Node) (r level m : ℕ) (sc : Scheme) → Stands SchemeReads D X old I C V env E → SchemeReads old V r sc × IsIn C r → Instantiated old new r level m → IsReading new V → IsUse sc (V m)
   named_sound new r level m sc s h inst reads = use_sound old new I V r level m sc own inst reads (root_known s (inst.reads V reads).0 r h.0.fits.inside h.1) h.0
 
+  -- each use of the scheme comes from types that fit
   pub named_complete : (new : List Node) (r level m : ℕ) (sc : Scheme) (t : Typ) → Stands SchemeFits D X old I C V env E → SchemeFits old V r sc × IsIn C r → Instantiated old new r level m → Fits old V → IsUse sc t →
       (W : Types) × Fits new W × SameTypes old V W × (W m ≡ t)
   named_complete new r level m sc t s h inst fits is =

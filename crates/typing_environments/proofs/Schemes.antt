@@ -4,7 +4,6 @@ use Rattle.std.specs.Prelude.{slice_get}
 use Rattle.std.proofs.lemmas.Option.{slice_get_within}
 use Rattle.type_model.specs.Types.{occurs}
 use Rattle.type_model.specs.Schemes.{Scheme}
-use Rattle.type_model.proofs.Applying.{eqb_same}
 use Rattle.type_nodes.specs.Nodes.{Node, Var, bound_level}
 use Rattle.type_nodes.specs.Readings.{Types}
 use Rattle.level_unify.specs.Walks.{StandsIn}

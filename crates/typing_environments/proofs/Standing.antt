@@ -1,5 +1,5 @@
 -- An environment stands for that of the definitions later on, with a further name, and finds what that finds.
-use Rattle.std.proofs.Common.{◌≡◌, ℕ, zero, suc, ◌<◌, Bool, true, false, not, List, [], ◌∷◌, ◌++◌, length, Option, Some, refl, sym, ◌∙◌, ap, subst, ◌⊎◌, inl, inr}
+use Rattle.std.proofs.Common.{◌≡◌, ℕ, zero, suc, ◌<◌, Bool, true, false, not, List, ◌∷◌, length, Option, Some, refl, sym, ◌∙◌, ap, subst, inl, inr}
 use Rattle.std.specs.Prelude.{slice_get}
 use Rattle.std.proofs.lemmas.Option.{slice_get_within}
 use Rattle.std.proofs.lemmas.Bool.{eqb-true}
@@ -13,7 +13,7 @@ use Rattle.signature_model.specs.Declarations as rules
 use Rattle.signature_model.specs.Declarations.{Name}
 use Rattle.signature_model.specs.Entries.{Environment, entry, a_value, free_in, value_kind}
 use Rattle.signature_model.specs.Matching.{IsKnown, AreKnown}
-use Rattle.typing_model.specs.Contexts.{occurs_in, monomorphic}
+use Rattle.typing_model.specs.Contexts.{monomorphic}
 use Rattle.typing_laws.proofs.Bools.{and_cases, and_both, no_yes}
 use Rattle.type_terms.specs.declared.types.NodeRef.{NodeRef}
 use Rattle.type_nodes.specs.Nodes.{Node, Var, bound_level}
@@ -35,11 +35,11 @@ use Rattle.typing_environments.proofs.Steps.{same_node, stands_after, stands_bef
 use Rattle.typing_environments.proofs.Later.{var_of, bound_itself}
 use Rattle.typing_environments.proofs.Uses.{bound_stands}
 use Rattle.typing_environments.proofs.Schemes.{fits_after, reads_after}
-use Rattle.typing_environments.proofs.Generalised.{Fixes}
 use Rattle.typing_environments.proofs.Environments.{env_map, env_free}
 
 -- what stands in a known type for one of its variables is known
 mutual
+  -- what is put in for a variable that stands in a type is known where the whole is
   pub known_put : (W : Subst) (t : Typ) (u : ℕ) → occurs u t ≡ true → IsKnown (apply W t) → IsKnown (W u)
   known_put W (type.Var v) u o h = subst (λ k. IsKnown (W k)) (sym (eqb-true u v o)) h
   known_put W (type.Arrow a b) u o h = elim (or_cases (occurs u a) (occurs u b) o) [ inl i ↦ known_put W a u i h.0 | inr i ↦ known_put W b u i h.1 ]
@@ -98,6 +98,7 @@ more_in C n r (k, e) = (suc k, e)
 free_if_kept : (w : ℕ) (sc : Scheme) → occurs w sc.body ≡ true → sc.bound w ≡ false → free_in_scheme w sc ≡ true
 free_if_kept w sc o b = and_both (occurs w sc.body) (not (sc.bound w)) o (ap not b)
 
+-- an entry of a name that stands for a scheme
 pub stands_named : (R : List Node → Types → ℕ → Scheme → Type 0) (D : Declaration → rules.Declaration → Type 0) (X : Constructor → Option Typ → Type 0) (nodes : List Node) (J V : Types) (C : List ℕ) (env : List Entry) (E : Environment) →
     IsOwn nodes J → Loose nodes V → (e : Entry) (x : Name) (at : rules.Place) (n : NodeRef) (sc : Scheme) → x ≡ str_bytes e.name → kind_of e.kind ≡ value_kind → e.what ≡ what.Scheme n →
     R nodes V n.0 sc → SchemeFits nodes V n.0 sc → ((u : ℕ) → IsFreeVar nodes u → occurs u (J n.0) ≡ true → IsKnown (V u)) →
@@ -117,6 +118,7 @@ stands_named R D X nodes J V C env E own loose e x at n sc named kind is r fits 
 pub one_type_fits : (nodes : List Node) (V : Types) (n : ℕ) → n < length nodes → SchemeFits nodes V n (monomorphic (V n))
 one_type_fits nodes V n lt = record { inside = lt; body = refl; kept = λ u w free stands o. refl }
 
+-- and at each reading
 pub one_type_reads : (nodes : List Node) (J V : Types) (n : ℕ) → IsOwn nodes J → n < length nodes → ((v : ℕ) → occurs v (J n) ≡ true → IsFreeVar nodes v) → SchemeReads nodes V n (monomorphic (V n))
 one_type_reads nodes J V n own lt free = record {
   fits = one_type_fits nodes V n lt;

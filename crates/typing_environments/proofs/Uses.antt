@@ -30,6 +30,7 @@ put_known f o ts true e h = absurd (no_yes (sym h))
 put_known f o ts false e h = refl
 
 mutual
+  -- a type without unknown ones stays as it is
   pub filling_known : (f : Path → Typ) (t : Typ) → IsKnown t → change (filling f) t ≡ t
   filling_known f (type.Var v) h = refl
   filling_known f (type.Arrow a b) h = let p = filling_known f a h.0 in let q = filling_known f b h.1 in (λ i. type.Arrow (p i) (q i))
@@ -82,6 +83,7 @@ in_any_scope : (o : Path) → in_scope no_scope o ≡ true
 in_any_scope o = or_left (nat_le no_scope no_scope) (made_before no_scope o) (le-leb no_scope no_scope (omega arith))
 
 mutual
+  -- each type keeps to them
   pub under_any : (level : ℕ) (t : Typ) → IsUnder (λ v. 0) level no_scope t
   under_any level (type.Var v) = omega arith
   under_any level (type.Arrow a b) = (under_any level a, under_any level b)
@@ -97,6 +99,7 @@ put_filled : (f : Path → Typ) (o : Path) (ts : Typs) (b : Bool) → is_unknown
 put_filled = put_known
 
 mutual
+  -- filling in what is put in for the variables of a type without unknown ones
   pub filling_applied : (f : Path → Typ) (V : Subst) (t : Typ) → IsKnown t → change (filling f) (apply V t) ≡ apply (λ u. change (filling f) (V u)) t
   filling_applied f V (type.Var v) h = refl
   filling_applied f V (type.Arrow a b) h = let p = filling_applied f V a h.0 in let q = filling_applied f V b h.1 in (λ i. type.Arrow (p i) (q i))
