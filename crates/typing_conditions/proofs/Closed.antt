@@ -1,26 +1,23 @@
 -- What a part is typed among after a `let`: each name of the group has its type generalised in the environment outside.
-use Rattle.std.proofs.Common.{◌≡◌, ◌≢◌, ◌∙◌, ◌⊎◌, ℕ, zero, suc, ◌<◌, ◌≤◌, true, false, Bool, ◌||◌, List, [], ◌∷◌, ◌++◌, length, Option, Some, refl, sym, ap, subst, arith, inl, inr}
+use Rattle.std.proofs.Common.{◌≡◌, ◌∙◌, ◌⊎◌, ℕ, zero, suc, ◌<◌, true, false, ◌||◌, List, [], ◌∷◌, Some, refl, sym, subst, arith, inl, inr}
 use Rattle.std.specs.Prelude.{slice_get}
-use Rattle.text_terms.specs.Bytes.{str_bytes}
 use Rattle.type_model.specs.Types.{Typ, occurs}
 use Rattle.type_model.specs.Schemes.{Scheme}
 use Rattle.type_model.proofs.Applying.{or_left, or_right}
 use Rattle.signature_model.specs.Declarations as rules
 use Rattle.signature_model.specs.Declarations.{Name}
-use Rattle.signature_model.specs.Entries.{Environment, entry, a_value, free_in, value_kind}
+use Rattle.signature_model.specs.Entries.{entry, a_value, free_in}
 use Rattle.signature_model.specs.Matching.{IsKnown}
-use Rattle.typing_model.specs.Contexts.{Choice, Context, Bound, in_item, monomorphic, occurs_in, generalised_in, entries_with}
+use Rattle.typing_model.specs.Contexts.{Choice, Bound, monomorphic, occurs_in, generalised_in}
 use Rattle.typing_model.specs.Typings.{no_choice}
 use Rattle.type_terms.specs.declared.types.NodeRef.{NodeRef}
-use Rattle.type_nodes.specs.Nodes.{Node, Var, bound_level}
+use Rattle.type_nodes.specs.Nodes.{Node, bound_level}
 use Rattle.type_nodes.specs.Readings.{Types, IsReading}
 use Rattle.level_unify.specs.Solutions.{Loose}
 use Rattle.level_unify.specs.Instances.{is_bound}
 use Rattle.level_unify.proofs.Unified.{fits_loosely}
-use Rattle.env_table.specs.declared.entries.What.TheVariants as what
 use Rattle.env_table.specs.declared.entries.Entry.{Entry}
-use Rattle.env_table.specs.Views.{kind_of}
-use Rattle.typing_environments.specs.Locals.{IsOwn, IsFreeVar, stands_in_any, ClosesAll}
+use Rattle.typing_environments.specs.Locals.{IsOwn, IsFreeVar}
 use Rattle.typing_environments.specs.Assumptions.{SchemeFits, SchemeReads}
 use Rattle.typing_environments.specs.Environments.{of_value, entry_as, newest}
 use Rattle.typing_environments.specs.Standing.{IsIn, Covers, Stands}
@@ -33,10 +30,8 @@ use Rattle.typing_environments.proofs.Generalised.{Fixes, name_fits, name_reads}
 use Rattle.typing_environments.proofs.Standing.{known_put, more_in, none_free}
 use Rattle.typing_environments.proofs.Groups.{NamesStand, no_more, name_more, added, joined, stands_names}
 use Rattle.typing_conditions.specs.Sights.{Sight, Letters, Agrees}
-use Rattle.typing_conditions.specs.Frames.{Frame, Reaches, IsWritten, IsHeld, IsRoot, inner_frame, GoesIn}
-use Rattle.typing_conditions.specs.Meanings.{KnowsWritten}
-use Rattle.typing_conditions.specs.Steps.{OnlyLevel}
-use Rattle.typing_conditions.specs.Carrying.{Asks, Scope, Carried}
+use Rattle.typing_conditions.specs.Frames.{Frame, IsWritten, IsHeld, IsRoot}
+use Rattle.typing_conditions.specs.Carrying.{Asks, Scope}
 use Rattle.typing_conditions.specs.Surroundings.{Declared, Surrounds, IsEntry, context_of, with_closed}
 use Rattle.typing_conditions.proofs.Outward.{GroupTyped, I, inner_reached, before_closing, group_context, name_nodes, low_held, within_outer}
 

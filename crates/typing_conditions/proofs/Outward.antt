@@ -1,29 +1,26 @@
 -- Back out of a frame one level further in: the names that were typed in it are closed.
-use Rattle.std.proofs.Common.{◌≡◌, ◌≢◌, ◌∙◌, ◌⊎◌, ℕ, zero, suc, ◌<◌, ◌≤◌, min, true, false, Bool, List, [], ◌∷◌, ◌++◌, take, length, Some, refl, sym, ap, subst, arith, inl, inr}
+use Rattle.std.proofs.Common.{◌≡◌, ◌≢◌, ◌∙◌, ◌⊎◌, ℕ, zero, suc, ◌<◌, ◌≤◌, min, true, List, [], ◌∷◌, ◌++◌, length, Some, sym, ap, subst, arith, inl, inr}
 use Rattle.std.specs.Prelude.{slice_get}
-use Rattle.std.proofs.lemmas.Option.{slice_get_within}
-use Rattle.type_model.specs.Types.{Typ, occurs}
+use Rattle.type_model.specs.Types.{occurs}
 use Rattle.signature_model.specs.Declarations.{Name}
-use Rattle.typing_model.specs.Demands.{AllHold}
-use Rattle.typing_model.specs.Contexts.{Choice, Context}
-use Rattle.type_nodes.specs.Nodes.{Node, Var, bound_level, IsSound, IsClosed, IsNode}
+use Rattle.typing_model.specs.Contexts.{Context}
+use Rattle.type_nodes.specs.Nodes.{Var, bound_level, IsSound, IsNode}
 use Rattle.type_nodes.specs.Readings.{Types, Fits, IsReading}
 use Rattle.level_unify.specs.Solutions.{Loose}
-use Rattle.typing_environments.specs.Locals.{IsOwn, IsLow, stands_in_any, Within, Refines, Local, IsContext, ClosesAll}
+use Rattle.typing_environments.specs.Locals.{IsOwn, stands_in_any, Within, Refines, Local, IsContext, ClosesAll}
 use Rattle.typing_environments.specs.Standing.{IsIn}
 use Rattle.typing_environments.proofs.Own.{own_of}
-use Rattle.typing_environments.proofs.Regions.{any_in, in_any}
+use Rattle.typing_environments.proofs.Regions.{in_any}
 use Rattle.typing_environments.proofs.Steps.{local_then, same_node}
 use Rattle.typing_environments.proofs.Instances.{local_more}
-use Rattle.typing_environments.proofs.Closing.{closed_loose, own_reopened, still_free, refines_closed, local_closed}
+use Rattle.typing_environments.proofs.Closing.{closed_loose, own_reopened, local_closed}
 use Rattle.typing_environments.proofs.Bindings.{any_before, any_after}
 use Rattle.typing_environments.proofs.Fresh.{reads_closed, fits_closed}
-use Rattle.typing_conditions.specs.Sights.{Sight, Letters, AreNodes, Agrees, IsInside}
-use Rattle.typing_conditions.specs.Frames.{Frame, Reaches, IsHeld, IsOpenAt, IsOpen, IsRoot, inner_frame, GoesIn}
+use Rattle.typing_conditions.specs.Sights.{Sight, Letters, AreNodes, IsInside}
+use Rattle.typing_conditions.specs.Frames.{Frame, Reaches, IsHeld, IsOpenAt, IsOpen, inner_frame, GoesIn}
 use Rattle.typing_conditions.specs.Meanings.{KnowsWritten}
-use Rattle.typing_conditions.specs.Judging.{judgements, FallsShort}
 use Rattle.typing_conditions.specs.Steps.{OnlyLevel}
-use Rattle.typing_conditions.specs.Carrying.{Asks, Scope, Enters, Stays, Continues, Carried}
+use Rattle.typing_conditions.specs.Carrying.{Asks, Scope, Enters, Stays, Carried}
 use Rattle.typing_conditions.proofs.Meaning.{inside_longer}
 use Rattle.typing_conditions.proofs.Inward.{agrees_as, reached_inward, written_inward}
 

@@ -1,11 +1,10 @@
 -- What a part is typed among, after a call and with a further name.
 use Rattle.std.proofs.Common.{◌≡◌, ℕ, zero, suc, ◌≤◌, true, List, ◌∷◌, Some, refl, sym, subst, arith}
 use Rattle.std.specs.Prelude.{slice_get}
-use Rattle.text_terms.specs.Bytes.{str_bytes}
 use Rattle.type_model.specs.Types.{Typ, occurs}
 use Rattle.signature_model.specs.Declarations as rules
 use Rattle.signature_model.specs.Declarations.{Name}
-use Rattle.signature_model.specs.Entries.{entry, a_value, value_kind}
+use Rattle.signature_model.specs.Entries.{entry, a_value}
 use Rattle.signature_model.specs.Matching.{IsKnown}
 use Rattle.typing_model.specs.Contexts.{Choice, monomorphic}
 use Rattle.typing_model.specs.Typings.{no_choice}
@@ -14,9 +13,7 @@ use Rattle.type_nodes.specs.Nodes.{Var}
 use Rattle.type_nodes.specs.Readings.{Types}
 use Rattle.level_unify.specs.Solutions.{Loose}
 use Rattle.level_unify.proofs.Unified.{fits_loosely}
-use Rattle.env_table.specs.declared.entries.What.TheVariants as what
 use Rattle.env_table.specs.declared.entries.Entry.{Entry}
-use Rattle.env_table.specs.Views.{kind_of}
 use Rattle.typing_environments.specs.Locals.{IsOwn, IsFreeVar}
 use Rattle.typing_environments.specs.Assumptions.{SchemeFits, SchemeReads}
 use Rattle.typing_environments.specs.Environments.{of_value, entry_as, newest}

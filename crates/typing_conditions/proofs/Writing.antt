@@ -21,7 +21,7 @@ use Rattle.typing_environments.proofs.Regions.{any_in, in_any}
 use Rattle.typing_environments.proofs.Steps.{local_then, refines_made}
 use Rattle.typing_environments.proofs.Instances.{local_node, new_within}
 use Rattle.typing_conditions.specs.Sights.{Sight, Letters, SameAt}
-use Rattle.typing_conditions.specs.Frames.{Frame, Reaches, IsHeld, IsOpen, IsOpenAt}
+use Rattle.typing_conditions.specs.Frames.{Frame, Reaches, IsHeld, IsOpenAt}
 use Rattle.typing_conditions.specs.Steps.{Writes}
 use Rattle.typing_conditions.specs.Carrying.{Scope, Enters, GoesOn, Stays, CarriedTo}
 use Rattle.typing_conditions.proofs.Framing.{open_from, open_next, open_lower, sound_made}
