@@ -22,7 +22,7 @@ use Rattle.typing_conditions.specs.Meanings.{Means, KnowsFixed, KnowsWritten}
 use Rattle.typing_conditions.specs.Steps.{OnlyLevel}
 use Rattle.typing_conditions.specs.Carrying.{Scope}
 use Rattle.typing_conditions.specs.Surroundings.{Declared, Surrounds}
-use Rattle.typing_conditions.proofs.Framing.{open_lower}
+use Rattle.typing_conditions.proofs.Framing.{open_lower, reached_start}
 
 -- A choice agrees with a state where the same is recorded and written.
 pub agrees_as : {owner : ℕ} {G : Letters} {V : Types} {ch : Choice} (a b : Sight) → ((i p : ℕ) → b.types i p ≡ a.types i p) → ((x : Name) → b.written x ≡ a.written x) → Agrees owner a G V ch → Agrees owner b G V ch
@@ -43,27 +43,14 @@ module _ {F : Frame} {a b : Sight} {J : Types} {roots : List ℕ} {held : ℕ �
 
   -- nothing was done yet
   pub reached_inward : Reaches (inner_frame F a J roots held) b
-  reached_inward = record {
-    frame = record {
-      own = g.own;
-      context = record {
-        inside = λ k c e. (g.are_roots k c e).inside;
-        low = λ v l o h e free. let i = in_any v J roots h in let le = (g.are_roots i.place i.node i.at).low J g.own v l o i.occurs e free in omega arith;
-      };
-      free = g.free;
+  reached_inward = reached_start b (record {
+    own = g.own;
+    context = record {
+      inside = λ k c e. (g.are_roots k c e).inside;
+      low = λ v l o h e free. let i = in_any v J roots h in let le = (g.are_roots i.place i.node i.at).low J g.own v l o i.occurs e free in omega arith;
     };
-    sound = subst IsSound (sym only.nodes) g.reached.sound;
-    level = raised ∙ ap suc g.reached.level;
-    held = held;
-    only_held = λ k n lt i. inl i;
-    local = λ M own. local_made a.nodes b.nodes J M roots held (suc F.level) g.own own
-        (record { longer = len; node = λ n lt. ap (λ ns. slice_get ns n) only.nodes })
-        (λ S reg. subst (λ ns. IsClosed ns S) (sym only.nodes) reg.closed)
-        (λ k u l o lt old e free le. absurd (let p = slice_get_within b.nodes u (Var l o) e in let q : length b.nodes ≡ length a.nodes = ap length only.nodes in omega arith));
-  }
-    where
-      len : length a.nodes ≤ length b.nodes
-      len = let q : length b.nodes ≡ length a.nodes = ap length only.nodes in omega arith
+    free = g.free;
+  }) only.nodes (raised ∙ ap suc g.reached.level) g.reached.sound
 
   in_store : (n : ℕ) → n < length a.nodes → n < length b.nodes
   in_store n lt = let q : length b.nodes ≡ length a.nodes = ap length only.nodes in omega arith
