@@ -32,7 +32,7 @@ use Rattle.typing_conditions.proofs.Framing.{root_on}
 use Rattle.typing_conditions.proofs.Meaning.{fixed_on}
 
 -- the names stand for the same after a call
-pub surrounds_on : {D : Declared} {F : Frame} {a b : Sight} {G H : Letters} {env : List Entry} {scope : Scope} → Stays F a G b H → Surrounds D F a G env scope → Surrounds D F b H env scope
+unfoldable pub surrounds_on : {D : Declared} {F : Frame} {a b : Sight} {G H : Letters} {env : List Entry} {scope : Scope} → Stays F a G b H → Surrounds D F a G env scope → Surrounds D F b H env scope
 surrounds_on {D} {F} {a} {b} {G} {H} {env} {scope} s at = record {
   reached = s.reaches at.reached;
   fixed = fixed_on s at.fixed;
