@@ -52,9 +52,9 @@ unfolding surrounds_on
 let_carried {D} {F} {scope} {a} {b} {c} {d} {f} {J} {roots} {names} {held} {G} {H} {K} {env} {es} {bs} {ns} {asks} {types = types} into at around only raised right out closed still has body =
     let p = right (surrounds_inward around.goes_in only raised at around.names_in around.fixed_in) in
     let group : GroupTyped F scope asks a b c d J roots names held G H =
-        record { goes_in = around.goes_in; only = only; raised = raised; part = p.carried; out = out p.are_open; inside_item = around.inside_item; written = at.written } in
+    record { goes_in = around.goes_in; only = only; raised = raised; part = p.carried; out = out p.are_open; inside_item = around.inside_item; written = at.written } in
     let q = carried_out group in
     let rest : HoldsRest D group env types =
-        record { at = surrounds_on q.stays at; roots_held = around.roots_held; limits_held = around.limits_held; written_held = around.written_held; none_bound = around.none_bound } in
+    record { at = surrounds_on q.stays at; roots_held = around.roots_held; limits_held = around.limits_held; written_held = around.written_held; none_bound = around.none_bound } in
     let r = body (surrounds_closed group rest closed) in
     then_to q (record { carried = carried_under into still has r.carried; means = r.means })

@@ -21,7 +21,7 @@ use Rattle.typing_environments.specs.Standing.{IsIn, Stands}
 use Rattle.typing_environments.proofs.Own.{own_of}
 use Rattle.typing_environments.proofs.Environments.{env_map}
 use Rattle.typing_environments.proofs.Steps.{same_node}
-use Rattle.typing_environments.proofs.Standing.{known_put, more_in, stands_fits_on, stands_reads_on, stands_named, one_type_fits, one_type_reads}
+use Rattle.typing_environments.proofs.Standing.{more_in, stands_fits_on, stands_reads_on, stands_named, one_type_fits, one_type_reads}
 use Rattle.typing_conditions.specs.Sights.{Sight, Letters, Agrees}
 use Rattle.typing_conditions.specs.Frames.{Frame, IsRoot}
 use Rattle.typing_conditions.specs.Meanings.{Means}
@@ -42,7 +42,7 @@ surrounds_on {D} {F} {a} {b} {G} {H} {env} {scope} s at = record {
   covered = at.covered;
   reads = λ K V ch own reads g.
       let before = own_of a.nodes at.reached.sound in
-      stands_reads_on D.declaration D.exception a.nodes b.nodes before.0 K at.roots before.1 own (s.refines at.reached K own) (λ k c e. (at.are_roots k c e).inside) V env (scope.env ch) (fits_loosely b.nodes V reads.fits)
+      stands_reads_on D.declaration D.exception a.nodes b.nodes before.0 K at.roots before.1 own (s.refines at.reached K own) (λ k c e. (at.are_roots k c e).inside) V env (scope.env ch) reads
       (at.reads before.0 V ch before.1 (s.reads V reads) (agrees_before s g));
   fits = λ K V ch own loose g.
       let before = own_of a.nodes at.reached.sound in
@@ -65,14 +65,15 @@ surrounds_named {D} {F} {a} {G} {env} {scope} {type} {e} {x} {n} place is p know
         (env_map (λ r sc. IsIn at.roots r) (λ r sc. IsIn (n.0 ∷ at.roots) r) D.declaration D.declaration D.exception D.exception (λ r sc h. more_in at.roots n.0 r h) (λ d f h. h) (λ c o h. h) at.covered.1),
   );
   reads = λ J V ch own reads g.
+      let known_here = known V ch g in
       let loose = fits_loosely a.nodes V reads.fits in
+      let scheme = one_type_reads a.nodes J V n.0 own reads p.open_node.inside known_here (λ v o. free J own v o) in
       subst (λ t. Stands SchemeReads D.declaration D.exception a.nodes J (n.0 ∷ at.roots) V (e ∷ env) (entry x place (a_value (monomorphic t)) ∷ scope.env ch)) (sym (p.is V ch loose g))
-      (stands_named SchemeReads D.declaration D.exception a.nodes J V at.roots env (scope.env ch) own loose e x place n (monomorphic (V n.0)) is.named is.kind is.is
-      (one_type_reads a.nodes J V n.0 own p.open_node.inside (λ v o. free J own v o)) (one_type_fits a.nodes V n.0 p.open_node.inside) (known_vars J V ch own loose g) (at.reads J V ch own reads g));
+      (stands_named SchemeReads D.declaration D.exception a.nodes J V at.roots env (scope.env ch) own e x place n (monomorphic (V n.0)) is.named is.kind is.is scheme scheme.free (at.reads J V ch own reads g));
   fits = λ J V ch own loose g.
+      let scheme = one_type_fits a.nodes J V n.0 own loose p.open_node.inside (known V ch g) in
       subst (λ t. Stands SchemeFits D.declaration D.exception a.nodes J (n.0 ∷ at.roots) V (e ∷ env) (entry x place (a_value (monomorphic t)) ∷ scope.env ch)) (sym (p.is V ch loose g))
-      (stands_named SchemeFits D.declaration D.exception a.nodes J V at.roots env (scope.env ch) own loose e x place n (monomorphic (V n.0)) is.named is.kind is.is
-      (one_type_fits a.nodes V n.0 p.open_node.inside) (one_type_fits a.nodes V n.0 p.open_node.inside) (known_vars J V ch own loose g) (at.fits J V ch own loose g));
+      (stands_named SchemeFits D.declaration D.exception a.nodes J V at.roots env (scope.env ch) own e x place n (monomorphic (V n.0)) is.named is.kind is.is scheme scheme.free (at.fits J V ch own loose g));
 }
   where
     no_types : Choice
@@ -80,9 +81,6 @@ surrounds_named {D} {F} {a} {G} {env} {scope} {type} {e} {x} {n} place is p know
 
     free : (J : Types) → IsOwn a.nodes J → (v : ℕ) → occurs v (J n.0) ≡ true → IsFreeVar a.nodes v
     free J own v o = let low = p.open_node.free J own v o in record { level = low.level; scope = low.scope; at = low.at; free = low.free }
-
-    known_vars : (J V : Types) (ch : Choice) → IsOwn a.nodes J → Loose a.nodes V → Agrees F.owner a G V ch → (u : ℕ) → IsFreeVar a.nodes u → occurs u (J n.0) ≡ true → IsKnown (V u)
-    known_vars J V ch own loose g u f o = known_put V (J n.0) u o (subst IsKnown (own.comes V loose n.0) (known V ch g))
 
     are_roots : (k r : ℕ) → slice_get (n.0 ∷ at.roots) k ≡ Some r → IsRoot F a r
     are_roots zero r f = let s : n.0 ≡ r = cc in subst (IsRoot F a) s (record { inside = p.open_node.inside; within = p.open_node.within; low = λ J own v l o h e free. low_as J own v l o h e })

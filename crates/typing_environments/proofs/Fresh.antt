@@ -20,7 +20,23 @@ use Rattle.typing_environments.specs.Locals.{IsOwn, ClosesAll}
 use Rattle.typing_environments.proofs.Own.{own_of}
 use Rattle.typing_environments.proofs.Steps.{same_node}
 use Rattle.typing_environments.proofs.Closing.{became}
-use Rattle.typing_environments.proofs.Naming.{new_variable}
+use Rattle.typing_environments.proofs.Uses.{under_any}
+use Rattle.std.proofs.Common.{◌≡◌, ◌≢◌, ℕ, ◌<◌, true, cond, eqb, List, [], ◌∷◌, ◌++◌, length, get_or, Option, Some, refl, sym, ◌∙◌, ap, subst, arith, inl, inr}
+use Rattle.type_model.specs.Types.{Typ, Typs, occurs, occurs_any}
+use Rattle.type_model.specs.Types.{Typ as type, Typs as types}
+use Rattle.type_model.specs.Substitutions.{Subst, apply, apply_all}
+use Rattle.type_model.specs.Schemes.{Scheme}
+use Rattle.type_model.specs.Limits.{no_scope, IsUnder}
+use Rattle.type_model.proofs.Applying.{or_left, or_right, eqb_same}
+use Rattle.type_nodes.specs.Nodes.{Node, Var, parts, bound_level, IsSound}
+use Rattle.type_nodes.specs.Readings.{Types, Fits, IsReading}
+use Rattle.type_nodes.proofs.Lists.{get-append_cases}
+use Rattle.level_unify.specs.Solutions.{Loose, FitsLoosely}
+use Rattle.level_unify.specs.Limits.{FitsUnder}
+use Rattle.level_unify.specs.Instances.{SameTypes, Instantiated}
+use Rattle.level_unify.proofs.Unified.{fits_loosely, fits_under, under_fits}
+use Rattle.level_unify.proofs.Variants.{still_fits}
+use Rattle.level_unify.proofs.Walking.{parts_inside}
 
 -- closing binds variables, so its readings were readings, and what fitted fits
 fits_var : (V : Types) (n l o : ℕ) (c : Node) → c ≡ Var l o → (l ≢ bound_level → IsInScope o (V n)) → FitsNode V n c
@@ -63,6 +79,51 @@ fits_closed nodes new J V R level closes fits = record {
         | inr (d', g, b) ↦ fits_var V n bound_level b.scope d (one_element d d' (slice_get new n) e g ∙ b.now) (λ free. absurd (free refl))
       ];
 }
+
+-- a new variable has any type
+pub new_variable : (old new : State) (n l : ℕ) (V : Types) (t : Typ) → IsSound old.nodes → Makes old new n (Var l no_scope) → Fits old.nodes V → (W : Types) × Fits new.nodes W × SameTypes old.nodes V W × (W n ≡ t)
+new_variable old new n l V t sound made fits = (W, under_fits (λ v. 0) new.nodes W fitted, same, at_new)
+  where
+    W : Types
+    W m = cond (eqb m n) t (V m)
+
+    at_new : W n ≡ t
+    at_new = ap (λ b. cond b t (V n)) (eqb_same n)
+
+    at_old : (m : ℕ) → m < length old.nodes → W m ≡ V m
+    at_old m lt = elim (eqb_tells m n) [ inl (_, e) ↦ absurd (let p = made.added.number in omega arith) | inr (f, _) ↦ ap (λ b. cond b t (V m)) f ]
+
+    same : SameTypes old.nodes V W
+    same m lt = at_old m lt
+
+    old_fits : FitsUnder (λ v. 0) old.nodes V
+    old_fits = fits_under old.nodes V fits
+
+    node_fits : (m : ℕ) (c : Node) → slice_get old.nodes m ≡ Some c → FitsLoosely W m c
+    node_fits m c e = still_fits V W m c (old_fits.loose.each m c e) (at_old m (slice_get_within old.nodes m c e)) (λ k d lt. at_old (get_or (parts c) k d) (parts_inside old.nodes sound m c e k d lt))
+
+    var_fits : (m : ℕ) → FitsLoosely W m (Var l no_scope)
+    var_fits m = tt
+
+    loose : Loose (old.nodes ++ Var l no_scope ∷ []) W
+    loose = record {
+      each = λ m c e. elim (get-append_cases old.nodes (Var l no_scope) m c e) [
+        | inl f ↦ node_fits m c f
+        | inr (p, q) ↦ subst (λ d. FitsLoosely W m d) (sym q) (var_fits m)
+      ];
+    }
+
+    under_new : (m k o l' o' : ℕ) → Var k o ≡ Var l' o' → IsUnder (λ v. 0) l' no_scope (W m) → o ≡ no_scope → IsUnder (λ v. 0) l' o' (W m)
+    under_new m k o l' o' e h s = let f : o ≡ o' = cc in subst (λ z. IsUnder (λ v. 0) l' z (W m)) (sym s ∙ f) h
+
+    limits : (m l' o : ℕ) → slice_get (old.nodes ++ Var l no_scope ∷ []) m ≡ Some (Var l' o) → l' ≢ bound_level → IsUnder (λ v. 0) l' o (W m)
+    limits m l' o e free = elim (get-append_cases old.nodes (Var l no_scope) m (Var l' o) e) [
+      | inl f ↦ subst (IsUnder (λ v. 0) l' o) (sym (at_old m (slice_get_within old.nodes m (Var l' o) f))) (old_fits.under m l' o f free)
+      | inr (p, q) ↦ under_new m l no_scope l' o (sym q) (under_any l' (W m)) refl
+    ]
+
+    fitted : FitsUnder (λ v. 0) new.nodes W
+    fitted = subst (λ ns. FitsUnder (λ v. 0) ns W) (sym made.added.nodes) (record { loose = loose; under = limits })
 
 -- own types are a reading
 pub own_fits : (nodes : List Node) (I : Types) → IsOwn nodes I → Fits nodes I
