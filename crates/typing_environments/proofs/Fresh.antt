@@ -21,20 +21,18 @@ use Rattle.typing_environments.proofs.Own.{own_of}
 use Rattle.typing_environments.proofs.Steps.{same_node}
 use Rattle.typing_environments.proofs.Closing.{became}
 use Rattle.typing_environments.proofs.Uses.{under_any}
-use Rattle.std.proofs.Common.{◌≡◌, ◌≢◌, ℕ, ◌<◌, true, cond, eqb, List, [], ◌∷◌, ◌++◌, length, get_or, Option, Some, refl, sym, ◌∙◌, ap, subst, arith, inl, inr}
-use Rattle.type_model.specs.Types.{Typ, Typs, occurs, occurs_any}
-use Rattle.type_model.specs.Types.{Typ as type, Typs as types}
-use Rattle.type_model.specs.Substitutions.{Subst, apply, apply_all}
-use Rattle.type_model.specs.Schemes.{Scheme}
+use Rattle.std.proofs.Common.{◌≡◌, ◌≢◌, ℕ, ◌<◌, true, cond, eqb, List, [], ◌∷◌, ◌++◌, length, get_or, Some, refl, sym, ◌∙◌, ap, subst, arith, inl, inr}
+use Rattle.type_model.specs.Types.{Typ, occurs}
+use Rattle.type_model.specs.Types.{Typ as type}
 use Rattle.type_model.specs.Limits.{no_scope, IsUnder}
-use Rattle.type_model.proofs.Applying.{or_left, or_right, eqb_same}
+use Rattle.type_model.proofs.Applying.{eqb_same}
 use Rattle.type_nodes.specs.Nodes.{Node, Var, parts, bound_level, IsSound}
 use Rattle.type_nodes.specs.Readings.{Types, Fits, IsReading}
 use Rattle.type_nodes.proofs.Lists.{get-append_cases}
 use Rattle.level_unify.specs.Solutions.{Loose, FitsLoosely}
 use Rattle.level_unify.specs.Limits.{FitsUnder}
-use Rattle.level_unify.specs.Instances.{SameTypes, Instantiated}
-use Rattle.level_unify.proofs.Unified.{fits_loosely, fits_under, under_fits}
+use Rattle.level_unify.specs.Instances.{SameTypes}
+use Rattle.level_unify.proofs.Unified.{fits_under, under_fits}
 use Rattle.level_unify.proofs.Variants.{still_fits}
 use Rattle.level_unify.proofs.Walking.{parts_inside}
 

@@ -2,7 +2,7 @@
 use Rattle.std.proofs.Common.{◌≡◌, ℕ, ◌<◌, Bool, true, false, List, length, Some, refl, sym, ◌∙◌, ap, subst, arith, inl, inr}
 use Rattle.std.specs.Prelude.{slice_get}
 use Rattle.std.proofs.lemmas.Option.{slice_get_within}
-use Rattle.type_model.specs.Types.{Typ, occurs}
+use Rattle.type_model.specs.Types.{occurs}
 use Rattle.type_model.specs.Types.{Typ as type}
 use Rattle.type_model.specs.Substitutions.{Subst, apply}
 use Rattle.type_model.specs.Schemes.{Scheme, free_in_scheme}
@@ -18,7 +18,7 @@ use Rattle.level_unify.specs.Instances.{is_bound, IsVariant, SameTypes}
 use Rattle.level_unify.proofs.Unified.{fits_loosely}
 use Rattle.level_unify.proofs.Variants.{bound_cell, bound_there, free_there, stands_occurs, loose_apply}
 use Rattle.typing_environments.specs.Locals.{IsVar, IsFreeVar, IsOwn, Refines}
-use Rattle.typing_environments.specs.Assumptions.{FreeAlike, IsTaken, SchemeFits, SchemeReads}
+use Rattle.typing_environments.specs.Assumptions.{FreeAlike, SchemeFits, SchemeReads}
 use Rattle.typing_environments.proofs.Uses.{bound_stands}
 use Rattle.typing_environments.proofs.Steps.{same_node, stands_after, stands_before}
 use Rattle.typing_environments.proofs.Later.{var_of, bound_itself}

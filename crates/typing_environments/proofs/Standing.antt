@@ -1,20 +1,17 @@
 -- An environment stands for that of the definitions later on, with a further name, and finds what that finds.
-use Rattle.std.proofs.Common.{◌≡◌, ℕ, zero, suc, ◌<◌, Bool, true, false, not, List, ◌∷◌, length, Option, Some, refl, sym, ◌∙◌, ap, subst, inl, inr}
+use Rattle.std.proofs.Common.{◌≡◌, ℕ, zero, suc, ◌<◌, Bool, true, false, List, ◌∷◌, length, Option, Some, refl, sym, ◌∙◌, ap, inl, inr}
 use Rattle.std.specs.Prelude.{slice_get}
 use Rattle.std.proofs.lemmas.Option.{slice_get_within}
-use Rattle.std.proofs.lemmas.Bool.{eqb-true}
 use Rattle.text_terms.specs.Bytes.{str_bytes}
-use Rattle.type_model.specs.Types.{Typ, Typs, occurs, occurs_any}
-use Rattle.type_model.specs.Types.{Typ as type, Typs as types}
-use Rattle.type_model.specs.Substitutions.{Subst, apply, apply_all}
+use Rattle.type_model.specs.Types.{Typ, occurs}
 use Rattle.type_model.specs.Schemes.{Scheme, free_in_scheme}
 use Rattle.type_model.proofs.Applying.{or_left, or_right, or_cases}
 use Rattle.signature_model.specs.Declarations as rules
 use Rattle.signature_model.specs.Declarations.{Name}
 use Rattle.signature_model.specs.Entries.{Environment, entry, a_value, free_in, value_kind}
-use Rattle.signature_model.specs.Matching.{IsKnown, AreKnown}
+use Rattle.signature_model.specs.Matching.{IsKnown}
 use Rattle.typing_model.specs.Contexts.{monomorphic}
-use Rattle.typing_laws.proofs.Bools.{and_cases, and_both, no_yes}
+use Rattle.typing_laws.proofs.Bools.{no_yes}
 use Rattle.type_terms.specs.declared.types.NodeRef.{NodeRef}
 use Rattle.type_nodes.specs.Nodes.{Node, Var, bound_level}
 use Rattle.type_nodes.specs.Readings.{Types, IsReading}

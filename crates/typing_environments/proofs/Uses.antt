@@ -4,7 +4,7 @@ use Rattle.std.specs.Prelude.{slice_get}
 use Rattle.std.proofs.lemmas.Bool.{eqb-true, le-leb}
 use Rattle.type_model.specs.Types.{Path, Typ, Typs, occurs}
 use Rattle.type_model.specs.Types.{Typ as type, Typs as types}
-use Rattle.type_model.specs.Substitutions.{Subst, apply, apply_all}
+use Rattle.type_model.specs.Substitutions.{Subst, apply}
 use Rattle.type_model.specs.Schemes.{Scheme, HasInstance, free_in_scheme}
 use Rattle.type_model.specs.Limits.{in_scope, no_scope, IsUnder, AreUnder}
 use Rattle.type_model.specs.Origins.{made_before}
@@ -22,7 +22,7 @@ use Rattle.level_unify.proofs.Unified.{fits_loosely, fits_under, under_fits}
 use Rattle.level_unify.proofs.Variants.{bound_cell, bound_there, free_there, loose_apply, stands_occurs}
 use Rattle.typing_laws.proofs.Bools.{no_yes, and_cases, and_both}
 use Rattle.typing_environments.specs.Locals.{IsFreeVar, IsOwn}
-use Rattle.typing_environments.specs.Assumptions.{FreeAlike, IsTaken, SchemeFits, SchemeReads}
+use Rattle.typing_environments.specs.Assumptions.{FreeAlike, SchemeFits, SchemeReads}
 use Rattle.typing_environments.proofs.Steps.{stands_after}
 use Rattle.typing_environments.proofs.Later.{var_of}
 
