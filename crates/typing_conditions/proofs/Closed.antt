@@ -17,7 +17,7 @@ use Rattle.level_unify.specs.Solutions.{Loose}
 use Rattle.level_unify.specs.Instances.{is_bound}
 use Rattle.level_unify.proofs.Unified.{fits_loosely}
 use Rattle.env_table.specs.declared.entries.Entry.{Entry}
-use Rattle.typing_environments.specs.Locals.{IsOwn, IsFreeVar}
+use Rattle.typing_environments.specs.Locals.{IsOwn}
 use Rattle.typing_environments.specs.Assumptions.{SchemeFits, SchemeReads}
 use Rattle.typing_environments.specs.Environments.{of_value, entry_as, newest}
 use Rattle.typing_environments.specs.Standing.{IsIn, Covers, Stands}

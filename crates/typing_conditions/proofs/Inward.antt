@@ -1,12 +1,10 @@
 -- A frame one level further in: what it reaches at its start, and what is open in it.
-use Rattle.std.proofs.Common.{◌≡◌, ◌∙◌, ℕ, zero, suc, ◌<◌, ◌≤◌, min, List, [], ◌∷◌, length, Some, refl, sym, ap, subst, arith, inl}
+use Rattle.std.proofs.Common.{◌≡◌, ◌∙◌, ℕ, zero, suc, ◌<◌, ◌≤◌, min, List, [], ◌∷◌, length, Some, refl, sym, ap, subst, arith}
 use Rattle.std.specs.Prelude.{slice_get}
-use Rattle.std.proofs.lemmas.Option.{slice_get_within}
 use Rattle.type_model.specs.Types.{Typ}
 use Rattle.typing_model.specs.Contexts.{Choice}
 use Rattle.typing_model.specs.BuiltIns.{int_type, char_type, string_type, float_type, unit_type, bool_type, exn_type}
 use Rattle.signature_model.specs.Declarations.{Name}
-use Rattle.type_nodes.specs.Nodes.{Var, IsSound, IsClosed}
 use Rattle.type_nodes.specs.Readings.{Types, IsReading}
 use Rattle.level_unify.specs.Solutions.{Loose}
 use Rattle.env_table.specs.declared.entries.Entry.{Entry}
@@ -14,7 +12,6 @@ use Rattle.typing_environments.specs.Locals.{IsOwn}
 use Rattle.typing_environments.specs.Assumptions.{SchemeFits, SchemeReads}
 use Rattle.typing_environments.specs.Standing.{IsIn, Stands}
 use Rattle.typing_environments.proofs.Regions.{in_any}
-use Rattle.typing_environments.proofs.Steps.{local_made}
 use Rattle.typing_environments.proofs.Instances.{root_within}
 use Rattle.typing_conditions.specs.Sights.{Sight, Fixed, Letters, Agrees}
 use Rattle.typing_conditions.specs.Frames.{Frame, Reaches, IsOpenAt, IsRoot, inner_frame, GoesIn}

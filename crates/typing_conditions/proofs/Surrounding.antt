@@ -11,7 +11,6 @@ use Rattle.typing_model.specs.Typings.{no_choice}
 use Rattle.type_terms.specs.declared.types.NodeRef.{NodeRef}
 use Rattle.type_nodes.specs.Nodes.{Var}
 use Rattle.type_nodes.specs.Readings.{Types}
-use Rattle.level_unify.specs.Solutions.{Loose}
 use Rattle.level_unify.proofs.Unified.{fits_loosely}
 use Rattle.env_table.specs.declared.entries.Entry.{Entry}
 use Rattle.typing_environments.specs.Locals.{IsOwn, IsFreeVar}
