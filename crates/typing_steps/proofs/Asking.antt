@@ -1,5 +1,5 @@
 -- Calls of an application's row: two new types, the demand that a head is an arrow, and an argument.
-use Rattle.std.proofs.Common.{◌≡◌, ◌∙◌, ◌++◌, ℕ, ◌+◌, true, List, [], ◌∷◌, refl, sym, subst}
+use Rattle.std.proofs.Common.{◌≡◌, ◌∙◌, ◌++◌, ℕ, ◌+◌, true, List, ◌∷◌, sym, subst}
 use Rattle.text_terms.specs.declared.Span.{Span}
 use Rattle.tree_model.specs.Trees.{Place}
 use Rattle.syntax_tree.specs.View.{place_of}
@@ -22,10 +22,10 @@ use Rattle.typing_state.specs.Demands.{EqualIs}
 use Rattle.typing_conditions.specs.Sights.{Sight, Key, letter, Letters, IsKnownFor}
 use Rattle.typing_conditions.specs.Frames.{Frame, Reaches}
 use Rattle.typing_conditions.specs.Meanings.{Means}
-use Rattle.typing_conditions.specs.Carrying.{Asks, Scope, Carried, CarriedTo}
+use Rattle.typing_conditions.specs.Carrying.{Scope, Carried, CarriedTo}
 use Rattle.typing_conditions.proofs.Carried.{carried_trans}
 use Rattle.typing_conditions.proofs.Meaning.{means_on}
-use Rattle.typing_steps.specs.States.{is_aloud, sight}
+use Rattle.typing_steps.specs.States.{sight}
 use Rattle.typing_steps.specs.Demands.{JudgedAs, is_kept}
 use Rattle.typing_steps.specs.Rows.{MakesTwo, AsksArrow}
 use Rattle.typing_steps.proofs.Making.{var_made, arrow_over}
@@ -47,7 +47,7 @@ arrow_asked b d e {F} {scope} {a} {G} {head} {at} {found} {whole} {from} {to} en
     let y = arrow_over b d {scope = scope} two.first_is two.second_is made rest in
     let first = carried_trans two.carried y.carried in
     let z : JudgedAs F scope (λ c. ask n k (place_of at) (equal (head c.chosen) (type.Arrow (contexts.letter c n j) (contexts.letter c n (j + 1))))) (sight d) ((letter n (j + 1), to) ∷ (letter n j, from) ∷ G) (sight e)
-        ((letter n (j + 1), to) ∷ (letter n j, from) ∷ G) (site n k) (is_kept v) = equal_asked d e env (site n k) v (first.stays.aloud ∙ aloud) sound (means_on first.stays has) y.means is rest' goes in
+    ((letter n (j + 1), to) ∷ (letter n j, from) ∷ G) (site n k) (is_kept v) = equal_asked d e env (site n k) v (first.stays.aloud ∙ aloud) sound (means_on first.stays has) y.means is rest' goes in
     record {
       carried = carried_trans first z.carried;
       from_is = means_on z.carried.stays (means_on y.carried.stays two.first_is);

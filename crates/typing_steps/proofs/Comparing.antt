@@ -1,5 +1,5 @@
 -- The demand that two types are one.
-use Rattle.std.proofs.Common.{◌≡◌, ℕ, true, List, [], ◌∷◌, refl}
+use Rattle.std.proofs.Common.{◌≡◌, true, List, [], ◌∷◌, refl}
 use Rattle.text_terms.specs.declared.Span.{Span}
 use Rattle.syntax_tree.specs.View.{place_of}
 use Rattle.type_model.specs.Types.{Typ}
@@ -17,7 +17,7 @@ use Rattle.typing_state.specs.Demands.{EqualIs}
 use Rattle.typing_conditions.specs.Sights.{Letters}
 use Rattle.typing_conditions.specs.Frames.{Frame}
 use Rattle.typing_conditions.specs.Meanings.{Means}
-use Rattle.typing_conditions.specs.Carrying.{Scope, Carried}
+use Rattle.typing_conditions.specs.Carrying.{Scope}
 use Rattle.typing_conditions.proofs.Framing.{no_bound}
 use Rattle.typing_conditions.proofs.Equals.{equal_kept, equal_told}
 use Rattle.typing_steps.specs.States.{is_aloud, sight}

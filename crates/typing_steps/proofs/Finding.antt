@@ -1,5 +1,5 @@
 -- The demand that a path is bound: the code and the definitions find the same, and lose the same qualifier.
-use Rattle.std.proofs.Common.{◌≡◌, ◌∙◌, ◌++◌, ℕ, zero, suc, ◌+◌, Bool, true, false, List, [], ◌∷◌, Option, Some, None, refl, sym, ap, subst, arith, if◌then◌else◌}
+use Rattle.std.proofs.Common.{◌≡◌, ◌∙◌, ◌++◌, ℕ, suc, ◌+◌, Bool, true, false, List, [], ◌∷◌, Option, Some, None, refl, sym, ap, subst, arith, if◌then◌else◌}
 use Rattle.std.specs.Prelude.{slice_get}
 use Rattle.token_model.specs.Kinds.{Tok}
 use Rattle.tree_model.specs.Trees.{Place}
@@ -10,7 +10,7 @@ use Rattle.signature_model.specs.Declarations.{Name}
 use Rattle.signature_model.specs.Entries.{Environment}
 use Rattle.signature_model.specs.Entries.{Entry as Named}
 use Rattle.signature_model.specs.Lookups.{FoundAmong, an_entry, a_hole, nothing, ScopeOf, lookup, scope_by, scope_behind}
-use Rattle.typing_model.specs.Demands.{Site, Word, Condition, demand, test}
+use Rattle.typing_model.specs.Demands.{Site, Word, demand, test}
 use Rattle.typing_model.specs.Contexts.{Context}
 use Rattle.typing_model.specs.Names as names
 use Rattle.typing_model.specs.Names.{names_of}
@@ -26,7 +26,6 @@ use Rattle.env_table.specs.Scopes.{is_no_scope, lost_behind}
 use Rattle.typing_state.specs.declared.parts.Parts.{Parts}
 use Rattle.typing_state.specs.declared.messages.Word.{Word as Called}
 use Rattle.typing_state.specs.declared.messages.Word.TheVariants as word
-use Rattle.typing_state.specs.Goes.{OnlyFaults}
 use Rattle.typing_state.specs.Bound.{names_of_tokens, TellsUnbound, token_at, lost_among, found_at, word_of, BoundIs, BoundLastIs}
 use Rattle.typing_environments.specs.Environments.{EnvAs}
 use Rattle.typing_environments.specs.Standing.{IsIn}
@@ -100,9 +99,9 @@ bound_asked a b {D} {F} {scope} {G} {env} given called qs t kind w s at aloud is
         let stands = (at.fits own.0 V c.chosen own.1 loose agrees).names in
         let R : ℕ → Scheme → Type 0 = λ r sc. SchemeFits a.store.nodes V r sc × IsIn at.roots r in
         let lost : lost_among env qs ≡ names.lost_behind c.env [] qs =
-            lost_so R D.declaration D.exception env (scope.env c.chosen) stands qs [] 0 qs (λ j. ap (slice_get qs) (let e : 0 + j ≡ j = omega arith in e)) ∙ ap (λ E. names.lost_behind E [] qs) (sym under.env) in
+        lost_so R D.declaration D.exception env (scope.env c.chosen) stands qs [] 0 qs (λ j. ap (slice_get qs) (let e : 0 + j ≡ j = omega arith in e)) ∙ ap (λ E. names.lost_behind E [] qs) (sym under.env) in
         let found : is_found_here (found_at env qs kind t) ≡ names.is_found (lookup c.env (names_of qs) (kind_of kind) t.name) =
-            found_so R D.declaration D.exception (lookup_alike R D.declaration D.exception (names_of qs) (kind_of kind) t.name stands) ∙ ap (λ E. names.is_found (lookup E (names_of qs) (kind_of kind) t.name)) (sym under.env) in
+        found_so R D.declaration D.exception (lookup_alike R D.declaration D.exception (names_of qs) (kind_of kind) t.name stands) ∙ ap (λ E. names.is_found (lookup E (names_of qs) (kind_of kind) t.name)) (sym under.env) in
         λ i. demand s (place_unbound (lost i) t) (test (complaint_unbound (lost i) w t) (found i)) ∷ []
 
 -- `bound_last`: the same of a last name that may be missing

@@ -1,16 +1,15 @@
 -- Types that are made one without a demand, new variables of a scope, and the calls that limit a type.
-use Rattle.std.proofs.Common.{◌≡◌, ◌≢◌, ◌∙◌, ◌⊎◌, inl, inr, ℕ, zero, suc, ◌-◌, ◌^◌, ◌<◌, ◌≤◌, min, Bool, List, [], ◌∷◌, take, length, Some, refl, sym, ap, subst, arith, append-nil}
-use Rattle.std.specs.Prelude.{slice_get}
+use Rattle.std.proofs.Common.{◌≡◌, ◌≢◌, ◌∙◌, ◌⊎◌, inl, inr, ℕ, zero, ◌-◌, ◌^◌, ◌<◌, ◌≤◌, min, List, [], ◌∷◌, refl, sym, subst, arith, append-nil}
 use Rattle.std.proofs.lemmas.Option.{slice_get_within}
 use Rattle.type_model.specs.Types.{Typ}
-use Rattle.type_model.specs.Limits.{no_scope, IsInScope}
-use Rattle.typing_model.specs.Demands.{same, made, AllHold}
+use Rattle.type_model.specs.Limits.{IsInScope}
+use Rattle.typing_model.specs.Demands.{same, AllHold}
 use Rattle.typing_model.specs.Contexts.{Choice, Context}
-use Rattle.type_nodes.specs.Nodes.{Node, Var, bound_level, IsSound, IsNode}
+use Rattle.type_nodes.specs.Nodes.{Var, bound_level, IsSound, IsNode}
 use Rattle.type_nodes.specs.Readings.{Types}
 use Rattle.type_nodes.specs.States.{State, Change, state}
 use Rattle.type_nodes.specs.Changes.{Makes}
-use Rattle.level_unify.specs.Solutions.{HaveNoBound, Tightens}
+use Rattle.level_unify.specs.Solutions.{Tightens}
 use Rattle.level_unify.specs.Unification.{Unified, NeverAlike}
 use Rattle.level_unify.proofs.Unified.{fits_loosely, fits_under, under_fits}
 use Rattle.typing_state.specs.declared.parts.Parts.{Parts}
@@ -25,7 +24,7 @@ use Rattle.typing_environments.proofs.Fresh.{fresh_is_one}
 use Rattle.typing_conditions.specs.Sights.{Sight, Key, value_of, Letters, IsKnownFor, SameAt}
 use Rattle.typing_conditions.specs.Frames.{Frame, Reaches, IsOpen, AreOpen}
 use Rattle.typing_conditions.specs.Meanings.{Means}
-use Rattle.typing_conditions.specs.Judging.{judgements, StartsWith, FallsShort}
+use Rattle.typing_conditions.specs.Judging.{StartsWith, FallsShort}
 use Rattle.typing_conditions.specs.Steps.{OnlyNodes}
 use Rattle.typing_conditions.specs.Carrying.{Asks, Scope, Enters, GoesOn, Stays, Continues, Carried, CarriedTo}
 use Rattle.typing_conditions.proofs.Stays.{agrees_before}
@@ -36,8 +35,7 @@ use Rattle.typing_conditions.proofs.Meaning.{agrees_same}
 use Rattle.typing_conditions.proofs.Equals.{unified_stays}
 use Rattle.typing_conditions.proofs.Nodes.{made_stays}
 use Rattle.typing_steps.specs.States.{sight}
-use Rattle.typing_steps.proofs.Seeing.{only_nodes, same_state, level_here}
-use Rattle.typing_steps.proofs.Still.{none_idle, carried_idle}
+use Rattle.typing_steps.proofs.Seeing.{only_nodes, level_here}
 use Rattle.typing_steps.proofs.Limiting.{LimitAsks, Limited}
 
 -- two open types were made one: they are the same

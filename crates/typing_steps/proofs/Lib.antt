@@ -11,3 +11,4 @@ pub mod Starting
 pub mod Limiting
 pub mod Joining
 pub mod Asking
+pub mod Naming

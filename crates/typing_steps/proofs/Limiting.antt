@@ -1,5 +1,5 @@
 -- Limits: a new variable of a level and a scope is made one with a type, whose variables are of at most that level then, and whose origins are in the scope.
-use Rattle.std.proofs.Common.{◌≡◌, ◌≢◌, ◌∙◌, ◌⊎◌, inl, inr, ◌++◌, ℕ, zero, suc, ◌<◌, ◌≤◌, true, false, List, [], ◌∷◌, take, length, Some, refl, sym, ap, subst, arith, append-nil}
+use Rattle.std.proofs.Common.{◌≡◌, ◌≢◌, ◌∙◌, ◌⊎◌, inl, inr, ◌++◌, ℕ, zero, suc, ◌<◌, ◌≤◌, List, [], ◌∷◌, take, length, Some, refl, sym, ap, subst, arith, append-nil}
 use Rattle.std.specs.Prelude.{slice_get}
 use Rattle.std.proofs.lemmas.Option.{slice_get_within}
 use Rattle.std.proofs.lemmas.Bool.{eqb-true}
@@ -9,8 +9,8 @@ use Rattle.type_model.proofs.Applying.{eqb_same}
 use Rattle.typing_laws.proofs.Bools.{no_yes}
 use Rattle.typing_model.specs.Demands.{made, AllHold}
 use Rattle.typing_model.specs.Contexts.{Choice, Context}
-use Rattle.type_nodes.specs.Nodes.{Node, Var, bound_level, IsSound}
-use Rattle.type_nodes.specs.Readings.{Types, Fits, IsReading}
+use Rattle.type_nodes.specs.Nodes.{Var, bound_level, IsSound}
+use Rattle.type_nodes.specs.Readings.{Types, Fits}
 use Rattle.type_nodes.specs.States.{State, Change, state}
 use Rattle.type_nodes.specs.Changes.{Makes}
 use Rattle.type_nodes.proofs.Lists.{get-append_cases}
@@ -18,7 +18,7 @@ use Rattle.level_unify.specs.Solutions.{Loose, FitsLoosely, HaveNoBound}
 use Rattle.level_unify.specs.Copies.{Extends}
 use Rattle.level_unify.specs.Unification.{Unified}
 use Rattle.level_unify.proofs.Unified.{fits_loosely, fits_under, under_fits}
-use Rattle.typing_environments.specs.Locals.{IsOwn, IsFreeVar, IsLow, Refines, Local, stands_in_any, Within}
+use Rattle.typing_environments.specs.Locals.{IsOwn, Refines, Local, Within}
 use Rattle.typing_environments.specs.Standing.{IsIn}
 use Rattle.typing_environments.proofs.Own.{own_of}
 use Rattle.typing_environments.proofs.Regions.{any_in}
@@ -29,14 +29,14 @@ use Rattle.typing_environments.proofs.Later.{result_after}
 use Rattle.typing_conditions.specs.Sights.{Sight, Letters}
 use Rattle.typing_conditions.specs.Frames.{Frame, Reaches, IsHeld, IsOpen}
 use Rattle.typing_conditions.specs.Meanings.{Means}
-use Rattle.typing_conditions.specs.Judging.{judgements, StartsWith, FallsShort, TellAll}
+use Rattle.typing_conditions.specs.Judging.{judgements, StartsWith, TellAll}
 use Rattle.typing_conditions.specs.Steps.{OnlyNodes}
 use Rattle.typing_conditions.specs.Carrying.{Asks, Scope, Enters, Stays, Continues, Carried}
 use Rattle.typing_conditions.proofs.Stays.{agrees_before}
 use Rattle.typing_conditions.proofs.Carried.{take_none}
 use Rattle.typing_conditions.proofs.First.{starts_none}
 use Rattle.typing_conditions.proofs.Framing.{sound_made, written_next}
-use Rattle.typing_conditions.proofs.Making.{with_type, at_own, at_older, in_any_scope, makes_extends, made_here, loose_before, reading_before, fits_made}
+use Rattle.typing_conditions.proofs.Making.{with_type, at_own, at_older, in_any_scope, makes_extends, made_here, reading_before, fits_made}
 use Rattle.typing_conditions.proofs.Meaning.{agrees_same, inside_longer}
 
 -- What is asked of a type that is limited to a scope: that its origins are in the scope.
@@ -115,8 +115,8 @@ module _ {F : Frame} {a b : Sight} {mid : State} {v l o m : ℕ} (at : Limited F
   local_mid : Local F.start mid.nodes F.types own_mid.0 F.roots held F.level
   local_mid =
       let step : Local a.nodes mid.nodes own_a.0 own_mid.0 [] held F.level = local_node old mid v (Var l o) own_a.0 own_mid.0 held F.level own_a.1 own_mid.1 at.made
-          (λ k l' o' lt e le. let i = at.held k (let f : l ≡ l' = cc in omega arith) lt in
-          any_after v own_mid.0 (p.reached.held k) (F.held k) (any_in v own_mid.0 (F.held k) i.0 v i.1 (ap (occurs v) (own_mid.1.vars v l o there) ∙ eqb_same v))) in
+      (λ k l' o' lt e le. let i = at.held k (let f : l ≡ l' = cc in omega arith) lt in
+      any_after v own_mid.0 (p.reached.held k) (F.held k) (any_in v own_mid.0 (F.held k) i.0 v i.1 (ap (occurs v) (own_mid.1.vars v l o there) ∙ eqb_same v))) in
       local_then F.start a.nodes mid.nodes F.types own_a.0 own_mid.0 F.roots [] p.reached.held held F.level p.reached.frame.own own_a.1 own_mid.1 (p.reached.local own_a.0 own_a.1) step
       (λ k d e. absurd (none_there k d e)) (λ k u lt h. any_before u own_mid.0 (p.reached.held k) (F.held k) h)
     where

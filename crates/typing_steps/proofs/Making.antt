@@ -1,5 +1,5 @@
 -- New types: a variable for what a choice chooses, and types over others.
-use Rattle.std.proofs.Common.{◌≡◌, ℕ, zero, suc, ◌<◌, List, [], ◌∷◌, refl, subst, arith, length}
+use Rattle.std.proofs.Common.{ℕ, zero, suc, ◌<◌, List, [], ◌∷◌, subst, arith, length}
 use Rattle.std.specs.Prelude.{All, codes}
 use Rattle.type_model.specs.Types.{Path, Typ, types_of}
 use Rattle.type_model.specs.Types.{Typ as type}

@@ -1,9 +1,6 @@
 -- What is recorded for a node: its type, or that it is treated in an environment.
-use Rattle.std.proofs.Common.{◌≡◌, ◌∙◌, ◌++◌, ℕ, Bool, true, false, ◌&&◌, ◌==◌, if◌then◌else◌, List, [], ◌∷◌, Option, Some, None, refl, sym, ap}
-use Rattle.std.specs.Prelude.{option_map, unwrap_or}
-use Rattle.std.specs.declared.vec.Vec.{Vec}
-use Rattle.std.specs.declared.rc.Rc.{Rc}
-use Rattle.std.specs.declared.alloc.Global.{Global}
+use Rattle.std.proofs.Common.{◌≡◌, ◌∙◌, ℕ, Bool, true, false, ◌&&◌, ◌==◌, if◌then◌else◌, List, Option, Some, refl, ap}
+use Rattle.std.specs.Prelude.{option_map}
 use Rattle.type_terms.specs.declared.types.NodeRef.{NodeRef}
 use Rattle.type_nodes.specs.States.{State}
 use Rattle.env_table.specs.declared.entries.Entry.{Entry}
@@ -14,7 +11,7 @@ use Rattle.typing_state.specs.declared.parts.Telling.TheVariants.{Aloud, Quiet}
 use Rattle.typing_state.specs.declared.parts.Parts.{Parts}
 use Rattle.typing_state.specs.Goes.{OnlyIndex}
 use Rattle.typing_state.specs.Notes.{NotedFirst, Noted, NotedNameless}
-use Rattle.typing_conditions.specs.Steps.{Records, OnlyReports}
+use Rattle.typing_conditions.specs.Steps.{Records}
 use Rattle.typing_steps.specs.States.{type_in, is_aloud, written_in, fixed_of, sight}
 
 type_of_first : (b : Bool) (s : Seen) (y : Option Seen) → type_in (if b then Some s else y) ≡ (if b then type_in (Some s) else type_in y)

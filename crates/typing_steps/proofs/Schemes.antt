@@ -1,5 +1,5 @@
 -- Instances of schemes, and the types of names that are closed.
-use Rattle.std.proofs.Common.{◌≡◌, ◌≢◌, ◌∙◌, ◌++◌, ℕ, suc, ◌^◌, ◌+◌, ◌<◌, ◌≤◌, false, true, List, [], ◌∷◌, length, Some, refl, sym, ap, subst, arith}
+use Rattle.std.proofs.Common.{◌≡◌, ◌≢◌, ◌∙◌, ◌++◌, ℕ, suc, ◌^◌, ◌+◌, ◌<◌, ◌≤◌, false, true, List, [], ◌∷◌, Some, refl, sym, ap, subst, arith}
 use Rattle.std.specs.Prelude.{slice_get}
 use Rattle.std.proofs.lemmas.Bool.{ne_eqb}
 use Rattle.type_model.specs.Types.{Path, Typ, occurs}

@@ -1,5 +1,5 @@
 -- What calls leave as it was, and what they report, as the definitions see it.
-use Rattle.std.proofs.Common.{◌≡◌, ◌≢◌, ◌∙◌, ◌++◌, ℕ, ◌-◌, ◌^◌, ◌<◌, ◌≤◌, min, Bool, true, false, List, [], ◌∷◌, refl, sym, ap, arith, if◌then◌else◌}
+use Rattle.std.proofs.Common.{◌≡◌, ◌∙◌, ◌++◌, ℕ, ◌-◌, ◌^◌, ◌<◌, ◌≤◌, min, Bool, true, false, List, [], ◌∷◌, refl, ap, arith, if◌then◌else◌}
 use Rattle.text_terms.specs.declared.Span.{Span}
 use Rattle.syntax_tree.specs.View.{place_of}
 use Rattle.type_nodes.specs.Nodes.{bound_level}

@@ -1,18 +1,17 @@
 -- The state at an item's start, and the nodes of the built-in types.
-use Rattle.std.proofs.Common.{◌≡◌, ◌∙◌, ◌++◌, ℕ, zero, suc, ◌<◌, ◌≤◌, Bool, true, false, List, [], ◌∷◌, length, Some, None, refl, sym, ap, subst, arith}
+use Rattle.std.proofs.Common.{◌≡◌, ◌∙◌, ℕ, ◌<◌, false, List, [], Some, None, refl, sym, ap, subst, arith}
 use Rattle.std.specs.Prelude.{slice_get}
 use Rattle.std.proofs.lemmas.Option.{slice_get_within}
 use Rattle.type_model.specs.Types.{Path, Typ, occurs}
 use Rattle.type_model.specs.Types.{Typ as type, Typs as types}
 use Rattle.signature_model.specs.Declarations.{Name}
 use Rattle.typing_laws.proofs.Bools.{no_yes}
-use Rattle.typing_model.specs.Contexts.{Choice}
 use Rattle.type_terms.specs.declared.types.NodeRef.{NodeRef}
 use Rattle.type_nodes.specs.Nodes.{Node, Var, Con, bound_level, IsSound}
 use Rattle.type_nodes.specs.Readings.{Types}
 use Rattle.type_nodes.specs.States.{State}
 use Rattle.type_nodes.specs.Changes.{Makes}
-use Rattle.level_unify.specs.Solutions.{Loose, Tightens}
+use Rattle.level_unify.specs.Solutions.{Tightens}
 use Rattle.typing_state.specs.declared.parts.Parts.{Parts}
 use Rattle.typing_state.specs.Goes.{Goes}
 use Rattle.typing_environments.specs.Locals.{IsOwn, IsContext}
@@ -22,7 +21,7 @@ use Rattle.typing_environments.proofs.Steps.{refines_none, local_made}
 use Rattle.typing_environments.proofs.Instances.{root_within}
 use Rattle.typing_conditions.proofs.Making.{made_here}
 use Rattle.typing_environments.proofs.Later.{context_after}
-use Rattle.typing_conditions.specs.Sights.{Sight, Fixed}
+use Rattle.typing_conditions.specs.Sights.{Sight}
 use Rattle.typing_conditions.specs.Frames.{Frame, Reaches, IsRoot}
 use Rattle.typing_conditions.specs.Meanings.{Means, KnowsFixed, KnowsWritten}
 use Rattle.typing_conditions.proofs.Inward.{fixed_nodes}

@@ -1,5 +1,5 @@
 -- Calls after which nothing is asked: what they change no condition sees.
-use Rattle.std.proofs.Common.{◌≡◌, ◌∙◌, inl, ℕ, zero, suc, Bool, true, false, ◌&&◌, ◌==◌, if◌then◌else◌, List, [], ◌∷◌, take, Option, Some, None, refl, sym, ap, subst, append-nil}
+use Rattle.std.proofs.Common.{◌≡◌, ◌∙◌, inl, ℕ, zero, suc, Bool, true, false, ◌&&◌, ◌==◌, if◌then◌else◌, List, [], ◌∷◌, take, Some, None, refl, sym, ap, subst, append-nil}
 use Rattle.std.specs.Prelude.{option_map}
 use Rattle.std.proofs.lemmas.Bool.{eqb-true}
 use Rattle.text_terms.specs.declared.Span.{Span}
@@ -13,13 +13,13 @@ use Rattle.type_nodes.specs.States.{State}
 use Rattle.env_table.specs.declared.entries.Entry.{Entry}
 use Rattle.env_table.specs.declared.faults.FaultKind.{FaultKind}
 use Rattle.env_table.specs.declared.seen.Seen.{Seen}
-use Rattle.typed_index.specs.Seen.{seen_at, with_note}
+use Rattle.typed_index.specs.Seen.{seen_at}
 use Rattle.typing_state.specs.declared.parts.Telling.{Telling}
 use Rattle.typing_state.specs.declared.parts.Telling.TheVariants.{Aloud, Quiet}
 use Rattle.typing_state.specs.declared.parts.Parts.{Parts}
 use Rattle.typing_state.specs.declared.demands.Verdict.{Verdict}
 use Rattle.typing_state.specs.declared.demands.Verdict.TheVariants.{Kept, Reported}
-use Rattle.typing_state.specs.Goes.{faults_of, OnlyFaults, OnlyIndex, OnlyStoreAndFaults, Goes, Told}
+use Rattle.typing_state.specs.Goes.{faults_of, OnlyIndex, OnlyStoreAndFaults, Goes, Told}
 use Rattle.typing_state.specs.Notes.{NotedFirst, Noted, NotedNameless}
 use Rattle.typing_state.specs.Demands.{EqualIs}
 use Rattle.typing_conditions.specs.Sights.{Sight, Letters}
@@ -32,7 +32,7 @@ use Rattle.typing_conditions.proofs.First.{starts_none}
 use Rattle.typing_conditions.proofs.Framing.{no_bound}
 use Rattle.typing_conditions.proofs.Equals.{reports_stay, goes_as, unified_stays}
 use Rattle.typing_steps.specs.States.{type_in, is_aloud, reports_of, written_in, fixed_of, sight}
-use Rattle.typing_steps.proofs.Seeing.{only_reports, same_state, nodes_of_both, reports_of_both}
+use Rattle.typing_steps.proofs.Seeing.{same_state, nodes_of_both, reports_of_both}
 
 -- conditions that hold in any case, of which none is a demand
 pub record IsIdle (asks : Asks) : Type 0 where

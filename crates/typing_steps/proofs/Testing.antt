@@ -1,5 +1,5 @@
 -- Tests of names: each is judged, kept or reported.
-use Rattle.std.proofs.Common.{◌≡◌, ◌≢◌, ◌∙◌, ◌⊎◌, inl, inr, ℕ, ◌==◌, Bool, true, false, List, [], ◌∷◌, take, refl, sym, ap, subst}
+use Rattle.std.proofs.Common.{◌≡◌, ◌∙◌, inl, inr, ℕ, ◌==◌, Bool, true, false, List, [], ◌∷◌, take, refl, sym, ap, subst}
 use Rattle.std.proofs.lemmas.Bool.{ne_eqb}
 use Rattle.type_model.proofs.Applying.{eqb_same}
 use Rattle.text_terms.specs.declared.Span.{Span}
@@ -11,7 +11,6 @@ use Rattle.typing_model.specs.Contexts.{Context}
 use Rattle.type_nodes.specs.Readings.{Types}
 use Rattle.level_unify.specs.Solutions.{Loose}
 use Rattle.level_unify.proofs.Unified.{fits_loosely}
-use Rattle.env_table.specs.declared.faults.FaultKind.{FaultKind}
 use Rattle.typing_state.specs.declared.parts.Parts.{Parts}
 use Rattle.typing_state.specs.declared.demands.Verdict.{Verdict}
 use Rattle.typing_state.specs.declared.demands.Verdict.TheVariants.{Kept, Reported}
