@@ -58,7 +58,7 @@ pub goes_as : {F : Frame} {scope : Scope} {G : Letters} {V : Types} {c : Context
 goes_as {V = V} {a = a} {b = b} rest e = record { fits = subst (λ ns. Fits ns V) (sym rest.nodes) e.fits; before = λ k lt. refl; agrees = agrees_same a b rest.types rest.written e.inside (λ k lt. refl) e.agrees }
 
 -- two open nodes were made one
-unified_stays : {F : Frame} {G : Letters} {a b : Sight} {m n : ℕ} → IsSound b.nodes → OnlyNodes a b → Tightens a.nodes b.nodes → IsOpen F a m → IsOpen F a n → Unified a.nodes b.nodes m n → Stays F a G b G
+pub unified_stays : {F : Frame} {G : Letters} {a b : Sight} {m n : ℕ} → IsSound b.nodes → OnlyNodes a b → Tightens a.nodes b.nodes → IsOpen F a m → IsOpen F a n → Unified a.nodes b.nodes m n → Stays F a G b G
 unified_stays {F} {G} {a} {b} {m} {n} sound rest tight p q one = record {
   longer = longer;
   loose = tight.types;
@@ -98,7 +98,7 @@ pub not_both : {t : Bool} → t ≡ false → t ≡ true → ⊥
 not_both e f = absurd (let g : false ≡ true = sym e ∙ f in cc)
 
 -- the demand that two types are one is kept
-pub equal_kept : {F : Frame} {scope : Scope} {G : Letters} {found wanted : Choice → Typ} {m n : ℕ} {a b : Sight} (s : Site) (at : Place) → IsSound b.nodes → Means F a G found m → Means F a G wanted n →
+unfoldable pub equal_kept : {F : Frame} {scope : Scope} {G : Letters} {found wanted : Choice → Typ} {m n : ℕ} {a b : Sight} (s : Site) (at : Place) → IsSound b.nodes → Means F a G found m → Means F a G wanted n →
     OnlyNodes a b → Tightens a.nodes b.nodes → Unified a.nodes b.nodes m n → Carried F scope (λ c. demand s at (equal (found c.chosen) (wanted c.chosen)) ∷ []) a G b G
 equal_kept {F} {scope} {G} {found} {wanted} {m} {n} {a} {b} s at sound p q rest tight one = record {
   stays = stays;
@@ -143,7 +143,7 @@ equal_kept {F} {scope} {G} {found} {wanted} {m} {n} {a} {b} s at sound p q rest 
     complete V c e h = by V c e h.0 (c.kept s) refl
 
 -- the demand that two types are one isn't kept
-pub equal_told : {F : Frame} {scope : Scope} {G : Letters} {found wanted : Choice → Typ} {m n : ℕ} {a b : Sight} (s : Site) (at : Place) → Means F a G found m → Means F a G wanted n →
+unfoldable pub equal_told : {F : Frame} {scope : Scope} {G : Letters} {found wanted : Choice → Typ} {m n : ℕ} {a b : Sight} (s : Site) (at : Place) → Means F a G found m → Means F a G wanted n →
     OnlyReports a b → Tells a b at fault.Equal → NeverAlike a.nodes m n → Carried F scope (λ c. demand s at (equal (found c.chosen) (wanted c.chosen)) ∷ []) a G b G
 equal_told {F} {scope} {G} {found} {wanted} {m} {n} {a} {b} s at p q rest tells never = record {
   stays = reports_stay rest;

@@ -29,7 +29,7 @@ use Rattle.typing_conditions.specs.Carrying.{Stays}
 use Rattle.typing_conditions.specs.Steps.{OnlyNodes}
 
 -- the steps of a row in the frame, with these open nodes
-row_of : {F : Frame} {a : Sight} (r : Reaches F a) (J : Types) → IsOwn a.nodes J → (ms : List ℕ) → AreOpen F a ms → Row F.start a.nodes F.types J F.roots r.held F.level ms
+pub row_of : {F : Frame} {a : Sight} (r : Reaches F a) (J : Types) → IsOwn a.nodes J → (ms : List ℕ) → AreOpen F a ms → Row F.start a.nodes F.types J F.roots r.held F.level ms
 row_of {F} {a} r J own ms opens = record {
   before = r.frame.own;
   own = own;
@@ -56,7 +56,7 @@ reached_start {F} a frame nodes level sound = record {
     len = ap length nodes
 
 -- what a further step reaches, where nothing that is written is lost
-reaches_step : {F : Frame} {a b : Sight} (r : Reaches F a) → IsSound b.nodes → b.level ≡ a.level → ((x : Name) (n : ℕ) → a.written x ≡ Some n → b.written x ≡ Some n) →
+pub reaches_step : {F : Frame} {a b : Sight} (r : Reaches F a) → IsSound b.nodes → b.level ≡ a.level → ((x : Name) (n : ℕ) → a.written x ≡ Some n → b.written x ≡ Some n) →
     ((J K : Types) → IsOwn a.nodes J → IsOwn b.nodes K → Local F.start b.nodes F.types K F.roots r.held F.level) → Reaches F b
 reaches_step {F} {a} {b} r sound level written local = record {
   frame = r.frame;

@@ -30,7 +30,7 @@ use Rattle.typing_conditions.proofs.Making.{with_type, at_own, at_older, in_any_
 use Rattle.typing_conditions.proofs.Meaning.{all_open, all_types, agrees_same, inside_longer}
 
 -- where a node was made everything stays
-made_stays : {F : Frame} {G : Letters} {a b : Sight} {s t : List Change} {n : ℕ} {c : Node} (more : Letters) → IsOpen F b n → Makes (state a.nodes s) (state b.nodes t) n c → OnlyNodes a b → AreNodes more b.nodes → Stays F a G b (more ++ G)
+pub made_stays : {F : Frame} {G : Letters} {a b : Sight} {s t : List Change} {n : ℕ} {c : Node} (more : Letters) → IsOpen F b n → Makes (state a.nodes s) (state b.nodes t) n c → OnlyNodes a b → AreNodes more b.nodes → Stays F a G b (more ++ G)
 made_stays {F} {G} {a} {b} {s} {t} {n} {c} more opened made rest new = record {
   longer = extends.longer;
   loose = λ V h. loose_before a.nodes b.nodes V extends h;

@@ -23,7 +23,7 @@ pub record TestIs (scope : Scope) (complaint : Context → Complaint) (holds : C
   pub is_kind : (c : Context) → IsUnder scope c → kind_of (complaint c) ≡ kind
 
 -- a test of names that holds or doesn't, whatever the types
-pub test_judged : {F : Frame} {scope : Scope} {G : Letters} {complaint : Context → Complaint} {holds : Context → Bool} {at : Context → Place} {kind : FaultKind} {place : Place} {a b : Sight} (s : Site) (v : Bool) →
+unfoldable pub test_judged : {F : Frame} {scope : Scope} {G : Letters} {complaint : Context → Complaint} {holds : Context → Bool} {at : Context → Place} {kind : FaultKind} {place : Place} {a b : Sight} (s : Site) (v : Bool) →
     TestIs scope complaint holds at v place kind → OnlyReports a b → IsTold a b place kind v → Carried F scope (λ c. demand s (at c) (test (complaint c) (holds c)) ∷ []) a G b G
 test_judged {F} {scope} {G} {complaint} {holds} {at} {kind} {place} {a} {b} s true is rest tells = record {
   stays = reports_stay rest;

@@ -1,0 +1,45 @@
+-- What is recorded for a node: its type, or that it is treated in an environment.
+use Rattle.std.proofs.Common.{◌≡◌, ◌∙◌, ℕ, Bool, true, false, ◌&&◌, ◌==◌, if◌then◌else◌, List, Option, Some, refl, ap}
+use Rattle.std.specs.Prelude.{option_map}
+use Rattle.type_terms.specs.declared.types.NodeRef.{NodeRef}
+use Rattle.type_nodes.specs.States.{State}
+use Rattle.env_table.specs.declared.entries.Entry.{Entry}
+use Rattle.env_table.specs.declared.seen.Seen.{Seen}
+use Rattle.typed_index.specs.Seen.{seen_at}
+use Rattle.typing_state.specs.declared.parts.Telling.{Telling}
+use Rattle.typing_state.specs.declared.parts.Telling.TheVariants.{Aloud, Quiet}
+use Rattle.typing_state.specs.declared.parts.Parts.{Parts}
+use Rattle.typing_state.specs.Goes.{OnlyIndex}
+use Rattle.typing_state.specs.Notes.{NotedFirst, Noted, NotedNameless}
+use Rattle.typing_conditions.specs.Steps.{Records}
+use Rattle.typing_steps.specs.States.{type_in, is_aloud, written_in, fixed_of, sight}
+
+type_of_first : (b : Bool) (s : Seen) (y : Option Seen) → type_in (if b then Some s else y) ≡ (if b then type_in (Some s) else type_in y)
+type_of_first true s y = refl
+type_of_first false s y = refl
+
+-- what is recorded for the first time, with a type
+first_type : (a b : Parts) (number : ℕ) (m : NodeRef) (seen : Seen) → seen.ty ≡ Some m → NotedFirst a b number seen → OnlyIndex a b → Records (sight a) (sight b) number m.0
+first_type a b number m seen typed noted rest = record {
+  none = ap type_in noted.before;
+  types = λ i q. ap type_in (noted.after i q) ∙ type_of_first (a.item == i && number == q) seen (seen_at a.index i q) ∙ ap (λ t. if a.item == i && number == q then option_map (λ (k : NodeRef). k.0) t else type_in (seen_at a.index i q)) typed;
+  written = λ x. ap (λ w. written_in w x) rest.written;
+  nodes = ap (λ (s : State). s.nodes) rest.store;
+  reports = ap (λ f. (sight (record a { faults = f })).reports) rest.faults;
+  aloud = ap is_aloud rest.telling;
+  item = rest.item;
+  level = rest.level;
+  fixed = ap fixed_of rest.constants;
+}
+
+-- `note` with a type records it
+pub type_noted : (a b : Parts) (number : ℕ) (m : NodeRef) (seen : Seen) → seen.ty ≡ Some m → is_aloud a.telling ≡ true → Noted a.telling a b number seen → OnlyIndex a b → Records (sight a) (sight b) number m.0
+type_noted a b number m seen typed aloud noted rest = by a.telling aloud noted
+  where
+    by : (t : Telling) → is_aloud t ≡ true → Noted t a b number seen → Records (sight a) (sight b) number m.0
+    by Quiet e h = absurd (cc)
+    by Aloud e h = first_type a b number m seen typed h rest
+
+-- `note_type` records the type
+pub nameless_noted : (a b : Parts) (number : ℕ) (env : List Entry) (m : NodeRef) → is_aloud a.telling ≡ true → NotedNameless a b number env (Some m) → OnlyIndex a b → Records (sight a) (sight b) number m.0
+nameless_noted a b number env m aloud (names, none, noted) rest = type_noted a b number m (record { env = env; ty = Some m; names = names }) refl aloud noted rest

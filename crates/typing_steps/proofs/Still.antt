@@ -1,0 +1,134 @@
+-- Calls after which nothing is asked: what they change no condition sees.
+use Rattle.std.proofs.Common.{◌≡◌, ◌∙◌, inl, ℕ, zero, suc, Bool, true, false, ◌&&◌, ◌==◌, if◌then◌else◌, List, [], ◌∷◌, take, Some, None, refl, sym, ap, subst, append-nil}
+use Rattle.std.specs.Prelude.{option_map}
+use Rattle.std.proofs.lemmas.Bool.{eqb-true}
+use Rattle.text_terms.specs.declared.Span.{Span}
+use Rattle.signature_model.specs.Entries.{Environment}
+use Rattle.typing_laws.proofs.Bools.{and_cases}
+use Rattle.typing_model.specs.Demands.{treated, AllHold}
+use Rattle.typing_model.specs.Contexts.{Context}
+use Rattle.type_terms.specs.declared.types.NodeRef.{NodeRef}
+use Rattle.type_nodes.specs.Nodes.{IsSound}
+use Rattle.type_nodes.specs.States.{State}
+use Rattle.env_table.specs.declared.entries.Entry.{Entry}
+use Rattle.env_table.specs.declared.faults.FaultKind.{FaultKind}
+use Rattle.env_table.specs.declared.seen.Seen.{Seen}
+use Rattle.typed_index.specs.Seen.{seen_at}
+use Rattle.typing_state.specs.declared.parts.Telling.{Telling}
+use Rattle.typing_state.specs.declared.parts.Telling.TheVariants.{Aloud, Quiet}
+use Rattle.typing_state.specs.declared.parts.Parts.{Parts}
+use Rattle.typing_state.specs.declared.demands.Verdict.{Verdict}
+use Rattle.typing_state.specs.declared.demands.Verdict.TheVariants.{Kept, Reported}
+use Rattle.typing_state.specs.Goes.{faults_of, OnlyIndex, OnlyStoreAndFaults, Goes, Told}
+use Rattle.typing_state.specs.Notes.{NotedFirst, Noted, NotedNameless}
+use Rattle.typing_state.specs.Demands.{EqualIs}
+use Rattle.typing_conditions.specs.Sights.{Sight, Letters}
+use Rattle.typing_conditions.specs.Frames.{Frame, IsOpen}
+use Rattle.typing_conditions.specs.Judging.{judgements, StartsWith, TellAll}
+use Rattle.typing_conditions.specs.Steps.{OnlyReports}
+use Rattle.typing_conditions.specs.Carrying.{Asks, Scope, Stays, Carried}
+use Rattle.typing_conditions.proofs.Carried.{take_none}
+use Rattle.typing_conditions.proofs.First.{starts_none}
+use Rattle.typing_conditions.proofs.Framing.{no_bound}
+use Rattle.typing_conditions.proofs.Equals.{reports_stay, goes_as, unified_stays}
+use Rattle.typing_steps.specs.States.{type_in, is_aloud, reports_of, written_in, fixed_of, sight}
+use Rattle.typing_steps.proofs.Seeing.{same_state, nodes_of_both, reports_of_both}
+
+-- conditions that hold in any case, of which none is a demand
+pub record IsIdle (asks : Asks) : Type 0 where
+  pub holds : (c : Context) → AllHold c.kept (asks c)
+  pub silent : (c : Context) → judgements c.kept (asks c) ≡ []
+  pub silent_first : (k : ℕ) (c : Context) → judgements c.kept (take k (asks c)) ≡ []
+  pub reports_none : (c : Context) → TellAll c.kept (asks c) []
+
+-- they are carried where nothing changes
+pub carried_idle : {F : Frame} {scope : Scope} {asks : Asks} {a b : Sight} {G : Letters} → IsIdle asks → OnlyReports a b → b.reports ≡ a.reports → Carried F scope asks a G b G
+carried_idle {F} {scope} {asks} {a} {b} {G} idle rest same = record {
+  stays = reports_stay rest;
+  hidden = [];
+  judged = [];
+  told = [];
+  reports = same ∙ sym (append-nil a.reports);
+  sound = λ V c l. record { same = idle.silent c; holds = idle.holds c; tells = idle.reports_none c };
+  complete = λ V c e h. inl (record { same = idle.silent c; types = V; on = goes_as rest e });
+  first = λ k V c e h. inl (subst (StartsWith []) (sym (idle.silent_first k c)) (starts_none []));
+}
+
+-- where nothing is asked
+pub none_idle : IsIdle (λ c. [])
+none_idle = record { holds = λ c. tt; silent = λ c. refl; silent_first = λ k c. ap (judgements c.kept) (take_none k); reports_none = λ c. refl }
+
+-- where it is told in which environment a node is treated
+pub treated_idle : (n : ℕ) (env : Context → Environment) → IsIdle (λ c. treated n (env c) ∷ [])
+treated_idle n env = record { holds = λ c. (tt, tt); silent = λ c. refl; silent_first = first; reports_none = λ c. refl }
+  where
+    first : (k : ℕ) (c : Context) → judgements c.kept (take k (treated n (env c) ∷ [])) ≡ []
+    first zero c = refl
+    first (suc k) c = ap (judgements c.kept) (take_none k)
+
+-- where the state is as before nothing is asked
+pub state_still : (a b : Parts) {F : Frame} {scope : Scope} {G : Letters} → b ≡ a → Carried F scope (λ c. []) (sight a) G (sight b) G
+state_still a b e = carried_idle none_idle (same_state a b e) (ap (λ p. (sight p).reports) e)
+
+-- what is noted without a type leaves the recorded types as they were
+untyped_as : (a b : Parts) (number : ℕ) (seen : Seen) → seen.ty ≡ None → NotedFirst a b number seen → (i p : ℕ) → type_in (seen_at b.index i p) ≡ type_in (seen_at a.index i p)
+untyped_as a b number seen none noted i p = ap type_in (noted.after i p) ∙ at (a.item == i && number == p) refl
+  where
+    at : (t : Bool) → (a.item == i && number == p) ≡ t → type_in (if t then Some seen else seen_at a.index i p) ≡ type_in (seen_at a.index i p)
+    at true f =
+        let both = and_cases (a.item == i) (number == p) f in
+        let here : seen_at a.index i p ≡ None = (λ k. seen_at a.index (sym (eqb-true a.item i both.0) k) (sym (eqb-true number p both.1) k)) ∙ noted.before in
+        ap (option_map (λ (m : NodeRef). m.0)) none ∙ sym (ap type_in here)
+    at false f = refl
+
+-- `note` without a type, where faults are reported or not
+pub untyped_noted : (a b : Parts) (number : ℕ) (seen : Seen) → seen.ty ≡ None → Noted a.telling a b number seen → OnlyIndex a b → OnlyReports (sight a) (sight b)
+untyped_noted a b number seen none noted rest = record {
+  nodes = ap (λ (s : State). s.nodes) rest.store;
+  types = by a.telling noted;
+  written = λ x. ap (λ w. written_in w x) rest.written;
+  aloud = ap is_aloud rest.telling;
+  item = rest.item;
+  level = rest.level;
+  fixed = ap fixed_of rest.constants;
+}
+  where
+    by : (t : Telling) → Noted t a b number seen → (i p : ℕ) → type_in (seen_at b.index i p) ≡ type_in (seen_at a.index i p)
+    by Quiet h i p = ap (λ x. type_in (seen_at x i p)) h
+    by Aloud h i p = untyped_as a b number seen none h i p
+
+-- `note_plain`: it is told in which environment a node is treated
+pub plain_noted : (a b : Parts) {F : Frame} {scope : Scope} {G : Letters} (number : ℕ) (env : List Entry) (n : ℕ) (told : Context → Environment) → NotedNameless a b number env None → OnlyIndex a b →
+    Carried F scope (λ c. treated n (told c) ∷ []) (sight a) G (sight b) G
+plain_noted a b number env n told (names, none, noted) rest =
+    carried_idle (treated_idle n told) (untyped_noted a b number (record { env = env; ty = None; names = names }) refl noted rest) (ap (λ f. (sight (record a { faults = f })).reports) rest.faults)
+
+-- Where faults aren't reported, what is noted, with a type or not, is not recorded.
+pub quiet_noted : (a b : Parts) (number : ℕ) (seen : Seen) → is_aloud a.telling ≡ false → Noted a.telling a b number seen → OnlyIndex a b → OnlyReports (sight a) (sight b)
+quiet_noted a b number seen quiet noted rest = record {
+  nodes = ap (λ (s : State). s.nodes) rest.store;
+  types = by a.telling quiet noted;
+  written = λ x. ap (λ w. written_in w x) rest.written;
+  aloud = ap is_aloud rest.telling;
+  item = rest.item;
+  level = rest.level;
+  fixed = ap fixed_of rest.constants;
+}
+  where
+    by : (t : Telling) → is_aloud t ≡ false → Noted t a b number seen → (i p : ℕ) → type_in (seen_at b.index i p) ≡ type_in (seen_at a.index i p)
+    by Quiet e h i p = ap (λ x. type_in (seen_at x i p)) h
+    by Aloud e h i p = absurd (cc)
+
+-- there a fault is no report
+pub quiet_told : (a b : Parts) (at : Span) (kind : FaultKind) (message : List ℕ) → is_aloud a.telling ≡ false → Told a.telling (faults_of a) (faults_of b) at kind message → (sight b).reports ≡ (sight a).reports
+quiet_told a b at kind message quiet told = by a.telling quiet told
+  where
+    by : (t : Telling) → is_aloud t ≡ false → Told t (faults_of a) (faults_of b) at kind message → reports_of (faults_of b) ≡ reports_of (faults_of a)
+    by Quiet e h = ap reports_of h
+    by Aloud e h = absurd (cc)
+
+-- and two types that are compared stay, whatever comes of it
+pub quiet_equal : (a b : Parts) {F : Frame} {G : Letters} (at : Span) {found wanted : NodeRef} (env : List Entry) (v : Verdict) → IsSound b.store.nodes → IsOpen F (sight a) found.0 → IsOpen F (sight a) wanted.0 →
+    EqualIs v a b at found wanted env → OnlyStoreAndFaults a b → Goes a b → Stays F (sight a) G (sight b) G
+quiet_equal a b at env Kept sound p q is rest goes = unified_stays sound (nodes_of_both a b rest is.faults) goes.types p q (is.one p.inside q.inside (no_bound p q))
+quiet_equal a b at env Reported sound p q is rest goes = reports_stay (reports_of_both a b rest is.store)

@@ -1,0 +1,6 @@
+-- The state of the code's typing, as the definitions see it, and what calls on it come to.
+pub mod States
+pub mod Demands
+pub mod Constants
+pub mod Starts
+pub mod Rows
