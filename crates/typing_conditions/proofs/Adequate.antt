@@ -1,7 +1,8 @@
 -- What is carried says which demands are kept, and that the types are most general.
-use Rattle.std.proofs.Common.{◌⊎◌, ◌≢◌, ◌≡◌, ◌∙◌, ◌++◌, inl, inr, ℕ, Bool, true, false, if◌then◌else◌, List, [], ◌∷◌, take, Some, sym, ap, subst, append_assoc}
+use Rattle.std.proofs.Common.{◌⊎◌, ◌≢◌, ◌≡◌, ◌∙◌, ◌++◌, inl, inr, ℕ, Bool, true, false, if◌then◌else◌, List, [], ◌∷◌, take, Some, sym, ap, subst, append_assoc, suc, refl}
 use Rattle.type_model.specs.Substitutions.{apply}
-use Rattle.typing_model.specs.Demands.{Site, same_site, Condition, AllHold}
+use Rattle.typing_model.specs.Demands.{Site, same_site, Condition, same, instance, made, known, demand, treated, AllHold}
+use Rattle.typing_model.specs.Typings.{conditions_up_to}
 use Rattle.typing_model.specs.Contexts.{Context}
 use Rattle.type_nodes.specs.Nodes.{IsRanked}
 use Rattle.type_nodes.specs.Readings.{Types}
@@ -51,6 +52,26 @@ refused p before left right s told k V c e judged h =
       | inl starts ↦ not_same before s (left ++ starts.rest) right (sym (append_assoc before ((judged_at s true false) ∷ left) starts.rest) ∙ ap (λ js. js ++ starts.rest) (sym judged) ∙ sym starts.split ∙ told)
       | inr short ↦ no_both before short.before s short.site short.mine short.theirs short.closing left right short.left short.right short.why (sym judged ∙ short.short) (sym told ∙ short.full)
     ]
+
+-- the conditions up to a demand are the first ones
+pub first_up_to : (s : Site) (cs : List Condition) → (k : ℕ) × (conditions_up_to s cs ≡ take k cs)
+first_up_to s [] = (0, refl)
+first_up_to s (same t u ∷ cs) = let (k, e) = first_up_to s cs in (suc k, ap (λ xs. same t u ∷ xs) e)
+first_up_to s (instance sc t ∷ cs) = let (k, e) = first_up_to s cs in (suc k, ap (λ xs. instance sc t ∷ xs) e)
+first_up_to s (made n t ∷ cs) = let (k, e) = first_up_to s cs in (suc k, ap (λ xs. made n t ∷ xs) e)
+first_up_to s (known t ∷ cs) = let (k, e) = first_up_to s cs in (suc k, ap (λ xs. known t ∷ xs) e)
+first_up_to s (treated n env ∷ cs) = let (k, e) = first_up_to s cs in (suc k, ap (λ xs. treated n env ∷ xs) e)
+first_up_to s (demand t at d ∷ cs) = by (same_site s t) (first_up_to s cs)
+  where
+    by : (b : Bool) → (k : ℕ) × (conditions_up_to s cs ≡ take k cs) → (k : ℕ) × (demand t at d ∷ elim b [ true ↦ [] | false ↦ conditions_up_to s cs ] ≡ take k (demand t at d ∷ cs))
+    by true h = (1, refl)
+    by false (k, e) = (suc k, ap (λ xs. demand t at d ∷ xs) e)
+
+-- So a demand that wasn't kept isn't met up to it, in the words of the definitions.
+pub refused_up_to : {F : Frame} {scope : Scope} {asks : Asks} {a b : Sight} {G H : Letters} (p : Carried F scope asks a G b H) (before left right : List Judgement) (s : Site) → p.judged ≡ before ++ judged_at s false false ∷ right → (V : Types) (c : Context) →
+    Enters F scope a G V c → judgements c.kept (conditions_up_to s (asks c)) ≡ before ++ judged_at s true false ∷ left → AllHold c.kept (conditions_up_to s (asks c)) → ⊥
+refused_up_to {asks = asks} p before left right s told V c e judged h =
+    let (k, eq) = first_up_to s (asks c) in refused p before left right s told k V c e (ap (judgements c.kept) (sym eq) ∙ judged) (subst (AllHold c.kept) eq h)
 
 -- the demands that were kept, by the judgements
 abbrev pub kept_of : List Judgement → Site → Bool

@@ -1,4 +1,4 @@
--- A `let` whose group doesn't hang on its own names: the group one level further in, its names closed, and then the body among them.
+-- A `let` without `rec`: the group one level further in, its names closed, and then the body among them.
 use Rattle.std.proofs.Common.{◌≡◌, ◌++◌, ◌⊎◌, ℕ, suc, ◌≤◌, true, false, List, Some}
 use Rattle.std.specs.Prelude.{slice_get}
 use Rattle.type_model.specs.Types.{Typ}

@@ -1,5 +1,5 @@
 -- What a part is typed among, after a call and with a further name.
-use Rattle.std.proofs.Common.{◌≡◌, ℕ, zero, suc, ◌≤◌, true, List, ◌∷◌, Some, refl, sym, subst, arith}
+use Rattle.std.proofs.Common.{◌≡◌, ℕ, zero, suc, ◌≤◌, true, List, ◌∷◌, Some, refl, sym, subst, arith, []}
 use Rattle.std.specs.Prelude.{slice_get}
 use Rattle.type_model.specs.Types.{Typ, occurs}
 use Rattle.signature_model.specs.Declarations as rules
@@ -8,6 +8,7 @@ use Rattle.signature_model.specs.Entries.{entry, a_value}
 use Rattle.signature_model.specs.Matching.{IsKnown}
 use Rattle.typing_model.specs.Contexts.{Choice, monomorphic}
 use Rattle.typing_model.specs.Typings.{no_choice}
+use Rattle.typing_laws.proofs.Bools.{no_yes}
 use Rattle.type_terms.specs.declared.types.NodeRef.{NodeRef}
 use Rattle.type_nodes.specs.Nodes.{Var}
 use Rattle.type_nodes.specs.Readings.{Types}
@@ -15,20 +16,33 @@ use Rattle.level_unify.proofs.Unified.{fits_loosely}
 use Rattle.env_table.specs.declared.entries.Entry.{Entry}
 use Rattle.typing_environments.specs.Locals.{IsOwn, IsFreeVar}
 use Rattle.typing_environments.specs.Assumptions.{SchemeFits, SchemeReads}
-use Rattle.typing_environments.specs.Environments.{of_value, entry_as, newest}
+use Rattle.typing_environments.specs.Environments.{of_value, entry_as, no_names, newest}
 use Rattle.typing_environments.specs.Standing.{IsIn, Stands}
 use Rattle.typing_environments.proofs.Own.{own_of}
 use Rattle.typing_environments.proofs.Environments.{env_map}
 use Rattle.typing_environments.proofs.Steps.{same_node}
 use Rattle.typing_environments.proofs.Standing.{more_in, stands_fits_on, stands_reads_on, stands_named, one_type_fits, one_type_reads}
 use Rattle.typing_conditions.specs.Sights.{Sight, Letters, Agrees}
-use Rattle.typing_conditions.specs.Frames.{Frame, IsRoot}
-use Rattle.typing_conditions.specs.Meanings.{Means}
+use Rattle.typing_conditions.specs.Frames.{Frame, Reaches, IsRoot}
+use Rattle.typing_conditions.specs.Meanings.{Means, KnowsFixed, KnowsWritten}
 use Rattle.typing_conditions.specs.Carrying.{Scope, Stays}
 use Rattle.typing_conditions.specs.Surroundings.{Declared, Surrounds, with_one, IsEntry}
 use Rattle.typing_conditions.proofs.Stays.{agrees_before}
 use Rattle.typing_conditions.proofs.Framing.{root_on}
 use Rattle.typing_conditions.proofs.Meaning.{fixed_on}
+
+-- no names stand for none
+pub surrounds_none : {D : Declared} {F : Frame} {a : Sight} {G : Letters} {scope : Scope} → ((ch : Choice) → scope.env ch ≡ []) → Reaches F a → KnowsFixed F a → KnowsWritten F a → Surrounds D F a G [] scope
+surrounds_none {D} {F} {a} {G} {scope} none reached fixed written = record {
+  reached = reached;
+  fixed = fixed;
+  written = written;
+  roots = [];
+  are_roots = λ k r e. absurd (cc);
+  covered = ([], no_names);
+  reads = λ J V ch own reads g. subst (Stands SchemeReads D.declaration D.exception a.nodes J [] V []) (sym (none ch)) (record { names = no_names; brings = λ u w free h o. absurd (no_yes h) });
+  fits = λ J V ch own loose g. subst (Stands SchemeFits D.declaration D.exception a.nodes J [] V []) (sym (none ch)) (record { names = no_names; brings = λ u w free h o. absurd (no_yes h) });
+}
 
 -- the names stand for the same after a call
 unfoldable pub surrounds_on : {D : Declared} {F : Frame} {a b : Sight} {G H : Letters} {env : List Entry} {scope : Scope} → Stays F a G b H → Surrounds D F a G env scope → Surrounds D F b H env scope
