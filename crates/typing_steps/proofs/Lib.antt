@@ -14,3 +14,5 @@ pub mod Asking
 pub mod Naming
 pub mod Valued
 pub mod Applying
+pub mod Writing
+pub mod Listing

@@ -1,6 +1,8 @@
 -- The state at an item's start, and the nodes of the built-in types.
 use Rattle.std.proofs.Common.{◌≡◌, ◌∙◌, ℕ, ◌<◌, false, List, [], Some, None, refl, sym, ap, subst, arith}
-use Rattle.std.specs.Prelude.{slice_get}
+use Rattle.std.specs.Prelude.{slice_get, option_map, string_bytes}
+use Rattle.std.specs.Map.{lookup}
+use Rattle.std.specs.Str.{bytes_eq}
 use Rattle.std.proofs.lemmas.Option.{slice_get_within}
 use Rattle.type_model.specs.Types.{Path, Typ, occurs}
 use Rattle.type_model.specs.Types.{Typ as type, Typs as types}
@@ -103,3 +105,7 @@ module _ (a : Sight) (J : Types) (roots : List ℕ) (sound : IsSound a.nodes) (o
   -- no type variable is written yet
   pub start_written : ((x : Name) → a.written x ≡ None) → KnowsWritten (frame_at a J roots) a
   start_written none = record { each = λ x m e. absurd (let f : Some m ≡ None = sym e ∙ none x in cc) }
+
+-- where the written type variables were cleared, none is written
+pub cleared_written : (a : Parts) → a.written.variables.entries ≡ [] → (x : Name) → (sight a).written x ≡ None
+cleared_written a e x = ap (λ es. option_map (λ (m : NodeRef). m.0) (lookup (λ k. bytes_eq x (string_bytes k)) es)) e

@@ -4,3 +4,4 @@ pub mod Demands
 pub mod Constants
 pub mod Starts
 pub mod Rows
+pub mod Writing

@@ -1,15 +1,15 @@
--- What the calls of an application's row carry.
-use Rattle.std.specs.Prelude.{◌≡◌, ℕ, ◌+◌, List, [], ◌∷◌, ◌++◌}
+-- What the calls of an application's row carry, and those of a row whose parts are typed in order.
+use Rattle.std.specs.Prelude.{◌≡◌, ℕ, ◌+◌, List, [], ◌∷◌, ◌++◌, map}
 use Rattle.tree_model.specs.Trees.{Place}
 use Rattle.type_model.specs.Types.{Typ, Arrow}
 use Rattle.typing_model.specs.Demands.{Condition, equal}
 use Rattle.typing_model.specs.Contexts.{Choice, Context, ask}
 use Rattle.typing_model.specs.Contexts as contexts
 use Rattle.typing_model.specs.Parts.{Expression, Form, a_constructor, a_path, a_float, a_false, a_field, no_expression, other}
-use Rattle.typing_model.specs.Expressions.{has_type}
+use Rattle.typing_model.specs.Expressions.{has_type, typed_all}
 use Rattle.typing_conditions.specs.Sights.{Sight, Key, letter, value_of, Letters}
 use Rattle.typing_conditions.specs.Frames.{Frame}
-use Rattle.typing_conditions.specs.Meanings.{Means}
+use Rattle.typing_conditions.specs.Meanings.{Means, AllMean, types_by}
 use Rattle.typing_conditions.specs.Carrying.{Asks, Scope, Carried}
 
 -- two new variables stand for two keys
@@ -59,3 +59,12 @@ IsNoConstructor a_false = Unit {0}
 IsNoConstructor (a_field p l) = Unit {0}
 IsNoConstructor no_expression = Unit {0}
 IsNoConstructor other = Unit {0}
+
+-- Of some parts the first ones are typed, in order, and some are left; the nodes ms have the types of those that are typed.
+pub record TypesParts (F : Frame) (scope : Scope) (a : Sight) (G : Letters) (b : Sight) (all left : List Expression) (ms : List ℕ) : Type 0 where
+  pub done : Asks
+  pub types : List (Choice → Typ)
+  pub carried : Carried F scope done a G b G
+  pub means : AllMean F b G types ms
+  pub asks : (c : Context) → typed_all c all ≡ done c ++ typed_all c left
+  pub gives : (ch : Choice) → map (λ (e : Expression). ch.type_at e.node) all ≡ types_by ch types ++ map (λ (e : Expression). ch.type_at e.node) left
