@@ -1,20 +1,19 @@
 -- The row of an application whose head is no constructor: the head, one argument after the other, and the record of its node.
-use Rattle.std.proofs.Common.{◌≡◌, ◌∙◌, ◌++◌, ℕ, ◌+◌, List, [], ◌∷◌, refl, sym, ap, subst, append_assoc, append-nil}
+use Rattle.std.proofs.Common.{◌≡◌, ◌∙◌, ◌++◌, ℕ, ◌+◌, List, [], ◌∷◌, refl, sym, ap, append_assoc, append-nil}
 use Rattle.tree_model.specs.Trees.{Place}
 use Rattle.type_model.specs.Types.{Typ}
-use Rattle.type_model.specs.Types.{Typ as type}
-use Rattle.typing_model.specs.Demands.{equal, same}
+use Rattle.typing_model.specs.Demands.{same}
 use Rattle.typing_model.specs.Contexts.{Choice, Context, ask, type_at}
 use Rattle.typing_model.specs.Contexts as contexts
 use Rattle.typing_model.specs.Parts.{Expression, Form, a_constructor, a_path, a_float, a_false, a_field, no_expression, other}
-use Rattle.typing_model.specs.Expressions.{has_type, applied_from, application, application_asks}
+use Rattle.typing_model.specs.Expressions.{applied_from, application, application_asks}
 use Rattle.typing_model.specs.Meanings.{recorded_expression}
 use Rattle.typing_conditions.specs.Sights.{Sight, letter, Letters, number_in}
 use Rattle.typing_conditions.specs.Frames.{Frame}
 use Rattle.typing_conditions.specs.Meanings.{Means}
 use Rattle.typing_conditions.specs.Steps.{Records}
-use Rattle.typing_conditions.specs.Carrying.{Scope, Carried, CarriedTo}
-use Rattle.typing_conditions.proofs.Carried.{carried_refl, carried_trans, carried_as}
+use Rattle.typing_conditions.specs.Carrying.{Scope, CarriedTo}
+use Rattle.typing_conditions.proofs.Carried.{carried_refl, carried_trans}
 use Rattle.typing_conditions.proofs.Recording.{ends_same, row_recorded}
 use Rattle.typing_conditions.proofs.Answering.{then_to, to_as}
 use Rattle.typing_steps.specs.Rows.{argument_asks, given_from, result_of, TypesSome, IsNoConstructor}

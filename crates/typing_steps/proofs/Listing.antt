@@ -1,22 +1,22 @@
 -- Parts that are typed in order, and the row of a tuple.
 use Rattle.std.proofs.Common.{◌≡◌, ◌∙◌, ◌++◌, ℕ, List, [], ◌∷◌, map, refl, sym, ap, append_assoc, append-nil}
+use Rattle.std.specs.Prelude.{All}
 use Rattle.tree_model.specs.Trees.{Place}
 use Rattle.type_model.specs.Types.{Typ, types_of}
 use Rattle.type_model.specs.Types.{Typ as type}
-use Rattle.typing_model.specs.Contexts.{Choice, Context}
+use Rattle.typing_model.specs.Contexts.{Choice}
 use Rattle.typing_model.specs.Parts.{Expression}
 use Rattle.typing_model.specs.Expressions.{typed_all, tuple_expression}
 use Rattle.typing_model.specs.Meanings.{recorded_expression}
 use Rattle.type_nodes.specs.Nodes.{Tuple, IsNode}
 use Rattle.type_nodes.specs.Changes.{Makes}
-use Rattle.std.specs.Prelude.{All}
 use Rattle.typing_state.specs.declared.parts.Parts.{Parts}
 use Rattle.typing_state.specs.Goes.{OnlyStore}
 use Rattle.typing_conditions.specs.Sights.{Sight, Letters, number_in}
 use Rattle.typing_conditions.specs.Frames.{Frame, Reaches}
-use Rattle.typing_conditions.specs.Meanings.{AllMean, none_mean, types_by}
+use Rattle.typing_conditions.specs.Meanings.{none_mean, types_by}
 use Rattle.typing_conditions.specs.Steps.{Records}
-use Rattle.typing_conditions.specs.Carrying.{Asks, Scope, Carried, CarriedTo}
+use Rattle.typing_conditions.specs.Carrying.{Scope, Carried, CarriedTo}
 use Rattle.typing_conditions.proofs.Carried.{carried_refl, carried_trans, carried_as}
 use Rattle.typing_conditions.proofs.Meaning.{all_mean_on, all_mean_more}
 use Rattle.typing_conditions.proofs.Recording.{ends_same, row_recorded}
@@ -58,5 +58,5 @@ pub tuple_recorded : (b d : Parts) {F : Frame} {scope : Scope} {a e : Sight} {G 
 tuple_recorded b d {F} {scope} {a} {e} {G} {ms} {n} {number} {m} at es place reached p made rest r =
     let whole = then_made (parts_all p) (tuple_over b d {scope = scope} reached p.means made rest) in
     let typed : CarriedTo F scope (λ c. typed_all c es) a G (sight d) G (λ ch. type.Tuple (types_of (map (λ (f : Expression). ch.type_at f.node) es))) m =
-        to_as (λ c. refl) (λ ch. ap (λ ts. type.Tuple (types_of ts)) (sym (append-nil (types_by ch p.types)) ∙ sym (p.gives ch))) whole in
+    to_as (λ c. refl) (λ ch. ap (λ ts. type.Tuple (types_of ts)) (sym (append-nil (types_by ch p.types)) ∙ sym (p.gives ch))) whole in
     row_recorded [] n place typed (ends_same n (λ ch. type.Tuple (types_of (map (λ (f : Expression). ch.type_at f.node) es)))) r

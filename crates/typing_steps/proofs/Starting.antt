@@ -8,30 +8,30 @@ use Rattle.type_model.specs.Types.{Path, Typ, occurs}
 use Rattle.type_model.specs.Types.{Typ as type, Typs as types}
 use Rattle.signature_model.specs.Declarations.{Name}
 use Rattle.typing_laws.proofs.Bools.{no_yes}
+use Rattle.typing_model.specs.Contexts.{Choice}
 use Rattle.type_terms.specs.declared.types.NodeRef.{NodeRef}
 use Rattle.type_nodes.specs.Nodes.{Node, Var, Con, bound_level, IsSound}
 use Rattle.type_nodes.specs.Readings.{Types, IsReading}
 use Rattle.type_nodes.specs.States.{State}
 use Rattle.type_nodes.specs.Changes.{Makes}
 use Rattle.level_unify.specs.Solutions.{Loose, Tightens}
+use Rattle.env_table.specs.declared.entries.Entry.{Entry}
 use Rattle.typing_state.specs.declared.parts.Parts.{Parts}
 use Rattle.typing_state.specs.Goes.{Goes}
 use Rattle.typing_environments.specs.Locals.{IsOwn, IsContext}
+use Rattle.typing_environments.specs.Assumptions.{SchemeFits, SchemeReads}
 use Rattle.typing_environments.specs.Standing.{IsIn, Covers, Stands}
 use Rattle.typing_environments.proofs.Regions.{any_in}
 use Rattle.typing_environments.proofs.Steps.{refines_none, local_made}
 use Rattle.typing_environments.proofs.Instances.{root_within}
-use Rattle.typing_conditions.proofs.Making.{made_here}
 use Rattle.typing_environments.proofs.Later.{context_after}
 use Rattle.typing_conditions.specs.Sights.{Sight, Letters, Agrees}
-use Rattle.typing_conditions.specs.Carrying.{Scope}
-use Rattle.typing_conditions.specs.Surroundings.{Declared, Surrounds}
-use Rattle.typing_environments.specs.Assumptions.{SchemeFits, SchemeReads}
-use Rattle.env_table.specs.declared.entries.Entry.{Entry}
-use Rattle.typing_model.specs.Contexts.{Choice}
 use Rattle.typing_conditions.specs.Frames.{Frame, Reaches, IsRoot}
 use Rattle.typing_conditions.specs.Meanings.{Means, KnowsFixed, KnowsWritten}
+use Rattle.typing_conditions.specs.Carrying.{Scope}
+use Rattle.typing_conditions.specs.Surroundings.{Declared, Surrounds}
 use Rattle.typing_conditions.proofs.Inward.{fixed_nodes}
+use Rattle.typing_conditions.proofs.Making.{made_here}
 use Rattle.typing_steps.specs.States.{sight}
 use Rattle.typing_steps.specs.Constants.{HasType, HasConstants}
 use Rattle.typing_steps.specs.Starts.{frame_at}

@@ -1,16 +1,16 @@
 -- An entry that a path finds as a value stands for a scheme, by a root of the store.
-use Rattle.std.proofs.Common.{◌≡◌, ◌∙◌, Bool, true, false, ◌&&◌, if◌then◌else◌, List, [], ◌∷◌, Option, Some, None, refl, sym, ap, subst, ℕ}
+use Rattle.std.proofs.Common.{◌≡◌, ◌∙◌, Bool, true, false, if◌then◌else◌, List, [], ◌∷◌, Option, Some, None, refl, sym, ap, subst, ℕ}
+use Rattle.std.specs.Str.{bytes_eq}
+use Rattle.text_terms.specs.Bytes.{str_bytes}
 use Rattle.type_model.specs.Types.{Typ}
 use Rattle.type_model.specs.Schemes.{Scheme}
 use Rattle.signature_model.specs.Declarations as rules
 use Rattle.signature_model.specs.Declarations.{Name}
 use Rattle.signature_model.specs.Entries.{Kind, value_kind, constructor_kind, label_kind, type_kind, module_kind, module_type_kind, Referent, Environment}
 use Rattle.signature_model.specs.Entries.{kind_of as kind_named, Entry as Named}
-use Rattle.signature_model.specs.Lookups.{same_kind, FoundAmong, an_entry, a_hole, nothing, ScopeOf, known, unknown_scope, no_scope, newest_by, found, found_in, scope_by, lookup_by}
+use Rattle.signature_model.specs.Lookups.{same_kind, FoundAmong, an_entry, ScopeOf, known, unknown_scope, no_scope, newest_by, found, found_in, scope_by, lookup_by}
 use Rattle.typing_laws.proofs.Bools.{and_cases, no_yes}
 use Rattle.type_terms.specs.declared.types.NodeRef.{NodeRef}
-use Rattle.std.specs.Str.{bytes_eq}
-use Rattle.text_terms.specs.Bytes.{str_bytes}
 use Rattle.env_table.specs.declared.entries.Constructor.{Constructor}
 use Rattle.env_table.specs.declared.entries.Declaration.{Declaration}
 use Rattle.env_table.specs.declared.entries.Entry.{Entry}

@@ -1,5 +1,5 @@
 -- What a call does that writes a type variable for the first time in an item.
-use Rattle.std.specs.Prelude.{◌≡◌, ℕ, Some, None}
+use Rattle.std.specs.Prelude.{◌≡◌, Some, None}
 use Rattle.std.specs.Str.{bytes_eq}
 use Rattle.std.specs.Map.{update}
 use Rattle.std.specs.HashMap.{get_by_text}
