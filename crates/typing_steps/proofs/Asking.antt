@@ -27,7 +27,7 @@ use Rattle.typing_conditions.proofs.Carried.{carried_trans}
 use Rattle.typing_conditions.proofs.Meaning.{means_on}
 use Rattle.typing_steps.specs.States.{sight}
 use Rattle.typing_steps.specs.Demands.{JudgedAs, is_kept}
-use Rattle.typing_steps.specs.Rows.{MakesTwo, AsksArrow}
+use Rattle.typing_steps.specs.Rows.{MakesTwo, AsksArrow, argument_asks}
 use Rattle.typing_steps.proofs.Making.{var_made, arrow_over}
 use Rattle.typing_steps.proofs.Comparing.{equal_asked}
 
@@ -66,6 +66,6 @@ typed_as b d {F} {scope} {a} {G} {H} {wanted_type} {at} env e n k v aloud place 
 -- An argument: the head is an arrow, and the argument has the type at its left; the one at its right is that of the whole.
 pub argument_asked : {F : Frame} {scope : Scope} {a b d : Sight} {G : Letters} {head : Choice → Typ} {n k j : ℕ} {at : Place} {from to : ℕ} (e : Expression) → AsksArrow F scope a G b head n k j at from to →
     Carried F scope (λ c. e.typed c ++ has_type c n (k + 1) e (contexts.letter c n j)) b ((letter n (j + 1), to) ∷ (letter n j, from) ∷ G) d ((letter n (j + 1), to) ∷ (letter n j, from) ∷ G) →
-    CarriedTo F scope (λ c. ask n k at (equal (head c.chosen) (type.Arrow (contexts.letter c n j) (contexts.letter c n (j + 1)))) ++ e.typed c ++ has_type c n (k + 1) e (contexts.letter c n j)) a G d ((letter n (j + 1), to) ∷ (letter n j, from) ∷ G)
+    CarriedTo F scope (λ c. argument_asks c n k j at (head c.chosen) e) a G d ((letter n (j + 1), to) ∷ (letter n j, from) ∷ G)
     (λ ch. ch.letter n (j + 1)) to
 argument_asked e p q = record { carried = carried_trans p.carried q; means = means_on q.stays p.to_is }

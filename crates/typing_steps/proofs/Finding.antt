@@ -54,7 +54,7 @@ module _ (R : ℕ → Scheme → Type 0) (D : Declaration → rules.Declaration 
   found_so to_hole = refl
   found_so to_nothing = refl
 
-  -- the first qualifier that leads to no module is the same one
+  -- the first qualifier that names no module is the same one
   lost_so : (es : List Entry) (fs : Environment) → EnvAs R D X es fs → (all : List Tok) (path : List Name) (i : ℕ) (qs : List Tok) → ((j : ℕ) → slice_get all (i + j) ≡ slice_get qs j) →
       token_at all (lost_behind es path i (names_of_tokens qs)) ≡ names.lost_behind fs path qs
   lost_so es fs h all path i [] there = refl

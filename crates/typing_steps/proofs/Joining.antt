@@ -159,7 +159,7 @@ level_below l = below (level_for l) (min_right l (2 ^ 32 - 2))
     below : (n : ℕ) → n ≤ 2 ^ 32 - 2 → n ≢ 2 ^ 32 - 1
     below n le e = absurd (omega arith)
 
--- the new variable of a limit, where the clause of `limit` tells that it was made one with the type
+-- the new variable of a limit, where the clause of `limit` says that it was made one with the type
 pub scope_limited : (a b : Parts) (k level : ℕ) {F : Frame} {mid : State} {v o m : ℕ} → IsOpen F (with_level k (sight a)) m → Makes a.store mid v (Var (level_for level) o) → (IsNode mid.nodes v → IsNode mid.nodes m → MadeOne mid.nodes b.store.nodes v m) →
     OnlyStore a b → Goes a b → IsSound b.store.nodes → ((i : ℕ) → level_for level ≤ i → i < F.level → IsIn (F.held i) v) → Limited F (with_level k (sight a)) (with_level k (sight b)) mid v (level_for level) o m
 scope_limited a b k level {mid = mid} {v = v} {o = o} {m = m} p makes one rest goes sound held =

@@ -12,3 +12,7 @@ pub mod Limiting
 pub mod Joining
 pub mod Asking
 pub mod Naming
+pub mod Valued
+pub mod Applying
+pub mod Writing
+pub mod Listing

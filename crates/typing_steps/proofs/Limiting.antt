@@ -1,11 +1,11 @@
 -- Limits: a new variable of a level and a scope is made one with a type, whose variables are of at most that level then, and whose origins are in the scope.
-use Rattle.std.proofs.Common.{◌≡◌, ◌≢◌, ◌∙◌, ◌⊎◌, inl, inr, ◌++◌, ℕ, zero, suc, ◌<◌, ◌≤◌, List, [], ◌∷◌, take, length, Some, refl, sym, ap, subst, arith, append-nil}
+use Rattle.std.proofs.Common.{◌≡◌, ◌≢◌, ◌∙◌, ◌⊎◌, inl, inr, ◌++◌, ℕ, zero, suc, ◌<◌, ◌≤◌, false, List, [], ◌∷◌, take, length, Some, refl, sym, ap, subst, arith, append-nil}
 use Rattle.std.specs.Prelude.{slice_get}
 use Rattle.std.proofs.lemmas.Option.{slice_get_within}
 use Rattle.std.proofs.lemmas.Bool.{eqb-true}
 use Rattle.type_model.specs.Types.{Typ, occurs}
 use Rattle.type_model.specs.Limits.{no_scope, IsInScope}
-use Rattle.type_model.proofs.Applying.{eqb_same}
+use Rattle.type_model.proofs.Applying.{eqb_same, or_cases}
 use Rattle.typing_laws.proofs.Bools.{no_yes}
 use Rattle.typing_model.specs.Demands.{made, AllHold}
 use Rattle.typing_model.specs.Contexts.{Choice, Context}
@@ -18,7 +18,7 @@ use Rattle.level_unify.specs.Solutions.{Loose, FitsLoosely, HaveNoBound}
 use Rattle.level_unify.specs.Copies.{Extends}
 use Rattle.level_unify.specs.Unification.{Unified}
 use Rattle.level_unify.proofs.Unified.{fits_loosely, fits_under, under_fits}
-use Rattle.typing_environments.specs.Locals.{IsOwn, Refines, Local, Within}
+use Rattle.typing_environments.specs.Locals.{IsOwn, Refines, Local, Within, IsContext}
 use Rattle.typing_environments.specs.Standing.{IsIn}
 use Rattle.typing_environments.proofs.Own.{own_of}
 use Rattle.typing_environments.proofs.Regions.{any_in}
@@ -181,6 +181,17 @@ module _ {F : Frame} {a b : Sight} {mid : State} {v l o m : ℕ} (at : Limited F
     level = at.rest.level;
     fixed = at.rest.fixed;
   }
+
+  -- what stands in the variable of the limit is of at most its level from then on
+  pub limit_low : (K : Types) → IsOwn b.nodes K → IsContext b.nodes K (v ∷ []) l
+  limit_low K own = record {
+    inside = inside;
+    low = λ u k i h e free. elim (or_cases (occurs u (K v)) false h) [ inl j ↦ (unified_step K own).refines.falls v l o u k i there at.free e j | inr j ↦ absurd (no_yes j) ];
+  }
+    where
+      inside : (k c : ℕ) → slice_get (v ∷ []) k ≡ Some c → c < length b.nodes
+      inside zero c e = let s : v ≡ c = cc in subst (λ n. n < length b.nodes) s (let i = slice_get_within mid.nodes v (Var l o) there in let n = one.len in omega arith)
+      inside (suc k) c e = absurd (cc)
 
 -- `limit`: the type's origins are in the scope
 pub limit_asked : {F : Frame} {a b : Sight} {mid : State} {v l o m : ℕ} {scope : Scope} {G : Letters} {type : Choice → Typ} {asks : Asks} → Limited F a b mid v l o m → Means F a G type m → LimitAsks o type asks → Carried F scope asks a G b G

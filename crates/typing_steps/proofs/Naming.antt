@@ -89,7 +89,7 @@ module _ (a b d : Parts) {D : Declared} {F : Frame} {scope : Scope} {G : Letters
   hole_so R E X to_hole e = refl
   hole_so R E X to_nothing e = refl
 
-  -- The path stands in a hole: the name may have any type, and that is no fault.
+  -- The path is inside a hole: the name may have any type, and that is no fault.
   pub value_in_hole : {m : ℕ} → found_at env qs kind.Value t ≡ a_hole → MakesVar b d m any_scope → OnlyStore b d →
       CarriedTo F scope (λ c. value_used_as c s w qs t (value_of c.chosen key)) (sight a) G (sight d) ((key, m) ∷ G) (λ ch. value_of ch key) m
   value_in_hole finds made rest =

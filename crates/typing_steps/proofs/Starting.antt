@@ -1,30 +1,37 @@
 -- The state at an item's start, and the nodes of the built-in types.
 use Rattle.std.proofs.Common.{◌≡◌, ◌∙◌, ℕ, ◌<◌, false, List, [], Some, None, refl, sym, ap, subst, arith}
-use Rattle.std.specs.Prelude.{slice_get}
+use Rattle.std.specs.Prelude.{slice_get, option_map, string_bytes}
+use Rattle.std.specs.Map.{lookup}
+use Rattle.std.specs.Str.{bytes_eq}
 use Rattle.std.proofs.lemmas.Option.{slice_get_within}
 use Rattle.type_model.specs.Types.{Path, Typ, occurs}
 use Rattle.type_model.specs.Types.{Typ as type, Typs as types}
 use Rattle.signature_model.specs.Declarations.{Name}
 use Rattle.typing_laws.proofs.Bools.{no_yes}
+use Rattle.typing_model.specs.Contexts.{Choice}
 use Rattle.type_terms.specs.declared.types.NodeRef.{NodeRef}
 use Rattle.type_nodes.specs.Nodes.{Node, Var, Con, bound_level, IsSound}
-use Rattle.type_nodes.specs.Readings.{Types}
+use Rattle.type_nodes.specs.Readings.{Types, IsReading}
 use Rattle.type_nodes.specs.States.{State}
 use Rattle.type_nodes.specs.Changes.{Makes}
-use Rattle.level_unify.specs.Solutions.{Tightens}
+use Rattle.level_unify.specs.Solutions.{Loose, Tightens}
+use Rattle.env_table.specs.declared.entries.Entry.{Entry}
 use Rattle.typing_state.specs.declared.parts.Parts.{Parts}
 use Rattle.typing_state.specs.Goes.{Goes}
 use Rattle.typing_environments.specs.Locals.{IsOwn, IsContext}
-use Rattle.typing_environments.specs.Standing.{IsIn}
+use Rattle.typing_environments.specs.Assumptions.{SchemeFits, SchemeReads}
+use Rattle.typing_environments.specs.Standing.{IsIn, Covers, Stands}
 use Rattle.typing_environments.proofs.Regions.{any_in}
 use Rattle.typing_environments.proofs.Steps.{refines_none, local_made}
 use Rattle.typing_environments.proofs.Instances.{root_within}
-use Rattle.typing_conditions.proofs.Making.{made_here}
 use Rattle.typing_environments.proofs.Later.{context_after}
-use Rattle.typing_conditions.specs.Sights.{Sight}
+use Rattle.typing_conditions.specs.Sights.{Sight, Letters, Agrees}
 use Rattle.typing_conditions.specs.Frames.{Frame, Reaches, IsRoot}
 use Rattle.typing_conditions.specs.Meanings.{Means, KnowsFixed, KnowsWritten}
+use Rattle.typing_conditions.specs.Carrying.{Scope}
+use Rattle.typing_conditions.specs.Surroundings.{Declared, Surrounds}
 use Rattle.typing_conditions.proofs.Inward.{fixed_nodes}
+use Rattle.typing_conditions.proofs.Making.{made_here}
 use Rattle.typing_steps.specs.States.{sight}
 use Rattle.typing_steps.specs.Constants.{HasType, HasConstants}
 use Rattle.typing_steps.specs.Starts.{frame_at}
@@ -103,3 +110,23 @@ module _ (a : Sight) (J : Types) (roots : List ℕ) (sound : IsSound a.nodes) (o
   -- no type variable is written yet
   pub start_written : ((x : Name) → a.written x ≡ None) → KnowsWritten (frame_at a J roots) a
   start_written none = record { each = λ x m e. absurd (let f : Some m ≡ None = sym e ∙ none x in cc) }
+
+  -- the names of an environment whose roots are among the item's are those of the scope
+  pub start_surrounds : {D : Declared} {G : Letters} {env : List Entry} {scope : Scope} (names : List ℕ) → KnowsFixed (frame_at a J roots) a → ((x : Name) → a.written x ≡ None) → ((k r : ℕ) → slice_get names k ≡ Some r → IsIn roots r) →
+      Covers D.declaration D.exception names env →
+      ((M V : Types) (ch : Choice) → IsOwn a.nodes M → IsReading a.nodes V → Agrees a.item a G V ch → Stands SchemeReads D.declaration D.exception a.nodes M names V env (scope.env ch)) →
+      ((M V : Types) (ch : Choice) → IsOwn a.nodes M → Loose a.nodes V → Agrees a.item a G V ch → Stands SchemeFits D.declaration D.exception a.nodes M names V env (scope.env ch)) → Surrounds D (frame_at a J roots) a G env scope
+  start_surrounds names fixed none among covered reads fits = record {
+    reached = start_reached;
+    fixed = fixed;
+    written = start_written none;
+    roots = names;
+    are_roots = λ k r e. let (i, f) = among k r e in start_roots i r f;
+    covered = covered;
+    reads = reads;
+    fits = fits;
+  }
+
+-- where the written type variables were cleared, none is written
+pub cleared_written : (a : Parts) → a.written.variables.entries ≡ [] → (x : Name) → (sight a).written x ≡ None
+cleared_written a e x = ap (λ es. option_map (λ (m : NodeRef). m.0) (lookup (λ k. bytes_eq x (string_bytes k)) es)) e

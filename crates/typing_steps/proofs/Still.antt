@@ -58,7 +58,7 @@ carried_idle {F} {scope} {asks} {a} {b} {G} idle rest same = record {
 pub none_idle : IsIdle (λ c. [])
 none_idle = record { holds = λ c. tt; silent = λ c. refl; silent_first = λ k c. ap (judgements c.kept) (take_none k); reports_none = λ c. refl }
 
--- where it is told in which environment a node is treated
+-- where only the environment in which a node is treated is made known
 pub treated_idle : (n : ℕ) (env : Context → Environment) → IsIdle (λ c. treated n (env c) ∷ [])
 treated_idle n env = record { holds = λ c. (tt, tt); silent = λ c. refl; silent_first = first; reports_none = λ c. refl }
   where
@@ -97,7 +97,7 @@ untyped_noted a b number seen none noted rest = record {
     by Quiet h i p = ap (λ x. type_in (seen_at x i p)) h
     by Aloud h i p = untyped_as a b number seen none h i p
 
--- `note_plain`: it is told in which environment a node is treated
+-- `note_plain`: it is recorded in which environment a node is treated
 pub plain_noted : (a b : Parts) {F : Frame} {scope : Scope} {G : Letters} (number : ℕ) (env : List Entry) (n : ℕ) (told : Context → Environment) → NotedNameless a b number env None → OnlyIndex a b →
     Carried F scope (λ c. treated n (told c) ∷ []) (sight a) G (sight b) G
 plain_noted a b number env n told (names, none, noted) rest =

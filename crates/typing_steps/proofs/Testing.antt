@@ -1,20 +1,25 @@
 -- Tests of names: each is judged, kept or reported.
 use Rattle.std.proofs.Common.{◌≡◌, ◌∙◌, inl, inr, ℕ, ◌==◌, Bool, true, false, List, [], ◌∷◌, take, refl, sym, ap, subst}
+use Rattle.std.specs.Prelude.{not, if◌then◌else◌, ◌++◌}
 use Rattle.std.proofs.lemmas.Bool.{ne_eqb}
 use Rattle.type_model.proofs.Applying.{eqb_same}
 use Rattle.text_terms.specs.declared.Span.{Span}
 use Rattle.tree_model.specs.Trees.{Place}
 use Rattle.syntax_tree.specs.View.{place_of}
+use Rattle.signature_model.specs.Declarations.{Name}
 use Rattle.typing_model.specs.Demands.{Site, test, Complaint, Condition, demand, AllHold}
 use Rattle.typing_model.specs.Demands as complaint
 use Rattle.typing_model.specs.Contexts.{Context}
+use Rattle.typing_model.specs.Records.{is_among}
 use Rattle.type_nodes.specs.Readings.{Types}
 use Rattle.level_unify.specs.Solutions.{Loose}
 use Rattle.level_unify.proofs.Unified.{fits_loosely}
+use Rattle.env_table.specs.declared.faults.FaultKind.TheVariants as fault
 use Rattle.typing_state.specs.declared.parts.Parts.{Parts}
 use Rattle.typing_state.specs.declared.demands.Verdict.{Verdict}
 use Rattle.typing_state.specs.declared.demands.Verdict.TheVariants.{Kept, Reported}
-use Rattle.typing_state.specs.Goes.{OnlyFaults}
+use Rattle.typing_state.specs.Goes.{faults_of, OnlyFaults, Told}
+use Rattle.typing_state.specs.Messages.{twice_text}
 use Rattle.typing_state.specs.Demands.{ArityIs}
 use Rattle.typing_conditions.specs.Sights.{Sight, Letters, Agrees}
 use Rattle.typing_conditions.specs.Frames.{Frame}
@@ -28,7 +33,6 @@ use Rattle.typing_conditions.proofs.Tests.{TestIs, test_judged}
 use Rattle.typing_steps.specs.States.{is_warning, is_aloud, sight}
 use Rattle.typing_steps.specs.Demands.{JudgedAs, is_kept, TestedAs}
 use Rattle.typing_steps.proofs.Seeing.{only_reports, same_state, tells_one}
-use Rattle.std.specs.Prelude.{if◌then◌else◌, ◌++◌}
 
 -- conditions are the same in each context that a state allows
 abbrev pub AreSameHere : Frame → Scope → Sight → Letters → Asks → Asks → Type 0
@@ -95,12 +99,22 @@ complains_really (complaint.differs x) = refl
 complains_really complaint.no_functor = refl
 complains_really (complaint.no_abstract_type x n) = refl
 
--- A test that leaves all as it was where it holds, and is told by one fault where it doesn't. It fits each call of the state that tells a complaint:
+-- A test that leaves all as it was where it holds, and is reported by one fault where it doesn't. It fits each call of the state that reports a complaint:
 -- `unbound`, `twice`, `one_side`, `incomplete`, `not_mutable`, `cyclic`, `differs_from`, `no_label` and `too_large`.
 pub test_asked : (a b : Parts) {F : Frame} {scope : Scope} {G : Letters} {at : Span} (message : List ℕ) (x : Complaint) (s : Site) (v : Bool) → is_aloud a.telling ≡ true → TestedAs v a b at (kind_of x) message →
     JudgedAs F scope (λ c. demand s (place_of at) (test x v) ∷ []) (sight a) G (sight b) G s v
 test_asked a b message x s true aloud same = test_held x s (same_state a b same) (ap (λ p. (sight p).reports) same)
 test_asked a b {at = at} message x s false aloud (told, rest) = test_reported x s (only_reports a b rest) (tells_one a b at (kind_of x) message (complains_really x) aloud told)
+
+-- a call that reports a complaint, by its own clauses
+pub complaint_told : (a b : Parts) {F : Frame} {scope : Scope} {G : Letters} {at : Span} (message : List ℕ) (x : Complaint) (s : Site) → is_aloud a.telling ≡ true → Told a.telling (faults_of a) (faults_of b) at (kind_of x) message → OnlyFaults a b →
+    JudgedAs F scope (λ c. demand s (place_of at) (test x false) ∷ []) (sight a) G (sight b) G s false
+complaint_told a b message x s aloud told rest = test_asked a b message x s false aloud (told, rest)
+
+-- `is_new`, once its contract says that a name which is among those before is reported, and that all is as before otherwise
+pub new_asked : (a b : Parts) {F : Frame} {scope : Scope} {G : Letters} {at : Span} (x : Name) (seen : List Name) (s : Site) → is_aloud a.telling ≡ true → TestedAs (not (is_among x seen)) a b at fault.Unique (twice_text x) →
+    JudgedAs F scope (λ c. demand s (place_of at) (test (complaint.twice x) (not (is_among x seen))) ∷ []) (sight a) G (sight b) G s (not (is_among x seen))
+new_asked a b x seen s aloud tested = test_asked a b (twice_text x) (complaint.twice x) s (not (is_among x seen)) aloud tested
 
 -- `arity`: as many arguments are given as are taken, or that is reported
 pub arity_asked : (a b : Parts) {F : Frame} {scope : Scope} {G : Letters} {at : Span} {name : List ℕ} {taken given : ℕ} (s : Site) (v : Verdict) → is_aloud a.telling ≡ true → ArityIs v a b at name taken given → OnlyFaults a b →

@@ -1,4 +1,4 @@
--- What a call that makes one demand comes to.
+-- What a call that makes one demand does.
 use Rattle.std.specs.Prelude.{◌≡◌, ℕ, Bool, true, false, List, [], ◌∷◌, Option, Some, None}
 use Rattle.token_model.specs.Kinds.{Tok}
 use Rattle.tree_model.specs.Trees.{Place}
@@ -30,7 +30,7 @@ abbrev pub is_kept : Verdict → Bool
 is_kept Kept = true
 is_kept Reported = false
 
--- a test that holds leaves all as it was; one that doesn't is told by exactly one fault
+-- a test that holds leaves all as it was; one that doesn't is reported by exactly one fault
 abbrev pub TestedAs : Bool → (a b : Parts) → Span → FaultKind → (message : List ℕ) → Type 0
 TestedAs true a b at kind message = b ≡ a
 TestedAs false a b at kind message = Told a.telling (faults_of a) (faults_of b) at kind message × OnlyFaults a b
@@ -41,7 +41,7 @@ is_found_here (an_entry e) = true
 is_found_here a_hole = true
 is_found_here nothing = false
 
--- where an unbound path is reported: at the first qualifier that leads to no module, without its point, or else at its last token
+-- where an unbound path is reported: at the first qualifier that names no module, without its point, or else at its last token
 abbrev pub place_unbound : Option Tok → Tok → Place
 place_unbound None t = place_of t
 place_unbound (Some q) t = place_without_point q

@@ -1,7 +1,6 @@
 -- The state of the code's typing, as the definitions see it.
-use Rattle.std.specs.Prelude.{ℕ, Bool, true, false, List, [], ◌∷◌, Option, Some, None, option_map, string_bytes, if◌then◌else◌}
-use Rattle.std.specs.Str.{bytes_eq}
-use Rattle.std.specs.HashMap.{get_by}
+use Rattle.std.specs.Prelude.{ℕ, Bool, true, false, List, [], ◌∷◌, Option, Some, None, option_map, if◌then◌else◌}
+use Rattle.std.specs.HashMap.{get_by_text}
 use Rattle.text_terms.specs.Bytes.{str_bytes}
 use Rattle.syntax_tree.specs.View.{place_of}
 use Rattle.signature_model.specs.Declarations.{Name}
@@ -46,7 +45,7 @@ is_aloud Quiet = false
 
 -- the node of a type variable that is written in the item, by its name
 abbrev pub written_in : Written → Name → Option ℕ
-written_in w x = option_map (λ (m : NodeRef). m.0) (get_by (λ s. bytes_eq x (string_bytes s)) w.variables)
+written_in w x = option_map (λ (m : NodeRef). m.0) (get_by_text w.variables x)
 
 -- the nodes of the built-in types
 abbrev pub fixed_of : Constants → Fixed
