@@ -7,7 +7,7 @@ use Rattle.typing_model.specs.Contexts.{Context}
 use Rattle.type_nodes.specs.Readings.{Types}
 use Rattle.typing_conditions.specs.Sights.{Sight, Letters}
 use Rattle.typing_conditions.specs.Frames.{Frame}
-use Rattle.typing_conditions.specs.Judging.{judgements, AreKept, FallsShort, Meets}
+use Rattle.typing_conditions.specs.Judging.{judgements, AreKept, FallsShort, Meets, judged_at}
 use Rattle.typing_conditions.specs.Carrying.{Asks, Scope, Enters, Continues, Carried}
 use Rattle.typing_conditions.proofs.Judged.{hold_left, judged_both, judged_kept, kept_left, short_left, short_of_more, starts_left}
 use Rattle.typing_conditions.proofs.Carried.{Decides, carried_trans, less_or_more}
@@ -65,7 +65,7 @@ carried_then {F} {scope} {asks} {further} {actual} {a} {b} {d} {G} {H} {K} p by_
         ]
 
 -- after one demand: what is asked where it is kept, or what is asked where it isn't
-pub carried_if : {F : Frame} {scope : Scope} {asks : Asks} {a b d : Sight} {G H K : Letters} (kept_so other : Asks) (s : Site) (v : Bool) (p : Carried F scope asks a G b H) → p.judged ≡ (s, v, false) ∷ [] →
+pub carried_if : {F : Frame} {scope : Scope} {asks : Asks} {a b d : Sight} {G H K : Letters} (kept_so other : Asks) (s : Site) (v : Bool) (p : Carried F scope asks a G b H) → p.judged ≡ judged_at s v false ∷ [] →
     Carried F scope (λ c. if v then kept_so c else other c) b H d K → Carried F scope (λ c. asks c ++ (if c.kept s then kept_so c else other c)) a G d K
 carried_if kept_so other s v p one q =
-    carried_then p (λ c k. let h : AreKept c.kept ((s, v, false) ∷ []) = subst (AreKept c.kept) one k in ap (λ (t : Bool). if t then kept_so c else other c) h.0) q
+    carried_then p (λ c k. let h : AreKept c.kept (judged_at s v false ∷ []) = subst (AreKept c.kept) one k in ap (λ (t : Bool). if t then kept_so c else other c) h.0) q

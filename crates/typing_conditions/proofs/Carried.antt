@@ -16,6 +16,7 @@ use Rattle.typing_conditions.proofs.Stays.{stays_refl, stays_trans, stays_closed
 abbrev pub Decides : Context → List Judgement → List Condition → Type 0
 Decides c judged cs = StartsWith judged (judgements c.kept cs) ⊎ FallsShort (judgements c.kept cs) judged
 
+-- of no conditions the first ones are none
 pub take_none : (k : ℕ) → let none : List Condition = [] in take k none ≡ none
 take_none zero = refl
 take_none (suc k) = refl
@@ -33,6 +34,7 @@ carried_refl {F} {scope} {a} {G} = record {
   first = λ k V c e h. inl (subst (λ cs. StartsWith [] (judgements c.kept cs)) (sym (take_none k)) (starts_all []));
 }
 
+-- a number is at most another one, or it is more
 pub less_or_more : (k l : ℕ) → (k ≤ l) ⊎ ((n : ℕ) × (k ≡ l + n))
 less_or_more k l = elim (compared k l) [ inl le ↦ inl le | inr more ↦ inr (k - l, let e = more in omega arith) ]
   where

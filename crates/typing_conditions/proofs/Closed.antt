@@ -1,26 +1,23 @@
 -- What a part is typed among after a `let`: each name of the group has its type generalised in the environment outside.
-use Rattle.std.proofs.Common.{◌≡◌, ◌≢◌, ◌∙◌, ◌⊎◌, ℕ, zero, suc, ◌<◌, ◌≤◌, true, false, Bool, ◌||◌, List, [], ◌∷◌, ◌++◌, length, Option, Some, refl, sym, ap, subst, arith, inl, inr}
+use Rattle.std.proofs.Common.{◌≡◌, ◌∙◌, ◌⊎◌, ℕ, zero, suc, ◌<◌, true, false, ◌||◌, List, [], ◌∷◌, Some, refl, sym, subst, arith, inl, inr}
 use Rattle.std.specs.Prelude.{slice_get}
-use Rattle.text_terms.specs.Bytes.{str_bytes}
 use Rattle.type_model.specs.Types.{Typ, occurs}
 use Rattle.type_model.specs.Schemes.{Scheme}
 use Rattle.type_model.proofs.Applying.{or_left, or_right}
 use Rattle.signature_model.specs.Declarations as rules
 use Rattle.signature_model.specs.Declarations.{Name}
-use Rattle.signature_model.specs.Entries.{Environment, entry, a_value, free_in, value_kind}
+use Rattle.signature_model.specs.Entries.{entry, a_value, free_in}
 use Rattle.signature_model.specs.Matching.{IsKnown}
-use Rattle.typing_model.specs.Contexts.{Choice, Context, Bound, in_item, monomorphic, occurs_in, generalised_in, entries_with}
+use Rattle.typing_model.specs.Contexts.{Choice, Bound, monomorphic, occurs_in, generalised_in}
 use Rattle.typing_model.specs.Typings.{no_choice}
 use Rattle.type_terms.specs.declared.types.NodeRef.{NodeRef}
-use Rattle.type_nodes.specs.Nodes.{Node, Var, bound_level}
+use Rattle.type_nodes.specs.Nodes.{Node, bound_level}
 use Rattle.type_nodes.specs.Readings.{Types, IsReading}
 use Rattle.level_unify.specs.Solutions.{Loose}
 use Rattle.level_unify.specs.Instances.{is_bound}
 use Rattle.level_unify.proofs.Unified.{fits_loosely}
-use Rattle.env_table.specs.declared.entries.What.TheVariants as what
 use Rattle.env_table.specs.declared.entries.Entry.{Entry}
-use Rattle.env_table.specs.Views.{kind_of}
-use Rattle.typing_environments.specs.Locals.{IsOwn, IsFreeVar, stands_in_any, ClosesAll}
+use Rattle.typing_environments.specs.Locals.{IsOwn}
 use Rattle.typing_environments.specs.Assumptions.{SchemeFits, SchemeReads}
 use Rattle.typing_environments.specs.Environments.{of_value, entry_as, newest}
 use Rattle.typing_environments.specs.Standing.{IsIn, Covers, Stands}
@@ -30,24 +27,13 @@ use Rattle.typing_environments.proofs.Steps.{stands_after, old_or_new, same_node
 use Rattle.typing_environments.proofs.Closing.{still_free}
 use Rattle.typing_environments.proofs.Environments.{env_map}
 use Rattle.typing_environments.proofs.Generalised.{Fixes, name_fits, name_reads}
-use Rattle.typing_environments.proofs.Standing.{known_put, more_in, none_free}
+use Rattle.typing_environments.proofs.Standing.{more_in, none_free}
 use Rattle.typing_environments.proofs.Groups.{NamesStand, no_more, name_more, added, joined, stands_names}
 use Rattle.typing_conditions.specs.Sights.{Sight, Letters, Agrees}
-use Rattle.typing_conditions.specs.Frames.{Frame, Reaches, IsWritten, IsHeld, IsRoot, inner_frame, GoesIn}
-use Rattle.typing_conditions.specs.Meanings.{KnowsWritten}
-use Rattle.typing_conditions.specs.Steps.{OnlyLevel}
-use Rattle.typing_conditions.specs.Carrying.{Asks, Scope, Carried}
-use Rattle.typing_conditions.specs.Surroundings.{Declared, Surrounds}
-use Rattle.typing_conditions.proofs.Surrounding.{IsEntry}
+use Rattle.typing_conditions.specs.Frames.{Frame, IsWritten, IsHeld, IsRoot}
+use Rattle.typing_conditions.specs.Carrying.{Asks, Scope}
+use Rattle.typing_conditions.specs.Surroundings.{Declared, Surrounds, IsEntry, context_of, with_closed}
 use Rattle.typing_conditions.proofs.Outward.{GroupTyped, I, inner_reached, before_closing, group_context, name_nodes, low_held, within_outer}
-
--- a context that has only what is chosen, for the types of names
-abbrev pub context_of : Choice → Context
-context_of ch = record { env = []; variables = in_item 0; held = []; kept = λ s. false; chosen = ch }
-
--- a scope after a `let`: its names with their types generalised in the environment outside, but for what is held
-abbrev pub with_closed : List Bound → (Choice → List Typ) → Scope → Scope
-with_closed bs held scope = record scope { env = λ ch. entries_with (generalised_in (scope.env ch) (held ch)) (context_of ch) bs (scope.env ch) }
 
 -- all variables of a node's type are held
 abbrev pub HasHeld : Frame → Sight → Letters → (Choice → List Typ) → ℕ → Type 0
@@ -94,32 +80,29 @@ module _ {D : Declared} {F : Frame} {scope : Scope} {asks : Asks} {a b c d : Sig
       held_here n (inr (le, (x, e))) = rest.written_held n (x, l.out.written x ∙ e)
 
   -- the scheme of a name, under types that fit
-  scheme_fits : (M V : Types) (ch : Choice) → IsOwn d.nodes M → Loose d.nodes V → Agrees F.owner d H V ch → Stands SchemeFits D.declaration D.exception d.nodes M rest.at.roots V env (scope.env ch) → (k r : ℕ) → slice_get names k ≡ Some r →
+  scheme_fits : (M V : Types) (ch : Choice) → IsOwn d.nodes M → Loose d.nodes V → Agrees F.owner d H V ch → Stands SchemeFits D.declaration D.exception d.nodes M rest.at.roots V env (scope.env ch) → (k r : ℕ) → slice_get names k ≡ Some r → IsKnown (V r) →
       SchemeFits d.nodes V r (generalised_in (scope.env ch) (types ch) (V r))
-  scheme_fits M V ch own loose g s k r e =
+  scheme_fits M V ch own loose g s k r e known =
       let own_c = before_closing l M own in
-      name_fits a.nodes c.nodes d.nodes J M roots names (inner_reached l).held F.level l.goes_in.own own_c (group_context l) ((inner_reached l).local M own_c) (name_nodes l) (low_held l M own_c) (l.out.closes M own_c) V (scope.env ch) (types ch)
-      (fixes M V ch own loose g s) k r e
+      name_fits a.nodes c.nodes d.nodes J M roots names (inner_reached l).held F.level l.goes_in.own own_c (group_context l) ((inner_reached l).local M own_c) (name_nodes l) (low_held l M own_c) (l.out.closes M own_c) V (scope.env ch) (types ch) loose
+      (fixes M V ch own loose g s) k r e known
 
   -- and at each reading
-  scheme_reads : (M V : Types) (ch : Choice) → IsOwn d.nodes M → IsReading d.nodes V → Agrees F.owner d H V ch → Stands SchemeReads D.declaration D.exception d.nodes M rest.at.roots V env (scope.env ch) → (k r : ℕ) → slice_get names k ≡ Some r →
+  scheme_reads : (M V : Types) (ch : Choice) → IsOwn d.nodes M → IsReading d.nodes V → Agrees F.owner d H V ch → Stands SchemeReads D.declaration D.exception d.nodes M rest.at.roots V env (scope.env ch) → (k r : ℕ) → slice_get names k ≡ Some r → IsKnown (V r) →
       SchemeReads d.nodes V r (generalised_in (scope.env ch) (types ch) (V r))
-  scheme_reads M V ch own reads g s k r e =
+  scheme_reads M V ch own reads g s k r e known =
       let own_c = before_closing l M own in
-      name_reads a.nodes c.nodes d.nodes J M roots names (inner_reached l).held F.level l.goes_in.own own_c (group_context l) ((inner_reached l).local M own_c) (name_nodes l) (low_held l M own_c) (l.out.closes M own_c) V (scope.env ch) (types ch)
+      name_reads a.nodes c.nodes d.nodes J M roots names (inner_reached l).held F.level l.goes_in.own own_c (group_context l) ((inner_reached l).local M own_c) (name_nodes l) (low_held l M own_c) (l.out.closes M own_c) V (scope.env ch) (types ch) reads
       (fixes M V ch own (fits_loosely d.nodes V reads.fits) g s)
-      (λ v h. let p = none_free D.declaration D.exception d.nodes M V rest.at.roots env (scope.env ch) own reads s v h in let q = rest.none_bound V ch reads g v h in (λ i. p i || q i)) k r e
-
-  known_vars : (M V : Types) (n : ℕ) → IsOwn d.nodes M → Loose d.nodes V → IsKnown (V n) → (u : ℕ) → IsFreeVar d.nodes u → occurs u (M n) ≡ true → IsKnown (V u)
-  known_vars M V n own loose known u f o = known_put V (M n) u o (subst IsKnown (own.comes V loose n) known)
+      (λ v h. let p = none_free D.declaration D.exception d.nodes M V rest.at.roots env (scope.env ch) s v h in let q = rest.none_bound V ch reads g v h in (λ i. p i || q i)) k r e known
 
   names_fit : (M V : Types) (ch : Choice) → IsOwn d.nodes M → Loose d.nodes V → Agrees F.owner d H V ch → Stands SchemeFits D.declaration D.exception d.nodes M rest.at.roots V env (scope.env ch) → {es : List Entry} {bs : List Bound} {ns : List ℕ} →
       ClosedNames F d H names es bs ns → NamesStand SchemeFits d.nodes M V (generalised_in (scope.env ch) (types ch)) (context_of ch) es bs ns
   names_fit M V ch own loose g s no_closed = no_more
   names_fit M V ch own loose g s (one_closed n is (k, e) typed more) =
       let t = typed V ch loose g in
-      let f = subst (λ x. SchemeFits d.nodes V n.0 (generalised_in (scope.env ch) (types ch) x)) (sym t.0) (scheme_fits M V ch own loose g s k n.0 e) in
-      name_more n is.named is.kind is.is f f (known_vars M V n.0 own loose t.1) (names_fit M V ch own loose g s more)
+      let f = subst (λ x. SchemeFits d.nodes V n.0 (generalised_in (scope.env ch) (types ch) x)) (sym t.0) (scheme_fits M V ch own loose g s k n.0 e t.1) in
+      name_more n is.named is.kind is.is f f.free (names_fit M V ch own loose g s more)
 
   names_read : (M V : Types) (ch : Choice) → IsOwn d.nodes M → IsReading d.nodes V → Agrees F.owner d H V ch → Stands SchemeReads D.declaration D.exception d.nodes M rest.at.roots V env (scope.env ch) → {es : List Entry} {bs : List Bound} {ns : List ℕ} →
       ClosedNames F d H names es bs ns → NamesStand SchemeReads d.nodes M V (generalised_in (scope.env ch) (types ch)) (context_of ch) es bs ns
@@ -127,8 +110,8 @@ module _ {D : Declared} {F : Frame} {scope : Scope} {asks : Asks} {a b c d : Sig
   names_read M V ch own reads g s (one_closed n is (k, e) typed more) =
       let loose = fits_loosely d.nodes V reads.fits in
       let t = typed V ch loose g in
-      let f = subst (λ x. SchemeReads d.nodes V n.0 (generalised_in (scope.env ch) (types ch) x)) (sym t.0) (scheme_reads M V ch own reads g s k n.0 e) in
-      name_more n is.named is.kind is.is f f.fits (known_vars M V n.0 own loose t.1) (names_read M V ch own reads g s more)
+      let f = subst (λ x. SchemeReads d.nodes V n.0 (generalised_in (scope.env ch) (types ch) x)) (sym t.0) (scheme_reads M V ch own reads g s k n.0 e t.1) in
+      name_more n is.named is.kind is.is f f.free (names_read M V ch own reads g s more)
 
   -- a closed name is a root: its variables above the level are bound
   name_root : (n : ℕ) → IsIn names n → IsRoot F d n
@@ -171,8 +154,8 @@ module _ {D : Declared} {F : Frame} {scope : Scope} {asks : Asks} {a b c d : Sig
     covered = joined_covers closed rest.at.roots env rest.at.covered;
     reads = λ M V ch own reads g.
         let s = rest.at.reads M V ch own reads g in
-        stands_names SchemeReads D.declaration D.exception d.nodes M V (generalised_in (scope.env ch) (types ch)) (context_of ch) own (fits_loosely d.nodes V reads.fits) (names_read M V ch own reads g s closed) rest.at.roots env (scope.env ch) s;
+        stands_names SchemeReads D.declaration D.exception d.nodes M V (generalised_in (scope.env ch) (types ch)) (context_of ch) own (names_read M V ch own reads g s closed) rest.at.roots env (scope.env ch) s;
     fits = λ M V ch own loose g.
         let s = rest.at.fits M V ch own loose g in
-        stands_names SchemeFits D.declaration D.exception d.nodes M V (generalised_in (scope.env ch) (types ch)) (context_of ch) own loose (names_fit M V ch own loose g s closed) rest.at.roots env (scope.env ch) s;
+        stands_names SchemeFits D.declaration D.exception d.nodes M V (generalised_in (scope.env ch) (types ch)) (context_of ch) own (names_fit M V ch own loose g s closed) rest.at.roots env (scope.env ch) s;
   }

@@ -16,7 +16,7 @@ use Rattle.typing_environments.proofs.Steps.{refines_unified, refines_none}
 use Rattle.typing_conditions.specs.Sights.{Sight, Letters}
 use Rattle.typing_conditions.specs.Frames.{Frame, Reaches, IsOpen}
 use Rattle.typing_conditions.specs.Meanings.{Means}
-use Rattle.typing_conditions.specs.Judging.{Judgement, FallsShort, TellBy}
+use Rattle.typing_conditions.specs.Judging.{Judgement, FallsShort, TellBy, judged_at}
 use Rattle.typing_conditions.specs.Steps.{OnlyNodes, OnlyReports, Tells}
 use Rattle.typing_conditions.specs.Carrying.{Scope, Enters, GoesOn, Stays, Continues, Carried}
 use Rattle.typing_conditions.proofs.Stays.{agrees_before}
@@ -87,7 +87,7 @@ unified_stays {F} {G} {a} {b} {m} {n} sound rest tight p q one = record {
 
 -- one demand that isn't that of a closing, as it is judged
 abbrev pub judged_as : Site → Bool → List Judgement
-judged_as s t = (s, t, false) ∷ []
+judged_as s t = judged_at s t false ∷ []
 
 -- it isn't kept where it was: it falls short
 pub falls_short : {t : Bool} (s : Site) → t ≡ false → FallsShort (judged_as s t) (judged_as s true)

@@ -1,12 +1,13 @@
 -- Steps in a frame: the states that they reach, and the nodes that are open then.
-use Rattle.std.proofs.Common.{◌≡◌, ◌∙◌, ℕ, zero, suc, ◌<◌, List, [], ◌∷◌, length, Some, refl, sym, subst, arith, inl, inr, ◌≤◌}
+use Rattle.std.proofs.Common.{◌≡◌, ◌∙◌, ℕ, zero, suc, ◌<◌, List, [], ◌∷◌, length, Some, refl, sym, subst, arith, inl, inr, ◌≤◌, ap}
 use Rattle.std.specs.Prelude.{slice_get, All}
+use Rattle.std.proofs.lemmas.Option.{slice_get_within}
 use Rattle.type_model.specs.Types.{occurs}
 use Rattle.type_model.specs.Limits.{no_scope}
 use Rattle.type_model.proofs.Applying.{or_left, or_cases}
 use Rattle.signature_model.specs.Declarations.{Name}
 use Rattle.typing_laws.proofs.Bools.{no_yes}
-use Rattle.type_nodes.specs.Nodes.{Node, Var, parts, IsSound, IsNode}
+use Rattle.type_nodes.specs.Nodes.{Node, Var, parts, IsSound, IsClosed, IsNode}
 use Rattle.type_nodes.specs.Readings.{Types}
 use Rattle.type_nodes.specs.States.{Change, state}
 use Rattle.type_nodes.specs.Changes.{Makes}
@@ -17,11 +18,12 @@ use Rattle.level_unify.specs.Instances.{Instantiated}
 use Rattle.typing_environments.specs.Locals.{IsOwn, IsFreeVar, IsLow, Refines, Local, IsResult, IsContext}
 use Rattle.typing_environments.specs.Rows.{Row}
 use Rattle.typing_environments.proofs.Own.{own_of}
+use Rattle.typing_environments.proofs.Steps.{local_made}
 use Rattle.typing_environments.proofs.Later.{context_after, result_after}
 use Rattle.typing_environments.proofs.Instances.{open_nodes}
 use Rattle.typing_environments.proofs.Rows.{row_unify, row_instance, row_var, row_node}
 use Rattle.typing_conditions.specs.Sights.{Sight, Letters}
-use Rattle.typing_conditions.specs.Frames.{Frame, Reaches, IsOpenAt, IsOpen, AreOpen, IsRoot}
+use Rattle.typing_conditions.specs.Frames.{Frame, IsFrame, Reaches, IsOpenAt, IsOpen, AreOpen, IsRoot}
 use Rattle.typing_conditions.specs.Meanings.{KnowsWritten}
 use Rattle.typing_conditions.specs.Carrying.{Stays}
 use Rattle.typing_conditions.specs.Steps.{OnlyNodes}
@@ -35,6 +37,23 @@ row_of {F} {a} r J own ms opens = record {
   local = r.local J own;
   open_nodes = λ k m e. let o = opens k m e in record { inside = o.inside; within = o.within; free = o.free J own };
 }
+
+-- the state at which a frame starts is reached
+pub reached_start : {F : Frame} (a : Sight) → IsFrame F → a.nodes ≡ F.start → a.level ≡ F.level → IsSound F.start → Reaches F a
+reached_start {F} a frame nodes level sound = record {
+  frame = frame;
+  sound = subst IsSound (sym nodes) sound;
+  level = level;
+  held = F.held;
+  only_held = λ k n lt i. inl i;
+  local = λ J own. local_made F.start a.nodes F.types J F.roots F.held F.level frame.own own
+      (record { longer = let e = len in omega arith; node = λ n lt. ap (λ ns. slice_get ns n) nodes })
+      (λ S reg. subst (λ ns. IsClosed ns S) (sym nodes) reg.closed)
+      (λ k u l o lt old e free le. absurd (let p = slice_get_within a.nodes u (Var l o) e in let q = len in omega arith));
+}
+  where
+    len : length a.nodes ≡ length F.start
+    len = ap length nodes
 
 -- what a further step reaches, where nothing that is written is lost
 pub reaches_step : {F : Frame} {a b : Sight} (r : Reaches F a) → IsSound b.nodes → b.level ≡ a.level → ((x : Name) (n : ℕ) → a.written x ≡ Some n → b.written x ≡ Some n) →

@@ -1,28 +1,25 @@
 -- A frame one level further in: what it reaches at its start, and what is open in it.
-use Rattle.std.proofs.Common.{◌≡◌, ◌≢◌, ◌∙◌, ℕ, zero, suc, ◌<◌, ◌≤◌, min, true, Bool, List, [], ◌∷◌, length, Some, refl, sym, ap, subst, arith, inl, inr}
+use Rattle.std.proofs.Common.{◌≡◌, ◌∙◌, ℕ, zero, suc, ◌<◌, ◌≤◌, min, List, [], ◌∷◌, length, Some, refl, sym, ap, subst, arith}
 use Rattle.std.specs.Prelude.{slice_get}
-use Rattle.std.proofs.lemmas.Option.{slice_get_within}
-use Rattle.type_model.specs.Types.{Typ, occurs}
+use Rattle.type_model.specs.Types.{Typ}
 use Rattle.typing_model.specs.Contexts.{Choice}
 use Rattle.typing_model.specs.BuiltIns.{int_type, char_type, string_type, float_type, unit_type, bool_type, exn_type}
 use Rattle.signature_model.specs.Declarations.{Name}
-use Rattle.type_nodes.specs.Nodes.{Node, Var, bound_level, IsSound, IsClosed, IsNode}
-use Rattle.type_nodes.specs.Readings.{Types, Fits, IsReading}
+use Rattle.type_nodes.specs.Readings.{Types, IsReading}
 use Rattle.level_unify.specs.Solutions.{Loose}
 use Rattle.env_table.specs.declared.entries.Entry.{Entry}
-use Rattle.typing_environments.specs.Locals.{IsOwn, IsContext}
+use Rattle.typing_environments.specs.Locals.{IsOwn}
 use Rattle.typing_environments.specs.Assumptions.{SchemeFits, SchemeReads}
 use Rattle.typing_environments.specs.Standing.{IsIn, Stands}
 use Rattle.typing_environments.proofs.Regions.{in_any}
-use Rattle.typing_environments.proofs.Steps.{local_made}
 use Rattle.typing_environments.proofs.Instances.{root_within}
-use Rattle.typing_conditions.specs.Sights.{Sight, Fixed, Letters, AreNodes, Agrees, IsInside}
-use Rattle.typing_conditions.specs.Frames.{Frame, IsFrame, Reaches, IsOpenAt, IsOpen, IsRoot, inner_frame, GoesIn}
+use Rattle.typing_conditions.specs.Sights.{Sight, Fixed, Letters, Agrees}
+use Rattle.typing_conditions.specs.Frames.{Frame, Reaches, IsOpenAt, IsRoot, inner_frame, GoesIn}
 use Rattle.typing_conditions.specs.Meanings.{Means, KnowsFixed, KnowsWritten}
 use Rattle.typing_conditions.specs.Steps.{OnlyLevel}
 use Rattle.typing_conditions.specs.Carrying.{Scope}
 use Rattle.typing_conditions.specs.Surroundings.{Declared, Surrounds}
-use Rattle.typing_conditions.proofs.Framing.{open_lower}
+use Rattle.typing_conditions.proofs.Framing.{open_lower, reached_start}
 
 -- A choice agrees with a state where the same is recorded and written.
 pub agrees_as : {owner : ℕ} {G : Letters} {V : Types} {ch : Choice} (a b : Sight) → ((i p : ℕ) → b.types i p ≡ a.types i p) → ((x : Name) → b.written x ≡ a.written x) → Agrees owner a G V ch → Agrees owner b G V ch
@@ -43,27 +40,14 @@ module _ {F : Frame} {a b : Sight} {J : Types} {roots : List ℕ} {held : ℕ �
 
   -- nothing was done yet
   pub reached_inward : Reaches (inner_frame F a J roots held) b
-  reached_inward = record {
-    frame = record {
-      own = g.own;
-      context = record {
-        inside = λ k c e. (g.are_roots k c e).inside;
-        low = λ v l o h e free. let i = in_any v J roots h in let le = (g.are_roots i.place i.node i.at).low J g.own v l o i.occurs e free in omega arith;
-      };
-      free = g.free;
+  reached_inward = reached_start b (record {
+    own = g.own;
+    context = record {
+      inside = λ k c e. (g.are_roots k c e).inside;
+      low = λ v l o h e free. let i = in_any v J roots h in let le = (g.are_roots i.place i.node i.at).low J g.own v l o i.occurs e free in omega arith;
     };
-    sound = subst IsSound (sym only.nodes) g.reached.sound;
-    level = raised ∙ ap suc g.reached.level;
-    held = held;
-    only_held = λ k n lt i. inl i;
-    local = λ M own. local_made a.nodes b.nodes J M roots held (suc F.level) g.own own
-        (record { longer = len; node = λ n lt. ap (λ ns. slice_get ns n) only.nodes })
-        (λ S reg. subst (λ ns. IsClosed ns S) (sym only.nodes) reg.closed)
-        (λ k u l o lt old e free le. absurd (let p = slice_get_within b.nodes u (Var l o) e in let q : length b.nodes ≡ length a.nodes = ap length only.nodes in omega arith));
-  }
-    where
-      len : length a.nodes ≤ length b.nodes
-      len = let q : length b.nodes ≡ length a.nodes = ap length only.nodes in omega arith
+    free = g.free;
+  }) only.nodes (raised ∙ ap suc g.reached.level) g.reached.sound
 
   in_store : (n : ℕ) → n < length a.nodes → n < length b.nodes
   in_store n lt = let q : length b.nodes ≡ length a.nodes = ap length only.nodes in omega arith

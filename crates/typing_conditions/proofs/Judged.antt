@@ -6,7 +6,7 @@ use Rattle.type_nodes.specs.Nodes.{Node}
 use Rattle.typing_model.specs.Demands.{Site, Demand, Condition, same, instance, made, known, demand, treated, AllHold}
 use Rattle.typing_model.specs.Contexts.{Choice}
 use Rattle.typing_conditions.specs.Sights.{Report, Letters, AreGiven, AreNodes}
-use Rattle.typing_conditions.specs.Judging.{Judgement, is_closing, judgements, AreKept, StartsWith, FallsShort, TellAll, TellBy}
+use Rattle.typing_conditions.specs.Judging.{Judgement, is_closing, judgements, AreKept, StartsWith, FallsShort, TellAll, TellBy, judged_at}
 
 -- conditions that hold hold together
 pub hold_both : (kept : Site → Bool) (xs ys : List Condition) → AllHold kept xs → AllHold kept ys → AllHold kept (xs ++ ys)
@@ -30,7 +30,7 @@ judged_both kept (same t u ∷ xs) ys = judged_both kept xs ys
 judged_both kept (instance s t ∷ xs) ys = judged_both kept xs ys
 judged_both kept (made n t ∷ xs) ys = judged_both kept xs ys
 judged_both kept (known t ∷ xs) ys = judged_both kept xs ys
-judged_both kept (demand s at d ∷ xs) ys = ap (λ js. (s, kept s, is_closing d) ∷ js) (judged_both kept xs ys)
+judged_both kept (demand s at d ∷ xs) ys = ap (λ js. judged_at s (kept s) (is_closing d) ∷ js) (judged_both kept xs ys)
 judged_both kept (treated n env ∷ xs) ys = judged_both kept xs ys
 
 -- what keeps judgements keeps the first of them
@@ -94,8 +94,8 @@ short_left xs ys us vs f = record {
   why = f.why;
   left = f.left ++ us;
   right = f.right ++ vs;
-  short = ap (λ zs. zs ++ us) f.short ∙ append_assoc f.before ((f.site, f.mine, f.closing) ∷ f.left) us;
-  full = ap (λ zs. zs ++ vs) f.full ∙ append_assoc f.before ((f.site, f.theirs, f.closing) ∷ f.right) vs;
+  short = ap (λ zs. zs ++ us) f.short ∙ append_assoc f.before (judged_at f.site f.mine f.closing ∷ f.left) us;
+  full = ap (λ zs. zs ++ vs) f.full ∙ append_assoc f.before (judged_at f.site f.theirs f.closing ∷ f.right) vs;
 }
 
 -- and so does what falls short after the same judgements
@@ -109,8 +109,8 @@ short_right xs ys us vs e f = record {
   why = f.why;
   left = f.left;
   right = f.right;
-  short = ap (λ zs. zs ++ us) e ∙ ap (λ zs. ys ++ zs) f.short ∙ sym (append_assoc ys f.before ((f.site, f.mine, f.closing) ∷ f.left));
-  full = ap (λ zs. ys ++ zs) f.full ∙ sym (append_assoc ys f.before ((f.site, f.theirs, f.closing) ∷ f.right));
+  short = ap (λ zs. zs ++ us) e ∙ ap (λ zs. ys ++ zs) f.short ∙ sym (append_assoc ys f.before (judged_at f.site f.mine f.closing ∷ f.left));
+  full = ap (λ zs. ys ++ zs) f.full ∙ sym (append_assoc ys f.before (judged_at f.site f.theirs f.closing ∷ f.right));
 }
 
 -- a list of judgements begins with itself

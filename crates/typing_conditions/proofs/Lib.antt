@@ -20,3 +20,4 @@ pub mod Answering
 pub mod Inward
 pub mod Outward
 pub mod Closed
+pub mod Letting

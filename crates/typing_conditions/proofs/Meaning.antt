@@ -1,15 +1,21 @@
 -- What has a type still does after a call.
-use Rattle.std.proofs.Common.{◌≡◌, ◌∙◌, ℕ, zero, suc, ◌≤◌, min, List, [], ◌∷◌, ◌++◌, length, map, refl, sym, subst, arith, Some}
-use Rattle.type_model.specs.Types.{Typ}
+use Rattle.std.proofs.Common.{◌≡◌, ◌∙◌, ℕ, zero, suc, ◌≤◌, min, Bool, true, false, List, [], ◌∷◌, ◌++◌, length, map, refl, sym, subst, arith, Some}
+use Rattle.type_model.specs.Types.{Typ, occurs}
 use Rattle.signature_model.specs.Declarations.{Name}
 use Rattle.signature_model.specs.Matching.{IsKnown}
 use Rattle.typing_model.specs.Contexts.{Choice}
 use Rattle.typing_model.specs.BuiltIns.{int_type, char_type, string_type, float_type, unit_type, bool_type, exn_type}
-use Rattle.type_nodes.specs.Nodes.{Node}
-use Rattle.type_nodes.specs.Readings.{Types}
+use Rattle.type_nodes.specs.Nodes.{Node, bound_level}
+use Rattle.type_nodes.specs.Readings.{Types, IsReading}
 use Rattle.level_unify.specs.Solutions.{Loose}
+use Rattle.level_unify.specs.Instances.{is_bound}
+use Rattle.level_unify.proofs.Variants.{bound_cell, stands_occurs}
+use Rattle.typing_environments.specs.Locals.{IsOwn}
+use Rattle.typing_environments.proofs.Own.{own_of}
+use Rattle.typing_environments.proofs.Steps.{same_node}
+use Rattle.typing_environments.proofs.Uses.{bound_stands}
 use Rattle.typing_conditions.specs.Sights.{Sight, Letters, IsKnownFor, AreGiven, AreNodes, Agrees, IsInside, SameAt}
-use Rattle.typing_conditions.specs.Frames.{Frame, IsOpen, AreOpen}
+use Rattle.typing_conditions.specs.Frames.{Frame, IsOpenAt, IsOpen, AreOpen}
 use Rattle.typing_conditions.specs.Meanings.{Means, AllMean, none_mean, one_means, types_by, KnowsFixed, KnowsWritten}
 use Rattle.typing_conditions.specs.Carrying.{Stays}
 use Rattle.typing_conditions.proofs.Stays.{agrees_before}
@@ -41,6 +47,21 @@ min_left l m = grind arith
 -- a type variable that is written has the type of its node
 pub written_means : {F : Frame} {a : Sight} {G : Letters} {x : Name} {m : ℕ} → KnowsWritten F a → a.written x ≡ Some m → Means F a G (λ ch. ch.written F.owner x) m
 written_means {F} {x = x} {m = m} k e = record { open_node = open_lower (min_left F.level 1) (k.each x m e); is = λ V ch loose g. g.written x m e }
+
+-- at a reading no bound variable stands in the type of an open node
+pub open_unbound : {F : Frame} {a : Sight} {level n : ℕ} → IsOpenAt F a level n → (V : Types) → IsReading a.nodes V → (v : ℕ) → is_bound a.nodes v ≡ true → occurs v (V n) ≡ false
+open_unbound {F} {a} {level} {n} o V reads v bound = by (occurs v (V n)) refl
+  where
+    own : (J : Types) × IsOwn a.nodes J
+    own = own_of a.nodes o.reached.sound
+
+    by : (t : Bool) → occurs v (V n) ≡ t → occurs v (V n) ≡ false
+    by false e = e
+    by true e =
+        let (scope, at) = bound_cell a.nodes v bound in
+        let stands = bound_stands a.nodes own.0 V own.1 reads n v o.inside bound e in
+        let low = o.free own.0 own.1 v (stands_occurs a.nodes own.0 v n own.1.loose (own.1.vars v bound_level scope at) stands) in
+        absurd (low.free (same_node a.nodes v low.level low.scope bound_level scope low.at at))
 
 -- the built-in types still have nodes
 pub fixed_on : {F : Frame} {a b : Sight} {G H : Letters} → Stays F a G b H → KnowsFixed F a → KnowsFixed F b

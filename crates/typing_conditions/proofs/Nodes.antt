@@ -4,8 +4,8 @@ use Rattle.std.specs.Prelude.{All}
 use Rattle.type_model.specs.Types.{Path, Typ, types_of}
 use Rattle.type_model.specs.Types.{Typ as type}
 use Rattle.type_model.specs.Limits.{no_scope}
-use Rattle.typing_model.specs.Demands.{same, known, AllHold}
-use Rattle.typing_model.specs.Contexts.{Choice, Context}
+use Rattle.typing_model.specs.Demands.{same, known, treated, AllHold}
+use Rattle.typing_model.specs.Contexts.{Choice, Context, tell}
 use Rattle.type_nodes.specs.Nodes.{Node, Var, Arrow, Tuple, Con, parts}
 use Rattle.type_nodes.specs.Readings.{Types, FitsNode}
 use Rattle.type_nodes.specs.States.{Change, state}
@@ -16,14 +16,14 @@ use Rattle.level_unify.proofs.Unified.{fits_loosely}
 use Rattle.signature_model.specs.Matching.{IsKnown}
 use Rattle.typing_environments.specs.Locals.{IsOwn, Refines}
 use Rattle.typing_environments.proofs.Steps.{refines_made}
-use Rattle.typing_conditions.specs.Sights.{Sight, Key, name, value_of, Letters, IsKnownFor, AreNodes, SameAt}
+use Rattle.typing_conditions.specs.Sights.{Sight, Key, without_unknown, value_of, Letters, IsKnownFor, AreNodes, SameAt}
 use Rattle.typing_conditions.specs.Frames.{Frame, Reaches, IsOpen, AreOpen}
 use Rattle.typing_conditions.specs.Meanings.{Means, AllMean, none_mean, one_means, types_by}
 use Rattle.typing_conditions.specs.Judging.{FallsShort}
 use Rattle.typing_conditions.specs.Steps.{OnlyNodes}
 use Rattle.typing_conditions.specs.Carrying.{Scope, Enters, GoesOn, Stays, Continues, Carried, CarriedTo}
 use Rattle.typing_conditions.proofs.Judged.{given_right, nodes_both}
-use Rattle.typing_conditions.proofs.Stays.{agrees_before, stays_opened}
+use Rattle.typing_conditions.proofs.Stays.{agrees_before, stays_refl, stays_opened}
 use Rattle.typing_conditions.proofs.Framing.{open_var, open_made, written_next}
 use Rattle.typing_conditions.proofs.First.{first_none, first_one, nothing_met}
 use Rattle.typing_conditions.proofs.Making.{with_type, at_own, at_older, in_any_scope, makes_extends, made_here, loose_before, reading_before, fits_made}
@@ -54,7 +54,7 @@ made_stays {F} {G} {a} {b} {s} {t} {n} {c} more opened made rest new = record {
     refines : Reaches F a → (K : Types) → IsOwn b.nodes K → Refines a.nodes b.nodes K
     refines r K own = refines_made a.nodes b.nodes K own (record { longer = extends.longer; node = extends.node })
 
--- a new variable stands for what a choice chooses, unless that is the type of a name
+-- a new variable stands for what a choice chooses, where unknown types may stand in that
 pub letter_made : {F : Frame} {scope : Scope} {G : Letters} {a b : Sight} {s t : List Change} {n : ℕ} (key : Key) → ((x : Typ) → IsKnownFor key x) → Reaches F a → Makes (state a.nodes s) (state b.nodes t) n (Var F.level no_scope) → OnlyNodes a b →
     CarriedTo F scope (λ c. []) a G b ((key, n) ∷ G) (λ ch. value_of ch key) n
 letter_made {F} {scope} {G} {a} {b} {s} {t} {n} key free r made rest = record {
@@ -169,21 +169,21 @@ tuple_made {types = types} {ms = ms} {n = n} {a = a} {b = b} {s = s} {t = t} r p
     built_made (Tuple ms) (λ ts. type.Tuple (types_of ts)) types (λ l o e. absurd (cc)) (λ V m e. e)
     (λ V loose. loose.each n (Tuple ms) (made_here (state a.nodes s) (state b.nodes t) n (Tuple ms) made)) r p made rest
 
--- A letter in which no unknown type may stand, which the definitions ask where it is the type of a name, is known from then on.
-pub letter_known : {F : Frame} {scope : Scope} {G : Letters} {a : Sight} {m : ℕ} (n k : ℕ) → Means F a G (λ ch. ch.letter n k) m → Carried F scope (λ c. known (c.chosen.letter n k) ∷ []) a G a ((name n k, m) ∷ G)
-letter_known {F} {scope} {G} {a} {m} n k p = record {
-  stays = stays_opened (name n k) p.open_node.inside;
+-- Where the definitions ask that no unknown type stands in what a key stands for, as in the type of a name, none does from then on.
+pub key_known : {F : Frame} {scope : Scope} {G : Letters} {a : Sight} {m : ℕ} (key : Key) → Means F a G (λ ch. value_of ch key) m → Carried F scope (λ c. known (value_of c.chosen key) ∷ []) a G a ((without_unknown key, m) ∷ G)
+key_known {F} {scope} {G} {a} {m} key p = record {
+  stays = stays_opened (without_unknown key) p.open_node.inside;
   hidden = [];
   judged = [];
   told = [];
   reports = sym (append-nil a.reports);
   sound = λ V c l. record { same = refl; holds = (subst IsKnown (sym l.agrees.given.0.is) l.agrees.given.0.known, tt); tells = refl };
-  complete = λ V c e h. complete V c e h;
-  first = first_one (λ c. known (c.chosen.letter n k)) complete;
+  complete = complete;
+  first = first_one (λ c. known (value_of c.chosen key)) complete;
 }
   where
-    complete : (V : Types) (c : Context) → Enters F scope a G V c → AllHold c.kept (known (c.chosen.letter n k) ∷ []) →
-        Continues F (λ c. known (c.chosen.letter n k) ∷ []) a a ((name n k, m) ∷ G) [] V c ⊎ FallsShort [] []
+    complete : (V : Types) (c : Context) → Enters F scope a G V c → AllHold c.kept (known (value_of c.chosen key) ∷ []) →
+        Continues F (λ c. known (value_of c.chosen key) ∷ []) a a ((without_unknown key, m) ∷ G) [] V c ⊎ FallsShort [] []
     complete V c e h =
         let is = p.is V c.chosen (fits_loosely a.nodes V e.fits) e.agrees in
         let g = e.agrees in
@@ -219,3 +219,19 @@ same_made {F} {scope} {G} {a} {m} {type} key free p = record {
           types = V;
           on = record { fits = e.fits; before = λ i lt. refl; agrees = record { recorded = g.recorded; known = g.known; written = g.written; given = (record { is = is; known = free (V m) }, g.given) } };
         })
+
+-- What a node that is no expression and no pattern tells first asks nothing.
+pub told_first : {F : Frame} {scope : Scope} {G : Letters} {a : Sight} (n : ℕ) → Carried F scope (tell n) a G a G
+told_first {F} {scope} {G} {a} n = record {
+  stays = stays_refl;
+  hidden = [];
+  judged = [];
+  told = [];
+  reports = sym (append-nil a.reports);
+  sound = λ V c l. record { same = refl; holds = (tt, tt); tells = refl };
+  complete = complete;
+  first = first_one (λ c. treated n c.env) complete;
+}
+  where
+    complete : (V : Types) (c : Context) → Enters F scope a G V c → AllHold c.kept (tell n c) → Continues F (tell n) a a G [] V c ⊎ FallsShort [] []
+    complete V c e h = inl (record { same = refl; types = V; on = record { fits = e.fits; before = λ i lt. refl; agrees = e.agrees } })

@@ -1,29 +1,26 @@
 -- Back out of a frame one level further in: the names that were typed in it are closed.
-use Rattle.std.proofs.Common.{◌≡◌, ◌≢◌, ◌∙◌, ◌⊎◌, ℕ, zero, suc, ◌<◌, ◌≤◌, min, true, false, Bool, List, [], ◌∷◌, ◌++◌, take, length, Some, refl, sym, ap, subst, arith, inl, inr}
+use Rattle.std.proofs.Common.{◌≡◌, ◌≢◌, ◌∙◌, ◌⊎◌, ℕ, zero, suc, ◌<◌, ◌≤◌, min, true, List, [], ◌∷◌, ◌++◌, length, Some, sym, ap, subst, arith, inl, inr}
 use Rattle.std.specs.Prelude.{slice_get}
-use Rattle.std.proofs.lemmas.Option.{slice_get_within}
-use Rattle.type_model.specs.Types.{Typ, occurs}
+use Rattle.type_model.specs.Types.{occurs}
 use Rattle.signature_model.specs.Declarations.{Name}
-use Rattle.typing_model.specs.Demands.{AllHold}
-use Rattle.typing_model.specs.Contexts.{Choice, Context}
-use Rattle.type_nodes.specs.Nodes.{Node, Var, bound_level, IsSound, IsClosed, IsNode}
+use Rattle.typing_model.specs.Contexts.{Context}
+use Rattle.type_nodes.specs.Nodes.{Var, bound_level, IsSound, IsNode}
 use Rattle.type_nodes.specs.Readings.{Types, Fits, IsReading}
 use Rattle.level_unify.specs.Solutions.{Loose}
-use Rattle.typing_environments.specs.Locals.{IsOwn, IsLow, stands_in_any, Within, Refines, Local, IsContext, ClosesAll}
+use Rattle.typing_environments.specs.Locals.{IsOwn, stands_in_any, Within, Refines, Local, IsContext, ClosesAll}
 use Rattle.typing_environments.specs.Standing.{IsIn}
 use Rattle.typing_environments.proofs.Own.{own_of}
-use Rattle.typing_environments.proofs.Regions.{any_in, in_any}
+use Rattle.typing_environments.proofs.Regions.{in_any}
 use Rattle.typing_environments.proofs.Steps.{local_then, same_node}
 use Rattle.typing_environments.proofs.Instances.{local_more}
-use Rattle.typing_environments.proofs.Closing.{closed_loose, own_reopened, still_free, refines_closed, local_closed}
+use Rattle.typing_environments.proofs.Closing.{closed_loose, own_reopened, local_closed}
 use Rattle.typing_environments.proofs.Bindings.{any_before, any_after}
 use Rattle.typing_environments.proofs.Fresh.{reads_closed, fits_closed}
-use Rattle.typing_conditions.specs.Sights.{Sight, Letters, AreNodes, Agrees, IsInside}
-use Rattle.typing_conditions.specs.Frames.{Frame, Reaches, IsHeld, IsOpenAt, IsOpen, IsRoot, inner_frame, GoesIn}
+use Rattle.typing_conditions.specs.Sights.{Sight, Letters, AreNodes, IsInside}
+use Rattle.typing_conditions.specs.Frames.{Frame, Reaches, IsHeld, IsOpenAt, IsOpen, inner_frame, GoesIn}
 use Rattle.typing_conditions.specs.Meanings.{KnowsWritten}
-use Rattle.typing_conditions.specs.Judging.{judgements, FallsShort}
 use Rattle.typing_conditions.specs.Steps.{OnlyLevel}
-use Rattle.typing_conditions.specs.Carrying.{Asks, Scope, Enters, Stays, Continues, Carried}
+use Rattle.typing_conditions.specs.Carrying.{Asks, Scope, Enters, Stays, Carried}
 use Rattle.typing_conditions.proofs.Meaning.{inside_longer}
 use Rattle.typing_conditions.proofs.Inward.{agrees_as, reached_inward, written_inward}
 
@@ -58,12 +55,15 @@ pub record GroupTyped (F : Frame) (scope : Scope) (asks : Asks) (a b c d : Sight
   pub written : KnowsWritten F a
 
 module _ {F : Frame} {scope : Scope} {asks : Asks} {a b c d : Sight} {J : Types} {roots names : List ℕ} {held : ℕ → List ℕ} {G H : Letters} (l : GroupTyped F scope asks a b c d J roots names held G H) where
+  -- the frame further in
   abbrev pub I : Frame
   I = inner_frame F a J roots held
 
+  -- the state at the end of the group is reached in it
   pub inner_reached : Reaches I c
   inner_reached = l.part.stays.reaches (reached_inward l.goes_in l.only l.raised)
 
+  -- and the written type variables are open there
   pub written_there : KnowsWritten I c
   written_there = l.part.stays.writes (written_inward l.goes_in l.only l.raised l.written)
 
@@ -74,12 +74,14 @@ module _ {F : Frame} {scope : Scope} {asks : Asks} {a b c d : Sight} {J : Types}
   pub before_closing : (M : Types) → IsOwn d.nodes M → IsOwn c.nodes M
   before_closing M own = let (K, own_k, closes) = any_closing in own_reopened c.nodes d.nodes K M names F.level own closes
 
+  -- the roots are a context at the outer level
   pub group_context : IsContext a.nodes J roots F.level
   group_context = record {
     inside = λ k r e. (l.goes_in.are_roots k r e).inside;
     low = λ v k o h e free. let i = in_any v J roots h in (l.goes_in.are_roots i.place i.node i.at).low J l.goes_in.own v k o i.occurs e free;
   }
 
+  -- the names are nodes within the roots
   pub name_nodes : (k r : ℕ) → slice_get names k ≡ Some r → (r < length c.nodes) × Within a.nodes roots r
   name_nodes k r e = let o = l.out.are_open k r e in (o.inside, o.within)
 
@@ -102,6 +104,7 @@ module _ {F : Frame} {scope : Scope} {asks : Asks} {a b c d : Sight} {J : Types}
       min_one : (n : ℕ) → min n 1 ≤ 1
       min_one n = grind arith
 
+  -- with the closing the group touches only what stands in its roots
   pub group_local : (M : Types) → IsOwn d.nodes M → Local a.nodes d.nodes J M roots inner_reached.held F.level
   group_local M own =
       let own_c = before_closing M own in
@@ -110,6 +113,7 @@ module _ {F : Frame} {scope : Scope} {asks : Asks} {a b c d : Sight} {J : Types}
   refines : (M : Types) → IsOwn d.nodes M → Refines a.nodes d.nodes M
   refines M own = (group_local M own).refines
 
+  -- what is within the roots is within those of the frame around
   pub within_outer : {n : ℕ} → Reaches F a → Within a.nodes roots n → Within F.start F.roots n
   within_outer r w = record {
     each = λ S reg. w.each S (record {
@@ -169,6 +173,7 @@ module _ {F : Frame} {scope : Scope} {asks : Asks} {a b c d : Sight} {J : Types}
       open_at : (x : Name) (m : ℕ) → c.written x ≡ Some m → KnowsWritten F a → IsOpenAt F d (min F.level 1) m
       open_at x m e k = open_outward (min F.level 1) m (min_left F.level 1) l.goes_in.reached (subst (λ l. IsOpenAt I c l m) (lower F.level l.inside_item) (written_there.each x m e))
 
+  -- what was there stays
   pub group_stays : Stays F a G d H
   group_stays = record {
     longer = let q : length b.nodes ≡ length a.nodes = ap length l.only.nodes in let len = l.part.stays.longer in let (K, own_k, closes) = any_closing in let r = closes.len in omega arith;

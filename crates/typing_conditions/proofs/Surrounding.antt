@@ -1,41 +1,51 @@
 -- What a part is typed among, after a call and with a further name.
-use Rattle.std.proofs.Common.{◌≡◌, ℕ, zero, suc, ◌≤◌, true, List, ◌∷◌, Some, refl, sym, subst, arith}
+use Rattle.std.proofs.Common.{◌≡◌, ℕ, zero, suc, ◌≤◌, true, List, ◌∷◌, Some, refl, sym, subst, arith, []}
 use Rattle.std.specs.Prelude.{slice_get}
-use Rattle.text_terms.specs.Bytes.{str_bytes}
 use Rattle.type_model.specs.Types.{Typ, occurs}
 use Rattle.signature_model.specs.Declarations as rules
 use Rattle.signature_model.specs.Declarations.{Name}
-use Rattle.signature_model.specs.Entries.{entry, a_value, value_kind}
+use Rattle.signature_model.specs.Entries.{entry, a_value}
 use Rattle.signature_model.specs.Matching.{IsKnown}
 use Rattle.typing_model.specs.Contexts.{Choice, monomorphic}
 use Rattle.typing_model.specs.Typings.{no_choice}
+use Rattle.typing_laws.proofs.Bools.{no_yes}
 use Rattle.type_terms.specs.declared.types.NodeRef.{NodeRef}
 use Rattle.type_nodes.specs.Nodes.{Var}
 use Rattle.type_nodes.specs.Readings.{Types}
-use Rattle.level_unify.specs.Solutions.{Loose}
 use Rattle.level_unify.proofs.Unified.{fits_loosely}
-use Rattle.env_table.specs.declared.entries.What.TheVariants as what
 use Rattle.env_table.specs.declared.entries.Entry.{Entry}
-use Rattle.env_table.specs.Views.{kind_of}
 use Rattle.typing_environments.specs.Locals.{IsOwn, IsFreeVar}
 use Rattle.typing_environments.specs.Assumptions.{SchemeFits, SchemeReads}
-use Rattle.typing_environments.specs.Environments.{of_value, entry_as, newest}
+use Rattle.typing_environments.specs.Environments.{of_value, entry_as, no_names, newest}
 use Rattle.typing_environments.specs.Standing.{IsIn, Stands}
 use Rattle.typing_environments.proofs.Own.{own_of}
 use Rattle.typing_environments.proofs.Environments.{env_map}
 use Rattle.typing_environments.proofs.Steps.{same_node}
-use Rattle.typing_environments.proofs.Standing.{known_put, more_in, stands_fits_on, stands_reads_on, stands_named, one_type_fits, one_type_reads}
+use Rattle.typing_environments.proofs.Standing.{more_in, stands_fits_on, stands_reads_on, stands_named, one_type_fits, one_type_reads}
 use Rattle.typing_conditions.specs.Sights.{Sight, Letters, Agrees}
-use Rattle.typing_conditions.specs.Frames.{Frame, IsRoot}
-use Rattle.typing_conditions.specs.Meanings.{Means}
+use Rattle.typing_conditions.specs.Frames.{Frame, Reaches, IsRoot}
+use Rattle.typing_conditions.specs.Meanings.{Means, KnowsFixed, KnowsWritten}
 use Rattle.typing_conditions.specs.Carrying.{Scope, Stays}
-use Rattle.typing_conditions.specs.Surroundings.{Declared, Surrounds}
+use Rattle.typing_conditions.specs.Surroundings.{Declared, Surrounds, with_one, IsEntry}
 use Rattle.typing_conditions.proofs.Stays.{agrees_before}
 use Rattle.typing_conditions.proofs.Framing.{root_on}
 use Rattle.typing_conditions.proofs.Meaning.{fixed_on}
 
+-- no names stand for none
+pub surrounds_none : {D : Declared} {F : Frame} {a : Sight} {G : Letters} {scope : Scope} → ((ch : Choice) → scope.env ch ≡ []) → Reaches F a → KnowsFixed F a → KnowsWritten F a → Surrounds D F a G [] scope
+surrounds_none {D} {F} {a} {G} {scope} none reached fixed written = record {
+  reached = reached;
+  fixed = fixed;
+  written = written;
+  roots = [];
+  are_roots = λ k r e. absurd (cc);
+  covered = ([], no_names);
+  reads = λ J V ch own reads g. subst (Stands SchemeReads D.declaration D.exception a.nodes J [] V []) (sym (none ch)) (record { names = no_names; brings = λ u w free h o. absurd (no_yes h) });
+  fits = λ J V ch own loose g. subst (Stands SchemeFits D.declaration D.exception a.nodes J [] V []) (sym (none ch)) (record { names = no_names; brings = λ u w free h o. absurd (no_yes h) });
+}
+
 -- the names stand for the same after a call
-pub surrounds_on : {D : Declared} {F : Frame} {a b : Sight} {G H : Letters} {env : List Entry} {scope : Scope} → Stays F a G b H → Surrounds D F a G env scope → Surrounds D F b H env scope
+unfoldable pub surrounds_on : {D : Declared} {F : Frame} {a b : Sight} {G H : Letters} {env : List Entry} {scope : Scope} → Stays F a G b H → Surrounds D F a G env scope → Surrounds D F b H env scope
 surrounds_on {D} {F} {a} {b} {G} {H} {env} {scope} s at = record {
   reached = s.reaches at.reached;
   fixed = fixed_on s at.fixed;
@@ -45,23 +55,13 @@ surrounds_on {D} {F} {a} {b} {G} {H} {env} {scope} s at = record {
   covered = at.covered;
   reads = λ K V ch own reads g.
       let before = own_of a.nodes at.reached.sound in
-      stands_reads_on D.declaration D.exception a.nodes b.nodes before.0 K at.roots before.1 own (s.refines at.reached K own) (λ k c e. (at.are_roots k c e).inside) V env (scope.env ch) (fits_loosely b.nodes V reads.fits)
+      stands_reads_on D.declaration D.exception a.nodes b.nodes before.0 K at.roots before.1 own (s.refines at.reached K own) (λ k c e. (at.are_roots k c e).inside) V env (scope.env ch) reads
       (at.reads before.0 V ch before.1 (s.reads V reads) (agrees_before s g));
   fits = λ K V ch own loose g.
       let before = own_of a.nodes at.reached.sound in
       stands_fits_on D.declaration D.exception a.nodes b.nodes before.0 K at.roots before.1 own (s.refines at.reached K own) (λ k c e. (at.are_roots k c e).inside) V V env (scope.env ch) (λ n lt. refl) loose
       (at.fits before.0 V ch before.1 (s.loose V loose) (agrees_before s g));
 }
-
--- a scope with a further name of one type, as a pattern brings it in
-abbrev pub with_one : Name → rules.Place → (Choice → Typ) → Scope → Scope
-with_one x at type scope = record scope { env = λ ch. entry x at (a_value (monomorphic (type ch))) ∷ scope.env ch }
-
--- the code's entry of such a name
-pub record IsEntry (e : Entry) (x : Name) (n : NodeRef) : Type 0 where
-  pub named : x ≡ str_bytes e.name
-  pub kind : kind_of e.kind ≡ value_kind
-  pub is : e.what ≡ what.Scheme n
 
 -- A part is typed among one name more: its type is that of an open node, in which no unknown type stands.
 pub surrounds_named : {D : Declared} {F : Frame} {a : Sight} {G : Letters} {env : List Entry} {scope : Scope} {type : Choice → Typ} {e : Entry} {x : Name} {n : NodeRef} (place : rules.Place) → IsEntry e x n → Means F a G type n.0 →
@@ -78,14 +78,15 @@ surrounds_named {D} {F} {a} {G} {env} {scope} {type} {e} {x} {n} place is p know
         (env_map (λ r sc. IsIn at.roots r) (λ r sc. IsIn (n.0 ∷ at.roots) r) D.declaration D.declaration D.exception D.exception (λ r sc h. more_in at.roots n.0 r h) (λ d f h. h) (λ c o h. h) at.covered.1),
   );
   reads = λ J V ch own reads g.
+      let known_here = known V ch g in
       let loose = fits_loosely a.nodes V reads.fits in
+      let scheme = one_type_reads a.nodes J V n.0 own reads p.open_node.inside known_here (λ v o. free J own v o) in
       subst (λ t. Stands SchemeReads D.declaration D.exception a.nodes J (n.0 ∷ at.roots) V (e ∷ env) (entry x place (a_value (monomorphic t)) ∷ scope.env ch)) (sym (p.is V ch loose g))
-      (stands_named SchemeReads D.declaration D.exception a.nodes J V at.roots env (scope.env ch) own loose e x place n (monomorphic (V n.0)) is.named is.kind is.is
-      (one_type_reads a.nodes J V n.0 own p.open_node.inside (λ v o. free J own v o)) (one_type_fits a.nodes V n.0 p.open_node.inside) (known_vars J V ch own loose g) (at.reads J V ch own reads g));
+      (stands_named SchemeReads D.declaration D.exception a.nodes J V at.roots env (scope.env ch) own e x place n (monomorphic (V n.0)) is.named is.kind is.is scheme scheme.free (at.reads J V ch own reads g));
   fits = λ J V ch own loose g.
+      let scheme = one_type_fits a.nodes J V n.0 own loose p.open_node.inside (known V ch g) in
       subst (λ t. Stands SchemeFits D.declaration D.exception a.nodes J (n.0 ∷ at.roots) V (e ∷ env) (entry x place (a_value (monomorphic t)) ∷ scope.env ch)) (sym (p.is V ch loose g))
-      (stands_named SchemeFits D.declaration D.exception a.nodes J V at.roots env (scope.env ch) own loose e x place n (monomorphic (V n.0)) is.named is.kind is.is
-      (one_type_fits a.nodes V n.0 p.open_node.inside) (one_type_fits a.nodes V n.0 p.open_node.inside) (known_vars J V ch own loose g) (at.fits J V ch own loose g));
+      (stands_named SchemeFits D.declaration D.exception a.nodes J V at.roots env (scope.env ch) own e x place n (monomorphic (V n.0)) is.named is.kind is.is scheme scheme.free (at.fits J V ch own loose g));
 }
   where
     no_types : Choice
@@ -93,9 +94,6 @@ surrounds_named {D} {F} {a} {G} {env} {scope} {type} {e} {x} {n} place is p know
 
     free : (J : Types) → IsOwn a.nodes J → (v : ℕ) → occurs v (J n.0) ≡ true → IsFreeVar a.nodes v
     free J own v o = let low = p.open_node.free J own v o in record { level = low.level; scope = low.scope; at = low.at; free = low.free }
-
-    known_vars : (J V : Types) (ch : Choice) → IsOwn a.nodes J → Loose a.nodes V → Agrees F.owner a G V ch → (u : ℕ) → IsFreeVar a.nodes u → occurs u (J n.0) ≡ true → IsKnown (V u)
-    known_vars J V ch own loose g u f o = known_put V (J n.0) u o (subst IsKnown (own.comes V loose n.0) (known V ch g))
 
     are_roots : (k r : ℕ) → slice_get (n.0 ∷ at.roots) k ≡ Some r → IsRoot F a r
     are_roots zero r f = let s : n.0 ≡ r = cc in subst (IsRoot F a) s (record { inside = p.open_node.inside; within = p.open_node.within; low = λ J own v l o h e free. low_as J own v l o h e })

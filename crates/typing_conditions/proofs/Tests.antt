@@ -10,7 +10,7 @@ use Rattle.env_table.specs.declared.faults.FaultKind.{FaultKind}
 use Rattle.env_table.specs.declared.faults.FaultKind.TheVariants as fault
 use Rattle.typing_conditions.specs.Sights.{Sight, Letters}
 use Rattle.typing_conditions.specs.Frames.{Frame}
-use Rattle.typing_conditions.specs.Judging.{Judgement, FallsShort, TellBy, kind_of}
+use Rattle.typing_conditions.specs.Judging.{Judgement, FallsShort, TellBy, kind_of, judged_at}
 use Rattle.typing_conditions.specs.Steps.{OnlyReports, IsTold}
 use Rattle.typing_conditions.specs.Carrying.{Scope, IsUnder, Enters, Continues, Carried}
 use Rattle.typing_conditions.proofs.First.{first_one}
@@ -67,7 +67,7 @@ test_judged {F} {scope} {G} {complaint} {holds} {at} {kind} {place} {a} {b} s fa
 
 -- the demand of a closing, as it is judged
 abbrev pub closing_as : Site → Bool → List Judgement
-closing_as s t = (s, t, true) ∷ []
+closing_as s t = judged_at s t true ∷ []
 
 same_or_not : (t v : Bool) → (t ≡ v) ⊎ (t ≢ v)
 same_or_not true true = inl refl

@@ -16,12 +16,12 @@ use Rattle.level_unify.proofs.Unified.{fits_loosely}
 use Rattle.env_table.specs.declared.entries.Entry.{Entry}
 use Rattle.env_table.specs.declared.entries.What.TheVariants as what
 use Rattle.env_table.specs.Views.{is_named, inside}
-use Rattle.typing_environments.specs.Locals.{IsPlain, IsOwn, Refines}
+use Rattle.typing_environments.specs.Locals.{IsOwn, Refines}
 use Rattle.typing_environments.specs.Assumptions.{SchemeFits, SchemeReads}
 use Rattle.typing_environments.specs.Standing.{IsIn}
 use Rattle.typing_environments.proofs.Own.{own_of}
 use Rattle.typing_environments.proofs.Steps.{refines_made}
-use Rattle.typing_environments.proofs.Naming.{named_sound, named_complete}
+use Rattle.typing_environments.proofs.Uses.{use_sound, use_complete}
 use Rattle.typing_environments.proofs.Names.{finds_scheme}
 use Rattle.typing_conditions.specs.Sights.{Sight, Key, value_of, Letters, IsKnownFor}
 use Rattle.typing_conditions.specs.Frames.{Frame, Reaches, IsOpen, IsRoot}
@@ -69,7 +69,6 @@ pub record TakesInstance (env : List Entry) (a b : Sight) (ms : List Name) (x : 
   pub root : NodeRef
   pub finds : lookup_by is_named inside env ms value_kind x ≡ an_entry entry
   pub is : entry.what ≡ what.Scheme root
-  pub plain : IsPlain a.nodes
   pub sound : IsSound b.nodes
   pub taken : Instantiated a.nodes b.nodes root.0 level m
   pub rest : OnlyNodes a b
@@ -129,7 +128,7 @@ name_used {D} {F} {scope} {G} {env} {a} {b} {ms} {x} {m} key free at it = record
     sound V c l =
         let stand = at.reads own.0 V c.chosen own.1 (stays.reads V l.reads) (agrees_before stays l.agrees) in
         let found = finds_scheme (λ k sc. SchemeReads a.nodes V k sc × IsIn at.roots k) D.declaration D.exception it.root ms x it.entry it.finds it.is stand.names in
-        let used = named_sound D.declaration D.exception a.nodes own.0 V at.roots env (scope.env c.chosen) own.1 it.plain b.nodes it.root.0 F.level m found.scheme stand found.holds it.taken l.reads in
+        let used = use_sound a.nodes b.nodes V it.root.0 F.level m found.scheme it.taken l.reads found.holds.0 in
         used_holds c.kept (scheme_found c.env ms x) found.scheme (value_of c.chosen key) (ap (λ E. scheme_found E ms x) l.under.env ∙ found.is) (subst (IsUse found.scheme) (sym l.agrees.given.0.is) used)
 
     complete : (V : Types) (c : Context) → Enters F scope a G V c → AllHold c.kept (used_if (scheme_found c.env ms x) (value_of c.chosen key)) →
@@ -138,7 +137,7 @@ name_used {D} {F} {scope} {G} {env} {a} {b} {ms} {x} {m} key free at it = record
         let stand = at.fits own.0 V c.chosen own.1 (fits_loosely a.nodes V e.fits) e.agrees in
         let found = finds_scheme (λ k sc. SchemeFits a.nodes V k sc × IsIn at.roots k) D.declaration D.exception it.root ms x it.entry it.finds it.is stand.names in
         let used = used_asks c.kept (scheme_found c.env ms x) found.scheme (value_of c.chosen key) (ap (λ E. scheme_found E ms x) e.under.env ∙ found.is) h in
-        let (W, fits, same, is) = named_complete D.declaration D.exception a.nodes own.0 V at.roots env (scope.env c.chosen) own.1 it.plain b.nodes it.root.0 F.level m found.scheme (value_of c.chosen key) stand found.holds it.taken e.fits used in
+        let (W, fits, same, is) = use_complete a.nodes b.nodes V it.root.0 F.level m found.scheme (value_of c.chosen key) it.taken e.fits found.holds.0 used in
         let g = agrees_same a b it.rest.types it.rest.written e.inside same e.agrees in
         record {
           same = used_silent c.kept (scheme_found c.env ms x) (value_of c.chosen key);

@@ -21,7 +21,7 @@ use Rattle.typing_environments.proofs.Regions.{any_in, in_any}
 use Rattle.typing_environments.proofs.Steps.{local_then, refines_made}
 use Rattle.typing_environments.proofs.Instances.{local_node, new_within}
 use Rattle.typing_conditions.specs.Sights.{Sight, Letters, SameAt}
-use Rattle.typing_conditions.specs.Frames.{Frame, Reaches, IsHeld, IsOpen, IsOpenAt}
+use Rattle.typing_conditions.specs.Frames.{Frame, Reaches, IsHeld, IsOpenAt}
 use Rattle.typing_conditions.specs.Steps.{Writes}
 use Rattle.typing_conditions.specs.Carrying.{Scope, Enters, GoesOn, Stays, CarriedTo}
 use Rattle.typing_conditions.proofs.Framing.{open_from, open_next, open_lower, sound_made}
@@ -88,6 +88,7 @@ module _ (F : Frame) (a b : Sight) (s t : List Change) (n : ℕ) (x : Name) (r :
   refines : Reaches F a → (K : Types) → IsOwn b.nodes K → Refines a.nodes b.nodes K
   refines q K own = let e = makes_extends (state a.nodes s) (state b.nodes t) n (Var (min F.level 1) no_scope) made in refines_made a.nodes b.nodes K own (record { longer = e.longer; node = e.node })
 
+  -- the node may be unified
   pub written_open : IsOpenAt F b (min F.level 1) n
   written_open = open_from reached (λ K own. record {
     inside = slice_get_within b.nodes n (Var (min F.level 1) no_scope) there;

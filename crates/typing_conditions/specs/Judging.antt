@@ -7,9 +7,15 @@ use Rattle.env_table.specs.declared.faults.FaultKind.{FaultKind}
 use Rattle.env_table.specs.declared.faults.FaultKind.TheVariants as fault
 use Rattle.typing_conditions.specs.Sights.{Report}
 
--- a demand by its site, whether it is kept, and whether it is that a body closes
-abbrev pub Judgement : Type 0
-Judgement = Site × Bool × Bool
+-- how a demand is judged: its site, whether it is kept, and whether it is that a body closes
+pub record Judgement : Type 0 where
+  pub site : Site
+  pub kept : Bool
+  pub closing : Bool
+
+-- the same, by its parts
+abbrev pub judged_at : Site → Bool → Bool → Judgement
+judged_at s k c = record { site = s; kept = k; closing = c }
 
 -- whether a demand is that a body closes, which asks nothing of the types
 abbrev pub is_closing : Demand → Bool
@@ -26,13 +32,13 @@ judgements kept (same t u ∷ cs) = judgements kept cs
 judgements kept (instance s t ∷ cs) = judgements kept cs
 judgements kept (made n t ∷ cs) = judgements kept cs
 judgements kept (known t ∷ cs) = judgements kept cs
-judgements kept (demand s at d ∷ cs) = (s, kept s, is_closing d) ∷ judgements kept cs
+judgements kept (demand s at d ∷ cs) = judged_at s (kept s) (is_closing d) ∷ judgements kept cs
 judgements kept (treated n env ∷ cs) = judgements kept cs
 
 -- a set of kept demands has these judgements
 abbrev pub AreKept : (Site → Bool) → List Judgement → Type 0
 AreKept kept [] = Unit {0}
-AreKept kept (j ∷ js) = (kept j.0 ≡ j.1) × AreKept kept js
+AreKept kept (j ∷ js) = (kept j.site ≡ j.kept) × AreKept kept js
 
 -- the first difference of two lists of judgements: the second list keeps a demand that the first doesn't, or they judge a closing differently
 pub record FallsShort (xs ys : List Judgement) : Type 0 where
@@ -43,8 +49,8 @@ pub record FallsShort (xs ys : List Judgement) : Type 0 where
   pub closing : Bool
   pub left : List Judgement
   pub right : List Judgement
-  pub short : xs ≡ before ++ (site, mine, closing) ∷ left
-  pub full : ys ≡ before ++ (site, theirs, closing) ∷ right
+  pub short : xs ≡ before ++ judged_at site mine closing ∷ left
+  pub full : ys ≡ before ++ judged_at site theirs closing ∷ right
   pub why : ((mine ≡ false) × (theirs ≡ true)) ⊎ ((closing ≡ true) × (mine ≢ theirs))
 
 -- a list of judgements begins with others

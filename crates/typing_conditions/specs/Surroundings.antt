@@ -1,13 +1,19 @@
--- What a part is typed among: the names of the code's environment stand for those of the definitions.
-use Rattle.std.specs.Prelude.{◌≡◌, ℕ, List, slice_get, Option, Some}
+-- What a part is typed among: the names of the code's environment stand for those of the definitions; and the scopes with further names.
+use Rattle.std.specs.Prelude.{◌≡◌, ℕ, false, List, [], ◌∷◌, slice_get, Option, Some}
+use Rattle.text_terms.specs.Bytes.{str_bytes}
 use Rattle.type_model.specs.Types.{Typ}
 use Rattle.signature_model.specs.Declarations as rules
-use Rattle.typing_model.specs.Contexts.{Choice}
+use Rattle.signature_model.specs.Declarations.{Name}
+use Rattle.signature_model.specs.Entries.{entry, a_value, value_kind}
+use Rattle.typing_model.specs.Contexts.{Choice, Context, Bound, in_item, monomorphic, generalised_in, entries_with}
+use Rattle.type_terms.specs.declared.types.NodeRef.{NodeRef}
 use Rattle.type_nodes.specs.Readings.{Types, IsReading}
 use Rattle.level_unify.specs.Solutions.{Loose}
 use Rattle.env_table.specs.declared.entries.Constructor.{Constructor}
 use Rattle.env_table.specs.declared.entries.Declaration.{Declaration}
 use Rattle.env_table.specs.declared.entries.Entry.{Entry}
+use Rattle.env_table.specs.declared.entries.What.TheVariants as what
+use Rattle.env_table.specs.Views.{kind_of}
 use Rattle.typing_environments.specs.Locals.{IsOwn}
 use Rattle.typing_environments.specs.Assumptions.{SchemeFits, SchemeReads}
 use Rattle.typing_environments.specs.Standing.{Covers, Stands}
@@ -32,3 +38,21 @@ pub record Surrounds (D : Declared) (F : Frame) (a : Sight) (G : Letters) (env :
   pub covered : Covers D.declaration D.exception roots env
   pub reads : (J V : Types) (ch : Choice) → IsOwn a.nodes J → IsReading a.nodes V → Agrees F.owner a G V ch → Stands SchemeReads D.declaration D.exception a.nodes J roots V env (scope.env ch)
   pub fits : (J V : Types) (ch : Choice) → IsOwn a.nodes J → Loose a.nodes V → Agrees F.owner a G V ch → Stands SchemeFits D.declaration D.exception a.nodes J roots V env (scope.env ch)
+
+-- a scope with a further name of one type, as a pattern brings it in
+abbrev pub with_one : Name → rules.Place → (Choice → Typ) → Scope → Scope
+with_one x at type scope = record scope { env = λ ch. entry x at (a_value (monomorphic (type ch))) ∷ scope.env ch }
+
+-- the code's entry of such a name
+pub record IsEntry (e : Entry) (x : Name) (n : NodeRef) : Type 0 where
+  pub named : x ≡ str_bytes e.name
+  pub kind : kind_of e.kind ≡ value_kind
+  pub is : e.what ≡ what.Scheme n
+
+-- a context that has only what is chosen, for the types of names
+abbrev pub context_of : Choice → Context
+context_of ch = record { env = []; variables = in_item 0; held = []; kept = λ s. false; chosen = ch }
+
+-- a scope after a `let`: its names with their types generalised in the environment outside, but for what is held
+abbrev pub with_closed : List Bound → (Choice → List Typ) → Scope → Scope
+with_closed bs held scope = record scope { env = λ ch. entries_with (generalised_in (scope.env ch) (held ch)) (context_of ch) bs (scope.env ch) }

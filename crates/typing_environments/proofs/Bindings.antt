@@ -1,39 +1,19 @@
--- A binding: what generalising does, name by name, and the environment after a `let`.
-use Rattle.std.proofs.Common.{◌≡◌, ◌≢◌, ℕ, suc, ◌<◌, ◌≤◌, Bool, true, false, ◌||◌, List, [], ◌∷◌, ◌++◌, length, Option, Some, refl, sym, ◌∙◌, ap, subst, arith, ◌⊎◌, inl, inr}
+-- What generalising the types of names does, name by name.
+use Rattle.std.proofs.Common.{◌≡◌, ◌≢◌, ℕ, ◌<◌, ◌≤◌, Bool, true, false, List, [], ◌∷◌, ◌++◌, length, Some, refl, sym, ◌∙◌, ap, arith, ◌⊎◌, inl, inr}
 use Rattle.std.specs.Prelude.{slice_get}
 use Rattle.std.proofs.lemmas.Option.{slice_get_past}
-use Rattle.text_terms.specs.Bytes.{str_bytes}
-use Rattle.type_model.specs.Types.{Typ, occurs}
+use Rattle.type_model.specs.Types.{occurs}
 use Rattle.type_model.proofs.Applying.{or_left, or_right, or_cases}
-use Rattle.signature_model.specs.Declarations as rules
-use Rattle.signature_model.specs.Declarations.{Name}
-use Rattle.signature_model.specs.Entries.{Environment, entry, a_value, value_kind}
-use Rattle.signature_model.specs.Matching.{IsKnown}
-use Rattle.typing_model.specs.Contexts.{occurs_in, generalised_in}
 use Rattle.typing_laws.proofs.Bools.{no_yes}
-use Rattle.type_terms.specs.declared.types.NodeRef.{NodeRef}
 use Rattle.type_nodes.specs.Nodes.{Node, Var, Rigid, Link, Arrow, Tuple, Con, bound_level}
-use Rattle.type_nodes.specs.Readings.{Types, IsReading}
-use Rattle.level_unify.specs.Solutions.{Loose}
+use Rattle.type_nodes.specs.Readings.{Types}
 use Rattle.level_unify.specs.Generalising.{IsAbove, Generalised}
-use Rattle.level_unify.specs.Instances.{is_bound, SameTypes}
 use Rattle.level_unify.proofs.Steps.{cell_at}
-use Rattle.level_unify.proofs.Unified.{fits_loosely}
 use Rattle.level_unify.proofs.Variants.{stands_occurs}
-use Rattle.env_table.specs.declared.entries.Constructor.{Constructor}
-use Rattle.env_table.specs.declared.entries.Declaration.{Declaration}
-use Rattle.env_table.specs.declared.entries.What.TheVariants as what
-use Rattle.env_table.specs.declared.entries.Entry.{Entry}
-use Rattle.env_table.specs.Views.{kind_of}
-use Rattle.typing_environments.specs.Locals.{IsFreeVar, IsOwn, stands_in_any, Within, Local, IsContext, ClosesAll}
-use Rattle.typing_environments.specs.Assumptions.{SchemeFits, SchemeReads}
-use Rattle.typing_environments.specs.Standing.{Stands}
+use Rattle.typing_environments.specs.Locals.{IsOwn, stands_in_any, ClosesAll}
 use Rattle.typing_environments.proofs.Steps.{old_or_new}
-use Rattle.typing_environments.proofs.Closing.{closed_own, local_closed}
-use Rattle.typing_environments.proofs.Generalised.{Fixes, name_fits, name_reads}
-use Rattle.typing_environments.proofs.Standing.{known_put, stands_fits_on, stands_reads_on, stands_named, fixes_of, none_free}
 
--- nothing stands after the end
+-- there is no node after the end
 past_end : (nodes new : List Node) (n : ℕ) → length new ≡ length nodes → length nodes ≤ n → slice_get new n ≡ slice_get nodes n
 past_end nodes new n len le = slice_get_past new n (omega (arith, len)) ∙ sym (slice_get_past nodes n le)
 
@@ -65,6 +45,7 @@ generalised_closes nodes new J r level own lt g = record {
   ];
 }
 
+-- what stands in the first of two lists of nodes stands in both together
 pub any_before : (u : ℕ) (J : Types) (rs ss : List ℕ) → stands_in_any J rs u ≡ true → stands_in_any J (rs ++ ss) u ≡ true
 any_before u J [] ss h = absurd (no_yes h)
 any_before u J (r ∷ rs) ss h = elim (or_cases (occurs u (J r)) (stands_in_any J rs u) h) [
@@ -72,6 +53,7 @@ any_before u J (r ∷ rs) ss h = elim (or_cases (occurs u (J r)) (stands_in_any 
   | inr i ↦ or_right (occurs u (J r)) (stands_in_any J (rs ++ ss) u) (any_before u J rs ss i)
 ]
 
+-- and so does what stands in the second
 pub any_after : (u : ℕ) (J : Types) (rs ss : List ℕ) → stands_in_any J ss u ≡ true → stands_in_any J (rs ++ ss) u ≡ true
 any_after u J [] ss h = h
 any_after u J (r ∷ rs) ss h = or_right (occurs u (J r)) (stands_in_any J (rs ++ ss) u) (any_after u J rs ss h)
@@ -106,54 +88,3 @@ closes_then a b c J rs ss level one two = record {
         by : (t : Bool) → stands_in_any J rs v ≡ t → slice_get c v ≡ Some (Var bound_level o)
         by true j = kept v o (one.binds v l o e free above j)
         by false j = two.binds v l o (one.stays v (λ l' o' e' free' above' k. no_yes (sym j ∙ k)) ∙ e) free above i
-
--- The environment after a `let` whose group was typed one level further in, for a name of the type p. W are the nodes of the types
--- that are written in the item, K those of the types that are held, to which they belong.
-module _ (D : Declaration → rules.Declaration → Type 0) (X : Constructor → Option Typ → Type 0)
-    (old nodes new : List Node) (I J : Types) (C W R : List ℕ) (H : ℕ → List ℕ) (level : ℕ)
-    (before : IsOwn old I) (between : IsOwn nodes J)
-    (context : IsContext old I (C ++ W) level)
-    (roots_inside : (k c : ℕ) → slice_get C k ≡ Some c → c < length old)
-    (group : Local old nodes I J (C ++ W) H (suc level))
-    (names : (k r : ℕ) → slice_get R k ≡ Some r → (r < length nodes) × Within old (C ++ W) r)
-    (held_low : (v l o : ℕ) → stands_in_any J (H level) v ≡ true → slice_get nodes v ≡ Some (Var l o) → l ≢ bound_level → l ≤ level)
-    (closes : ClosesAll nodes new J R level)
-    (env : List Entry) (E : Environment) (held : List Typ) where
-  own_after : IsOwn new J
-  own_after = closed_own nodes new J R level between closes
-
-  whole : Local old new I J (C ++ W) H level
-  whole = local_closed old nodes new I J (C ++ W) R H level before between context group names held_low closes
-
-  -- what the written types and those that are held have
-  abbrev HeldHas : Types → Type 0
-  HeldHas V = (u w : ℕ) → (stands_in_any J W u ≡ true) ⊎ (stands_in_any J (H level) u ≡ true) → occurs w (V u) ≡ true → occurs_in w held ≡ true
-
-  module _ (V : Types) (has : HeldHas V) (k : ℕ) (e : Entry) (x : Name) (at : rules.Place) (n : NodeRef) (is_name : slice_get R k ≡ Some n.0)
-      (named : x ≡ str_bytes e.name) (kind : kind_of e.kind ≡ value_kind) (is : e.what ≡ what.Scheme n) (is_known : IsKnown (V n.0)) where
-    known_vars : Loose new V → (u : ℕ) → IsFreeVar new u → occurs u (J n.0) ≡ true → IsKnown (V u)
-    known_vars loose u free o = known_put V (J n.0) u o (subst IsKnown (own_after.comes V loose n.0) is_known)
-
-    fixes_fit : Stands SchemeFits D X new J C V env E → Fixes new J V (C ++ W) (H level) E held
-    fixes_fit s = fixes_of SchemeFits D X new J V C W (H level) env E held s (λ u w h o. has u w (inl h) o) (λ u w h o. has u w (inr h) o)
-
-    fixes_read : Stands SchemeReads D X new J C V env E → Fixes new J V (C ++ W) (H level) E held
-    fixes_read s = fixes_of SchemeReads D X new J V C W (H level) env E held s (λ u w h o. has u w (inl h) o) (λ u w h o. has u w (inr h) o)
-
-    -- under types that fit: V are those of before
-    pub let_fits : (V0 : Types) → SameTypes old V0 V → Loose new V → Stands SchemeFits D X old I C V0 env E →
-        Stands SchemeFits D X new J (n.0 ∷ C) V (e ∷ env) (entry x at (a_value (generalised_in E held (V n.0))) ∷ E)
-    let_fits V0 same loose s =
-        let s' = stands_fits_on D X old new I J C before own_after whole.refines roots_inside V0 V env E same loose s in
-        let f = name_fits old nodes new I J (C ++ W) R H level before between context group names held_low closes V E held (fixes_fit s') k n.0 is_name in
-        stands_named SchemeFits D X new J V C env E own_after loose e x at n (generalised_in E held (V n.0)) named kind is f f (known_vars loose) s'
-
-    -- at each reading, where no bound variable is held
-    pub let_reads : IsReading new V → ((b : ℕ) → is_bound new b ≡ true → occurs_in b held ≡ false) → Stands SchemeReads D X old I C V env E →
-        Stands SchemeReads D X new J (n.0 ∷ C) V (e ∷ env) (entry x at (a_value (generalised_in E held (V n.0))) ∷ E)
-    let_reads reads none s =
-        let loose = fits_loosely new V reads.fits in
-        let s' = stands_reads_on D X old new I J C before own_after whole.refines roots_inside V env E loose s in
-        let f = name_reads old nodes new I J (C ++ W) R H level before between context group names held_low closes V E held (fixes_read s')
-        (λ b h. let p = none_free D X new J V C env E own_after reads s' b h in let q = none b h in (λ i. p i || q i)) k n.0 is_name in
-        stands_named SchemeReads D X new J V C env E own_after loose e x at n (generalised_in E held (V n.0)) named kind is f f.fits (known_vars loose) s'

@@ -12,10 +12,9 @@ use Rattle.type_nodes.proofs.Lists.{one_element}
 use Rattle.level_unify.specs.Solutions.{Loose, FitsLoosely}
 use Rattle.level_unify.proofs.Steps.{cell_at}
 use Rattle.typing_laws.proofs.Bools.{no_yes}
-use Rattle.typing_environments.specs.Locals.{IsVar, IsLow, IsOwn, stands_in_any, Within, Refines, Local, IsContext, IsResult, ClosesAll}
+use Rattle.typing_environments.specs.Locals.{IsVar, IsLow, IsOwn, stands_in_any, Within, Refines, Local, IsContext, ClosesAll}
 use Rattle.typing_environments.proofs.Regions.{any_in, in_any, region, region_is, region_var}
-use Rattle.typing_environments.proofs.Steps.{same_node, stands_after, stands_before, true_or_false, old_or_new}
-use Rattle.typing_environments.proofs.Later.{context_after}
+use Rattle.typing_environments.proofs.Steps.{same_node, stands_after, true_or_false, old_or_new}
 
 -- a node that is none of the variables that are bound is as before
 same_where : (nodes new : List Node) (J : Types) (R : List ℕ) (level n : ℕ) (c : Node) → ClosesAll nodes new J R level → slice_get nodes n ≡ Some c →
@@ -81,6 +80,7 @@ closed_loose nodes new J R level closes V h = record {
   ];
 }
 
+-- and the other way round
 pub loose_closed : (nodes new : List Node) (J : Types) (R : List ℕ) (level : ℕ) → ClosesAll nodes new J R level → (V : Types) → Loose nodes V → Loose new V
 loose_closed nodes new J R level closes V h = record {
   each = λ n d e.
@@ -96,6 +96,7 @@ loose_closed nodes new J R level closes V h = record {
 parts_of_var : (l o : ℕ) (F : ℕ → Bool) (c : Node) → c ≡ Var l o → All (λ m. F m ≡ true) (parts c)
 parts_of_var l o F c e = subst (λ d. All (λ m. F m ≡ true) (parts d)) (sym e) (λ k d lt. absurd (omega arith))
 
+-- so it does after closing
 pub closed_closed : (nodes new : List Node) (J : Types) (R : List ℕ) (level : ℕ) → ClosesAll nodes new J R level → (F : ℕ → Bool) → IsClosed nodes F → IsClosed new F
 closed_closed nodes new J R level closes F h = record {
   each = λ n d has e.
@@ -198,13 +199,6 @@ module _ (old nodes new : List Node) (I J : Types) (C R : List ℕ) (H : ℕ →
     ]
   ]
 
-  -- and the other way round
-  pub fixed_is_low : (u l o : ℕ) → slice_get nodes u ≡ Some (Var l o) → l ≢ bound_level → (stands_in_any J C u ≡ true) ⊎ (stands_in_any J (H level) u ≡ true) → l ≤ level
-  fixed_is_low u l o e free h = elim h [
-    | inl i ↦ (context_after old nodes I J C level before between group.refines context).low u l o i e free
-    | inr i ↦ held_low u l o i e free
-  ]
-
   -- an old free variable reads as no variable that is bound now
   old_stays : (m l o v l' o' : ℕ) → slice_get old m ≡ Some (Var l o) → l ≢ bound_level → occurs v (J m) ≡ true → slice_get nodes v ≡ Some (Var l' o') → level < l' → stands_in_any J R v ≡ true → ⊥
   old_stays m l o v l' o' e free h e' above r = at (region old I C m) refl
@@ -222,6 +216,7 @@ module _ (old nodes new : List Node) (I J : Types) (C R : List ℕ) (H : ℕ →
           let y = context.low m l o c e free in
           let z : l' ≡ l = same_node nodes m l' o' l o (ap (slice_get nodes) (sym s) ∙ e') e'' in omega arith
 
+  -- the group with its closing refines types
   pub refines_closed : Refines old new J
   refines_closed = record {
     longer = let p = group.refines.longer in let q = closes.len in omega arith;
@@ -243,6 +238,7 @@ module _ (old nodes new : List Node) (I J : Types) (C R : List ℕ) (H : ℕ →
         group.refines.falls m l o u l' o' e free (sym e'' ∙ e') h;
   }
 
+  -- and touches only what stands in the roots
   pub local_closed : Local old new I J C H level
   local_closed = record {
     refines = refines_closed;

@@ -70,6 +70,7 @@ module _ (R : ℕ → Scheme → Type 0) (D : Declaration → rules.Declaration 
   chosen false true p h r = absurd (cc)
   chosen false false p h r = r
 
+  -- the newest entries of a name are alike
   pub newest_alike : (k : Kind) (n : Name) {es : List Entry} {fs : Environment} → EnvAs R D X es fs → FoundAs (newest_by (is_named k n) es) (newest_by (lookups.is_named k n) fs)
   newest_alike k n no_names = neither
   newest_alike k n (newest {e = e} {f = f} h hs) = chosen (is_named k n e) (lookups.is_named k n f) (named_alike k n h) h (newest_alike k n hs)
@@ -80,10 +81,12 @@ module _ (R : ℕ → Scheme → Type 0) (D : Declaration → rules.Declaration 
     both_unknown : ScopeAs unknown_scope unknown_scope
     both_absent : ScopeAs no_scope no_scope
 
+  -- entries after others
   pub env_append : {es es' : List Entry} {fs fs' : Environment} → EnvAs R D X es fs → EnvAs R D X es' fs' → EnvAs R D X (es ++ es') (fs ++ fs')
   env_append no_names k = k
   env_append (newest h hs) k = newest h (env_append hs k)
 
+  -- entries in the other order
   pub env_reverse : {es : List Entry} {fs : Environment} → EnvAs R D X es fs → EnvAs R D X (reverse es) (reverse fs)
   env_reverse no_names = no_names
   env_reverse (newest {e = e} {f = f} {es = es} {fs = fs} h hs) =
@@ -109,6 +112,7 @@ module _ (R : ℕ → Scheme → Type 0) (D : Declaration → rules.Declaration 
   what_inside (of_module {s = s} e h) = scope_is _ _ _ (ap (λ w. what_opened (out-What w)) e) (sig_inside h)
   what_inside (of_module_type e h) = scope_is _ _ _ (ap (λ w. what_opened (out-What w)) e) both_absent
 
+  -- the scopes inside two entries are alike
   pub inside_alike : {e : Entry} {f : Named} → EntryAs R D X e f → ScopeAs (inside e) (lookups.inside f)
   inside_alike (entry_as n k w) = what_inside w
 
@@ -126,6 +130,7 @@ module _ (R : ℕ → Scheme → Type 0) (D : Declaration → rules.Declaration 
   step_alike ms _ _ neither go = both_absent
   step_alike ms _ _ (both {e = e} {f = f} k) go = through_alike ms (inside e) (lookups.inside f) (inside_alike k) go
 
+  -- and so are those that a path names
   pub scope_alike : (ms : List Name) (es : List Entry) (fs : Environment) → EnvAs R D X es fs → ScopeAs (scope_by is_named inside es ms) (scope_behind fs ms)
   scope_alike [] es fs h = both_known h
   scope_alike (m ∷ ms) es fs h = step_alike ms (newest_by (is_named module_kind m) es) (newest_by (lookups.is_named module_kind m) fs) (newest_alike module_kind m h) (scope_alike ms)
@@ -145,6 +150,7 @@ module _ (R : ℕ → Scheme → Type 0) (D : Declaration → rules.Declaration 
   in_scope_alike k n both_unknown = to_hole
   in_scope_alike k n both_absent = to_nothing
 
+  -- a path of names finds alike
   pub lookup_alike : (ms : List Name) (k : Kind) (n : Name) {es : List Entry} {fs : Environment} → EnvAs R D X es fs → ComesTo (lookup_by is_named inside es ms k n) (lookup fs ms k n)
   lookup_alike ms k n {es} {fs} h = in_scope_alike k n (scope_alike ms es fs h)
 
@@ -181,6 +187,7 @@ meaning_entries w n at (meaning.Exception o) = refl
 meaning_entries w n at (meaning.Module s) = or_none (free_in_signature w s)
 meaning_entries w n at (meaning.ModuleType made s) = refl
 
+-- a variable is free in components where it is free in them as entries
 pub free_as_entries : (w : ℕ) (cs : Components) → free_in_components w cs ≡ free_in w (entries_in cs)
 free_as_entries w components.Done = refl
 free_as_entries w (components.Component n at m cs) =
@@ -202,6 +209,7 @@ module _ (R : ℕ → Scheme → Type 0) (D : Declaration → rules.Declaration 
       entry_free : {e : Entry} {f : Named} → EntryAs R D X e f → free_in_referent w f.stands_for ≡ true → P
       entry_free (entry_as n k h) t = what_free h t
 
+      -- what follows from being free in a scheme follows from being free in the environment
       pub env_free : {es : List Entry} {fs : Environment} → EnvAs R D X es fs → free_in w fs ≡ true → P
       env_free no_names t = absurd (no_yes t)
       env_free (newest {f = f} {fs = fs} h hs) t = elim (or_cases (free_in_referent w f.stands_for) (free_in w fs) t) [ inl i ↦ entry_free h i | inr i ↦ env_free hs i ]

@@ -20,12 +20,27 @@ use Rattle.typing_environments.specs.Locals.{IsOwn, ClosesAll}
 use Rattle.typing_environments.proofs.Own.{own_of}
 use Rattle.typing_environments.proofs.Steps.{same_node}
 use Rattle.typing_environments.proofs.Closing.{became}
-use Rattle.typing_environments.proofs.Naming.{new_variable}
+use Rattle.typing_environments.proofs.Uses.{under_any}
+use Rattle.std.proofs.Common.{◌≡◌, ◌≢◌, ℕ, ◌<◌, true, cond, eqb, List, [], ◌∷◌, ◌++◌, length, get_or, Some, refl, sym, ◌∙◌, ap, subst, arith, inl, inr}
+use Rattle.type_model.specs.Types.{Typ, occurs}
+use Rattle.type_model.specs.Types.{Typ as type}
+use Rattle.type_model.specs.Limits.{no_scope, IsUnder}
+use Rattle.type_model.proofs.Applying.{eqb_same}
+use Rattle.type_nodes.specs.Nodes.{Node, Var, parts, bound_level, IsSound}
+use Rattle.type_nodes.specs.Readings.{Types, Fits, IsReading}
+use Rattle.type_nodes.proofs.Lists.{get-append_cases}
+use Rattle.level_unify.specs.Solutions.{Loose, FitsLoosely}
+use Rattle.level_unify.specs.Limits.{FitsUnder}
+use Rattle.level_unify.specs.Instances.{SameTypes}
+use Rattle.level_unify.proofs.Unified.{fits_under, under_fits}
+use Rattle.level_unify.proofs.Variants.{still_fits}
+use Rattle.level_unify.proofs.Walking.{parts_inside}
 
 -- closing binds variables, so its readings were readings, and what fitted fits
 fits_var : (V : Types) (n l o : ℕ) (c : Node) → c ≡ Var l o → (l ≢ bound_level → IsInScope o (V n)) → FitsNode V n c
 fits_var V n l o c e h = subst (FitsNode V n) (sym e) h
 
+-- a reading after closing was one before
 pub reads_closed : (nodes new : List Node) (J V : Types) (R : List ℕ) (level : ℕ) → ClosesAll nodes new J R level → IsReading new V → IsReading nodes V
 reads_closed nodes new J V R level closes reads = record {
   fits = record {
@@ -51,6 +66,7 @@ reads_closed nodes new J V R level closes reads = record {
       | inr (f, _) ↦ f
     ]
 
+-- types that fitted fit after closing
 pub fits_closed : (nodes new : List Node) (J V : Types) (R : List ℕ) (level : ℕ) → ClosesAll nodes new J R level → Fits nodes V → Fits new V
 fits_closed nodes new J V R level closes fits = record {
   each = λ n d e.
@@ -62,13 +78,50 @@ fits_closed nodes new J V R level closes fits = record {
       ];
 }
 
--- fewer nodes read alike
-pub reads_fewer : (old new : List Node) (V : Types) → ((n : ℕ) → n < length old → slice_get new n ≡ slice_get old n) → IsReading new V → IsReading old V
-reads_fewer old new V same reads = record {
-  fits = record { each = λ n c e. reads.fits.each n c (same n (slice_get_within old n c e) ∙ e) };
-  own = λ n scope e. reads.own n scope (same n (slice_get_within old n (Var bound_level scope) e) ∙ e);
-  apart = λ n l o b scope e free e'. reads.apart n l o b scope (same n (slice_get_within old n (Var l o) e) ∙ e) free (same b (slice_get_within old b (Var bound_level scope) e') ∙ e');
-}
+-- a new variable has any type
+pub new_variable : (old new : State) (n l : ℕ) (V : Types) (t : Typ) → IsSound old.nodes → Makes old new n (Var l no_scope) → Fits old.nodes V → (W : Types) × Fits new.nodes W × SameTypes old.nodes V W × (W n ≡ t)
+new_variable old new n l V t sound made fits = (W, under_fits (λ v. 0) new.nodes W fitted, same, at_new)
+  where
+    W : Types
+    W m = cond (eqb m n) t (V m)
+
+    at_new : W n ≡ t
+    at_new = ap (λ b. cond b t (V n)) (eqb_same n)
+
+    at_old : (m : ℕ) → m < length old.nodes → W m ≡ V m
+    at_old m lt = elim (eqb_tells m n) [ inl (_, e) ↦ absurd (let p = made.added.number in omega arith) | inr (f, _) ↦ ap (λ b. cond b t (V m)) f ]
+
+    same : SameTypes old.nodes V W
+    same m lt = at_old m lt
+
+    old_fits : FitsUnder (λ v. 0) old.nodes V
+    old_fits = fits_under old.nodes V fits
+
+    node_fits : (m : ℕ) (c : Node) → slice_get old.nodes m ≡ Some c → FitsLoosely W m c
+    node_fits m c e = still_fits V W m c (old_fits.loose.each m c e) (at_old m (slice_get_within old.nodes m c e)) (λ k d lt. at_old (get_or (parts c) k d) (parts_inside old.nodes sound m c e k d lt))
+
+    var_fits : (m : ℕ) → FitsLoosely W m (Var l no_scope)
+    var_fits m = tt
+
+    loose : Loose (old.nodes ++ Var l no_scope ∷ []) W
+    loose = record {
+      each = λ m c e. elim (get-append_cases old.nodes (Var l no_scope) m c e) [
+        | inl f ↦ node_fits m c f
+        | inr (p, q) ↦ subst (λ d. FitsLoosely W m d) (sym q) (var_fits m)
+      ];
+    }
+
+    under_new : (m k o l' o' : ℕ) → Var k o ≡ Var l' o' → IsUnder (λ v. 0) l' no_scope (W m) → o ≡ no_scope → IsUnder (λ v. 0) l' o' (W m)
+    under_new m k o l' o' e h s = let f : o ≡ o' = cc in subst (λ z. IsUnder (λ v. 0) l' z (W m)) (sym s ∙ f) h
+
+    limits : (m l' o : ℕ) → slice_get (old.nodes ++ Var l no_scope ∷ []) m ≡ Some (Var l' o) → l' ≢ bound_level → IsUnder (λ v. 0) l' o (W m)
+    limits m l' o e free = elim (get-append_cases old.nodes (Var l no_scope) m (Var l' o) e) [
+      | inl f ↦ subst (IsUnder (λ v. 0) l' o) (sym (at_old m (slice_get_within old.nodes m (Var l' o) f))) (old_fits.under m l' o f free)
+      | inr (p, q) ↦ under_new m l no_scope l' o (sym q) (under_any l' (W m)) refl
+    ]
+
+    fitted : FitsUnder (λ v. 0) new.nodes W
+    fitted = subst (λ ns. FitsUnder (λ v. 0) ns W) (sym made.added.nodes) (record { loose = loose; under = limits })
 
 -- own types are a reading
 pub own_fits : (nodes : List Node) (I : Types) → IsOwn nodes I → Fits nodes I

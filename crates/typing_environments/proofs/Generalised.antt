@@ -2,14 +2,19 @@
 use Rattle.std.proofs.Common.{◌≡◌, ◌≢◌, ℕ, suc, ◌<◌, ◌≤◌, true, false, not, ◌||◌, List, length, Some, refl, ap, arith, ◌⊎◌, inl, inr}
 use Rattle.std.specs.Prelude.{slice_get}
 use Rattle.type_model.specs.Types.{Typ, occurs}
+use Rattle.signature_model.specs.Matching.{IsKnown}
 use Rattle.signature_model.specs.Entries.{Environment, free_in}
 use Rattle.typing_model.specs.Contexts.{occurs_in, generalised_in}
 use Rattle.type_nodes.specs.Nodes.{Node, Var, bound_level}
-use Rattle.type_nodes.specs.Readings.{Types}
+use Rattle.type_nodes.specs.Readings.{Types, IsReading}
+use Rattle.level_unify.specs.Walks.{StandsIn}
+use Rattle.level_unify.specs.Solutions.{Loose}
+use Rattle.level_unify.proofs.Unified.{fits_loosely}
 use Rattle.level_unify.specs.Instances.{is_bound}
 use Rattle.level_unify.proofs.Variants.{stands_occurs}
 use Rattle.typing_environments.specs.Locals.{IsFreeVar, IsOwn, stands_in_any, Within, Local, IsContext, ClosesAll}
 use Rattle.typing_environments.specs.Assumptions.{SchemeFits, SchemeReads}
+use Rattle.typing_environments.proofs.Uses.{type_fits, type_reads}
 use Rattle.typing_environments.proofs.Regions.{any_in}
 use Rattle.typing_environments.proofs.Steps.{same_node, old_or_new}
 use Rattle.typing_environments.proofs.Closing.{still_free, closed_own, low_is_fixed}
@@ -36,23 +41,23 @@ module _ (old nodes new : List Node) (I J : Types) (C R : List ℕ) (H : ℕ →
         | inl above ↦ absurd (free.free (same_node new u free.level free.scope bound_level free.scope free.at (closes.binds u free.level free.scope at free.free above here)))
       ])
 
-  -- under types that fit
-  pub name_fits : (V : Types) (E : Environment) (held : List Typ) → Fixes new J V C (H level) E held → (k r : ℕ) → slice_get R k ≡ Some r → SchemeFits new V r (generalised_in E held (V r))
-  name_fits V E held fixes k r e = record {
-    inside = inside;
-    body = refl;
-    kept = λ u w free stands o.
-        let p : occurs u (J r) ≡ true = stands_occurs new J u r own.loose (own.vars u free.level free.scope free.at) stands in
-        ap not (elim (name_var k r u e free p) [ inl i ↦ fixes.roots u w free i o | inr i ↦ fixes.extra u w free i o ]);
-  }
-    where
-      own : IsOwn new J
-      own = closed_own nodes new J R level between closes
+  own_closed : IsOwn new J
+  own_closed = closed_own nodes new J R level between closes
 
-      inside : r < length new
-      inside = let p = (names k r e).0 in let q = closes.len in omega arith
+  name_inside : (k r : ℕ) → slice_get R k ≡ Some r → r < length new
+  name_inside k r e = let p = (names k r e).0 in let q = closes.len in omega arith
+
+  kept : (V : Types) (E : Environment) (held : List Typ) → Fixes new J V C (H level) E held → (k r : ℕ) → slice_get R k ≡ Some r → (u w : ℕ) → IsFreeVar new u → StandsIn new u r → occurs w (V u) ≡ true → (not (free_in w E || occurs_in w held)) ≡ false
+  kept V E held fixes k r e u w free stands o =
+      let p : occurs u (J r) ≡ true = stands_occurs new J u r own_closed.loose (own_closed.vars u free.level free.scope free.at) stands in
+      ap not (elim (name_var k r u e free p) [ inl i ↦ fixes.roots u w free i o | inr i ↦ fixes.extra u w free i o ])
+
+  -- under types that fit
+  pub name_fits : (V : Types) (E : Environment) (held : List Typ) → Loose new V → Fixes new J V C (H level) E held → (k r : ℕ) → slice_get R k ≡ Some r → IsKnown (V r) → SchemeFits new V r (generalised_in E held (V r))
+  name_fits V E held loose fixes k r e known = type_fits new J V r (generalised_in E held (V r)) own_closed loose (name_inside k r e) known refl (kept V E held fixes k r e)
 
   -- and at each reading, where no bound variable is free in the environment or held
-  pub name_reads : (V : Types) (E : Environment) (held : List Typ) → Fixes new J V C (H level) E held → ((b : ℕ) → is_bound new b ≡ true → (free_in b E || occurs_in b held) ≡ false) →
-      (k r : ℕ) → slice_get R k ≡ Some r → SchemeReads new V r (generalised_in E held (V r))
-  name_reads V E held fixes none k r e = record { fits = name_fits V E held fixes k r e; own = λ b h stands. ap not (none b h) }
+  pub name_reads : (V : Types) (E : Environment) (held : List Typ) → IsReading new V → Fixes new J V C (H level) E held → ((b : ℕ) → is_bound new b ≡ true → (free_in b E || occurs_in b held) ≡ false) →
+      (k r : ℕ) → slice_get R k ≡ Some r → IsKnown (V r) → SchemeReads new V r (generalised_in E held (V r))
+  name_reads V E held reads fixes none k r e known =
+      type_reads new J V r (generalised_in E held (V r)) own_closed (fits_loosely new V reads.fits) (name_inside k r e) known refl (kept V E held fixes k r e) reads (λ b h stands. ap not (none b h))

@@ -1,27 +1,25 @@
 -- Several names at once, as a group of bindings or a pattern brings them into scope.
-use Rattle.std.proofs.Common.{◌≡◌, ℕ, true, List, [], ◌∷◌, Option, sym, subst}
+use Rattle.std.proofs.Common.{◌≡◌, ℕ, List, [], ◌∷◌, Option}
 use Rattle.text_terms.specs.Bytes.{str_bytes}
-use Rattle.type_model.specs.Types.{Typ, occurs}
+use Rattle.type_model.specs.Types.{Typ}
 use Rattle.type_model.specs.Schemes.{Scheme}
 use Rattle.signature_model.specs.Declarations as rules
 use Rattle.signature_model.specs.Entries.{Environment, value_kind}
-use Rattle.signature_model.specs.Matching.{IsKnown}
-use Rattle.typing_model.specs.Contexts.{Context, Bound, entries_with, monomorphic}
+use Rattle.typing_model.specs.Contexts.{Context, Bound, entries_with}
 use Rattle.type_terms.specs.declared.types.NodeRef.{NodeRef}
 use Rattle.type_nodes.specs.Nodes.{Node}
 use Rattle.type_nodes.specs.Readings.{Types}
-use Rattle.level_unify.specs.Solutions.{Loose}
 use Rattle.env_table.specs.declared.entries.Constructor.{Constructor}
 use Rattle.env_table.specs.declared.entries.Declaration.{Declaration}
 use Rattle.env_table.specs.declared.entries.Entry.{Entry}
 use Rattle.env_table.specs.declared.entries.What.TheVariants as what
 use Rattle.env_table.specs.Views.{kind_of}
-use Rattle.typing_environments.specs.Locals.{IsFreeVar, IsOwn, IsResult}
-use Rattle.typing_environments.specs.Assumptions.{SchemeFits, SchemeReads}
+use Rattle.typing_environments.specs.Locals.{IsOwn}
+use Rattle.typing_environments.specs.Assumptions.{FreeAlike}
 use Rattle.typing_environments.specs.Standing.{Stands}
-use Rattle.typing_environments.proofs.Standing.{stands_named, one_type_reads}
+use Rattle.typing_environments.proofs.Standing.{stands_named}
 
--- entries in front of others, one after another, as the code adds them
+-- entries before others, each before the one that was added last, as the code adds them
 abbrev pub added : List Entry → List Entry → List Entry
 added [] env = env
 added (e ∷ es) env = added es (e ∷ env)
@@ -35,20 +33,14 @@ joined (n ∷ ns) C = joined ns (n ∷ C)
 pub data NamesStand (R : List Node → Types → ℕ → Scheme → Type 0) (nodes : List Node) (J V : Types) (scheme : Typ → Scheme) (c : Context) : List Entry → List Bound → List ℕ → Type 0 where
   no_more : NamesStand R nodes J V scheme c [] [] []
   name_more : {e : Entry} {es : List Entry} {b : Bound} {bs : List Bound} {ns : List ℕ} (n : NodeRef) → b.name ≡ str_bytes e.name → kind_of e.kind ≡ value_kind → e.what ≡ what.Scheme n →
-      R nodes V n.0 (scheme (b.has_type c)) → SchemeFits nodes V n.0 (scheme (b.has_type c)) → ((u : ℕ) → IsFreeVar nodes u → occurs u (J n.0) ≡ true → IsKnown (V u)) →
+      R nodes V n.0 (scheme (b.has_type c)) → FreeAlike nodes V n.0 (scheme (b.has_type c)) →
       NamesStand R nodes J V scheme c es bs ns → NamesStand R nodes J V scheme c (e ∷ es) (b ∷ bs) (n.0 ∷ ns)
 
 -- the environment after the names, as the definitions have it
-pub stands_names : (R : List Node → Types → ℕ → Scheme → Type 0) (D : Declaration → rules.Declaration → Type 0) (X : Constructor → Option Typ → Type 0) (nodes : List Node) (J V : Types) (scheme : Typ → Scheme) (c : Context) → IsOwn nodes J → Loose nodes V →
+pub stands_names : (R : List Node → Types → ℕ → Scheme → Type 0) (D : Declaration → rules.Declaration → Type 0) (X : Constructor → Option Typ → Type 0) (nodes : List Node) (J V : Types) (scheme : Typ → Scheme) (c : Context) → IsOwn nodes J →
     {es : List Entry} {bs : List Bound} {ns : List ℕ} → NamesStand R nodes J V scheme c es bs ns → (C : List ℕ) (env : List Entry) (E : Environment) →
     Stands R D X nodes J C V env E → Stands R D X nodes J (joined ns C) V (added es env) (entries_with scheme c bs E)
-stands_names R D X nodes J V scheme c own loose no_more C env E s = s
-stands_names R D X nodes J V scheme c own loose (name_more {e = e} {b = b} n named kind is r fits known rest) C env E s =
-    stands_names R D X nodes J V scheme c own loose rest (n.0 ∷ C) (e ∷ env) _
-    (stands_named R D X nodes J V C env E own loose e b.name (rules.in_text b.place) n (scheme (b.has_type c)) named kind is r fits known s)
-
--- the names of patterns, with one type each: results of typing the pattern
-pub one_type_each : (old nodes : List Node) (J V : Types) (roots : List ℕ) (level : ℕ) (n : ℕ) (t : Typ) → IsOwn nodes J → IsResult old nodes J roots level n → t ≡ V n → SchemeReads nodes V n (monomorphic t)
-one_type_each old nodes J V roots level n t own res e =
-    subst (λ x. SchemeReads nodes V n (monomorphic x)) (sym e)
-    (one_type_reads nodes J V n own res.inside (λ v o. let f = res.free v o in record { level = f.level; scope = f.scope; at = f.at; free = f.free }))
+stands_names R D X nodes J V scheme c own no_more C env E s = s
+stands_names R D X nodes J V scheme c own (name_more {e = e} {b = b} n named kind is r frees rest) C env E s =
+    stands_names R D X nodes J V scheme c own rest (n.0 ∷ C) (e ∷ env) _
+    (stands_named R D X nodes J V C env E own e b.name (rules.in_text b.place) n (scheme (b.has_type c)) named kind is r frees s)

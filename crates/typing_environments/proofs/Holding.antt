@@ -49,6 +49,7 @@ module _ (old mid : State) (new : List Node) (I J K : Types) (f r level : ℕ) (
       own_under : FitsUnder (λ x. 0) new K
       own_under = fits_under new K (own_fits new K after)
 
+  -- holding touches only the type and the new variable
   pub local_held : (C : List ℕ) → ((k c : ℕ) → slice_get (r ∷ []) k ≡ Some c → Within old.nodes C c) → Local old.nodes new I K C H (suc level)
   local_held C within = local_then old.nodes mid.nodes new I J K C (f ∷ r ∷ []) H H (suc level) before between after
       (local_more old.nodes mid.nodes I J [] C H H (suc level) (suc level) between (omega arith) (λ k c e. absurd (none_there k c e)) (λ k u lt h. h) hold_var) hold_one both (λ k u lt h. h)

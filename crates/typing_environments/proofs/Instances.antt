@@ -1,4 +1,4 @@
--- The remaining single steps: instances, new nodes, held types, and what stands in several parts.
+-- The other single steps: instances and new nodes; and what stands in several parts.
 use Rattle.std.proofs.Common.{◌≡◌, ℕ, zero, ◌<◌, ◌≤◌, Bool, true, not, List, [], ◌∷◌, length, get_or, Some, refl, sym, ◌∙◌, ap, subst, arith, inl, inr}
 use Rattle.std.specs.Prelude.{slice_get, All}
 use Rattle.std.proofs.lemmas.Option.{slice_get_within}
@@ -102,5 +102,6 @@ result_widens old mid new I J K C D H level lower r one within res = record {
 pub root_within : (old : List Node) (C : List ℕ) (k c : ℕ) → slice_get C k ≡ Some c → Within old C c
 root_within old C k c e = record { each = λ F reg. reg.has k c e }
 
+-- a new node is within any roots
 pub new_within : (old : List Node) (C : List ℕ) (n : ℕ) → length old ≤ n → Within old C n
 new_within old C n le = record { each = λ F reg. reg.made n le }

@@ -1,28 +1,23 @@
 -- A context stays one after further steps, and so does a result.
-use Rattle.std.proofs.Common.{◌≡◌, ◌≢◌, ℕ, suc, ◌<◌, ◌≤◌, Bool, true, false, List, length, Some, refl, sym, ◌∙◌, ap, subst, arith, ◌⊎◌, inl, inr}
-use Rattle.std.specs.Prelude.{slice_get, All}
+use Rattle.std.proofs.Common.{◌≡◌, ◌≢◌, ℕ, true, List, Some, sym, ◌∙◌, ap, arith, ◌⊎◌, inl, inr}
+use Rattle.std.specs.Prelude.{slice_get}
 use Rattle.std.proofs.lemmas.Bool.{eqb-true}
 use Rattle.std.proofs.lemmas.Bool.Decides.{eqb_tells}
-use Rattle.std.proofs.lemmas.Option.{slice_get_within}
 use Rattle.type_model.specs.Types.{occurs}
-use Rattle.type_model.proofs.Applying.{eqb_same}
-use Rattle.type_nodes.specs.Nodes.{Node, Var, Rigid, Link, Arrow, Tuple, Con, parts, bound_level, IsClosed}
+use Rattle.type_nodes.specs.Nodes.{Node, Var, bound_level}
 use Rattle.type_nodes.specs.Readings.{Types}
-use Rattle.type_nodes.proofs.Lists.{one_element}
-use Rattle.level_unify.specs.Solutions.{Loose, FitsLoosely}
-use Rattle.level_unify.proofs.Steps.{cell_at}
-use Rattle.typing_laws.proofs.Bools.{no_yes}
-use Rattle.typing_environments.specs.Locals.{IsVar, IsLow, IsOwn, stands_in_any, Within, Refines, Local, IsContext, IsResult, ClosesAll}
-use Rattle.typing_environments.proofs.Regions.{any_in, in_any, region, region_is, region_var}
-use Rattle.typing_environments.proofs.Steps.{same_node, stands_after, stands_before, true_or_false, old_or_new}
+use Rattle.typing_environments.specs.Locals.{IsVar, IsOwn, Refines, IsContext, IsResult}
+use Rattle.typing_environments.proofs.Regions.{any_in, in_any}
+use Rattle.typing_environments.proofs.Steps.{same_node, stands_before}
 
--- how a variable's node tells whether it is free
+-- the level and the scope of a variable, and whether it is bound or free
 pub record VarOf (nodes : List Node) (v : ℕ) : Type 0 where
   pub level : ℕ
   pub scope : ℕ
   pub at : slice_get nodes v ≡ Some (Var level scope)
   pub kind : (level ≡ bound_level) ⊎ (level ≢ bound_level)
 
+-- a variable is bound or free
 pub var_of : (nodes : List Node) (v : ℕ) → IsVar nodes v → VarOf nodes v
 var_of nodes v var = record { level = var.level; scope = var.scope; at = var.at; kind = elim (eqb_tells var.level bound_level) [ inl (_, e) ↦ inl e | inr (_, e) ↦ inr e ] }
 
@@ -61,4 +56,3 @@ result_after old mid new J K C level r between after two res = record {
       let g = two.frees w v (record { level = f.level; scope = f.scope; at = f.at; free = f.free }) q in
       record { level = g.level; scope = g.scope; at = g.at; free = g.free; low = let a = two.falls w f.level f.scope v g.level g.scope f.at f.free g.at q in let b = f.low in omega arith };
 }
-

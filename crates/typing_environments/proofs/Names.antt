@@ -92,5 +92,6 @@ module _ (R : ℕ → Scheme → Type 0) (D : Declaration → rules.Declaration 
   found_scheme e f is to_hole = absurd (cc)
   found_scheme e f is to_nothing = absurd (cc)
 
+  -- so the definitions find the scheme of the root that the code finds
   pub finds_scheme : (ms : List Name) (x : Name) (e : Entry) {es : List Entry} {fs : Environment} → lookup_by is_named inside es ms value_kind x ≡ an_entry e → e.what ≡ what.Scheme root → EnvAs R D X es fs → FindsScheme (lookup fs ms value_kind x)
   finds_scheme ms x e f is h = found_scheme e f is (lookup_alike R D X ms value_kind x h)

@@ -15,6 +15,7 @@ use Rattle.typing_environments.specs.Locals.{IsVar, IsOwn, stands_in_any, all_pa
 
 -- a type all of whose variables pass
 mutual
+  -- a type passes where each variable in it does
   pub passes : (P : ℕ → Bool) (t : Typ) → ((v : ℕ) → occurs v t ≡ true → P v ≡ true) → all_pass P t ≡ true
   passes P (type.Var v) h = h v (eqb_same v)
   passes P (type.Arrow a b) h = and_both (all_pass P a) (all_pass P b) (passes P a (λ v o. h v (or_left (occurs v a) (occurs v b) o))) (passes P b (λ v o. h v (or_right (occurs v a) (occurs v b) o)))
@@ -26,6 +27,7 @@ mutual
   all_pass_each P (types.Cons t ts) h = and_both (all_pass P t) (each_passes P ts) (passes P t (λ v o. h v (or_left (occurs v t) (occurs_any v ts) o))) (all_pass_each P ts (λ v o. h v (or_right (occurs v t) (occurs_any v ts) o)))
 
 mutual
+  -- and each variable of a type that passes does
   pub passed : (P : ℕ → Bool) (t : Typ) (v : ℕ) → all_pass P t ≡ true → occurs v t ≡ true → P v ≡ true
   passed P (type.Var w) v h o = ap P (eqb-true v w o) ∙ h
   passed P (type.Arrow a b) v h o = let p = and_cases (all_pass P a) (all_pass P b) h in elim (or_cases (occurs v a) (occurs v b) o) [ inl i ↦ passed P a v p.0 i | inr i ↦ passed P b v p.1 i ]
@@ -65,12 +67,14 @@ any_in v I [] k n e o = absurd (let f : None ≡ Some n = e in cc)
 any_in v I (m ∷ ms) zero n e o = let f : m ≡ n = cc in or_left (occurs v (I m)) (occurs_in v (map I ms)) (ap (λ j. occurs v (I j)) f ∙ o)
 any_in v I (m ∷ ms) (suc k) n e o = or_right (occurs v (I m)) (occurs_in v (map I ms)) (any_in v I ms k n e o)
 
+-- where it is, by its place in the list
 pub record AnyIn (I : Types) (ns : List ℕ) (v : ℕ) : Type 0 where
   pub place : ℕ
   pub node : ℕ
   pub at : slice_get ns place ≡ Some node
   pub occurs : occurs v (I node) ≡ true
 
+-- a variable that stands in one of some nodes stands in one of them at a place
 pub in_any : (v : ℕ) (I : Types) (ns : List ℕ) → stands_in_any I ns v ≡ true → AnyIn I ns v
 in_any v I [] h = absurd (no_yes h)
 in_any v I (m ∷ ms) h = elim (or_cases (occurs v (I m)) (occurs_in v (map I ms)) h) [
@@ -88,6 +92,7 @@ is_new a b h = leb-true a b h
 new_is : (a b : ℕ) → a ≤ b → nat_le a b ≡ true
 new_is a b h = le-leb a b h
 
+-- they are such a set
 pub region_is : (nodes : List Node) (I : Types) (roots : List ℕ) → Loose nodes I → IsRegion nodes roots (region nodes I roots)
 region_is nodes I roots loose = record {
   closed = record {

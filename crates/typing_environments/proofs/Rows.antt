@@ -1,5 +1,5 @@
--- The steps of a row, with what it carries in one record.
-use Rattle.std.proofs.Common.{◌≡◌, ◌≢◌, ℕ, zero, suc, ◌<◌, ◌≤◌, true, false, List, [], ◌∷◌, ◌++◌, length, get_or, Some, None, refl, sym, ◌∙◌, ap, subst, arith, inl, inr}
+-- The steps of a row, over the record of what it carries.
+use Rattle.std.proofs.Common.{◌≡◌, ◌≢◌, ℕ, zero, suc, ◌<◌, ◌≤◌, true, false, List, [], ◌∷◌, ◌++◌, length, get_or, Some, refl, sym, ◌∙◌, ap, subst, arith, inl, inr}
 use Rattle.std.specs.Prelude.{slice_get, All}
 use Rattle.std.proofs.lemmas.Bool.{eqb-true}
 use Rattle.type_model.specs.Types.{occurs}
@@ -15,16 +15,13 @@ use Rattle.level_unify.specs.Solutions.{Loose, FitsLoosely, HaveNoBound}
 use Rattle.level_unify.specs.Unification.{Unified}
 use Rattle.level_unify.specs.Instances.{Instantiated}
 use Rattle.level_unify.proofs.Walking.{get_here}
-use Rattle.typing_environments.specs.Locals.{IsLow, IsOwn, stands_in_any, Within, Local, IsContext, IsResult}
+use Rattle.typing_environments.specs.Locals.{IsLow, IsOwn, Within, Local, IsResult}
 use Rattle.typing_environments.specs.Rows.{Row}
 use Rattle.typing_environments.proofs.Own.{built_has}
-use Rattle.typing_environments.proofs.Regions.{any_in, region, region_is, region_var}
-use Rattle.typing_environments.proofs.Steps.{local_none, local_then, local_unified, old_or_new}
-use Rattle.typing_environments.proofs.Later.{VarOf, var_of, context_after, result_after}
-use Rattle.typing_environments.proofs.Instances.{local_instance, instance_within, local_node, local_more, open_nodes, result_widens, root_within, new_within}
-
-pub row_start : (nodes : List Node) (I : Types) (C : List ℕ) (H : ℕ → List ℕ) (level : ℕ) → IsOwn nodes I → IsContext nodes I C level → Row nodes nodes I I C H level []
-row_start nodes I C H level own context = record { before = own; own = own; context = context; local = local_none nodes I C H level own; open_nodes = λ k r e. absurd (let f : None ≡ Some r = e in cc) }
+use Rattle.typing_environments.proofs.Regions.{region, region_is, region_var}
+use Rattle.typing_environments.proofs.Steps.{local_then, local_unified, old_or_new}
+use Rattle.typing_environments.proofs.Later.{VarOf, var_of, result_after}
+use Rattle.typing_environments.proofs.Instances.{local_instance, instance_within, local_node, local_more, open_nodes, result_widens, new_within}
 
 module _ {start now : List Node} {I J : Types} {C : List ℕ} {H : ℕ → List ℕ} {level : ℕ} {rs : List ℕ} (row : Row start now I J C H level rs) where
   -- a further step, whose roots are roots or open nodes
@@ -54,6 +51,7 @@ module _ {start now : List Node} {I J : Types} {C : List ℕ} {H : ℕ → List 
       (λ v o. let g = (row.open_nodes j a e).free v o in record { level = g.level; scope = g.scope; at = g.at; free = g.free })
       (λ v o. let g = (row.open_nodes k b f).free v o in record { level = g.level; scope = g.scope; at = g.at; free = g.free })
 
+  -- two open nodes are made one
   pub row_unify : (new : List Node) (K : Types) (j k a b : ℕ) → slice_get rs j ≡ Some a → slice_get rs k ≡ Some b → IsOwn new K → (HaveNoBound now a b → Unified now new a b) → ((V : Types) → Loose new V → Loose now V) → Row start new I K C H level rs
   row_unify new K j k a b e f own one tight = row_step new K (a ∷ b ∷ []) own both
       (local_more now new J K (a ∷ b ∷ []) (a ∷ b ∷ []) (λ k. []) H level level own (omega arith) (λ i c g. (i, g)) (λ i u lt h. absurd (no_yes h))
@@ -79,13 +77,6 @@ module _ {start now : List Node} {I J : Types} {C : List ℕ} {H : ℕ → List 
       each : Row start new I K C H level rs → (k q : ℕ) → slice_get (r ∷ rs) k ≡ Some q → IsResult start new K C level q
       each next zero q e = let s : r ≡ q = cc in subst (IsResult start new K C level) s (result_widens start now new I J K C D H level level r row.local (λ k d f. (within k d f).0) part.1)
       each next (suc k) q e = next.open_nodes k q e
-
-  -- the roots of the row are within it
-  pub roots_within : (k d : ℕ) → slice_get C k ≡ Some d → Within start C d × (d < length now)
-  roots_within k d e = (root_within start C k d e, let a = row.context.inside k d e in let b = row.local.refines.longer in omega arith)
-
-  pub here_context : IsContext now J C level
-  here_context = context_after start now I J C level row.before row.own row.local.refines row.context
 
   -- an instance of a root, or of a node that was made: one whose free variables are of at most the level
   pub row_instance : (new : List Node) (K : Types) (r m : ℕ) → Within start C r × (r < length now) → ((v l o : ℕ) → occurs v (J r) ≡ true → slice_get now v ≡ Some (Var l o) → l ≢ bound_level → l ≤ level) →
@@ -145,6 +136,7 @@ module _ {start : List Node} {now new : State} {I J : Types} {C : List ℕ} {H :
   n_within : Within start C n
   n_within = new_within start C n (let a = made.added.number in let b = row.local.refines.longer in omega (arith, a, b))
 
+  -- a new variable of the level is open
   pub row_var : (scope : ℕ) → c ≡ Var level scope → level ≢ bound_level → Row start new.nodes I K C H level (n ∷ rs)
   row_var scope is free =
       let next = row_step row new.nodes K (parts c) own parts_none (local_node now new n c J K H level row.own own made (λ k l o lt e le. absurd (let f : Var l o ≡ Var level scope = sym e ∙ is in let s : l ≡ level = cc in omega arith))) in
@@ -160,6 +152,7 @@ module _ {start : List Node} {now new : State} {I J : Types} {C : List ℕ} {H :
       parts_none : (k d : ℕ) → slice_get (parts c) k ≡ Some d → Within start C d × (d < length now.nodes)
       parts_none k d e = absurd (let f : slice_get [] k ≡ Some d = ap (λ x. slice_get (parts x) k) (sym is) ∙ e in cc)
 
+  -- a new node over open nodes is open
   pub row_node : ((l o : ℕ) → c ≡ Var l o → ⊥) → ((k d : ℕ) → slice_get (parts c) k ≡ Some d → (j : ℕ) × (slice_get rs j ≡ Some d)) → Row start new.nodes I K C H level (n ∷ rs)
   row_node isnt among =
       let next = row_step row new.nodes K (parts c) own (λ k d e. let (j, f) = among k d e in open_within row j d f) (local_node now new n c J K H level row.own own made (λ k l o lt e le. absurd (isnt l o e))) in

@@ -37,6 +37,7 @@ pub record Scoped (old new : List Node) (I J : Types) (roots : List ℕ) (s : �
 same_scope : (nodes : List Node) (n l o l' o' : ℕ) → slice_get nodes n ≡ Some (Var l o) → slice_get nodes n ≡ Some (Var l' o') → o ≡ o'
 same_scope nodes n l o l' o' e f = let g : Some (Var l o) ≡ Some (Var l' o') = sym e ∙ f in cc
 
+-- steps one after another
 pub scoped_then : (old mid new : List Node) (I J K : Types) (C D : List ℕ) (H H' : ℕ → List ℕ) (level s : ℕ) (before : IsOwn old I) (between : IsOwn mid J) (after : IsOwn new K) (one : Local old mid I J C H level) (two : Local mid new J K D H' level)
     (within : (k d : ℕ) → slice_get D k ≡ Some d → Within old C d × (d < length mid)) (more : (k u : ℕ) → k < level → stands_in_any K (H k) u ≡ true → stands_in_any K (H' k) u ≡ true) →
     Scoped old mid I J C s → Scoped mid new J K D s → Scoped old new I K C s
@@ -63,6 +64,7 @@ scoped_then old mid new I J K C D H H' level s before between after one two with
       let b = second.falls w v.level v.scope u l' o' v.at v.free e' q in omega arith;
 }
 
+-- two nodes are made one
 pub scoped_unified : (old new : List Node) (I J : Types) (a b level s : ℕ) → IsOwn old I → IsOwn new J → Unified old new a b → Local old new I J (a ∷ b ∷ []) (λ k. []) level → Scoped old new I J (a ∷ b ∷ []) s
 scoped_unified old new I J a b level s before after u local = record {
   sources = λ v early.

@@ -1,24 +1,22 @@
 -- An environment stands for that of the definitions later on, with a further name, and finds what that finds.
-use Rattle.std.proofs.Common.{◌≡◌, ℕ, zero, suc, ◌<◌, Bool, true, false, not, List, [], ◌∷◌, ◌++◌, length, Option, Some, refl, sym, ◌∙◌, ap, subst, ◌⊎◌, inl, inr}
+use Rattle.std.proofs.Common.{◌≡◌, ℕ, zero, suc, ◌<◌, Bool, true, false, List, ◌∷◌, length, Option, Some, refl, sym, ◌∙◌, ap, inl, inr}
 use Rattle.std.specs.Prelude.{slice_get}
 use Rattle.std.proofs.lemmas.Option.{slice_get_within}
-use Rattle.std.proofs.lemmas.Bool.{eqb-true}
 use Rattle.text_terms.specs.Bytes.{str_bytes}
-use Rattle.type_model.specs.Types.{Typ, Typs, occurs, occurs_any}
-use Rattle.type_model.specs.Types.{Typ as type, Typs as types}
-use Rattle.type_model.specs.Substitutions.{Subst, apply, apply_all}
+use Rattle.type_model.specs.Types.{Typ, occurs}
 use Rattle.type_model.specs.Schemes.{Scheme, free_in_scheme}
 use Rattle.type_model.proofs.Applying.{or_left, or_right, or_cases}
 use Rattle.signature_model.specs.Declarations as rules
 use Rattle.signature_model.specs.Declarations.{Name}
 use Rattle.signature_model.specs.Entries.{Environment, entry, a_value, free_in, value_kind}
-use Rattle.signature_model.specs.Matching.{IsKnown, AreKnown}
-use Rattle.typing_model.specs.Contexts.{occurs_in, monomorphic}
-use Rattle.typing_laws.proofs.Bools.{and_cases, and_both, no_yes}
+use Rattle.signature_model.specs.Matching.{IsKnown}
+use Rattle.typing_model.specs.Contexts.{monomorphic}
+use Rattle.typing_laws.proofs.Bools.{no_yes}
 use Rattle.type_terms.specs.declared.types.NodeRef.{NodeRef}
 use Rattle.type_nodes.specs.Nodes.{Node, Var, bound_level}
 use Rattle.type_nodes.specs.Readings.{Types, IsReading}
 use Rattle.level_unify.specs.Solutions.{Loose}
+use Rattle.level_unify.proofs.Unified.{fits_loosely}
 use Rattle.level_unify.specs.Instances.{is_bound, SameTypes}
 use Rattle.level_unify.proofs.Variants.{bound_cell, stands_occurs}
 use Rattle.env_table.specs.declared.entries.Constructor.{Constructor}
@@ -27,28 +25,15 @@ use Rattle.env_table.specs.declared.entries.What.TheVariants as what
 use Rattle.env_table.specs.declared.entries.Entry.{Entry}
 use Rattle.env_table.specs.Views.{kind_of}
 use Rattle.typing_environments.specs.Locals.{IsFreeVar, IsOwn, stands_in_any, Refines}
-use Rattle.typing_environments.specs.Assumptions.{SchemeFits, SchemeReads}
+use Rattle.typing_environments.specs.Assumptions.{FreeAlike, SchemeFits, SchemeReads}
 use Rattle.typing_environments.specs.Environments.{of_value, entry_as, newest}
 use Rattle.typing_environments.specs.Standing.{IsIn, Stands}
 use Rattle.typing_environments.proofs.Regions.{any_in, in_any}
 use Rattle.typing_environments.proofs.Steps.{same_node, stands_after, stands_before}
 use Rattle.typing_environments.proofs.Later.{var_of, bound_itself}
-use Rattle.typing_environments.proofs.Uses.{bound_stands}
+use Rattle.typing_environments.proofs.Uses.{type_fits, type_reads}
 use Rattle.typing_environments.proofs.Schemes.{fits_after, reads_after}
-use Rattle.typing_environments.proofs.Generalised.{Fixes}
 use Rattle.typing_environments.proofs.Environments.{env_map, env_free}
-
--- what stands in a known type for one of its variables is known
-mutual
-  pub known_put : (W : Subst) (t : Typ) (u : ℕ) → occurs u t ≡ true → IsKnown (apply W t) → IsKnown (W u)
-  known_put W (type.Var v) u o h = subst (λ k. IsKnown (W k)) (sym (eqb-true u v o)) h
-  known_put W (type.Arrow a b) u o h = elim (or_cases (occurs u a) (occurs u b) o) [ inl i ↦ known_put W a u i h.0 | inr i ↦ known_put W b u i h.1 ]
-  known_put W (type.Tuple ts) u o h = all_known_put W ts u o h
-  known_put W (type.Con p ts) u o h = all_known_put W ts u o h.1
-
-  all_known_put : (W : Subst) (ts : Typs) (u : ℕ) → occurs_any u ts ≡ true → AreKnown (apply_all W ts) → IsKnown (W u)
-  all_known_put W types.Nil u o h = absurd (no_yes o)
-  all_known_put W (types.Cons t ts) u o h = elim (or_cases (occurs u t) (occurs_any u ts) o) [ inl i ↦ known_put W t u i h.0 | inr i ↦ all_known_put W ts u i h.1 ]
 
 module _ (D : Declaration → rules.Declaration → Type 0) (X : Constructor → Option Typ → Type 0) (old new : List Node) (I J : Types) (C : List ℕ)
     (before : IsOwn old I) (after : IsOwn new J) (step : Refines old new J) (inside : (k c : ℕ) → slice_get C k ≡ Some c → c < length old) where
@@ -77,83 +62,49 @@ module _ (D : Declaration → rules.Declaration → Type 0) (X : Constructor →
     brings = λ u w free h o.
         let (m, f, p, q) = root_var u free h in
         s.brings m w f p (ap (occurs w) (sym (same_at V W same m f)) ∙ stands_after new J W after loose m u w q o);
-    known = λ u free h.
-        let (m, f, p, q) = root_var u free h in
-        known_put W (J m) u q (subst IsKnown (sym (same_at V W same m f) ∙ after.comes W loose m) (s.known m f p));
   }
 
   -- at each reading
-  pub stands_reads_on : (V : Types) (env : List Entry) (E : Environment) → Loose new V → Stands SchemeReads D X old I C V env E → Stands SchemeReads D X new J C V env E
-  stands_reads_on V env E loose s = record {
+  pub stands_reads_on : (V : Types) (env : List Entry) (E : Environment) → IsReading new V → Stands SchemeReads D X old I C V env E → Stands SchemeReads D X new J C V env E
+  stands_reads_on V env E reads s = record {
     names = env_map (λ r sc. SchemeReads old V r sc × IsIn C r) (λ r sc. SchemeReads new V r sc × IsIn C r) D D X X
-        (λ r sc h. (reads_after old new I J before after step V loose r sc h.0, h.1)) (λ d e h. h) (λ c o h. h) s.names;
-    brings = λ u w free h o. let (m, f, p, q) = root_var u free h in s.brings m w f p (stands_after new J V after loose m u w q o);
-    known = λ u free h. let (m, f, p, q) = root_var u free h in known_put V (J m) u q (subst IsKnown (after.comes V loose m) (s.known m f p));
+        (λ r sc h. (reads_after old new I J before after step V reads r sc h.0, h.1)) (λ d e h. h) (λ c o h. h) s.names;
+    brings = λ u w free h o. let (m, f, p, q) = root_var u free h in s.brings m w f p (stands_after new J V after (fits_loosely new V reads.fits) m u w q o);
   }
 
 -- one name more
 pub more_in : (C : List ℕ) (n r : ℕ) → IsIn C r → IsIn (n ∷ C) r
 more_in C n r (k, e) = (suc k, e)
 
-free_if_kept : (w : ℕ) (sc : Scheme) → occurs w sc.body ≡ true → sc.bound w ≡ false → free_in_scheme w sc ≡ true
-free_if_kept w sc o b = and_both (occurs w sc.body) (not (sc.bound w)) o (ap not b)
-
+-- an entry of a name that stands for a scheme
 pub stands_named : (R : List Node → Types → ℕ → Scheme → Type 0) (D : Declaration → rules.Declaration → Type 0) (X : Constructor → Option Typ → Type 0) (nodes : List Node) (J V : Types) (C : List ℕ) (env : List Entry) (E : Environment) →
-    IsOwn nodes J → Loose nodes V → (e : Entry) (x : Name) (at : rules.Place) (n : NodeRef) (sc : Scheme) → x ≡ str_bytes e.name → kind_of e.kind ≡ value_kind → e.what ≡ what.Scheme n →
-    R nodes V n.0 sc → SchemeFits nodes V n.0 sc → ((u : ℕ) → IsFreeVar nodes u → occurs u (J n.0) ≡ true → IsKnown (V u)) →
-    Stands R D X nodes J C V env E → Stands R D X nodes J (n.0 ∷ C) V (e ∷ env) (entry x at (a_value sc) ∷ E)
-stands_named R D X nodes J V C env E own loose e x at n sc named kind is r fits known s = record {
+    IsOwn nodes J → (e : Entry) (x : Name) (at : rules.Place) (n : NodeRef) (sc : Scheme) → x ≡ str_bytes e.name → kind_of e.kind ≡ value_kind → e.what ≡ what.Scheme n →
+    R nodes V n.0 sc → FreeAlike nodes V n.0 sc → Stands R D X nodes J C V env E → Stands R D X nodes J (n.0 ∷ C) V (e ∷ env) (entry x at (a_value sc) ∷ E)
+stands_named R D X nodes J V C env E own e x at n sc named kind is r frees s = record {
   names = newest (entry_as named (sym kind) (of_value is (r, (zero, refl))))
       (env_map (λ r sc. R nodes V r sc × IsIn C r) (λ r sc. R nodes V r sc × IsIn (n.0 ∷ C) r) D D X X (λ r sc h. (h.0, more_in C n.0 r h.1)) (λ d e h. h) (λ c o h. h) s.names);
   brings = λ u w free h o. elim (or_cases (occurs u (J n.0)) (stands_in_any J C u) h) [
     | inr i ↦ or_right (free_in_scheme w sc) (free_in w E) (s.brings u w free i o)
-    | inl i ↦ or_left (free_in_scheme w sc) (free_in w E)
-        (free_if_kept w sc (ap (occurs w) fits.body ∙ stands_after nodes J V own loose n.0 u w i o) (fits.kept u w free (own.stands n.0 u fits.inside i) o))
+    | inl i ↦ or_left (free_in_scheme w sc) (free_in w E) (frees.each u w free (own.stands n.0 u frees.inside i) o)
   ];
-  known = λ u free h. elim (or_cases (occurs u (J n.0)) (stands_in_any J C u) h) [ inl i ↦ known u free i | inr i ↦ s.known u free i ];
 }
 
--- a node in which no bound variable stands, as a scheme that binds nothing
-pub one_type_fits : (nodes : List Node) (V : Types) (n : ℕ) → n < length nodes → SchemeFits nodes V n (monomorphic (V n))
-one_type_fits nodes V n lt = record { inside = lt; body = refl; kept = λ u w free stands o. refl }
+-- a node in which no bound variable stands and whose type is known, as a scheme that binds nothing
+pub one_type_fits : (nodes : List Node) (J V : Types) (n : ℕ) → IsOwn nodes J → Loose nodes V → n < length nodes → IsKnown (V n) → SchemeFits nodes V n (monomorphic (V n))
+one_type_fits nodes J V n own loose lt known = type_fits nodes J V n (monomorphic (V n)) own loose lt known refl (λ u w free stands o. refl)
 
-pub one_type_reads : (nodes : List Node) (J V : Types) (n : ℕ) → IsOwn nodes J → n < length nodes → ((v : ℕ) → occurs v (J n) ≡ true → IsFreeVar nodes v) → SchemeReads nodes V n (monomorphic (V n))
-one_type_reads nodes J V n own lt free = record {
-  fits = one_type_fits nodes V n lt;
-  own = λ b h stands.
-      let (scope, e) = bound_cell nodes b h in
-      let f = free b (stands_occurs nodes J b n own.loose (own.vars b bound_level scope e) stands) in
-      absurd (f.free (same_node nodes b f.level f.scope bound_level scope f.at e));
-}
-
--- a variable in one of two lists of nodes
-any_append : (u : ℕ) (J : Types) (C W : List ℕ) → stands_in_any J (C ++ W) u ≡ true → (stands_in_any J C u ≡ true) ⊎ (stands_in_any J W u ≡ true)
-any_append u J [] W h = inr h
-any_append u J (c ∷ C) W h = elim (or_cases (occurs u (J c)) (stands_in_any J (C ++ W) u) h) [
-  | inl i ↦ inl (or_left (occurs u (J c)) (stands_in_any J C u) i)
-  | inr i ↦ elim (any_append u J C W i) [ inl j ↦ inl (or_right (occurs u (J c)) (stands_in_any J C u) j) | inr j ↦ inr j ]
-]
-
--- what an environment, the written types W and what is held fix
-pub fixes_of : (R : List Node → Types → ℕ → Scheme → Type 0) (D : Declaration → rules.Declaration → Type 0) (X : Constructor → Option Typ → Type 0) (nodes : List Node) (J V : Types) (C W K : List ℕ) (env : List Entry) (E : Environment) (held : List Typ) →
-    Stands R D X nodes J C V env E → ((u w : ℕ) → stands_in_any J W u ≡ true → occurs w (V u) ≡ true → occurs_in w held ≡ true) → ((u w : ℕ) → stands_in_any J K u ≡ true → occurs w (V u) ≡ true → occurs_in w held ≡ true) →
-    Fixes nodes J V (C ++ W) K E held
-fixes_of R D X nodes J V C W K env E held s written kept = record {
-  roots = λ u w free h o. elim (any_append u J C W h) [ inl i ↦ or_left (free_in w E) (occurs_in w held) (s.brings u w free i o) | inr i ↦ or_right (free_in w E) (occurs_in w held) (written u w i o) ];
-  extra = λ u w free h o. or_right (free_in w E) (occurs_in w held) (kept u w h o);
-}
+-- and at each reading
+pub one_type_reads : (nodes : List Node) (J V : Types) (n : ℕ) → IsOwn nodes J → IsReading nodes V → n < length nodes → IsKnown (V n) → ((v : ℕ) → occurs v (J n) ≡ true → IsFreeVar nodes v) → SchemeReads nodes V n (monomorphic (V n))
+one_type_reads nodes J V n own reads lt known free = type_reads nodes J V n (monomorphic (V n)) own (fits_loosely nodes V reads.fits) lt known refl (λ u w open_here stands o. refl) reads (λ b h stands.
+    let (scope, e) = bound_cell nodes b h in
+    let f = free b (stands_occurs nodes J b n own.loose (own.vars b bound_level scope e) stands) in
+    absurd (f.free (same_node nodes b f.level f.scope bound_level scope f.at e)))
 
 -- at a reading no bound variable is free in the environment
-pub none_free : (D : Declaration → rules.Declaration → Type 0) (X : Constructor → Option Typ → Type 0) (nodes : List Node) (J V : Types) (C : List ℕ) (env : List Entry) (E : Environment) → IsOwn nodes J → IsReading nodes V →
-    Stands SchemeReads D X nodes J C V env E → (b : ℕ) → is_bound nodes b ≡ true → free_in b E ≡ false
-none_free D X nodes J V C env E own reads s b bound = by (free_in b E) refl
+pub none_free : (D : Declaration → rules.Declaration → Type 0) (X : Constructor → Option Typ → Type 0) (nodes : List Node) (J V : Types) (C : List ℕ) (env : List Entry) (E : Environment) → Stands SchemeReads D X nodes J C V env E →
+    (b : ℕ) → is_bound nodes b ≡ true → free_in b E ≡ false
+none_free D X nodes J V C env E s b bound = by (free_in b E) refl
   where
-    never : (r : ℕ) (sc : Scheme) → SchemeReads nodes V r sc × IsIn C r → free_in_scheme b sc ≡ true → ⊥
-    never r sc h t =
-        let p = and_cases (occurs b sc.body) (not (sc.bound b)) t in
-        let o = bound_stands nodes J V own reads r b h.0.fits.inside bound (ap (occurs b) (sym h.0.fits.body) ∙ p.0) in
-        no_yes (sym (ap not (h.0.own b bound o)) ∙ p.1)
-
     by : (t : Bool) → free_in b E ≡ t → free_in b E ≡ false
     by false e = e
-    by true e = absurd (env_free (λ r sc. SchemeReads nodes V r sc × IsIn C r) D X b ⊥ never s.names e)
+    by true e = absurd (env_free (λ r sc. SchemeReads nodes V r sc × IsIn C r) D X b ⊥ (λ r sc h t. no_yes (sym (h.0.none b bound) ∙ t)) s.names e)

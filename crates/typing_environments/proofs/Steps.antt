@@ -1,4 +1,4 @@
--- What a part does to variables, of its steps one after another, and of unification.
+-- What steps do to variables: none, one after another, unification, and new nodes.
 use Rattle.std.proofs.Common.{◌≡◌, ◌≢◌, ℕ, ◌<◌, ◌≤◌, Bool, true, false, List, [], ◌∷◌, length, Some, refl, sym, ◌∙◌, ap, subst, arith, ◌⊎◌, inl, inr}
 use Rattle.std.specs.Prelude.{slice_get}
 use Rattle.std.proofs.lemmas.Bool.{eqb-true}
@@ -15,10 +15,12 @@ use Rattle.typing_laws.proofs.Bools.{no_yes}
 use Rattle.typing_environments.specs.Locals.{IsVar, IsFreeVar, IsOwn, stands_in_any, IsRegion, Within, Refines, Local}
 use Rattle.typing_environments.proofs.Regions.{any_in, in_any, region, region_is, region_var}
 
+-- a test holds or fails
 pub true_or_false : (b : Bool) → (b ≡ true) ⊎ (b ≡ false)
 true_or_false true = inl refl
 true_or_false false = inr refl
 
+-- a node has one level
 pub same_node : (nodes : List Node) (n l o l' o' : ℕ) → slice_get nodes n ≡ Some (Var l o) → slice_get nodes n ≡ Some (Var l' o') → l ≡ l'
 same_node nodes n l o l' o' e f = let g : Var l o ≡ Var l' o' = one_element (Var l o) (Var l' o') (slice_get nodes n) e f in cc
 
@@ -26,10 +28,11 @@ same_node nodes n l o l' o' e f = let g : Var l o ≡ Var l' o' = one_element (V
 pub stands_after : (mid : List Node) (J K : Types) → IsOwn mid J → Loose mid K → (n m u : ℕ) → occurs m (J n) ≡ true → occurs u (K m) ≡ true → occurs u (K n) ≡ true
 stands_after mid J K own loose n m u p q = ap (occurs u) (own.comes K loose n) ∙ occurs_put K m u (J n) p q
 
+-- and what stands in K stands in something in J
 pub stands_before : (mid : List Node) (J K : Types) → IsOwn mid J → Loose mid K → (n u : ℕ) → occurs u (K n) ≡ true → (m : ℕ) × (occurs m (J n) ≡ true) × (occurs u (K m) ≡ true)
 stands_before mid J K own loose n u o = occurs_from K u (J n) (ap (occurs u) (sym (own.comes K loose n)) ∙ o)
 
--- no step refines
+-- where nothing is done types are refined
 pub refines_none : (nodes : List Node) (I : Types) → IsOwn nodes I → Refines nodes nodes I
 refines_none nodes I own = record {
   longer = omega arith;
@@ -41,7 +44,7 @@ refines_none nodes I own = record {
       let t : l' ≡ l = same_node nodes m l' o' l o (ap (slice_get nodes) (sym s) ∙ e') e in omega arith;
 }
 
--- one step after another refines
+-- one refinement after another
 pub refines_then : (old mid new : List Node) (J K : Types) → IsOwn mid J → IsOwn new K → Refines old mid J → Refines mid new K → Refines old new K
 refines_then old mid new J K between after one two = record {
   longer = let l = one.longer in let l' = two.longer in omega arith;
@@ -55,7 +58,7 @@ refines_then old mid new J K between after one two = record {
       let b = two.falls w v.level v.scope u l' o' v.at v.free e' q in omega arith;
 }
 
--- no step
+-- where nothing is done nothing is touched
 pub local_none : (nodes : List Node) (I : Types) (C : List ℕ) (H : ℕ → List ℕ) (level : ℕ) → IsOwn nodes I → Local nodes nodes I I C H level
 local_none nodes I C H level own = record {
   refines = refines_none nodes I own;
@@ -92,6 +95,7 @@ module _ (old mid new : List Node) (I J K : Types) (C D : List ℕ) (H H' : ℕ 
       let a = in_any m J (H k) h in
       more k u lt (any_in u K (H k) a.place a.node a.at (stands_after mid J K between mid_loose a.node m u a.occurs o))
 
+  -- what two parts touch, one after the other
   pub local_then : Local old new I K C H' level
   local_then = record {
     refines = refines_then old mid new J K between after one.refines two.refines;
@@ -139,6 +143,7 @@ module _ (old new : List Node) (I J : Types) (a b level : ℕ) (before : IsOwn o
         record { level = f.level; scope = f.scope; at = ap (slice_get new) s ∙ e; free = f.free }
   ]
 
+  -- making two nodes one refines types
   pub refines_unified : Refines old new J
   refines_unified = record {
     longer = let e = u.len in omega arith;
@@ -151,6 +156,7 @@ module _ (old new : List Node) (I J : Types) (a b level : ℕ) (before : IsOwn o
         (u.level_least v l' o' e' (λ x. g.free (sym s ∙ x))).bound m l o e f (after.stands m v (inside m (record { level = l; scope = o; at = e })) h);
   }
 
+  -- and touches only what stands in the two
   pub local_unified : Local old new I J roots (λ k. []) level
   local_unified = record {
     refines = refines_unified;
@@ -179,10 +185,11 @@ pub record Grows (old new : List Node) : Type 0 where
   pub longer : length old ≤ length new
   pub node : (n : ℕ) → n < length old → slice_get new n ≡ slice_get old n
 
+-- a number is below a bound or not
 pub old_or_new : (n k : ℕ) → (n < k) ⊎ (k ≤ n)
 old_or_new n k = grind arith
 
--- New nodes refine.
+-- New nodes, where those of before are as they were.
 module _ (old new : List Node) (J : Types) (after : IsOwn new J) (grows : Grows old new) where
   stays : (n : ℕ) (c : Node) → slice_get old n ≡ Some c → slice_get new n ≡ Some c
   stays n c e = grows.node n (slice_get_within old n c e) ∙ e
@@ -190,6 +197,7 @@ module _ (old new : List Node) (J : Types) (after : IsOwn new J) (grows : Grows 
   itself : (m u l o : ℕ) → slice_get old m ≡ Some (Var l o) → occurs u (J m) ≡ true → u ≡ m
   itself m u l o e h = eqb-true u m (ap (occurs u) (sym (after.vars m l o (stays m (Var l o) e))) ∙ h)
 
+  -- where the nodes of before are as they were types are refined
   pub refines_made : Refines old new J
   refines_made = record {
     longer = grows.longer;
@@ -205,6 +213,7 @@ module _ (old new : List Node) (J : Types) (after : IsOwn new J) (grows : Grows 
 module _ (old new : List Node) (I J : Types) (C : List ℕ) (H : ℕ → List ℕ) (level : ℕ) (before : IsOwn old I) (after : IsOwn new J) (grows : Grows old new)
     (parts_in : (F : ℕ → Bool) → IsRegion old C F → IsClosed new F)
     (vars : (k u l o : ℕ) → k < level → length old ≤ u → slice_get new u ≡ Some (Var l o) → l ≢ bound_level → l ≤ k → stands_in_any J (H k) u ≡ true) where
+  -- only what stands in the roots is touched
   pub local_made : Local old new I J C H level
   local_made = record {
     refines = refines_made old new J after grows;

@@ -4,7 +4,6 @@ use Rattle.type_model.specs.Types.{Typ, occurs}
 use Rattle.type_model.specs.Schemes.{Scheme}
 use Rattle.signature_model.specs.Declarations as rules
 use Rattle.signature_model.specs.Entries.{Environment, free_in}
-use Rattle.signature_model.specs.Matching.{IsKnown}
 use Rattle.type_nodes.specs.Nodes.{Node}
 use Rattle.type_nodes.specs.Readings.{Types}
 use Rattle.env_table.specs.declared.entries.Constructor.{Constructor}
@@ -22,9 +21,8 @@ abbrev pub Covers : (D : Declaration → rules.Declaration → Type 0) → (X : 
 Covers D X C env = (E : Environment) × EnvAs (λ r sc. IsIn C r) D X env E
 
 -- Its names stand for those of the definitions, schemes by R (`SchemeReads` at a reading, `SchemeFits` under types that fit); the
--- roots are among C. What a free variable that stands in C reads as has only variables that are free in the environment, and is known.
+-- roots are among C. What a free variable that stands in C reads as has only variables that are free in the environment.
 pub record Stands (R : List Node → Types → ℕ → Scheme → Type 0) (D : Declaration → rules.Declaration → Type 0) (X : Constructor → Option Typ → Type 0)
     (nodes : List Node) (J : Types) (C : List ℕ) (V : Types) (env : List Entry) (E : Environment) : Type 0 where
   pub names : EnvAs (λ r sc. R nodes V r sc × IsIn C r) D X env E
   pub brings : (u w : ℕ) → IsFreeVar nodes u → stands_in_any J C u ≡ true → occurs w (V u) ≡ true → free_in w E ≡ true
-  pub known : (u : ℕ) → IsFreeVar nodes u → stands_in_any J C u ≡ true → IsKnown (V u)
