@@ -11,7 +11,7 @@ use Rattle.typing_model.specs.Demands.{Site, Word, Condition}
 use Rattle.typing_model.specs.Contexts.{Context}
 use Rattle.typing_model.specs.Names.{names_of, referent_of, then_by, scheme_in}
 use Rattle.type_terms.specs.declared.types.NodeRef.{NodeRef}
-use Rattle.type_nodes.specs.Nodes.{IsSound, IsNode, IsPlain}
+use Rattle.type_nodes.specs.Nodes.{IsSound, IsNode}
 use Rattle.level_unify.specs.Instances.{Instantiated}
 use Rattle.env_table.specs.declared.entries.Constructor.{Constructor}
 use Rattle.env_table.specs.declared.entries.Declaration.{Declaration}
@@ -29,7 +29,7 @@ use Rattle.typing_environments.proofs.Own.{own_of}
 use Rattle.typing_environments.proofs.Environments.{ComesTo, to_entry, to_hole, to_nothing, lookup_alike}
 use Rattle.typing_conditions.specs.Sights.{Key, value_of, Letters, IsKnownFor}
 use Rattle.typing_conditions.specs.Frames.{Frame}
-use Rattle.typing_conditions.specs.Judging.{AreKept}
+use Rattle.typing_conditions.specs.Judging.{judged_at, AreKept}
 use Rattle.typing_conditions.specs.Carrying.{Scope, CarriedTo}
 use Rattle.typing_conditions.specs.Surroundings.{Declared, Surrounds}
 use Rattle.typing_conditions.proofs.Branching.{carried_then}
@@ -58,17 +58,17 @@ module _ (a b d : Parts) {D : Declared} {F : Frame} {scope : Scope} {G : Letters
   judged = bound_asked a b given called qs t kind.Value w s l.names l.aloud l.bound
 
   kept_as : (c : Context) (v : Bool) → is_found_here (found_at env qs kind.Value t) ≡ v → AreKept c.kept judged.carried.judged → c.kept s ≡ v
-  kept_as c v e h = let k : AreKept c.kept ((s, is_found_here (found_at env qs kind.Value t), false) ∷ []) = subst (AreKept c.kept) judged.verdict h in k.0 ∙ e
+  kept_as c v e h = let k : AreKept c.kept (judged_at s (is_found_here (found_at env qs kind.Value t)) false ∷ []) = subst (AreKept c.kept) judged.verdict h in k.0 ∙ e
 
   names_there : Surrounds D F (sight b) G env scope
   names_there = surrounds_on judged.carried.stays l.names
 
   -- The path finds an entry with a root: the name's type is an instance.
-  pub value_found : {entry : Entry} {root : NodeRef} {m : ℕ} → found_at env qs kind.Value t ≡ an_entry entry → entry.what ≡ what.Scheme root → IsPlain b.store.nodes → IsSound d.store.nodes →
+  pub value_found : {entry : Entry} {root : NodeRef} {m : ℕ} → found_at env qs kind.Value t ≡ an_entry entry → entry.what ≡ what.Scheme root → IsSound d.store.nodes →
       (IsNode b.store.nodes root.0 → Instantiated b.store.nodes d.store.nodes root.0 (level_for b.level) m) → OnlyStore b d →
       CarriedTo F scope (λ c. value_used_as c s w qs t (value_of c.chosen key)) (sight a) G (sight d) ((key, m) ∷ G) (λ ch. value_of ch key) m
-  value_found finds is plain sound taken rest =
-      let q = instance_used b d (names_of qs) t.name key free names_there finds is plain sound taken rest in
+  value_found finds is sound taken rest =
+      let q = instance_used b d (names_of qs) t.name key free names_there finds is sound taken rest in
       record {
         carried = carried_then judged.carried (λ c h. ap (λ k. used_if (if k then scheme_found c.env (names_of qs) t.name else None) (value_of c.chosen key)) (kept_as c true (ap is_found_here finds) h)) q.carried;
         means = q.means;

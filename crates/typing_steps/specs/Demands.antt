@@ -18,12 +18,13 @@ use Rattle.typing_state.specs.Goes.{faults_of, OnlyFaults, Told}
 use Rattle.typing_state.specs.Steps.{place_without_point}
 use Rattle.typing_conditions.specs.Sights.{Sight, Letters}
 use Rattle.typing_conditions.specs.Frames.{Frame}
+use Rattle.typing_conditions.specs.Judging.{judged_at}
 use Rattle.typing_conditions.specs.Carrying.{Asks, Scope, Carried}
 
 -- conditions with one demand are carried, and the demand is judged so
 pub record JudgedAs (F : Frame) (scope : Scope) (asks : Asks) (a : Sight) (G : Letters) (b : Sight) (H : Letters) (s : Site) (v : Bool) : Type 0 where
   pub carried : Carried F scope asks a G b H
-  pub verdict : carried.judged ≡ (s, v, false) ∷ []
+  pub verdict : carried.judged ≡ judged_at s v false ∷ []
 
 -- whether a verdict is that a demand is kept
 abbrev pub is_kept : Verdict → Bool
