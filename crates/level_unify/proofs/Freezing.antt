@@ -14,7 +14,7 @@ use Rattle.level_unify.specs.Copies.{image, Copied}
 use Rattle.level_unify.specs.Instances.{is_bound, IsVariant, rigid_for, Frozen}
 use Rattle.level_unify.proofs.Unified.{fits_under}
 use Rattle.level_unify.proofs.Variants.{bound_cell, free_there, reading_variant}
-use Rattle.level_unify.proofs.Instances.{bound_made, bound_copied, under_before, reading_before, extended, at_old, made_var, copies_once, copy_in, copy_unbound}
+use Rattle.level_unify.proofs.Instances.{bound_made, bound_copied, under_before, reading_before, extended, at_old, made_var, copies_once, copy_within, copy_in, copy_unbound}
 use Rattle.level_unify.proofs.Instancing.{for_bound, on_bound, on_free, general, general_bound, general_variant, bound_image, after_fits, after_reads, extended_reads, extended_under}
 
 rigid_no_var : (l o : ℕ) → Rigid ≡ Var l o → ⊥
@@ -32,6 +32,7 @@ frozen old new r m' c = record {
   inside = copy_in old new Rigid r m' c;
   extends = c.copied.extends;
   copies = copies_once old new Rigid r m' c;
+  within = copy_within old new Rigid r m' c refl;
   unbound = copy_unbound old new Rigid r m' c refl (λ l o e. absurd (rigid_no_var l o e));
   image = image old c.table;
   made = λ b bound stands.

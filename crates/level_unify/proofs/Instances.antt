@@ -12,7 +12,7 @@ use Rattle.level_unify.specs.Walks.{StandsIn}
 use Rattle.level_unify.specs.Solutions.{Loose, FitsLoosely, HaveNoBound}
 use Rattle.level_unify.specs.Limits.{FitsUnder}
 use Rattle.level_unify.specs.Copies.{Table, image, with_parts, IsBoundVar, IsCopy, Extends, Copied, IsShared}
-use Rattle.level_unify.specs.Instances.{is_bound, IsVariant, CopiesOnce}
+use Rattle.level_unify.specs.Instances.{is_bound, IsVariant, CopiesOnce, StaysInside}
 use Rattle.level_unify.proofs.Images.{parts_map}
 use Rattle.level_unify.proofs.Steps.{cell_at}
 use Rattle.level_unify.proofs.Solving.{loose_root}
@@ -448,3 +448,33 @@ copy_unbound old new made r m' c leaf free_made = record {
 
     old_free : (n l o : ℕ) → n < length old → F n ≡ true → slice_get old n ≡ Some (Var l o) → l ≢ bound_level
     old_free n l o lt has e b = (shared n (Var l o) lt has e tt).0 b
+
+-- what stands in r, and all that was made, stays among itself
+pub copy_within : (old new : List Node) (made : Node) (r m' : ℕ) (c : Copied old new made r m') → parts made ≡ [] → StaysInside old new r m'
+copy_within old new made r m' c leaf F closed has rest = (
+  record { each = λ n x h e. elim (old_or_new n (length old)) [ inl lt ↦ closed.each n x h (sym (c.copied.extends.node n lt) ∙ e) | inr le ↦ of_new n x le e ] },
+  subst (λ j. F j ≡ true) (sym c.is) (image_in r has),
+)
+  where
+    of_table : (p : ℕ) → F p ≡ true → (o : Option ℕ) → c.table (root old p) ≡ o → F (unwrap_or o (root old p)) ≡ true
+    of_table p h None e = closed_root old F closed p h
+    of_table p h (Some q) e = rest q (c.copied.sources (root old p) q e).0
+
+    image_in : (p : ℕ) → F p ≡ true → F (image old c.table p) ≡ true
+    image_in p h = of_table p h (c.table (root old p)) refl
+
+    all_images : (ps : List ℕ) → All (λ p. F p ≡ true) ps → All (λ p. F p ≡ true) (map (image old c.table) ps)
+    all_images [] h k d lt = absurd (omega arith)
+    all_images (p ∷ ps) h zero d lt = image_in p (h zero zero (omega arith))
+    all_images (p ∷ ps) h (suc k) d lt = all_images ps (λ j z l. h (suc j) z (omega arith)) k d (omega arith)
+
+    of_copy : (n : ℕ) (a : CopyAt old new made c.found c.table (c.copied.source n) n) → IsCopy old c.table made a.node a.copy → All (λ p. F p ≡ true) (parts a.copy)
+    of_copy n a (inl (b, same)) = subst (λ ps. All (λ p. F p ≡ true) ps) (sym (ap parts same ∙ leaf)) (λ k d lt. absurd (omega arith))
+    of_copy n a (inr (is, _, same)) =
+        subst (λ ps. All (λ p. F p ≡ true) ps) (sym (ap parts same ∙ parts_map (image old c.table) a.node))
+        (all_images (parts a.node) (closed.each (c.copied.source n) a.node ((c.reached.roots a.place (c.copied.source n) a.listed).2.each F closed has) a.node_at))
+
+    of_new : (n : ℕ) (x : Node) → length old ≤ n → slice_get new n ≡ Some x → All (λ p. F p ≡ true) (parts x)
+    of_new n x le e =
+        let a = made_at old new made r m' c n le (slice_get_within new n x e) in
+        subst (λ y. All (λ p. F p ≡ true) (parts y)) (one_element a.copy x (slice_get new n) a.copy_at e) (of_copy n a a.is)

@@ -22,7 +22,7 @@ use Rattle.level_unify.specs.Copies.{image, Copied}
 use Rattle.level_unify.specs.Instances.{is_bound, HasNoBoundVar, IsVariant, KeepsLevel, Instantiated, scheme_at}
 use Rattle.level_unify.proofs.Unified.{fits_loosely, fits_under, under_fits, apart_within}
 use Rattle.level_unify.proofs.Variants.{bound_cell, bound_there, loose_apply, reading_variant, stands_occurs}
-use Rattle.level_unify.proofs.Instances.{var_root, free_uncopied, bound_made, bound_copied, image_none, image_some, copy_typed, under_before, reading_before, extended, at_old, at_new, extended_loose, extended_copy, made_var, copies_once, copy_in, copy_unbound, old_or_new}
+use Rattle.level_unify.proofs.Instances.{var_root, free_uncopied, bound_made, bound_copied, image_none, image_some, copy_typed, under_before, reading_before, extended, at_old, at_new, extended_loose, extended_copy, made_var, copies_once, copy_within, copy_in, copy_unbound, old_or_new}
 
 -- a scope that limits nothing has every origin in it
 everything_in : (o : Path) → in_scope no_scope o ≡ true
@@ -159,6 +159,7 @@ instantiated old new r level m' lt c = record {
   inside = copy_in old new (Var level no_scope) r m' c;
   extends = c.copied.extends;
   copies = copies_once old new (Var level no_scope) r m' c;
+  within = copy_within old new (Var level no_scope) r m' c refl;
   unbound = unbound;
   vars = λ n l o le e. same_level level l o (made_var old new (Var level no_scope) r m' c n l o le e).0;
   reads = λ V reads.

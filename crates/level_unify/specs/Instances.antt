@@ -6,7 +6,7 @@ use Rattle.type_model.specs.Substitutions.{Subst, apply}
 use Rattle.type_model.specs.Schemes.{Scheme, HasInstance}
 use Rattle.type_model.specs.Origins.{rigid}
 use Rattle.type_model.specs.Limits.{no_scope, IsUnder}
-use Rattle.type_nodes.specs.Nodes.{Node, Var, Rigid, Link, Arrow, Tuple, Con, bound_level}
+use Rattle.type_nodes.specs.Nodes.{Node, Var, Rigid, Link, Arrow, Tuple, Con, bound_level, IsClosed}
 use Rattle.type_nodes.specs.Readings.{Types, IsReading}
 use Rattle.level_unify.specs.Walks.{StandsIn}
 use Rattle.level_unify.specs.Solutions.{Loose, HaveNoBound}
@@ -55,6 +55,10 @@ pub record CopiesOnce (old new : List Node) (r : ℕ) : Type 0 where
   pub bound : (m : ℕ) → length old ≤ m → m < length new → (b : ℕ) × (is_bound old b ≡ true) × StandsIn old b (source m)
   pub once : (m m' : ℕ) → length old ≤ m → m < length new → length old ≤ m' → m' < length new → source m ≡ source m' → m ≡ m'
 
+-- What stands in r, and all that was made, has the parts of its nodes, and has the copy.
+abbrev pub StaysInside : (old new : List Node) → (r m : ℕ) → Type 0
+StaysInside old new r m = (F : ℕ → Bool) → IsClosed old F → F r ≡ true → ((n : ℕ) → length old ≤ n → F n ≡ true) → IsClosed new F × (F m ≡ true)
+
 -- m is an instance of r with new variables of this level, and no bound variable stands in it: it has, at each reading, exactly the
 -- instances of r's type in which no variable is bound; and where types keep to the levels of variables, those whose new types keep
 -- to this one.
@@ -62,6 +66,7 @@ pub record Instantiated (old new : List Node) (r level m : ℕ) : Type 0 where
   pub inside : m < length new
   pub extends : Extends old new
   pub copies : CopiesOnce old new r
+  pub within : StaysInside old new r m
   pub unbound : HaveNoBound new m m
   pub vars : (n l o : ℕ) → length old ≤ n → slice_get new n ≡ Some (Var l o) → (l ≡ level) × (o ≡ no_scope)
   pub reads : (V : Types) → IsReading new V → IsReading old V × HasInstance (scheme_at old V r) (V m) × HasNoBoundVar old (V m)
@@ -82,6 +87,7 @@ pub record Frozen (old new : List Node) (r m : ℕ) : Type 0 where
   pub inside : m < length new
   pub extends : Extends old new
   pub copies : CopiesOnce old new r
+  pub within : StaysInside old new r m
   pub unbound : HaveNoBound new m m
   pub image : ℕ → ℕ
   pub made : (b : ℕ) → is_bound old b ≡ true → StandsIn old b r → (length old ≤ image b) × (slice_get new (image b) ≡ Some Rigid)

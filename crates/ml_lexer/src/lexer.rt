@@ -164,6 +164,7 @@ pub fn lex_all<C: Counts>(
     ensures few { IfOk result (λ v. length v.items ≤ length (left.now ++ right.now)) }
     ensures within { IfOk result (λ v. AllWithin (length (left.now ++ right.now)) (map tok_of v.items)) }
     ensures grows { Grows (C.tallies counts.old) (C.tallies counts.new) }
+    ensures untyped { (C.tallies counts.new).typed ≡ (C.tallies counts.old).typed }
 {
     let mut tokens = Vec::new(alloc);
     let mut at: u32 = 0;

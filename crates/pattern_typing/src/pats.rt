@@ -86,38 +86,40 @@ fn exception_name(alloc: Global, entry: &Entry) -> Result<RcStr, NoMemory> {
     }
 }
 
-/// A constructor that a path names, over its argument. One in a module that isn't known is told by its spelling, and so is one of
-/// an exception by its entry: these are never all of their type.
+/// Whether a declaration with constructors or labels re-exports a type that isn't known: it makes no origin, and its type has none.
+fn is_of_unknown_type(declaration: &Declaration) -> bool {
+    declaration.origin.is_none() && declaration.defines.is_none()
+}
+
+/// A constructor that a path names, over its argument. One of an exception is distinguished by its entry, and never makes up all of
+/// its type. None where it is in a module that isn't known, or re-exports a type that isn't known.
 fn constructor(
     at: &Parts,
     env: &Env,
     path: &WrittenPath<'_>,
     last: &Token,
     parts: Vec<Pat>,
-) -> Result<Pat, NoMemory> {
+) -> Result<Option<Pat>, NoMemory> {
     let alloc = at.alloc();
     let named = path_of(alloc, path, last)?;
-    if let Found::Entry(entry) = env.lookup(&named, Kind::Constructor) {
-        if let What::Constructor(declaration, _) = &entry.what {
-            if let Shape::Variant(constructors) = &declaration.shape {
-                return Ok(Pat::Con {
-                    all: constructors_of(alloc, constructors)?,
-                    name: last.name.share()?,
-                    parts,
-                });
-            }
-        }
-        return Ok(Pat::Con {
+    let Found::Entry(entry) = env.lookup(&named, Kind::Constructor) else {
+        return Ok(None);
+    };
+    let What::Constructor(declaration, _) = &entry.what else {
+        return Ok(Some(Pat::Con {
             all: owned(alloc, Vec::new(alloc))?,
             name: exception_name(alloc, entry)?,
             parts,
-        });
+        }));
+    };
+    match &declaration.shape {
+        Shape::Variant(constructors) if !is_of_unknown_type(declaration) => Ok(Some(Pat::Con {
+            all: constructors_of(alloc, constructors)?,
+            name: last.name.share()?,
+            parts,
+        })),
+        _ => Ok(None),
     }
-    Ok(Pat::Con {
-        all: owned(alloc, Vec::new(alloc))?,
-        name: last.name.share()?,
-        parts,
-    })
 }
 
 /// The labels of a declaration in braces, the name of the one constructor that a record is.
@@ -137,7 +139,7 @@ fn record_name(alloc: Global, labels: &[Label]) -> Result<RcStr, NoMemory> {
 fn record_of<'a>(env: &'a Env, labels: &[Path]) -> Option<&'a Rc<Declaration>> {
     match env.record_type(labels) {
         Found::Entry(entry) => match &entry.what {
-            What::Label(declaration, _) => Some(declaration),
+            What::Label(declaration, _) if !is_of_unknown_type(declaration) => Some(declaration),
             _ => None,
         },
         _ => None,
@@ -155,7 +157,9 @@ struct Written<'a> {
 /// is memory too.
 const MOST_NODES: u32 = 10_000;
 
-/// The pattern of a row, as rows of a match see it; None where a part is missing. Want of memory where it has over 10,000 nodes.
+/// The pattern of a row, as rows of a match see it. None where no warning may be given of its match: where a part is missing, and
+/// where a constructor, a label or a record is of a module or re-exports a type that isn't known. Want of memory where it has over
+/// 10,000 nodes.
 pub fn row_pat(
     at: &Parts,
     p: Operand<'_>,
@@ -202,7 +206,7 @@ fn named(
     parts: Vec<Pat>,
 ) -> Result<Option<Pat>, NoMemory> {
     match path.last {
-        Some(last) => Ok(Some(constructor(at, env, path, last, parts)?)),
+        Some(last) => constructor(at, env, path, last, parts),
         None => Ok(None),
     }
 }
@@ -219,7 +223,7 @@ fn negative(alloc: Global, node: &Node) -> Result<Option<Pat>, NoMemory> {
     }
 }
 
-/// The patterns that are the parts of a row; None where a part is missing.
+/// The patterns that are the parts of a row; None where one of them is None.
 #[cycle(pats)]
 fn pats_of(
     at: &Parts,
@@ -314,7 +318,7 @@ fn fields_of<'a>(
     Ok(Some(fields))
 }
 
-/// { l = p; _ }: the one constructor of its type, over all labels in the order of the declaration
+/// { l = p; _ }: the one constructor of its type, over all labels in the order of the declaration. None where its type isn't known.
 #[cycle(pats)]
 fn record(
     at: &Parts,
@@ -328,7 +332,7 @@ fn record(
         return Ok(None);
     };
     let Some(declaration) = record_of(env, &paths) else {
-        return Ok(Some(Pat::Any));
+        return Ok(None);
     };
     let mut parts = Vec::new(at.alloc());
     for label in labels_in(declaration) {

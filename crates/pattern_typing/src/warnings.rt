@@ -24,7 +24,7 @@ pub struct Rows {
     rows: Vec<PatRow>,
     /// Where each case stands; it has a row at the same place, unless the match is open.
     spans: Vec<Span>,
-    /// Whether a pattern holds a missing part or a fault, so that no warning is given. It stays open.
+    /// Whether a pattern has a missing part, a fault, or a type that isn't known, so that no warning is given. It stays open.
     is_open: bool,
 }
 

@@ -1,5 +1,5 @@
 -- The answer to a line at a text, and the text behind it.
-use Rattle.std.specs.Prelude.{◌≡◌, ◌≤◌, ◌⊎◌, All, ℕ, List, [], ◌∷◌, length, reverse, filter, filter_map, find, map, ◌&&◌, nat_eq, nat_lt, Bool, true, false, Option, Some, None, option_map, codes, if◌then◌else◌}
+use Rattle.std.specs.Prelude.{◌≡◌, ◌⊎◌, All, ℕ, List, [], ◌∷◌, length, reverse, filter, filter_map, find, map, ◌&&◌, nat_eq, nat_lt, Bool, true, false, Option, Some, None, option_map, codes, if◌then◌else◌}
 use Rattle.text_model.specs.Positions.{offset, position_of}
 use Rattle.text_model.specs.Edits as edit
 use Rattle.token_model.specs.Kinds.{Tok}
@@ -15,16 +15,6 @@ use Rattle.service_model.specs.Replies as said
 use Rattle.service_model.specs.Completions.{CompletedBy}
 use Rattle.service_model.specs.Structure.{OutlineIs, ErrorsAre, items_in}
 use Rattle.service_model.specs.Trials.{AddsNoFault, TrialTells}
-
--- What is proved of a request's piece: the exact bytes, or that it is a reply line.
--- A request that is answered before its answer is proved stands here as `false`.
-abbrev pub is_exact : Asked → Bool
-is_exact a = true
-
--- the piece is the line of what is said, where the exact bytes are proved, or else some reply line
-abbrev pub IsPieceBy : Bool → said.Said → List ℕ → Type 0
-IsPieceBy true s piece = piece ≡ said.line_of s
-IsPieceBy false s piece = said.IsReplyLine piece
 
 -- ---- edits
 
@@ -198,7 +188,7 @@ Replies text (construct at) s after = QueryIs text at (TermsAre text) s after
 
 -- the piece that answers a line, and the text behind it
 abbrev pub Answered : List ℕ → Reading → List ℕ → List ℕ → Type 0
-Answered text (asks a) piece after = (s : said.Said) × Replies text a s after × IsPieceBy (is_exact a) s piece
+Answered text (asks a) piece after = (s : said.Said) × Replies text a s after × (piece ≡ said.line_of s)
 Answered text (refused r) piece after = (piece ≡ said.line_of (said.refused r)) × (after ≡ text)
 
 -- A line is answered with the piece and leaves the text `after`, or memory is short and the text stays.

@@ -1,5 +1,5 @@
 -- Replies, as JSON values and as lines of bytes.
-use Rattle.std.specs.Prelude.{◌≡◌, ◌⊎◌, ℕ, Bool, List, [], ◌∷◌, ◌++◌, codes, map}
+use Rattle.std.specs.Prelude.{ℕ, Bool, List, [], ◌∷◌, ◌++◌, codes, map}
 use Rattle.serde_json.specs.Data.{Data, boolean, number, unsigned, string, array, object, Items, no_items, item, member, no_members}
 use Rattle.serde_json.specs.View.{items_of}
 use Rattle.serde_json.specs.Written.{compact_text}
@@ -195,7 +195,3 @@ line_of s = compact_text (said_data s) ++ 10 ∷ []
 -- the line that stands for want of memory
 abbrev pub memory_line : List ℕ
 memory_line = line_of no_memory
-
--- one line of JSON of class return, failure or error
-abbrev pub IsReplyLine : List ℕ → Type 0
-IsReplyLine piece = (class : List ℕ) × (value : Data) × ((class ≡ codes "return") ⊎ (class ≡ codes "failure") ⊎ (class ≡ codes "error")) × (piece ≡ compact_text (classed class value) ++ 10 ∷ [])

@@ -1,4 +1,6 @@
 //! The names that every text has at hand, as a signature.
+ghost use Rattle.std.specs.Prelude.{◌≡◌};
+ghost use Rattle.typing_model.specs.PreludeText.{prelude_text};
 
 /// The text of the prelude; its lines are counted from 1.
 pub const PRELUDE: &str = "\
@@ -118,3 +120,10 @@ module String : sig\n\
 \x20\x20val concat : string -> string list -> string\n\
 \x20\x20val compare : string -> string -> int\n\
 end\n";
+
+/// The same text, which is that of the definitions, byte for byte.
+pub fn text() -> &'static str
+    ensures { result.now ≡ prelude_text }
+{
+    PRELUDE
+}

@@ -1,8 +1,11 @@
 //! The analysis of a whole text.
+ghost use Rattle.std.specs.Prelude.{◌≡◌, length, OnOk};
 ghost use Rattle.typing_state.specs.Goes.{Goes};
 ghost use Rattle.syntax_tree.specs.Tallies.{Grows};
+ghost use Rattle.typing_model.specs.PreludeText.{prelude_text};
+ghost use Rattle.analysis_api.specs.Typed.{more_typed};
 
-use crate::prelude::PRELUDE;
+use crate::prelude::{PRELUDE, text};
 use crate::weak::weak_variables;
 use analysis_api::{Analyser, Analysis};
 use frame_parser::{Text, parse};
@@ -17,8 +20,10 @@ use typing_state::{Depth, Env, NoMemory, Parts};
 pub struct Typer;
 
 /// The tree of the prelude.
+#[tactic(auto, using(crate::proofs::Counting::shifted_untyped))]
 fn prelude_tree<C: Counts>(alloc: Global, counts: &mut C) -> Result<Tree, NoMemory>
     ensures grows { Grows (C.tallies counts.old) (C.tallies counts.new) }
+    ensures untyped { OnOk result ((C.tallies counts.new).typed ≡ (C.tallies counts.old).typed) }
 {
     let bytes = PRELUDE.as_bytes();
     if bytes.len() > 1_048_576 {
@@ -32,6 +37,7 @@ fn prelude_tree<C: Counts>(alloc: Global, counts: &mut C) -> Result<Tree, NoMemo
 /// The environment behind the prelude, whose items are the item 0.
 fn with_prelude<C: Counts>(at: &mut Parts, counts: &mut C) -> Result<Env, NoMemory>
     ensures grows { Grows (C.tallies counts.old) (C.tallies counts.new) }
+    ensures untyped { OnOk result ((C.tallies counts.new).typed ≡ (C.tallies counts.old).typed) }
     ensures goes { Goes at.old at.new }
 {
     let tree = prelude_tree(at.alloc(), counts)?;
@@ -53,6 +59,7 @@ fn with_items<C: Counts>(
     counts: &mut C,
 ) -> Result<Env, NoMemory>
     ensures grows { Grows (C.tallies counts.old) (C.tallies counts.new) }
+    ensures typed { OnOk result ((C.tallies counts.new).typed ≡ more_typed (length tree.now.items.items) (C.tallies counts.old).typed) }
 {
     let mut scene = Scene::new(at.alloc(), env);
     for (place, item) in tree.items.iter().enumerate() {
@@ -90,7 +97,9 @@ impl Analyser for Typer {
         })
     }
 
-    fn prelude() -> &'static str {
-        PRELUDE
+    fn prelude() -> &'static str
+        ensures { result.now ≡ prelude_text }
+    {
+        text()
     }
 }

@@ -3,7 +3,7 @@ use Rattle.std.proofs.Common.{◌≡◌, ℕ, sym, subst}
 use Rattle.std.specs.Prelude.{All, Result, Ok, Err, IfOk, OnOk, OnErr}
 use Rattle.std.specs.declared.alloc.AllocError.{AllocError}
 use Rattle.type_terms.specs.declared.types.NodeRef.{NodeRef}
-use Rattle.type_nodes.specs.Nodes.{Node, Var, Link, IsNode, Apart, parts}
+use Rattle.type_nodes.specs.Nodes.{Node, Var, Link, IsNode, IsPlainNode, Apart, parts}
 use Rattle.type_nodes.specs.Links.{root, IsNoLink, IsVariable, ReadsAsComposite}
 use Rattle.type_nodes.specs.Readings.{ReadAlike, SameReadings}
 use Rattle.type_nodes.specs.States.{State, IsStore, Keeps}
@@ -18,10 +18,10 @@ Made = Result NodeRef AllocError
 abbrev pub Done : Type 0
 Done = Result (Unit {0}) AllocError
 
-pub made_store : (r : Made) (old new : State) (c : Node) → IsStore old → All (IsNode old.nodes) (parts c) →
+pub made_store : (r : Made) (old new : State) (c : Node) → IsStore old → All (IsNode old.nodes) (parts c) → IsPlainNode c →
     IfOk r (λ n. Added old new n.0 c) → OnErr r (new ≡ old) → IsStore new
-made_store (Ok n) old new c store inside ok err = makes_store old new n.0 c store inside ok
-made_store (Err e) old new c store inside ok err = subst IsStore (sym err) store
+made_store (Ok n) old new c store inside plain ok err = makes_store old new n.0 c store inside plain ok
+made_store (Err e) old new c store inside plain ok err = subst IsStore (sym err) store
 
 pub made_makes : (r : Made) (old new : State) (c : Node) → IsStore old → IsNoLink c →
     IfOk r (λ n. Added old new n.0 c) → IfOk r (λ n. Makes old new n.0 c)

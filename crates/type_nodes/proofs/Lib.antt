@@ -1,4 +1,5 @@
 pub mod Lists
+pub mod Plain
 pub mod Trails
 pub mod Places
 pub mod Ranks

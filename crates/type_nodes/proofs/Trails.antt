@@ -4,10 +4,11 @@ use Rattle.std.specs.Prelude.{slice_get}
 use Rattle.std.proofs.Math.Seq.{take-append_seam}
 use Rattle.undo_trail.specs.Undoing.{all_undone}
 use Rattle.undo_trail.proofs.Undone.{undone-push, undone_in_steps}
-use Rattle.type_nodes.specs.Nodes.{Node, IsSound}
+use Rattle.type_nodes.specs.Nodes.{Node, IsSound, IsPlainNode, IsPlain}
 use Rattle.type_nodes.specs.States.{Change, Made, Was, State, state, undone, state_at, IsStore, Keeps, Restored}
 use Rattle.type_nodes.specs.Changes.{Added, Replaced}
 use Rattle.type_nodes.proofs.Lists.{set-set_back, drop_all, length-snoc, length-take_le, take_whole, take-take}
+use Rattle.type_nodes.proofs.Plain.{added_plain, replaced_plain}
 
 -- undoing the making of a node
 pub undone_added : (nodes : List Node) (c : Node) → undone Made (nodes ++ c ∷ []) ≡ nodes
@@ -28,6 +29,10 @@ state_now s = ap (λ t. all_undone undone t s.nodes) (drop_all (length s.trail) 
 pub sound_now : (s : State) → IsStore s → IsSound s.nodes
 sound_now s h = subst IsSound (state_now s) (h.sound (length s.trail) (omega arith))
 
+-- the present nodes are plain
+pub plain_now : (s : State) → IsStore s → IsPlain s.nodes
+plain_now s h = subst IsPlain (state_now s) (h.plain (length s.trail) (omega arith))
+
 -- one more write, which undoes to the nodes before, keeps the states at the marks before it
 pub pushed_states : (old new : State) (w : Change) → new.trail ≡ old.trail ++ w ∷ [] → undone w new.nodes ≡ old.nodes →
     (mark : ℕ) → mark ≤ length old.trail → state_at new mark ≡ state_at old mark
@@ -44,34 +49,38 @@ pushed_keeps old new w t u = record {
 le_cases : (m n : ℕ) → m ≤ suc n → (m ≤ n) ⊎ (m ≡ suc n)
 le_cases m n h = grind arith
 
--- and leaves a store, where the new nodes are sound
-pub pushed_store : (old new : State) (w : Change) → new.trail ≡ old.trail ++ w ∷ [] → undone w new.nodes ≡ old.nodes → IsStore old → IsSound new.nodes → IsStore new
-pushed_store old new w t u store sound = record { sound = at }
-  where
-    len : length new.trail ≡ suc (length old.trail)
-    len = ap length t ∙ length-snoc old.trail w
+-- what held at the marks before and holds of the new nodes, holds at each mark behind one more write
+pushed_at : (P : List Node → Type 0) (old new : State) (w : Change) → new.trail ≡ old.trail ++ w ∷ [] → undone w new.nodes ≡ old.nodes →
+    ((mark : ℕ) → mark ≤ length old.trail → P (state_at old mark)) → P new.nodes → (mark : ℕ) → mark ≤ length new.trail → P (state_at new mark)
+pushed_at P old new w t u before now mark h =
+    let len : length new.trail ≡ suc (length old.trail) = ap length t ∙ length-snoc old.trail w in
+    elim (le_cases mark (length old.trail) (omega arith)) [
+      | inl le ↦ subst P (sym (pushed_states old new w t u mark le)) (before mark le)
+      | inr eq ↦ subst P (sym (state_now new) ∙ ap (state_at new) (len ∙ sym eq)) now
+    ]
 
-    at : (mark : ℕ) → mark ≤ length new.trail → IsSound (state_at new mark)
-    at mark h =
-        let n = len in
-        elim (le_cases mark (length old.trail) (omega arith)) [
-          | inl le ↦ subst IsSound (sym (pushed_states old new w t u mark le)) (store.sound mark le)
-          | inr eq ↦ subst IsSound (sym (state_now new) ∙ ap (state_at new) (len ∙ sym eq)) sound
-        ]
+-- one more write leaves a store, where the new nodes are sound and plain
+pub pushed_store : (old new : State) (w : Change) → new.trail ≡ old.trail ++ w ∷ [] → undone w new.nodes ≡ old.nodes → IsStore old → IsSound new.nodes → IsPlain new.nodes → IsStore new
+pushed_store old new w t u store sound plain = record {
+  sound = pushed_at IsSound old new w t u store.sound sound;
+  plain = pushed_at IsPlain old new w t u store.plain plain;
+}
 
 pub added_keeps : (old new : State) (n : ℕ) (c : Node) → Added old new n c → Keeps old new
 added_keeps old new n c a = pushed_keeps old new Made a.trail (ap (undone Made) a.nodes ∙ undone_added old.nodes c)
 
-pub added_store : (old new : State) (n : ℕ) (c : Node) → Added old new n c → IsStore old → IsSound (old.nodes ++ c ∷ []) → IsStore new
-added_store old new n c a store sound =
+pub added_store : (old new : State) (n : ℕ) (c : Node) → Added old new n c → IsStore old → IsPlainNode c → IsSound (old.nodes ++ c ∷ []) → IsStore new
+added_store old new n c a store plain sound =
     pushed_store old new Made a.trail (ap (undone Made) a.nodes ∙ undone_added old.nodes c) store (subst IsSound (sym a.nodes) sound)
+    (subst IsPlain (sym a.nodes) (added_plain old.nodes c plain (plain_now old store)))
 
 pub replaced_keeps : (old new : State) (n : ℕ) (c : Node) → Replaced old new n c → Keeps old new
 replaced_keeps old new n c r = pushed_keeps old new (Was n r.before) r.trail (ap (undone (Was n r.before)) r.nodes ∙ undone_replaced old.nodes n r.before c r.was)
 
-pub replaced_store : (old new : State) (n : ℕ) (c : Node) → Replaced old new n c → IsStore old → IsSound (set old.nodes n c) → IsStore new
-replaced_store old new n c r store sound =
+pub replaced_store : (old new : State) (n : ℕ) (c : Node) → Replaced old new n c → IsStore old → IsPlainNode c → IsSound (set old.nodes n c) → IsStore new
+replaced_store old new n c r store plain sound =
     pushed_store old new (Was n r.before) r.trail (ap (undone (Was n r.before)) r.nodes ∙ undone_replaced old.nodes n r.before c r.was) store (subst IsSound (sym r.nodes) sound)
+    (subst IsPlain (sym r.nodes) (replaced_plain old.nodes n r.before c r.was plain (plain_now old store)))
 
 -- nothing written keeps all
 pub keeps_refl : (s : State) → Keeps s s
@@ -94,18 +103,28 @@ restored_at old new mark p q = record {
       (λ i. all_undone undone (drop m (q i)) (p i)) ∙ undone_in_steps undone m mark old.trail old.nodes h;
 }
 
+-- what held at each mark does after undoing to one
+restored_each : (P : List Node → Type 0) (old new : State) (mark : ℕ) → mark ≤ length old.trail → Restored old new mark →
+    ((m : ℕ) → m ≤ length old.trail → P (state_at old m)) → (m : ℕ) → m ≤ length new.trail → P (state_at new m)
+restored_each P old new mark h r before m k =
+    let n : length new.trail ≡ mark = ap length r.trail ∙ length-take_le mark old.trail h in
+    let le : m ≤ mark = omega arith in
+    subst P (sym (r.states m le)) (before m (omega arith))
+
 pub restored_store : (old new : State) (mark : ℕ) → mark ≤ length old.trail → Restored old new mark → IsStore old → IsStore new
 restored_store old new mark h r store = record {
-  sound = λ m k.
-      let n : length new.trail ≡ mark = ap length r.trail ∙ length-take_le mark old.trail h in
-      let le : m ≤ mark = omega arith in
-      subst IsSound (sym (r.states m le)) (store.sound m (omega arith));
+  sound = restored_each IsSound old new mark h r store.sound;
+  plain = restored_each IsPlain old new mark h r store.plain;
 }
 
 -- a store without nodes
 pub empty_store : IsStore (state [] [])
-empty_store = record { sound = λ mark h. at mark h }
+empty_store = record { sound = λ mark h. at mark h; plain = λ mark h. plain_at mark h }
   where
+    plain_at : (mark : ℕ) → mark ≤ 0 → IsPlain (all_undone undone (drop mark []) [])
+    plain_at zero h = record { each = λ n c e. absurd (cc) }
+    plain_at (suc m) h = absurd (omega arith)
+
     at : (mark : ℕ) → mark ≤ 0 → IsSound (all_undone undone (drop mark []) [])
     at zero h = ((λ n. 0), record { each = λ n c e. absurd (cc) })
     at (suc m) h = absurd (omega arith)

@@ -2,7 +2,7 @@
 use Rattle.std.proofs.Common.{◌≡◌, ◌≢◌, ℕ, ◌<◌, Bool, true, false, eqb, List, [], ◌∷◌, ◌++◌, length, set, Some, refl, sym, ◌∙◌, ap, subst, arith, inl, inr}
 use Rattle.std.proofs.lemmas.Bool.{eq-eqb, eqb-true}
 use Rattle.std.specs.Prelude.{slice_get, All}
-use Rattle.type_nodes.specs.Nodes.{Node, Var, Link, parts, IsSound, Apart}
+use Rattle.type_nodes.specs.Nodes.{Node, Var, Link, parts, IsSound, IsPlainNode, Apart}
 use Rattle.type_nodes.specs.Links.{root, reading, IsNoLink, IsFree, IsVariable}
 use Rattle.type_nodes.specs.States.{State, IsStore}
 use Rattle.type_nodes.specs.Changes.{Added, Replaced, Makes, Redirects, Relevels}
@@ -28,8 +28,8 @@ makes old new n c store is a =
           ∙ get-append_left old.nodes (c ∷ []) (root old.nodes m) (root_inside old.nodes sound m lt);
     }
 
-pub makes_store : (old new : State) (n : ℕ) (c : Node) → IsStore old → All (λ m. m < length old.nodes) (parts c) → Added old new n c → IsStore new
-makes_store old new n c store inside a = added_store old new n c a store (added_sound old.nodes c inside (sound_now old store))
+pub makes_store : (old new : State) (n : ℕ) (c : Node) → IsStore old → All (λ m. m < length old.nodes) (parts c) → IsPlainNode c → Added old new n c → IsStore new
+makes_store old new n c store inside plain a = added_store old new n c a store plain (added_sound old.nodes c inside (sound_now old store))
 
 -- a level and a scope that were written are those of the variable, and the others are as before
 pub relevels : (old new : State) (v level scope : ℕ) → IsStore old → IsVariable old.nodes v → Replaced old new (root old.nodes v) (Var level scope) → Relevels old new v level scope
@@ -49,7 +49,7 @@ relevels old new v level scope store var w =
 
 pub relevels_store : (old new : State) (v level scope : ℕ) → IsStore old → Replaced old new (root old.nodes v) (Var level scope) → IsStore new
 relevels_store old new v level scope store w =
-    replaced_store old new (root old.nodes v) (Var level scope) w store (relevelled_sound old.nodes (root old.nodes v) level scope w.before w.was (sound_now old store))
+    replaced_store old new (root old.nodes v) (Var level scope) w store tt (relevelled_sound old.nodes (root old.nodes v) level scope w.before w.was (sound_now old store))
 
 -- a root that was linked to another reads as that, and the others read as before
 pub redirected_is_sound : (old new : State) (a b : ℕ) → IsStore old → b < length old.nodes → Apart old.nodes (root old.nodes a) b →
@@ -90,7 +90,7 @@ redirects old new a b store a_in b_in apart w =
 pub redirects_store : (old new : State) (a b : ℕ) → IsStore old → b < length old.nodes → Apart old.nodes (root old.nodes a) b →
     Replaced old new (root old.nodes a) (Link (root old.nodes b)) → IsStore new
 redirects_store old new a b store b_in apart w =
-    replaced_store old new (root old.nodes a) (Link (root old.nodes b)) w store (redirected_is_sound old new a b store b_in apart w)
+    replaced_store old new (root old.nodes a) (Link (root old.nodes b)) w store tt (redirected_is_sound old new a b store b_in apart w)
 
 -- a node that isn't bound is a variable at its root
 pub free_variable : (nodes : List Node) (v : ℕ) → IsFree nodes v → IsVariable nodes v

@@ -42,6 +42,24 @@ pub record IsRanked (nodes : List Node) (rank : ℕ → ℕ) : Type 0 where
 abbrev pub IsSound : List Node → Type 0
 IsSound nodes = (rank : ℕ → ℕ) × IsRanked nodes rank
 
+-- a path whose first number is less than 2 ^ 64, as that of each origin in code; the paths of rigid variables and of unknown types begin with a greater one
+abbrev pub IsPlainPath : Path → Type 0
+IsPlainPath [] = Unit {0}
+IsPlainPath (k ∷ path) = k < 2 ^ 64
+
+-- not a constructor that models a rigid variable or an unknown type
+abbrev pub IsPlainNode : Node → Type 0
+IsPlainNode (Var level scope) = Unit {0}
+IsPlainNode Rigid = Unit {0}
+IsPlainNode (Link m) = Unit {0}
+IsPlainNode (Arrow a b) = Unit {0}
+IsPlainNode (Tuple ms) = Unit {0}
+IsPlainNode (Con path name ms) = IsPlainPath path
+
+-- no constructor among nodes models a rigid variable or an unknown type
+pub record IsPlain (nodes : List Node) : Type 0 where
+  pub each : (n : ℕ) (c : Node) → slice_get nodes n ≡ Some c → IsPlainNode c
+
 -- a set of nodes that has the parts of its nodes
 pub record IsClosed (nodes : List Node) (A : ℕ → Bool) : Type 0 where
   pub each : (n : ℕ) (c : Node) → A n ≡ true → slice_get nodes n ≡ Some c → All (λ m. A m ≡ true) (parts c)

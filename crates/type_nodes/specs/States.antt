@@ -1,7 +1,7 @@
 -- The store: its nodes and its trail, and the states that the trail leads back to.
 use Rattle.std.specs.Prelude.{◌≡◌, ℕ, ◌-◌, ◌≤◌, List, length, take, drop, slice_set}
 use Rattle.undo_trail.specs.Undoing.{all_undone}
-use Rattle.type_nodes.specs.Nodes.{Node, IsSound}
+use Rattle.type_nodes.specs.Nodes.{Node, IsSound, IsPlain}
 
 -- a write: a node was made, or a node was something else before
 pub data Change : Type 0 where
@@ -26,9 +26,10 @@ undone (Was n c) nodes = slice_set nodes n c
 abbrev pub state_at : State → ℕ → List Node
 state_at s mark = all_undone undone (drop mark s.trail) s.nodes
 
--- at each mark that isn't past the trail no node stands in itself
+-- at each mark that isn't past the trail no node stands in itself, and no constructor models a rigid variable or an unknown type
 pub record IsStore (s : State) : Type 0 where
   pub sound : (mark : ℕ) → mark ≤ length s.trail → IsSound (state_at s mark)
+  pub plain : (mark : ℕ) → mark ≤ length s.trail → IsPlain (state_at s mark)
 
 -- the trail grew, and the states at the marks before stay
 pub record Keeps (old new : State) : Type 0 where

@@ -1,7 +1,7 @@
 //! New nodes.
-ghost use Rattle.std.specs.Prelude.{◌≡◌, ◌<◌, IfOk, OnErr, All};
+ghost use Rattle.std.specs.Prelude.{◌≡◌, ◌<◌, true, IfOk, OnErr, All};
 ghost use Rattle.text_terms.specs.Bytes.{str_bytes};
-ghost use Rattle.type_nodes.specs.Nodes.{Node as plain, IsNode, bound_level};
+ghost use Rattle.type_nodes.specs.Nodes.{Node as plain, IsNode, IsPlainPath, bound_level};
 ghost use Rattle.type_nodes.specs.States.{Keeps};
 ghost use Rattle.type_nodes.specs.Changes.{Makes};
 ghost use Rattle.type_nodes.specs.Views.{numbers};
@@ -15,6 +15,17 @@ fn copied(alloc: Global, nodes: &[NodeRef]) -> Result<Vec<NodeRef>, NoMemory>
     ensures { IfOk result (λ v. v.items ≡ nodes.now) }
 {
     nodes.iter().copied().collect(alloc)
+}
+
+// The number that an origin's path begins with is below those that model rigid variables and unknown types.
+fn is_plain(origin: &Origin) -> bool
+    ensures yes { result ≡ true }
+    ensures plain { IsPlainPath origin.now.path.items }
+{
+    match origin.path.first() {
+        Some(first) => *first <= u64::MAX,
+        None => true,
+    }
 }
 
 // After `NoMemory` the store is as before.
@@ -67,6 +78,7 @@ impl Store {
     {
         let origin = origin.copied(self.alloc)?;
         let args = copied(self.alloc, args)?;
+        prove!(is_plain(&origin));
         self.add(Cell::Con(origin, args))
     }
 }

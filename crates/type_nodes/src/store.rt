@@ -1,6 +1,6 @@
 //! The store.
 ghost use Rattle.std.specs.Prelude.{◌≡◌, ◌≤◌, ◌<◌, [], length, slice_get, All, IfOk, OnOk, OnErr};
-ghost use Rattle.type_nodes.specs.Nodes.{Node, IsNode, IsSound, Apart, parts};
+ghost use Rattle.type_nodes.specs.Nodes.{Node, IsNode, IsSound, IsPlain, IsPlainNode, Apart, parts};
 ghost use Rattle.type_nodes.specs.Links.{root, reading, IsNoLink, IsVariable, ReadsAsComposite};
 ghost use Rattle.type_nodes.specs.Readings.{ReadAlike, SameReadings};
 ghost use Rattle.type_nodes.specs.States.{state, Restored, Keeps};
@@ -68,6 +68,7 @@ impl Store {
     pub(crate) fn add(&mut self, cell: Cell) -> Result<NodeRef, NoMemory>
         requires parts { All (IsNode self.old.nodes) (parts (node_of cell)) }
         requires no_link { IsNoLink (node_of cell) }
+        requires plain { IsPlainNode (node_of cell) }
         ensures made { IfOk result (λ n. Makes self.old self.new n.0 (node_of cell)) }
         ensures failed { OnErr result (self.new ≡ self.old) }
         ensures keeps { Keeps self.old self.new }
@@ -111,6 +112,7 @@ impl Store {
     pub fn len(&self) -> usize
         ensures count { result ≡ length self.now.nodes }
         ensures sound { IsSound self.now.nodes }
+        ensures plain { IsPlain self.now.nodes }
     {
         self.cells.list.len()
     }

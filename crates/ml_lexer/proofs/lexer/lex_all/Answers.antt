@@ -17,6 +17,7 @@ loop-tokens-init g c =
       omega (arith, ap length c.new-tokens.ensures.items),
       subst (λ (l : List Token). AllWithin (length text) (map tok_of l)) (sym c.new-tokens.ensures.items) tt,
       search rules,
+      refl,
     )
 
 pub loop-tokens-preserved : goal.loop-tokens-preserved
@@ -34,6 +35,7 @@ loop-tokens-preserved g c =
       span.2,
       omega (arith, inv.2, span.0, ap length pushed, length-append c.loop-tokens.tokens.items (t ∷ []), one),
       subst (λ (l : List Token). AllWithin (length text) (map tok_of l)) (sym pushed) (within_more (length text) c.loop-tokens.tokens.items t inv.3 (omega (arith, span.1, span.2.0)) span.2.0),
+      search rules,
       search rules,
     )
 

@@ -11,7 +11,7 @@ pub invariant_of-self : goal.invariant_of-self
 invariant_of-self c =
     let inside = subst (λ s. All (IsNode s.nodes) (parts (node_of c.args.cell))) (sym c.self.view_is) c.requires.parts in
     made_store c.make.result (state_of c.self.inside.cells c.self.inside.trail) (state_of c.make.new.cells c.make.new.trail) (node_of c.args.cell) c.self.invariant inside
-    c.make.ensures.made c.make.ensures.failed
+    c.requires.plain c.make.ensures.made c.make.ensures.failed
 
 pub returns-clause-made : goal.returns-clause-made
 returns-clause-made c =

@@ -1,0 +1,2 @@
+-- How many items an analysis types.
+pub mod Typed

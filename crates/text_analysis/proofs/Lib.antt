@@ -1,0 +1,2 @@
+-- Facts on counters.
+pub mod Counting
