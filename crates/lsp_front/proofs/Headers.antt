@@ -1,5 +1,5 @@
 -- Header lines, byte by byte.
-use Rattle.std.proofs.Common.{◌≡◌, ◌∙◌, ◌+◌, ◌-◌, ◌<◌, ◌≤◌, ◌++◌, ◌∷◌, [], refl, sym, ap, ℕ, suc, List, length, take, drop, Bool, true, false, arith, get_or, drop-cons, add-one}
+use Rattle.std.proofs.Common.{◌≡◌, ◌∙◌, ◌+◌, ◌-◌, ◌<◌, ◌≤◌, ◌++◌, ◌∷◌, [], refl, sym, ap, ℕ, List, length, take, drop, Bool, true, false, arith, get_or, drop-cons, add-one}
 use Rattle.std.specs.Prelude.{slice_index, ◌==◌, if◌then◌else◌, Some}
 use Rattle.std.proofs.lemmas.List.{get_or-drop, take_more, length-drop}
 use Rattle.lsp_model.specs.Frames.{Told, block_from, ends_line, with_line}

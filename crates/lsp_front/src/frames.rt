@@ -2,7 +2,7 @@
 ghost use Rattle.std.specs.Prelude.{◌≡◌, ◌+◌, ◌<◌, ◌≤◌, ◌++◌, [], drop, length, option_map, take, IfSome};
 ghost use Rattle.std.specs.List.{list_all};
 ghost use Rattle.lsp_model.specs.Frames.{block_from, ends_line as ends_line_spec, frame, frame_behind, front_run, has_length as has_length_spec, is_blank as is_blank_spec, is_digit as is_digit_spec, length_in, nothing, number_from, number_in, with_line as with_line_spec, with_number as with_number_spec};
-ghost use Rattle.lsp_front.specs.Heads.{block_of as block_view, frame_of as frame_view, told_of};
+ghost use Rattle.lsp_front.specs.Heads.{block_of as block_view, frame_of as frame_view, told_of, IsWithin};
 
 /// How many bytes a block of header lines may have, its empty line among them.
 pub const HEAD_LIMIT: usize = 4096;
@@ -14,15 +14,9 @@ pub const BODY_LIMIT: u32 = 8_388_608;
 #[derive(Clone, Copy, Debug, PartialEq, Eq)]
 pub enum Framed {
     /// A whole message: the bytes of its header lines, and those of its body.
-    Whole {
-        head: u32,
-        body: u32,
-    },
+    Whole { head: u32, body: u32 },
     /// The head of a message whose body is longer than `BODY_LIMIT`.
-    Over {
-        head: u32,
-        body: u64,
-    },
+    Over { head: u32, body: u64 },
     /// The front of a message.
     More,
     /// No message: the header lines say no length or no allowed one, or they have no end within `HEAD_LIMIT` bytes.
@@ -151,7 +145,7 @@ fn ends_line(line: &[u8], byte: u8) -> bool
 /// The end of the block that the bytes begin with, if it ends in them, and what its lines say.
 fn block_of(bytes: &[u8]) -> Option<(usize, Told)>
     ensures value { option_map block_view result ≡ block_from 0 nothing [] bytes.now }
-    ensures within { IfSome result (λ b. b.0 ≤ length bytes.now) }
+    ensures within { IfSome result (λ b. (0 < b.0) × (b.0 ≤ length bytes.now)) }
 {
     let mut told = Told::Nothing;
     let mut start = 0;
@@ -170,8 +164,11 @@ fn block_of(bytes: &[u8]) -> Option<(usize, Told)>
 
 /// What so many bytes begin with, by the block that has ended.
 fn framed_by(count: usize, head: u32, told: Told) -> Framed
-    requires { head ≤ 4096 }
-    ensures { frame_view result ≡ frame_behind count head (told_of told) }
+    requires some { 0 < head }
+    requires few { head ≤ 4096 }
+    requires within { head ≤ count }
+    ensures value { frame_view result ≡ frame_behind count head (told_of told) }
+    ensures within { IsWithin count result }
 {
     let Told::Bytes(body) = told else {
         return Framed::Bad;
@@ -180,7 +177,10 @@ fn framed_by(count: usize, head: u32, told: Told) -> Framed
         return Framed::Over { head, body };
     }
     if head as u64 + body <= count as u64 {
-        Framed::Whole { head, body: body as u32 }
+        Framed::Whole {
+            head,
+            body: body as u32,
+        }
     } else {
         Framed::More
     }
@@ -189,7 +189,8 @@ fn framed_by(count: usize, head: u32, told: Told) -> Framed
 /// What some bytes begin with. Of a message it needs no more than the header lines and the number of bytes.
 #[tactic(auto, unfolding(lsp_model::specs::Frames::frame))]
 pub fn frame_of(bytes: &[u8]) -> Framed
-    ensures { frame_view result ≡ frame bytes.now }
+    ensures value { frame_view result ≡ frame bytes.now }
+    ensures within { IsWithin (length bytes.now) result }
 {
     match block_of(&bytes[..HEAD_LIMIT.min(bytes.len())]) {
         Some((head, told)) => framed_by(bytes.len(), head as u32, told),

@@ -1,6 +1,6 @@
 //! Offsets in bytes, and positions as an editor counts them.
-ghost use Rattle.std.specs.Prelude.{◌≡◌, ◌+◌, ◌≤◌, ◌++◌, drop, length};
-ghost use Rattle.lsp_model.specs.Positions.{columns_of, column_place, continues, line_place, offset_at as offset_spec, position_at as position_spec, text_limit, width};
+ghost use Rattle.std.specs.Prelude.{◌≡◌, ◌+◌, ◌-◌, ◌≤◌, ◌++◌, drop, length};
+ghost use Rattle.lsp_model.specs.Positions.{columns_of, column_place, columns_before, continues, line_place, offset_at as offset_spec, position_at as position_spec, text_limit, width};
 ghost use Rattle.lsp_front.specs.Texts.{columns_in, whole};
 
 use crate::halves::{Halves, byte_at, len_of};
@@ -46,7 +46,11 @@ fn columns_added(byte: u8, by: Columns) -> u32
     ensures value { result ≡ columns_of (columns_in by) byte }
     ensures few { result ≤ 4 }
 {
-    if is_continuing(byte) { 0 } else { width_of(byte, by) }
+    if is_continuing(byte) {
+        0
+    } else {
+        width_of(byte, by)
+    }
 }
 
 /// Where a line begins; the text's end where the text has no such line.
@@ -122,4 +126,17 @@ pub fn position_at(left: &[u8], right: &[u8], offset: u32, by: Columns) -> (u32,
         }
     }
     (line, column)
+}
+
+/// How many columns lie between two offsets of one line.
+pub fn columns_between(left: &[u8], right: &[u8], start: u32, end: u32, by: Columns) -> u32
+    requires { length (left.now ++ right.now) ≤ text_limit }
+    ensures { result ≡ columns_before (columns_in by) (end - start) (drop start (left.now ++ right.now)) }
+{
+    let text = Halves { left, right };
+    let mut columns = 0;
+    for at in start as usize..len_of(text).min(end as usize) {
+        columns += columns_added(byte_at(text, at), by);
+    }
+    columns
 }

@@ -1,6 +1,6 @@
 -- What is put for a message: answers, errors and diagnostics, as JSON values and as framed bytes.
 use Rattle.std.specs.Prelude.{ℕ, ◌==◌, ℤ, negsuc, List, [], ◌∷◌, ◌++◌, Bool, true, false, codes, map, Option, Some, None, if◌then◌else◌}
-use Rattle.serde_json.specs.Data.{Data, null, boolean, number, unsigned, negative, string, array, object, Items, no_items, item, Members, member, no_members}
+use Rattle.serde_json.specs.Data.{Data, null, boolean, number, unsigned, string, array, object, Items, no_items, item, Members, member, no_members}
 use Rattle.serde_json.specs.Find.{of_integer}
 use Rattle.serde_json.specs.View.{items_of}
 use Rattle.serde_json.specs.Written.{compact_text}
@@ -230,11 +230,15 @@ diagnostic_offer = object (member (codes "interFileDependencies") (boolean true)
 abbrev pub sync : Data
 sync = object (member (codes "change") (natural 2) (member (codes "openClose") (boolean true) no_members))
 
--- what is offered behind the diagnostics
+-- the last of the offers, in the order of their names
+abbrev pub last_offers : Columns → Members
+last_offers columns =
+    member (codes "positionEncoding") (string (columns_text columns)) (member (codes "referencesProvider") offered (member (codes "textDocumentSync") sync no_members))
+
+-- the offers after the diagnostics
 abbrev pub later_offers : Columns → Members
 later_offers columns =
-    member (codes "documentHighlightProvider") offered (member (codes "documentSymbolProvider") offered (member (codes "hoverProvider") offered
-    (member (codes "positionEncoding") (string (columns_text columns)) (member (codes "referencesProvider") offered (member (codes "textDocumentSync") sync no_members)))))
+    member (codes "documentHighlightProvider") offered (member (codes "documentSymbolProvider") offered (member (codes "hoverProvider") offered (last_offers columns)))
 
 -- diagnostics are offered where they are asked for
 abbrev pub diagnostic_offers : Delivery → Members → Members

@@ -2,7 +2,7 @@
 use Rattle.std.specs.Prelude.{ℕ, ◌-◌, ◌^◌, ℤ, pos, negsuc, int_lt, ◌&&◌, ◌||◌, List, [], ◌∷◌, Bool, true, false, not, codes, Option, Some, None, option_and_then, option_map, unwrap_or, is_some, nat_lt, if◌then◌else◌}
 use Rattle.std.specs.Option.{option_or}
 use Rattle.std.specs.Str.{bytes_eq, is_utf8}
-use Rattle.serde_json.specs.Data.{Num, Data, null, boolean, number, string, array, object, Items, no_items, item}
+use Rattle.serde_json.specs.Data.{Data, null, boolean, number, string, array, object, Items, no_items, item}
 use Rattle.serde_json.specs.Find.{get, as_number, as_object, as_array, as_u64, as_i64, as_str, as_bool, is_float}
 use Rattle.serde_json.specs.Read.{read}
 use Rattle.lsp_model.specs.Positions.{Columns, utf16, bytes}
@@ -163,10 +163,10 @@ first_choices = record { columns = utf16; hover = plaintext; delivery = sent }
 -- what an editor's abilities choose
 abbrev pub choices_by : Option Data → Choices
 choices_by c = record {
-    columns = chosen_in columns_named utf16 (in_key (codes "positionEncodings") (in_key (codes "general") c));
-    hover = chosen_in hover_named plaintext (in_key (codes "contentFormat") (in_key (codes "hover") (in_key (codes "textDocument") c)));
-    delivery = delivery_of (is_object (in_key (codes "diagnostic") (in_key (codes "textDocument") c)))
-  }
+  columns = chosen_in columns_named utf16 (in_key (codes "positionEncodings") (in_key (codes "general") c));
+  hover = chosen_in hover_named plaintext (in_key (codes "contentFormat") (in_key (codes "hover") (in_key (codes "textDocument") c)));
+  delivery = delivery_of (is_object (in_key (codes "diagnostic") (in_key (codes "textDocument") c)));
+}
 
 -- ---- requests
 

@@ -45,6 +45,11 @@ offset_at by line column text = line_place line text + column_place by column (d
 abbrev pub columns_of : Columns → ℕ → ℕ
 columns_of by b = if continues b then 0 else width by b
 
+-- how many columns the first bytes of a line add, so many of them
+abbrev pub columns_before : Columns → ℕ → List ℕ → ℕ
+columns_before by n [] = 0
+columns_before by n (b ∷ bs) = if nat_eq n 0 then 0 else columns_of by b + columns_before by (n - 1) bs
+
 -- the position behind so many bytes, the first of which is at a line and a column
 abbrev pub position_from : Columns → ℕ → ℕ → ℕ → List ℕ → ℕ × ℕ
 position_from by line column n [] = (line, column)

@@ -1,7 +1,7 @@
 -- Which part of a text is shown for a span, and which place is asked for a cursor.
 use Rattle.std.specs.Prelude.{ℕ, zero, suc, ◌+◌, ◌-◌, ◌==◌, ◌&&◌, ◌||◌, List, length, drop, slice_index, Bool, not, nat_le, nat_lt, if◌then◌else◌}
 use Rattle.lsp_model.specs.Positions.{continues, line_feed}
-use Rattle.lsp_model.specs.Frames.{front_run}
+use Rattle.lsp_model.specs.Frames.{front_run, is_digit}
 
 -- ---- runs of bytes before and after a place
 
@@ -16,9 +16,9 @@ run_start test text (suc n) = if test (slice_index text n) then run_start test t
 abbrev pub is_break : ℕ → Bool
 is_break b = b == line_feed || b == 13
 
--- the start of the character that ends at a place after the text's start
+-- The start of the character that ends at a place after the text's start: the byte before those that go on with it.
 abbrev pub char_start : List ℕ → ℕ → ℕ
-char_start text end = run_start continues text (end - 1) - 1
+char_start text end = run_start continues text end - 1
 
 -- the end of the character that begins at a place before the text's end
 abbrev pub char_end : List ℕ → ℕ → ℕ
@@ -37,9 +37,17 @@ shown_span text s = if nat_lt s.0 s.1 then s else shown_empty text s.0 (run_star
 
 -- ---- the place that is asked
 
+-- a small letter
+abbrev pub is_lower : ℕ → Bool
+is_lower b = nat_le 97 b && nat_le b 122
+
+-- a large letter
+abbrev pub is_upper : ℕ → Bool
+is_upper b = nat_le 65 b && nat_le b 90
+
 -- a letter, a digit, `_` or `'`
 abbrev pub is_name_byte : ℕ → Bool
-is_name_byte b = nat_le 97 b && nat_le b 122 || nat_le 65 b && nat_le b 90 || nat_le 48 b && nat_le b 57 || b == 95 || b == 39
+is_name_byte b = is_lower b || is_upper b || is_digit b || b == 95 || b == 39
 
 -- a name ends at a place, and none goes on there
 abbrev pub ends_name : List ℕ → ℕ → Bool

@@ -1,4 +1,4 @@
-use Rattle.std.proofs.Common.{arith, drop, eqb-true}
+use Rattle.std.proofs.Common.{arith, drop}
 use Rattle.lsp_front.specs.Texts.{whole}
 use Rattle.lsp_front.proofs.Walks.{line_zero}
 use Rattle.lsp_front.proofs.positions.line_start.Goals as goal

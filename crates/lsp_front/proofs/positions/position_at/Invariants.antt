@@ -1,4 +1,4 @@
-use Rattle.std.proofs.Common.{◌≡◌, ◌+◌, ◌-◌, ◌*◌, ◌≤◌, drop}
+use Rattle.std.proofs.Common.{◌≡◌, ◌-◌, ◌*◌, ◌≤◌, drop}
 use Rattle.lsp_model.specs.Positions.{position_from}
 use Rattle.lsp_front.specs.Texts.{columns_in, whole}
 use Rattle.lsp_front.proofs.positions.position_at.Given as goal
