@@ -1,0 +1,5 @@
+pub mod Walks
+pub mod Headers
+pub mod Bodies
+pub mod Printing
+pub mod Runs
