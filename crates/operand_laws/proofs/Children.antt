@@ -10,7 +10,7 @@ use Rattle.row_parts.specs.Numbered.{Numbered, behind, with_slot, node_with, mis
 use Rattle.typing_model.specs.Parts as parts
 use Rattle.typing_model.specs.Parts.{Child}
 use Rattle.typing_model.specs.Meanings.{children_of, child_of}
-use Rattle.operand_laws.specs.Formed.{row_of, IsInPlace, AreSlotted, IsFormed}
+use Rattle.operand_laws.specs.Formed.{row_of, IsInPlace, AreShaped, IsFormed}
 use Rattle.operand_laws.specs.Operands.{number_of, parts_of}
 
 -- what the parts in a slot are, by two readings that agree on nodes and on what is missing: one of the definitions' parts, and one of operands
@@ -19,22 +19,22 @@ pub record AreOne {A : Type 0} (i s : ℕ) (f : Child → A) (g : Numbered → A
   pub of_missing : (n : ℕ) (at : Place) → f (child_of (number_of i n) s (missing at)) ≡ g (missing_operand n at)
 
 -- a part has its slot
-child_slot : (n s : ℕ) (p : Part) → (child_of n s p).slot ≡ s
+pub child_slot : (n s : ℕ) (p : Part) → (child_of n s p).slot ≡ s
 child_slot n s (taken t) = refl
 child_slot n s (inner (node r x ps)) = refl
 child_slot n s (missing at) = refl
 
 -- a part of the slot comes first, and one of another slot doesn't count
-slot_children : (n q s : ℕ) (p : Part) (cs : List Child) (b : Bool) → (q == s) ≡ b → parts.in_slot s (child_of n q p ∷ cs) ≡ (if b then child_of n q p ∷ parts.in_slot s cs else parts.in_slot s cs)
+pub slot_children : (n q s : ℕ) (p : Part) (cs : List Child) (b : Bool) → (q == s) ≡ b → parts.in_slot s (child_of n q p ∷ cs) ≡ (if b then child_of n q p ∷ parts.in_slot s cs else parts.in_slot s cs)
 slot_children n q s p cs b e = rw (child_slot n q p, e) refl
 
 -- an operand of another slot doesn't count
-other_slot : (q s : ℕ) (o : Option Numbered) (os : List (ℕ × Numbered)) → (q == s) ≡ false → in_slot s (with_slot q o os) ≡ in_slot s os
+pub other_slot : (q s : ℕ) (o : Option Numbered) (os : List (ℕ × Numbered)) → (q == s) ≡ false → in_slot s (with_slot q o os) ≡ in_slot s os
 other_slot q s None os e = refl
 other_slot q s (Some o) os e = rw (e) refl
 
 -- an operand of the slot comes first
-same_slot : (q s : ℕ) (o : Numbered) (os : List (ℕ × Numbered)) → (q == s) ≡ true → in_slot s (with_slot q (Some o) os) ≡ o ∷ in_slot s os
+pub same_slot : (q s : ℕ) (o : Numbered) (os : List (ℕ × Numbered)) → (q == s) ≡ true → in_slot s (with_slot q (Some o) os) ≡ o ∷ in_slot s os
 same_slot q s o os e = rw (e) refl
 
 -- what is in a slot for operands is an operand, and is read as one
@@ -45,19 +45,19 @@ operand_read i n r s (inner t) one takes h = (node_with n t, refl, one.of_node n
 operand_read i n r s (missing at) one takes h = (missing_operand n at, rw (takes) refl, one.of_missing n at)
 
 -- numbers go on without an end below 2^32
-behind_is : (n k more : ℕ) → n + (k + more) < 2 ^ 32 → behind n k ≡ n + k
+pub behind_is : (n k more : ℕ) → n + (k + more) < 2 ^ 32 → behind n k ≡ n + k
 behind_is n k more h = omega arith
 
 -- the parts of a row in a slot for operands are read as the operands in it, where the first part has this number
-pub from_children : {A : Type 0} {f : Child → A} {g : Numbered → A} (i n : ℕ) (r : Row) (s : ℕ) (ps : Forest) → AreOne i s f g → is_operand r s ≡ true → AreSized ps → AreSlotted r ps → n + forest_size r ps < 2 ^ 32 →
+pub from_children : {A : Type 0} {f : Child → A} {g : Numbered → A} (i n : ℕ) (r : Row) (s : ℕ) (ps : Forest) → AreOne i s f g → is_operand r s ≡ true → AreSized ps → AreShaped r ps → n + forest_size r ps < 2 ^ 32 →
     map f (parts.in_slot s (children_of (number_of i n) r ps)) ≡ map g (in_slot s (operands_from n r ps))
 unfolding operands_from
-from_children i n r s no_parts one takes sized slotted room = refl
-from_children {A} {f} {g} i n r s (part q p ps) one takes sized slotted room =
+from_children i n r s no_parts one takes sized shaped room = refl
+from_children {A} {f} {g} i n r s (part q p ps) one takes sized shaped room =
     let told : told_size r q p ≡ part_size r q p = told_size_sized r q p sized.0 in
     let goes : behind n (told_size r q p) ≡ n + part_size r q p = ap (behind n) told ∙ behind_is n (part_size r q p) (forest_size r ps) room in
     let further : map f (parts.in_slot s (children_of (number_of i (n + part_size r q p)) r ps)) ≡ map g (in_slot s (operands_from (n + part_size r q p) r ps)) =
-        from_children i (n + part_size r q p) r s ps one takes sized.1 slotted.2 (omega arith) in
+        from_children i (n + part_size r q p) r s ps one takes sized.1 shaped.2 (omega arith) in
     let number : number_of i (n + part_size r q p) ≡ number_of i n + part_size r q p = omega arith in
     let rest : map f (parts.in_slot s (children_of (number_of i n + part_size r q p) r ps)) ≡ map g (in_slot s (operands_from (behind n (told_size r q p)) r ps)) =
         subst (λ m. map f (parts.in_slot s (children_of m r ps)) ≡ map g (in_slot s (operands_from (behind n (told_size r q p)) r ps))) number
@@ -69,7 +69,7 @@ from_children {A} {f} {g} i n r s (part q p ps) one takes sized slotted room =
         map f (parts.in_slot s (children_of (number_of i n) r (part q p ps))) ≡ map g (in_slot s (with_slot q (operand_at n r q p) (operands_from (behind n (told_size r q p)) r ps)))
     by true e rest =
         let is : s ≡ q = sym (eqb-true q s e) in
-        let (o, found, reads) = operand_read i n r q p (subst (λ s. AreOne i s f g) is one) (subst (λ s. is_operand r s ≡ true) is takes) slotted.0 in
+        let (o, found, reads) = operand_read i n r q p (subst (λ s. AreOne i s f g) is one) (subst (λ s. is_operand r s ≡ true) is takes) shaped.0 in
         rw (slot_children (number_of i n) q s p (children_of (number_of i n + part_size r q p) r ps) true e, found, same_slot q s o (operands_from (behind n (told_size r q p)) r ps) e, reads, rest) refl
     by false e rest =
         rw (slot_children (number_of i n) q s p (children_of (number_of i n + part_size r q p) r ps) false e, other_slot q s (operand_at n r q p) (operands_from (behind n (told_size r q p)) r ps) e, rest) refl
@@ -82,4 +82,4 @@ reads_children {A} {f} {g} i n (node r x ps) s one formed takes =
     let next : behind n 1 ≡ n + 1 = omega arith in
     subst (λ m. map f (parts.in_slot s (children_of m r ps)) ≡ map g (in_slot s (operands_from (behind n 1) r ps))) first
     (subst (λ m. map f (parts.in_slot s (children_of (number_of i (n + 1)) r ps)) ≡ map g (in_slot s (operands_from m r ps))) (sym next)
-    (from_children i (n + 1) r s ps one takes formed.sized.1 formed.slotted (omega arith)))
+    (from_children i (n + 1) r s ps one takes formed.sized.1 formed.shaped.1 (omega arith)))
