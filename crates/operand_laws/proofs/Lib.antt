@@ -5,3 +5,4 @@ pub mod Going
 pub mod Sorts
 pub mod Standing
 pub mod Parsed
+pub mod Applied

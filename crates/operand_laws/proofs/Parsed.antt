@@ -2,7 +2,7 @@
 use Rattle.std.proofs.Common.{◌≡◌, ◌≢◌, ◌∙◌, ◌==◌, ◌+◌, ◌<◌, ◌≤◌, ◌^◌, ◌⊎◌, inl, inr, ℕ, Bool, true, false, ◌&&◌, not, List, [], ◌∷◌, refl, sym, ap, subst, arith, if◌then◌else◌}
 use Rattle.std.specs.Prelude.{nat_le, All, slice_get}
 use Rattle.std.specs.List.{list_all}
-use Rattle.std.proofs.lemmas.Bool.{leb-true, le-leb, eq-eqb, and_parts}
+use Rattle.std.proofs.lemmas.Bool.{leb-true, le-leb, eqb-true, eq-eqb, and_parts}
 use Rattle.std.proofs.lemmas.List.Elements.{All-nil, All-cons}
 use Rattle.tree_model.specs.Rows as names
 use Rattle.tree_model.specs.Slots as slots
@@ -88,3 +88,97 @@ filled_behind text r s at last (part p c f) stays here h =
         (if b then true else is_in s (named_parts row_name f)) ≡ true
     by true e go before = refl
     by false e go before = go (before (λ same. let yes = eq-eqb (slot_of p) s same in cc))
+
+-- a part that is in a spot of its kind is in a slot of its kind
+in_place : (text : Text) (r : names.Row) (s : ℕ) (w : What) (c : Part) → (w ≢ nothing → slots.is_operand r s ≡ is_operand w) → StandsIn (grammar text) w c → IsInPlace r s (named_part row_name c)
+in_place text r s nothing c takes h = absurd h
+in_place text r s (token ks) (taken t) takes h = takes (λ e. cc)
+in_place text r s (token ks) (inner t) takes h = absurd h
+in_place text r s (token ks) (missing p) takes h = tt
+in_place text r s (operand q n) (taken t) takes h = absurd h
+in_place text r s (operand q n) (inner t) takes h = takes (λ e. cc)
+in_place text r s (operand q n) (missing p) takes h = tt
+
+-- a token is no left operand
+left_no_token : (l : Left) (s : ℕ) → left_takes rows l s no_operand ≡ true → ⊥
+left_no_token no_left s h = cc
+left_no_token (level n) s h = cc
+left_no_token (by_name m) s h = cc
+
+-- a left operand is in a slot for operands
+left_in_place : (text : Text) (r : ℕ) (c : Part) → (grammar text).has_left r ≡ true → (grammar text).left_ok r (left_last c) ≡ true → IsInPlace (row_name r) 0 (named_part row_name c)
+left_in_place text r (taken t) left h = absurd (left_no_token (row_at rows r).left (row_at rows r).sort h)
+left_in_place text r (inner t) left h = left_slot_takes text r left
+left_in_place text r (missing p) left h = tt
+
+-- so the first part of a row is in a slot of its kind
+first_in_place : (text : Text) (r p : ℕ) (c : Part) (b : Bool) → (grammar text).has_left r ≡ b → BeginsWith (grammar text) r b p c → IsInPlace (row_name r) (slot_of p) (named_part row_name c)
+first_in_place text r p c true left h = subst (λ p. IsInPlace (row_name r) (slot_of p) (named_part row_name c)) (sym h.0) (left_in_place text r c left h.1)
+first_in_place text r p c false left h = in_place text (row_name r) (slot_of p) ((grammar text).what r p) c (slot_takes text r p) h.1
+
+-- what passes each spot of a row passes the one of a number
+stays : (s r : ℕ) → each_spot 0 (row_at rows r).spots (stays_at s) ≡ true → (p : ℕ) → stays_at s p (spot_at (row_at rows r) p) ≡ true
+stays s r h p = subst (λ j. stays_at s j (spot_at (row_at rows r) p) ≡ true) (omega arith) (spot_get (stays_at s) (row_at rows r).spots 0 h p (λ j. refl))
+
+-- true in either case
+either_way : (b c : Bool) → c ≡ true → (if b then true else c) ≡ true
+either_way true c h = refl
+either_way false c h = h
+
+-- a slot that the row can't pass over is filled
+passed : (text : Text) (r s : ℕ) (f : Forest) (left zero_slot : Bool) → (grammar text).has_left r ≡ left → (s == 0) ≡ zero_slot → IsFilled (grammar text) r f →
+    (if left && zero_slot then true else stays_before s (spot_at (row_at rows r) 0) && each_spot 0 (row_at rows r).spots (stays_at s)) ≡ true → is_in s (named_parts row_name f) ≡ true
+passed text r s no_parts true zero_slot l z h test = absurd (let no = h.0 in cc)
+passed text r s no_parts false zero_slot l z h test =
+    let both = and_parts (stays_before s (spot_at (row_at rows r) 0)) (each_spot 0 (row_at rows r).spots (stays_at s)) test in
+    filled_behind text r s 0 no_operand no_parts (stays s r both.1) both.0 h.1
+passed text r s (part p c f) true true l z h test =
+    let begins : BeginsWith (grammar text) r true p c = subst (λ b. BeginsWith (grammar text) r b p c) l h.0 in
+    let here : slot_of p ≡ s = let first = begins.0 in let slot = eqb-true s 0 z in omega arith in
+    rw (eq-eqb (slot_of p) s here) refl
+passed text r s (part p c f) true false l z h test =
+    let begins : BeginsWith (grammar text) r true p c = subst (λ b. BeginsWith (grammar text) r b p c) l h.0 in
+    let both = and_parts (stays_before s (spot_at (row_at rows r) 0)) (each_spot 0 (row_at rows r).spots (stays_at s)) test in
+    either_way (slot_of p == s) (is_in s (named_parts row_name f))
+    (filled_behind text r s p (last_in ((grammar text).what r p) c) f (stays s r both.1) (subst (λ p. stays_before s (spot_at (row_at rows r) p) ≡ true) (sym begins.0) both.0) h.2)
+passed text r s (part p c f) false zero_slot l z h test =
+    let begins : BeginsWith (grammar text) r false p c = subst (λ b. BeginsWith (grammar text) r b p c) l h.0 in
+    let both = and_parts (stays_before s (spot_at (row_at rows r) 0)) (each_spot 0 (row_at rows r).spots (stays_at s)) test in
+    filled_behind text r s 0 no_operand (part p c f) (stays s r both.1) both.0 (begins.0, begins.1, h.1, h.2)
+
+-- no slot is left out that the row needs
+needed_filled : (text : Text) (r : ℕ) (f : Forest) → IsFilled (grammar text) r f → HasNeeded (row_name r) (named_parts row_name f)
+needed_filled text r f h =
+    all_more (must_pass (row_at rows r)) (λ s. is_in s (named_parts row_name f)) (λ s test. passed text r s f ((grammar text).has_left r) (s == 0) refl refl h test) (needed_slots (row_name r))
+    (each_row needed_fit rows each_needed_fits (λ j. refl) r)
+
+mutual
+  -- a tree in the grammar, but for missing parts, has the parts of its rows
+  pub shaped : (text : Text) (T : Tree) → WellFormed (grammar text) T → IsShaped (named row_name T)
+  shaped text (node r f) h = (needed_filled text r f h, row_shaped text r f h)
+
+  row_shaped : (text : Text) (r : ℕ) (f : Forest) → IsFilled (grammar text) r f → AreShaped (row_name r) (named_parts row_name f)
+  row_shaped text r no_parts h = tt
+  row_shaped text r (part p c f) h = (first_in_place text r p c ((grammar text).has_left r) refl h.0, part_shaped text c h.1, parts_shaped text r p (last_in ((grammar text).what r p) c) f h.2)
+
+  parts_shaped : (text : Text) (r at : ℕ) (last : Last) (f : Forest) → Follows (grammar text) r at last f → AreShaped (row_name r) (named_parts row_name f)
+  parts_shaped text r at last no_parts h = tt
+  parts_shaped text r at last (part p c f) h =
+      (in_place text (row_name r) (slot_of p) ((grammar text).what r p) c (slot_takes text r p) h.1, part_shaped text c h.2, parts_shaped text r p (last_in ((grammar text).what r p) c) f h.3)
+
+  part_shaped : (text : Text) (c : Part) → IsPartFormed (grammar text) c → IsPartShaped (named_part row_name c)
+  part_shaped text (taken t) h = tt
+  part_shaped text (inner t) h = shaped text t h
+  part_shaped text (missing p) h = tt
+
+-- the nodes among parts that tell their true sizes are well formed, each as an item of its own
+parts_formed : (r : names.Row) (ps : plain.Forest) → AreShaped r ps → AreItemsSized (forest_items ps) → All (IsFormed 0) (forest_items ps)
+parts_formed r plain.no_parts shaped sized = All-nil (IsFormed 0)
+parts_formed r (plain.part s (plain.taken t) ps) shaped sized = parts_formed r ps shaped.2 sized
+parts_formed r (plain.part s (plain.inner t) ps) shaped sized =
+    let few = sized.1 in All-cons (IsFormed 0) t (forest_items ps) (record { sized = sized.0; shaped = shaped.1; room = omega arith }) (parts_formed r ps shaped.2 sized.2)
+parts_formed r (plain.part s (plain.missing at) ps) shaped sized = parts_formed r ps shaped.2 sized
+
+-- each item of a tree that the parser gives is well formed, where it tells its true size and is small
+pub items_formed : (text : Text) (T : Tree) → WellFormed (grammar text) T → AreItemsSized (items_of (named row_name T)) → All (IsFormed 0) (items_of (named row_name T))
+items_formed text (node r f) h sized = parts_formed (row_name r) (named_parts row_name f) (row_shaped text r f h) sized
