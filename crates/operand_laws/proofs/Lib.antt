@@ -6,3 +6,4 @@ pub mod Sorts
 pub mod Standing
 pub mod Parsed
 pub mod Applied
+pub mod Ordered

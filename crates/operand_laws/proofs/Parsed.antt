@@ -22,7 +22,7 @@ use Rattle.grammar_model.specs.Words.{row_names}
 use Rattle.operand_laws.specs.Formed.{needed_slots, is_in, HasNeeded, IsInPlace, IsShaped, AreShaped, IsPartShaped, IsFormed}
 
 -- the name of a row
-abbrev name_of : Row → names.Row
+abbrev pub name_of : Row → names.Row
 name_of w = or_else names.program_row (slice_get row_names w.name)
 
 -- a row can't end at this spot, and no spot that may come after it is behind the one of the slot
@@ -53,7 +53,7 @@ all_more test other more (s ∷ ss) h =
     rw (more s both.0, all_more test other more ss both.1) refl
 
 -- a spot that may come passes the test that each does
-edge_passes : (test : ℕ → Bool) (es : List Edge) (last : Last) (p : ℕ) → each_edge es test ≡ true → MayCome es last p → test p ≡ true
+pub edge_passes : (test : ℕ → Bool) (es : List Edge) (last : Last) (p : ℕ) → each_edge es test ≡ true → MayCome es last p → test p ≡ true
 edge_passes test [] last p h may = absurd may
 edge_passes test (e ∷ es) last p h may =
     let both = and_parts (test e.spot) (each_edge es test) h in

@@ -1,7 +1,7 @@
 -- Trees as the parser gives them.
-use Rattle.std.specs.Prelude.{◌≡◌, ℕ, ◌+◌, ◌<◌, ◌==◌, ◌^◌, Bool, true, false, nat_eq, List, [], ◌∷◌, if◌then◌else◌}
+use Rattle.std.specs.Prelude.{◌≡◌, ℕ, ◌+◌, ◌<◌, ◌==◌, ◌^◌, ◌&&◌, Bool, true, false, nat_eq, nat_le, List, [], ◌∷◌, if◌then◌else◌}
 use Rattle.std.specs.List.{list_any, list_all}
-use Rattle.tree_model.specs.Rows.{Row, let_row, type_row, exception_row, module_row, modtype_row, val_row, gmodule_row, decl_row, alias_row, variant_row, record_row, label_row, with_row, tparen_row, tapp_row, ttuple_row, tarrow_row, pparen_row, plist_row, precord_row, papp_row, pcons_row, ptuple_row, por_row, pas_row, binding_row, case_row, eparen_row, elist_row, erecord_row, prefix_row, field_row, eapp_row, eassert_row, ewhile_row, efor_row, eneg_row, infix_row, econs_row, etuple_row, eset_row, eif_row, eseq_row, elet_row, ematch_row, etry_row, efun_row, efunction_row, mparen_row, mapp_row, mfunctor_row, yparen_row, ywith_row, yfunctor_row}
+use Rattle.tree_model.specs.Rows.{Row, program_row, let_row, type_row, exception_row, module_row, modtype_row, val_row, gmodule_row, decl_row, alias_row, variant_row, record_row, label_row, with_row, tparen_row, tapp_row, ttuple_row, tarrow_row, pparen_row, plist_row, precord_row, papp_row, pcons_row, ptuple_row, por_row, pas_row, binding_row, case_row, eparen_row, elist_row, erecord_row, prefix_row, field_row, eapp_row, eassert_row, ewhile_row, efor_row, eneg_row, infix_row, econs_row, etuple_row, eset_row, eif_row, eseq_row, elet_row, ematch_row, etry_row, efun_row, efunction_row, mstruct_row, mparen_row, mapp_row, mfunctor_row, ysig_row, yparen_row, ywith_row, yfunctor_row}
 use Rattle.tree_model.specs.Slots.{is_operand}
 use Rattle.tree_model.specs.Trees.{Tree, Forest, Part, node, no_parts, part, taken, inner, missing, size_of, IsSized}
 use Rattle.row_parts.specs.Numbered.{Numbered}
@@ -80,6 +80,52 @@ is_in s (part q p ps) = if q == s then true else is_in s ps
 -- no slot is left out that the row needs
 abbrev pub HasNeeded : Row → Forest → Type 0
 HasNeeded r ps = list_all (λ s. is_in s ps) (needed_slots r) ≡ true
+
+-- the slots of a row that may have several operands
+abbrev pub repeated_slots : Row → List ℕ
+repeated_slots program_row = 0 ∷ []
+repeated_slots let_row = 2 ∷ []
+repeated_slots type_row = 2 ∷ []
+repeated_slots module_row = 5 ∷ []
+repeated_slots gmodule_row = 5 ∷ []
+repeated_slots variant_row = 1 ∷ []
+repeated_slots record_row = 1 ∷ []
+repeated_slots tparen_row = 1 ∷ []
+repeated_slots ttuple_row = 2 ∷ []
+repeated_slots plist_row = 1 ∷ []
+repeated_slots precord_row = 1 ∷ []
+repeated_slots ptuple_row = 2 ∷ []
+repeated_slots por_row = 2 ∷ []
+repeated_slots binding_row = 1 ∷ []
+repeated_slots elist_row = 1 ∷ []
+repeated_slots erecord_row = 5 ∷ []
+repeated_slots eapp_row = 1 ∷ []
+repeated_slots etuple_row = 2 ∷ []
+repeated_slots eseq_row = 2 ∷ []
+repeated_slots elet_row = 2 ∷ []
+repeated_slots ematch_row = 4 ∷ []
+repeated_slots etry_row = 4 ∷ []
+repeated_slots efun_row = 1 ∷ []
+repeated_slots efunction_row = 4 ∷ []
+repeated_slots mstruct_row = 1 ∷ []
+repeated_slots mfunctor_row = 4 ∷ []
+repeated_slots ysig_row = 1 ∷ []
+repeated_slots ywith_row = 2 ∷ []
+repeated_slots yfunctor_row = 4 ∷ []
+repeated_slots _ = []
+
+-- the slot of the row may have several operands
+unfoldable pub may_repeat : Row → ℕ → Bool
+may_repeat r s = list_any (nat_eq s) (repeated_slots r)
+
+-- the lowest slot of an operand that may come after one in this slot
+abbrev pub next_slot : Row → ℕ → ℕ
+next_slot r s = if may_repeat r s then s else s + 1
+
+-- the operands of parts come in the order of their slots, from a lowest one on, and two of one slot only where it may have several
+abbrev pub is_in_order : Row → ℕ → Forest → Bool
+is_in_order r low no_parts = true
+is_in_order r low (part s p ps) = if is_operand r s then nat_le low s && is_in_order r (next_slot r s) ps else is_in_order r low ps
 
 -- a part in a slot of its kind: tokens in those for tokens, nodes in those for operands; what is missing may be either
 abbrev pub IsInPlace : Row → ℕ → Part → Type 0
