@@ -82,4 +82,4 @@ reads_children {A} {f} {g} i n (node r x ps) s one formed takes =
     let next : behind n 1 ≡ n + 1 = omega arith in
     subst (λ m. map f (parts.in_slot s (children_of m r ps)) ≡ map g (in_slot s (operands_from (behind n 1) r ps))) first
     (subst (λ m. map f (parts.in_slot s (children_of (number_of i (n + 1)) r ps)) ≡ map g (in_slot s (operands_from m r ps))) (sym next)
-    (from_children i (n + 1) r s ps one takes formed.sized.1 formed.shaped.1 (omega arith)))
+    (from_children i (n + 1) r s ps one takes formed.sized.1 formed.shaped.2 (omega arith)))

@@ -41,7 +41,7 @@ slots_formed : (n : ℕ) (t : Tree) → IsFormed n t → All IsSlotFormed (opera
 slots_formed n (node r x ps) formed =
     let size : n + (forest_size r ps + 1) < 2 ^ 32 = formed.room in
     let next : behind n 1 ≡ n + 1 = omega arith in
-    subst (λ m. All IsSlotFormed (operands_from m r ps)) (sym next) (from_formed (n + 1) r ps formed.sized.1 formed.shaped.1 (omega arith))
+    subst (λ m. All IsSlotFormed (operands_from m r ps)) (sym next) (from_formed (n + 1) r ps formed.sized.1 formed.shaped.2 (omega arith))
 
 -- those in one slot
 in_slot_formed : (s : ℕ) (os : List (ℕ × Numbered)) → All IsSlotFormed os → All IsOperandFormed (in_slot s os)

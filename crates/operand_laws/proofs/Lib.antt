@@ -4,6 +4,8 @@ pub mod Tokens
 pub mod Going
 pub mod Sorts
 pub mod Standing
+pub mod Needed
+pub mod Ordered
 pub mod Parsed
 pub mod Applied
-pub mod Ordered
+pub mod Orders

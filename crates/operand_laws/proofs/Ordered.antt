@@ -16,7 +16,7 @@ use Rattle.grammar_model.specs.Ocaml.{rows, Text, grammar, row_name}
 use Rattle.grammar_model.proofs.Instance.{each_row, spot_get}
 use Rattle.grammar_model.proofs.Slots.{slot_takes, left_slot_takes}
 use Rattle.operand_laws.specs.Formed.{next_slot, may_repeat, is_in_order}
-use Rattle.operand_laws.proofs.Parsed.{edge_passes, name_of}
+use Rattle.operand_laws.proofs.Needed.{edge_passes, name_of}
 
 -- the least of these numbers of spots that may come
 abbrev least : (ℕ → ℕ) → List Edge → ℕ

@@ -49,7 +49,7 @@ first_there n r s (part q p ps) takes shaped there = by (q == s) refl there (fir
 
 -- a slot for operands that the row of a node needs has a first operand
 pub needed_there : (n : ℕ) (t : Tree) (s : ℕ) → IsFormed n t → is_operand (row_of t) s ≡ true → is_needed (row_of t) s ≡ true → (o : Numbered) × (first_in n t s ≡ Some o)
-needed_there n (node r x ps) s formed takes needs = first_there (behind n 1) r s ps takes formed.shaped.1 (needed_in r s ps needs formed.shaped.0)
+needed_there n (node r x ps) s formed takes needs = first_there (behind n 1) r s ps takes formed.shaped.2 (needed_in r s ps needs formed.shaped.0)
 
 -- the first operand in a slot is the one that fills it
 filled_by : (n : ℕ) (t : Tree) (s : ℕ) (o : Numbered) → first_in n t s ≡ Some o → filled_in n t s ≡ o

@@ -133,10 +133,14 @@ IsInPlace r s (taken t) = is_operand r s ≡ false
 IsInPlace r s (inner t) = is_operand r s ≡ true
 IsInPlace r s (missing at) = Unit {0}
 
--- in a node, and in the nodes in it, each part is in a slot of its kind, and no needed slot is left out
+-- the operands of a row come in order
+abbrev pub HasOrder : Row → Forest → Type 0
+HasOrder r ps = is_in_order r 0 ps ≡ true
+
+-- in a node, and in the nodes in it, no needed slot is left out, operands come in order, and each part is in a slot of its kind
 abbrev mutual
   pub IsShaped : Tree → Type 0
-  IsShaped (node r x ps) = HasNeeded r ps × AreShaped r ps
+  IsShaped (node r x ps) = HasNeeded r ps × HasOrder r ps × AreShaped r ps
 
   -- the parts of a row are in slots of their kinds, and so are the parts in them
   pub AreShaped : Row → Forest → Type 0
