@@ -1,5 +1,5 @@
 -- The parts of a row in a slot for operands are the operands in it: one lemma for all sorts.
-use Rattle.std.proofs.Common.{◌≡◌, ◌∙◌, ◌==◌, ◌+◌, ◌<◌, ◌^◌, ℕ, Bool, true, false, List, [], ◌∷◌, map, Option, Some, None, refl, sym, ap, subst, arith, if◌then◌else◌}
+use Rattle.std.proofs.Common.{◌≡◌, ◌∙◌, ◌==◌, ◌+◌, ◌<◌, ◌^◌, ℕ, Bool, true, false, List, ◌∷◌, map, Option, Some, None, refl, sym, ap, subst, arith, if◌then◌else◌}
 use Rattle.std.proofs.lemmas.Bool.{eqb-true}
 use Rattle.tree_model.specs.Rows.{Row}
 use Rattle.tree_model.specs.Slots.{is_operand}
@@ -57,11 +57,11 @@ from_children {A} {f} {g} i n r s (part q p ps) one takes sized shaped room =
     let told : told_size r q p ≡ part_size r q p = told_size_sized r q p sized.0 in
     let goes : behind n (told_size r q p) ≡ n + part_size r q p = ap (behind n) told ∙ behind_is n (part_size r q p) (forest_size r ps) room in
     let further : map f (parts.in_slot s (children_of (number_of i (n + part_size r q p)) r ps)) ≡ map g (in_slot s (operands_from (n + part_size r q p) r ps)) =
-        from_children i (n + part_size r q p) r s ps one takes sized.1 shaped.2 (omega arith) in
+    from_children i (n + part_size r q p) r s ps one takes sized.1 shaped.2 (omega arith) in
     let number : number_of i (n + part_size r q p) ≡ number_of i n + part_size r q p = omega arith in
     let rest : map f (parts.in_slot s (children_of (number_of i n + part_size r q p) r ps)) ≡ map g (in_slot s (operands_from (behind n (told_size r q p)) r ps)) =
-        subst (λ m. map f (parts.in_slot s (children_of m r ps)) ≡ map g (in_slot s (operands_from (behind n (told_size r q p)) r ps))) number
-        (subst (λ m. map f (parts.in_slot s (children_of (number_of i (n + part_size r q p)) r ps)) ≡ map g (in_slot s (operands_from m r ps))) (sym goes) further) in
+    subst (λ m. map f (parts.in_slot s (children_of m r ps)) ≡ map g (in_slot s (operands_from (behind n (told_size r q p)) r ps))) number
+    (subst (λ m. map f (parts.in_slot s (children_of (number_of i (n + part_size r q p)) r ps)) ≡ map g (in_slot s (operands_from m r ps))) (sym goes) further) in
     by (q == s) refl rest
   where
     by : (b : Bool) → (q == s) ≡ b →

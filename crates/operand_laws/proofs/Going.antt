@@ -1,11 +1,11 @@
 -- The operands of a well formed tree are well formed.
-use Rattle.std.proofs.Common.{◌≡◌, ◌∙◌, ◌==◌, ◌+◌, ◌<◌, ◌^◌, ℕ, Bool, true, false, List, [], ◌∷◌, Option, Some, None, refl, sym, ap, subst, arith, if◌then◌else◌}
+use Rattle.std.proofs.Common.{◌≡◌, ◌∙◌, ◌==◌, ◌+◌, ◌<◌, ◌^◌, ℕ, Bool, true, false, List, [], ◌∷◌, Option, Some, None, sym, ap, subst, arith, if◌then◌else◌}
 use Rattle.std.specs.Prelude.{All}
 use Rattle.std.specs.Option.{IfSome}
 use Rattle.std.proofs.lemmas.List.Elements.{All-nil, All-cons, All-head, All-tail}
 use Rattle.tree_model.specs.Rows.{Row}
 use Rattle.tree_model.specs.Slots.{is_operand}
-use Rattle.tree_model.specs.Trees.{Place, Tree, Forest, Part, node, no_parts, part, taken, inner, missing, part_size, forest_size, AreSized, IsPartSized}
+use Rattle.tree_model.specs.Trees.{Tree, Forest, Part, node, no_parts, part, taken, inner, missing, part_size, forest_size, AreSized, IsPartSized}
 use Rattle.tree_model.specs.Extents.{told_size}
 use Rattle.tree_model.proofs.Extents.{told_size_sized}
 use Rattle.row_parts.specs.Numbered.{Numbered, behind, with_slot, node_with, missing_operand, missing_at_end, operand_at, operands_from, operands_with_slots, operands_in, all_operands, in_slot, in_slots, first_of, first_in, filled_in}

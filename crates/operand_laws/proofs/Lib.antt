@@ -3,9 +3,9 @@ pub mod There
 pub mod Tokens
 pub mod Going
 pub mod Sorts
+pub mod SlotBySlot
 pub mod Standing
+pub mod Applied
 pub mod Needed
 pub mod Ordered
 pub mod Parsed
-pub mod Applied
-pub mod Orders

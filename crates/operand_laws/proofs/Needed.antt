@@ -1,25 +1,19 @@
 -- Each row that the parser gives fills the slots that it needs.
-use Rattle.std.proofs.Common.{◌≡◌, ◌≢◌, ◌∙◌, ◌==◌, ◌+◌, ◌<◌, ◌≤◌, ◌^◌, ◌⊎◌, inl, inr, ℕ, Bool, true, false, ◌&&◌, not, List, [], ◌∷◌, refl, sym, ap, subst, arith, if◌then◌else◌}
-use Rattle.std.specs.Prelude.{nat_le, All, slice_get}
+use Rattle.std.proofs.Common.{◌≡◌, ◌≢◌, ◌==◌, ◌+◌, ◌≤◌, inl, inr, ℕ, Bool, true, false, ◌&&◌, not, List, [], ◌∷◌, refl, sym, subst, arith, if◌then◌else◌}
+use Rattle.std.specs.Prelude.{nat_le, slice_get}
 use Rattle.std.specs.List.{list_all}
 use Rattle.std.proofs.lemmas.Bool.{leb-true, le-leb, eqb-true, eq-eqb, and_parts}
-use Rattle.std.proofs.lemmas.List.Elements.{All-nil, All-cons}
 use Rattle.tree_model.specs.Rows as names
-use Rattle.tree_model.specs.Slots as slots
-use Rattle.tree_model.specs.Trees as plain
-use Rattle.tree_model.specs.Trees.{AreItemsSized}
-use Rattle.grammar_model.specs.Trees.{Tree, Forest, Part, node, no_parts, part, taken, inner, missing, row_of}
+use Rattle.grammar_model.specs.Trees.{Forest, Part, no_parts, part}
 use Rattle.grammar_model.specs.Tables.{What, nothing, token, operand, Edge, Last, plain as no_operand}
-use Rattle.grammar_model.specs.Rows.{Row, Spot, Left, no_left, level, named as by_name, row_at, spot_at, or_else, is_left, left_takes}
+use Rattle.grammar_model.specs.Rows.{Row, Spot, row_at, spot_at, or_else, is_left}
 use Rattle.grammar_model.specs.Checks.{each, each_spot, each_edge, is_nothing}
-use Rattle.grammar_model.specs.Grammar.{last_in, MayCome, StandsIn, left_last, BeginsWith, WellFormed, IsFilled, Follows, IsPartFormed}
-use Rattle.grammar_model.specs.Recovery.{is_operand}
-use Rattle.grammar_model.specs.Named.{slot_of, named, named_parts, named_part, forest_items, items_of}
+use Rattle.grammar_model.specs.Grammar.{last_in, MayCome, StandsIn, BeginsWith, IsFilled, Follows}
+use Rattle.grammar_model.specs.Named.{slot_of, named_parts}
 use Rattle.grammar_model.specs.Ocaml.{rows, Text, grammar, row_name}
 use Rattle.grammar_model.proofs.Instance.{each_row, spot_get}
-use Rattle.grammar_model.proofs.Slots.{slot_takes, left_slot_takes}
 use Rattle.grammar_model.specs.Words.{row_names}
-use Rattle.operand_laws.specs.Formed.{needed_slots, is_in, HasNeeded, IsInPlace, IsShaped, AreShaped, IsPartShaped, IsFormed}
+use Rattle.operand_laws.specs.Formed.{needed_slots, is_in, HasNeeded}
 
 -- the name of a row
 abbrev pub name_of : Row → names.Row
@@ -41,6 +35,7 @@ must_pass w s = if is_left w.left && s == 0 then true else stays_before s (spot_
 abbrev needed_fit : ℕ → Row → Bool
 needed_fit i w = list_all (must_pass w) (needed_slots (name_of w))
 
+-- so it is of each row of the table
 each_needed_fits : each 0 rows needed_fit ≡ true
 unfolding rows
 each_needed_fits = refl
@@ -59,7 +54,7 @@ edge_passes test (e ∷ es) last p h may =
     let both = and_parts (test e.spot) (each_edge es test) h in
     elim may [ inl here ↦ subst (λ p. test p ≡ true) here.0 both.0 | inr later ↦ edge_passes test es last p both.1 later ]
 
--- a test that is no true
+-- what isn't true
 not_true : (b : Bool) → not b ≡ true → b ≡ true → ⊥
 not_true true h e = cc
 not_true false h e = cc

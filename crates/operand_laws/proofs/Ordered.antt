@@ -1,17 +1,16 @@
 -- The operands of each row that the parser gives come in the order of their slots.
-use Rattle.std.proofs.Common.{◌≡◌, ◌≢◌, ◌+◌, ◌≤◌, ◌-◌, ℕ, zero, suc, Bool, true, false, ◌&&◌, List, [], ◌∷◌, min, refl, sym, subst, arith, if◌then◌else◌}
-use Rattle.std.specs.Prelude.{nat_le, slice_get}
+use Rattle.std.proofs.Common.{◌≡◌, ◌≢◌, ◌≤◌, ℕ, zero, suc, Bool, true, false, ◌&&◌, List, [], ◌∷◌, min, refl, sym, subst, arith, if◌then◌else◌}
+use Rattle.std.specs.Prelude.{nat_le}
 use Rattle.std.proofs.lemmas.Bool.{leb-true, le-leb, and_parts}
 use Rattle.tree_model.specs.Rows as names
 use Rattle.tree_model.specs.Slots as slots
-use Rattle.grammar_model.specs.Trees.{Tree, Forest, Part, node, no_parts, part}
+use Rattle.grammar_model.specs.Trees.{Forest, Part, no_parts, part}
 use Rattle.grammar_model.specs.Tables.{What, nothing, token, operand, Edge, Last, plain as no_operand}
-use Rattle.grammar_model.specs.Rows.{Row, Spot, row_at, spot_at, or_else, is_left}
+use Rattle.grammar_model.specs.Rows.{Row, row_at, spot_at, is_left}
 use Rattle.grammar_model.specs.Checks.{each, each_spot, each_edge}
-use Rattle.grammar_model.specs.Grammar.{last_in, MayCome, StandsIn, BeginsWith, IsFilled, Follows, IsPartFormed}
+use Rattle.grammar_model.specs.Grammar.{last_in, StandsIn, BeginsWith, IsFilled, Follows, IsPartFormed}
 use Rattle.grammar_model.specs.Recovery.{is_operand}
 use Rattle.grammar_model.specs.Named.{slot_of, named_parts}
-use Rattle.grammar_model.specs.Words.{row_names}
 use Rattle.grammar_model.specs.Ocaml.{rows, Text, grammar, row_name}
 use Rattle.grammar_model.proofs.Instance.{each_row, spot_get}
 use Rattle.grammar_model.proofs.Slots.{slot_takes, left_slot_takes}
@@ -52,6 +51,7 @@ starts_low r w = if is_left w.left then each_edge (spot_at w 0).next (λ q. nat_
 abbrev order_fits : ℕ → Row → Bool
 order_fits i w = starts_low (name_of w) w && each_spot 0 w.spots (λ p s. rises_by (name_of w) w p s.next s.what)
 
+-- so it is of each row of the table
 each_order_fits : each 0 rows order_fits ≡ true
 unfolding rows may_repeat
 each_order_fits = refl
@@ -109,6 +109,7 @@ left_in_order : (text : Text) (r : ℕ) (c : Part) (f : Forest) → (grammar tex
     is_in_order (row_name r) 0 (named_parts row_name (part 0 c f)) ≡ true
 left_in_order text r c f left rest = rw (left_slot_takes text r left) rest
 
+-- the parts of a row, with or without a left operand
 filled_in_order : (text : Text) (r p : ℕ) (c : Part) (f : Forest) (left : Bool) → (grammar text).has_left r ≡ left → BeginsWith (grammar text) r left p c → IsPartFormed (grammar text) c → Follows (grammar text) r p (last_in ((grammar text).what r p) c) f →
     is_in_order (row_name r) 0 (named_parts row_name (part p c f)) ≡ true
 filled_in_order text r p c f true left begins formed follows =

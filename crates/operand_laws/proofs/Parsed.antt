@@ -1,25 +1,20 @@
 -- The items of each tree that the parser gives are well formed.
-use Rattle.std.proofs.Common.{◌≡◌, ◌≢◌, ◌∙◌, ◌==◌, ◌+◌, ◌<◌, ◌≤◌, ◌^◌, ◌⊎◌, inl, inr, ℕ, Bool, true, false, ◌&&◌, not, List, [], ◌∷◌, refl, sym, ap, subst, arith, if◌then◌else◌}
-use Rattle.std.specs.Prelude.{nat_le, All, slice_get}
-use Rattle.std.specs.List.{list_all}
-use Rattle.std.proofs.lemmas.Bool.{leb-true, le-leb, eqb-true, eq-eqb, and_parts}
+use Rattle.std.proofs.Common.{◌≡◌, ◌≢◌, ℕ, Bool, true, false, refl, sym, subst, arith}
+use Rattle.std.specs.Prelude.{All}
 use Rattle.std.proofs.lemmas.List.Elements.{All-nil, All-cons}
 use Rattle.tree_model.specs.Rows as names
 use Rattle.tree_model.specs.Slots as slots
 use Rattle.tree_model.specs.Trees as plain
 use Rattle.tree_model.specs.Trees.{AreItemsSized}
-use Rattle.grammar_model.specs.Trees.{Tree, Forest, Part, node, no_parts, part, taken, inner, missing, row_of}
-use Rattle.grammar_model.specs.Tables.{What, nothing, token, operand, Edge, Last, plain as no_operand}
-use Rattle.grammar_model.specs.Rows.{Row, Spot, Left, no_left, level, named as by_name, row_at, spot_at, or_else, is_left, left_takes}
-use Rattle.grammar_model.specs.Checks.{each, each_spot, each_edge, is_nothing}
-use Rattle.grammar_model.specs.Grammar.{last_in, MayCome, StandsIn, left_last, BeginsWith, WellFormed, IsFilled, Follows, IsPartFormed}
+use Rattle.grammar_model.specs.Trees.{Tree, Forest, Part, node, no_parts, part, taken, inner, missing}
+use Rattle.grammar_model.specs.Tables.{What, nothing, token, operand, Last, plain as no_operand}
+use Rattle.grammar_model.specs.Rows.{Left, no_left, level, named as by_name, row_at, left_takes}
+use Rattle.grammar_model.specs.Grammar.{last_in, StandsIn, left_last, BeginsWith, WellFormed, IsFilled, Follows, IsPartFormed}
 use Rattle.grammar_model.specs.Recovery.{is_operand}
 use Rattle.grammar_model.specs.Named.{slot_of, named, named_parts, named_part, forest_items, items_of}
 use Rattle.grammar_model.specs.Ocaml.{rows, Text, grammar, row_name}
-use Rattle.grammar_model.proofs.Instance.{each_row, spot_get}
 use Rattle.grammar_model.proofs.Slots.{slot_takes, left_slot_takes}
-use Rattle.grammar_model.specs.Words.{row_names}
-use Rattle.operand_laws.specs.Formed.{needed_slots, is_in, HasNeeded, IsInPlace, IsShaped, AreShaped, IsPartShaped, IsFormed}
+use Rattle.operand_laws.specs.Formed.{IsInPlace, IsShaped, AreShaped, IsPartShaped, IsFormed}
 use Rattle.operand_laws.proofs.Needed.{needed_filled}
 use Rattle.operand_laws.proofs.Ordered.{in_order}
 
@@ -55,15 +50,18 @@ mutual
   pub shaped : (text : Text) (T : Tree) → WellFormed (grammar text) T → IsShaped (named row_name T)
   shaped text (node r f) h = (needed_filled text r f h, in_order text r f h, row_shaped text r f h)
 
+  -- the parts of a row
   row_shaped : (text : Text) (r : ℕ) (f : Forest) → IsFilled (grammar text) r f → AreShaped (row_name r) (named_parts row_name f)
   row_shaped text r no_parts h = tt
   row_shaped text r (part p c f) h = (first_in_place text r p c ((grammar text).has_left r) refl h.0, part_shaped text c h.1, parts_shaped text r p (last_in ((grammar text).what r p) c) f h.2)
 
+  -- the parts after a spot
   parts_shaped : (text : Text) (r at : ℕ) (last : Last) (f : Forest) → Follows (grammar text) r at last f → AreShaped (row_name r) (named_parts row_name f)
   parts_shaped text r at last no_parts h = tt
   parts_shaped text r at last (part p c f) h =
       (in_place text (row_name r) (slot_of p) ((grammar text).what r p) c (slot_takes text r p) h.1, part_shaped text c h.2, parts_shaped text r p (last_in ((grammar text).what r p) c) f h.3)
 
+  -- a part
   part_shaped : (text : Text) (c : Part) → IsPartFormed (grammar text) c → IsPartShaped (named_part row_name c)
   part_shaped text (taken t) h = tt
   part_shaped text (inner t) h = shaped text t h

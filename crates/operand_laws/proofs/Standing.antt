@@ -27,6 +27,7 @@ kind_stands : (n : ℕ) (at : Place) (q : List Tok) (start end : ℕ) (name : Li
 kind_stands n at q start end name upper = itself n at
 kind_stands n at q start end name _ = itself n at
 
+-- the same with a last token that may be missing
 path_stands : (n : ℕ) (at : Place) (p : Written) → let e = path_expression n at p in StandsAt e.node e.at n at
 path_stands n at p = by p.last
   where
@@ -39,10 +40,12 @@ paren_stands : (n : ℕ) (at : Place) (e : Expression) (o : Option TypeExpressio
 paren_stands n at e None = itself n at
 paren_stands n at e (Some t) = itself n at
 
+-- begin and end, with or without an expression
 begun_stands : (n : ℕ) (at : Place) (o : Option Expression) → StandsAt (begun n at o).node (begun n at o).at n at
 begun_stands n at None = itself n at
 begun_stands n at (Some e) = itself n at
 
+-- a condition, with or without a second branch
 if_stands : (n : ℕ) (at : Place) (e f : Expression) (o : Option Expression) → StandsAt (if_expression n at e f o).node (if_expression n at e f o).at n at
 if_stands n at e f None = itself n at
 if_stands n at e f (Some g) = itself n at
@@ -81,6 +84,7 @@ constructor_stands n at head p = by head.constructor
     by None = itself n at
     by (Some path) = itself n at
 
+-- a pattern with a name that may be missing
 as_stands : (n : ℕ) (at : Place) (p : Pattern) (o : Option Tok) → StandsAt (pas n at p o).node (pas n at p o).at n at
 as_stands n at p None = itself n at
 as_stands n at p (Some t) = itself n at
@@ -105,16 +109,19 @@ unfolding types.type_row
 type_row_stands tvar_row n at cs = variable_stands n at (token_in 0 cs)
 type_row_stands _ n at cs = itself n at
 
+-- what is at a place, as an expression
 part_expression_stands : (n : ℕ) (at : Place) (p : Part) → StandsAt (part_expression n at p).node (part_expression n at p).at n at
 part_expression_stands n at (taken t) = itself n at
 part_expression_stands n at (inner (node r x ps)) = let h = expression_row_stands r n at (children_of (n + 1) r ps) in record { number = h.number; where_it_is = h.where_it_is }
 part_expression_stands n at (missing p) = itself n at
 
+-- the same as a pattern
 part_pattern_stands : (n : ℕ) (at : Place) (p : Part) → StandsAt (part_pattern n at p).node (part_pattern n at p).at n at
 part_pattern_stands n at (taken t) = itself n at
 part_pattern_stands n at (inner (node r x ps)) = let h = pattern_row_stands r n at (children_of (n + 1) r ps) in record { number = h.number; where_it_is = h.where_it_is }
 part_pattern_stands n at (missing p) = itself n at
 
+-- the same as a type expression
 part_type_stands : (n : ℕ) (at : Place) (p : Part) → StandsAt (part_type n at p).node (part_type n at p).at n at
 part_type_stands n at (taken t) = itself n at
 part_type_stands n at (inner (node r x ps)) = let h = type_row_stands r n at (children_of (n + 1) r ps) in record { number = h.number; where_it_is = h.where_it_is }

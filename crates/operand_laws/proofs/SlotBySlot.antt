@@ -1,5 +1,5 @@
 -- All operands of a row are those of its slots, one slot after the other.
-use Rattle.std.proofs.Common.{◌≡◌, ◌∙◌, ◌==◌, ◌+◌, ◌≤◌, ◌<◌, ◌++◌, ℕ, Bool, true, false, ◌&&◌, ◌||◌, List, [], ◌∷◌, Option, Some, None, refl, sym, ap, subst, arith, if◌then◌else◌}
+use Rattle.std.proofs.Common.{◌≡◌, ◌∙◌, ◌==◌, ◌+◌, ◌≤◌, ◌<◌, ◌++◌, ℕ, Bool, true, false, ◌&&◌, ◌||◌, List, [], ◌∷◌, refl, sym, ap, subst, arith, if◌then◌else◌}
 use Rattle.std.specs.Prelude.{nat_eq, nat_le}
 use Rattle.std.specs.List.{list_any, flat_map}
 use Rattle.std.specs.Option.{option_to_list}
@@ -43,6 +43,7 @@ part_rises n r s low p ps os place h rest = by (is_operand r s) refl p place h
     by false e (inner t) place h = absurd (cc)
     by false e (missing at) place h = rw (e) (rest low h)
 
+-- the operands of parts in order, where the first part has this number
 from_rises : (n : ℕ) (r : Row) (low : ℕ) (ps : Forest) → AreShaped r ps → is_in_order r low ps ≡ true → rises r low (operands_from n r ps) ≡ true
 unfolding operands_from
 from_rises n r low no_parts shaped h = refl
