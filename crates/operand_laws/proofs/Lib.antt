@@ -1,0 +1,11 @@
+pub mod Children
+pub mod There
+pub mod Tokens
+pub mod Going
+pub mod Sorts
+pub mod SlotBySlot
+pub mod Standing
+pub mod Applied
+pub mod Needed
+pub mod Ordered
+pub mod Parsed

@@ -1,0 +1,3 @@
+-- Trees as the parser gives them, and what operands mean in the definitions of typings.
+pub mod Formed
+pub mod Operands
