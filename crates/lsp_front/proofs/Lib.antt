@@ -1,5 +1,2 @@
-pub mod Walks
 pub mod Headers
 pub mod Bodies
-pub mod Printing
-pub mod Runs

@@ -4,7 +4,7 @@ use Rattle.serde_json.specs.Data.{Data, string, number}
 use Rattle.serde_json.specs.View.{number_view}
 use Rattle.text_terms.specs.Bytes.{str_bytes}
 use Rattle.lsp_model.specs.Messages as model
-use Rattle.lsp_front.specs.Texts.{columns_in}
+use Rattle.lsp_positions.specs.Texts.{columns_in}
 use Rattle.lsp_front.specs.declared.message.Position.{Position}
 use Rattle.lsp_front.specs.declared.message.Range.{Range}
 use Rattle.lsp_front.specs.declared.message.HoverForm.{HoverForm}

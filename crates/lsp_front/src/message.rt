@@ -3,7 +3,7 @@ ghost use Rattle.std.specs.Prelude.{◌≡◌, false};
 ghost use Rattle.serde_json.specs.Find.{is_float};
 ghost use Rattle.serde_json.specs.View.{number_view};
 
-use crate::positions::Columns;
+use lsp_positions::Columns;
 use serde_json::Number;
 use text_terms::RcStr;
 

@@ -6,14 +6,14 @@ ghost use Rattle.serde_json.specs.View.{view, items_view, number_view};
 ghost use Rattle.lsp_model.specs.Messages as model;
 ghost use Rattle.lsp_model.specs.Positions.{utf16};
 ghost use Rattle.lsp_front.specs.Sayings as says;
-ghost use Rattle.lsp_front.specs.Texts.{columns_in};
+ghost use Rattle.lsp_positions.specs.Texts.{columns_in};
 ghost use Rattle.lsp_front.specs.Values.{seen};
 
 use crate::message::{
     Call, Change, Choices, Declaration, Delivery, DocumentCall, HoverForm, Id, Integer, Kinds,
     Message, Notice, Place, PlaceCall, Position, Range, Refusal,
 };
-use crate::positions::Columns;
+use lsp_positions::Columns;
 use serde_json::{Number, Value};
 use std::alloc::{AllocError, Global};
 use text_terms::{NoMemory, RcStr};

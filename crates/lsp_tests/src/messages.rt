@@ -1,6 +1,7 @@
 //! What a body says, and the bytes of an answer to it.
 use crate::verdict::none_wrong;
-use lsp_front::{Answer, Answered, Call, Message, Refusal, Wrong, read_message, write_answer};
+use lsp_answers::{Answer, Answered, Wrong, write_answer};
+use lsp_front::{Call, Message, Refusal, read_message};
 use std::alloc::Global;
 use std::test::Fail;
 

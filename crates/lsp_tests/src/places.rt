@@ -1,6 +1,6 @@
 //! Offsets, positions and shown spans of a text with wide characters.
 use crate::verdict::none_wrong;
-use lsp_front::{Columns, asked_place, offset_at, position_at, shown_span};
+use lsp_positions::{Columns, asked_place, offset_at, position_at, shown_span};
 use std::test::Fail;
 use text_terms::Span;
 

@@ -1,0 +1,2 @@
+-- How the values of answers are read by the definitions.
+pub mod Puts

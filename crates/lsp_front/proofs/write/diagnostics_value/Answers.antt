@@ -1,7 +1,0 @@
-use Rattle.std.proofs.lemmas.Simd.{map-map}
-use Rattle.lsp_model.specs.Answers.{diagnostic_data}
-use Rattle.lsp_front.specs.Puts.{diagnostic_of}
-use Rattle.lsp_front.proofs.write.diagnostics_value.Goals as goal
-
-pub returns : goal.returns
-returns c = rw (map-map diagnostic_data diagnostic_of c.args.list.now) c.list_value.ensures

@@ -1,5 +1,0 @@
-use Rattle.lsp_front.proofs.Printing.{symbol_items_map}
-use Rattle.lsp_front.proofs.write.symbols_value.Goals as goal
-
-pub returns : goal.returns
-returns c = rw (← (symbol_items_map c.args.list.now)) c.list_value.ensures
