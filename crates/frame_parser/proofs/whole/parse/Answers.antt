@@ -5,11 +5,11 @@ use Rattle.syntax_tree.specs.Tallies.{shifted_more}
 use Rattle.syntax_tree.specs.View.{tok_of}
 use Rattle.syntax_rows.specs.View.{text_of}
 use Rattle.grammar_model.specs.Named.{named, items_of}
-use Rattle.frame_parser.specs.Behind.{Behind}
-use Rattle.frame_parser.specs.Run.{faults, told, shifted_by}
-use Rattle.frame_parser.specs.View.{fault_of}
-use Rattle.frame_parser.proofs.Lists.{grows_more, tokens_few, tokens_most, no_faults, tokens_next, tokens_all, told_next, told_all, recover_tree, shifted_next}
-use Rattle.frame_parser.proofs.whole.parse.Goals as goal
+use Rattle.frame_steps.specs.Behind.{Behind}
+use Rattle.frame_steps.specs.Run.{faults, told, shifted_by}
+use Rattle.frame_steps.specs.View.{fault_of}
+use Rattle.frame_steps.proofs.Lists.{grows_more, tokens_few, tokens_most, no_faults, tokens_next, tokens_all, told_next, told_all, recover_tree, shifted_next}
+use Rattle.frame_steps.proofs.whole.parse.Goals as goal
 
 pub loop-token-init : goal.loop-token-init
 loop-token-init g c = (c.begun-stack.ensures, ap (map fault_of) c.new-faults.ensures.items ∙ no_faults (text_of c.args.text), refl, record { lexed = omega arith; shifted = omega arith; typed = omega arith })

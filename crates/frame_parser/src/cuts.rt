@@ -1,0 +1,167 @@
+//! How an unfinished item ends at a token that would otherwise be taken into it.
+use crate::stack::{Item, Mark, Stack, Stepped, push_token, share_tokens};
+use frame_steps::{
+    Key, Stack as Rows, Stepped as Put, SyntaxFault, close_item, number_of_key, put,
+};
+use std::alloc::{AllocError, Global};
+use syntax_tree::{NoMemory, Token};
+
+/// The key of `let`.
+const LET_KEY: u8 = 30;
+
+/// Whether a step on a `let` begins a local `let`, or would if it were not nested too deeply.
+fn begins_local(put: &Put) -> bool {
+    match put.fault {
+        None => put.stack.is_local(),
+        Some(SyntaxFault::Added { place: _, holes: _ }) => put.stack.is_local(),
+        Some(SyntaxFault::Skipped { span: _ }) => false,
+        Some(SyntaxFault::TooDeep { span: _ }) => true,
+        Some(SyntaxFault::Cut { place: _ }) => false,
+    }
+}
+
+/// Whether a token is a cut token of an item whose first token is in a column, where `put` is the token's step by itself.
+pub(crate) fn is_cut(col: u32, token: &Token, put: &Put) -> bool {
+    number_of_key(Key::of(token)) == LET_KEY && token.col <= col && begins_local(put)
+}
+
+/// The item in progress behind a token that was taken: the one that it begins, or the one before, unless that was closed.
+fn item_behind(rows: &Rows, col: u32, before: Option<Item>) -> Option<Item> {
+    if rows.begins_item() {
+        return Some(Item {
+            col,
+            mark: Mark::Sound,
+        });
+    }
+    match before {
+        None => None,
+        Some(item) => {
+            if rows.has_item() {
+                Some(item)
+            } else {
+                None
+            }
+        }
+    }
+}
+
+/// An item of which a token had a fault.
+fn faulted(item: Option<Item>) -> Option<Item> {
+    match item {
+        None => None,
+        Some(item) => Some(Item {
+            col: item.col,
+            mark: Mark::Marked,
+        }),
+    }
+}
+
+/// The item in progress behind a token with this fault, or none.
+fn item_after(put: &Put, col: u32, item: Option<Item>) -> Option<Item> {
+    match put.fault {
+        None => item_behind(&put.stack, col, item),
+        Some(SyntaxFault::Added { place: _, holes: _ }) => {
+            item_behind(&put.stack, col, faulted(item))
+        }
+        Some(SyntaxFault::Skipped { span: _ }) => faulted(item),
+        Some(SyntaxFault::TooDeep { span: _ }) => faulted(item),
+        Some(SyntaxFault::Cut { place: _ }) => faulted(item),
+    }
+}
+
+/// A fault that may be none, behind others.
+pub(crate) fn add_fault(
+    fault: Option<SyntaxFault>,
+    faults: &mut Vec<SyntaxFault>,
+) -> Result<(), NoMemory> {
+    match fault {
+        None => Ok(()),
+        Some(fault) => match faults.push(fault) {
+            Ok(()) => Ok(()),
+            Err(_) => Err(AllocError),
+        },
+    }
+}
+
+/// Faults behind others.
+pub(crate) fn add_faults(more: &[SyntaxFault], faults: &mut Vec<SyntaxFault>) -> Result<(), NoMemory> {
+    for fault in more {
+        if faults.push(*fault).is_err() {
+            return Err(AllocError);
+        }
+    }
+    Ok(())
+}
+
+/// The stack behind a token that neither cuts nor goes back.
+pub(crate) fn go_on(
+    alloc: Global,
+    item: Option<Item>,
+    token: &Token,
+    put: Put,
+) -> Result<Stepped, NoMemory> {
+    let mut faults = Vec::new(alloc);
+    add_fault(put.fault, &mut faults)?;
+    let item = item_after(&put, token.col, item);
+    Ok(Stepped {
+        stack: Stack {
+            rows: put.stack,
+            item,
+        },
+        faults,
+    })
+}
+
+/// The fault of an item that ends at a place where so many parts are missing.
+fn end_fault(place: u32, holes: u32) -> SyntaxFault {
+    if holes == 0 {
+        SyntaxFault::Cut { place }
+    } else {
+        SyntaxFault::Added { place, holes }
+    }
+}
+
+/// The item in progress ends, and the token is taken.
+pub(crate) fn cut_step(alloc: Global, rows: &Rows, token: &Token) -> Result<Stepped, NoMemory> {
+    let ended = close_item(alloc, rows)?;
+    let next = put(alloc, &ended.stack, token)?;
+    let mut faults = Vec::new(alloc);
+    add_fault(Some(end_fault(rows.place(), ended.holes)), &mut faults)?;
+    add_fault(next.fault, &mut faults)?;
+    let item = item_behind(&next.stack, token.col, None);
+    Ok(Stepped {
+        stack: Stack {
+            rows: next.stack,
+            item,
+        },
+        faults,
+    })
+}
+
+/// What is known of an item behind a token that is a cut token or not, put on these rows.
+pub(crate) fn with_token(
+    alloc: Global,
+    rows: &Rows,
+    token: &Token,
+    cuts: bool,
+    mark: &Mark,
+) -> Result<Mark, NoMemory> {
+    match mark {
+        Mark::Marked => Ok(Mark::Marked),
+        Mark::Sound => {
+            if cuts {
+                Ok(Mark::Held {
+                    before: rows.share()?,
+                    since: push_token(alloc, None, token)?,
+                })
+            } else {
+                Ok(Mark::Sound)
+            }
+        }
+        Mark::Held { before, since } => Ok(Mark::Held {
+            before: before.share()?,
+            since: push_token(alloc, share_tokens(since)?, token)?,
+        }),
+    }
+}
+

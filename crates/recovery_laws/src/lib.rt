@@ -1,0 +1,2 @@
+//! What holds of the parser's trees and faults, whatever the tokens are.
+#![tactic(auto)]
