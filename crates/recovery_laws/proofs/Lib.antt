@@ -1,1 +1,4 @@
 pub mod Faultless
+pub mod Counted
+pub mod Formed
+pub mod Promises
