@@ -2,3 +2,4 @@ pub mod Faultless
 pub mod Counted
 pub mod Formed
 pub mod Promises
+pub mod Laws
