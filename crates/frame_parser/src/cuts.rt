@@ -1,4 +1,16 @@
 //! How an unfinished item ends at a token that would otherwise be taken into it.
+ghost use Rattle.std.specs.Prelude.{◌≡◌, ◌<◌, ◌++◌, ◌∷◌, ℕ, Option, None, map, option_map, IfOk, OnOk};
+ghost use Rattle.token_model.specs.Kinds.{Tok};
+ghost use Rattle.grammar_model.specs.Machine as machine;
+ghost use Rattle.grammar_model.specs.Ocaml.{Text, grammar};
+ghost use Rattle.grammar_model.specs.Recovery as rules;
+ghost use Rattle.recovery_model.specs.Items as model;
+ghost use Rattle.recovery_model.specs.Recovery as recovery;
+ghost use Rattle.syntax_tree.specs.View.{tok_of};
+ghost use Rattle.frame_steps.specs.Told.{told, listed};
+ghost use Rattle.frame_steps.specs.View.{fault_of};
+ghost use Rattle.frame_parser.specs.Shown.{IsReached, RowsReady, ShowsItem, ShowsMark, ShowsPut, ShowsRows, ShowsStep};
+
 use crate::stack::{Item, Mark, Stack, Stepped, push_token, share_tokens};
 use frame_steps::{
     Key, Stack as Rows, Stepped as Put, SyntaxFault, close_item, number_of_key, put,
@@ -10,7 +22,9 @@ use syntax_tree::{NoMemory, Token};
 const LET_KEY: u8 = 30;
 
 /// Whether a step on a `let` begins a local `let`, or would if it were not nested too deeply.
-fn begins_local(put: &Put) -> bool {
+fn begins_local(put: &Put) -> bool
+    ensures { (text : Text) (x : rules.Stepped) → ShowsPut text x put.now → result ≡ model.begins_local x.stack x.fault }
+{
     match put.fault {
         None => put.stack.is_local(),
         Some(SyntaxFault::Added { place: _, holes: _ }) => put.stack.is_local(),
@@ -21,12 +35,16 @@ fn begins_local(put: &Put) -> bool {
 }
 
 /// Whether a token is a cut token of an item whose first token is in a column, where `put` is the token's step by itself.
-pub(crate) fn is_cut(col: u32, token: &Token, put: &Put) -> bool {
+pub(crate) fn is_cut(col: u32, token: &Token, put: &Put) -> bool
+    ensures { (text : Text) (x : rules.Stepped) → ShowsPut text x put.now → result ≡ model.is_cut col (tok_of token.now) x }
+{
     number_of_key(Key::of(token)) == LET_KEY && token.col <= col && begins_local(put)
 }
 
 /// The item in progress behind a token that was taken: the one that it begins, or the one before, unless that was closed.
-fn item_behind(rows: &Rows, col: u32, before: Option<Item>) -> Option<Item> {
+fn item_behind(rows: &Rows, col: u32, before: Option<Item>) -> Option<Item>
+    ensures { (text : Text) (s : model.State) (t : Tok) (i : Option model.Item) → col ≡ t.col → ShowsRows text s rows.now → ShowsItem text i before → ShowsItem text (model.item_behind s.stack t i) result }
+{
     if rows.begins_item() {
         return Some(Item {
             col,
@@ -46,7 +64,9 @@ fn item_behind(rows: &Rows, col: u32, before: Option<Item>) -> Option<Item> {
 }
 
 /// An item of which a token had a fault.
-fn faulted(item: Option<Item>) -> Option<Item> {
+fn faulted(item: Option<Item>) -> Option<Item>
+    ensures { (text : Text) (i : Option model.Item) → ShowsItem text i item → ShowsItem text (recovery.faulted i) result }
+{
     match item {
         None => None,
         Some(item) => Some(Item {
@@ -57,7 +77,9 @@ fn faulted(item: Option<Item>) -> Option<Item> {
 }
 
 /// The item in progress behind a token with this fault, or none.
-fn item_after(put: &Put, col: u32, item: Option<Item>) -> Option<Item> {
+fn item_after(put: &Put, col: u32, item: Option<Item>) -> Option<Item>
+    ensures { (text : Text) (x : rules.Stepped) (t : Tok) (i : Option model.Item) → col ≡ t.col → ShowsPut text x put.now → ShowsItem text i item → ShowsItem text (recovery.item_after x.stack t x.fault i) result }
+{
     match put.fault {
         None => item_behind(&put.stack, col, item),
         Some(SyntaxFault::Added { place: _, holes: _ }) => {
@@ -73,7 +95,9 @@ fn item_after(put: &Put, col: u32, item: Option<Item>) -> Option<Item> {
 pub(crate) fn add_fault(
     fault: Option<SyntaxFault>,
     faults: &mut Vec<SyntaxFault>,
-) -> Result<(), NoMemory> {
+) -> Result<(), NoMemory>
+    ensures { OnOk result (map fault_of faults.new.items ≡ map fault_of faults.old.items ++ listed (option_map fault_of fault)) }
+{
     match fault {
         None => Ok(()),
         Some(fault) => match faults.push(fault) {
@@ -84,7 +108,9 @@ pub(crate) fn add_fault(
 }
 
 /// Faults behind others.
-pub(crate) fn add_faults(more: &[SyntaxFault], faults: &mut Vec<SyntaxFault>) -> Result<(), NoMemory> {
+pub(crate) fn add_faults(more: &[SyntaxFault], faults: &mut Vec<SyntaxFault>) -> Result<(), NoMemory>
+    ensures { OnOk result (map fault_of faults.new.items ≡ map fault_of faults.old.items ++ map fault_of more.now) }
+{
     for fault in more {
         if faults.push(*fault).is_err() {
             return Err(AllocError);
@@ -99,7 +125,9 @@ pub(crate) fn go_on(
     item: Option<Item>,
     token: &Token,
     put: Put,
-) -> Result<Stepped, NoMemory> {
+) -> Result<Stepped, NoMemory>
+    ensures { IfOk result (λ r. (text : Text) (x : rules.Stepped) (i : Option model.Item) → ShowsPut text x put → ShowsItem text i item → ShowsStep text (recovery.go_on i (tok_of token.now) x) r) }
+{
     let mut faults = Vec::new(alloc);
     add_fault(put.fault, &mut faults)?;
     let item = item_after(&put, token.col, item);
@@ -113,7 +141,9 @@ pub(crate) fn go_on(
 }
 
 /// The fault of an item that ends at a place where so many parts are missing.
-fn end_fault(place: u32, holes: u32) -> SyntaxFault {
+fn end_fault(place: u32, holes: u32) -> SyntaxFault
+    ensures { fault_of result ≡ told (model.end_fault place holes) }
+{
     if holes == 0 {
         SyntaxFault::Cut { place }
     } else {
@@ -122,7 +152,10 @@ fn end_fault(place: u32, holes: u32) -> SyntaxFault {
 }
 
 /// The item in progress ends, and the token is taken.
-pub(crate) fn cut_step(alloc: Global, rows: &Rows, token: &Token) -> Result<Stepped, NoMemory> {
+pub(crate) fn cut_step(alloc: Global, rows: &Rows, token: &Token) -> Result<Stepped, NoMemory>
+    requires ready { (n : ℕ) × RowsReady n rows.now × (n < 1048576) }
+    ensures { IfOk result (λ r. (text : Text) (s : model.State) (n : ℕ) → ShowsRows text s rows.now → IsReached text n s → n < 1048576 → ShowsStep text (model.cut_step (grammar text) s (tok_of token.now)) r) }
+{
     let ended = close_item(alloc, rows)?;
     let next = put(alloc, &ended.stack, token)?;
     let mut faults = Vec::new(alloc);
@@ -145,7 +178,9 @@ pub(crate) fn with_token(
     token: &Token,
     cuts: bool,
     mark: &Mark,
-) -> Result<Mark, NoMemory> {
+) -> Result<Mark, NoMemory>
+    ensures { IfOk result (λ r. (text : Text) (s : model.State) (m : model.Mark) → ShowsRows text s rows.now → ShowsMark text m mark.now → ShowsMark text (recovery.with_token s (tok_of token.now) cuts m) r) }
+{
     match mark {
         Mark::Marked => Ok(Mark::Marked),
         Mark::Sound => {

@@ -1,4 +1,10 @@
 //! The parser's stacks, and what its calls give.
+ghost use Rattle.std.specs.Prelude.{◌≡◌, ◌∷◌, map, reverse, Some, IfOk};
+ghost use Rattle.grammar_model.specs.Ocaml.{Text};
+ghost use Rattle.recovery_model.specs.Items as model;
+ghost use Rattle.syntax_tree.specs.View.{tok_of};
+ghost use Rattle.frame_parser.specs.Shown.{tokens_view, ShowsItem, ShowsMark};
+
 use frame_steps::{Stack as Rows, SyntaxFault};
 use std::alloc::{AllocError, Global};
 use std::rc::Rc;
@@ -71,7 +77,9 @@ pub struct Closed {
 }
 
 /// One more owner of the same tokens.
-pub(crate) fn share_tokens(tokens: &Tokens) -> Result<Tokens, NoMemory> {
+pub(crate) fn share_tokens(tokens: &Tokens) -> Result<Tokens, NoMemory>
+    ensures { IfOk result (λ r. tokens_view r ≡ tokens_view tokens.now) }
+{
     match tokens {
         None => Ok(None),
         Some(kept) => match Rc::clone(kept) {
@@ -82,14 +90,18 @@ pub(crate) fn share_tokens(tokens: &Tokens) -> Result<Tokens, NoMemory> {
 }
 
 /// The same item, with one more owner of what it keeps.
-pub(crate) fn share_item(item: &Item) -> Result<Item, NoMemory> {
+pub(crate) fn share_item(item: &Item) -> Result<Item, NoMemory>
+    ensures { IfOk result (λ r. (text : Text) (i : model.Item) → ShowsItem text (Some i) (Some item.now) → ShowsItem text (Some i) (Some r)) }
+{
     Ok(Item {
         col: item.col,
         mark: share_mark(&item.mark)?,
     })
 }
 
-fn share_mark(mark: &Mark) -> Result<Mark, NoMemory> {
+fn share_mark(mark: &Mark) -> Result<Mark, NoMemory>
+    ensures { IfOk result (λ r. (text : Text) (m : model.Mark) → ShowsMark text m mark.now → ShowsMark text m r) }
+{
     match mark {
         Mark::Sound => Ok(Mark::Sound),
         Mark::Marked => Ok(Mark::Marked),
@@ -105,7 +117,9 @@ pub(crate) fn push_token(
     alloc: Global,
     before: Tokens,
     token: &Token,
-) -> Result<Tokens, NoMemory> {
+) -> Result<Tokens, NoMemory>
+    ensures { IfOk result (λ r. tokens_view r ≡ tok_of token.now ∷ tokens_view before) }
+{
     let kept = Kept {
         token: token.share()?,
         before,
@@ -117,7 +131,9 @@ pub(crate) fn push_token(
 }
 
 /// The tokens in order.
-pub(crate) fn tokens_in_order(alloc: Global, tokens: &Tokens) -> Result<Vec<Token>, NoMemory> {
+pub(crate) fn tokens_in_order(alloc: Global, tokens: &Tokens) -> Result<Vec<Token>, NoMemory>
+    ensures { IfOk result (λ r. map tok_of r.items ≡ reverse (tokens_view tokens.now)) }
+{
     let mut found = Vec::new(alloc);
     let mut left = tokens;
     while let Some(kept) = left {

@@ -1,4 +1,22 @@
 //! A stack begins, takes tokens one by one, and is closed.
+ghost use Rattle.std.specs.Prelude.{◌≡◌, ◌<◌, ◌≤◌, ◌+◌, ◌++◌, ◌∷◌, [], ℕ, List, Option, Some, None, length, map, reverse, option_map, IfOk, OnOk, OnErr};
+ghost use Rattle.token_model.specs.Kinds.{Tok};
+ghost use Rattle.grammar_model.specs.Named.{named, items_of};
+ghost use Rattle.grammar_model.specs.Ocaml as ocaml;
+ghost use Rattle.grammar_model.specs.Ocaml.{grammar};
+ghost use Rattle.grammar_model.specs.Recovery as rules;
+ghost use Rattle.grammar_model.specs.Recovery.{last_fault};
+ghost use Rattle.recovery_model.specs.Items as model;
+ghost use Rattle.recovery_model.specs.Recovery as recovery;
+ghost use Rattle.syntax_tree.specs.Tallies.{shifted_more};
+ghost use Rattle.syntax_tree.specs.View.{tok_of, trees_of};
+ghost use Rattle.syntax_rows.specs.View.{text_of};
+ghost use Rattle.frame_steps.specs.Told.{told, listed};
+ghost use Rattle.frame_steps.specs.View.{fault_of};
+ghost use Rattle.frame_parser.specs.Behind.{Behind};
+ghost use Rattle.frame_parser.specs.Run.{run, next_step};
+ghost use Rattle.frame_parser.specs.Shown.{Comes, IsReached, IsReady, KeepsFew, RowsReady, Shows, ShowsItem, ShowsMark, ShowsPut, ShowsRows, ShowsStep, tokens_view};
+
 use crate::cuts::{add_fault, add_faults, cut_step, go_on, is_cut, with_token};
 use crate::stack::{Closed, Item, Mark, Stack, Stepped, Tokens, share_item, tokens_in_order};
 use frame_steps::{
@@ -8,17 +26,24 @@ use std::alloc::Global;
 use syntax_tree::{Counts, NoMemory, Token};
 
 /// The stack of a program without tokens.
-pub fn empty(_alloc: Global) -> Result<Stack, NoMemory> {
+pub fn empty(_alloc: Global) -> Result<Stack, NoMemory>
+    ensures { IfOk result (λ r. Behind ocaml.program_text [] r) }
+{
     Ok(begun(Text::Program))
 }
 
 /// The stack of an interface's text without tokens.
-pub fn empty_sig(_alloc: Global) -> Result<Stack, NoMemory> {
+pub fn empty_sig(_alloc: Global) -> Result<Stack, NoMemory>
+    ensures { IfOk result (λ r. Behind ocaml.interface_text [] r) }
+{
     Ok(begun(Text::Signature))
 }
 
 /// The stack of a text without tokens.
-pub(crate) fn begun(text: Text) -> Stack {
+#[tactic(auto, unfolding(crate::specs::Run::run))]
+pub(crate) fn begun(text: Text) -> Stack
+    ensures { Behind (text_of text) [] result }
+{
     Stack {
         rows: rows_begun(text),
         item: None,
@@ -26,7 +51,10 @@ pub(crate) fn begun(text: Text) -> Stack {
 }
 
 /// A token that is taken again, where each cut token cuts.
-fn retake(alloc: Global, stack: &Stack, token: &Token) -> Result<Stepped, NoMemory> {
+fn retake(alloc: Global, stack: &Stack, token: &Token) -> Result<Stepped, NoMemory>
+    requires ready { (n : ℕ) × RowsReady n stack.now.rows × (n < 1048576) }
+    ensures { IfOk result (λ r. (text : ocaml.Text) (p : model.Parser) (n : ℕ) → Shows text p stack.now → IsReached text n p.state → n < 1048576 → ShowsStep text (recovery.retake (grammar text) p (tok_of token.now)) r) }
+{
     let next = put(alloc, &stack.rows, token)?;
     match &stack.item {
         None => go_on(alloc, None, token, next),
@@ -40,7 +68,10 @@ fn retake(alloc: Global, stack: &Stack, token: &Token) -> Result<Stepped, NoMemo
 }
 
 /// Tokens that are taken again.
-fn retake_all(alloc: Global, start: Stack, tokens: &[Token]) -> Result<Stepped, NoMemory> {
+fn retake_all(alloc: Global, start: Stack, tokens: &[Token]) -> Result<Stepped, NoMemory>
+    requires ready { (text : ocaml.Text) × (p : model.Parser) × (n : ℕ) × Shows text p start × IsReached text n p.state × (n + length tokens.now ≤ 1048576) }
+    ensures { IfOk result (λ r. (text : ocaml.Text) (p : model.Parser) (n : ℕ) → Shows text p start → IsReached text n p.state → n + length tokens.now ≤ 1048576 → ShowsStep text (recovery.retake_all (grammar text) (map tok_of tokens.now) p) r) }
+{
     let mut faults = Vec::new(alloc);
     let mut stack = start;
     for token in tokens {
@@ -52,7 +83,10 @@ fn retake_all(alloc: Global, start: Stack, tokens: &[Token]) -> Result<Stepped, 
 }
 
 /// From these rows, in an item whose first token is in a column, the tokens are taken again.
-fn go_back(alloc: Global, col: u32, before: Rows, since: &Tokens) -> Result<Stepped, NoMemory> {
+fn go_back(alloc: Global, col: u32, before: Rows, since: &Tokens) -> Result<Stepped, NoMemory>
+    requires ready { (n : ℕ) × RowsReady n before × (n + length (tokens_view since.now) ≤ 1048576) }
+    ensures { IfOk result (λ r. (text : ocaml.Text) (s : model.State) (ts : List Tok) (n : ℕ) → ShowsRows text s before → reverse (tokens_view since.now) ≡ ts → IsReached text n s → n + length ts ≤ 1048576 → ShowsStep text (recovery.go_back (grammar text) col s ts) r) }
+{
     let tokens = tokens_in_order(alloc, since)?;
     let start = Stack {
         rows: before,
@@ -71,7 +105,10 @@ fn step_in_item(
     token: &Token,
     next: Put,
     mark: Mark,
-) -> Result<Stepped, NoMemory> {
+) -> Result<Stepped, NoMemory>
+    requires ready { (text : ocaml.Text) × (m : model.Mark) × ShowsMark text m mark × KeepsFew text 1048576 m }
+    ensures { IfOk result (λ r. (text : ocaml.Text) (x : rules.Stepped) (m : model.Mark) → ShowsPut text x next → ShowsMark text m mark → KeepsFew text 1048576 m → ShowsStep text (recovery.step_sound (grammar text) col (tok_of token.now) x x.fault m) r) }
+{
     match next.fault {
         None => go_on(alloc, Some(Item { col, mark }), token, next),
         Some(_) => match mark {
@@ -83,7 +120,10 @@ fn step_in_item(
 }
 
 /// The stack behind one token more, and the token's faults.
-fn take_one(alloc: Global, stack: &Stack, token: &Token) -> Result<Stepped, NoMemory> {
+fn take_one(alloc: Global, stack: &Stack, token: &Token) -> Result<Stepped, NoMemory>
+    requires ready { IsReady 1048575 stack.now }
+    ensures { IfOk result (λ r. (text : ocaml.Text) (p : model.Parser) (n : ℕ) → Shows text p stack.now → Comes text n p → n < 1048576 → ShowsStep text (recovery.step (grammar text) p (tok_of token.now)) r) }
+{
     let next = put(alloc, &stack.rows, token)?;
     match &stack.item {
         None => go_on(alloc, None, token, next),
@@ -99,7 +139,9 @@ fn take_one(alloc: Global, stack: &Stack, token: &Token) -> Result<Stepped, NoMe
 }
 
 /// Whether an item has a fault.
-fn is_marked(mark: &Mark) -> bool {
+fn is_marked(mark: &Mark) -> bool
+    ensures { (text : ocaml.Text) (m : model.Mark) → ShowsMark text m mark.now → result ≡ recovery.is_marked m }
+{
     match mark {
         Mark::Marked => true,
         Mark::Sound => false,
@@ -113,14 +155,24 @@ pub fn step<C: Counts>(
     stack: &Stack,
     token: &Token,
     counts: &mut C,
-) -> Result<Stepped, NoMemory> {
+) -> Result<Stepped, NoMemory>
+    requires few { (text : ocaml.Text) × (ts : List Tok) × Behind text ts stack.now × (length ts < 1048576) }
+    ensures stack { IfOk result (λ r. (text : ocaml.Text) (ts : List Tok) → Behind text ts stack.now → length ts < 1048576 → Behind text (ts ++ tok_of token.now ∷ []) r.stack) }
+    ensures faults { IfOk result (λ r. (text : ocaml.Text) (ts : List Tok) → Behind text ts stack.now → length ts < 1048576 → map fault_of r.faults.items ≡ map told (next_step text ts (tok_of token.now)).faults) }
+    ensures counted { OnOk result (C.tallies counts.new ≡ shifted_more (C.tallies counts.old)) }
+    ensures refused { OnErr result (C.tallies counts.new ≡ C.tallies counts.old) }
+{
     let stepped = take_one(alloc, stack, token)?;
     counts.add_shifted();
     Ok(stepped)
 }
 
 /// The tree of the tokens on a stack, and the faults at its end. The stack that is lent stays as it is.
-pub fn close(alloc: Global, stack: &Stack) -> Result<Closed, NoMemory> {
+pub fn close(alloc: Global, stack: &Stack) -> Result<Closed, NoMemory>
+    requires few { (text : ocaml.Text) × (ts : List Tok) × Behind text ts stack.now × (length ts ≤ 1048576) }
+    ensures tree { IfOk result (λ r. (text : ocaml.Text) (ts : List Tok) → Behind text ts stack.now → length ts ≤ 1048576 → trees_of r.tree ≡ items_of (named ocaml.row_name (recovery.close (grammar text) (run text ts)).0)) }
+    ensures faults { IfOk result (λ r. (text : ocaml.Text) (ts : List Tok) → Behind text ts stack.now → length ts ≤ 1048576 → map fault_of r.faults.items ≡ map told (recovery.close (grammar text) (run text ts)).1) }
+{
     let whole = close_up(alloc, &stack.rows)?;
     if whole.holes > 0 {
         if let Some(item) = &stack.item {
@@ -135,7 +187,10 @@ pub fn close(alloc: Global, stack: &Stack) -> Result<Closed, NoMemory> {
 }
 
 /// A tree, and the fault of what is missing at its end behind others.
-fn ended(whole: Whole, place: u32, before: Vec<SyntaxFault>) -> Result<Closed, NoMemory> {
+fn ended(whole: Whole, place: u32, before: Vec<SyntaxFault>) -> Result<Closed, NoMemory>
+    ensures tree { IfOk result (λ r. trees_of r.tree ≡ trees_of whole.tree) }
+    ensures faults { IfOk result (λ r. map fault_of r.faults.items ≡ map fault_of before.items ++ map told (last_fault whole.holes place)) }
+{
     let mut faults = before;
     add_fault(fault_at(place, whole.holes), &mut faults)?;
     Ok(Closed {
@@ -145,7 +200,9 @@ fn ended(whole: Whole, place: u32, before: Vec<SyntaxFault>) -> Result<Closed, N
 }
 
 /// The fault of so many missing parts, if there are any.
-fn fault_at(place: u32, holes: u32) -> Option<SyntaxFault> {
+fn fault_at(place: u32, holes: u32) -> Option<SyntaxFault>
+    ensures { listed (option_map fault_of result) ≡ map told (last_fault holes place) }
+{
     if holes == 0 {
         None
     } else {

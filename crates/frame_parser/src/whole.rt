@@ -1,4 +1,15 @@
 //! The tree and the faults of a whole list of tokens.
+ghost use Rattle.std.specs.Prelude.{◌≡◌, ◌≤◌, length, map, IfOk, OnOk};
+ghost use Rattle.grammar_model.specs.Named.{named, items_of};
+ghost use Rattle.grammar_model.specs.Ocaml as ocaml;
+ghost use Rattle.recovery_model.specs.Recovery.{recover};
+ghost use Rattle.syntax_tree.specs.Tallies.{Grows};
+ghost use Rattle.syntax_tree.specs.View.{tok_of, trees_of};
+ghost use Rattle.syntax_rows.specs.View.{text_of};
+ghost use Rattle.frame_steps.specs.Told.{told};
+ghost use Rattle.frame_steps.specs.View.{fault_of};
+ghost use Rattle.frame_parser.specs.Run.{shifted_by};
+
 use crate::cuts::add_faults;
 use crate::steps::{begun, close, step};
 use frame_steps::{SyntaxFault, Text};
@@ -20,6 +31,11 @@ pub fn parse<C: Counts>(
     tokens: &[Token],
     counts: &mut C,
 ) -> Result<Parsed, NoMemory>
+    requires few { length tokens.now ≤ 1048576 }
+    ensures tree { IfOk result (λ r. trees_of r.tree ≡ items_of (named ocaml.row_name (recover (ocaml.grammar (text_of text)) (map tok_of tokens.now)).0)) }
+    ensures faults { IfOk result (λ r. map fault_of r.faults.items ≡ map told (recover (ocaml.grammar (text_of text)) (map tok_of tokens.now)).1) }
+    ensures counted { OnOk result (C.tallies counts.new ≡ shifted_by (length tokens.now) (C.tallies counts.old)) }
+    ensures grows { Grows (C.tallies counts.old) (C.tallies counts.new) }
 {
     let mut faults = Vec::new(alloc);
     let mut stack = begun(text);

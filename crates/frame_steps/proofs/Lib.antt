@@ -10,4 +10,5 @@ pub mod OneStep
 pub mod Runs
 pub mod Putting
 pub mod Wholes
-pub mod Lists
+pub mod ItemFrames
+pub mod ItemEnds

@@ -14,7 +14,7 @@ use Rattle.parse_frames.specs.Frames as frames
 use Rattle.parse_frames.specs.Named.{IsNamed}
 use Rattle.parse_frames.specs.Stacks.{stack_view}
 use Rattle.parse_frames.specs.declared.stack.Stack.{Stack as FrameStack}
-use Rattle.frame_steps.specs.Run.{told}
+use Rattle.frame_steps.specs.Told.{told}
 use Rattle.parse_frames.proofs.Named.{waiting_named}
 use Rattle.frame_steps.specs.Course.{bare, fit_of, out_of, course_of, out, out_holes, past_way, past_holes, depth_of, taken_to, IsPlaced, IsRefused, course_frames, course_holes}
 use Rattle.frame_steps.specs.View.{fault_of, text_table, Stands, Standing, HasCourse, IsTakenBy, IsLeftOut, StepsTo}

@@ -1,4 +1,4 @@
--- The frames behind the tokens of a text are in order.
+-- The frames that the tokens of a text lead to are in order.
 use Rattle.std.proofs.Common.{◌≡◌, ℕ, zero, suc, ◌+◌, ◌*◌, ◌^◌, ◌≤◌, ◌<◌, Bool, true, false, ◌&&◌, List, [], ◌∷◌, ◌++◌, length, Option, Some, None, refl, sym, ap, subst, arith, if◌then◌else◌, inl, inr}
 use Rattle.std.proofs.lemmas.Bool.{cases_lt}
 use Rattle.token_model.specs.Kinds.{Tok}
@@ -15,11 +15,14 @@ use Rattle.grammar_model.proofs.Formed.{Passes, TopOf, Below, Top, top_step, top
 use Rattle.grammar_model.proofs.Instance.{passes}
 use Rattle.grammar_model.proofs.Promises.{rows_tested}
 use Rattle.grammar_model.specs.Ocaml.{rows, sizes, root_of}
-use Rattle.frame_steps.specs.Run.{State, state, start, run_on, run, next_step}
+use Rattle.recovery_model.specs.Items.{closed_out, closed_item}
+use Rattle.recovery_laws.proofs.Formed.{closed_fine}
+use Rattle.frame_steps.specs.Reached.{Reached, begun, taken, longer, ended, to_close}
 use Rattle.frame_steps.specs.Order.{done_nodes, highest, weight, AllWait, AllLow, InOrder}
 use Rattle.frame_steps.specs.Course.{fit_of, out_of, course_of, out, past_musts, past_operand, past_way, depth_of, grown_to, taken_to, course_frames}
 use Rattle.frame_steps.proofs.Chains.{laws, chain_few}
 use Rattle.frame_steps.proofs.Orders.{put_light}
+use Rattle.frame_steps.proofs.ItemFrames.{closed_is}
 use Rattle.frame_steps.proofs.OneStep.{Steps, fit_steps, out_steps, no_steps}
 
 -- frames that are closed make no more nodes than their weight
@@ -146,29 +149,42 @@ step_light text f S at t = by (fit_of (grammar text) f S t) refl
     by none e = out_by (out_of (grammar text) f S t) refl (sym (ap course_of e))
 
 -- frames that are well formed and of little weight
-pub record Good (text : Text) (n : ℕ) (s : State) : Type 0 where
-  pub top : TopOf (grammar text) s.stack
-  pub light : weight s.stack ≤ n
+record Good (text : Text) (n : ℕ) (S : Stack) : Type 0 where
+  top : TopOf (grammar text) S
+  light : weight S ≤ n
 
-good_step : (text : Text) (n : ℕ) (s : State) (t : Tok) → Good text n s → Good text (n + 107) (state (step (grammar text) s.stack s.place t).stack (step (grammar text) s.stack s.place t).place)
-good_step text n s t g = record {
-  top = top_step (grammar text) (laws text) (passes (root_of text) sizes rows (rows_tested text)) s.stack s.place t g.top;
-  light = by s.stack g.top g.light;
+good_step : (text : Text) (n : ℕ) (S : Stack) (place : ℕ) (t : Tok) → Good text n S → Good text (n + 107) (step (grammar text) S place t).stack
+good_step text n S place t g = record {
+  top = top_step (grammar text) (laws text) (passes (root_of text) sizes rows (rows_tested text)) S place t g.top;
+  light = by S g.top g.light;
 }
   where
-    by : (S : Stack) → TopOf (grammar text) S → weight S ≤ n → weight (step (grammar text) S s.place t).stack ≤ n + 107
+    by : (S : Stack) → TopOf (grammar text) S → weight S ≤ n → weight (step (grammar text) S place t).stack ≤ n + 107
     by [] top l = absurd top
-    by (f ∷ S) top l = let h = step_light text f S s.place t in omega arith
+    by (f ∷ S) top l = let h = step_light text f S place t in omega arith
 
-run_good : (text : Text) (ts : List Tok) (n : ℕ) (s : State) → Good text n s → Good text (n + 107 * length ts) (run_on (grammar text) ts s)
-run_good text [] n s g = record { top = g.top; light = let l = g.light in omega arith }
-run_good text (t ∷ ts) n s g =
-    let r = step (grammar text) s.stack s.place t in
-    let h = run_good text ts (n + 107) (state r.stack r.place) (good_step text n s t g) in
-    record { top = h.top; light = let l = h.light in omega arith }
+-- an item that is closed makes no more nodes than the weight of its frames
+ended_light : (G : Table) (place : ℕ) (S : Stack) (f : Frame) → weight (closed_out G f S place).0 ≤ weight (f ∷ S)
+ended_light G place S f =
+    let e : weight (closed_out G f S place).0 ≡ weight ((out (to_close f.number S) G f S place).0 ∷ (out (to_close f.number S) G f S place).1) = ap (λ c. weight c.0) (closed_is G place S f) in
+    let h = out_light (to_close f.number S) G f S place in omega arith
 
-start_good : (text : Text) → Good text 18 (start (grammar text))
-start_good text = record { top = top_begun (grammar text) (laws text); light = omega arith }
+good_ended : (text : Text) (n : ℕ) (S : Stack) (place : ℕ) → Good text n S → Good text n (closed_item (grammar text) S place).0
+good_ended text n [] place g = absurd g.top
+good_ended text n (f ∷ S) place g = record {
+  top = closed_fine (grammar text) (passes (root_of text) sizes rows (rows_tested text)) place S f g.top;
+  light = let h = ended_light (grammar text) place S f in let l = g.light in omega arith;
+}
+
+reached_good : (text : Text) (n : ℕ) (S : Stack) (place : ℕ) → Reached text n S place → Good text (18 + 107 * n) S
+reached_good text n S place begun = record { top = top_begun (grammar text) (laws text); light = omega arith }
+reached_good text n S place (taken {n = m} {S = U} {place = at} t r) =
+    let g = good_step text (18 + 107 * m) U at t (reached_good text m U at r) in
+    record { top = g.top; light = let l = g.light in omega arith }
+reached_good text n S place (longer {n = m} {S = U} {place = at} r) =
+    let g = reached_good text m U at r in
+    record { top = g.top; light = let l = g.light in omega arith }
+reached_good text n S place (ended {n = m} {S = U} {place = at} r) = good_ended text (18 + 107 * m) U at (reached_good text m U at r)
 
 low_highest : (d : ℕ) (ds : List (ℕ × Part)) → formed.AllLow d ds → d ≤ 512 → highest ds + d ≤ 512
 low_highest d [] l h = omega arith
@@ -190,18 +206,6 @@ top_order text (f ∷ S) top l =
     let h = low_highest (length S + 1) f.done top.low few in
     record { wait = d; low = (omega arith, c); light = l }
 
--- the frames behind as many tokens as a text may have are in order
-pub run_order : (text : Text) (ts : List Tok) → length ts ≤ 1048576 → InOrder (grammar text) (run text ts).stack
-unfolding run
-run_order text ts l =
-    let g = run_good text ts 18 (start (grammar text)) (start_good text) in
-    top_order text (run_on (grammar text) ts (start (grammar text))).stack g.top (let h = g.light in omega arith)
-
-run_on_next : (G : Table) (ts : List Tok) (t : Tok) (s : State) → run_on G (ts ++ (t ∷ [])) s ≡ state (step G (run_on G ts s).stack (run_on G ts s).place t).stack (step G (run_on G ts s).stack (run_on G ts s).place t).place
-run_on_next G [] t s = refl
-run_on_next G (u ∷ ts) t s = run_on_next G ts t (state (step G s.stack s.place u).stack (step G s.stack s.place u).place)
-
--- the state behind one token more
-pub run_next : (text : Text) (ts : List Tok) (t : Tok) → run text (ts ++ (t ∷ [])) ≡ state (next_step text ts t).stack (next_step text ts t).place
-unfolding run
-run_next text ts t = run_on_next (grammar text) ts t (start (grammar text))
+-- the frames that as many tokens lead to as a text may have are in order
+pub reached_order : (text : Text) (n : ℕ) (S : Stack) (place : ℕ) → Reached text n S place → n ≤ 1048576 → InOrder (grammar text) S
+reached_order text n S place r l = let g = reached_good text n S place r in top_order text S g.top (let h = g.light in omega arith)

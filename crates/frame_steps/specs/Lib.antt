@@ -2,3 +2,4 @@ pub mod Told
 pub mod Order
 pub mod Course
 pub mod View
+pub mod Reached

@@ -190,8 +190,13 @@ pub fn lex_on<C: Counts>(
     }
 }
 
-/// The place behind a token.
-fn behind(left: &[u8], right: &[u8], token: &Token) -> Start
+/// The column of the place behind a token of a text in two parts.
+fn column_behind(left: &[u8], right: &[u8], token: &Token) -> u32
+    requires short { length (left.now ++ right.now) < 2 ^ 32 - 1 }
+    requires order { token.now.span.start ≤ token.now.span.end }
+    requires inside { token.now.span.end ≤ length (left.now ++ right.now) }
+    requires col { token.now.col ≡ column (left.now ++ right.now) token.now.span.start }
+    ensures { result ≡ column (left.now ++ right.now) token.now.span.end }
 {
     let size = token.span.end - token.span.start;
     let text = Rest {
@@ -199,10 +204,7 @@ fn behind(left: &[u8], right: &[u8], token: &Token) -> Start
         right,
         at: token.span.start as usize,
     };
-    Start {
-        at: token.span.end,
-        col: column_ahead(text, size as usize, token.col),
-    }
+    column_ahead(text, size as usize, token.col)
 }
 
 /// All tokens of a text in two parts, each of which is counted.
@@ -220,9 +222,11 @@ pub fn lex_all<C: Counts>(
     ensures grows { Grows (C.tallies counts.old) (C.tallies counts.new) }
 {
     let mut tokens = Vec::new(alloc);
-    let mut from = Start { at: 0, col: 0 };
-    while let Some(token) = lex_on(alloc, left, right, from, counts)? {
-        from = behind(left, right, &token);
+    let mut at: u32 = 0;
+    let mut col: u32 = 0;
+    while let Some(token) = lex_on(alloc, left, right, Start { at, col }, counts)? {
+        at = token.span.end;
+        col = column_behind(left, right, &token);
         if tokens.push(token).is_err() {
             return Err(AllocError);
         }

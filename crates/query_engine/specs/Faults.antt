@@ -6,8 +6,8 @@ use Rattle.syntax_tree.specs.View.{place_of}
 use Rattle.query_model.specs.Faults as model
 use Rattle.query_model.specs.Faults.{Fault, Source, TyperFault, TyperKind, by_typer, page_limit, parts_missing, placed_among, token_skipped, token_too_deep, item_cut, InOrder}
 use Rattle.frame_steps.specs.Told.{Told, added, skipped, too_deep, cut}
-use Rattle.frame_parser.specs.View as parser
-use Rattle.frame_parser.specs.declared.stack.SyntaxFault.{SyntaxFault}
+use Rattle.frame_steps.specs.View as parser
+use Rattle.frame_steps.specs.declared.stack.SyntaxFault.{SyntaxFault}
 use Rattle.env_table.specs.declared.faults.Fault as typer
 use Rattle.env_table.specs.declared.faults.FaultKind.{FaultKind}
 use Rattle.env_table.specs.declared.faults.FaultKind.TheVariants as kind

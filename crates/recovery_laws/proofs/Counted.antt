@@ -41,11 +41,11 @@ adds_on (too_deep t ∷ fs) gs = adds_on fs gs
 adds_on (cut p ∷ fs) gs = adds_on fs gs
 
 -- from frames to others: these tokens are those taken between them and those that the faults leave out, and the faults count the missing parts
-record Taken (S U : Stack) (ts : List Tok) (fs : List Fault) : Type 0 where
-  more : List Tok
-  yields : stack_yield U ≡ stack_yield S ++ more
-  merged : Merged ts more (left_out fs)
-  holes : stack_holes U ≡ stack_holes S + added_in fs
+pub record Taken (S U : Stack) (ts : List Tok) (fs : List Fault) : Type 0 where
+  pub more : List Tok
+  pub yields : stack_yield U ≡ stack_yield S ++ more
+  pub merged : Merged ts more (left_out fs)
+  pub holes : stack_holes U ≡ stack_holes S + added_in fs
 
 -- one after the other
 taken_on : (S U V : Stack) (ts us : List Tok) (fs gs : List Fault) → Taken S U ts fs → Taken U V us gs → Taken S V (ts ++ us) (fs ++ gs)
@@ -108,12 +108,12 @@ moved_closed G place (g ∷ S) f = by (nat_eq f.number item_row) (moved_closed G
     by false go = moved_on (f ∷ g ∷ S) (put F g ∷ S) (closed_out G (put F g) S place).0 [] (filled most_parts G f place).1 (closed_out G (put F g) S place).1 one go
 
 -- an item that keeps no tokens
-abbrev IsSettled : Mark → Type 0
+abbrev pub IsSettled : Mark → Type 0
 IsSettled sound = Unit {0}
 IsSettled (held q ts) = ⊥
 IsSettled marked = Unit {0}
 
-abbrev Settled : Option Item → Type 0
+abbrev pub Settled : Option Item → Type 0
 Settled None = Unit {0}
 Settled (Some i) = IsSettled i.mark
 
@@ -138,9 +138,9 @@ after_settled S t (Some (too_deep u)) i h = faulted_settled i
 after_settled S t (Some (cut p)) i h = faulted_settled i
 
 -- tokens that are taken from these frames, and an item behind them that keeps none
-record Settles (S : Stack) (ts : List Tok) (r : Stepped) : Type 0 where
-  taken : Taken S r.parser.state.stack ts r.faults
-  settled : Settled r.parser.item
+pub record Settles (S : Stack) (ts : List Tok) (r : Stepped) : Type 0 where
+  pub taken : Taken S r.parser.state.stack ts r.faults
+  pub settled : Settled r.parser.item
 
 go_on_settles : (G : Table) → Found G → (s : State) (i : Option Item) (t : Tok) → Settled i → Settles s.stack (t ∷ []) (go_on i t (rules.step G s.stack s.place t))
 go_on_settles G L s i t h =
@@ -182,7 +182,7 @@ retake_settles G L p t h = by p.item h
         whether false = go_on_settles G L p.state (Some i) t h
 
 -- tokens that are taken again
-all_settle : (G : Table) → Found G → (ts : List Tok) (p : Parser) → Settled p.item → Settles p.state.stack ts (retake_all G ts p)
+pub all_settle : (G : Table) → Found G → (ts : List Tok) (p : Parser) → Settled p.item → Settles p.state.stack ts (retake_all G ts p)
 all_settle G L [] p h = record { taken = taken_none p.state.stack; settled = h }
 all_settle G L (t ∷ ts) p h =
     let a = retake_settles G L p t h in

@@ -51,7 +51,7 @@ go_on_fine G L P s i t top h =
     record { frames = top_step G L P s.stack s.place t top; item = after_fine G r.stack t r.fault i h }
 
 -- the item's frames are closed
-closed_fine : (G : Table) → Passes G → (place : ℕ) (S : Stack) (f : Frame) → top_frame G f S → TopOf G (closed_out G f S place).0
+pub closed_fine : (G : Table) → Passes G → (place : ℕ) (S : Stack) (f : Frame) → top_frame G f S → TopOf G (closed_out G f S place).0
 closed_fine G P place [] f top = top
 closed_fine G P place (g ∷ S) f top = by (nat_eq f.number item_row) one (closed_fine G P place S (put F g) one)
   where
