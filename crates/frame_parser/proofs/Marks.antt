@@ -15,8 +15,9 @@ use Rattle.frame_steps.specs.Told.{Told, added, skipped, too_deep, cut, told}
 use Rattle.frame_steps.specs.View.{fault_of}
 use Rattle.frame_steps.specs.declared.stack.Stack.{Stack as Rows}
 use Rattle.frame_steps.specs.declared.stack.Stepped.{Stepped as Put}
+use Rattle.frame_steps.specs.declared.stack.SyntaxFault.{SyntaxFault}
 use Rattle.frame_steps.proofs.ItemFrames.{item_named}
-use Rattle.frame_parser.specs.Shown.{ShowsItem, ShowsMark, ShowsPut, ShowsRows}
+use Rattle.frame_parser.specs.Shown.{is_left_out, ShowsItem, ShowsMark, ShowsPut, ShowsRows}
 use Rattle.frame_parser.specs.declared.stack.Item.{Item as CodeItem}
 use Rattle.frame_parser.specs.declared.stack.Mark.TheVariants.{Sound, Held, Marked}
 
@@ -104,3 +105,24 @@ told_after S t (Some (rules.cut p)) i = refl
 -- the item behind a step is told by its fault
 pub put_after : (text : Text) (x : rules.Stepped) (r : Put) (t : Tok) (i : Option Item) (j : Option CodeItem) → ShowsPut text x r → ShowsItem text (after_told x.stack t (option_map fault_of r.fault) i) j → ShowsItem text (item_after x.stack t x.fault i) j
 put_after text x r t i j h shows = subst (λ i. ShowsItem text i j) (ap (λ o. after_told x.stack t o i) h.fault ∙ sym (told_after x.stack t x.fault i)) shows
+
+-- a token that was left out is none of an item's
+pub after_left : (S : Stack) (t : Tok) (o : Option Told) (i : Option Item) → is_left_out o ≡ true → after_told S t o i ≡ faulted i
+after_left S t None i e = absurd (cc)
+after_left S t (Some (added p n)) i e = absurd (cc)
+after_left S t (Some (skipped s)) i e = refl
+after_left S t (Some (too_deep s)) i e = refl
+after_left S t (Some (cut p)) i e = refl
+
+-- a token that was taken behind missing parts marks the item before it
+pub after_taken : (S : Stack) (t : Tok) (o : Option Told) (i : Option Item) → is_left_out o ≡ false → (o ≡ None → ⊥) → after_told S t o i ≡ item_behind S t (faulted i)
+after_taken S t None i e some = absurd (some refl)
+after_taken S t (Some (added p n)) i e some = refl
+after_taken S t (Some (skipped s)) i e some = absurd (cc)
+after_taken S t (Some (too_deep s)) i e some = absurd (cc)
+after_taken S t (Some (cut p)) i e some = absurd (cc)
+
+-- a fault that is there is told
+pub some_not : (o : Option SyntaxFault) (f : SyntaxFault) → o ≡ Some f → option_map fault_of o ≡ None → ⊥
+some_not None f e n = cc e
+some_not (Some g) f e n = cc n

@@ -1,5 +1,5 @@
 -- For which parsers of the definitions the code's stacks stand.
-use Rattle.std.specs.Prelude.{◌≡◌, ℕ, ◌+◌, ◌≤◌, List, [], ◌∷◌, length, map, reverse, Option, Some, None, option_map}
+use Rattle.std.specs.Prelude.{◌≡◌, Bool, true, false, ℕ, ◌+◌, ◌≤◌, List, [], ◌∷◌, length, map, reverse, Option, Some, None, option_map}
 use Rattle.std.specs.declared.rc.Rc.{Rc}
 use Rattle.std.specs.declared.alloc.Global.{Global}
 use Rattle.token_model.specs.Kinds.{Tok}
@@ -11,7 +11,8 @@ use Rattle.syntax_rows.specs.View.{text_of}
 use Rattle.parse_frames.specs.Named.{IsNamed}
 use Rattle.parse_frames.specs.Stacks.{stack_view}
 use Rattle.parse_frames.specs.View.{shared}
-use Rattle.frame_steps.specs.Told.{told}
+use Rattle.frame_steps.specs.Told as tells
+use Rattle.frame_steps.specs.Told.{Told, told}
 use Rattle.frame_steps.specs.View.{fault_of}
 use Rattle.frame_steps.specs.Reached.{Reached}
 use Rattle.frame_steps.specs.declared.stack.Stack.{Stack as Rows}
@@ -75,6 +76,14 @@ pub record ShowsStep (text : Text) (x : Stepped) (r : CodeStepped) : Type 0 wher
 pub record ShowsPut (text : Text) (x : rules.Stepped) (r : Put) : Type 0 where
   pub rows : ShowsRows text (state x.stack x.place) r.stack
   pub fault : option_map fault_of r.fault ≡ option_map told x.fault
+
+-- the token of this fault was left out
+abbrev pub is_left_out : Option Told → Bool
+is_left_out None = false
+is_left_out (Some (tells.added p n)) = false
+is_left_out (Some (tells.skipped s)) = true
+is_left_out (Some (tells.too_deep s)) = true
+is_left_out (Some (tells.cut p)) = true
 
 -- so many tokens lead to these frames
 abbrev pub IsReached : Text → ℕ → State → Type 0

@@ -9,7 +9,7 @@ ghost use Rattle.recovery_model.specs.Recovery as recovery;
 ghost use Rattle.syntax_tree.specs.View.{tok_of};
 ghost use Rattle.frame_steps.specs.Told.{told, listed};
 ghost use Rattle.frame_steps.specs.View.{fault_of};
-ghost use Rattle.frame_parser.specs.Shown.{IsReached, RowsReady, ShowsItem, ShowsMark, ShowsPut, ShowsRows, ShowsStep};
+ghost use Rattle.frame_parser.specs.Shown.{is_left_out, IsReached, RowsReady, ShowsItem, ShowsMark, ShowsPut, ShowsRows, ShowsStep};
 
 use crate::stack::{Item, Mark, Stack, Stepped, push_token, share_tokens};
 use frame_steps::{
@@ -76,18 +76,29 @@ fn faulted(item: Option<Item>) -> Option<Item>
     }
 }
 
+/// Whether the token of this fault, if it is one, was left out.
+fn is_left_out(fault: Option<SyntaxFault>) -> bool
+    ensures { result ≡ is_left_out (option_map fault_of fault) }
+{
+    match fault {
+        None => false,
+        Some(SyntaxFault::Added { place: _, holes: _ }) => false,
+        Some(SyntaxFault::Skipped { span: _ }) => true,
+        Some(SyntaxFault::TooDeep { span: _ }) => true,
+        Some(SyntaxFault::Cut { place: _ }) => true,
+    }
+}
+
 /// The item in progress behind a token with this fault, or none.
 fn item_after(put: &Put, col: u32, item: Option<Item>) -> Option<Item>
     ensures { (text : Text) (x : rules.Stepped) (t : Tok) (i : Option model.Item) → col ≡ t.col → ShowsPut text x put.now → ShowsItem text i item → ShowsItem text (recovery.item_after x.stack t x.fault i) result }
 {
+    if is_left_out(put.fault) {
+        return faulted(item);
+    }
     match put.fault {
         None => item_behind(&put.stack, col, item),
-        Some(SyntaxFault::Added { place: _, holes: _ }) => {
-            item_behind(&put.stack, col, faulted(item))
-        }
-        Some(SyntaxFault::Skipped { span: _ }) => faulted(item),
-        Some(SyntaxFault::TooDeep { span: _ }) => faulted(item),
-        Some(SyntaxFault::Cut { place: _ }) => faulted(item),
+        Some(_) => item_behind(&put.stack, col, faulted(item)),
     }
 }
 

@@ -99,7 +99,6 @@ fn go_back(alloc: Global, col: u32, before: Rows, since: &Tokens) -> Result<Step
 }
 
 /// A token in an item of which this is known with the token: a fault goes back to before the first cut token.
-#[tactic(none)]
 fn step_in_item(
     alloc: Global,
     col: u32,
@@ -121,7 +120,6 @@ fn step_in_item(
 }
 
 /// The stack behind one token more, and the token's faults.
-#[tactic(none)]
 fn take_one(alloc: Global, stack: &Stack, token: &Token) -> Result<Stepped, NoMemory>
     requires ready { IsReady 1048575 stack.now }
     ensures { IfOk result (λ r. (text : ocaml.Text) (p : model.Parser) (n : ℕ) → Shows text p stack.now → Comes text n p → n < 1048576 → ShowsStep text (recovery.step (grammar text) p (tok_of token.now)) r) }
@@ -170,7 +168,6 @@ pub fn step<C: Counts>(
 }
 
 /// The tree of the tokens on a stack, and the faults at its end. The stack that is lent stays as it is.
-#[tactic(none)]
 pub fn close(alloc: Global, stack: &Stack) -> Result<Closed, NoMemory>
     requires few { (text : ocaml.Text) × (ts : List Tok) × Behind text ts stack.now × (length ts ≤ 1048576) }
     ensures tree { IfOk result (λ r. (text : ocaml.Text) (ts : List Tok) → Behind text ts stack.now → length ts ≤ 1048576 → trees_of r.tree ≡ items_of (named ocaml.row_name (recovery.close (grammar text) (run text ts)).0)) }

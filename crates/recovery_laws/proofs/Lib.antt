@@ -3,3 +3,4 @@ pub mod Counted
 pub mod Formed
 pub mod Promises
 pub mod Laws
+pub mod Examples
