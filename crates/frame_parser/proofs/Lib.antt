@@ -1,13 +1,6 @@
-pub mod Chains
-pub mod Orders
-pub mod Courses
-pub mod Takes
-pub mod Named
-pub mod Takers
-pub mod Begins
-pub mod Grows
+pub mod Rows
+pub mod Marks
 pub mod OneStep
-pub mod Runs
-pub mod Putting
-pub mod Wholes
+pub mod Comes
 pub mod Lists
+pub mod Retakes

@@ -1,18 +1,19 @@
 //! The tree and the faults of a whole list of tokens.
-ghost use Rattle.std.specs.Prelude.{◌≡◌, ◌≤◌, ◌++◌, length, map, option_map, IfOk, OnOk};
+ghost use Rattle.std.specs.Prelude.{◌≡◌, ◌≤◌, length, map, IfOk, OnOk};
+ghost use Rattle.grammar_model.specs.Named.{named, items_of};
 ghost use Rattle.grammar_model.specs.Ocaml as ocaml;
-ghost use Rattle.grammar_model.specs.Recovery.{recover};
+ghost use Rattle.recovery_model.specs.Recovery.{recover};
 ghost use Rattle.syntax_tree.specs.Tallies.{Grows};
 ghost use Rattle.syntax_tree.specs.View.{tok_of, trees_of};
 ghost use Rattle.syntax_rows.specs.View.{text_of};
-ghost use Rattle.grammar_model.specs.Named.{named, items_of};
-ghost use Rattle.frame_parser.specs.Run.{told, listed, shifted_by};
-ghost use Rattle.frame_parser.specs.View.{fault_of};
+ghost use Rattle.frame_steps.specs.Told.{told};
+ghost use Rattle.frame_steps.specs.View.{fault_of};
+ghost use Rattle.frame_parser.specs.Run.{shifted_by};
 
-use crate::stack::SyntaxFault;
+use crate::cuts::add_faults;
 use crate::steps::{begun, close, step};
-use std::alloc::{AllocError, Global};
-use syntax_rows::Text;
+use frame_steps::{SyntaxFault, Text};
+use std::alloc::Global;
 use syntax_tree::{Counts, NoMemory, Token, Tree};
 
 /// The tree of a list of tokens, and its faults in order.
@@ -40,26 +41,13 @@ pub fn parse<C: Counts>(
     let mut stack = begun(text);
     for token in tokens {
         let stepped = step(alloc, &stack, token, counts)?;
-        add_fault(stepped.fault, &mut faults)?;
+        add_faults(&stepped.faults, &mut faults)?;
         stack = stepped.stack;
     }
     let closed = close(alloc, &stack)?;
-    add_fault(closed.fault, &mut faults)?;
+    add_faults(&closed.faults, &mut faults)?;
     Ok(Parsed {
         tree: closed.tree,
         faults,
     })
-}
-
-/// A fault that may be none, behind others.
-fn add_fault(fault: Option<SyntaxFault>, faults: &mut Vec<SyntaxFault>) -> Result<(), NoMemory>
-    ensures { OnOk result (map fault_of faults.new.items ≡ map fault_of faults.old.items ++ listed (option_map fault_of fault)) }
-{
-    match fault {
-        None => Ok(()),
-        Some(fault) => match faults.push(fault) {
-            Ok(()) => Ok(()),
-            Err(_) => Err(AllocError),
-        },
-    }
 }

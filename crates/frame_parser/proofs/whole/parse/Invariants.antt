@@ -2,9 +2,10 @@ use Rattle.std.proofs.Common.{◌≡◌, take, map}
 use Rattle.syntax_tree.specs.Tallies.{Grows}
 use Rattle.syntax_tree.specs.View.{tok_of}
 use Rattle.syntax_rows.specs.View.{text_of}
+use Rattle.frame_steps.specs.Told.{told}
+use Rattle.frame_steps.specs.View.{fault_of}
 use Rattle.frame_parser.specs.Behind.{Behind}
-use Rattle.frame_parser.specs.Run.{faults, shifted_by, told}
-use Rattle.frame_parser.specs.View.{fault_of}
+use Rattle.frame_parser.specs.Run.{faults, shifted_by}
 use Rattle.frame_parser.proofs.whole.parse.Given as goal
 
 -- the stack, the faults and the counter behind the tokens so far

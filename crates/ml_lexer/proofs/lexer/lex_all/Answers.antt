@@ -6,6 +6,7 @@ use Rattle.token_model.specs.Kinds.{Tok, AllWithin}
 use Rattle.token_model.specs.Tokens.{FirstToken, LexFrom}
 use Rattle.syntax_tree.specs.View.{tok_of}
 use Rattle.syntax_tree.specs.declared.tree.Token.{Token}
+use Rattle.ml_lexer.proofs.Columns.{column_start}
 use Rattle.ml_lexer.proofs.Firsts.{lex_more, lex_done, within_more}
 use Rattle.ml_lexer.proofs.lexer.lex_all.Goals as goal
 
@@ -16,6 +17,7 @@ loop-tokens-init g c =
       IsCharBoundary-start text c.requires.text,
       omega (arith, ap length c.new-tokens.ensures.items),
       subst (λ (l : List Token). AllWithin (length text) (map tok_of l)) (sym c.new-tokens.ensures.items) tt,
+      column_start text,
       search rules,
       refl,
     )
@@ -35,6 +37,7 @@ loop-tokens-preserved g c =
       span.2,
       omega (arith, inv.2, span.0, ap length pushed, length-append c.loop-tokens.tokens.items (t ∷ []), one),
       subst (λ (l : List Token). AllWithin (length text) (map tok_of l)) (sym pushed) (within_more (length text) c.loop-tokens.tokens.items t inv.3 (omega (arith, span.1, span.2.0)) span.2.0),
+      c.column_behind.ensures,
       search rules,
       search rules,
     )
