@@ -4,3 +4,6 @@ pub mod OneStep
 pub mod Comes
 pub mod Lists
 pub mod Retakes
+pub mod Known
+pub mod Ends
+pub mod Bounds

@@ -13,7 +13,7 @@ use Rattle.syntax_tree.specs.declared.tree.Token.{Token}
 use Rattle.frame_steps.specs.Told.{told}
 use Rattle.frame_steps.specs.View.{fault_of}
 use Rattle.frame_steps.specs.declared.stack.SyntaxFault.{SyntaxFault}
-use Rattle.frame_parser.specs.Run.{run_on, faults_on, run, faults, next_step, shifted_by}
+use Rattle.frame_parser.specs.Run.{run_on, faults_on, run, faults, next_step, shifted_by, shifts, shifts_on, all_shifts, next_shifts}
 
 run_on_next : (G : Table) (ts : List Tok) (t : Tok) (p : Parser) → run_on G (ts ++ (t ∷ [])) p ≡ (step G (run_on G ts p) t).parser
 run_on_next G [] t p = refl
@@ -89,9 +89,40 @@ shifted_next (suc n) c = shifted_next n (shifted_more c)
 pub tokens_few : (tokens : List Token) (i : ℕ) → i < length tokens → length tokens ≤ 1048576 → length (map tok_of (take i tokens)) < 1048576
 tokens_few tokens i lt few = let a = length-map (take i tokens) tok_of in let b = length-take i tokens in omega arith
 
--- a counter grows by a token
-pub grows_more : (a b c : Tallies) → Grows a b → c ≡ shifted_more b → Grows a c
-grows_more a b c g e = subst (Grows a) (sym e) (let x = g.lexed in let y = g.shifted in let z = g.typed in record { lexed = omega arith; shifted = omega arith; typed = omega arith })
+-- a counter behind some tokens and then others
+pub shifted_add : (a b : ℕ) (c : Tallies) → shifted_by b (shifted_by a c) ≡ shifted_by (a + b) c
+shifted_add zero b c = let e : b ≡ 0 + b = omega arith in ap (λ n. shifted_by n c) e
+shifted_add (suc a) b c = let e : suc (a + b) ≡ suc a + b = omega arith in shifted_add a b (shifted_more c) ∙ ap (λ n. shifted_by n c) e
+
+-- a counter grows by tokens
+grows_one : (a b : Tallies) → Grows a b → Grows a (shifted_more b)
+grows_one a b g = let x = g.lexed in let y = g.shifted in let z = g.typed in record { lexed = omega arith; shifted = omega arith; typed = omega arith }
+
+grows_by : (a b : Tallies) (n : ℕ) → Grows a b → Grows a (shifted_by n b)
+grows_by a b zero g = g
+grows_by a b (suc n) g = grows_by a (shifted_more b) n (grows_one a b g)
+
+pub grows_more : (a b c : Tallies) (n : ℕ) → Grows a b → c ≡ shifted_by n b → Grows a c
+grows_more a b c n g e = subst (Grows a) (sym e) (grows_by a b n g)
+
+shifts_on_next : (G : Table) (ts : List Tok) (t : Tok) (p : Parser) → shifts_on G (ts ++ (t ∷ [])) p ≡ shifts_on G ts p + shifts G (run_on G ts p) t
+shifts_on_next G [] t p = omega arith
+shifts_on_next G (u ∷ ts) t p = let e = shifts_on_next G ts t (step G p u).parser in omega arith
+
+-- how many tokens the steps take with the one of one token more
+pub shifts_next : (text : Text) (ts : List Tok) (t : Tok) → all_shifts text (ts ++ (t ∷ [])) ≡ all_shifts text ts + next_shifts text ts t
+unfolding all_shifts run
+shifts_next text ts t = shifts_on_next (grammar text) ts t (start (grammar text))
+
+pub no_shifts : (text : Text) → all_shifts text [] ≡ 0
+unfolding all_shifts
+no_shifts text = refl
+
+-- the counter behind one token more of a text
+pub counted_next : (text : Text) (ts us : List Tok) (t : Tok) (a b c : Tallies) → us ≡ ts ++ (t ∷ []) → b ≡ shifted_by (all_shifts text ts) a → c ≡ shifted_by (next_shifts text ts t) b → c ≡ shifted_by (all_shifts text us) a
+counted_next text ts us t a b c same before next =
+    next ∙ ap (shifted_by (next_shifts text ts t)) before ∙ shifted_add (all_shifts text ts) (next_shifts text ts t) a
+    ∙ ap (λ n. shifted_by n a) (sym (shifts_next text ts t) ∙ ap (all_shifts text) (sym same))
 
 -- tokens of a text are as many as those of the code
 pub tokens_most : (tokens : List Token) → length tokens ≤ 1048576 → length (map tok_of tokens) ≤ 1048576

@@ -1,12 +1,16 @@
 -- For which parsers of the definitions the code's stacks stand.
-use Rattle.std.specs.Prelude.{◌≡◌, Bool, true, false, ℕ, ◌+◌, ◌≤◌, List, [], ◌∷◌, length, map, reverse, Option, Some, None, option_map}
+use Rattle.std.specs.Prelude.{◌≡◌, Bool, true, false, ℕ, ◌+◌, ◌<◌, ◌≤◌, List, [], ◌∷◌, length, map, reverse, Option, Some, None, option_map}
 use Rattle.std.specs.declared.rc.Rc.{Rc}
 use Rattle.std.specs.declared.alloc.Global.{Global}
 use Rattle.token_model.specs.Kinds.{Tok}
 use Rattle.grammar_model.specs.Recovery as rules
+use Rattle.grammar_model.specs.Trees.{Tree}
+use Rattle.grammar_model.specs.Named.{named, items_of}
 use Rattle.grammar_model.specs.Ocaml.{Text, grammar, row_name}
-use Rattle.recovery_model.specs.Items.{State, state, Mark, sound, held, marked, Item, Parser, Stepped}
-use Rattle.syntax_tree.specs.View.{tok_of}
+use Rattle.recovery_model.specs.Items.{State, state, Mark, sound, held, marked, Item, Parser, Stepped, is_cut}
+use Rattle.recovery_model.specs.Recovery.{step_item}
+use Rattle.frame_parser.specs.Run.{shifts_item}
+use Rattle.syntax_tree.specs.View.{tok_of, trees_of}
 use Rattle.syntax_rows.specs.View.{text_of}
 use Rattle.parse_frames.specs.Named.{IsNamed}
 use Rattle.parse_frames.specs.Stacks.{stack_view}
@@ -17,6 +21,8 @@ use Rattle.frame_steps.specs.View.{fault_of}
 use Rattle.frame_steps.specs.Reached.{Reached}
 use Rattle.frame_steps.specs.declared.stack.Stack.{Stack as Rows}
 use Rattle.frame_steps.specs.declared.stack.Stepped.{Stepped as Put}
+use Rattle.frame_steps.specs.declared.stack.Whole.{Whole}
+use Rattle.frame_parser.specs.declared.stack.Closed.{Closed}
 use Rattle.frame_parser.specs.declared.stack.Kept.{Kept, fold-Kept}
 use Rattle.frame_parser.specs.declared.stack.Kept.TheOpen.{Kept-F}
 use Rattle.frame_parser.specs.declared.stack.Mark as code
@@ -24,6 +30,7 @@ use Rattle.frame_parser.specs.declared.stack.Mark.TheVariants.{Sound, Held, Mark
 use Rattle.frame_parser.specs.declared.stack.Item.{Item as CodeItem}
 use Rattle.frame_parser.specs.declared.stack.Stack.{Stack}
 use Rattle.frame_parser.specs.declared.stack.Stepped.{Stepped as CodeStepped}
+use Rattle.frame_parser.specs.declared.stack.Taken.{Taken}
 
 -- one kept token, with those before it already seen
 abbrev pub kept_step : Kept-F (List Tok) → List Tok
@@ -72,6 +79,11 @@ pub record ShowsStep (text : Text) (x : Stepped) (r : CodeStepped) : Type 0 wher
   pub stack : Shows text x.parser r.stack
   pub faults : map fault_of r.faults.items ≡ map told x.faults
 
+-- the same with the number of tokens that it took
+pub record ShowsTaken (text : Text) (x : Stepped) (n : ℕ) (r : Taken) : Type 0 where
+  pub step : ShowsStep text x r.stepped
+  pub count : r.count ≡ n
+
 -- the same for the rules for one token
 pub record ShowsPut (text : Text) (x : rules.Stepped) (r : Put) : Type 0 where
   pub rows : ShowsRows text (state x.stack x.place) r.stack
@@ -84,6 +96,16 @@ is_left_out (Some (tells.added p n)) = false
 is_left_out (Some (tells.skipped s)) = true
 is_left_out (Some (tells.too_deep s)) = true
 is_left_out (Some (tells.cut p)) = true
+
+-- the tree of rows, and how many parts are missing at its end, are those of the frames
+pub record ShowsWhole (text : Text) (s : State) (w : Whole) : Type 0 where
+  pub tree : trees_of w.tree ≡ items_of (named row_name (rules.close_up (grammar text) s.stack s.place).0)
+  pub holes : w.holes ≡ (rules.close_up (grammar text) s.stack s.place).1
+
+-- a tree with its faults is the one of the definition
+pub record ShowsEnd (text : Text) (e : Tree × List rules.Fault) (r : Closed) : Type 0 where
+  pub tree : trees_of r.tree ≡ items_of (named row_name e.0)
+  pub faults : map fault_of r.faults.items ≡ map told e.1
 
 -- so many tokens lead to these frames
 abbrev pub IsReached : Text → ℕ → State → Type 0
@@ -120,3 +142,17 @@ pub record IsReady (most : ℕ) (s : Stack) : Type 0 where
   pub shows : Shows text parser s
   pub comes : Comes text count parser
   pub few : count ≤ most
+
+-- rows and an item to which fewer tokens lead than there may be
+pub record InItem (text : Text) (s : State) (i : Item) (n : ℕ) (r : Rows) (j : CodeItem) : Type 0 where
+  pub rows : ShowsRows text s r
+  pub reached : IsReached text n s
+  pub item : ShowsItem text (Some i) (Some j)
+  pub keeps : KeepsFew text n i.mark
+  pub few : n < 1048576
+
+-- a step in an item is the one of the definition
+abbrev pub ShowsTakenIn : Text → State → Item → Tok → Taken → Type 0
+ShowsTakenIn text s i t r =
+    let x = rules.step (grammar text) s.stack s.place t in
+    ShowsTaken text (step_item (grammar text) s i.col t x (is_cut i.col t x) i.mark) (shifts_item s t (is_cut i.col t x) x.fault i.mark) r

@@ -69,6 +69,13 @@ pub struct Stepped {
     pub faults: Vec<SyntaxFault>,
 }
 
+/// A step, and how many tokens it took: one, or those that it took again.
+#[derive(Drop)]
+pub(crate) struct Taken {
+    pub stepped: Stepped,
+    pub count: usize,
+}
+
 /// The tree of the tokens on a stack, and the faults that come with the end of the text, in order.
 #[derive(Drop)]
 pub struct Closed {

@@ -1,5 +1,5 @@
 //! A stack begins, takes tokens one by one, and is closed.
-ghost use Rattle.std.specs.Prelude.{◌≡◌, ◌<◌, ◌≤◌, ◌+◌, ◌++◌, ◌∷◌, [], ℕ, List, Option, Some, None, length, map, reverse, option_map, IfOk, OnOk, OnErr};
+ghost use Rattle.std.specs.Prelude.{◌≡◌, ◌&&◌, ◌<◌, ◌≤◌, ◌+◌, ◌++◌, ◌∷◌, [], ℕ, List, Option, Some, None, length, map, reverse, option_map, IfOk, OnOk, OnErr};
 ghost use Rattle.token_model.specs.Kinds.{Tok};
 ghost use Rattle.grammar_model.specs.Named.{named, items_of};
 ghost use Rattle.grammar_model.specs.Ocaml as ocaml;
@@ -8,17 +8,17 @@ ghost use Rattle.grammar_model.specs.Recovery as rules;
 ghost use Rattle.grammar_model.specs.Recovery.{last_fault};
 ghost use Rattle.recovery_model.specs.Items as model;
 ghost use Rattle.recovery_model.specs.Recovery as recovery;
-ghost use Rattle.syntax_tree.specs.Tallies.{shifted_more};
 ghost use Rattle.syntax_tree.specs.View.{tok_of, trees_of};
 ghost use Rattle.syntax_rows.specs.View.{text_of};
 ghost use Rattle.frame_steps.specs.Told.{told, listed};
 ghost use Rattle.frame_steps.specs.View.{fault_of};
+ghost use Rattle.parse_frames.specs.Stacks.{stack_view};
 ghost use Rattle.frame_parser.specs.Behind.{Behind};
-ghost use Rattle.frame_parser.specs.Run.{run, next_step};
-ghost use Rattle.frame_parser.specs.Shown.{Comes, IsReached, IsReady, KeepsFew, RowsReady, Shows, ShowsItem, ShowsMark, ShowsPut, ShowsRows, ShowsStep, tokens_view};
+ghost use Rattle.frame_parser.specs.Run.{run, next_step, next_shifts, shifted_by, shifts, shifts_sound};
+ghost use Rattle.frame_parser.specs.Shown.{Comes, InItem, IsReached, IsReady, KeepsFew, RowsReady, Shows, ShowsEnd, ShowsItem, ShowsMark, ShowsPut, ShowsRows, ShowsStep, ShowsTaken, ShowsTakenIn, ShowsWhole, tokens_view};
 
 use crate::cuts::{add_fault, add_faults, cut_step, go_on, is_cut, with_token};
-use crate::stack::{Closed, Item, Mark, Stack, Stepped, Tokens, share_item, tokens_in_order};
+use crate::stack::{Closed, Item, Mark, Stack, Stepped, Taken, Tokens, share_item, tokens_in_order};
 use frame_steps::{
     Stack as Rows, Stepped as Put, SyntaxFault, Text, Whole, begun as rows_begun, close_up, put,
 };
@@ -83,9 +83,9 @@ fn retake_all(alloc: Global, start: Stack, tokens: &[Token]) -> Result<Stepped, 
 }
 
 /// From these rows, in an item whose first token is in a column, the tokens are taken again.
-fn go_back(alloc: Global, col: u32, before: Rows, since: &Tokens) -> Result<Stepped, NoMemory>
+fn go_back(alloc: Global, col: u32, before: Rows, since: &Tokens) -> Result<Taken, NoMemory>
     requires ready { (n : ℕ) × RowsReady n before × (n + length (tokens_view since.now) ≤ 1048576) }
-    ensures { IfOk result (λ r. (text : ocaml.Text) (s : model.State) (ts : List Tok) (n : ℕ) → ShowsRows text s before → reverse (tokens_view since.now) ≡ ts → IsReached text n s → n + length ts ≤ 1048576 → ShowsStep text (recovery.go_back (grammar text) col s ts) r) }
+    ensures { IfOk result (λ r. (text : ocaml.Text) (s : model.State) (ts : List Tok) (n : ℕ) → ShowsRows text s before → reverse (tokens_view since.now) ≡ ts → IsReached text n s → n + length ts ≤ 1048576 → ShowsTaken text (recovery.go_back (grammar text) col s ts) (length ts) r) }
 {
     let tokens = tokens_in_order(alloc, since)?;
     let start = Stack {
@@ -95,7 +95,19 @@ fn go_back(alloc: Global, col: u32, before: Rows, since: &Tokens) -> Result<Step
             mark: Mark::Sound,
         }),
     };
-    retake_all(alloc, start, &tokens)
+    let stepped = retake_all(alloc, start, &tokens)?;
+    Ok(Taken {
+        stepped,
+        count: tokens.len(),
+    })
+}
+
+/// A step that took its token alone.
+fn taken_once(stepped: Stepped) -> Taken
+    ensures step { result.stepped ≡ stepped }
+    ensures count { result.count ≡ 1 }
+{
+    Taken { stepped, count: 1 }
 }
 
 /// A token in an item of which this is known with the token: a fault goes back to before the first cut token.
@@ -105,47 +117,59 @@ fn step_in_item(
     token: &Token,
     next: Put,
     mark: Mark,
-) -> Result<Stepped, NoMemory>
+) -> Result<Taken, NoMemory>
     requires ready { (text : ocaml.Text) × (m : model.Mark) × ShowsMark text m mark × KeepsFew text 1048576 m }
-    ensures { IfOk result (λ r. (text : ocaml.Text) (x : rules.Stepped) (m : model.Mark) → ShowsPut text x next → ShowsMark text m mark → KeepsFew text 1048576 m → ShowsStep text (recovery.step_sound (grammar text) col (tok_of token.now) x x.fault m) r) }
+    ensures { IfOk result (λ r. (text : ocaml.Text) (x : rules.Stepped) (m : model.Mark) → ShowsPut text x next → ShowsMark text m mark → KeepsFew text 1048576 m → ShowsTaken text (recovery.step_sound (grammar text) col (tok_of token.now) x x.fault m) (shifts_sound x.fault m) r) }
 {
     match next.fault {
-        None => go_on(alloc, Some(Item { col, mark }), token, next),
+        None => Ok(taken_once(go_on(alloc, Some(Item { col, mark }), token, next)?)),
         Some(_) => match mark {
             Mark::Held { before, since } => go_back(alloc, col, before, &since),
-            Mark::Sound => go_on(alloc, Some(Item { col, mark: Mark::Sound }), token, next),
-            Mark::Marked => go_on(alloc, Some(Item { col, mark: Mark::Marked }), token, next),
+            Mark::Sound => Ok(taken_once(go_on(alloc, Some(Item { col, mark: Mark::Sound }), token, next)?)),
+            Mark::Marked => Ok(taken_once(go_on(alloc, Some(Item { col, mark: Mark::Marked }), token, next)?)),
         },
     }
 }
 
-/// The stack behind one token more, and the token's faults.
-fn take_one(alloc: Global, stack: &Stack, token: &Token) -> Result<Stepped, NoMemory>
-    requires ready { IsReady 1048575 stack.now }
-    ensures { IfOk result (λ r. (text : ocaml.Text) (p : model.Parser) (n : ℕ) → Shows text p stack.now → Comes text n p → n < 1048576 → ShowsStep text (recovery.step (grammar text) p (tok_of token.now)) r) }
+/// Whether a token ends an item of which this is known: a cut token, of an item with a fault.
+fn ends_item(cuts: bool, mark: &Mark) -> bool
+    ensures { (text : ocaml.Text) (m : model.Mark) → ShowsMark text m mark.now → result ≡ (cuts && recovery.is_marked m) }
 {
-    let next = put(alloc, &stack.rows, token)?;
-    match &stack.item {
-        None => go_on(alloc, None, token, next),
-        Some(item) => {
-            let cuts = is_cut(item.col, token, &next);
-            if cuts && is_marked(&item.mark) {
-                return cut_step(alloc, &stack.rows, token);
-            }
-            let mark = with_token(alloc, &stack.rows, token, cuts, &item.mark)?;
-            step_in_item(alloc, item.col, token, next, mark)
-        }
+    match mark {
+        Mark::Marked => cuts,
+        Mark::Sound => false,
+        Mark::Held { before: _, since: _ } => false,
     }
 }
 
-/// Whether an item has a fault.
-fn is_marked(mark: &Mark) -> bool
-    ensures { (text : ocaml.Text) (m : model.Mark) → ShowsMark text m mark.now → result ≡ recovery.is_marked m }
+/// The stack behind one token more in an item, where `next` is the token's step by itself.
+fn take_in_item(
+    alloc: Global,
+    rows: &Rows,
+    item: &Item,
+    token: &Token,
+    next: Put,
+) -> Result<Taken, NoMemory>
+    requires ready { (text : ocaml.Text) × (s : model.State) × (i : model.Item) × (n : ℕ) × InItem text s i n rows.now item.now }
+    ensures { IfOk result (λ r. (text : ocaml.Text) (s : model.State) (i : model.Item) (n : ℕ) → InItem text s i n rows.now item.now → ShowsPut text (rules.step (grammar text) s.stack s.place (tok_of token.now)) next → ShowsTakenIn text s i (tok_of token.now) r) }
 {
-    match mark {
-        Mark::Marked => true,
-        Mark::Sound => false,
-        Mark::Held { before: _, since: _ } => false,
+    let cuts = is_cut(item.col, token, &next);
+    if ends_item(cuts, &item.mark) {
+        return Ok(taken_once(cut_step(alloc, rows, token)?));
+    }
+    let mark = with_token(alloc, rows, token, cuts, &item.mark)?;
+    step_in_item(alloc, item.col, token, next, mark)
+}
+
+/// The stack behind one token more, and the token's faults.
+fn take_one(alloc: Global, stack: &Stack, token: &Token) -> Result<Taken, NoMemory>
+    requires ready { IsReady 1048575 stack.now }
+    ensures { IfOk result (λ r. (text : ocaml.Text) (p : model.Parser) (n : ℕ) → Shows text p stack.now → Comes text n p → n < 1048576 → ShowsTaken text (recovery.step (grammar text) p (tok_of token.now)) (shifts (grammar text) p (tok_of token.now)) r) }
+{
+    let next = put(alloc, &stack.rows, token)?;
+    match &stack.item {
+        None => Ok(taken_once(go_on(alloc, None, token, next)?)),
+        Some(item) => take_in_item(alloc, &stack.rows, item, token, next),
     }
 }
 
@@ -159,12 +183,21 @@ pub fn step<C: Counts>(
     requires few { (text : ocaml.Text) × (ts : List Tok) × Behind text ts stack.now × (length ts < 1048576) }
     ensures stack { IfOk result (λ r. (text : ocaml.Text) (ts : List Tok) → Behind text ts stack.now → length ts < 1048576 → Behind text (ts ++ tok_of token.now ∷ []) r.stack) }
     ensures faults { IfOk result (λ r. (text : ocaml.Text) (ts : List Tok) → Behind text ts stack.now → length ts < 1048576 → map fault_of r.faults.items ≡ map told (next_step text ts (tok_of token.now)).faults) }
-    ensures counted { OnOk result (C.tallies counts.new ≡ shifted_more (C.tallies counts.old)) }
+    ensures counted { OnOk result ((text : ocaml.Text) (ts : List Tok) → Behind text ts stack.now → length ts < 1048576 → C.tallies counts.new ≡ shifted_by (next_shifts text ts (tok_of token.now)) (C.tallies counts.old)) }
     ensures refused { OnErr result (C.tallies counts.new ≡ C.tallies counts.old) }
 {
-    let stepped = take_one(alloc, stack, token)?;
-    counts.add_shifted();
-    Ok(stepped)
+    let taken = take_one(alloc, stack, token)?;
+    add_shifted(taken.count, counts);
+    Ok(taken.stepped)
+}
+
+/// So many tokens were taken.
+fn add_shifted<C: Counts>(count: usize, counts: &mut C)
+    ensures { C.tallies counts.new ≡ shifted_by count (C.tallies counts.old) }
+{
+    for _ in 0..count {
+        counts.add_shifted();
+    }
 }
 
 /// The tree of the tokens on a stack, and the faults at its end. The stack that is lent stays as it is.
@@ -173,23 +206,59 @@ pub fn close(alloc: Global, stack: &Stack) -> Result<Closed, NoMemory>
     ensures tree { IfOk result (λ r. (text : ocaml.Text) (ts : List Tok) → Behind text ts stack.now → length ts ≤ 1048576 → trees_of r.tree ≡ items_of (named ocaml.row_name (recovery.close (grammar text) (run text ts)).0)) }
     ensures faults { IfOk result (λ r. (text : ocaml.Text) (ts : List Tok) → Behind text ts stack.now → length ts ≤ 1048576 → map fault_of r.faults.items ≡ map told (recovery.close (grammar text) (run text ts)).1) }
 {
+    end(alloc, stack)
+}
+
+/// The end of the text.
+fn end(alloc: Global, stack: &Stack) -> Result<Closed, NoMemory>
+    requires ready { IsReady 1048576 stack.now }
+    ensures { IfOk result (λ r. (text : ocaml.Text) (p : model.Parser) (n : ℕ) → Shows text p stack.now → Comes text n p → n ≤ 1048576 → ShowsEnd text (recovery.close (grammar text) p) r) }
+{
     let whole = close_up(alloc, &stack.rows)?;
-    if whole.holes > 0 {
-        if let Some(item) = &stack.item {
-            if let Mark::Held { before, since } = &item.mark {
-                let back = go_back(alloc, item.col, before.share()?, since)?;
-                let whole = close_up(alloc, &back.stack.rows)?;
-                return ended(whole, back.stack.rows.place(), back.faults);
-            }
-        }
+    if whole.holes == 0 {
+        return ended(whole, stack.rows.place(), Vec::new(alloc));
     }
-    ended(whole, stack.rows.place(), Vec::new(alloc))
+    match &stack.item {
+        None => ended(whole, stack.rows.place(), Vec::new(alloc)),
+        Some(item) => end_item(alloc, &stack.rows, item, whole),
+    }
+}
+
+/// The end in an item, where parts are missing: an item with cut tokens is gone back to.
+fn end_item(
+    alloc: Global,
+    rows: &Rows,
+    item: &Item,
+    whole: Whole,
+) -> Result<Closed, NoMemory>
+    requires ready { (text : ocaml.Text) × (i : model.Item) × ShowsItem text (Some i) (Some item.now) × KeepsFew text 1048576 i.mark }
+    ensures { IfOk result (λ r. (text : ocaml.Text) (s : model.State) (i : model.Item) → ShowsWhole text s whole → (stack_view rows.now.frames).place ≡ s.place → ShowsItem text (Some i) (Some item.now) → KeepsFew text 1048576 i.mark → ShowsEnd text (recovery.close_mark (grammar text) s i.col i.mark) r) }
+{
+    match &item.mark {
+        Mark::Held { before, since } => end_back(alloc, item.col, before.share()?, since),
+        Mark::Sound => ended(whole, rows.place(), Vec::new(alloc)),
+        Mark::Marked => ended(whole, rows.place(), Vec::new(alloc)),
+    }
+}
+
+/// The end behind tokens that are taken again.
+fn end_back(
+    alloc: Global,
+    col: u32,
+    before: Rows,
+    since: &Tokens,
+) -> Result<Closed, NoMemory>
+    requires ready { (n : ℕ) × RowsReady n before × (n + length (tokens_view since.now) ≤ 1048576) }
+    ensures { IfOk result (λ r. (text : ocaml.Text) (s : model.State) (ts : List Tok) (n : ℕ) → ShowsRows text s before → reverse (tokens_view since.now) ≡ ts → IsReached text n s → n + length ts ≤ 1048576 → ShowsEnd text (recovery.ended_by (grammar text) (recovery.go_back (grammar text) col s ts)) r) }
+{
+    let back = go_back(alloc, col, before, since)?;
+    let whole = close_up(alloc, &back.stepped.stack.rows)?;
+    ended(whole, back.stepped.stack.rows.place(), back.stepped.faults)
 }
 
 /// A tree, and the fault of what is missing at its end behind others.
 fn ended(whole: Whole, place: u32, before: Vec<SyntaxFault>) -> Result<Closed, NoMemory>
-    ensures tree { IfOk result (λ r. trees_of r.tree ≡ trees_of whole.tree) }
-    ensures faults { IfOk result (λ r. map fault_of r.faults.items ≡ map fault_of before.items ++ map told (last_fault whole.holes place)) }
+    ensures { IfOk result (λ r. (trees_of r.tree ≡ trees_of whole.tree) × (map fault_of r.faults.items ≡ map fault_of before.items ++ map told (last_fault whole.holes place))) }
 {
     let mut faults = before;
     add_fault(fault_at(place, whole.holes), &mut faults)?;

@@ -1,6 +1,5 @@
 use Rattle.std.proofs.Common.{◌≡◌, length, map, Some, refl, ◌∙◌, ap, subst, arith}
 use Rattle.std.proofs.lemmas.List.{length-map, length-reverse}
-use Rattle.std.proofs.lemmas.Result.{IfOk-weaker}
 use Rattle.grammar_model.specs.Ocaml.{grammar}
 use Rattle.recovery_model.specs.Items.{parser, item, sound}
 use Rattle.recovery_model.specs.Recovery.{retake_all}
@@ -18,10 +17,14 @@ retake_all-requires c =
     record { ready = (r.text, parser r.state (Some (item c.args.col sound)), n, record { rows = r.shows; item = (refl, tt) }, r.reached, omega arith) }
 
 pub returns : goal.returns
-returns c =
-    IfOk-weaker c.retake_all.result _ _ (λ r ens text s ts n shows same reached few.
+returns c text s ts n shows same reached few =
     let e : map tok_of c.deref.result.now ≡ ts = ap (map tok_of) c.deref.ensures.value ∙ c.in_ok-tokens.ensures ∙ same in
     let a = ap length e in
     let b = length-map c.deref.result.now tok_of in
-    subst (λ ts. ShowsStep text (retake_all (grammar text) ts (parser s (Some (item c.args.col sound)))) r) e
-    (ens text (parser s (Some (item c.args.col sound))) n (record { rows = shows; item = (refl, tt) }) reached (omega arith))) c.retake_all.ensures
+    let len = ap length c.deref.ensures.value in
+    let size = c.len.ensures in
+    record {
+      step = subst (λ ts. ShowsStep text (retake_all (grammar text) ts (parser s (Some (item c.args.col sound)))) c.in_ok-stepped.stepped) e
+          (c.in_ok-stepped.ensures text (parser s (Some (item c.args.col sound))) n (record { rows = shows; item = (refl, tt) }) reached (omega arith));
+      count = omega arith;
+    }

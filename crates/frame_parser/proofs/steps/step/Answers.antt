@@ -1,6 +1,6 @@
-use Rattle.std.proofs.Common.{length, sym, subst, arith}
+use Rattle.std.proofs.Common.{length, sym, ◌∙◌, ap, subst, arith}
 use Rattle.syntax_tree.specs.View.{tok_of}
-use Rattle.frame_parser.specs.Run.{run}
+use Rattle.frame_parser.specs.Run.{run, shifted_by}
 use Rattle.frame_parser.specs.Shown.{Shows}
 use Rattle.frame_parser.proofs.Comes.{run_comes}
 use Rattle.frame_parser.proofs.Lists.{run_next}
@@ -13,8 +13,13 @@ take_one-requires g c =
 
 pub returns-clause-stack : goal.returns-clause-stack
 returns-clause-stack g c text ts b l =
-    let x = c.in_ok-stepped.ensures text (run text ts) (length ts) b (run_comes text ts) l in
-    subst (λ p. Shows text p c.in_ok-stepped.stepped.stack) (sym (run_next text ts (tok_of c.args.token.now))) x.stack
+    let x = c.in_ok-taken.ensures text (run text ts) (length ts) b (run_comes text ts) l in
+    subst (λ p. Shows text p c.in_ok-taken.taken.stepped.stack) (sym (run_next text ts (tok_of c.args.token.now))) x.step.stack
 
 pub returns-clause-faults : goal.returns-clause-faults
-returns-clause-faults g c text ts b l = (c.in_ok-stepped.ensures text (run text ts) (length ts) b (run_comes text ts) l).faults
+returns-clause-faults g c text ts b l = (c.in_ok-taken.ensures text (run text ts) (length ts) b (run_comes text ts) l).step.faults
+
+pub returns-clause-counted : goal.returns-clause-counted
+returns-clause-counted g c text ts b l =
+    let x = c.in_ok-taken.ensures text (run text ts) (length ts) b (run_comes text ts) l in
+    c.add_shifted.ensures ∙ ap (λ n. shifted_by n (g.C.Counts.tallies c.args.counts.now)) x.count
