@@ -53,13 +53,7 @@ fn item_behind(rows: &Rows, col: u32, before: Option<Item>) -> Option<Item>
     }
     match before {
         None => None,
-        Some(item) => {
-            if rows.has_item() {
-                Some(item)
-            } else {
-                None
-            }
-        }
+        Some(item) => { if rows.has_item() { Some(item) } else { None } }
     }
 }
 
@@ -119,7 +113,10 @@ pub(crate) fn add_fault(
 }
 
 /// Faults behind others.
-pub(crate) fn add_faults(more: &[SyntaxFault], faults: &mut Vec<SyntaxFault>) -> Result<(), NoMemory>
+pub(crate) fn add_faults(
+    more: &[SyntaxFault],
+    faults: &mut Vec<SyntaxFault>,
+) -> Result<(), NoMemory>
     ensures { OnOk result (map fault_of faults.new.items ≡ map fault_of faults.old.items ++ map fault_of more.now) }
 {
     for fault in more {
@@ -210,4 +207,3 @@ pub(crate) fn with_token(
         }),
     }
 }
-

@@ -120,11 +120,7 @@ fn share_mark(mark: &Mark) -> Result<Mark, NoMemory>
 }
 
 /// Tokens with one more.
-pub(crate) fn push_token(
-    alloc: Global,
-    before: Tokens,
-    token: &Token,
-) -> Result<Tokens, NoMemory>
+pub(crate) fn push_token(alloc: Global, before: Tokens, token: &Token) -> Result<Tokens, NoMemory>
     ensures { IfOk result (λ r. tokens_view r ≡ tok_of token.now ∷ tokens_view before) }
 {
     let kept = Kept {

@@ -18,7 +18,9 @@ ghost use Rattle.frame_parser.specs.Run.{run, next_step, next_shifts, shifted_by
 ghost use Rattle.frame_parser.specs.Shown.{Comes, InItem, IsReached, IsReady, KeepsFew, RowsReady, Shows, ShowsEnd, ShowsItem, ShowsMark, ShowsPut, ShowsRows, ShowsStep, ShowsTaken, ShowsTakenIn, ShowsWhole, tokens_view};
 
 use crate::cuts::{add_fault, add_faults, cut_step, go_on, is_cut, with_token};
-use crate::stack::{Closed, Item, Mark, Stack, Stepped, Taken, Tokens, share_item, tokens_in_order};
+use crate::stack::{
+    Closed, Item, Mark, Stack, Stepped, Taken, Tokens, share_item, tokens_in_order,
+};
 use frame_steps::{
     Stack as Rows, Stepped as Put, SyntaxFault, Text, Whole, begun as rows_begun, close_up, put,
 };
@@ -125,8 +127,24 @@ fn step_in_item(
         None => Ok(taken_once(go_on(alloc, Some(Item { col, mark }), token, next)?)),
         Some(_) => match mark {
             Mark::Held { before, since } => go_back(alloc, col, before, &since),
-            Mark::Sound => Ok(taken_once(go_on(alloc, Some(Item { col, mark: Mark::Sound }), token, next)?)),
-            Mark::Marked => Ok(taken_once(go_on(alloc, Some(Item { col, mark: Mark::Marked }), token, next)?)),
+            Mark::Sound => Ok(taken_once(go_on(
+                alloc,
+                Some(Item {
+                    col,
+                    mark: Mark::Sound,
+                }),
+                token,
+                next,
+            )?)),
+            Mark::Marked => Ok(taken_once(go_on(
+                alloc,
+                Some(Item {
+                    col,
+                    mark: Mark::Marked,
+                }),
+                token,
+                next,
+            )?)),
         },
     }
 }
@@ -138,7 +156,10 @@ fn ends_item(cuts: bool, mark: &Mark) -> bool
     match mark {
         Mark::Marked => cuts,
         Mark::Sound => false,
-        Mark::Held { before: _, since: _ } => false,
+        Mark::Held {
+            before: _,
+            since: _,
+        } => false,
     }
 }
 
@@ -225,12 +246,7 @@ fn end(alloc: Global, stack: &Stack) -> Result<Closed, NoMemory>
 }
 
 /// The end in an item, where parts are missing: an item with cut tokens is gone back to.
-fn end_item(
-    alloc: Global,
-    rows: &Rows,
-    item: &Item,
-    whole: Whole,
-) -> Result<Closed, NoMemory>
+fn end_item(alloc: Global, rows: &Rows, item: &Item, whole: Whole) -> Result<Closed, NoMemory>
     requires ready { (text : ocaml.Text) × (i : model.Item) × ShowsItem text (Some i) (Some item.now) × KeepsFew text 1048576 i.mark }
     ensures { IfOk result (λ r. (text : ocaml.Text) (s : model.State) (i : model.Item) → ShowsWhole text s whole → (stack_view rows.now.frames).place ≡ s.place → ShowsItem text (Some i) (Some item.now) → KeepsFew text 1048576 i.mark → ShowsEnd text (recovery.close_mark (grammar text) s i.col i.mark) r) }
 {
@@ -242,12 +258,7 @@ fn end_item(
 }
 
 /// The end behind tokens that are taken again.
-fn end_back(
-    alloc: Global,
-    col: u32,
-    before: Rows,
-    since: &Tokens,
-) -> Result<Closed, NoMemory>
+fn end_back(alloc: Global, col: u32, before: Rows, since: &Tokens) -> Result<Closed, NoMemory>
     requires ready { (n : ℕ) × RowsReady n before × (n + length (tokens_view since.now) ≤ 1048576) }
     ensures { IfOk result (λ r. (text : ocaml.Text) (s : model.State) (ts : List Tok) (n : ℕ) → ShowsRows text s before → reverse (tokens_view since.now) ≡ ts → IsReached text n s → n + length ts ≤ 1048576 → ShowsEnd text (recovery.ended_by (grammar text) (recovery.go_back (grammar text) col s ts)) r) }
 {

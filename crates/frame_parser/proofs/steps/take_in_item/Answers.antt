@@ -19,8 +19,14 @@ step_in_item-requires c =
     let (text, s, i, n, h) = c.requires.ready in
     let t = tok_of c.args.token.now in
     let lt = h.few in
-    record { ready = (text, with_token s t c.is_cut-cuts.result i.mark, c.in_ok-mark.ensures text s i.mark h.rows h.item.1,
-        few_within text (suc n) 1048576 _ (with_few text n s t c.is_cut-cuts.result i.mark h.reached h.keeps) (omega arith)) }
+    record {
+      ready = (
+        text,
+        with_token s t c.is_cut-cuts.result i.mark,
+        c.in_ok-mark.ensures text s i.mark h.rows h.item.1,
+        few_within text (suc n) 1048576 _ (with_few text n s t c.is_cut-cuts.result i.mark h.reached h.keeps) (omega arith),
+      );
+    }
 
 pub returns-then-ends_item : goal.returns-then-ends_item
 returns-then-ends_item c text s i n h put =

@@ -20,8 +20,15 @@ take_in_item-requires c =
     let r = c.requires.ready in
     let few = r.few in
     let (i, is, shows) = item_of r.text r.parser.item c.in-Some.item (subst (ShowsItem r.text r.parser.item) c.in-Some.is r.shows.item) in
-    record { ready = (r.text, r.parser.state, i, r.count,
-        record { rows = r.shows.rows; reached = r.comes.frames; item = shows; keeps = subst (ItemKeepsFew r.text r.count) is r.comes.item; few = omega arith }) }
+    record {
+      ready = (
+        r.text,
+        r.parser.state,
+        i,
+        r.count,
+        record { rows = r.shows.rows; reached = r.comes.frames; item = shows; keeps = subst (ItemKeepsFew r.text r.count) is r.comes.item; few = omega arith },
+      );
+    }
 
 pub returns-in_ok-go_on-in-None : goal.returns-in_ok-go_on-in-None
 returns-in_ok-go_on-in-None c text p n shows comes few =
