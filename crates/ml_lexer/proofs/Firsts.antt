@@ -21,15 +21,22 @@ pub first_found : (text : List ℕ) (at i col : ℕ) (f : Found) → col ≡ col
 unfolding FirstToken
 first_found text at i col f column inside there gap stands fits =
     let here = drop i (drop at text) in
-    let cut = both_parts f.size here in
-    (record {
-      spelled = take f.size here;
-      rest = drop f.size here;
-      gap = subst (λ (l : List ℕ). Gap (drop at text) l) (sym cut) gap;
-      stands = stands;
-      start = omega (arith, ap length cut, length-drop i (drop at text));
-      end = omega (arith, length-take f.size here);
-    }, column)
+    let cut = both_parts f.size here in (
+      record {
+        spelled = take f.size here;
+        rest = drop f.size here;
+        gap = subst (λ (l : List ℕ). Gap (drop at text) l) (sym cut) gap;
+        stands = stands;
+        start = omega (arith, ap length cut, length-drop i (drop at text));
+        end = omega (arith, length-take f.size here);
+      },
+      column,
+    )
+
+-- a token has the column of its place
+pub first_col : (text : List ℕ) (at : ℕ) (t : Tok) → FirstToken text at (Some t) → t.col ≡ column text t.start
+unfolding FirstToken
+first_col text at t first = first.1
 
 -- none is left behind a gap up to the end
 pub none_found : (text : List ℕ) (at : ℕ) → Gap (drop at text) [] → FirstToken text at None

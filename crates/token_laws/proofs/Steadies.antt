@@ -12,7 +12,7 @@ use Rattle.ml_lexer.specs.Reached.{Reached, end_of, reach_of, FirstReached}
 use Rattle.ml_lexer.specs.Reaches.{reach_at, IsStable, HasFew}
 use Rattle.ml_lexer.specs.Steady.{ends_before, AllTokens, IsSteady}
 use Rattle.ml_lexer.proofs.Few.{found_few, whole_few}
-use Rattle.ml_lexer.proofs.Firsts.{first_at}
+use Rattle.ml_lexer.proofs.Firsts.{first_at, first_col}
 use Rattle.ml_lexer.proofs.Forward.{tok_end}
 use Rattle.ml_lexer.proofs.Framed.{front_framed, front_within}
 use Rattle.ml_lexer.proofs.Stable.{stable_at, whole_stable, reach_found, reach_unclosed}
@@ -38,11 +38,6 @@ comment_laws text at i t l first is place begins end whole =
     let reach = reach_unclosed text l at i t.start is place begins in
     (whole_stable text at t (reach_at text t.start) first refl (omega (arith, reach, whole)), whole_few text t (reach_at text t.start) end (omega (arith, reach, whole)))
 
--- a token has the column of its place
-first_column : (text : List ℕ) (at : ℕ) (t : Tok) → FirstToken text at (Some t) → t.col ≡ column text t.start
-unfolding FirstToken
-first_column text at t first = first.1
-
 -- a token that is found at the front of what is left
 found_laws : (text : List ℕ) (at i : ℕ) (t : Tok) (l : List ℕ) → FirstToken text at (Some t) → at ≤ length text → i < length (drop at text) → Gap (drop at text) (drop i (drop at text)) → l ≡ drop i (drop at text) → t.start ≡ at + i → 0 < length l → is_blank (get_or l 0 0) ≡ false → begins_comment l ≡ false → HasLaws text at t
 found_laws text at i t l first inside within gap is place some no_blank no_comment =
@@ -51,7 +46,7 @@ found_laws text at i t l first inside within gap is place some no_blank no_comme
     let fits = front_within l some in
     let framed = front_framed l in
     let positive : 0 < f.size = omega (arith, stands_some stands, length-take f.size l) in
-    let has : t.col ≡ column text t.start = first_column text at t first in
+    let has : t.col ≡ column text t.start = first_col text at t first in
     let one : t ≡ placed_tok t.start t.col f l = token_one text at t (placed_tok t.start t.col f l) first (first_at text l at i t.start t.col f has inside within gap is place stands fits) in
     let reach : reach_at text t.start ≡ t.start + front_reach l = reach_found text l at i t.start is place no_comment in (
       subst (λ (u : Tok). IsStable text at u (reach_at text t.start)) (sym one) (stable_at text l at i t.start (reach_at text t.start) t.col has within gap is place no_blank no_comment f refl positive fits framed.name framed.reached reach),

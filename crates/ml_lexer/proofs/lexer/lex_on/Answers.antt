@@ -9,7 +9,7 @@ use Rattle.ml_lexer.specs.Places.{rest_of}
 use Rattle.ml_lexer.specs.Reaches.{reach_at, IsStable, HasFew}
 use Rattle.ml_lexer.specs.Scans.{Found}
 use Rattle.syntax_tree.specs.View.{tok_of}
-use Rattle.ml_lexer.proofs.Columns.{column_next}
+use Rattle.ml_lexer.proofs.Columns.{column_next, column_small}
 use Rattle.ml_lexer.proofs.Few.{found_few, whole_few}
 use Rattle.ml_lexer.proofs.Firsts.{first_at, none_found, here_text, found_name, end_at}
 use Rattle.ml_lexer.proofs.Stable.{stable_at, whole_stable, reach_found, reach_unclosed}
@@ -158,3 +158,9 @@ returns-in_ok-token-in-Token-clause-few g c =
     let reach : c.in_ok-token-in-Token.token.reach ≡ place + front_reach here = c.in_ok-token-in-Token.ensures.reach ∙ ap (λ k. place + k) found in
     subst (λ (t : Tok). HasFew text t c.in_ok-token-in-Token.token.reach) (sym c.in_ok-token-in-Token.ensures.value)
     (found_few text here c.args.from.at c.in-Token.i place c.in_ok-token-in-Token.token.reach c.column_ahead-col-in-Token.result f c.in-Token.ensures.0 c.ahead-here-in-Token.ensures.rest c.ahead-here-in-Token.ensures.place value c.in_ok-found-in-Token.ensures.fits.within reach)
+
+pub column_ahead-col-requires-clause-few : goal.column_ahead-col-requires-clause-few
+column_ahead-col-requires-clause-few g c = column_small (c.args.left.now ++ c.args.right.now) c.args.from.at c.args.from.col c.requires.col c.requires.inside.0
+
+pub column_ahead-col-requires-in-Token-clause-few : goal.column_ahead-col-requires-in-Token-clause-few
+column_ahead-col-requires-in-Token-clause-few g c = column_small (c.args.left.now ++ c.args.right.now) c.args.from.at c.args.from.col c.requires.col c.requires.inside.0
