@@ -275,6 +275,7 @@ fn operator_by(at: &Parts, row: RowName, token: &Token) -> Result<Operator, NoMe
         kind: TokenKind::OpName,
         span: token.span,
         reach: token.reach,
+        col: token.col,
         name,
     };
     Ok(Operator { named, sign })

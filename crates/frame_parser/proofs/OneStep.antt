@@ -1,74 +1,61 @@
--- One token: it is taken by its course, or it is left out.
-use Rattle.std.proofs.Common.{◌≡◌, ℕ, ◌≤◌, ◌<◌, ◌∷◌, Option, Some, None, refl, sym, ◌∙◌, ap, subst}
+-- A step of the code is one of the definition.
+use Rattle.std.proofs.Common.{◌≡◌, ℕ, zero, suc, ◌+◌, ◌<◌, ◌≤◌, List, [], ◌∷◌, ◌++◌, map, Option, Some, None, option_map, refl, sym, ◌∙◌, ap, subst, arith}
 use Rattle.token_model.specs.Kinds.{Tok}
-use Rattle.grammar_model.specs.Keys.{key_of}
-use Rattle.grammar_model.specs.Tables.{Table, Place}
-use Rattle.grammar_model.specs.Numbers.{Found, none, found, Way, way}
 use Rattle.grammar_model.specs.Machine.{Frame, Stack}
-use Rattle.grammar_model.specs.Recovery.{Fault, reached, skipped, too_deep, added, stepped, after_reach, after_fit, step}
-use Rattle.grammar_model.proofs.Laws.{Found as Laws}
-use Rattle.grammar_model.proofs.Faultless.{step_is}
-use Rattle.frame_parser.specs.Course.{fit_of, out_of, course_of, out, depth_of, taken_to, IsPlaced, course_frames, course_holes}
-use Rattle.frame_parser.proofs.Courses.{fits_taken, fits_not, reach_taken, reach_not}
-use Rattle.frame_parser.proofs.Takes.{place_takes}
+use Rattle.grammar_model.specs.Recovery as rules
+use Rattle.grammar_model.specs.Recovery.{Fault, some_fault}
+use Rattle.grammar_model.specs.Ocaml.{Text, grammar}
+use Rattle.recovery_model.specs.Items.{State, state, Item, item_behind, closed_item, end_fault, cut_step}
+use Rattle.recovery_model.specs.Recovery.{item_after, go_on}
+use Rattle.parse_frames.specs.Stacks.{stack_view}
+use Rattle.frame_steps.specs.Told.{Told, told, listed}
+use Rattle.frame_steps.specs.Reached.{Reached, ended, EndsItem}
+use Rattle.frame_steps.specs.View.{fault_of, text_table, Stands, StepsTo, Standing}
+use Rattle.frame_steps.specs.declared.items.Ended.{Ended}
+use Rattle.frame_steps.specs.declared.stack.Stack.{Stack as Rows}
+use Rattle.frame_steps.specs.declared.stack.Stepped.{Stepped as Put}
+use Rattle.frame_steps.specs.declared.stack.SyntaxFault.{SyntaxFault}
+use Rattle.frame_parser.specs.Shown.{IsReached, RowsReady, ShowsItem, ShowsPut, ShowsRows, ShowsStep}
+use Rattle.frame_parser.specs.declared.stack.Stepped.{Stepped as CodeStepped}
+use Rattle.frame_parser.proofs.Rows.{put_shows, ended_shows, place_shows, standing}
 
--- a token that no frame takes
-pub step_skips : (G : Table) (f : Frame) (S : Stack) (at : ℕ) (t : Tok) → fit_of G f S t ≡ none → out_of G f S t ≡ None → step G (f ∷ S) at t ≡ stepped (f ∷ S) at (Some (skipped t))
-step_skips G f S at t a b = step_is G (f ∷ S) at t ∙ ap (after_fit G (f ∷ S) at t) (fits_not G t S f a) ∙ ap (after_reach (f ∷ S) at t) (reach_not G t at S f b)
+-- a fault that may be none, as a list
+some_told : (o : Option Fault) → map told (some_fault o []) ≡ listed (option_map told o)
+some_told None = refl
+some_told (Some f) = refl
 
--- a token that is taken by a course, with this fault, or is too deep
-pub record Steps (G : Table) (c : ℕ × Way) (f : Frame) (S : Stack) (at : ℕ) (t : Tok) (o : Option Fault) : Type 0 where
-  pub placed : IsPlaced G (course_frames G c f S at).0 t c.1.place
-  pub taken : depth_of G c f S at (key_of t) ≤ 512 → step G (f ∷ S) at t ≡ stepped (taken_to G c.1.place (course_frames G c f S at).0 (course_frames G c f S at).1 t) t.end o
-  pub too_deep : 512 < depth_of G c f S at (key_of t) → step G (f ∷ S) at t ≡ stepped (f ∷ S) at (Some (too_deep t))
+-- a token that neither cuts nor goes back
+pub go_on_shows : (text : Text) (x : rules.Stepped) (i : Option Item) (t : Tok) (q : Put) (r : CodeStepped) → ShowsPut text x q → r.stack.rows ≡ q.stack → ShowsItem text (item_after x.stack t x.fault i) r.stack.item
+    → map fault_of r.faults.items ≡ listed (option_map fault_of q.fault) → ShowsStep text (go_on i t x) r
+go_on_shows text x i t q r put rows shows tells = record {
+  stack = record { rows = subst (ShowsRows text (state x.stack x.place)) (sym rows) put.rows; item = shows };
+  faults = tells ∙ ap listed put.fault ∙ sym (some_told x.fault);
+}
 
--- a token that fits
-pub step_fits : (G : Table) → Laws G → (f : Frame) (S : Stack) (at : ℕ) (t : Tok) (n : ℕ) (p : Place) → fit_of G f S t ≡ found n p → Steps G (n, way 0 None p) f S at t None
-step_fits G L f S at t n p h =
-    let (fits, placed) = fits_taken G t at S f n p h in
-    let o = out n G f S at in
-    let k = place_takes G L p o.0 o.1 t placed in
-    let s = step_is G (f ∷ S) at t in
+-- an item that ends, and the token behind it
+pub cut_shows : (text : Text) (s : State) (n : ℕ) (t : Tok) (rows : Rows) (e : Ended) (q : Put) (place : ℕ) (first : SyntaxFault) (r : CodeStepped) → ShowsRows text s rows → IsReached text n s → n < 1048576
+    → ((f : Frame) (S : Stack) (at : ℕ) → Stands rows.text (f ∷ S) at (stack_view rows.frames) → EndsItem rows.text f S at e)
+    → ((f : Frame) (S : Stack) (at : ℕ) → Stands e.stack.text (f ∷ S) at (stack_view e.stack.frames) → StepsTo e.stack.text (rules.step (text_table e.stack.text) (f ∷ S) at t) q)
+    → place ≡ (stack_view rows.frames).place → fault_of first ≡ told (end_fault place e.holes) → map fault_of r.faults.items ≡ fault_of first ∷ listed (option_map fault_of q.fault)
+    → r.stack.rows ≡ q.stack → ((x : rules.Stepped) → ShowsPut text x q → ShowsItem text (item_behind x.stack t None) r.stack.item)
+    → ShowsStep text (cut_step (grammar text) s t) r
+cut_shows text s n t rows e q place first r shows reached few end put at fault tells same item =
+    let c = closed_item (grammar text) s.stack s.place in
+    let x = rules.step (grammar text) c.0 s.place t in
+    let (closed, holes) = ended_shows text s n rows e shows reached (omega arith) end in
+    let next = put_shows text (state c.0 s.place) n e.stack t q closed (ended reached) (omega arith) put in
     record {
-      placed = placed;
-      taken = λ d. s ∙ ap (after_fit G (f ∷ S) at t) (fits ∙ k.taken d);
-      too_deep = λ d. s ∙ ap (after_fit G (f ∷ S) at t) (fits ∙ k.too_deep d);
+      stack = record { rows = subst (ShowsRows text (state x.stack x.place)) (sym same) next.rows; item = item x next };
+      faults = tells ∙ ap (λ f. f ∷ listed (option_map fault_of q.fault)) (fault ∙ ap (λ p. told_end p e.holes) (at ∙ place_shows text s rows shows) ∙ ap (told_end s.place) holes)
+          ∙ ap (λ fs. told_end s.place c.1 ∷ fs) (ap listed next.fault ∙ sym (some_told x.fault));
     }
-
--- a token that is reached
-pub step_reaches : (G : Table) → Laws G → (f : Frame) (S : Stack) (at : ℕ) (t : Tok) (n : ℕ) (w : Way) → fit_of G f S t ≡ none → out_of G f S t ≡ Some (n, w) → Steps G (n, w) f S at t (Some (added at (course_holes G (n, w) f S at)))
-step_reaches G L f S at t n w a h =
-    let (reach, placed) = reach_taken G t at S f n w h in
-    let o = course_frames G (n, w) f S at in
-    let k = place_takes G L w.place o.0 o.1 t placed in
-    let s = step_is G (f ∷ S) at t ∙ ap (after_fit G (f ∷ S) at t) (fits_not G t S f a) in
-    record {
-      placed = placed;
-      taken = λ d. s ∙ ap (after_reach (f ∷ S) at t) (reach ∙ ap (λ x. reached x (course_holes G (n, w) f S at)) (k.taken d));
-      too_deep = λ d. s ∙ ap (after_reach (f ∷ S) at t) (reach ∙ ap (λ x. reached x (course_holes G (n, w) f S at)) (k.too_deep d));
-    }
-
-abbrev or_course : ℕ × Way → Option (ℕ × Way) → ℕ × Way
-or_course d None = d
-or_course d (Some c) = c
-
--- a token that fits, by the course of the code
-pub fit_steps : (G : Table) → Laws G → (f : Frame) (S : Stack) (at : ℕ) (t : Tok) (c : ℕ × Way) → Some c ≡ course_of (fit_of G f S t) → Steps G c f S at t None
-fit_steps G L f S at t c h = by (fit_of G f S t) refl h
   where
-    by : (x : Found) → fit_of G f S t ≡ x → Some c ≡ course_of x → Steps G c f S at t None
-    by none e h = absurd (cc)
-    by (found n p) e h = let same : c ≡ (n, way 0 None p) = ap (or_course c) h in subst (λ c. Steps G c f S at t None) (sym same) (step_fits G L f S at t n p e)
+    told_end : (p h : ℕ) → Told
+    told_end p h = told (end_fault p h)
 
--- a course that isn't found
-pub fit_none : (x : Found) → None ≡ course_of x → x ≡ none
-fit_none none h = refl
-fit_none (found n p) h = absurd (cc)
-
--- a token that is reached, by the course of the code
-pub out_steps : (G : Table) → Laws G → (f : Frame) (S : Stack) (at : ℕ) (t : Tok) (c : ℕ × Way) → None ≡ course_of (fit_of G f S t) → Some c ≡ out_of G f S t → Steps G c f S at t (Some (added at (course_holes G c f S at)))
-out_steps G L f S at t c a h = step_reaches G L f S at t c.0 c.1 (fit_none (fit_of G f S t) a) (sym h)
-
--- a token that is skipped
-pub no_steps : (G : Table) (f : Frame) (S : Stack) (at : ℕ) (t : Tok) → None ≡ course_of (fit_of G f S t) → None ≡ out_of G f S t → step G (f ∷ S) at t ≡ stepped (f ∷ S) at (Some (skipped t))
-no_steps G f S at t a b = step_skips G f S at t (fit_none (fit_of G f S t) a) (sym b)
+-- rows whose item is closed are in order
+pub ended_standing : (text : Text) (s : State) (n : ℕ) (rows : Rows) (e : Ended) → ShowsRows text s rows → IsReached text n s → n < 1048576
+    → ((f : Frame) (S : Stack) (at : ℕ) → Stands rows.text (f ∷ S) at (stack_view rows.frames) → EndsItem rows.text f S at e) → Standing e.stack.text (stack_view e.stack.frames)
+ended_standing text s n rows e shows reached few end =
+    let (closed, holes) = ended_shows text s n rows e shows reached (omega arith) end in
+    standing text (state (closed_item (grammar text) s.stack s.place).0 s.place) n e.stack closed (ended reached) (omega arith)

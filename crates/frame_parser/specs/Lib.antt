@@ -1,5 +1,3 @@
 pub mod Run
-pub mod Order
-pub mod Course
-pub mod View
+pub mod Shown
 pub mod Behind

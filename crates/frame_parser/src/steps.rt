@@ -1,33 +1,31 @@
 //! A stack begins, takes tokens one by one, and is closed.
-ghost use Rattle.std.specs.Prelude.{◌≡◌, ◌<◌, ◌≤◌, ◌+◌, ◌∷◌, ◌++◌, ◌-◌, ◌^◌, [], ℕ, List, length, map, option_map, Some, IfOk, IsTrue, OnOk, OnErr};
+ghost use Rattle.std.specs.Prelude.{◌≡◌, ◌&&◌, ◌<◌, ◌≤◌, ◌+◌, ◌++◌, ◌∷◌, [], ℕ, List, Option, Some, None, length, map, reverse, option_map, IfOk, OnOk, OnErr};
 ghost use Rattle.token_model.specs.Kinds.{Tok};
-ghost use Rattle.tree_model.specs.Rows.{Row as PlainRow};
-ghost use Rattle.grammar_model.specs.Machine as machine;
+ghost use Rattle.grammar_model.specs.Named.{named, items_of};
 ghost use Rattle.grammar_model.specs.Ocaml as ocaml;
-ghost use Rattle.grammar_model.specs.Recovery as recovery;
+ghost use Rattle.grammar_model.specs.Ocaml.{grammar};
+ghost use Rattle.grammar_model.specs.Recovery as rules;
 ghost use Rattle.grammar_model.specs.Recovery.{last_fault};
-ghost use Rattle.syntax_tree.specs.Tallies.{shifted_more};
-ghost use Rattle.syntax_tree.specs.View.{tok_of, trees_of, node_view, child_view, forest_of};
-ghost use Rattle.syntax_rows.specs.Numbers.{key_number};
+ghost use Rattle.recovery_model.specs.Items as model;
+ghost use Rattle.recovery_model.specs.Recovery as recovery;
+ghost use Rattle.syntax_tree.specs.View.{tok_of, trees_of};
 ghost use Rattle.syntax_rows.specs.View.{text_of};
-ghost use Rattle.frame_parser.specs.Course.{IsRefused};
-ghost use Rattle.parse_frames.specs.Frames.{heights_in, sizes_in};
-ghost use Rattle.grammar_model.specs.Named.{named, items_of, inner_of};
+ghost use Rattle.frame_steps.specs.Told.{told, listed};
+ghost use Rattle.frame_steps.specs.View.{fault_of};
 ghost use Rattle.parse_frames.specs.Stacks.{stack_view};
-ghost use Rattle.frame_parser.specs.Run.{run, next_step, told, listed};
 ghost use Rattle.frame_parser.specs.Behind.{Behind};
-ghost use Rattle.frame_parser.specs.View.{course_view, fault_of, text_table, HasCourse, IsLeftOut, IsTakenBy, IsWhole, Stands, Standing, StepsTo};
+ghost use Rattle.frame_parser.specs.Run.{run, next_step, next_shifts, shifted_by, shifts, shifts_sound};
+ghost use Rattle.frame_parser.specs.Shown.{Comes, InItem, IsReached, IsReady, KeepsFew, RowsReady, Shows, ShowsEnd, ShowsItem, ShowsMark, ShowsPut, ShowsRows, ShowsStep, ShowsTaken, ShowsTakenIn, ShowsWhole, tokens_view};
 
-use crate::build::{Filled, close_frames, fill, holes_of, miss_way, take};
-use crate::deep::depth_of;
-use crate::find::{Course, fitting_course, reaching_course};
-use crate::rules::row_named;
-use crate::stack::{Closed, Stack, Stepped, SyntaxFault};
-use parse_frames::Stack as FrameStack;
-use std::alloc::{AllocError, Global};
-use std::rc::Rc;
-use syntax_rows::{Key, Text, grammar, number_of_key};
-use syntax_tree::{Child, Counts, NoMemory, Node, Part, Token, Tree};
+use crate::cuts::{add_fault, add_faults, cut_step, go_on, is_cut, with_token};
+use crate::stack::{
+    Closed, Item, Mark, Stack, Stepped, Taken, Tokens, share_item, tokens_in_order,
+};
+use frame_steps::{
+    Stack as Rows, Stepped as Put, SyntaxFault, Text, Whole, begun as rows_begun, close_up, put,
+};
+use std::alloc::Global;
+use syntax_tree::{Counts, NoMemory, Token};
 
 /// The stack of a program without tokens.
 pub fn empty(_alloc: Global) -> Result<Stack, NoMemory>
@@ -49,14 +47,154 @@ pub(crate) fn begun(text: Text) -> Stack
     ensures { Behind (text_of text) [] result }
 {
     Stack {
-        text,
-        frames: FrameStack::empty(grammar(text).root),
-        refused: None,
+        rows: rows_begun(text),
+        item: None,
     }
 }
 
-/// The stack behind one token more, and the token's fault. The stack that is lent stays as it is. One is added to the
-/// tokens shifted; for want of memory nothing is.
+/// A token that is taken again, where each cut token cuts.
+fn retake(alloc: Global, stack: &Stack, token: &Token) -> Result<Stepped, NoMemory>
+    requires ready { (n : ℕ) × RowsReady n stack.now.rows × (n < 1048576) }
+    ensures { IfOk result (λ r. (text : ocaml.Text) (p : model.Parser) (n : ℕ) → Shows text p stack.now → IsReached text n p.state → n < 1048576 → ShowsStep text (recovery.retake (grammar text) p (tok_of token.now)) r) }
+{
+    let next = put(alloc, &stack.rows, token)?;
+    match &stack.item {
+        None => go_on(alloc, None, token, next),
+        Some(item) => {
+            if is_cut(item.col, token, &next) {
+                return cut_step(alloc, &stack.rows, token);
+            }
+            go_on(alloc, Some(share_item(item)?), token, next)
+        }
+    }
+}
+
+/// Tokens that are taken again.
+fn retake_all(alloc: Global, start: Stack, tokens: &[Token]) -> Result<Stepped, NoMemory>
+    requires ready { (text : ocaml.Text) × (p : model.Parser) × (n : ℕ) × Shows text p start × IsReached text n p.state × (n + length tokens.now ≤ 1048576) }
+    ensures { IfOk result (λ r. (text : ocaml.Text) (p : model.Parser) (n : ℕ) → Shows text p start → IsReached text n p.state → n + length tokens.now ≤ 1048576 → ShowsStep text (recovery.retake_all (grammar text) (map tok_of tokens.now) p) r) }
+{
+    let mut faults = Vec::new(alloc);
+    let mut stack = start;
+    for token in tokens {
+        let next = retake(alloc, &stack, token)?;
+        add_faults(&next.faults, &mut faults)?;
+        stack = next.stack;
+    }
+    Ok(Stepped { stack, faults })
+}
+
+/// From these rows, in an item whose first token is in a column, the tokens are taken again.
+fn go_back(alloc: Global, col: u32, before: Rows, since: &Tokens) -> Result<Taken, NoMemory>
+    requires ready { (n : ℕ) × RowsReady n before × (n + length (tokens_view since.now) ≤ 1048576) }
+    ensures { IfOk result (λ r. (text : ocaml.Text) (s : model.State) (ts : List Tok) (n : ℕ) → ShowsRows text s before → reverse (tokens_view since.now) ≡ ts → IsReached text n s → n + length ts ≤ 1048576 → ShowsTaken text (recovery.go_back (grammar text) col s ts) (length ts) r) }
+{
+    let tokens = tokens_in_order(alloc, since)?;
+    let start = Stack {
+        rows: before,
+        item: Some(Item {
+            col,
+            mark: Mark::Sound,
+        }),
+    };
+    let stepped = retake_all(alloc, start, &tokens)?;
+    Ok(Taken {
+        stepped,
+        count: tokens.len(),
+    })
+}
+
+/// A step that took its token alone.
+fn taken_once(stepped: Stepped) -> Taken
+    ensures step { result.stepped ≡ stepped }
+    ensures count { result.count ≡ 1 }
+{
+    Taken { stepped, count: 1 }
+}
+
+/// A token in an item of which this is known with the token: a fault goes back to before the first cut token.
+fn step_in_item(
+    alloc: Global,
+    col: u32,
+    token: &Token,
+    next: Put,
+    mark: Mark,
+) -> Result<Taken, NoMemory>
+    requires ready { (text : ocaml.Text) × (m : model.Mark) × ShowsMark text m mark × KeepsFew text 1048576 m }
+    ensures { IfOk result (λ r. (text : ocaml.Text) (x : rules.Stepped) (m : model.Mark) → ShowsPut text x next → ShowsMark text m mark → KeepsFew text 1048576 m → ShowsTaken text (recovery.step_sound (grammar text) col (tok_of token.now) x x.fault m) (shifts_sound x.fault m) r) }
+{
+    match next.fault {
+        None => Ok(taken_once(go_on(alloc, Some(Item { col, mark }), token, next)?)),
+        Some(_) => match mark {
+            Mark::Held { before, since } => go_back(alloc, col, before, &since),
+            Mark::Sound => Ok(taken_once(go_on(
+                alloc,
+                Some(Item {
+                    col,
+                    mark: Mark::Sound,
+                }),
+                token,
+                next,
+            )?)),
+            Mark::Marked => Ok(taken_once(go_on(
+                alloc,
+                Some(Item {
+                    col,
+                    mark: Mark::Marked,
+                }),
+                token,
+                next,
+            )?)),
+        },
+    }
+}
+
+/// Whether a token ends an item of which this is known: a cut token, of an item with a fault.
+fn ends_item(cuts: bool, mark: &Mark) -> bool
+    ensures { (text : ocaml.Text) (m : model.Mark) → ShowsMark text m mark.now → result ≡ (cuts && recovery.is_marked m) }
+{
+    match mark {
+        Mark::Marked => cuts,
+        Mark::Sound => false,
+        Mark::Held {
+            before: _,
+            since: _,
+        } => false,
+    }
+}
+
+/// The stack behind one token more in an item, where `next` is the token's step by itself.
+fn take_in_item(
+    alloc: Global,
+    rows: &Rows,
+    item: &Item,
+    token: &Token,
+    next: Put,
+) -> Result<Taken, NoMemory>
+    requires ready { (text : ocaml.Text) × (s : model.State) × (i : model.Item) × (n : ℕ) × InItem text s i n rows.now item.now }
+    ensures { IfOk result (λ r. (text : ocaml.Text) (s : model.State) (i : model.Item) (n : ℕ) → InItem text s i n rows.now item.now → ShowsPut text (rules.step (grammar text) s.stack s.place (tok_of token.now)) next → ShowsTakenIn text s i (tok_of token.now) r) }
+{
+    let cuts = is_cut(item.col, token, &next);
+    if ends_item(cuts, &item.mark) {
+        return Ok(taken_once(cut_step(alloc, rows, token)?));
+    }
+    let mark = with_token(alloc, rows, token, cuts, &item.mark)?;
+    step_in_item(alloc, item.col, token, next, mark)
+}
+
+/// The stack behind one token more, and the token's faults.
+fn take_one(alloc: Global, stack: &Stack, token: &Token) -> Result<Taken, NoMemory>
+    requires ready { IsReady 1048575 stack.now }
+    ensures { IfOk result (λ r. (text : ocaml.Text) (p : model.Parser) (n : ℕ) → Shows text p stack.now → Comes text n p → n < 1048576 → ShowsTaken text (recovery.step (grammar text) p (tok_of token.now)) (shifts (grammar text) p (tok_of token.now)) r) }
+{
+    let next = put(alloc, &stack.rows, token)?;
+    match &stack.item {
+        None => Ok(taken_once(go_on(alloc, None, token, next)?)),
+        Some(item) => take_in_item(alloc, &stack.rows, item, token, next),
+    }
+}
+
+/// The stack behind one token more, and the token's faults. The stack that is lent stays as it is.
 pub fn step<C: Counts>(
     alloc: Global,
     stack: &Stack,
@@ -65,155 +203,79 @@ pub fn step<C: Counts>(
 ) -> Result<Stepped, NoMemory>
     requires few { (text : ocaml.Text) × (ts : List Tok) × Behind text ts stack.now × (length ts < 1048576) }
     ensures stack { IfOk result (λ r. (text : ocaml.Text) (ts : List Tok) → Behind text ts stack.now → length ts < 1048576 → Behind text (ts ++ tok_of token.now ∷ []) r.stack) }
-    ensures fault { IfOk result (λ r. (text : ocaml.Text) (ts : List Tok) → Behind text ts stack.now → length ts < 1048576 → option_map fault_of r.fault ≡ option_map told (next_step text ts (tok_of token.now)).fault) }
-    ensures counted { OnOk result (C.tallies counts.new ≡ shifted_more (C.tallies counts.old)) }
+    ensures faults { IfOk result (λ r. (text : ocaml.Text) (ts : List Tok) → Behind text ts stack.now → length ts < 1048576 → map fault_of r.faults.items ≡ map told (next_step text ts (tok_of token.now)).faults) }
+    ensures counted { OnOk result ((text : ocaml.Text) (ts : List Tok) → Behind text ts stack.now → length ts < 1048576 → C.tallies counts.new ≡ shifted_by (next_shifts text ts (tok_of token.now)) (C.tallies counts.old)) }
     ensures refused { OnErr result (C.tallies counts.new ≡ C.tallies counts.old) }
 {
-    let stepped = put(alloc, stack, token)?;
-    counts.add_shifted();
-    Ok(stepped)
+    let taken = take_one(alloc, stack, token)?;
+    add_shifted(taken.count, counts);
+    Ok(taken.stepped)
 }
 
-/// The stack behind one token more, and the token's fault.
-fn put(alloc: Global, stack: &Stack, token: &Token) -> Result<Stepped, NoMemory>
-    requires standing { Standing stack.now.text (stack_view stack.now.frames) }
-    ensures { IfOk result (λ r. (f : machine.Frame) (S : machine.Stack) (at : ℕ) → Stands stack.now.text (f ∷ S) at (stack_view stack.now.frames)
-        → StepsTo stack.now.text (recovery.step (text_table stack.now.text) (f ∷ S) at (tok_of token.now)) r) }
+/// So many tokens were taken.
+fn add_shifted<C: Counts>(count: usize, counts: &mut C)
+    ensures { C.tallies counts.new ≡ shifted_by count (C.tallies counts.old) }
 {
-    let key = Key::of(token);
-    if is_refused(stack, key) {
-        return left_out(stack, SyntaxFault::Skipped { span: token.span });
-    }
-    match fitting_course(stack.text, &stack.frames, key) {
-        Some(course) => match take_by(alloc, stack.text, &stack.frames, course, token)? {
-            None => left_out(stack, SyntaxFault::TooDeep { span: token.span }),
-            Some(taken) => Ok(moved(stack.text, taken.frames, None)),
-        },
-        None => match reaching_course(stack.text, &stack.frames, key) {
-            None => refused(stack, key, SyntaxFault::Skipped { span: token.span }),
-            Some(course) => match take_by(alloc, stack.text, &stack.frames, course, token)? {
-                None => left_out(stack, SyntaxFault::TooDeep { span: token.span }),
-                Some(taken) => {
-                    let fault = SyntaxFault::Added {
-                        place: stack.frames.place(),
-                        holes: taken.holes,
-                    };
-                    Ok(moved(stack.text, taken.frames, Some(fault)))
-                }
-            },
-        },
+    for _ in 0..count {
+        counts.add_shifted();
     }
 }
 
-/// Whether a token of the key is known to be skipped.
-fn is_refused(stack: &Stack, key: Key) -> bool
-    ensures { IsTrue result → IsRefused (text_table stack.now.text) (stack_view stack.now.frames) (key_number key) }
-{
-    match stack.refused {
-        None => false,
-        Some(refused) => number_of_key(refused) == number_of_key(key),
-    }
-}
-
-/// A stack of these frames, and a fault that may be none.
-fn moved(text: Text, frames: FrameStack, fault: Option<SyntaxFault>) -> Stepped
-    ensures text { result.stack.text ≡ text }
-    ensures frames { result.stack.frames ≡ frames }
-    ensures fault { result.fault ≡ fault }
-{
-    Stepped {
-        stack: Stack {
-            text,
-            frames,
-            refused: None,
-        },
-        fault,
-    }
-}
-
-/// The same stack, and a fault.
-fn left_out(stack: &Stack, fault: SyntaxFault) -> Result<Stepped, NoMemory>
-    ensures { IfOk result (λ r. IsLeftOut stack.now fault r) }
-{
-    Ok(Stepped {
-        stack: Stack {
-            text: stack.text,
-            frames: stack.frames.share()?,
-            refused: stack.refused,
-        },
-        fault: Some(fault),
-    })
-}
-
-/// The same stack, which knows that tokens of the key are skipped, and a fault.
-fn refused(stack: &Stack, key: Key, fault: SyntaxFault) -> Result<Stepped, NoMemory>
-    requires refused { IsRefused (text_table stack.now.text) (stack_view stack.now.frames) (key_number key) }
-    ensures { IfOk result (λ r. IsLeftOut stack.now fault r) }
-{
-    Ok(Stepped {
-        stack: Stack {
-            text: stack.text,
-            frames: stack.frames.share()?,
-            refused: Some(key),
-        },
-        fault: Some(fault),
-    })
-}
-
-/// A token is taken by its course. None where it would be nested too deeply.
-fn take_by(
-    alloc: Global,
-    text: Text,
-    frames: &FrameStack,
-    course: Course,
-    token: &Token,
-) -> Result<Option<Filled>, NoMemory>
-    requires course { HasCourse text (course_view course) (tok_of token.now) (stack_view frames.now) }
-    ensures { IfOk result (λ r. (f : machine.Frame) (S : machine.Stack) (at : ℕ) → Stands text (f ∷ S) at (stack_view frames.now) → IsTakenBy text (course_view course) f S at (tok_of token.now) r) }
-{
-    if depth_of(text, frames, course, Key::of(token)) > 512 {
-        return Ok(None);
-    }
-    let closed = close_frames(alloc, text, frames.share()?, course.closed)?;
-    let missed = miss_way(alloc, text, closed.frames, course.way)?;
-    Ok(Some(Filled {
-        frames: take(alloc, text, &missed, course.way.place, token)?,
-        holes: closed.holes + holes_of(course.way),
-    }))
-}
-
-/// The tree of the tokens on a stack, and the fault of what is missing at the end. The stack that is lent stays as it is.
+/// The tree of the tokens on a stack, and the faults at its end. The stack that is lent stays as it is.
 pub fn close(alloc: Global, stack: &Stack) -> Result<Closed, NoMemory>
     requires few { (text : ocaml.Text) × (ts : List Tok) × Behind text ts stack.now × (length ts ≤ 1048576) }
-    ensures tree { IfOk result (λ r. (text : ocaml.Text) (ts : List Tok) → Behind text ts stack.now → length ts ≤ 1048576
-        → trees_of r.tree ≡ items_of (named ocaml.row_name (recovery.close_up (ocaml.grammar text) (run text ts).stack (run text ts).place).0)) }
-    ensures fault { IfOk result (λ r. (text : ocaml.Text) (ts : List Tok) → Behind text ts stack.now → length ts ≤ 1048576
-        → listed (option_map fault_of r.fault) ≡ map told (last_fault (recovery.close_up (ocaml.grammar text) (run text ts).stack (run text ts).place).1 (run text ts).place)) }
+    ensures tree { IfOk result (λ r. (text : ocaml.Text) (ts : List Tok) → Behind text ts stack.now → length ts ≤ 1048576 → trees_of r.tree ≡ items_of (named ocaml.row_name (recovery.close (grammar text) (run text ts)).0)) }
+    ensures faults { IfOk result (λ r. (text : ocaml.Text) (ts : List Tok) → Behind text ts stack.now → length ts ≤ 1048576 → map fault_of r.faults.items ≡ map told (recovery.close (grammar text) (run text ts)).1) }
 {
-    let whole = close_all(alloc, stack)?;
-    let root = whole.frames.node(alloc, row_named(whole.frames.number()))?;
-    Ok(Closed {
-        tree: Tree {
-            items: items_of(alloc, &*root)?,
-        },
-        fault: fault_at(stack.frames.place(), whole.holes),
-    })
+    end(alloc, stack)
 }
 
-/// All frames but the outermost are closed, and that one has each part that must be there.
-fn close_all(alloc: Global, stack: &Stack) -> Result<Filled, NoMemory>
-    requires standing { Standing stack.now.text (stack_view stack.now.frames) }
-    ensures whole { IfOk result (λ r. (f : machine.Frame) (S : machine.Stack) (at : ℕ) → Stands stack.now.text (f ∷ S) at (stack_view stack.now.frames)
-        → IsWhole stack.now.text f S at r) }
-    ensures size { IfOk result (λ r. (name : PlainRow) → sizes_in name (stack_view r.frames).top.done < 2 ^ 32 - 1) }
-    ensures height { IfOk result (λ r. heights_in (stack_view r.frames).top.done < 2 ^ 16 - 1) }
+/// The end of the text.
+fn end(alloc: Global, stack: &Stack) -> Result<Closed, NoMemory>
+    requires ready { IsReady 1048576 stack.now }
+    ensures { IfOk result (λ r. (text : ocaml.Text) (p : model.Parser) (n : ℕ) → Shows text p stack.now → Comes text n p → n ≤ 1048576 → ShowsEnd text (recovery.close (grammar text) p) r) }
 {
-    let frames = &stack.frames;
-    let closed = close_frames(alloc, stack.text, frames.share()?, frames.waiting())?;
-    let whole = fill(alloc, stack.text, closed.frames, 16)?;
-    Ok(Filled {
-        frames: whole.frames,
-        holes: closed.holes + whole.holes,
+    let whole = close_up(alloc, &stack.rows)?;
+    if whole.holes == 0 {
+        return ended(whole, stack.rows.place(), Vec::new(alloc));
+    }
+    match &stack.item {
+        None => ended(whole, stack.rows.place(), Vec::new(alloc)),
+        Some(item) => end_item(alloc, &stack.rows, item, whole),
+    }
+}
+
+/// The end in an item, where parts are missing: an item with cut tokens is gone back to.
+fn end_item(alloc: Global, rows: &Rows, item: &Item, whole: Whole) -> Result<Closed, NoMemory>
+    requires ready { (text : ocaml.Text) × (i : model.Item) × ShowsItem text (Some i) (Some item.now) × KeepsFew text 1048576 i.mark }
+    ensures { IfOk result (λ r. (text : ocaml.Text) (s : model.State) (i : model.Item) → ShowsWhole text s whole → (stack_view rows.now.frames).place ≡ s.place → ShowsItem text (Some i) (Some item.now) → KeepsFew text 1048576 i.mark → ShowsEnd text (recovery.close_mark (grammar text) s i.col i.mark) r) }
+{
+    match &item.mark {
+        Mark::Held { before, since } => end_back(alloc, item.col, before.share()?, since),
+        Mark::Sound => ended(whole, rows.place(), Vec::new(alloc)),
+        Mark::Marked => ended(whole, rows.place(), Vec::new(alloc)),
+    }
+}
+
+/// The end behind tokens that are taken again.
+fn end_back(alloc: Global, col: u32, before: Rows, since: &Tokens) -> Result<Closed, NoMemory>
+    requires ready { (n : ℕ) × RowsReady n before × (n + length (tokens_view since.now) ≤ 1048576) }
+    ensures { IfOk result (λ r. (text : ocaml.Text) (s : model.State) (ts : List Tok) (n : ℕ) → ShowsRows text s before → reverse (tokens_view since.now) ≡ ts → IsReached text n s → n + length ts ≤ 1048576 → ShowsEnd text (recovery.ended_by (grammar text) (recovery.go_back (grammar text) col s ts)) r) }
+{
+    let back = go_back(alloc, col, before, since)?;
+    let whole = close_up(alloc, &back.stepped.stack.rows)?;
+    ended(whole, back.stepped.stack.rows.place(), back.stepped.faults)
+}
+
+/// A tree, and the fault of what is missing at its end behind others.
+fn ended(whole: Whole, place: u32, before: Vec<SyntaxFault>) -> Result<Closed, NoMemory>
+    ensures { IfOk result (λ r. (trees_of r.tree ≡ trees_of whole.tree) × (map fault_of r.faults.items ≡ map fault_of before.items ++ map told (last_fault whole.holes place))) }
+{
+    let mut faults = before;
+    add_fault(fault_at(place, whole.holes), &mut faults)?;
+    Ok(Closed {
+        tree: whole.tree,
+        faults,
     })
 }
 
@@ -225,32 +287,5 @@ fn fault_at(place: u32, holes: u32) -> Option<SyntaxFault>
         None
     } else {
         Some(SyntaxFault::Added { place, holes })
-    }
-}
-
-/// The nodes among the parts of a node, in order.
-fn items_of(alloc: Global, node: &Node) -> Result<Vec<Rc<Node>>, NoMemory>
-    ensures { IfOk result (λ r. map (λ n. node_view n.value) r.items ≡ items_of (node_view node.now)) }
-{
-    let mut items = Vec::new(alloc);
-    for child in &node.children {
-        add_item(child, &mut items)?;
-    }
-    Ok(items)
-}
-
-fn add_item(child: &Child, items: &mut Vec<Rc<Node>>) -> Result<(), NoMemory>
-    ensures { OnOk result (map (λ n. node_view n.value) items.new.items ≡ map (λ n. node_view n.value) items.old.items ++ inner_of (child_view child.now).1) }
-{
-    match &child.part {
-        Part::Inner(node) => match Rc::clone(node) {
-            Ok(node) => match items.push(node) {
-                Ok(()) => Ok(()),
-                Err(_) => Err(AllocError),
-            },
-            Err(_) => Err(AllocError),
-        },
-        Part::Taken(_) => Ok(()),
-        Part::Missing(_) => Ok(()),
     }
 }

@@ -1,18 +1,19 @@
 //! The tree and the faults of a whole list of tokens.
-ghost use Rattle.std.specs.Prelude.{◌≡◌, ◌≤◌, ◌++◌, length, map, option_map, IfOk, OnOk};
+ghost use Rattle.std.specs.Prelude.{◌≡◌, ◌≤◌, ◌*◌, length, map, IfOk, OnOk};
+ghost use Rattle.grammar_model.specs.Named.{named, items_of};
 ghost use Rattle.grammar_model.specs.Ocaml as ocaml;
-ghost use Rattle.grammar_model.specs.Recovery.{recover};
+ghost use Rattle.recovery_model.specs.Recovery.{recover};
 ghost use Rattle.syntax_tree.specs.Tallies.{Grows};
 ghost use Rattle.syntax_tree.specs.View.{tok_of, trees_of};
 ghost use Rattle.syntax_rows.specs.View.{text_of};
-ghost use Rattle.grammar_model.specs.Named.{named, items_of};
-ghost use Rattle.frame_parser.specs.Run.{told, listed, shifted_by};
-ghost use Rattle.frame_parser.specs.View.{fault_of};
+ghost use Rattle.frame_steps.specs.Told.{told};
+ghost use Rattle.frame_steps.specs.View.{fault_of};
+ghost use Rattle.frame_parser.specs.Run.{all_shifts, shifted_by};
 
-use crate::stack::SyntaxFault;
+use crate::cuts::add_faults;
 use crate::steps::{begun, close, step};
-use std::alloc::{AllocError, Global};
-use syntax_rows::Text;
+use frame_steps::{SyntaxFault, Text};
+use std::alloc::Global;
 use syntax_tree::{Counts, NoMemory, Token, Tree};
 
 /// The tree of a list of tokens, and its faults in order.
@@ -22,8 +23,8 @@ pub struct Parsed {
     pub faults: Vec<SyntaxFault>,
 }
 
-/// The tree and the faults of a list of tokens, each of which adds one to the tokens shifted; for want of memory those
-/// before it have.
+/// The tree and the faults of a list of tokens. Each token adds one to the tokens shifted, and one more where it is taken again;
+/// for want of memory those before it have.
 pub fn parse<C: Counts>(
     alloc: Global,
     text: Text,
@@ -33,33 +34,21 @@ pub fn parse<C: Counts>(
     requires few { length tokens.now ≤ 1048576 }
     ensures tree { IfOk result (λ r. trees_of r.tree ≡ items_of (named ocaml.row_name (recover (ocaml.grammar (text_of text)) (map tok_of tokens.now)).0)) }
     ensures faults { IfOk result (λ r. map fault_of r.faults.items ≡ map told (recover (ocaml.grammar (text_of text)) (map tok_of tokens.now)).1) }
-    ensures counted { OnOk result (C.tallies counts.new ≡ shifted_by (length tokens.now) (C.tallies counts.old)) }
+    ensures counted { OnOk result (C.tallies counts.new ≡ shifted_by (all_shifts (text_of text) (map tok_of tokens.now)) (C.tallies counts.old)) }
+    ensures twice { OnOk result (all_shifts (text_of text) (map tok_of tokens.now) ≤ 2 * length tokens.now) }
     ensures grows { Grows (C.tallies counts.old) (C.tallies counts.new) }
 {
     let mut faults = Vec::new(alloc);
     let mut stack = begun(text);
     for token in tokens {
         let stepped = step(alloc, &stack, token, counts)?;
-        add_fault(stepped.fault, &mut faults)?;
+        add_faults(&stepped.faults, &mut faults)?;
         stack = stepped.stack;
     }
     let closed = close(alloc, &stack)?;
-    add_fault(closed.fault, &mut faults)?;
+    add_faults(&closed.faults, &mut faults)?;
     Ok(Parsed {
         tree: closed.tree,
         faults,
     })
-}
-
-/// A fault that may be none, behind others.
-fn add_fault(fault: Option<SyntaxFault>, faults: &mut Vec<SyntaxFault>) -> Result<(), NoMemory>
-    ensures { OnOk result (map fault_of faults.new.items ≡ map fault_of faults.old.items ++ listed (option_map fault_of fault)) }
-{
-    match fault {
-        None => Ok(()),
-        Some(fault) => match faults.push(fault) {
-            Ok(()) => Ok(()),
-            Err(_) => Err(AllocError),
-        },
-    }
 }

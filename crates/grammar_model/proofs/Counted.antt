@@ -5,7 +5,7 @@ use Rattle.grammar_model.specs.Keys.{key_of}
 use Rattle.grammar_model.specs.Trees.{Tree, Forest, Part, no_parts, part, yield_of, part_yield, forest_yield, part_height, holes_of, forest_holes, part_holes}
 use Rattle.grammar_model.specs.Tables.{Table, What, nothing, token, operand, Edge, begins_by, takes, allowed, Place, nowhere, growth, at_spot}
 use Rattle.grammar_model.specs.Machine.{Frame, frame, Stack, onto, put, last_done, first_of, opened, start_in, start_at, Fit, no_fit, deep, fit, grower_in, grown, take_at, place_in, fits_at, fits}
-use Rattle.grammar_model.specs.Recovery.{Fault, added, skipped, too_deep, is_operand, missing_at, must_of, at_frame, past_operand, or_reach, on_edge, reach_in, one_more, filled, most_parts, reach_out, reach_from, Reach, unreached, reached, Stepped, after_reach, after_fit, step, closed_up, close_up, some_fault, last_fault, recovered, recover, Merged, left_out, added_in}
+use Rattle.grammar_model.specs.Recovery.{Fault, added, skipped, too_deep, cut, is_operand, missing_at, must_of, at_frame, past_operand, or_reach, on_edge, reach_in, one_more, filled, most_parts, reach_out, reach_from, Reach, unreached, reached, Stepped, after_reach, after_fit, step, closed_up, close_up, some_fault, last_fault, recovered, recover, Merged, left_out, added_in}
 use Rattle.grammar_model.proofs.Sound.{within_parts, place_may}
 use Rattle.grammar_model.proofs.Faultless.{step_is}
 use Rattle.grammar_model.proofs.Laws.{Found}
@@ -39,19 +39,19 @@ pub record Moved (S U : Stack) (ts : List Tok) (h : ℕ) : Type 0 where
   pub yields : stack_yield U ≡ stack_yield S ++ ts
   pub holes : stack_holes U ≡ stack_holes S + h
 
-moved_on : (S U V : Stack) (ts : List Tok) (h k : ℕ) → Moved S U [] h → Moved U V ts k → Moved S V ts (h + k)
+pub moved_on : (S U V : Stack) (ts : List Tok) (h k : ℕ) → Moved S U [] h → Moved U V ts k → Moved S V ts (h + k)
 moved_on S U V ts h k a b = record {
   yields = b.yields ∙ ap (λ y. y ++ ts) (a.yields ∙ append-nil (stack_yield S));
   holes = let x = a.holes in let y = b.holes in omega arith;
 }
 
-moved_after : (S U V : Stack) (ts : List Tok) (k : ℕ) → Moved S U [] 0 → Moved U V ts k → Moved S V ts k
+pub moved_after : (S U V : Stack) (ts : List Tok) (k : ℕ) → Moved S U [] 0 → Moved U V ts k → Moved S V ts k
 moved_after S U V ts k a b = record {
   yields = b.yields ∙ ap (λ y. y ++ ts) (a.yields ∙ append-nil (stack_yield S));
   holes = let x = a.holes in let y = b.holes in omega arith;
 }
 
-moved_put : (f g : Frame) (S : Stack) → Moved (f ∷ g ∷ S) (put f g ∷ S) [] 0
+pub moved_put : (f g : Frame) (S : Stack) → Moved (f ∷ g ∷ S) (put f g ∷ S) [] 0
 moved_put f g S = record {
   yields = ap (λ y. stack_yield S ++ (rev_yield g.done ++ y)) (onto_yield f.done no_parts ∙ append-nil (rev_yield f.done)) ∙ sym (append_assoc (stack_yield S) (rev_yield g.done) (rev_yield f.done))
       ∙ sym (append-nil ((stack_yield S ++ rev_yield g.done) ++ rev_yield f.done));
@@ -163,7 +163,7 @@ moved_in G L (suc fuel) f S t place h n U i =
     must None go i = absurd (cc)
     must (Some e) go i = after_missing f e.spot place S t U h n (go e i)
 
-moved_filled : (G : Table) (fuel : ℕ) (f : Frame) (place : ℕ) (S : Stack) → Moved (f ∷ S) ((filled fuel G f place).0 ∷ S) [] (filled fuel G f place).1
+pub moved_filled : (G : Table) (fuel : ℕ) (f : Frame) (place : ℕ) (S : Stack) → Moved (f ∷ S) ((filled fuel G f place).0 ∷ S) [] (filled fuel G f place).1
 moved_filled G zero f place S = record { yields = sym (append-nil (stack_yield S ++ rev_yield f.done)); holes = omega arith }
 moved_filled G (suc fuel) f place S = must (must_of G f) (λ e. moved_filled G fuel (missing_at f e.spot place) place S)
   where
@@ -192,7 +192,7 @@ pub record Took (S : Stack) (t : Tok) (r : Stepped) : Type 0 where
   pub token : (Moved S r.stack (t ∷ []) (added_in (some_fault r.fault [])) × (left_out (some_fault r.fault []) ≡ [])) ⊎
       ((r.stack ≡ S) × (left_out (some_fault r.fault []) ≡ t ∷ []) × (added_in (some_fault r.fault []) ≡ 0))
 
-took : (G : Table) → Found G → (S : Stack) (place : ℕ) (t : Tok) → Took S t (step G S place t)
+pub took : (G : Table) → Found G → (S : Stack) (place : ℕ) (t : Tok) → Took S t (step G S place t)
 took G L S place t = subst (Took S t) (sym (step_is G S place t)) (by (fits G S t) refl)
   where
     fitted : (S U : Stack) → fits G S t ≡ fit U → Moved S U (t ∷ []) 0
@@ -235,11 +235,11 @@ closed_counts G place (g ∷ S) f =
       holes = let x = m.holes in let y = p.holes in let z = w.holes in omega arith;
     }
 
-close_counts : (G : Table) (S : Stack) (place : ℕ) → Whole S (close_up G S place)
+pub close_counts : (G : Table) (S : Stack) (place : ℕ) → Whole S (close_up G S place)
 close_counts G [] place = record { yields = refl; holes = refl }
 close_counts G (f ∷ S) place = closed_counts G place S f
 
-fault_counts : (n place : ℕ) → (left_out (last_fault n place) ≡ []) × (added_in (last_fault n place) ≡ n)
+pub fault_counts : (n place : ℕ) → (left_out (last_fault n place) ≡ []) × (added_in (last_fault n place) ≡ n)
 fault_counts zero place = (refl, refl)
 fault_counts (suc n) place = (refl, omega arith)
 
@@ -261,12 +261,14 @@ run_lossless G L (t ∷ ts) S place = by (step G S place t) (took G L S place t)
     outs (Some (added p n)) fs = refl
     outs (Some (skipped u)) fs = refl
     outs (Some (too_deep u)) fs = refl
+    outs (Some (cut p)) fs = refl
 
     adds : (x : Option Fault) (fs : List Fault) → added_in (some_fault x fs) ≡ added_in (some_fault x []) + added_in fs
     adds None fs = omega arith
     adds (Some (added p n)) fs = omega arith
     adds (Some (skipped u)) fs = omega arith
     adds (Some (too_deep u)) fs = omega arith
+    adds (Some (cut p)) fs = omega arith
 
     by : (r : Stepped) → Took S t r → Lossless r.stack ts (recovered G ts r.stack r.place) →
         Lossless S (t ∷ ts) (let q = recovered G ts r.stack r.place in (q.0, some_fault r.fault q.1))

@@ -201,7 +201,7 @@ pub record Full (G : Table) (S : Stack) (f : Frame) : Type 0 where
   pub top : Top G f.number f.at f.done S
   pub ends : G.ends f.number f.at ≡ true
 
-top_filled : (G : Table) → Passes G → (fuel : ℕ) (r at : ℕ) (done : List (ℕ × Part)) (S : Stack) (place : ℕ) → ends_within fuel G r at ≡ true → Top G r at done S → Full G S (filled fuel G (frame r at done) place).0
+pub top_filled : (G : Table) → Passes G → (fuel : ℕ) (r at : ℕ) (done : List (ℕ × Part)) (S : Stack) (place : ℕ) → ends_within fuel G r at ≡ true → Top G r at done S → Full G S (filled fuel G (frame r at done) place).0
 top_filled G P zero r at done S place e top = record { top = top; ends = e }
 top_filled G P (suc fuel) r at done S place e top = by (must_of G (frame r at done)) refl (λ d may en. top_filled G P fuel r d.spot ((d.spot, missing place) ∷ done) S place en (top_missing G P r at d.spot place done S top may))
   where
@@ -221,7 +221,7 @@ top_filled G P (suc fuel) r at done S place e top = by (must_of G (frame r at do
 abbrev pub top_frame : Table → Frame → Stack → Type 0
 top_frame G f S = Top G f.number f.at f.done S
 
-filled_put : (G : Table) (f F : Frame) (S : Stack) → Full G (F ∷ S) f → top_frame G (put f F) S
+pub filled_put : (G : Table) (f F : Frame) (S : Stack) → Full G (F ∷ S) f → top_frame G (put f F) S
 filled_put G f F S full = finished G f.number f.at f.done F S full.top full.ends
 
 top_out : (G : Table) → Found G → Passes G → (t : Tok) (place : ℕ) (S : Stack) (f : Frame) (h n : ℕ) (U : Stack) → top_frame G f S → reach_out G f S t place h ≡ reached (fit U) n → TopOf G U
@@ -262,7 +262,7 @@ full_tree G f full = record {
   low = let h = onto_low 1 f.done no_parts full.top.low (omega arith) in omega arith;
 }
 
-closed_formed : (G : Table) → Passes G → (place : ℕ) (S : Stack) (f : Frame) → top_frame G f S → IsRecovered G (closed_up G f S place).0
+pub closed_formed : (G : Table) → Passes G → (place : ℕ) (S : Stack) (f : Frame) → top_frame G f S → IsRecovered G (closed_up G f S place).0
 closed_formed G P place [] f top = full_tree G (filled most_parts G f place).0 (top_filled G P most_parts f.number f.at f.done [] place (P.soon f.number f.at) top)
 closed_formed G P place (F ∷ S) f top =
     closed_formed G P place S (put (filled most_parts G f place).0 F)

@@ -6,11 +6,12 @@ use Rattle.grammar_model.specs.Tables.{Table, What, nothing, token, operand, Edg
 use Rattle.grammar_model.specs.Grammar.{WellFormed}
 use Rattle.grammar_model.specs.Machine.{Frame, frame, Stack, node_of, put, last_done, Fit, no_fit, deep, fit, take_at, place_in, fits}
 
--- a token of the text at which the parser added parts, or one that it left out
+-- a token of the text at which the parser added parts, one that it left out, or a place at which it ended an item that lacks no part
 pub data Fault : Type 0 where
   added : ℕ → ℕ → Fault
   skipped : Tok → Fault
   too_deep : Tok → Fault
+  cut : ℕ → Fault
 
 -- an operand stands there
 abbrev pub is_operand : What → Bool
@@ -164,6 +165,7 @@ left_out [] = []
 left_out (added place h ∷ fs) = left_out fs
 left_out (skipped t ∷ fs) = t ∷ left_out fs
 left_out (too_deep t ∷ fs) = t ∷ left_out fs
+left_out (cut place ∷ fs) = left_out fs
 
 -- the number of missing parts that the faults tell
 abbrev pub added_in : List Fault → ℕ
@@ -171,6 +173,7 @@ added_in [] = 0
 added_in (added place h ∷ fs) = h + added_in fs
 added_in (skipped t ∷ fs) = added_in fs
 added_in (too_deep t ∷ fs) = added_in fs
+added_in (cut place ∷ fs) = added_in fs
 
 -- a tree of a whole text that is well formed apart from its missing parts, and at most 512 high
 pub record IsRecovered (G : Table) (T : Tree) : Type 0 where

@@ -35,8 +35,8 @@ near_few text place n r ts inside (behind_token k w name rest whole spells no_bl
     omega (arith, near, few, last, sum)
 
 -- few end before the reach of a token that was found behind a gap
-pub found_few : (text here : List ℕ) (at i place reach : ℕ) (f : Found) → i < length (drop at text) → here ≡ drop i (drop at text) → place ≡ at + i → f ≡ front_found here → f.size ≤ length here → reach ≡ place + front_reach here → HasFew text (placed_tok place f here) reach
-found_few text here at i place reach f within is at_place found fits at_reach behind lex =
+pub found_few : (text here : List ℕ) (at i place reach col : ℕ) (f : Found) → i < length (drop at text) → here ≡ drop i (drop at text) → place ≡ at + i → f ≡ front_found here → f.size ≤ length here → reach ≡ place + front_reach here → HasFew text (placed_tok place col f here) reach
+found_few text here at i place reach col f within is at_place found fits at_reach behind lex =
     let there : here ≡ drop place text = is ∙ drop-drop i at text ∙ ap (λ k. drop k text) (sym at_place) in
     let near : Near (drop place text) f.size (front_reach here) = subst (λ (l : List ℕ). Near l f.size (front_reach here)) there (subst (λ (x : Found). Near here x.size (front_reach here)) (sym found) (front_near here)) in
     let inside : place + f.size ≤ length text = omega (arith, fits, ap length is, at_place, within, length-drop i (drop at text), length-drop at text) in

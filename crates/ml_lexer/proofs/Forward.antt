@@ -40,11 +40,12 @@ blanks_gap (b ∷ bs) = elim (is_blank b) as (λ t. is_blank b ≡ t → Gap (b 
 pub forward : (text : List ℕ) (at : ℕ) (t : Tok) → at ≤ length text → FirstToken text at (Some t) → (at + run_length is_blank (drop at text) ≤ t.start) × (t.start < t.end) × (t.end ≤ length text)
 unfolding FirstToken
 forward text at t inside first =
-    let passed = blanks_passed first.gap (stands_stop first.stands) in
-    let some = stands_some first.stands in (
-      omega (arith, first.start, passed, length-drop at text),
-      omega (arith, first.end, some),
-      omega (arith, first.start, first.end, passed, length-append first.spelled first.rest, length-drop at text),
+    let here = first.0 in
+    let passed = blanks_passed here.gap (stands_stop here.stands) in
+    let some = stands_some here.stands in (
+      omega (arith, here.start, passed, length-drop at text),
+      omega (arith, here.end, some),
+      omega (arith, here.start, here.end, passed, length-append here.spelled here.rest, length-drop at text),
     )
 
 -- of the tokens behind a place and blanks no more end before another place than bytes stand between
@@ -81,9 +82,10 @@ first_long text at t k w name rest inside first whole spells no_blank no_paren =
     let bytes = drop at text in
     let n = run_length is_blank bytes in
     let stop = spelled_stop (drop n bytes) w rest whole (spelled_some spells) no_blank no_paren in
-    let same = gap_one (stands_stop first.stands) stop first.gap (blanks_gap bytes) in
-    let long = stands_long first.stands (same ∙ whole) spells in
-    omega (arith, first.start, first.end, long, ap length same, length-drop n bytes, length-drop at text, run_le is_blank bytes)
+    let here = first.0 in
+    let same = gap_one (stands_stop here.stands) stop here.gap (blanks_gap bytes) in
+    let long = stands_long here.stands (same ∙ whole) spells in
+    omega (arith, here.start, here.end, long, ap length same, length-drop n bytes, length-drop at text, run_le is_blank bytes)
 
 -- the same, where a token at least so long stands between
 pub few_between : (text : List ℕ) (place at end : ℕ) (ts : List Tok) → at ≤ length text → LexFrom text at ts → ((t : Tok) → FirstToken text at (Some t) → end ≤ t.end) → ends_before tok_end place ts ≤ 1 + (place - (end + run_length is_blank (drop end text) + 1))

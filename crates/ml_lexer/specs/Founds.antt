@@ -22,6 +22,6 @@ pub record Fits (f : Found) (bytes : List ℕ) : Type 0 where
 abbrev pub ended_of : Ended → Kind × ℕ
 ended_of e = (kind_of e.kind, e.end)
 
--- a found token at its place in the text, before some bytes of which it is the front
-abbrev pub placed_tok : ℕ → scan.Found → List ℕ → Tok
-placed_tok at f bytes = record { kind = f.kind; start = at; end = at + f.size; name = take f.name_size (drop f.name_start bytes) }
+-- a found token at its place and column in the text, before some bytes of which it is the front
+abbrev pub placed_tok : ℕ → ℕ → scan.Found → List ℕ → Tok
+placed_tok at col f bytes = record { kind = f.kind; start = at; end = at + f.size; col = col; name = take f.name_size (drop f.name_start bytes) }

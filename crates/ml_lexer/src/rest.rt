@@ -1,5 +1,6 @@
 //! What is left of a text from a place on, and runs of bytes of one sort.
-ghost use Rattle.std.specs.Prelude.{◌≡◌, ◌≤◌, ◌<◌, ◌+◌, ◌-◌, ◌^◌, ◌==◌, ◌||◌, IsTrue, ◌↔◌, slice_index, length, take, drop, IfOk};
+ghost use Rattle.token_model.specs.Tokens.{column_from};
+ghost use Rattle.std.specs.Prelude.{◌≡◌, ◌≤◌, ◌<◌, ◌+◌, ◌-◌, ◌^◌, ◌==◌, ◌||◌, if◌then◌else◌, IsTrue, ◌↔◌, slice_index, length, take, drop, IfOk};
 ghost use Rattle.token_model.specs.Bytes.{is_blank as is_blank_byte, is_digit as is_digit_byte, is_lower as is_lower_byte, is_upper as is_upper_byte, begins_name as begins_name_byte, goes_on as goes_on_byte, is_decimal as is_decimal_byte, is_hexadecimal as is_hexadecimal_byte, is_octal as is_octal_byte, is_binary as is_binary_byte, is_digit_of as is_digit_of_byte, begins_operator as begins_operator_byte, is_sign as is_sign_byte, continues as continues_byte};
 ghost use Rattle.ml_lexer.specs.Places.{whole, rest_of, IsPlaced, test_of};
 ghost use Rattle.ml_lexer.specs.Scans.{run_end};
@@ -226,4 +227,26 @@ pub fn copy(alloc: Global, text: Rest<'_>, from: usize, to: usize) -> Result<Vec
         }
     }
     Ok(bytes)
+}
+
+/// The column behind a byte, where that of the byte is known.
+fn column_past(byte: u8, col: u32) -> u32
+    requires { col < 2 ^ 32 - 1 }
+    ensures { result ≡ (if byte == 10 then 0 else col + 1) }
+{
+    if byte == b'\n' { 0 } else { col + 1 }
+}
+
+/// The column of the place so many bytes ahead, where that of the front is known.
+pub fn column_ahead(text: Rest<'_>, by: usize, col: u32) -> u32
+    requires placed { IsPlaced text }
+    requires inside { by ≤ length (rest_of text) }
+    requires few { col ≤ text.at }
+    ensures { result ≡ column_from col (take by (rest_of text.entry)) }
+{
+    let mut found = col;
+    for i in 0..by {
+        found = column_past(peek(text, i), found);
+    }
+    found
 }

@@ -19,7 +19,8 @@ use Rattle.grammar_model.specs.Rows.{chain_of, grower_of}
 use Rattle.grammar_model.specs.Ocaml.{rows}
 use Rattle.grammar_model.specs.Tables.{first_place}
 use Rattle.grammar_model.specs.Keys.{kind_key, key_of}
-use Rattle.grammar_model.specs.Recovery.{step, recover}
+use Rattle.grammar_model.specs.Recovery as rules
+use Rattle.recovery_model.specs.Recovery.{step, close, recover}
 use Rattle.typing_model.specs.BuiltIns.{constant_by}
 use Rattle.typing_model.specs.Patterns.{pattern_row}
 use Rattle.typing_model.specs.Expressions.{expression_row}
@@ -40,7 +41,7 @@ missed_value_tree = (node_over let_row (part 0 (taken (tok let_word 0 3 (codes "
 
 -- the parser gives it
 pub is_parsed : parsed missed_value ≡ missed_value_tree
-unfolding recover step rows chain_of grower_of first_place kind_key key_of is_operand
+unfolding recover step close rules.step rows chain_of grower_of first_place kind_key key_of is_operand
 is_parsed = refl
 
 -- types that keep all demands

@@ -21,7 +21,8 @@ use Rattle.grammar_model.specs.Rows.{chain_of, grower_of}
 use Rattle.grammar_model.specs.Ocaml.{rows}
 use Rattle.grammar_model.specs.Tables.{first_place}
 use Rattle.grammar_model.specs.Keys.{kind_key, key_of}
-use Rattle.grammar_model.specs.Recovery.{step, recover}
+use Rattle.grammar_model.specs.Recovery as rules
+use Rattle.recovery_model.specs.Recovery.{step, close, recover}
 use Rattle.typing_model.specs.BuiltIns.{constant_by}
 use Rattle.typing_model.specs.Patterns.{pattern_row}
 use Rattle.typing_model.specs.Expressions.{expression_row}
@@ -46,7 +47,7 @@ abbrev pub sealed_type_tree : List Tree
 sealed_type_tree = (node_over module_row (part 0 (taken (tok module_word 0 6 (codes "module"))) (part 1 (taken (tok upper 7 8 (codes "M"))) (part 7 (taken (tok colon 9 10 (codes ":"))) (part 8 (inner (node_over ysig_row (part 0 (taken (tok sig_word 11 14 (codes "sig"))) (part 1 (inner (node_over rows_of.type_row (part 0 (taken (tok type_word 15 19 (codes "type"))) (part 2 (inner (node_over decl_row (part 0 (inner (node_over head_row (part 4 (taken (tok lower 20 21 (codes "t"))) no_parts))) no_parts))) no_parts)))) (part 1 (inner (node_over val_row (part 0 (taken (tok val_word 22 25 (codes "val"))) (part 1 (taken (tok lower 26 27 (codes "x"))) (part 2 (taken (tok colon 28 29 (codes ":"))) (part 3 (inner (node_over tcon_row (part 1 (taken (tok lower 30 31 (codes "t"))) no_parts))) no_parts)))))) (part 2 (taken (tok end_word 32 35 (codes "end"))) no_parts)))))) (part 9 (taken (tok op9 36 37 (codes "="))) (part 10 (inner (node_over mstruct_row (part 0 (taken (tok struct_word 38 44 (codes "struct"))) (part 1 (inner (node_over rows_of.type_row (part 0 (taken (tok type_word 45 49 (codes "type"))) (part 2 (inner (node_over decl_row (part 0 (inner (node_over head_row (part 4 (taken (tok lower 50 51 (codes "t"))) no_parts))) (part 1 (taken (tok op9 52 53 (codes "="))) (part 2 (inner (node_over alias_row (part 0 (inner (node_over tcon_row (part 1 (taken (tok lower 54 57 (codes "int"))) no_parts))) no_parts))) no_parts))))) no_parts)))) (part 1 (inner (node_over let_row (part 0 (taken (tok let_word 58 61 (codes "let"))) (part 2 (inner (node_over binding_row (part 0 (inner (node_over pname_row (part 0 (taken (tok lower 62 63 (codes "x"))) no_parts))) (part 4 (taken (tok op9 64 65 (codes "="))) (part 5 (inner (node_over econst_row (part 0 (taken (tok int 66 67 (codes "1"))) no_parts))) no_parts))))) no_parts)))) (part 2 (taken (tok end_word 68 71 (codes "end"))) no_parts)))))) no_parts))))))) ∷ (node_over let_row (part 0 (taken (tok let_word 72 75 (codes "let"))) (part 2 (inner (node_over binding_row (part 0 (inner (node_over pname_row (part 0 (taken (tok lower 76 77 (codes "y"))) no_parts))) (part 4 (taken (tok op9 78 79 (codes "="))) (part 5 (inner (node_over infix_row (part 0 (inner (node_over epath_row (part 0 (taken (tok qualifier 80 82 (codes "M"))) (part 1 (taken (tok lower 82 83 (codes "x"))) no_parts)))) (part 1 (taken (tok op12 84 85 (codes "+"))) (part 2 (inner (node_over econst_row (part 0 (taken (tok int 86 87 (codes "1"))) no_parts))) no_parts))))) no_parts))))) no_parts))) ∷ []
 
 pub is_parsed : parsed sealed_type ≡ sealed_type_tree
-unfolding recover step rows chain_of grower_of first_place kind_key key_of is_operand
+unfolding recover step close rules.step rows chain_of grower_of first_place kind_key key_of is_operand
 is_parsed = refl
 
 -- types that keep other demands, for those of int and of t

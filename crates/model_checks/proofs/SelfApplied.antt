@@ -23,7 +23,8 @@ use Rattle.grammar_model.specs.Rows.{chain_of, grower_of}
 use Rattle.grammar_model.specs.Ocaml.{rows}
 use Rattle.grammar_model.specs.Tables.{first_place}
 use Rattle.grammar_model.specs.Keys.{kind_key, key_of}
-use Rattle.grammar_model.specs.Recovery.{step, recover}
+use Rattle.grammar_model.specs.Recovery as rules
+use Rattle.recovery_model.specs.Recovery.{step, close, recover}
 use Rattle.typing_model.specs.BuiltIns.{constant_by}
 use Rattle.typing_model.specs.Patterns.{pattern_row}
 use Rattle.typing_model.specs.Expressions.{expression_row}
@@ -41,7 +42,7 @@ self_application_tree = (node_over let_row (part 0 (taken (tok let_word 0 3 (cod
 
 -- the parser gives it
 pub is_parsed : parsed self_application ≡ self_application_tree
-unfolding recover step rows chain_of grower_of first_place kind_key key_of is_operand
+unfolding recover step close rules.step rows chain_of grower_of first_place kind_key key_of is_operand
 is_parsed = refl
 
 -- types that keep all other demands

@@ -4,11 +4,11 @@ use Rattle.token_model.specs.Kinds.{Tok, Kind, and_word, arrow, bar, colon, colo
 use Rattle.tree_model.specs.Trees.{Tree, Forest, node, no_parts, part, taken, inner, missing}
 use Rattle.grammar_model.specs.Named.{named}
 use Rattle.grammar_model.specs.Ocaml.{program_text, grammar, row_name}
-use Rattle.grammar_model.specs.Recovery.{recover}
+use Rattle.recovery_model.specs.Recovery.{recover}
 
 -- a token from a byte to a byte
 abbrev pub tok : Kind → ℕ → ℕ → List ℕ → Tok
-tok k s e n = record { kind = k; start = s; end = e; name = n }
+tok k s e n = record { kind = k; start = s; end = e; col = s; name = n }
 
 -- the nodes among parts
 abbrev pub nodes_among : Forest → List Tree

@@ -7,7 +7,8 @@ use Rattle.grammar_model.specs.Ocaml.{interface_text, grammar, row_name, rows}
 use Rattle.grammar_model.specs.Tables.{first_place}
 use Rattle.grammar_model.specs.Keys.{kind_key, key_of}
 use Rattle.grammar_model.specs.Named.{named}
-use Rattle.grammar_model.specs.Recovery.{step, recover}
+use Rattle.grammar_model.specs.Recovery as rules
+use Rattle.recovery_model.specs.Recovery.{step, close, recover}
 use Rattle.token_laws.proofs.Ones.{lex_one}
 use Rattle.signature_model.specs.Entries.{Environment}
 use Rattle.typing_model.specs.PreludeText.{prelude_text}
@@ -27,7 +28,7 @@ use Rattle.prelude_checks.proofs.Typed.{typed}
 
 -- no declaration of the prelude is another name for a type
 simple : is_simple (named row_name (recover (grammar interface_text) tokens).0) ≡ true
-unfolding recover step rows chain_of grower_of first_place kind_key key_of is_operand
+unfolding recover step close rules.step rows chain_of grower_of first_place kind_key key_of is_operand
 simple = refl
 
 pub first_one : (env : Environment) → IsFirst env → env ≡ first_names

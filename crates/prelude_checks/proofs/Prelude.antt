@@ -10,6 +10,7 @@ use Rattle.typing_model.specs.Typings.{outermost}
 use Rattle.typing_model.specs.First.{every_site, prelude_items, behind_prelude, IsFirst}
 use Rattle.prelude_checks.proofs.Checked.{holding}
 use Rattle.prelude_checks.proofs.Chosen.{choice}
+use Rattle.ml_lexer.proofs.Columns.{column_start}
 use Rattle.prelude_checks.proofs.Lexed.{scanned}
 use Rattle.prelude_checks.proofs.Spelled.{spelled}
 use Rattle.prelude_checks.proofs.Tokens.{tokens}
@@ -17,7 +18,7 @@ use Rattle.prelude_checks.proofs.Typed.{typed}
 
 pub lexed : Lex prelude_text tokens
 unfolding Lex
-lexed = scanned 2000 prelude_text 0 tokens (omega arith) spelled
+lexed = scanned 2000 prelude_text 0 0 tokens (column_start prelude_text) (omega arith) spelled
 
 abbrev pub first_names : Environment
 first_names = behind_prelude tokens choice

@@ -18,7 +18,8 @@ use Rattle.grammar_model.specs.Rows.{chain_of, grower_of}
 use Rattle.grammar_model.specs.Ocaml.{rows}
 use Rattle.grammar_model.specs.Tables.{first_place}
 use Rattle.grammar_model.specs.Keys.{kind_key, key_of}
-use Rattle.grammar_model.specs.Recovery.{step, recover}
+use Rattle.grammar_model.specs.Recovery as rules
+use Rattle.recovery_model.specs.Recovery.{step, close, recover}
 use Rattle.typing_model.specs.BuiltIns.{constant_by}
 use Rattle.typing_model.specs.Patterns.{pattern_row}
 use Rattle.typing_model.specs.Expressions.{expression_row}
@@ -43,7 +44,7 @@ reference_tree = (node_over let_row (part 0 (taken (tok let_word 0 3 (codes "let
 
 -- the parser gives it
 pub is_parsed : program_items reference ≡ reference_tree
-unfolding recover step rows chain_of grower_of first_place kind_key key_of is_operand
+unfolding recover step close rules.step rows chain_of grower_of first_place kind_key key_of is_operand
 is_parsed = refl
 
 -- types that keep all demands
@@ -55,33 +56,33 @@ abbrev pub reference_asked : List Site
 reference_asked = site (first 4) 0 ∷ site (first 3) 0 ∷ site (first 3) 1 ∷ site (first 2) 0 ∷ site (first 1) 1 ∷ []
 
 pub all : demands_of first_names reference_tree (kept_at reference_kept) ≡ reference_asked
-unfolding recover step rows chain_of grower_of first_place kind_key key_of is_operand constant_by pattern_row expression_row type_row module_expression_row module_type_row item_row signature_item_row
+unfolding recover step close rules.step rows chain_of grower_of first_place kind_key key_of is_operand constant_by pattern_row expression_row type_row module_expression_row module_type_row item_row signature_item_row
 all = refl
 
 -- no demand is a `closing`
 open_ : no_closing (conditions_of first_names reference_tree (kept_at reference_kept) no_choice) ≡ true
-unfolding recover step rows chain_of grower_of first_place kind_key key_of is_operand constant_by pattern_row expression_row type_row module_expression_row module_type_row item_row signature_item_row
+unfolding recover step close rules.step rows chain_of grower_of first_place kind_key key_of is_operand constant_by pattern_row expression_row type_row module_expression_row module_type_row item_row signature_item_row
 open_ = refl
 
 -- a typing for each kept demand, with those before it
 typed_0 : HasTyping first_names reference_tree (up_to reference_asked reference_kept (site (first 4) 0))
-unfolding recover step rows chain_of grower_of first_place kind_key key_of is_operand constant_by pattern_row expression_row type_row module_expression_row module_type_row item_row signature_item_row
+unfolding recover step close rules.step rows chain_of grower_of first_place kind_key key_of is_operand constant_by pattern_row expression_row type_row module_expression_row module_type_row item_row signature_item_row
 typed_0 = (choice.type_at, record { choice = choice; chosen = λ n. refl; holds = ((tt), ((tt), ((tt), (((refl {a = false}, ((refl {a = false}, ((refl {a = false}, tt), tt)), tt))), ((tt), ((((refl {a = false}, ((refl {a = false}, tt), tt)), (refl {a = false}, ((refl {a = false}, ((refl {a = false}, tt), tt)), tt)))), ((λ h. refl {a = true}), ((record { fill = λ o. int_type; instance = ((λ v. list_type (int_type)), (λ v h. absurd (yes_no h)), refl {a = Arrow (list_type (int_type)) (ref_type (list_type (int_type)))}) }), ((λ h. refl {a = Arrow (list_type (int_type)) (ref_type (list_type (int_type)))}), ((tt), (((refl {a = false}, ((refl {a = false}, tt), tt))), ((refl {a = list_type (int_type)}), ((λ h. refl {a = list_type (int_type)}), ((refl {a = ref_type (list_type (int_type))}), ((tt), (((refl {a = false}, ((refl {a = false}, ((refl {a = false}, tt), tt)), tt))), ((λ h. refl {a = true}), ((λ h. refl {a = ref_type (list_type (int_type))}), (((refl {a = true}, ((refl {a = true}, ((refl {a = true}, tt), tt)), tt))), tt))))))))))))))))))) })
 
 typed_1 : HasTyping first_names reference_tree (up_to reference_asked reference_kept (site (first 3) 0))
-unfolding recover step rows chain_of grower_of first_place kind_key key_of is_operand constant_by pattern_row expression_row type_row module_expression_row module_type_row item_row signature_item_row
+unfolding recover step close rules.step rows chain_of grower_of first_place kind_key key_of is_operand constant_by pattern_row expression_row type_row module_expression_row module_type_row item_row signature_item_row
 typed_1 = (choice.type_at, record { choice = choice; chosen = λ n. refl; holds = ((tt), ((tt), ((tt), (((refl {a = false}, ((refl {a = false}, ((refl {a = false}, tt), tt)), tt))), ((tt), ((((refl {a = false}, ((refl {a = false}, tt), tt)), (refl {a = false}, ((refl {a = false}, ((refl {a = false}, tt), tt)), tt)))), ((λ h. refl {a = true}), ((record { fill = λ o. int_type; instance = ((λ v. list_type (int_type)), (λ v h. absurd (yes_no h)), refl {a = Arrow (list_type (int_type)) (ref_type (list_type (int_type)))}) }), ((λ h. refl {a = Arrow (list_type (int_type)) (ref_type (list_type (int_type)))}), ((tt), (((refl {a = false}, ((refl {a = false}, tt), tt))), ((refl {a = list_type (int_type)}), ((λ h. refl {a = list_type (int_type)}), ((refl {a = ref_type (list_type (int_type))}), ((tt), (((refl {a = false}, ((refl {a = false}, ((refl {a = false}, tt), tt)), tt))), ((λ h. refl {a = true}), ((λ h. refl {a = ref_type (list_type (int_type))}), (((refl {a = true}, ((refl {a = true}, ((refl {a = true}, tt), tt)), tt))), tt))))))))))))))))))) })
 
 typed_2 : HasTyping first_names reference_tree (up_to reference_asked reference_kept (site (first 3) 1))
-unfolding recover step rows chain_of grower_of first_place kind_key key_of is_operand constant_by pattern_row expression_row type_row module_expression_row module_type_row item_row signature_item_row
+unfolding recover step close rules.step rows chain_of grower_of first_place kind_key key_of is_operand constant_by pattern_row expression_row type_row module_expression_row module_type_row item_row signature_item_row
 typed_2 = (choice.type_at, record { choice = choice; chosen = λ n. refl; holds = ((tt), ((tt), ((tt), (((refl {a = false}, ((refl {a = false}, ((refl {a = false}, tt), tt)), tt))), ((tt), ((((refl {a = false}, ((refl {a = false}, tt), tt)), (refl {a = false}, ((refl {a = false}, ((refl {a = false}, tt), tt)), tt)))), ((λ h. refl {a = true}), ((record { fill = λ o. int_type; instance = ((λ v. list_type (int_type)), (λ v h. absurd (yes_no h)), refl {a = Arrow (list_type (int_type)) (ref_type (list_type (int_type)))}) }), ((λ h. refl {a = Arrow (list_type (int_type)) (ref_type (list_type (int_type)))}), ((tt), (((refl {a = false}, ((refl {a = false}, tt), tt))), ((refl {a = list_type (int_type)}), ((λ h. refl {a = list_type (int_type)}), ((refl {a = ref_type (list_type (int_type))}), ((tt), (((refl {a = false}, ((refl {a = false}, ((refl {a = false}, tt), tt)), tt))), ((λ h. refl {a = true}), ((λ h. refl {a = ref_type (list_type (int_type))}), (((refl {a = true}, ((refl {a = true}, ((refl {a = true}, tt), tt)), tt))), tt))))))))))))))))))) })
 
 typed_3 : HasTyping first_names reference_tree (up_to reference_asked reference_kept (site (first 2) 0))
-unfolding recover step rows chain_of grower_of first_place kind_key key_of is_operand constant_by pattern_row expression_row type_row module_expression_row module_type_row item_row signature_item_row
+unfolding recover step close rules.step rows chain_of grower_of first_place kind_key key_of is_operand constant_by pattern_row expression_row type_row module_expression_row module_type_row item_row signature_item_row
 typed_3 = (choice.type_at, record { choice = choice; chosen = λ n. refl; holds = ((tt), ((tt), ((tt), (((refl {a = false}, ((refl {a = false}, ((refl {a = false}, tt), tt)), tt))), ((tt), ((((refl {a = false}, ((refl {a = false}, tt), tt)), (refl {a = false}, ((refl {a = false}, ((refl {a = false}, tt), tt)), tt)))), ((λ h. refl {a = true}), ((record { fill = λ o. int_type; instance = ((λ v. list_type (int_type)), (λ v h. absurd (yes_no h)), refl {a = Arrow (list_type (int_type)) (ref_type (list_type (int_type)))}) }), ((λ h. refl {a = Arrow (list_type (int_type)) (ref_type (list_type (int_type)))}), ((tt), (((refl {a = false}, ((refl {a = false}, tt), tt))), ((refl {a = list_type (int_type)}), ((λ h. refl {a = list_type (int_type)}), ((refl {a = ref_type (list_type (int_type))}), ((tt), (((refl {a = false}, ((refl {a = false}, ((refl {a = false}, tt), tt)), tt))), ((λ h. refl {a = true}), ((λ h. refl {a = ref_type (list_type (int_type))}), (((refl {a = true}, ((refl {a = true}, ((refl {a = true}, tt), tt)), tt))), tt))))))))))))))))))) })
 
 typed_4 : HasTyping first_names reference_tree (up_to reference_asked reference_kept (site (first 1) 1))
-unfolding recover step rows chain_of grower_of first_place kind_key key_of is_operand constant_by pattern_row expression_row type_row module_expression_row module_type_row item_row signature_item_row
+unfolding recover step close rules.step rows chain_of grower_of first_place kind_key key_of is_operand constant_by pattern_row expression_row type_row module_expression_row module_type_row item_row signature_item_row
 typed_4 = (choice.type_at, record { choice = choice; chosen = λ n. refl; holds = ((tt), ((tt), ((tt), (((refl {a = false}, ((refl {a = false}, ((refl {a = false}, tt), tt)), tt))), ((tt), ((((refl {a = false}, ((refl {a = false}, tt), tt)), (refl {a = false}, ((refl {a = false}, ((refl {a = false}, tt), tt)), tt)))), ((λ h. refl {a = true}), ((record { fill = λ o. int_type; instance = ((λ v. list_type (int_type)), (λ v h. absurd (yes_no h)), refl {a = Arrow (list_type (int_type)) (ref_type (list_type (int_type)))}) }), ((λ h. refl {a = Arrow (list_type (int_type)) (ref_type (list_type (int_type)))}), ((tt), (((refl {a = false}, ((refl {a = false}, tt), tt))), ((refl {a = list_type (int_type)}), ((λ h. refl {a = list_type (int_type)}), ((refl {a = ref_type (list_type (int_type))}), ((tt), (((refl {a = false}, ((refl {a = false}, ((refl {a = false}, tt), tt)), tt))), ((λ h. refl {a = true}), ((λ h. refl {a = ref_type (list_type (int_type))}), (((refl {a = true}, ((refl {a = true}, ((refl {a = true}, tt), tt)), tt))), tt))))))))))))))))))) })
 
 -- the kept demands
@@ -96,7 +97,7 @@ letters = (first 3, 0, list_type (Var (of_letter (first 5) 0))) ∷ (first 3, 1,
 
 -- the types are the most general ones
 general : IsMostGeneralChoice (kept_at reference_kept) (conditions_of first_names reference_tree (kept_at reference_kept)) (open_choice reference_open letters)
-unfolding recover step rows chain_of grower_of first_place kind_key key_of is_operand constant_by pattern_row expression_row type_row module_expression_row module_type_row item_row signature_item_row
+unfolding recover step close rules.step rows chain_of grower_of first_place kind_key key_of is_operand constant_by pattern_row expression_row type_row module_expression_row module_type_row item_row signature_item_row
 general = record {
   holds = ((tt), ((tt), ((tt), (((refl {a = false}, ((refl {a = false}, (tt, tt)), tt))), ((tt), ((((refl {a = false}, (tt, tt)), (refl {a = false}, ((refl {a = false}, (tt, tt)), tt)))), ((λ h. refl {a = true}), ((record { fill = λ o. int_type; instance = ((λ v. list_type (Var (of_letter (first 5) 0))), (λ v h. absurd (yes_no h)), refl {a = Arrow (list_type (Var (of_letter (first 5) 0))) (ref_type (list_type (Var (of_letter (first 5) 0))))}) }), ((λ h. refl {a = Arrow (list_type (Var (of_letter (first 5) 0))) (ref_type (list_type (Var (of_letter (first 5) 0))))}), ((tt), (((refl {a = false}, (tt, tt))), ((refl {a = list_type (Var (of_letter (first 5) 0))}), ((λ h. refl {a = list_type (Var (of_letter (first 5) 0))}), ((refl {a = ref_type (list_type (Var (of_letter (first 5) 0)))}), ((tt), (((refl {a = false}, ((refl {a = false}, (tt, tt)), tt))), ((λ h. refl {a = true}), ((λ h. refl {a = ref_type (list_type (Var (of_letter (first 5) 0)))}), (((refl {a = true}, ((refl {a = true}, (tt, tt)), tt))), tt)))))))))))))))))));
   general = λ other h.

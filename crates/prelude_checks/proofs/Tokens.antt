@@ -2,959 +2,959 @@
 use Rattle.std.proofs.Common.{ℕ, List, [], ◌∷◌, ◌++◌, codes}
 use Rattle.token_model.specs.Kinds.{Tok, Kind, arrow, bar, colon, comma, end_word, exception_word, left_brace, left_paren, lower, module_word, mutable_word, of_word, op13, op9, op_name, right_brace, right_paren, sig_word, ty_var, type_word, upper, val_word}
 
--- a token from a byte to a byte
-abbrev tok : Kind → ℕ → ℕ → List ℕ → Tok
-tok k s e n = record { kind = k; start = s; end = e; name = n }
+-- a token from a byte to a byte, in a column
+abbrev tok : Kind → ℕ → ℕ → ℕ → List ℕ → Tok
+tok k s e c n = record { kind = k; start = s; end = e; col = c; name = n }
 
 abbrev part0 : List Tok
 part0 =
-    tok type_word 0 4 (codes "type") ∷
-    tok ty_var 5 7 (codes "'a") ∷
-    tok lower 8 14 (codes "option") ∷
-    tok op9 15 16 (codes "=") ∷
-    tok upper 17 21 (codes "None") ∷
-    tok bar 22 23 (codes "|") ∷
-    tok upper 24 28 (codes "Some") ∷
-    tok of_word 29 31 (codes "of") ∷
-    tok ty_var 32 34 (codes "'a") ∷
-    tok type_word 35 39 (codes "type") ∷
-    tok ty_var 40 42 (codes "'a") ∷
-    tok lower 43 46 (codes "ref") ∷
-    tok op9 47 48 (codes "=") ∷
-    tok left_brace 49 50 (codes "{") ∷
-    tok mutable_word 51 58 (codes "mutable") ∷
-    tok lower 59 67 (codes "contents") ∷
-    tok colon 68 69 (codes ":") ∷
-    tok ty_var 70 72 (codes "'a") ∷
-    tok right_brace 73 74 (codes "}") ∷
-    tok type_word 75 79 (codes "type") ∷
-    tok left_paren 80 81 (codes "(") ∷
-    tok ty_var 81 83 (codes "'a") ∷
-    tok comma 83 84 (codes ",") ∷
-    tok ty_var 85 87 (codes "'b") ∷
-    tok right_paren 87 88 (codes ")") ∷
-    tok lower 89 95 (codes "result") ∷
-    tok op9 96 97 (codes "=") ∷
-    tok upper 98 100 (codes "Ok") ∷
-    tok of_word 101 103 (codes "of") ∷
-    tok ty_var 104 106 (codes "'a") ∷
-    tok bar 107 108 (codes "|") ∷
-    tok upper 109 114 (codes "Error") ∷
-    tok of_word 115 117 (codes "of") ∷
-    tok ty_var 118 120 (codes "'b") ∷
-    tok exception_word 121 130 (codes "exception") ∷
-    tok upper 131 140 (codes "Not_found") ∷
-    tok exception_word 141 150 (codes "exception") ∷
-    tok upper 151 155 (codes "Exit") ∷
-    tok exception_word 156 165 (codes "exception") ∷
-    tok upper 166 177 (codes "End_of_file") ∷
-    tok exception_word 178 187 (codes "exception") ∷
-    tok upper 188 204 (codes "Division_by_zero") ∷
-    tok exception_word 205 214 (codes "exception") ∷
-    tok upper 215 222 (codes "Failure") ∷
-    tok of_word 223 225 (codes "of") ∷
-    tok lower 226 232 (codes "string") ∷
-    tok exception_word 233 242 (codes "exception") ∷
-    tok upper 243 259 (codes "Invalid_argument") ∷
-    tok of_word 260 262 (codes "of") ∷
-    tok lower 263 269 (codes "string") ∷
-    tok val_word 270 273 (codes "val") ∷
-    tok lower 274 279 (codes "raise") ∷
-    tok colon 280 281 (codes ":") ∷
-    tok lower 282 285 (codes "exn") ∷
-    tok arrow 286 288 (codes "->") ∷
-    tok ty_var 289 291 (codes "'a") ∷
-    tok val_word 292 295 (codes "val") ∷
-    tok lower 296 304 (codes "failwith") ∷
-    tok colon 305 306 (codes ":") ∷
-    tok lower 307 313 (codes "string") ∷
-    tok arrow 314 316 (codes "->") ∷
-    tok ty_var 317 319 (codes "'a") ∷
-    tok val_word 320 323 (codes "val") ∷
-    tok lower 324 335 (codes "invalid_arg") ∷
-    tok colon 336 337 (codes ":") ∷
-    tok lower 338 344 (codes "string") ∷
-    tok arrow 345 347 (codes "->") ∷
-    tok ty_var 348 350 (codes "'a") ∷
-    tok val_word 351 354 (codes "val") ∷
-    tok op_name 355 360 (codes "=") ∷
-    tok colon 361 362 (codes ":") ∷
-    tok ty_var 363 365 (codes "'a") ∷
-    tok arrow 366 368 (codes "->") ∷
-    tok ty_var 369 371 (codes "'a") ∷
-    tok arrow 372 374 (codes "->") ∷
-    tok lower 375 379 (codes "bool") ∷
-    tok val_word 380 383 (codes "val") ∷
-    tok op_name 384 390 (codes "<>") ∷
-    tok colon 391 392 (codes ":") ∷
-    tok ty_var 393 395 (codes "'a") ∷
-    tok arrow 396 398 (codes "->") ∷
-    tok ty_var 399 401 (codes "'a") ∷
-    tok arrow 402 404 (codes "->") ∷
-    tok lower 405 409 (codes "bool") ∷
-    tok val_word 410 413 (codes "val") ∷
-    tok op_name 414 419 (codes "<") ∷
-    tok colon 420 421 (codes ":") ∷
-    tok ty_var 422 424 (codes "'a") ∷
-    tok arrow 425 427 (codes "->") ∷
-    tok ty_var 428 430 (codes "'a") ∷
-    tok arrow 431 433 (codes "->") ∷
-    tok lower 434 438 (codes "bool") ∷
-    tok val_word 439 442 (codes "val") ∷
-    tok op_name 443 448 (codes ">") ∷
-    tok colon 449 450 (codes ":") ∷
-    tok ty_var 451 453 (codes "'a") ∷
-    tok arrow 454 456 (codes "->") ∷
-    tok ty_var 457 459 (codes "'a") ∷
-    tok arrow 460 462 (codes "->") ∷
-    tok lower 463 467 (codes "bool") ∷
-    tok val_word 468 471 (codes "val") ∷
-    tok op_name 472 478 (codes "<=") ∷
-    tok colon 479 480 (codes ":") ∷
-    tok ty_var 481 483 (codes "'a") ∷
-    tok arrow 484 486 (codes "->") ∷
-    tok ty_var 487 489 (codes "'a") ∷
-    tok arrow 490 492 (codes "->") ∷
-    tok lower 493 497 (codes "bool") ∷
-    tok val_word 498 501 (codes "val") ∷
-    tok op_name 502 508 (codes ">=") ∷
-    tok colon 509 510 (codes ":") ∷
-    tok ty_var 511 513 (codes "'a") ∷
-    tok arrow 514 516 (codes "->") ∷
-    tok ty_var 517 519 (codes "'a") ∷
-    tok arrow 520 522 (codes "->") ∷
-    tok lower 523 527 (codes "bool") ∷
-    tok val_word 528 531 (codes "val") ∷
-    tok op_name 532 538 (codes "==") ∷
-    tok colon 539 540 (codes ":") ∷
-    tok ty_var 541 543 (codes "'a") ∷ []
+    tok type_word 0 4 0 (codes "type") ∷
+    tok ty_var 5 7 5 (codes "'a") ∷
+    tok lower 8 14 8 (codes "option") ∷
+    tok op9 15 16 15 (codes "=") ∷
+    tok upper 17 21 17 (codes "None") ∷
+    tok bar 22 23 22 (codes "|") ∷
+    tok upper 24 28 24 (codes "Some") ∷
+    tok of_word 29 31 29 (codes "of") ∷
+    tok ty_var 32 34 32 (codes "'a") ∷
+    tok type_word 35 39 0 (codes "type") ∷
+    tok ty_var 40 42 5 (codes "'a") ∷
+    tok lower 43 46 8 (codes "ref") ∷
+    tok op9 47 48 12 (codes "=") ∷
+    tok left_brace 49 50 14 (codes "{") ∷
+    tok mutable_word 51 58 16 (codes "mutable") ∷
+    tok lower 59 67 24 (codes "contents") ∷
+    tok colon 68 69 33 (codes ":") ∷
+    tok ty_var 70 72 35 (codes "'a") ∷
+    tok right_brace 73 74 38 (codes "}") ∷
+    tok type_word 75 79 0 (codes "type") ∷
+    tok left_paren 80 81 5 (codes "(") ∷
+    tok ty_var 81 83 6 (codes "'a") ∷
+    tok comma 83 84 8 (codes ",") ∷
+    tok ty_var 85 87 10 (codes "'b") ∷
+    tok right_paren 87 88 12 (codes ")") ∷
+    tok lower 89 95 14 (codes "result") ∷
+    tok op9 96 97 21 (codes "=") ∷
+    tok upper 98 100 23 (codes "Ok") ∷
+    tok of_word 101 103 26 (codes "of") ∷
+    tok ty_var 104 106 29 (codes "'a") ∷
+    tok bar 107 108 32 (codes "|") ∷
+    tok upper 109 114 34 (codes "Error") ∷
+    tok of_word 115 117 40 (codes "of") ∷
+    tok ty_var 118 120 43 (codes "'b") ∷
+    tok exception_word 121 130 0 (codes "exception") ∷
+    tok upper 131 140 10 (codes "Not_found") ∷
+    tok exception_word 141 150 0 (codes "exception") ∷
+    tok upper 151 155 10 (codes "Exit") ∷
+    tok exception_word 156 165 0 (codes "exception") ∷
+    tok upper 166 177 10 (codes "End_of_file") ∷
+    tok exception_word 178 187 0 (codes "exception") ∷
+    tok upper 188 204 10 (codes "Division_by_zero") ∷
+    tok exception_word 205 214 0 (codes "exception") ∷
+    tok upper 215 222 10 (codes "Failure") ∷
+    tok of_word 223 225 18 (codes "of") ∷
+    tok lower 226 232 21 (codes "string") ∷
+    tok exception_word 233 242 0 (codes "exception") ∷
+    tok upper 243 259 10 (codes "Invalid_argument") ∷
+    tok of_word 260 262 27 (codes "of") ∷
+    tok lower 263 269 30 (codes "string") ∷
+    tok val_word 270 273 0 (codes "val") ∷
+    tok lower 274 279 4 (codes "raise") ∷
+    tok colon 280 281 10 (codes ":") ∷
+    tok lower 282 285 12 (codes "exn") ∷
+    tok arrow 286 288 16 (codes "->") ∷
+    tok ty_var 289 291 19 (codes "'a") ∷
+    tok val_word 292 295 0 (codes "val") ∷
+    tok lower 296 304 4 (codes "failwith") ∷
+    tok colon 305 306 13 (codes ":") ∷
+    tok lower 307 313 15 (codes "string") ∷
+    tok arrow 314 316 22 (codes "->") ∷
+    tok ty_var 317 319 25 (codes "'a") ∷
+    tok val_word 320 323 0 (codes "val") ∷
+    tok lower 324 335 4 (codes "invalid_arg") ∷
+    tok colon 336 337 16 (codes ":") ∷
+    tok lower 338 344 18 (codes "string") ∷
+    tok arrow 345 347 25 (codes "->") ∷
+    tok ty_var 348 350 28 (codes "'a") ∷
+    tok val_word 351 354 0 (codes "val") ∷
+    tok op_name 355 360 4 (codes "=") ∷
+    tok colon 361 362 10 (codes ":") ∷
+    tok ty_var 363 365 12 (codes "'a") ∷
+    tok arrow 366 368 15 (codes "->") ∷
+    tok ty_var 369 371 18 (codes "'a") ∷
+    tok arrow 372 374 21 (codes "->") ∷
+    tok lower 375 379 24 (codes "bool") ∷
+    tok val_word 380 383 0 (codes "val") ∷
+    tok op_name 384 390 4 (codes "<>") ∷
+    tok colon 391 392 11 (codes ":") ∷
+    tok ty_var 393 395 13 (codes "'a") ∷
+    tok arrow 396 398 16 (codes "->") ∷
+    tok ty_var 399 401 19 (codes "'a") ∷
+    tok arrow 402 404 22 (codes "->") ∷
+    tok lower 405 409 25 (codes "bool") ∷
+    tok val_word 410 413 0 (codes "val") ∷
+    tok op_name 414 419 4 (codes "<") ∷
+    tok colon 420 421 10 (codes ":") ∷
+    tok ty_var 422 424 12 (codes "'a") ∷
+    tok arrow 425 427 15 (codes "->") ∷
+    tok ty_var 428 430 18 (codes "'a") ∷
+    tok arrow 431 433 21 (codes "->") ∷
+    tok lower 434 438 24 (codes "bool") ∷
+    tok val_word 439 442 0 (codes "val") ∷
+    tok op_name 443 448 4 (codes ">") ∷
+    tok colon 449 450 10 (codes ":") ∷
+    tok ty_var 451 453 12 (codes "'a") ∷
+    tok arrow 454 456 15 (codes "->") ∷
+    tok ty_var 457 459 18 (codes "'a") ∷
+    tok arrow 460 462 21 (codes "->") ∷
+    tok lower 463 467 24 (codes "bool") ∷
+    tok val_word 468 471 0 (codes "val") ∷
+    tok op_name 472 478 4 (codes "<=") ∷
+    tok colon 479 480 11 (codes ":") ∷
+    tok ty_var 481 483 13 (codes "'a") ∷
+    tok arrow 484 486 16 (codes "->") ∷
+    tok ty_var 487 489 19 (codes "'a") ∷
+    tok arrow 490 492 22 (codes "->") ∷
+    tok lower 493 497 25 (codes "bool") ∷
+    tok val_word 498 501 0 (codes "val") ∷
+    tok op_name 502 508 4 (codes ">=") ∷
+    tok colon 509 510 11 (codes ":") ∷
+    tok ty_var 511 513 13 (codes "'a") ∷
+    tok arrow 514 516 16 (codes "->") ∷
+    tok ty_var 517 519 19 (codes "'a") ∷
+    tok arrow 520 522 22 (codes "->") ∷
+    tok lower 523 527 25 (codes "bool") ∷
+    tok val_word 528 531 0 (codes "val") ∷
+    tok op_name 532 538 4 (codes "==") ∷
+    tok colon 539 540 11 (codes ":") ∷
+    tok ty_var 541 543 13 (codes "'a") ∷ []
 
 abbrev part1 : List Tok
 part1 =
-    tok arrow 544 546 (codes "->") ∷
-    tok ty_var 547 549 (codes "'a") ∷
-    tok arrow 550 552 (codes "->") ∷
-    tok lower 553 557 (codes "bool") ∷
-    tok val_word 558 561 (codes "val") ∷
-    tok op_name 562 568 (codes "!=") ∷
-    tok colon 569 570 (codes ":") ∷
-    tok ty_var 571 573 (codes "'a") ∷
-    tok arrow 574 576 (codes "->") ∷
-    tok ty_var 577 579 (codes "'a") ∷
-    tok arrow 580 582 (codes "->") ∷
-    tok lower 583 587 (codes "bool") ∷
-    tok val_word 588 591 (codes "val") ∷
-    tok lower 592 599 (codes "compare") ∷
-    tok colon 600 601 (codes ":") ∷
-    tok ty_var 602 604 (codes "'a") ∷
-    tok arrow 605 607 (codes "->") ∷
-    tok ty_var 608 610 (codes "'a") ∷
-    tok arrow 611 613 (codes "->") ∷
-    tok lower 614 617 (codes "int") ∷
-    tok val_word 618 621 (codes "val") ∷
-    tok lower 622 625 (codes "min") ∷
-    tok colon 626 627 (codes ":") ∷
-    tok ty_var 628 630 (codes "'a") ∷
-    tok arrow 631 633 (codes "->") ∷
-    tok ty_var 634 636 (codes "'a") ∷
-    tok arrow 637 639 (codes "->") ∷
-    tok ty_var 640 642 (codes "'a") ∷
-    tok val_word 643 646 (codes "val") ∷
-    tok lower 647 650 (codes "max") ∷
-    tok colon 651 652 (codes ":") ∷
-    tok ty_var 653 655 (codes "'a") ∷
-    tok arrow 656 658 (codes "->") ∷
-    tok ty_var 659 661 (codes "'a") ∷
-    tok arrow 662 664 (codes "->") ∷
-    tok ty_var 665 667 (codes "'a") ∷
-    tok val_word 668 671 (codes "val") ∷
-    tok lower 672 675 (codes "not") ∷
-    tok colon 676 677 (codes ":") ∷
-    tok lower 678 682 (codes "bool") ∷
-    tok arrow 683 685 (codes "->") ∷
-    tok lower 686 690 (codes "bool") ∷
-    tok val_word 691 694 (codes "val") ∷
-    tok op_name 695 701 (codes "&&") ∷
-    tok colon 702 703 (codes ":") ∷
-    tok lower 704 708 (codes "bool") ∷
-    tok arrow 709 711 (codes "->") ∷
-    tok lower 712 716 (codes "bool") ∷
-    tok arrow 717 719 (codes "->") ∷
-    tok lower 720 724 (codes "bool") ∷
-    tok val_word 725 728 (codes "val") ∷
-    tok op_name 729 735 (codes "||") ∷
-    tok colon 736 737 (codes ":") ∷
-    tok lower 738 742 (codes "bool") ∷
-    tok arrow 743 745 (codes "->") ∷
-    tok lower 746 750 (codes "bool") ∷
-    tok arrow 751 753 (codes "->") ∷
-    tok lower 754 758 (codes "bool") ∷
-    tok val_word 759 762 (codes "val") ∷
-    tok op_name 763 769 (codes "~-") ∷
-    tok colon 770 771 (codes ":") ∷
-    tok lower 772 775 (codes "int") ∷
-    tok arrow 776 778 (codes "->") ∷
-    tok lower 779 782 (codes "int") ∷
-    tok val_word 783 786 (codes "val") ∷
-    tok op_name 787 792 (codes "+") ∷
-    tok colon 793 794 (codes ":") ∷
-    tok lower 795 798 (codes "int") ∷
-    tok arrow 799 801 (codes "->") ∷
-    tok lower 802 805 (codes "int") ∷
-    tok arrow 806 808 (codes "->") ∷
-    tok lower 809 812 (codes "int") ∷
-    tok val_word 813 816 (codes "val") ∷
-    tok op_name 817 822 (codes "-") ∷
-    tok colon 823 824 (codes ":") ∷
-    tok lower 825 828 (codes "int") ∷
-    tok arrow 829 831 (codes "->") ∷
-    tok lower 832 835 (codes "int") ∷
-    tok arrow 836 838 (codes "->") ∷
-    tok lower 839 842 (codes "int") ∷
-    tok val_word 843 846 (codes "val") ∷
-    tok op_name 847 852 (codes "*") ∷
-    tok colon 853 854 (codes ":") ∷
-    tok lower 855 858 (codes "int") ∷
-    tok arrow 859 861 (codes "->") ∷
-    tok lower 862 865 (codes "int") ∷
-    tok arrow 866 868 (codes "->") ∷
-    tok lower 869 872 (codes "int") ∷
-    tok val_word 873 876 (codes "val") ∷
-    tok op_name 877 882 (codes "/") ∷
-    tok colon 883 884 (codes ":") ∷
-    tok lower 885 888 (codes "int") ∷
-    tok arrow 889 891 (codes "->") ∷
-    tok lower 892 895 (codes "int") ∷
-    tok arrow 896 898 (codes "->") ∷
-    tok lower 899 902 (codes "int") ∷
-    tok val_word 903 906 (codes "val") ∷
-    tok op_name 907 914 (codes "mod") ∷
-    tok colon 915 916 (codes ":") ∷
-    tok lower 917 920 (codes "int") ∷
-    tok arrow 921 923 (codes "->") ∷
-    tok lower 924 927 (codes "int") ∷
-    tok arrow 928 930 (codes "->") ∷
-    tok lower 931 934 (codes "int") ∷
-    tok val_word 935 938 (codes "val") ∷
-    tok op_name 939 947 (codes "land") ∷
-    tok colon 948 949 (codes ":") ∷
-    tok lower 950 953 (codes "int") ∷
-    tok arrow 954 956 (codes "->") ∷
-    tok lower 957 960 (codes "int") ∷
-    tok arrow 961 963 (codes "->") ∷
-    tok lower 964 967 (codes "int") ∷
-    tok val_word 968 971 (codes "val") ∷
-    tok op_name 972 979 (codes "lor") ∷
-    tok colon 980 981 (codes ":") ∷
-    tok lower 982 985 (codes "int") ∷
-    tok arrow 986 988 (codes "->") ∷
-    tok lower 989 992 (codes "int") ∷
-    tok arrow 993 995 (codes "->") ∷
-    tok lower 996 999 (codes "int") ∷ []
+    tok arrow 544 546 16 (codes "->") ∷
+    tok ty_var 547 549 19 (codes "'a") ∷
+    tok arrow 550 552 22 (codes "->") ∷
+    tok lower 553 557 25 (codes "bool") ∷
+    tok val_word 558 561 0 (codes "val") ∷
+    tok op_name 562 568 4 (codes "!=") ∷
+    tok colon 569 570 11 (codes ":") ∷
+    tok ty_var 571 573 13 (codes "'a") ∷
+    tok arrow 574 576 16 (codes "->") ∷
+    tok ty_var 577 579 19 (codes "'a") ∷
+    tok arrow 580 582 22 (codes "->") ∷
+    tok lower 583 587 25 (codes "bool") ∷
+    tok val_word 588 591 0 (codes "val") ∷
+    tok lower 592 599 4 (codes "compare") ∷
+    tok colon 600 601 12 (codes ":") ∷
+    tok ty_var 602 604 14 (codes "'a") ∷
+    tok arrow 605 607 17 (codes "->") ∷
+    tok ty_var 608 610 20 (codes "'a") ∷
+    tok arrow 611 613 23 (codes "->") ∷
+    tok lower 614 617 26 (codes "int") ∷
+    tok val_word 618 621 0 (codes "val") ∷
+    tok lower 622 625 4 (codes "min") ∷
+    tok colon 626 627 8 (codes ":") ∷
+    tok ty_var 628 630 10 (codes "'a") ∷
+    tok arrow 631 633 13 (codes "->") ∷
+    tok ty_var 634 636 16 (codes "'a") ∷
+    tok arrow 637 639 19 (codes "->") ∷
+    tok ty_var 640 642 22 (codes "'a") ∷
+    tok val_word 643 646 0 (codes "val") ∷
+    tok lower 647 650 4 (codes "max") ∷
+    tok colon 651 652 8 (codes ":") ∷
+    tok ty_var 653 655 10 (codes "'a") ∷
+    tok arrow 656 658 13 (codes "->") ∷
+    tok ty_var 659 661 16 (codes "'a") ∷
+    tok arrow 662 664 19 (codes "->") ∷
+    tok ty_var 665 667 22 (codes "'a") ∷
+    tok val_word 668 671 0 (codes "val") ∷
+    tok lower 672 675 4 (codes "not") ∷
+    tok colon 676 677 8 (codes ":") ∷
+    tok lower 678 682 10 (codes "bool") ∷
+    tok arrow 683 685 15 (codes "->") ∷
+    tok lower 686 690 18 (codes "bool") ∷
+    tok val_word 691 694 0 (codes "val") ∷
+    tok op_name 695 701 4 (codes "&&") ∷
+    tok colon 702 703 11 (codes ":") ∷
+    tok lower 704 708 13 (codes "bool") ∷
+    tok arrow 709 711 18 (codes "->") ∷
+    tok lower 712 716 21 (codes "bool") ∷
+    tok arrow 717 719 26 (codes "->") ∷
+    tok lower 720 724 29 (codes "bool") ∷
+    tok val_word 725 728 0 (codes "val") ∷
+    tok op_name 729 735 4 (codes "||") ∷
+    tok colon 736 737 11 (codes ":") ∷
+    tok lower 738 742 13 (codes "bool") ∷
+    tok arrow 743 745 18 (codes "->") ∷
+    tok lower 746 750 21 (codes "bool") ∷
+    tok arrow 751 753 26 (codes "->") ∷
+    tok lower 754 758 29 (codes "bool") ∷
+    tok val_word 759 762 0 (codes "val") ∷
+    tok op_name 763 769 4 (codes "~-") ∷
+    tok colon 770 771 11 (codes ":") ∷
+    tok lower 772 775 13 (codes "int") ∷
+    tok arrow 776 778 17 (codes "->") ∷
+    tok lower 779 782 20 (codes "int") ∷
+    tok val_word 783 786 0 (codes "val") ∷
+    tok op_name 787 792 4 (codes "+") ∷
+    tok colon 793 794 10 (codes ":") ∷
+    tok lower 795 798 12 (codes "int") ∷
+    tok arrow 799 801 16 (codes "->") ∷
+    tok lower 802 805 19 (codes "int") ∷
+    tok arrow 806 808 23 (codes "->") ∷
+    tok lower 809 812 26 (codes "int") ∷
+    tok val_word 813 816 0 (codes "val") ∷
+    tok op_name 817 822 4 (codes "-") ∷
+    tok colon 823 824 10 (codes ":") ∷
+    tok lower 825 828 12 (codes "int") ∷
+    tok arrow 829 831 16 (codes "->") ∷
+    tok lower 832 835 19 (codes "int") ∷
+    tok arrow 836 838 23 (codes "->") ∷
+    tok lower 839 842 26 (codes "int") ∷
+    tok val_word 843 846 0 (codes "val") ∷
+    tok op_name 847 852 4 (codes "*") ∷
+    tok colon 853 854 10 (codes ":") ∷
+    tok lower 855 858 12 (codes "int") ∷
+    tok arrow 859 861 16 (codes "->") ∷
+    tok lower 862 865 19 (codes "int") ∷
+    tok arrow 866 868 23 (codes "->") ∷
+    tok lower 869 872 26 (codes "int") ∷
+    tok val_word 873 876 0 (codes "val") ∷
+    tok op_name 877 882 4 (codes "/") ∷
+    tok colon 883 884 10 (codes ":") ∷
+    tok lower 885 888 12 (codes "int") ∷
+    tok arrow 889 891 16 (codes "->") ∷
+    tok lower 892 895 19 (codes "int") ∷
+    tok arrow 896 898 23 (codes "->") ∷
+    tok lower 899 902 26 (codes "int") ∷
+    tok val_word 903 906 0 (codes "val") ∷
+    tok op_name 907 914 4 (codes "mod") ∷
+    tok colon 915 916 12 (codes ":") ∷
+    tok lower 917 920 14 (codes "int") ∷
+    tok arrow 921 923 18 (codes "->") ∷
+    tok lower 924 927 21 (codes "int") ∷
+    tok arrow 928 930 25 (codes "->") ∷
+    tok lower 931 934 28 (codes "int") ∷
+    tok val_word 935 938 0 (codes "val") ∷
+    tok op_name 939 947 4 (codes "land") ∷
+    tok colon 948 949 13 (codes ":") ∷
+    tok lower 950 953 15 (codes "int") ∷
+    tok arrow 954 956 19 (codes "->") ∷
+    tok lower 957 960 22 (codes "int") ∷
+    tok arrow 961 963 26 (codes "->") ∷
+    tok lower 964 967 29 (codes "int") ∷
+    tok val_word 968 971 0 (codes "val") ∷
+    tok op_name 972 979 4 (codes "lor") ∷
+    tok colon 980 981 12 (codes ":") ∷
+    tok lower 982 985 14 (codes "int") ∷
+    tok arrow 986 988 18 (codes "->") ∷
+    tok lower 989 992 21 (codes "int") ∷
+    tok arrow 993 995 25 (codes "->") ∷
+    tok lower 996 999 28 (codes "int") ∷ []
 
 abbrev part2 : List Tok
 part2 =
-    tok val_word 1000 1003 (codes "val") ∷
-    tok op_name 1004 1012 (codes "lxor") ∷
-    tok colon 1013 1014 (codes ":") ∷
-    tok lower 1015 1018 (codes "int") ∷
-    tok arrow 1019 1021 (codes "->") ∷
-    tok lower 1022 1025 (codes "int") ∷
-    tok arrow 1026 1028 (codes "->") ∷
-    tok lower 1029 1032 (codes "int") ∷
-    tok val_word 1033 1036 (codes "val") ∷
-    tok op_name 1037 1044 (codes "lsl") ∷
-    tok colon 1045 1046 (codes ":") ∷
-    tok lower 1047 1050 (codes "int") ∷
-    tok arrow 1051 1053 (codes "->") ∷
-    tok lower 1054 1057 (codes "int") ∷
-    tok arrow 1058 1060 (codes "->") ∷
-    tok lower 1061 1064 (codes "int") ∷
-    tok val_word 1065 1068 (codes "val") ∷
-    tok op_name 1069 1076 (codes "lsr") ∷
-    tok colon 1077 1078 (codes ":") ∷
-    tok lower 1079 1082 (codes "int") ∷
-    tok arrow 1083 1085 (codes "->") ∷
-    tok lower 1086 1089 (codes "int") ∷
-    tok arrow 1090 1092 (codes "->") ∷
-    tok lower 1093 1096 (codes "int") ∷
-    tok val_word 1097 1100 (codes "val") ∷
-    tok op_name 1101 1108 (codes "asr") ∷
-    tok colon 1109 1110 (codes ":") ∷
-    tok lower 1111 1114 (codes "int") ∷
-    tok arrow 1115 1117 (codes "->") ∷
-    tok lower 1118 1121 (codes "int") ∷
-    tok arrow 1122 1124 (codes "->") ∷
-    tok lower 1125 1128 (codes "int") ∷
-    tok val_word 1129 1132 (codes "val") ∷
-    tok lower 1133 1136 (codes "abs") ∷
-    tok colon 1137 1138 (codes ":") ∷
-    tok lower 1139 1142 (codes "int") ∷
-    tok arrow 1143 1145 (codes "->") ∷
-    tok lower 1146 1149 (codes "int") ∷
-    tok val_word 1150 1153 (codes "val") ∷
-    tok lower 1154 1158 (codes "succ") ∷
-    tok colon 1159 1160 (codes ":") ∷
-    tok lower 1161 1164 (codes "int") ∷
-    tok arrow 1165 1167 (codes "->") ∷
-    tok lower 1168 1171 (codes "int") ∷
-    tok val_word 1172 1175 (codes "val") ∷
-    tok lower 1176 1180 (codes "pred") ∷
-    tok colon 1181 1182 (codes ":") ∷
-    tok lower 1183 1186 (codes "int") ∷
-    tok arrow 1187 1189 (codes "->") ∷
-    tok lower 1190 1193 (codes "int") ∷
-    tok val_word 1194 1197 (codes "val") ∷
-    tok lower 1198 1205 (codes "max_int") ∷
-    tok colon 1206 1207 (codes ":") ∷
-    tok lower 1208 1211 (codes "int") ∷
-    tok val_word 1212 1215 (codes "val") ∷
-    tok lower 1216 1223 (codes "min_int") ∷
-    tok colon 1224 1225 (codes ":") ∷
-    tok lower 1226 1229 (codes "int") ∷
-    tok val_word 1230 1233 (codes "val") ∷
-    tok op_name 1234 1241 (codes "~-.") ∷
-    tok colon 1242 1243 (codes ":") ∷
-    tok lower 1244 1249 (codes "float") ∷
-    tok arrow 1250 1252 (codes "->") ∷
-    tok lower 1253 1258 (codes "float") ∷
-    tok val_word 1259 1262 (codes "val") ∷
-    tok op_name 1263 1269 (codes "+.") ∷
-    tok colon 1270 1271 (codes ":") ∷
-    tok lower 1272 1277 (codes "float") ∷
-    tok arrow 1278 1280 (codes "->") ∷
-    tok lower 1281 1286 (codes "float") ∷
-    tok arrow 1287 1289 (codes "->") ∷
-    tok lower 1290 1295 (codes "float") ∷
-    tok val_word 1296 1299 (codes "val") ∷
-    tok op_name 1300 1306 (codes "-.") ∷
-    tok colon 1307 1308 (codes ":") ∷
-    tok lower 1309 1314 (codes "float") ∷
-    tok arrow 1315 1317 (codes "->") ∷
-    tok lower 1318 1323 (codes "float") ∷
-    tok arrow 1324 1326 (codes "->") ∷
-    tok lower 1327 1332 (codes "float") ∷
-    tok val_word 1333 1336 (codes "val") ∷
-    tok op_name 1337 1343 (codes "*.") ∷
-    tok colon 1344 1345 (codes ":") ∷
-    tok lower 1346 1351 (codes "float") ∷
-    tok arrow 1352 1354 (codes "->") ∷
-    tok lower 1355 1360 (codes "float") ∷
-    tok arrow 1361 1363 (codes "->") ∷
-    tok lower 1364 1369 (codes "float") ∷
-    tok val_word 1370 1373 (codes "val") ∷
-    tok op_name 1374 1380 (codes "/.") ∷
-    tok colon 1381 1382 (codes ":") ∷
-    tok lower 1383 1388 (codes "float") ∷
-    tok arrow 1389 1391 (codes "->") ∷
-    tok lower 1392 1397 (codes "float") ∷
-    tok arrow 1398 1400 (codes "->") ∷
-    tok lower 1401 1406 (codes "float") ∷
-    tok val_word 1407 1410 (codes "val") ∷
-    tok op_name 1411 1417 (codes "**") ∷
-    tok colon 1418 1419 (codes ":") ∷
-    tok lower 1420 1425 (codes "float") ∷
-    tok arrow 1426 1428 (codes "->") ∷
-    tok lower 1429 1434 (codes "float") ∷
-    tok arrow 1435 1437 (codes "->") ∷
-    tok lower 1438 1443 (codes "float") ∷
-    tok val_word 1444 1447 (codes "val") ∷
-    tok lower 1448 1460 (codes "float_of_int") ∷
-    tok colon 1461 1462 (codes ":") ∷
-    tok lower 1463 1466 (codes "int") ∷
-    tok arrow 1467 1469 (codes "->") ∷
-    tok lower 1470 1475 (codes "float") ∷
-    tok val_word 1476 1479 (codes "val") ∷
-    tok lower 1480 1492 (codes "int_of_float") ∷
-    tok colon 1493 1494 (codes ":") ∷
-    tok lower 1495 1500 (codes "float") ∷
-    tok arrow 1501 1503 (codes "->") ∷
-    tok lower 1504 1507 (codes "int") ∷
-    tok val_word 1508 1511 (codes "val") ∷
-    tok lower 1512 1516 (codes "sqrt") ∷
-    tok colon 1517 1518 (codes ":") ∷
-    tok lower 1519 1524 (codes "float") ∷ []
+    tok val_word 1000 1003 0 (codes "val") ∷
+    tok op_name 1004 1012 4 (codes "lxor") ∷
+    tok colon 1013 1014 13 (codes ":") ∷
+    tok lower 1015 1018 15 (codes "int") ∷
+    tok arrow 1019 1021 19 (codes "->") ∷
+    tok lower 1022 1025 22 (codes "int") ∷
+    tok arrow 1026 1028 26 (codes "->") ∷
+    tok lower 1029 1032 29 (codes "int") ∷
+    tok val_word 1033 1036 0 (codes "val") ∷
+    tok op_name 1037 1044 4 (codes "lsl") ∷
+    tok colon 1045 1046 12 (codes ":") ∷
+    tok lower 1047 1050 14 (codes "int") ∷
+    tok arrow 1051 1053 18 (codes "->") ∷
+    tok lower 1054 1057 21 (codes "int") ∷
+    tok arrow 1058 1060 25 (codes "->") ∷
+    tok lower 1061 1064 28 (codes "int") ∷
+    tok val_word 1065 1068 0 (codes "val") ∷
+    tok op_name 1069 1076 4 (codes "lsr") ∷
+    tok colon 1077 1078 12 (codes ":") ∷
+    tok lower 1079 1082 14 (codes "int") ∷
+    tok arrow 1083 1085 18 (codes "->") ∷
+    tok lower 1086 1089 21 (codes "int") ∷
+    tok arrow 1090 1092 25 (codes "->") ∷
+    tok lower 1093 1096 28 (codes "int") ∷
+    tok val_word 1097 1100 0 (codes "val") ∷
+    tok op_name 1101 1108 4 (codes "asr") ∷
+    tok colon 1109 1110 12 (codes ":") ∷
+    tok lower 1111 1114 14 (codes "int") ∷
+    tok arrow 1115 1117 18 (codes "->") ∷
+    tok lower 1118 1121 21 (codes "int") ∷
+    tok arrow 1122 1124 25 (codes "->") ∷
+    tok lower 1125 1128 28 (codes "int") ∷
+    tok val_word 1129 1132 0 (codes "val") ∷
+    tok lower 1133 1136 4 (codes "abs") ∷
+    tok colon 1137 1138 8 (codes ":") ∷
+    tok lower 1139 1142 10 (codes "int") ∷
+    tok arrow 1143 1145 14 (codes "->") ∷
+    tok lower 1146 1149 17 (codes "int") ∷
+    tok val_word 1150 1153 0 (codes "val") ∷
+    tok lower 1154 1158 4 (codes "succ") ∷
+    tok colon 1159 1160 9 (codes ":") ∷
+    tok lower 1161 1164 11 (codes "int") ∷
+    tok arrow 1165 1167 15 (codes "->") ∷
+    tok lower 1168 1171 18 (codes "int") ∷
+    tok val_word 1172 1175 0 (codes "val") ∷
+    tok lower 1176 1180 4 (codes "pred") ∷
+    tok colon 1181 1182 9 (codes ":") ∷
+    tok lower 1183 1186 11 (codes "int") ∷
+    tok arrow 1187 1189 15 (codes "->") ∷
+    tok lower 1190 1193 18 (codes "int") ∷
+    tok val_word 1194 1197 0 (codes "val") ∷
+    tok lower 1198 1205 4 (codes "max_int") ∷
+    tok colon 1206 1207 12 (codes ":") ∷
+    tok lower 1208 1211 14 (codes "int") ∷
+    tok val_word 1212 1215 0 (codes "val") ∷
+    tok lower 1216 1223 4 (codes "min_int") ∷
+    tok colon 1224 1225 12 (codes ":") ∷
+    tok lower 1226 1229 14 (codes "int") ∷
+    tok val_word 1230 1233 0 (codes "val") ∷
+    tok op_name 1234 1241 4 (codes "~-.") ∷
+    tok colon 1242 1243 12 (codes ":") ∷
+    tok lower 1244 1249 14 (codes "float") ∷
+    tok arrow 1250 1252 20 (codes "->") ∷
+    tok lower 1253 1258 23 (codes "float") ∷
+    tok val_word 1259 1262 0 (codes "val") ∷
+    tok op_name 1263 1269 4 (codes "+.") ∷
+    tok colon 1270 1271 11 (codes ":") ∷
+    tok lower 1272 1277 13 (codes "float") ∷
+    tok arrow 1278 1280 19 (codes "->") ∷
+    tok lower 1281 1286 22 (codes "float") ∷
+    tok arrow 1287 1289 28 (codes "->") ∷
+    tok lower 1290 1295 31 (codes "float") ∷
+    tok val_word 1296 1299 0 (codes "val") ∷
+    tok op_name 1300 1306 4 (codes "-.") ∷
+    tok colon 1307 1308 11 (codes ":") ∷
+    tok lower 1309 1314 13 (codes "float") ∷
+    tok arrow 1315 1317 19 (codes "->") ∷
+    tok lower 1318 1323 22 (codes "float") ∷
+    tok arrow 1324 1326 28 (codes "->") ∷
+    tok lower 1327 1332 31 (codes "float") ∷
+    tok val_word 1333 1336 0 (codes "val") ∷
+    tok op_name 1337 1343 4 (codes "*.") ∷
+    tok colon 1344 1345 11 (codes ":") ∷
+    tok lower 1346 1351 13 (codes "float") ∷
+    tok arrow 1352 1354 19 (codes "->") ∷
+    tok lower 1355 1360 22 (codes "float") ∷
+    tok arrow 1361 1363 28 (codes "->") ∷
+    tok lower 1364 1369 31 (codes "float") ∷
+    tok val_word 1370 1373 0 (codes "val") ∷
+    tok op_name 1374 1380 4 (codes "/.") ∷
+    tok colon 1381 1382 11 (codes ":") ∷
+    tok lower 1383 1388 13 (codes "float") ∷
+    tok arrow 1389 1391 19 (codes "->") ∷
+    tok lower 1392 1397 22 (codes "float") ∷
+    tok arrow 1398 1400 28 (codes "->") ∷
+    tok lower 1401 1406 31 (codes "float") ∷
+    tok val_word 1407 1410 0 (codes "val") ∷
+    tok op_name 1411 1417 4 (codes "**") ∷
+    tok colon 1418 1419 11 (codes ":") ∷
+    tok lower 1420 1425 13 (codes "float") ∷
+    tok arrow 1426 1428 19 (codes "->") ∷
+    tok lower 1429 1434 22 (codes "float") ∷
+    tok arrow 1435 1437 28 (codes "->") ∷
+    tok lower 1438 1443 31 (codes "float") ∷
+    tok val_word 1444 1447 0 (codes "val") ∷
+    tok lower 1448 1460 4 (codes "float_of_int") ∷
+    tok colon 1461 1462 17 (codes ":") ∷
+    tok lower 1463 1466 19 (codes "int") ∷
+    tok arrow 1467 1469 23 (codes "->") ∷
+    tok lower 1470 1475 26 (codes "float") ∷
+    tok val_word 1476 1479 0 (codes "val") ∷
+    tok lower 1480 1492 4 (codes "int_of_float") ∷
+    tok colon 1493 1494 17 (codes ":") ∷
+    tok lower 1495 1500 19 (codes "float") ∷
+    tok arrow 1501 1503 25 (codes "->") ∷
+    tok lower 1504 1507 28 (codes "int") ∷
+    tok val_word 1508 1511 0 (codes "val") ∷
+    tok lower 1512 1516 4 (codes "sqrt") ∷
+    tok colon 1517 1518 9 (codes ":") ∷
+    tok lower 1519 1524 11 (codes "float") ∷ []
 
 abbrev part3 : List Tok
 part3 =
-    tok arrow 1525 1527 (codes "->") ∷
-    tok lower 1528 1533 (codes "float") ∷
-    tok val_word 1534 1537 (codes "val") ∷
-    tok op_name 1538 1543 (codes "^") ∷
-    tok colon 1544 1545 (codes ":") ∷
-    tok lower 1546 1552 (codes "string") ∷
-    tok arrow 1553 1555 (codes "->") ∷
-    tok lower 1556 1562 (codes "string") ∷
-    tok arrow 1563 1565 (codes "->") ∷
-    tok lower 1566 1572 (codes "string") ∷
-    tok val_word 1573 1576 (codes "val") ∷
-    tok lower 1577 1590 (codes "string_of_int") ∷
-    tok colon 1591 1592 (codes ":") ∷
-    tok lower 1593 1596 (codes "int") ∷
-    tok arrow 1597 1599 (codes "->") ∷
-    tok lower 1600 1606 (codes "string") ∷
-    tok val_word 1607 1610 (codes "val") ∷
-    tok lower 1611 1625 (codes "string_of_bool") ∷
-    tok colon 1626 1627 (codes ":") ∷
-    tok lower 1628 1632 (codes "bool") ∷
-    tok arrow 1633 1635 (codes "->") ∷
-    tok lower 1636 1642 (codes "string") ∷
-    tok val_word 1643 1646 (codes "val") ∷
-    tok lower 1647 1662 (codes "string_of_float") ∷
-    tok colon 1663 1664 (codes ":") ∷
-    tok lower 1665 1670 (codes "float") ∷
-    tok arrow 1671 1673 (codes "->") ∷
-    tok lower 1674 1680 (codes "string") ∷
-    tok val_word 1681 1684 (codes "val") ∷
-    tok lower 1685 1698 (codes "int_of_string") ∷
-    tok colon 1699 1700 (codes ":") ∷
-    tok lower 1701 1707 (codes "string") ∷
-    tok arrow 1708 1710 (codes "->") ∷
-    tok lower 1711 1714 (codes "int") ∷
-    tok val_word 1715 1718 (codes "val") ∷
-    tok lower 1719 1730 (codes "char_of_int") ∷
-    tok colon 1731 1732 (codes ":") ∷
-    tok lower 1733 1736 (codes "int") ∷
-    tok arrow 1737 1739 (codes "->") ∷
-    tok lower 1740 1744 (codes "char") ∷
-    tok val_word 1745 1748 (codes "val") ∷
-    tok lower 1749 1760 (codes "int_of_char") ∷
-    tok colon 1761 1762 (codes ":") ∷
-    tok lower 1763 1767 (codes "char") ∷
-    tok arrow 1768 1770 (codes "->") ∷
-    tok lower 1771 1774 (codes "int") ∷
-    tok val_word 1775 1778 (codes "val") ∷
-    tok lower 1779 1785 (codes "ignore") ∷
-    tok colon 1786 1787 (codes ":") ∷
-    tok ty_var 1788 1790 (codes "'a") ∷
-    tok arrow 1791 1793 (codes "->") ∷
-    tok lower 1794 1798 (codes "unit") ∷
-    tok val_word 1799 1802 (codes "val") ∷
-    tok lower 1803 1806 (codes "fst") ∷
-    tok colon 1807 1808 (codes ":") ∷
-    tok ty_var 1809 1811 (codes "'a") ∷
-    tok op13 1812 1813 (codes "*") ∷
-    tok ty_var 1814 1816 (codes "'b") ∷
-    tok arrow 1817 1819 (codes "->") ∷
-    tok ty_var 1820 1822 (codes "'a") ∷
-    tok val_word 1823 1826 (codes "val") ∷
-    tok lower 1827 1830 (codes "snd") ∷
-    tok colon 1831 1832 (codes ":") ∷
-    tok ty_var 1833 1835 (codes "'a") ∷
-    tok op13 1836 1837 (codes "*") ∷
-    tok ty_var 1838 1840 (codes "'b") ∷
-    tok arrow 1841 1843 (codes "->") ∷
-    tok ty_var 1844 1846 (codes "'b") ∷
-    tok val_word 1847 1850 (codes "val") ∷
-    tok op_name 1851 1856 (codes "@") ∷
-    tok colon 1857 1858 (codes ":") ∷
-    tok ty_var 1859 1861 (codes "'a") ∷
-    tok lower 1862 1866 (codes "list") ∷
-    tok arrow 1867 1869 (codes "->") ∷
-    tok ty_var 1870 1872 (codes "'a") ∷
-    tok lower 1873 1877 (codes "list") ∷
-    tok arrow 1878 1880 (codes "->") ∷
-    tok ty_var 1881 1883 (codes "'a") ∷
-    tok lower 1884 1888 (codes "list") ∷
-    tok val_word 1889 1892 (codes "val") ∷
-    tok op_name 1893 1899 (codes "|>") ∷
-    tok colon 1900 1901 (codes ":") ∷
-    tok ty_var 1902 1904 (codes "'a") ∷
-    tok arrow 1905 1907 (codes "->") ∷
-    tok left_paren 1908 1909 (codes "(") ∷
-    tok ty_var 1909 1911 (codes "'a") ∷
-    tok arrow 1912 1914 (codes "->") ∷
-    tok ty_var 1915 1917 (codes "'b") ∷
-    tok right_paren 1917 1918 (codes ")") ∷
-    tok arrow 1919 1921 (codes "->") ∷
-    tok ty_var 1922 1924 (codes "'b") ∷
-    tok val_word 1925 1928 (codes "val") ∷
-    tok op_name 1929 1935 (codes "@@") ∷
-    tok colon 1936 1937 (codes ":") ∷
-    tok left_paren 1938 1939 (codes "(") ∷
-    tok ty_var 1939 1941 (codes "'a") ∷
-    tok arrow 1942 1944 (codes "->") ∷
-    tok ty_var 1945 1947 (codes "'b") ∷
-    tok right_paren 1947 1948 (codes ")") ∷
-    tok arrow 1949 1951 (codes "->") ∷
-    tok ty_var 1952 1954 (codes "'a") ∷
-    tok arrow 1955 1957 (codes "->") ∷
-    tok ty_var 1958 1960 (codes "'b") ∷
-    tok val_word 1961 1964 (codes "val") ∷
-    tok lower 1965 1968 (codes "ref") ∷
-    tok colon 1969 1970 (codes ":") ∷
-    tok ty_var 1971 1973 (codes "'a") ∷
-    tok arrow 1974 1976 (codes "->") ∷
-    tok ty_var 1977 1979 (codes "'a") ∷
-    tok lower 1980 1983 (codes "ref") ∷
-    tok val_word 1984 1987 (codes "val") ∷
-    tok op_name 1988 1993 (codes "!") ∷
-    tok colon 1994 1995 (codes ":") ∷
-    tok ty_var 1996 1998 (codes "'a") ∷
-    tok lower 1999 2002 (codes "ref") ∷
-    tok arrow 2003 2005 (codes "->") ∷
-    tok ty_var 2006 2008 (codes "'a") ∷
-    tok val_word 2009 2012 (codes "val") ∷
-    tok op_name 2013 2019 (codes ":=") ∷
-    tok colon 2020 2021 (codes ":") ∷ []
+    tok arrow 1525 1527 17 (codes "->") ∷
+    tok lower 1528 1533 20 (codes "float") ∷
+    tok val_word 1534 1537 0 (codes "val") ∷
+    tok op_name 1538 1543 4 (codes "^") ∷
+    tok colon 1544 1545 10 (codes ":") ∷
+    tok lower 1546 1552 12 (codes "string") ∷
+    tok arrow 1553 1555 19 (codes "->") ∷
+    tok lower 1556 1562 22 (codes "string") ∷
+    tok arrow 1563 1565 29 (codes "->") ∷
+    tok lower 1566 1572 32 (codes "string") ∷
+    tok val_word 1573 1576 0 (codes "val") ∷
+    tok lower 1577 1590 4 (codes "string_of_int") ∷
+    tok colon 1591 1592 18 (codes ":") ∷
+    tok lower 1593 1596 20 (codes "int") ∷
+    tok arrow 1597 1599 24 (codes "->") ∷
+    tok lower 1600 1606 27 (codes "string") ∷
+    tok val_word 1607 1610 0 (codes "val") ∷
+    tok lower 1611 1625 4 (codes "string_of_bool") ∷
+    tok colon 1626 1627 19 (codes ":") ∷
+    tok lower 1628 1632 21 (codes "bool") ∷
+    tok arrow 1633 1635 26 (codes "->") ∷
+    tok lower 1636 1642 29 (codes "string") ∷
+    tok val_word 1643 1646 0 (codes "val") ∷
+    tok lower 1647 1662 4 (codes "string_of_float") ∷
+    tok colon 1663 1664 20 (codes ":") ∷
+    tok lower 1665 1670 22 (codes "float") ∷
+    tok arrow 1671 1673 28 (codes "->") ∷
+    tok lower 1674 1680 31 (codes "string") ∷
+    tok val_word 1681 1684 0 (codes "val") ∷
+    tok lower 1685 1698 4 (codes "int_of_string") ∷
+    tok colon 1699 1700 18 (codes ":") ∷
+    tok lower 1701 1707 20 (codes "string") ∷
+    tok arrow 1708 1710 27 (codes "->") ∷
+    tok lower 1711 1714 30 (codes "int") ∷
+    tok val_word 1715 1718 0 (codes "val") ∷
+    tok lower 1719 1730 4 (codes "char_of_int") ∷
+    tok colon 1731 1732 16 (codes ":") ∷
+    tok lower 1733 1736 18 (codes "int") ∷
+    tok arrow 1737 1739 22 (codes "->") ∷
+    tok lower 1740 1744 25 (codes "char") ∷
+    tok val_word 1745 1748 0 (codes "val") ∷
+    tok lower 1749 1760 4 (codes "int_of_char") ∷
+    tok colon 1761 1762 16 (codes ":") ∷
+    tok lower 1763 1767 18 (codes "char") ∷
+    tok arrow 1768 1770 23 (codes "->") ∷
+    tok lower 1771 1774 26 (codes "int") ∷
+    tok val_word 1775 1778 0 (codes "val") ∷
+    tok lower 1779 1785 4 (codes "ignore") ∷
+    tok colon 1786 1787 11 (codes ":") ∷
+    tok ty_var 1788 1790 13 (codes "'a") ∷
+    tok arrow 1791 1793 16 (codes "->") ∷
+    tok lower 1794 1798 19 (codes "unit") ∷
+    tok val_word 1799 1802 0 (codes "val") ∷
+    tok lower 1803 1806 4 (codes "fst") ∷
+    tok colon 1807 1808 8 (codes ":") ∷
+    tok ty_var 1809 1811 10 (codes "'a") ∷
+    tok op13 1812 1813 13 (codes "*") ∷
+    tok ty_var 1814 1816 15 (codes "'b") ∷
+    tok arrow 1817 1819 18 (codes "->") ∷
+    tok ty_var 1820 1822 21 (codes "'a") ∷
+    tok val_word 1823 1826 0 (codes "val") ∷
+    tok lower 1827 1830 4 (codes "snd") ∷
+    tok colon 1831 1832 8 (codes ":") ∷
+    tok ty_var 1833 1835 10 (codes "'a") ∷
+    tok op13 1836 1837 13 (codes "*") ∷
+    tok ty_var 1838 1840 15 (codes "'b") ∷
+    tok arrow 1841 1843 18 (codes "->") ∷
+    tok ty_var 1844 1846 21 (codes "'b") ∷
+    tok val_word 1847 1850 0 (codes "val") ∷
+    tok op_name 1851 1856 4 (codes "@") ∷
+    tok colon 1857 1858 10 (codes ":") ∷
+    tok ty_var 1859 1861 12 (codes "'a") ∷
+    tok lower 1862 1866 15 (codes "list") ∷
+    tok arrow 1867 1869 20 (codes "->") ∷
+    tok ty_var 1870 1872 23 (codes "'a") ∷
+    tok lower 1873 1877 26 (codes "list") ∷
+    tok arrow 1878 1880 31 (codes "->") ∷
+    tok ty_var 1881 1883 34 (codes "'a") ∷
+    tok lower 1884 1888 37 (codes "list") ∷
+    tok val_word 1889 1892 0 (codes "val") ∷
+    tok op_name 1893 1899 4 (codes "|>") ∷
+    tok colon 1900 1901 11 (codes ":") ∷
+    tok ty_var 1902 1904 13 (codes "'a") ∷
+    tok arrow 1905 1907 16 (codes "->") ∷
+    tok left_paren 1908 1909 19 (codes "(") ∷
+    tok ty_var 1909 1911 20 (codes "'a") ∷
+    tok arrow 1912 1914 23 (codes "->") ∷
+    tok ty_var 1915 1917 26 (codes "'b") ∷
+    tok right_paren 1917 1918 28 (codes ")") ∷
+    tok arrow 1919 1921 30 (codes "->") ∷
+    tok ty_var 1922 1924 33 (codes "'b") ∷
+    tok val_word 1925 1928 0 (codes "val") ∷
+    tok op_name 1929 1935 4 (codes "@@") ∷
+    tok colon 1936 1937 11 (codes ":") ∷
+    tok left_paren 1938 1939 13 (codes "(") ∷
+    tok ty_var 1939 1941 14 (codes "'a") ∷
+    tok arrow 1942 1944 17 (codes "->") ∷
+    tok ty_var 1945 1947 20 (codes "'b") ∷
+    tok right_paren 1947 1948 22 (codes ")") ∷
+    tok arrow 1949 1951 24 (codes "->") ∷
+    tok ty_var 1952 1954 27 (codes "'a") ∷
+    tok arrow 1955 1957 30 (codes "->") ∷
+    tok ty_var 1958 1960 33 (codes "'b") ∷
+    tok val_word 1961 1964 0 (codes "val") ∷
+    tok lower 1965 1968 4 (codes "ref") ∷
+    tok colon 1969 1970 8 (codes ":") ∷
+    tok ty_var 1971 1973 10 (codes "'a") ∷
+    tok arrow 1974 1976 13 (codes "->") ∷
+    tok ty_var 1977 1979 16 (codes "'a") ∷
+    tok lower 1980 1983 19 (codes "ref") ∷
+    tok val_word 1984 1987 0 (codes "val") ∷
+    tok op_name 1988 1993 4 (codes "!") ∷
+    tok colon 1994 1995 10 (codes ":") ∷
+    tok ty_var 1996 1998 12 (codes "'a") ∷
+    tok lower 1999 2002 15 (codes "ref") ∷
+    tok arrow 2003 2005 19 (codes "->") ∷
+    tok ty_var 2006 2008 22 (codes "'a") ∷
+    tok val_word 2009 2012 0 (codes "val") ∷
+    tok op_name 2013 2019 4 (codes ":=") ∷
+    tok colon 2020 2021 11 (codes ":") ∷ []
 
 abbrev part4 : List Tok
 part4 =
-    tok ty_var 2022 2024 (codes "'a") ∷
-    tok lower 2025 2028 (codes "ref") ∷
-    tok arrow 2029 2031 (codes "->") ∷
-    tok ty_var 2032 2034 (codes "'a") ∷
-    tok arrow 2035 2037 (codes "->") ∷
-    tok lower 2038 2042 (codes "unit") ∷
-    tok val_word 2043 2046 (codes "val") ∷
-    tok lower 2047 2051 (codes "incr") ∷
-    tok colon 2052 2053 (codes ":") ∷
-    tok lower 2054 2057 (codes "int") ∷
-    tok lower 2058 2061 (codes "ref") ∷
-    tok arrow 2062 2064 (codes "->") ∷
-    tok lower 2065 2069 (codes "unit") ∷
-    tok val_word 2070 2073 (codes "val") ∷
-    tok lower 2074 2078 (codes "decr") ∷
-    tok colon 2079 2080 (codes ":") ∷
-    tok lower 2081 2084 (codes "int") ∷
-    tok lower 2085 2088 (codes "ref") ∷
-    tok arrow 2089 2091 (codes "->") ∷
-    tok lower 2092 2096 (codes "unit") ∷
-    tok val_word 2097 2100 (codes "val") ∷
-    tok lower 2101 2111 (codes "print_char") ∷
-    tok colon 2112 2113 (codes ":") ∷
-    tok lower 2114 2118 (codes "char") ∷
-    tok arrow 2119 2121 (codes "->") ∷
-    tok lower 2122 2126 (codes "unit") ∷
-    tok val_word 2127 2130 (codes "val") ∷
-    tok lower 2131 2143 (codes "print_string") ∷
-    tok colon 2144 2145 (codes ":") ∷
-    tok lower 2146 2152 (codes "string") ∷
-    tok arrow 2153 2155 (codes "->") ∷
-    tok lower 2156 2160 (codes "unit") ∷
-    tok val_word 2161 2164 (codes "val") ∷
-    tok lower 2165 2174 (codes "print_int") ∷
-    tok colon 2175 2176 (codes ":") ∷
-    tok lower 2177 2180 (codes "int") ∷
-    tok arrow 2181 2183 (codes "->") ∷
-    tok lower 2184 2188 (codes "unit") ∷
-    tok val_word 2189 2192 (codes "val") ∷
-    tok lower 2193 2206 (codes "print_endline") ∷
-    tok colon 2207 2208 (codes ":") ∷
-    tok lower 2209 2215 (codes "string") ∷
-    tok arrow 2216 2218 (codes "->") ∷
-    tok lower 2219 2223 (codes "unit") ∷
-    tok val_word 2224 2227 (codes "val") ∷
-    tok lower 2228 2241 (codes "print_newline") ∷
-    tok colon 2242 2243 (codes ":") ∷
-    tok lower 2244 2248 (codes "unit") ∷
-    tok arrow 2249 2251 (codes "->") ∷
-    tok lower 2252 2256 (codes "unit") ∷
-    tok val_word 2257 2260 (codes "val") ∷
-    tok lower 2261 2270 (codes "read_line") ∷
-    tok colon 2271 2272 (codes ":") ∷
-    tok lower 2273 2277 (codes "unit") ∷
-    tok arrow 2278 2280 (codes "->") ∷
-    tok lower 2281 2287 (codes "string") ∷
-    tok val_word 2288 2291 (codes "val") ∷
-    tok lower 2292 2296 (codes "exit") ∷
-    tok colon 2297 2298 (codes ":") ∷
-    tok lower 2299 2302 (codes "int") ∷
-    tok arrow 2303 2305 (codes "->") ∷
-    tok ty_var 2306 2308 (codes "'a") ∷
-    tok module_word 2309 2315 (codes "module") ∷
-    tok upper 2316 2320 (codes "List") ∷
-    tok colon 2321 2322 (codes ":") ∷
-    tok sig_word 2323 2326 (codes "sig") ∷
-    tok val_word 2329 2332 (codes "val") ∷
-    tok lower 2333 2339 (codes "length") ∷
-    tok colon 2340 2341 (codes ":") ∷
-    tok ty_var 2342 2344 (codes "'a") ∷
-    tok lower 2345 2349 (codes "list") ∷
-    tok arrow 2350 2352 (codes "->") ∷
-    tok lower 2353 2356 (codes "int") ∷
-    tok val_word 2359 2362 (codes "val") ∷
-    tok lower 2363 2365 (codes "hd") ∷
-    tok colon 2366 2367 (codes ":") ∷
-    tok ty_var 2368 2370 (codes "'a") ∷
-    tok lower 2371 2375 (codes "list") ∷
-    tok arrow 2376 2378 (codes "->") ∷
-    tok ty_var 2379 2381 (codes "'a") ∷
-    tok val_word 2384 2387 (codes "val") ∷
-    tok lower 2388 2390 (codes "tl") ∷
-    tok colon 2391 2392 (codes ":") ∷
-    tok ty_var 2393 2395 (codes "'a") ∷
-    tok lower 2396 2400 (codes "list") ∷
-    tok arrow 2401 2403 (codes "->") ∷
-    tok ty_var 2404 2406 (codes "'a") ∷
-    tok lower 2407 2411 (codes "list") ∷
-    tok val_word 2414 2417 (codes "val") ∷
-    tok lower 2418 2421 (codes "nth") ∷
-    tok colon 2422 2423 (codes ":") ∷
-    tok ty_var 2424 2426 (codes "'a") ∷
-    tok lower 2427 2431 (codes "list") ∷
-    tok arrow 2432 2434 (codes "->") ∷
-    tok lower 2435 2438 (codes "int") ∷
-    tok arrow 2439 2441 (codes "->") ∷
-    tok ty_var 2442 2444 (codes "'a") ∷
-    tok val_word 2447 2450 (codes "val") ∷
-    tok lower 2451 2454 (codes "rev") ∷
-    tok colon 2455 2456 (codes ":") ∷
-    tok ty_var 2457 2459 (codes "'a") ∷
-    tok lower 2460 2464 (codes "list") ∷
-    tok arrow 2465 2467 (codes "->") ∷
-    tok ty_var 2468 2470 (codes "'a") ∷
-    tok lower 2471 2475 (codes "list") ∷
-    tok val_word 2478 2481 (codes "val") ∷
-    tok lower 2482 2488 (codes "append") ∷
-    tok colon 2489 2490 (codes ":") ∷
-    tok ty_var 2491 2493 (codes "'a") ∷
-    tok lower 2494 2498 (codes "list") ∷
-    tok arrow 2499 2501 (codes "->") ∷
-    tok ty_var 2502 2504 (codes "'a") ∷
-    tok lower 2505 2509 (codes "list") ∷
-    tok arrow 2510 2512 (codes "->") ∷
-    tok ty_var 2513 2515 (codes "'a") ∷
-    tok lower 2516 2520 (codes "list") ∷
-    tok val_word 2523 2526 (codes "val") ∷
-    tok lower 2527 2533 (codes "concat") ∷
-    tok colon 2534 2535 (codes ":") ∷
-    tok ty_var 2536 2538 (codes "'a") ∷ []
+    tok ty_var 2022 2024 13 (codes "'a") ∷
+    tok lower 2025 2028 16 (codes "ref") ∷
+    tok arrow 2029 2031 20 (codes "->") ∷
+    tok ty_var 2032 2034 23 (codes "'a") ∷
+    tok arrow 2035 2037 26 (codes "->") ∷
+    tok lower 2038 2042 29 (codes "unit") ∷
+    tok val_word 2043 2046 0 (codes "val") ∷
+    tok lower 2047 2051 4 (codes "incr") ∷
+    tok colon 2052 2053 9 (codes ":") ∷
+    tok lower 2054 2057 11 (codes "int") ∷
+    tok lower 2058 2061 15 (codes "ref") ∷
+    tok arrow 2062 2064 19 (codes "->") ∷
+    tok lower 2065 2069 22 (codes "unit") ∷
+    tok val_word 2070 2073 0 (codes "val") ∷
+    tok lower 2074 2078 4 (codes "decr") ∷
+    tok colon 2079 2080 9 (codes ":") ∷
+    tok lower 2081 2084 11 (codes "int") ∷
+    tok lower 2085 2088 15 (codes "ref") ∷
+    tok arrow 2089 2091 19 (codes "->") ∷
+    tok lower 2092 2096 22 (codes "unit") ∷
+    tok val_word 2097 2100 0 (codes "val") ∷
+    tok lower 2101 2111 4 (codes "print_char") ∷
+    tok colon 2112 2113 15 (codes ":") ∷
+    tok lower 2114 2118 17 (codes "char") ∷
+    tok arrow 2119 2121 22 (codes "->") ∷
+    tok lower 2122 2126 25 (codes "unit") ∷
+    tok val_word 2127 2130 0 (codes "val") ∷
+    tok lower 2131 2143 4 (codes "print_string") ∷
+    tok colon 2144 2145 17 (codes ":") ∷
+    tok lower 2146 2152 19 (codes "string") ∷
+    tok arrow 2153 2155 26 (codes "->") ∷
+    tok lower 2156 2160 29 (codes "unit") ∷
+    tok val_word 2161 2164 0 (codes "val") ∷
+    tok lower 2165 2174 4 (codes "print_int") ∷
+    tok colon 2175 2176 14 (codes ":") ∷
+    tok lower 2177 2180 16 (codes "int") ∷
+    tok arrow 2181 2183 20 (codes "->") ∷
+    tok lower 2184 2188 23 (codes "unit") ∷
+    tok val_word 2189 2192 0 (codes "val") ∷
+    tok lower 2193 2206 4 (codes "print_endline") ∷
+    tok colon 2207 2208 18 (codes ":") ∷
+    tok lower 2209 2215 20 (codes "string") ∷
+    tok arrow 2216 2218 27 (codes "->") ∷
+    tok lower 2219 2223 30 (codes "unit") ∷
+    tok val_word 2224 2227 0 (codes "val") ∷
+    tok lower 2228 2241 4 (codes "print_newline") ∷
+    tok colon 2242 2243 18 (codes ":") ∷
+    tok lower 2244 2248 20 (codes "unit") ∷
+    tok arrow 2249 2251 25 (codes "->") ∷
+    tok lower 2252 2256 28 (codes "unit") ∷
+    tok val_word 2257 2260 0 (codes "val") ∷
+    tok lower 2261 2270 4 (codes "read_line") ∷
+    tok colon 2271 2272 14 (codes ":") ∷
+    tok lower 2273 2277 16 (codes "unit") ∷
+    tok arrow 2278 2280 21 (codes "->") ∷
+    tok lower 2281 2287 24 (codes "string") ∷
+    tok val_word 2288 2291 0 (codes "val") ∷
+    tok lower 2292 2296 4 (codes "exit") ∷
+    tok colon 2297 2298 9 (codes ":") ∷
+    tok lower 2299 2302 11 (codes "int") ∷
+    tok arrow 2303 2305 15 (codes "->") ∷
+    tok ty_var 2306 2308 18 (codes "'a") ∷
+    tok module_word 2309 2315 0 (codes "module") ∷
+    tok upper 2316 2320 7 (codes "List") ∷
+    tok colon 2321 2322 12 (codes ":") ∷
+    tok sig_word 2323 2326 14 (codes "sig") ∷
+    tok val_word 2329 2332 2 (codes "val") ∷
+    tok lower 2333 2339 6 (codes "length") ∷
+    tok colon 2340 2341 13 (codes ":") ∷
+    tok ty_var 2342 2344 15 (codes "'a") ∷
+    tok lower 2345 2349 18 (codes "list") ∷
+    tok arrow 2350 2352 23 (codes "->") ∷
+    tok lower 2353 2356 26 (codes "int") ∷
+    tok val_word 2359 2362 2 (codes "val") ∷
+    tok lower 2363 2365 6 (codes "hd") ∷
+    tok colon 2366 2367 9 (codes ":") ∷
+    tok ty_var 2368 2370 11 (codes "'a") ∷
+    tok lower 2371 2375 14 (codes "list") ∷
+    tok arrow 2376 2378 19 (codes "->") ∷
+    tok ty_var 2379 2381 22 (codes "'a") ∷
+    tok val_word 2384 2387 2 (codes "val") ∷
+    tok lower 2388 2390 6 (codes "tl") ∷
+    tok colon 2391 2392 9 (codes ":") ∷
+    tok ty_var 2393 2395 11 (codes "'a") ∷
+    tok lower 2396 2400 14 (codes "list") ∷
+    tok arrow 2401 2403 19 (codes "->") ∷
+    tok ty_var 2404 2406 22 (codes "'a") ∷
+    tok lower 2407 2411 25 (codes "list") ∷
+    tok val_word 2414 2417 2 (codes "val") ∷
+    tok lower 2418 2421 6 (codes "nth") ∷
+    tok colon 2422 2423 10 (codes ":") ∷
+    tok ty_var 2424 2426 12 (codes "'a") ∷
+    tok lower 2427 2431 15 (codes "list") ∷
+    tok arrow 2432 2434 20 (codes "->") ∷
+    tok lower 2435 2438 23 (codes "int") ∷
+    tok arrow 2439 2441 27 (codes "->") ∷
+    tok ty_var 2442 2444 30 (codes "'a") ∷
+    tok val_word 2447 2450 2 (codes "val") ∷
+    tok lower 2451 2454 6 (codes "rev") ∷
+    tok colon 2455 2456 10 (codes ":") ∷
+    tok ty_var 2457 2459 12 (codes "'a") ∷
+    tok lower 2460 2464 15 (codes "list") ∷
+    tok arrow 2465 2467 20 (codes "->") ∷
+    tok ty_var 2468 2470 23 (codes "'a") ∷
+    tok lower 2471 2475 26 (codes "list") ∷
+    tok val_word 2478 2481 2 (codes "val") ∷
+    tok lower 2482 2488 6 (codes "append") ∷
+    tok colon 2489 2490 13 (codes ":") ∷
+    tok ty_var 2491 2493 15 (codes "'a") ∷
+    tok lower 2494 2498 18 (codes "list") ∷
+    tok arrow 2499 2501 23 (codes "->") ∷
+    tok ty_var 2502 2504 26 (codes "'a") ∷
+    tok lower 2505 2509 29 (codes "list") ∷
+    tok arrow 2510 2512 34 (codes "->") ∷
+    tok ty_var 2513 2515 37 (codes "'a") ∷
+    tok lower 2516 2520 40 (codes "list") ∷
+    tok val_word 2523 2526 2 (codes "val") ∷
+    tok lower 2527 2533 6 (codes "concat") ∷
+    tok colon 2534 2535 13 (codes ":") ∷
+    tok ty_var 2536 2538 15 (codes "'a") ∷ []
 
 abbrev part5 : List Tok
 part5 =
-    tok lower 2539 2543 (codes "list") ∷
-    tok lower 2544 2548 (codes "list") ∷
-    tok arrow 2549 2551 (codes "->") ∷
-    tok ty_var 2552 2554 (codes "'a") ∷
-    tok lower 2555 2559 (codes "list") ∷
-    tok val_word 2562 2565 (codes "val") ∷
-    tok lower 2566 2570 (codes "iter") ∷
-    tok colon 2571 2572 (codes ":") ∷
-    tok left_paren 2573 2574 (codes "(") ∷
-    tok ty_var 2574 2576 (codes "'a") ∷
-    tok arrow 2577 2579 (codes "->") ∷
-    tok lower 2580 2584 (codes "unit") ∷
-    tok right_paren 2584 2585 (codes ")") ∷
-    tok arrow 2586 2588 (codes "->") ∷
-    tok ty_var 2589 2591 (codes "'a") ∷
-    tok lower 2592 2596 (codes "list") ∷
-    tok arrow 2597 2599 (codes "->") ∷
-    tok lower 2600 2604 (codes "unit") ∷
-    tok val_word 2607 2610 (codes "val") ∷
-    tok lower 2611 2614 (codes "map") ∷
-    tok colon 2615 2616 (codes ":") ∷
-    tok left_paren 2617 2618 (codes "(") ∷
-    tok ty_var 2618 2620 (codes "'a") ∷
-    tok arrow 2621 2623 (codes "->") ∷
-    tok ty_var 2624 2626 (codes "'b") ∷
-    tok right_paren 2626 2627 (codes ")") ∷
-    tok arrow 2628 2630 (codes "->") ∷
-    tok ty_var 2631 2633 (codes "'a") ∷
-    tok lower 2634 2638 (codes "list") ∷
-    tok arrow 2639 2641 (codes "->") ∷
-    tok ty_var 2642 2644 (codes "'b") ∷
-    tok lower 2645 2649 (codes "list") ∷
-    tok val_word 2652 2655 (codes "val") ∷
-    tok lower 2656 2660 (codes "mapi") ∷
-    tok colon 2661 2662 (codes ":") ∷
-    tok left_paren 2663 2664 (codes "(") ∷
-    tok lower 2664 2667 (codes "int") ∷
-    tok arrow 2668 2670 (codes "->") ∷
-    tok ty_var 2671 2673 (codes "'a") ∷
-    tok arrow 2674 2676 (codes "->") ∷
-    tok ty_var 2677 2679 (codes "'b") ∷
-    tok right_paren 2679 2680 (codes ")") ∷
-    tok arrow 2681 2683 (codes "->") ∷
-    tok ty_var 2684 2686 (codes "'a") ∷
-    tok lower 2687 2691 (codes "list") ∷
-    tok arrow 2692 2694 (codes "->") ∷
-    tok ty_var 2695 2697 (codes "'b") ∷
-    tok lower 2698 2702 (codes "list") ∷
-    tok val_word 2705 2708 (codes "val") ∷
-    tok lower 2709 2718 (codes "fold_left") ∷
-    tok colon 2719 2720 (codes ":") ∷
-    tok left_paren 2721 2722 (codes "(") ∷
-    tok ty_var 2722 2724 (codes "'a") ∷
-    tok arrow 2725 2727 (codes "->") ∷
-    tok ty_var 2728 2730 (codes "'b") ∷
-    tok arrow 2731 2733 (codes "->") ∷
-    tok ty_var 2734 2736 (codes "'a") ∷
-    tok right_paren 2736 2737 (codes ")") ∷
-    tok arrow 2738 2740 (codes "->") ∷
-    tok ty_var 2741 2743 (codes "'a") ∷
-    tok arrow 2744 2746 (codes "->") ∷
-    tok ty_var 2747 2749 (codes "'b") ∷
-    tok lower 2750 2754 (codes "list") ∷
-    tok arrow 2755 2757 (codes "->") ∷
-    tok ty_var 2758 2760 (codes "'a") ∷
-    tok val_word 2763 2766 (codes "val") ∷
-    tok lower 2767 2777 (codes "fold_right") ∷
-    tok colon 2778 2779 (codes ":") ∷
-    tok left_paren 2780 2781 (codes "(") ∷
-    tok ty_var 2781 2783 (codes "'a") ∷
-    tok arrow 2784 2786 (codes "->") ∷
-    tok ty_var 2787 2789 (codes "'b") ∷
-    tok arrow 2790 2792 (codes "->") ∷
-    tok ty_var 2793 2795 (codes "'b") ∷
-    tok right_paren 2795 2796 (codes ")") ∷
-    tok arrow 2797 2799 (codes "->") ∷
-    tok ty_var 2800 2802 (codes "'a") ∷
-    tok lower 2803 2807 (codes "list") ∷
-    tok arrow 2808 2810 (codes "->") ∷
-    tok ty_var 2811 2813 (codes "'b") ∷
-    tok arrow 2814 2816 (codes "->") ∷
-    tok ty_var 2817 2819 (codes "'b") ∷
-    tok val_word 2822 2825 (codes "val") ∷
-    tok lower 2826 2832 (codes "exists") ∷
-    tok colon 2833 2834 (codes ":") ∷
-    tok left_paren 2835 2836 (codes "(") ∷
-    tok ty_var 2836 2838 (codes "'a") ∷
-    tok arrow 2839 2841 (codes "->") ∷
-    tok lower 2842 2846 (codes "bool") ∷
-    tok right_paren 2846 2847 (codes ")") ∷
-    tok arrow 2848 2850 (codes "->") ∷
-    tok ty_var 2851 2853 (codes "'a") ∷
-    tok lower 2854 2858 (codes "list") ∷
-    tok arrow 2859 2861 (codes "->") ∷
-    tok lower 2862 2866 (codes "bool") ∷
-    tok val_word 2869 2872 (codes "val") ∷
-    tok lower 2873 2880 (codes "for_all") ∷
-    tok colon 2881 2882 (codes ":") ∷
-    tok left_paren 2883 2884 (codes "(") ∷
-    tok ty_var 2884 2886 (codes "'a") ∷
-    tok arrow 2887 2889 (codes "->") ∷
-    tok lower 2890 2894 (codes "bool") ∷
-    tok right_paren 2894 2895 (codes ")") ∷
-    tok arrow 2896 2898 (codes "->") ∷
-    tok ty_var 2899 2901 (codes "'a") ∷
-    tok lower 2902 2906 (codes "list") ∷
-    tok arrow 2907 2909 (codes "->") ∷
-    tok lower 2910 2914 (codes "bool") ∷
-    tok val_word 2917 2920 (codes "val") ∷
-    tok lower 2921 2924 (codes "mem") ∷
-    tok colon 2925 2926 (codes ":") ∷
-    tok ty_var 2927 2929 (codes "'a") ∷
-    tok arrow 2930 2932 (codes "->") ∷
-    tok ty_var 2933 2935 (codes "'a") ∷
-    tok lower 2936 2940 (codes "list") ∷
-    tok arrow 2941 2943 (codes "->") ∷
-    tok lower 2944 2948 (codes "bool") ∷
-    tok val_word 2951 2954 (codes "val") ∷
-    tok lower 2955 2959 (codes "find") ∷
-    tok colon 2960 2961 (codes ":") ∷ []
+    tok lower 2539 2543 18 (codes "list") ∷
+    tok lower 2544 2548 23 (codes "list") ∷
+    tok arrow 2549 2551 28 (codes "->") ∷
+    tok ty_var 2552 2554 31 (codes "'a") ∷
+    tok lower 2555 2559 34 (codes "list") ∷
+    tok val_word 2562 2565 2 (codes "val") ∷
+    tok lower 2566 2570 6 (codes "iter") ∷
+    tok colon 2571 2572 11 (codes ":") ∷
+    tok left_paren 2573 2574 13 (codes "(") ∷
+    tok ty_var 2574 2576 14 (codes "'a") ∷
+    tok arrow 2577 2579 17 (codes "->") ∷
+    tok lower 2580 2584 20 (codes "unit") ∷
+    tok right_paren 2584 2585 24 (codes ")") ∷
+    tok arrow 2586 2588 26 (codes "->") ∷
+    tok ty_var 2589 2591 29 (codes "'a") ∷
+    tok lower 2592 2596 32 (codes "list") ∷
+    tok arrow 2597 2599 37 (codes "->") ∷
+    tok lower 2600 2604 40 (codes "unit") ∷
+    tok val_word 2607 2610 2 (codes "val") ∷
+    tok lower 2611 2614 6 (codes "map") ∷
+    tok colon 2615 2616 10 (codes ":") ∷
+    tok left_paren 2617 2618 12 (codes "(") ∷
+    tok ty_var 2618 2620 13 (codes "'a") ∷
+    tok arrow 2621 2623 16 (codes "->") ∷
+    tok ty_var 2624 2626 19 (codes "'b") ∷
+    tok right_paren 2626 2627 21 (codes ")") ∷
+    tok arrow 2628 2630 23 (codes "->") ∷
+    tok ty_var 2631 2633 26 (codes "'a") ∷
+    tok lower 2634 2638 29 (codes "list") ∷
+    tok arrow 2639 2641 34 (codes "->") ∷
+    tok ty_var 2642 2644 37 (codes "'b") ∷
+    tok lower 2645 2649 40 (codes "list") ∷
+    tok val_word 2652 2655 2 (codes "val") ∷
+    tok lower 2656 2660 6 (codes "mapi") ∷
+    tok colon 2661 2662 11 (codes ":") ∷
+    tok left_paren 2663 2664 13 (codes "(") ∷
+    tok lower 2664 2667 14 (codes "int") ∷
+    tok arrow 2668 2670 18 (codes "->") ∷
+    tok ty_var 2671 2673 21 (codes "'a") ∷
+    tok arrow 2674 2676 24 (codes "->") ∷
+    tok ty_var 2677 2679 27 (codes "'b") ∷
+    tok right_paren 2679 2680 29 (codes ")") ∷
+    tok arrow 2681 2683 31 (codes "->") ∷
+    tok ty_var 2684 2686 34 (codes "'a") ∷
+    tok lower 2687 2691 37 (codes "list") ∷
+    tok arrow 2692 2694 42 (codes "->") ∷
+    tok ty_var 2695 2697 45 (codes "'b") ∷
+    tok lower 2698 2702 48 (codes "list") ∷
+    tok val_word 2705 2708 2 (codes "val") ∷
+    tok lower 2709 2718 6 (codes "fold_left") ∷
+    tok colon 2719 2720 16 (codes ":") ∷
+    tok left_paren 2721 2722 18 (codes "(") ∷
+    tok ty_var 2722 2724 19 (codes "'a") ∷
+    tok arrow 2725 2727 22 (codes "->") ∷
+    tok ty_var 2728 2730 25 (codes "'b") ∷
+    tok arrow 2731 2733 28 (codes "->") ∷
+    tok ty_var 2734 2736 31 (codes "'a") ∷
+    tok right_paren 2736 2737 33 (codes ")") ∷
+    tok arrow 2738 2740 35 (codes "->") ∷
+    tok ty_var 2741 2743 38 (codes "'a") ∷
+    tok arrow 2744 2746 41 (codes "->") ∷
+    tok ty_var 2747 2749 44 (codes "'b") ∷
+    tok lower 2750 2754 47 (codes "list") ∷
+    tok arrow 2755 2757 52 (codes "->") ∷
+    tok ty_var 2758 2760 55 (codes "'a") ∷
+    tok val_word 2763 2766 2 (codes "val") ∷
+    tok lower 2767 2777 6 (codes "fold_right") ∷
+    tok colon 2778 2779 17 (codes ":") ∷
+    tok left_paren 2780 2781 19 (codes "(") ∷
+    tok ty_var 2781 2783 20 (codes "'a") ∷
+    tok arrow 2784 2786 23 (codes "->") ∷
+    tok ty_var 2787 2789 26 (codes "'b") ∷
+    tok arrow 2790 2792 29 (codes "->") ∷
+    tok ty_var 2793 2795 32 (codes "'b") ∷
+    tok right_paren 2795 2796 34 (codes ")") ∷
+    tok arrow 2797 2799 36 (codes "->") ∷
+    tok ty_var 2800 2802 39 (codes "'a") ∷
+    tok lower 2803 2807 42 (codes "list") ∷
+    tok arrow 2808 2810 47 (codes "->") ∷
+    tok ty_var 2811 2813 50 (codes "'b") ∷
+    tok arrow 2814 2816 53 (codes "->") ∷
+    tok ty_var 2817 2819 56 (codes "'b") ∷
+    tok val_word 2822 2825 2 (codes "val") ∷
+    tok lower 2826 2832 6 (codes "exists") ∷
+    tok colon 2833 2834 13 (codes ":") ∷
+    tok left_paren 2835 2836 15 (codes "(") ∷
+    tok ty_var 2836 2838 16 (codes "'a") ∷
+    tok arrow 2839 2841 19 (codes "->") ∷
+    tok lower 2842 2846 22 (codes "bool") ∷
+    tok right_paren 2846 2847 26 (codes ")") ∷
+    tok arrow 2848 2850 28 (codes "->") ∷
+    tok ty_var 2851 2853 31 (codes "'a") ∷
+    tok lower 2854 2858 34 (codes "list") ∷
+    tok arrow 2859 2861 39 (codes "->") ∷
+    tok lower 2862 2866 42 (codes "bool") ∷
+    tok val_word 2869 2872 2 (codes "val") ∷
+    tok lower 2873 2880 6 (codes "for_all") ∷
+    tok colon 2881 2882 14 (codes ":") ∷
+    tok left_paren 2883 2884 16 (codes "(") ∷
+    tok ty_var 2884 2886 17 (codes "'a") ∷
+    tok arrow 2887 2889 20 (codes "->") ∷
+    tok lower 2890 2894 23 (codes "bool") ∷
+    tok right_paren 2894 2895 27 (codes ")") ∷
+    tok arrow 2896 2898 29 (codes "->") ∷
+    tok ty_var 2899 2901 32 (codes "'a") ∷
+    tok lower 2902 2906 35 (codes "list") ∷
+    tok arrow 2907 2909 40 (codes "->") ∷
+    tok lower 2910 2914 43 (codes "bool") ∷
+    tok val_word 2917 2920 2 (codes "val") ∷
+    tok lower 2921 2924 6 (codes "mem") ∷
+    tok colon 2925 2926 10 (codes ":") ∷
+    tok ty_var 2927 2929 12 (codes "'a") ∷
+    tok arrow 2930 2932 15 (codes "->") ∷
+    tok ty_var 2933 2935 18 (codes "'a") ∷
+    tok lower 2936 2940 21 (codes "list") ∷
+    tok arrow 2941 2943 26 (codes "->") ∷
+    tok lower 2944 2948 29 (codes "bool") ∷
+    tok val_word 2951 2954 2 (codes "val") ∷
+    tok lower 2955 2959 6 (codes "find") ∷
+    tok colon 2960 2961 11 (codes ":") ∷ []
 
 abbrev part6 : List Tok
 part6 =
-    tok left_paren 2962 2963 (codes "(") ∷
-    tok ty_var 2963 2965 (codes "'a") ∷
-    tok arrow 2966 2968 (codes "->") ∷
-    tok lower 2969 2973 (codes "bool") ∷
-    tok right_paren 2973 2974 (codes ")") ∷
-    tok arrow 2975 2977 (codes "->") ∷
-    tok ty_var 2978 2980 (codes "'a") ∷
-    tok lower 2981 2985 (codes "list") ∷
-    tok arrow 2986 2988 (codes "->") ∷
-    tok ty_var 2989 2991 (codes "'a") ∷
-    tok val_word 2994 2997 (codes "val") ∷
-    tok lower 2998 3004 (codes "filter") ∷
-    tok colon 3005 3006 (codes ":") ∷
-    tok left_paren 3007 3008 (codes "(") ∷
-    tok ty_var 3008 3010 (codes "'a") ∷
-    tok arrow 3011 3013 (codes "->") ∷
-    tok lower 3014 3018 (codes "bool") ∷
-    tok right_paren 3018 3019 (codes ")") ∷
-    tok arrow 3020 3022 (codes "->") ∷
-    tok ty_var 3023 3025 (codes "'a") ∷
-    tok lower 3026 3030 (codes "list") ∷
-    tok arrow 3031 3033 (codes "->") ∷
-    tok ty_var 3034 3036 (codes "'a") ∷
-    tok lower 3037 3041 (codes "list") ∷
-    tok val_word 3044 3047 (codes "val") ∷
-    tok lower 3048 3053 (codes "assoc") ∷
-    tok colon 3054 3055 (codes ":") ∷
-    tok ty_var 3056 3058 (codes "'a") ∷
-    tok arrow 3059 3061 (codes "->") ∷
-    tok left_paren 3062 3063 (codes "(") ∷
-    tok ty_var 3063 3065 (codes "'a") ∷
-    tok op13 3066 3067 (codes "*") ∷
-    tok ty_var 3068 3070 (codes "'b") ∷
-    tok right_paren 3070 3071 (codes ")") ∷
-    tok lower 3072 3076 (codes "list") ∷
-    tok arrow 3077 3079 (codes "->") ∷
-    tok ty_var 3080 3082 (codes "'b") ∷
-    tok val_word 3085 3088 (codes "val") ∷
-    tok lower 3089 3096 (codes "combine") ∷
-    tok colon 3097 3098 (codes ":") ∷
-    tok ty_var 3099 3101 (codes "'a") ∷
-    tok lower 3102 3106 (codes "list") ∷
-    tok arrow 3107 3109 (codes "->") ∷
-    tok ty_var 3110 3112 (codes "'b") ∷
-    tok lower 3113 3117 (codes "list") ∷
-    tok arrow 3118 3120 (codes "->") ∷
-    tok left_paren 3121 3122 (codes "(") ∷
-    tok ty_var 3122 3124 (codes "'a") ∷
-    tok op13 3125 3126 (codes "*") ∷
-    tok ty_var 3127 3129 (codes "'b") ∷
-    tok right_paren 3129 3130 (codes ")") ∷
-    tok lower 3131 3135 (codes "list") ∷
-    tok val_word 3138 3141 (codes "val") ∷
-    tok lower 3142 3147 (codes "split") ∷
-    tok colon 3148 3149 (codes ":") ∷
-    tok left_paren 3150 3151 (codes "(") ∷
-    tok ty_var 3151 3153 (codes "'a") ∷
-    tok op13 3154 3155 (codes "*") ∷
-    tok ty_var 3156 3158 (codes "'b") ∷
-    tok right_paren 3158 3159 (codes ")") ∷
-    tok lower 3160 3164 (codes "list") ∷
-    tok arrow 3165 3167 (codes "->") ∷
-    tok ty_var 3168 3170 (codes "'a") ∷
-    tok lower 3171 3175 (codes "list") ∷
-    tok op13 3176 3177 (codes "*") ∷
-    tok ty_var 3178 3180 (codes "'b") ∷
-    tok lower 3181 3185 (codes "list") ∷
-    tok val_word 3188 3191 (codes "val") ∷
-    tok lower 3192 3196 (codes "sort") ∷
-    tok colon 3197 3198 (codes ":") ∷
-    tok left_paren 3199 3200 (codes "(") ∷
-    tok ty_var 3200 3202 (codes "'a") ∷
-    tok arrow 3203 3205 (codes "->") ∷
-    tok ty_var 3206 3208 (codes "'a") ∷
-    tok arrow 3209 3211 (codes "->") ∷
-    tok lower 3212 3215 (codes "int") ∷
-    tok right_paren 3215 3216 (codes ")") ∷
-    tok arrow 3217 3219 (codes "->") ∷
-    tok ty_var 3220 3222 (codes "'a") ∷
-    tok lower 3223 3227 (codes "list") ∷
-    tok arrow 3228 3230 (codes "->") ∷
-    tok ty_var 3231 3233 (codes "'a") ∷
-    tok lower 3234 3238 (codes "list") ∷
-    tok end_word 3239 3242 (codes "end") ∷
-    tok module_word 3243 3249 (codes "module") ∷
-    tok upper 3250 3256 (codes "Option") ∷
-    tok colon 3257 3258 (codes ":") ∷
-    tok sig_word 3259 3262 (codes "sig") ∷
-    tok val_word 3265 3268 (codes "val") ∷
-    tok lower 3269 3272 (codes "get") ∷
-    tok colon 3273 3274 (codes ":") ∷
-    tok ty_var 3275 3277 (codes "'a") ∷
-    tok lower 3278 3284 (codes "option") ∷
-    tok arrow 3285 3287 (codes "->") ∷
-    tok ty_var 3288 3290 (codes "'a") ∷
-    tok val_word 3293 3296 (codes "val") ∷
-    tok lower 3297 3301 (codes "bind") ∷
-    tok colon 3302 3303 (codes ":") ∷
-    tok ty_var 3304 3306 (codes "'a") ∷
-    tok lower 3307 3313 (codes "option") ∷
-    tok arrow 3314 3316 (codes "->") ∷
-    tok left_paren 3317 3318 (codes "(") ∷
-    tok ty_var 3318 3320 (codes "'a") ∷
-    tok arrow 3321 3323 (codes "->") ∷
-    tok ty_var 3324 3326 (codes "'b") ∷
-    tok lower 3327 3333 (codes "option") ∷
-    tok right_paren 3333 3334 (codes ")") ∷
-    tok arrow 3335 3337 (codes "->") ∷
-    tok ty_var 3338 3340 (codes "'b") ∷
-    tok lower 3341 3347 (codes "option") ∷
-    tok val_word 3350 3353 (codes "val") ∷
-    tok lower 3354 3357 (codes "map") ∷
-    tok colon 3358 3359 (codes ":") ∷
-    tok left_paren 3360 3361 (codes "(") ∷
-    tok ty_var 3361 3363 (codes "'a") ∷
-    tok arrow 3364 3366 (codes "->") ∷
-    tok ty_var 3367 3369 (codes "'b") ∷
-    tok right_paren 3369 3370 (codes ")") ∷
-    tok arrow 3371 3373 (codes "->") ∷
-    tok ty_var 3374 3376 (codes "'a") ∷ []
+    tok left_paren 2962 2963 13 (codes "(") ∷
+    tok ty_var 2963 2965 14 (codes "'a") ∷
+    tok arrow 2966 2968 17 (codes "->") ∷
+    tok lower 2969 2973 20 (codes "bool") ∷
+    tok right_paren 2973 2974 24 (codes ")") ∷
+    tok arrow 2975 2977 26 (codes "->") ∷
+    tok ty_var 2978 2980 29 (codes "'a") ∷
+    tok lower 2981 2985 32 (codes "list") ∷
+    tok arrow 2986 2988 37 (codes "->") ∷
+    tok ty_var 2989 2991 40 (codes "'a") ∷
+    tok val_word 2994 2997 2 (codes "val") ∷
+    tok lower 2998 3004 6 (codes "filter") ∷
+    tok colon 3005 3006 13 (codes ":") ∷
+    tok left_paren 3007 3008 15 (codes "(") ∷
+    tok ty_var 3008 3010 16 (codes "'a") ∷
+    tok arrow 3011 3013 19 (codes "->") ∷
+    tok lower 3014 3018 22 (codes "bool") ∷
+    tok right_paren 3018 3019 26 (codes ")") ∷
+    tok arrow 3020 3022 28 (codes "->") ∷
+    tok ty_var 3023 3025 31 (codes "'a") ∷
+    tok lower 3026 3030 34 (codes "list") ∷
+    tok arrow 3031 3033 39 (codes "->") ∷
+    tok ty_var 3034 3036 42 (codes "'a") ∷
+    tok lower 3037 3041 45 (codes "list") ∷
+    tok val_word 3044 3047 2 (codes "val") ∷
+    tok lower 3048 3053 6 (codes "assoc") ∷
+    tok colon 3054 3055 12 (codes ":") ∷
+    tok ty_var 3056 3058 14 (codes "'a") ∷
+    tok arrow 3059 3061 17 (codes "->") ∷
+    tok left_paren 3062 3063 20 (codes "(") ∷
+    tok ty_var 3063 3065 21 (codes "'a") ∷
+    tok op13 3066 3067 24 (codes "*") ∷
+    tok ty_var 3068 3070 26 (codes "'b") ∷
+    tok right_paren 3070 3071 28 (codes ")") ∷
+    tok lower 3072 3076 30 (codes "list") ∷
+    tok arrow 3077 3079 35 (codes "->") ∷
+    tok ty_var 3080 3082 38 (codes "'b") ∷
+    tok val_word 3085 3088 2 (codes "val") ∷
+    tok lower 3089 3096 6 (codes "combine") ∷
+    tok colon 3097 3098 14 (codes ":") ∷
+    tok ty_var 3099 3101 16 (codes "'a") ∷
+    tok lower 3102 3106 19 (codes "list") ∷
+    tok arrow 3107 3109 24 (codes "->") ∷
+    tok ty_var 3110 3112 27 (codes "'b") ∷
+    tok lower 3113 3117 30 (codes "list") ∷
+    tok arrow 3118 3120 35 (codes "->") ∷
+    tok left_paren 3121 3122 38 (codes "(") ∷
+    tok ty_var 3122 3124 39 (codes "'a") ∷
+    tok op13 3125 3126 42 (codes "*") ∷
+    tok ty_var 3127 3129 44 (codes "'b") ∷
+    tok right_paren 3129 3130 46 (codes ")") ∷
+    tok lower 3131 3135 48 (codes "list") ∷
+    tok val_word 3138 3141 2 (codes "val") ∷
+    tok lower 3142 3147 6 (codes "split") ∷
+    tok colon 3148 3149 12 (codes ":") ∷
+    tok left_paren 3150 3151 14 (codes "(") ∷
+    tok ty_var 3151 3153 15 (codes "'a") ∷
+    tok op13 3154 3155 18 (codes "*") ∷
+    tok ty_var 3156 3158 20 (codes "'b") ∷
+    tok right_paren 3158 3159 22 (codes ")") ∷
+    tok lower 3160 3164 24 (codes "list") ∷
+    tok arrow 3165 3167 29 (codes "->") ∷
+    tok ty_var 3168 3170 32 (codes "'a") ∷
+    tok lower 3171 3175 35 (codes "list") ∷
+    tok op13 3176 3177 40 (codes "*") ∷
+    tok ty_var 3178 3180 42 (codes "'b") ∷
+    tok lower 3181 3185 45 (codes "list") ∷
+    tok val_word 3188 3191 2 (codes "val") ∷
+    tok lower 3192 3196 6 (codes "sort") ∷
+    tok colon 3197 3198 11 (codes ":") ∷
+    tok left_paren 3199 3200 13 (codes "(") ∷
+    tok ty_var 3200 3202 14 (codes "'a") ∷
+    tok arrow 3203 3205 17 (codes "->") ∷
+    tok ty_var 3206 3208 20 (codes "'a") ∷
+    tok arrow 3209 3211 23 (codes "->") ∷
+    tok lower 3212 3215 26 (codes "int") ∷
+    tok right_paren 3215 3216 29 (codes ")") ∷
+    tok arrow 3217 3219 31 (codes "->") ∷
+    tok ty_var 3220 3222 34 (codes "'a") ∷
+    tok lower 3223 3227 37 (codes "list") ∷
+    tok arrow 3228 3230 42 (codes "->") ∷
+    tok ty_var 3231 3233 45 (codes "'a") ∷
+    tok lower 3234 3238 48 (codes "list") ∷
+    tok end_word 3239 3242 0 (codes "end") ∷
+    tok module_word 3243 3249 0 (codes "module") ∷
+    tok upper 3250 3256 7 (codes "Option") ∷
+    tok colon 3257 3258 14 (codes ":") ∷
+    tok sig_word 3259 3262 16 (codes "sig") ∷
+    tok val_word 3265 3268 2 (codes "val") ∷
+    tok lower 3269 3272 6 (codes "get") ∷
+    tok colon 3273 3274 10 (codes ":") ∷
+    tok ty_var 3275 3277 12 (codes "'a") ∷
+    tok lower 3278 3284 15 (codes "option") ∷
+    tok arrow 3285 3287 22 (codes "->") ∷
+    tok ty_var 3288 3290 25 (codes "'a") ∷
+    tok val_word 3293 3296 2 (codes "val") ∷
+    tok lower 3297 3301 6 (codes "bind") ∷
+    tok colon 3302 3303 11 (codes ":") ∷
+    tok ty_var 3304 3306 13 (codes "'a") ∷
+    tok lower 3307 3313 16 (codes "option") ∷
+    tok arrow 3314 3316 23 (codes "->") ∷
+    tok left_paren 3317 3318 26 (codes "(") ∷
+    tok ty_var 3318 3320 27 (codes "'a") ∷
+    tok arrow 3321 3323 30 (codes "->") ∷
+    tok ty_var 3324 3326 33 (codes "'b") ∷
+    tok lower 3327 3333 36 (codes "option") ∷
+    tok right_paren 3333 3334 42 (codes ")") ∷
+    tok arrow 3335 3337 44 (codes "->") ∷
+    tok ty_var 3338 3340 47 (codes "'b") ∷
+    tok lower 3341 3347 50 (codes "option") ∷
+    tok val_word 3350 3353 2 (codes "val") ∷
+    tok lower 3354 3357 6 (codes "map") ∷
+    tok colon 3358 3359 10 (codes ":") ∷
+    tok left_paren 3360 3361 12 (codes "(") ∷
+    tok ty_var 3361 3363 13 (codes "'a") ∷
+    tok arrow 3364 3366 16 (codes "->") ∷
+    tok ty_var 3367 3369 19 (codes "'b") ∷
+    tok right_paren 3369 3370 21 (codes ")") ∷
+    tok arrow 3371 3373 23 (codes "->") ∷
+    tok ty_var 3374 3376 26 (codes "'a") ∷ []
 
 abbrev part7 : List Tok
 part7 =
-    tok lower 3377 3383 (codes "option") ∷
-    tok arrow 3384 3386 (codes "->") ∷
-    tok ty_var 3387 3389 (codes "'b") ∷
-    tok lower 3390 3396 (codes "option") ∷
-    tok val_word 3399 3402 (codes "val") ∷
-    tok lower 3403 3407 (codes "iter") ∷
-    tok colon 3408 3409 (codes ":") ∷
-    tok left_paren 3410 3411 (codes "(") ∷
-    tok ty_var 3411 3413 (codes "'a") ∷
-    tok arrow 3414 3416 (codes "->") ∷
-    tok lower 3417 3421 (codes "unit") ∷
-    tok right_paren 3421 3422 (codes ")") ∷
-    tok arrow 3423 3425 (codes "->") ∷
-    tok ty_var 3426 3428 (codes "'a") ∷
-    tok lower 3429 3435 (codes "option") ∷
-    tok arrow 3436 3438 (codes "->") ∷
-    tok lower 3439 3443 (codes "unit") ∷
-    tok val_word 3446 3449 (codes "val") ∷
-    tok lower 3450 3457 (codes "is_none") ∷
-    tok colon 3458 3459 (codes ":") ∷
-    tok ty_var 3460 3462 (codes "'a") ∷
-    tok lower 3463 3469 (codes "option") ∷
-    tok arrow 3470 3472 (codes "->") ∷
-    tok lower 3473 3477 (codes "bool") ∷
-    tok val_word 3480 3483 (codes "val") ∷
-    tok lower 3484 3491 (codes "is_some") ∷
-    tok colon 3492 3493 (codes ":") ∷
-    tok ty_var 3494 3496 (codes "'a") ∷
-    tok lower 3497 3503 (codes "option") ∷
-    tok arrow 3504 3506 (codes "->") ∷
-    tok lower 3507 3511 (codes "bool") ∷
-    tok end_word 3512 3515 (codes "end") ∷
-    tok module_word 3516 3522 (codes "module") ∷
-    tok upper 3523 3529 (codes "String") ∷
-    tok colon 3530 3531 (codes ":") ∷
-    tok sig_word 3532 3535 (codes "sig") ∷
-    tok val_word 3538 3541 (codes "val") ∷
-    tok lower 3542 3548 (codes "length") ∷
-    tok colon 3549 3550 (codes ":") ∷
-    tok lower 3551 3557 (codes "string") ∷
-    tok arrow 3558 3560 (codes "->") ∷
-    tok lower 3561 3564 (codes "int") ∷
-    tok val_word 3567 3570 (codes "val") ∷
-    tok lower 3571 3574 (codes "get") ∷
-    tok colon 3575 3576 (codes ":") ∷
-    tok lower 3577 3583 (codes "string") ∷
-    tok arrow 3584 3586 (codes "->") ∷
-    tok lower 3587 3590 (codes "int") ∷
-    tok arrow 3591 3593 (codes "->") ∷
-    tok lower 3594 3598 (codes "char") ∷
-    tok val_word 3601 3604 (codes "val") ∷
-    tok lower 3605 3609 (codes "make") ∷
-    tok colon 3610 3611 (codes ":") ∷
-    tok lower 3612 3615 (codes "int") ∷
-    tok arrow 3616 3618 (codes "->") ∷
-    tok lower 3619 3623 (codes "char") ∷
-    tok arrow 3624 3626 (codes "->") ∷
-    tok lower 3627 3633 (codes "string") ∷
-    tok val_word 3636 3639 (codes "val") ∷
-    tok lower 3640 3643 (codes "sub") ∷
-    tok colon 3644 3645 (codes ":") ∷
-    tok lower 3646 3652 (codes "string") ∷
-    tok arrow 3653 3655 (codes "->") ∷
-    tok lower 3656 3659 (codes "int") ∷
-    tok arrow 3660 3662 (codes "->") ∷
-    tok lower 3663 3666 (codes "int") ∷
-    tok arrow 3667 3669 (codes "->") ∷
-    tok lower 3670 3676 (codes "string") ∷
-    tok val_word 3679 3682 (codes "val") ∷
-    tok lower 3683 3689 (codes "concat") ∷
-    tok colon 3690 3691 (codes ":") ∷
-    tok lower 3692 3698 (codes "string") ∷
-    tok arrow 3699 3701 (codes "->") ∷
-    tok lower 3702 3708 (codes "string") ∷
-    tok lower 3709 3713 (codes "list") ∷
-    tok arrow 3714 3716 (codes "->") ∷
-    tok lower 3717 3723 (codes "string") ∷
-    tok val_word 3726 3729 (codes "val") ∷
-    tok lower 3730 3737 (codes "compare") ∷
-    tok colon 3738 3739 (codes ":") ∷
-    tok lower 3740 3746 (codes "string") ∷
-    tok arrow 3747 3749 (codes "->") ∷
-    tok lower 3750 3756 (codes "string") ∷
-    tok arrow 3757 3759 (codes "->") ∷
-    tok lower 3760 3763 (codes "int") ∷
-    tok end_word 3764 3767 (codes "end") ∷ []
+    tok lower 3377 3383 29 (codes "option") ∷
+    tok arrow 3384 3386 36 (codes "->") ∷
+    tok ty_var 3387 3389 39 (codes "'b") ∷
+    tok lower 3390 3396 42 (codes "option") ∷
+    tok val_word 3399 3402 2 (codes "val") ∷
+    tok lower 3403 3407 6 (codes "iter") ∷
+    tok colon 3408 3409 11 (codes ":") ∷
+    tok left_paren 3410 3411 13 (codes "(") ∷
+    tok ty_var 3411 3413 14 (codes "'a") ∷
+    tok arrow 3414 3416 17 (codes "->") ∷
+    tok lower 3417 3421 20 (codes "unit") ∷
+    tok right_paren 3421 3422 24 (codes ")") ∷
+    tok arrow 3423 3425 26 (codes "->") ∷
+    tok ty_var 3426 3428 29 (codes "'a") ∷
+    tok lower 3429 3435 32 (codes "option") ∷
+    tok arrow 3436 3438 39 (codes "->") ∷
+    tok lower 3439 3443 42 (codes "unit") ∷
+    tok val_word 3446 3449 2 (codes "val") ∷
+    tok lower 3450 3457 6 (codes "is_none") ∷
+    tok colon 3458 3459 14 (codes ":") ∷
+    tok ty_var 3460 3462 16 (codes "'a") ∷
+    tok lower 3463 3469 19 (codes "option") ∷
+    tok arrow 3470 3472 26 (codes "->") ∷
+    tok lower 3473 3477 29 (codes "bool") ∷
+    tok val_word 3480 3483 2 (codes "val") ∷
+    tok lower 3484 3491 6 (codes "is_some") ∷
+    tok colon 3492 3493 14 (codes ":") ∷
+    tok ty_var 3494 3496 16 (codes "'a") ∷
+    tok lower 3497 3503 19 (codes "option") ∷
+    tok arrow 3504 3506 26 (codes "->") ∷
+    tok lower 3507 3511 29 (codes "bool") ∷
+    tok end_word 3512 3515 0 (codes "end") ∷
+    tok module_word 3516 3522 0 (codes "module") ∷
+    tok upper 3523 3529 7 (codes "String") ∷
+    tok colon 3530 3531 14 (codes ":") ∷
+    tok sig_word 3532 3535 16 (codes "sig") ∷
+    tok val_word 3538 3541 2 (codes "val") ∷
+    tok lower 3542 3548 6 (codes "length") ∷
+    tok colon 3549 3550 13 (codes ":") ∷
+    tok lower 3551 3557 15 (codes "string") ∷
+    tok arrow 3558 3560 22 (codes "->") ∷
+    tok lower 3561 3564 25 (codes "int") ∷
+    tok val_word 3567 3570 2 (codes "val") ∷
+    tok lower 3571 3574 6 (codes "get") ∷
+    tok colon 3575 3576 10 (codes ":") ∷
+    tok lower 3577 3583 12 (codes "string") ∷
+    tok arrow 3584 3586 19 (codes "->") ∷
+    tok lower 3587 3590 22 (codes "int") ∷
+    tok arrow 3591 3593 26 (codes "->") ∷
+    tok lower 3594 3598 29 (codes "char") ∷
+    tok val_word 3601 3604 2 (codes "val") ∷
+    tok lower 3605 3609 6 (codes "make") ∷
+    tok colon 3610 3611 11 (codes ":") ∷
+    tok lower 3612 3615 13 (codes "int") ∷
+    tok arrow 3616 3618 17 (codes "->") ∷
+    tok lower 3619 3623 20 (codes "char") ∷
+    tok arrow 3624 3626 25 (codes "->") ∷
+    tok lower 3627 3633 28 (codes "string") ∷
+    tok val_word 3636 3639 2 (codes "val") ∷
+    tok lower 3640 3643 6 (codes "sub") ∷
+    tok colon 3644 3645 10 (codes ":") ∷
+    tok lower 3646 3652 12 (codes "string") ∷
+    tok arrow 3653 3655 19 (codes "->") ∷
+    tok lower 3656 3659 22 (codes "int") ∷
+    tok arrow 3660 3662 26 (codes "->") ∷
+    tok lower 3663 3666 29 (codes "int") ∷
+    tok arrow 3667 3669 33 (codes "->") ∷
+    tok lower 3670 3676 36 (codes "string") ∷
+    tok val_word 3679 3682 2 (codes "val") ∷
+    tok lower 3683 3689 6 (codes "concat") ∷
+    tok colon 3690 3691 13 (codes ":") ∷
+    tok lower 3692 3698 15 (codes "string") ∷
+    tok arrow 3699 3701 22 (codes "->") ∷
+    tok lower 3702 3708 25 (codes "string") ∷
+    tok lower 3709 3713 32 (codes "list") ∷
+    tok arrow 3714 3716 37 (codes "->") ∷
+    tok lower 3717 3723 40 (codes "string") ∷
+    tok val_word 3726 3729 2 (codes "val") ∷
+    tok lower 3730 3737 6 (codes "compare") ∷
+    tok colon 3738 3739 14 (codes ":") ∷
+    tok lower 3740 3746 16 (codes "string") ∷
+    tok arrow 3747 3749 23 (codes "->") ∷
+    tok lower 3750 3756 26 (codes "string") ∷
+    tok arrow 3757 3759 33 (codes "->") ∷
+    tok lower 3760 3763 36 (codes "int") ∷
+    tok end_word 3764 3767 0 (codes "end") ∷ []
 
 abbrev pub tokens : List Tok
 tokens = part0 ++ part1 ++ part2 ++ part3 ++ part4 ++ part5 ++ part6 ++ part7

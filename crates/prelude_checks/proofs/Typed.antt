@@ -5,7 +5,8 @@ use Rattle.grammar_model.specs.Rows.{chain_of, grower_of}
 use Rattle.grammar_model.specs.Ocaml.{rows}
 use Rattle.grammar_model.specs.Tables.{first_place}
 use Rattle.grammar_model.specs.Keys.{kind_key, key_of}
-use Rattle.grammar_model.specs.Recovery.{step, recover}
+use Rattle.grammar_model.specs.Recovery as rules
+use Rattle.recovery_model.specs.Recovery.{step, close, recover}
 use Rattle.typing_model.specs.BuiltIns.{built_in_names, constant_by}
 use Rattle.typing_model.specs.Patterns.{pattern_row}
 use Rattle.typing_model.specs.Expressions.{expression_row}
@@ -20,5 +21,5 @@ use Rattle.prelude_checks.proofs.Tokens.{tokens}
 use Rattle.prelude_checks.proofs.Chosen.{choice}
 
 pub typed : all_hold (items_ask (outermost built_in_names every_site choice) no_names (prelude_items tokens)) ≡ true
-unfolding recover step rows chain_of grower_of first_place kind_key key_of is_operand constant_by pattern_row expression_row type_row module_expression_row module_type_row item_row signature_item_row
+unfolding recover step close rules.step rows chain_of grower_of first_place kind_key key_of is_operand constant_by pattern_row expression_row type_row module_expression_row module_type_row item_row signature_item_row
 typed = refl

@@ -6,14 +6,15 @@ use Rattle.query_model.specs.Faults.{Fault, front, is_before, parser, placed, pl
 use Rattle.query_model.proofs.Pages.{placed_in_order, taken_in_order, placed_among_taken, placed_behind, placed_at_front, front_within}
 use Rattle.query_engine.specs.Faults.{fault_of, told_of, FillsPage}
 use Rattle.query_engine.specs.declared.tellers.Told.{Told}
-use Rattle.frame_parser.specs.declared.stack.SyntaxFault.{SyntaxFault}
-use Rattle.frame_parser.specs.declared.stack.SyntaxFault.TheVariants.{Added, Skipped, TooDeep}
+use Rattle.frame_steps.specs.declared.stack.SyntaxFault.{SyntaxFault}
+use Rattle.frame_steps.specs.declared.stack.SyntaxFault.TheVariants.{Added, Skipped, TooDeep, Cut}
 
 -- a fault of the parser is told by it
 pub by_parser : (f : SyntaxFault) → (fault_of f).source ≡ parser
 by_parser (Added p n) = refl
 by_parser (Skipped s) = refl
 by_parser (TooDeep s) = refl
+by_parser (Cut p) = refl
 
 -- the first faults of those that came, in order, from which the first of all follow with those that are left
 pub record IsPageFor (old all page left : List Fault) : Type 0 where

@@ -1,16 +1,17 @@
 -- The faults that the parser tells are those that are listed.
 use Rattle.std.proofs.Common.{◌≡◌, List, [], ◌∷◌, map, refl, ◌∙◌, ap}
-use Rattle.grammar_model.specs.Recovery.{Fault, added, skipped, too_deep}
+use Rattle.grammar_model.specs.Recovery.{Fault, added, skipped, too_deep, cut}
 use Rattle.query_model.specs.Faults as model
-use Rattle.frame_parser.specs.Run.{told}
-use Rattle.frame_parser.specs.View as parser
-use Rattle.frame_parser.specs.declared.stack.SyntaxFault.{SyntaxFault}
+use Rattle.frame_steps.specs.Told.{told}
+use Rattle.frame_steps.specs.View as parser
+use Rattle.frame_steps.specs.declared.stack.SyntaxFault.{SyntaxFault}
 use Rattle.query_engine.specs.Faults.{fault_of, told_as}
 
 same : (f : Fault) → told_as (told f) ≡ model.told f
 same (added p n) = refl
 same (skipped t) = refl
 same (too_deep t) = refl
+same (cut p) = refl
 
 all_same : (fs : List Fault) → map told_as (map told fs) ≡ map model.told fs
 all_same [] = refl

@@ -4,10 +4,10 @@ use Rattle.text_terms.specs.Bytes.{str_bytes}
 use Rattle.tree_model.specs.Trees.{Place}
 use Rattle.syntax_tree.specs.View.{place_of}
 use Rattle.query_model.specs.Faults as model
-use Rattle.query_model.specs.Faults.{Fault, Source, TyperFault, TyperKind, by_typer, page_limit, parts_missing, placed_among, token_skipped, token_too_deep, InOrder}
-use Rattle.frame_parser.specs.Run.{Told, added, skipped, too_deep}
-use Rattle.frame_parser.specs.View as parser
-use Rattle.frame_parser.specs.declared.stack.SyntaxFault.{SyntaxFault}
+use Rattle.query_model.specs.Faults.{Fault, Source, TyperFault, TyperKind, by_typer, page_limit, parts_missing, placed_among, token_skipped, token_too_deep, item_cut, InOrder}
+use Rattle.frame_steps.specs.Told.{Told, added, skipped, too_deep, cut}
+use Rattle.frame_steps.specs.View as parser
+use Rattle.frame_steps.specs.declared.stack.SyntaxFault.{SyntaxFault}
 use Rattle.env_table.specs.declared.faults.Fault as typer
 use Rattle.env_table.specs.declared.faults.FaultKind.{FaultKind}
 use Rattle.env_table.specs.declared.faults.FaultKind.TheVariants as kind
@@ -22,6 +22,7 @@ abbrev pub told_as : Told → Fault
 told_as (added p n) = parts_missing p n
 told_as (skipped p) = token_skipped p
 told_as (too_deep p) = token_too_deep p
+told_as (cut at) = item_cut at
 
 -- a fault of the parser as it is listed
 abbrev pub fault_of : SyntaxFault → Fault

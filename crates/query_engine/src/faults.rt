@@ -74,6 +74,10 @@ fn listed_parsed(alloc: Global, fault: SyntaxFault) -> Result<Listed, NoMemory>
             let message = RcStr::from_str(alloc, "This token is nested too deeply")?;
             by_parser(alloc, span, "deep", message)
         }
+        SyntaxFault::Cut { place: _ } => {
+            let message = RcStr::from_str(alloc, "The definition is cut off here")?;
+            by_parser(alloc, span, "cut", message)
+        }
     }
 }
 

@@ -83,6 +83,10 @@ pub(crate) fn place_of_fault(fault: SyntaxFault) -> Span
         },
         SyntaxFault::Skipped { span } => span,
         SyntaxFault::TooDeep { span } => span,
+        SyntaxFault::Cut { place } => Span {
+            start: place,
+            end: place,
+        },
     }
 }
 

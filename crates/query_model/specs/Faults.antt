@@ -2,7 +2,7 @@
 use Rattle.std.specs.Prelude.{◌≡◌, ℕ, ◌+◌, List, [], ◌∷◌, ◌++◌, map, take, length, Bool, false, ◌&&◌, ◌||◌, nat_eq, nat_lt, codes, decimal, if◌then◌else◌}
 use Rattle.tree_model.specs.Trees.{Place, place}
 use Rattle.grammar_model.specs.Recovery as recovery
-use Rattle.grammar_model.specs.Recovery.{added, skipped, too_deep}
+use Rattle.grammar_model.specs.Recovery.{added, skipped, too_deep, cut}
 
 -- what tells a fault
 pub data Source : Type 0 where
@@ -45,11 +45,16 @@ token_skipped p = by_parser p (codes "skipped") (codes "This token does not fit 
 abbrev pub token_too_deep : Place → Fault
 token_too_deep p = by_parser p (codes "deep") (codes "This token is nested too deeply")
 
+-- an item that ends at a place though it could go on
+abbrev pub item_cut : ℕ → Fault
+item_cut at = by_parser (place at at) (codes "cut") (codes "The definition is cut off here")
+
 -- a fault of recovery as it is told
 abbrev pub told : recovery.Fault → Fault
 told (added p n) = parts_missing p n
 told (skipped t) = token_skipped (place t.start t.end)
 told (too_deep t) = token_too_deep (place t.start t.end)
+told (cut at) = item_cut at
 
 -- ---- the typer's faults, and its warnings
 

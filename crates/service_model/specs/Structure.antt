@@ -5,7 +5,7 @@ use Rattle.token_model.specs.Kinds.{Tok}
 use Rattle.token_model.specs.Tokens.{Lex}
 use Rattle.tree_model.specs.Trees.{Tree}
 use Rattle.grammar_model.specs.Named.{named, items_of}
-use Rattle.grammar_model.specs.Recovery.{recover}
+use Rattle.recovery_model.specs.Recovery.{recover}
 use Rattle.grammar_model.specs.Ocaml.{grammar, program_text, row_name}
 use Rattle.query_model.specs.Outlines.{Kind, value, type_name, exception_name, module_name, module_type, Member, Members, member, no_members, also, members_of, outline}
 use Rattle.query_model.specs.Faults.{Fault, Listed, TyperFault, by_typer, told, page, has_more}

@@ -5,15 +5,15 @@ use Rattle.text_terms.specs.Bytes.{str_bytes}
 use Rattle.std.specs.declared.alloc.AllocError.{AllocError}
 use Rattle.token_model.specs.Tokens.{Lex}
 use Rattle.grammar_model.specs.Named.{named, items_of}
-use Rattle.grammar_model.specs.Recovery.{recover}
+use Rattle.recovery_model.specs.Recovery.{recover}
 use Rattle.grammar_model.specs.Ocaml.{grammar, program_text, row_name}
 use Rattle.query_model.specs.Outlines.{Member, members_of}
 use Rattle.service_model.specs.Replies as said
 use Rattle.service_model.specs.Structure.{items_in, faults_in, shown_member, shown_members}
 use Rattle.syntax_tree.specs.View.{tok_of, trees_of}
 use Rattle.syntax_tree.specs.declared.tree.Token.{Token}
-use Rattle.frame_parser.specs.Run.{told}
-use Rattle.frame_parser.specs.View as parser
+use Rattle.frame_steps.specs.Told.{told}
+use Rattle.frame_steps.specs.View as parser
 use Rattle.frame_parser.specs.declared.whole.Parsed.{Parsed}
 use Rattle.query_engine.specs.View.{member_of}
 use Rattle.query_engine.specs.declared.outlines.Outlined.{Outlined, out-Outlined}

@@ -17,7 +17,7 @@ use Rattle.tree_model.specs.Trees.{Place}
 use Rattle.query_model.specs.Faults.{by_typer}
 use Rattle.service_model.specs.Trials.{FirstAdded, IsLeast, Mark, is_among, mark_of, marks, moved, moved_mark, new_starts, same_mark}
 use Rattle.env_table.specs.declared.faults.Fault as typer
-use Rattle.frame_parser.specs.declared.stack.SyntaxFault.{SyntaxFault}
+use Rattle.frame_steps.specs.declared.stack.SyntaxFault.{SyntaxFault}
 use Rattle.frame_parser.specs.declared.whole.Parsed.{Parsed}
 use Rattle.query_engine.specs.Faults.{fault_of, typer_fault_of}
 use Rattle.session.specs.Structures.{IsParsedAs}

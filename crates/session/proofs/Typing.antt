@@ -9,7 +9,7 @@ use Rattle.token_model.specs.Tokens.{Lex}
 use Rattle.tree_model.specs.Nodes.{nodes_at}
 use Rattle.tree_model.specs.Trees.{Tree}
 use Rattle.grammar_model.specs.Named.{named, items_of}
-use Rattle.grammar_model.specs.Recovery.{recover}
+use Rattle.recovery_model.specs.Recovery.{recover}
 use Rattle.grammar_model.specs.Ocaml.{grammar, program_text, row_name}
 use Rattle.plain_model.specs.Plain.{AllSeenWithin, plain_text}
 use Rattle.plain_model.specs.Plain as plain
@@ -23,8 +23,8 @@ use Rattle.service_model.specs.WellTyped.{is_short, is_well_typed}
 use Rattle.syntax_tree.specs.View.{tok_of, trees_of}
 use Rattle.syntax_tree.specs.declared.tree.Token.{Token}
 use Rattle.plain_typing.specs.View.{seen_of}
-use Rattle.frame_parser.specs.Run.{told}
-use Rattle.frame_parser.specs.View as parser
+use Rattle.frame_steps.specs.Told.{told}
+use Rattle.frame_steps.specs.View as parser
 use Rattle.query_engine.specs.Faults.{fault_of}
 use Rattle.query_engine.specs.Typed.{IsNoNode}
 use Rattle.query_engine.specs.declared.asked.QueryFault.{QueryFault}

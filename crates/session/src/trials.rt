@@ -61,6 +61,11 @@ fn mark_of_parsed(fault: SyntaxFault) -> Mark
             end: span.end,
             kind: "deep",
         },
+        SyntaxFault::Cut { place } => Mark {
+            start: place,
+            end: place,
+            kind: "cut",
+        },
     }
 }
 

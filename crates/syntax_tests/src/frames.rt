@@ -17,6 +17,7 @@ fn token(alloc: Global, kind: TokenKind, start: u32) -> Result<Token, NoMemory> 
         kind,
         span: Span { start, end },
         reach: end,
+        col: start,
         name: RcStr::from_str(alloc, "x")?,
     })
 }

@@ -172,7 +172,10 @@ fn texts_have_these_tokens(rt: HostRuntime) -> Result<(), Fail> {
 
 /// Whether this is `M.` of two bytes at 12, read up to its end.
 fn is_qualifier(token: &Token) -> bool {
-    has(token, TokenKind::Qualifier, 12, 14) && token.reach == 14 && token.name.is("M")
+    has(token, TokenKind::Qualifier, 12, 14)
+        && token.reach == 14
+        && token.col == 12
+        && token.name.is("M")
 }
 
 /// Whether the one token of a text in two parts is counted.

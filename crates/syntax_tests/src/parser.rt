@@ -167,15 +167,24 @@ fn token(alloc: Global, kind: TokenKind, name: &str) -> Result<Token, NoMemory> 
         kind,
         span: Span { start: 0, end },
         reach: end,
+        col: 0,
         name: RcStr::from_str(alloc, name)?,
     })
+}
+
+/// Whether there is no other fault than this one, if it is one.
+fn is_only(faults: &[SyntaxFault], fault: Option<SyntaxFault>) -> bool {
+    match fault {
+        None => faults.is_empty(),
+        Some(fault) => faults.len() == 1 && faults[0] == fault,
+    }
 }
 
 fn closes(alloc: Global, stack: &Stack, items: usize, fault: Option<SyntaxFault>) -> bool
     requires few { (text : ocaml.Text) × (ts : List Tok) × Behind text ts stack.now × (length ts < 1048576) }
 {
     match close(alloc, stack) {
-        Ok(closed) => closed.tree.items.len() == items && closed.fault == fault,
+        Ok(closed) => closed.tree.items.len() == items && is_only(&closed.faults, fault),
         Err(_) => false,
     }
 }
@@ -197,7 +206,9 @@ fn takes(
     let Ok(stepped) = step(alloc, stack, &token, &mut counts) else {
         return false;
     };
-    counts.shifted() == 1 && stepped.fault == fault && closes(alloc, &stepped.stack, left.0, left.1)
+    counts.shifted() == 1
+        && is_only(&stepped.faults, fault)
+        && closes(alloc, &stepped.stack, left.0, left.1)
 }
 
 const SEMICOLONS: (TokenKind, &str) = (TokenKind::SemiSemi, ";;");

@@ -12,6 +12,7 @@ fn token(alloc: Global, kind: TokenKind, name: &str) -> Result<Token, NoMemory> 
         kind,
         span: Span { start: 0, end: 1 },
         reach: 2,
+        col: 0,
         name: RcStr::from_str(alloc, name)?,
     })
 }

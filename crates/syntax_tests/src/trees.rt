@@ -14,6 +14,7 @@ fn token(alloc: Global, kind: TokenKind, start: u32, end: u32) -> Result<Token, 
         kind,
         span: Span { start, end },
         reach: end,
+        col: start,
         name: RcStr::from_str(alloc, "x")?,
     })
 }

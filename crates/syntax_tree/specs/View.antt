@@ -20,7 +20,7 @@ place_of s = record { start = s.start; end = s.end }
 
 -- a token without its reach
 abbrev pub tok_of : Token → Tok
-tok_of t = record { kind = kind_of t.kind; start = t.span.start; end = t.span.end; name = str_bytes t.name }
+tok_of t = record { kind = kind_of t.kind; start = t.span.start; end = t.span.end; col = t.col; name = str_bytes t.name }
 
 -- parts with their slots, in order
 abbrev pub forest_of : List (ℕ × plain.Part) → plain.Forest

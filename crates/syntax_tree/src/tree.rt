@@ -12,6 +12,8 @@ pub struct Token {
     pub span: Span,
     /// The end of the bytes that decided the token, in bytes from 0.
     pub reach: u32,
+    /// The bytes between the last line feed before it and it.
+    pub col: u32,
     /// Its spelling; of a Qualifier without the point, of an OpName the operator alone.
     pub name: RcStr,
 }
@@ -26,6 +28,7 @@ impl Token {
             kind: self.kind,
             span: self.span,
             reach: self.reach,
+            col: self.col,
             name: self.name.share()?,
         })
     }

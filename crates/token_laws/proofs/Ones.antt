@@ -4,7 +4,7 @@ use Rattle.std.specs.List.{list_all}
 use Rattle.token_model.specs.Bytes.{continues, begins}
 use Rattle.token_model.specs.Kinds.{Kind, Tok}
 use Rattle.token_model.specs.Spellings.{Spells}
-use Rattle.token_model.specs.Tokens.{Gap, IsUnclosed, Stands, unclosed, longest, stray, IsFirst, FirstToken, LexFrom, Lex}
+use Rattle.token_model.specs.Tokens.{Gap, IsUnclosed, Stands, unclosed, longest, stray, IsFirst, FirstToken, LexFrom, Lex, column}
 use Rattle.ml_lexer.specs.Scans.{run_length}
 use Rattle.ml_lexer.proofs.Runs.{run_exact}
 use Rattle.ml_lexer.proofs.OneGap.{IsStop, gap_one, tail_same}
@@ -64,20 +64,22 @@ stands_one same (stray {b = b} {bs = bs} {rest = r} _ _ _ _ all last) (stray {b 
     (refl, one, one)
 
 -- a token is its kind, its places and its name
-abbrev token : Kind → ℕ → ℕ → List ℕ → Tok
-token kind start end name = record { kind = kind; start = start; end = end; name = name }
+abbrev token : Kind → ℕ → ℕ → ℕ → List ℕ → Tok
+token kind start end col name = record { kind = kind; start = start; end = end; col = col; name = name }
 
 -- tokens with the same parts are one
-token_same : (t u : Tok) → t.kind ≡ u.kind → t.start ≡ u.start → t.end ≡ u.end → t.name ≡ u.name → t ≡ u
-token_same t u kind start end name = ap (λ (x : Kind). token x t.start t.end t.name) kind ∙ ap (λ (x : ℕ). token u.kind x t.end t.name) start ∙ ap (λ (x : ℕ). token u.kind u.start x t.name) end ∙ ap (λ (x : List ℕ). token u.kind u.start u.end x) name
+token_same : (t u : Tok) → t.kind ≡ u.kind → t.start ≡ u.start → t.end ≡ u.end → t.col ≡ u.col → t.name ≡ u.name → t ≡ u
+token_same t u kind start end col name =
+    ap (λ (x : Kind). token x t.start t.end t.col t.name) kind ∙ ap (λ (x : ℕ). token u.kind x t.end t.col t.name) start ∙ ap (λ (x : ℕ). token u.kind u.start x t.col t.name) end
+    ∙ ap (λ (x : ℕ). token u.kind u.start u.end x t.name) col ∙ ap (λ (x : List ℕ). token u.kind u.start u.end u.col x) name
 
--- the first token behind a place is one
-first_one : (at : ℕ) (bytes : List ℕ) (t u : Tok) → IsFirst at bytes t → IsFirst at bytes u → t ≡ u
-first_one at bytes t u f g =
+-- the first token behind a place is one, where tokens at one place have one column
+first_one : (text : List ℕ) (at : ℕ) (bytes : List ℕ) (t u : Tok) → IsFirst at bytes t → IsFirst at bytes u → t.col ≡ column text t.start → u.col ≡ column text u.start → t ≡ u
+first_one text at bytes t u f g c d =
     let same : f.spelled ++ f.rest ≡ g.spelled ++ g.rest = gap_one (stands_stop f.stands) (stands_stop g.stands) f.gap g.gap in
     let one = stands_one same f.stands g.stands in
     let start : t.start ≡ u.start = omega (arith, f.start, g.start, ap length same) in
-    token_same t u one.0 start (omega (arith, f.end, g.end, start, ap length one.1)) one.2
+    token_same t u one.0 start (omega (arith, f.end, g.end, start, ap length one.1)) (c ∙ ap (column text) start ∙ sym d) one.2
 
 -- where a gap is all that is left no token stands
 end_stop : IsStop []
@@ -93,10 +95,10 @@ none_left at bytes t gap f =
 lex_from_one : (text : List ℕ) (at : ℕ) (ts us : List Tok) → LexFrom text at ts → LexFrom text at us → ts ≡ us
 unfolding FirstToken
 lex_from_one text at [] [] none also = refl
-lex_from_one text at [] (u ∷ us) none some = absurd (none_left at (drop at text) u none some.0)
-lex_from_one text at (t ∷ ts) [] some none = absurd (none_left at (drop at text) t none some.0)
+lex_from_one text at [] (u ∷ us) none some = absurd (none_left at (drop at text) u none.0 some.0.0)
+lex_from_one text at (t ∷ ts) [] some none = absurd (none_left at (drop at text) t none.0 some.0.0)
 lex_from_one text at (t ∷ ts) (u ∷ us) first second =
-    let one : t ≡ u = first_one at (drop at text) t u first.0 second.0 in
+    let one : t ≡ u = first_one text at (drop at text) t u first.0.0 second.0.0 first.0.1 second.0.1 in
     let rest : LexFrom text t.end us = subst (λ (x : Tok). LexFrom text x.end us) (sym one) second.1 in
     ap (λ (x : Tok). x ∷ ts) one ∙ ap (λ (l : List Tok). u ∷ l) (lex_from_one text t.end ts us first.1 rest)
 
@@ -108,8 +110,8 @@ lex_one text ts us first second = lex_from_one text 0 ts us first second
 -- the first token of a text at or behind a place is one, and there is none or one
 pub token_one : (text : List ℕ) (at : ℕ) (t u : Tok) → FirstToken text at (Some t) → FirstToken text at (Some u) → t ≡ u
 unfolding FirstToken
-token_one text at t u first second = first_one at (drop at text) t u first second
+token_one text at t u first second = first_one text at (drop at text) t u first.0 second.0 first.1 second.1
 
 pub none_or_one : (text : List ℕ) (at : ℕ) (t : Tok) → FirstToken text at None → FirstToken text at (Some t) → ⊥
 unfolding FirstToken
-none_or_one text at t none some = none_left at (drop at text) t none some
+none_or_one text at t none some = none_left at (drop at text) t none.0 some.0

@@ -6,13 +6,13 @@ use Rattle.std.proofs.lemmas.Bool.{both_ways}
 use Rattle.token_model.specs.Bytes.{is_blank}
 use Rattle.token_model.specs.Comments.{begins_comment}
 use Rattle.token_model.specs.Kinds.{Kind, Tok}
-use Rattle.token_model.specs.Tokens.{Gap, Stands, unclosed, longest, stray, IsFirst, FirstToken, LexFrom}
+use Rattle.token_model.specs.Tokens.{Gap, Stands, unclosed, longest, stray, IsFirst, FirstToken, LexFrom, column}
 use Rattle.ml_lexer.specs.Founds.{placed_tok}
 use Rattle.ml_lexer.specs.Reached.{Reached, end_of, reach_of, FirstReached}
 use Rattle.ml_lexer.specs.Reaches.{reach_at, IsStable, HasFew}
 use Rattle.ml_lexer.specs.Steady.{ends_before, AllTokens, IsSteady}
 use Rattle.ml_lexer.proofs.Few.{found_few, whole_few}
-use Rattle.ml_lexer.proofs.Firsts.{first_at}
+use Rattle.ml_lexer.proofs.Firsts.{first_at, first_col}
 use Rattle.ml_lexer.proofs.Forward.{tok_end}
 use Rattle.ml_lexer.proofs.Framed.{front_framed, front_within}
 use Rattle.ml_lexer.proofs.Stable.{stable_at, whole_stable, reach_found, reach_unclosed}
@@ -46,10 +46,11 @@ found_laws text at i t l first inside within gap is place some no_blank no_comme
     let fits = front_within l some in
     let framed = front_framed l in
     let positive : 0 < f.size = omega (arith, stands_some stands, length-take f.size l) in
-    let one : t ≡ placed_tok t.start f l = token_one text at t (placed_tok t.start f l) first (first_at text l at i t.start f inside within gap is place stands fits) in
+    let has : t.col ≡ column text t.start = first_col text at t first in
+    let one : t ≡ placed_tok t.start t.col f l = token_one text at t (placed_tok t.start t.col f l) first (first_at text l at i t.start t.col f has inside within gap is place stands fits) in
     let reach : reach_at text t.start ≡ t.start + front_reach l = reach_found text l at i t.start is place no_comment in (
-      subst (λ (u : Tok). IsStable text at u (reach_at text t.start)) (sym one) (stable_at text l at i t.start (reach_at text t.start) within gap is place no_blank no_comment f refl positive fits framed.name framed.reached reach),
-      subst (λ (u : Tok). HasFew text u (reach_at text t.start)) (sym one) (found_few text l at i t.start (reach_at text t.start) f within is place refl fits reach),
+      subst (λ (u : Tok). IsStable text at u (reach_at text t.start)) (sym one) (stable_at text l at i t.start (reach_at text t.start) t.col has within gap is place no_blank no_comment f refl positive fits framed.name framed.reached reach),
+      subst (λ (u : Tok). HasFew text u (reach_at text t.start)) (sym one) (found_few text l at i t.start (reach_at text t.start) t.col f within is place refl fits reach),
     )
 
 first_laws : (text : List ℕ) (at : ℕ) (t : Tok) → IsFirst at (drop at text) t → FirstToken text at (Some t) → HasLaws text at t
@@ -70,7 +71,7 @@ first_laws text at t f first =
 
 token_laws : (text : List ℕ) (at : ℕ) (t : Tok) → FirstToken text at (Some t) → HasLaws text at t
 unfolding FirstToken
-token_laws text at t first = first_laws text at t first first
+token_laws text at t first = first_laws text at t first.0 first
 
 -- the tokens without their reaches
 plain : List Reached → List Tok

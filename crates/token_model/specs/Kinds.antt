@@ -79,11 +79,12 @@ pub data Kind : Type 0 where
   outside : Kind  -- a word or sign that is outside of the language
   junk : Kind  -- what begins no token, or an unclosed comment or string
 
--- a token: its kind, where it starts and ends in the text, and its name, which is its spelling
+-- a token: its kind, where it starts and ends in the text, the bytes between the last line feed before it and it, and its name, which is its spelling
 pub record Tok : Type 0 where
   pub kind : Kind
   pub start : ℕ
   pub end : ℕ
+  pub col : ℕ
   pub name : List ℕ
 
 -- each of these tokens stands within so many bytes

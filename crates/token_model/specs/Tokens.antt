@@ -1,5 +1,5 @@
 -- The tokens of a text: each the longest spelling at its place, with blanks and closed comments between. (OCaml manual, "Lexical conventions".)
-use Rattle.std.specs.Prelude.{◌≡◌, ℕ, ◌+◌, ◌-◌, ◌==◌, ◌≤◌, List, [], ◌∷◌, ◌++◌, length, drop, Bool, true, false, Option, Some, None, get_or}
+use Rattle.std.specs.Prelude.{◌≡◌, ℕ, ◌+◌, ◌-◌, ◌==◌, ◌≤◌, List, [], ◌∷◌, ◌++◌, length, take, drop, Bool, true, false, if◌then◌else◌, Option, Some, None, get_or}
 use Rattle.std.specs.List.{list_all}
 use Rattle.token_model.specs.Bytes.{is_blank, continues, begins}
 use Rattle.token_model.specs.Kinds.{Kind, Tok, junk}
@@ -48,9 +48,23 @@ abbrev pub First : ℕ → List ℕ → Option Tok → Type 0
 First at bytes None = Gap bytes []
 First at bytes (Some token) = IsFirst at bytes token
 
+-- the bytes behind the last line feed of these, or so many more where they have none
+abbrev pub column_from : ℕ → List ℕ → ℕ
+column_from n [] = n
+column_from n (b ∷ bs) = if b == 10 then column_from 0 bs else column_from (n + 1) bs
+
+-- the column of a place in a text: how many bytes stand between the last line feed before it and it
+unfoldable pub column : List ℕ → ℕ → ℕ
+column text at = column_from 0 (take at text)
+
+-- the token has the column of its place
+abbrev pub HasColumn : List ℕ → Option Tok → Type 0
+HasColumn text None = Unit {0}
+HasColumn text (Some token) = token.col ≡ column text token.start
+
 -- the first token of a text at or behind a place
 unfoldable pub FirstToken : List ℕ → ℕ → Option Tok → Type 0
-FirstToken text at token = First at (drop at text) token
+FirstToken text at token = First at (drop at text) token × HasColumn text token
 
 -- these are the tokens of a text from a place on
 abbrev pub LexFrom : List ℕ → ℕ → List Tok → Type 0

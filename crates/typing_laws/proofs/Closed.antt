@@ -7,7 +7,7 @@ use Rattle.tree_model.specs.Trees.{Tree, node, Forest, Part, no_parts, part, tak
 use Rattle.tree_model.specs.Rows.{Row, val_row, type_row, exception_row, gmodule_row, modtype_row, open_row, include_row, ypath_row, ysig_row, yparen_row, ywith_row, yfunctor_row}
 use Rattle.grammar_model.specs.Named.{named}
 use Rattle.grammar_model.specs.Ocaml.{interface_text, grammar, row_name}
-use Rattle.grammar_model.specs.Recovery.{recover}
+use Rattle.recovery_model.specs.Recovery.{recover}
 use Rattle.type_model.specs.Types.{Path, Typ, occurs}
 use Rattle.type_model.specs.Schemes.{Scheme}
 use Rattle.signature_model.specs.Declarations.{Name, Place, in_text, Declaration, Shape, Opaque, Variant, Labels, Constructor, Label}

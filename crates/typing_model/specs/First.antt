@@ -6,7 +6,7 @@ use Rattle.tree_model.specs.Trees.{Tree, node}
 use Rattle.grammar_model.specs.Named.{named}
 use Rattle.grammar_model.specs.Named as trees
 use Rattle.grammar_model.specs.Ocaml.{program_text, interface_text, grammar, row_name}
-use Rattle.grammar_model.specs.Recovery.{recover}
+use Rattle.recovery_model.specs.Recovery.{recover}
 use Rattle.type_model.specs.Types.{Typ}
 use Rattle.signature_model.specs.Declarations.{Place, in_text, in_prelude, built_in, Constructor, Label, Shape, Opaque, Variant, Labels, Declaration}
 use Rattle.signature_model.specs.Signatures.{Signature, Hole, Structure, Functor, Components, Done, Component, Meaning, Value, TypeName, Exception, Module, ModuleType}

@@ -1,13 +1,25 @@
-use Rattle.std.proofs.Common.{arith}
+use Rattle.std.proofs.Common.{length, sym, ◌∙◌, ap, subst, arith}
 use Rattle.syntax_tree.specs.View.{tok_of}
-use Rattle.frame_parser.proofs.Wholes.{standing, step_behind}
+use Rattle.frame_parser.specs.Run.{run, shifted_by}
+use Rattle.frame_parser.specs.Shown.{Shows}
+use Rattle.frame_parser.proofs.Comes.{run_comes}
+use Rattle.frame_parser.proofs.Lists.{run_next}
 use Rattle.frame_parser.proofs.steps.step.Goals as goal
 
-pub put-requires : goal.put-requires
-put-requires g c = let (text, ts, b, l) = c.requires.few in record { standing = standing text ts c.args.stack.now b (omega arith) }
+pub take_one-requires : goal.take_one-requires
+take_one-requires g c =
+    let (text, ts, b, l) = c.requires.few in
+    record { ready = record { text = text; parser = run text ts; count = length ts; shows = b; comes = run_comes text ts; few = omega arith } }
 
 pub returns-clause-stack : goal.returns-clause-stack
-returns-clause-stack g c text ts b l = (step_behind text ts (tok_of c.args.token.now) c.args.stack.now c.in_ok-stepped.stepped b l c.in_ok-stepped.ensures).0
+returns-clause-stack g c text ts b l =
+    let x = c.in_ok-taken.ensures text (run text ts) (length ts) b (run_comes text ts) l in
+    subst (λ p. Shows text p c.in_ok-taken.taken.stepped.stack) (sym (run_next text ts (tok_of c.args.token.now))) x.step.stack
 
-pub returns-clause-fault : goal.returns-clause-fault
-returns-clause-fault g c text ts b l = (step_behind text ts (tok_of c.args.token.now) c.args.stack.now c.in_ok-stepped.stepped b l c.in_ok-stepped.ensures).1
+pub returns-clause-faults : goal.returns-clause-faults
+returns-clause-faults g c text ts b l = (c.in_ok-taken.ensures text (run text ts) (length ts) b (run_comes text ts) l).step.faults
+
+pub returns-clause-counted : goal.returns-clause-counted
+returns-clause-counted g c text ts b l =
+    let x = c.in_ok-taken.ensures text (run text ts) (length ts) b (run_comes text ts) l in
+    c.add_shifted.ensures ∙ ap (λ n. shifted_by n (g.C.Counts.tallies c.args.counts.now)) x.count

@@ -6,7 +6,8 @@ use Rattle.token_model.specs.Kinds.{Tok, AllWithin}
 use Rattle.token_model.specs.Tokens.{FirstToken, LexFrom}
 use Rattle.syntax_tree.specs.View.{tok_of}
 use Rattle.syntax_tree.specs.declared.tree.Token.{Token}
-use Rattle.ml_lexer.proofs.Firsts.{lex_more, lex_done, within_more}
+use Rattle.ml_lexer.proofs.Columns.{column_start}
+use Rattle.ml_lexer.proofs.Firsts.{first_col, lex_more, lex_done, within_more}
 use Rattle.ml_lexer.proofs.lexer.lex_all.Goals as goal
 
 pub loop-tokens-init : goal.loop-tokens-init
@@ -16,6 +17,7 @@ loop-tokens-init g c =
       IsCharBoundary-start text c.requires.text,
       omega (arith, ap length c.new-tokens.ensures.items),
       subst (λ (l : List Token). AllWithin (length text) (map tok_of l)) (sym c.new-tokens.ensures.items) tt,
+      column_start text,
       search rules,
       refl,
     )
@@ -35,9 +37,17 @@ loop-tokens-preserved g c =
       span.2,
       omega (arith, inv.2, span.0, ap length pushed, length-append c.loop-tokens.tokens.items (t ∷ []), one),
       subst (λ (l : List Token). AllWithin (length text) (map tok_of l)) (sym pushed) (within_more (length text) c.loop-tokens.tokens.items t inv.3 (omega (arith, span.1, span.2.0)) span.2.0),
+      c.column_behind-col.ensures,
       search rules,
       search rules,
     )
+
+pub column_behind-col-requires-clause-col : goal.column_behind-col-requires-clause-col
+column_behind-col-requires-clause-col g c =
+    let text = c.args.left.now ++ c.args.right.now in
+    let t = c.in-Some.token in
+    let first : FirstToken text c.loop-tokens.at (Some (tok_of t)) = subst (λ o. FirstToken text c.loop-tokens.at (option_map tok_of o)) c.in-Some.is c.in_ok-token.ensures.token in
+    first_col text c.loop-tokens.at (tok_of t) first
 
 pub returns-clause-tokens : goal.returns-clause-tokens
 returns-clause-tokens g c =

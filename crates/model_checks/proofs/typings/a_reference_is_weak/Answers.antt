@@ -8,7 +8,8 @@ use Rattle.grammar_model.specs.Rows.{chain_of, grower_of}
 use Rattle.grammar_model.specs.Ocaml.{rows}
 use Rattle.grammar_model.specs.Tables.{first_place}
 use Rattle.grammar_model.specs.Keys.{kind_key, key_of}
-use Rattle.grammar_model.specs.Recovery.{step, recover}
+use Rattle.grammar_model.specs.Recovery as rules
+use Rattle.recovery_model.specs.Recovery.{step, close, recover}
 use Rattle.typing_model.specs.BuiltIns.{constant_by}
 use Rattle.typing_model.specs.Patterns.{pattern_row}
 use Rattle.typing_model.specs.Expressions.{expression_row}
@@ -17,13 +18,13 @@ use Rattle.typing_model.specs.Modules.{module_expression_row, module_type_row, i
 use Rattle.model_checks.proofs.typings.a_reference_is_weak.Goals as goal
 
 pub returns-clause-typed : goal.returns-clause-typed
-unfolding recover step rows chain_of grower_of first_place kind_key key_of is_operand constant_by pattern_row expression_row type_row module_expression_row module_type_row item_row signature_item_row
+unfolding recover step close rules.step rows chain_of grower_of first_place kind_key key_of is_operand constant_by pattern_row expression_row type_row module_expression_row module_type_row item_row signature_item_row
 returns-clause-typed c = record { choice = reference_choice; chosen = λ n. refl; holds = (tt, (tt, (tt, ((refl, ((refl, (tt, tt)), tt)), (tt, (((refl, (tt, tt)), (refl, ((refl, (tt, tt)), tt))), ((λ h. refl), ((record { fill = λ o. int_type; instance = ((λ v. list_type (Var 9)), (λ v h. absurd (yes_no h)), refl) }), ((λ h. refl), (tt, ((refl, (tt, tt)), (refl, ((λ h. refl), (refl, (tt, ((refl, ((refl, (tt, tt)), tt)), ((λ h. refl), ((λ h. refl), ((refl, ((refl, (tt, tt)), tt)), tt))))))))))))))))))) }
 
 pub returns-clause-weak : goal.returns-clause-weak
-unfolding recover step rows chain_of grower_of first_place kind_key key_of is_operand constant_by pattern_row expression_row type_row module_expression_row module_type_row item_row signature_item_row
+unfolding recover step close rules.step rows chain_of grower_of first_place kind_key key_of is_operand constant_by pattern_row expression_row type_row module_expression_row module_type_row item_row signature_item_row
 returns-clause-weak c = refl
 
 pub returns-clause-strong : goal.returns-clause-strong
-unfolding recover step rows chain_of grower_of first_place kind_key key_of is_operand constant_by pattern_row expression_row type_row module_expression_row module_type_row item_row signature_item_row
+unfolding recover step close rules.step rows chain_of grower_of first_place kind_key key_of is_operand constant_by pattern_row expression_row type_row module_expression_row module_type_row item_row signature_item_row
 returns-clause-strong c = refl

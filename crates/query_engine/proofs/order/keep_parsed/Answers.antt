@@ -1,7 +1,7 @@
 use Rattle.std.proofs.Common.{◌+◌, map, drop, subst, List}
 use Rattle.std.proofs.lemmas.List.{drop_all, drop_more}
 use Rattle.query_engine.specs.Faults.{fault_of, told_of}
-use Rattle.frame_parser.specs.declared.stack.SyntaxFault.{SyntaxFault}
+use Rattle.frame_steps.specs.declared.stack.SyntaxFault.{SyntaxFault}
 use Rattle.query_engine.proofs.Orders.{IsPageFor, page_kept, page_done}
 use Rattle.query_engine.proofs.order.keep_parsed.Goals as goal
 

@@ -1,12 +1,12 @@
 use Rattle.std.proofs.Common.{◌≡◌, ◌++◌, ◌∙◌, ap, map, subst, List}
 use Rattle.std.specs.List.{list_all}
 use Rattle.grammar_model.specs.Named.{named, items_of}
-use Rattle.grammar_model.specs.Recovery.{recover}
+use Rattle.recovery_model.specs.Recovery.{recover}
 use Rattle.grammar_model.specs.Ocaml.{grammar, program_text, row_name}
 use Rattle.service_model.specs.WellTyped.{is_short}
 use Rattle.syntax_tree.specs.View.{tok_of}
 use Rattle.syntax_tree.specs.declared.tree.Token.{Token}
-use Rattle.frame_parser.specs.Run.{told}
+use Rattle.frame_steps.specs.Told.{told}
 use Rattle.session.proofs.Typing.{read_as}
 use Rattle.session.proofs.reading.read_text.Goals as goal
 

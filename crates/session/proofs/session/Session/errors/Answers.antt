@@ -1,6 +1,6 @@
 use Rattle.std.proofs.Common.{◌∙◌, ◌++◌, [], ◌≡◌, IfOk, subst, List, ℕ, map}
 use Rattle.service_model.specs.Structure.{faults_said}
-use Rattle.frame_parser.specs.declared.stack.SyntaxFault.{SyntaxFault}
+use Rattle.frame_steps.specs.declared.stack.SyntaxFault.{SyntaxFault}
 use Rattle.query_engine.specs.Faults.{fault_of}
 use Rattle.json_lines.specs.Means.{said_of}
 use Rattle.session.specs.PlainTexts.{IsReadAs}

@@ -1,4 +1,0 @@
-use Rattle.frame_parser.proofs.build.+close_frames.Given as goal
-
-abbrev pub decreases-close_frames : goal.decreases-close_frames
-decreases-close_frames l = l.count

@@ -1,4 +1,0 @@
-use Rattle.frame_parser.proofs.build.+fill.Given as goal
-
-abbrev pub decreases-fill : goal.decreases-fill
-decreases-fill l = l.most

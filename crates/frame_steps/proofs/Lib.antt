@@ -1,0 +1,14 @@
+pub mod Chains
+pub mod Orders
+pub mod Courses
+pub mod Takes
+pub mod Named
+pub mod Takers
+pub mod Begins
+pub mod Grows
+pub mod OneStep
+pub mod Runs
+pub mod Putting
+pub mod Wholes
+pub mod ItemFrames
+pub mod ItemEnds

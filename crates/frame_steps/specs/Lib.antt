@@ -1,0 +1,5 @@
+pub mod Told
+pub mod Order
+pub mod Course
+pub mod View
+pub mod Reached

@@ -1,5 +1,0 @@
-use Rattle.grammar_laws.proofs.Laws.{faultless}
-use Rattle.grammar_laws.proofs.faultless_trees_are_in_the_grammar.Goals as goal
-
-pub returns : goal.returns
-returns c = faultless

@@ -1,5 +1,0 @@
-use Rattle.grammar_laws.proofs.Laws.{lossless}
-use Rattle.grammar_laws.proofs.no_token_is_lost.Goals as goal
-
-pub returns : goal.returns
-returns c = lossless

@@ -1,5 +1,0 @@
-use Rattle.grammar_laws.proofs.Laws.{recovered}
-use Rattle.grammar_laws.proofs.trees_are_recovered.Goals as goal
-
-pub returns : goal.returns
-returns c = recovered
