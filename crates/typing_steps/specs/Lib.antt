@@ -4,4 +4,5 @@ pub mod Demands
 pub mod Constants
 pub mod Starts
 pub mod Rows
+pub mod Typing
 pub mod Writing
