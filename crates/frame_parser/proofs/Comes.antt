@@ -1,17 +1,16 @@
 -- How many tokens lead to a parser, and to the frames to which its item goes back.
-use Rattle.std.proofs.Common.{◌≡◌, ℕ, zero, suc, ◌+◌, ◌-◌, ◌≤◌, Bool, true, false, ◌&&◌, List, [], ◌∷◌, ◌++◌, length, Option, Some, None, refl, sym, ap, subst, arith, if◌then◌else◌}
+use Rattle.std.proofs.Common.{◌≡◌, ℕ, zero, suc, ◌+◌, ◌-◌, ◌≤◌, Bool, true, false, ◌&&◌, List, [], ◌∷◌, length, Option, Some, None, subst, arith, if◌then◌else◌}
 use Rattle.std.proofs.lemmas.List.{length-append}
 use Rattle.token_model.specs.Kinds.{Tok}
-use Rattle.grammar_model.specs.Tables.{Table}
 use Rattle.grammar_model.specs.Machine.{Stack}
 use Rattle.grammar_model.specs.Recovery as rules
 use Rattle.grammar_model.specs.Recovery.{Fault, added, skipped, too_deep, cut}
 use Rattle.grammar_model.specs.Ocaml.{Text, grammar}
-use Rattle.recovery_model.specs.Items.{State, state, Mark, sound, held, marked, Item, item, Parser, parser, Stepped, stepped, item_behind, begins_item, has_item, is_cut, closed_item, cut_step}
-use Rattle.recovery_model.specs.Recovery.{faulted, item_after, go_on, retake_by, retake, retake_all, go_back, with_token, step_sound, is_marked, step_item, step_by, step, start}
+use Rattle.recovery_model.specs.Items.{State, state, Mark, sound, held, marked, Item, item, Parser, parser, item_behind, begins_item, has_item, is_cut, closed_item, cut_step}
+use Rattle.recovery_model.specs.Recovery.{faulted, item_after, go_on, retake_by, retake, retake_all, go_back, with_token, step_sound, is_marked, step_by, step, start}
 use Rattle.recovery_laws.proofs.Counted.{IsSettled, Settled, all_settle}
 use Rattle.frame_steps.proofs.Chains.{laws}
-use Rattle.frame_steps.specs.Reached.{Reached, begun, taken, longer, ended}
+use Rattle.frame_steps.specs.Reached.{begun, taken, longer, ended}
 use Rattle.frame_parser.specs.Run.{run_on, run}
 use Rattle.frame_parser.specs.Shown.{IsReached, KeepsFew, ItemKeepsFew, Comes}
 

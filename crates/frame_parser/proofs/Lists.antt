@@ -3,7 +3,6 @@ use Rattle.std.proofs.Common.{◌≡◌, ℕ, zero, suc, ◌+◌, ◌≤◌, ◌
 use Rattle.std.proofs.lemmas.List.{take_more, take_all, map-append, length-map, length-take}
 use Rattle.token_model.specs.Kinds.{Tok}
 use Rattle.grammar_model.specs.Tables.{Table}
-use Rattle.grammar_model.specs.Recovery.{Fault}
 use Rattle.grammar_model.specs.Ocaml.{Text, grammar}
 use Rattle.recovery_model.specs.Items.{Parser, stepped}
 use Rattle.recovery_model.specs.Recovery.{step, close, start, recovered, recover, retake, retake_all}

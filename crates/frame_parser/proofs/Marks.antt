@@ -1,11 +1,11 @@
 -- What the code knows of an item is what the definition knows of it.
-use Rattle.std.proofs.Common.{◌≡◌, ℕ, Bool, true, false, List, [], ◌∷◌, map, Option, Some, None, option_map, refl, sym, ◌∙◌, ap, subst, if◌then◌else◌}
+use Rattle.std.proofs.Common.{◌≡◌, Bool, true, false, [], ◌∷◌, Option, Some, None, option_map, refl, sym, ◌∙◌, ap, subst, if◌then◌else◌}
 use Rattle.token_model.specs.Kinds.{Tok}
 use Rattle.grammar_model.specs.Machine.{Stack}
 use Rattle.grammar_model.specs.Recovery as rules
 use Rattle.grammar_model.specs.Recovery.{Fault}
 use Rattle.grammar_model.specs.Ocaml.{Text, grammar, row_name}
-use Rattle.recovery_model.specs.Items.{State, state, Mark, sound, held, marked, Item, item, has_item, begins_item, is_local, item_behind, begins_local}
+use Rattle.recovery_model.specs.Items.{State, state, sound, Item, item, has_item, begins_item, is_local, item_behind, begins_local}
 use Rattle.recovery_model.specs.Recovery.{faulted, item_after}
 use Rattle.parse_frames.specs.Frames as frames
 use Rattle.parse_frames.specs.Named.{IsNamed}
@@ -19,7 +19,6 @@ use Rattle.frame_steps.specs.declared.stack.SyntaxFault.{SyntaxFault}
 use Rattle.frame_steps.proofs.ItemFrames.{item_named}
 use Rattle.frame_parser.specs.Shown.{is_left_out, ShowsItem, ShowsMark, ShowsPut, ShowsRows}
 use Rattle.frame_parser.specs.declared.stack.Item.{Item as CodeItem}
-use Rattle.frame_parser.specs.declared.stack.Mark.TheVariants.{Sound, Held, Marked}
 
 -- the numbers of all frames of rows
 abbrev pub all_bare : Rows → Stack

@@ -1,5 +1,5 @@
 -- A step of the code is one of the definition.
-use Rattle.std.proofs.Common.{◌≡◌, ℕ, zero, suc, ◌+◌, ◌<◌, ◌≤◌, List, [], ◌∷◌, ◌++◌, map, Option, Some, None, option_map, refl, sym, ◌∙◌, ap, subst, arith}
+use Rattle.std.proofs.Common.{◌≡◌, ℕ, ◌<◌, [], ◌∷◌, map, Option, Some, None, option_map, refl, sym, ◌∙◌, ap, subst, arith}
 use Rattle.token_model.specs.Kinds.{Tok}
 use Rattle.grammar_model.specs.Machine.{Frame, Stack}
 use Rattle.grammar_model.specs.Recovery as rules
@@ -9,13 +9,13 @@ use Rattle.recovery_model.specs.Items.{State, state, Item, item_behind, closed_i
 use Rattle.recovery_model.specs.Recovery.{item_after, go_on}
 use Rattle.parse_frames.specs.Stacks.{stack_view}
 use Rattle.frame_steps.specs.Told.{Told, told, listed}
-use Rattle.frame_steps.specs.Reached.{Reached, ended, EndsItem}
+use Rattle.frame_steps.specs.Reached.{ended, EndsItem}
 use Rattle.frame_steps.specs.View.{fault_of, text_table, Stands, StepsTo, Standing}
 use Rattle.frame_steps.specs.declared.items.Ended.{Ended}
 use Rattle.frame_steps.specs.declared.stack.Stack.{Stack as Rows}
 use Rattle.frame_steps.specs.declared.stack.Stepped.{Stepped as Put}
 use Rattle.frame_steps.specs.declared.stack.SyntaxFault.{SyntaxFault}
-use Rattle.frame_parser.specs.Shown.{IsReached, RowsReady, ShowsItem, ShowsPut, ShowsRows, ShowsStep}
+use Rattle.frame_parser.specs.Shown.{IsReached, ShowsItem, ShowsPut, ShowsRows, ShowsStep}
 use Rattle.frame_parser.specs.declared.stack.Stepped.{Stepped as CodeStepped}
 use Rattle.frame_parser.proofs.Rows.{put_shows, ended_shows, place_shows, standing}
 

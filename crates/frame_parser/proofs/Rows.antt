@@ -1,5 +1,5 @@
 -- Rows that stand for frames to which tokens lead are in order, and a step on them is one on the frames.
-use Rattle.std.proofs.Common.{◌≡◌, ℕ, zero, suc, ◌+◌, ◌≤◌, [], ◌∷◌, List, option_map, refl, sym, ◌∙◌, ap, subst}
+use Rattle.std.proofs.Common.{◌≡◌, ℕ, ◌≤◌, [], ◌∷◌, option_map, refl, sym, ◌∙◌, ap, subst}
 use Rattle.token_model.specs.Kinds.{Tok}
 use Rattle.grammar_model.specs.Machine.{Frame, Stack}
 use Rattle.grammar_model.specs.Recovery.{step}

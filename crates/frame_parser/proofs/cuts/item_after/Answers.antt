@@ -1,4 +1,4 @@
-use Rattle.std.proofs.Common.{Some, option_map, sym, ◌∙◌, subst}
+use Rattle.std.proofs.Common.{option_map, sym, ◌∙◌, subst}
 use Rattle.recovery_model.specs.Items.{state}
 use Rattle.recovery_model.specs.Recovery.{faulted}
 use Rattle.frame_steps.specs.View.{fault_of}

@@ -1,4 +1,4 @@
-use Rattle.std.proofs.Common.{[], map, Some, sym, ◌∙◌, ap, subst}
+use Rattle.std.proofs.Common.{[], map, sym, ◌∙◌, ap, subst}
 use Rattle.std.proofs.lemmas.Result.{IfOk-weaker}
 use Rattle.frame_steps.specs.View.{fault_of}
 use Rattle.frame_parser.specs.Shown.{ShowsItem, ItemKeepsFew}

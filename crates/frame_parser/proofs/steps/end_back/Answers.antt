@@ -1,4 +1,4 @@
-use Rattle.std.proofs.Common.{◌+◌, length, reverse, Some, refl, ◌∙◌, ap, arith}
+use Rattle.std.proofs.Common.{◌+◌, length, reverse, Some, refl, ◌∙◌, arith}
 use Rattle.std.proofs.lemmas.List.{length-reverse}
 use Rattle.std.proofs.lemmas.Result.{IfOk-weaker}
 use Rattle.grammar_model.specs.Ocaml.{grammar}

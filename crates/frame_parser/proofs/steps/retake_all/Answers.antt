@@ -2,7 +2,6 @@ use Rattle.std.proofs.Common.{◌+◌, ◌++◌, length, map, take, ◌∙◌, a
 use Rattle.grammar_model.specs.Ocaml.{grammar}
 use Rattle.recovery_model.specs.Recovery.{retake_all}
 use Rattle.syntax_tree.specs.View.{tok_of}
-use Rattle.frame_steps.specs.Told.{told}
 use Rattle.frame_steps.specs.View.{fault_of}
 use Rattle.frame_parser.specs.Shown.{ShowsStep}
 use Rattle.frame_parser.proofs.Comes.{all_reached}

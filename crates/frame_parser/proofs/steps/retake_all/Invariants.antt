@@ -1,5 +1,4 @@
-use Rattle.std.proofs.Common.{◌≡◌, ℕ, ◌+◌, ◌≤◌, List, length, map, take}
-use Rattle.token_model.specs.Kinds.{Tok}
+use Rattle.std.proofs.Common.{◌≡◌, ℕ, ◌+◌, ◌≤◌, length, map, take}
 use Rattle.grammar_model.specs.Ocaml.{Text, grammar}
 use Rattle.recovery_model.specs.Items.{Parser}
 use Rattle.recovery_model.specs.Recovery.{retake_all}

@@ -1,4 +1,4 @@
-use Rattle.std.proofs.Common.{Some, suc, ◌≤◌, ◌<◌, sym, ◌∙◌, arith}
+use Rattle.std.proofs.Common.{suc, sym, ◌∙◌, arith}
 use Rattle.std.proofs.lemmas.Result.{IfOk-weaker}
 use Rattle.grammar_model.specs.Recovery as rules
 use Rattle.grammar_model.specs.Ocaml.{grammar}

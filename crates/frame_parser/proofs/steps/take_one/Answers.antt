@@ -1,4 +1,4 @@
-use Rattle.std.proofs.Common.{Some, None, subst, arith}
+use Rattle.std.proofs.Common.{None, subst, arith}
 use Rattle.std.proofs.lemmas.Result.{IfOk-weaker}
 use Rattle.grammar_model.specs.Recovery as rules
 use Rattle.grammar_model.specs.Ocaml.{grammar}
