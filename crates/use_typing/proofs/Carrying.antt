@@ -1,5 +1,5 @@
 -- What uses of values and constants carry of the conditions that the definitions ask.
-use Rattle.std.proofs.Common.{◌≡◌, ◌∙◌, ◌⊎◌, inl, inr, ◌++◌, ℕ, Bool, true, false, List, [], ◌∷◌, Option, Some, None, refl, sym, ap, subst}
+use Rattle.std.proofs.Common.{◌≡◌, ◌∙◌, ◌⊎◌, inl, inr, ◌++◌, ℕ, Bool, true, false, List, [], ◌∷◌, Option, Some, None, refl, sym, subst}
 use Rattle.std.specs.Prelude.{option_map, option_and_then}
 use Rattle.std.specs.Prelude.{Result, Ok, Err, IfOk}
 use Rattle.text_terms.specs.declared.Span.{Span}
@@ -14,10 +14,10 @@ use Rattle.syntax_tree.specs.declared.kinds.TokenKind.TheVariants as code
 use Rattle.type_model.specs.Types.{Typ}
 use Rattle.signature_model.specs.Lookups.{FoundAmong, an_entry, a_hole, nothing}
 use Rattle.typing_model.specs.Demands.{site, value_word, same, too_large}
-use Rattle.typing_model.specs.Contexts.{Choice, Context, letter, type_at}
+use Rattle.typing_model.specs.Contexts.{Context, letter, type_at}
 use Rattle.typing_model.specs.Names.{names_of}
 use Rattle.typing_model.specs.Expressions.{value_asks}
-use Rattle.typing_model.specs.BuiltIns.{int_type, char_type, string_type, float_type, unit_type, bool_type, list_type, in_range, constant, constant_by}
+use Rattle.typing_model.specs.BuiltIns.{list_type, in_range, constant, constant_by}
 use Rattle.type_terms.specs.declared.types.NodeRef.{NodeRef}
 use Rattle.type_nodes.specs.Nodes.{Con, IsNode}
 use Rattle.type_nodes.specs.Changes.{Makes}
@@ -33,16 +33,15 @@ use Rattle.typing_state.specs.Types.{MakesVar, any_scope, list_path}
 use Rattle.typing_state.specs.Bound.{found_at, lost_among, BoundIs}
 use Rattle.std.specs.Prelude.{codes}
 use Rattle.typing_environments.specs.Standing.{IsIn}
-use Rattle.typing_conditions.specs.Sights.{Sight, Key, letter as chosen_letter, value_of, Letters, IsKnownFor}
+use Rattle.typing_conditions.specs.Sights.{Sight, letter as chosen_letter, value_of, Letters}
 use Rattle.typing_conditions.specs.Frames.{Frame}
-use Rattle.typing_conditions.specs.Meanings.{Means, KnowsFixed}
+use Rattle.typing_conditions.specs.Meanings.{Means}
 use Rattle.typing_conditions.specs.Carrying.{Asks, Scope, Carried, CarriedTo}
-use Rattle.typing_conditions.specs.Surroundings.{Surrounds}
 use Rattle.typing_conditions.proofs.Carried.{carried_refl}
 use Rattle.typing_conditions.proofs.Meaning.{means_more, fixed_on}
 use Rattle.typing_conditions.proofs.Recording.{ends_same}
 use Rattle.typing_conditions.proofs.Answering.{then_made}
-use Rattle.typing_steps.specs.States.{is_aloud, sight}
+use Rattle.typing_steps.specs.States.{sight}
 use Rattle.typing_steps.specs.Demands.{TestedAs}
 use Rattle.typing_steps.specs.Typing.{any_declared, TypesOwn, TypesAny, RowCarried, TypesRow}
 use Rattle.typing_steps.proofs.Making.{var_made, list_over}
@@ -213,8 +212,8 @@ module _ (a : Parts) (negated : Bool) (o : Option (Bor Token)) (t : Bor Token) (
   pub int_typed : (b : Parts) → t.now.kind ≡ code.Int → TestedAs (in_range negated (view.tok_of t.now).name) a b t.now.span fault.Range too_large_text → TypesConstant negated o a b b.constants.int.0
   unfolding constant_by kind_of
   int_typed b e tested = of_token b b.constants.int.0 (λ env n. subst (λ k. TypesRow a b env (constant_by negated (kind_of k) n (view.tok_of t.now)) n b.constants.int.0) (sym e) (λ aloud F scope G s.
-    let judged = test_asked a b {F = F} {scope = scope} {G = G} {at = t.now.span} too_large_text too_large (site n 0) (in_range negated (view.tok_of t.now).name) aloud tested in
-    fixed_row n judged.carried (fixed_on judged.carried.stays s.fixed).int))
+      let judged = test_asked a b {F = F} {scope = scope} {G = G} {at = t.now.span} too_large_text too_large (site n 0) (in_range negated (view.tok_of t.now).name) aloud tested in
+      fixed_row n judged.carried (fixed_on judged.carried.stays s.fixed).int))
 
   -- the empty list, as it is without its token
   pub nil_typed : (r : Result NodeRef AllocError) (b : Parts) → t.now.kind ≡ code.Nil → IfOk r (λ m. (env : List Entry) (n : ℕ) → TypesRow a b env (λ c. same (type_at c n) (list_type (letter c n 0)) ∷ []) n m.0) → IfOk r (λ m. TypesConstant negated o a b m.0)
