@@ -1,0 +1,267 @@
+-- What the functions of a row carry, each of its own part of the row.
+use Rattle.std.specs.Prelude.{◌≡◌, ◌⊎◌, ℕ, ◌+◌, ◌==◌, ◌&&◌, Bool, true, false, not, List, [], ◌∷◌, ◌++◌, map, Option, Some, None, slice_get, if◌then◌else◌}
+use Rattle.tree_model.specs.Rows.{Row, ebegin_row, elist_row, eassert_row, ewhile_row, econs_row, etuple_row, eif_row, eseq_row}
+use Rattle.tree_model.specs.Trees.{Place, Tree}
+use Rattle.type_model.specs.Types.{Typ, Tuple, types_of}
+use Rattle.typing_model.specs.Demands.{Condition, same, equal}
+use Rattle.typing_model.specs.Contexts.{Choice, Context, ask, type_at}
+use Rattle.typing_model.specs.Parts.{Expression, Form, last_of}
+use Rattle.typing_model.specs.BuiltIns.{unit_type, bool_type, list_type}
+use Rattle.typing_model.specs.Patterns.{ask_all, behind_first}
+use Rattle.typing_model.specs.Expressions.{typed_all, expression_row, has_type, is_of, first_type, each_has, node_types, is_false}
+use Rattle.env_table.specs.declared.entries.Entry.{Entry}
+use Rattle.typing_state.specs.declared.parts.Parts.{Parts}
+use Rattle.typing_conditions.specs.Sights.{Sight, Key, letter, Letters, IsKnownFor}
+use Rattle.typing_conditions.specs.Frames.{Frame, Reaches}
+use Rattle.typing_conditions.specs.Meanings.{Means, AllMean, types_by}
+use Rattle.typing_conditions.specs.Carrying.{Asks, Scope, Carried, CarriedTo}
+use Rattle.typing_conditions.specs.Surroundings.{Surrounds}
+use Rattle.typing_steps.specs.States.{is_aloud, sight}
+use Rattle.typing_steps.specs.Rows.{MakesTwo, AsksArrow, argument_asks, given_from, result_of}
+use Rattle.typing_steps.specs.Typing.{any_declared}
+use Rattle.row_parts.specs.Numbered.{Numbered}
+use Rattle.operand_laws.specs.Formed.{row_of}
+use Rattle.operand_laws.specs.Operands.{number_of, parts_of, expression_of}
+
+-- an expression directly under a minus asks something else
+abbrev pub under_minus : Bool → Expression → Expression
+under_minus true e = record e { typed = e.negated }
+under_minus false e = e
+
+-- a node of an item, as an expression at a place, without what is recorded of it
+abbrev pub row_expression : ℕ → ℕ → Place → Tree → Expression
+row_expression i n at t = expression_row (row_of t) (number_of i n) at (parts_of i n t)
+
+-- operands of an item as expressions
+abbrev pub expressions_of : ℕ → List Numbered → List Expression
+expressions_of i os = map (λ o. expression_of i o) os
+
+-- the same directly under a minus
+abbrev pub signed_expressions : Bool → ℕ → List Numbered → List Expression
+signed_expressions negated i os = map (λ o. under_minus negated (expression_of i o)) os
+
+-- the types of expressions' nodes
+abbrev pub types_at : List Expression → List (Choice → Typ)
+types_at es = map (λ e ch. ch.type_at e.node) es
+
+-- The whole of a row but what is recorded of it: what it asks, with letters of its own, and a node of its type. It ends with the demand that its node has this type,
+-- or its type is what is chosen for its node.
+pub record TypesRow (F : Frame) (scope : Scope) (n : ℕ) (asks : Asks) (a : Sight) (G : Letters) (b : Sight) (m : ℕ) : Type 0 where
+  pub own : Letters
+  pub type : Choice → Typ
+  pub front : Asks
+  pub typed : CarriedTo F scope front a G b (own ++ G) type m
+  pub ends : ((c : Context) → asks c ≡ front c ++ is_of c n (type c.chosen)) ⊎ (((c : Context) → asks c ≡ front c) × ((ch : Choice) → type ch ≡ ch.type_at n))
+
+-- a row's own function
+abbrev pub RowTypes : (a b : Parts) → List Entry → (n : ℕ) → Asks → (m : ℕ) → Type 0
+RowTypes a b env n asks m = is_aloud a.telling ≡ true → (F : Frame) (scope : Scope) (G : Letters) → Surrounds any_declared F (sight a) G env scope → TypesRow F scope n asks (sight a) G (sight b) m
+
+-- expressions, of which nothing is asked
+abbrev pub TypesEach : (a b : Parts) → List Entry → List Expression → Type 0
+TypesEach a b env es = is_aloud a.telling ≡ true → (F : Frame) (scope : Scope) (G : Letters) → Surrounds any_declared F (sight a) G env scope → Carried F scope (λ c. typed_all c es) (sight a) G (sight b) G
+
+-- the first of some expressions were typed, and some are left
+pub record EachFirst (F : Frame) (scope : Scope) (a : Sight) (G : Letters) (b : Sight) (all left : List Expression) : Type 0 where
+  pub done : Asks
+  pub carried : Carried F scope done a G b G
+  pub asks : (c : Context) → typed_all c all ≡ done c ++ typed_all c left
+
+-- the same in a loop
+abbrev pub TypesFirst : (a b : Parts) → List Entry → (all left : List Expression) → Type 0
+TypesFirst a b env all left = is_aloud a.telling ≡ true → (F : Frame) (scope : Scope) (G : Letters) → Surrounds any_declared F (sight a) G env scope → EachFirst F scope (sight a) G (sight b) all left
+
+-- two new variables, for any keys
+abbrev pub MakesBoth : (a b : Parts) → (m n : ℕ) → Type 0
+MakesBoth a b m n = (F : Frame) (scope : Scope) (G : Letters) (first second : Key) → ((t : Typ) → IsKnownFor first t) → ((t : Typ) → IsKnownFor second t) → Reaches F (sight a) → MakesTwo F scope (sight a) G (sight b) first second m n
+
+-- the demand that a head is an arrow
+abbrev pub HeadIsArrow : (a b : Parts) → List Entry → Place → (head from to : ℕ) → Type 0
+HeadIsArrow a b env at head from to = is_aloud a.telling ≡ true → (F : Frame) (scope : Scope) (G : Letters) (n k j : ℕ) (h : Choice → Typ) → Surrounds any_declared F (sight a) G env scope → Means F (sight a) G h head →
+    AsksArrow F scope (sight a) G (sight b) h n k j at from to
+
+-- an expression that has a type
+abbrev pub TypesAs : (a b : Parts) → List Entry → Expression → (wanted : ℕ) → Type 0
+TypesAs a b env e wanted = is_aloud a.telling ≡ true → (F : Frame) (scope : Scope) (G : Letters) (n k : ℕ) (t : Choice → Typ) → Surrounds any_declared F (sight a) G env scope → Means F (sight a) G t wanted →
+    Carried F scope (λ c. e.typed c ++ has_type c n k e (t c.chosen)) (sight a) G (sight b) G
+
+-- of a head's arguments all were typed
+pub record GivenAll (F : Frame) (scope : Scope) (a : Sight) (G : Letters) (b : Sight) (head : Choice → Typ) (n k j : ℕ) (at : Place) (es : List Expression) (m : ℕ) : Type 0 where
+  pub own : Letters
+  pub typed : CarriedTo F scope (λ c. given_from c n k j at (head c.chosen) es) a G b (own ++ G) (λ ch. result_of ch n j (head ch) es) m
+
+-- the first ones were, and some are left
+pub record GivenFirst (F : Frame) (scope : Scope) (a : Sight) (G : Letters) (b : Sight) (head : Choice → Typ) (n k j : ℕ) (at : Place) (all left : List Expression) (m : ℕ) : Type 0 where
+  pub own : Letters
+  pub k' : ℕ
+  pub j' : ℕ
+  pub type : Choice → Typ
+  pub done : Asks
+  pub typed : CarriedTo F scope done a G b (own ++ G) type m
+  pub asks : (c : Context) → given_from c n k j at (head c.chosen) all ≡ done c ++ given_from c n k' j' at (type c.chosen) left
+  pub gives : (ch : Choice) → result_of ch n j (head ch) all ≡ result_of ch n j' (type ch) left
+
+-- a head with arguments
+abbrev pub TypesGiven : (a b : Parts) → List Entry → Place → List Expression → (head m : ℕ) → Type 0
+TypesGiven a b env at es head m = is_aloud a.telling ≡ true → (F : Frame) (scope : Scope) (G : Letters) (n k j : ℕ) (h : Choice → Typ) → Surrounds any_declared F (sight a) G env scope → Means F (sight a) G h head →
+    GivenAll F scope (sight a) G (sight b) h n k j at es m
+
+-- the same in a loop
+abbrev pub TypesGivenFirst : (a b : Parts) → List Entry → Place → (all left : List Expression) → (head m : ℕ) → Type 0
+TypesGivenFirst a b env at all left head m = is_aloud a.telling ≡ true → (F : Frame) (scope : Scope) (G : Letters) (n k j : ℕ) (h : Choice → Typ) → Surrounds any_declared F (sight a) G env scope → Means F (sight a) G h head →
+    GivenFirst F scope (sight a) G (sight b) h n k j at all left m
+
+-- a head with one argument
+abbrev pub TypesArgument : (a b : Parts) → List Entry → Place → Expression → (head to : ℕ) → Type 0
+TypesArgument a b env at e head to = is_aloud a.telling ≡ true → (F : Frame) (scope : Scope) (G : Letters) (n k j : ℕ) (h : Choice → Typ) → Surrounds any_declared F (sight a) G env scope → Means F (sight a) G h head →
+    (from : ℕ) × CarriedTo F scope (λ c. argument_asks c n k j at (h c.chosen) e) (sight a) G (sight b) ((letter n (j + 1), to) ∷ (letter n j, from) ∷ G) (λ ch. ch.letter n (j + 1)) to
+
+-- the rows whose parts are typed in order
+abbrev pub IsPlainRow : Row → Type 0
+IsPlainRow ebegin_row = Unit {0}
+IsPlainRow elist_row = Unit {0}
+IsPlainRow eassert_row = Unit {0}
+IsPlainRow ewhile_row = Unit {0}
+IsPlainRow econs_row = Unit {0}
+IsPlainRow etuple_row = Unit {0}
+IsPlainRow eif_row = Unit {0}
+IsPlainRow eseq_row = Unit {0}
+IsPlainRow _ = ⊥
+
+-- whether the first part of a row is a bool; after `assert` the word `false` needn't be
+abbrev pub wants_bool : Row → Bool → Bool
+wants_bool eif_row b = true
+wants_bool ewhile_row b = true
+wants_bool eassert_row b = not b
+wants_bool _ b = false
+
+-- the demand that an expression is a bool, where it is made
+abbrev pub bool_if : Bool → Context → ℕ → Expression → List Condition
+bool_if true c n e = has_type c n 0 e bool_type
+bool_if false c n e = []
+
+-- what is asked of a part of a row as soon as it is typed, by its place among the parts
+abbrev pub behind_asks : Row → (place : ℕ) → Context → ℕ → Expression → List Condition
+behind_asks r i c n e = bool_if (i == 0 && wants_bool r (is_false e.form)) c n e
+
+-- the parts of a row from a place on, each with what is asked of it as soon as it is typed
+abbrev pub parts_ask : Row → (place : ℕ) → Context → ℕ → List Expression → List Condition
+parts_ask r i c n [] = []
+parts_ask r i c n (e ∷ es) = (e.typed c ++ behind_asks r i c n e) ++ parts_ask r (i + 1) c n es
+
+-- the parts of a row were typed: they have their nodes' types
+pub record PartsAll (F : Frame) (scope : Scope) (a : Sight) (G : Letters) (b : Sight) (r : Row) (n : ℕ) (es : List Expression) (ms : List ℕ) : Type 0 where
+  pub carried : Carried F scope (λ c. parts_ask r 0 c n es) a G b G
+  pub means : AllMean F b G (types_at es) ms
+
+-- the first ones were, and some are left
+pub record PartsFirst (F : Frame) (scope : Scope) (a : Sight) (G : Letters) (b : Sight) (r : Row) (n i : ℕ) (all left : List Expression) (ms : List ℕ) : Type 0 where
+  pub done : Asks
+  pub types : List (Choice → Typ)
+  pub carried : Carried F scope done a G b G
+  pub means : AllMean F b G types ms
+  pub asks : (c : Context) → parts_ask r 0 c n all ≡ done c ++ parts_ask r i c n left
+  pub gives : types_at all ≡ types ++ types_at left
+
+-- the parts of a row
+abbrev pub TypesParts : (a b : Parts) → List Entry → Row → List Expression → List ℕ → Type 0
+TypesParts a b env r es ms = is_aloud a.telling ≡ true → (F : Frame) (scope : Scope) (G : Letters) (n : ℕ) → Surrounds any_declared F (sight a) G env scope → PartsAll F scope (sight a) G (sight b) r n es ms
+
+-- the same in a loop
+abbrev pub TypesPartsFirst : (a b : Parts) → List Entry → Row → (place : ℕ) → (all left : List Expression) → List ℕ → Type 0
+TypesPartsFirst a b env r i all left ms = is_aloud a.telling ≡ true → (F : Frame) (scope : Scope) (G : Letters) (n : ℕ) → Surrounds any_declared F (sight a) G env scope → PartsFirst F scope (sight a) G (sight b) r n i all left ms
+
+-- one part, with what is asked of it
+abbrev pub TypesPart : (a b : Parts) → List Entry → Row → (place : ℕ) → Expression → (m : ℕ) → Type 0
+TypesPart a b env r i e m = is_aloud a.telling ≡ true → (F : Frame) (scope : Scope) (G : Letters) (n : ℕ) → Surrounds any_declared F (sight a) G env scope →
+    CarriedTo F scope (λ c. e.typed c ++ behind_asks r i c n e) (sight a) G (sight b) G (λ ch. ch.type_at e.node) m
+
+-- what is asked of a part that was typed
+abbrev pub AsksBehind : (a b : Parts) → List Entry → Row → (place : ℕ) → Expression → (m : ℕ) → Type 0
+AsksBehind a b env r i e m = is_aloud a.telling ≡ true → (F : Frame) (scope : Scope) (G : Letters) (n : ℕ) → Surrounds any_declared F (sight a) G env scope → Means F (sight a) G (λ ch. ch.type_at e.node) m →
+    Carried F scope (λ c. behind_asks r i c n e) (sight a) G (sight b) G
+
+-- the demand that an expression is a bool
+abbrev pub AsksBool : (a b : Parts) → List Entry → Expression → (m : ℕ) → Type 0
+AsksBool a b env e m = is_aloud a.telling ≡ true → (F : Frame) (scope : Scope) (G : Letters) (n : ℕ) → Surrounds any_declared F (sight a) G env scope → Means F (sight a) G (λ ch. ch.type_at e.node) m →
+    Carried F scope (λ c. has_type c n 0 e bool_type) (sight a) G (sight b) G
+
+-- a part that may not be there has a type
+abbrev pub has_if : Context → ℕ → ℕ → Option Expression → Typ → List Condition
+has_if c n k None t = []
+has_if c n k (Some e) t = has_type c n k e t
+
+-- the demand that the part at a place has a type
+abbrev pub AsksAt : (a b : Parts) → List Entry → List Expression → List ℕ → (place wanted : ℕ) → Type 0
+AsksAt a b env es ms place wanted = is_aloud a.telling ≡ true → (F : Frame) (scope : Scope) (G : Letters) (n k : ℕ) (t : Choice → Typ) → Surrounds any_declared F (sight a) G env scope → AllMean F (sight a) G (types_at es) ms → Means F (sight a) G t wanted →
+    Carried F scope (λ c. has_if c n k (slice_get es place) (t c.chosen)) (sight a) G (sight b) G
+
+-- the demand that each part after the first has a type
+abbrev pub AsksLater : (a b : Parts) → List Entry → List Expression → List ℕ → (wanted : ℕ) → Type 0
+AsksLater a b env es ms wanted = is_aloud a.telling ≡ true → (F : Frame) (scope : Scope) (G : Letters) (n : ℕ) (t : Choice → Typ) → Surrounds any_declared F (sight a) G env scope → AllMean F (sight a) G (types_at es) ms → Means F (sight a) G t wanted →
+    Carried F scope (λ c. ask_all n 0 (each_has c (t c.chosen) (behind_first es))) (sight a) G (sight b) G
+
+-- the first of them were asked, and some are left
+pub record LaterFirst (F : Frame) (scope : Scope) (a : Sight) (G : Letters) (b : Sight) (n : ℕ) (t : Choice → Typ) (all left : List Expression) : Type 0 where
+  pub done : Asks
+  pub k : ℕ
+  pub carried : Carried F scope done a G b G
+  pub asks : (c : Context) → ask_all n 0 (each_has c (t c.chosen) all) ≡ done c ++ ask_all n k (each_has c (t c.chosen) left)
+
+-- the same in a loop
+abbrev pub AsksLaterFirst : (a b : Parts) → List Entry → List Expression → List ℕ → (wanted : ℕ) → (all left : List Expression) → Type 0
+AsksLaterFirst a b env es ms wanted all left = is_aloud a.telling ≡ true → (F : Frame) (scope : Scope) (G : Letters) (n : ℕ) (t : Choice → Typ) → Surrounds any_declared F (sight a) G env scope → AllMean F (sight a) G (types_at es) ms →
+    Means F (sight a) G t wanted → LaterFirst F scope (sight a) G (sight b) n t all left
+
+-- `if` with its branches, once they are typed
+abbrev pub branches_ask : Context → ℕ → List Expression → List Condition
+branches_ask c n [] = []
+branches_ask c n (e ∷ []) = []
+branches_ask c n (e ∷ f ∷ []) = has_type c n 1 f unit_type ++ is_of c n unit_type
+branches_ask c n (e ∷ f ∷ g ∷ gs) = has_type c n 1 g (type_at c f.node) ++ is_of c n (type_at c f.node)
+
+-- `::` with its parts, once they are typed
+abbrev pub cons_asks : Context → ℕ → List Expression → List Condition
+cons_asks c n [] = []
+cons_asks c n (e ∷ es) = has_if c n 0 (slice_get es 0) (list_type (type_at c e.node)) ++ is_of c n (list_type (type_at c e.node))
+
+-- `[ .. ]` with its parts, once they are typed
+abbrev pub list_asks : Context → ℕ → List Expression → List Condition
+list_asks c n es = ask_all n 0 (each_has c (first_type c n es) (behind_first es)) ++ is_of c n (list_type (first_type c n es))
+
+-- `begin .. end` with its part
+abbrev pub begin_asks : Context → ℕ → List Expression → List Condition
+begin_asks c n [] = is_of c n unit_type
+begin_asks c n (e ∷ es) = is_of c n (type_at c e.node)
+
+-- the type of the last part, if there is one
+abbrev pub last_asks : Context → ℕ → Option Expression → List Condition
+last_asks c n None = []
+last_asks c n (Some e) = is_of c n (type_at c e.node)
+
+-- `assert`: over `false` any type
+abbrev pub assert_ends : Bool → Context → ℕ → List Condition
+assert_ends true c n = []
+assert_ends false c n = is_of c n unit_type
+
+-- the same by its part
+abbrev pub assert_end_asks : Context → ℕ → List Expression → List Condition
+assert_end_asks c n [] = is_of c n unit_type
+assert_end_asks c n (e ∷ es) = assert_ends (is_false e.form) c n
+
+-- what is asked after all parts of a row
+abbrev pub end_asks : Row → Context → ℕ → List Expression → List Condition
+end_asks ebegin_row c n es = begin_asks c n es
+end_asks elist_row c n es = list_asks c n es
+end_asks econs_row c n es = cons_asks c n es
+end_asks etuple_row c n es = is_of c n (Tuple (types_of (node_types c es)))
+end_asks eseq_row c n es = last_asks c n (last_of es)
+end_asks eif_row c n es = branches_ask c n es
+end_asks eassert_row c n es = assert_end_asks c n es
+end_asks ewhile_row c n es = is_of c n unit_type
+end_asks _ c n es = []
+
+-- the end of a row whose parts are typed
+abbrev pub EndsRow : (a b : Parts) → List Entry → (Context → ℕ → List Condition) → List Expression → List ℕ → (m : ℕ) → Type 0
+EndsRow a b env asks es ms m = is_aloud a.telling ≡ true → (F : Frame) (scope : Scope) (G : Letters) (n : ℕ) → Surrounds any_declared F (sight a) G env scope → AllMean F (sight a) G (types_at es) ms →
+    TypesRow F scope n (λ c. asks c n) (sight a) G (sight b) m

@@ -1,0 +1,3 @@
+-- Rows whose conditions are carried, and what is carried of them.
+pub mod CarriedRows
+pub mod Contracts
