@@ -19,7 +19,7 @@ use Rattle.typing_conditions.specs.Sights.{Sight, number_in, Letters, AreNodes, 
 use Rattle.typing_conditions.specs.Frames.{Frame, Reaches}
 use Rattle.typing_conditions.specs.Judging.{judgements, StartsWith, FallsShort, TellAll, Meets}
 use Rattle.typing_conditions.specs.Steps.{Records}
-use Rattle.typing_conditions.specs.Carrying.{Asks, Scope, Enters, ReadsOff, GoesOn, Stays, Continues, Carried, CarriedTo}
+use Rattle.typing_conditions.specs.Carrying.{Asks, Scope, Enters, ReadsOff, GoesOn, Stays, Continues, Carried, CarriedTo, EndsAs}
 use Rattle.typing_conditions.proofs.Judged.{hold_both, hold_left, hold_right, judged_both, given_left, given_right, given_both, tell_both, starts_all}
 use Rattle.typing_conditions.proofs.Stays.{stays_trans, stays_closed}
 use Rattle.typing_conditions.proofs.Framing.{open_on, reaches_same, written_next}
@@ -80,14 +80,6 @@ records_stay {F} {G} {a} {b} {p} {m} r node = record {
 
     refines : Reaches F a → (K : Types) → IsOwn b.nodes K → Refines a.nodes b.nodes K
     refines reached K own = subst (λ ns. Refines ns b.nodes K) r.nodes (refines_none b.nodes K own)
-
--- What a row asks at its end so that its node has the row's type; it asks nothing where that is so already.
-pub record EndsAs (n : ℕ) (type : Choice → Typ) (ends : Asks) : Type 0 where
-  pub gives : (c : Context) (t : Typ) → AllHold c.kept (ends c) → type c.chosen ≡ t → c.chosen.type_at n ≡ t
-  pub holds : (c : Context) → c.chosen.type_at n ≡ type c.chosen → AllHold c.kept (ends c)
-  pub silent : (c : Context) → judgements c.kept (ends c) ≡ []
-  pub silent_first : (k : ℕ) (c : Context) → judgements c.kept (take k (ends c)) ≡ []
-  pub reports_none : (c : Context) → TellAll c.kept (ends c) []
 
 -- the node has a type in any case
 pub ends_same : (n : ℕ) (type : Choice → Typ) → EndsAs n type (λ c. same (c.chosen.type_at n) (type c.chosen) ∷ [])

@@ -1,5 +1,5 @@
 -- What a call carries from one state to another: the conditions of what it types.
-use Rattle.std.specs.Prelude.{◌≡◌, ◌⊎◌, ℕ, ◌≤◌, List, ◌++◌, length, take, Some}
+use Rattle.std.specs.Prelude.{◌≡◌, ◌⊎◌, ℕ, ◌≤◌, List, [], ◌++◌, length, take, Some}
 use Rattle.type_model.specs.Types.{Typ}
 use Rattle.signature_model.specs.Declarations.{Name}
 use Rattle.signature_model.specs.Entries.{Environment}
@@ -11,7 +11,7 @@ use Rattle.typing_environments.specs.Locals.{IsOwn, Refines}
 use Rattle.typing_conditions.specs.Sights.{Report, Sight, Letters, AreGiven, Agrees, IsInside, SameAt}
 use Rattle.typing_conditions.specs.Frames.{Frame, Reaches}
 use Rattle.typing_conditions.specs.Meanings.{Means, KnowsWritten}
-use Rattle.typing_conditions.specs.Judging.{Judgement, judgements, AreKept, StartsWith, FallsShort, Meets}
+use Rattle.typing_conditions.specs.Judging.{Judgement, judgements, AreKept, StartsWith, FallsShort, TellAll, Meets}
 
 -- what a part asks, by the context in which it stands
 abbrev pub Asks : Type 0
@@ -93,3 +93,11 @@ pub record Carried (F : Frame) (scope : Scope) (asks : Asks) (a : Sight) (G : Le
 pub record CarriedTo (F : Frame) (scope : Scope) (asks : Asks) (a : Sight) (G : Letters) (b : Sight) (G' : Letters) (type : Choice → Typ) (m : ℕ) : Type 0 where
   pub carried : Carried F scope asks a G b G'
   pub means : Means F b G' type m
+
+-- What a row asks at its end so that its node has the row's type; it asks nothing where that is so already.
+pub record EndsAs (n : ℕ) (type : Choice → Typ) (ends : Asks) : Type 0 where
+  pub gives : (c : Context) (t : Typ) → AllHold c.kept (ends c) → type c.chosen ≡ t → c.chosen.type_at n ≡ t
+  pub holds : (c : Context) → c.chosen.type_at n ≡ type c.chosen → AllHold c.kept (ends c)
+  pub silent : (c : Context) → judgements c.kept (ends c) ≡ []
+  pub silent_first : (k : ℕ) (c : Context) → judgements c.kept (take k (ends c)) ≡ []
+  pub reports_none : (c : Context) → TellAll c.kept (ends c) []

@@ -8,9 +8,10 @@ use Rattle.signature_model.specs.Declarations.{Name, Declaration, Label, type_of
 use Rattle.signature_model.specs.Matching.{used}
 use Rattle.signature_model.specs.Entries.{Kind, Referent, a_value, a_constructor, an_exception, a_label, a_type, a_module, a_module_type, Entry, Environment}
 use Rattle.signature_model.specs.Lookups.{Found, an_entry, a_hole, nothing, Scope, known, unknown_scope, no_scope, scope_behind, lookup}
-use Rattle.typing_model.specs.Demands.{Word, module_word, unbound, test, Condition}
+use Rattle.tree_model.specs.Trees.{Place}
+use Rattle.typing_model.specs.Demands.{Word, module_word, Complaint, unbound, test, Condition}
 use Rattle.typing_model.specs.Contexts.{Context, ask, letter}
-use Rattle.typing_model.specs.Parts.{Written, place_of}
+use Rattle.typing_model.specs.Parts.{Written, place_of, place_without_point}
 
 -- the names of tokens
 abbrev pub names_of : List Tok → List Name
@@ -37,15 +38,21 @@ abbrev pub lost_behind : Environment → List Name → List Tok → Option Tok
 lost_behind env path [] = None
 lost_behind env path (q ∷ qs) = if is_no_scope (scope_behind env (path ++ q.name ∷ [])) then Some q else lost_behind env (path ++ q.name ∷ []) qs
 
--- where an unbound path is reported, and as what: at the first qualifier that leads to no module, or else at its last token
-abbrev pub reported_name : Context → Word → Written → Tok → Tok × Word
-reported_name c w p t = elim (lost_behind c.env [] p.qualifiers) [ None ↦ (t, w) | Some q ↦ (q, module_word) ]
+-- where an unbound path is reported: at the first qualifier that leads to no module, without its point, or else at its last token
+abbrev pub place_unbound : Option Tok → Tok → Place
+place_unbound None t = place_of t
+place_unbound (Some q) t = place_without_point q
+
+-- what is reported there
+abbrev pub complaint_unbound : Option Tok → Word → Tok → Complaint
+complaint_unbound None w t = unbound w t.name
+complaint_unbound (Some q) w t = unbound module_word q.name
 
 -- the demand that a path is bound, of a number in the row of a node
 abbrev pub ask_bound : Context → ℕ → ℕ → Kind → Word → Written → Tok → List Condition
 ask_bound c n k kind w p t =
-    let at = reported_name c w p t in
-    ask n k (place_of at.0) (test (unbound at.1 at.0.name) (is_found (found_by c kind p t)))
+    let lost = lost_behind c.env [] p.qualifiers in
+    ask n k (place_unbound lost t) (test (complaint_unbound lost w t) (is_found (found_by c kind p t)))
 
 -- the arguments of a declaration's type in a use of it at a node: the letters of the node
 abbrev pub arguments_at : Context → ℕ → Subst

@@ -1,5 +1,5 @@
 -- What the parts of a program mean by their sorts: an expression, a pattern, a type expression, a binding, a case, a field (OCaml manual, 11.4, 11.6 to 11.8, 11.10 and 11.11; Wright 1995, for non-expansive expressions).
-use Rattle.std.specs.Prelude.{ℕ, Bool, true, ◌==◌, List, [], ◌∷◌, ◌++◌, map, filter_map, Option, Some, None, if◌then◌else◌}
+use Rattle.std.specs.Prelude.{ℕ, ◌-◌, Bool, true, ◌==◌, List, [], ◌∷◌, ◌++◌, map, filter_map, Option, Some, None, if◌then◌else◌}
 use Rattle.type_model.specs.Types.{Path}
 use Rattle.token_model.specs.Kinds.{Tok}
 use Rattle.tree_model.specs.Trees.{Place, place, Part, taken, inner, missing}
@@ -226,6 +226,10 @@ path_in q l cs = record { qualifiers = tokens_in q cs; last = token_in l cs }
 -- where a token stands
 abbrev pub place_of : Tok → Place
 place_of t = place t.start t.end
+
+-- where the name of a qualifier is, which ends with a point
+abbrev pub place_without_point : Tok → Place
+place_without_point t = place t.start (t.end - 1)
 
 -- a missing part: any type, and no demand
 abbrev pub no_expression_at : ℕ → Place → Expression

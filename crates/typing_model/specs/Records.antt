@@ -11,7 +11,7 @@ use Rattle.signature_model.specs.Records as labels
 use Rattle.signature_model.specs.Records.{record_of, scope_for}
 use Rattle.typing_model.specs.Demands.{label_word, module_word, unbound, twice, incomplete, test, Condition}
 use Rattle.typing_model.specs.Contexts.{Context, ask}
-use Rattle.typing_model.specs.Parts.{Written, place_of}
+use Rattle.typing_model.specs.Parts.{Written, place_of, place_without_point}
 use Rattle.typing_model.specs.Names.{names_of, is_found, lost_behind, entry_of, label_in, then_by, used_at}
 
 -- whether a name is one of a list
@@ -41,12 +41,12 @@ first_token (p ∷ ps) = elim p.last [ None ↦ first_token ps | Some t ↦ Some
 abbrev pub record_found : Context → List Written → Found
 record_found c ps = record_of c.env (labels_of ps)
 
--- that the record type is found: reported at the first qualifier that leads to no module, or else at the first label; without labels nothing is asked
+-- that the record type is found: reported at the first qualifier that leads to no module, without its point, or else at the first label; without labels nothing is asked
 abbrev pub ask_record : Context → ℕ → ℕ → List Written → List Condition
 ask_record c n k ps = by (first_lost c.env ps) (first_token ps)
   where
     by : Option Tok → Option Tok → List Condition
-    by (Some q) t = ask n k (place_of q) (test (unbound module_word q.name) (is_found (record_found c ps)))
+    by (Some q) t = ask n k (place_without_point q) (test (unbound module_word q.name) (is_found (record_found c ps)))
     by None None = []
     by None (Some t) = ask n k (place_of t) (test (unbound label_word t.name) (is_found (record_found c ps)))
 

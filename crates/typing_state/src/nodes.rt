@@ -1,7 +1,7 @@
 //! New types, and what is asked of types. A number that is no node of the store stands for a type that nothing else restricts.
 ghost use Rattle.std.specs.Prelude.{◌≡◌, ◌↔◌, ℕ, ◌<◌, ◌≤◌, [], ◌∷◌, List, All, IsTrue, IfOk, IfErr, IfSome, IfNone, OnOk, OnErr, IsOk, length, true, false, Ok, Some, codes};
 ghost use Rattle.text_terms.specs.Bytes.{str_bytes};
-ghost use Rattle.type_nodes.specs.Nodes.{Node as plain, IsNode};
+ghost use Rattle.type_nodes.specs.Nodes.{Node as plain, IsNode, IsSound};
 ghost use Rattle.type_nodes.specs.Links.{root as root_of, reading, IsFree};
 ghost use Rattle.type_nodes.specs.States.{State, Keeps, Restored};
 ghost use Rattle.type_nodes.specs.Changes.{Makes, Quantifies};
@@ -187,13 +187,18 @@ impl Parts {
     pub fn instance(&mut self, root: NodeRef) -> Result<NodeRef, NoMemory>
         ensures instance { IfOk result (λ m. IsNode self.old.store.nodes root.0 → Instantiated self.old.store.nodes self.new.store.nodes root.0 (level_for self.old.level) m.0) }
         ensures otherwise { IfOk result (λ m. (IsNode self.old.store.nodes root.0 → ⊥) → MakesVar self.old self.new m.0 any_scope) }
+        ensures sound { OnOk result (IsNode self.old.store.nodes root.0 → IsSound self.new.store.nodes) }
         ensures failed { OnErr result (self.new ≡ self.old) }
         ensures keeps { Keeps self.old.store self.new.store }
         ensures rest { OnlyStore self.old self.new }
         ensures goes { Goes self.old self.new }
     {
         if is_node(&self.store, root) {
-            instantiate(self.alloc, &mut self.store, root, self.level.min(HIGHEST))
+            let level = self.level.min(HIGHEST);
+            let instance = instantiate(self.alloc, &mut self.store, root, level)?;
+            // the store is sound, as its length makes known
+            let _nodes = self.store.len();
+            Ok(instance)
         } else {
             self.var()
         }

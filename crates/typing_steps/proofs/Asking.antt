@@ -11,7 +11,7 @@ use Rattle.typing_model.specs.Contexts as contexts
 use Rattle.typing_model.specs.Parts.{Expression}
 use Rattle.typing_model.specs.Expressions.{has_type}
 use Rattle.type_terms.specs.declared.types.NodeRef.{NodeRef}
-use Rattle.type_nodes.specs.Nodes.{Arrow, IsSound, IsNode}
+use Rattle.type_nodes.specs.Nodes.{Arrow, IsNode}
 use Rattle.type_nodes.specs.Changes.{Makes}
 use Rattle.env_table.specs.declared.entries.Entry.{Entry}
 use Rattle.typing_state.specs.declared.parts.Parts.{Parts}
@@ -42,12 +42,12 @@ two_made a b d {F} {scope} {G} first second free free' r made rest made' rest' =
 -- the demand that a head's type is an arrow between two new types, by their arrow and the comparison with it
 pub arrow_asked : (b d e : Parts) {F : Frame} {scope : Scope} {a : Sight} {G : Letters} {head : Choice → Typ} {at : Span} {found whole : NodeRef} {from to : ℕ} (env : List Entry) (n k j : ℕ) (v : Verdict) → a.aloud ≡ true → Means F a G head found.0 →
     MakesTwo F scope a G (sight b) (letter n j) (letter n (j + 1)) from to → (IsNode b.store.nodes from → IsNode b.store.nodes to → Makes b.store d.store whole.0 (Arrow from to)) → OnlyStore b d →
-    IsSound e.store.nodes → EqualIs v d e at found whole env → OnlyStoreAndFaults d e → Goes d e → AsksArrow F scope a G (sight e) head n k j (place_of at) from to
-arrow_asked b d e {F} {scope} {a} {G} {head} {at} {found} {whole} {from} {to} env n k j v aloud has two made rest sound is rest' goes =
+    EqualIs v d e at found whole env → OnlyStoreAndFaults d e → Goes d e → AsksArrow F scope a G (sight e) head n k j (place_of at) from to
+arrow_asked b d e {F} {scope} {a} {G} {head} {at} {found} {whole} {from} {to} env n k j v aloud has two made rest is rest' goes =
     let y = arrow_over b d {scope = scope} two.first_is two.second_is made rest in
     let first = carried_trans two.carried y.carried in
     let z : JudgedAs F scope (λ c. ask n k (place_of at) (equal (head c.chosen) (type.Arrow (contexts.letter c n j) (contexts.letter c n (j + 1))))) (sight d) ((letter n (j + 1), to) ∷ (letter n j, from) ∷ G) (sight e)
-    ((letter n (j + 1), to) ∷ (letter n j, from) ∷ G) (site n k) (is_kept v) = equal_asked d e env (site n k) v (first.stays.aloud ∙ aloud) sound (means_on first.stays has) y.means is rest' goes in
+    ((letter n (j + 1), to) ∷ (letter n j, from) ∷ G) (site n k) (is_kept v) = equal_asked d e env (site n k) v (first.stays.aloud ∙ aloud) (means_on first.stays has) y.means is rest' goes in
     record {
       carried = carried_trans first z.carried;
       from_is = means_on z.carried.stays (means_on y.carried.stays two.first_is);
@@ -56,11 +56,11 @@ arrow_asked b d e {F} {scope} {a} {G} {head} {at} {found} {whole} {from} {to} en
 
 -- an expression was typed, and then its type is asked to be another one
 pub typed_as : (b d : Parts) {F : Frame} {scope : Scope} {a : Sight} {G H : Letters} {wanted_type : Choice → Typ} {at : Span} {found wanted : NodeRef} (env : List Entry) (e : Expression) (n k : ℕ) (v : Verdict) → a.aloud ≡ true → e.at ≡ place_of at →
-    CarriedTo F scope (λ c. e.typed c) a G (sight b) H (λ ch. ch.type_at e.node) found.0 → Means F a G wanted_type wanted.0 → IsSound d.store.nodes → EqualIs v b d at found wanted env → OnlyStoreAndFaults b d → Goes b d →
+    CarriedTo F scope (λ c. e.typed c) a G (sight b) H (λ ch. ch.type_at e.node) found.0 → Means F a G wanted_type wanted.0 → EqualIs v b d at found wanted env → OnlyStoreAndFaults b d → Goes b d →
     Carried F scope (λ c. e.typed c ++ has_type c n k e (wanted_type c.chosen)) a G (sight d) H
-typed_as b d {F} {scope} {a} {G} {H} {wanted_type} {at} env e n k v aloud place part has sound is rest goes =
+typed_as b d {F} {scope} {a} {G} {H} {wanted_type} {at} env e n k v aloud place part has is rest goes =
     let s = part.carried.stays in
-    let z : JudgedAs F scope (λ c. ask n k (place_of at) (equal (c.chosen.type_at e.node) (wanted_type c.chosen))) (sight b) H (sight d) H (site n k) (is_kept v) = equal_asked b d env (site n k) v (s.aloud ∙ aloud) sound part.means (means_on s has) is rest goes in
+    let z : JudgedAs F scope (λ c. ask n k (place_of at) (equal (c.chosen.type_at e.node) (wanted_type c.chosen))) (sight b) H (sight d) H (site n k) (is_kept v) = equal_asked b d env (site n k) v (s.aloud ∙ aloud) part.means (means_on s has) is rest goes in
     carried_trans part.carried (subst (λ p. Carried F scope (λ c. ask n k p (equal (c.chosen.type_at e.node) (wanted_type c.chosen))) (sight b) H (sight d) H) (sym place) z.carried)
 
 -- An argument: the head is an arrow, and the argument has the type at its left; the one at its right is that of the whole.

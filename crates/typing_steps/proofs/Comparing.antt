@@ -6,7 +6,6 @@ use Rattle.type_model.specs.Types.{Typ}
 use Rattle.typing_model.specs.Demands.{Site, equal, demand}
 use Rattle.typing_model.specs.Contexts.{Choice}
 use Rattle.type_terms.specs.declared.types.NodeRef.{NodeRef}
-use Rattle.type_nodes.specs.Nodes.{IsSound}
 use Rattle.env_table.specs.declared.entries.Entry.{Entry}
 use Rattle.env_table.specs.declared.faults.FaultKind.TheVariants as fault
 use Rattle.typing_state.specs.declared.parts.Parts.{Parts}
@@ -24,16 +23,16 @@ use Rattle.typing_steps.specs.States.{is_aloud, sight}
 use Rattle.typing_steps.specs.Demands.{JudgedAs, is_kept}
 use Rattle.typing_steps.proofs.Seeing.{nodes_of_both, reports_of_both, tells_one}
 
--- `equal`: the demand is kept or reported; the store after the call is sound, as every store is
-pub equal_asked : (a b : Parts) {F : Frame} {scope : Scope} {G : Letters} {f w : Choice → Typ} {at : Span} {found wanted : NodeRef} (env : List Entry) (s : Site) (v : Verdict) → is_aloud a.telling ≡ true → IsSound b.store.nodes →
+-- `equal`: the demand is kept or reported
+pub equal_asked : (a b : Parts) {F : Frame} {scope : Scope} {G : Letters} {f w : Choice → Typ} {at : Span} {found wanted : NodeRef} (env : List Entry) (s : Site) (v : Verdict) → is_aloud a.telling ≡ true →
     Means F (sight a) G f found.0 → Means F (sight a) G w wanted.0 → EqualIs v a b at found wanted env → OnlyStoreAndFaults a b → Goes a b →
     JudgedAs F scope (λ c. demand s (place_of at) (equal (f c.chosen) (w c.chosen)) ∷ []) (sight a) G (sight b) G s (is_kept v)
 unfolding equal_kept equal_told
-equal_asked a b {at = at} env s Kept aloud sound p q is rest goes = record {
-  carried = equal_kept s (place_of at) sound p q (nodes_of_both a b rest is.faults) goes.types (is.one p.open_node.inside q.open_node.inside (no_bound p.open_node q.open_node));
+equal_asked a b {at = at} env s Kept aloud p q is rest goes = record {
+  carried = equal_kept s (place_of at) is.sound p q (nodes_of_both a b rest is.faults) goes.types (is.one p.open_node.inside q.open_node.inside (no_bound p.open_node q.open_node));
   verdict = refl;
 }
-equal_asked a b {at = at} env s Reported aloud sound p q is rest goes = record {
+equal_asked a b {at = at} env s Reported aloud p q is rest goes = record {
   carried = equal_told s (place_of at) p q (reports_of_both a b rest is.store) (tells_one a b at fault.Equal _ refl aloud is.told.told) (is.clashes (no_bound p.open_node q.open_node)).never;
   verdict = refl;
 }

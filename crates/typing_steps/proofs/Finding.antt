@@ -13,7 +13,7 @@ use Rattle.signature_model.specs.Lookups.{FoundAmong, an_entry, a_hole, nothing,
 use Rattle.typing_model.specs.Demands.{Site, Word, demand, test}
 use Rattle.typing_model.specs.Contexts.{Context}
 use Rattle.typing_model.specs.Names as names
-use Rattle.typing_model.specs.Names.{names_of}
+use Rattle.typing_model.specs.Names.{names_of, place_unbound, complaint_unbound}
 use Rattle.type_nodes.specs.Readings.{Types}
 use Rattle.level_unify.specs.Solutions.{Loose}
 use Rattle.env_table.specs.declared.entries.Constructor.{Constructor}
@@ -38,7 +38,7 @@ use Rattle.typing_conditions.specs.Steps.{Tells}
 use Rattle.typing_conditions.specs.Carrying.{Scope, IsUnder, Carried}
 use Rattle.typing_conditions.specs.Surroundings.{Declared, Surrounds}
 use Rattle.typing_steps.specs.States.{is_aloud, sight}
-use Rattle.typing_steps.specs.Demands.{JudgedAs, is_found_here, place_unbound, complaint_unbound, bound_asks, bound_last_asks}
+use Rattle.typing_steps.specs.Demands.{JudgedAs, is_found_here, bound_asks, bound_last_asks}
 use Rattle.typing_steps.proofs.Seeing.{only_reports, same_state, tells_one}
 use Rattle.typing_steps.proofs.Still.{state_still}
 use Rattle.typing_steps.proofs.Testing.{judged_here, test_held, test_reported}

@@ -12,6 +12,7 @@ pub mod Limiting
 pub mod Joining
 pub mod Asking
 pub mod Naming
+pub mod Rows
 pub mod Valued
 pub mod Applying
 pub mod Writing

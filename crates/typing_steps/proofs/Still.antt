@@ -8,7 +8,6 @@ use Rattle.typing_laws.proofs.Bools.{and_cases}
 use Rattle.typing_model.specs.Demands.{treated, AllHold}
 use Rattle.typing_model.specs.Contexts.{Context}
 use Rattle.type_terms.specs.declared.types.NodeRef.{NodeRef}
-use Rattle.type_nodes.specs.Nodes.{IsSound}
 use Rattle.type_nodes.specs.States.{State}
 use Rattle.env_table.specs.declared.entries.Entry.{Entry}
 use Rattle.env_table.specs.declared.faults.FaultKind.{FaultKind}
@@ -128,7 +127,7 @@ quiet_told a b at kind message quiet told = by a.telling quiet told
     by Aloud e h = absurd (cc)
 
 -- and two types that are compared stay, whatever comes of it
-pub quiet_equal : (a b : Parts) {F : Frame} {G : Letters} (at : Span) {found wanted : NodeRef} (env : List Entry) (v : Verdict) → IsSound b.store.nodes → IsOpen F (sight a) found.0 → IsOpen F (sight a) wanted.0 →
+pub quiet_equal : (a b : Parts) {F : Frame} {G : Letters} (at : Span) {found wanted : NodeRef} (env : List Entry) (v : Verdict) → IsOpen F (sight a) found.0 → IsOpen F (sight a) wanted.0 →
     EqualIs v a b at found wanted env → OnlyStoreAndFaults a b → Goes a b → Stays F (sight a) G (sight b) G
-quiet_equal a b at env Kept sound p q is rest goes = unified_stays sound (nodes_of_both a b rest is.faults) goes.types p q (is.one p.inside q.inside (no_bound p q))
-quiet_equal a b at env Reported sound p q is rest goes = reports_stay (reports_of_both a b rest is.store)
+quiet_equal a b at env Kept p q is rest goes = unified_stays is.sound (nodes_of_both a b rest is.faults) goes.types p q (is.one p.inside q.inside (no_bound p q))
+quiet_equal a b at env Reported p q is rest goes = reports_stay (reports_of_both a b rest is.store)

@@ -1,21 +1,18 @@
 -- What a call that makes one demand does.
 use Rattle.std.specs.Prelude.{◌≡◌, ℕ, Bool, true, false, List, [], ◌∷◌, Option, Some, None}
 use Rattle.token_model.specs.Kinds.{Tok}
-use Rattle.tree_model.specs.Trees.{Place}
 use Rattle.text_terms.specs.declared.Span.{Span}
 use Rattle.signature_model.specs.Entries.{Kind}
 use Rattle.signature_model.specs.Lookups.{FoundAmong, an_entry, a_hole, nothing, lookup}
-use Rattle.typing_model.specs.Demands.{Site, Word, module_word, Complaint, unbound, Condition, demand, test}
+use Rattle.typing_model.specs.Demands.{Site, Word, Condition, demand, test}
 use Rattle.typing_model.specs.Contexts.{Context}
-use Rattle.typing_model.specs.Parts.{place_of}
-use Rattle.typing_model.specs.Names.{names_of, is_found, lost_behind}
+use Rattle.typing_model.specs.Names.{names_of, is_found, lost_behind, place_unbound, complaint_unbound}
 use Rattle.env_table.specs.declared.faults.FaultKind.{FaultKind}
 use Rattle.env_table.specs.declared.entries.Entry.{Entry}
 use Rattle.typing_state.specs.declared.parts.Parts.{Parts}
 use Rattle.typing_state.specs.declared.demands.Verdict.{Verdict}
 use Rattle.typing_state.specs.declared.demands.Verdict.TheVariants.{Kept, Reported}
 use Rattle.typing_state.specs.Goes.{faults_of, OnlyFaults, Told}
-use Rattle.typing_state.specs.Steps.{place_without_point}
 use Rattle.typing_conditions.specs.Sights.{Sight, Letters}
 use Rattle.typing_conditions.specs.Frames.{Frame}
 use Rattle.typing_conditions.specs.Judging.{judged_at}
@@ -42,17 +39,7 @@ is_found_here (an_entry e) = true
 is_found_here a_hole = true
 is_found_here nothing = false
 
--- where an unbound path is reported: at the first qualifier that names no module, without its point, or else at its last token
-abbrev pub place_unbound : Option Tok → Tok → Place
-place_unbound None t = place_of t
-place_unbound (Some q) t = place_without_point q
-
--- what is wrong there
-abbrev pub complaint_unbound : Option Tok → Word → Tok → Complaint
-complaint_unbound None w t = unbound w t.name
-complaint_unbound (Some q) w t = unbound module_word q.name
-
--- the demand that a path is bound, with the place at which it is reported
+-- the demand that a path is bound, by its site
 abbrev pub bound_asks : Context → Site → Kind → Word → List Tok → Tok → List Condition
 bound_asks c s kind w qs t =
     let lost = lost_behind c.env [] qs in

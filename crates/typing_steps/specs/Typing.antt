@@ -1,16 +1,18 @@
 -- The contracts of functions that type: whatever surrounds a call, it carries what the definitions ask of its part.
-use Rattle.std.specs.Prelude.{◌≡◌, ℕ, true, List, ◌∷◌, [], Option, Some, None}
+use Rattle.std.specs.Prelude.{◌≡◌, ℕ, true, List, [], ◌∷◌, ◌++◌, Option, Some, None}
 use Rattle.tree_model.specs.Trees.{Place}
 use Rattle.type_model.specs.Types.{Typ}
 use Rattle.typing_model.specs.Demands.{Site, Condition, demand, equal}
 use Rattle.typing_model.specs.Contexts.{Choice, Context}
+use Rattle.typing_model.specs.Parts.{Written}
+use Rattle.row_parts.specs.Numbered as parts
 use Rattle.type_terms.specs.declared.types.NodeRef.{NodeRef}
 use Rattle.env_table.specs.declared.entries.Entry.{Entry}
 use Rattle.typing_state.specs.declared.parts.Parts.{Parts}
-use Rattle.typing_conditions.specs.Sights.{Key, value_of, Letters, IsKnownFor}
-use Rattle.typing_conditions.specs.Frames.{Frame}
+use Rattle.typing_conditions.specs.Sights.{Sight, Key, value_of, Letters, IsKnownFor}
+use Rattle.typing_conditions.specs.Frames.{Frame, Reaches}
 use Rattle.typing_conditions.specs.Meanings.{Means}
-use Rattle.typing_conditions.specs.Carrying.{Asks, Scope, Carried, CarriedTo}
+use Rattle.typing_conditions.specs.Carrying.{Asks, Scope, Carried, CarriedTo, EndsAs}
 use Rattle.typing_conditions.specs.Surroundings.{Declared, Surrounds}
 use Rattle.typing_steps.specs.States.{is_aloud, sight}
 
@@ -27,12 +29,36 @@ abbrev pub TypesOwn : (a b : Parts) → List Entry → (Context → Typ → List
 TypesOwn a b env asks m = is_aloud a.telling ≡ true → (F : Frame) (scope : Scope) (G : Letters) (key : Key) → ((t : Typ) → IsKnownFor key t) → Surrounds any_declared F (sight a) G env scope →
     CarriedTo F scope (λ c. asks c (value_of c.chosen key)) (sight a) G (sight b) ((key, m) ∷ G) (λ ch. value_of ch key) m
 
+-- A type of its own, of which nothing is asked, and for which no name is looked up.
+abbrev pub TypesAny : (a b : Parts) → ℕ → Type 0
+TypesAny a b m = (F : Frame) (scope : Scope) (G : Letters) (key : Key) → ((t : Typ) → IsKnownFor key t) → Reaches F (sight a) →
+    CarriedTo F scope (λ c. []) (sight a) G (sight b) ((key, m) ∷ G) (λ ch. value_of ch key) m
+
+-- A row whose type isn't recorded yet for its node n: `first` of what it asks is carried, with letters of its own, and then a node has its type;
+-- `ends` is what it asks of n at its end, which is met where that type is recorded.
+pub record RowCarried (F : Frame) (scope : Scope) (asks : Asks) (a : Sight) (G : Letters) (b : Sight) (n m : ℕ) : Type 0 where
+  pub own : Letters
+  pub type : Choice → Typ
+  pub first : Asks
+  pub ends : Asks
+  pub all : (c : Context) → first c ++ ends c ≡ asks c
+  pub typed : CarriedTo F scope first a G b (own ++ G) type m
+  pub end : EndsAs n type ends
+
+-- Where faults are reported, a call carries a row with these conditions so far.
+abbrev pub TypesRow : (a b : Parts) → List Entry → Asks → (n m : ℕ) → Type 0
+TypesRow a b env asks n m = is_aloud a.telling ≡ true → (F : Frame) (scope : Scope) (G : Letters) → Surrounds any_declared F (sight a) G env scope → RowCarried F scope asks (sight a) G (sight b) n m
+
 -- The demand, at a place and of any site, that one node's type is another's.
-abbrev pub AsksEqual : (a b : Parts) → List Entry → Place → (found wanted : ℕ) → Type 0
-AsksEqual a b env at found wanted = is_aloud a.telling ≡ true → (F : Frame) (scope : Scope) (G : Letters) (s : Site) (is want : Choice → Typ) → Surrounds any_declared F (sight a) G env scope → Means F (sight a) G is found → Means F (sight a) G want wanted →
+abbrev pub AsksEqual : (a b : Parts) → Place → (found wanted : ℕ) → Type 0
+AsksEqual a b at found wanted = is_aloud a.telling ≡ true → (F : Frame) (scope : Scope) (G : Letters) (s : Site) (is want : Choice → Typ) → Means F (sight a) G is found → Means F (sight a) G want wanted →
     Carried F scope (λ c. demand s at (equal (is c.chosen) (want c.chosen)) ∷ []) (sight a) G (sight b) G
 
 -- the same where a type is wanted; else all stays as it is
-abbrev pub AsksEqualIf : (a b : Parts) → List Entry → Place → ℕ → Option NodeRef → Type 0
-AsksEqualIf a b env at found None = b ≡ a
-AsksEqualIf a b env at found (Some wanted) = AsksEqual a b env at found wanted.0
+abbrev pub AsksEqualIf : (a b : Parts) → Place → ℕ → Option NodeRef → Type 0
+AsksEqualIf a b at found None = b ≡ a
+AsksEqualIf a b at found (Some wanted) = AsksEqual a b at found wanted.0
+
+-- a path of the code as the definitions take it
+abbrev pub path_as : parts.Written → Written
+path_as p = record { qualifiers = p.qualifiers; last = p.last }

@@ -1,0 +1,53 @@
+-- Rows by their contracts: the record of a row's type, and calls that carry one demand or none.
+use Rattle.std.proofs.Common.{◌≡◌, ◌++◌, ℕ, List, [], ◌∷◌, refl, ap, append-nil}
+use Rattle.text_terms.specs.declared.Span.{Span}
+use Rattle.syntax_tree.specs.View.{place_of}
+use Rattle.typing_model.specs.Contexts.{Choice, Context, tell_typed}
+use Rattle.typing_model.specs.Demands.{Condition}
+use Rattle.type_model.specs.Types.{Typ}
+use Rattle.type_terms.specs.declared.types.NodeRef.{NodeRef}
+use Rattle.env_table.specs.declared.entries.Entry.{Entry}
+use Rattle.typing_state.specs.declared.parts.Parts.{Parts}
+use Rattle.typing_state.specs.declared.demands.Verdict.{Verdict}
+use Rattle.typing_state.specs.Demands.{EqualIs}
+use Rattle.typing_state.specs.Goes.{OnlyStore, OnlyStoreAndFaults, Goes}
+use Rattle.typing_state.specs.Types.{MakesVar, any_scope}
+use Rattle.typing_conditions.specs.Sights.{Sight, own, Letters, number_in}
+use Rattle.typing_conditions.specs.Frames.{Frame}
+use Rattle.typing_conditions.specs.Steps.{Records}
+use Rattle.typing_conditions.specs.Carrying.{Asks, Scope, CarriedTo}
+use Rattle.typing_conditions.proofs.Recording.{ends_own, row_recorded}
+use Rattle.typing_conditions.proofs.Answering.{to_as}
+use Rattle.typing_steps.specs.States.{sight}
+use Rattle.typing_steps.specs.Typing.{TypesOwn, TypesAny, RowCarried, TypesRow, AsksEqual}
+use Rattle.typing_steps.proofs.Making.{var_made}
+use Rattle.typing_steps.proofs.Comparing.{equal_asked}
+
+-- A row whose type is recorded then carries what its node asks in all, and its node has its type.
+pub row_carried : {F : Frame} {scope : Scope} {asks : Asks} {a b d : Sight} {G : Letters} {n number m : ℕ} → number_in b.item number ≡ n → RowCarried F scope asks a G b n m → Records b d number m →
+    CarriedTo F scope (λ c. tell_typed n c ++ asks c) a G d G (λ ch. ch.type_at n) m
+row_carried {n = n} number row r = to_as (λ c. ap (λ cs. tell_typed n c ++ cs) (row.all c)) (λ ch. refl) (row_recorded row.own n number row.typed row.end r)
+
+-- a row whose type is its own, as that of a name
+pub row_own : (a b : Parts) {env : List Entry} {asks : Context → Typ → List Condition} {m : ℕ} (n : ℕ) → TypesOwn a b env asks m → TypesRow a b env (λ c. asks c (c.chosen.type_at n)) n m
+row_own a b {asks = asks} {m = m} n typed aloud F scope G at = record {
+  own = (own n, m) ∷ [];
+  type = λ ch. ch.type_at n;
+  first = λ c. asks c (c.chosen.type_at n);
+  ends = λ c. [];
+  all = λ c. append-nil (asks c (c.chosen.type_at n));
+  typed = typed aloud F scope G (own n) (λ t. tt) at;
+  end = ends_own n;
+}
+
+-- a row of which nothing is asked
+pub row_any : (a b : Parts) {env : List Entry} {m : ℕ} (n : ℕ) → TypesAny a b m → TypesRow a b env (λ c. []) n m
+row_any a b {env} {m} n typed = row_own a b {env} {λ c t. []} n (λ aloud F scope G key free at. typed F scope G key free at.reached)
+
+-- `var`: a new variable stands for whatever a choice chooses
+pub var_any : (a b : Parts) {m : ℕ} → MakesVar a b m any_scope → OnlyStore a b → TypesAny a b m
+var_any a b made rest F scope G key free reached = var_made a b {scope = scope} key free reached made rest
+
+-- `equal`: the demand, at a place and of any site
+pub equal_asks : (a b : Parts) {at : Span} {found wanted : NodeRef} (env : List Entry) (v : Verdict) → EqualIs v a b at found wanted env → OnlyStoreAndFaults a b → Goes a b → AsksEqual a b (place_of at) found.0 wanted.0
+equal_asks a b env v is rest goes aloud F scope G s of want p q = (equal_asked a b {scope = scope} env s v aloud p q is rest goes).carried
