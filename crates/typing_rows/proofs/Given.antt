@@ -4,6 +4,7 @@ use Rattle.text_terms.specs.declared.Span.{Span}
 use Rattle.syntax_tree.specs.View.{place_of}
 use Rattle.tree_model.specs.Trees.{Place}
 use Rattle.type_model.specs.Types.{Typ}
+use Rattle.type_model.specs.Types.{Typ as type}
 use Rattle.typing_model.specs.Demands.{site, same, equal}
 use Rattle.typing_model.specs.Contexts.{Choice, Context, ask, type_at}
 use Rattle.typing_model.specs.Contexts as contexts
@@ -29,26 +30,33 @@ use Rattle.typing_conditions.proofs.Answering.{then_to, to_as}
 use Rattle.typing_conditions.proofs.Surrounding.{surrounds_on}
 use Rattle.typing_steps.specs.States.{is_aloud, sight}
 use Rattle.typing_steps.specs.Rows.{MakesTwo, AsksArrow, argument_asks, given_from, result_of}
-use Rattle.typing_steps.specs.Typing.{any_declared, TypesTo}
-use Rattle.typing_steps.proofs.Asking.{two_made, arrow_asked, typed_as, argument_asked}
-use Rattle.typing_rows.specs.Contracts.{TypesRow, RowTypes, TypesEach, EachFirst, TypesFirst, MakesBoth, HeadIsArrow, TypesAs, GivenAll, GivenFirst, TypesGiven, TypesGivenFirst, TypesArgument}
+use Rattle.typing_steps.specs.Typing.{any_declared, TypesTo, RowCarried, AsksEqual}
+use Rattle.typing_steps.proofs.Asking.{two_made, argument_asked}
+use Rattle.typing_steps.proofs.Making.{arrow_over}
+use Rattle.typing_conditions.proofs.Recording.{ends_same}
+use Rattle.typing_rows.specs.Contracts.{TypesEach, EachFirst, TypesFirst, MakesBoth, HeadIsArrow, TypesAs, GivenAll, GivenFirst, TypesGiven, TypesGivenFirst, TypesArgument}
 
 -- two new variables
 pub makes_both : (a b d : Parts) (m n : ℕ) → MakesVar a b m any_scope → OnlyStore a b → MakesVar b d n any_scope → OnlyStore b d → MakesBoth a d m n
 makes_both a b d m n made rest made' rest' = λ F scope G first second free free' r. two_made a b d {F = F} {scope = scope} {G = G} first second free free' r made rest made' rest'
 
 -- the demand that a head is an arrow
-pub head_is_arrow : (a b d e : Parts) (env : List Entry) (at : Span) (found whole : NodeRef) (from to : ℕ) (v : Verdict) → MakesBoth a b from to → (IsNode b.store.nodes from → IsNode b.store.nodes to → Makes b.store d.store whole.0 (Arrow from to)) → OnlyStore b d →
-    IsSound e.store.nodes → EqualIs v d e at found whole env → OnlyStoreAndFaults d e → Goes d e → HeadIsArrow a e env (place_of at) found.0 from to
-head_is_arrow a b d e env at found whole from to v both made rest sound is rest' goes = λ aloud F scope G n k j h s has.
+pub head_is_arrow : (a b d e : Parts) (env : List Entry) (at : Place) (found whole from to : ℕ) → MakesBoth a b from to → Goes a b → (IsNode b.store.nodes from → IsNode b.store.nodes to → Makes b.store d.store whole (Arrow from to)) → OnlyStore b d → AsksEqual d e at found whole →
+    HeadIsArrow a e env at found from to
+head_is_arrow a b d e env at found whole from to both goes made rest asked = λ aloud F scope G n k j h s has.
     let two = both F scope G (letter n j) (letter n (j + 1)) (λ t. tt) (λ t. tt) s.reached in
-    arrow_asked b d e {F = F} {scope = scope} {a = sight a} {G = G} {head = h} {at = at} {found = found} {whole = whole} {from = from} {to = to} env n k j v aloud has two made rest sound is rest' goes
+    let y = arrow_over b d {scope = scope} two.first_is two.second_is made rest in
+    let first = carried_trans two.carried y.carried in
+    let loud : is_aloud d.telling ≡ true = ap is_aloud rest.telling ∙ ap is_aloud goes.telling ∙ aloud in
+    let z = asked loud F scope ((letter n (j + 1), to) ∷ (letter n j, from) ∷ G) (site n k) h (λ ch. type.Arrow (ch.letter n j) (ch.letter n (j + 1))) (means_on first.stays has) y.means in
+    record { carried = carried_trans first z; from_is = means_on z.stays (means_on y.carried.stays two.first_is); to_is = means_on z.stays (means_on y.carried.stays two.second_is) }
 
 -- an expression that has a type
-pub types_as : (a b d : Parts) (env : List Entry) (e : Expression) (at : Span) (found wanted : NodeRef) (v : Verdict) → e.at ≡ place_of at → TypesTo a b env (λ c. e.typed c) (λ ch. ch.type_at e.node) found.0 →
-    IsSound d.store.nodes → EqualIs v b d at found wanted env → OnlyStoreAndFaults b d → Goes b d → TypesAs a d env e wanted.0
-types_as a b d env e at found wanted v place typed sound is rest goes = λ aloud F scope G n k t s has.
-    typed_as b d {F = F} {scope = scope} {a = sight a} {G = G} {H = G} {wanted_type = t} {at = at} {found = found} {wanted = wanted} env e n k v aloud place (typed aloud F scope G s) has sound is rest goes
+pub types_as : (a b d : Parts) (env : List Entry) (e : Expression) (at : Place) (found wanted : ℕ) → e.at ≡ at → TypesTo a b env (λ c. e.typed c) (λ ch. ch.type_at e.node) found → Goes a b → AsksEqual b d at found wanted → TypesAs a d env e wanted
+types_as a b d env e at found wanted place typed goes asked = λ aloud F scope G n k t s has.
+    let x = typed aloud F scope G s in
+    let z = asked (ap is_aloud goes.telling ∙ aloud) F scope G (site n k) (λ ch. ch.type_at e.node) t x.means (means_on x.carried.stays has) in
+    carried_trans x.carried (subst (λ p. Carried F scope (λ c. ask n k p (equal (c.chosen.type_at e.node) (t c.chosen))) (sight b) G (sight d) G) (sym place) z)
 
 -- an argument of a head
 pub types_argument : (a b d : Parts) (env : List Entry) (at : Place) (e : Expression) (head from to : ℕ) → HeadIsArrow a b env at head from to → Goes a b → TypesAs b d env e from → TypesArgument a d env at e head to
@@ -98,13 +106,15 @@ given_ends c n k j at head (e ∷ es) =
 
 -- a head, with letters of the row, and its arguments
 pub applied_row : {F : Frame} {scope : Scope} {a b d : Sight} {G : Letters} {front : Asks} {h : Choice → Typ} {n k j : ℕ} {at : Place} {es : List Expression} {m to : ℕ} (mine : Letters) → CarriedTo F scope front a G b (mine ++ G) h m → GivenAll F scope b (mine ++ G) d h n k j at es to →
-    TypesRow F scope n (λ c. front c ++ applied_from c n k j at (h c.chosen) es) a G d to
+    RowCarried F scope (λ c. front c ++ applied_from c n k j at (h c.chosen) es) a G d n to
 applied_row {F} {scope} {a} {b} {d} {G} {front} {h} {n} {k} {j} {at} {es} {m} {to} mine head given = record {
   own = given.own ++ mine;
   type = λ ch. result_of ch n j (h ch) es;
-  front = λ c. front c ++ given_from c n k j at (h c.chosen) es;
+  first = λ c. front c ++ given_from c n k j at (h c.chosen) es;
+  ends = λ c. same (type_at c n) (result_of c.chosen n j (h c.chosen) es) ∷ [];
+  all = λ c. append_assoc (front c) (given_from c n k j at (h c.chosen) es) (same (type_at c n) (result_of c.chosen n j (h c.chosen) es) ∷ []) ∙ ap (λ xs. front c ++ xs) (given_ends c n k j at (h c.chosen) es);
   typed = subst (λ H. CarriedTo F scope (λ c. front c ++ given_from c n k j at (h c.chosen) es) a G d H (λ ch. result_of ch n j (h ch) es) to) (sym (append_assoc given.own mine G)) (then_to head.carried given.typed);
-  ends = inl (λ c. ap (λ xs. front c ++ xs) (sym (given_ends c n k j at (h c.chosen) es)) ∙ sym (append_assoc (front c) (given_from c n k j at (h c.chosen) es) (same (type_at c n) (result_of c.chosen n j (h c.chosen) es) ∷ [])));
+  end = ends_same n (λ ch. result_of ch n j (h ch) es);
 }
 
 -- no expression yet

@@ -27,16 +27,15 @@ use Rattle.typing_conditions.proofs.Meaning.{means_on, means_more, all_mean_on, 
 use Rattle.typing_conditions.proofs.Surrounding.{surrounds_on}
 use Rattle.typing_steps.specs.States.{is_aloud, sight}
 use Rattle.typing_steps.specs.Demands.{JudgedAs, is_kept}
-use Rattle.typing_steps.specs.Typing.{any_declared, TypesTo}
+use Rattle.typing_steps.specs.Typing.{any_declared, TypesTo, AsksEqual}
 use Rattle.typing_steps.proofs.Comparing.{equal_asked}
 use Rattle.typing_rows.specs.Contracts.{types_at, PartsAll, PartsFirst, TypesParts, TypesPartsFirst, TypesPart, AsksBehind, AsksBool, wants_bool, bool_if, behind_asks, parts_ask}
 
 -- the demand that an expression is a bool
-pub asks_bool : (a b : Parts) (env : List Entry) (e : Expression) (at : Span) (ty : NodeRef) (v : Verdict) → e.at ≡ place_of at → IsSound b.store.nodes → EqualIs v a b at ty a.constants.bool env → OnlyStoreAndFaults a b → Goes a b → AsksBool a b env e ty.0
-asks_bool a b env e at ty v place sound is rest goes = λ aloud F scope G n s has.
-    let z : JudgedAs F scope (λ c. ask n 0 (place_of at) (equal (c.chosen.type_at e.node) bool_type)) (sight a) G (sight b) G (site n 0) (is_kept v) =
-    equal_asked a b env (site n 0) v aloud sound has (means_more s.fixed.bool) is rest goes in
-    subst (λ p. Carried F scope (λ c. ask n 0 p (equal (c.chosen.type_at e.node) bool_type)) (sight a) G (sight b) G) (sym place) z.carried
+pub asks_bool : (a b : Parts) (env : List Entry) (e : Expression) (at : Place) (ty : ℕ) → e.at ≡ at → AsksEqual a b at ty a.constants.bool.0 → AsksBool a b env e ty
+asks_bool a b env e at ty place asked = λ aloud F scope G n s has.
+    subst (λ p. Carried F scope (λ c. ask n 0 p (equal (c.chosen.type_at e.node) bool_type)) (sight a) G (sight b) G) (sym place)
+    (asked aloud F scope G (site n 0) (λ ch. ch.type_at e.node) (λ ch. bool_type) has (means_more s.fixed.bool))
 
 -- it is made where the row wants it
 pub behind_bool : (a b : Parts) (env : List Entry) (r : Row) (i : ℕ) (e : Expression) (m : ℕ) → (i == 0 && wants_bool r (is_false e.form)) ≡ true → AsksBool a b env e m → AsksBehind a b env r i e m

@@ -23,27 +23,17 @@ use Rattle.typing_conditions.specs.Frames.{Frame}
 use Rattle.typing_conditions.specs.Steps.{Records}
 use Rattle.typing_conditions.specs.Carrying.{Asks, Scope, CarriedTo}
 use Rattle.typing_conditions.specs.Surroundings.{Surrounds}
-use Rattle.typing_conditions.proofs.Recording.{ends_same, ends_own, row_recorded}
 use Rattle.typing_conditions.proofs.Answering.{to_as}
 use Rattle.typing_steps.specs.States.{is_aloud, sight}
-use Rattle.typing_steps.specs.Typing.{any_declared, TypesTo}
-use Rattle.typing_steps.proofs.Making.{var_made}
+use Rattle.typing_steps.specs.Typing.{any_declared, TypesTo, TypesRow}
+use Rattle.typing_steps.proofs.Rows.{row_carried, row_any, var_any}
 use Rattle.typing_steps.proofs.Recording.{type_noted, nameless_noted}
 use Rattle.operand_laws.specs.Formed.{row_of}
 use Rattle.operand_laws.specs.Operands.{number_of, parts_of, expression_of}
 use Rattle.operand_laws.proofs.Standing.{expression_of_stands}
 use Rattle.operand_laws.proofs.Sorts.{expression_by_row}
 use Rattle.typing_rows.specs.CarriedRows.{IsCarried}
-use Rattle.typing_rows.specs.Contracts.{under_minus, row_expression, TypesRow, RowTypes}
-
--- a row whose type is recorded for its node's number in the item
-pub row_whole : {F : Frame} {scope : Scope} {asks : Asks} {a b d : Sight} {G : Letters} {n p m : ℕ} → number_in b.item p ≡ n → TypesRow F scope n asks a G b m → Records b d p m →
-    CarriedTo F scope (λ c. tell_typed n c ++ asks c) a G d G (λ ch. ch.type_at n) m
-row_whole {F} {scope} {asks} {a} {b} {d} {G} {n} {p} {m} number row r = by row.ends
-  where
-    by : ((c : Context) → asks c ≡ row.front c ++ is_of c n (row.type c.chosen)) ⊎ (((c : Context) → asks c ≡ row.front c) × ((ch : Choice) → row.type ch ≡ ch.type_at n)) → CarriedTo F scope (λ c. tell_typed n c ++ asks c) a G d G (λ ch. ch.type_at n) m
-    by (inl e) = to_as (λ c. ap (λ cs. tell_typed n c ++ cs) (sym (e c))) (λ ch. refl) (row_recorded row.own n number row.typed (ends_same n row.type) r)
-    by (inr (e, mine)) = to_as (λ c. ap (λ cs. tell_typed n c ++ cs) (append-nil (row.front c) ∙ sym (e c))) (λ ch. refl) (row_recorded row.own n number (to_as (λ c. refl) mine row.typed) (ends_own n) r)
+use Rattle.typing_rows.specs.Contracts.{under_minus, row_expression}
 
 -- what an expression asks directly under a minus, once it is recorded
 under_recorded : (negated : Bool) (n : ℕ) (e : Expression) (c : Context) → tell_typed n c ++ (under_minus negated e).typed c ≡ (under_minus negated (recorded_expression n e)).typed c
@@ -56,14 +46,14 @@ row_here negated i n at t c = under_recorded negated (number_of i n) (row_expres
 
 -- An expression that is there: its row, and the record of its type.
 pub row_typed : (a b d : Parts) (o : Operand) (nd : Bor Node) (negated : Bool) (env : List Entry) (ty : NodeRef) (seen : Seen) → o.node ≡ Some nd → seen.ty ≡ Some ty →
-    ((place : Place) → IsCarried (numbered o.number place (inner (node_view nd.now))) → RowTypes a b env (number_of a.item o.number) (λ c. (under_minus negated (row_expression a.item o.number place (node_view nd.now))).typed c) ty.0) →
+    ((place : Place) → IsCarried (numbered o.number place (inner (node_view nd.now))) → TypesRow a b env (λ c. (under_minus negated (row_expression a.item o.number place (node_view nd.now))).typed c) (number_of a.item o.number) ty.0) →
     Goes a b → Noted b.telling b d o.number seen → OnlyIndex b d → IsCarried (operand_view o) →
     TypesTo a d env (λ c. (under_minus negated (expression_of a.item (operand_view o))).typed c) (λ ch. ch.type_at (expression_of a.item (operand_view o)).node) ty.0
 row_typed a b d o nd negated env ty seen there is typed goes noted rest carried = λ aloud F scope G s.
     let here : IsCarried (numbered o.number (place_of o.span) (inner (node_view nd.now))) = subst (λ m. IsCarried (numbered o.number (place_of o.span) (part_of m o.span))) there carried in
     let loud : is_aloud b.telling ≡ true = ap is_aloud goes.telling ∙ aloud in
     let row = typed (place_of o.span) here aloud F scope G s in
-    let whole = row_whole (ap (λ i. number_in i o.number) goes.item) row (type_noted b d o.number ty seen is loud noted rest) in
+    let whole = row_carried (ap (λ i. number_in i o.number) goes.item) row (type_noted b d o.number ty seen is loud noted rest) in
     let same : numbered o.number (place_of o.span) (inner (node_view nd.now)) ≡ operand_view o = ap (λ m. numbered o.number (place_of o.span) (part_of m o.span)) (sym there) in
     to_as (λ c. row_here negated a.item o.number (place_of o.span) (node_view nd.now) c ∙ ap (λ x. (under_minus negated (expression_of a.item x)).typed c) same) (λ ch. ap ch.type_at (sym (expression_of_stands a.item (operand_view o)).number)) whole
 
@@ -77,8 +67,7 @@ pub missing_typed : (a b d : Parts) (o : Operand) (negated : Bool) (env : List E
 missing_typed a b d o negated env ty none made rest goes noted only = λ aloud F scope G s.
     let n = number_of a.item o.number in
     let loud : is_aloud b.telling ≡ true = ap is_aloud goes.telling ∙ aloud in
-    let x = var_made a b {F = F} {scope = scope} {G = G} (own n) (λ t. tt) s.reached made rest in
-    let row : TypesRow F scope n (λ c. []) (sight a) G (sight b) ty.0 = record { own = (own n, ty.0) ∷ []; type = λ ch. ch.type_at n; front = λ c. []; typed = x; ends = inr (λ c. refl, λ ch. refl) } in
-    let whole = row_whole (ap (λ i. number_in i o.number) goes.item) row (nameless_noted b d o.number env ty loud noted only) in
+    let row = row_any a b {env = env} n (var_any a b made rest) aloud F scope G s in
+    let whole = row_carried (ap (λ i. number_in i o.number) goes.item) row (nameless_noted b d o.number env ty loud noted only) in
     let same : numbered o.number (place_of o.span) (missing (place_of o.span)) ≡ operand_view o = ap (λ m. numbered o.number (place_of o.span) (part_of m o.span)) (sym none) in
     to_as (λ c. missing_asks negated a.item o.number (place_of o.span) (place_of o.span) c ∙ ap (λ x. (under_minus negated (expression_of a.item x)).typed c) same) (λ ch. ap ch.type_at (sym (expression_of_stands a.item (operand_view o)).number)) whole

@@ -1,5 +1,5 @@
 -- What the functions of a row carry, each of its own part of the row.
-use Rattle.std.specs.Prelude.{◌≡◌, ◌⊎◌, ℕ, ◌+◌, ◌==◌, ◌&&◌, Bool, true, false, not, List, [], ◌∷◌, ◌++◌, map, Option, Some, None, slice_get, if◌then◌else◌}
+use Rattle.std.specs.Prelude.{◌≡◌, ℕ, ◌+◌, ◌==◌, ◌&&◌, Bool, true, false, not, List, [], ◌∷◌, ◌++◌, map, Option, Some, None, slice_get, if◌then◌else◌}
 use Rattle.tree_model.specs.Rows.{Row, ebegin_row, elist_row, eassert_row, ewhile_row, econs_row, etuple_row, eif_row, eseq_row}
 use Rattle.tree_model.specs.Trees.{Place, Tree}
 use Rattle.type_model.specs.Types.{Typ, Tuple, types_of}
@@ -18,7 +18,7 @@ use Rattle.typing_conditions.specs.Carrying.{Asks, Scope, Carried, CarriedTo}
 use Rattle.typing_conditions.specs.Surroundings.{Surrounds}
 use Rattle.typing_steps.specs.States.{is_aloud, sight}
 use Rattle.typing_steps.specs.Rows.{MakesTwo, AsksArrow, argument_asks, given_from, result_of}
-use Rattle.typing_steps.specs.Typing.{any_declared}
+use Rattle.typing_steps.specs.Typing.{any_declared, RowCarried}
 use Rattle.row_parts.specs.Numbered.{Numbered}
 use Rattle.operand_laws.specs.Formed.{row_of}
 use Rattle.operand_laws.specs.Operands.{number_of, parts_of, expression_of}
@@ -43,19 +43,6 @@ signed_expressions negated i os = map (λ o. under_minus negated (expression_of 
 -- the types of expressions' nodes
 abbrev pub types_at : List Expression → List (Choice → Typ)
 types_at es = map (λ e ch. ch.type_at e.node) es
-
--- The whole of a row but what is recorded of it: what it asks, with letters of its own, and a node of its type. It ends with the demand that its node has this type,
--- or its type is what is chosen for its node.
-pub record TypesRow (F : Frame) (scope : Scope) (n : ℕ) (asks : Asks) (a : Sight) (G : Letters) (b : Sight) (m : ℕ) : Type 0 where
-  pub own : Letters
-  pub type : Choice → Typ
-  pub front : Asks
-  pub typed : CarriedTo F scope front a G b (own ++ G) type m
-  pub ends : ((c : Context) → asks c ≡ front c ++ is_of c n (type c.chosen)) ⊎ (((c : Context) → asks c ≡ front c) × ((ch : Choice) → type ch ≡ ch.type_at n))
-
--- a row's own function
-abbrev pub RowTypes : (a b : Parts) → List Entry → (n : ℕ) → Asks → (m : ℕ) → Type 0
-RowTypes a b env n asks m = is_aloud a.telling ≡ true → (F : Frame) (scope : Scope) (G : Letters) → Surrounds any_declared F (sight a) G env scope → TypesRow F scope n asks (sight a) G (sight b) m
 
 -- expressions, of which nothing is asked
 abbrev pub TypesEach : (a b : Parts) → List Entry → List Expression → Type 0
@@ -264,4 +251,4 @@ end_asks _ c n es = []
 -- the end of a row whose parts are typed
 abbrev pub EndsRow : (a b : Parts) → List Entry → (Context → ℕ → List Condition) → List Expression → List ℕ → (m : ℕ) → Type 0
 EndsRow a b env asks es ms m = is_aloud a.telling ≡ true → (F : Frame) (scope : Scope) (G : Letters) (n : ℕ) → Surrounds any_declared F (sight a) G env scope → AllMean F (sight a) G (types_at es) ms →
-    TypesRow F scope n (λ c. asks c n) (sight a) G (sight b) m
+    RowCarried F scope (λ c. asks c n) (sight a) G (sight b) n m
