@@ -64,7 +64,7 @@ module _ (a b d : Parts) {D : Declared} {F : Frame} {scope : Scope} {G : Letters
   names_there = surrounds_on judged.carried.stays l.names
 
   -- The path finds an entry with a root: the name's type is an instance.
-  pub value_found : {entry : Entry} {root : NodeRef} {m : ℕ} → found_at env qs kind.Value t ≡ an_entry entry → entry.what ≡ what.Scheme root → IsSound d.store.nodes →
+  pub value_found : {entry : Entry} {root : NodeRef} {m : ℕ} → found_at env qs kind.Value t ≡ an_entry entry → entry.what ≡ what.Scheme root → (IsNode b.store.nodes root.0 → IsSound d.store.nodes) →
       (IsNode b.store.nodes root.0 → Instantiated b.store.nodes d.store.nodes root.0 (level_for b.level) m) → OnlyStore b d →
       CarriedTo F scope (λ c. value_used_as c s w qs t (value_of c.chosen key)) (sight a) G (sight d) ((key, m) ∷ G) (λ ch. value_of ch key) m
   value_found finds is sound taken rest =

@@ -46,14 +46,14 @@ plain_nodes ns plain = record { each = λ n path name ms at. known_path path (pl
 
 -- `instance`, for a path that finds an entry with a root
 pub instance_taken : (a b : Parts) {D : Declared} {F : Frame} {scope : Scope} {G : Letters} {env : List Entry} {ms : List Name} {x : Name} {entry : Entry} {root : NodeRef} {m : ℕ} → Surrounds D F (sight a) G env scope →
-    lookup_by is_named inside env ms value_kind x ≡ an_entry entry → entry.what ≡ what.Scheme root → IsSound b.store.nodes →
+    lookup_by is_named inside env ms value_kind x ≡ an_entry entry → entry.what ≡ what.Scheme root → (IsNode a.store.nodes root.0 → IsSound b.store.nodes) →
     (IsNode a.store.nodes root.0 → Instantiated a.store.nodes b.store.nodes root.0 (level_for a.level) m) → OnlyStore a b → TakesInstance env (sight a) (sight b) ms x F.level m
 instance_taken a b {D} {F} {ms = ms} {x = x} {entry = entry} {root = root} {m = m} at finds is sound taken rest = record {
   entry = entry;
   root = root;
   finds = finds;
   is = is;
-  sound = sound;
+  sound = sound root_inside;
   taken = subst (λ l. Instantiated a.store.nodes b.store.nodes root.0 l m) (level_here a at.reached) (taken root_inside);
   rest = only_nodes a b rest;
 }
@@ -63,7 +63,7 @@ instance_taken a b {D} {F} {ms = ms} {x = x} {entry = entry} {root = root} {m = 
 
 -- The use of a name has the type that the choice has for a letter.
 pub instance_used : (a b : Parts) {D : Declared} {F : Frame} {scope : Scope} {G : Letters} {env : List Entry} (ms : List Name) (x : Name) {entry : Entry} {root : NodeRef} {m : ℕ} (key : Key) → ((t : Typ) → IsKnownFor key t) →
-    Surrounds D F (sight a) G env scope → lookup_by is_named inside env ms value_kind x ≡ an_entry entry → entry.what ≡ what.Scheme root → IsSound b.store.nodes →
+    Surrounds D F (sight a) G env scope → lookup_by is_named inside env ms value_kind x ≡ an_entry entry → entry.what ≡ what.Scheme root → (IsNode a.store.nodes root.0 → IsSound b.store.nodes) →
     (IsNode a.store.nodes root.0 → Instantiated a.store.nodes b.store.nodes root.0 (level_for a.level) m) → OnlyStore a b →
     CarriedTo F scope (λ c. used_if (scheme_found c.env ms x) (value_of c.chosen key)) (sight a) G (sight b) ((key, m) ∷ G) (λ ch. value_of ch key) m
 instance_used a b ms x key free at finds is sound taken rest = name_used key free at (instance_taken a b at finds is sound taken rest)

@@ -2,6 +2,7 @@
 pub mod Reading
 pub mod LabelLaws
 pub mod Telling
+pub mod Carrying
 pub mod ConstantLaws
 pub mod Asked
 pub mod LostLaws

@@ -1,13 +1,15 @@
 //! Uses of values, constructors and labels by their paths.
 #![tactic(auto, using(typing_state::proofs::Going::goes_trans, typing_state::proofs::Going::goes_refl, typing_state::proofs::Following::follows_both, typing_state::proofs::Following::follows_before, typing_state::proofs::Following::follows_behind, typing_state::proofs::Following::follows_silent, typing_state::proofs::Following::store_silent, typing_state::proofs::Following::silent_refl, typing_state::proofs::Following::silent_trans, typing_state::proofs::Following::ends_both, typing_state::proofs::Following::ends_behind, typing_state::proofs::Following::ends_before, typing_state::proofs::Following::ends_silent))]
 
-ghost use Rattle.std.specs.Prelude.{◌≡◌, true, Some, IfNone, IfOk, IfSome, OnOk, option_map, option_and_then};
+ghost use Rattle.std.specs.Prelude.{◌≡◌, ℕ, true, Some, IfNone, IfOk, IfSome, OnOk, option_map, option_and_then};
 ghost use Rattle.type_nodes.specs.Nodes.{Node as plain};
 ghost use Rattle.type_nodes.specs.Links.{reading};
 ghost use Rattle.std.specs.Option.{option_copied};
 ghost use Rattle.row_parts.specs.Numbered.{path_view};
 ghost use Rattle.env_table.specs.declared.faults.FaultKind.{FaultKind};
-ghost use Rattle.typing_state.specs.Goes.{Goes, OnlyFaults};
+ghost use Rattle.typing_state.specs.Goes.{Goes, OnlyFaults, OnlyStore};
+ghost use Rattle.typing_model.specs.Expressions.{value_asks};
+ghost use Rattle.typing_steps.specs.Typing.{TypesOwn, path_as};
 ghost use Rattle.typing_state.specs.Steps.{Follows, Silent, asks_at_last, asks_bound};
 ghost use Rattle.type_reading.specs.TypeSteps.{constructor_steps};
 ghost use Rattle.env_table.specs.declared.entries.Kind.{Kind};
@@ -44,6 +46,7 @@ pub struct Construction {
 pub fn value(at: &mut Parts, env: &Env, path: &WrittenPath<'_>) -> Result<Used, NoMemory>
     ensures tells { OnOk result (TellsBound (path_view path.now) Kind.Value at.old at.new env.now) }
     ensures ty { IfOk result (λ u. LastHas (path_view path.now).last Kind.Value at.old at.new env.now (path_view path.now).qualifiers u.ty) }
+    ensures carries { IfOk result (λ u. (n k : ℕ) → TypesOwn at.old at.new env.now (λ c t. value_asks c n k (path_as (path_view path.now)) t) u.ty.0) }
     ensures follows { OnOk result (Follows (asks_bound (path_view path.now)) at.old at.new) }
     ensures goes { Goes at.old at.new }
 {
