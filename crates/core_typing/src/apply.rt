@@ -30,6 +30,7 @@ pub fn application(
     env: &Env,
     depth: Depth,
 ) -> Result<Used, NoMemory>
+    ensures carries { IfOk result (λ u. (place : Place) → IsCarried (numbered number place (inner (node_view node.now))) → form_of (row_at (node_view node.now)) ≡ RowForm.Application → TypesRow at.old at.new env.now (λ c. (row_expression at.old.item number place (node_view node.now)).typed c) (number_of at.old.item number) u.ty.0) }
     ensures follows { OnOk result (Follows (steps_as RowForm.Application number (node_view node.now)) at.old at.new) }
     ensures goes { Goes at.old at.new }
 {
@@ -50,6 +51,7 @@ fn applied(
     env: &Env,
     depth: Depth,
 ) -> Result<Used, NoMemory>
+    ensures carries { IfOk result (λ u. IsCarried (operand_view head.entry) → All IsCarried (map operand_view given.now) → (n : ℕ) → TypesRow at.old at.new env.now (applied_asks n (expression_of at.old.item (operand_view head.entry)) (expressions_of at.old.item (map operand_view given.now))) n u.ty.0) }
     ensures follows { OnOk result (Follows (expression_steps (operand_view head.entry) ++ arguments_steps (place_of head.entry.span) (map expression_at (map operand_view given.now))) at.old at.new) }
     ensures goes { Goes at.old at.new }
 {
@@ -162,6 +164,7 @@ fn arguments(
     env: &Env,
     depth: Depth,
 ) -> Result<NodeRef, NoMemory>
+    ensures carries { IfOk result (λ m. All IsCarried (map operand_view given.now) → TypesGiven at.old at.new env.now (place_of place) (signed_expressions (is_negated sign) at.old.item (map operand_view given.now)) head.0 m.0) }
     ensures follows { OnOk result (Follows (arguments_steps (place_of place) (map expression_at (map operand_view given.now))) at.old at.new) }
     ensures goes { Goes at.old at.new }
 {
@@ -183,6 +186,7 @@ fn argument(
     env: &Env,
     depth: Depth,
 ) -> Result<NodeRef, NoMemory>
+    ensures carries { IfOk result (λ m. IsCarried (operand_view one.entry) → TypesArgument at.old at.new env.now (place_of place) (under_minus (is_negated sign) (expression_of at.old.item (operand_view one.entry))) head.0 m.0) }
     ensures follows { OnOk result (Follows (argument_steps (place_of place) (expression_at (operand_view one.entry))) at.old at.new) }
     ensures goes { Goes at.old at.new }
 {
@@ -201,6 +205,7 @@ fn typed_argument(
     env: &Env,
     depth: Depth,
 ) -> Result<(), NoMemory>
+    ensures carries { OnOk result (IsCarried (operand_view one.entry) → TypesAs at.old at.new env.now (under_minus (is_negated sign) (expression_of at.old.item (operand_view one.entry))) from.0) }
     ensures follows { OnOk result (Follows (expression_steps (operand_view one.entry) ++ asks FaultKind.Equal (place_of one.entry.span ∷ []) ∷ []) at.old at.new) }
     ensures goes { Goes at.old at.new }
 {
@@ -216,6 +221,7 @@ fn ask_arrow(
     head: NodeRef,
     env: &Env,
 ) -> Result<(NodeRef, NodeRef), NoMemory>
+    ensures carries { IfOk result (λ p. HeadIsArrow at.old at.new env.now (place_of place) head.0 p.0.0 p.1.0) }
     ensures follows { OnOk result (Follows (asks FaultKind.Equal (place_of place ∷ []) ∷ []) at.old at.new) }
     ensures goes { Goes at.old at.new }
 {
@@ -227,6 +233,7 @@ fn ask_arrow(
 
 /// Two new variables.
 fn two_types(at: &mut Parts) -> Result<(NodeRef, NodeRef), NoMemory>
+    ensures carries { IfOk result (λ p. MakesBoth at.old at.new p.0.0 p.1.0) }
     ensures silent { Silent at.old at.new }
     ensures goes { Goes at.old at.new }
 {
@@ -244,6 +251,7 @@ struct Operator {
 
 /// The token of the operator of a row.
 fn sign_of(node: &Node) -> Option<&Token>
+    ensures token { option_map (λ t. tok_of t.now) result ≡ sign_in (row_at (node_view node.now)) (node_view node.now) }
     ensures { option_map (λ t. place_of t.now.span) result ≡ operator_in (row_at (node_view node.now)) (node_view node.now) }
 {
     match node.row {
@@ -254,6 +262,8 @@ fn sign_of(node: &Node) -> Option<&Token>
 
 /// The operator of a row; None where it is missing.
 fn operator_of(at: &Parts, node: &Node) -> Result<Option<Operator>, NoMemory>
+    ensures none { IfOk result (λ o. o ≡ None → sign_in (row_at (node_view node.now)) (node_view node.now) ≡ None) }
+    ensures some { IfOk result (λ o. IfSome o (λ x. IsSignOf (row_at (node_view node.now)) (sign_in (row_at (node_view node.now)) (node_view node.now)) x)) }
     ensures { IfOk result (λ o. option_map (λ o. place_of o.named.span) o ≡ operator_in (row_at (node_view node.now)) (node_view node.now)) }
 {
     match sign_of(node) {
@@ -264,6 +274,7 @@ fn operator_of(at: &Parts, node: &Node) -> Result<Option<Operator>, NoMemory>
 
 /// The operator by its token. Over an argument alone - is ~-, and -. is ~-.
 fn operator_by(at: &Parts, row: RowName, token: &Token) -> Result<Operator, NoMemory>
+    ensures operator { IfOk result (λ o. IsOperator (row_of row) (tok_of token.now) o) }
     ensures { IfOk result (λ o. place_of o.named.span ≡ place_of token.now.span) }
 {
     let (name, sign) = match row {
@@ -283,6 +294,7 @@ fn operator_by(at: &Parts, row: RowName, token: &Token) -> Result<Operator, NoMe
 
 /// `bound` of an operator.
 fn operator_value(at: &mut Parts, operator: &Token, env: &Env) -> Result<Used, NoMemory>
+    ensures carries { IfOk result (λ u. (n k : ℕ) → TypesOwn at.old at.new env.now (λ c t. value_asks c n k (record { qualifiers = []; last = Some (tok_of operator.now) }) t) u.ty.0) }
     ensures tells { OnOk result (TellsBound (record { qualifiers = []; last = Some (tok_of operator.now) }) Kind.Value at.old at.new env.now) }
     ensures follows { OnOk result (Follows (asks FaultKind.Bound (place_of operator.now.span ∷ []) ∷ []) at.old at.new) }
     ensures goes { Goes at.old at.new }
@@ -303,6 +315,7 @@ pub fn operation(
     env: &Env,
     depth: Depth,
 ) -> Result<Used, NoMemory>
+    ensures carries { IfOk result (λ u. (place : Place) → IsCarried (numbered number place (inner (node_view node.now))) → IsOperation (row_at (node_view node.now)) (is_float_at (filled_in number (node_view node.now) 1).part) → TypesRow at.old at.new env.now (λ c. (row_expression at.old.item number place (node_view node.now)).typed c) (number_of at.old.item number) u.ty.0) }
     ensures follows { OnOk result (Follows (steps_as RowForm.Operation number (node_view node.now)) at.old at.new) }
     ensures goes { Goes at.old at.new }
 {
@@ -325,6 +338,7 @@ fn operated(
     env: &Env,
     depth: Depth,
 ) -> Result<Used, NoMemory>
+    ensures carries { IfOk result (λ u. All IsCarried (map operand_view given.now) → (n : ℕ) → TypesRow at.old at.new env.now (operated_asks n (tok_of operator.now.named) (signed_expressions (is_negated operator.now.sign) at.old.item (map operand_view given.now))) n u.ty.0) }
     ensures follows { OnOk result (Follows (asks FaultKind.Bound (place_of operator.now.named.span ∷ []) ∷ arguments_steps (place_of operator.now.named.span) (map expression_at (map operand_view given.now))) at.old at.new) }
     ensures goes { Goes at.old at.new }
 {
@@ -344,6 +358,7 @@ pub fn minus(
     env: &Env,
     depth: Depth,
 ) -> Result<Used, NoMemory>
+    ensures carries { IfOk result (λ u. (place : Place) → IsCarried (numbered number place (inner (node_view node.now))) → form_of (row_at (node_view node.now)) ≡ RowForm.Minus → TypesRow at.old at.new env.now (λ c. (row_expression at.old.item number place (node_view node.now)).typed c) (number_of at.old.item number) u.ty.0) }
     ensures follows { OnOk result (Follows (steps_as RowForm.Minus number (node_view node.now)) at.old at.new) }
     ensures goes { Goes at.old at.new }
 {
@@ -380,6 +395,8 @@ fn is_point(token: Option<&Token>) -> bool
 
 /// A numeral with a point under a minus, by its number.
 fn negative_float(at: &mut Parts, number: u32, env: &Env) -> Result<Used, NoMemory>
+    ensures carries { IfOk result (λ u. is_aloud at.old.telling ≡ true → Records (sight at.old) (sight at.new) number at.old.constants.float.0) }
+    ensures ty { IfOk result (λ u. u.ty ≡ at.old.constants.float) }
     ensures follows { OnOk result (Follows (records number ∷ []) at.old at.new) }
     ensures goes { Goes at.old at.new }
 {

@@ -34,6 +34,7 @@ pub fn type_expr(
     env: &Env,
     depth: Depth,
 ) -> Result<NodeRef, NoMemory>
+    ensures carries { IfOk result (λ m. IsCarried (operand_view e.entry) → TypesTo at.old at.new env.now (λ c. (expression_of at.old.item (operand_view e.entry)).typed c) (λ ch. ch.type_at (expression_of at.old.item (operand_view e.entry)).node) m.0) }
     ensures alone { OnOk result (TellsAlone (operand_view e.entry).part false at.old at.new env.now) }
     ensures follows { OnOk result (Follows (expression_steps (operand_view e.entry)) at.old at.new) }
     ensures recorded { OnOk result (IsRecorded at.new e.entry.number) }
@@ -51,6 +52,7 @@ pub fn type_under(
     env: &Env,
     depth: Depth,
 ) -> Result<NodeRef, NoMemory>
+    ensures carries { IfOk result (λ m. IsCarried (operand_view e.entry) → TypesTo at.old at.new env.now (λ c. (under_minus (is_negated sign) (expression_of at.old.item (operand_view e.entry))).typed c) (λ ch. ch.type_at (expression_of at.old.item (operand_view e.entry)).node) m.0) }
     ensures alone { OnOk result (TellsAlone (operand_view e.entry).part (is_negated sign) at.old at.new env.now) }
     ensures follows { OnOk result (Follows (expression_steps (operand_view e.entry)) at.old at.new) }
     ensures recorded { OnOk result (IsRecorded at.new e.entry.number) }
@@ -120,6 +122,7 @@ fn typed_row(
     env: &Env,
     depth: Depth,
 ) -> Result<Used, NoMemory>
+    ensures carries { IfOk result (λ u. (place : Place) → IsCarried (numbered number place (inner (node_view node.now))) → TypesRow at.old at.new env.now (λ c. (under_minus (is_negated sign) (row_expression at.old.item number place (node_view node.now))).typed c) (number_of at.old.item number) u.ty.0) }
     ensures alone { OnOk result (TellsAs (form_of (row_at (node_view node.now))) (node_view node.now) (is_negated sign) at.old at.new env.now) }
     ensures follows { OnOk result (Follows (unrecorded_steps number (node_view node.now)) at.old at.new) }
     ensures goes { Goes at.old at.new }
@@ -147,6 +150,7 @@ pub fn type_each(
     env: &Env,
     depth: Depth,
 ) -> Result<(), NoMemory>
+    ensures carries { OnOk result (All IsCarried (map operand_view es.now) → TypesEach at.old at.new env.now (expressions_of at.old.item (map operand_view es.now))) }
     ensures follows { OnOk result (Follows (each (λ o. expression_steps (operand_view o)) es.now) at.old at.new) }
     ensures goes { Goes at.old at.new }
 {
@@ -176,6 +180,7 @@ pub fn typed_as(
 
 /// A row without parts.
 fn leaf(at: &mut Parts, node: &Node, number: u32, sign: Sign, env: &Env) -> Result<Used, NoMemory>
+    ensures carries { IfOk result (λ u. (place : Place) → IsCarried (numbered number place (inner (node_view node.now))) → form_of (row_at (node_view node.now)) ≡ RowForm.Leaf → TypesRow at.old at.new env.now (λ c. (under_minus (is_negated sign) (row_expression at.old.item number place (node_view node.now))).typed c) (number_of at.old.item number) u.ty.0) }
     ensures tells { OnOk result (TellsLeaf (node_view node.now) (is_negated sign) at.old at.new env.now) }
     ensures follows { OnOk result (Follows (steps_as RowForm.Leaf number (node_view node.now)) at.old at.new) }
     ensures goes { Goes at.old at.new }
@@ -201,6 +206,7 @@ fn constructor_alone(at: &mut Parts, env: &Env, path: &WrittenPath<'_>) -> Resul
 
 /// A row without parts that is no constructor.
 fn leaf_value(at: &mut Parts, node: &Node, sign: Sign, env: &Env) -> Result<Used, NoMemory>
+    ensures carries { IfOk result (λ u. (number : ℕ) (place : Place) → IsCarried (numbered number place (inner (node_view node.now))) → form_of (row_at (node_view node.now)) ≡ RowForm.Leaf → TypesRow at.old at.new env.now (λ c. (under_minus (is_negated sign) (row_expression at.old.item number place (node_view node.now))).typed c) (number_of at.old.item number) u.ty.0) }
     ensures tells { OnOk result (TellsValue (value_in (row_at (node_view node.now)) (node_view node.now)) (is_negated sign) at.old at.new env.now) }
     ensures follows { OnOk result (Follows (value_steps (value_in (row_at (node_view node.now)) (node_view node.now))) at.old at.new) }
     ensures goes { Goes at.old at.new }

@@ -33,6 +33,7 @@ pub fn plain(
     env: &Env,
     depth: Depth,
 ) -> Result<Used, NoMemory>
+    ensures carries { IfOk result (λ u. (place : Place) → IsCarried (numbered number place (inner (node_view node.now))) → form_of (row_at (node_view node.now)) ≡ RowForm.Plain → TypesRow at.old at.new env.now (λ c. (row_expression at.old.item number place (node_view node.now)).typed c) (number_of at.old.item number) u.ty.0) }
     ensures follows { OnOk result (Follows (steps_as RowForm.Plain number (node_view node.now)) at.old at.new) }
     ensures goes { Goes at.old at.new }
 {
@@ -50,7 +51,9 @@ struct Scope {
 }
 
 /// In the body of a `for` its variable stands; elsewhere all parts have the environment of the row.
-fn last_scope(at: &Parts, node: &Node, env: &Env) -> Result<Scope, NoMemory> {
+fn last_scope(at: &Parts, node: &Node, env: &Env) -> Result<Scope, NoMemory>
+    ensures { IfOk result (λ s. IsPlainRow (row_of node.now.row) → s.env ≡ env.now) }
+{
     match (node.row, token(node, 1)) {
         (RowName::Efor, Some(name)) => scope_in_loop(at, name, env),
         _ => Ok(Scope {
@@ -82,6 +85,7 @@ fn type_parts(
     inner: &Env,
     depth: Depth,
 ) -> Result<Vec<NodeRef>, NoMemory>
+    ensures carries { IfOk result (λ ts. IsPlainRow (row_of row) → inner.now ≡ env.now → All IsCarried (map operand_view parts.now) → TypesParts at.old at.new env.now (row_of row) (expressions_of at.old.item (map operand_view parts.now)) (numbers ts.items)) }
     ensures follows { OnOk result (Follows (parts_from (row_of row) 0 (map expression_at (map operand_view parts.now))) at.old at.new) }
     ensures goes { Goes at.old at.new }
 {
@@ -106,6 +110,7 @@ fn type_part(
     env: &Env,
     depth: Depth,
 ) -> Result<NodeRef, NoMemory>
+    ensures carries { IfOk result (λ m. IsPlainRow (row_of row) → scope.now ≡ env.now → IsCarried (operand_view part.entry) → TypesPart at.old at.new env.now (row_of row) place (expression_of at.old.item (operand_view part.entry)) m.0) }
     ensures follows { OnOk result (Follows (part_steps (row_of row) place (expression_at (operand_view part.entry))) at.old at.new) }
     ensures goes { Goes at.old at.new }
 {
@@ -123,20 +128,42 @@ fn behind_part(
     ty: NodeRef,
     env: &Env,
 ) -> Result<(), NoMemory>
+    ensures carries { OnOk result (IsPlainRow (row_of row) → AsksBehind at.old at.new env.now (row_of row) place (expression_of at.old.item (operand_view part.entry)) ty.0) }
     ensures follows { OnOk result (Follows (behind_part_steps (row_of row) place (expression_at (operand_view part.entry))) at.old at.new) }
     ensures goes { Goes at.old at.new }
 {
+    if is_condition(row, place, part) {
+        return ask_bool(at, part, ty, env);
+    }
     match (row, place) {
-        (RowName::Eif | RowName::Ewhile, 0) => ask_bool(at, part, ty, env),
-        (RowName::Eassert, 0) if !is_false(part) => ask_bool(at, part, ty, env),
         (RowName::Efor, 0 | 1) => ask_int(at, part, ty, env),
         (RowName::Eset, 0) => ask_mutable(at, part, env),
         _ => Ok(()),
     }
 }
 
+/// Whether the part of a row at a place is a bool.
+fn is_condition(row: RowName, place: usize, part: Operand<'_>) -> bool
+    ensures { result ≡ (place == 0 && wants_bool (row_of row) (is_false_at (operand_view part.entry).part)) }
+{
+    place == 0 && wants_bool(row, is_false(part))
+}
+
+/// Whether the first part of a row is a bool. The word `false` after `assert` needn't be.
+#[tactic(auto, unfolding(syntax_tree::specs::Names::row_of))]
+fn wants_bool(row: RowName, is_false: bool) -> bool
+    ensures { result ≡ wants_bool (row_of row) is_false }
+{
+    match row {
+        RowName::Eif | RowName::Ewhile => true,
+        RowName::Eassert => !is_false,
+        _ => false,
+    }
+}
+
 /// The demand that a part is a bool.
 fn ask_bool(at: &mut Parts, part: Operand<'_>, ty: NodeRef, env: &Env) -> Result<(), NoMemory>
+    ensures carries { OnOk result (AsksBool at.old at.new env.now (expression_of at.old.item (operand_view part.entry)) ty.0) }
     ensures follows { OnOk result (Follows (asks_equal (operand_view part.entry)) at.old at.new) }
     ensures goes { Goes at.old at.new }
 {
@@ -205,6 +232,7 @@ fn behind_parts(
     names: Names,
     env: &Env,
 ) -> Result<Used, NoMemory>
+    ensures carries { IfOk result (λ u. IsPlainRow (row_at (node_view node.now)) → EndsRow at.old at.new env.now (end_of (row_at (node_view node.now)) (expressions_of at.old.item (map operand_view parts.now))) (expressions_of at.old.item (map operand_view parts.now)) (numbers types.now) u.ty.0) }
     ensures follows { OnOk result (Follows (behind_parts (row_at (node_view node.now)) (node_view node.now) (map expression_at (map operand_view parts.now))) at.old at.new) }
     ensures goes { Goes at.old at.new }
 {
@@ -225,6 +253,7 @@ fn type_of(
     types: &[NodeRef],
     env: &Env,
 ) -> Result<NodeRef, NoMemory>
+    ensures carries { IfOk result (λ m. IsPlainRow (row_of row) → EndsRow at.old at.new env.now (end_of (row_of row) (expressions_of at.old.item (map operand_view parts.now))) (expressions_of at.old.item (map operand_view parts.now)) (numbers types.now) m.0) }
     ensures follows { OnOk result (Follows (each has_type (asked_behind (row_of row) (map expression_at (map operand_view parts.now)))) at.old at.new) }
     ensures goes { Goes at.old at.new }
 {
@@ -257,6 +286,7 @@ fn has(
     wanted: NodeRef,
     env: &Env,
 ) -> Result<(), NoMemory>
+    ensures carries { OnOk result (AsksAt at.old at.new env.now (expressions_of at.old.item (map operand_view parts.now)) (numbers types.now) place wanted.0) }
     ensures follows { OnOk result (Follows (each has_type (part_at place (map expression_at (map operand_view parts.now)))) at.old at.new) }
     ensures goes { Goes at.old at.new }
 {
@@ -275,6 +305,7 @@ fn list(
     types: &[NodeRef],
     env: &Env,
 ) -> Result<NodeRef, NoMemory>
+    ensures carries { IfOk result (λ m. EndsRow at.old at.new env.now (end_of elist_row (expressions_of at.old.item (map operand_view parts.now))) (expressions_of at.old.item (map operand_view parts.now)) (numbers types.now) m.0) }
     ensures follows { OnOk result (Follows (each has_type (later (map expression_at (map operand_view parts.now)))) at.old at.new) }
     ensures goes { Goes at.old at.new }
 {
@@ -291,6 +322,7 @@ fn later_have(
     wanted: NodeRef,
     env: &Env,
 ) -> Result<(), NoMemory>
+    ensures carries { OnOk result (AsksLater at.old at.new env.now (expressions_of at.old.item (map operand_view parts.now)) (numbers types.now) wanted.0) }
     ensures follows { OnOk result (Follows (each has_type (later (map expression_at (map operand_view parts.now)))) at.old at.new) }
     ensures goes { Goes at.old at.new }
 {
@@ -307,6 +339,7 @@ fn cons(
     types: &[NodeRef],
     env: &Env,
 ) -> Result<NodeRef, NoMemory>
+    ensures carries { IfOk result (λ m. EndsRow at.old at.new env.now (end_of econs_row (expressions_of at.old.item (map operand_view parts.now))) (expressions_of at.old.item (map operand_view parts.now)) (numbers types.now) m.0) }
     ensures follows { OnOk result (Follows (each has_type (part_at 1 (map expression_at (map operand_view parts.now)))) at.old at.new) }
     ensures goes { Goes at.old at.new }
 {
@@ -327,6 +360,7 @@ fn branches(
     types: &[NodeRef],
     env: &Env,
 ) -> Result<NodeRef, NoMemory>
+    ensures carries { IfOk result (λ m. EndsRow at.old at.new env.now (end_of eif_row (expressions_of at.old.item (map operand_view parts.now))) (expressions_of at.old.item (map operand_view parts.now)) (numbers types.now) m.0) }
     ensures follows { OnOk result (Follows (each has_type (asked_branch (map expression_at (map operand_view parts.now)))) at.old at.new) }
     ensures goes { Goes at.old at.new }
 {
@@ -396,6 +430,7 @@ pub fn parenthesised(
     env: &Env,
     depth: Depth,
 ) -> Result<Used, NoMemory>
+    ensures carries { IfOk result (λ u. (place : Place) → IsCarried (numbered number place (inner (node_view node.now))) → form_of (row_at (node_view node.now)) ≡ RowForm.Parenthesised → TypesRow at.old at.new env.now (λ c. (row_expression at.old.item number place (node_view node.now)).typed c) (number_of at.old.item number) u.ty.0) }
     ensures follows { OnOk result (Follows (steps_as RowForm.Parenthesised number (node_view node.now)) at.old at.new) }
     ensures goes { Goes at.old at.new }
 {

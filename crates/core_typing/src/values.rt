@@ -48,12 +48,25 @@ fn are_values(
 }
 
 /// `false`
-pub fn is_false(e: Operand<'_>) -> bool {
-    match e.node {
-        Some(node) => match (node.row, token(node, 0)) {
-            (RowName::Econst, Some(token)) => token.kind == TokenKind::False,
-            _ => false,
-        },
+pub fn is_false(e: Operand<'_>) -> bool
+    ensures { result ≡ is_false_at (operand_view e.entry).part }
+{
+    let Some(node) = e.node else {
+        return false;
+    };
+    match node.row {
+        RowName::Econst => is_false_word(token(node, 0)),
+        _ => false,
+    }
+}
+
+/// Whether a token is the word `false`.
+#[tactic(auto, unfolding(syntax_tree::specs::Names::kind_of))]
+fn is_false_word(token: Option<&Token>) -> bool
+    ensures { result ≡ is_false_token (option_map (λ t. tok_of t.now) token.entry) }
+{
+    match token {
+        Some(token) => token.kind == TokenKind::False,
         None => false,
     }
 }

@@ -9,6 +9,7 @@ use Rattle.type_model.specs.Types.{Typ, types_of}
 use Rattle.type_model.specs.Types.{Typ as type}
 use Rattle.typing_model.specs.Demands.{Condition, site, equal}
 use Rattle.typing_model.specs.Contexts.{Choice, Context, ask, type_at}
+use Rattle.typing_model.specs.Contexts as contexts
 use Rattle.typing_model.specs.BuiltIns.{unit_type, bool_type, list_type}
 use Rattle.typing_model.specs.Parts.{Expression, last_of}
 use Rattle.typing_model.specs.Patterns.{ask_all, behind_first}
@@ -37,7 +38,8 @@ use Rattle.typing_steps.specs.Demands.{JudgedAs, is_kept}
 use Rattle.typing_steps.specs.Typing.{any_declared, RowCarried, TypesRow, AsksEqual, TypesAny}
 use Rattle.typing_steps.proofs.Making.{var_made, tuple_over, list_over}
 use Rattle.typing_steps.proofs.Rows.{row_any}
-use Rattle.typing_rows.specs.Contracts.{types_at, PartsAll, TypesParts, parts_ask, has_if, AsksAt, AsksLater, LaterFirst, AsksLaterFirst, branches_ask, cons_asks, list_asks, begin_asks, last_asks, assert_ends, assert_end_asks, EndsRow}
+use Rattle.typing_rows.specs.Asked.{parts_ask, has_if, branches_ask, cons_asks, list_asks, begin_asks, last_asks, assert_ends, assert_end_asks}
+use Rattle.typing_rows.specs.Contracts.{types_at, PartsAll, TypesParts, AsksAt, AsksLater, LaterFirst, AsksLaterFirst, EndsRow}
 
 -- a row that has a type once something was asked
 pub row_of_type : {F : Frame} {scope : Scope} {asks : Asks} {a b : Sight} {G : Letters} {n m : ℕ} (front : Asks) (type : Choice → Typ) → Carried F scope front a G b G → Means F b G type m → ((c : Context) → front c ++ is_of c n (type c.chosen) ≡ asks c) → RowCarried F scope asks a G b n m
@@ -183,3 +185,42 @@ ends_else a b env e f g gs ms yes node asked = λ aloud F scope G n s all.
     let has = subst (λ y. Means F (sight a) G (λ ch. ch.type_at y.node) yes) same r.means in
     let x = asked aloud F scope G n 1 (λ ch. ch.type_at f.node) s all has in
     row_of_type (λ c. has_type c n 1 g (type_at c f.node)) (λ ch. ch.type_at f.node) x (means_on x.stays has) (λ c. refl)
+
+-- [ e; e ], where there is a first part
+pub ends_list : (a b d : Parts) (env : List Entry) (e : Expression) (es : List Expression) (ms : List ℕ) (element m : ℕ) → slice_get ms 0 ≡ Some element → Goes a b → AsksLater a b env (e ∷ es) ms element → (IsNode b.store.nodes element → Makes b.store d.store m (Con list_path (codes "list") (element ∷ []))) → OnlyStore b d →
+    EndsRow a d env (λ c n. list_asks c n (e ∷ es)) (e ∷ es) ms m
+ends_list a b d env e es ms element m node goes later made rest = λ aloud F scope G n s all.
+    let r = reads_at (e ∷ es) ms 0 element all node in
+    let same : r.part ≡ e = one_some r.part e (sym r.here) in
+    let has = subst (λ y. Means F (sight a) G (λ ch. ch.type_at y.node) element) same r.means in
+    let x = later aloud F scope G n (λ ch. ch.type_at e.node) s all has in
+    let y = list_over b d {scope = scope} (means_on x.stays has) made rest in
+    row_of_type (λ c. ask_all n 0 (each_has c (type_at c e.node) es) ++ []) (λ ch. list_type (ch.type_at e.node)) (carried_trans x y.carried) y.means
+    (λ c. ap (λ xs. xs ++ is_of c n (list_type (type_at c e.node))) (append-nil (ask_all n 0 (each_has c (type_at c e.node) es))))
+
+-- the same where there is none: a list of any type
+pub ends_list_none : (a b d e : Parts) (env : List Entry) (es : List Expression) (ms : List ℕ) (element m : ℕ) → slice_get ms 0 ≡ None → TypesAny a b element → Goes a b → AsksLater b d env es ms element → (IsNode d.store.nodes element → Makes d.store e.store m (Con list_path (codes "list") (element ∷ []))) → OnlyStore d e →
+    EndsRow a e env (λ c n. list_asks c n es) es ms m
+ends_list_none a b d e env es ms element m none any goes later made rest = λ aloud F scope G n s all. by es all (none_at es ms 0 all none) later aloud F scope G n s
+  where
+    by : (es : List Expression) {F : Frame} {G : Letters} → AllMean F (sight a) G (types_at es) ms → slice_get es 0 ≡ None → AsksLater b d env es ms element → is_aloud a.telling ≡ true → (F' : Frame) (scope : Scope) (G' : Letters) (n : ℕ) → Surrounds any_declared F' (sight a) G' env scope →
+        RowCarried F' scope (λ c. list_asks c n es) (sight a) G' (sight e) n m
+    by (x ∷ es) all there later aloud F scope G n s = absurd (cc)
+    by [] all there later aloud F scope G n s =
+        let x = any F scope G (letter n 0) (λ t. tt) s.reached in
+        let st = x.carried.stays in
+        let y = later (ap is_aloud goes.telling ∙ aloud) F scope ((letter n 0, element) ∷ G) n (λ ch. ch.letter n 0) (surrounds_on st s) (no_means ms none) x.means in
+        let z = list_over d e {scope = scope} (means_on y.stays x.means) made rest in
+        record {
+          own = (letter n 0, element) ∷ [];
+          type = λ ch. list_type (ch.letter n 0);
+          first = λ c. [];
+          ends = λ c. is_of c n (list_type (contexts.letter c n 0));
+          all = λ c. refl;
+          typed = record { carried = carried_trans (carried_trans x.carried y) z.carried; means = z.means };
+          end = ends_same n (λ ch. list_type (ch.letter n 0));
+        }
+      where
+        no_means : {F : Frame} {b : Sight} {H : Letters} (ms : List ℕ) → slice_get ms 0 ≡ None → AllMean F b H [] ms
+        no_means [] e = none_mean
+        no_means (m ∷ ms) e = absurd (cc)

@@ -29,7 +29,8 @@ use Rattle.typing_steps.specs.States.{is_aloud, sight}
 use Rattle.typing_steps.specs.Demands.{JudgedAs, is_kept}
 use Rattle.typing_steps.specs.Typing.{any_declared, TypesTo, AsksEqual}
 use Rattle.typing_steps.proofs.Comparing.{equal_asked}
-use Rattle.typing_rows.specs.Contracts.{types_at, PartsAll, PartsFirst, TypesParts, TypesPartsFirst, TypesPart, AsksBehind, AsksBool, wants_bool, bool_if, behind_asks, parts_ask}
+use Rattle.typing_rows.specs.Asked.{wants_bool, bool_if, behind_asks, parts_ask}
+use Rattle.typing_rows.specs.Contracts.{types_at, PartsAll, PartsFirst, TypesParts, TypesPartsFirst, TypesPart, AsksBehind, AsksBool}
 
 -- the demand that an expression is a bool
 pub asks_bool : (a b : Parts) (env : List Entry) (e : Expression) (at : Place) (ty : ℕ) → e.at ≡ at → AsksEqual a b at ty a.constants.bool.0 → AsksBool a b env e ty
@@ -70,7 +71,7 @@ parts_more a b d env r i j all left rest e ms more m split place longer goes fir
     let p = first aloud F scope G n s in
     let q = subst (λ k. CarriedTo F scope (λ c. e.typed c ++ behind_asks r k c n e) (sight b) G (sight d) G (λ ch. ch.type_at e.node) m) place (one (ap is_aloud goes.telling ∙ aloud) F scope G n (surrounds_on p.carried.stays s)) in
     record {
-      done = λ c. p.done c ++ e.typed c ++ behind_asks r i c n e;
+      done = λ c. p.done c ++ (e.typed c ++ behind_asks r i c n e);
       types = p.types ++ (λ (ch : Choice). ch.type_at e.node) ∷ [];
       carried = carried_trans p.carried q.carried;
       means = subst (AllMean F (sight d) G (p.types ++ (λ (ch : Choice). ch.type_at e.node) ∷ [])) (sym longer) (all_mean_more (all_mean_on q.carried.stays p.means) q.means);

@@ -33,7 +33,7 @@ use Rattle.operand_laws.specs.Operands.{number_of, parts_of, expression_of}
 use Rattle.operand_laws.proofs.Standing.{expression_of_stands}
 use Rattle.operand_laws.proofs.Sorts.{expression_by_row}
 use Rattle.typing_rows.specs.CarriedRows.{IsCarried}
-use Rattle.typing_rows.specs.Contracts.{under_minus, row_expression}
+use Rattle.typing_rows.specs.Asked.{under_minus, row_expression}
 
 -- what an expression asks directly under a minus, once it is recorded
 under_recorded : (negated : Bool) (n : ℕ) (e : Expression) (c : Context) → tell_typed n c ++ (under_minus negated e).typed c ≡ (under_minus negated (recorded_expression n e)).typed c

@@ -1,0 +1,3 @@
+-- Scratch.
+pub mod CarriedRows
+pub mod Asked
