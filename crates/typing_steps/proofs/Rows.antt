@@ -2,7 +2,7 @@
 use Rattle.std.proofs.Common.{◌≡◌, ◌++◌, ℕ, List, [], ◌∷◌, refl, ap, append-nil}
 use Rattle.text_terms.specs.declared.Span.{Span}
 use Rattle.syntax_tree.specs.View.{place_of}
-use Rattle.typing_model.specs.Contexts.{Choice, Context, tell_typed}
+use Rattle.typing_model.specs.Contexts.{Context, tell_typed}
 use Rattle.typing_model.specs.Demands.{Condition}
 use Rattle.type_model.specs.Types.{Typ}
 use Rattle.type_terms.specs.declared.types.NodeRef.{NodeRef}
@@ -18,7 +18,6 @@ use Rattle.typing_conditions.specs.Steps.{Records}
 use Rattle.typing_conditions.specs.Carrying.{Asks, Scope, CarriedTo}
 use Rattle.typing_conditions.proofs.Recording.{ends_own, row_recorded}
 use Rattle.typing_conditions.proofs.Answering.{to_as}
-use Rattle.typing_steps.specs.States.{sight}
 use Rattle.typing_steps.specs.Typing.{TypesOwn, TypesAny, RowCarried, TypesRow, AsksEqual}
 use Rattle.typing_steps.proofs.Making.{var_made}
 use Rattle.typing_steps.proofs.Comparing.{equal_asked}
@@ -29,8 +28,8 @@ pub row_carried : {F : Frame} {scope : Scope} {asks : Asks} {a b d : Sight} {G :
 row_carried {n = n} number row r = to_as (λ c. ap (λ cs. tell_typed n c ++ cs) (row.all c)) (λ ch. refl) (row_recorded row.own n number row.typed row.end r)
 
 -- a row whose type is its own, as that of a name
-pub row_own : (a b : Parts) {env : List Entry} {asks : Context → Typ → List Condition} {m : ℕ} (n : ℕ) → TypesOwn a b env asks m → TypesRow a b env (λ c. asks c (c.chosen.type_at n)) n m
-row_own a b {asks = asks} {m = m} n typed aloud F scope G at = record {
+pub row_own : (a b : Parts) {env : List Entry} {m : ℕ} (asks : Context → Typ → List Condition) (n : ℕ) → TypesOwn a b env asks m → TypesRow a b env (λ c. asks c (c.chosen.type_at n)) n m
+row_own a b {m = m} asks n typed aloud F scope G at = record {
   own = (own n, m) ∷ [];
   type = λ ch. ch.type_at n;
   first = λ c. asks c (c.chosen.type_at n);
@@ -42,7 +41,7 @@ row_own a b {asks = asks} {m = m} n typed aloud F scope G at = record {
 
 -- a row of which nothing is asked
 pub row_any : (a b : Parts) {env : List Entry} {m : ℕ} (n : ℕ) → TypesAny a b m → TypesRow a b env (λ c. []) n m
-row_any a b {env} {m} n typed = row_own a b {env} {λ c t. []} n (λ aloud F scope G key free at. typed F scope G key free at.reached)
+row_any a b {env} {m} n typed = row_own a b {env = env} (λ c t. []) n (λ aloud F scope G key free at. typed F scope G key free at.reached)
 
 -- `var`: a new variable stands for whatever a choice chooses
 pub var_any : (a b : Parts) {m : ℕ} → MakesVar a b m any_scope → OnlyStore a b → TypesAny a b m
