@@ -86,12 +86,15 @@ pub record ReadsAt (F : Frame) (a : Sight) (G : Letters) (es : List Expression) 
 -- each node among them is that of an expression
 pub reads_at : {F : Frame} {a : Sight} {G : Letters} (es : List Expression) (ms : List ℕ) (i m : ℕ) → AllMean F a G (types_at es) ms → slice_get ms i ≡ Some m → ReadsAt F a G es i m
 reads_at [] [] i m none_mean e = absurd (cc)
+reads_at {F = F} {a = a} {G = G} [] (k ∷ ms) i m all e = elim all [ ]
+reads_at {F = F} {a = a} {G = G} (x ∷ es) [] i m all e = elim all [ ]
 reads_at {F} {a} {G} (x ∷ es) (k ∷ ms) zero m (one_means h hs) e = let s : k ≡ m = cc in record { part = x; here = refl; means = subst (Means F a G (λ ch. ch.type_at x.node)) s h }
 reads_at (x ∷ es) (k ∷ ms) (suc i) m (one_means h hs) e = let r = reads_at es ms i m hs e in record { part = r.part; here = r.here; means = r.means }
 
 -- there are as many nodes as expressions
 pub none_at : {F : Frame} {a : Sight} {G : Letters} (es : List Expression) (ms : List ℕ) (i : ℕ) → AllMean F a G (types_at es) ms → slice_get ms i ≡ None → slice_get es i ≡ None
 none_at [] ms i all e = refl
+none_at {F = F} {a = a} {G = G} (x ∷ es) [] i all e = elim all [ ]
 none_at (x ∷ es) (k ∷ ms) zero (one_means h hs) e = absurd (cc)
 none_at (x ∷ es) (k ∷ ms) (suc i) (one_means h hs) e = none_at es ms i hs e
 
@@ -178,11 +181,11 @@ ends_then a b env e f ms asked = λ aloud F scope G n s all.
     row_of_type (λ c. has_type c n 1 f unit_type) (λ ch. unit_type) x (means_on x.stays (means_more s.fixed.unit)) (λ c. refl)
 
 -- if e then e else e, where the branches have one type
-pub ends_else : (a b : Parts) (env : List Entry) (e f g : Expression) (gs : List Expression) (ms : List ℕ) (yes : ℕ) → slice_get ms 1 ≡ Some yes → AsksAt a b env (e ∷ f ∷ g ∷ gs) ms 2 yes → EndsRow a b env (λ c n. branches_ask c n (e ∷ f ∷ g ∷ gs)) (e ∷ f ∷ g ∷ gs) ms yes
-ends_else a b env e f g gs ms yes node asked = λ aloud F scope G n s all.
-    let r = reads_at (e ∷ f ∷ g ∷ gs) ms 1 yes all node in
+pub ends_else : (a b : Parts) (env : List Entry) (e f g : Expression) (gs : List Expression) (ms : List ℕ) (branch : ℕ) → slice_get ms 1 ≡ Some branch → AsksAt a b env (e ∷ f ∷ g ∷ gs) ms 2 branch → EndsRow a b env (λ c n. branches_ask c n (e ∷ f ∷ g ∷ gs)) (e ∷ f ∷ g ∷ gs) ms branch
+ends_else a b env e f g gs ms branch node asked = λ aloud F scope G n s all.
+    let r = reads_at (e ∷ f ∷ g ∷ gs) ms 1 branch all node in
     let same : r.part ≡ f = one_some r.part f (sym r.here) in
-    let has = subst (λ y. Means F (sight a) G (λ ch. ch.type_at y.node) yes) same r.means in
+    let has = subst (λ y. Means F (sight a) G (λ ch. ch.type_at y.node) branch) same r.means in
     let x = asked aloud F scope G n 1 (λ ch. ch.type_at f.node) s all has in
     row_of_type (λ c. has_type c n 1 g (type_at c f.node)) (λ ch. ch.type_at f.node) x (means_on x.stays has) (λ c. refl)
 

@@ -3,6 +3,7 @@ use Rattle.std.proofs.Common.{◌≡◌, ◌∙◌, ◌++◌, ℕ, ◌+◌, ◌=
 use Rattle.text_terms.specs.declared.Span.{Span}
 use Rattle.syntax_tree.specs.View.{place_of}
 use Rattle.tree_model.specs.Rows.{Row}
+use Rattle.tree_model.specs.Trees.{Place}
 use Rattle.type_model.specs.Types.{Typ}
 use Rattle.typing_model.specs.Demands.{site, equal}
 use Rattle.typing_model.specs.Contexts.{Choice, Context, ask}

@@ -1,14 +1,15 @@
 -- What is asked of the parts of a row and after them, in the order in which the code types them.
 use Rattle.std.specs.Prelude.{ℕ, ◌+◌, ◌==◌, ◌&&◌, Bool, true, false, not, List, [], ◌∷◌, ◌++◌, map, Option, Some, None, slice_get}
+use Rattle.token_model.specs.Kinds.{Tok}
 use Rattle.tree_model.specs.Rows.{Row, ebegin_row, elist_row, eassert_row, ewhile_row, econs_row, etuple_row, eif_row, eseq_row}
 use Rattle.tree_model.specs.Trees.{Place, Tree}
 use Rattle.type_model.specs.Types.{Typ, Tuple, types_of}
 use Rattle.typing_model.specs.Demands.{Condition}
-use Rattle.typing_model.specs.Contexts.{Context, type_at}
-use Rattle.typing_model.specs.Parts.{Expression, last_of}
+use Rattle.typing_model.specs.Contexts.{Context, type_at, letter}
+use Rattle.typing_model.specs.Parts.{Expression, last_of, place_of}
 use Rattle.typing_model.specs.BuiltIns.{unit_type, bool_type, list_type}
 use Rattle.typing_model.specs.Patterns.{ask_all, behind_first}
-use Rattle.typing_model.specs.Expressions.{expression_row, has_type, is_of, first_type, each_has, node_types, is_false}
+use Rattle.typing_model.specs.Expressions.{expression_row, has_type, is_of, first_type, each_has, node_types, is_false, applied_from, value_asks}
 use Rattle.row_parts.specs.Numbered.{Numbered}
 use Rattle.operand_laws.specs.Formed.{row_of}
 use Rattle.operand_laws.specs.Operands.{number_of, parts_of, expression_of}
@@ -115,3 +116,15 @@ end_asks eif_row c n es = branches_ask c n es
 end_asks eassert_row c n es = assert_end_asks c n es
 end_asks ewhile_row c n es = is_of c n unit_type
 end_asks _ c n es = []
+
+-- the same by the row
+abbrev pub end_of : Row → List Expression → Context → ℕ → List Condition
+end_of r es c n = end_asks r c n es
+
+-- a head that is no constructor, and its arguments
+abbrev pub applied_asks : ℕ → Expression → List Expression → Context → List Condition
+applied_asks n head es c = head.typed c ++ applied_from c n 0 0 head.at (type_at c head.node) es
+
+-- an operator as the name of a value, and its arguments; its own type is the letter 0
+abbrev pub operated_asks : ℕ → Tok → List Expression → Context → List Condition
+operated_asks n t es c = value_asks c n 0 (record { qualifiers = []; last = Some t }) (letter c n 0) ++ applied_from c n 1 1 (place_of t) (letter c n 0) es
