@@ -4,3 +4,4 @@ pub mod GroupLaws
 pub mod LeafLaws
 pub mod BindingLaws
 pub mod RecordLaws
+pub mod CarryingLaws

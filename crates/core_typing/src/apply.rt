@@ -1,11 +1,22 @@
 //! Applications: of an expression, of an operator and of a constructor.
 #![tactic(auto, using(typing_state::proofs::Going::goes_trans, typing_state::proofs::Going::goes_refl, typing_state::proofs::Following::follows_both, typing_state::proofs::Following::follows_then, typing_state::proofs::Following::follows_before, typing_state::proofs::Following::follows_behind, typing_state::proofs::Following::follows_none, typing_state::proofs::Following::follows_silent, typing_state::proofs::Following::store_silent, typing_state::proofs::Following::silent_refl, typing_state::proofs::Following::silent_trans, typing_state::proofs::Following::ends_both, typing_state::proofs::Following::ends_behind, typing_state::proofs::Following::ends_before, typing_state::proofs::Following::ends_silent, typing_state::proofs::Following::gets_start, typing_state::proofs::Following::gets_more, typing_state::proofs::Following::gets_before, typing_state::proofs::Following::gets_done, crate::proofs::ExpressionLaws::ends_then), unfolding(syntax_tree::specs::Names::row_of))]
 
-ghost use Rattle.std.specs.Prelude.{◌≡◌, [], ◌∷◌, ◌++◌, map, option_map, Some, IfOk, OnOk};
+ghost use Rattle.std.specs.Prelude.{◌≡◌, ℕ, true, [], ◌∷◌, ◌++◌, map, option_map, All, Some, None, IfOk, IfSome, OnOk};
+ghost use Rattle.tree_model.specs.Trees.{Place, inner};
+ghost use Rattle.typing_model.specs.Expressions.{value_asks};
+ghost use Rattle.operand_laws.specs.Operands.{number_of, expression_of};
+ghost use Rattle.typing_conditions.specs.Steps.{Records};
+ghost use Rattle.typing_steps.specs.States.{is_aloud, sight};
+ghost use Rattle.typing_steps.specs.Typing.{TypesRow, TypesOwn};
+ghost use Rattle.typing_rows.specs.CarriedRows.{IsCarried};
+ghost use Rattle.typing_rows.specs.Asked.{under_minus, row_expression, expressions_of, signed_expressions, applied_asks, operated_asks};
+ghost use Rattle.typing_rows.specs.Contracts.{MakesBoth, HeadIsArrow, TypesAs, TypesArgument, TypesGiven};
+ghost use Rattle.use_typing.specs.Constants.{is_negated};
+ghost use Rattle.core_typing.specs.Operators.{sign_in, IsOperation, IsOperator, IsSignOf};
 ghost use Rattle.token_model.specs.Kinds.{Tok};
 ghost use Rattle.syntax_tree.specs.Names.{row_of, kind_of};
 ghost use Rattle.syntax_tree.specs.View.{place_of, tok_of, node_view};
-ghost use Rattle.row_parts.specs.Numbered.{operand_view, path_view};
+ghost use Rattle.row_parts.specs.Numbered.{numbered, filled_in, operand_view, path_view};
 ghost use Rattle.env_table.specs.declared.faults.FaultKind.{FaultKind};
 ghost use Rattle.typing_state.specs.Goes.{Goes};
 ghost use Rattle.typing_state.specs.Steps.{asks, records, each, Follows, Silent};
@@ -13,7 +24,7 @@ ghost use Rattle.type_reading.specs.TypeSteps.{constructor_steps};
 ghost use Rattle.env_table.specs.declared.entries.Kind.{Kind};
 ghost use Rattle.use_typing.specs.Uses.{TellsBound, TellsUse};
 ghost use Rattle.core_typing.specs.declared.exprs.RowForm.{RowForm};
-ghost use Rattle.core_typing.specs.ExpressionSteps.{expression_at, expression_steps, argument_steps, arguments_steps, constructed_steps, constructor_at, is_float_at, is_float_token, operator_in, recorded_constructor, row_at, steps_as, upper_path};
+ghost use Rattle.core_typing.specs.ExpressionSteps.{expression_at, expression_steps, form_of, argument_steps, arguments_steps, constructed_steps, constructor_at, is_float_at, is_float_token, operator_in, recorded_constructor, row_at, steps_as, upper_path};
 
 use crate::exprs::{type_each, type_under, typed_as};
 use row_parts::{Operand, WrittenPath, operand_in, operands, operands_of, token, written_path};

@@ -1,10 +1,16 @@
 //! The walk over expressions: each row types its parts in order, with its demands between and behind them.
 #![tactic(auto, using(typing_state::proofs::Going::goes_trans, typing_state::proofs::Going::goes_refl, typing_state::proofs::Following::follows_both, typing_state::proofs::Following::follows_then, typing_state::proofs::Following::follows_before, typing_state::proofs::Following::follows_behind, typing_state::proofs::Following::follows_none, typing_state::proofs::Following::follows_silent, typing_state::proofs::Following::store_silent, typing_state::proofs::Following::silent_refl, typing_state::proofs::Following::silent_trans, typing_state::proofs::Following::ends_both, typing_state::proofs::Following::ends_behind, typing_state::proofs::Following::ends_before, typing_state::proofs::Following::ends_silent, typing_state::proofs::Following::gets_start, typing_state::proofs::Following::gets_more, typing_state::proofs::Following::gets_before, typing_state::proofs::Following::gets_done, crate::proofs::ExpressionLaws::value_no_record, crate::proofs::ExpressionLaws::form_follows), unfolding(syntax_tree::specs::Names::row_of))]
 
-ghost use Rattle.std.specs.Prelude.{◌≡◌, false, [], ◌∷◌, ◌++◌, OnOk};
+ghost use Rattle.std.specs.Prelude.{◌≡◌, ℕ, false, [], ◌∷◌, ◌++◌, map, All, IfOk, OnOk};
+ghost use Rattle.tree_model.specs.Trees.{Place, inner};
+ghost use Rattle.operand_laws.specs.Operands.{number_of, expression_of};
+ghost use Rattle.typing_steps.specs.Typing.{TypesTo, TypesRow};
+ghost use Rattle.typing_rows.specs.CarriedRows.{IsCarried};
+ghost use Rattle.typing_rows.specs.Asked.{under_minus, row_expression, expressions_of};
+ghost use Rattle.typing_rows.specs.Contracts.{TypesEach};
 ghost use Rattle.syntax_tree.specs.View.{place_of, node_view};
 ghost use Rattle.syntax_tree.specs.Names.{row_of};
-ghost use Rattle.row_parts.specs.Numbered.{operand_view, path_view};
+ghost use Rattle.row_parts.specs.Numbered.{numbered, operand_view, path_view};
 ghost use Rattle.env_table.specs.declared.faults.FaultKind.{FaultKind};
 ghost use Rattle.typing_state.specs.Goes.{Goes};
 ghost use Rattle.typing_state.specs.Steps.{asks, each, Follows, Silent};

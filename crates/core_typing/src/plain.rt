@@ -1,17 +1,26 @@
 //! Rows whose parts are typed one after the other, with demands between and behind them.
 #![tactic(auto, using(typing_state::proofs::Going::goes_trans, typing_state::proofs::Going::goes_refl, typing_state::proofs::Following::follows_both, typing_state::proofs::Following::follows_before, typing_state::proofs::Following::follows_behind, typing_state::proofs::Following::follows_none, typing_state::proofs::Following::follows_silent, typing_state::proofs::Following::store_silent, typing_state::proofs::Following::silent_refl, typing_state::proofs::Following::silent_trans, typing_state::proofs::Following::ends_both, typing_state::proofs::Following::ends_behind, typing_state::proofs::Following::ends_before, typing_state::proofs::Following::ends_silent, typing_state::proofs::Following::gets_start, typing_state::proofs::Following::gets_more, typing_state::proofs::Following::gets_before, typing_state::proofs::Following::gets_done, crate::proofs::ExpressionLaws::types_no_record, crate::proofs::ExpressionLaws::token_no_record), unfolding(syntax_tree::specs::Names::row_of))]
 
-ghost use Rattle.std.specs.Prelude.{◌≡◌, [], ◌∷◌, ◌++◌, map, option_map, IfOk, OnOk};
+ghost use Rattle.std.specs.Prelude.{◌≡◌, ◌==◌, ◌&&◌, [], ◌∷◌, ◌++◌, map, option_map, All, IfOk, OnOk};
+ghost use Rattle.tree_model.specs.Rows.{elist_row, econs_row, eif_row};
+ghost use Rattle.tree_model.specs.Trees.{Place, inner};
+ghost use Rattle.type_nodes.specs.Views.{numbers};
+ghost use Rattle.operand_laws.specs.Operands.{number_of, expression_of};
+ghost use Rattle.typing_steps.specs.Typing.{TypesRow};
+ghost use Rattle.typing_rows.specs.CarriedRows.{IsCarried};
+ghost use Rattle.typing_rows.specs.Asked.{row_expression, expressions_of, IsPlainRow, wants_bool, end_of};
+ghost use Rattle.typing_rows.specs.Contracts.{TypesParts, TypesPart, AsksBehind, AsksBool, EndsRow, AsksAt, AsksLater};
+ghost use Rattle.core_typing.specs.Operators.{is_false_at};
 ghost use Rattle.syntax_tree.specs.Names.{row_of};
 ghost use Rattle.syntax_tree.specs.View.{place_of, tok_of, node_view};
-ghost use Rattle.row_parts.specs.Numbered.{operand_view, path_view, path_in};
+ghost use Rattle.row_parts.specs.Numbered.{numbered, operand_view, path_view, path_in};
 ghost use Rattle.env_table.specs.declared.faults.FaultKind.{FaultKind};
 ghost use Rattle.typing_state.specs.Goes.{Goes};
 ghost use Rattle.typing_state.specs.Steps.{asks, each, Follows, Silent, asks_bound};
 ghost use Rattle.use_typing.specs.UseSteps.{asks_equal, asks_token};
 ghost use Rattle.pattern_typing.specs.PatternSteps.{later};
 ghost use Rattle.core_typing.specs.declared.exprs.RowForm.{RowForm};
-ghost use Rattle.core_typing.specs.ExpressionSteps.{asked_behind, asked_branch, behind_part_steps, behind_parts, expression_at, expression_steps, has_type, label_steps, part_at, part_steps, parts_from, row_at, set_label_at, steps_as};
+ghost use Rattle.core_typing.specs.ExpressionSteps.{asked_behind, asked_branch, behind_part_steps, behind_parts, expression_at, expression_steps, form_of, has_type, label_steps, part_at, part_steps, parts_from, row_at, set_label_at, steps_as};
 
 use crate::exprs::type_under;
 use crate::values::is_false;
@@ -52,7 +61,7 @@ struct Scope {
 
 /// In the body of a `for` its variable stands; elsewhere all parts have the environment of the row.
 fn last_scope(at: &Parts, node: &Node, env: &Env) -> Result<Scope, NoMemory>
-    ensures { IfOk result (λ s. IsPlainRow (row_of node.now.row) → s.env ≡ env.now) }
+    ensures { IfOk result (λ s. IsPlainRow (row_at (node_view node.now)) → s.env ≡ env.now) }
 {
     match (node.row, token(node, 1)) {
         (RowName::Efor, Some(name)) => scope_in_loop(at, name, env),

@@ -1,6 +1,8 @@
 //! Which expressions are non-expansive, so that the names of their bindings are generalised (the value restriction).
 ghost use Rattle.std.specs.Prelude.{◌≡◌, option_map, IfOk};
+ghost use Rattle.syntax_tree.specs.View.{tok_of};
 ghost use Rattle.row_parts.specs.Numbered.{operand_view, path_view};
+ghost use Rattle.core_typing.specs.Operators.{is_false_at, is_false_token};
 ghost use Rattle.core_typing.specs.ExpressionSteps.{label_at, lower_path};
 
 use env_table::{Found, Path, What};
@@ -8,7 +10,7 @@ use owned_lists::push;
 use row_parts::{
     Operand, WrittenPath, first_operand, operand_in, operands, operands_of, token, written_path,
 };
-use syntax_tree::{Node, RowName, TokenKind};
+use syntax_tree::{Node, RowName, Token, TokenKind};
 use typing_state::{Depth, Env, NoMemory, Parts, path_of};
 use use_typing::labels_in;
 

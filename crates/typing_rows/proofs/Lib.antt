@@ -4,3 +4,4 @@ pub mod Given
 pub mod Ordered
 pub mod Ending
 pub mod Terms
+pub mod Typed

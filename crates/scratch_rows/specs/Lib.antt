@@ -1,3 +1,0 @@
--- Scratch.
-pub mod CarriedRows
-pub mod Asked
