@@ -1,36 +1,49 @@
 -- Which rows the forms of the code are, and what its tokens decide.
-use Rattle.std.proofs.Common.{◌≡◌, ◌∙◌, ◌≢◌, ◌++◌, ◌+◌, ◌||◌, ◌==◌, ◌&&◌, ℕ, Bool, true, false, not, List, [], ◌∷◌, map, Option, Some, None, option_map, refl, sym, ap, subst, if◌then◌else◌}
-use Rattle.std.specs.Prelude.{All, codes}
+use Rattle.std.proofs.Common.{◌≡◌, ◌∙◌, ◌≢◌, ◌++◌, ◌+◌, ◌||◌, ◌==◌, ◌&&◌, ℕ, Bool, true, false, not, zero, suc, ◌<◌, ◌≤◌, length, drop, arith, List, [], ◌∷◌, map, Option, Some, None, option_map, refl, sym, ap, subst, if◌then◌else◌}
+use Rattle.std.specs.Prelude.{All, codes, slice_get, slice_index_or, Result, Ok, Err, IfOk}
+use Rattle.std.proofs.lemmas.List.Elements.{All-head, All-tail}
 use Rattle.std.specs.Str.{bytes_eq}
 use Rattle.std.proofs.lemmas.Slice.Eq.{bytes_eq-Decides}
 use Rattle.token_model.specs.Kinds.{Tok, Kind, upper, lower, float, false_word}
 use Rattle.tree_model.specs.Rows.{Row, erecord_row, econ_row, epath_row, econst_row, eparen_row, prefix_row, eapp_row, eneg_row, infix_row, eassert_row, ewhile_row, ebegin_row, elist_row, econs_row, etuple_row, eif_row, eseq_row, name_row, hole_row, field_row, efor_row, eset_row}
 use Rattle.tree_model.specs.Trees.{Place, Extent, Tree, Forest, Part, taken, inner, missing, node}
-use Rattle.row_parts.specs.Numbered.{Numbered, Written, numbered, token_in, path_in, filled_in, all_operands, first_in}
+use Rattle.row_parts.specs.Numbered.{Numbered, Written, numbered, operand_view, token_in, path_in, filled_in, all_operands, operands_in, first_in}
 use Rattle.typing_model.specs.Contexts.{Context, tell_typed}
 use Rattle.typing_model.specs.BuiltIns.{float_type, constant, constant_by}
 use Rattle.typing_model.specs.Parts as parts
 use Rattle.typing_model.specs.Parts.{Form, Expression, Child}
 use Rattle.typing_model.specs.Expressions.{expression_row, is_false, is_of, literal_form, under_sign, name_of, operator_applied, constant_expression, typed_all, path_expression, name_form, parenthesised, begun, if_expression, update_expression, record_expression, fields_in, is_some}
+use Rattle.type_terms.specs.declared.types.NodeRef.{NodeRef}
+use Rattle.type_nodes.specs.Views.{numbers}
+use Rattle.row_parts.specs.declared.slots.Operand.{Operand}
+use Rattle.type_reading.proofs.TypeLaws.{drop_read}
+use Rattle.typing_state.specs.Goes.{Goes}
 use Rattle.env_table.specs.declared.entries.Entry.{Entry}
 use Rattle.typing_state.specs.declared.parts.Parts.{Parts}
 use Rattle.syntax_tree.specs.View.{tok_of}
-use Rattle.typing_steps.specs.Typing.{TypesRow}
+use Rattle.typing_steps.specs.Typing.{TypesRow, TypesTo, TypesAny, AsksEqual}
 use Rattle.operand_laws.specs.Formed.{row_of, is_in, IsFormed}
 use Rattle.operand_laws.specs.Operands.{number_of, parts_of, expression_of}
 use Rattle.operand_laws.proofs.Tokens.{token_stands}
+use Rattle.operand_laws.proofs.Standing.{expression_of_stands}
 use Rattle.operand_laws.proofs.Sorts.{expression_by_row}
 use Rattle.typing_rows.specs.CarriedRows.{is_upper, names_constructor, is_sign, IsCarriedRow, IsTreeOfCarriedRows, IsOfCarriedRows, IsCarried}
-use Rattle.typing_rows.specs.Asked.{under_minus, row_expression, expressions_of, signed_expressions, IsPlainRow, operated_asks}
-use Rattle.typing_rows.proofs.Going.{none_first, filled_carried}
-use Rattle.typing_rows.proofs.Typed.{IsUsual, IsNoFloat, operated_as, prefix_typed, infix_typed, minus_typed, minus_operand}
+use Rattle.typing_rows.specs.Asked.{under_minus, row_expression, expressions_of, signed_expressions, IsPlainRow, end_of, applied_asks, operated_asks}
+use Rattle.typing_rows.proofs.Going.{none_first, filled_carried, operands_carried, all_carried}
+use Rattle.typing_rows.proofs.Typed.{IsUsual, IsNoFloat, application_typed, paren_typed, ordered_typed, unoperated_typed, float_typed, operated_as, prefix_typed, infix_typed, minus_typed, minus_operand}
+use Rattle.typing_rows.specs.Contracts.{TypesFirst, TypesGivenFirst, TypesArgument, TypesPartsFirst, TypesPart, TypesAs, TypesParts, TypesEach, EndsRow}
+use Rattle.typing_rows.proofs.Given.{each_more, given_more, types_as}
+use Rattle.typing_rows.proofs.Ordered.{parts_more, numbers_more}
 use Rattle.typing_rows.proofs.Ending.{row_as}
+use Rattle.typing_conditions.specs.Steps.{Records}
+use Rattle.typing_steps.specs.States.{is_aloud, sight}
 use Rattle.use_typing.specs.Constants.{is_negated}
+use Rattle.use_typing.specs.Uses.{IsAsWritten}
 use Rattle.core_typing.specs.declared.apply.Operator.{Operator}
 use Rattle.core_typing.specs.declared.exprs.RowForm.{RowForm}
 use Rattle.core_typing.specs.declared.exprs.RowForm.TheVariants as form
-use Rattle.core_typing.specs.ExpressionSteps.{form_of, row_at, constructor_in, upper_path, if_upper, is_float_kind, is_float_token, is_float_in, is_float_at}
-use Rattle.core_typing.specs.Operators.{sign_in, is_false_kind, is_false_token, is_false_in, is_false_at, IsOperation, operator_name, operator_negates, IsOperator}
+use Rattle.core_typing.specs.ExpressionSteps.{form_of, row_at, constructor_at, constructor_in, upper_path, if_upper, is_float_kind, is_float_token, is_float_in, is_float_at}
+use Rattle.core_typing.specs.Operators.{IsSignOf, sign_in, is_false_kind, is_false_token, is_false_in, is_false_at, IsOperation, operator_name, operator_negates, IsOperator}
 
 -- the row of a node, in both definitions
 pub rows_same : (t : Tree) → row_of t ≡ row_at t
@@ -394,3 +407,168 @@ operator_none a d env i n at t eneg_row m row is none carried typed =
     minus_typed a d env i n at t m carried.formed row (no_float i (filled_in n t 1) (filled_carried n at t 1 carried).rows is) (λ aloud F scope G s.
     row_as (λ c. ap (λ os. typed_all c (expressions_of i os)) (minus_operand n t carried.formed row) ∙ ap (λ x. operator_applied c (number_of i n) x (codes "~" ++ name_of x) (under_sign x e ∷ [])) (sym none)) (typed aloud F scope G s))
 operator_none a d env i n at t _ m row is none carried typed = absurd is
+
+-- an operand that is read from a list of carried ones
+read_carried : (os : List Operand) (k : ℕ) (x : Operand) → k < length os → x ≡ slice_index_or os k x → All IsCarried (map operand_view os) → IsCarried (operand_view x)
+read_carried [] k x lt e all = absurd (omega arith)
+read_carried (o ∷ os) zero x lt e all = subst (λ z. IsCarried (operand_view z)) (sym e) (All-head IsCarried (operand_view o) (map operand_view os) all)
+read_carried (o ∷ os) (suc k) x lt e all = read_carried os k x (omega arith) e (All-tail IsCarried (operand_view o) (map operand_view os) all)
+
+-- one expression more of those of which nothing is asked
+pub each_step : (a b d : Parts) (env : List Entry) (os : List Operand) (k : ℕ) (x : Operand) (m : ℕ) → k < length os → x ≡ slice_index_or os k x → Goes a b →
+    (All IsCarried (map operand_view os) → TypesFirst a b env (expressions_of a.item (map operand_view os)) (expressions_of a.item (map operand_view (drop k os)))) →
+    (IsCarried (operand_view x) → TypesTo b d env (λ c. (expression_of b.item (operand_view x)).typed c) (λ ch. ch.type_at (expression_of b.item (operand_view x)).node) m) →
+    All IsCarried (map operand_view os) → TypesFirst a d env (expressions_of a.item (map operand_view os)) (expressions_of a.item (map operand_view (drop (k + 1) os)))
+each_step a b d env os k x m lt e goes first typed all =
+    let view : List Operand → List Expression = λ qs. expressions_of a.item (map operand_view qs) in
+    each_more a b d env (view os) (view (drop k os)) (view (drop (k + 1) os)) (expression_of a.item (operand_view x)) m (ap view (drop_read os k x lt e)) goes (first all)
+    (subst (λ j. TypesTo b d env (λ c. (expression_of j (operand_view x)).typed c) (λ ch. ch.type_at (expression_of j (operand_view x)).node) m) goes.item (typed (read_carried os k x lt e all)))
+
+-- one argument more of a head
+pub given_step : (a b d : Parts) (env : List Entry) (at : Place) (negated : Bool) (os : List Operand) (k : ℕ) (x : Operand) (head m to : ℕ) → k < length os → x ≡ slice_index_or os k x → Goes a b →
+    (All IsCarried (map operand_view os) → TypesGivenFirst a b env at (signed_expressions negated a.item (map operand_view os)) (signed_expressions negated a.item (map operand_view (drop k os))) head m) →
+    (IsCarried (operand_view x) → TypesArgument b d env at (under_minus negated (expression_of b.item (operand_view x))) m to) →
+    All IsCarried (map operand_view os) → TypesGivenFirst a d env at (signed_expressions negated a.item (map operand_view os)) (signed_expressions negated a.item (map operand_view (drop (k + 1) os))) head to
+given_step a b d env at negated os k x head m to lt e goes first typed all =
+    let view : List Operand → List Expression = λ qs. signed_expressions negated a.item (map operand_view qs) in
+    given_more a b d env at (view os) (view (drop k os)) (view (drop (k + 1) os)) (under_minus negated (expression_of a.item (operand_view x))) head m to (ap view (drop_read os k x lt e)) goes (first all)
+    (subst (λ j. TypesArgument b d env at (under_minus negated (expression_of j (operand_view x))) m to) goes.item (typed (read_carried os k x lt e all)))
+
+-- one part more of a row
+pub parts_step : (a b d : Parts) (env scope : List Entry) (r : Row) (os : List Operand) (k j : ℕ) (x : Operand) (ms more : List NodeRef) (m : NodeRef) → k < length os → x ≡ slice_index_or os k x → j ≡ k → more ≡ ms ++ m ∷ [] → Goes a b →
+    (IsPlainRow r → scope ≡ env → All IsCarried (map operand_view os) → TypesPartsFirst a b env r k (expressions_of a.item (map operand_view os)) (expressions_of a.item (map operand_view (drop k os))) (numbers ms)) →
+    (IsPlainRow r → scope ≡ env → IsCarried (operand_view x) → TypesPart b d env r j (expression_of b.item (operand_view x)) m.0) →
+    IsPlainRow r → scope ≡ env → All IsCarried (map operand_view os) → TypesPartsFirst a d env r (k + 1) (expressions_of a.item (map operand_view os)) (expressions_of a.item (map operand_view (drop (k + 1) os))) (numbers more)
+parts_step a b d env scope r os k j x ms more m lt e place longer goes first typed plain same all =
+    let view : List Operand → List Expression = λ qs. expressions_of a.item (map operand_view qs) in
+    parts_more a b d env r k j (view os) (view (drop k os)) (view (drop (k + 1) os)) (expression_of a.item (operand_view x)) (numbers ms) (numbers more) m.0 (ap view (drop_read os k x lt e)) place (numbers_more ms more m longer) goes (first plain same all)
+    (subst (λ i. TypesPart b d env r j (expression_of i (operand_view x)) m.0) goes.item (typed plain same (read_carried os k x lt e all)))
+
+-- an argument, which may be directly under a minus, has a type
+pub argument_typed : (a b d : Parts) (env : List Entry) (negated : Bool) (i : ℕ) (o : Numbered) (found wanted : ℕ) → TypesTo a b env (λ c. (under_minus negated (expression_of i o)).typed c) (λ ch. ch.type_at (expression_of i o).node) found → Goes a b → AsksEqual b d o.at found wanted →
+    TypesAs a d env (under_minus negated (expression_of i o)) wanted
+argument_typed a b d env true i o found wanted typed goes asked = types_as a b d env (under_minus true (expression_of i o)) o.at found wanted (expression_of_stands i o).where_it_is typed goes asked
+argument_typed a b d env false i o found wanted typed goes asked = types_as a b d env (expression_of i o) o.at found wanted (expression_of_stands i o).where_it_is typed goes asked
+
+-- what holds of a result holds as far as something follows from it
+pub if_ok : {A E : Type 0} (r : Result A E) (P Q : A → Type 0) → ((x : A) → P x → Q x) → IfOk r P → IfOk r Q
+if_ok (Ok x) P Q f h = f x h
+if_ok (Err e) P Q f h = tt
+
+usual_row : (r : Row) (t : Tree) (ps : Forest) → IsCarriedRow r t ps → (form_of r ≡ form.Leaf → ⊥) → IsUsual r
+usual_row econst_row t ps c h = absurd (h refl)
+usual_row erecord_row t ps c h = absurd c
+usual_row _ t ps c h = tt
+
+-- a row that is no leaf asks the same under a minus
+pub usual_there : (n : ℕ) (at : Place) (t : Tree) → IsCarried (numbered n at (inner t)) → (form_of (row_at t) ≡ form.Leaf → ⊥) → IsUsual (row_of t)
+usual_there n at t h no_leaf = let (ps, (c, none)) = row_there t h.rows in subst IsUsual (sym (rows_same t)) (usual_row (row_at t) t ps c no_leaf)
+
+-- parentheses without a type
+pub paren_row : (a b d : Parts) (env : List Entry) (n : ℕ) (at : Place) (t : Tree) (part : Operand) (given : Option Operand) (found ty u : NodeRef) → IsCarried (numbered n at (inner t)) → form_of (row_at t) ≡ form.Parenthesised →
+    operand_view part ≡ filled_in n t 1 → option_map operand_view given ≡ first_in n t 3 →
+    (IsCarried (operand_view part) → TypesTo a b env (λ c. (expression_of a.item (operand_view part)).typed c) (λ ch. ch.type_at (expression_of a.item (operand_view part)).node) found.0) →
+    IsAsWritten (option_map operand_view given) part.span found b d env ty → u ≡ ty → TypesRow a d env (λ c. (row_expression a.item n at t).typed c) (number_of a.item n) u.0
+paren_row a b d env n at t part given found ty u carried is here there typed written same =
+    let row = by_paren t is in
+    let none = no_annotation n at t carried (paren_form (row_at t) is) in
+    let (one, still) = subst (λ o. IsAsWritten o part.span found b d env ty) (there ∙ none) written in
+    let first = subst (λ o. TypesTo a b env (λ c. (expression_of a.item o).typed c) (λ ch. ch.type_at (expression_of a.item o).node) found.0) here (typed (subst IsCarried (sym here) (filled_carried n at t 1 carried))) in
+    paren_typed a d env a.item n at t u.0 carried.formed row none
+    (subst (λ p. TypesTo a p env (λ c. (expression_of a.item (filled_in n t 1)).typed c) (λ ch. ch.type_at (expression_of a.item (filled_in n t 1)).node) u.0) (sym still)
+    (subst (λ x. TypesTo a b env (λ c. (expression_of a.item (filled_in n t 1)).typed c) (λ ch. ch.type_at (expression_of a.item (filled_in n t 1)).node) x.0) (sym (same ∙ one)) first))
+
+-- a row whose parts are typed in order
+pub plain_row : (a b d : Parts) (env : List Entry) (n : ℕ) (at : Place) (t : Tree) (r : Row) (os : List Operand) (ms : List ℕ) (m : ℕ) → IsCarried (numbered n at (inner t)) → form_of (row_at t) ≡ form.Plain → row_at t ≡ r → map operand_view os ≡ all_operands n t →
+    (IsPlainRow r → All IsCarried (map operand_view os) → TypesParts a b env r (expressions_of a.item (map operand_view os)) ms) → Goes a b →
+    (IsPlainRow (row_at t) → EndsRow b d env (end_of (row_at t) (expressions_of b.item (map operand_view os))) (expressions_of b.item (map operand_view os)) ms m) → TypesRow a d env (λ c. (row_expression a.item n at t).typed c) (number_of a.item n) m
+plain_row a b d env n at t r os ms m carried is row given typed goes ends =
+    let plain = by_plain n at t carried is in
+    let same = rows_same t in
+    let parts = typed (subst IsPlainRow row plain) (subst (All IsCarried) (sym given) (all_carried n at t carried)) in
+    ordered_typed a b d env n at t ms m carried.formed (subst IsPlainRow (sym same) plain) (subst (λ q. TypesParts a b env q (expressions_of a.item (all_operands n t)) ms) (sym (same ∙ row)) (subst (λ qs. TypesParts a b env r (expressions_of a.item qs) ms) given parts)) goes
+    (subst (λ q. EndsRow b d env (end_of q (expressions_of b.item (all_operands n t))) (expressions_of b.item (all_operands n t)) ms m) (sym same) (subst (λ qs. EndsRow b d env (end_of (row_at t) (expressions_of b.item qs)) (expressions_of b.item qs) ms m) given (ends plain)))
+
+-- an operator that is there, with its arguments
+pub operation_row : (a d : Parts) (env : List Entry) (n : ℕ) (at : Place) (t : Tree) (os : List Operand) (o : Operator) (m : ℕ) → IsCarried (numbered n at (inner t)) → IsOperation (row_at t) (is_float_at (filled_in n t 1).part) → IsSignOf (row_at t) (sign_in (row_at t) t) o → map operand_view os ≡ all_operands n t →
+    (All IsCarried (map operand_view os) → (k : ℕ) → TypesRow a d env (operated_asks k (tok_of o.named) (signed_expressions (is_negated o.sign) a.item (map operand_view os))) k m) → TypesRow a d env (λ c. (row_expression a.item n at t).typed c) (number_of a.item n) m
+operation_row a d env n at t os o m carried is sign given typed = by (sign_in (row_at t) t) refl sign
+  where
+    by : (tok : Option Tok) → sign_in (row_at t) t ≡ tok → IsSignOf (row_at t) tok o → TypesRow a d env (λ c. (row_expression a.item n at t).typed c) (number_of a.item n) m
+    by None e h = absurd h
+    by (Some tok) e h =
+        operator_some a d env a.item n at t o tok (row_at t) m (rows_same t) is e h carried
+        (subst (λ qs. TypesRow a d env (operated_asks (number_of a.item n) (tok_of o.named) (signed_expressions (is_negated o.sign) a.item qs)) (number_of a.item n) m) given
+        (typed (subst (All IsCarried) (sym given) (all_carried n at t carried)) (number_of a.item n)))
+
+-- one that is missing
+pub operation_missing : (a b d : Parts) (env : List Entry) (n : ℕ) (at : Place) (t : Tree) (os : List Operand) (m : ℕ) → IsCarried (numbered n at (inner t)) → IsOperation (row_at t) (is_float_at (filled_in n t 1).part) → sign_in (row_at t) t ≡ None → map operand_view os ≡ all_operands n t →
+    (All IsCarried (map operand_view os) → TypesEach a b env (expressions_of a.item (map operand_view os))) → Goes a b → TypesAny b d m → TypesRow a d env (λ c. (row_expression a.item n at t).typed c) (number_of a.item n) m
+operation_missing a b d env n at t os m carried is none given typed goes any =
+    operator_none a d env a.item n at t (row_at t) m (rows_same t) is none carried
+    (unoperated_typed a b d env (expressions_of a.item (all_operands n t)) (number_of a.item n) m (subst (λ qs. TypesEach a b env (expressions_of a.item qs)) given (typed (subst (All IsCarried) (sym given) (all_carried n at t carried)))) goes any)
+
+-- a minus over a numeral with a point
+pub minus_float : (a d : Parts) (env : List Entry) (n : ℕ) (at : Place) (t : Tree) (part : Operand) (u : NodeRef) → IsCarried (numbered n at (inner t)) → form_of (row_at t) ≡ form.Minus → operand_view part ≡ filled_in n t 1 → is_float_at (operand_view part).part ≡ true →
+    (is_aloud a.telling ≡ true → Records (sight a) (sight d) part.number a.constants.float.0) → u ≡ a.constants.float → TypesRow a d env (λ c. (row_expression a.item n at t).typed c) (number_of a.item n) u.0
+minus_float a d env n at t part u carried is here float records same =
+    let there = float_there a.item (filled_in n t 1) (ap (λ o. is_float_at o.part) (sym here) ∙ float) in
+    subst (λ x. TypesRow a d env (λ c. (row_expression a.item n at t).typed c) (number_of a.item n) x.0) (sym same)
+    (float_typed a d env a.item n part.number at t carried.formed (by_minus t is) there.form (ap (λ o. number_of a.item o.number) here) there.asks records)
+
+-- over anything else it is an operator
+pub minus_operation : (n : ℕ) (t : Tree) (part : Operand) → form_of (row_at t) ≡ form.Minus → operand_view part ≡ filled_in n t 1 → is_float_at (operand_view part).part ≡ false → IsOperation (row_at t) (is_float_at (filled_in n t 1).part)
+minus_operation n t part is here no = subst (λ r. IsOperation r (is_float_at (filled_in n t 1).part)) (sym (minus_form (row_at t) is)) (ap (λ o. is_float_at o.part) (sym here) ∙ no)
+
+-- an application whose head is no constructor
+pub application_row : (a d : Parts) (env : List Entry) (n : ℕ) (at : Place) (t : Tree) (head : Operand) (os : List Operand) (m : ℕ) → IsCarried (numbered n at (inner t)) → form_of (row_at t) ≡ form.Application → operand_view head ≡ filled_in n t 0 → map operand_view os ≡ operands_in n t 1 →
+    (IsCarried (operand_view head) → All IsCarried (map operand_view os) → (k : ℕ) → TypesRow a d env (applied_asks k (expression_of a.item (operand_view head)) (expressions_of a.item (map operand_view os))) k m) → TypesRow a d env (λ c. (row_expression a.item n at t).typed c) (number_of a.item n) m
+application_row a d env n at t head os m carried is here given typed =
+    let first = filled_carried n at t 0 carried in
+    let row = typed (subst IsCarried (sym here) first) (subst (All IsCarried) (sym given) (operands_carried n at t 1 carried)) (number_of a.item n) in
+    application_typed a d env a.item n at t m carried.formed (by_application t is) first.rows
+    (subst (λ qs. TypesRow a d env (applied_asks (number_of a.item n) (expression_of a.item (filled_in n t 0)) (expressions_of a.item qs)) (number_of a.item n) m) given
+    (subst (λ o. TypesRow a d env (applied_asks (number_of a.item n) (expression_of a.item o) (expressions_of a.item (map operand_view os))) (number_of a.item n) m) here row))
+
+-- a part that is carried is no constructor alone
+part_no_constructor : (p : Part) → IsOfCarriedRows p → constructor_at p ≡ None
+part_no_constructor (taken t) h = refl
+part_no_constructor (inner t) h = no_constructor t h
+part_no_constructor (missing q) h = refl
+
+pub operand_no_constructor : (o : Numbered) → IsCarried o → constructor_at o.part ≡ None
+operand_no_constructor o h = part_no_constructor o.part h.rows
+
+-- what is there isn't missing
+pub some_none : {A : Type 0} (x : A) → Some x ≡ None → ⊥
+some_none x e = cc
+
+-- the operand at a place is an expression there
+pub part_here : (i : ℕ) (os : List Operand) (k : ℕ) (x : Operand) → slice_get os k ≡ Some x → slice_get (expressions_of i (map operand_view os)) k ≡ Some (expression_of i (operand_view x))
+part_here i [] k x e = absurd (cc)
+part_here i (o ∷ os) zero x e = let s : o ≡ x = cc in ap (λ y. Some (expression_of i (operand_view y))) s
+part_here i (o ∷ os) (suc k) x e = part_here i os k x e
+
+-- where there is none, there is no expression
+pub part_missing : (i : ℕ) (os : List Operand) (k : ℕ) → slice_get os k ≡ None → slice_get (expressions_of i (map operand_view os)) k ≡ None
+part_missing i [] k e = refl
+part_missing i (o ∷ os) zero e = absurd (cc)
+part_missing i (o ∷ os) (suc k) e = part_missing i os k e
+
+-- the node at a place by its number
+pub number_here : (ms : List NodeRef) (k : ℕ) (m : NodeRef) → slice_get ms k ≡ Some m → slice_get (numbers ms) k ≡ Some m.0
+number_here [] k m e = absurd (cc)
+number_here (n ∷ ms) zero m e = let s : n ≡ m = cc in ap (λ y. Some y.0) s
+number_here (n ∷ ms) (suc k) m e = number_here ms k m e
+
+-- where there is none, there is no number
+pub number_missing : (ms : List NodeRef) (k : ℕ) → slice_get ms k ≡ None → slice_get (numbers ms) k ≡ None
+number_missing [] k e = refl
+number_missing (n ∷ ms) zero e = absurd (cc)
+number_missing (n ∷ ms) (suc k) e = number_missing ms k e
+
+-- nothing is past the end of a list
+pub past_end : {A : Type 0} (xs : List A) (k : ℕ) → length xs ≤ k → slice_get xs k ≡ None
+past_end [] k le = refl
+past_end (x ∷ xs) zero le = absurd (omega arith)
+past_end (x ∷ xs) (suc k) le = past_end xs k (omega arith)

@@ -263,7 +263,7 @@ struct Operator {
 /// The token of the operator of a row.
 fn sign_of(node: &Node) -> Option<&Token>
     ensures token { option_map (λ t. tok_of t.now) result ≡ sign_in (row_at (node_view node.now)) (node_view node.now) }
-    ensures { option_map (λ t. place_of t.now.span) result ≡ operator_in (row_at (node_view node.now)) (node_view node.now) }
+    ensures place { option_map (λ t. place_of t.now.span) result ≡ operator_in (row_at (node_view node.now)) (node_view node.now) }
 {
     match node.row {
         RowName::Infix => token(node, 1),
@@ -275,7 +275,7 @@ fn sign_of(node: &Node) -> Option<&Token>
 fn operator_of(at: &Parts, node: &Node) -> Result<Option<Operator>, NoMemory>
     ensures none { IfOk result (λ o. o ≡ None → sign_in (row_at (node_view node.now)) (node_view node.now) ≡ None) }
     ensures some { IfOk result (λ o. IfSome o (λ x. IsSignOf (row_at (node_view node.now)) (sign_in (row_at (node_view node.now)) (node_view node.now)) x)) }
-    ensures { IfOk result (λ o. option_map (λ o. place_of o.named.span) o ≡ operator_in (row_at (node_view node.now)) (node_view node.now)) }
+    ensures place { IfOk result (λ o. option_map (λ o. place_of o.named.span) o ≡ operator_in (row_at (node_view node.now)) (node_view node.now)) }
 {
     match sign_of(node) {
         Some(token) => Ok(Some(operator_by(at, node.row, token)?)),
@@ -286,7 +286,7 @@ fn operator_of(at: &Parts, node: &Node) -> Result<Option<Operator>, NoMemory>
 /// The operator by its token. Over an argument alone - is ~-, and -. is ~-.
 fn operator_by(at: &Parts, row: RowName, token: &Token) -> Result<Operator, NoMemory>
     ensures operator { IfOk result (λ o. IsOperator (row_of row) (tok_of token.now) o) }
-    ensures { IfOk result (λ o. place_of o.named.span ≡ place_of token.now.span) }
+    ensures place { IfOk result (λ o. place_of o.named.span ≡ place_of token.now.span) }
 {
     let (name, sign) = match row {
         RowName::Eneg if token.name.is("-.") => (RcStr::from_str(at.alloc(), "~-.")?, Sign::None),

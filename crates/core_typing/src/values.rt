@@ -50,6 +50,7 @@ fn are_values(
 }
 
 /// `false`
+#[tactic(auto, unfolding(syntax_tree::specs::Names::row_of))]
 pub fn is_false(e: Operand<'_>) -> bool
     ensures { result ≡ is_false_at (operand_view e.entry).part }
 {
