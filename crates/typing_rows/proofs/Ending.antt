@@ -1,8 +1,6 @@
 -- The end of a row whose parts are typed: its type, and what is asked besides.
-use Rattle.std.proofs.Common.{◌≡◌, ◌∙◌, ◌++◌, inl, inr, ℕ, zero, suc, ◌+◌, ◌<◌, ◌≤◌, Bool, true, false, List, [], ◌∷◌, map, length, drop, Option, Some, None, refl, sym, ap, subst, arith, append_assoc, append-nil}
+use Rattle.std.proofs.Common.{◌≡◌, ◌∙◌, ◌++◌, ℕ, zero, suc, ◌+◌, true, List, [], ◌∷◌, map, Some, None, refl, sym, ap, subst, append_assoc, append-nil}
 use Rattle.std.specs.Prelude.{All, codes, slice_get}
-use Rattle.text_terms.specs.declared.Span.{Span}
-use Rattle.syntax_tree.specs.View.{place_of}
 use Rattle.tree_model.specs.Rows.{Row}
 use Rattle.tree_model.specs.Trees.{Place}
 use Rattle.type_model.specs.Types.{Typ, types_of}
@@ -10,36 +8,31 @@ use Rattle.type_model.specs.Types.{Typ as type}
 use Rattle.typing_model.specs.Demands.{Condition, site, equal}
 use Rattle.typing_model.specs.Contexts.{Choice, Context, ask, type_at}
 use Rattle.typing_model.specs.Contexts as contexts
-use Rattle.typing_model.specs.BuiltIns.{unit_type, bool_type, list_type}
-use Rattle.typing_model.specs.Parts.{Expression, last_of}
+use Rattle.typing_model.specs.BuiltIns.{unit_type, list_type}
+use Rattle.typing_model.specs.Parts.{Expression}
 use Rattle.typing_model.specs.Patterns.{ask_all, behind_first}
-use Rattle.typing_model.specs.Expressions.{has_type, is_of, first_type, each_has, node_types, is_false}
-use Rattle.type_terms.specs.declared.types.NodeRef.{NodeRef}
-use Rattle.type_nodes.specs.Nodes.{Tuple, Con, IsNode, IsSound}
+use Rattle.typing_model.specs.Expressions.{has_type, is_of, each_has, node_types}
+use Rattle.type_nodes.specs.Nodes.{Tuple, Con, IsNode}
 use Rattle.type_nodes.specs.Changes.{Makes}
-use Rattle.type_nodes.specs.Views.{numbers}
 use Rattle.env_table.specs.declared.entries.Entry.{Entry}
 use Rattle.typing_state.specs.declared.parts.Parts.{Parts}
-use Rattle.typing_state.specs.declared.demands.Verdict.{Verdict}
-use Rattle.typing_state.specs.Goes.{Goes, OnlyStore, OnlyStoreAndFaults}
-use Rattle.typing_state.specs.Types.{MakesVar, any_scope, list_path}
-use Rattle.typing_state.specs.Demands.{EqualIs}
-use Rattle.typing_conditions.specs.Sights.{Sight, own, letter, Letters}
+use Rattle.typing_state.specs.Goes.{Goes, OnlyStore}
+use Rattle.typing_state.specs.Types.{list_path}
+use Rattle.typing_conditions.specs.Sights.{Sight, letter, Letters}
 use Rattle.typing_conditions.specs.Frames.{Frame}
 use Rattle.typing_conditions.specs.Meanings.{Means, AllMean, none_mean, one_means, types_by}
-use Rattle.typing_conditions.specs.Carrying.{Asks, Scope, Carried, CarriedTo}
+use Rattle.typing_conditions.specs.Carrying.{Asks, Scope, Carried}
 use Rattle.typing_conditions.specs.Surroundings.{Surrounds}
-use Rattle.typing_conditions.proofs.Recording.{ends_same, ends_own}
+use Rattle.typing_conditions.proofs.Recording.{ends_same}
 use Rattle.typing_conditions.proofs.Carried.{carried_refl, carried_trans, carried_as}
 use Rattle.typing_conditions.proofs.Meaning.{means_on, means_more, all_mean_on}
 use Rattle.typing_conditions.proofs.Surrounding.{surrounds_on}
 use Rattle.typing_steps.specs.States.{is_aloud, sight}
-use Rattle.typing_steps.specs.Demands.{JudgedAs, is_kept}
 use Rattle.typing_steps.specs.Typing.{any_declared, RowCarried, TypesRow, AsksEqual, TypesAny}
-use Rattle.typing_steps.proofs.Making.{var_made, tuple_over, list_over}
+use Rattle.typing_steps.proofs.Making.{tuple_over, list_over}
 use Rattle.typing_steps.proofs.Rows.{row_any}
-use Rattle.typing_rows.specs.Asked.{parts_ask, has_if, branches_ask, cons_asks, list_asks, begin_asks, last_asks, assert_ends, assert_end_asks}
-use Rattle.typing_rows.specs.Contracts.{types_at, PartsAll, TypesParts, AsksAt, AsksLater, LaterFirst, AsksLaterFirst, EndsRow}
+use Rattle.typing_rows.specs.Asked.{parts_ask, has_if, branches_ask, cons_asks, list_asks}
+use Rattle.typing_rows.specs.Contracts.{types_at, TypesParts, AsksAt, AsksLater, AsksLaterFirst, EndsRow}
 
 -- a row that has a type once something was asked
 pub row_of_type : {F : Frame} {scope : Scope} {asks : Asks} {a b : Sight} {G : Letters} {n m : ℕ} (front : Asks) (type : Choice → Typ) → Carried F scope front a G b G → Means F b G type m → ((c : Context) → front c ++ is_of c n (type c.chosen) ≡ asks c) → RowCarried F scope asks a G b n m

@@ -1,7 +1,5 @@
 -- Parts of an application's row: what is asked of a head and its arguments, one after the other.
-use Rattle.std.proofs.Common.{◌≡◌, ◌∙◌, ◌++◌, ◌⊎◌, inl, inr, ℕ, ◌+◌, true, List, [], ◌∷◌, refl, sym, ap, subst, append_assoc, append-nil}
-use Rattle.text_terms.specs.declared.Span.{Span}
-use Rattle.syntax_tree.specs.View.{place_of}
+use Rattle.std.proofs.Common.{◌≡◌, ◌∙◌, ◌++◌, ℕ, ◌+◌, true, List, [], ◌∷◌, refl, sym, ap, subst, append_assoc, append-nil}
 use Rattle.tree_model.specs.Trees.{Place}
 use Rattle.type_model.specs.Types.{Typ}
 use Rattle.type_model.specs.Types.{Typ as type}
@@ -9,32 +7,27 @@ use Rattle.typing_model.specs.Demands.{site, same, equal}
 use Rattle.typing_model.specs.Contexts.{Choice, Context, ask, type_at}
 use Rattle.typing_model.specs.Contexts as contexts
 use Rattle.typing_model.specs.Parts.{Expression}
-use Rattle.typing_model.specs.Expressions.{has_type, typed_all, applied_from}
-use Rattle.type_terms.specs.declared.types.NodeRef.{NodeRef}
-use Rattle.type_nodes.specs.Nodes.{Arrow, IsNode, IsSound}
+use Rattle.typing_model.specs.Expressions.{typed_all, applied_from}
+use Rattle.type_nodes.specs.Nodes.{Arrow, IsNode}
 use Rattle.type_nodes.specs.Changes.{Makes}
 use Rattle.env_table.specs.declared.entries.Entry.{Entry}
 use Rattle.typing_state.specs.declared.parts.Parts.{Parts}
-use Rattle.typing_state.specs.declared.demands.Verdict.{Verdict}
-use Rattle.typing_state.specs.Goes.{Goes, OnlyStore, OnlyStoreAndFaults}
+use Rattle.typing_state.specs.Goes.{Goes, OnlyStore}
 use Rattle.typing_state.specs.Types.{MakesVar, any_scope}
-use Rattle.typing_state.specs.Demands.{EqualIs}
-use Rattle.typing_conditions.specs.Sights.{Sight, Key, letter, Letters, IsKnownFor}
-use Rattle.typing_conditions.specs.Frames.{Frame, Reaches}
-use Rattle.typing_conditions.specs.Meanings.{Means}
+use Rattle.typing_conditions.specs.Sights.{Sight, letter, Letters}
+use Rattle.typing_conditions.specs.Frames.{Frame}
 use Rattle.typing_conditions.specs.Carrying.{Asks, Scope, Carried, CarriedTo}
-use Rattle.typing_conditions.specs.Surroundings.{Surrounds}
 use Rattle.typing_conditions.proofs.Carried.{carried_refl, carried_trans, carried_as}
 use Rattle.typing_conditions.proofs.Meaning.{means_on}
 use Rattle.typing_conditions.proofs.Answering.{then_to, to_as}
 use Rattle.typing_conditions.proofs.Surrounding.{surrounds_on}
 use Rattle.typing_steps.specs.States.{is_aloud, sight}
-use Rattle.typing_steps.specs.Rows.{MakesTwo, AsksArrow, argument_asks, given_from, result_of}
-use Rattle.typing_steps.specs.Typing.{any_declared, TypesTo, RowCarried, AsksEqual}
+use Rattle.typing_steps.specs.Rows.{argument_asks, given_from, result_of}
+use Rattle.typing_steps.specs.Typing.{TypesTo, RowCarried, AsksEqual}
 use Rattle.typing_steps.proofs.Asking.{two_made, argument_asked}
 use Rattle.typing_steps.proofs.Making.{arrow_over}
 use Rattle.typing_conditions.proofs.Recording.{ends_same}
-use Rattle.typing_rows.specs.Contracts.{TypesEach, EachFirst, TypesFirst, MakesBoth, HeadIsArrow, TypesAs, GivenAll, GivenFirst, TypesGiven, TypesGivenFirst, TypesArgument}
+use Rattle.typing_rows.specs.Contracts.{TypesEach, TypesFirst, MakesBoth, HeadIsArrow, TypesAs, GivenAll, TypesGiven, TypesGivenFirst, TypesArgument}
 
 -- two new variables
 pub makes_both : (a b d : Parts) (m n : ℕ) → MakesVar a b m any_scope → OnlyStore a b → MakesVar b d n any_scope → OnlyStore b d → MakesBoth a d m n

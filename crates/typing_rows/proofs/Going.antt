@@ -1,5 +1,5 @@
 -- The operands of a node that is well formed and made of carried rows are such again.
-use Rattle.std.proofs.Common.{◌≡◌, ◌∙◌, ◌==◌, ◌<◌, ℕ, Bool, true, false, List, [], ◌∷◌, map, length, zero, suc, Option, Some, None, refl, sym, ap, subst, arith, if◌then◌else◌}
+use Rattle.std.proofs.Common.{◌≡◌, ◌==◌, ℕ, Bool, true, false, List, [], ◌∷◌, map, zero, suc, Option, Some, None, refl, ap, subst, if◌then◌else◌}
 use Rattle.std.specs.Prelude.{All, slice_get}
 use Rattle.std.specs.Option.{IfSome}
 use Rattle.std.proofs.lemmas.List.Elements.{All-nil, All-cons, All-head, All-tail}
@@ -8,7 +8,7 @@ use Rattle.tree_model.specs.Slots.{is_operand}
 use Rattle.tree_model.specs.Trees.{Place, Extent, Tree, Forest, Part, node, no_parts, part, taken, inner, missing}
 use Rattle.tree_model.specs.Extents.{told_size}
 use Rattle.row_parts.specs.Numbered.{Numbered, numbered, behind, with_slot, node_with, missing_operand, missing_at_end, operand_at, operands_from, operands_with_slots, operands_in, all_operands, in_slot, in_slots, first_of, first_in, filled_in}
-use Rattle.operand_laws.specs.Formed.{row_of, is_in}
+use Rattle.operand_laws.specs.Formed.{is_in}
 use Rattle.operand_laws.proofs.Going.{operands_formed, all_operands_formed, filled_formed}
 use Rattle.typing_rows.specs.CarriedRows.{IsCarriedRow, IsTreeOfCarriedRows, AreOfCarriedRows, IsOfCarriedRows, IsCarried}
 

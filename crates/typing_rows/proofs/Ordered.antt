@@ -1,37 +1,26 @@
 -- The parts of a row that are typed in order, each with what is asked of it.
-use Rattle.std.proofs.Common.{◌≡◌, ◌∙◌, ◌++◌, ℕ, ◌+◌, ◌==◌, ◌&&◌, Bool, true, false, List, [], ◌∷◌, map, refl, sym, ap, subst, append_assoc, append-nil}
-use Rattle.text_terms.specs.declared.Span.{Span}
-use Rattle.syntax_tree.specs.View.{place_of}
+use Rattle.std.proofs.Common.{◌≡◌, ◌∙◌, ◌++◌, ℕ, ◌+◌, ◌==◌, ◌&&◌, true, false, List, [], ◌∷◌, refl, sym, ap, subst, append_assoc, append-nil}
 use Rattle.tree_model.specs.Rows.{Row}
 use Rattle.tree_model.specs.Trees.{Place}
-use Rattle.type_model.specs.Types.{Typ}
 use Rattle.typing_model.specs.Demands.{site, equal}
-use Rattle.typing_model.specs.Contexts.{Choice, Context, ask}
+use Rattle.typing_model.specs.Contexts.{Choice, ask}
 use Rattle.typing_model.specs.BuiltIns.{bool_type}
 use Rattle.typing_model.specs.Parts.{Expression}
-use Rattle.typing_model.specs.Expressions.{has_type, is_false}
+use Rattle.typing_model.specs.Expressions.{is_false}
 use Rattle.type_terms.specs.declared.types.NodeRef.{NodeRef}
-use Rattle.type_nodes.specs.Nodes.{IsSound}
 use Rattle.type_nodes.specs.Views.{numbers}
 use Rattle.env_table.specs.declared.entries.Entry.{Entry}
 use Rattle.typing_state.specs.declared.parts.Parts.{Parts}
-use Rattle.typing_state.specs.declared.demands.Verdict.{Verdict}
-use Rattle.typing_state.specs.Goes.{Goes, OnlyStoreAndFaults}
-use Rattle.typing_state.specs.Demands.{EqualIs}
-use Rattle.typing_conditions.specs.Sights.{Sight, Letters}
-use Rattle.typing_conditions.specs.Frames.{Frame}
-use Rattle.typing_conditions.specs.Meanings.{Means, AllMean, none_mean}
-use Rattle.typing_conditions.specs.Carrying.{Asks, Scope, Carried, CarriedTo}
-use Rattle.typing_conditions.specs.Surroundings.{Surrounds}
+use Rattle.typing_state.specs.Goes.{Goes}
+use Rattle.typing_conditions.specs.Meanings.{AllMean, none_mean}
+use Rattle.typing_conditions.specs.Carrying.{Carried, CarriedTo}
 use Rattle.typing_conditions.proofs.Carried.{carried_refl, carried_trans, carried_as}
 use Rattle.typing_conditions.proofs.Meaning.{means_on, means_more, all_mean_on, all_mean_more}
 use Rattle.typing_conditions.proofs.Surrounding.{surrounds_on}
 use Rattle.typing_steps.specs.States.{is_aloud, sight}
-use Rattle.typing_steps.specs.Demands.{JudgedAs, is_kept}
-use Rattle.typing_steps.specs.Typing.{any_declared, TypesTo, AsksEqual}
-use Rattle.typing_steps.proofs.Comparing.{equal_asked}
+use Rattle.typing_steps.specs.Typing.{TypesTo, AsksEqual}
 use Rattle.typing_rows.specs.Asked.{wants_bool, bool_if, behind_asks, parts_ask}
-use Rattle.typing_rows.specs.Contracts.{types_at, PartsAll, PartsFirst, TypesParts, TypesPartsFirst, TypesPart, AsksBehind, AsksBool}
+use Rattle.typing_rows.specs.Contracts.{types_at, TypesParts, TypesPartsFirst, TypesPart, AsksBehind, AsksBool}
 
 -- the demand that an expression is a bool
 pub asks_bool : (a b : Parts) (env : List Entry) (e : Expression) (at : Place) (ty : ℕ) → e.at ≡ at → AsksEqual a b at ty a.constants.bool.0 → AsksBool a b env e ty

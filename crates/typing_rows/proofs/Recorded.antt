@@ -1,16 +1,14 @@
 -- A row, once its type is recorded, is a typed expression.
-use Rattle.std.proofs.Common.{◌≡◌, ◌∙◌, ◌++◌, ◌⊎◌, inl, inr, ℕ, Bool, true, false, List, [], ◌∷◌, Option, Some, None, refl, sym, ap, subst, append-nil}
+use Rattle.std.proofs.Common.{◌≡◌, ◌∙◌, ◌++◌, ℕ, Bool, true, false, List, [], Some, None, refl, sym, ap, subst}
 use denote.Ref.{Bor}
-use Rattle.tree_model.specs.Trees.{Place, Tree, node, inner, missing}
+use Rattle.tree_model.specs.Trees.{Place, Tree, inner, missing}
 use Rattle.syntax_tree.specs.View.{place_of, node_view}
 use Rattle.syntax_tree.specs.declared.tree.Node.{Node}
 use Rattle.row_parts.specs.declared.slots.Operand.{Operand}
 use Rattle.row_parts.specs.Numbered.{numbered, operand_view, part_of}
-use Rattle.type_model.specs.Types.{Typ}
-use Rattle.typing_model.specs.Contexts.{Choice, Context, tell_typed, type_at}
+use Rattle.typing_model.specs.Contexts.{Context, tell_typed}
 use Rattle.typing_model.specs.Parts.{Expression}
 use Rattle.typing_model.specs.Meanings.{recorded_expression}
-use Rattle.typing_model.specs.Expressions.{expression_row, is_of}
 use Rattle.type_terms.specs.declared.types.NodeRef.{NodeRef}
 use Rattle.env_table.specs.declared.entries.Entry.{Entry}
 use Rattle.env_table.specs.declared.seen.Seen.{Seen}
@@ -18,18 +16,13 @@ use Rattle.typing_state.specs.declared.parts.Parts.{Parts}
 use Rattle.typing_state.specs.Goes.{Goes, OnlyStore, OnlyIndex}
 use Rattle.typing_state.specs.Notes.{Noted, NotedNameless}
 use Rattle.typing_state.specs.Types.{MakesVar, any_scope}
-use Rattle.typing_conditions.specs.Sights.{Sight, own, Letters, number_in, IsKnownFor}
-use Rattle.typing_conditions.specs.Frames.{Frame}
-use Rattle.typing_conditions.specs.Steps.{Records}
-use Rattle.typing_conditions.specs.Carrying.{Asks, Scope, CarriedTo}
-use Rattle.typing_conditions.specs.Surroundings.{Surrounds}
+use Rattle.typing_conditions.specs.Sights.{number_in}
 use Rattle.typing_conditions.proofs.Answering.{to_as}
-use Rattle.typing_steps.specs.States.{is_aloud, sight}
-use Rattle.typing_steps.specs.Typing.{any_declared, TypesTo, TypesRow}
+use Rattle.typing_steps.specs.States.{is_aloud}
+use Rattle.typing_steps.specs.Typing.{TypesTo, TypesRow}
 use Rattle.typing_steps.proofs.Rows.{row_carried, row_any, var_any}
 use Rattle.typing_steps.proofs.Recording.{type_noted, nameless_noted}
-use Rattle.operand_laws.specs.Formed.{row_of}
-use Rattle.operand_laws.specs.Operands.{number_of, parts_of, expression_of}
+use Rattle.operand_laws.specs.Operands.{number_of, expression_of}
 use Rattle.operand_laws.proofs.Standing.{expression_of_stands}
 use Rattle.operand_laws.proofs.Sorts.{expression_by_row}
 use Rattle.typing_rows.specs.CarriedRows.{IsCarried}

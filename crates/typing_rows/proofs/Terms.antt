@@ -1,26 +1,24 @@
 -- The rows that carry, as the definitions take them, over the operands of the code.
-use Rattle.std.proofs.Common.{◌≡◌, ◌∙◌, ◌++◌, ◌==◌, ◌&&◌, not, ℕ, ◌+◌, Bool, true, false, arith, List, [], ◌∷◌, map, Option, Some, None, option_map, option_to_list, refl, sym, ap, subst, append_assoc, append-nil}
+use Rattle.std.proofs.Common.{◌≡◌, ◌∙◌, ◌++◌, ◌==◌, ◌&&◌, not, ℕ, ◌+◌, Bool, true, false, arith, List, [], ◌∷◌, Option, Some, None, option_map, option_to_list, refl, sym, ap, append_assoc, append-nil}
 use Rattle.std.specs.List.{flat_map}
 use Rattle.std.proofs.lemmas.Bool.{eqb-true}
-use Rattle.token_model.specs.Kinds.{Tok, Kind, upper, false_word}
 use Rattle.tree_model.specs.Rows.{Row, name_row, epath_row, econst_row, hole_row, eparen_row, ebegin_row, elist_row, prefix_row, eapp_row, eassert_row, ewhile_row, eneg_row, infix_row, econs_row, etuple_row, eif_row, eseq_row}
 use Rattle.tree_model.specs.Slots.{is_operand, operand_slots}
-use Rattle.tree_model.specs.Trees.{Place, Tree, Part, taken, inner, missing, node}
-use Rattle.row_parts.specs.Numbered.{Numbered, numbered, operands_in, all_operands, first_in, filled_in, token_in, path_in}
-use Rattle.type_model.specs.Types.{Typ, Tuple, types_of}
+use Rattle.tree_model.specs.Trees.{Place, Tree}
+use Rattle.row_parts.specs.Numbered.{Numbered, operands_in, all_operands, first_in, filled_in, token_in, path_in}
 use Rattle.typing_model.specs.Demands.{Condition}
 use Rattle.typing_model.specs.Contexts.{Context, type_at}
 use Rattle.typing_model.specs.BuiltIns.{unit_type, bool_type, list_type}
 use Rattle.typing_model.specs.Patterns.{ask_all, behind_first}
 use Rattle.typing_model.specs.Parts as parts
 use Rattle.typing_model.specs.Parts.{Expression, expressions_in, expression_in, types_in, last_of, Form}
-use Rattle.typing_model.specs.Expressions.{expression_row, typed_all, has_type, is_of, first_type, each_has, application, name_expression, path_expression, constant_expression, hole_expression, parenthesised, begun, list_expression, cons_expression, tuple_expression, if_expression, sequence_expression, while_expression, assert_expression, assert_asks, infix_expression, prefix_expression, minus_expression, is_false, node_types}
+use Rattle.typing_model.specs.Expressions.{expression_row, typed_all, has_type, is_of, first_type, each_has, application, name_expression, path_expression, constant_expression, hole_expression, parenthesised, begun, list_expression, cons_expression, tuple_expression, if_expression, sequence_expression, while_expression, assert_expression, assert_asks, infix_expression, prefix_expression, minus_expression, is_false}
 use Rattle.operand_laws.specs.Formed.{row_of, is_needed, may_repeat, IsFormed}
 use Rattle.operand_laws.specs.Operands.{number_of, parts_of, path_of, expression_of}
 use Rattle.operand_laws.proofs.Sorts.{expression_stands, expressions_stand, first_expression_stands, first_type_stands}
 use Rattle.operand_laws.proofs.SlotBySlot.{all_in_order, at_most_one, exactly_one}
 use Rattle.operand_laws.proofs.Tokens.{token_stands, path_stands}
-use Rattle.typing_rows.specs.Asked.{IsPlainRow, row_expression, expressions_of, parts_ask, behind_asks, bool_if, wants_bool, end_asks, begin_asks, last_asks, assert_end_asks, assert_ends, branches_ask}
+use Rattle.typing_rows.specs.Asked.{IsPlainRow, row_expression, expressions_of, parts_ask, bool_if, wants_bool, end_asks, last_asks, assert_ends}
 
 -- one expression in a slot that is needed
 module _ (i n : ℕ) (t : Tree) (formed : IsFormed n t) where

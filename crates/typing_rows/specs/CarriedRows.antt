@@ -5,7 +5,6 @@ use Rattle.token_model.specs.Kinds.{Tok, Kind, upper}
 use Rattle.tree_model.specs.Rows.{Row, name_row, epath_row, econst_row, hole_row, eparen_row, ebegin_row, elist_row, prefix_row, eapp_row, eassert_row, ewhile_row, eneg_row, infix_row, econs_row, etuple_row, eif_row, eseq_row}
 use Rattle.tree_model.specs.Trees.{Tree, Forest, Part, node, no_parts, part, taken, inner, missing}
 use Rattle.row_parts.specs.Numbered.{Numbered, token_in}
-use Rattle.row_parts.specs.Numbered as operands
 use Rattle.operand_laws.specs.Formed.{is_in, IsOperandFormed}
 
 -- a kind that isn't that of a constructor's name

@@ -1,5 +1,5 @@
 -- What the functions of a row carry, each of its own part of the row.
-use Rattle.std.specs.Prelude.{◌≡◌, ℕ, ◌+◌, true, List, [], ◌∷◌, ◌++◌, map, slice_get}
+use Rattle.std.specs.Prelude.{◌≡◌, ℕ, ◌+◌, true, List, ◌∷◌, ◌++◌, map, slice_get}
 use Rattle.tree_model.specs.Rows.{Row}
 use Rattle.tree_model.specs.Trees.{Place}
 use Rattle.type_model.specs.Types.{Typ}
