@@ -4,4 +4,3 @@ pub mod GroupLaws
 pub mod LeafLaws
 pub mod BindingLaws
 pub mod RecordLaws
-pub mod CarryingLaws

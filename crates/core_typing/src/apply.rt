@@ -1,22 +1,11 @@
 //! Applications: of an expression, of an operator and of a constructor.
 #![tactic(auto, using(typing_state::proofs::Going::goes_trans, typing_state::proofs::Going::goes_refl, typing_state::proofs::Following::follows_both, typing_state::proofs::Following::follows_then, typing_state::proofs::Following::follows_before, typing_state::proofs::Following::follows_behind, typing_state::proofs::Following::follows_none, typing_state::proofs::Following::follows_silent, typing_state::proofs::Following::store_silent, typing_state::proofs::Following::silent_refl, typing_state::proofs::Following::silent_trans, typing_state::proofs::Following::ends_both, typing_state::proofs::Following::ends_behind, typing_state::proofs::Following::ends_before, typing_state::proofs::Following::ends_silent, typing_state::proofs::Following::gets_start, typing_state::proofs::Following::gets_more, typing_state::proofs::Following::gets_before, typing_state::proofs::Following::gets_done, crate::proofs::ExpressionLaws::ends_then), unfolding(syntax_tree::specs::Names::row_of))]
 
-ghost use Rattle.std.specs.Prelude.{◌≡◌, ℕ, true, [], ◌∷◌, ◌++◌, map, option_map, All, Some, None, IfOk, IfSome, OnOk};
-ghost use Rattle.tree_model.specs.Trees.{Place, inner};
-ghost use Rattle.typing_model.specs.Expressions.{value_asks};
-ghost use Rattle.operand_laws.specs.Operands.{number_of, expression_of};
-ghost use Rattle.typing_conditions.specs.Steps.{Records};
-ghost use Rattle.typing_steps.specs.States.{is_aloud, sight};
-ghost use Rattle.typing_steps.specs.Typing.{TypesRow, TypesOwn};
-ghost use Rattle.typing_rows.specs.CarriedRows.{IsCarried};
-ghost use Rattle.typing_rows.specs.Asked.{under_minus, row_expression, expressions_of, signed_expressions, applied_asks, operated_asks};
-ghost use Rattle.typing_rows.specs.Contracts.{MakesBoth, HeadIsArrow, TypesAs, TypesArgument, TypesGiven};
-ghost use Rattle.use_typing.specs.Constants.{is_negated};
-ghost use Rattle.core_typing.specs.Operators.{sign_in, IsOperation, IsOperator, IsSignOf};
+ghost use Rattle.std.specs.Prelude.{◌≡◌, [], ◌∷◌, ◌++◌, map, option_map, Some, IfOk, OnOk};
 ghost use Rattle.token_model.specs.Kinds.{Tok};
 ghost use Rattle.syntax_tree.specs.Names.{row_of, kind_of};
 ghost use Rattle.syntax_tree.specs.View.{place_of, tok_of, node_view};
-ghost use Rattle.row_parts.specs.Numbered.{numbered, filled_in, operand_view, path_view};
+ghost use Rattle.row_parts.specs.Numbered.{operand_view, path_view};
 ghost use Rattle.env_table.specs.declared.faults.FaultKind.{FaultKind};
 ghost use Rattle.typing_state.specs.Goes.{Goes};
 ghost use Rattle.typing_state.specs.Steps.{asks, records, each, Follows, Silent};
@@ -24,7 +13,7 @@ ghost use Rattle.type_reading.specs.TypeSteps.{constructor_steps};
 ghost use Rattle.env_table.specs.declared.entries.Kind.{Kind};
 ghost use Rattle.use_typing.specs.Uses.{TellsBound, TellsUse};
 ghost use Rattle.core_typing.specs.declared.exprs.RowForm.{RowForm};
-ghost use Rattle.core_typing.specs.ExpressionSteps.{expression_at, expression_steps, form_of, argument_steps, arguments_steps, constructed_steps, constructor_at, is_float_at, is_float_token, operator_in, recorded_constructor, row_at, steps_as, upper_path};
+ghost use Rattle.core_typing.specs.ExpressionSteps.{expression_at, expression_steps, argument_steps, arguments_steps, constructed_steps, constructor_at, is_float_at, is_float_token, operator_in, recorded_constructor, row_at, steps_as, upper_path};
 
 use crate::exprs::{type_each, type_under, typed_as};
 use row_parts::{Operand, WrittenPath, operand_in, operands, operands_of, token, written_path};
@@ -41,7 +30,6 @@ pub fn application(
     env: &Env,
     depth: Depth,
 ) -> Result<Used, NoMemory>
-    ensures carries { IfOk result (λ u. (place : Place) → IsCarried (numbered number place (inner (node_view node.now))) → form_of (row_at (node_view node.now)) ≡ RowForm.Application → TypesRow at.old at.new env.now (λ c. (row_expression at.old.item number place (node_view node.now)).typed c) (number_of at.old.item number) u.ty.0) }
     ensures follows { OnOk result (Follows (steps_as RowForm.Application number (node_view node.now)) at.old at.new) }
     ensures goes { Goes at.old at.new }
 {
@@ -62,7 +50,6 @@ fn applied(
     env: &Env,
     depth: Depth,
 ) -> Result<Used, NoMemory>
-    ensures carries { IfOk result (λ u. IsCarried (operand_view head.entry) → All IsCarried (map operand_view given.now) → (n : ℕ) → TypesRow at.old at.new env.now (applied_asks n (expression_of at.old.item (operand_view head.entry)) (expressions_of at.old.item (map operand_view given.now))) n u.ty.0) }
     ensures follows { OnOk result (Follows (expression_steps (operand_view head.entry) ++ arguments_steps (place_of head.entry.span) (map expression_at (map operand_view given.now))) at.old at.new) }
     ensures goes { Goes at.old at.new }
 {
@@ -175,7 +162,6 @@ fn arguments(
     env: &Env,
     depth: Depth,
 ) -> Result<NodeRef, NoMemory>
-    ensures carries { IfOk result (λ m. All IsCarried (map operand_view given.now) → TypesGiven at.old at.new env.now (place_of place) (signed_expressions (is_negated sign) at.old.item (map operand_view given.now)) head.0 m.0) }
     ensures follows { OnOk result (Follows (arguments_steps (place_of place) (map expression_at (map operand_view given.now))) at.old at.new) }
     ensures goes { Goes at.old at.new }
 {
@@ -197,7 +183,6 @@ fn argument(
     env: &Env,
     depth: Depth,
 ) -> Result<NodeRef, NoMemory>
-    ensures carries { IfOk result (λ m. IsCarried (operand_view one.entry) → TypesArgument at.old at.new env.now (place_of place) (under_minus (is_negated sign) (expression_of at.old.item (operand_view one.entry))) head.0 m.0) }
     ensures follows { OnOk result (Follows (argument_steps (place_of place) (expression_at (operand_view one.entry))) at.old at.new) }
     ensures goes { Goes at.old at.new }
 {
@@ -216,7 +201,6 @@ fn typed_argument(
     env: &Env,
     depth: Depth,
 ) -> Result<(), NoMemory>
-    ensures carries { OnOk result (IsCarried (operand_view one.entry) → TypesAs at.old at.new env.now (under_minus (is_negated sign) (expression_of at.old.item (operand_view one.entry))) from.0) }
     ensures follows { OnOk result (Follows (expression_steps (operand_view one.entry) ++ asks FaultKind.Equal (place_of one.entry.span ∷ []) ∷ []) at.old at.new) }
     ensures goes { Goes at.old at.new }
 {
@@ -232,7 +216,6 @@ fn ask_arrow(
     head: NodeRef,
     env: &Env,
 ) -> Result<(NodeRef, NodeRef), NoMemory>
-    ensures carries { IfOk result (λ p. HeadIsArrow at.old at.new env.now (place_of place) head.0 p.0.0 p.1.0) }
     ensures follows { OnOk result (Follows (asks FaultKind.Equal (place_of place ∷ []) ∷ []) at.old at.new) }
     ensures goes { Goes at.old at.new }
 {
@@ -244,7 +227,6 @@ fn ask_arrow(
 
 /// Two new variables.
 fn two_types(at: &mut Parts) -> Result<(NodeRef, NodeRef), NoMemory>
-    ensures carries { IfOk result (λ p. MakesBoth at.old at.new p.0.0 p.1.0) }
     ensures silent { Silent at.old at.new }
     ensures goes { Goes at.old at.new }
 {
@@ -262,8 +244,7 @@ struct Operator {
 
 /// The token of the operator of a row.
 fn sign_of(node: &Node) -> Option<&Token>
-    ensures token { option_map (λ t. tok_of t.now) result ≡ sign_in (row_at (node_view node.now)) (node_view node.now) }
-    ensures place { option_map (λ t. place_of t.now.span) result ≡ operator_in (row_at (node_view node.now)) (node_view node.now) }
+    ensures { option_map (λ t. place_of t.now.span) result ≡ operator_in (row_at (node_view node.now)) (node_view node.now) }
 {
     match node.row {
         RowName::Infix => token(node, 1),
@@ -273,9 +254,7 @@ fn sign_of(node: &Node) -> Option<&Token>
 
 /// The operator of a row; None where it is missing.
 fn operator_of(at: &Parts, node: &Node) -> Result<Option<Operator>, NoMemory>
-    ensures none { IfOk result (λ o. o ≡ None → sign_in (row_at (node_view node.now)) (node_view node.now) ≡ None) }
-    ensures some { IfOk result (λ o. IfSome o (λ x. IsSignOf (row_at (node_view node.now)) (sign_in (row_at (node_view node.now)) (node_view node.now)) x)) }
-    ensures place { IfOk result (λ o. option_map (λ o. place_of o.named.span) o ≡ operator_in (row_at (node_view node.now)) (node_view node.now)) }
+    ensures { IfOk result (λ o. option_map (λ o. place_of o.named.span) o ≡ operator_in (row_at (node_view node.now)) (node_view node.now)) }
 {
     match sign_of(node) {
         Some(token) => Ok(Some(operator_by(at, node.row, token)?)),
@@ -285,8 +264,7 @@ fn operator_of(at: &Parts, node: &Node) -> Result<Option<Operator>, NoMemory>
 
 /// The operator by its token. Over an argument alone - is ~-, and -. is ~-.
 fn operator_by(at: &Parts, row: RowName, token: &Token) -> Result<Operator, NoMemory>
-    ensures operator { IfOk result (λ o. IsOperator (row_of row) (tok_of token.now) o) }
-    ensures place { IfOk result (λ o. place_of o.named.span ≡ place_of token.now.span) }
+    ensures { IfOk result (λ o. place_of o.named.span ≡ place_of token.now.span) }
 {
     let (name, sign) = match row {
         RowName::Eneg if token.name.is("-.") => (RcStr::from_str(at.alloc(), "~-.")?, Sign::None),
@@ -305,7 +283,6 @@ fn operator_by(at: &Parts, row: RowName, token: &Token) -> Result<Operator, NoMe
 
 /// `bound` of an operator.
 fn operator_value(at: &mut Parts, operator: &Token, env: &Env) -> Result<Used, NoMemory>
-    ensures carries { IfOk result (λ u. (n k : ℕ) → TypesOwn at.old at.new env.now (λ c t. value_asks c n k (record { qualifiers = []; last = Some (tok_of operator.now) }) t) u.ty.0) }
     ensures tells { OnOk result (TellsBound (record { qualifiers = []; last = Some (tok_of operator.now) }) Kind.Value at.old at.new env.now) }
     ensures follows { OnOk result (Follows (asks FaultKind.Bound (place_of operator.now.span ∷ []) ∷ []) at.old at.new) }
     ensures goes { Goes at.old at.new }
@@ -326,7 +303,6 @@ pub fn operation(
     env: &Env,
     depth: Depth,
 ) -> Result<Used, NoMemory>
-    ensures carries { IfOk result (λ u. (place : Place) → IsCarried (numbered number place (inner (node_view node.now))) → IsOperation (row_at (node_view node.now)) (is_float_at (filled_in number (node_view node.now) 1).part) → TypesRow at.old at.new env.now (λ c. (row_expression at.old.item number place (node_view node.now)).typed c) (number_of at.old.item number) u.ty.0) }
     ensures follows { OnOk result (Follows (steps_as RowForm.Operation number (node_view node.now)) at.old at.new) }
     ensures goes { Goes at.old at.new }
 {
@@ -349,7 +325,6 @@ fn operated(
     env: &Env,
     depth: Depth,
 ) -> Result<Used, NoMemory>
-    ensures carries { IfOk result (λ u. All IsCarried (map operand_view given.now) → (n : ℕ) → TypesRow at.old at.new env.now (operated_asks n (tok_of operator.now.named) (signed_expressions (is_negated operator.now.sign) at.old.item (map operand_view given.now))) n u.ty.0) }
     ensures follows { OnOk result (Follows (asks FaultKind.Bound (place_of operator.now.named.span ∷ []) ∷ arguments_steps (place_of operator.now.named.span) (map expression_at (map operand_view given.now))) at.old at.new) }
     ensures goes { Goes at.old at.new }
 {
@@ -369,7 +344,6 @@ pub fn minus(
     env: &Env,
     depth: Depth,
 ) -> Result<Used, NoMemory>
-    ensures carries { IfOk result (λ u. (place : Place) → IsCarried (numbered number place (inner (node_view node.now))) → form_of (row_at (node_view node.now)) ≡ RowForm.Minus → TypesRow at.old at.new env.now (λ c. (row_expression at.old.item number place (node_view node.now)).typed c) (number_of at.old.item number) u.ty.0) }
     ensures follows { OnOk result (Follows (steps_as RowForm.Minus number (node_view node.now)) at.old at.new) }
     ensures goes { Goes at.old at.new }
 {
@@ -406,8 +380,6 @@ fn is_point(token: Option<&Token>) -> bool
 
 /// A numeral with a point under a minus, by its number.
 fn negative_float(at: &mut Parts, number: u32, env: &Env) -> Result<Used, NoMemory>
-    ensures carries { IfOk result (λ u. is_aloud at.old.telling ≡ true → Records (sight at.old) (sight at.new) number at.old.constants.float.0) }
-    ensures ty { IfOk result (λ u. u.ty ≡ at.old.constants.float) }
     ensures follows { OnOk result (Follows (records number ∷ []) at.old at.new) }
     ensures goes { Goes at.old at.new }
 {

@@ -1,16 +1,10 @@
 //! The walk over expressions: each row types its parts in order, with its demands between and behind them.
 #![tactic(auto, using(typing_state::proofs::Going::goes_trans, typing_state::proofs::Going::goes_refl, typing_state::proofs::Following::follows_both, typing_state::proofs::Following::follows_then, typing_state::proofs::Following::follows_before, typing_state::proofs::Following::follows_behind, typing_state::proofs::Following::follows_none, typing_state::proofs::Following::follows_silent, typing_state::proofs::Following::store_silent, typing_state::proofs::Following::silent_refl, typing_state::proofs::Following::silent_trans, typing_state::proofs::Following::ends_both, typing_state::proofs::Following::ends_behind, typing_state::proofs::Following::ends_before, typing_state::proofs::Following::ends_silent, typing_state::proofs::Following::gets_start, typing_state::proofs::Following::gets_more, typing_state::proofs::Following::gets_before, typing_state::proofs::Following::gets_done, crate::proofs::ExpressionLaws::value_no_record, crate::proofs::ExpressionLaws::form_follows), unfolding(syntax_tree::specs::Names::row_of))]
 
-ghost use Rattle.std.specs.Prelude.{◌≡◌, ℕ, false, [], ◌∷◌, ◌++◌, map, All, IfOk, OnOk};
-ghost use Rattle.tree_model.specs.Trees.{Place, inner};
-ghost use Rattle.operand_laws.specs.Operands.{number_of, expression_of};
-ghost use Rattle.typing_steps.specs.Typing.{TypesTo, TypesRow};
-ghost use Rattle.typing_rows.specs.CarriedRows.{IsCarried};
-ghost use Rattle.typing_rows.specs.Asked.{under_minus, row_expression, expressions_of};
-ghost use Rattle.typing_rows.specs.Contracts.{TypesEach};
+ghost use Rattle.std.specs.Prelude.{◌≡◌, false, [], ◌∷◌, ◌++◌, OnOk};
 ghost use Rattle.syntax_tree.specs.View.{place_of, node_view};
 ghost use Rattle.syntax_tree.specs.Names.{row_of};
-ghost use Rattle.row_parts.specs.Numbered.{numbered, operand_view, path_view};
+ghost use Rattle.row_parts.specs.Numbered.{operand_view, path_view};
 ghost use Rattle.env_table.specs.declared.faults.FaultKind.{FaultKind};
 ghost use Rattle.typing_state.specs.Goes.{Goes};
 ghost use Rattle.typing_state.specs.Steps.{asks, each, Follows, Silent};
@@ -40,7 +34,6 @@ pub fn type_expr(
     env: &Env,
     depth: Depth,
 ) -> Result<NodeRef, NoMemory>
-    ensures carries { IfOk result (λ m. IsCarried (operand_view e.entry) → TypesTo at.old at.new env.now (λ c. (expression_of at.old.item (operand_view e.entry)).typed c) (λ ch. ch.type_at (expression_of at.old.item (operand_view e.entry)).node) m.0) }
     ensures alone { OnOk result (TellsAlone (operand_view e.entry).part false at.old at.new env.now) }
     ensures follows { OnOk result (Follows (expression_steps (operand_view e.entry)) at.old at.new) }
     ensures recorded { OnOk result (IsRecorded at.new e.entry.number) }
@@ -58,7 +51,6 @@ pub fn type_under(
     env: &Env,
     depth: Depth,
 ) -> Result<NodeRef, NoMemory>
-    ensures carries { IfOk result (λ m. IsCarried (operand_view e.entry) → TypesTo at.old at.new env.now (λ c. (under_minus (is_negated sign) (expression_of at.old.item (operand_view e.entry))).typed c) (λ ch. ch.type_at (expression_of at.old.item (operand_view e.entry)).node) m.0) }
     ensures alone { OnOk result (TellsAlone (operand_view e.entry).part (is_negated sign) at.old at.new env.now) }
     ensures follows { OnOk result (Follows (expression_steps (operand_view e.entry)) at.old at.new) }
     ensures recorded { OnOk result (IsRecorded at.new e.entry.number) }
@@ -128,7 +120,6 @@ fn typed_row(
     env: &Env,
     depth: Depth,
 ) -> Result<Used, NoMemory>
-    ensures carries { IfOk result (λ u. (place : Place) → IsCarried (numbered number place (inner (node_view node.now))) → TypesRow at.old at.new env.now (λ c. (under_minus (is_negated sign) (row_expression at.old.item number place (node_view node.now))).typed c) (number_of at.old.item number) u.ty.0) }
     ensures alone { OnOk result (TellsAs (form_of (row_at (node_view node.now))) (node_view node.now) (is_negated sign) at.old at.new env.now) }
     ensures follows { OnOk result (Follows (unrecorded_steps number (node_view node.now)) at.old at.new) }
     ensures goes { Goes at.old at.new }
@@ -156,7 +147,6 @@ pub fn type_each(
     env: &Env,
     depth: Depth,
 ) -> Result<(), NoMemory>
-    ensures carries { OnOk result (All IsCarried (map operand_view es.now) → TypesEach at.old at.new env.now (expressions_of at.old.item (map operand_view es.now))) }
     ensures follows { OnOk result (Follows (each (λ o. expression_steps (operand_view o)) es.now) at.old at.new) }
     ensures goes { Goes at.old at.new }
 {
@@ -186,7 +176,6 @@ pub fn typed_as(
 
 /// A row without parts.
 fn leaf(at: &mut Parts, node: &Node, number: u32, sign: Sign, env: &Env) -> Result<Used, NoMemory>
-    ensures carries { IfOk result (λ u. (place : Place) → IsCarried (numbered number place (inner (node_view node.now))) → form_of (row_at (node_view node.now)) ≡ RowForm.Leaf → TypesRow at.old at.new env.now (λ c. (under_minus (is_negated sign) (row_expression at.old.item number place (node_view node.now))).typed c) (number_of at.old.item number) u.ty.0) }
     ensures tells { OnOk result (TellsLeaf (node_view node.now) (is_negated sign) at.old at.new env.now) }
     ensures follows { OnOk result (Follows (steps_as RowForm.Leaf number (node_view node.now)) at.old at.new) }
     ensures goes { Goes at.old at.new }
@@ -212,7 +201,6 @@ fn constructor_alone(at: &mut Parts, env: &Env, path: &WrittenPath<'_>) -> Resul
 
 /// A row without parts that is no constructor.
 fn leaf_value(at: &mut Parts, node: &Node, sign: Sign, env: &Env) -> Result<Used, NoMemory>
-    ensures carries { IfOk result (λ u. (number : ℕ) (place : Place) → IsCarried (numbered number place (inner (node_view node.now))) → form_of (row_at (node_view node.now)) ≡ RowForm.Leaf → TypesRow at.old at.new env.now (λ c. (under_minus (is_negated sign) (row_expression at.old.item number place (node_view node.now))).typed c) (number_of at.old.item number) u.ty.0) }
     ensures tells { OnOk result (TellsValue (value_in (row_at (node_view node.now)) (node_view node.now)) (is_negated sign) at.old at.new env.now) }
     ensures follows { OnOk result (Follows (value_steps (value_in (row_at (node_view node.now)) (node_view node.now))) at.old at.new) }
     ensures goes { Goes at.old at.new }

@@ -1,26 +1,17 @@
 //! Rows whose parts are typed one after the other, with demands between and behind them.
 #![tactic(auto, using(typing_state::proofs::Going::goes_trans, typing_state::proofs::Going::goes_refl, typing_state::proofs::Following::follows_both, typing_state::proofs::Following::follows_before, typing_state::proofs::Following::follows_behind, typing_state::proofs::Following::follows_none, typing_state::proofs::Following::follows_silent, typing_state::proofs::Following::store_silent, typing_state::proofs::Following::silent_refl, typing_state::proofs::Following::silent_trans, typing_state::proofs::Following::ends_both, typing_state::proofs::Following::ends_behind, typing_state::proofs::Following::ends_before, typing_state::proofs::Following::ends_silent, typing_state::proofs::Following::gets_start, typing_state::proofs::Following::gets_more, typing_state::proofs::Following::gets_before, typing_state::proofs::Following::gets_done, crate::proofs::ExpressionLaws::types_no_record, crate::proofs::ExpressionLaws::token_no_record), unfolding(syntax_tree::specs::Names::row_of))]
 
-ghost use Rattle.std.specs.Prelude.{◌≡◌, ◌==◌, ◌&&◌, [], ◌∷◌, ◌++◌, map, option_map, All, IfOk, OnOk};
-ghost use Rattle.tree_model.specs.Rows.{elist_row, econs_row, eif_row};
-ghost use Rattle.tree_model.specs.Trees.{Place, inner};
-ghost use Rattle.type_nodes.specs.Views.{numbers};
-ghost use Rattle.operand_laws.specs.Operands.{number_of, expression_of};
-ghost use Rattle.typing_steps.specs.Typing.{TypesRow};
-ghost use Rattle.typing_rows.specs.CarriedRows.{IsCarried};
-ghost use Rattle.typing_rows.specs.Asked.{row_expression, expressions_of, IsPlainRow, wants_bool, end_of};
-ghost use Rattle.typing_rows.specs.Contracts.{TypesParts, TypesPart, AsksBehind, AsksBool, EndsRow, AsksAt, AsksLater};
-ghost use Rattle.core_typing.specs.Operators.{is_false_at};
+ghost use Rattle.std.specs.Prelude.{◌≡◌, [], ◌∷◌, ◌++◌, map, option_map, IfOk, OnOk};
 ghost use Rattle.syntax_tree.specs.Names.{row_of};
 ghost use Rattle.syntax_tree.specs.View.{place_of, tok_of, node_view};
-ghost use Rattle.row_parts.specs.Numbered.{numbered, operand_view, path_view, path_in};
+ghost use Rattle.row_parts.specs.Numbered.{operand_view, path_view, path_in};
 ghost use Rattle.env_table.specs.declared.faults.FaultKind.{FaultKind};
 ghost use Rattle.typing_state.specs.Goes.{Goes};
 ghost use Rattle.typing_state.specs.Steps.{asks, each, Follows, Silent, asks_bound};
 ghost use Rattle.use_typing.specs.UseSteps.{asks_equal, asks_token};
 ghost use Rattle.pattern_typing.specs.PatternSteps.{later};
 ghost use Rattle.core_typing.specs.declared.exprs.RowForm.{RowForm};
-ghost use Rattle.core_typing.specs.ExpressionSteps.{asked_behind, asked_branch, behind_part_steps, behind_parts, expression_at, expression_steps, form_of, has_type, label_steps, part_at, part_steps, parts_from, row_at, set_label_at, steps_as};
+ghost use Rattle.core_typing.specs.ExpressionSteps.{asked_behind, asked_branch, behind_part_steps, behind_parts, expression_at, expression_steps, has_type, label_steps, part_at, part_steps, parts_from, row_at, set_label_at, steps_as};
 
 use crate::exprs::type_under;
 use crate::values::is_false;
@@ -42,7 +33,6 @@ pub fn plain(
     env: &Env,
     depth: Depth,
 ) -> Result<Used, NoMemory>
-    ensures carries { IfOk result (λ u. (place : Place) → IsCarried (numbered number place (inner (node_view node.now))) → form_of (row_at (node_view node.now)) ≡ RowForm.Plain → TypesRow at.old at.new env.now (λ c. (row_expression at.old.item number place (node_view node.now)).typed c) (number_of at.old.item number) u.ty.0) }
     ensures follows { OnOk result (Follows (steps_as RowForm.Plain number (node_view node.now)) at.old at.new) }
     ensures goes { Goes at.old at.new }
 {
@@ -60,9 +50,7 @@ struct Scope {
 }
 
 /// In the body of a `for` its variable stands; elsewhere all parts have the environment of the row.
-fn last_scope(at: &Parts, node: &Node, env: &Env) -> Result<Scope, NoMemory>
-    ensures { IfOk result (λ s. IsPlainRow (row_at (node_view node.now)) → s.env ≡ env.now) }
-{
+fn last_scope(at: &Parts, node: &Node, env: &Env) -> Result<Scope, NoMemory> {
     match (node.row, token(node, 1)) {
         (RowName::Efor, Some(name)) => scope_in_loop(at, name, env),
         _ => Ok(Scope {
@@ -94,7 +82,6 @@ fn type_parts(
     inner: &Env,
     depth: Depth,
 ) -> Result<Vec<NodeRef>, NoMemory>
-    ensures carries { IfOk result (λ ts. IsPlainRow (row_of row) → inner.now ≡ env.now → All IsCarried (map operand_view parts.now) → TypesParts at.old at.new env.now (row_of row) (expressions_of at.old.item (map operand_view parts.now)) (numbers ts.items)) }
     ensures follows { OnOk result (Follows (parts_from (row_of row) 0 (map expression_at (map operand_view parts.now))) at.old at.new) }
     ensures goes { Goes at.old at.new }
 {
@@ -119,7 +106,6 @@ fn type_part(
     env: &Env,
     depth: Depth,
 ) -> Result<NodeRef, NoMemory>
-    ensures carries { IfOk result (λ m. IsPlainRow (row_of row) → scope.now ≡ env.now → IsCarried (operand_view part.entry) → TypesPart at.old at.new env.now (row_of row) place (expression_of at.old.item (operand_view part.entry)) m.0) }
     ensures follows { OnOk result (Follows (part_steps (row_of row) place (expression_at (operand_view part.entry))) at.old at.new) }
     ensures goes { Goes at.old at.new }
 {
@@ -137,42 +123,20 @@ fn behind_part(
     ty: NodeRef,
     env: &Env,
 ) -> Result<(), NoMemory>
-    ensures carries { OnOk result (IsPlainRow (row_of row) → AsksBehind at.old at.new env.now (row_of row) place (expression_of at.old.item (operand_view part.entry)) ty.0) }
     ensures follows { OnOk result (Follows (behind_part_steps (row_of row) place (expression_at (operand_view part.entry))) at.old at.new) }
     ensures goes { Goes at.old at.new }
 {
-    if is_condition(row, place, part) {
-        return ask_bool(at, part, ty, env);
-    }
     match (row, place) {
+        (RowName::Eif | RowName::Ewhile, 0) => ask_bool(at, part, ty, env),
+        (RowName::Eassert, 0) if !is_false(part) => ask_bool(at, part, ty, env),
         (RowName::Efor, 0 | 1) => ask_int(at, part, ty, env),
         (RowName::Eset, 0) => ask_mutable(at, part, env),
         _ => Ok(()),
     }
 }
 
-/// Whether the part of a row at a place is a bool.
-fn is_condition(row: RowName, place: usize, part: Operand<'_>) -> bool
-    ensures { result ≡ (place == 0 && wants_bool (row_of row) (is_false_at (operand_view part.entry).part)) }
-{
-    place == 0 && wants_bool(row, is_false(part))
-}
-
-/// Whether the first part of a row is a bool. The word `false` after `assert` needn't be.
-#[tactic(auto, unfolding(syntax_tree::specs::Names::row_of))]
-fn wants_bool(row: RowName, is_false: bool) -> bool
-    ensures { result ≡ wants_bool (row_of row) is_false }
-{
-    match row {
-        RowName::Eif | RowName::Ewhile => true,
-        RowName::Eassert => !is_false,
-        _ => false,
-    }
-}
-
 /// The demand that a part is a bool.
 fn ask_bool(at: &mut Parts, part: Operand<'_>, ty: NodeRef, env: &Env) -> Result<(), NoMemory>
-    ensures carries { OnOk result (AsksBool at.old at.new env.now (expression_of at.old.item (operand_view part.entry)) ty.0) }
     ensures follows { OnOk result (Follows (asks_equal (operand_view part.entry)) at.old at.new) }
     ensures goes { Goes at.old at.new }
 {
@@ -241,7 +205,6 @@ fn behind_parts(
     names: Names,
     env: &Env,
 ) -> Result<Used, NoMemory>
-    ensures carries { IfOk result (λ u. IsPlainRow (row_at (node_view node.now)) → EndsRow at.old at.new env.now (end_of (row_at (node_view node.now)) (expressions_of at.old.item (map operand_view parts.now))) (expressions_of at.old.item (map operand_view parts.now)) (numbers types.now) u.ty.0) }
     ensures follows { OnOk result (Follows (behind_parts (row_at (node_view node.now)) (node_view node.now) (map expression_at (map operand_view parts.now))) at.old at.new) }
     ensures goes { Goes at.old at.new }
 {
@@ -262,7 +225,6 @@ fn type_of(
     types: &[NodeRef],
     env: &Env,
 ) -> Result<NodeRef, NoMemory>
-    ensures carries { IfOk result (λ m. IsPlainRow (row_of row) → EndsRow at.old at.new env.now (end_of (row_of row) (expressions_of at.old.item (map operand_view parts.now))) (expressions_of at.old.item (map operand_view parts.now)) (numbers types.now) m.0) }
     ensures follows { OnOk result (Follows (each has_type (asked_behind (row_of row) (map expression_at (map operand_view parts.now)))) at.old at.new) }
     ensures goes { Goes at.old at.new }
 {
@@ -295,7 +257,6 @@ fn has(
     wanted: NodeRef,
     env: &Env,
 ) -> Result<(), NoMemory>
-    ensures carries { OnOk result (AsksAt at.old at.new env.now (expressions_of at.old.item (map operand_view parts.now)) (numbers types.now) place wanted.0) }
     ensures follows { OnOk result (Follows (each has_type (part_at place (map expression_at (map operand_view parts.now)))) at.old at.new) }
     ensures goes { Goes at.old at.new }
 {
@@ -314,7 +275,6 @@ fn list(
     types: &[NodeRef],
     env: &Env,
 ) -> Result<NodeRef, NoMemory>
-    ensures carries { IfOk result (λ m. EndsRow at.old at.new env.now (end_of elist_row (expressions_of at.old.item (map operand_view parts.now))) (expressions_of at.old.item (map operand_view parts.now)) (numbers types.now) m.0) }
     ensures follows { OnOk result (Follows (each has_type (later (map expression_at (map operand_view parts.now)))) at.old at.new) }
     ensures goes { Goes at.old at.new }
 {
@@ -331,7 +291,6 @@ fn later_have(
     wanted: NodeRef,
     env: &Env,
 ) -> Result<(), NoMemory>
-    ensures carries { OnOk result (AsksLater at.old at.new env.now (expressions_of at.old.item (map operand_view parts.now)) (numbers types.now) wanted.0) }
     ensures follows { OnOk result (Follows (each has_type (later (map expression_at (map operand_view parts.now)))) at.old at.new) }
     ensures goes { Goes at.old at.new }
 {
@@ -348,7 +307,6 @@ fn cons(
     types: &[NodeRef],
     env: &Env,
 ) -> Result<NodeRef, NoMemory>
-    ensures carries { IfOk result (λ m. EndsRow at.old at.new env.now (end_of econs_row (expressions_of at.old.item (map operand_view parts.now))) (expressions_of at.old.item (map operand_view parts.now)) (numbers types.now) m.0) }
     ensures follows { OnOk result (Follows (each has_type (part_at 1 (map expression_at (map operand_view parts.now)))) at.old at.new) }
     ensures goes { Goes at.old at.new }
 {
@@ -369,7 +327,6 @@ fn branches(
     types: &[NodeRef],
     env: &Env,
 ) -> Result<NodeRef, NoMemory>
-    ensures carries { IfOk result (λ m. EndsRow at.old at.new env.now (end_of eif_row (expressions_of at.old.item (map operand_view parts.now))) (expressions_of at.old.item (map operand_view parts.now)) (numbers types.now) m.0) }
     ensures follows { OnOk result (Follows (each has_type (asked_branch (map expression_at (map operand_view parts.now)))) at.old at.new) }
     ensures goes { Goes at.old at.new }
 {
@@ -439,7 +396,6 @@ pub fn parenthesised(
     env: &Env,
     depth: Depth,
 ) -> Result<Used, NoMemory>
-    ensures carries { IfOk result (λ u. (place : Place) → IsCarried (numbered number place (inner (node_view node.now))) → form_of (row_at (node_view node.now)) ≡ RowForm.Parenthesised → TypesRow at.old at.new env.now (λ c. (row_expression at.old.item number place (node_view node.now)).typed c) (number_of at.old.item number) u.ty.0) }
     ensures follows { OnOk result (Follows (steps_as RowForm.Parenthesised number (node_view node.now)) at.old at.new) }
     ensures goes { Goes at.old at.new }
 {

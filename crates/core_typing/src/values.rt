@@ -1,8 +1,6 @@
 //! Which expressions are non-expansive, so that the names of their bindings are generalised (the value restriction).
 ghost use Rattle.std.specs.Prelude.{◌≡◌, option_map, IfOk};
-ghost use Rattle.syntax_tree.specs.View.{tok_of};
 ghost use Rattle.row_parts.specs.Numbered.{operand_view, path_view};
-ghost use Rattle.core_typing.specs.Operators.{is_false_at, is_false_token};
 ghost use Rattle.core_typing.specs.ExpressionSteps.{label_at, lower_path};
 
 use env_table::{Found, Path, What};
@@ -10,7 +8,7 @@ use owned_lists::push;
 use row_parts::{
     Operand, WrittenPath, first_operand, operand_in, operands, operands_of, token, written_path,
 };
-use syntax_tree::{Node, RowName, Token, TokenKind};
+use syntax_tree::{Node, RowName, TokenKind};
 use typing_state::{Depth, Env, NoMemory, Parts, path_of};
 use use_typing::labels_in;
 
@@ -50,26 +48,12 @@ fn are_values(
 }
 
 /// `false`
-#[tactic(auto, unfolding(syntax_tree::specs::Names::row_of))]
-pub fn is_false(e: Operand<'_>) -> bool
-    ensures { result ≡ is_false_at (operand_view e.entry).part }
-{
-    let Some(node) = e.node else {
-        return false;
-    };
-    match node.row {
-        RowName::Econst => is_false_word(token(node, 0)),
-        _ => false,
-    }
-}
-
-/// Whether a token is the word `false`.
-#[tactic(auto, unfolding(syntax_tree::specs::Names::kind_of))]
-fn is_false_word(token: Option<&Token>) -> bool
-    ensures { result ≡ is_false_token (option_map (λ t. tok_of t.now) token.entry) }
-{
-    match token {
-        Some(token) => token.kind == TokenKind::False,
+pub fn is_false(e: Operand<'_>) -> bool {
+    match e.node {
+        Some(node) => match (node.row, token(node, 0)) {
+            (RowName::Econst, Some(token)) => token.kind == TokenKind::False,
+            _ => false,
+        },
         None => false,
     }
 }

@@ -102,7 +102,7 @@ pub apply::operation-returns-clause-follows : goal.apply::operation-returns-clau
 apply::operation-returns-clause-follows t c =
     let items = c.in_ok-given.given.items in
     let tree = node_view c.args.node.now in
-    let none = sym (ap (λ o. option_map (λ x. place_of x.named.span) o) c.in-None.is) ∙ c.in_ok-operator.ensures.place in
+    let none = sym (ap (λ o. option_map (λ x. place_of x.named.span) o) c.in-None.is) ∙ c.in_ok-operator.ensures in
     let typed = subst (λ os. Follows (each (λ o. expression_steps (operand_view o)) os) c.args.at.now c.type_each.new.at) c.deref-in-None.ensures.value c.in_ok-type_each-in-None.ensures.follows in
     let same = sym (each_typed items) ∙ operation_as c.args.number tree None (map operand_view items) none c.in_ok-given.ensures in
     ends_before c.any_type.result (steps_as form.Operation c.args.number tree) c.args.at.now c.type_each.new.at c.any_type.new.at
