@@ -1,5 +1,5 @@
 -- Rows by their contracts: the record of a row's type, and calls that carry one demand or none.
-use Rattle.std.proofs.Common.{◌≡◌, ◌++◌, ℕ, List, [], ◌∷◌, refl, ap, append-nil}
+use Rattle.std.proofs.Common.{◌≡◌, ◌∙◌, ◌++◌, ℕ, List, [], ◌∷◌, refl, ap, append-nil}
 use Rattle.text_terms.specs.declared.Span.{Span}
 use Rattle.syntax_tree.specs.View.{place_of}
 use Rattle.typing_model.specs.Contexts.{Context, tell_typed}
@@ -26,6 +26,12 @@ use Rattle.typing_steps.proofs.Comparing.{equal_asked}
 pub row_carried : {F : Frame} {scope : Scope} {asks : Asks} {a b d : Sight} {G : Letters} {n number m : ℕ} → number_in b.item number ≡ n → RowCarried F scope asks a G b n m → Records b d number m →
     CarriedTo F scope (λ c. tell_typed n c ++ asks c) a G d G (λ ch. ch.type_at n) m
 row_carried {n = n} number row r = to_as (λ c. ap (λ cs. tell_typed n c ++ cs) (row.all c)) (λ ch. refl) (row_recorded row.own n number row.typed row.end r)
+
+-- what a row asks may be written in another way
+pub row_asks : (a b : Parts) {env : List Entry} {asks others : Asks} {n m : ℕ} → ((c : Context) → asks c ≡ others c) → TypesRow a b env asks n m → TypesRow a b env others n m
+row_asks a b e row aloud F scope G at =
+    let r = row aloud F scope G at in
+    record { own = r.own; type = r.type; first = r.first; ends = r.ends; all = λ c. r.all c ∙ e c; typed = r.typed; end = r.end }
 
 -- a row whose type is its own, as that of a name
 pub row_own : (a b : Parts) {env : List Entry} {m : ℕ} (asks : Context → Typ → List Condition) (n : ℕ) → TypesOwn a b env asks m → TypesRow a b env (λ c. asks c (c.chosen.type_at n)) n m

@@ -66,6 +66,7 @@ pub fn value(at: &mut Parts, env: &Env, path: &WrittenPath<'_>) -> Result<Used, 
 /// An instance of the scheme behind an entry, or a new variable where there is none.
 fn instance_of(at: &mut Parts, entry: Option<&Rc<Entry>>) -> Result<NodeRef, NoMemory>
     ensures ty { IfOk result (λ n. UsesScheme (option_and_then scheme_in (option_map (λ e. e.what) (option_map (λ r. r.value) (option_copied entry.entry)))) at.old at.new n) }
+    ensures rest { OnlyStore at.old at.new }
     ensures silent { Silent at.old at.new }
     ensures goes { Goes at.old at.new }
 {

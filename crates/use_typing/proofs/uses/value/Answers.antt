@@ -3,8 +3,11 @@ use Rattle.row_parts.specs.Numbered.{path_view, token_view}
 use Rattle.syntax_tree.specs.View.{tok_of}
 use Rattle.env_table.specs.declared.entries.Kind.TheVariants as kind
 use Rattle.typing_state.specs.Bound.{found_at, lost_among, word_of}
+use Rattle.typing_model.specs.Expressions.{value_asks}
+use Rattle.typing_steps.specs.Typing.{TypesOwn}
 use Rattle.use_typing.specs.Uses.{LastHas, UsesScheme, scheme_in}
 use Rattle.use_typing.proofs.Telling.{value_has}
+use Rattle.use_typing.proofs.Carrying.{value_missing, value_typed}
 use Rattle.use_typing.proofs.uses.value.Goals as goal
 
 pub returns-clause-ty : goal.returns-clause-ty
@@ -13,3 +16,16 @@ returns-clause-ty c =
     let last = tok_of c.in-Some.last.now in
     subst (λ o. LastHas (token_view o) kind.Value c.args.at.now c.instance_of.new.at c.args.env.now p.qualifiers c.in_ok-ty.ty) (sym c.in-Some.is)
     (value_has (found_at c.args.env.now p.qualifiers kind.Value last) (option_map (λ e. e.value) c.in_ok-entry.entry) (lost_among c.args.env.now p.qualifiers) last (word_of kind.Value) c.args.at.now c.bound.new.self c.instance_of.new.at c.in_ok-ty.ty c.in_ok-entry.ensures.verdict (subst (λ o. UsesScheme (option_and_then scheme_in (option_map (λ x. x.what) (option_map (λ e. e.value) o))) c.bound.new.self c.instance_of.new.at c.in_ok-ty.ty) c.as_ref-2.ensures.value c.in_ok-ty.ensures.ty))
+
+pub returns-in_default-clause-carries : goal.returns-in_default-clause-carries
+returns-in_default-clause-carries c =
+    let p = path_view c.args.path.now in
+    λ n k. subst (λ o. TypesOwn c.args.at.now c.var.new.self c.args.env.now (λ x t. value_asks x n k (record { qualifiers = p.qualifiers; last = token_view o }) t) c.in_ok-var.field-0.0) (sym c.in_default.is)
+    (value_missing c.args.at.now c.var.new.self p.qualifiers n k c.in_ok-var.ensures.made c.var.ensures.rest)
+
+pub returns-clause-carries : goal.returns-clause-carries
+returns-clause-carries c =
+    let p = path_view c.args.path.now in
+    λ n k. subst (λ o. TypesOwn c.args.at.now c.instance_of.new.at c.args.env.now (λ x t. value_asks x n k (record { qualifiers = p.qualifiers; last = token_view o }) t) c.in_ok-ty.ty.0) (sym c.in-Some.is)
+    (value_typed c.args.at.now c.bound.new.self c.instance_of.new.at (option_map (λ e. e.value) c.in_ok-entry.entry) p.qualifiers (tok_of c.in-Some.last.now) n k c.in_ok-entry.ensures.verdict
+    (subst (λ o. UsesScheme (option_and_then scheme_in (option_map (λ x. x.what) (option_map (λ e. e.value) o))) c.bound.new.self c.instance_of.new.at c.in_ok-ty.ty) c.as_ref-2.ensures.value c.in_ok-ty.ensures.ty) c.instance_of.ensures.rest)

@@ -1,0 +1,7 @@
+use Rattle.std.proofs.Common.{sym, subst}
+use Rattle.typing_steps.specs.Typing.{TypesAny}
+use Rattle.typing_steps.proofs.Rows.{var_any}
+use Rattle.use_typing.proofs.rows.any_type.Goals as goal
+
+pub returns-clause-carries : goal.returns-clause-carries
+returns-clause-carries c = subst (λ x. TypesAny c.args.at.now c.var.new.self x.0) (sym c.unnamed.ensures.ty) (var_any c.args.at.now c.var.new.self c.in_ok-ty.ensures.made c.var.ensures.rest)
