@@ -22,10 +22,10 @@ itself : (n : ℕ) (at : Place) → StandsAt n at n at
 itself n at = record { number = refl; where_it_is = refl }
 
 -- a path to a value or a constructor
-kind_stands : (n : ℕ) (at : Place) (q : List Tok) (start end : ℕ) (name : List ℕ) (k : Kind) →
-    let e = path_expression n at (record { qualifiers = q; last = Some (record { kind = k; start = start; end = end; name = name }) }) in StandsAt e.node e.at n at
-kind_stands n at q start end name upper = itself n at
-kind_stands n at q start end name _ = itself n at
+kind_stands : (n : ℕ) (at : Place) (q : List Tok) (start end col : ℕ) (name : List ℕ) (k : Kind) →
+    let e = path_expression n at (record { qualifiers = q; last = Some (record { kind = k; start = start; end = end; col = col; name = name }) }) in StandsAt e.node e.at n at
+kind_stands n at q start end col name upper = itself n at
+kind_stands n at q start end col name _ = itself n at
 
 -- the same with a last token that may be missing
 path_stands : (n : ℕ) (at : Place) (p : Written) → let e = path_expression n at p in StandsAt e.node e.at n at
@@ -33,7 +33,7 @@ path_stands n at p = by p.last
   where
     by : (o : Option Tok) → let e = path_expression n at (record { qualifiers = p.qualifiers; last = o }) in StandsAt e.node e.at n at
     by None = itself n at
-    by (Some t) = kind_stands n at p.qualifiers t.start t.end t.name t.kind
+    by (Some t) = kind_stands n at p.qualifiers t.start t.end t.col t.name t.kind
 
 -- an expression in parentheses, with or without a type
 paren_stands : (n : ℕ) (at : Place) (e : Expression) (o : Option TypeExpression) → StandsAt (parenthesised n at e o).node (parenthesised n at e o).at n at

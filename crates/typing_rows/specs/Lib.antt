@@ -1,0 +1,4 @@
+-- Rows whose conditions are carried, and what is carried of them.
+pub mod CarriedRows
+pub mod Asked
+pub mod Contracts
