@@ -1,5 +1,5 @@
 -- The columns of places.
-use Rattle.std.proofs.Common.{◌≡◌, ◌+◌, ◌-◌, ◌<◌, ◌≤◌, ◌==◌, ◌++◌, ◌∷◌, [], ℕ, zero, suc, List, take, drop, length, get_or, Bool, true, false, refl, sym, ◌∙◌, ap, arith, length-take, if◌then◌else◌}
+use Rattle.std.proofs.Common.{◌≡◌, ◌+◌, ◌-◌, ◌<◌, ◌≤◌, ◌==◌, ◌++◌, ◌∷◌, [], ℕ, suc, List, take, drop, length, get_or, Bool, true, false, refl, sym, ◌∙◌, ap, arith, length-take, if◌then◌else◌}
 use Rattle.std.proofs.Math.Seq.{take-add}
 use Rattle.std.proofs.lemmas.List.{drop_more}
 use Rattle.token_model.specs.Tokens.{column_from, column}

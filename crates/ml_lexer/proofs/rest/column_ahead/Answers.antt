@@ -1,4 +1,4 @@
-use Rattle.std.proofs.Common.{rules, ◌<◌, ◌+◌, ℕ, length, sym, ◌∙◌, arith}
+use Rattle.std.proofs.Common.{◌<◌, sym, ◌∙◌, arith}
 use Rattle.ml_lexer.specs.Places.{rest_of}
 use Rattle.ml_lexer.proofs.Columns.{column_step, step_small}
 use Rattle.ml_lexer.proofs.rest.column_ahead.Goals as goal
