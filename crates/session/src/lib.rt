@@ -2,7 +2,8 @@
 //! It keeps that text, and finds everything else anew for each line; who finds types is a parameter, any `Analyser`.
 //! It is built on the text store, the lexer, the parser, the plain typing, the queries, the trials and `json_lines`.
 //! The layer above may use `Session::new`, and `answer`, which says which line is given and which text is left;
-//! and for a text of its own `append`, `len` and `sizes`.
+//! for a text of its own `append`, `change`, `len`, `sizes`, `slices`, `offset_of` and `pos_of`; and the queries `errors`, `outline`,
+//! and by offsets `enclosing` and `ask_at`.
 #![tactic(auto)]
 
 mod changes;
@@ -13,4 +14,5 @@ mod session;
 mod structure;
 mod trials;
 
+pub use queries::Query;
 pub use session::{Line, Session, Sizes};

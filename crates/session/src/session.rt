@@ -1,7 +1,7 @@
 //! One text, and the answers to request lines on it.
-ghost use Rattle.std.specs.Prelude.{◌≡◌, ◌<◌, ◌+◌, ◌-◌, ◌^◌, ◌++◌, [], List, ℕ, length, map, option_map, reverse, IfOk, OnOk, Some};
+ghost use Rattle.std.specs.Prelude.{◌≡◌, ◌≤◌, ◌<◌, ◌+◌, ◌-◌, ◌^◌, ◌++◌, [], List, ℕ, length, map, option_map, reverse, IfErr, IfOk, IfSome, OnOk, Some};
 ghost use Rattle.text_terms.specs.Bytes.{str_bytes};
-ghost use Rattle.text_model.specs.Edits.{changed, outcome_of};
+ghost use Rattle.text_model.specs.Edits.{changed, outcome_of, text_limit};
 ghost use Rattle.std.specs.Str.{IsUtf8};
 ghost use Rattle.text_model.specs.Positions.{offset, position_of};
 ghost use Rattle.tree_model.specs.Nodes.{nodes_at};
@@ -14,7 +14,7 @@ ghost use Rattle.syntax_tree.specs.Tallies.{Grows};
 ghost use Rattle.syntax_tree.specs.View.{trees_of};
 ghost use Rattle.plain_typing.specs.View.{seen_of};
 ghost use Rattle.query_engine.specs.Faults.{fault_of, typer_fault_of};
-ghost use Rattle.text_store.specs.Edits.{edit_of};
+ghost use Rattle.text_store.specs.Edits.{edit_of, IsRefusal};
 ghost use Rattle.json_lines.specs.Meets.{asked_of, key_text, range_of, refusal_of};
 ghost use Rattle.service_model.specs.Replies.{outline};
 ghost use Rattle.service_model.specs.Made.{SizesAre};
@@ -285,6 +285,55 @@ impl<A: Analyser> Session<A> {
         }
     }
 
+    /// The text in two parts, the second of which may be empty.
+    pub fn slices(&self) -> (&[u8], &[u8])
+        ensures text { result.0.now ++ result.1.now ≡ self.now }
+        ensures short { length self.now ≤ text_limit }
+    {
+        self.store.slices()
+    }
+
+    /// The offset of a position, or None where the text has no such position.
+    pub fn offset_of(&self, at: Pos) -> Option<u32>
+        ensures value { result ≡ offset self.now at.line at.col }
+        ensures within { IfSome result (λ n. n ≤ length self.now) }
+    {
+        self.store.offset_of(at).ok()
+    }
+
+    /// The position of an offset in bytes.
+    pub fn pos_of(&self, place: u32) -> Pos
+        requires { place ≤ length self.now }
+        ensures { (result.line, result.col) ≡ position_of self.now place }
+    {
+        self.store.pos_of(place)
+    }
+
+    /// Makes the edit of a `tell`. The text stays where it is refused.
+    pub fn change(&mut self, range: Option<(Pos, Pos)>, text: RcStr) -> Result<(), TextRefusal>
+        ensures done { OnOk result ((first : ℕ) × (tell_outcome self.old (option_map range_of range) (str_bytes text) ≡ changed first self.new)) }
+        ensures refused { IfErr result (λ refusal. (self.new ≡ self.old) × IsRefusal (tell_outcome self.old (option_map range_of range) (str_bytes text)) refusal) }
+    {
+        let edit = self.edit_for(range, text);
+        match self.store.apply(&edit) {
+            Ok(_) => Ok(()),
+            Err(refusal) => Err(refusal),
+        }
+    }
+
+    /// Answers a query of an offset.
+    pub fn ask_at<C: Counts>(
+        &self,
+        query: &Query,
+        offset: u32,
+        counts: &mut C,
+    ) -> Result<Reply, NoMemory>
+        ensures said { IfOk result (λ r. IsAnswered query.now self.now offset (said_of r)) }
+        ensures counted { Grows (C.tallies counts.old) (C.tallies counts.new) }
+    {
+        ask::<A, C>(self.alloc, &self.store, query, offset, counts)
+    }
+
     /// A query of a position.
     fn query_at<C: Counts>(&self, query: &Query, at: Pos, counts: &mut C) -> Line
         ensures says { Says (PlacedIs (offset self.now at.line at.col) (IsAnswered query.now self.now)) result }
@@ -317,7 +366,8 @@ impl<A: Analyser> Session<A> {
         }
     }
 
-    fn outline<C: Counts>(&self, counts: &mut C) -> Result<Vec<Outlined>, NoMemory>
+    /// What the text binds.
+    pub fn outline<C: Counts>(&self, counts: &mut C) -> Result<Vec<Outlined>, NoMemory>
         ensures said { IfOk result (λ v. OutlineIs self.now (outline (outline_of (map outlined_of v.items)))) }
         ensures counted { Grows (C.tallies counts.old) (C.tallies counts.new) }
     {
@@ -338,7 +388,8 @@ impl<A: Analyser> Session<A> {
         }
     }
 
-    fn errors<C: Counts>(&self, counts: &mut C) -> Result<Reply, NoMemory>
+    /// The faults of the text, as the page of them that `errors` tells.
+    pub fn errors<C: Counts>(&self, counts: &mut C) -> Result<Reply, NoMemory>
         ensures said { IfOk result (λ r. ErrorsAre self.now (said_of r)) }
         ensures counted { Grows (C.tallies counts.old) (C.tallies counts.new) }
     {
@@ -415,7 +466,8 @@ impl<A: Analyser> Session<A> {
         }
     }
 
-    fn enclosing<C: Counts>(&self, offset: u32, counts: &mut C) -> Result<Reply, NoMemory>
+    /// The types round an offset, innermost first.
+    pub fn enclosing<C: Counts>(&self, offset: u32, counts: &mut C) -> Result<Reply, NoMemory>
         ensures said { IfOk result (λ r. EnclosingIs self.now offset (said_of r)) }
         ensures counted { Grows (C.tallies counts.old) (C.tallies counts.new) }
     {

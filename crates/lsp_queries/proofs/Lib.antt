@@ -1,0 +1,4 @@
+mod Modules
+mod Bound
+mod Failures
+mod Near
