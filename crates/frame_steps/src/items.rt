@@ -16,7 +16,9 @@ use syntax_tree::NoMemory;
 
 /// The row `let` of a structure, the spot of its first token, and the row `let .. in ..` of an expression.
 const ITEM_ROW: u8 = 1;
+
 const ITEM_SPOT: u8 = 1;
+
 const LOCAL_ROW: u8 = 90;
 
 /// The frames once an item is closed, and how many parts were missing.

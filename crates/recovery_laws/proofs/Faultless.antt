@@ -106,8 +106,8 @@ gives G (t ∷ ts) p calm h = by r.fault refl (λ i calm h. gives G ts (parser (
         let c = step_calm G p t r.stack r.place (ap (rules.stepped r.stack r.place) e) calm in
         let q = rules.recovered G ts r.stack r.place in
         ap (λ x. let q = recovered G ts x.parser in (q.0, x.faults ++ q.1)) c.stepped
-            ∙ ap (λ q. (q.0, q.1)) (go c.item c.calm h)
-            ∙ ap (λ o. (q.0, some_fault o q.1)) (sym e)
+        ∙ ap (λ q. (q.0, q.1)) (go c.item c.calm h)
+        ∙ ap (λ o. (q.0, some_fault o q.1)) (sym e)
 
 -- lists that are empty together are so each
 first_empty : {A : Type 0} (xs ys : List A) → xs ++ ys ≡ [] → xs ≡ []
@@ -151,8 +151,8 @@ step_faulty G p t calm h = by r.fault refl
         let c : Bool = is_cut i.col t r in
         let m : Mark = with_token s t c i.mark in
         in_item i.col m f e (more_calm G s t i.col i.mark c refl calm)
-            (subst (λ o. (step_sound G i.col t r o m).faults ≡ []) e
-            (subst (λ b. (if b then cut_step G s t else step_sound G i.col t r r.fault m).faults ≡ []) (calm_free G i.col i.mark c calm) h))
+        (subst (λ o. (step_sound G i.col t r o m).faults ≡ []) e
+        (subst (λ b. (if b then cut_step G s t else step_sound G i.col t r r.fault m).faults ≡ []) (calm_free G i.col i.mark c calm) h))
 
     by : (o : Option Fault) → r.fault ≡ o → r.fault ≡ None
     by None e = e
