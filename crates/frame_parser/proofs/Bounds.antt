@@ -3,8 +3,8 @@ use Rattle.std.proofs.Common.{◌≡◌, ℕ, ◌+◌, ◌*◌, ◌≤◌, Bool,
 use Rattle.std.proofs.lemmas.List.{length-append}
 use Rattle.token_model.specs.Kinds.{Tok}
 use Rattle.grammar_model.specs.Machine.{Stack}
-use Rattle.grammar_model.specs.Recovery as rules
-use Rattle.grammar_model.specs.Recovery.{Fault, added, skipped, too_deep, cut}
+use Rattle.recovery_model.specs.Steps as rules
+use Rattle.recovery_model.specs.Steps.{Fault, added, skipped, too_deep, cut}
 use Rattle.grammar_model.specs.Ocaml.{Text, grammar}
 use Rattle.recovery_model.specs.Items.{State, Mark, sound, held, marked, Item, item, Parser, parser, item_behind, begins_item, has_item, is_cut, closed_item, cut_step}
 use Rattle.recovery_model.specs.Recovery.{faulted, item_after, retake_all, with_token, step_sound, is_marked, step_item, step_by, step, start}

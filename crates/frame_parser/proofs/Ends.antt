@@ -4,8 +4,8 @@ use Rattle.std.proofs.lemmas.List.{map-append}
 use Rattle.token_model.specs.Kinds.{Tok}
 use Rattle.grammar_model.specs.Machine.{Frame, Stack}
 use Rattle.grammar_model.specs.Named.{named, items_of}
-use Rattle.grammar_model.specs.Recovery as rules
-use Rattle.grammar_model.specs.Recovery.{Fault, last_fault}
+use Rattle.recovery_model.specs.Steps as rules
+use Rattle.recovery_model.specs.Steps.{Fault, last_fault}
 use Rattle.grammar_model.specs.Ocaml.{Text, grammar, row_name}
 use Rattle.recovery_model.specs.Items.{State, Mark, sound, held, marked, Item, Parser}
 use Rattle.recovery_model.specs.Recovery.{go_back, ended, ended_by, close_mark, close_item, close}

@@ -4,8 +4,8 @@ use Rattle.std.proofs.lemmas.List.{length-reverse}
 use Rattle.std.specs.declared.rc.Rc.{Rc}
 use Rattle.std.specs.declared.alloc.Global.{Global}
 use Rattle.token_model.specs.Kinds.{Tok}
-use Rattle.grammar_model.specs.Recovery as rules
-use Rattle.grammar_model.specs.Recovery.{Fault}
+use Rattle.recovery_model.specs.Steps as rules
+use Rattle.recovery_model.specs.Steps.{Fault}
 use Rattle.grammar_model.specs.Ocaml.{Text, grammar}
 use Rattle.recovery_model.specs.Items.{State, Mark, sound, held, marked, Item, item, Parser, Stepped, is_cut, cut_step}
 use Rattle.recovery_model.specs.Recovery.{go_on, go_back, with_token, step_sound, is_marked, step_item, step_by, step}

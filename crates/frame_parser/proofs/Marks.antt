@@ -2,8 +2,8 @@
 use Rattle.std.proofs.Common.{◌≡◌, Bool, true, false, [], ◌∷◌, Option, Some, None, option_map, refl, sym, ◌∙◌, ap, subst, if◌then◌else◌}
 use Rattle.token_model.specs.Kinds.{Tok}
 use Rattle.grammar_model.specs.Machine.{Stack}
-use Rattle.grammar_model.specs.Recovery as rules
-use Rattle.grammar_model.specs.Recovery.{Fault}
+use Rattle.recovery_model.specs.Steps as rules
+use Rattle.recovery_model.specs.Steps.{Fault}
 use Rattle.grammar_model.specs.Ocaml.{Text, grammar, row_name}
 use Rattle.recovery_model.specs.Items.{State, state, sound, Item, item, has_item, begins_item, is_local, item_behind, begins_local}
 use Rattle.recovery_model.specs.Recovery.{faulted, item_after}

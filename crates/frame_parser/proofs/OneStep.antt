@@ -2,8 +2,8 @@
 use Rattle.std.proofs.Common.{◌≡◌, ℕ, ◌<◌, [], ◌∷◌, map, Option, Some, None, option_map, refl, sym, ◌∙◌, ap, subst, arith}
 use Rattle.token_model.specs.Kinds.{Tok}
 use Rattle.grammar_model.specs.Machine.{Frame, Stack}
-use Rattle.grammar_model.specs.Recovery as rules
-use Rattle.grammar_model.specs.Recovery.{Fault, some_fault}
+use Rattle.recovery_model.specs.Steps as rules
+use Rattle.recovery_model.specs.Steps.{Fault, some_fault}
 use Rattle.grammar_model.specs.Ocaml.{Text, grammar}
 use Rattle.recovery_model.specs.Items.{State, state, Item, item_behind, closed_item, end_fault, cut_step}
 use Rattle.recovery_model.specs.Recovery.{item_after, go_on}

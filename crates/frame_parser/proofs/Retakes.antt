@@ -3,7 +3,7 @@ use Rattle.std.proofs.Common.{◌≡◌, ℕ, ◌+◌, ◌<◌, ◌≤◌, List,
 use Rattle.std.proofs.lemmas.List.{map-append, length-map, length-take}
 use Rattle.token_model.specs.Kinds.{Tok}
 use Rattle.grammar_model.specs.Ocaml.{Text, grammar}
-use Rattle.grammar_model.specs.Recovery as rules
+use Rattle.recovery_model.specs.Steps as rules
 use Rattle.recovery_model.specs.Items.{Parser, Stepped, Item, is_cut, cut_step}
 use Rattle.recovery_model.specs.Recovery.{retake_by, retake, retake_all, go_on}
 use Rattle.syntax_tree.specs.View.{tok_of}

@@ -2,7 +2,7 @@
 use Rattle.std.proofs.Common.{◌≡◌, ℕ, ◌≤◌, [], ◌∷◌, option_map, refl, sym, ◌∙◌, ap, subst}
 use Rattle.token_model.specs.Kinds.{Tok}
 use Rattle.grammar_model.specs.Machine.{Frame, Stack}
-use Rattle.grammar_model.specs.Recovery.{step}
+use Rattle.recovery_model.specs.Steps.{step}
 use Rattle.grammar_model.specs.Ocaml.{Text, grammar, row_name}
 use Rattle.recovery_model.specs.Items.{State, state, closed_item}
 use Rattle.syntax_rows.specs.View.{text_of}

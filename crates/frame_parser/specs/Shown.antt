@@ -3,7 +3,7 @@ use Rattle.std.specs.Prelude.{◌≡◌, Bool, true, false, ℕ, ◌+◌, ◌<�
 use Rattle.std.specs.declared.rc.Rc.{Rc}
 use Rattle.std.specs.declared.alloc.Global.{Global}
 use Rattle.token_model.specs.Kinds.{Tok}
-use Rattle.grammar_model.specs.Recovery as rules
+use Rattle.recovery_model.specs.Steps as rules
 use Rattle.grammar_model.specs.Trees.{Tree}
 use Rattle.grammar_model.specs.Named.{named, items_of}
 use Rattle.grammar_model.specs.Ocaml.{Text, grammar, row_name}

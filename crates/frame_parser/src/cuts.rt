@@ -3,7 +3,7 @@ ghost use Rattle.std.specs.Prelude.{◌≡◌, ◌<◌, ◌++◌, ◌∷◌, ℕ
 ghost use Rattle.token_model.specs.Kinds.{Tok};
 ghost use Rattle.grammar_model.specs.Machine as machine;
 ghost use Rattle.grammar_model.specs.Ocaml.{Text, grammar};
-ghost use Rattle.grammar_model.specs.Recovery as rules;
+ghost use Rattle.recovery_model.specs.Steps as rules;
 ghost use Rattle.recovery_model.specs.Items as model;
 ghost use Rattle.recovery_model.specs.Recovery as recovery;
 ghost use Rattle.syntax_tree.specs.View.{tok_of};

@@ -6,9 +6,9 @@ use Rattle.grammar_model.specs.Rows.{Row, row_at, is_left, first_what, chain_in,
 use Rattle.grammar_model.specs.Ocaml.{Text, rows, sizes, root_of, grammar}
 use Rattle.grammar_model.specs.Machine.{first_of}
 use Rattle.grammar_model.specs.Separate.{head_of}
-use Rattle.grammar_model.proofs.Laws.{Found}
-use Rattle.grammar_model.proofs.Instance.{found}
-use Rattle.grammar_model.proofs.Promises.{rows_tested}
+use Rattle.grammar_laws.proofs.Laws.{Found}
+use Rattle.grammar_laws.proofs.Instance.{found}
+use Rattle.grammar_laws.proofs.Promises.{rows_tested}
 
 -- the laws of chains and growers hold of the language's table
 pub laws : (text : Text) → Found (grammar text)

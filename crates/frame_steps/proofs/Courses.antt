@@ -5,12 +5,12 @@ use Rattle.tree_model.specs.Rows as names
 use Rattle.grammar_model.specs.Keys.{key_of}
 use Rattle.grammar_model.specs.Trees.{Part, missing}
 use Rattle.grammar_model.specs.Tables.{Table, What, nothing, token, operand, Edge, Last, allowed, Place, nowhere, growth, at_spot, first_place}
-use Rattle.grammar_model.specs.Numbers as numbers
-use Rattle.grammar_model.specs.Numbers.{last_row, Found, none, found, further, here, find_fit, Way, way, hole_in, way_by, or_way, more_must, must_at, find_way, out_by, find_out}
+use Rattle.recovery_model.specs.Numbers as numbers
+use Rattle.recovery_model.specs.Numbers.{last_row, Found, none, found, further, here, find_fit, Way, way, hole_in, way_by, or_way, more_must, must_at, find_way, out_by, find_out}
 use Rattle.grammar_model.specs.Machine.{Frame, Stack, put, last_done, no_fit, take_at, place_in, fits_at}
-use Rattle.grammar_model.specs.Recovery.{is_operand, missing_at, must_of, unreached, reached, at_frame, on_edge, filled, most_parts, reach_out}
-use Rattle.grammar_model.proofs.ByNumbers.{take_found, last_closed, fits_by}
-use Rattle.grammar_model.proofs.ReachByNumbers.{take_way, take_out, reaches_by}
+use Rattle.recovery_model.specs.Steps.{is_operand, missing_at, must_of, unreached, reached, at_frame, on_edge, filled, most_parts, reach_out}
+use Rattle.grammar_laws.proofs.ByNumbers.{take_found, last_closed, fits_by}
+use Rattle.grammar_laws.proofs.ReachByNumbers.{take_way, take_out, reaches_by}
 use Rattle.parse_frames.specs.Named.{named_frame}
 use Rattle.frame_steps.specs.Course.{bare, out, out_holes, past_musts, past_operand, past_way, past_holes, IsPlaced}
 use Rattle.frame_steps.proofs.Orders.{filled_row}

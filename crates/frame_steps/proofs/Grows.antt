@@ -8,8 +8,8 @@ use Rattle.grammar_model.specs.Trees.{Part}
 use Rattle.grammar_model.specs.Tables.{Table, What, nothing, token, operand, Last, plain, takes, grows, Place, growth, first_place}
 use Rattle.grammar_model.specs.Machine.{Frame, frame, Stack, first_of, start_at, grower_in, place_in}
 use Rattle.grammar_model.specs.Ocaml.{row_name}
-use Rattle.grammar_model.proofs.Sound.{place_grows, grows_parts}
-use Rattle.grammar_model.proofs.Counted.{grower_operand}
+use Rattle.grammar_laws.proofs.Sound.{place_grows, grows_parts}
+use Rattle.grammar_laws.proofs.Counted.{grower_operand}
 use Rattle.syntax_rows.specs.View.{text_of}
 use Rattle.syntax_rows.specs.declared.ocaml.Text.{Text}
 use Rattle.parse_frames.specs.Frames as frames

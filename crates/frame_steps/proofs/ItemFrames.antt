@@ -3,7 +3,7 @@ use Rattle.std.proofs.Common.{◌≡◌, ℕ, zero, suc, ◌+◌, Bool, true, fa
 use Rattle.tree_model.specs.Rows as names
 use Rattle.grammar_model.specs.Tables.{Table}
 use Rattle.grammar_model.specs.Machine.{Frame, Stack, put}
-use Rattle.grammar_model.specs.Recovery.{filled, most_parts}
+use Rattle.recovery_model.specs.Steps.{filled, most_parts}
 use Rattle.recovery_model.specs.Items.{item_row, has_item, more_holes, closed_out}
 use Rattle.parse_frames.specs.Named.{named_frame}
 use Rattle.frame_steps.specs.Course.{bare, out, out_holes}

@@ -2,9 +2,9 @@
 use Rattle.std.proofs.Common.{◌≡◌, ℕ, zero, suc, ◌+◌, ◌-◌, ◌^◌, ◌≤◌, ◌<◌, [], ◌∷◌, length, Option, Some, None, option_map, refl, sym, ◌∙◌, ap, subst, arith}
 use Rattle.tree_model.specs.Rows as names
 use Rattle.grammar_model.specs.Tables.{Table, Edge}
-use Rattle.grammar_model.specs.Numbers.{hole_in, must_at}
+use Rattle.recovery_model.specs.Numbers.{hole_in, must_at}
 use Rattle.grammar_model.specs.Machine.{Frame, Stack, put}
-use Rattle.grammar_model.specs.Recovery.{missing_at, must_of, on_edge, one_more, filled, most_parts}
+use Rattle.recovery_model.specs.Steps.{missing_at, must_of, on_edge, one_more, filled, most_parts}
 use Rattle.grammar_model.specs.Ocaml.{row_name}
 use Rattle.syntax_rows.specs.declared.ocaml.Text.{Text}
 use Rattle.parse_frames.specs.Frames as frames

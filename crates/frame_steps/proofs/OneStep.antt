@@ -3,11 +3,11 @@ use Rattle.std.proofs.Common.{◌≡◌, ℕ, ◌≤◌, ◌<◌, ◌∷◌, Opt
 use Rattle.token_model.specs.Kinds.{Tok}
 use Rattle.grammar_model.specs.Keys.{key_of}
 use Rattle.grammar_model.specs.Tables.{Table, Place}
-use Rattle.grammar_model.specs.Numbers.{Found, none, found, Way, way}
+use Rattle.recovery_model.specs.Numbers.{Found, none, found, Way, way}
 use Rattle.grammar_model.specs.Machine.{Frame, Stack}
-use Rattle.grammar_model.specs.Recovery.{Fault, reached, skipped, too_deep, added, stepped, after_reach, after_fit, step}
-use Rattle.grammar_model.proofs.Laws.{Found as Laws}
-use Rattle.grammar_model.proofs.Faultless.{step_is}
+use Rattle.recovery_model.specs.Steps.{Fault, reached, skipped, too_deep, added, stepped, after_reach, after_fit, step}
+use Rattle.grammar_laws.proofs.Laws.{Found as Laws}
+use Rattle.grammar_laws.proofs.Faultless.{step_is}
 use Rattle.frame_steps.specs.Course.{fit_of, out_of, course_of, out, depth_of, taken_to, IsPlaced, course_frames, course_holes}
 use Rattle.frame_steps.proofs.Courses.{fits_taken, fits_not, reach_taken, reach_not}
 use Rattle.frame_steps.proofs.Takes.{place_takes}

@@ -6,7 +6,7 @@ use Rattle.tree_model.specs.Extents.{extent_of, told_sizes, told_size, told_heig
 use Rattle.grammar_model.specs.Trees.{Tree, Forest, Part, node, no_parts, part, taken, inner, missing, height_of, forest_height, part_height}
 use Rattle.grammar_model.specs.Tables.{Table, Edge}
 use Rattle.grammar_model.specs.Machine.{Frame, Stack, onto, node_of, put}
-use Rattle.grammar_model.specs.Recovery.{missing_at, must_of, on_edge, one_more, filled, most_parts}
+use Rattle.recovery_model.specs.Steps.{missing_at, must_of, on_edge, one_more, filled, most_parts}
 use Rattle.parse_frames.specs.Frames.{sizes_in, heights_in}
 use Rattle.grammar_model.specs.Named.{slot_of, named, named_parts, named_part}
 use Rattle.parse_frames.specs.Named.{named_done}

@@ -3,10 +3,10 @@ use Rattle.std.proofs.Common.{◌≡◌, ℕ, ◌+◌, ◌≤◌, List, ◌∷�
 use Rattle.token_model.specs.Kinds.{Tok}
 use Rattle.grammar_model.specs.Keys.{key_of}
 use Rattle.grammar_model.specs.Tables.{Table, Last, first_place}
-use Rattle.grammar_model.specs.Numbers.{find_fit, Way, find_out}
+use Rattle.recovery_model.specs.Numbers.{find_fit, Way, find_out}
 use Rattle.grammar_model.specs.Machine.{Frame, Stack}
-use Rattle.grammar_model.specs.Recovery as recovery
-use Rattle.grammar_model.specs.Recovery.{Fault, skipped, too_deep, added, stepped, step, filled, most_parts}
+use Rattle.recovery_model.specs.Steps as recovery
+use Rattle.recovery_model.specs.Steps.{Fault, skipped, too_deep, added, stepped, step, filled, most_parts}
 use Rattle.grammar_model.specs.Ocaml.{row_name}
 use Rattle.syntax_rows.specs.View.{text_of}
 use Rattle.syntax_rows.specs.declared.ocaml.Text.{Text}

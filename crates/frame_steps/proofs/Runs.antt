@@ -5,15 +5,15 @@ use Rattle.token_model.specs.Kinds.{Tok}
 use Rattle.grammar_model.specs.Keys.{key_of}
 use Rattle.grammar_model.specs.Trees.{Part}
 use Rattle.grammar_model.specs.Tables.{Table, What, nothing, token, operand, Edge, Last, allowed, Place, nowhere, growth, at_spot, first_place}
-use Rattle.grammar_model.specs.Numbers as numbers
-use Rattle.grammar_model.specs.Numbers.{last_row, Found, none, found, Way, way, hole_in, way_by, or_way, more_must, must_at, find_way, out_by, find_out}
+use Rattle.recovery_model.specs.Numbers as numbers
+use Rattle.recovery_model.specs.Numbers.{last_row, Found, none, found, Way, way, hole_in, way_by, or_way, more_must, must_at, find_way, out_by, find_out}
 use Rattle.grammar_model.specs.Machine.{Frame, frame, Stack, last_done, put, first_of, opened, start_in}
-use Rattle.grammar_model.specs.Recovery.{is_operand, missing_at, must_of, on_edge, filled, most_parts, Fault, step}
+use Rattle.recovery_model.specs.Steps.{is_operand, missing_at, must_of, on_edge, filled, most_parts, Fault, step}
 use Rattle.grammar_model.specs.Ocaml.{Text, grammar}
-use Rattle.grammar_model.proofs.Formed as formed
-use Rattle.grammar_model.proofs.Formed.{Passes, TopOf, Below, Top, top_step, top_begun}
-use Rattle.grammar_model.proofs.Instance.{passes}
-use Rattle.grammar_model.proofs.Promises.{rows_tested}
+use Rattle.grammar_laws.proofs.Formed as formed
+use Rattle.grammar_laws.proofs.Formed.{Passes, TopOf, Below, Top, top_step, top_begun}
+use Rattle.grammar_laws.proofs.Instance.{passes}
+use Rattle.grammar_laws.proofs.Promises.{rows_tested}
 use Rattle.grammar_model.specs.Ocaml.{rows, sizes, root_of}
 use Rattle.recovery_model.specs.Items.{closed_out, closed_item}
 use Rattle.recovery_laws.proofs.Formed.{closed_fine}

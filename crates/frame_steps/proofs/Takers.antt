@@ -4,9 +4,9 @@ use Rattle.std.specs.declared.rc.Rc.{Rc}
 use Rattle.std.specs.declared.alloc.Global.{Global}
 use Rattle.grammar_model.specs.Trees.{Part}
 use Rattle.grammar_model.specs.Tables.{Table}
-use Rattle.grammar_model.specs.Numbers.{must_at}
+use Rattle.recovery_model.specs.Numbers.{must_at}
 use Rattle.grammar_model.specs.Machine.{Frame, Stack, put}
-use Rattle.grammar_model.specs.Recovery.{missing_at, must_of, on_edge, filled, most_parts}
+use Rattle.recovery_model.specs.Steps.{missing_at, must_of, on_edge, filled, most_parts}
 use Rattle.grammar_model.specs.Ocaml.{row_name}
 use Rattle.syntax_rows.specs.declared.ocaml.Text.{Text}
 use Rattle.parse_frames.specs.Frames as frames

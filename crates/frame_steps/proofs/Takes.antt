@@ -8,8 +8,8 @@ use Rattle.grammar_model.specs.Trees.{Part, part_height}
 use Rattle.grammar_model.specs.Tables.{Table, What, nothing, token, operand, plain, takes, grows, Place, nowhere, growth, at_spot}
 use Rattle.grammar_model.specs.Grammar.{last_in}
 use Rattle.grammar_model.specs.Machine.{Frame, frame, Stack, last_done, first_of, opened, start_in, start_at, no_fit, deep, fit, within, grower_in, grown, take_at, place_in}
-use Rattle.grammar_model.proofs.Laws.{Found}
-use Rattle.grammar_model.proofs.Sound.{place_grows, grows_parts}
+use Rattle.grammar_laws.proofs.Laws.{Found}
+use Rattle.grammar_laws.proofs.Sound.{place_grows, grows_parts}
 use Rattle.frame_steps.specs.Course.{opened_in, newest_height, grown_depth, depth, grown_to, taken_to, IsPlaced}
 
 -- as many frames are opened as there are rows

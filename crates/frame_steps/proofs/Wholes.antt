@@ -4,7 +4,7 @@ use Rattle.token_model.specs.Kinds.{Tok}
 use Rattle.tree_model.specs.Rows as names
 use Rattle.grammar_model.specs.Tables.{Table}
 use Rattle.grammar_model.specs.Machine.{Frame, Stack, node_of, put}
-use Rattle.grammar_model.specs.Recovery.{filled, most_parts, closed_up, close_up, step}
+use Rattle.recovery_model.specs.Steps.{filled, most_parts, closed_up, close_up, step}
 use Rattle.grammar_model.specs.Ocaml as ocaml
 use Rattle.grammar_model.specs.Ocaml.{grammar, row_name}
 use Rattle.syntax_rows.specs.View.{text_of}

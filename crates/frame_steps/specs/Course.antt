@@ -4,9 +4,9 @@ use Rattle.token_model.specs.Kinds.{Tok}
 use Rattle.grammar_model.specs.Keys.{key_of}
 use Rattle.grammar_model.specs.Trees.{Part, part_height}
 use Rattle.grammar_model.specs.Tables.{Table, What, nothing, token, operand, Place, nowhere, growth, at_spot}
-use Rattle.grammar_model.specs.Numbers.{Found, none, found, find_fit, Way, way, find_out}
+use Rattle.recovery_model.specs.Numbers.{Found, none, found, find_fit, Way, way, find_out}
 use Rattle.grammar_model.specs.Machine.{Frame, frame, Stack, put, first_of, last_done, start_at, grower_in, place_in}
-use Rattle.grammar_model.specs.Recovery.{missing_at, must_of, on_edge, filled, most_parts}
+use Rattle.recovery_model.specs.Steps.{missing_at, must_of, on_edge, filled, most_parts}
 use Rattle.parse_frames.specs.Frames as frames
 
 -- frames without their parts

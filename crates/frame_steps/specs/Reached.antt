@@ -2,7 +2,7 @@
 use Rattle.std.specs.Prelude.{◌≡◌, ℕ, suc, ◌+◌, nat_eq, List, [], ◌∷◌, if◌then◌else◌}
 use Rattle.token_model.specs.Kinds.{Tok}
 use Rattle.grammar_model.specs.Machine.{Frame, frame, Stack}
-use Rattle.grammar_model.specs.Recovery.{step}
+use Rattle.recovery_model.specs.Steps.{step}
 use Rattle.grammar_model.specs.Ocaml.{Text, grammar, row_name}
 use Rattle.recovery_model.specs.Items.{item_row, closed_item, closed_out}
 use Rattle.syntax_rows.specs.View.{text_of}

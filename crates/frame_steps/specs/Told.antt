@@ -1,8 +1,8 @@
 -- What the parser's faults tell.
 use Rattle.std.specs.Prelude.{ℕ, List, [], ◌∷◌, Option, Some, None}
 use Rattle.tree_model.specs.Trees.{Place, place}
-use Rattle.grammar_model.specs.Recovery as recovery
-use Rattle.grammar_model.specs.Recovery.{Fault}
+use Rattle.recovery_model.specs.Steps as recovery
+use Rattle.recovery_model.specs.Steps.{Fault}
 
 -- what a fault of the parser tells: the place and number of missing parts, the place of the token that is left out, or the place at which an item ends
 pub data Told : Type 0 where

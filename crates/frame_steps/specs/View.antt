@@ -2,9 +2,9 @@
 use Rattle.std.specs.Prelude.{◌≡◌, ℕ, ◌≤◌, ◌<◌, List, ◌∷◌, length, Option, Some, None, option_map}
 use Rattle.token_model.specs.Kinds.{Tok}
 use Rattle.grammar_model.specs.Keys.{key_of}
-use Rattle.grammar_model.specs.Recovery as recovery
+use Rattle.recovery_model.specs.Steps as recovery
 use Rattle.grammar_model.specs.Tables as t
-use Rattle.grammar_model.specs.Numbers as n
+use Rattle.recovery_model.specs.Numbers as n
 use Rattle.grammar_model.specs.Machine as machine
 use Rattle.grammar_model.specs.Ocaml as o
 use Rattle.syntax_tree.specs.View.{place_of}

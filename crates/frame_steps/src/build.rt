@@ -2,9 +2,9 @@
 ghost use Rattle.std.specs.Prelude.{◌≡◌, ◌<◌, ◌≤◌, ◌+◌, ◌*◌, ◌-◌, ◌^◌, ℕ, ◌∷◌, length, IfOk, true};
 ghost use Rattle.grammar_model.specs.Keys.{key_of};
 ghost use Rattle.grammar_model.specs.Machine as machine;
-ghost use Rattle.grammar_model.specs.Numbers as numbers;
+ghost use Rattle.recovery_model.specs.Numbers as numbers;
 ghost use Rattle.grammar_model.specs.Ocaml.{row_name};
-ghost use Rattle.grammar_model.specs.Recovery as recovery;
+ghost use Rattle.recovery_model.specs.Steps as recovery;
 ghost use Rattle.grammar_model.specs.Tables.{takes, first_place, nowhere, growth};
 ghost use Rattle.syntax_tree.specs.View.{tok_of};
 ghost use Rattle.syntax_rows.specs.Numbers.{key_number, sort_number};

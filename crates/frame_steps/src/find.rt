@@ -1,7 +1,7 @@
 //! Where a token is taken, found by the numbers of the frames alone.
 ghost use Rattle.std.specs.Prelude.{◌≡◌, ◌<◌, ◌≤◌, ◌^◌, length, option_map, None, IfSome, IsTrue, ℕ, ◌∷◌, ◌+◌, ◌-◌};
-ghost use Rattle.grammar_model.specs.Numbers as numbers;
-ghost use Rattle.grammar_model.specs.Recovery.{most_parts};
+ghost use Rattle.recovery_model.specs.Numbers as numbers;
+ghost use Rattle.recovery_model.specs.Steps.{most_parts};
 ghost use Rattle.grammar_model.specs.Tables.{first_place, nowhere};
 ghost use Rattle.syntax_rows.specs.Numbers.{key_number};
 ghost use Rattle.syntax_rows.specs.View.{last_of, table_of, what_of, place_of, way_of};

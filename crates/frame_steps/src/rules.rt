@@ -1,7 +1,7 @@
 //! What the parser asks of the table of a text.
 ghost use Rattle.std.specs.Prelude.{◌≡◌, ◌<◌, length, option_map};
 ghost use Rattle.grammar_model.specs.Machine.{first_of, grower_in};
-ghost use Rattle.grammar_model.specs.Numbers as numbers;
+ghost use Rattle.recovery_model.specs.Numbers as numbers;
 ghost use Rattle.grammar_model.specs.Ocaml as ocaml;
 ghost use Rattle.grammar_model.specs.Separate.{head_of};
 ghost use Rattle.syntax_rows.specs.Numbers.{key_number, sort_number};

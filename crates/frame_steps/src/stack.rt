@@ -1,6 +1,6 @@
 //! Stacks, the parser's faults, and what the calls give.
 ghost use Rattle.std.specs.Prelude.{◌≡◌, Some, None};
-ghost use Rattle.grammar_model.specs.Numbers.{none, find_fit, find_out};
+ghost use Rattle.recovery_model.specs.Numbers.{none, find_fit, find_out};
 ghost use Rattle.grammar_model.specs.Ocaml.{grammar};
 ghost use Rattle.syntax_rows.specs.Numbers.{key_number};
 ghost use Rattle.syntax_rows.specs.View.{text_of};

@@ -3,7 +3,7 @@ ghost use Rattle.std.specs.Prelude.{◌≡◌, ◌<◌, ◌≤◌, ◌+◌, ◌�
 ghost use Rattle.tree_model.specs.Rows.{Row as PlainRow};
 ghost use Rattle.grammar_model.specs.Machine as machine;
 ghost use Rattle.grammar_model.specs.Ocaml as ocaml;
-ghost use Rattle.grammar_model.specs.Recovery as recovery;
+ghost use Rattle.recovery_model.specs.Steps as recovery;
 ghost use Rattle.syntax_tree.specs.View.{tok_of, trees_of, node_view, child_view, forest_of};
 ghost use Rattle.syntax_rows.specs.Numbers.{key_number};
 ghost use Rattle.frame_steps.specs.Course.{IsRefused};

@@ -1,1 +1,15 @@
 pub mod Laws
+pub mod Opens
+pub mod Complete
+pub mod Exact
+pub mod Sound
+pub mod Faultless
+pub mod Counted
+pub mod Formed
+pub mod Instance
+pub mod Separated
+pub mod Slots
+pub mod Promises
+pub mod ByNumbers
+pub mod ReachByNumbers
+pub mod OneTree

@@ -1,6 +1,7 @@
-//! The law of the grammar on named trees: a text of the grammar has one tree.
-//! It stands on the theorems of `grammar_model`, and on the named form of its trees.
-//! No program calls it; a proof may cite `proofs/Laws.antt`, whose fact the function carries.
+//! What holds of the grammar and of the rules for one token: each list of tokens has at most one tree, the rules find it, no token is
+//! lost, frames stay well formed, the language's own table meets what is wanted of it, and numbers find what frames find.
+//! It stands on the definitions of `grammar_model` and `recovery_model`.
+//! No program calls it; `frame_steps`, `recovery_laws` and others cite `proofs/`, and the function carries the law on named trees.
 #![tactic(auto)]
 
 ghost use Rattle.std.specs.Prelude.{◌≡◌, List};

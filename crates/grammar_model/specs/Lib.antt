@@ -4,12 +4,9 @@ pub mod Trees
 pub mod Tables
 pub mod Grammar
 pub mod Machine
-pub mod Recovery
 pub mod Rows
 pub mod Checks
 pub mod Separate
-pub mod Tested
 pub mod Ocaml
 pub mod Parts
-pub mod Numbers
 pub mod Named

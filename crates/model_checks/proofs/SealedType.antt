@@ -21,7 +21,7 @@ use Rattle.grammar_model.specs.Rows.{chain_of, grower_of}
 use Rattle.grammar_model.specs.Ocaml.{rows}
 use Rattle.grammar_model.specs.Tables.{first_place}
 use Rattle.grammar_model.specs.Keys.{kind_key, key_of}
-use Rattle.grammar_model.specs.Recovery as rules
+use Rattle.recovery_model.specs.Steps as rules
 use Rattle.recovery_model.specs.Recovery.{step, close, recover}
 use Rattle.typing_model.specs.BuiltIns.{constant_by}
 use Rattle.typing_model.specs.Patterns.{pattern_row}

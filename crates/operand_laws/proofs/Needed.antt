@@ -11,7 +11,7 @@ use Rattle.grammar_model.specs.Checks.{each, each_spot, each_edge, is_nothing}
 use Rattle.grammar_model.specs.Grammar.{last_in, MayCome, StandsIn, BeginsWith, IsFilled, Follows}
 use Rattle.grammar_model.specs.Named.{slot_of, named_parts}
 use Rattle.grammar_model.specs.Ocaml.{rows, Text, grammar, row_name}
-use Rattle.grammar_model.proofs.Instance.{each_row, spot_get}
+use Rattle.grammar_laws.proofs.Instance.{each_row, spot_get}
 use Rattle.grammar_model.specs.Words.{row_names}
 use Rattle.operand_laws.specs.Formed.{needed_slots, is_in, HasNeeded}
 

@@ -9,11 +9,11 @@ use Rattle.grammar_model.specs.Tables.{What, nothing, token, operand, Edge, Last
 use Rattle.grammar_model.specs.Rows.{Row, row_at, spot_at, is_left}
 use Rattle.grammar_model.specs.Checks.{each, each_spot, each_edge}
 use Rattle.grammar_model.specs.Grammar.{last_in, StandsIn, BeginsWith, IsFilled, Follows, IsPartFormed}
-use Rattle.grammar_model.specs.Recovery.{is_operand}
+use Rattle.recovery_model.specs.Steps.{is_operand}
 use Rattle.grammar_model.specs.Named.{slot_of, named_parts}
 use Rattle.grammar_model.specs.Ocaml.{rows, Text, grammar, row_name}
-use Rattle.grammar_model.proofs.Instance.{each_row, spot_get}
-use Rattle.grammar_model.proofs.Slots.{slot_takes, left_slot_takes}
+use Rattle.grammar_laws.proofs.Instance.{each_row, spot_get}
+use Rattle.grammar_laws.proofs.Slots.{slot_takes, left_slot_takes}
 use Rattle.operand_laws.specs.Formed.{next_slot, may_repeat, is_in_order}
 use Rattle.operand_laws.proofs.Needed.{edge_passes, name_of}
 

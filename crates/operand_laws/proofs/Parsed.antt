@@ -10,10 +10,10 @@ use Rattle.grammar_model.specs.Trees.{Tree, Forest, Part, node, no_parts, part, 
 use Rattle.grammar_model.specs.Tables.{What, nothing, token, operand, Last, plain as no_operand}
 use Rattle.grammar_model.specs.Rows.{Left, no_left, level, named as by_name, row_at, left_takes}
 use Rattle.grammar_model.specs.Grammar.{last_in, StandsIn, left_last, BeginsWith, WellFormed, IsFilled, Follows, IsPartFormed}
-use Rattle.grammar_model.specs.Recovery.{is_operand}
+use Rattle.recovery_model.specs.Steps.{is_operand}
 use Rattle.grammar_model.specs.Named.{slot_of, named, named_parts, named_part, forest_items, items_of}
 use Rattle.grammar_model.specs.Ocaml.{rows, Text, grammar, row_name}
-use Rattle.grammar_model.proofs.Slots.{slot_takes, left_slot_takes}
+use Rattle.grammar_laws.proofs.Slots.{slot_takes, left_slot_takes}
 use Rattle.operand_laws.specs.Formed.{IsInPlace, IsShaped, AreShaped, IsPartShaped, IsFormed}
 use Rattle.operand_laws.proofs.Needed.{needed_filled}
 use Rattle.operand_laws.proofs.Ordered.{in_order}

@@ -10,7 +10,7 @@ use Rattle.grammar_model.specs.Tables.{Table, What, nothing, token, operand, pla
 use Rattle.grammar_model.specs.Grammar.{last_in}
 use Rattle.grammar_model.specs.Machine as machine
 use Rattle.grammar_model.specs.Machine.{frame, node_of, put, first_of, opened, start_in, start_at}
-use Rattle.grammar_model.specs.Recovery.{missing_at}
+use Rattle.recovery_model.specs.Steps.{missing_at}
 use Rattle.parse_frames.specs.Frames as frames
 use Rattle.parse_frames.specs.Frames.{Stack, started, with_token, with_missing, begun, closed, grown, onto, heights_in}
 use Rattle.parse_frames.proofs.Parts.{told_heights_onto}

@@ -7,7 +7,7 @@ use Rattle.grammar_model.specs.Ocaml.{interface_text, grammar, row_name, rows}
 use Rattle.grammar_model.specs.Tables.{first_place}
 use Rattle.grammar_model.specs.Keys.{kind_key, key_of}
 use Rattle.grammar_model.specs.Named.{named}
-use Rattle.grammar_model.specs.Recovery as rules
+use Rattle.recovery_model.specs.Steps as rules
 use Rattle.recovery_model.specs.Recovery.{step, close, recover}
 use Rattle.token_laws.proofs.Ones.{lex_one}
 use Rattle.signature_model.specs.Entries.{Environment}

@@ -1,6 +1,6 @@
 -- The faults that the parser tells are those that are listed.
 use Rattle.std.proofs.Common.{◌≡◌, List, [], ◌∷◌, map, refl, ◌∙◌, ap}
-use Rattle.grammar_model.specs.Recovery.{Fault, added, skipped, too_deep, cut}
+use Rattle.recovery_model.specs.Steps.{Fault, added, skipped, too_deep, cut}
 use Rattle.query_model.specs.Faults as model
 use Rattle.frame_steps.specs.Told.{told}
 use Rattle.frame_steps.specs.View as parser

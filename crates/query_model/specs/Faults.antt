@@ -1,8 +1,8 @@
 -- The page of a text's faults: which are told, and in which order.
 use Rattle.std.specs.Prelude.{◌≡◌, ℕ, ◌+◌, List, [], ◌∷◌, ◌++◌, map, take, length, Bool, false, ◌&&◌, ◌||◌, nat_eq, nat_lt, codes, decimal, if◌then◌else◌}
 use Rattle.tree_model.specs.Trees.{Place, place}
-use Rattle.grammar_model.specs.Recovery as recovery
-use Rattle.grammar_model.specs.Recovery.{added, skipped, too_deep, cut}
+use Rattle.recovery_model.specs.Steps as recovery
+use Rattle.recovery_model.specs.Steps.{added, skipped, too_deep, cut}
 
 -- what tells a fault
 pub data Source : Type 0 where

@@ -4,10 +4,10 @@ use Rattle.token_model.specs.Kinds.{Tok}
 use Rattle.grammar_model.specs.Trees.{Tree, yield_of, holes_of}
 use Rattle.grammar_model.specs.Tables.{Table}
 use Rattle.grammar_model.specs.Machine.{Frame, Stack, put}
-use Rattle.grammar_model.specs.Recovery as rules
-use Rattle.grammar_model.specs.Recovery.{Fault, added, skipped, too_deep, cut, filled, most_parts, close_up, some_fault, last_fault, Merged, left_out, added_in}
-use Rattle.grammar_model.proofs.Laws.{Found}
-use Rattle.grammar_model.proofs.Counted.{stack_yield, stack_holes, Moved, moved_on, moved_after, moved_put, moved_filled, Took, took, Whole, close_counts, fault_counts, Lossless}
+use Rattle.recovery_model.specs.Steps as rules
+use Rattle.recovery_model.specs.Steps.{Fault, added, skipped, too_deep, cut, filled, most_parts, close_up, some_fault, last_fault, Merged, left_out, added_in}
+use Rattle.grammar_laws.proofs.Laws.{Found}
+use Rattle.grammar_laws.proofs.Counted.{stack_yield, stack_holes, Moved, moved_on, moved_after, moved_put, moved_filled, Took, took, Whole, close_counts, fault_counts, Lossless}
 use Rattle.recovery_model.specs.Items.{State, state, Mark, sound, held, marked, Item, item, Parser, parser, Stepped, stepped, item_row, item_behind, begins_item, has_item, is_cut, more_holes, closed_out, closed_item, end_fault, behind_cut, cut_step}
 use Rattle.recovery_model.specs.Recovery.{faulted, item_after, go_on, retake_by, retake, with_faults, retake_all, go_back, with_token, step_sound, is_marked, step_item, step_by, step, ended, close_mark, close_item, close, recovered, start, recover}
 

@@ -5,8 +5,8 @@ use Rattle.grammar_model.specs.Keys.{kind_key, key_of}
 use Rattle.grammar_model.specs.Tables.{first_place}
 use Rattle.grammar_model.specs.Rows.{chain_of, grower_of}
 use Rattle.grammar_model.specs.Ocaml.{rows, program_text, grammar}
-use Rattle.grammar_model.specs.Recovery as rules
-use Rattle.grammar_model.specs.Recovery.{Fault, added, cut}
+use Rattle.recovery_model.specs.Steps as rules
+use Rattle.recovery_model.specs.Steps.{Fault, added, cut}
 use Rattle.grammar_model.specs.Trees.{Tree, Forest, node, no_parts, part}
 use Rattle.recovery_model.specs.Recovery.{step, close, recover}
 

@@ -4,8 +4,8 @@ use Rattle.token_model.specs.Kinds.{Tok}
 use Rattle.grammar_model.specs.Trees.{Tree}
 use Rattle.grammar_model.specs.Tables.{Table}
 use Rattle.grammar_model.specs.Machine.{Stack, frame}
-use Rattle.grammar_model.specs.Recovery as rules
-use Rattle.grammar_model.specs.Recovery.{Fault, close_up, some_fault, last_fault}
+use Rattle.recovery_model.specs.Steps as rules
+use Rattle.recovery_model.specs.Steps.{Fault, close_up, some_fault, last_fault}
 use Rattle.recovery_model.specs.Items.{State, state, Mark, sound, held, marked, Item, item, Parser, parser, Stepped, stepped, has_item, begins_item, item_behind, is_cut, cut_step}
 use Rattle.recovery_model.specs.Recovery.{faulted, item_after, go_on, retake_by, retake, with_faults, retake_all, go_back, with_token, step_sound, is_marked, step_item, step_by, step, ended, close_mark, close_item, close, recovered, start, recover}
 

@@ -4,10 +4,10 @@ use Rattle.token_model.specs.Kinds.{Tok}
 use Rattle.grammar_model.specs.Trees.{Tree}
 use Rattle.grammar_model.specs.Tables.{Table}
 use Rattle.grammar_model.specs.Machine.{Frame, Stack, put}
-use Rattle.grammar_model.specs.Recovery as rules
-use Rattle.grammar_model.specs.Recovery.{Fault, added, skipped, too_deep, cut, filled, most_parts, close_up, IsRecovered}
-use Rattle.grammar_model.proofs.Laws.{Found}
-use Rattle.grammar_model.proofs.Formed.{Passes, TopOf, top_frame, top_step, top_begun, top_filled, filled_put, closed_formed}
+use Rattle.recovery_model.specs.Steps as rules
+use Rattle.recovery_model.specs.Steps.{Fault, added, skipped, too_deep, cut, filled, most_parts, close_up, IsRecovered}
+use Rattle.grammar_laws.proofs.Laws.{Found}
+use Rattle.grammar_laws.proofs.Formed.{Passes, TopOf, top_frame, top_step, top_begun, top_filled, filled_put, closed_formed}
 use Rattle.recovery_model.specs.Items.{State, state, Mark, sound, held, marked, Item, item, Parser, parser, Stepped, stepped, item_row, item_behind, begins_item, has_item, is_cut, more_holes, closed_out, closed_item, cut_step}
 use Rattle.recovery_model.specs.Recovery.{faulted, item_after, go_on, retake_by, retake, retake_all, go_back, with_token, step_sound, is_marked, step_item, step_by, step, ended, close_mark, close_item, close, recovered, start, recover}
 

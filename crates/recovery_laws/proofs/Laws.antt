@@ -6,7 +6,7 @@ use Rattle.tree_model.specs.Rows.{Row}
 use Rattle.tree_model.specs.Extents.{extent_of, told_heights, told_height}
 use Rattle.grammar_model.specs.Trees.{Tree, Forest, Part, node, no_parts, part, taken, inner, missing}
 use Rattle.grammar_model.specs.Trees as numbered
-use Rattle.grammar_model.specs.Recovery.{Merged, left_out, added_in}
+use Rattle.recovery_model.specs.Steps.{Merged, left_out, added_in}
 use Rattle.recovery_model.specs.Recovery.{recover}
 use Rattle.grammar_model.specs.Named.{named, named_parts, named_part}
 use Rattle.grammar_model.specs.Ocaml.{Text, grammar, row_name}

@@ -3,12 +3,12 @@ use Rattle.std.proofs.Common.{◌≡◌, ℕ, List, [], sym, ◌∙◌, ap, subs
 use Rattle.token_model.specs.Kinds.{Tok}
 use Rattle.grammar_model.specs.Trees.{Tree, yield_of, holes_of}
 use Rattle.grammar_model.specs.Grammar.{InGrammar}
-use Rattle.grammar_model.specs.Recovery as rules
-use Rattle.grammar_model.specs.Recovery.{Merged, left_out, added_in, IsRecovered}
+use Rattle.recovery_model.specs.Steps as rules
+use Rattle.recovery_model.specs.Steps.{Merged, left_out, added_in, IsRecovered}
 use Rattle.grammar_model.specs.Ocaml.{rows, sizes, Text, root_of, grammar}
-use Rattle.grammar_model.proofs.Instance.{found, passes}
-use Rattle.grammar_model.proofs.Promises as of_rules
-use Rattle.grammar_model.proofs.Promises.{rows_tested}
+use Rattle.grammar_laws.proofs.Instance.{found, passes}
+use Rattle.grammar_laws.proofs.Promises as of_rules
+use Rattle.grammar_laws.proofs.Promises.{rows_tested}
 use Rattle.recovery_model.specs.Recovery.{recover}
 use Rattle.recovery_laws.proofs.Faultless as faultless
 use Rattle.recovery_laws.proofs.Counted as counted

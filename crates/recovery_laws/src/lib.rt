@@ -9,8 +9,8 @@ ghost use Rattle.tree_model.specs.Trees as plain;
 ghost use Rattle.tree_model.specs.Extents.{extent_of};
 ghost use Rattle.grammar_model.specs.Named.{named};
 ghost use Rattle.grammar_model.specs.Ocaml.{Text, grammar, row_name};
-ghost use Rattle.grammar_model.specs.Recovery as rules;
-ghost use Rattle.grammar_model.specs.Recovery.{Merged, left_out, added_in};
+ghost use Rattle.recovery_model.specs.Steps as rules;
+ghost use Rattle.recovery_model.specs.Steps.{Merged, left_out, added_in};
 ghost use Rattle.grammar_laws.specs.Trees.{IsTreeOf, holes_of};
 ghost use Rattle.recovery_model.specs.Recovery.{recover};
 

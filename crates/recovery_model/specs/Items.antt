@@ -4,8 +4,8 @@ use Rattle.token_model.specs.Kinds.{Tok}
 use Rattle.grammar_model.specs.Keys.{key_of, let_key}
 use Rattle.grammar_model.specs.Tables.{Table}
 use Rattle.grammar_model.specs.Machine.{Frame, Stack, put}
-use Rattle.grammar_model.specs.Recovery as rules
-use Rattle.grammar_model.specs.Recovery.{Fault, added, skipped, too_deep, cut, filled, most_parts, some_fault}
+use Rattle.recovery_model.specs.Steps as rules
+use Rattle.recovery_model.specs.Steps.{Fault, added, skipped, too_deep, cut, filled, most_parts, some_fault}
 
 -- the row `let` of a structure
 abbrev pub item_row : ℕ

@@ -4,8 +4,8 @@ use Rattle.token_model.specs.Kinds.{Tok}
 use Rattle.grammar_model.specs.Trees.{Tree}
 use Rattle.grammar_model.specs.Tables.{Table}
 use Rattle.grammar_model.specs.Machine.{Stack, frame}
-use Rattle.grammar_model.specs.Recovery as rules
-use Rattle.grammar_model.specs.Recovery.{Fault, added, skipped, too_deep, cut, close_up, some_fault, last_fault}
+use Rattle.recovery_model.specs.Steps as rules
+use Rattle.recovery_model.specs.Steps.{Fault, added, skipped, too_deep, cut, close_up, some_fault, last_fault}
 use Rattle.recovery_model.specs.Items.{State, state, Mark, sound, held, marked, Item, item, Parser, parser, Stepped, stepped, item_behind, is_cut, cut_step}
 
 -- an item of which a token had a fault

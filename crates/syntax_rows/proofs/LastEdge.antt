@@ -3,7 +3,7 @@ use Rattle.std.proofs.Common.{◌≡◌, ℕ, ◌+◌, ◌<◌, List, [], ◌∷
 use Rattle.std.proofs.lemmas.List.{drop_more}
 use Rattle.std.specs.Option.{option_or}
 use Rattle.grammar_model.specs.Tables.{Edge}
-use Rattle.grammar_model.specs.Recovery.{last_edge}
+use Rattle.recovery_model.specs.Steps.{last_edge}
 use Rattle.syntax_rows.specs.declared.rows.Edge.{Edge as CodeEdge}
 use Rattle.syntax_rows.specs.View.{edge_of}
 

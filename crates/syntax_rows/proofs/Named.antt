@@ -5,7 +5,7 @@ use Rattle.grammar_model.specs.Rows.{Row, Left, row_at, or_else}
 use Rattle.grammar_model.specs.Words.{row_names}
 use Rattle.grammar_model.specs.Separate.{row_for}
 use Rattle.grammar_model.specs.Ocaml.{rows, sizes, program_text, row_name}
-use Rattle.grammar_model.proofs.Promises.{row_for_is, is_row_for}
+use Rattle.grammar_laws.proofs.Promises.{row_for_is, is_row_for}
 use Rattle.tree_model.specs.Rows.{program_row}
 use Rattle.syntax_tree.specs.Names.{row_of}
 use Rattle.syntax_tree.specs.declared.rows.RowName.{RowName}

@@ -3,7 +3,7 @@ use Rattle.std.specs.Prelude.{◌≡◌, ℕ, List, map, take, drop, Option, Som
 use Rattle.grammar_model.specs.Tables as t
 use Rattle.grammar_model.specs.Rows as w
 use Rattle.grammar_model.specs.Ocaml as o
-use Rattle.grammar_model.specs.Numbers as n
+use Rattle.recovery_model.specs.Numbers as n
 use Rattle.grammar_model.specs.Separate.{IsRowFor}
 use Rattle.syntax_tree.specs.Names as names
 use Rattle.syntax_tree.specs.declared.rows.RowName.{RowName}

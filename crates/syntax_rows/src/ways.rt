@@ -1,7 +1,7 @@
 //! How a row in progress comes to take a token past parts that are missing.
 ghost use Rattle.std.specs.Prelude.{◌≡◌, ◌<◌, ◌≤◌, length, map, option_map, IfSome, Option};
-ghost use Rattle.grammar_model.specs.Numbers as numbers;
-ghost use Rattle.grammar_model.specs.Recovery as recovery;
+ghost use Rattle.recovery_model.specs.Numbers as numbers;
+ghost use Rattle.recovery_model.specs.Steps as recovery;
 ghost use Rattle.syntax_rows.specs.declared.rows.Table.{Table as CodeTable};
 ghost use Rattle.syntax_rows.specs.Numbers.{key_number};
 ghost use Rattle.syntax_rows.specs.View.{table_of, what_of, last_of, edge_of, place_of, way_of};

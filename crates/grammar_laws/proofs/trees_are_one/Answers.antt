@@ -1,4 +1,4 @@
-use Rattle.grammar_laws.proofs.Laws.{one_tree}
+use Rattle.grammar_laws.proofs.OneTree.{one_tree}
 use Rattle.grammar_laws.proofs.trees_are_one.Goals as goal
 
 pub returns : goal.returns

@@ -1,6 +1,6 @@
 use Rattle.std.proofs.Common.{suc, sym, ◌∙◌, arith}
 use Rattle.std.proofs.lemmas.Result.{IfOk-weaker}
-use Rattle.grammar_model.specs.Recovery as rules
+use Rattle.recovery_model.specs.Steps as rules
 use Rattle.grammar_model.specs.Ocaml.{grammar}
 use Rattle.recovery_model.specs.Items.{cut_step}
 use Rattle.recovery_model.specs.Recovery.{with_token}

@@ -1,6 +1,6 @@
 use Rattle.std.proofs.Common.{None, subst, arith}
 use Rattle.std.proofs.lemmas.Result.{IfOk-weaker}
-use Rattle.grammar_model.specs.Recovery as rules
+use Rattle.recovery_model.specs.Steps as rules
 use Rattle.grammar_model.specs.Ocaml.{grammar}
 use Rattle.recovery_model.specs.Recovery.{go_on}
 use Rattle.syntax_tree.specs.View.{tok_of}

@@ -1,5 +1,5 @@
 use Rattle.std.proofs.Common.{◌≡◌, Some, None, option_map, sym, ◌∙◌, ap}
-use Rattle.grammar_model.specs.Numbers.{must_at}
+use Rattle.recovery_model.specs.Numbers.{must_at}
 use Rattle.grammar_model.specs.Ocaml.{row_name}
 use Rattle.parse_frames.specs.Stacks.{stack_view}
 use Rattle.frame_steps.specs.View.{text_table}

@@ -2,7 +2,7 @@ use Rattle.std.proofs.Common.{ℕ, ◌∷◌, IfOk, sym, ◌∙◌, ap, subst}
 use Rattle.grammar_model.specs.Keys.{key_of}
 use Rattle.grammar_model.specs.Machine as machine
 use Rattle.grammar_model.specs.Ocaml.{row_name}
-use Rattle.grammar_model.proofs.Sound.{place_may}
+use Rattle.grammar_laws.proofs.Sound.{place_may}
 use Rattle.syntax_tree.specs.View.{tok_of}
 use Rattle.syntax_rows.specs.View.{place_of}
 use Rattle.parse_frames.specs.Named.{IsNamed}

@@ -1,6 +1,6 @@
 use Rattle.std.proofs.Common.{◌≡◌, Option, Some, None, IfSome, sym, subst}
-use Rattle.grammar_model.specs.Numbers.{find_way}
-use Rattle.grammar_model.specs.Recovery.{most_parts}
+use Rattle.recovery_model.specs.Numbers.{find_way}
+use Rattle.recovery_model.specs.Steps.{most_parts}
 use Rattle.syntax_rows.specs.Numbers.{key_number}
 use Rattle.syntax_rows.specs.View.{last_of, table_of}
 use Rattle.frame_steps.proofs.find.way_beside.Goals as goal

@@ -1,4 +1,4 @@
-use Rattle.grammar_model.proofs.Promises.{rows_are_separate}
+use Rattle.grammar_laws.proofs.Promises.{rows_are_separate}
 use Rattle.syntax_rows.proofs.lookup.rows_are_separate.Goals as goal
 
 pub returns-clause-separate : goal.returns-clause-separate

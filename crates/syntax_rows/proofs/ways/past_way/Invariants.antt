@@ -1,5 +1,5 @@
 use Rattle.std.proofs.Common.{◌≡◌, map, drop}
-use Rattle.grammar_model.specs.Numbers.{past_way}
+use Rattle.recovery_model.specs.Numbers.{past_way}
 use Rattle.syntax_rows.specs.Numbers.{key_number}
 use Rattle.syntax_rows.specs.View.{table_of, edge_of, last_of}
 use Rattle.syntax_rows.proofs.ways.past_way.Given as goal

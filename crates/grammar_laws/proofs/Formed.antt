@@ -7,11 +7,11 @@ use Rattle.grammar_model.specs.Trees.{Forest, Part, node, no_parts, part, taken,
 use Rattle.grammar_model.specs.Tables.{Table, What, nothing, token, operand, Edge, Last, plain, has, begins_by, takes, grows, allowed, Place, nowhere, growth, at_spot}
 use Rattle.grammar_model.specs.Grammar.{last_in, MayCome, StandsIn, left_last, BeginsWith, IsFilled, Follows, IsPartFormed}
 use Rattle.grammar_model.specs.Machine.{Frame, frame, Stack, onto, node_of, put, last_done, first_of, opened, start_in, start_at, Fit, no_fit, deep, fit, within, grower_in, grown, take_at, place_in, fits_at, fits}
-use Rattle.grammar_model.specs.Recovery.{is_operand, missing_at, last_edge, must_of, at_frame, past_operand, or_reach, on_edge, reach_in, one_more, filled, most_parts, reach_out, reach_from, Reach, unreached, reached, after_reach, after_fit, step, closed_up, recovered, recover, ends_within, IsRecovered}
-use Rattle.grammar_model.proofs.Laws.{Found}
-use Rattle.grammar_model.proofs.Sound.{within_parts, place_may, place_grows, grows_parts}
-use Rattle.grammar_model.proofs.Counted.{moved_or}
-use Rattle.grammar_model.proofs.Faultless.{step_is}
+use Rattle.recovery_model.specs.Steps.{is_operand, missing_at, last_edge, must_of, at_frame, past_operand, or_reach, on_edge, reach_in, one_more, filled, most_parts, reach_out, reach_from, Reach, unreached, reached, after_reach, after_fit, step, closed_up, recovered, recover, ends_within, IsRecovered}
+use Rattle.grammar_laws.proofs.Laws.{Found}
+use Rattle.grammar_laws.proofs.Sound.{within_parts, place_may, place_grows, grows_parts}
+use Rattle.grammar_laws.proofs.Counted.{moved_or}
+use Rattle.grammar_laws.proofs.Faultless.{step_is}
 
 pub record Passes (G : Table) : Type 0 where
   pub must_open : (r at : ℕ) (last : Last) (e : Edge) → G.ends r at ≡ false → last_edge (G.next r at) ≡ Some e → MayCome (G.next r at) last e.spot

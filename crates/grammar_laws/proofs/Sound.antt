@@ -8,7 +8,7 @@ use Rattle.grammar_model.specs.Trees.{Tree, Forest, Part, node, no_parts, part, 
 use Rattle.grammar_model.specs.Tables.{Table, What, nothing, token, operand, Edge, Last, plain, row, has, begins_by, takes, grows, grows_by, allowed, Place, nowhere, growth, at_spot, first_place, first_spot}
 use Rattle.grammar_model.specs.Grammar.{last_in, MayCome, StandsIn, left_last, BeginsWith, WellFormed, IsFilled, Follows, IsPartFormed, is_end, OnlyIf, Free, NodeFree, ForestFree, PartFree, Leads, Proper, ProperNode, ProperPart, ProperParts, Grows, Roomy, RoomyNode, RoomyParts, RoomyPart, InGrammar}
 use Rattle.grammar_model.specs.Machine.{Frame, frame, Stack, onto, put, last_done, first_of, opened, start_in, start_at, Fit, no_fit, deep, fit, within, grower_in, grown, take_at, fits_at, fits, on_fit, play, closed_at, closed, close_all, parsed}
-use Rattle.grammar_model.proofs.Laws.{Found}
+use Rattle.grammar_laws.proofs.Laws.{Found}
 
 pub record TreeOk (G : Table) (d : ℕ) (T : Tree) (ts : List Tok) : Type 0 where
   pub formed : WellFormed G T

@@ -6,9 +6,9 @@ use Rattle.grammar_model.specs.Trees.{Tree, Forest, Part, node, no_parts, part, 
 use Rattle.grammar_model.specs.Tables.{Table, Last, plain, takes, at_spot}
 use Rattle.grammar_model.specs.Grammar.{last_in, MayCome, BeginsWith, WellFormed, Follows, Leads, Proper, ProperNode, Roomy, RoomyNode, InGrammar}
 use Rattle.grammar_model.specs.Machine.{frame, Stack, onto, on_fit, play, closed_at, closed, close_all, parsed}
-use Rattle.grammar_model.proofs.Laws.{Separate}
-use Rattle.grammar_model.proofs.Opens.{open_forest, open_part, closes_part, reached}
-use Rattle.grammar_model.proofs.Complete.{started, part_takes, take_fits, enter_part, go_on}
+use Rattle.grammar_laws.proofs.Laws.{Separate}
+use Rattle.grammar_laws.proofs.Opens.{open_forest, open_part, closes_part, reached}
+use Rattle.grammar_laws.proofs.Complete.{started, part_takes, take_fits, enter_part, go_on}
 
 root_closes : (G : Table) (r p : ℕ) (last : Last) (f : Forest) → Follows G r p last f → (done : List (ℕ × Part)) (c : Part) (U : Stack) →
     closed G U ≡ closed_at G (frame r p ((p, c) ∷ done)) [] → closed G (open_forest r ((p, c) ∷ done) f U []) ≡ Some (node r (onto done (part p c f)))

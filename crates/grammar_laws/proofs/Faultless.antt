@@ -5,10 +5,10 @@ use Rattle.grammar_model.specs.Trees.{Tree, node, no_parts}
 use Rattle.grammar_model.specs.Tables.{Table, Edge}
 use Rattle.grammar_model.specs.Grammar.{InGrammar}
 use Rattle.grammar_model.specs.Machine.{Frame, frame, Stack, node_of, put, Fit, no_fit, deep, fit, fits, on_fit, play, closed_at, close_all, parsed}
-use Rattle.grammar_model.specs.Recovery.{too_deep, must_of, missing_at, last_edge, on_edge, Reach, unreached, reached, one_more, filled, most_parts, reach_from, stepped, after_reach, after_fit, step, closed_up, some_fault, last_fault, recovered, recover}
-use Rattle.grammar_model.proofs.Laws.{Separate, Found}
-use Rattle.grammar_model.proofs.Exact.{complete}
-use Rattle.grammar_model.proofs.Sound.{sound}
+use Rattle.recovery_model.specs.Steps.{too_deep, must_of, missing_at, last_edge, on_edge, Reach, unreached, reached, one_more, filled, most_parts, reach_from, stepped, after_reach, after_fit, step, closed_up, some_fault, last_fault, recovered, recover}
+use Rattle.grammar_laws.proofs.Laws.{Separate, Found}
+use Rattle.grammar_laws.proofs.Exact.{complete}
+use Rattle.grammar_laws.proofs.Sound.{sound}
 
 -- a row that can't end has a part that must come
 pub record Ends (G : Table) : Type 0 where

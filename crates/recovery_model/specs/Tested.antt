@@ -3,7 +3,7 @@ use Rattle.std.specs.Prelude.{◌≡◌, ℕ, Bool, true, false, ◌&&◌, not, 
 use Rattle.grammar_model.specs.Tables.{Table, is_text, row}
 use Rattle.grammar_model.specs.Rows.{Spot, Row, spot_at, row_at, is_left, left_takes, first_what, Sizes, table_of}
 use Rattle.grammar_model.specs.Checks.{each, each_spot, each_below, each_edge, is_nothing, begins_alone, grows_alone, one_or_none, no_text, must_fine, chain_fine, grower_fine}
-use Rattle.grammar_model.specs.Recovery.{ends_within, most_parts}
+use Rattle.recovery_model.specs.Steps.{ends_within, most_parts}
 
 -- a row begins at one spot
 abbrev pub starts_once : ℕ → Row → Bool

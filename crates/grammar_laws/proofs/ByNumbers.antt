@@ -4,7 +4,7 @@ use Rattle.token_model.specs.Kinds.{Tok}
 use Rattle.grammar_model.specs.Keys.{key_of}
 use Rattle.grammar_model.specs.Trees.{Part, inner}
 use Rattle.grammar_model.specs.Tables.{Table, What, nothing, token, operand, Place, nowhere, growth, at_spot}
-use Rattle.grammar_model.specs.Numbers.{last_row, Found, none, found, further, here, find_fit}
+use Rattle.recovery_model.specs.Numbers.{last_row, Found, none, found, further, here, find_fit}
 use Rattle.grammar_model.specs.Machine.{Frame, Stack, node_of, put, last_done, Fit, no_fit, take_at, place_in, fits_at}
 
 abbrev pub take_found : Table → Found → Frame → Stack → Tok → Fit

@@ -8,9 +8,9 @@ use Rattle.grammar_model.specs.Tables.{What, nothing, token, operand}
 use Rattle.grammar_model.specs.Rows.{Row, row_at, or_else, is_left}
 use Rattle.grammar_model.specs.Checks.{each, each_spot}
 use Rattle.grammar_model.specs.Words.{row_names}
-use Rattle.grammar_model.specs.Recovery.{is_operand}
+use Rattle.recovery_model.specs.Steps.{is_operand}
 use Rattle.grammar_model.specs.Ocaml.{rows, Text, grammar, row_name}
-use Rattle.grammar_model.proofs.Instance.{each_row, spot_get}
+use Rattle.grammar_laws.proofs.Instance.{each_row, spot_get}
 
 -- the name of a row
 abbrev name_of : Row → names.Row

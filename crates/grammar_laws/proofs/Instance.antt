@@ -7,11 +7,11 @@ use Rattle.grammar_model.specs.Grammar.{MayCome}
 use Rattle.grammar_model.specs.Machine.{first_of, spot_of}
 use Rattle.grammar_model.specs.Rows.{Left, no_left, level, named, Spot, Row, row_at, spot_at, no_row, no_spot, edge, is_left, left_takes, first_what, or_else, Sizes, table_of, chain_of, grower_of, chain_to, grower_in}
 use Rattle.grammar_model.specs.Checks.{each, each_spot, each_below, each_edge, all_of, same, is_row, is_nothing, longer, begins_alone, grows_alone, one_or_none, no_text, is_open, must_fine, what_fine, one_edge, chain_fine, grower_fine}
-use Rattle.grammar_model.specs.Recovery.{last_edge, ends_within, most_parts}
-use Rattle.grammar_model.specs.Tested.{Tested, starts_once, is_never_empty, is_alone, left_stands, spot_fine, spots_fine}
-use Rattle.grammar_model.proofs.Laws.{Separate, Found, begun_by}
-use Rattle.grammar_model.proofs.Faultless.{Ends}
-use Rattle.grammar_model.proofs.Formed.{Passes}
+use Rattle.recovery_model.specs.Steps.{last_edge, ends_within, most_parts}
+use Rattle.recovery_model.specs.Tested.{Tested, starts_once, is_never_empty, is_alone, left_stands, spot_fine, spots_fine}
+use Rattle.grammar_laws.proofs.Laws.{Separate, Found, begun_by}
+use Rattle.grammar_laws.proofs.Faultless.{Ends}
+use Rattle.grammar_laws.proofs.Formed.{Passes}
 
 each_get : (test : ℕ → Row → Bool) (R : List Row) (i : ℕ) → each i R test ≡ true → (r : ℕ) → ((j : ℕ) → test j no_row ≡ true) → test (i + r) (row_at R r) ≡ true
 each_get test [] i h r none = none (i + r)

@@ -7,8 +7,8 @@ use Rattle.grammar_model.specs.Trees.{Tree, Forest, Part, node, no_parts, part, 
 use Rattle.grammar_model.specs.Tables.{Table, is_text, What, nothing, token, operand, Last, plain, has, begins_by, takes, Place, nowhere, growth, at_spot, first_place}
 use Rattle.grammar_model.specs.Grammar.{last_in, MayCome, StandsIn, left_last, BeginsWith, WellFormed, IsFilled, Follows, IsPartFormed, PartFree, Leads, Proper, ProperNode, ProperPart, ProperParts, Grows, Roomy, RoomyNode, RoomyParts, RoomyPart}
 use Rattle.grammar_model.specs.Machine.{Frame, frame, Stack, first_of, opened, start_at, no_fit, fit, within, grower_in, grown, take_at, place_in, fits_at, fits, on_fit, play}
-use Rattle.grammar_model.proofs.Laws.{no_text, Separate, leads_map, leads_both, Begun, begun_by, leads}
-use Rattle.grammar_model.proofs.Opens.{open_tree, open_forest, open_part, closing, reached, Reaches}
+use Rattle.grammar_laws.proofs.Laws.{no_text, Separate, leads_map, leads_both, Begun, begun_by, leads}
+use Rattle.grammar_laws.proofs.Opens.{open_tree, open_forest, open_part, closing, reached, Reaches}
 
 -- a run whose first token begins an operand of a sort
 abbrev pub begun : Table → ℕ → List Tok → Stack → Option Stack

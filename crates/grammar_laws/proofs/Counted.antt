@@ -5,10 +5,10 @@ use Rattle.grammar_model.specs.Keys.{key_of}
 use Rattle.grammar_model.specs.Trees.{Tree, Forest, Part, no_parts, part, yield_of, part_yield, forest_yield, part_height, holes_of, forest_holes, part_holes}
 use Rattle.grammar_model.specs.Tables.{Table, What, nothing, token, operand, Edge, begins_by, takes, allowed, Place, nowhere, growth, at_spot}
 use Rattle.grammar_model.specs.Machine.{Frame, frame, Stack, onto, put, last_done, first_of, opened, start_in, start_at, Fit, no_fit, deep, fit, grower_in, grown, take_at, place_in, fits_at, fits}
-use Rattle.grammar_model.specs.Recovery.{Fault, added, skipped, too_deep, cut, is_operand, missing_at, must_of, at_frame, past_operand, or_reach, on_edge, reach_in, one_more, filled, most_parts, reach_out, reach_from, Reach, unreached, reached, Stepped, after_reach, after_fit, step, closed_up, close_up, some_fault, last_fault, recovered, recover, Merged, left_out, added_in}
-use Rattle.grammar_model.proofs.Sound.{within_parts, place_may}
-use Rattle.grammar_model.proofs.Faultless.{step_is}
-use Rattle.grammar_model.proofs.Laws.{Found}
+use Rattle.recovery_model.specs.Steps.{Fault, added, skipped, too_deep, cut, is_operand, missing_at, must_of, at_frame, past_operand, or_reach, on_edge, reach_in, one_more, filled, most_parts, reach_out, reach_from, Reach, unreached, reached, Stepped, after_reach, after_fit, step, closed_up, close_up, some_fault, last_fault, recovered, recover, Merged, left_out, added_in}
+use Rattle.grammar_laws.proofs.Sound.{within_parts, place_may}
+use Rattle.grammar_laws.proofs.Faultless.{step_is}
+use Rattle.grammar_laws.proofs.Laws.{Found}
 
 abbrev pub rev_yield : List (ℕ × Part) → List Tok
 rev_yield [] = []

@@ -4,17 +4,17 @@ use Rattle.token_model.specs.Kinds.{Tok}
 use Rattle.grammar_model.specs.Trees.{Tree, yield_of, holes_of}
 use Rattle.grammar_model.specs.Grammar.{InGrammar}
 use Rattle.grammar_model.specs.Rows.{chain_of, grower_of}
-use Rattle.grammar_model.specs.Recovery.{recover, Merged, left_out, added_in, IsRecovered}
+use Rattle.recovery_model.specs.Steps.{recover, Merged, left_out, added_in, IsRecovered}
 use Rattle.grammar_model.specs.Rows.{Left}
 use Rattle.grammar_model.specs.Separate.{AreSeparate, IsRowFor, row_for}
-use Rattle.grammar_model.specs.Tested.{Tested}
+use Rattle.recovery_model.specs.Tested.{Tested}
 use Rattle.grammar_model.specs.Ocaml.{rows, sizes, Text, program_text, interface_text, root_of, grammar}
-use Rattle.grammar_model.proofs.Instance.{separate, found, ends, passes}
-use Rattle.grammar_model.proofs.Separated as separated
-use Rattle.grammar_model.proofs.Exact as exact
-use Rattle.grammar_model.proofs.Faultless as faultless
-use Rattle.grammar_model.proofs.Counted as counted
-use Rattle.grammar_model.proofs.Formed as formed
+use Rattle.grammar_laws.proofs.Instance.{separate, found, ends, passes}
+use Rattle.grammar_laws.proofs.Separated as separated
+use Rattle.grammar_laws.proofs.Exact as exact
+use Rattle.grammar_laws.proofs.Faultless as faultless
+use Rattle.grammar_laws.proofs.Counted as counted
+use Rattle.grammar_laws.proofs.Formed as formed
 
 -- the rows of the language pass the tests
 pub rows_tested : (text : Text) → Tested (root_of text) sizes rows

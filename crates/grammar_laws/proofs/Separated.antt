@@ -5,7 +5,7 @@ use Rattle.grammar_model.specs.Tables.{Table, What, nothing, token, operand, tak
 use Rattle.grammar_model.specs.Machine.{first_of}
 use Rattle.grammar_model.specs.Rows.{Left, no_left, level, named, Row, row_at, is_left, Sizes, table_of, chain_of, grower_of}
 use Rattle.grammar_model.specs.Separate.{StartsWith, AreSeparate, IsRowFor, head_of, is_same_left, with_left, row_for}
-use Rattle.grammar_model.proofs.Laws.{Separate, Found, begun_by}
+use Rattle.grammar_laws.proofs.Laws.{Separate, Found, begun_by}
 
 -- a row without a left operand that starts with a key is the first of the key's chain
 pub heads : (G : Table) → Separate G → (r k : ℕ) → G.has_left r ≡ false → StartsWith G r k → head_of (G.chain (G.sort r) k) ≡ Some r

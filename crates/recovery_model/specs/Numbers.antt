@@ -2,7 +2,7 @@
 use Rattle.std.specs.Prelude.{ℕ, zero, suc, List, [], ◌∷◌, Option, Some, None, ◌&&◌, if◌then◌else◌}
 use Rattle.grammar_model.specs.Tables.{Table, What, nothing, token, operand, Edge, Last, plain, hole, row, allowed, Place, nowhere, growth, at_spot, first_place}
 use Rattle.grammar_model.specs.Machine.{Stack}
-use Rattle.grammar_model.specs.Recovery.{is_operand, last_edge, on_edge, most_parts}
+use Rattle.recovery_model.specs.Steps.{is_operand, last_edge, on_edge, most_parts}
 
 -- what an operand of this row is as the last part
 abbrev pub last_row : What → ℕ → Last

@@ -5,9 +5,9 @@ use Rattle.grammar_model.specs.Keys.{key_of}
 use Rattle.grammar_model.specs.Trees.{Part, missing}
 use Rattle.grammar_model.specs.Tables.{Table, What, nothing, token, operand, Edge, allowed, Place, nowhere, growth, at_spot, first_place}
 use Rattle.grammar_model.specs.Machine.{Frame, Stack, put, last_done, Fit, no_fit, take_at, place_in}
-use Rattle.grammar_model.specs.Recovery.{is_operand, missing_at, must_of, Reach, unreached, reached, at_frame, past_operand, or_reach, on_edge, reach_in, one_more, filled, most_parts, reach_out}
-use Rattle.grammar_model.specs.Numbers.{last_row, Way, hole_in, way_by, past_way, or_way, more_must, find_way, out_by, find_out}
-use Rattle.grammar_model.proofs.ByNumbers.{last_closed}
+use Rattle.recovery_model.specs.Steps.{is_operand, missing_at, must_of, Reach, unreached, reached, at_frame, past_operand, or_reach, on_edge, reach_in, one_more, filled, most_parts, reach_out}
+use Rattle.recovery_model.specs.Numbers.{last_row, Way, hole_in, way_by, past_way, or_way, more_must, find_way, out_by, find_out}
+use Rattle.grammar_laws.proofs.ByNumbers.{last_closed}
 
 -- the token taken in a frame by a way
 abbrev pub take_way : ℕ → Option ℕ → Place → Table → Frame → Stack → Tok → ℕ → ℕ → Reach
