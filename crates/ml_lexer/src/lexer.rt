@@ -191,7 +191,7 @@ pub fn lex_on<C: Counts>(
 }
 
 /// The column of the place behind a token of a text in two parts.
-fn column_behind(left: &[u8], right: &[u8], token: &Token) -> u32
+pub fn column_behind(left: &[u8], right: &[u8], token: &Token) -> u32
     requires short { length (left.now ++ right.now) < 2 ^ 32 - 1 }
     requires order { token.now.span.start ≤ token.now.span.end }
     requires inside { token.now.span.end ≤ length (left.now ++ right.now) }
