@@ -1,0 +1,41 @@
+use Rattle.std.proofs.Common.{◌+◌, ◌<◌, List, length, map, take, sym, subst, ◌∙◌, ap, arith}
+use Rattle.token_model.specs.Kinds.{Tok}
+use Rattle.grammar_model.specs.Ocaml.{Text}
+use Rattle.syntax_tree.specs.View.{tok_of}
+use Rattle.frame_parser.specs.Run.{next_shifts, shifted_by}
+use Rattle.frame_parser.proofs.Lists.{tokens_next, grows_more}
+use Rattle.resume_parser.specs.Kept.{HasParsed, text_in}
+use Rattle.resume_parser.proofs.Steps.{first_many, counted_none, counted_on, mapped_first}
+use Rattle.resume_parser.proofs.kept.KeptParse.refresh.Goals as goal
+
+pub loop-k-init : goal.loop-k-init
+loop-k-init g c = let (old, parsed, le, same) = c.requires.kept in record {
+  text = c.cut.ensures.text;
+  least = omega arith;
+  parsed = subst (λ (l : List Tok). HasParsed l c.cut.new.self) (same ∙ mapped_first c.args.tokens.now c.args.same) (c.cut.ensures.parsed old parsed);
+  counted = counted_none (text_in c.args.self.now) c.args.tokens.now c.args.same (g.C.Counts.tallies c.args.counts.now) c.requires.within;
+  grows = record { lexed = omega arith; shifted = omega arith; typed = omega arith };
+}
+
+pub take-requires : goal.take-requires
+take-requires g c =
+    let k = c.loop-k.k in
+    record { few = (map tok_of (take k c.args.tokens.now), c.loop-k.invariant.parsed, omega (arith, first_many c.args.tokens.now k (omega (arith, c.loop-k-test.true)), c.loop-k-test.true, c.requires.few)) }
+
+pub loop-k-preserved : goal.loop-k-preserved
+loop-k-preserved g c =
+    let k = c.loop-k.k in
+    let inv = c.loop-k.invariant in
+    let ts = map tok_of (take k c.args.tokens.now) in
+    let t = tok_of c.index-tokens-k.result in
+    let many = first_many c.args.tokens.now k (omega (arith, c.loop-k-test.true)) in
+    let few : length ts < 1048576 = omega (arith, many, c.loop-k-test.true, c.requires.few) in
+    let next = tokens_next c.args.tokens.now k c.index-tokens-k.result c.loop-k-test.true c.index-tokens-k.is in
+    let counted = c.in_ok-take.ensures.counted ts inv.parsed few ∙ ap (λ (x : Text). shifted_by (next_shifts x ts t) (g.C.Counts.tallies c.loop-k.counts)) inv.text in
+    record {
+      text = c.take.ensures.text ∙ inv.text;
+      least = omega (arith, inv.least);
+      parsed = subst (λ (l : List Tok). HasParsed l c.take.new.self) (sym next) (c.in_ok-take.ensures.parsed ts inv.parsed few);
+      counted = counted_on (text_in c.args.self.now) c.args.same ts (map tok_of (take (k + 1) c.args.tokens.now)) t _ _ _ (omega (arith, many, inv.least)) next inv.counted counted;
+      grows = grows_more (g.C.Counts.tallies c.args.counts.now) (g.C.Counts.tallies c.loop-k.counts) (g.C.Counts.tallies c.take.new.counts) (next_shifts (text_in c.args.self.now) ts t) inv.grows counted;
+    }
