@@ -12,8 +12,8 @@ use Rattle.typing_state.specs.declared.parts.Parts.{Parts}
 use Rattle.typing_state.specs.Goes.{Goes}
 use Rattle.typing_state.specs.Steps.{Steps, each, Follows, GetsOn, Silent}
 use Rattle.typing_state.proofs.Following.{ends_both, follows_before, follows_both, gets_more}
-use Rattle.core_typing.specs.declared.exprs.RowForm.TheVariants as form
-use Rattle.core_typing.specs.ExpressionSteps.{ExpressionSteps, bindings_at, expression_steps, parameter_steps, right_steps, steps_as, type_steps_if, typed_as_written}
+use Rattle.expression_steps.specs.declared.forms.RowForm.TheVariants as form
+use Rattle.expression_steps.specs.ExpressionSteps.{ExpressionSteps, bindings_at, expression_steps, parameter_steps, right_steps, steps_as, type_steps_if, typed_as_written}
 use Rattle.core_typing.proofs.GroupLaws.{written_of}
 
 -- a token that isn't there, and one that is

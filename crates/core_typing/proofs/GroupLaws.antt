@@ -16,12 +16,13 @@ use Rattle.typing_state.specs.Steps.{Steps, asks, records, each, Follows, Silent
 use Rattle.typing_state.proofs.Following.{follows_both, follows_before, ends_both}
 use Rattle.type_reading.proofs.TypeLaws.{each_map}
 use Rattle.use_typing.specs.UseSteps.{lost_steps}
-use Rattle.pattern_typing.specs.PatternSteps.{pattern_steps}
-use Rattle.pattern_typing.specs.Warnings.{missed_steps, unused_steps, warning_steps}
-use Rattle.core_typing.specs.ExpressionSteps.{ExpressionSteps, expression_at, expression_case, expressions_in, filled_expression, case_parts, cases_at, unused_case, row_at, place_at, bound_pattern, whole_steps, right_at, concluded_at, turn_steps, concluded_steps, opened_steps, group_steps, bindings_at, typed_as_written}
+use Rattle.pattern_steps.specs.PatternSteps.{pattern_steps}
+use Rattle.pattern_typing.specs.Warnings.{unused_steps, warning_steps}
+use Rattle.pattern_steps.specs.PatternSteps.{missed_steps}
+use Rattle.expression_steps.specs.ExpressionSteps.{ExpressionSteps, expression_at, expression_case, expressions_in, filled_expression, case_parts, cases_at, unused_case, row_at, place_at, bound_pattern, whole_steps, right_at, concluded_at, turn_steps, concluded_steps, opened_steps, group_steps, bindings_at, typed_as_written}
 use Rattle.core_typing.specs.declared.bindings.Opened.{Opened}
 use Rattle.core_typing.specs.Concluding.{conclusion}
-use Rattle.core_typing.proofs.ExpressionLaws.{case_of_node, case_of_missing, right_of_node, first_come, row_of_node, place_of_node}
+use Rattle.expression_steps.proofs.ExpressionLaws.{case_of_node, case_of_missing, right_of_node, first_come, row_of_node, place_of_node}
 use Rattle.use_typing.proofs.Reading.{rest_read, same_follows}
 
 -- the steps so far and those that are left

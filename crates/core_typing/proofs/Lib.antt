@@ -1,6 +1,4 @@
--- The laws of the steps of expressions.
-pub mod ExpressionLaws
+-- The laws of bindings, cases and records.
 pub mod GroupLaws
-pub mod LeafLaws
 pub mod BindingLaws
 pub mod RecordLaws

@@ -7,11 +7,11 @@ use Rattle.syntax_tree.specs.View.{node_view, place_of}
 use Rattle.syntax_tree.specs.declared.tree.Node.{Node, out-Node}
 use Rattle.row_parts.specs.declared.slots.Operand.{Operand}
 use Rattle.row_parts.specs.Numbered.{Written, numbered, operands_in, first_in, first_of, filled_in, token_in, path_in, operand_view, part_of}
-use Rattle.core_typing.specs.declared.exprs.RowForm.TheVariants as form
-use Rattle.core_typing.specs.declared.records.Pieces.{Pieces}
-use Rattle.core_typing.specs.RecordView.{record_parts}
-use Rattle.core_typing.specs.ExpressionSteps.{expression_at, expression_field, expressions_in, filled_expression, field_steps, record_steps, place_at, steps_as}
-use Rattle.core_typing.proofs.ExpressionLaws.{field_of_node, field_of_missing, first_come, place_of_node}
+use Rattle.expression_steps.specs.declared.forms.RowForm.TheVariants as form
+use Rattle.expression_steps.specs.declared.fields.Pieces.{Pieces}
+use Rattle.expression_steps.specs.RecordView.{record_parts}
+use Rattle.expression_steps.specs.ExpressionSteps.{expression_at, expression_field, expressions_in, filled_expression, field_steps, record_steps, place_at, steps_as}
+use Rattle.expression_steps.proofs.ExpressionLaws.{field_of_node, field_of_missing, first_come, place_of_node}
 
 -- a field of the code that is there
 pub field_there : (o : Operand) (nd : Bor Node) → o.node ≡ Some nd → expression_field (operand_view o) ≡ field_steps o.number (token_in (node_view nd.now) 1) (first_of (expressions_in o.number (node_view nd.now) 3))

@@ -1,7 +1,7 @@
 -- What is left to do of bindings whose patterns are typed.
 use Rattle.syntax_tree.specs.View.{node_view}
 use Rattle.typing_state.specs.Steps.{Steps}
-use Rattle.core_typing.specs.ExpressionSteps.{concluded_at}
+use Rattle.expression_steps.specs.ExpressionSteps.{concluded_at}
 use Rattle.core_typing.specs.declared.bindings.Opened.{Opened}
 
 -- the right side of a binding, which its pattern has

@@ -3,24 +3,23 @@
 
 ghost use Rattle.std.specs.Prelude.{◌≡◌, [], ◌∷◌, ◌++◌, map, option_map, is_some, IfOk, OnOk};
 ghost use Rattle.syntax_tree.specs.View.{node_view, place_of};
-ghost use Rattle.row_parts.specs.Numbered.{operand_view, operands_in, filled_in, token_in};
+ghost use Rattle.row_parts.specs.Numbered.{operand_view, filled_in};
 ghost use Rattle.env_table.specs.declared.faults.FaultKind.{FaultKind};
 ghost use Rattle.typing_state.specs.Goes.{Goes};
 ghost use Rattle.typing_state.specs.Steps.{asks, each, records, Follows, Silent};
-ghost use Rattle.core_typing.specs.declared.exprs.RowForm.{RowForm};
-ghost use Rattle.use_typing.specs.UseSteps.{asks_equal};
-ghost use Rattle.pattern_typing.specs.PatternSteps.{pattern_steps};
-ghost use Rattle.core_typing.specs.ExpressionSteps.{bindings_at, bound_pattern, concluded_at, concluded_steps, expression_at, expression_steps, opened_steps, parameter_steps, right_at, right_steps, steps_as, turn_steps, type_steps_if, typed_as_written, asks_equal_written, whole_steps};
+ghost use Rattle.expression_steps.specs.declared.forms.RowForm.{RowForm};
+ghost use Rattle.pattern_steps.specs.PatternSteps.{pattern_steps};
+ghost use Rattle.expression_steps.specs.ExpressionSteps.{bindings_at, bound_pattern, concluded_steps, expression_at, opened_steps, right_at, right_steps, steps_as, turn_steps, type_steps_if, typed_as_written, asks_equal_written, whole_steps};
 ghost use Rattle.core_typing.specs.Concluding.{conclusion};
 
 use crate::exprs::type_under;
-use crate::functions::{arrows, type_parameters, with_names};
-use crate::values::{has_parameters, is_value};
+use crate::functions::{type_parameters, with_names};
+use expression_steps::{arrows, has_parameters, is_value};
 use owned_lists::push;
 use pattern_typing::{BoundName, Matched, Mentioned, report_pattern, type_pattern};
 use row_parts::{Operand, first_operand, operand_in, operands, token};
 use std::rc::Rc;
-use syntax_tree::{Node, Token};
+use syntax_tree::Node;
 use type_reading::{Variables, read_type};
 use typing_state::{Depth, Entry, Env, NO_SCOPE, NoMemory, NodeRef, Parts, Verdict, share_entry};
 use use_typing::{Sign, Used, note_missing, unnamed};

@@ -1,14 +1,14 @@
 //! Matches: `match`, `try` and `function`.
 #![tactic(auto, using(typing_state::proofs::Going::goes_trans, typing_state::proofs::Going::goes_refl, typing_state::proofs::Following::follows_both, typing_state::proofs::Following::follows_then, typing_state::proofs::Following::follows_before, typing_state::proofs::Following::follows_behind, typing_state::proofs::Following::follows_none, typing_state::proofs::Following::follows_silent, typing_state::proofs::Following::store_silent, typing_state::proofs::Following::silent_refl, typing_state::proofs::Following::silent_trans, typing_state::proofs::Following::ends_both, typing_state::proofs::Following::ends_behind, typing_state::proofs::Following::ends_before, typing_state::proofs::Following::ends_silent, typing_state::proofs::Following::gets_start, typing_state::proofs::Following::gets_more, typing_state::proofs::Following::gets_before, typing_state::proofs::Following::gets_done))]
 
-ghost use Rattle.std.specs.Prelude.{◌≡◌, [], ◌∷◌, ◌++◌, map, option_map, IfOk, OnOk};
+ghost use Rattle.std.specs.Prelude.{◌≡◌, [], ◌∷◌, ◌++◌, map, option_map, OnOk};
 ghost use Rattle.syntax_tree.specs.View.{node_view, place_of};
 ghost use Rattle.row_parts.specs.Numbered.{filled_in, first_of, operand_view};
 ghost use Rattle.typing_state.specs.Goes.{Goes};
 ghost use Rattle.typing_state.specs.Steps.{each, Follows};
-ghost use Rattle.core_typing.specs.declared.exprs.RowForm.{RowForm};
+ghost use Rattle.expression_steps.specs.declared.forms.RowForm.{RowForm};
 ghost use Rattle.pattern_typing.specs.Warnings.{spans_of, unused_steps};
-ghost use Rattle.core_typing.specs.ExpressionSteps.{case_parts, cases_at, expression_at, expression_case, expressions_in, filled_expression, steps_as, typed_as_if, typed_pattern, unused_case};
+ghost use Rattle.expression_steps.specs.ExpressionSteps.{case_parts, cases_at, expression_at, expression_case, expressions_in, filled_expression, steps_as, typed_as_if, typed_pattern, unused_case};
 
 use crate::exprs::{type_under, typed_as};
 use crate::functions::with_names;

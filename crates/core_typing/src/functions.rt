@@ -6,11 +6,12 @@ ghost use Rattle.syntax_tree.specs.View.{node_view};
 ghost use Rattle.row_parts.specs.Numbered.{operand_view};
 ghost use Rattle.env_table.specs.declared.faults.FaultKind.{FaultKind};
 ghost use Rattle.typing_state.specs.Goes.{Goes};
-ghost use Rattle.typing_state.specs.Steps.{asks, each, Follows, Silent};
-ghost use Rattle.core_typing.specs.declared.exprs.RowForm.{RowForm};
-ghost use Rattle.core_typing.specs.ExpressionSteps.{parameter_steps, steps_as};
+ghost use Rattle.typing_state.specs.Steps.{asks, each, Follows};
+ghost use Rattle.expression_steps.specs.declared.forms.RowForm.{RowForm};
+ghost use Rattle.expression_steps.specs.ExpressionSteps.{parameter_steps, steps_as};
 
 use crate::exprs::type_under;
+use expression_steps::arrows;
 use owned_lists::push;
 use pattern_typing::{BoundName, Matched, report_pattern, type_pattern};
 use row_parts::{Operand, operand_in, operands};
@@ -100,16 +101,4 @@ pub fn with_names(alloc: Global, names: &[BoundName<'_>], env: &Env) -> Result<E
         inner = inner.add(alloc, share_entry(&name.entry)?)?;
     }
     Ok(inner)
-}
-
-/// The arrow from the types of parameters to a type.
-pub fn arrows(at: &mut Parts, parameters: &[NodeRef], to: NodeRef) -> Result<NodeRef, NoMemory>
-    ensures silent { Silent at.old at.new }
-    ensures goes { Goes at.old at.new }
-{
-    let mut ty = to;
-    for parameter in parameters.iter().rev() {
-        ty = at.arrow(*parameter, ty)?;
-    }
-    Ok(ty)
 }

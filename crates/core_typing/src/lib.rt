@@ -12,7 +12,6 @@ mod exprs;
 mod functions;
 mod plain;
 mod records;
-mod values;
 
 pub use bindings::{Behind, type_bindings};
 pub use exprs::type_expr;

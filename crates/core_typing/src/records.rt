@@ -1,36 +1,28 @@
 //! Records: { l = e }, { e with l = e }
 #![tactic(auto, using(typing_state::proofs::Going::goes_trans, typing_state::proofs::Going::goes_refl, typing_state::proofs::Following::follows_both, typing_state::proofs::Following::follows_then, typing_state::proofs::Following::follows_before, typing_state::proofs::Following::follows_behind, typing_state::proofs::Following::follows_none, typing_state::proofs::Following::follows_silent, typing_state::proofs::Following::store_silent, typing_state::proofs::Following::silent_refl, typing_state::proofs::Following::silent_trans, typing_state::proofs::Following::ends_both, typing_state::proofs::Following::ends_behind, typing_state::proofs::Following::ends_before, typing_state::proofs::Following::ends_silent, typing_state::proofs::Following::gets_start, typing_state::proofs::Following::gets_more, typing_state::proofs::Following::gets_before, typing_state::proofs::Following::gets_done))]
 
-ghost use Rattle.std.specs.Prelude.{◌≡◌, [], ◌∷◌, ◌++◌, map, option_map, IfOk, OnOk};
+ghost use Rattle.std.specs.Prelude.{[], ◌∷◌, ◌++◌, map, option_map, OnOk};
 ghost use Rattle.syntax_tree.specs.View.{node_view, place_of, tok_of};
 ghost use Rattle.row_parts.specs.Numbered.{operand_view, path_view};
 ghost use Rattle.env_table.specs.declared.faults.FaultKind.{FaultKind};
 ghost use Rattle.typing_state.specs.Goes.{Goes};
-ghost use Rattle.typing_state.specs.Steps.{asks, each, records, Follows, Silent};
+ghost use Rattle.typing_state.specs.Steps.{asks, each, records, Follows};
 ghost use Rattle.use_typing.specs.UseSteps.{asks_equal, asks_labels, labels_of, lost_steps};
-ghost use Rattle.core_typing.specs.declared.exprs.RowForm.{RowForm};
-ghost use Rattle.core_typing.specs.ExpressionSteps.{expression_at, expression_field, expression_steps, field_steps, fields_steps, label_at, loose_steps, made_or_loose, made_steps, pun_steps, record_steps, steps_as, typed_as, typed_if, updated_steps};
-ghost use Rattle.core_typing.specs.RecordView.{record_parts};
+ghost use Rattle.expression_steps.specs.declared.forms.RowForm.{RowForm};
+ghost use Rattle.expression_steps.specs.ExpressionSteps.{expression_at, expression_field, expression_steps, field_steps, fields_steps, label_at, loose_steps, made_or_loose, made_steps, record_steps, steps_as, typed_as, typed_if, updated_steps};
+ghost use Rattle.expression_steps.specs.RecordView.{record_parts};
 
 use crate::exprs::{type_under, typed_as};
-use crate::values::label_path;
-use row_parts::{Operand, WrittenPath, first_operand, operand_in, operands, token, written_path};
-use std::rc::Rc;
-use syntax_tree::{Node, Span, Token};
-use typing_state::{Depth, Entry, Env, NoMemory, NodeRef, Parts};
-use use_typing::{
-    Fields, Names, RecordType, Sign, Used, begin_field, equal_if, labels_behind, labels_in,
-    note_label, note_missing, record_of_fields, record_of_labels, type_or_var, unnamed, value,
+use expression_steps::{
+    Pieces, begin_loose, complete, fields_in, label_path, pun, record_of_made, type_of_record,
 };
-
-/// What a record has: where it stands, its first part, the value behind that, and its fields.
-#[derive(Drop)]
-struct Pieces<'a> {
-    span: Span,
-    first: Operand<'a>,
-    value: Option<Operand<'a>>,
-    fields: Vec<Operand<'a>>,
-}
+use row_parts::{Operand, WrittenPath, first_operand, operand_in, operands, token, written_path};
+use syntax_tree::{Node, Token};
+use typing_state::{Depth, Env, NoMemory, NodeRef, Parts};
+use use_typing::{
+    Fields, RecordType, Sign, Used, begin_field, equal_if, note_label, note_missing,
+    record_of_fields, value,
+};
 
 /// { l = e }, { e with l = e }: of a record that is made, a first part that is a path to a lower-case name is a label
 #[cycle(exprs)]
@@ -115,29 +107,6 @@ fn made<'a>(
     complete(at, &fields, pieces.span)
 }
 
-/// The type of a record that is made, by its labels, behind the fields that are missing.
-fn record_of_made<'a>(
-    at: &mut Parts,
-    pieces: &Pieces<'a>,
-    label: &WrittenPath<'a>,
-    env: &Env,
-) -> Result<RecordType, NoMemory>
-    ensures follows { OnOk result (Follows (each lost_steps (map operand_view pieces.now.fields.items) ++ asks_labels (path_view label.now ∷ labels_of (map operand_view pieces.now.fields.items))) at.old at.new) }
-    ensures goes { Goes at.old at.new }
-{
-    note_missing(at, &pieces.fields, env)?;
-    let labels = labels_behind(at, label, &pieces.fields)?;
-    record_of_labels(at, env, &labels)
-}
-
-/// No fields so far of a record.
-fn fields_in<'a>(at: &Parts, found: RecordType) -> Fields<'a> {
-    Fields {
-        found,
-        labels: Vec::new(at.alloc()),
-    }
-}
-
 /// The same where the first part is no label: it is told, and typed before the type is looked for, and the value behind it is typed.
 #[cycle(exprs)]
 fn loose(at: &mut Parts, pieces: &Pieces<'_>, env: &Env, depth: Depth) -> Result<Used, NoMemory>
@@ -167,26 +136,6 @@ fn record_behind(
     record_of_fields(at, env, &pieces.fields)
 }
 
-/// The demand that the first part of a record that is made is a label, and the fields that are missing.
-fn begin_loose(at: &mut Parts, pieces: &Pieces<'_>, env: &Env) -> Result<(), NoMemory>
-    ensures follows { OnOk result (Follows (asks FaultKind.Label (place_of pieces.now.first.span ∷ []) ∷ each lost_steps (map operand_view pieces.now.fields.items)) at.old at.new) }
-    ensures goes { Goes at.old at.new }
-{
-    ask_label(at, pieces.first)?;
-    note_missing(at, &pieces.fields, env)
-}
-
-/// The demand that the first part of a record that is made is a label, where it is there.
-fn ask_label(at: &mut Parts, first: Operand<'_>) -> Result<(), NoMemory>
-    ensures follows { OnOk result (Follows (asks FaultKind.Label (place_of first.entry.span ∷ []) ∷ []) at.old at.new) }
-    ensures goes { Goes at.old at.new }
-{
-    match first.node {
-        Some(_) => at.no_label(first.span),
-        None => Ok(()),
-    }
-}
-
 /// An expression that may be there.
 #[cycle(exprs)]
 fn type_if(at: &mut Parts, e: Option<Operand<'_>>, env: &Env, depth: Depth) -> Result<(), NoMemory>
@@ -208,7 +157,7 @@ fn updated(at: &mut Parts, pieces: &Pieces<'_>, env: &Env, depth: Depth) -> Resu
     let found = record_of_part(at, pieces, env, depth)?;
     let mut fields = fields_in(at, found);
     type_fields(at, &mut fields, &pieces.fields, env, depth)?;
-    type_of(at, &fields.found)
+    type_of_record(at, &fields.found)
 }
 
 /// The part before `with`, which is the record that has the labels.
@@ -307,108 +256,4 @@ fn type_value(
     note_label(at, number, env, found, label)?;
     typed_as(at, value, wanted, env, env, depth)?;
     Ok(())
-}
-
-/// A field without a value of its own: the value of its label's name, which is the field.
-fn pun(
-    at: &mut Parts,
-    number: u32,
-    label: &WrittenPath<'_>,
-    wanted: Option<NodeRef>,
-    env: &Env,
-) -> Result<(), NoMemory>
-    ensures follows { OnOk result (Follows (pun_steps number (path_view label.now).last) at.old at.new) }
-    ensures goes { Goes at.old at.new }
-{
-    match label.last {
-        None => at.note_plain(number, env),
-        Some(last) => pun_of(at, number, label, last, wanted, env),
-    }
-}
-
-/// The same by the last token of the label.
-fn pun_of(
-    at: &mut Parts,
-    number: u32,
-    label: &WrittenPath<'_>,
-    last: &Token,
-    wanted: Option<NodeRef>,
-    env: &Env,
-) -> Result<(), NoMemory>
-    ensures follows { OnOk result (Follows (asks FaultKind.Bound (place_of last.now.span ∷ []) ∷ asks FaultKind.Equal (place_of last.now.span ∷ []) ∷ records number ∷ []) at.old at.new) }
-    ensures goes { Goes at.old at.new }
-{
-    let used = value_of_name(at, last, wanted, env)?;
-    let names = at.seen_names(env, label, last_entry(&used.names))?;
-    at.note(number, env, None, names)
-}
-
-/// What the last of some names stands for.
-fn last_entry(names: &Names) -> Option<&Rc<Entry>> {
-    match names.last() {
-        Some(entry) => entry.as_ref(),
-        None => None,
-    }
-}
-
-/// The value of a name, which has the wanted type, where one is wanted.
-fn value_of_name(
-    at: &mut Parts,
-    name: &Token,
-    wanted: Option<NodeRef>,
-    env: &Env,
-) -> Result<Used, NoMemory>
-    ensures follows { OnOk result (Follows (asks FaultKind.Bound (place_of name.now.span ∷ []) ∷ asks FaultKind.Equal (place_of name.now.span ∷ []) ∷ []) at.old at.new) }
-    ensures goes { Goes at.old at.new }
-{
-    let path = WrittenPath {
-        qualifiers: Vec::new(at.alloc()),
-        last: Some(name),
-    };
-    let used = value(at, env, &path)?;
-    equal_if(at, name.span, used.ty, wanted, env)?;
-    Ok(used)
-}
-
-/// `complete` of a record that is made at a place: the first label of the declaration that isn't written. The type of the record.
-fn complete(at: &mut Parts, fields: &Fields<'_>, span: Span) -> Result<Used, NoMemory>
-    ensures follows { OnOk result (Follows (asks FaultKind.Complete (place_of span ∷ []) ∷ []) at.old at.new) }
-    ensures goes { Goes at.old at.new }
-{
-    ask_complete(at, &fields.found, &fields.labels, span)?;
-    type_of(at, &fields.found)
-}
-
-/// The demand that all labels of a record type are written.
-fn ask_complete(
-    at: &mut Parts,
-    found: &RecordType,
-    written: &[&Token],
-    span: Span,
-) -> Result<(), NoMemory>
-    ensures follows { OnOk result (Follows (asks FaultKind.Complete (place_of span ∷ []) ∷ []) at.old at.new) }
-    ensures goes { Goes at.old at.new }
-{
-    let RecordType::Known(declaration, _) = found else {
-        return Ok(());
-    };
-    for label in labels_in(declaration) {
-        if !is_written(written, label.name.as_str()) {
-            return at.incomplete(span, label.name.as_str());
-        }
-    }
-    Ok(())
-}
-
-fn is_written(written: &[&Token], label: &str) -> bool {
-    written.iter().any(|other| other.name.is(label))
-}
-
-/// The type of a record; any type where it isn't known.
-fn type_of(at: &mut Parts, found: &RecordType) -> Result<Used, NoMemory>
-    ensures silent { Silent at.old at.new }
-    ensures goes { Goes at.old at.new }
-{
-    let ty = type_or_var(at, found.ty())?;
-    Ok(unnamed(at, ty))
 }

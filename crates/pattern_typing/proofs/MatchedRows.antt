@@ -21,7 +21,7 @@ use Rattle.pattern_typing.specs.declared.patterns.BoundName.{BoundName}
 use Rattle.pattern_typing.specs.declared.patterns.SideMatch.{SideMatch}
 use Rattle.pattern_typing.specs.Matching.{Binds, side_view, tokens_of}
 use Rattle.use_typing.specs.UseSteps.{asks_equal, asks_equal_if, asks_token, path_at, lost_steps, asks_labels, labels_of}
-use Rattle.pattern_typing.specs.PatternSteps.{pattern_rule, parts_of_pattern, matched_as, bound_as, matched_tree, names_of_tree, pattern_steps, pattern_names, field_pattern_steps, field_pattern_names, field_steps, names_in_field, name_of, names_in, names_of_row, steps_of_row, Side, side_at}
+use Rattle.pattern_steps.specs.PatternSteps.{pattern_rule, parts_of_pattern, matched_as, bound_as, matched_tree, names_of_tree, pattern_steps, pattern_names, field_pattern_steps, field_pattern_names, field_steps, names_in_field, name_of, names_in, names_of_row, steps_of_row, Side, side_at}
 use Rattle.pattern_typing.proofs.PatternLaws.{in_slot_are, fields_steps, fields_names, matched_row, bound_row}
 
 -- names as they are bound one after the other

@@ -4,7 +4,7 @@ use Rattle.tree_model.specs.Trees.{Tree}
 use Rattle.syntax_tree.specs.declared.rows.RowName.{RowName}
 use Rattle.syntax_tree.specs.declared.rows.RowName.TheVariants as name
 use Rattle.syntax_tree.specs.Names.{row_of}
-use Rattle.pattern_typing.specs.PatternSteps.{PatternSteps, steps_of_row, names_of_row}
+use Rattle.pattern_steps.specs.PatternSteps.{PatternSteps, steps_of_row, names_of_row}
 
 pub other_steps : (r : RowName) (n : ℕ) (t : Tree) (ps : List (ℕ × PatternSteps)) → (r ≡ name.Papp → ⊥) → (r ≡ name.Precord → ⊥) → (r ≡ name.Por → ⊥) → (r ≡ name.Pparen → ⊥) → (r ≡ name.Plist → ⊥) → (r ≡ name.Pcons → ⊥) → (r ≡ name.Ptuple → ⊥) → (r ≡ name.Pas → ⊥) → (r ≡ name.Pname → ⊥) → (r ≡ name.Pcon → ⊥) → (r ≡ name.Pconst → ⊥) → (r ≡ name.Pneg → ⊥) → steps_of_row (row_of r) n t ps ≡ []
 unfolding row_of

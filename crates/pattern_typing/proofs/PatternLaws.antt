@@ -17,7 +17,7 @@ use Rattle.pattern_typing.specs.declared.patterns.BoundName.{BoundName}
 use Rattle.use_typing.proofs.Reading.{same_follows}
 use Rattle.pattern_typing.specs.Matching.{Binds}
 use Rattle.use_typing.specs.UseSteps.{asks_equal}
-use Rattle.pattern_typing.specs.PatternSteps.{pattern_rule, parts_of_pattern, matched_as, bound_as, matched_tree, names_of_tree, pattern_steps, pattern_names, field_pattern_steps, field_pattern_names, match_each, names_of, names_of_fields, names_in, pattern_or_missing, side_at, sides_of}
+use Rattle.pattern_steps.specs.PatternSteps.{pattern_rule, parts_of_pattern, matched_as, bound_as, matched_tree, names_of_tree, pattern_steps, pattern_names, field_pattern_steps, field_pattern_names, match_each, names_of, names_of_fields, names_in, pattern_or_missing, side_at, sides_of}
 
 pub parts_are : (n : ℕ) (t : Tree) → parts_of_pattern n t ≡ map (comes_to pattern_rule) (operands_with_slots n t)
 unfolding parts_of_pattern

@@ -1,5 +1,4 @@
--- The steps of patterns and of the warnings of a match.
-pub mod PatternSteps
+-- The warnings of a match, and the names of patterns.
 pub mod Warnings
 pub mod Matching
 pub mod Names

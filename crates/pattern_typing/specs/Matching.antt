@@ -3,7 +3,7 @@ use Rattle.std.specs.Prelude.{◌≡◌, ◌++◌, List, map}
 use Rattle.token_model.specs.Kinds.{Tok}
 use Rattle.syntax_tree.specs.View.{place_of, tok_of}
 use Rattle.row_parts.specs.Numbered.{Numbered, operand_view}
-use Rattle.pattern_typing.specs.PatternSteps.{Side}
+use Rattle.pattern_steps.specs.PatternSteps.{Side}
 use Rattle.pattern_typing.specs.declared.patterns.BoundName.{BoundName}
 use Rattle.pattern_typing.specs.declared.patterns.SideMatch.{SideMatch}
 use Rattle.pattern_typing.specs.declared.patterns.TypedPart.{TypedPart}

@@ -1,16 +1,12 @@
 -- The warnings of a match.
 use Rattle.std.specs.Prelude.{List, [], ◌∷◌, ◌++◌, map}
 use Rattle.tree_model.specs.Trees.{Place}
-use Rattle.tree_model.specs.Rows.{Row, etry_row}
+use Rattle.tree_model.specs.Rows.{Row}
 use Rattle.syntax_tree.specs.View.{place_of}
 use Rattle.env_table.specs.declared.faults.FaultKind.TheVariants as fault
 use Rattle.typing_state.specs.Steps.{Steps, asks, each}
+use Rattle.pattern_steps.specs.PatternSteps.{missed_steps}
 use Rattle.pattern_typing.specs.declared.warnings.Rows.{Rows}
-
--- what is missed, but not of a `try`
-abbrev pub missed_steps : Row → Place → Steps
-missed_steps etry_row at = []
-missed_steps _ at = asks fault.Missed (at ∷ []) ∷ []
 
 -- each case that no value reaches
 abbrev pub unused_steps : List Place → Steps

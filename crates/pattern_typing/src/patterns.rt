@@ -16,7 +16,7 @@ ghost use Rattle.use_typing.specs.Labels.{toks_of};
 ghost use Rattle.use_typing.specs.Uses.{TellsUse};
 ghost use Rattle.pattern_typing.specs.Names.{TellsName, TellsNameIf};
 ghost use Rattle.use_typing.specs.UseSteps.{annotation_steps, asks_equal, asks_equal_if, asks_labels, labels_of, asks_token, lost_steps, path_at, range_steps};
-ghost use Rattle.pattern_typing.specs.PatternSteps.{beside, bound_as, common_names, construction_steps, field_pattern_names, field_pattern_steps, find_name, last_of, later, match_each, matched_as, matched_tree, name_of, names_in, names_of, names_of_first, names_of_tree, parts_of_pattern, pattern_names, pattern_steps, side_at, sides_beside, sides_of};
+ghost use Rattle.pattern_steps.specs.PatternSteps.{beside, bound_as, common_names, construction_steps, field_pattern_names, field_pattern_steps, find_name, last_of, later, match_each, matched_as, matched_tree, name_of, names_in, names_of, names_of_first, names_of_tree, parts_of_pattern, pattern_names, pattern_steps, side_at, sides_beside, sides_of};
 ghost use Rattle.pattern_typing.specs.Matching.{Binds, side_view, tokens_of, typed_view};
 
 use env_table::{Entry, Kind, What};

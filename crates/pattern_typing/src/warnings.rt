@@ -7,7 +7,8 @@ ghost use Rattle.syntax_tree.specs.View.{place_of};
 ghost use Rattle.env_table.specs.declared.faults.FaultKind.{FaultKind};
 ghost use Rattle.typing_state.specs.Goes.{Goes};
 ghost use Rattle.typing_state.specs.Steps.{Follows, asks};
-ghost use Rattle.pattern_typing.specs.Warnings.{spans_of, missed_steps, unused_steps, warning_steps};
+ghost use Rattle.pattern_typing.specs.Warnings.{spans_of, unused_steps, warning_steps};
+ghost use Rattle.pattern_steps.specs.PatternSteps.{missed_steps};
 
 use crate::pats::row_pat;
 use env_table::FaultKind;

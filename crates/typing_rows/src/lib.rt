@@ -1,6 +1,6 @@
 //! The rows of expressions whose conditions the typer can be shown to carry, what each function of such a row has to carry, and the law of each row.
 //! It stands on `typing_steps`, which has what each call on the state of typing carries, and on `operand_laws`.
-//! No program calls it. The layer above may cite `specs/Contracts` in its clauses, and take the laws of `proofs/` for their proofs: operands of
+//! No program calls it. `expression_steps` and `core_typing` cite `specs/Contracts` in their clauses `carries`, and the laws of `proofs/` in their proofs: operands of
 //! carried rows (`Going`), rows over their operands (`Terms`), heads with arguments (`Given`), parts in order (`Ordered`), the ends of such rows
 //! (`Ending`), rows once they are recorded (`Recorded`), and whole rows (`Typed`).
 #![tactic(auto)]

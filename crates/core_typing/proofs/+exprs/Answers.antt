@@ -1,30 +1,52 @@
-use Rattle.std.proofs.Common.{◌≡◌, ◌∙◌, ◌++◌, ◌+◌, ◌<◌, [], ◌∷◌, length, map, drop, sym, ap, subst, arith, length-append, refl, rules, ◌==◌}
-use Rattle.std.specs.Prelude.{OnOk, None, option_map}
+use Rattle.std.proofs.Common.{◌≡◌, ◌∙◌, ◌++◌, ◌+◌, ◌<◌, [], ◌∷◌, length, map, drop, sym, ap, subst, arith, length-append, refl, rules, ◌==◌, ℕ, List}
+use Rattle.std.specs.Prelude.{OnOk, None, option_map, All, IfOk, Some}
 use Rattle.syntax_tree.specs.Names.{row_of}
 use Rattle.syntax_tree.specs.View.{node_view, place_of, tok_of}
 use Rattle.syntax_tree.specs.declared.tree.Node.{out-Node}
-use Rattle.row_parts.specs.Numbered.{operand_view, path_view, filled_in, operands_in}
+use Rattle.row_parts.specs.Numbered.{operand_view, path_view, filled_in, operands_in, numbered, all_operands}
 use Rattle.typing_state.specs.Steps.{records, each, Follows, GetsOn, asks}
-use Rattle.typing_state.proofs.Going.{goes_trans}
-use Rattle.typing_state.proofs.Following.{ends_both, ends_before, follows_both, follows_behind, gets_more, store_silent, follows_before, follows_none, ends_behind}
+use Rattle.typing_state.proofs.Going.{goes_trans, goes_refl}
+use Rattle.typing_state.proofs.Following.{ends_both, ends_before, follows_both, follows_behind, gets_start, gets_more, store_silent, follows_before, follows_none, ends_behind}
 use Rattle.type_reading.proofs.TypeLaws.{drop_read}
-use Rattle.core_typing.specs.declared.exprs.RowForm.TheVariants as form
-use Rattle.core_typing.specs.ExpressionSteps.{argument_steps, arguments_steps, behind_parts, constructed_steps, expression_at, expression_steps, part_steps, parts_from, recorded_constructor, row_at, steps_as, typed_as, unrecorded_steps, cases_at, expression_case, parameter_steps, typed_as_if, typed_pattern, unused_case, expression_field, field_steps, fields_steps, typed_if, turn_steps, bindings_at, bound_pattern, right_at, whole_steps}
-use Rattle.core_typing.proofs.ExpressionLaws.{each_typed, follows_more, operand_missing, operand_there, operation_as, plain_as, skips_arguments}
+use Rattle.expression_steps.specs.ExpressionSteps.{argument_steps, arguments_steps, behind_parts, constructed_steps, expression_at, expression_steps, part_steps, parts_from, recorded_constructor, row_at, steps_as, typed_as, unrecorded_steps, cases_at, expression_case, parameter_steps, typed_as_if, typed_pattern, unused_case, expression_field, field_steps, fields_steps, typed_if, turn_steps, bindings_at, bound_pattern, right_at, whole_steps, form_of}
+use Rattle.expression_steps.proofs.ExpressionLaws.{each_typed, follows_more, operand_missing, operand_there, operation_as, plain_as, skips_arguments, row_of_node}
 use Rattle.pattern_typing.specs.Warnings.{spans_of, unused_steps}
 use Rattle.core_typing.proofs.GroupLaws.{case_lost, case_parts_are, case_there, cases_follow, steps_read, unused_follow, unused_same, done_follows, together_follow, turn_of, turns_follow}
 use Rattle.use_typing.proofs.Reading.{gets_read, same_follows, follows_three}
-use Rattle.env_table.specs.declared.faults.FaultKind.TheVariants as fault
 use Rattle.use_typing.specs.UseSteps.{asks_equal, asks_labels, labels_of, lost_steps}
-use Rattle.pattern_typing.specs.PatternSteps.{pattern_steps}
-use Rattle.core_typing.specs.declared.records.Pieces.{Pieces}
-use Rattle.core_typing.specs.RecordView.{record_parts}
+use Rattle.pattern_steps.specs.PatternSteps.{pattern_steps}
+use Rattle.expression_steps.specs.declared.fields.Pieces.{Pieces}
+use Rattle.expression_steps.specs.RecordView.{record_parts}
 use Rattle.core_typing.proofs.RecordLaws.{field_is, field_lost, record_is}
 use Rattle.typing_state.specs.declared.parts.Parts.{Parts}
 use Rattle.core_typing.specs.Concluding.{conclusion}
 use Rattle.core_typing.proofs.BindingLaws.{first_gets, let_follow, no_token, right_follow, some_token}
 use Rattle.use_typing.specs.Constants.{is_negated}
-use Rattle.core_typing.proofs.LeafLaws.{alone_missing, alone_there, records_silent}
+use Rattle.expression_steps.proofs.LeafLaws.{alone_missing, alone_there, records_silent}
+use Rattle.std.proofs.lemmas.List.{drop_all}
+use Rattle.tree_model.specs.Trees.{inner}
+use Rattle.tree_model.specs.Rows.{eapp_row}
+use Rattle.type_nodes.specs.Views.{numbers}
+use Rattle.typing_model.specs.Parts.{Expression}
+use Rattle.row_parts.specs.declared.slots.Operand.{Operand}
+use Rattle.operand_laws.specs.Operands.{number_of, expression_of}
+use Rattle.operand_laws.proofs.Standing.{expression_of_stands}
+use Rattle.typing_steps.specs.Typing.{TypesTo, TypesRow}
+use Rattle.typing_rows.specs.CarriedRows.{IsCarried}
+use Rattle.typing_rows.specs.Asked.{under_minus, row_expression, expressions_of, signed_expressions, applied_asks, operated_asks, IsPlainRow, end_of}
+use Rattle.typing_rows.specs.Contracts.{TypesAs, TypesGiven, TypesParts, EndsRow, AsksBehind}
+use Rattle.typing_rows.proofs.Going.{filled_carried, operands_carried, all_carried}
+use Rattle.typing_rows.proofs.Recorded.{row_typed, missing_typed}
+use Rattle.typing_rows.proofs.Given.{types_as, types_argument, given_none, given_all, each_none, each_all}
+use Rattle.typing_rows.proofs.Ordered.{part_typed, parts_none, parts_all}
+use Rattle.typing_rows.proofs.Typed.{applied_typed, application_typed, operated_typed, unoperated_typed, paren_typed, ordered_typed, float_typed, signed_row}
+use Rattle.typing_steps.proofs.Rows.{equal_asks}
+use Rattle.expression_steps.proofs.CarryingLaws.{some_none, if_ok, if_any, both_ok, usual_by, by_operation, form_there, paren_row, plain_row, operation_row, operation_missing, minus_float, minus_operation, application_row, operand_no_constructor, argument_typed, each_step, given_step, parts_step, rows_same, by_application, by_minus, by_paren, by_plain, no_annotation, float_there, operator_some, operator_none}
+use Rattle.std.specs.Option.{IfSome}
+use Rattle.expression_steps.specs.Operators.{sign_in, IsSignOf}
+use Rattle.core_typing.proofs.+exprs.Goals.{plain::type_parts-then-place-eq2, plain::type_parts-else-place-eq2}
+use Rattle.expression_steps.specs.declared.forms.RowForm.TheVariants as form
+use Rattle.env_table.specs.declared.faults.FaultKind.TheVariants as fault
 use Rattle.core_typing.proofs.+exprs.Goals as goal
 
 pub exprs::type_each-loop-e-preserved : goal.exprs::type_each-loop-e-preserved
@@ -38,6 +60,7 @@ exprs::type_each-loop-e-preserved t c =
       gets = gets_more (each (λ o. expression_steps (operand_view o)) all) (expression_steps (operand_view x)) (each (λ o. expression_steps (operand_view o)) (drop (i + 1) all)) c.args.at.now c.loop-e.at c.type_under.new.at
           (subst (λ os. GetsOn c.args.at.now c.loop-e.at (each (λ o. expression_steps (operand_view o)) all) (each (λ o. expression_steps (operand_view o)) os)) (drop_read all i x lt c.e-item.is) c.loop-e.invariant.gets)
           c.type_under.ensures.goes c.in_ok-type_under.ensures.follows;
+      carries = each_step c.args.at.now c.loop-e.at c.type_under.new.at c.args.env.now all i c.e-item.result _ lt c.e-item.is c.loop-e.invariant.goes c.loop-e.invariant.carries c.in_ok-type_under.ensures.carries;
     }
 
 pub apply::arguments-loop-one-preserved : goal.apply::arguments-loop-one-preserved
@@ -52,6 +75,7 @@ apply::arguments-loop-one-preserved t c =
       gets = gets_more (arguments_steps at (map expression_at (map operand_view all))) (argument_steps at (expression_at (operand_view x))) (arguments_steps at (map expression_at (map operand_view (drop (i + 1) all)))) c.args.at.now c.loop-one.at c.argument.new.at
           (subst (λ os. GetsOn c.args.at.now c.loop-one.at (arguments_steps at (map expression_at (map operand_view all))) (arguments_steps at (map expression_at (map operand_view os)))) (drop_read all i x lt c.one-item.is) c.loop-one.invariant.gets)
           c.argument.ensures.goes c.in_ok-ty.ensures.follows;
+      carries = given_step c.args.at.now c.loop-one.at c.argument.new.at c.args.env.now (place_of c.args.place) (is_negated c.args.sign) all i c.one-item.result c.args.head.0 c.loop-one.ty.0 c.in_ok-ty.ty.0 lt c.one-item.is c.loop-one.invariant.goes c.loop-one.invariant.carries c.in_ok-ty.ensures.carries;
     }
 
 pub apply::constructed-returns-clause-follows : goal.apply::constructed-returns-clause-follows
@@ -102,7 +126,7 @@ pub apply::operation-returns-clause-follows : goal.apply::operation-returns-clau
 apply::operation-returns-clause-follows t c =
     let items = c.in_ok-given.given.items in
     let tree = node_view c.args.node.now in
-    let none = sym (ap (λ o. option_map (λ x. place_of x.named.span) o) c.in-None.is) ∙ c.in_ok-operator.ensures in
+    let none = sym (ap (λ o. option_map (λ x. place_of x.named.span) o) c.in-None.is) ∙ c.in_ok-operator.ensures.place in
     let typed = subst (λ os. Follows (each (λ o. expression_steps (operand_view o)) os) c.args.at.now c.type_each.new.at) c.deref-in-None.ensures.value c.in_ok-type_each-in-None.ensures.follows in
     let same = sym (each_typed items) ∙ operation_as c.args.number tree None (map operand_view items) none c.in_ok-given.ensures in
     ends_before c.any_type.result (steps_as form.Operation c.args.number tree) c.args.at.now c.type_each.new.at c.any_type.new.at
@@ -134,6 +158,7 @@ plain::type_parts-loop-part-preserved t c =
       gets = gets_more (parts_from r 0 (map expression_at (map operand_view all))) (part_steps r i (expression_at (operand_view x))) (parts_from r (i + 1) (map expression_at (map operand_view (drop (i + 1) all)))) c.args.at.now c.loop-part.at c.type_part.new.at
           (subst (λ os. GetsOn c.args.at.now c.loop-part.at (parts_from r 0 (map expression_at (map operand_view all))) (parts_from r i (map expression_at (map operand_view os)))) (drop_read all i x lt c.part-item.is) c.loop-part.invariant.gets)
           c.type_part.ensures.goes one;
+      carries = parts_step c.args.at.now c.loop-part.at c.type_part.new.at c.args.env.now c.args.inner.now (row_of c.args.row) all i c.len-place.result c.part-item.result c.loop-part.types.items c.push.new.list.items c.in_ok-ty.ty lt c.part-item.is place c.in_ok-push.ensures.pushed c.loop-part.invariant.goes c.loop-part.invariant.carries (λ plain same carried. c.in_ok-ty.ensures.carries plain (elim c.if-place-eq2.branch [ plain::type_parts-then-place-eq2 w ↦ ap (λ b. b.now) w.scope-is ∙ same | plain::type_parts-else-place-eq2 w ↦ ap (λ b. b.now) w.scope-is ]) carried);
     }
 
 pub cases::type_each_case-loop-case-preserved : goal.cases::type_each_case-loop-case-preserved
@@ -354,3 +379,208 @@ bindings::type_group-returns-clause-follows t c =
     (some_token tree c.token.result c.in-Some.field-0 c.token.ensures c.in-Some.is)
     (subst (λ xs. Follows (each lost_steps (map operand_view xs)) begun c.note_missing.new.at) (c.deref.ensures.value ∙ sym c.deref-in-Some.ensures.value) c.in_ok-note_missing.ensures.follows)
     c.together.ensures.goes c.together.ensures.follows)
+
+pub exprs::type_each-loop-e-init : goal.exprs::type_each-loop-e-init
+exprs::type_each-loop-e-init t c = record {
+  goes = goes_refl c.args.at.now;
+  carries = λ all. each_none c.args.at.now c.args.env.now (expressions_of c.args.at.now.item (map operand_view c.args.es.now));
+  gets = gets_start (each (λ o. expression_steps (operand_view o)) c.args.es.now) c.args.at.now;
+}
+
+pub exprs::type_each-returns-clause-carries : goal.exprs::type_each-returns-clause-carries
+exprs::type_each-returns-clause-carries t c = λ all.
+    let view : List Operand → List Expression = λ os. expressions_of c.args.at.now.item (map operand_view os) in
+    each_all c.args.at.now c.loop-e.at c.args.env.now (view c.args.es.now) (view (drop c.loop-e.e-index c.args.es.now)) (ap view (drop_all c.loop-e.e-index c.args.es.now c.loop-e-test.false)) (c.loop-e.invariant.carries all)
+
+pub apply::arguments-loop-one-init : goal.apply::arguments-loop-one-init
+apply::arguments-loop-one-init t c = record {
+  goes = goes_refl c.args.at.now;
+  carries = λ all. given_none c.args.at.now c.args.env.now (place_of c.args.place) (signed_expressions (is_negated c.args.sign) c.args.at.now.item (map operand_view c.args.given.now)) c.args.head.0;
+  gets = gets_start (arguments_steps (place_of c.args.place) (map expression_at (map operand_view c.args.given.now))) c.args.at.now;
+}
+
+pub apply::arguments-returns-clause-carries : goal.apply::arguments-returns-clause-carries
+apply::arguments-returns-clause-carries t c = λ all.
+    let view : List Operand → List Expression = λ os. signed_expressions (is_negated c.args.sign) c.args.at.now.item (map operand_view os) in
+    given_all c.args.at.now c.loop-one.at c.args.env.now (place_of c.args.place) (view c.args.given.now) (view (drop c.loop-one.one-index c.args.given.now)) c.args.head.0 c.loop-one.ty.0
+    (ap view (drop_all c.loop-one.one-index c.args.given.now c.loop-one-test.false)) (c.loop-one.invariant.carries all)
+
+pub plain::type_parts-loop-part-init : goal.plain::type_parts-loop-part-init
+plain::type_parts-loop-part-init t c = record {
+  goes = goes_refl c.args.at.now;
+  places = ap length c.new-types.ensures.items;
+  carries = λ plain same all. parts_none c.args.at.now c.args.env.now (row_of c.args.row) (expressions_of c.args.at.now.item (map operand_view c.args.parts.now)) (numbers c.new-types.result.items) (ap numbers c.new-types.ensures.items);
+  gets = gets_start (parts_from (row_of c.args.row) 0 (map expression_at (map operand_view c.args.parts.now))) c.args.at.now;
+}
+
+pub plain::type_parts-returns-clause-carries : goal.plain::type_parts-returns-clause-carries
+plain::type_parts-returns-clause-carries t c = λ plain same all.
+    let view : List Operand → List Expression = λ os. expressions_of c.args.at.now.item (map operand_view os) in
+    parts_all c.args.at.now c.loop-part.at c.args.env.now (row_of c.args.row) c.loop-part.part-index (view c.args.parts.now) (view (drop c.loop-part.part-index c.args.parts.now)) (numbers c.loop-part.types.items)
+    (ap view (drop_all c.loop-part.part-index c.args.parts.now c.loop-part-test.false)) (c.loop-part.invariant.carries plain same all)
+
+pub exprs::type_under-returns-in_default-clause-carries : goal.exprs::type_under-returns-in_default-clause-carries
+exprs::type_under-returns-in_default-clause-carries t c = λ carried.
+    missing_typed c.args.at.now c.var.new.self c.note_type.new.self c.args.e (is_negated c.args.sign) c.args.env.now c.in_ok-ty.ty c.in_default.is c.in_ok-ty.ensures.made c.var.ensures.rest c.var.ensures.goes c.in_ok-note_type.ensures.noted c.note_type.ensures.rest
+
+pub exprs::type_under-returns-clause-carries : goal.exprs::type_under-returns-clause-carries
+exprs::type_under-returns-clause-carries t c =
+    row_typed c.args.at.now c.typed_row.new.at c.note.new.self c.args.e c.in-Some.node (is_negated c.args.sign) c.args.env.now c.in_ok-used.used.ty
+    (record { env = c.args.env.now; ty = Some c.in_ok-used.used.ty; names = c.in_ok-used.used.names }) c.in-Some.is refl c.in_ok-used.ensures.carries c.typed_row.ensures.goes c.in_ok-note.ensures.noted c.note.ensures.rest
+
+pub apply::typed_argument-returns-clause-carries : goal.apply::typed_argument-returns-clause-carries
+apply::typed_argument-returns-clause-carries t c = λ carried.
+    argument_typed c.args.at.now c.type_under.new.at c.equal.new.self c.args.env.now (is_negated c.args.sign) c.args.at.now.item (operand_view c.args.one) c.in_ok-found.found.0 c.args.from.0 (c.in_ok-found.ensures.carries carried) c.type_under.ensures.goes
+    (equal_asks c.type_under.new.at c.equal.new.self c.args.env.now _ c.in_ok-equal.ensures.verdict c.equal.ensures.rest c.equal.ensures.goes)
+
+pub apply::argument-returns-clause-carries : goal.apply::argument-returns-clause-carries
+apply::argument-returns-clause-carries t c = λ carried.
+    let e : ℕ → Expression = λ i. under_minus (is_negated c.args.sign) (expression_of i (operand_view c.args.one)) in
+    types_argument c.args.at.now c.ask_arrow.new.at c.typed_argument.new.at c.args.env.now (place_of c.args.place) (e c.args.at.now.item) c.args.head.0 c.in_ok-from.from.0 c.in_ok-from.to.0 c.in_ok-from.ensures.carries c.ask_arrow.ensures.goes
+    (subst (λ i. TypesAs c.ask_arrow.new.at c.typed_argument.new.at c.args.env.now (e i) c.in_ok-from.from.0) c.ask_arrow.ensures.goes.item (c.in_ok-typed_argument.ensures.carries carried))
+
+pub apply::applied-returns-clause-carries : goal.apply::applied-returns-clause-carries
+apply::applied-returns-clause-carries t c = λ carried all n.
+    let head = operand_view c.args.head in
+    let os = map operand_view c.args.given.now in
+    subst (λ u. TypesRow c.args.at.now c.arguments.new.at c.args.env.now (applied_asks n (expression_of c.args.at.now.item head) (expressions_of c.args.at.now.item os)) n u.0) (sym c.unnamed.ensures.ty)
+    (applied_typed c.args.at.now c.type_under.new.at c.arguments.new.at c.args.env.now (expression_of c.args.at.now.item head) (λ i. expressions_of i os) (place_of c.args.head.span) c.in_ok-ty.ty.0 c.in_ok-ty-2.ty.0 n (expression_of_stands c.args.at.now.item head).where_it_is
+    (c.in_ok-ty.ensures.carries carried) c.type_under.ensures.goes (c.in_ok-ty-2.ensures.carries all))
+
+pub plain::type_part-returns-clause-carries : goal.plain::type_part-returns-clause-carries
+plain::type_part-returns-clause-carries t c = λ plain same carried.
+    let o = operand_view c.args.part in
+    part_typed c.args.at.now c.type_under.new.at c.behind_part.new.at c.args.env.now (row_of c.args.row) c.args.place (expression_of c.args.at.now.item o) c.in_ok-ty.ty.0
+    (subst (λ env. TypesTo c.args.at.now c.type_under.new.at env (λ k. (expression_of c.args.at.now.item o).typed k) (λ ch. ch.type_at (expression_of c.args.at.now.item o).node) c.in_ok-ty.ty.0) same (c.in_ok-ty.ensures.carries carried)) c.type_under.ensures.goes
+    (subst (λ i. AsksBehind c.type_under.new.at c.behind_part.new.at c.args.env.now (row_of c.args.row) c.args.place (expression_of i o) c.in_ok-ty.ty.0) c.type_under.ensures.goes.item (c.in_ok-behind_part.ensures.carries plain))
+
+pub apply::application-returns-in-Some-clause-carries : goal.apply::application-returns-in-Some-clause-carries
+apply::application-returns-in-Some-clause-carries t c =
+    let head = c.operand_in-head.result in
+    if_any c.constructed.result _ (λ u place carried is.
+    absurd (some_none (path_view c.in-Some.path)
+    (ap (option_map path_view) (sym c.in-Some.is) ∙ c.in_ok-path.ensures ∙ operand_no_constructor (operand_view head) (subst IsCarried (sym c.operand_in-head.ensures) (filled_carried c.args.number place (node_view c.args.node.now) 0 carried)))))
+
+pub apply::application-returns-clause-carries : goal.apply::application-returns-clause-carries
+apply::application-returns-clause-carries t c =
+    if_ok c.applied.result _ _ (λ u h place carried is.
+    application_row c.args.at.now c.applied.new.at c.args.env.now c.args.number place (node_view c.args.node.now) c.operand_in-head.result c.deref-in-None.result.now u.ty.0 carried is c.operand_in-head.ensures (ap (map operand_view) c.deref-in-None.ensures.value ∙ c.in_ok-given.ensures) h) c.applied.ensures.carries
+
+pub apply::operated-returns-clause-carries : goal.apply::operated-returns-clause-carries
+apply::operated-returns-clause-carries t c = λ all n.
+    let os = map operand_view c.args.given.now in
+    operated_typed c.args.at.now c.operator_value.new.at c.arguments.new.at c.args.env.now (tok_of c.args.operator.now.named) (λ i. signed_expressions (is_negated c.args.operator.now.sign) i os) c.in_ok-found.found.ty.0 c.in_ok-ty.ty.0 n
+    (c.in_ok-found.ensures.carries n 0) c.operator_value.ensures.goes (c.in_ok-ty.ensures.carries all)
+
+pub apply::operation-returns-in-Some-clause-carries : goal.apply::operation-returns-in-Some-clause-carries
+apply::operation-returns-in-Some-clause-carries t c =
+    if_ok c.operated.result _ _ (λ u h place carried is.
+    operation_row c.args.at.now c.operated.new.at c.args.env.now c.args.number place (node_view c.args.node.now) c.deref.result.now c.in-Some.operator u.ty.0 carried is
+    (subst (λ o. IfSome o (λ x. IsSignOf (row_at (node_view c.args.node.now)) (sign_in (row_at (node_view c.args.node.now)) (node_view c.args.node.now)) x)) c.in-Some.is c.in_ok-operator.ensures.some)
+    (ap (map operand_view) c.deref.ensures.value ∙ c.in_ok-given.ensures) h) c.operated.ensures.carries
+
+pub apply::operation-returns-clause-carries : goal.apply::operation-returns-clause-carries
+apply::operation-returns-clause-carries t c =
+    if_ok c.any_type.result _ _ (λ u h place carried is.
+    operation_missing c.args.at.now c.type_each.new.at c.any_type.new.at c.args.env.now c.args.number place (node_view c.args.node.now) c.deref-in-None.result.now u.ty.0 carried is (c.in_ok-operator.ensures.none c.in-None.is)
+    (ap (map operand_view) c.deref-in-None.ensures.value ∙ c.in_ok-given.ensures) c.in_ok-type_each-in-None.ensures.carries c.type_each.ensures.goes h) c.any_type.ensures.carries
+
+pub apply::minus-returns-then-is_float-clause-carries : goal.apply::minus-returns-then-is_float-clause-carries
+apply::minus-returns-then-is_float-clause-carries t c =
+    if_ok c.negative_float.result _ _ (λ u h place carried is.
+    minus_float c.args.at.now c.negative_float.new.at c.args.env.now c.args.number place (node_view c.args.node.now) c.operand_in-part.result u.ty carried is c.operand_in-part.ensures (sym c.is_float.ensures ∙ c.if-is_float.true) h.0 h.1)
+    (both_ok c.negative_float.result _ _ c.negative_float.ensures.carries c.negative_float.ensures.ty)
+
+pub apply::minus-returns-clause-carries : goal.apply::minus-returns-clause-carries
+apply::minus-returns-clause-carries t c =
+    if_ok c.operation.result _ _ (λ u h place carried is.
+    h place carried (minus_operation c.args.number (node_view c.args.node.now) c.operand_in-part.result is c.operand_in-part.ensures (sym c.is_float.ensures ∙ c.if-is_float.false))) c.operation.ensures.carries
+
+pub plain::plain-returns-clause-carries : goal.plain::plain-returns-clause-carries
+plain::plain-returns-clause-carries t c =
+    let nd = c.args.node.now in
+    let tree = node_view nd in
+    let os = c.in_ok-parts.parts.items in
+    if_ok c.behind_parts.result _ _ (λ u h place carried is.
+    plain_row c.args.at.now c.type_parts.new.at c.behind_parts.new.at c.args.env.now c.args.number place tree (row_of (out-Node nd).row) os (numbers c.in_ok-types.types.items) u.ty.0 carried is (row_of_node nd) c.in_ok-parts.ensures
+    (λ plain all. subst (λ qs. TypesParts c.args.at.now c.type_parts.new.at c.args.env.now (row_of (out-Node nd).row) (expressions_of c.args.at.now.item (map operand_view qs)) (numbers c.in_ok-types.types.items)) c.deref.ensures.value
+    (c.in_ok-types.ensures.carries plain (c.in_ok-scope.ensures (subst IsPlainRow (sym (row_of_node nd)) plain)) (subst (λ qs. All IsCarried (map operand_view qs)) (sym c.deref.ensures.value) all))) c.type_parts.ensures.goes
+    (subst (λ qs. IsPlainRow (row_at tree) → EndsRow c.type_parts.new.at c.behind_parts.new.at c.args.env.now (end_of (row_at tree) (expressions_of c.type_parts.new.at.item (map operand_view qs))) (expressions_of c.type_parts.new.at.item (map operand_view qs)) (numbers c.in_ok-types.types.items) u.ty.0) c.deref-2.ensures.value
+    (subst (λ ms. IsPlainRow (row_at tree) → EndsRow c.type_parts.new.at c.behind_parts.new.at c.args.env.now (end_of (row_at tree) (expressions_of c.type_parts.new.at.item (map operand_view c.deref-2.result.now))) (expressions_of c.type_parts.new.at.item (map operand_view c.deref-2.result.now)) (numbers ms) u.ty.0) c.deref-3.ensures.value h)))
+    c.behind_parts.ensures.carries
+
+pub plain::parenthesised-returns-clause-carries : goal.plain::parenthesised-returns-clause-carries
+plain::parenthesised-returns-clause-carries t c = λ place carried is.
+    paren_row c.args.at.now c.type_under.new.at c.as_written.new.at c.args.env.now c.args.number place (node_view c.args.node.now) c.operand_in-part.result c.first_operand.result c.in_ok-ty.ty c.in_ok-ty-2.ty c.unnamed.result.ty carried is c.operand_in-part.ensures c.first_operand.ensures
+    c.in_ok-ty.ensures.carries c.in_ok-ty-2.ensures.written c.unnamed.ensures.ty
+
+pub exprs::typed_row-returns-in-Leaf-clause-carries : goal.exprs::typed_row-returns-in-Leaf-clause-carries
+exprs::typed_row-returns-in-Leaf-clause-carries t c =
+    let tree = node_view c.args.node.now in
+    let is : form_of (row_at tree) ≡ form.Leaf = ap form_of (row_of_node c.args.node.now) ∙ sym c.form_of.ensures ∙ c.in-Leaf.is in
+    if_ok c.leaf.result _ _ (λ u h place carried. h place carried is) c.leaf.ensures.carries
+
+pub exprs::typed_row-returns-in-Application-clause-carries : goal.exprs::typed_row-returns-in-Application-clause-carries
+exprs::typed_row-returns-in-Application-clause-carries t c =
+    let tree = node_view c.args.node.now in
+    let is : form_of (row_at tree) ≡ form.Application = ap form_of (row_of_node c.args.node.now) ∙ sym c.form_of.ensures ∙ c.in-Application.is in
+    if_ok c.application.result _ _ (λ u h place carried.
+    signed_row c.args.at.now c.application.new.at c.args.env.now c.args.at.now.item c.args.number place tree (is_negated c.args.sign) u.ty.0 (usual_by c.args.number place tree form.Application carried is tt) (h place carried is)) c.application.ensures.carries
+
+pub exprs::typed_row-returns-in-Operation-clause-carries : goal.exprs::typed_row-returns-in-Operation-clause-carries
+exprs::typed_row-returns-in-Operation-clause-carries t c =
+    let tree = node_view c.args.node.now in
+    let is : form_of (row_at tree) ≡ form.Operation = ap form_of (row_of_node c.args.node.now) ∙ sym c.form_of.ensures ∙ c.in-Operation.is in
+    if_ok c.operation.result _ _ (λ u h place carried.
+    signed_row c.args.at.now c.operation.new.at c.args.env.now c.args.at.now.item c.args.number place tree (is_negated c.args.sign) u.ty.0 (usual_by c.args.number place tree form.Operation carried is tt) (h place carried (by_operation tree _ is))) c.operation.ensures.carries
+
+pub exprs::typed_row-returns-in-Minus-clause-carries : goal.exprs::typed_row-returns-in-Minus-clause-carries
+exprs::typed_row-returns-in-Minus-clause-carries t c =
+    let tree = node_view c.args.node.now in
+    let is : form_of (row_at tree) ≡ form.Minus = ap form_of (row_of_node c.args.node.now) ∙ sym c.form_of.ensures ∙ c.in-Minus.is in
+    if_ok c.minus.result _ _ (λ u h place carried.
+    signed_row c.args.at.now c.minus.new.at c.args.env.now c.args.at.now.item c.args.number place tree (is_negated c.args.sign) u.ty.0 (usual_by c.args.number place tree form.Minus carried is tt) (h place carried is)) c.minus.ensures.carries
+
+pub exprs::typed_row-returns-in-Parenthesised-clause-carries : goal.exprs::typed_row-returns-in-Parenthesised-clause-carries
+exprs::typed_row-returns-in-Parenthesised-clause-carries t c =
+    let tree = node_view c.args.node.now in
+    let is : form_of (row_at tree) ≡ form.Parenthesised = ap form_of (row_of_node c.args.node.now) ∙ sym c.form_of.ensures ∙ c.in-Parenthesised.is in
+    if_ok c.parenthesised.result _ _ (λ u h place carried.
+    signed_row c.args.at.now c.parenthesised.new.at c.args.env.now c.args.at.now.item c.args.number place tree (is_negated c.args.sign) u.ty.0 (usual_by c.args.number place tree form.Parenthesised carried is tt) (h place carried is)) c.parenthesised.ensures.carries
+
+pub exprs::typed_row-returns-in-Plain-clause-carries : goal.exprs::typed_row-returns-in-Plain-clause-carries
+exprs::typed_row-returns-in-Plain-clause-carries t c =
+    let tree = node_view c.args.node.now in
+    let is : form_of (row_at tree) ≡ form.Plain = ap form_of (row_of_node c.args.node.now) ∙ sym c.form_of.ensures ∙ c.in-Plain.is in
+    if_ok c.plain.result _ _ (λ u h place carried.
+    signed_row c.args.at.now c.plain.new.at c.args.env.now c.args.at.now.item c.args.number place tree (is_negated c.args.sign) u.ty.0 (usual_by c.args.number place tree form.Plain carried is tt) (h place carried is)) c.plain.ensures.carries
+
+pub exprs::typed_row-returns-in-Record-clause-carries : goal.exprs::typed_row-returns-in-Record-clause-carries
+exprs::typed_row-returns-in-Record-clause-carries t c =
+    let tree = node_view c.args.node.now in
+    let is : form_of (row_at tree) ≡ form.Record = ap form_of (row_of_node c.args.node.now) ∙ sym c.form_of.ensures ∙ c.in-Record.is in
+    if_any c.record.result _ (λ u place carried. absurd (form_there c.args.number place tree form.Record carried (sym is)))
+
+pub exprs::typed_row-returns-in-Let-clause-carries : goal.exprs::typed_row-returns-in-Let-clause-carries
+exprs::typed_row-returns-in-Let-clause-carries t c =
+    let tree = node_view c.args.node.now in
+    let is : form_of (row_at tree) ≡ form.Let = ap form_of (row_of_node c.args.node.now) ∙ sym c.form_of.ensures ∙ c.in-Let.is in
+    if_any c.let_in.result _ (λ u place carried. absurd (form_there c.args.number place tree form.Let carried (sym is)))
+
+pub exprs::typed_row-returns-in-Match-clause-carries : goal.exprs::typed_row-returns-in-Match-clause-carries
+exprs::typed_row-returns-in-Match-clause-carries t c =
+    let tree = node_view c.args.node.now in
+    let is : form_of (row_at tree) ≡ form.Match = ap form_of (row_of_node c.args.node.now) ∙ sym c.form_of.ensures ∙ c.in-Match.is in
+    if_any c.match_of.result _ (λ u place carried. absurd (form_there c.args.number place tree form.Match carried (sym is)))
+
+pub exprs::typed_row-returns-in-Cases-clause-carries : goal.exprs::typed_row-returns-in-Cases-clause-carries
+exprs::typed_row-returns-in-Cases-clause-carries t c =
+    let tree = node_view c.args.node.now in
+    let is : form_of (row_at tree) ≡ form.Cases = ap form_of (row_of_node c.args.node.now) ∙ sym c.form_of.ensures ∙ c.in-Cases.is in
+    if_any c.function_of_cases.result _ (λ u place carried. absurd (form_there c.args.number place tree form.Cases carried (sym is)))
+
+pub exprs::typed_row-returns-in-Function-clause-carries : goal.exprs::typed_row-returns-in-Function-clause-carries
+exprs::typed_row-returns-in-Function-clause-carries t c =
+    let tree = node_view c.args.node.now in
+    let is : form_of (row_at tree) ≡ form.Function = ap form_of (row_of_node c.args.node.now) ∙ sym c.form_of.ensures ∙ c.in-Function.is in
+    if_any c.function.result _ (λ u place carried. absurd (form_there c.args.number place tree form.Function carried (sym is)))

@@ -5,8 +5,14 @@ use Rattle.row_parts.specs.Numbered.{operand_view}
 use Rattle.typing_state.specs.Goes.{Goes}
 use Rattle.typing_state.specs.Steps.{each, GetsOn}
 use Rattle.pattern_typing.specs.Warnings.{spans_of, unused_steps}
-use Rattle.core_typing.specs.ExpressionSteps.{arguments_steps, expression_at, expression_case, expression_steps, fields_steps, parts_from, turn_steps, unused_case}
+use Rattle.expression_steps.specs.ExpressionSteps.{arguments_steps, expression_at, expression_case, expression_steps, fields_steps, parts_from, turn_steps, unused_case}
 use Rattle.core_typing.specs.Concluding.{conclusion}
+use Rattle.std.specs.Prelude.{All}
+use Rattle.type_nodes.specs.Views.{numbers}
+use Rattle.use_typing.specs.Constants.{is_negated}
+use Rattle.typing_rows.specs.CarriedRows.{IsCarried}
+use Rattle.typing_rows.specs.Asked.{expressions_of, signed_expressions, IsPlainRow}
+use Rattle.typing_rows.specs.Contracts.{TypesFirst, TypesGivenFirst, TypesPartsFirst}
 use Rattle.core_typing.proofs.+exprs.Given as goal
 
 abbrev pub decreases-exprs::type_under : goal.decreases-exprs::type_under
@@ -67,12 +73,14 @@ abbrev pub invariant-exprs::type_each-loop-e : goal.invariant-exprs::type_each-l
 invariant-exprs::type_each-loop-e l = record {
   goes : Goes l.fn.at l.at;
   gets : GetsOn l.fn.at l.at (each (λ o. expression_steps (operand_view o)) l.es) (each (λ o. expression_steps (operand_view o)) (drop l.e-index l.es));
+  carries : All IsCarried (map operand_view l.es) → TypesFirst l.fn.at l.at l.env (expressions_of l.fn.at.item (map operand_view l.es)) (expressions_of l.fn.at.item (map operand_view (drop l.e-index l.es)));
 }
 
 abbrev pub invariant-apply::arguments-loop-one : goal.invariant-apply::arguments-loop-one
 invariant-apply::arguments-loop-one l = record {
   goes : Goes l.fn.at l.at;
   gets : GetsOn l.fn.at l.at (arguments_steps (place_of l.place) (map expression_at (map operand_view l.given))) (arguments_steps (place_of l.place) (map expression_at (map operand_view (drop l.one-index l.given))));
+  carries : All IsCarried (map operand_view l.given) → TypesGivenFirst l.fn.at l.at l.env (place_of l.place) (signed_expressions (is_negated l.sign) l.fn.at.item (map operand_view l.given)) (signed_expressions (is_negated l.sign) l.fn.at.item (map operand_view (drop l.one-index l.given))) l.fn.head.0 l.ty.0;
 }
 
 abbrev pub invariant-plain::type_parts-loop-part : goal.invariant-plain::type_parts-loop-part
@@ -80,6 +88,7 @@ invariant-plain::type_parts-loop-part l = record {
   goes : Goes l.fn.at l.at;
   places : length l.types.items ≡ l.part-index;
   gets : GetsOn l.fn.at l.at (parts_from (row_of l.row) 0 (map expression_at (map operand_view l.parts))) (parts_from (row_of l.row) l.part-index (map expression_at (map operand_view (drop l.part-index l.parts))));
+  carries : IsPlainRow (row_of l.row) → l.inner ≡ l.env → All IsCarried (map operand_view l.parts) → TypesPartsFirst l.fn.at l.at l.env (row_of l.row) l.part-index (expressions_of l.fn.at.item (map operand_view l.parts)) (expressions_of l.fn.at.item (map operand_view (drop l.part-index l.parts))) (numbers l.types.items);
 }
 
 abbrev pub decreases-cases::match_of : goal.decreases-cases::match_of

@@ -3,7 +3,7 @@ use Rattle.row_parts.specs.Numbered.{operand_view}
 use Rattle.typing_state.specs.Steps.{each}
 use Rattle.typing_state.proofs.Going.{goes_trans}
 use Rattle.core_typing.specs.Concluding.{conclusion}
-use Rattle.core_typing.specs.ExpressionSteps.{concluded_steps, expression_at, opened_steps}
+use Rattle.expression_steps.specs.ExpressionSteps.{concluded_steps, expression_at, opened_steps}
 use Rattle.core_typing.proofs.GroupLaws.{steps_read}
 use Rattle.use_typing.proofs.Reading.{gets_read}
 use Rattle.core_typing.proofs.bindings.open_all.Goals as goal

@@ -1,6 +1,6 @@
 use Rattle.std.proofs.Common.{ap}
 use Rattle.syntax_tree.specs.View.{node_view}
-use Rattle.core_typing.specs.ExpressionSteps.{concluded_at}
+use Rattle.expression_steps.specs.ExpressionSteps.{concluded_at}
 use Rattle.core_typing.proofs.GroupLaws.{one_left}
 use Rattle.core_typing.proofs.bindings.open_if.Goals as goal
 

@@ -5,7 +5,7 @@ use Rattle.env_table.specs.declared.faults.FaultKind.TheVariants as fault
 use Rattle.typing_state.specs.Steps.{asks, Follows}
 use Rattle.typing_state.proofs.Following.{ends_both}
 use Rattle.use_typing.specs.UseSteps.{asks_equal}
-use Rattle.core_typing.specs.ExpressionSteps.{whole_steps}
+use Rattle.expression_steps.specs.ExpressionSteps.{whole_steps}
 use Rattle.core_typing.proofs.bindings.pattern_has.Goals as goal
 
 pub returns-clause-follows : goal.returns-clause-follows

@@ -4,7 +4,7 @@ use Rattle.typing_state.specs.Steps.{each, GetsOn}
 use Rattle.typing_state.proofs.Going.{goes_trans}
 use Rattle.typing_state.proofs.Following.{gets_more}
 use Rattle.type_reading.proofs.TypeLaws.{drop_read}
-use Rattle.core_typing.specs.ExpressionSteps.{parameter_steps}
+use Rattle.expression_steps.specs.ExpressionSteps.{parameter_steps}
 use Rattle.core_typing.proofs.functions.type_parameters.Goals as goal
 
 pub loop-parameter-preserved : goal.loop-parameter-preserved

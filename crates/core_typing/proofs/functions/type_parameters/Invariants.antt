@@ -2,7 +2,7 @@ use Rattle.std.proofs.Common.{map, drop}
 use Rattle.row_parts.specs.Numbered.{operand_view}
 use Rattle.typing_state.specs.Goes.{Goes}
 use Rattle.typing_state.specs.Steps.{each, GetsOn}
-use Rattle.core_typing.specs.ExpressionSteps.{parameter_steps}
+use Rattle.expression_steps.specs.ExpressionSteps.{parameter_steps}
 use Rattle.core_typing.proofs.functions.type_parameters.Given as goal
 
 abbrev pub invariant-loop-parameter : goal.invariant-loop-parameter

@@ -13,7 +13,7 @@ use Rattle.typing_state.proofs.Going.{goes_refl, goes_trans}
 use Rattle.typing_state.proofs.Following.{ends_both, follows_before, follows_both, follows_none, gets_more, gets_done, store_silent}
 use Rattle.type_reading.proofs.TypeLaws.{drop_read}
 use Rattle.use_typing.specs.UseSteps.{annotation_steps, asks_equal, asks_equal_if, asks_labels, asks_token, labels_of, lost_steps, path_at, range_steps}
-use Rattle.pattern_typing.specs.PatternSteps.{construction_steps, field_pattern_steps, field_pattern_names, last_of, later, match_each, name_of, names_in, names_of, names_of_first, names_of_tree, parts_of_pattern, pattern_names, pattern_or_missing, pattern_steps, side_at, sides_beside, sides_of}
+use Rattle.pattern_steps.specs.PatternSteps.{construction_steps, field_pattern_steps, field_pattern_names, last_of, later, match_each, name_of, names_in, names_of, names_of_first, names_of_tree, parts_of_pattern, pattern_names, pattern_or_missing, pattern_steps, side_at, sides_beside, sides_of}
 use Rattle.pattern_typing.specs.Matching.{Binds, side_view, tokens_of, typed_view}
 use Rattle.pattern_typing.specs.declared.patterns.TypedPart.{TypedPart}
 use Rattle.pattern_typing.proofs.Binding.{binds_both, binds_none}

@@ -2,7 +2,7 @@ use Rattle.std.proofs.Common.{map, drop, ◌+◌, ◌*◌, ◌≡◌, ◌++◌}
 use Rattle.row_parts.specs.Numbered.{operand_view}
 use Rattle.typing_state.specs.Goes.{Goes}
 use Rattle.typing_state.specs.Steps.{each, GetsOn}
-use Rattle.pattern_typing.specs.PatternSteps.{pattern_steps, pattern_names, field_pattern_steps, field_pattern_names, names_in, side_at}
+use Rattle.pattern_steps.specs.PatternSteps.{pattern_steps, pattern_names, field_pattern_steps, field_pattern_names, names_in, side_at}
 use Rattle.pattern_typing.specs.Matching.{tokens_of, side_view, typed_view}
 use Rattle.pattern_typing.proofs.patterns.+patterns.Given as goal
 

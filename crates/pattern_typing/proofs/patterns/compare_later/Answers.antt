@@ -3,7 +3,7 @@ use Rattle.typing_state.specs.Steps.{each, GetsOn}
 use Rattle.typing_state.proofs.Going.{goes_trans}
 use Rattle.typing_state.proofs.Following.{gets_more}
 use Rattle.type_reading.proofs.TypeLaws.{drop_read}
-use Rattle.pattern_typing.specs.PatternSteps.{beside}
+use Rattle.pattern_steps.specs.PatternSteps.{beside}
 use Rattle.pattern_typing.specs.Matching.{side_view}
 use Rattle.pattern_typing.proofs.patterns.compare_later.Goals as goal
 

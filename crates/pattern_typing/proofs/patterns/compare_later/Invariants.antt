@@ -1,7 +1,7 @@
 use Rattle.std.proofs.Common.{map, drop}
 use Rattle.typing_state.specs.Goes.{Goes}
 use Rattle.typing_state.specs.Steps.{each, GetsOn}
-use Rattle.pattern_typing.specs.PatternSteps.{beside}
+use Rattle.pattern_steps.specs.PatternSteps.{beside}
 use Rattle.pattern_typing.specs.Matching.{side_view}
 use Rattle.pattern_typing.proofs.patterns.compare_later.Given as goal
 

@@ -6,7 +6,7 @@ use Rattle.type_reading.proofs.TypeLaws.{drop_read}
 use Rattle.syntax_tree.specs.View.{tok_of}
 use Rattle.env_table.specs.declared.faults.FaultKind.TheVariants as fault
 use Rattle.use_typing.specs.UseSteps.{asks_token}
-use Rattle.pattern_typing.specs.PatternSteps.{common_names, find_name}
+use Rattle.pattern_steps.specs.PatternSteps.{common_names, find_name}
 use Rattle.pattern_typing.specs.Matching.{tokens_of}
 use Rattle.pattern_typing.proofs.patterns.compare_names.Goals as goal
 

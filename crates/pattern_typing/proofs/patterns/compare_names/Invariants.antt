@@ -1,7 +1,7 @@
 use Rattle.std.proofs.Common.{drop}
 use Rattle.typing_state.specs.Goes.{Goes}
 use Rattle.typing_state.specs.Steps.{GetsOn}
-use Rattle.pattern_typing.specs.PatternSteps.{common_names}
+use Rattle.pattern_steps.specs.PatternSteps.{common_names}
 use Rattle.pattern_typing.specs.Matching.{tokens_of}
 use Rattle.pattern_typing.proofs.patterns.compare_names.Given as goal
 

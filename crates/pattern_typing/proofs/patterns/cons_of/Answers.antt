@@ -5,7 +5,7 @@ use Rattle.typing_state.specs.Steps.{Follows, HasNoRecord}
 use Rattle.typing_state.proofs.Following.{ends_silent, follows_behind, store_silent}
 use Rattle.pattern_typing.specs.declared.patterns.TypedPart.{TypedPart}
 use Rattle.use_typing.specs.UseSteps.{asks_equal, asks_equal_if}
-use Rattle.pattern_typing.specs.PatternSteps.{last_of}
+use Rattle.pattern_steps.specs.PatternSteps.{last_of}
 use Rattle.pattern_typing.specs.Matching.{typed_view}
 use Rattle.pattern_typing.proofs.patterns.cons_of.Goals as goal
 

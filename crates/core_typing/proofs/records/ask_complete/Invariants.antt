@@ -1,6 +1,0 @@
-use Rattle.typing_state.specs.Goes.{Goes}
-use Rattle.typing_state.specs.Steps.{Silent}
-use Rattle.core_typing.proofs.records.ask_complete.Given as goal
-
-abbrev pub invariant-loop-label : goal.invariant-loop-label
-invariant-loop-label l = Goes l.fn.at l.at × Silent l.fn.at l.at

@@ -1,0 +1,5 @@
+-- The laws of the steps of expressions, and of the ends of rows.
+pub mod ExpressionLaws
+pub mod LeafLaws
+pub mod CarryingLaws
+pub mod EndingLaws

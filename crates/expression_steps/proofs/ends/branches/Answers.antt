@@ -1,0 +1,48 @@
+use Rattle.std.proofs.Common.{sym, subst, ◌<◌, ◌≤◌, length, map, refl, arith}
+use Rattle.typing_state.specs.Steps.{Follows, each}
+use Rattle.expression_steps.specs.ExpressionSteps.{has_type}
+use Rattle.expression_steps.proofs.ExpressionLaws.{asked_third, asked_second}
+use Rattle.std.proofs.lemmas.Option.{slice_get_read}
+use Rattle.type_nodes.specs.Views.{numbers}
+use Rattle.row_parts.specs.Numbered.{operand_view}
+use Rattle.typing_rows.specs.Asked.{expressions_of}
+use Rattle.typing_steps.proofs.Rows.{var_any}
+use Rattle.expression_steps.proofs.CarryingLaws.{if_ok, number_here, number_missing, past_end}
+use Rattle.expression_steps.proofs.EndingLaws.{parts_count, else_ends, then_ends, if_empty}
+use Rattle.expression_steps.proofs.ends.branches.Goals as goal
+
+pub returns-in_ok-has-clause-follows : goal.returns-in_ok-has-clause-follows
+returns-in_ok-has-clause-follows c =
+    subst (λ es. Follows (each has_type es) c.args.at.now c.has.new.at) (sym (asked_third c.args.parts.now c.if-parts-gt2.true)) c.in_ok-has.ensures.follows
+
+pub returns-in_ok-has-2-clause-follows : goal.returns-in_ok-has-2-clause-follows
+returns-in_ok-has-2-clause-follows c =
+    subst (λ es. Follows (each has_type es) c.args.at.now c.has-else-parts-gt2.new.at) (sym (asked_second c.args.parts.now c.if-parts-gt2.false)) c.in_ok-has-2.ensures.follows
+
+pub returns-in_ok-has-clause-carries : goal.returns-in_ok-has-clause-carries
+returns-in_ok-has-clause-carries c =
+    let types = c.args.types.now in
+    let parts = c.args.parts.now in
+    let i = c.args.at.now.item in
+    let h = c.in-Some.ensures.lookup in
+    let lt : 1 < length types = let n = h.0 in grind (arith) in
+    else_ends c.args.at.now c.has.new.at c.args.env.now (expressions_of i (map operand_view parts)) (numbers types) c.in-Some.yes.now.0 (subst (λ n. 2 < n) (sym (parts_count i parts)) c.if-parts-gt2.true)
+    (number_here types 1 c.in-Some.yes.now (slice_get_read types (length types) 1 c.in-Some.yes.now refl lt h.1)) c.in_ok-has.ensures.carries
+
+pub returns-in_ok-has-2-clause-carries : goal.returns-in_ok-has-2-clause-carries
+returns-in_ok-has-2-clause-carries c =
+    let types = c.args.types.now in
+    let parts = c.args.parts.now in
+    let i = c.args.at.now.item in
+    let h = c.in-Some.ensures.lookup in
+    let lt : 1 < length types = let n = h.0 in grind (arith) in
+    then_ends c.args.at.now c.has-else-parts-gt2.new.at c.args.env.now (expressions_of i (map operand_view parts)) (numbers types) c.in-Some.yes.now.0 (subst (λ n. n ≤ 2) (sym (parts_count i parts)) c.if-parts-gt2.false)
+    (number_here types 1 c.in-Some.yes.now (slice_get_read types (length types) 1 c.in-Some.yes.now refl lt h.1)) c.in_ok-has-2.ensures.carries
+
+pub returns-in_default-clause-carries : goal.returns-in_default-clause-carries
+returns-in_default-clause-carries c =
+    let types = c.args.types.now in
+    let h = c.in_default.ensures.lookup in
+    let le : length types ≤ 1 = let n = h.0 in grind (arith) in
+    if_ok c.var.result _ _ (λ m made.
+    if_empty c.args.at.now c.var.new.self c.args.env.now (expressions_of c.args.at.now.item (map operand_view c.args.parts.now)) (numbers types) m.0 (number_missing types 1 (past_end types 1 le)) (var_any c.args.at.now c.var.new.self made c.var.ensures.rest)) c.var.ensures.made

@@ -1,0 +1,9 @@
+use Rattle.syntax_tree.specs.View.{place_of}
+use Rattle.typing_steps.proofs.Rows.{equal_asks}
+use Rattle.typing_rows.proofs.Given.{head_is_arrow}
+use Rattle.expression_steps.proofs.heads.ask_arrow.Goals as goal
+
+pub returns-clause-carries : goal.returns-clause-carries
+returns-clause-carries c =
+    head_is_arrow c.args.at.now c.two_types.new.at c.arrow.new.self c.equal.new.self c.args.env.now (place_of c.args.place) c.args.head.0 c.in_ok-arrow.arrow.0 c.in_ok-from.from.0 c.in_ok-from.to.0 c.in_ok-from.ensures.carries c.two_types.ensures.goes c.in_ok-arrow.ensures.made c.arrow.ensures.rest
+    (equal_asks c.arrow.new.self c.equal.new.self c.args.env.now _ c.in_ok-equal.ensures.verdict c.equal.ensures.rest c.equal.ensures.goes)

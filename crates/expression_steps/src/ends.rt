@@ -1,0 +1,219 @@
+//! What is asked behind all parts of a row whose parts are typed in order: its type, with the demands between its parts.
+#![tactic(auto, using(typing_state::proofs::Going::goes_trans, typing_state::proofs::Going::goes_refl, typing_state::proofs::Following::follows_both, typing_state::proofs::Following::follows_before, typing_state::proofs::Following::follows_behind, typing_state::proofs::Following::follows_none, typing_state::proofs::Following::follows_silent, typing_state::proofs::Following::store_silent, typing_state::proofs::Following::silent_refl, typing_state::proofs::Following::silent_trans, typing_state::proofs::Following::ends_both, typing_state::proofs::Following::ends_behind, typing_state::proofs::Following::ends_before, typing_state::proofs::Following::ends_silent, typing_state::proofs::Following::gets_start, typing_state::proofs::Following::gets_more, typing_state::proofs::Following::gets_before, typing_state::proofs::Following::gets_done, crate::proofs::ExpressionLaws::types_no_record, crate::proofs::ExpressionLaws::token_no_record), unfolding(syntax_tree::specs::Names::row_of))]
+
+ghost use Rattle.std.specs.Prelude.{map, IfOk, OnOk};
+ghost use Rattle.tree_model.specs.Rows.{elist_row, econs_row, eif_row};
+ghost use Rattle.type_nodes.specs.Views.{numbers};
+ghost use Rattle.typing_rows.specs.Asked.{expressions_of, IsPlainRow, end_of};
+ghost use Rattle.typing_rows.specs.Contracts.{EndsRow, AsksAt, AsksLater};
+ghost use Rattle.syntax_tree.specs.Names.{row_of};
+ghost use Rattle.syntax_tree.specs.View.{node_view};
+ghost use Rattle.row_parts.specs.Numbered.{operand_view, path_in};
+ghost use Rattle.typing_state.specs.Goes.{Goes};
+ghost use Rattle.typing_state.specs.Steps.{each, Follows};
+ghost use Rattle.pattern_steps.specs.PatternSteps.{later};
+ghost use Rattle.expression_steps.specs.ExpressionSteps.{asked_behind, asked_branch, behind_parts, expression_at, has_type, label_steps, part_at, row_at};
+
+use crate::values::is_false;
+use row_parts::{Operand, written_path};
+use syntax_tree::{Node, RowName};
+use typing_state::{Env, NoMemory, NodeRef, Parts};
+use use_typing::{Names, Used, field_label, type_or_var};
+
+/// What is asked behind all parts of a row: its type and its names.
+pub fn behind_parts(
+    at: &mut Parts,
+    node: &Node,
+    parts: &[Operand<'_>],
+    types: &[NodeRef],
+    names: Names,
+    env: &Env,
+) -> Result<Used, NoMemory>
+    ensures carries { IfOk result (λ u. IsPlainRow (row_at (node_view node.now)) → EndsRow at.old at.new env.now (end_of (row_at (node_view node.now)) (expressions_of at.old.item (map operand_view parts.now))) (expressions_of at.old.item (map operand_view parts.now)) (numbers types.now) u.ty.0) }
+    ensures follows { OnOk result (Follows (behind_parts (row_at (node_view node.now)) (node_view node.now) (map expression_at (map operand_view parts.now))) at.old at.new) }
+    ensures goes { Goes at.old at.new }
+{
+    match node.row {
+        RowName::Field => field(at, node, parts, types, env),
+        _ => {
+            let ty = type_of(at, node.row, parts, types, env)?;
+            Ok(Used { ty, names })
+        }
+    }
+}
+
+/// The type of a row that has no path of its own.
+fn type_of(
+    at: &mut Parts,
+    row: RowName,
+    parts: &[Operand<'_>],
+    types: &[NodeRef],
+    env: &Env,
+) -> Result<NodeRef, NoMemory>
+    ensures carries { IfOk result (λ m. IsPlainRow (row_of row) → EndsRow at.old at.new env.now (end_of (row_of row) (expressions_of at.old.item (map operand_view parts.now))) (expressions_of at.old.item (map operand_view parts.now)) (numbers types.now) m.0) }
+    ensures follows { OnOk result (Follows (each has_type (asked_behind (row_of row) (map expression_at (map operand_view parts.now)))) at.old at.new) }
+    ensures goes { Goes at.old at.new }
+{
+    match row {
+        RowName::Ebegin => match types.first() {
+            Some(ty) => Ok(*ty),
+            None => Ok(at.constants.unit),
+        },
+        RowName::Elist => list(at, parts, types, env),
+        RowName::Econs => cons(at, parts, types, env),
+        RowName::Etuple => at.tuple(types),
+        RowName::Eseq => type_or_var(at, types.last().copied()),
+        RowName::Eset => set(at, parts, types, env),
+        RowName::Eif => branches(at, parts, types, env),
+        RowName::Eassert => match parts.first() {
+            Some(part) if is_false(*part) => at.var(),
+            _ => Ok(at.constants.unit),
+        },
+        RowName::Ewhile | RowName::Efor => Ok(at.constants.unit),
+        _ => at.var(),
+    }
+}
+
+/// The demand that the part at a place has a type.
+fn has(
+    at: &mut Parts,
+    parts: &[Operand<'_>],
+    types: &[NodeRef],
+    place: usize,
+    wanted: NodeRef,
+    env: &Env,
+) -> Result<(), NoMemory>
+    ensures carries { OnOk result (AsksAt at.old at.new env.now (expressions_of at.old.item (map operand_view parts.now)) (numbers types.now) place wanted.0) }
+    ensures follows { OnOk result (Follows (each has_type (part_at place (map expression_at (map operand_view parts.now)))) at.old at.new) }
+    ensures goes { Goes at.old at.new }
+{
+    if let Some(part) = parts.get(place) {
+        if let Some(ty) = types.get(place) {
+            at.equal(part.span, *ty, wanted, env)?;
+        }
+    }
+    Ok(())
+}
+
+/// [ e; e ]: each part behind the first has its type
+fn list(
+    at: &mut Parts,
+    parts: &[Operand<'_>],
+    types: &[NodeRef],
+    env: &Env,
+) -> Result<NodeRef, NoMemory>
+    ensures carries { IfOk result (λ m. EndsRow at.old at.new env.now (end_of elist_row (expressions_of at.old.item (map operand_view parts.now))) (expressions_of at.old.item (map operand_view parts.now)) (numbers types.now) m.0) }
+    ensures follows { OnOk result (Follows (each has_type (later (map expression_at (map operand_view parts.now)))) at.old at.new) }
+    ensures goes { Goes at.old at.new }
+{
+    let element = type_or_var(at, types.first().copied())?;
+    later_have(at, parts, types, element, env)?;
+    at.list(element)
+}
+
+/// The demand that each part behind the first has a type.
+fn later_have(
+    at: &mut Parts,
+    parts: &[Operand<'_>],
+    types: &[NodeRef],
+    wanted: NodeRef,
+    env: &Env,
+) -> Result<(), NoMemory>
+    ensures carries { OnOk result (AsksLater at.old at.new env.now (expressions_of at.old.item (map operand_view parts.now)) (numbers types.now) wanted.0) }
+    ensures follows { OnOk result (Follows (each has_type (later (map expression_at (map operand_view parts.now)))) at.old at.new) }
+    ensures goes { Goes at.old at.new }
+{
+    for place in 1..parts.len() {
+        has(at, parts, types, place, wanted, env)?;
+    }
+    Ok(())
+}
+
+/// e :: e: the right part is a list of the left
+fn cons(
+    at: &mut Parts,
+    parts: &[Operand<'_>],
+    types: &[NodeRef],
+    env: &Env,
+) -> Result<NodeRef, NoMemory>
+    ensures carries { IfOk result (λ m. EndsRow at.old at.new env.now (end_of econs_row (expressions_of at.old.item (map operand_view parts.now))) (expressions_of at.old.item (map operand_view parts.now)) (numbers types.now) m.0) }
+    ensures follows { OnOk result (Follows (each has_type (part_at 1 (map expression_at (map operand_view parts.now)))) at.old at.new) }
+    ensures goes { Goes at.old at.new }
+{
+    match types.first() {
+        Some(left) => {
+            let whole = at.list(*left)?;
+            has(at, parts, types, 1, whole, env)?;
+            Ok(whole)
+        }
+        None => at.var(),
+    }
+}
+
+/// if e then e else e; without `else` the part is a unit
+fn branches(
+    at: &mut Parts,
+    parts: &[Operand<'_>],
+    types: &[NodeRef],
+    env: &Env,
+) -> Result<NodeRef, NoMemory>
+    ensures carries { IfOk result (λ m. EndsRow at.old at.new env.now (end_of eif_row (expressions_of at.old.item (map operand_view parts.now))) (expressions_of at.old.item (map operand_view parts.now)) (numbers types.now) m.0) }
+    ensures follows { OnOk result (Follows (each has_type (asked_branch (map expression_at (map operand_view parts.now)))) at.old at.new) }
+    ensures goes { Goes at.old at.new }
+{
+    let Some(yes) = types.get(1) else {
+        return at.var();
+    };
+    if parts.len() > 2 {
+        has(at, parts, types, 2, *yes, env)?;
+        Ok(*yes)
+    } else {
+        let unit = at.constants.unit;
+        has(at, parts, types, 1, unit, env)?;
+        Ok(unit)
+    }
+}
+
+/// e . l <- e: the right part is the field
+fn set(
+    at: &mut Parts,
+    parts: &[Operand<'_>],
+    types: &[NodeRef],
+    env: &Env,
+) -> Result<NodeRef, NoMemory>
+    ensures follows { OnOk result (Follows (each has_type (part_at 1 (map expression_at (map operand_view parts.now)))) at.old at.new) }
+    ensures goes { Goes at.old at.new }
+{
+    if let Some(ty) = types.first() {
+        has(at, parts, types, 1, *ty, env)?;
+    }
+    Ok(at.constants.unit)
+}
+
+/// e . l: `bound` of the label; the left part is the record; the field
+fn field(
+    at: &mut Parts,
+    node: &Node,
+    parts: &[Operand<'_>],
+    types: &[NodeRef],
+    env: &Env,
+) -> Result<Used, NoMemory>
+    ensures follows { OnOk result (Follows (label_steps (path_in (node_view node.now) 2 3) (map expression_at (map operand_view parts.now))) at.old at.new) }
+    ensures goes { Goes at.old at.new }
+{
+    let path = written_path(at.alloc(), node, 2, 3)?;
+    let (found, names) = field_label(at, env, &path)?;
+    match found {
+        Some(label) => {
+            has(at, parts, types, 0, label.record, env)?;
+            Ok(Used {
+                ty: label.field,
+                names,
+            })
+        }
+        None => Ok(Used {
+            ty: at.var()?,
+            names,
+        }),
+    }
+}

@@ -1,0 +1,176 @@
+//! Records: their type by their labels, fields without a value, and whether all labels are written.
+#![tactic(auto, using(typing_state::proofs::Going::goes_trans, typing_state::proofs::Going::goes_refl, typing_state::proofs::Following::follows_both, typing_state::proofs::Following::follows_then, typing_state::proofs::Following::follows_before, typing_state::proofs::Following::follows_behind, typing_state::proofs::Following::follows_none, typing_state::proofs::Following::follows_silent, typing_state::proofs::Following::store_silent, typing_state::proofs::Following::silent_refl, typing_state::proofs::Following::silent_trans, typing_state::proofs::Following::ends_both, typing_state::proofs::Following::ends_behind, typing_state::proofs::Following::ends_before, typing_state::proofs::Following::ends_silent, typing_state::proofs::Following::gets_start, typing_state::proofs::Following::gets_more, typing_state::proofs::Following::gets_before, typing_state::proofs::Following::gets_done))]
+
+ghost use Rattle.std.specs.Prelude.{[], ◌∷◌, ◌++◌, map, OnOk};
+ghost use Rattle.syntax_tree.specs.View.{place_of};
+ghost use Rattle.row_parts.specs.Numbered.{operand_view, path_view};
+ghost use Rattle.env_table.specs.declared.faults.FaultKind.{FaultKind};
+ghost use Rattle.typing_state.specs.Goes.{Goes};
+ghost use Rattle.typing_state.specs.Steps.{asks, each, records, Follows, Silent};
+ghost use Rattle.use_typing.specs.UseSteps.{asks_labels, labels_of, lost_steps};
+ghost use Rattle.expression_steps.specs.ExpressionSteps.{pun_steps};
+
+use row_parts::{Operand, WrittenPath};
+use std::rc::Rc;
+use syntax_tree::{Span, Token};
+use typing_state::{Entry, Env, NoMemory, NodeRef, Parts};
+use use_typing::{
+    Fields, Names, RecordType, Used, equal_if, labels_behind, labels_in, note_missing,
+    record_of_labels, type_or_var, unnamed, value,
+};
+
+/// What a record has: where it stands, its first part, the value behind that, and its fields.
+#[derive(Drop)]
+pub struct Pieces<'a> {
+    pub span: Span,
+    pub first: Operand<'a>,
+    pub value: Option<Operand<'a>>,
+    pub fields: Vec<Operand<'a>>,
+}
+
+/// The type of a record that is made, by its labels, behind the fields that are missing.
+pub fn record_of_made<'a>(
+    at: &mut Parts,
+    pieces: &Pieces<'a>,
+    label: &WrittenPath<'a>,
+    env: &Env,
+) -> Result<RecordType, NoMemory>
+    ensures follows { OnOk result (Follows (each lost_steps (map operand_view pieces.now.fields.items) ++ asks_labels (path_view label.now ∷ labels_of (map operand_view pieces.now.fields.items))) at.old at.new) }
+    ensures goes { Goes at.old at.new }
+{
+    note_missing(at, &pieces.fields, env)?;
+    let labels = labels_behind(at, label, &pieces.fields)?;
+    record_of_labels(at, env, &labels)
+}
+
+/// No fields so far of a record.
+pub fn fields_in<'a>(at: &Parts, found: RecordType) -> Fields<'a> {
+    Fields {
+        found,
+        labels: Vec::new(at.alloc()),
+    }
+}
+
+/// The demand that the first part of a record that is made is a label, and the fields that are missing.
+pub fn begin_loose(at: &mut Parts, pieces: &Pieces<'_>, env: &Env) -> Result<(), NoMemory>
+    ensures follows { OnOk result (Follows (asks FaultKind.Label (place_of pieces.now.first.span ∷ []) ∷ each lost_steps (map operand_view pieces.now.fields.items)) at.old at.new) }
+    ensures goes { Goes at.old at.new }
+{
+    ask_label(at, pieces.first)?;
+    note_missing(at, &pieces.fields, env)
+}
+
+/// The demand that the first part of a record that is made is a label, where it is there.
+fn ask_label(at: &mut Parts, first: Operand<'_>) -> Result<(), NoMemory>
+    ensures follows { OnOk result (Follows (asks FaultKind.Label (place_of first.entry.span ∷ []) ∷ []) at.old at.new) }
+    ensures goes { Goes at.old at.new }
+{
+    match first.node {
+        Some(_) => at.no_label(first.span),
+        None => Ok(()),
+    }
+}
+
+/// A field without a value of its own: the value of its label's name, which is the field.
+pub fn pun(
+    at: &mut Parts,
+    number: u32,
+    label: &WrittenPath<'_>,
+    wanted: Option<NodeRef>,
+    env: &Env,
+) -> Result<(), NoMemory>
+    ensures follows { OnOk result (Follows (pun_steps number (path_view label.now).last) at.old at.new) }
+    ensures goes { Goes at.old at.new }
+{
+    match label.last {
+        None => at.note_plain(number, env),
+        Some(last) => pun_of(at, number, label, last, wanted, env),
+    }
+}
+
+/// The same by the last token of the label.
+fn pun_of(
+    at: &mut Parts,
+    number: u32,
+    label: &WrittenPath<'_>,
+    last: &Token,
+    wanted: Option<NodeRef>,
+    env: &Env,
+) -> Result<(), NoMemory>
+    ensures follows { OnOk result (Follows (asks FaultKind.Bound (place_of last.now.span ∷ []) ∷ asks FaultKind.Equal (place_of last.now.span ∷ []) ∷ records number ∷ []) at.old at.new) }
+    ensures goes { Goes at.old at.new }
+{
+    let used = value_of_name(at, last, wanted, env)?;
+    let names = at.seen_names(env, label, last_entry(&used.names))?;
+    at.note(number, env, None, names)
+}
+
+/// What the last of some names stands for.
+fn last_entry(names: &Names) -> Option<&Rc<Entry>> {
+    match names.last() {
+        Some(entry) => entry.as_ref(),
+        None => None,
+    }
+}
+
+/// The value of a name, which has the wanted type, where one is wanted.
+fn value_of_name(
+    at: &mut Parts,
+    name: &Token,
+    wanted: Option<NodeRef>,
+    env: &Env,
+) -> Result<Used, NoMemory>
+    ensures follows { OnOk result (Follows (asks FaultKind.Bound (place_of name.now.span ∷ []) ∷ asks FaultKind.Equal (place_of name.now.span ∷ []) ∷ []) at.old at.new) }
+    ensures goes { Goes at.old at.new }
+{
+    let path = WrittenPath {
+        qualifiers: Vec::new(at.alloc()),
+        last: Some(name),
+    };
+    let used = value(at, env, &path)?;
+    equal_if(at, name.span, used.ty, wanted, env)?;
+    Ok(used)
+}
+
+/// `complete` of a record that is made at a place: the first label of the declaration that isn't written. The type of the record.
+pub fn complete(at: &mut Parts, fields: &Fields<'_>, span: Span) -> Result<Used, NoMemory>
+    ensures follows { OnOk result (Follows (asks FaultKind.Complete (place_of span ∷ []) ∷ []) at.old at.new) }
+    ensures goes { Goes at.old at.new }
+{
+    ask_complete(at, &fields.found, &fields.labels, span)?;
+    type_of_record(at, &fields.found)
+}
+
+/// The demand that all labels of a record type are written.
+fn ask_complete(
+    at: &mut Parts,
+    found: &RecordType,
+    written: &[&Token],
+    span: Span,
+) -> Result<(), NoMemory>
+    ensures follows { OnOk result (Follows (asks FaultKind.Complete (place_of span ∷ []) ∷ []) at.old at.new) }
+    ensures goes { Goes at.old at.new }
+{
+    let RecordType::Known(declaration, _) = found else {
+        return Ok(());
+    };
+    for label in labels_in(declaration) {
+        if !is_written(written, label.name.as_str()) {
+            return at.incomplete(span, label.name.as_str());
+        }
+    }
+    Ok(())
+}
+
+fn is_written(written: &[&Token], label: &str) -> bool {
+    written.iter().any(|other| other.name.is(label))
+}
+
+/// The type of a record; any type where it isn't known.
+pub fn type_of_record(at: &mut Parts, found: &RecordType) -> Result<Used, NoMemory>
+    ensures silent { Silent at.old at.new }
+    ensures goes { Goes at.old at.new }
+{
+    let ty = type_or_var(at, found.ty())?;
+    Ok(unnamed(at, ty))
+}

@@ -1,0 +1,52 @@
+//! How the parts of a row are typed.
+#![tactic(auto, using(typing_state::proofs::Going::goes_trans, typing_state::proofs::Going::goes_refl, typing_state::proofs::Following::follows_both, typing_state::proofs::Following::follows_then, typing_state::proofs::Following::follows_before, typing_state::proofs::Following::follows_behind, typing_state::proofs::Following::follows_none, typing_state::proofs::Following::follows_silent, typing_state::proofs::Following::store_silent, typing_state::proofs::Following::silent_refl, typing_state::proofs::Following::silent_trans, typing_state::proofs::Following::ends_both, typing_state::proofs::Following::ends_behind, typing_state::proofs::Following::ends_before, typing_state::proofs::Following::ends_silent, typing_state::proofs::Following::gets_start, typing_state::proofs::Following::gets_more, typing_state::proofs::Following::gets_before, typing_state::proofs::Following::gets_done, crate::proofs::ExpressionLaws::value_no_record, crate::proofs::ExpressionLaws::form_follows), unfolding(syntax_tree::specs::Names::row_of))]
+
+ghost use Rattle.std.specs.Prelude.{◌≡◌};
+ghost use Rattle.syntax_tree.specs.Names.{row_of};
+ghost use Rattle.expression_steps.specs.ExpressionSteps.{form_of};
+
+use syntax_tree::RowName;
+
+/// How the parts of a row are typed.
+#[derive(Clone, Copy, PartialEq, Eq)]
+pub enum RowForm {
+    /// A name, a constant or a hole: a row without parts.
+    Leaf,
+    Application,
+    /// An operator with its arguments.
+    Operation,
+    /// A minus, which may stand over a numeral with a point.
+    Minus,
+    Record,
+    Let,
+    /// `match` or `try`.
+    Match,
+    /// `function`.
+    Cases,
+    /// `fun`.
+    Function,
+    Parenthesised,
+    /// Parts in order, with demands between and behind them.
+    Plain,
+}
+
+/// The form of a row.
+pub fn form_of(row: RowName) -> RowForm
+    ensures { result ≡ form_of (row_of row) }
+{
+    match row {
+        RowName::Name | RowName::Econ | RowName::Epath | RowName::Econst | RowName::Hole => {
+            RowForm::Leaf
+        }
+        RowName::Eapp => RowForm::Application,
+        RowName::Prefix | RowName::Infix => RowForm::Operation,
+        RowName::Eneg => RowForm::Minus,
+        RowName::Erecord => RowForm::Record,
+        RowName::Elet => RowForm::Let,
+        RowName::Ematch | RowName::Etry => RowForm::Match,
+        RowName::Efunction => RowForm::Cases,
+        RowName::Efun => RowForm::Function,
+        RowName::Eparen => RowForm::Parenthesised,
+        _ => RowForm::Plain,
+    }
+}

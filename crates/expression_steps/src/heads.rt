@@ -1,0 +1,110 @@
+//! Heads in front of arguments: the demand that one is an arrow, a constructor that is recorded, and arrows from parameters.
+#![tactic(auto, using(typing_state::proofs::Going::goes_trans, typing_state::proofs::Going::goes_refl, typing_state::proofs::Following::follows_both, typing_state::proofs::Following::follows_then, typing_state::proofs::Following::follows_before, typing_state::proofs::Following::follows_behind, typing_state::proofs::Following::follows_none, typing_state::proofs::Following::follows_silent, typing_state::proofs::Following::store_silent, typing_state::proofs::Following::silent_refl, typing_state::proofs::Following::silent_trans, typing_state::proofs::Following::ends_both, typing_state::proofs::Following::ends_behind, typing_state::proofs::Following::ends_before, typing_state::proofs::Following::ends_silent, typing_state::proofs::Following::gets_start, typing_state::proofs::Following::gets_more, typing_state::proofs::Following::gets_before, typing_state::proofs::Following::gets_done, crate::proofs::ExpressionLaws::ends_then), unfolding(syntax_tree::specs::Names::row_of))]
+
+ghost use Rattle.std.specs.Prelude.{[], ◌∷◌, IfOk, OnOk};
+ghost use Rattle.typing_rows.specs.Contracts.{MakesBoth, HeadIsArrow};
+ghost use Rattle.syntax_tree.specs.View.{place_of};
+ghost use Rattle.row_parts.specs.Numbered.{path_view};
+ghost use Rattle.env_table.specs.declared.faults.FaultKind.{FaultKind};
+ghost use Rattle.typing_state.specs.Goes.{Goes};
+ghost use Rattle.typing_state.specs.Steps.{asks, records, Follows, Silent};
+ghost use Rattle.use_typing.specs.Uses.{TellsUse};
+ghost use Rattle.expression_steps.specs.ExpressionSteps.{recorded_constructor};
+
+use row_parts::{Operand, WrittenPath};
+use syntax_tree::Span;
+use typing_state::{Env, NoMemory, NodeRef, Parts};
+use use_typing::{Construction, Used, any_type, constructor, unnamed};
+
+/// A constructor in front of arguments, which is recorded.
+pub fn recorded_constructor(
+    at: &mut Parts,
+    number: u32,
+    path: &WrittenPath<'_>,
+    env: &Env,
+) -> Result<Head, NoMemory>
+    ensures tells { OnOk result (TellsUse (path_view path.now) 1 at.old at.new env.now) }
+    ensures follows { OnOk result (Follows (recorded_constructor number (path_view path.now)) at.old at.new) }
+    ensures goes { Goes at.old at.new }
+{
+    let found = constructor(at, env, path, 1)?;
+    note_head(at, number, found, env)
+}
+
+/// A constructor in front of arguments, which is recorded.
+#[derive(Clone, Copy, Drop)]
+pub struct Head {
+    /// The type of what it builds.
+    pub ty: NodeRef,
+    /// The type of its argument; None where it takes none, and where it isn't known.
+    pub argument: Option<NodeRef>,
+    pub known: bool,
+}
+
+/// Records the constructor in front of arguments.
+fn note_head(at: &mut Parts, number: u32, found: Construction, env: &Env) -> Result<Head, NoMemory>
+    ensures follows { OnOk result (Follows (records number ∷ []) at.old at.new) }
+    ensures goes { Goes at.old at.new }
+{
+    at.note(number, env, Some(found.built), found.names)?;
+    Ok(Head {
+        ty: found.built,
+        argument: found.argument,
+        known: found.known,
+    })
+}
+
+/// What an unknown constructor builds: with one argument what it is, with more any type.
+pub fn built_by_unknown(
+    at: &mut Parts,
+    built: NodeRef,
+    later: &[Operand<'_>],
+) -> Result<Used, NoMemory>
+    ensures silent { Silent at.old at.new }
+    ensures goes { Goes at.old at.new }
+{
+    if later.is_empty() {
+        return Ok(unnamed(at, built));
+    }
+    any_type(at)
+}
+
+/// The demand that a head's type is an arrow: its sides.
+pub fn ask_arrow(
+    at: &mut Parts,
+    place: Span,
+    head: NodeRef,
+    env: &Env,
+) -> Result<(NodeRef, NodeRef), NoMemory>
+    ensures carries { IfOk result (λ p. HeadIsArrow at.old at.new env.now (place_of place) head.0 p.0.0 p.1.0) }
+    ensures follows { OnOk result (Follows (asks FaultKind.Equal (place_of place ∷ []) ∷ []) at.old at.new) }
+    ensures goes { Goes at.old at.new }
+{
+    let (from, to) = two_types(at)?;
+    let arrow = at.arrow(from, to)?;
+    at.equal(place, head, arrow, env)?;
+    Ok((from, to))
+}
+
+/// Two new variables.
+fn two_types(at: &mut Parts) -> Result<(NodeRef, NodeRef), NoMemory>
+    ensures carries { IfOk result (λ p. MakesBoth at.old at.new p.0.0 p.1.0) }
+    ensures silent { Silent at.old at.new }
+    ensures goes { Goes at.old at.new }
+{
+    let from = at.var()?;
+    let to = at.var()?;
+    Ok((from, to))
+}
+
+/// The arrow from the types of parameters to a type.
+pub fn arrows(at: &mut Parts, parameters: &[NodeRef], to: NodeRef) -> Result<NodeRef, NoMemory>
+    ensures silent { Silent at.old at.new }
+    ensures goes { Goes at.old at.new }
+{
+    let mut ty = to;
+    for parameter in parameters.iter().rev() {
+        ty = at.arrow(*parameter, ty)?;
+    }
+    Ok(ty)
+}

@@ -1,0 +1,275 @@
+//! Which expressions are non-expansive, so that the names of their bindings are generalised (the value restriction).
+ghost use Rattle.std.specs.Prelude.{◌≡◌, option_map, IfOk};
+ghost use Rattle.syntax_tree.specs.View.{tok_of};
+ghost use Rattle.row_parts.specs.Numbered.{operand_view, path_view};
+ghost use Rattle.expression_steps.specs.Operators.{is_false_at, is_false_token};
+ghost use Rattle.expression_steps.specs.ExpressionSteps.{label_at, lower_path};
+
+use env_table::{Found, Path, What};
+use owned_lists::push;
+use row_parts::{
+    Operand, WrittenPath, first_operand, operand_in, operands, operands_of, token, written_path,
+};
+use syntax_tree::{Node, RowName, Token, TokenKind};
+use typing_state::{Depth, Env, NoMemory, Parts, path_of};
+use use_typing::labels_in;
+
+/// Whether an expression is non-expansive in an environment. A missing one is.
+#[cycle(values)]
+pub fn is_value(at: &Parts, e: Operand<'_>, env: &Env, depth: Depth) -> Result<bool, NoMemory> {
+    let Some(node) = e.node else {
+        return Ok(true);
+    };
+    match node.row {
+        RowName::Eapp => is_built(at, node, e.number, env, depth),
+        RowName::Erecord => is_record_value(at, node, e.number, env, depth),
+        RowName::Ematch => is_match_value(at, node, e.number, env, depth),
+        RowName::Elet => is_let_value(at, node, e.number, env, depth),
+        RowName::Eassert => Ok(is_false(operand_in(node, e.number, 1))),
+        _ => match value_parts(at, node, e.number)? {
+            None => Ok(false),
+            Some(parts) => are_values(at, &parts, env, depth),
+        },
+    }
+}
+
+/// Whether all of these are non-expansive.
+#[cycle(values)]
+fn are_values(
+    at: &Parts,
+    parts: &[Operand<'_>],
+    env: &Env,
+    depth: Depth,
+) -> Result<bool, NoMemory> {
+    for part in parts {
+        if !is_value(at, *part, env, depth.inside()?)? {
+            return Ok(false);
+        }
+    }
+    Ok(true)
+}
+
+/// `false`
+#[tactic(auto, unfolding(syntax_tree::specs::Names::row_of))]
+pub fn is_false(e: Operand<'_>) -> bool
+    ensures { result ≡ is_false_at (operand_view e.entry).part }
+{
+    let Some(node) = e.node else {
+        return false;
+    };
+    match node.row {
+        RowName::Econst => is_false_word(token(node, 0)),
+        _ => false,
+    }
+}
+
+/// Whether a token is the word `false`.
+#[tactic(auto, unfolding(syntax_tree::specs::Names::kind_of))]
+fn is_false_word(token: Option<&Token>) -> bool
+    ensures { result ≡ is_false_token (option_map (λ t. tok_of t.now) token.entry) }
+{
+    match token {
+        Some(token) => token.kind == TokenKind::False,
+        None => false,
+    }
+}
+
+/// The parts of a row that have to be non-expansive for it to be; None where it never is.
+fn value_parts<'a>(
+    at: &Parts,
+    node: &'a Node,
+    number: u32,
+) -> Result<Option<Vec<Operand<'a>>>, NoMemory> {
+    match node.row {
+        RowName::Econst
+        | RowName::Name
+        | RowName::Econ
+        | RowName::Epath
+        | RowName::Hole
+        | RowName::Efun
+        | RowName::Efunction => Ok(Some(Vec::new(at.alloc()))),
+        RowName::Eparen | RowName::Ebegin | RowName::Elist => {
+            Ok(Some(operands(at.alloc(), node, number, 1)?))
+        }
+        RowName::Econs | RowName::Etuple | RowName::Field => {
+            Ok(Some(operands_of(at.alloc(), node, number)?))
+        }
+        RowName::Eif => Ok(Some(branches(at, node, number)?)),
+        _ => Ok(None),
+    }
+}
+
+fn branches<'a>(at: &Parts, node: &'a Node, number: u32) -> Result<Vec<Operand<'a>>, NoMemory> {
+    let mut parts = operands(at.alloc(), node, number, 3)?;
+    if let Some(part) = first_operand(node, number, 5) {
+        push(&mut parts, part)?;
+    }
+    Ok(parts)
+}
+
+/// Whether an operand is a constructor alone.
+pub fn is_constructor(e: Operand<'_>) -> bool {
+    match e.node {
+        Some(node) => match node.row {
+            RowName::Econ => true,
+            RowName::Epath => match token(node, 1) {
+                Some(last) => last.kind == TokenKind::Upper,
+                None => false,
+            },
+            _ => false,
+        },
+        None => false,
+    }
+}
+
+/// A constructor with a non-expansive argument.
+#[cycle(values)]
+fn is_built(
+    at: &Parts,
+    node: &Node,
+    number: u32,
+    env: &Env,
+    depth: Depth,
+) -> Result<bool, NoMemory> {
+    let arguments = operands(at.alloc(), node, number, 1)?;
+    if arguments.len() != 1 || !is_constructor(operand_in(node, number, 0)) {
+        return Ok(false);
+    }
+    are_values(at, &arguments, env, depth)
+}
+
+/// A match of a non-expansive subject, with such bodies and no guard.
+#[cycle(values)]
+fn is_match_value(
+    at: &Parts,
+    node: &Node,
+    number: u32,
+    env: &Env,
+    depth: Depth,
+) -> Result<bool, NoMemory> {
+    let mut parts = operands(at.alloc(), node, number, 1)?;
+    for case in operands(at.alloc(), node, number, 4)? {
+        if let Some(inner) = case.node {
+            if first_operand(inner, case.number, 2).is_some() {
+                return Ok(false);
+            }
+            push(&mut parts, operand_in(inner, case.number, 4))?;
+        }
+    }
+    are_values(at, &parts, env, depth)
+}
+
+/// Whether a binding has parameters.
+pub fn has_parameters(node: &Node, number: u32) -> bool {
+    first_operand(node, number, 1).is_some()
+}
+
+/// A `let .. in` whose right sides and body are non-expansive.
+#[cycle(values)]
+fn is_let_value(
+    at: &Parts,
+    node: &Node,
+    number: u32,
+    env: &Env,
+    depth: Depth,
+) -> Result<bool, NoMemory> {
+    let mut parts = operands(at.alloc(), node, number, 5)?;
+    for binding in operands(at.alloc(), node, number, 2)? {
+        if let Some(inner) = binding.node {
+            if !has_parameters(inner, binding.number) {
+                push(&mut parts, operand_in(inner, binding.number, 5))?;
+            }
+        }
+    }
+    are_values(at, &parts, env, depth)
+}
+
+/// The path of a first part of a record that is read as a label: one to a lower-case name.
+#[tactic(auto, unfolding(syntax_tree::specs::Names::row_of))]
+pub fn label_path<'a>(at: &Parts, e: Operand<'a>) -> Result<Option<WrittenPath<'a>>, NoMemory>
+    ensures { IfOk result (λ r. option_map path_view r ≡ label_at (operand_view e.entry).part) }
+{
+    let Some(node) = e.node else {
+        return Ok(None);
+    };
+    match node.row {
+        RowName::Name => Ok(if_lower(written_path(at.alloc(), node, 9, 0)?)),
+        RowName::Epath => Ok(if_lower(written_path(at.alloc(), node, 0, 1)?)),
+        _ => Ok(None),
+    }
+}
+
+/// A path, where its last token is a lower-case name.
+#[tactic(auto, unfolding(syntax_tree::specs::Names::kind_of))]
+fn if_lower(path: WrittenPath<'_>) -> Option<WrittenPath<'_>>
+    ensures { option_map path_view result ≡ lower_path (path_view path.entry) }
+{
+    let lower = match path.last {
+        Some(last) => last.kind == TokenKind::Lower,
+        None => false,
+    };
+    if lower { Some(path) } else { None }
+}
+
+/// A record of non-expansive values without a mutable field; with `with` its first part is one as well.
+#[cycle(values)]
+fn is_record_value(
+    at: &Parts,
+    node: &Node,
+    number: u32,
+    env: &Env,
+    depth: Depth,
+) -> Result<bool, NoMemory> {
+    let mut labels = Vec::new(at.alloc());
+    let mut parts = Vec::new(at.alloc());
+    let first = operand_in(node, number, 1);
+    match label_path(at, first)? {
+        Some(label) if token(node, 4).is_none() => {
+            push_label(at, &mut labels, &label)?;
+            push_part(&mut parts, first_operand(node, number, 3))?;
+        }
+        _ => {
+            if token(node, 4).is_some() {
+                push_part(&mut parts, Some(first))?;
+            }
+        }
+    }
+    for field in operands(at.alloc(), node, number, 5)? {
+        if let Some(inner) = field.node {
+            push_label(at, &mut labels, &written_path(at.alloc(), inner, 0, 1)?)?;
+            push_part(&mut parts, first_operand(inner, field.number, 3))?;
+        }
+    }
+    if has_mutable_label(env, &labels) {
+        return Ok(false);
+    }
+    are_values(at, &parts, env, depth)
+}
+
+fn push_label(at: &Parts, labels: &mut Vec<Path>, label: &WrittenPath<'_>) -> Result<(), NoMemory> {
+    if let Some(last) = label.last {
+        let path = path_of(at.alloc(), label, last)?;
+        push(labels, path)?;
+    }
+    Ok(())
+}
+
+fn push_part<'a>(parts: &mut Vec<Operand<'a>>, part: Option<Operand<'a>>) -> Result<(), NoMemory> {
+    if let Some(part) = part {
+        push(parts, part)?;
+    }
+    Ok(())
+}
+
+/// Whether the record type of labels has a mutable one.
+fn has_mutable_label(env: &Env, labels: &[Path]) -> bool {
+    match env.record_type(labels) {
+        Found::Entry(entry) => match &entry.what {
+            What::Label(declaration, _) => {
+                labels_in(declaration).iter().any(|label| label.is_mutable)
+            }
+            _ => false,
+        },
+        _ => false,
+    }
+}

@@ -1,0 +1,2 @@
+-- The steps of patterns, and the names that they bind.
+pub mod PatternSteps
