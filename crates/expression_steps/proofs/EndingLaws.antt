@@ -43,7 +43,7 @@ use Rattle.typing_conditions.proofs.Carried.{carried_refl}
 use Rattle.typing_conditions.specs.Carrying.{Scope}
 use Rattle.typing_conditions.specs.Surroundings.{Surrounds}
 use Rattle.typing_steps.specs.States.{is_aloud, sight}
-use Rattle.typing_steps.specs.Typing.{any_declared, RowCarried, TypesAny}
+use Rattle.typing_steps.specs.Typing.{as_declared, RowCarried, TypesAny}
 use Rattle.operand_laws.specs.Formed as formed
 use Rattle.operand_laws.specs.Operands.{expression_of}
 use Rattle.use_typing.specs.Uses.{GivenOrNew}
@@ -167,7 +167,7 @@ later_done a b env os ms k wanted le first =
 pub ends_empty : (a b : Parts) (env : List Entry) (end : List Expression → Context → ℕ → List Condition) (es : List Expression) (ms : List ℕ) (m : ℕ) → slice_get ms 0 ≡ None → EndsRow a b env (end []) [] ms m → EndsRow a b env (end es) es ms m
 ends_empty a b env end es ms m none ends = λ aloud F scope G n s all. by es F scope G n aloud s all (none_at es ms 0 all none)
   where
-    by : (es : List Expression) (F : Frame) (scope : Scope) (G : Letters) (n : ℕ) → is_aloud a.telling ≡ true → Surrounds any_declared F (sight a) G env scope → AllMean F (sight a) G (types_at es) ms → slice_get es 0 ≡ None → RowCarried F scope (λ c. end es c n) (sight a) G (sight b) n m
+    by : (es : List Expression) (F : Frame) (scope : Scope) (G : Letters) (n : ℕ) → is_aloud a.telling ≡ true → Surrounds as_declared F (sight a) G env scope → AllMean F (sight a) G (types_at es) ms → slice_get es 0 ≡ None → RowCarried F scope (λ c. end es c n) (sight a) G (sight b) n m
     by [] F scope G n aloud s all e = ends aloud F scope G n s all
     by (x ∷ es) F scope G n aloud s all e = absurd (cc)
 
@@ -221,7 +221,7 @@ then_ends a b env (e ∷ f ∷ g ∷ gs) ms branch less here asked = absurd (ome
 pub if_empty : (a b : Parts) (env : List Entry) (es : List Expression) (ms : List ℕ) (m : ℕ) → slice_get ms 1 ≡ None → TypesAny a b m → EndsRow a b env (end_of eif_row es) es ms m
 if_empty a b env es ms m none any = λ aloud F scope G n s all. by es F scope G n aloud s all (none_at es ms 1 all none)
   where
-    by : (es : List Expression) (F : Frame) (scope : Scope) (G : Letters) (n : ℕ) → is_aloud a.telling ≡ true → Surrounds any_declared F (sight a) G env scope → AllMean F (sight a) G (types_at es) ms → slice_get es 1 ≡ None → RowCarried F scope (λ c. end_of eif_row es c n) (sight a) G (sight b) n m
+    by : (es : List Expression) (F : Frame) (scope : Scope) (G : Letters) (n : ℕ) → is_aloud a.telling ≡ true → Surrounds as_declared F (sight a) G env scope → AllMean F (sight a) G (types_at es) ms → slice_get es 1 ≡ None → RowCarried F scope (λ c. end_of eif_row es c n) (sight a) G (sight b) n m
     by [] F scope G n aloud s all e = ends_any a b env (end_of eif_row []) [] ms m any (λ c n. refl) aloud F scope G n s all
     by (x ∷ []) F scope G n aloud s all e = ends_any a b env (end_of eif_row (x ∷ [])) (x ∷ []) ms m any (λ c n. refl) aloud F scope G n s all
     by (x ∷ y ∷ es) F scope G n aloud s all e = absurd (cc)

@@ -178,7 +178,7 @@ carried_closed {F} {scope} {asks} {a} {b} own {G} p = record {
 }
 
 -- the conditions may be written in another way
-pub carried_as : {F : Frame} {scope : Scope} {asks others : Asks} {a b : Sight} {G H : Letters} → ((c : Context) → asks c ≡ others c) → Carried F scope asks a G b H → Carried F scope others a G b H
+unfoldable pub carried_as : {F : Frame} {scope : Scope} {asks others : Asks} {a b : Sight} {G H : Letters} → ((c : Context) → asks c ≡ others c) → Carried F scope asks a G b H → Carried F scope others a G b H
 carried_as {F} {scope} {asks} {others} {a} {b} {G} {H} e p = record {
   stays = p.stays;
   hidden = p.hidden;

@@ -1,5 +1,5 @@
 -- What a part is typed among after a `let`: each name of the group has its type generalised in the environment outside.
-use Rattle.std.proofs.Common.{◌≡◌, ◌∙◌, ◌⊎◌, ℕ, zero, suc, ◌<◌, true, false, ◌||◌, List, [], ◌∷◌, Some, refl, sym, subst, arith, inl, inr}
+use Rattle.std.proofs.Common.{◌≡◌, ◌∙◌, ◌⊎◌, ℕ, zero, suc, ◌<◌, true, false, ◌||◌, List, [], ◌∷◌, Option, Some, refl, sym, subst, arith, inl, inr}
 use Rattle.std.specs.Prelude.{slice_get}
 use Rattle.type_model.specs.Types.{Typ, occurs}
 use Rattle.type_model.specs.Schemes.{Scheme}
@@ -16,6 +16,8 @@ use Rattle.type_nodes.specs.Readings.{Types, IsReading}
 use Rattle.level_unify.specs.Solutions.{Loose}
 use Rattle.level_unify.specs.Instances.{is_bound}
 use Rattle.level_unify.proofs.Unified.{fits_loosely}
+use Rattle.env_table.specs.declared.entries.Constructor.{Constructor}
+use Rattle.env_table.specs.declared.entries.Declaration.{Declaration}
 use Rattle.env_table.specs.declared.entries.Entry.{Entry}
 use Rattle.typing_environments.specs.Locals.{IsOwn}
 use Rattle.typing_environments.specs.Assumptions.{SchemeFits, SchemeReads}
@@ -23,7 +25,7 @@ use Rattle.typing_environments.specs.Environments.{of_value, entry_as, newest}
 use Rattle.typing_environments.specs.Standing.{IsIn, Covers, Stands}
 use Rattle.typing_environments.proofs.Own.{own_of}
 use Rattle.typing_environments.proofs.Regions.{any_in, in_any}
-use Rattle.typing_environments.proofs.Steps.{stands_after, old_or_new, same_node}
+use Rattle.typing_environments.proofs.Steps.{stands_after, old_or_new, same_node, refines_none}
 use Rattle.typing_environments.proofs.Closing.{still_free}
 use Rattle.typing_environments.proofs.Environments.{env_map}
 use Rattle.typing_environments.proofs.Generalised.{Fixes, name_fits, name_reads}
@@ -32,6 +34,7 @@ use Rattle.typing_environments.proofs.Groups.{NamesStand, no_more, name_more, ad
 use Rattle.typing_conditions.specs.Sights.{Sight, Letters, Agrees}
 use Rattle.typing_conditions.specs.Frames.{Frame, IsWritten, IsHeld, IsRoot}
 use Rattle.typing_conditions.specs.Carrying.{Asks, Scope}
+use Rattle.typing_conditions.proofs.Surrounding.{stands_declared, covers_declared}
 use Rattle.typing_conditions.specs.Surroundings.{Declared, Surrounds, IsEntry, context_of, with_closed}
 use Rattle.typing_conditions.proofs.Outward.{GroupTyped, I, inner_reached, before_closing, group_context, name_nodes, low_held, within_outer}
 
@@ -58,7 +61,7 @@ pub record HoldsRest (D : Declared) {F : Frame} {scope : Scope} {asks : Asks} {a
 module _ {D : Declared} {F : Frame} {scope : Scope} {asks : Asks} {a b c d : Sight} {J : Types} {roots names : List ℕ} {held : ℕ → List ℕ} {G H : Letters} (l : GroupTyped F scope asks a b c d J roots names held G H) {env : List Entry}
     {types : Choice → List Typ} (rest : HoldsRest D l env types) where
   -- what a scheme isn't to bind is free in the environment or held
-  fixes : {R : List Node → Types → ℕ → Scheme → Type 0} (M V : Types) (ch : Choice) → IsOwn d.nodes M → Loose d.nodes V → Agrees F.owner d H V ch → Stands R D.declaration D.exception d.nodes M rest.at.roots V env (scope.env ch) →
+  fixes : {R : List Node → Types → ℕ → Scheme → Type 0} (M V : Types) (ch : Choice) → IsOwn d.nodes M → Loose d.nodes V → Agrees F.owner d H V ch → Stands R (D.declaration d.nodes rest.at.roots rest.at.names) (D.exception d.nodes rest.at.roots rest.at.names) d.nodes M rest.at.roots V env (scope.env ch) →
       Fixes d.nodes M V roots ((inner_reached l).held F.level) (scope.env ch) (types ch)
   fixes M V ch own loose g s = record {
     roots = λ u w free h o.
@@ -80,7 +83,7 @@ module _ {D : Declared} {F : Frame} {scope : Scope} {asks : Asks} {a b c d : Sig
       held_here n (inr (le, (x, e))) = rest.written_held n (x, l.out.written x ∙ e)
 
   -- the scheme of a name, under types that fit
-  scheme_fits : (M V : Types) (ch : Choice) → IsOwn d.nodes M → Loose d.nodes V → Agrees F.owner d H V ch → Stands SchemeFits D.declaration D.exception d.nodes M rest.at.roots V env (scope.env ch) → (k r : ℕ) → slice_get names k ≡ Some r → IsKnown (V r) →
+  scheme_fits : (M V : Types) (ch : Choice) → IsOwn d.nodes M → Loose d.nodes V → Agrees F.owner d H V ch → Stands SchemeFits (D.declaration d.nodes rest.at.roots rest.at.names) (D.exception d.nodes rest.at.roots rest.at.names) d.nodes M rest.at.roots V env (scope.env ch) → (k r : ℕ) → slice_get names k ≡ Some r → IsKnown (V r) →
       SchemeFits d.nodes V r (generalised_in (scope.env ch) (types ch) (V r))
   scheme_fits M V ch own loose g s k r e known =
       let own_c = before_closing l M own in
@@ -88,15 +91,15 @@ module _ {D : Declared} {F : Frame} {scope : Scope} {asks : Asks} {a b c d : Sig
       (fixes M V ch own loose g s) k r e known
 
   -- and at each reading
-  scheme_reads : (M V : Types) (ch : Choice) → IsOwn d.nodes M → IsReading d.nodes V → Agrees F.owner d H V ch → Stands SchemeReads D.declaration D.exception d.nodes M rest.at.roots V env (scope.env ch) → (k r : ℕ) → slice_get names k ≡ Some r → IsKnown (V r) →
+  scheme_reads : (M V : Types) (ch : Choice) → IsOwn d.nodes M → IsReading d.nodes V → Agrees F.owner d H V ch → Stands SchemeReads (D.declaration d.nodes rest.at.roots rest.at.names) (D.exception d.nodes rest.at.roots rest.at.names) d.nodes M rest.at.roots V env (scope.env ch) → (k r : ℕ) → slice_get names k ≡ Some r → IsKnown (V r) →
       SchemeReads d.nodes V r (generalised_in (scope.env ch) (types ch) (V r))
   scheme_reads M V ch own reads g s k r e known =
       let own_c = before_closing l M own in
       name_reads a.nodes c.nodes d.nodes J M roots names (inner_reached l).held F.level l.goes_in.own own_c (group_context l) ((inner_reached l).local M own_c) (name_nodes l) (low_held l M own_c) (l.out.closes M own_c) V (scope.env ch) (types ch) reads
       (fixes M V ch own (fits_loosely d.nodes V reads.fits) g s)
-      (λ v h. let p = none_free D.declaration D.exception d.nodes M V rest.at.roots env (scope.env ch) s v h in let q = rest.none_bound V ch reads g v h in (λ i. p i || q i)) k r e known
+      (λ v h. let p = none_free (D.declaration d.nodes rest.at.roots rest.at.names) (D.exception d.nodes rest.at.roots rest.at.names) d.nodes M V rest.at.roots env (scope.env ch) s v h in let q = rest.none_bound V ch reads g v h in (λ i. p i || q i)) k r e known
 
-  names_fit : (M V : Types) (ch : Choice) → IsOwn d.nodes M → Loose d.nodes V → Agrees F.owner d H V ch → Stands SchemeFits D.declaration D.exception d.nodes M rest.at.roots V env (scope.env ch) → {es : List Entry} {bs : List Bound} {ns : List ℕ} →
+  names_fit : (M V : Types) (ch : Choice) → IsOwn d.nodes M → Loose d.nodes V → Agrees F.owner d H V ch → Stands SchemeFits (D.declaration d.nodes rest.at.roots rest.at.names) (D.exception d.nodes rest.at.roots rest.at.names) d.nodes M rest.at.roots V env (scope.env ch) → {es : List Entry} {bs : List Bound} {ns : List ℕ} →
       ClosedNames F d H names es bs ns → NamesStand SchemeFits d.nodes M V (generalised_in (scope.env ch) (types ch)) (context_of ch) es bs ns
   names_fit M V ch own loose g s no_closed = no_more
   names_fit M V ch own loose g s (one_closed n is (k, e) typed more) =
@@ -104,7 +107,7 @@ module _ {D : Declared} {F : Frame} {scope : Scope} {asks : Asks} {a b c d : Sig
       let f = subst (λ x. SchemeFits d.nodes V n.0 (generalised_in (scope.env ch) (types ch) x)) (sym t.0) (scheme_fits M V ch own loose g s k n.0 e t.1) in
       name_more n is.named is.kind is.is f f.free (names_fit M V ch own loose g s more)
 
-  names_read : (M V : Types) (ch : Choice) → IsOwn d.nodes M → IsReading d.nodes V → Agrees F.owner d H V ch → Stands SchemeReads D.declaration D.exception d.nodes M rest.at.roots V env (scope.env ch) → {es : List Entry} {bs : List Bound} {ns : List ℕ} →
+  names_read : (M V : Types) (ch : Choice) → IsOwn d.nodes M → IsReading d.nodes V → Agrees F.owner d H V ch → Stands SchemeReads (D.declaration d.nodes rest.at.roots rest.at.names) (D.exception d.nodes rest.at.roots rest.at.names) d.nodes M rest.at.roots V env (scope.env ch) → {es : List Entry} {bs : List Bound} {ns : List ℕ} →
       ClosedNames F d H names es bs ns → NamesStand SchemeReads d.nodes M V (generalised_in (scope.env ch) (types ch)) (context_of ch) es bs ns
   names_read M V ch own reads g s no_closed = no_more
   names_read M V ch own reads g s (one_closed n is (k, e) typed more) =
@@ -135,12 +138,26 @@ module _ {D : Declared} {F : Frame} {scope : Scope} {asks : Asks} {a b c d : Sig
       first zero r e = let s : n.0 ≡ r = cc in subst (IsRoot F d) s (name_root n.0 i)
       first (suc k) r e = roots_of k r e
 
-  joined_covers : {es : List Entry} {bs : List Bound} {ns : List ℕ} → ClosedNames F d H names es bs ns → (C : List ℕ) (inside : List Entry) → Covers D.declaration D.exception C inside → Covers D.declaration D.exception (joined ns C) (added es inside)
+  -- more roots, with those of the names
+  joined_more : {es : List Entry} {bs : List Bound} {ns : List ℕ} → ClosedNames F d H names es bs ns → (C : List ℕ) (r : ℕ) → IsIn C r → IsIn (joined ns C) r
+  joined_more no_closed C r i = i
+  joined_more (one_closed n is j typed more) C r i = joined_more more (n.0 ∷ C) r (more_in C n.0 r i)
+
+  -- declarations stand for the same among more roots
+  declared_more : (M : Types) → IsOwn d.nodes M → {es : List Entry} {bs : List Bound} {ns : List ℕ} → ClosedNames F d H names es bs ns → (x : Declaration) (e : rules.Declaration) →
+      D.declaration d.nodes rest.at.roots rest.at.names x e → D.declaration d.nodes (joined ns rest.at.roots) rest.at.names x e
+  declared_more M own closed x e h = rest.at.steady.declaration own (refines_none d.nodes M own) (joined_more closed rest.at.roots) h
+
+  excepted_more : (M : Types) → IsOwn d.nodes M → {es : List Entry} {bs : List Bound} {ns : List ℕ} → ClosedNames F d H names es bs ns → (x : Constructor) (o : Option Typ) →
+      D.exception d.nodes rest.at.roots rest.at.names x o → D.exception d.nodes (joined ns rest.at.roots) rest.at.names x o
+  excepted_more M own closed x o h = rest.at.steady.exception own (refines_none d.nodes M own) (joined_more closed rest.at.roots) h
+
+  joined_covers : {E : Declaration → rules.Declaration → Type 0} {X : Constructor → Option Typ → Type 0} {es : List Entry} {bs : List Bound} {ns : List ℕ} → ClosedNames F d H names es bs ns → (C : List ℕ) (inside : List Entry) → Covers E X C inside → Covers E X (joined ns C) (added es inside)
   joined_covers no_closed C inside covers = covers
-  joined_covers (one_closed {e = e} {b = b} n is i typed more) C inside (E, h) = joined_covers more (n.0 ∷ C) (e ∷ inside) (
-    entry b.name (rules.in_text b.place) (a_value (monomorphic (b.has_type (context_of no_choice)))) ∷ E,
+  joined_covers {E} {X} (one_closed {e = e} {b = b} n is i typed more) C inside (fs, h) = joined_covers more (n.0 ∷ C) (e ∷ inside) (
+    entry b.name (rules.in_text b.place) (a_value (monomorphic (b.has_type (context_of no_choice)))) ∷ fs,
     newest (entry_as is.named (sym is.kind) (of_value is.is (zero, refl)))
-        (env_map (λ r sc. IsIn C r) (λ r sc. IsIn (n.0 ∷ C) r) D.declaration D.declaration D.exception D.exception (λ r sc k. more_in C n.0 r k) (λ x f k. k) (λ x o k. k) h),
+        (env_map (λ r sc. IsIn C r) (λ r sc. IsIn (n.0 ∷ C) r) E E X X (λ r sc k. more_in C n.0 r k) (λ x f k. k) (λ x o k. k) h),
   )
 
   -- A part is typed among the names of the group, each with its type generalised.
@@ -150,12 +167,14 @@ module _ {D : Declared} {F : Frame} {scope : Scope} {asks : Asks} {a b c d : Sig
     fixed = rest.at.fixed;
     written = rest.at.written;
     roots = joined ns rest.at.roots;
+    names = rest.at.names;
+    steady = rest.at.steady;
     are_roots = joined_roots closed rest.at.roots rest.at.are_roots;
-    covered = joined_covers closed rest.at.roots env rest.at.covered;
+    covered = let own = own_of d.nodes l.out.sound in covers_declared (joined ns rest.at.roots) (declared_more own.0 own.1 closed) (excepted_more own.0 own.1 closed) (joined_covers closed rest.at.roots env rest.at.covered);
     reads = λ M V ch own reads g.
         let s = rest.at.reads M V ch own reads g in
-        stands_names SchemeReads D.declaration D.exception d.nodes M V (generalised_in (scope.env ch) (types ch)) (context_of ch) own (names_read M V ch own reads g s closed) rest.at.roots env (scope.env ch) s;
+        stands_declared (declared_more M own closed) (excepted_more M own closed) (stands_names SchemeReads (D.declaration d.nodes rest.at.roots rest.at.names) (D.exception d.nodes rest.at.roots rest.at.names) d.nodes M V (generalised_in (scope.env ch) (types ch)) (context_of ch) own (names_read M V ch own reads g s closed) rest.at.roots env (scope.env ch) s);
     fits = λ M V ch own loose g.
         let s = rest.at.fits M V ch own loose g in
-        stands_names SchemeFits D.declaration D.exception d.nodes M V (generalised_in (scope.env ch) (types ch)) (context_of ch) own (names_fit M V ch own loose g s closed) rest.at.roots env (scope.env ch) s;
+        stands_declared (declared_more M own closed) (excepted_more M own closed) (stands_names SchemeFits (D.declaration d.nodes rest.at.roots rest.at.names) (D.exception d.nodes rest.at.roots rest.at.names) d.nodes M V (generalised_in (scope.env ch) (types ch)) (context_of ch) own (names_fit M V ch own loose g s closed) rest.at.roots env (scope.env ch) s);
   }

@@ -10,7 +10,7 @@ use Rattle.level_unify.specs.Solutions.{Loose}
 use Rattle.env_table.specs.declared.entries.Entry.{Entry}
 use Rattle.typing_environments.specs.Locals.{IsOwn}
 use Rattle.typing_environments.specs.Assumptions.{SchemeFits, SchemeReads}
-use Rattle.typing_environments.specs.Standing.{IsIn, Stands}
+use Rattle.typing_environments.specs.Standing.{IsIn, Covers, Stands}
 use Rattle.typing_environments.proofs.Regions.{in_any}
 use Rattle.typing_environments.proofs.Instances.{root_within}
 use Rattle.typing_conditions.specs.Sights.{Sight, Fixed, Letters, Agrees}
@@ -106,13 +106,15 @@ module _ {F : Frame} {a b : Sight} {J : Types} {roots : List ℕ} {held : ℕ �
     fixed = fixed_inward fixed_in at.fixed;
     written = written_inward at.written;
     roots = at.roots;
+    names = at.names;
+    steady = at.steady;
     are_roots = λ k r e. root_inward r (names k r e) (at.are_roots k r e);
-    covered = at.covered;
+    covered = subst (λ ns. Covers (D.declaration ns at.roots at.names) (D.exception ns at.roots at.names) at.roots env) (sym only.nodes) at.covered;
     reads = λ M V ch own reads agrees.
-        subst (λ ns. Stands SchemeReads D.declaration D.exception ns M at.roots V env (scope.env ch)) (sym only.nodes)
+        subst (λ ns. Stands SchemeReads (D.declaration ns at.roots at.names) (D.exception ns at.roots at.names) ns M at.roots V env (scope.env ch)) (sym only.nodes)
         (at.reads M V ch (same_own M own) (subst (λ ns. IsReading ns V) only.nodes reads) (back V ch agrees));
     fits = λ M V ch own loose agrees.
-        subst (λ ns. Stands SchemeFits D.declaration D.exception ns M at.roots V env (scope.env ch)) (sym only.nodes)
+        subst (λ ns. Stands SchemeFits (D.declaration ns at.roots at.names) (D.exception ns at.roots at.names) ns M at.roots V env (scope.env ch)) (sym only.nodes)
         (at.fits M V ch (same_own M own) (subst (λ ns. Loose ns V) only.nodes loose) (back V ch agrees));
   }
     where

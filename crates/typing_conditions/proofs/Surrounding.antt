@@ -1,47 +1,63 @@
 -- What a part is typed among, after a call and with a further name.
-use Rattle.std.proofs.Common.{◌≡◌, ℕ, zero, suc, ◌≤◌, true, List, ◌∷◌, Some, refl, sym, subst, arith, []}
+use Rattle.std.proofs.Common.{◌≡◌, ℕ, zero, suc, ◌≤◌, true, List, ◌∷◌, Option, Some, refl, sym, subst, arith, []}
 use Rattle.std.specs.Prelude.{slice_get}
 use Rattle.type_model.specs.Types.{Typ, occurs}
+use Rattle.type_model.specs.Types.{Typ as type}
+use Rattle.type_model.specs.Schemes.{Scheme}
 use Rattle.signature_model.specs.Declarations as rules
 use Rattle.signature_model.specs.Declarations.{Name}
-use Rattle.signature_model.specs.Entries.{entry, a_value}
+use Rattle.signature_model.specs.Entries.{Environment, entry, a_value}
 use Rattle.signature_model.specs.Matching.{IsKnown}
 use Rattle.typing_model.specs.Contexts.{Choice, monomorphic}
 use Rattle.typing_model.specs.Typings.{no_choice}
 use Rattle.typing_laws.proofs.Bools.{no_yes}
 use Rattle.type_terms.specs.declared.types.NodeRef.{NodeRef}
-use Rattle.type_nodes.specs.Nodes.{Var}
+use Rattle.type_nodes.specs.Nodes.{Node, Var}
 use Rattle.type_nodes.specs.Readings.{Types}
 use Rattle.level_unify.proofs.Unified.{fits_loosely}
+use Rattle.env_table.specs.declared.entries.Constructor.{Constructor}
+use Rattle.env_table.specs.declared.entries.Declaration.{Declaration}
 use Rattle.env_table.specs.declared.entries.Entry.{Entry}
 use Rattle.typing_environments.specs.Locals.{IsOwn, IsFreeVar}
 use Rattle.typing_environments.specs.Assumptions.{SchemeFits, SchemeReads}
 use Rattle.typing_environments.specs.Environments.{of_value, entry_as, no_names, newest}
-use Rattle.typing_environments.specs.Standing.{IsIn, Stands}
+use Rattle.typing_environments.specs.Standing.{IsIn, Covers, Stands}
 use Rattle.typing_environments.proofs.Own.{own_of}
 use Rattle.typing_environments.proofs.Environments.{env_map}
-use Rattle.typing_environments.proofs.Steps.{same_node}
+use Rattle.typing_environments.proofs.Steps.{same_node, refines_none}
 use Rattle.typing_environments.proofs.Standing.{more_in, stands_fits_on, stands_reads_on, stands_named, one_type_fits, one_type_reads}
 use Rattle.typing_conditions.specs.Sights.{Sight, Letters, Agrees}
 use Rattle.typing_conditions.specs.Frames.{Frame, Reaches, IsRoot}
 use Rattle.typing_conditions.specs.Meanings.{Means, KnowsFixed, KnowsWritten}
 use Rattle.typing_conditions.specs.Carrying.{Scope, Stays}
-use Rattle.typing_conditions.specs.Surroundings.{Declared, Surrounds, with_one, IsEntry}
+use Rattle.typing_conditions.specs.Surroundings.{Declared, IsSteady, Surrounds, with_one, IsEntry}
 use Rattle.typing_conditions.proofs.Stays.{agrees_before}
 use Rattle.typing_conditions.proofs.Framing.{root_on}
 use Rattle.typing_conditions.proofs.Meaning.{fixed_on}
 
+-- declarations and exceptions may stand for those of the definitions in another way
+pub stands_declared : {R : List Node → Types → ℕ → Scheme → Type 0} {D D' : Declaration → rules.Declaration → Type 0} {X X' : Constructor → Option Typ → Type 0} {nodes : List Node} {J V : Types} {C : List ℕ} {env : List Entry} {E : Environment} →
+    ((d : Declaration) (e : rules.Declaration) → D d e → D' d e) → ((c : Constructor) (o : Option Typ) → X c o → X' c o) → Stands R D X nodes J C V env E → Stands R D' X' nodes J C V env E
+stands_declared {R} {D} {D'} {X} {X'} {nodes} {J} {V} {C} more also s = record { names = env_map (λ r sc. R nodes V r sc × IsIn C r) (λ r sc. R nodes V r sc × IsIn C r) D D' X X' (λ r sc h. h) more also s.names; brings = s.brings }
+
+-- and so may those of an environment whose roots are among others
+pub covers_declared : {D D' : Declaration → rules.Declaration → Type 0} {X X' : Constructor → Option Typ → Type 0} (C : List ℕ) {env : List Entry} → ((d : Declaration) (e : rules.Declaration) → D d e → D' d e) → ((c : Constructor) (o : Option Typ) → X c o → X' c o) →
+    Covers D X C env → Covers D' X' C env
+covers_declared {D} {D'} {X} {X'} C more also (E, h) = (E, env_map (λ r sc. IsIn C r) (λ r sc. IsIn C r) D D' X X' (λ r sc k. k) more also h)
+
 -- no names stand for none
-pub surrounds_none : {D : Declared} {F : Frame} {a : Sight} {G : Letters} {scope : Scope} → ((ch : Choice) → scope.env ch ≡ []) → Reaches F a → KnowsFixed F a → KnowsWritten F a → Surrounds D F a G [] scope
-surrounds_none {D} {F} {a} {G} {scope} none reached fixed written = record {
+pub surrounds_none : {D : Declared} {F : Frame} {a : Sight} {G : Letters} {scope : Scope} → IsSteady D → ((ch : Choice) → scope.env ch ≡ []) → Reaches F a → KnowsFixed F a → KnowsWritten F a → Surrounds D F a G [] scope
+surrounds_none {D} {F} {a} {G} {scope} steady none reached fixed written = record {
   reached = reached;
   fixed = fixed;
   written = written;
   roots = [];
+  names = type.Var;
+  steady = steady;
   are_roots = λ k r e. absurd (cc);
   covered = ([], no_names);
-  reads = λ J V ch own reads g. subst (Stands SchemeReads D.declaration D.exception a.nodes J [] V []) (sym (none ch)) (record { names = no_names; brings = λ u w free h o. absurd (no_yes h) });
-  fits = λ J V ch own loose g. subst (Stands SchemeFits D.declaration D.exception a.nodes J [] V []) (sym (none ch)) (record { names = no_names; brings = λ u w free h o. absurd (no_yes h) });
+  reads = λ J V ch own reads g. subst (Stands SchemeReads (D.declaration a.nodes [] type.Var) (D.exception a.nodes [] type.Var) a.nodes J [] V []) (sym (none ch)) (record { names = no_names; brings = λ u w free h o. absurd (no_yes h) });
+  fits = λ J V ch own loose g. subst (Stands SchemeFits (D.declaration a.nodes [] type.Var) (D.exception a.nodes [] type.Var) a.nodes J [] V []) (sym (none ch)) (record { names = no_names; brings = λ u w free h o. absurd (no_yes h) });
 }
 
 -- the names stand for the same after a call
@@ -51,17 +67,25 @@ surrounds_on {D} {F} {a} {b} {G} {H} {env} {scope} s at = record {
   fixed = fixed_on s at.fixed;
   written = s.writes at.written;
   roots = at.roots;
+  names = at.names;
+  steady = at.steady;
   are_roots = λ k r e. root_on s at.reached (at.are_roots k r e);
-  covered = at.covered;
+  covered = let own = own_of b.nodes (s.reaches at.reached).sound in covers_declared at.roots (declared own.0 own.1) (excepted own.0 own.1) at.covered;
   reads = λ K V ch own reads g.
       let before = own_of a.nodes at.reached.sound in
-      stands_reads_on D.declaration D.exception a.nodes b.nodes before.0 K at.roots before.1 own (s.refines at.reached K own) (λ k c e. (at.are_roots k c e).inside) V env (scope.env ch) reads
-      (at.reads before.0 V ch before.1 (s.reads V reads) (agrees_before s g));
+      stands_declared (declared K own) (excepted K own) (stands_reads_on (D.declaration a.nodes at.roots at.names) (D.exception a.nodes at.roots at.names) a.nodes b.nodes before.0 K at.roots before.1 own (s.refines at.reached K own) (λ k c e. (at.are_roots k c e).inside) V env (scope.env ch) reads
+      (at.reads before.0 V ch before.1 (s.reads V reads) (agrees_before s g)));
   fits = λ K V ch own loose g.
       let before = own_of a.nodes at.reached.sound in
-      stands_fits_on D.declaration D.exception a.nodes b.nodes before.0 K at.roots before.1 own (s.refines at.reached K own) (λ k c e. (at.are_roots k c e).inside) V V env (scope.env ch) (λ n lt. refl) loose
-      (at.fits before.0 V ch before.1 (s.loose V loose) (agrees_before s g));
+      stands_declared (declared K own) (excepted K own) (stands_fits_on (D.declaration a.nodes at.roots at.names) (D.exception a.nodes at.roots at.names) a.nodes b.nodes before.0 K at.roots before.1 own (s.refines at.reached K own) (λ k c e. (at.are_roots k c e).inside) V V env (scope.env ch) (λ n lt. refl) loose
+      (at.fits before.0 V ch before.1 (s.loose V loose) (agrees_before s g)));
 }
+  where
+    declared : (K : Types) → IsOwn b.nodes K → (d : Declaration) (e : rules.Declaration) → D.declaration a.nodes at.roots at.names d e → D.declaration b.nodes at.roots at.names d e
+    declared K own d e h = let before = own_of a.nodes at.reached.sound in at.steady.declaration before.1 (s.refines at.reached K own) (λ r i. i) h
+
+    excepted : (K : Types) → IsOwn b.nodes K → (c : Constructor) (o : Option Typ) → D.exception a.nodes at.roots at.names c o → D.exception b.nodes at.roots at.names c o
+    excepted K own c o h = let before = own_of a.nodes at.reached.sound in at.steady.exception before.1 (s.refines at.reached K own) (λ r i. i) h
 
 -- A part is typed among one name more: its type is that of an open node, in which no unknown type stands.
 pub surrounds_named : {D : Declared} {F : Frame} {a : Sight} {G : Letters} {env : List Entry} {scope : Scope} {type : Choice → Typ} {e : Entry} {x : Name} {n : NodeRef} (place : rules.Place) → IsEntry e x n → Means F a G type n.0 →
@@ -71,24 +95,33 @@ surrounds_named {D} {F} {a} {G} {env} {scope} {type} {e} {x} {n} place is p know
   fixed = at.fixed;
   written = at.written;
   roots = n.0 ∷ at.roots;
+  names = at.names;
+  steady = at.steady;
   are_roots = are_roots;
   covered = (
     entry x place (a_value (monomorphic (type no_types))) ∷ at.covered.0,
     newest (entry_as is.named (sym is.kind) (of_value is.is (zero, refl)))
-        (env_map (λ r sc. IsIn at.roots r) (λ r sc. IsIn (n.0 ∷ at.roots) r) D.declaration D.declaration D.exception D.exception (λ r sc h. more_in at.roots n.0 r h) (λ d f h. h) (λ c o h. h) at.covered.1),
+        (env_map (λ r sc. IsIn at.roots r) (λ r sc. IsIn (n.0 ∷ at.roots) r) (D.declaration a.nodes at.roots at.names) (D.declaration a.nodes (n.0 ∷ at.roots) at.names) (D.exception a.nodes at.roots at.names) (D.exception a.nodes (n.0 ∷ at.roots) at.names)
+        (λ r sc h. more_in at.roots n.0 r h) (let own = own_of a.nodes at.reached.sound in declared own.0 own.1) (let own = own_of a.nodes at.reached.sound in excepted own.0 own.1) at.covered.1),
   );
   reads = λ J V ch own reads g.
       let known_here = known V ch g in
       let loose = fits_loosely a.nodes V reads.fits in
       let scheme = one_type_reads a.nodes J V n.0 own reads p.open_node.inside known_here (λ v o. free J own v o) in
-      subst (λ t. Stands SchemeReads D.declaration D.exception a.nodes J (n.0 ∷ at.roots) V (e ∷ env) (entry x place (a_value (monomorphic t)) ∷ scope.env ch)) (sym (p.is V ch loose g))
-      (stands_named SchemeReads D.declaration D.exception a.nodes J V at.roots env (scope.env ch) own e x place n (monomorphic (V n.0)) is.named is.kind is.is scheme scheme.free (at.reads J V ch own reads g));
+      subst (λ t. Stands SchemeReads (D.declaration a.nodes (n.0 ∷ at.roots) at.names) (D.exception a.nodes (n.0 ∷ at.roots) at.names) a.nodes J (n.0 ∷ at.roots) V (e ∷ env) (entry x place (a_value (monomorphic t)) ∷ scope.env ch)) (sym (p.is V ch loose g))
+      (stands_declared (declared J own) (excepted J own) (stands_named SchemeReads (D.declaration a.nodes at.roots at.names) (D.exception a.nodes at.roots at.names) a.nodes J V at.roots env (scope.env ch) own e x place n (monomorphic (V n.0)) is.named is.kind is.is scheme scheme.free (at.reads J V ch own reads g)));
   fits = λ J V ch own loose g.
       let scheme = one_type_fits a.nodes J V n.0 own loose p.open_node.inside (known V ch g) in
-      subst (λ t. Stands SchemeFits D.declaration D.exception a.nodes J (n.0 ∷ at.roots) V (e ∷ env) (entry x place (a_value (monomorphic t)) ∷ scope.env ch)) (sym (p.is V ch loose g))
-      (stands_named SchemeFits D.declaration D.exception a.nodes J V at.roots env (scope.env ch) own e x place n (monomorphic (V n.0)) is.named is.kind is.is scheme scheme.free (at.fits J V ch own loose g));
+      subst (λ t. Stands SchemeFits (D.declaration a.nodes (n.0 ∷ at.roots) at.names) (D.exception a.nodes (n.0 ∷ at.roots) at.names) a.nodes J (n.0 ∷ at.roots) V (e ∷ env) (entry x place (a_value (monomorphic t)) ∷ scope.env ch)) (sym (p.is V ch loose g))
+      (stands_declared (declared J own) (excepted J own) (stands_named SchemeFits (D.declaration a.nodes at.roots at.names) (D.exception a.nodes at.roots at.names) a.nodes J V at.roots env (scope.env ch) own e x place n (monomorphic (V n.0)) is.named is.kind is.is scheme scheme.free (at.fits J V ch own loose g)));
 }
   where
+    declared : (J : Types) → IsOwn a.nodes J → (d : Declaration) (f : rules.Declaration) → D.declaration a.nodes at.roots at.names d f → D.declaration a.nodes (n.0 ∷ at.roots) at.names d f
+    declared J own d f h = at.steady.declaration own (refines_none a.nodes J own) (λ r i. more_in at.roots n.0 r i) h
+
+    excepted : (J : Types) → IsOwn a.nodes J → (c : Constructor) (o : Option Typ) → D.exception a.nodes at.roots at.names c o → D.exception a.nodes (n.0 ∷ at.roots) at.names c o
+    excepted J own c o h = at.steady.exception own (refines_none a.nodes J own) (λ r i. more_in at.roots n.0 r i) h
+
     no_types : Choice
     no_types = no_choice
 

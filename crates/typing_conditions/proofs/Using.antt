@@ -98,7 +98,7 @@ name_used {D} {F} {scope} {G} {env} {a} {b} {ms} {x} {m} key free at it = record
     own = own_of a.nodes at.reached.sound
 
     root_is : IsRoot F a it.root.0
-    root_is = let found = finds_scheme (λ k sc. IsIn at.roots k) D.declaration D.exception it.root ms x it.entry it.finds it.is at.covered.1 in at.are_roots found.holds.0 it.root.0 found.holds.1
+    root_is = let found = finds_scheme (λ k sc. IsIn at.roots k) (D.declaration a.nodes at.roots at.names) (D.exception a.nodes at.roots at.names) it.root ms x it.entry it.finds it.is at.covered.1 in at.are_roots found.holds.0 it.root.0 found.holds.1
 
     opened : IsOpen F b m
     opened = open_instance it.sound it.rest it.taken at.reached root_is
@@ -127,7 +127,7 @@ name_used {D} {F} {scope} {G} {env} {a} {b} {ms} {x} {m} key free at it = record
     sound : (V : Types) (c : Context) → ReadsOff F scope b ((key, m) ∷ G) [] [] V c → AllHold c.kept (used_if (scheme_found c.env ms x) (value_of c.chosen key))
     sound V c l =
         let stand = at.reads own.0 V c.chosen own.1 (stays.reads V l.reads) (agrees_before stays l.agrees) in
-        let found = finds_scheme (λ k sc. SchemeReads a.nodes V k sc × IsIn at.roots k) D.declaration D.exception it.root ms x it.entry it.finds it.is stand.names in
+        let found = finds_scheme (λ k sc. SchemeReads a.nodes V k sc × IsIn at.roots k) (D.declaration a.nodes at.roots at.names) (D.exception a.nodes at.roots at.names) it.root ms x it.entry it.finds it.is stand.names in
         let used = use_sound a.nodes b.nodes V it.root.0 F.level m found.scheme it.taken l.reads found.holds.0 in
         used_holds c.kept (scheme_found c.env ms x) found.scheme (value_of c.chosen key) (ap (λ E. scheme_found E ms x) l.under.env ∙ found.is) (subst (IsUse found.scheme) (sym l.agrees.given.0.is) used)
 
@@ -135,7 +135,7 @@ name_used {D} {F} {scope} {G} {env} {a} {b} {ms} {x} {m} key free at it = record
         Continues F (λ y. used_if (scheme_found y.env ms x) (value_of y.chosen key)) a b ((key, m) ∷ G) [] V c
     complete V c e h =
         let stand = at.fits own.0 V c.chosen own.1 (fits_loosely a.nodes V e.fits) e.agrees in
-        let found = finds_scheme (λ k sc. SchemeFits a.nodes V k sc × IsIn at.roots k) D.declaration D.exception it.root ms x it.entry it.finds it.is stand.names in
+        let found = finds_scheme (λ k sc. SchemeFits a.nodes V k sc × IsIn at.roots k) (D.declaration a.nodes at.roots at.names) (D.exception a.nodes at.roots at.names) it.root ms x it.entry it.finds it.is stand.names in
         let used = used_asks c.kept (scheme_found c.env ms x) found.scheme (value_of c.chosen key) (ap (λ E. scheme_found E ms x) e.under.env ∙ found.is) h in
         let (W, fits, same, is) = use_complete a.nodes b.nodes V it.root.0 F.level m found.scheme (value_of c.chosen key) it.taken e.fits found.holds.0 used in
         let g = agrees_same a b it.rest.types it.rest.written e.inside same e.agrees in

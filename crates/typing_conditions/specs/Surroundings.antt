@@ -7,6 +7,7 @@ use Rattle.signature_model.specs.Declarations.{Name}
 use Rattle.signature_model.specs.Entries.{entry, a_value, value_kind}
 use Rattle.typing_model.specs.Contexts.{Choice, Context, Bound, in_item, monomorphic, generalised_in, entries_with}
 use Rattle.type_terms.specs.declared.types.NodeRef.{NodeRef}
+use Rattle.type_nodes.specs.Nodes.{Node}
 use Rattle.type_nodes.specs.Readings.{Types, IsReading}
 use Rattle.level_unify.specs.Solutions.{Loose}
 use Rattle.env_table.specs.declared.entries.Constructor.{Constructor}
@@ -14,30 +15,38 @@ use Rattle.env_table.specs.declared.entries.Declaration.{Declaration}
 use Rattle.env_table.specs.declared.entries.Entry.{Entry}
 use Rattle.env_table.specs.declared.entries.What.TheVariants as what
 use Rattle.env_table.specs.Views.{kind_of}
-use Rattle.typing_environments.specs.Locals.{IsOwn}
+use Rattle.typing_environments.specs.Locals.{IsOwn, Refines}
 use Rattle.typing_environments.specs.Assumptions.{SchemeFits, SchemeReads}
-use Rattle.typing_environments.specs.Standing.{Covers, Stands}
+use Rattle.typing_environments.specs.Standing.{IsIn, Covers, Stands}
 use Rattle.typing_conditions.specs.Sights.{Sight, Letters, Agrees}
 use Rattle.typing_conditions.specs.Frames.{Frame, Reaches, IsRoot}
 use Rattle.typing_conditions.specs.Meanings.{KnowsFixed, KnowsWritten}
 use Rattle.typing_conditions.specs.Carrying.{Scope}
 
--- how the code's declarations and exceptions stand for those of the definitions
+-- How the code's declarations and exceptions stand for those of the definitions, by the nodes of the store, the roots of their types, and the names of the
+-- variables in these.
 pub record Declared : Type 1 where
-  pub declaration : Declaration → rules.Declaration → Type 0
-  pub exception : Constructor → Option Typ → Type 0
+  pub declaration : List Node → List ℕ → Types → Declaration → rules.Declaration → Type 0
+  pub exception : List Node → List ℕ → Types → Constructor → Option Typ → Type 0
+
+-- what stands for one does so later on, and among more roots
+pub record IsSteady (D : Declared) : Type 0 where
+  pub declaration : {old new : List Node} {I J N : Types} {C C' : List ℕ} {d : Declaration} {e : rules.Declaration} → IsOwn old I → Refines old new J → ((r : ℕ) → IsIn C r → IsIn C' r) → D.declaration old C N d e → D.declaration new C' N d e
+  pub exception : {old new : List Node} {I J N : Types} {C C' : List ℕ} {c : Constructor} {o : Option Typ} → IsOwn old I → Refines old new J → ((r : ℕ) → IsIn C r → IsIn C' r) → D.exception old C N c o → D.exception new C' N c o
 
 -- A state that the frame allows, where the code's names stand for those of the scope: at each reading schemes both ways, under types that fit one way.
--- `roots` are those of the schemes.
+-- `roots` are those of the schemes and of the declarations, and `names` what the bound variables of declarations are in the definitions.
 pub record Surrounds (D : Declared) (F : Frame) (a : Sight) (G : Letters) (env : List Entry) (scope : Scope) : Type 0 where
   pub reached : Reaches F a
   pub fixed : KnowsFixed F a
   pub written : KnowsWritten F a
   pub roots : List ℕ
+  pub names : Types
+  pub steady : IsSteady D
   pub are_roots : (k r : ℕ) → slice_get roots k ≡ Some r → IsRoot F a r
-  pub covered : Covers D.declaration D.exception roots env
-  pub reads : (J V : Types) (ch : Choice) → IsOwn a.nodes J → IsReading a.nodes V → Agrees F.owner a G V ch → Stands SchemeReads D.declaration D.exception a.nodes J roots V env (scope.env ch)
-  pub fits : (J V : Types) (ch : Choice) → IsOwn a.nodes J → Loose a.nodes V → Agrees F.owner a G V ch → Stands SchemeFits D.declaration D.exception a.nodes J roots V env (scope.env ch)
+  pub covered : Covers (D.declaration a.nodes roots names) (D.exception a.nodes roots names) roots env
+  pub reads : (J V : Types) (ch : Choice) → IsOwn a.nodes J → IsReading a.nodes V → Agrees F.owner a G V ch → Stands SchemeReads (D.declaration a.nodes roots names) (D.exception a.nodes roots names) a.nodes J roots V env (scope.env ch)
+  pub fits : (J V : Types) (ch : Choice) → IsOwn a.nodes J → Loose a.nodes V → Agrees F.owner a G V ch → Stands SchemeFits (D.declaration a.nodes roots names) (D.exception a.nodes roots names) a.nodes J roots V env (scope.env ch)
 
 -- a scope with a further name of one type, as a pattern brings it in
 abbrev pub with_one : Name → rules.Place → (Choice → Typ) → Scope → Scope

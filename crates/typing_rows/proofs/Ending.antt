@@ -28,7 +28,7 @@ use Rattle.typing_conditions.proofs.Carried.{carried_refl, carried_trans, carrie
 use Rattle.typing_conditions.proofs.Meaning.{means_on, means_more, all_mean_on}
 use Rattle.typing_conditions.proofs.Surrounding.{surrounds_on}
 use Rattle.typing_steps.specs.States.{is_aloud, sight}
-use Rattle.typing_steps.specs.Typing.{any_declared, RowCarried, TypesRow, AsksEqual, TypesAny}
+use Rattle.typing_steps.specs.Typing.{as_declared, RowCarried, TypesRow, AsksEqual, TypesAny}
 use Rattle.typing_steps.proofs.Making.{tuple_over, list_over}
 use Rattle.typing_steps.proofs.Rows.{row_any}
 use Rattle.typing_rows.specs.Asked.{parts_ask, has_if, branches_ask, cons_asks, list_asks}
@@ -199,7 +199,7 @@ pub ends_list_none : (a b d e : Parts) (env : List Entry) (es : List Expression)
     EndsRow a e env (λ c n. list_asks c n es) es ms m
 ends_list_none a b d e env es ms element m none any goes later made rest = λ aloud F scope G n s all. by es all (none_at es ms 0 all none) later aloud F scope G n s
   where
-    by : (es : List Expression) {F : Frame} {G : Letters} → AllMean F (sight a) G (types_at es) ms → slice_get es 0 ≡ None → AsksLater b d env es ms element → is_aloud a.telling ≡ true → (F' : Frame) (scope : Scope) (G' : Letters) (n : ℕ) → Surrounds any_declared F' (sight a) G' env scope →
+    by : (es : List Expression) {F : Frame} {G : Letters} → AllMean F (sight a) G (types_at es) ms → slice_get es 0 ≡ None → AsksLater b d env es ms element → is_aloud a.telling ≡ true → (F' : Frame) (scope : Scope) (G' : Letters) (n : ℕ) → Surrounds as_declared F' (sight a) G' env scope →
         RowCarried F' scope (λ c. list_asks c n es) (sight a) G' (sight e) n m
     by (x ∷ es) all there later aloud F scope G n s = absurd (cc)
     by [] all there later aloud F scope G n s =

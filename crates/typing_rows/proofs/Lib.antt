@@ -5,3 +5,5 @@ pub mod Ordered
 pub mod Ending
 pub mod Terms
 pub mod Typed
+pub mod Constructed
+pub mod Fielded

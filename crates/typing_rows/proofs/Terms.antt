@@ -2,7 +2,7 @@
 use Rattle.std.proofs.Common.{◌≡◌, ◌∙◌, ◌++◌, ◌==◌, ◌&&◌, not, ℕ, ◌+◌, Bool, true, false, arith, List, [], ◌∷◌, Option, Some, None, option_map, option_to_list, refl, sym, ap, append_assoc, append-nil}
 use Rattle.std.specs.List.{flat_map}
 use Rattle.std.proofs.lemmas.Bool.{eqb-true}
-use Rattle.tree_model.specs.Rows.{Row, name_row, epath_row, econst_row, hole_row, eparen_row, ebegin_row, elist_row, prefix_row, eapp_row, eassert_row, ewhile_row, eneg_row, infix_row, econs_row, etuple_row, eif_row, eseq_row}
+use Rattle.tree_model.specs.Rows.{Row, name_row, epath_row, econst_row, hole_row, eparen_row, ebegin_row, elist_row, prefix_row, field_row, eapp_row, eassert_row, ewhile_row, eneg_row, infix_row, econs_row, etuple_row, eif_row, eseq_row}
 use Rattle.tree_model.specs.Slots.{is_operand, operand_slots}
 use Rattle.tree_model.specs.Trees.{Place, Tree}
 use Rattle.row_parts.specs.Numbered.{Numbered, operands_in, all_operands, first_in, filled_in, token_in, path_in}
@@ -12,7 +12,7 @@ use Rattle.typing_model.specs.BuiltIns.{unit_type, bool_type, list_type}
 use Rattle.typing_model.specs.Patterns.{ask_all, behind_first}
 use Rattle.typing_model.specs.Parts as parts
 use Rattle.typing_model.specs.Parts.{Expression, expressions_in, expression_in, types_in, last_of, Form}
-use Rattle.typing_model.specs.Expressions.{expression_row, typed_all, has_type, is_of, first_type, each_has, application, name_expression, path_expression, constant_expression, hole_expression, parenthesised, begun, list_expression, cons_expression, tuple_expression, if_expression, sequence_expression, while_expression, assert_expression, assert_asks, infix_expression, prefix_expression, minus_expression, is_false}
+use Rattle.typing_model.specs.Expressions.{expression_row, typed_all, has_type, is_of, first_type, each_has, application, name_expression, path_expression, field_expression, constant_expression, hole_expression, parenthesised, begun, list_expression, cons_expression, tuple_expression, if_expression, sequence_expression, while_expression, assert_expression, assert_asks, infix_expression, prefix_expression, minus_expression, is_false}
 use Rattle.operand_laws.specs.Formed.{row_of, is_needed, may_repeat, IsFormed}
 use Rattle.operand_laws.specs.Operands.{number_of, parts_of, path_of, expression_of}
 use Rattle.operand_laws.proofs.Sorts.{expression_stands, expressions_stand, first_expression_stands, first_type_stands}
@@ -53,6 +53,13 @@ name_term i n at t row = ap (λ q. expression_row q (number_of i n) at (parts_of
 pub path_term : (i n : ℕ) (at : Place) (t : Tree) → row_of t ≡ epath_row → row_expression i n at t ≡ path_expression (number_of i n) at (path_of (path_in t 0 1))
 unfolding expression_row
 path_term i n at t row = ap (λ q. expression_row q (number_of i n) at (parts_of i n t)) row ∙ ap (λ p. path_expression (number_of i n) at p) (path_stands i n t 0 1)
+
+-- e . l
+pub field_term : (i n : ℕ) (at : Place) (t : Tree) → IsFormed n t → row_of t ≡ field_row → row_expression i n at t ≡ field_expression (number_of i n) at (expression_of i (filled_in n t 0)) (path_of (path_in t 2 3))
+unfolding expression_row is_operand is_needed
+field_term i n at t formed row =
+    as_row i n t formed at field_row row ∙ ap (λ e. field_expression (number_of i n) at e (parts.path_in 2 3 (parts_of i n t))) (one i n t formed field_row 0 row refl refl) ∙
+    ap (λ p. field_expression (number_of i n) at (expression_of i (filled_in n t 0)) p) (path_stands i n t 2 3)
 
 -- 1, "a", true
 pub constant_term : (i n : ℕ) (at : Place) (t : Tree) → row_of t ≡ econst_row → row_expression i n at t ≡ constant_expression (number_of i n) at (token_in t 0)

@@ -35,7 +35,7 @@ use Rattle.typing_rows.proofs.Ending.{row_of_type, row_as, row_after, plain_type
 use Rattle.typing_rows.proofs.Terms.{name_term, path_term, constant_term, hole_term, application_term, paren_term, prefix_term, infix_term, minus_term, one_operand, two_operands, plain_term}
 
 -- an expression that asks the same under a minus
-under_as : (negated : Bool) (e x : Expression) (c : Context) → e ≡ x → x.negated c ≡ x.typed c → x.typed c ≡ (under_minus negated e).typed c
+pub under_as : (negated : Bool) (e x : Expression) (c : Context) → e ≡ x → x.negated c ≡ x.typed c → x.typed c ≡ (under_minus negated e).typed c
 under_as true e x c is same = sym same ∙ ap (λ y. y.negated c) (sym is)
 under_as false e x c is same = ap (λ y. y.typed c) (sym is)
 

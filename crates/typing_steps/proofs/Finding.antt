@@ -99,9 +99,9 @@ bound_asked a b {D} {F} {scope} {G} {env} given called qs t kind w s at aloud is
         let stands = (at.fits own.0 V c.chosen own.1 loose agrees).names in
         let R : ℕ → Scheme → Type 0 = λ r sc. SchemeFits a.store.nodes V r sc × IsIn at.roots r in
         let lost : lost_among env qs ≡ names.lost_behind c.env [] qs =
-        lost_so R D.declaration D.exception env (scope.env c.chosen) stands qs [] 0 qs (λ j. ap (slice_get qs) (let e : 0 + j ≡ j = omega arith in e)) ∙ ap (λ E. names.lost_behind E [] qs) (sym under.env) in
+        lost_so R (D.declaration a.store.nodes at.roots at.names) (D.exception a.store.nodes at.roots at.names) env (scope.env c.chosen) stands qs [] 0 qs (λ j. ap (slice_get qs) (let e : 0 + j ≡ j = omega arith in e)) ∙ ap (λ E. names.lost_behind E [] qs) (sym under.env) in
         let found : is_found_here (found_at env qs kind t) ≡ names.is_found (lookup c.env (names_of qs) (kind_of kind) t.name) =
-        found_so R D.declaration D.exception (lookup_alike R D.declaration D.exception (names_of qs) (kind_of kind) t.name stands) ∙ ap (λ E. names.is_found (lookup E (names_of qs) (kind_of kind) t.name)) (sym under.env) in
+        found_so R (D.declaration a.store.nodes at.roots at.names) (D.exception a.store.nodes at.roots at.names) (lookup_alike R (D.declaration a.store.nodes at.roots at.names) (D.exception a.store.nodes at.roots at.names) (names_of qs) (kind_of kind) t.name stands) ∙ ap (λ E. names.is_found (lookup E (names_of qs) (kind_of kind) t.name)) (sym under.env) in
         λ i. demand s (place_unbound (lost i) t) (test (complaint_unbound (lost i) w t) (found i)) ∷ []
 
 -- `bound_last`: the same of a last name that may be missing

@@ -17,3 +17,7 @@ pub mod Valued
 pub mod Applying
 pub mod Writing
 pub mod Listing
+pub mod Taken
+pub mod Sides
+pub mod Constructing
+pub mod Labelling

@@ -59,7 +59,7 @@ instance_taken a b {D} {F} {ms = ms} {x = x} {entry = entry} {root = root} {m = 
 }
   where
     root_inside : IsNode a.store.nodes root.0
-    root_inside = let found = finds_scheme (λ k sc. IsIn at.roots k) D.declaration D.exception root ms x entry finds is at.covered.1 in (at.are_roots found.holds.0 root.0 found.holds.1).inside
+    root_inside = let found = finds_scheme (λ k sc. IsIn at.roots k) (D.declaration a.store.nodes at.roots at.names) (D.exception a.store.nodes at.roots at.names) root ms x entry finds is at.covered.1 in (at.are_roots found.holds.0 root.0 found.holds.1).inside
 
 -- The use of a name has the type that the choice has for a letter.
 pub instance_used : (a b : Parts) {D : Declared} {F : Frame} {scope : Scope} {G : Letters} {env : List Entry} (ms : List Name) (x : Name) {entry : Entry} {root : NodeRef} {m : ℕ} (key : Key) → ((t : Typ) → IsKnownFor key t) →

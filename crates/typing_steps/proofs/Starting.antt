@@ -29,7 +29,7 @@ use Rattle.typing_conditions.specs.Sights.{Sight, Letters, Agrees}
 use Rattle.typing_conditions.specs.Frames.{Frame, Reaches, IsRoot}
 use Rattle.typing_conditions.specs.Meanings.{Means, KnowsFixed, KnowsWritten}
 use Rattle.typing_conditions.specs.Carrying.{Scope}
-use Rattle.typing_conditions.specs.Surroundings.{Declared, Surrounds}
+use Rattle.typing_conditions.specs.Surroundings.{Declared, IsSteady, Surrounds}
 use Rattle.typing_conditions.proofs.Inward.{fixed_nodes}
 use Rattle.typing_conditions.proofs.Making.{made_here}
 use Rattle.typing_steps.specs.States.{sight}
@@ -112,15 +112,17 @@ module _ (a : Sight) (J : Types) (roots : List ℕ) (sound : IsSound a.nodes) (o
   start_written none = record { each = λ x m e. absurd (let f : Some m ≡ None = sym e ∙ none x in cc) }
 
   -- the names of an environment whose roots are among the item's are those of the scope
-  pub start_surrounds : {D : Declared} {G : Letters} {env : List Entry} {scope : Scope} (names : List ℕ) → KnowsFixed (frame_at a J roots) a → ((x : Name) → a.written x ≡ None) → ((k r : ℕ) → slice_get names k ≡ Some r → IsIn roots r) →
-      Covers D.declaration D.exception names env →
-      ((M V : Types) (ch : Choice) → IsOwn a.nodes M → IsReading a.nodes V → Agrees a.item a G V ch → Stands SchemeReads D.declaration D.exception a.nodes M names V env (scope.env ch)) →
-      ((M V : Types) (ch : Choice) → IsOwn a.nodes M → Loose a.nodes V → Agrees a.item a G V ch → Stands SchemeFits D.declaration D.exception a.nodes M names V env (scope.env ch)) → Surrounds D (frame_at a J roots) a G env scope
-  start_surrounds names fixed none among covered reads fits = record {
+  pub start_surrounds : {D : Declared} {G : Letters} {env : List Entry} {scope : Scope} (names : List ℕ) (N : Types) → IsSteady D → KnowsFixed (frame_at a J roots) a → ((x : Name) → a.written x ≡ None) → ((k r : ℕ) → slice_get names k ≡ Some r → IsIn roots r) →
+      Covers (D.declaration a.nodes names N) (D.exception a.nodes names N) names env →
+      ((M V : Types) (ch : Choice) → IsOwn a.nodes M → IsReading a.nodes V → Agrees a.item a G V ch → Stands SchemeReads (D.declaration a.nodes names N) (D.exception a.nodes names N) a.nodes M names V env (scope.env ch)) →
+      ((M V : Types) (ch : Choice) → IsOwn a.nodes M → Loose a.nodes V → Agrees a.item a G V ch → Stands SchemeFits (D.declaration a.nodes names N) (D.exception a.nodes names N) a.nodes M names V env (scope.env ch)) → Surrounds D (frame_at a J roots) a G env scope
+  start_surrounds names N steady fixed none among covered reads fits = record {
     reached = start_reached;
     fixed = fixed;
     written = start_written none;
     roots = names;
+    names = N;
+    steady = steady;
     are_roots = λ k r e. let (i, f) = among k r e in start_roots i r f;
     covered = covered;
     reads = reads;

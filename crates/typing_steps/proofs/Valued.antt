@@ -50,6 +50,43 @@ value_alone type_kind h = absurd (no_yes h)
 value_alone module_kind h = absurd (no_yes h)
 value_alone module_type_kind h = absurd (no_yes h)
 
+kind_alone : (j k : Kind) → same_kind j k ≡ true → k ≡ j
+kind_alone value_kind k h = value_alone k h
+kind_alone constructor_kind value_kind h = absurd (no_yes h)
+kind_alone constructor_kind constructor_kind h = refl
+kind_alone constructor_kind label_kind h = absurd (no_yes h)
+kind_alone constructor_kind type_kind h = absurd (no_yes h)
+kind_alone constructor_kind module_kind h = absurd (no_yes h)
+kind_alone constructor_kind module_type_kind h = absurd (no_yes h)
+kind_alone label_kind value_kind h = absurd (no_yes h)
+kind_alone label_kind constructor_kind h = absurd (no_yes h)
+kind_alone label_kind label_kind h = refl
+kind_alone label_kind type_kind h = absurd (no_yes h)
+kind_alone label_kind module_kind h = absurd (no_yes h)
+kind_alone label_kind module_type_kind h = absurd (no_yes h)
+kind_alone type_kind value_kind h = absurd (no_yes h)
+kind_alone type_kind constructor_kind h = absurd (no_yes h)
+kind_alone type_kind label_kind h = absurd (no_yes h)
+kind_alone type_kind type_kind h = refl
+kind_alone type_kind module_kind h = absurd (no_yes h)
+kind_alone type_kind module_type_kind h = absurd (no_yes h)
+kind_alone module_kind value_kind h = absurd (no_yes h)
+kind_alone module_kind constructor_kind h = absurd (no_yes h)
+kind_alone module_kind label_kind h = absurd (no_yes h)
+kind_alone module_kind type_kind h = absurd (no_yes h)
+kind_alone module_kind module_kind h = refl
+kind_alone module_kind module_type_kind h = absurd (no_yes h)
+kind_alone module_type_kind value_kind h = absurd (no_yes h)
+kind_alone module_type_kind constructor_kind h = absurd (no_yes h)
+kind_alone module_type_kind label_kind h = absurd (no_yes h)
+kind_alone module_type_kind type_kind h = absurd (no_yes h)
+kind_alone module_type_kind module_kind h = absurd (no_yes h)
+kind_alone module_type_kind module_type_kind h = refl
+
+-- an entry that a path finds as one of a kind has that kind
+pub found_of_kind : (k : Kind) (env : List Entry) (ms : List Name) (x : Name) (e : Entry) → lookup_by is_named inside env ms k x ≡ an_entry e → kind_of e.kind ≡ k
+found_of_kind k env ms x e h = kind_alone k (kind_of e.kind) (and_cases (same_kind k (kind_of e.kind)) (bytes_eq x (str_bytes e.name)) (found_passes (is_named k x) (scope_by is_named inside env ms) e h)).0
+
 -- an entry that a path finds as a value has that kind
 pub value_by_kind : (env : List Entry) (ms : List Name) (x : Name) (e : Entry) → lookup_by is_named inside env ms value_kind x ≡ an_entry e → kind_of e.kind ≡ value_kind
 value_by_kind env ms x e h = value_alone (kind_of e.kind) (and_cases (same_kind value_kind (kind_of e.kind)) (bytes_eq x (str_bytes e.name)) (found_passes (is_named value_kind x) (scope_by is_named inside env ms) e h)).0

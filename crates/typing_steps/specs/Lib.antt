@@ -6,3 +6,4 @@ pub mod Starts
 pub mod Rows
 pub mod Typing
 pub mod Writing
+pub mod Building

@@ -9,6 +9,7 @@ use Rattle.row_parts.specs.Numbered as parts
 use Rattle.type_terms.specs.declared.types.NodeRef.{NodeRef}
 use Rattle.env_table.specs.declared.entries.Entry.{Entry}
 use Rattle.typing_state.specs.declared.parts.Parts.{Parts}
+use Rattle.typing_declarations.specs.Declared.{DeclaredAs, ExceptionAs}
 use Rattle.typing_conditions.specs.Sights.{Sight, Key, value_of, Letters, IsKnownFor}
 use Rattle.typing_conditions.specs.Frames.{Frame, Reaches}
 use Rattle.typing_conditions.specs.Meanings.{Means}
@@ -16,17 +17,17 @@ use Rattle.typing_conditions.specs.Carrying.{Asks, Scope, Carried, CarriedTo, En
 use Rattle.typing_conditions.specs.Surroundings.{Declared, Surrounds}
 use Rattle.typing_steps.specs.States.{is_aloud, sight}
 
--- Any declaration and exception of the code may stand for any of the definitions: nothing is said of them yet, since no row that carries reads one.
-abbrev pub any_declared : Declared
-any_declared = record { declaration = λ d e. Unit {0}; exception = λ x o. Unit {0} }
+-- how declarations and exceptions of the code stand for those of the definitions: by what their roots stand for
+abbrev pub as_declared : Declared
+as_declared = record { declaration = DeclaredAs; exception = ExceptionAs }
 
 -- Where faults are reported, a call carries these conditions, and its node then has this type; whatever the frame, the names in scope and the letters around it.
 abbrev pub TypesTo : (a b : Parts) → List Entry → Asks → (Choice → Typ) → ℕ → Type 0
-TypesTo a b env asks type m = is_aloud a.telling ≡ true → (F : Frame) (scope : Scope) (G : Letters) → Surrounds any_declared F (sight a) G env scope → CarriedTo F scope asks (sight a) G (sight b) G type m
+TypesTo a b env asks type m = is_aloud a.telling ≡ true → (F : Frame) (scope : Scope) (G : Letters) → Surrounds as_declared F (sight a) G env scope → CarriedTo F scope asks (sight a) G (sight b) G type m
 
 -- The same of a call that makes a type of its own, which stands for what is chosen for any key: its conditions are on what is chosen.
 abbrev pub TypesOwn : (a b : Parts) → List Entry → (Context → Typ → List Condition) → ℕ → Type 0
-TypesOwn a b env asks m = is_aloud a.telling ≡ true → (F : Frame) (scope : Scope) (G : Letters) (key : Key) → ((t : Typ) → IsKnownFor key t) → Surrounds any_declared F (sight a) G env scope →
+TypesOwn a b env asks m = is_aloud a.telling ≡ true → (F : Frame) (scope : Scope) (G : Letters) (key : Key) → ((t : Typ) → IsKnownFor key t) → Surrounds as_declared F (sight a) G env scope →
     CarriedTo F scope (λ c. asks c (value_of c.chosen key)) (sight a) G (sight b) ((key, m) ∷ G) (λ ch. value_of ch key) m
 
 -- A type of its own, of which nothing is asked, and for which no name is looked up.
@@ -47,7 +48,7 @@ pub record RowCarried (F : Frame) (scope : Scope) (asks : Asks) (a : Sight) (G :
 
 -- Where faults are reported, a call carries a row with these conditions so far.
 abbrev pub TypesRow : (a b : Parts) → List Entry → Asks → (n m : ℕ) → Type 0
-TypesRow a b env asks n m = is_aloud a.telling ≡ true → (F : Frame) (scope : Scope) (G : Letters) → Surrounds any_declared F (sight a) G env scope → RowCarried F scope asks (sight a) G (sight b) n m
+TypesRow a b env asks n m = is_aloud a.telling ≡ true → (F : Frame) (scope : Scope) (G : Letters) → Surrounds as_declared F (sight a) G env scope → RowCarried F scope asks (sight a) G (sight b) n m
 
 -- The demand, at a place and of any site, that one node's type is another's.
 abbrev pub AsksEqual : (a b : Parts) → Place → (found wanted : ℕ) → Type 0

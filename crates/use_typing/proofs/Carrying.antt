@@ -43,7 +43,7 @@ use Rattle.typing_conditions.proofs.Recording.{ends_same}
 use Rattle.typing_conditions.proofs.Answering.{then_made}
 use Rattle.typing_steps.specs.States.{sight}
 use Rattle.typing_steps.specs.Demands.{TestedAs}
-use Rattle.typing_steps.specs.Typing.{any_declared, TypesOwn, TypesAny, RowCarried, TypesRow}
+use Rattle.typing_steps.specs.Typing.{as_declared, TypesOwn, TypesAny, RowCarried, TypesRow}
 use Rattle.typing_steps.proofs.Making.{var_made, list_over}
 use Rattle.typing_steps.proofs.Testing.{test_asked}
 use Rattle.typing_steps.proofs.Naming.{LooksUp, value_found, value_lost, value_in_hole}
@@ -60,13 +60,13 @@ pub value_typed : (a b d : Parts) {env : List Entry} {m : NodeRef} (given : Opti
     UsesScheme (option_and_then scheme_in (option_map (λ (e : Entry). e.what) given)) b d m → OnlyStore b d → TypesOwn a d env (λ c u. value_asks c n k (record { qualifiers = qs; last = Some t }) u) m.0
 value_typed a b d {env} {m} given qs t n k bound uses rest aloud F scope G key free at = by (found_at env qs kind.Value t) refl bound
   where
-    looks : LooksUp any_declared F scope G env a b given word.Value qs t
+    looks : LooksUp as_declared F scope G env a b given word.Value qs t
     looks = record { names = at; aloud = aloud; bound = bound }
 
     by : (f : FoundAmong Entry) → found_at env qs kind.Value t ≡ f → BoundIs f given a b (lost_among env qs) t word.Value →
         CarriedTo F scope (λ c. value_asks c n k (record { qualifiers = qs; last = Some t }) (value_of c.chosen key)) (sight a) G (sight d) ((key, m.0) ∷ G) (λ ch. value_of ch key) m.0
     by (an_entry e) finds is =
-        let root = value_has_root (λ r sc. IsIn at.roots r) any_declared.declaration any_declared.exception (names_of qs) t.name e finds at.covered.1 in
+        let root = value_has_root (λ r sc. IsIn at.roots r) (as_declared.declaration a.store.nodes at.roots at.names) (as_declared.exception a.store.nodes at.roots at.names) (names_of qs) t.name e finds at.covered.1 in
         let used : InstanceOf b d root.0 m = subst (λ w. UsesScheme (scheme_in w) b d m) root.1 (subst (λ o. UsesScheme (option_and_then scheme_in (option_map (λ (x : Entry). x.what) o)) b d m) is.0 uses) in
         value_found a b d looks value_word (site n k) key free finds root.1 used.sound used.instance rest
     by a_hole finds is = value_in_hole a b d looks value_word (site n k) key free finds (subst (λ o. UsesScheme (option_and_then scheme_in (option_map (λ (x : Entry). x.what) o)) b d m) is.0 uses) rest

@@ -6,3 +6,4 @@ pub mod Carrying
 pub mod ConstantLaws
 pub mod Asked
 pub mod LostLaws
+pub mod Constructions

@@ -1,7 +1,7 @@
 //! Uses of values, constructors and labels by their paths.
 #![tactic(auto, using(typing_state::proofs::Going::goes_trans, typing_state::proofs::Going::goes_refl, typing_state::proofs::Following::follows_both, typing_state::proofs::Following::follows_before, typing_state::proofs::Following::follows_behind, typing_state::proofs::Following::follows_silent, typing_state::proofs::Following::store_silent, typing_state::proofs::Following::silent_refl, typing_state::proofs::Following::silent_trans, typing_state::proofs::Following::ends_both, typing_state::proofs::Following::ends_behind, typing_state::proofs::Following::ends_before, typing_state::proofs::Following::ends_silent))]
 
-ghost use Rattle.std.specs.Prelude.{◌≡◌, ℕ, true, Some, IfNone, IfOk, IfSome, OnOk, option_map, option_and_then};
+ghost use Rattle.std.specs.Prelude.{◌≡◌, ℕ, true, None, Some, IfNone, IfOk, IfSome, OnOk, option_map, option_and_then};
 ghost use Rattle.type_nodes.specs.Nodes.{Node as plain};
 ghost use Rattle.type_nodes.specs.Links.{reading};
 ghost use Rattle.std.specs.Option.{option_copied};
@@ -13,7 +13,9 @@ ghost use Rattle.typing_steps.specs.Typing.{TypesOwn, path_as};
 ghost use Rattle.typing_state.specs.Steps.{Follows, Silent, asks_at_last, asks_bound};
 ghost use Rattle.type_reading.specs.TypeSteps.{constructor_steps};
 ghost use Rattle.env_table.specs.declared.entries.Kind.{Kind};
-ghost use Rattle.use_typing.specs.Uses.{BuildsBy, BuildsIf, BuildsNew, IsNoArrow, TellsCountsLast, taken_by, LastHas, TellsBound, TellsUse, UsesScheme, SidesOf, UsesLabel, UsesLabelIf, label_named, constructor_in, constructor_named, label_in, scheme_in};
+ghost use Rattle.use_typing.specs.Uses.{BuildsBy, BuildsIf, BuildsNew, IsNoArrow, TellsCountsLast, taken_by, LastHas, TellsBound, TellsUse, UsesScheme, SidesOf, UsesLabel, UsesLabelIf, label_named, constructor_named, scheme_in, TypesLabelIf};
+ghost use Rattle.typing_declarations.specs.Declared.{constructor_in, label_in};
+ghost use Rattle.typing_steps.specs.Building.{TypesConstructor};
 
 use env_table::{Constructor, Kind, Label, Shape, What};
 use row_parts::WrittenPath;
@@ -102,6 +104,7 @@ pub fn constructor(
 ) -> Result<Construction, NoMemory>
     ensures tells { OnOk result (TellsUse (path_view path.now) given at.old at.new env.now) }
     ensures builds { IfOk result (λ r. BuildsIf (constructor_named (path_view path.now).last env.now (path_view path.now).qualifiers) at.old at.new r) }
+    ensures carries { IfOk result (λ r. TypesConstructor at.old at.new env.now (path_as (path_view path.now)) given r.known r.built.0 (option_map (λ m. m.0) r.argument)) }
     ensures follows { OnOk result (Follows (constructor_steps (path_view path.now)) at.old at.new) }
     ensures goes { Goes at.old at.new }
 {
@@ -147,6 +150,7 @@ fn ask_count(
 /// What a constructor builds that isn't known: a new type.
 fn built_by_unknown(at: &mut Parts, names: Names) -> Result<Construction, NoMemory>
     ensures builds { IfOk result (λ r. BuildsNew at.old at.new r) }
+    ensures rest { OnlyStore at.old at.new }
     ensures silent { Silent at.old at.new }
     ensures goes { Goes at.old at.new }
 {
@@ -161,6 +165,7 @@ fn built_by_unknown(at: &mut Parts, names: Names) -> Result<Construction, NoMemo
 /// What a known constructor builds, from its argument, where it takes one.
 fn built(at: &mut Parts, constructor: &Constructor, names: Names) -> Result<Construction, NoMemory>
     ensures builds { IfOk result (λ r. BuildsBy constructor.now at.old at.new r) }
+    ensures rest { OnlyStore at.old at.new }
     ensures silent { Silent at.old at.new }
     ensures goes { Goes at.old at.new }
 {
@@ -221,6 +226,7 @@ pub fn label_of(entry: &Entry) -> Option<&Label>
 /// The two sides of an arrow, or new variables.
 fn sides_or_vars(at: &mut Parts, arrow: NodeRef) -> Result<(NodeRef, NodeRef), NoMemory>
     ensures sides { IfOk result (λ p. SidesOf at.old at.new arrow p.0 p.1) }
+    ensures rest { OnlyStore at.old at.new }
     ensures silent { Silent at.old at.new }
     ensures goes { Goes at.old at.new }
 {
@@ -233,6 +239,7 @@ fn sides_or_vars(at: &mut Parts, arrow: NodeRef) -> Result<(NodeRef, NodeRef), N
 /// An instance of a label: the record and the field.
 pub fn label_use(at: &mut Parts, label: &Label) -> Result<LabelUse, NoMemory>
     ensures label { IfOk result (λ u. UsesLabel label.now at.old at.new u) }
+    ensures rest { OnlyStore at.old at.new }
     ensures silent { Silent at.old at.new }
     ensures goes { Goes at.old at.new }
 {
@@ -253,6 +260,7 @@ pub fn field_label(
 ) -> Result<(Option<LabelUse>, Names), NoMemory>
     ensures tells { OnOk result (TellsBound (path_view path.now) Kind.Label at.old at.new env.now) }
     ensures label { IfOk result (λ r. UsesLabelIf (label_named (path_view path.now).last env.now (path_view path.now).qualifiers) at.old at.new r.0) }
+    ensures carries { IfOk result (λ r. TypesLabelIf r.0 at.old at.new env.now (path_as (path_view path.now))) }
     ensures follows { OnOk result (Follows (asks_bound (path_view path.now)) at.old at.new) }
     ensures goes { Goes at.old at.new }
 {
@@ -275,6 +283,8 @@ fn label_behind(entry: Option<&Rc<Entry>>) -> Option<&Label>
 /// An instance of a label, if there is one.
 fn used_label(at: &mut Parts, label: Option<&Label>) -> Result<Option<LabelUse>, NoMemory>
     ensures label { IfOk result (λ u. UsesLabelIf (option_map (λ l. l.now) label.entry) at.old at.new u) }
+    ensures none { option_map (λ l. l.now) label.entry ≡ None → at.new ≡ at.old }
+    ensures rest { OnlyStore at.old at.new }
     ensures silent { Silent at.old at.new }
     ensures goes { Goes at.old at.new }
 {

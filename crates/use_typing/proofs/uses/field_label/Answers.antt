@@ -1,10 +1,21 @@
-use Rattle.std.proofs.Common.{option_map}
+use Rattle.std.proofs.Common.{◌∙◌, option_map, ap, subst}
 use Rattle.row_parts.specs.Numbered.{path_view}
 use Rattle.env_table.specs.declared.entries.Kind.TheVariants as kind
-use Rattle.use_typing.proofs.Telling.{bound_last_tells}
+use Rattle.typing_declarations.specs.Declared.{label_in}
+use Rattle.use_typing.specs.Uses.{UsesLabelIf}
+use Rattle.use_typing.proofs.Telling.{behind, bound_last_tells}
+use Rattle.use_typing.proofs.Constructions.{label_carried}
 use Rattle.use_typing.proofs.uses.field_label.Goals as goal
 
 pub returns-clause-tells : goal.returns-clause-tells
 returns-clause-tells c =
     let p = path_view c.args.path.now in
     bound_last_tells p.last kind.Label (option_map (λ r. r.value) c.in_ok-entry.entry) c.args.at.now c.bound_last.new.self c.used_label.new.at c.args.env.now p.qualifiers c.in_ok-entry.ensures.verdict c.used_label.ensures.silent
+
+pub returns-clause-carries : goal.returns-clause-carries
+returns-clause-carries c =
+    let p = path_view c.args.path.now in
+    let given = option_map (λ r. r.value) c.in_ok-entry.entry in
+    let same = c.label_behind.ensures ∙ ap (λ o. behind label_in (option_map (λ r. r.value) o)) c.as_ref-2.ensures.value in
+    label_carried c.args.at.now c.bound_last.new.self c.used_label.new.at c.args.env.now c.in_ok-used.used given p.qualifiers p.last c.in_ok-entry.ensures.verdict
+    (subst (λ o. UsesLabelIf o c.bound_last.new.self c.used_label.new.at c.in_ok-used.used) same c.in_ok-used.ensures.label) (λ e. c.used_label.ensures.none (same ∙ e)) c.used_label.ensures.rest
