@@ -5,14 +5,11 @@ use Rattle.module_typing.proofs.modules.+modules.Given as goal
 abbrev pub decreases-type_items : goal.decreases-type_items
 decreases-type_items l = 10 * l.depth.0 + 9
 
+abbrev pub invariant-type_items-loop-item : goal.invariant-type_items-loop-item
+invariant-type_items-loop-item l = Goes l.fn.at l.at
+
 abbrev pub decreases-type_item : goal.decreases-type_item
 decreases-type_item l = 10 * l.depth.0 + 7
-
-abbrev pub decreases-type_specification : goal.decreases-type_specification
-decreases-type_specification l = 10 * l.depth.0 + 8
-
-abbrev pub decreases-type_specifications : goal.decreases-type_specifications
-decreases-type_specifications l = 10 * l.depth.0 + 9
 
 abbrev pub decreases-type_module : goal.decreases-type_module
 decreases-type_module l = 10 * l.depth.0 + 1
@@ -23,41 +20,14 @@ decreases-type_sealed l = 10 * l.depth.0 + 3
 abbrev pub decreases-type_application : goal.decreases-type_application
 decreases-type_application l = 10 * l.depth.0 + 4
 
-abbrev pub decreases-type_parameters : goal.decreases-type_parameters
-decreases-type_parameters l = 10 * l.depth.0 + 2
+abbrev pub decreases-type_head : goal.decreases-type_head
+decreases-type_head l = 10 * l.depth.0 + 2
 
 abbrev pub decreases-type_functor : goal.decreases-type_functor
 decreases-type_functor l = 10 * l.depth.0 + 4
 
-abbrev pub decreases-read_module_type : goal.decreases-read_module_type
-decreases-read_module_type l = 10 * l.depth.0 + 1
-
 abbrev pub decreases-type_module_item : goal.decreases-type_module_item
 decreases-type_module_item l = 10 * l.depth.0 + 6
 
-abbrev pub decreases-type_module_specification : goal.decreases-type_module_specification
-decreases-type_module_specification l = 10 * l.depth.0 + 6
-
-abbrev pub decreases-type_module_type_item : goal.decreases-type_module_type_item
-decreases-type_module_type_item l = 10 * l.depth.0 + 6
-
 abbrev pub decreases-type_defined : goal.decreases-type_defined
 decreases-type_defined l = 10 * l.depth.0 + 5
-
-abbrev pub decreases-type_specified : goal.decreases-type_specified
-decreases-type_specified l = 10 * l.depth.0 + 5
-
-abbrev pub decreases-type_named : goal.decreases-type_named
-decreases-type_named l = 10 * l.depth.0 + 3
-
-abbrev pub decreases-type_head : goal.decreases-type_head
-decreases-type_head l = 10 * l.depth.0 + 2
-
-abbrev pub invariant-type_items-loop-item : goal.invariant-type_items-loop-item
-invariant-type_items-loop-item l = Goes l.fn.at l.at
-
-abbrev pub invariant-type_specifications-loop-item : goal.invariant-type_specifications-loop-item
-invariant-type_specifications-loop-item l = Goes l.fn.at l.at
-
-abbrev pub invariant-type_parameters-loop-place : goal.invariant-type_parameters-loop-place
-invariant-type_parameters-loop-place l = Goes l.fn.at l.at

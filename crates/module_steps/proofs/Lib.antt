@@ -1,0 +1,5 @@
+pub mod Naming
+pub mod FunctorLaws
+pub mod Opening
+mod Asked
+pub mod Finding

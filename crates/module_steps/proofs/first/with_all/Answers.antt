@@ -1,0 +1,27 @@
+use Rattle.std.proofs.Common.{◌+◌, List, refl, sym, subst, drop, arith}
+use Rattle.std.proofs.lemmas.List.{drop_more, drop_all}
+use Rattle.env_table.specs.declared.entries.Entry.{Entry}
+use Rattle.typing_state.specs.declared.built_ins.BuiltIn.TheVariants.{Int}
+use Rattle.typing_state.proofs.Going.{goes_refl, goes_trans}
+use Rattle.module_steps.specs.First.{HasBuiltIns}
+use Rattle.module_steps.proofs.first.with_all.Goals as goal
+
+pub loop-which-init : goal.loop-which-init
+loop-which-init c = record {
+  entries = λ env h. subst (λ (b : List Entry). HasBuiltIns c.args.all.now b env) c.empty-env.ensures h;
+  goes = goes_refl _;
+}
+
+pub loop-which-preserved : goal.loop-which-preserved
+loop-which-preserved c =
+    let all = c.args.all.now in
+    let i = c.loop-which.which-index in
+    record {
+      entries = λ env h. c.loop-which.invariant.entries env (subst (λ bs. HasBuiltIns bs c.loop-which.env env) (sym (drop_more all i Int c.loop-which-test.true))
+          (c.in_ok-entry.entry.value, c.in_ok-entry.ensures.entry, subst (λ (b : List Entry). HasBuiltIns (drop (i + 1) all) b env) c.in_ok-env.ensures h));
+      goes = goes_trans _ _ _ c.loop-which.invariant.goes c.in_ok-entry.ensures.goes;
+    }
+
+pub returns-clause-entries : goal.returns-clause-entries
+returns-clause-entries c =
+    c.loop-which.invariant.entries c.loop-which.env (subst (λ bs. HasBuiltIns bs c.loop-which.env c.loop-which.env) (sym (drop_all c.loop-which.which-index c.args.all.now (omega arith))) refl)

@@ -1,0 +1,15 @@
+use Rattle.sig_template.specs.Ways.{sig_of}
+use Rattle.sig_template.proofs.Later.{live_later}
+use Rattle.module_steps.proofs.Naming.{if_ok}
+use Rattle.module_steps.proofs.made.sealed.Goals as goal
+
+pub returns-clause-made : goal.returns-clause-made
+returns-clause-made c = if_ok c.behind.result
+    (λ m is. (
+      c.in_ok-anew.anew,
+      is,
+      (
+        c.in_ok-anew.ensures.made,
+        λ live. (c.made_at.new.at.store.nodes, c.in_ok-anew.ensures.sig (live_later c.args.at.now.store.nodes c.ask_match.new.at.store.nodes c.ask_match.ensures.goes.types.nodes (sig_of c.args.template.now) live)),
+      ),
+    )) c.behind.ensures

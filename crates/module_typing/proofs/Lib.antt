@@ -1,5 +1,0 @@
-pub mod Naming
-pub mod Functors
-pub mod Opening
-mod Asked
-pub mod Finding

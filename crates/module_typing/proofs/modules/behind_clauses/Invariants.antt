@@ -1,5 +1,0 @@
-use Rattle.typing_state.specs.Goes.{Goes}
-use Rattle.module_typing.proofs.modules.behind_clauses.Given as goal
-
-abbrev pub invariant-loop-clause : goal.invariant-loop-clause
-invariant-loop-clause l = Goes l.fn.at l.at

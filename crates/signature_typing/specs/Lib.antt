@@ -1,0 +1,2 @@
+-- What the typing of module types does, in the words of faults and signatures.
+pub mod ModuleTypes
