@@ -1,15 +1,15 @@
 -- Which rows the forms of the code are, and what its tokens decide.
-use Rattle.std.proofs.Common.{◌≡◌, ◌∙◌, ◌≢◌, ◌++◌, ◌+◌, ◌||◌, ◌==◌, ◌&&◌, ℕ, Bool, true, false, not, zero, suc, ◌<◌, ◌≤◌, length, drop, arith, List, [], ◌∷◌, map, Option, Some, None, option_map, refl, sym, ap, subst, if◌then◌else◌}
+use Rattle.std.proofs.Common.{◌≡◌, ◌∙◌, ◌++◌, ◌+◌, ◌||◌, ℕ, Bool, true, false, zero, suc, ◌<◌, ◌≤◌, length, drop, arith, List, [], ◌∷◌, map, Option, Some, None, option_map, refl, sym, ap, subst, if◌then◌else◌}
 use Rattle.std.specs.Prelude.{All, codes, slice_get, slice_index_or, Result, Ok, Err, IfOk}
 use Rattle.std.proofs.lemmas.List.Elements.{All-head, All-tail}
 use Rattle.std.specs.Str.{bytes_eq}
 use Rattle.std.proofs.lemmas.Slice.Eq.{bytes_eq-Decides}
 use Rattle.token_model.specs.Kinds.{Tok, Kind, upper, lower, float, false_word}
-use Rattle.tree_model.specs.Rows.{Row, erecord_row, econ_row, epath_row, econst_row, eparen_row, prefix_row, eapp_row, eneg_row, infix_row, eassert_row, ewhile_row, ebegin_row, elist_row, econs_row, etuple_row, eif_row, eseq_row, name_row, hole_row, field_row, efor_row, eset_row}
-use Rattle.tree_model.specs.Trees.{Place, Extent, Tree, Forest, Part, taken, inner, missing, node}
+use Rattle.tree_model.specs.Rows.{Row, erecord_row, econ_row, epath_row, econst_row, eparen_row, prefix_row, eapp_row, eneg_row, infix_row, eassert_row, ewhile_row, ebegin_row, elist_row, econs_row, etuple_row, eif_row, eseq_row, name_row, hole_row}
+use Rattle.tree_model.specs.Trees.{Place, Tree, Forest, Part, taken, inner, missing, node}
 use Rattle.row_parts.specs.Numbered.{Numbered, Written, numbered, operand_view, token_in, path_in, filled_in, all_operands, operands_in, first_in}
 use Rattle.typing_model.specs.Contexts.{Context, tell_typed}
-use Rattle.typing_model.specs.BuiltIns.{float_type, constant, constant_by}
+use Rattle.typing_model.specs.BuiltIns.{float_type, constant_by}
 use Rattle.typing_model.specs.Parts as parts
 use Rattle.typing_model.specs.Parts.{Form, Expression, Child}
 use Rattle.typing_model.specs.Expressions.{expression_row, is_false, is_of, literal_form, under_sign, name_of, operator_applied, constant_expression, typed_all, path_expression, name_form, parenthesised, begun, if_expression, update_expression, record_expression, fields_in, is_some}
@@ -22,11 +22,10 @@ use Rattle.env_table.specs.declared.entries.Entry.{Entry}
 use Rattle.typing_state.specs.declared.parts.Parts.{Parts}
 use Rattle.syntax_tree.specs.View.{tok_of}
 use Rattle.typing_steps.specs.Typing.{TypesRow, TypesTo, TypesAny, AsksEqual}
-use Rattle.operand_laws.specs.Formed.{row_of, is_in, IsFormed}
+use Rattle.operand_laws.specs.Formed.{row_of, is_in}
 use Rattle.operand_laws.specs.Operands.{number_of, parts_of, expression_of}
 use Rattle.operand_laws.proofs.Tokens.{token_stands}
 use Rattle.operand_laws.proofs.Standing.{expression_of_stands}
-use Rattle.operand_laws.proofs.Sorts.{expression_by_row}
 use Rattle.typing_rows.specs.CarriedRows.{is_upper, names_constructor, is_sign, IsCarriedRow, IsTreeOfCarriedRows, IsOfCarriedRows, IsCarried}
 use Rattle.typing_rows.specs.Asked.{under_minus, row_expression, expressions_of, signed_expressions, IsPlainRow, end_of, applied_asks, operated_asks}
 use Rattle.typing_rows.proofs.Going.{none_first, filled_carried, operands_carried, all_carried}

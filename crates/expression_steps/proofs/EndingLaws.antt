@@ -1,10 +1,10 @@
 -- The end of a row whose parts are typed in order, as the code reads the parts: by their places, and by how many there are.
-use Rattle.std.proofs.Common.{◌≡◌, ◌∙◌, ◌⊎◌, inl, inr, ◌++◌, ◌+◌, ◌-◌, ◌<◌, ◌≤◌, ◌==◌, ◌&&◌, ℕ, zero, suc, Bool, true, false, not, List, [], ◌∷◌, map, length, drop, Option, Some, None, option_map, refl, sym, ap, subst, arith}
+use Rattle.std.proofs.Common.{◌≡◌, ◌∙◌, ◌⊎◌, inl, inr, ◌+◌, ◌-◌, ◌<◌, ◌≤◌, ℕ, zero, suc, Bool, true, false, not, List, [], ◌∷◌, map, length, drop, Option, Some, None, refl, sym, ap, subst, arith}
 use Rattle.std.specs.Prelude.{codes, slice_get, slice_index_or, if◌then◌else◌, Result, Ok, Err, OnOk}
 use Rattle.std.specs.Str.{bytes_eq}
 use Rattle.std.proofs.lemmas.List.{drop_more}
 use Rattle.std.proofs.lemmas.Option.{slice_get-get_or}
-use Rattle.tree_model.specs.Rows.{Row, name_row, epath_row, econst_row, hole_row, elist_row, econs_row, eif_row, eassert_row, eneg_row, ewhile_row, ebegin_row, etuple_row, eseq_row}
+use Rattle.tree_model.specs.Rows.{Row, name_row, epath_row, econst_row, hole_row, elist_row, econs_row, eif_row, eassert_row, ewhile_row, ebegin_row, etuple_row, eseq_row}
 use Rattle.tree_model.specs.Trees.{Place, Tree, Forest, inner, node}
 use Rattle.syntax_tree.specs.declared.rows.RowName.{RowName}
 use Rattle.syntax_tree.specs.declared.rows.RowName.TheVariants as name
@@ -19,17 +19,15 @@ use Rattle.expression_steps.specs.Operators.{operator_name, operator_negates, Is
 use Rattle.syntax_tree.specs.Names.{row_of}
 use Rattle.syntax_tree.specs.View.{node_view, tok_of}
 use Rattle.row_parts.specs.declared.slots.Operand.{Operand}
-use Rattle.row_parts.specs.Numbered.{Numbered, numbered, operand_view}
+use Rattle.row_parts.specs.Numbered.{numbered, operand_view}
 use Rattle.type_terms.specs.declared.types.NodeRef.{NodeRef}
-use Rattle.type_nodes.specs.Nodes.{Con, Tuple, IsNode}
+use Rattle.type_nodes.specs.Nodes.{Con, IsNode}
 use Rattle.type_nodes.specs.Changes.{Makes}
 use Rattle.type_nodes.specs.Views.{numbers}
-use Rattle.typing_model.specs.Contexts.{Context, type_at}
+use Rattle.typing_model.specs.Contexts.{Context}
 use Rattle.typing_model.specs.Demands.{Condition}
-use Rattle.typing_model.specs.BuiltIns.{unit_type}
 use Rattle.typing_model.specs.Parts.{Expression, last_of}
 use Rattle.typing_model.specs.Patterns.{behind_first}
-use Rattle.typing_model.specs.Expressions.{is_of, is_false}
 use Rattle.env_table.specs.declared.entries.Entry.{Entry}
 use Rattle.typing_state.specs.declared.parts.Parts.{Parts}
 use Rattle.typing_state.specs.Goes.{Goes, OnlyStore}
@@ -45,19 +43,17 @@ use Rattle.typing_conditions.specs.Surroundings.{Surrounds}
 use Rattle.typing_steps.specs.States.{is_aloud, sight}
 use Rattle.typing_steps.specs.Typing.{as_declared, RowCarried, TypesAny}
 use Rattle.operand_laws.specs.Formed as formed
-use Rattle.operand_laws.specs.Operands.{expression_of}
 use Rattle.use_typing.specs.Uses.{GivenOrNew}
 use Rattle.typing_rows.specs.CarriedRows.{IsCarriedRow, IsTreeOfCarriedRows, IsCarried}
 use Rattle.typing_rows.specs.Asked.{expressions_of, IsPlainRow, end_of, last_asks, assert_ends}
 use Rattle.typing_rows.specs.Contracts.{types_at, AsksAt, AsksLater, AsksLaterFirst, EndsRow}
 use Rattle.typing_rows.proofs.Ending.{reads_at, none_at, later_none, later_more, later_all, ends_still, ends_unit, ends_any, row_of_type, ends_cons, ends_then, ends_else, ends_list, ends_list_none}
-use Rattle.expression_steps.specs.declared.forms.RowForm.{RowForm}
 use Rattle.expression_steps.specs.declared.forms.RowForm.TheVariants as form
 use Rattle.expression_steps.specs.ExpressionSteps.{ExpressionSteps, Value, anything, asked_behind, behind_parts, form_of, has_type, row_at, value_in}
 use Rattle.expression_steps.specs.Leaves.{TellsValue}
 use Rattle.expression_steps.specs.Operators.{is_false_at}
 use Rattle.expression_steps.proofs.ExpressionLaws.{row_of_node}
-use Rattle.expression_steps.proofs.CarryingLaws.{rows_same, number_here, number_missing, part_here, part_missing, false_at}
+use Rattle.expression_steps.proofs.CarryingLaws.{rows_same, number_here, number_missing, false_at}
 
 -- the row of a node of the code
 pub row_named : (nd : Node) (r : RowName) → (out-Node nd).row ≡ r → row_at (node_view nd) ≡ row_of r

@@ -1,5 +1,5 @@
 -- Tokens that decide what a row asks: the operator of a row, and the word `false`.
-use Rattle.std.specs.Prelude.{◌≡◌, ℕ, Bool, true, false, not, codes, Option, Some, None, if◌then◌else◌}
+use Rattle.std.specs.Prelude.{◌≡◌, Bool, true, false, not, codes, Option, Some, None, if◌then◌else◌}
 use Rattle.std.specs.Str.{bytes_eq}
 use Rattle.token_model.specs.Kinds.{Tok, Kind, false_word}
 use Rattle.tree_model.specs.Rows.{Row, econst_row, prefix_row, eneg_row, infix_row}

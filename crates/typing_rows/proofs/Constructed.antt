@@ -1,5 +1,5 @@
 -- A constructor without arguments, from what its use carries.
-use Rattle.std.proofs.Common.{◌≡◌, ◌∙◌, ◌++◌, ◌==◌, ℕ, Bool, true, false, List, [], ◌∷◌, Option, Some, None, refl, sym, ap, append-nil, if◌then◌else◌}
+use Rattle.std.proofs.Common.{◌≡◌, ◌∙◌, ◌++◌, ◌==◌, ℕ, Bool, true, false, List, [], ◌∷◌, Option, Some, None, refl, ap, append-nil, if◌then◌else◌}
 use Rattle.token_model.specs.Kinds.{Tok, Kind, upper}
 use Rattle.tree_model.specs.Rows.{econ_row, epath_row}
 use Rattle.tree_model.specs.Trees.{Place, Tree}
@@ -11,21 +11,15 @@ use Rattle.typing_model.specs.Names.{Built, ask_bound, used_at}
 use Rattle.typing_model.specs.Parts.{Expression, Written, place_of}
 use Rattle.typing_model.specs.Patterns.{built_by, constructor_alone, taken_by, with_built}
 use Rattle.typing_model.specs.Expressions.{expression_row, constructor_expression, path_expression}
-use Rattle.type_nodes.specs.Readings.{Types}
-use Rattle.level_unify.specs.Solutions.{Loose}
 use Rattle.env_table.specs.declared.entries.Entry.{Entry}
 use Rattle.typing_state.specs.declared.parts.Parts.{Parts}
-use Rattle.typing_conditions.specs.Sights.{own, value_of, Letters, Agrees}
-use Rattle.typing_conditions.specs.Frames.{Frame}
-use Rattle.typing_conditions.specs.Judging.{AreKept}
-use Rattle.typing_conditions.specs.Carrying.{Scope, IsUnder}
+use Rattle.typing_conditions.specs.Sights.{own}
 use Rattle.typing_conditions.proofs.Carried.{carried_as, carried_refl}
 use Rattle.typing_conditions.proofs.Nodes.{same_made}
 use Rattle.typing_conditions.proofs.Recording.{ends_own}
 use Rattle.typing_conditions.proofs.Branching.{carried_after}
-use Rattle.typing_steps.specs.States.{sight}
 use Rattle.typing_steps.specs.Typing.{TypesRow}
-use Rattle.typing_steps.specs.Building.{building_in, used_by, construction_asks, BuildsKnown, BuildsUnknown, TypesConstructor}
+use Rattle.typing_steps.specs.Building.{building_in, construction_asks, TypesConstructor}
 use Rattle.operand_laws.specs.Formed.{row_of}
 use Rattle.operand_laws.specs.Operands.{number_of, parts_of, path_of}
 use Rattle.operand_laws.proofs.Tokens.{path_stands}

@@ -8,26 +8,21 @@ use Rattle.row_parts.specs.Numbered.{filled_in, path_in}
 use Rattle.signature_model.specs.Declarations.{Declaration, Label, type_of}
 use Rattle.signature_model.specs.Entries.{label_kind}
 use Rattle.typing_model.specs.Demands.{Condition, site, label_word}
-use Rattle.typing_model.specs.Contexts.{Context, is_kept, type_at}
+use Rattle.typing_model.specs.Contexts.{Context, is_kept}
 use Rattle.typing_model.specs.Names.{ask_bound, used_at}
 use Rattle.typing_model.specs.Parts.{Expression, Written}
 use Rattle.typing_model.specs.Expressions.{has_type, is_of, label_found, field_asks, field_expression}
-use Rattle.type_nodes.specs.Readings.{Types}
-use Rattle.level_unify.specs.Solutions.{Loose}
 use Rattle.env_table.specs.declared.entries.Entry.{Entry}
 use Rattle.typing_state.specs.declared.parts.Parts.{Parts}
 use Rattle.typing_state.specs.Goes.{Goes}
-use Rattle.typing_conditions.specs.Sights.{own, value_of, Letters, Agrees}
-use Rattle.typing_conditions.specs.Frames.{Frame}
-use Rattle.typing_conditions.specs.Judging.{AreKept}
-use Rattle.typing_conditions.specs.Carrying.{Scope, IsUnder, Carried}
+use Rattle.typing_conditions.specs.Sights.{own}
 use Rattle.typing_conditions.proofs.Carried.{carried_as, carried_trans}
 use Rattle.typing_conditions.proofs.Meaning.{means_on}
 use Rattle.typing_conditions.proofs.Nodes.{same_made}
 use Rattle.typing_conditions.proofs.Recording.{ends_own}
 use Rattle.typing_conditions.proofs.Branching.{carried_after}
 use Rattle.typing_conditions.proofs.Surrounding.{surrounds_on}
-use Rattle.typing_steps.specs.States.{is_aloud, sight}
+use Rattle.typing_steps.specs.States.{is_aloud}
 use Rattle.typing_steps.specs.Typing.{TypesTo, TypesAny, TypesRow, AsksEqual}
 use Rattle.operand_laws.specs.Formed.{row_of, IsFormed}
 use Rattle.operand_laws.specs.Operands.{number_of, path_of, expression_of}
@@ -35,7 +30,7 @@ use Rattle.typing_rows.specs.Asked.{under_minus, row_expression}
 use Rattle.typing_rows.proofs.Ending.{row_as}
 use Rattle.typing_rows.proofs.Terms.{field_term}
 use Rattle.typing_rows.proofs.Typed.{under_as}
-use Rattle.typing_steps.specs.Building.{used_by, label_asks, label_in_scope, IsLabelOf, LabelKnown, LabelUnknown, TypesLabel, TypesNoLabel}
+use Rattle.typing_steps.specs.Building.{used_by, label_asks, label_in_scope, IsLabelOf, TypesLabel, TypesNoLabel}
 
 -- what is asked of the left part and of the node, by the label that is found
 abbrev pub ends_as_label : Context → ℕ → Expression → Option (Declaration × Label) → List Condition
@@ -74,7 +69,7 @@ field_typed a b d f {env} n e qs last ty record_node field mutable left goes lab
     let k = label (ap is_aloud goes.telling ∙ aloud) F scope G n n (surrounds_on x.carried.stays names) in
     let q = equal (ap is_aloud goes'.telling ∙ ap is_aloud goes.telling ∙ aloud) F scope (k.letters ++ G) (site n 1) (λ ch. ch.type_at e.node) (used_by n k.owner) (means_on k.carried.stays x.means) k.of_record in
     let behind = carried_after k.carried (λ V c loose under agrees kept. ap (ends_as_label c n e) (ap (λ v. if v then label_in_scope c.env p else None) (k.kept c kept)) ∙ found_ends c n e (label_in_scope c.env p) k.owner k.body (k.finds V c loose under agrees))
-        (carried_trans q (same_made (own n) (λ t. tt) (means_on q.stays k.of_field))) in
+    (carried_trans q (same_made (own n) (λ t. tt) (means_on q.stays k.of_field))) in
     record {
       own = (own n, field) ∷ k.letters;
       type = λ ch. ch.type_at n;

@@ -29,7 +29,9 @@ use Rattle.typing_conditions.specs.Sights.{Sight, Letters, Agrees}
 use Rattle.typing_conditions.specs.Frames.{Frame, Reaches, IsRoot}
 use Rattle.typing_conditions.specs.Meanings.{Means, KnowsFixed, KnowsWritten}
 use Rattle.typing_conditions.specs.Carrying.{Scope}
+use Rattle.typing_declarations.proofs.Later.{declared_after, exception_after}
 use Rattle.typing_conditions.specs.Surroundings.{Declared, IsSteady, Surrounds}
+use Rattle.typing_steps.specs.Typing.{as_declared}
 use Rattle.typing_conditions.proofs.Inward.{fixed_nodes}
 use Rattle.typing_conditions.proofs.Making.{made_here}
 use Rattle.typing_steps.specs.States.{sight}
@@ -81,6 +83,10 @@ constants_known a reached roots h = record {
   bool = type_means a a.constants.bool _ reached (roots 5 a.constants.bool.0 refl) (λ v. refl) h.bool;
   exn = type_means a a.constants.exn _ reached (roots 6 a.constants.exn.0 refl) (λ v. refl) h.exn;
 }
+
+-- What stands for a declaration or an exception does so later on, and among more roots.
+pub declared_steady : IsSteady as_declared
+declared_steady = record { declaration = λ before step more h. declared_after before step more h; exception = λ before step more h. exception_after before step more h }
 
 -- The start of an item, where the free variables of the roots are of at most its level.
 module _ (a : Sight) (J : Types) (roots : List ℕ) (sound : IsSound a.nodes) (own : IsOwn a.nodes J) (context : IsContext a.nodes J roots a.level) (free : a.level < bound_level) where

@@ -1,5 +1,5 @@
 -- What uses of constructors and labels carry of the conditions that the definitions ask.
-use Rattle.std.proofs.Common.{◌≡◌, ◌∙◌, ◌⊎◌, inl, inr, ℕ, Bool, true, false, List, Option, Some, None, refl, sym, ap, subst}
+use Rattle.std.proofs.Common.{◌≡◌, ◌∙◌, ◌⊎◌, inl, inr, ℕ, true, List, Option, Some, None, refl, sym, ap, subst}
 use Rattle.std.specs.Prelude.{option_map, Result, Ok, Err, IfOk}
 use Rattle.std.specs.declared.alloc.AllocError.{AllocError}
 use Rattle.token_model.specs.Kinds.{Tok}
@@ -33,7 +33,7 @@ use Rattle.typing_steps.proofs.Constructing.{SplitsInto, constructor_known, cons
 use Rattle.typing_steps.proofs.Labelling.{label_lost, label_in_hole, label_missing, label_splits, label_root_inside, label_known, found_label}
 use Rattle.use_typing.specs.declared.uses.Construction.{Construction}
 use Rattle.use_typing.specs.declared.uses.LabelUse.{LabelUse}
-use Rattle.use_typing.specs.Uses.{taken_by, TellsCountsLast, TellsCounts, InstanceOf, BySides, IsNoArrow, BuildsBy, BuildsNew, SidesOf, UsesLabel, UsesLabelIf, TypesLabelIf}
+use Rattle.use_typing.specs.Uses.{taken_by, TellsCountsLast, BySides, IsNoArrow, BuildsBy, BuildsNew, SidesOf, UsesLabel, UsesLabelIf, TypesLabelIf}
 use Rattle.use_typing.proofs.Telling.{behind}
 
 -- the node of the argument's type
@@ -107,8 +107,8 @@ label_typed a b e {env} given qs t l u bound is uses rest aloud F scope G n own 
             (label_known a b given qs t n names aloud bound finds is_label e own (subst (λ z. IsSound z.store.nodes) (sym stays) (uses.instance.sound inside)) (subst (λ z. Instantiated b.store.nodes z.store.nodes l.root.0 (level_for b.level) uses.node.0) (sym stays) (uses.instance.instance inside)) rest
             (subst (λ z. reading z.store.nodes uses.node.0 ≡ Some (Arrow u.record.0 u.field.0)) (sym stays) reads))
         here (inr (none, between, from, to)) = absurd (
-          let (x, y, reads) = label_splits a b given qs t n names aloud bound finds is_label uses.made.store.nodes (uses.instance.sound inside) (uses.instance.instance inside) in
-          none x y (uses.instance.instance inside).inside reads)
+            let (x, y, reads) = label_splits a b given qs t n names aloud bound finds is_label uses.made.store.nodes (uses.instance.sound inside) (uses.instance.instance inside) in
+            none x y (uses.instance.instance inside).inside reads)
 
 -- a label, if one is found
 pub label_carried : (a b e : Parts) (env : List Entry) (u : Option LabelUse) (given : Option Entry) (qs : List Tok) (last : Option Tok) → BoundLastIs last kind.Label given a b env qs → UsesLabelIf (behind label_in given) b e u →
@@ -124,8 +124,8 @@ label_carried a b e env u given qs (Some t) bound uses none rest = by (behind la
       where
         at : (f : FoundAmong Entry) → found_at env qs kind.Label t ≡ f → BoundIs f given a b (lost_among env qs) t word.Label → LabelUnknown F scope (sight a) G (sight b) n (record { qualifiers = qs; last = Some t })
         at (an_entry x) finds same = absurd (
-          let (l, there) = found_label a qs t names finds in
-          let f : Some l ≡ None = sym there ∙ sym (ap (behind label_in) same.0) ∙ nothing_there in cc)
+            let (l, there) = found_label a qs t names finds in
+            let f : Some l ≡ None = sym there ∙ sym (ap (behind label_in) same.0) ∙ nothing_there in cc)
         at a_hole finds same = label_in_hole a b given qs t n names aloud bound finds
         at nothing finds same = label_lost a b given qs t n names aloud bound finds
 

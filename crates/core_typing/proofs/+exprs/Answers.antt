@@ -1,9 +1,9 @@
 use Rattle.std.proofs.Common.{◌≡◌, ◌∙◌, ◌++◌, ◌+◌, ◌<◌, [], ◌∷◌, length, map, drop, sym, ap, subst, arith, length-append, refl, rules, ◌==◌, ℕ, List}
-use Rattle.std.specs.Prelude.{OnOk, None, option_map, All, IfOk, Some}
+use Rattle.std.specs.Prelude.{OnOk, None, option_map, All, Some}
 use Rattle.syntax_tree.specs.Names.{row_of}
 use Rattle.syntax_tree.specs.View.{node_view, place_of, tok_of}
 use Rattle.syntax_tree.specs.declared.tree.Node.{out-Node}
-use Rattle.row_parts.specs.Numbered.{operand_view, path_view, filled_in, operands_in, numbered, all_operands}
+use Rattle.row_parts.specs.Numbered.{operand_view, path_view, filled_in, operands_in}
 use Rattle.typing_state.specs.Steps.{records, each, Follows, GetsOn, asks}
 use Rattle.typing_state.proofs.Going.{goes_trans, goes_refl}
 use Rattle.typing_state.proofs.Following.{ends_both, ends_before, follows_both, follows_behind, gets_start, gets_more, store_silent, follows_before, follows_none, ends_behind}
@@ -24,24 +24,22 @@ use Rattle.core_typing.proofs.BindingLaws.{first_gets, let_follow, no_token, rig
 use Rattle.use_typing.specs.Constants.{is_negated}
 use Rattle.expression_steps.proofs.LeafLaws.{alone_missing, alone_there, records_silent}
 use Rattle.std.proofs.lemmas.List.{drop_all}
-use Rattle.tree_model.specs.Trees.{inner}
-use Rattle.tree_model.specs.Rows.{eapp_row}
 use Rattle.type_nodes.specs.Views.{numbers}
 use Rattle.typing_model.specs.Parts.{Expression}
 use Rattle.row_parts.specs.declared.slots.Operand.{Operand}
-use Rattle.operand_laws.specs.Operands.{number_of, expression_of}
+use Rattle.operand_laws.specs.Operands.{expression_of}
 use Rattle.operand_laws.proofs.Standing.{expression_of_stands}
 use Rattle.typing_steps.specs.Typing.{TypesTo, TypesRow}
 use Rattle.typing_rows.specs.CarriedRows.{IsCarried}
-use Rattle.typing_rows.specs.Asked.{under_minus, row_expression, expressions_of, signed_expressions, applied_asks, operated_asks, IsPlainRow, end_of}
-use Rattle.typing_rows.specs.Contracts.{TypesAs, TypesGiven, TypesParts, EndsRow, AsksBehind}
-use Rattle.typing_rows.proofs.Going.{filled_carried, operands_carried, all_carried}
+use Rattle.typing_rows.specs.Asked.{under_minus, expressions_of, signed_expressions, applied_asks, IsPlainRow, end_of}
+use Rattle.typing_rows.specs.Contracts.{TypesAs, TypesParts, EndsRow, AsksBehind}
+use Rattle.typing_rows.proofs.Going.{filled_carried}
 use Rattle.typing_rows.proofs.Recorded.{row_typed, missing_typed}
-use Rattle.typing_rows.proofs.Given.{types_as, types_argument, given_none, given_all, each_none, each_all}
+use Rattle.typing_rows.proofs.Given.{types_argument, given_none, given_all, each_none, each_all}
 use Rattle.typing_rows.proofs.Ordered.{part_typed, parts_none, parts_all}
-use Rattle.typing_rows.proofs.Typed.{applied_typed, application_typed, operated_typed, unoperated_typed, paren_typed, ordered_typed, float_typed, signed_row}
+use Rattle.typing_rows.proofs.Typed.{applied_typed, operated_typed, signed_row}
 use Rattle.typing_steps.proofs.Rows.{equal_asks}
-use Rattle.expression_steps.proofs.CarryingLaws.{some_none, if_ok, if_any, both_ok, usual_by, by_operation, form_there, paren_row, plain_row, operation_row, operation_missing, minus_float, minus_operation, application_row, operand_no_constructor, argument_typed, each_step, given_step, parts_step, rows_same, by_application, by_minus, by_paren, by_plain, no_annotation, float_there, operator_some, operator_none}
+use Rattle.expression_steps.proofs.CarryingLaws.{some_none, if_ok, if_any, both_ok, usual_by, by_operation, form_there, paren_row, plain_row, operation_row, operation_missing, minus_float, minus_operation, application_row, operand_no_constructor, argument_typed, each_step, given_step, parts_step}
 use Rattle.std.specs.Option.{IfSome}
 use Rattle.expression_steps.specs.Operators.{sign_in, IsSignOf}
 use Rattle.core_typing.proofs.+exprs.Goals.{plain::type_parts-then-place-eq2, plain::type_parts-else-place-eq2}

@@ -1,7 +1,4 @@
 use Rattle.std.proofs.Common.{map, sym, subst}
-use Rattle.syntax_tree.specs.Names.{row_of}
-use Rattle.syntax_tree.specs.View.{node_view}
-use Rattle.syntax_tree.specs.declared.tree.Node.{out-Node}
 use Rattle.type_nodes.specs.Views.{numbers}
 use Rattle.row_parts.specs.Numbered.{operand_view}
 use Rattle.typing_state.specs.Steps.{Follows}

@@ -1,5 +1,5 @@
-use Rattle.std.proofs.Common.{◌≡◌, ◌∙◌, map, sym, slice_get}
-use Rattle.tree_model.specs.Rows.{elist_row, econs_row, etuple_row, eif_row, ebegin_row, eseq_row, eassert_row, ewhile_row}
+use Rattle.std.proofs.Common.{◌∙◌, map, sym}
+use Rattle.tree_model.specs.Rows.{elist_row, econs_row, etuple_row, eif_row, ebegin_row, eseq_row, eassert_row}
 use Rattle.type_nodes.specs.Views.{numbers}
 use Rattle.row_parts.specs.Numbered.{operand_view}
 use Rattle.typing_rows.specs.Asked.{expressions_of}
@@ -10,7 +10,7 @@ use Rattle.typing_state.proofs.Following.{ends_silent, store_silent}
 use Rattle.expression_steps.specs.ExpressionSteps.{asked_behind, expression_at, has_type}
 use Rattle.expression_steps.proofs.ExpressionLaws.{types_no_record}
 use Rattle.expression_steps.proofs.CarryingLaws.{if_ok, if_any, both_ok, number_here, number_missing}
-use Rattle.expression_steps.proofs.EndingLaws.{as_named, is_begin, is_list, is_cons, is_tuple, is_seq, is_if, is_assert, is_while, begin_ends, begin_empty, seq_ends, set_apart, others_apart, false_ends, assert_ends_unit, one_apart, none_apart, while_or_for, last_at}
+use Rattle.expression_steps.proofs.EndingLaws.{as_named, is_begin, is_list, is_cons, is_tuple, is_seq, is_if, is_assert, begin_ends, begin_empty, seq_ends, set_apart, others_apart, false_ends, assert_ends_unit, one_apart, none_apart, while_or_for, last_at}
 use Rattle.typing_steps.proofs.Rows.{var_any}
 use Rattle.expression_steps.proofs.ends.type_of.Goals.{in_default-first-via-in-Some-first+else-is_false, in_default-first-via-in_default-first}
 use Rattle.syntax_tree.specs.declared.rows.RowName.TheVariants as name

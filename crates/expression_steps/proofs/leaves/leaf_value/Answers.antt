@@ -1,4 +1,4 @@
-use Rattle.std.proofs.Common.{◌∙◌, sym, ap, subst}
+use Rattle.std.proofs.Common.{◌∙◌, sym, subst}
 use Rattle.syntax_tree.specs.View.{node_view}
 use Rattle.operand_laws.specs.Operands.{number_of}
 use Rattle.typing_model.specs.Expressions.{value_asks}

@@ -1,4 +1,4 @@
-use Rattle.std.proofs.Common.{refl, ◌≡◌, ◌∙◌, ◌==◌, ◌&&◌, true, false, sym, ap, subst}
+use Rattle.std.proofs.Common.{refl, ◌∙◌, ◌==◌, ◌&&◌, sym, ap}
 use Rattle.syntax_tree.specs.Names.{row_of}
 use Rattle.row_parts.specs.Numbered.{operand_view}
 use Rattle.typing_state.proofs.Going.{goes_refl}
@@ -6,7 +6,7 @@ use Rattle.typing_state.proofs.Following.{follows_silent}
 use Rattle.expression_steps.specs.ExpressionSteps.{expression_at, behind_part_steps}
 use Rattle.expression_steps.proofs.ExpressionLaws.{behind_part_no_record}
 use Rattle.operand_laws.specs.Operands.{expression_of}
-use Rattle.typing_rows.specs.Asked.{IsPlainRow, wants_bool}
+use Rattle.typing_rows.specs.Asked.{wants_bool}
 use Rattle.typing_rows.proofs.Ordered.{behind_bool, behind_none}
 use Rattle.expression_steps.proofs.CarryingLaws.{false_at}
 use Rattle.expression_steps.proofs.EndingLaws.{on_more, on_any, for_apart, set_apart}

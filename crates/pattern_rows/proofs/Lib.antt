@@ -1,0 +1,9 @@
+-- The laws of rows of patterns.
+pub mod Naming
+pub mod Recorded
+pub mod Terms
+pub mod Leaves
+pub mod Ordered
+pub mod Typed
+pub mod Listed
+pub mod Beside

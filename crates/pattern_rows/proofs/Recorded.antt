@@ -1,0 +1,92 @@
+-- A row of patterns, once its type is recorded, is a matched pattern.
+use Rattle.std.proofs.Common.{◌≡◌, ◌∙◌, ℕ, true, List, [], Some, None, refl, sym, ap, subst}
+use denote.Ref.{Bor}
+use Rattle.tree_model.specs.Trees.{Place, Tree, inner, missing}
+use Rattle.signature_model.specs.Declarations.{Name}
+use Rattle.syntax_tree.specs.View.{place_of, node_view}
+use Rattle.syntax_tree.specs.declared.tree.Node.{Node}
+use Rattle.row_parts.specs.declared.slots.Operand.{Operand}
+use Rattle.row_parts.specs.Numbered.{numbered, operand_view, part_of}
+use Rattle.typing_model.specs.Parts.{Pattern, no_pattern_at}
+use Rattle.typing_model.specs.Meanings.{recorded_pattern}
+use Rattle.type_terms.specs.declared.types.NodeRef.{NodeRef}
+use Rattle.env_table.specs.declared.entries.Entry.{Entry}
+use Rattle.env_table.specs.declared.seen.Seen.{Seen}
+use Rattle.typing_state.specs.declared.parts.Parts.{Parts}
+use Rattle.typing_state.specs.Goes.{Goes, OnlyStore, OnlyIndex}
+use Rattle.typing_state.specs.Notes.{Noted, NotedNameless}
+use Rattle.typing_state.specs.Types.{MakesVar, any_scope}
+use Rattle.typing_conditions.specs.Sights.{Sight, Letters, number_in}
+use Rattle.typing_conditions.specs.Frames.{Frame}
+use Rattle.typing_conditions.specs.Steps.{Records}
+use Rattle.typing_conditions.specs.Carrying.{Scope}
+use Rattle.typing_conditions.proofs.Recording.{records_stay}
+use Rattle.typing_conditions.proofs.Answering.{to_as}
+use Rattle.typing_steps.specs.States.{is_aloud, sight}
+use Rattle.typing_steps.proofs.Rows.{row_carried, row_any, var_any}
+use Rattle.typing_steps.proofs.Recording.{type_noted, nameless_noted}
+use Rattle.operand_laws.specs.Operands.{number_of, pattern_of}
+use Rattle.operand_laws.proofs.Standing.{pattern_of_stands}
+use Rattle.operand_laws.proofs.Sorts.{pattern_by_row}
+use Rattle.pattern_rows.specs.Bounds.{Bind, none_bound, Adds}
+use Rattle.pattern_rows.specs.Contracts.{row_pattern, MatchedTo, MatchesTo, Matches, RowMatched, MatchesRow}
+use Rattle.pattern_rows.proofs.Naming.{adds_none}
+
+-- the row of a node, once its type is recorded
+pub row_recorded : {F : Frame} {scope : Scope} {a b d : Sight} {G : Letters} {p : Pattern} {seen : List Name} {added : List Bind} {n number m : ℕ} → number_in b.item number ≡ n → p.node ≡ n → RowMatched F scope a G b p seen added n m → Records b d number m →
+    MatchedTo F scope a G d (recorded_pattern n p) seen added m
+row_recorded {d = d} place node row r =
+    let whole = row_carried place row.row r in
+    record { typed = to_as (λ c. refl) (λ ch. ap ch.type_at (sym node)) whole; names = row.names d (records_stay r row.row.typed.means.open_node.inside) whole.means }
+
+-- A node that is a pattern: its row, and the record of its type.
+pub node_matched : (a b d : Parts) (env : List Entry) (number : ℕ) (at : Place) (t : Tree) (ty : NodeRef) (noted_as : Seen) (seen : List Name) (added : List Bind) → noted_as.ty ≡ Some ty → MatchesRow a b env (row_pattern a.item number at t) seen added (number_of a.item number) ty.0 →
+    Goes a b → Noted b.telling b d number noted_as → OnlyIndex b d → MatchesTo a d env (pattern_of a.item (numbered number at (inner t))) seen added ty.0
+node_matched a b d env number at t ty noted_as seen added is row goes noted rest = λ aloud F scope G s.
+    let loud : is_aloud b.telling ≡ true = ap is_aloud goes.telling ∙ aloud in
+    let here = pattern_by_row a.item number at t in
+    let node : (row_pattern a.item number at t).node ≡ number_of a.item number = sym (ap (λ p. p.node) here) ∙ (pattern_of_stands a.item (numbered number at (inner t))).number in
+    subst (λ p. MatchedTo F scope (sight a) G (sight d) p seen added ty.0) (sym here) (row_recorded (ap (λ i. number_in i number) goes.item) node (row aloud F scope G s) (type_noted b d number ty noted_as is loud noted rest))
+
+-- the same of a node without names of its own
+pub nameless_matched : (a b d : Parts) (env : List Entry) (number : ℕ) (at : Place) (t : Tree) (ty : NodeRef) (seen : List Name) (added : List Bind) → MatchesRow a b env (row_pattern a.item number at t) seen added (number_of a.item number) ty.0 →
+    Goes a b → NotedNameless b d number env (Some ty) → OnlyIndex b d → MatchesTo a d env (pattern_of a.item (numbered number at (inner t))) seen added ty.0
+nameless_matched a b d env number at t ty seen added row goes (names, none, noted) rest = node_matched a b d env number at t ty (record { env = env; ty = Some ty; names = names }) seen added refl row goes noted rest
+
+-- the same with the names that are added
+pub node_matches : (a d : Parts) (env : List Entry) (number : ℕ) (at : Place) (t : Tree) (names more added : List Bind) (seen then : List Name) (m : ℕ) → Adds names more added seen then (row_pattern a.item number at t).mentions →
+    MatchesTo a d env (pattern_of a.item (numbered number at (inner t))) seen added m → Matches a d env (pattern_of a.item (numbered number at (inner t))) names more seen then m
+node_matches a d env number at t names more added seen then m adds typed = record {
+  added = added;
+  adds = subst (λ p. Adds names more added seen then p.mentions) (sym (pattern_by_row a.item number at t)) adds;
+  typed = typed;
+}
+
+-- A pattern that is there, by its node.
+pub operand_matched : (a b : Parts) (env : List Entry) (o : Operand) (nd : Bor Node) (names more : List Bind) (seen then : List Name) (m : ℕ) → o.node ≡ Some nd →
+    ((place : Place) → Matches a b env (pattern_of a.item (numbered o.number place (inner (node_view nd.now)))) names more seen then m) → Matches a b env (pattern_of a.item (operand_view o)) names more seen then m
+operand_matched a b env o nd names more seen then m there matched =
+    let same : numbered o.number (place_of o.span) (inner (node_view nd.now)) ≡ operand_view o = ap (λ x. numbered o.number (place_of o.span) (part_of x o.span)) (sym there) in
+    subst (λ x. Matches a b env (pattern_of a.item x) names more seen then m) same (matched (place_of o.span))
+
+-- A pattern that is missing: any type, once that is recorded.
+pub missing_matched : (a b d : Parts) (env : List Entry) (o : Operand) (ty : NodeRef) (seen : List Name) → o.node ≡ None → MakesVar a b ty.0 any_scope → OnlyStore a b → Goes a b → NotedNameless b d o.number env (Some ty) → OnlyIndex b d →
+    MatchesTo a d env (pattern_of a.item (operand_view o)) seen [] ty.0
+missing_matched a b d env o ty seen none made rest goes noted only = λ aloud F scope G s.
+    let n = number_of a.item o.number in
+    let loud : is_aloud b.telling ≡ true = ap is_aloud goes.telling ∙ aloud in
+    let row : RowMatched F scope (sight a) G (sight b) (no_pattern_at n (place_of o.span)) seen [] n ty.0 = record { row = row_any a b {env = env} n (var_any a b made rest) aloud F scope G s; names = λ e st h. none_bound } in
+    let same : numbered o.number (place_of o.span) (missing (place_of o.span)) ≡ operand_view o = ap (λ m. numbered o.number (place_of o.span) (part_of m o.span)) (sym none) in
+    subst (λ x. MatchedTo F scope (sight a) G (sight d) (pattern_of a.item x) seen [] ty.0) same
+    (row_recorded (ap (λ i. number_in i o.number) goes.item) refl row (nameless_noted b d o.number env ty loud noted only))
+
+-- The same with the names that are added: there are none.
+pub missing_matches : (a b d : Parts) (env : List Entry) (o : Operand) (ty : NodeRef) (names : List Bind) (seen : List Name) → o.node ≡ None → MakesVar a b ty.0 any_scope → OnlyStore a b → Goes a b → NotedNameless b d o.number env (Some ty) → OnlyIndex b d →
+    Matches a d env (pattern_of a.item (operand_view o)) names names seen seen ty.0
+missing_matches a b d env o ty names seen none made rest goes noted only =
+    let same : numbered o.number (place_of o.span) (missing (place_of o.span)) ≡ operand_view o = ap (λ m. numbered o.number (place_of o.span) (part_of m o.span)) (sym none) in
+    record {
+      added = [];
+      adds = subst (λ x. Adds names names [] seen seen (pattern_of a.item x).mentions) same (adds_none names seen);
+      typed = missing_matched a b d env o ty seen none made rest goes noted only;
+    }
