@@ -1,0 +1,3 @@
+mod Kept
+mod Several
+mod Stepping
