@@ -1,13 +1,14 @@
-//! What is found of the types and names of a text, and the trait of what finds it.
-//! It keeps nothing, and knows nothing of how types are found: the typer is one `Analyser`, and a session takes any.
+//! What is found of the types and names of a text, and the trait of what finds it and keeps it while the text is edited.
+//! It keeps nothing itself, and knows nothing of how types are found: the typer is one `Analyser`, and a session takes any.
 //! It is built on the tables that an analysis fills: the nodes of types, environments, and the records of a tree's nodes.
-//! The layer above may use the fields of an `Analysis`, and `Analyser::analyse`, which says of the counter that it goes on,
-//! and that each item of the text is counted as typed.
+//! The layer above may use the fields of an `Analysis`, and an `Analyser`: `refresh` says which trees it holds, and that each item
+//! is counted as typed but for those in front that are as they were.
 #![tactic(auto)]
 
-ghost use Rattle.std.specs.Prelude.{◌≡◌, length, OnOk};
+ghost use Rattle.std.specs.Prelude.{◌≡◌, ℕ, [], ◌-◌, length, take, IfOk, OnOk, OnErr};
 ghost use Rattle.syntax_tree.specs.Tallies.{Grows};
-ghost use Rattle.analysis_api.specs.Typed.{more_typed};
+ghost use Rattle.syntax_tree.specs.View.{trees_of};
+ghost use Rattle.analysis_api.specs.Typed.{more_typed, SameFront};
 
 use env_table::{Env, Faults, Seen};
 use std::alloc::Global;
@@ -16,26 +17,44 @@ use type_nodes::{NodeRef, Store};
 use typed_index::TypedIndex;
 
 /// What is found of a text's types and names.
-#[derive(Drop)]
-pub struct Analysis {
+#[derive(Clone, Copy)]
+pub struct Analysis<'a> {
     /// The nodes of the recorded types.
-    pub store: Store,
+    pub store: &'a Store,
     /// What is recorded for each node and each missing operand.
-    pub index: TypedIndex<Seen>,
+    pub index: &'a TypedIndex<Seen>,
     /// What is wrong with types and names, and what matches miss, in the order of the demands.
-    pub faults: Faults,
+    pub faults: &'a Faults,
     /// The names in scope after the last item.
-    pub end: Env,
+    pub end: &'a Env,
     /// The variables that are free in the types of these names.
-    pub weak: Vec<NodeRef>,
+    pub weak: &'a [NodeRef],
 }
 
-/// What finds the types and names of texts. A session names it by its type, and needs no value of it.
-pub trait Analyser {
-    /// What is found of the types and names of a text with this tree. Each item of the text is counted as typed, once.
-    fn analyse<C: Counts>(alloc: Global, tree: &Tree, counts: &mut C) -> Result<Analysis, NoMemory>
+/// What finds the types and names of a text, and keeps them from one tree of the text to the next.
+pub trait Analyser: Drop {
+    ghost use Rattle.std.specs.Prelude.{List};
+    ghost use Rattle.tree_model.specs.Trees as plain;
+
+    /// The trees of the items whose types and names it holds.
+    ghost items: { Self → List plain.Tree };
+
+    /// What every text has at hand, and no item. The prelude's tokens are counted, and no item.
+    fn new<C: Counts>(alloc: Global, counts: &mut C) -> Result<Self, NoMemory>
+        ensures items { IfOk result (λ a. items a ≡ []) }
         ensures grows { Grows (C.tallies counts.old) (C.tallies counts.new) }
-        ensures typed { OnOk result ((C.tallies counts.new).typed ≡ more_typed (length tree.now.items.items) (C.tallies counts.old).typed) };
+        ensures untyped { OnOk result ((C.tallies counts.new).typed ≡ (C.tallies counts.old).typed) };
+
+    /// Finds the types and names of a text with this tree. Items at the front that it holds already stay as they are; each item after
+    /// them is typed, and counted once. After `NoMemory` it holds some of the items at the front, and can be asked again.
+    fn refresh<C: Counts>(&mut self, tree: &Tree, counts: &mut C) -> Result<(), NoMemory>
+        ensures items { OnOk result (items self.new ≡ trees_of tree.now) }
+        ensures failed { OnErr result ((n : ℕ) × (items self.new ≡ take n (trees_of tree.now))) }
+        ensures typed { OnOk result ((n : ℕ) × SameFront (items self.old) (trees_of tree.now) n × ((C.tallies counts.new).typed ≡ more_typed (length tree.now.items.items - n) (C.tallies counts.old).typed)) }
+        ensures grows { Grows (C.tallies counts.old) (C.tallies counts.new) };
+
+    /// What is found of the items that it holds, after a `refresh` that succeeded.
+    fn found(&self) -> Analysis<'_>;
 
     /// The text of the prelude, whose names every text has at hand; its lines are counted from 1.
     fn prelude() -> &'static str;

@@ -1,5 +1,5 @@
 //! Where a structure or a signature stands while its items are typed.
-ghost use Rattle.std.specs.Prelude.{◌≡◌, ◌∷◌, ◌++◌, [], ℕ, List, false, if◌then◌else◌, true, option_map, IfOk, OnOk, OnErr};
+ghost use Rattle.std.specs.Prelude.{◌≡◌, ◌∷◌, ◌++◌, [], ℕ, List, false, if◌then◌else◌, true, option_map, take, IfOk, OnOk, OnErr};
 ghost use Rattle.std.specs.Str.{bytes_eq};
 ghost use Rattle.std.specs.HashSet.{contains_text};
 ghost use Rattle.env_table.specs.declared.entries.Kind.{Kind};
@@ -62,6 +62,16 @@ fn in_front(
     match names.insert(0, Some(entry)) {
         Ok(()) => Ok(names),
         Err(_) => Err(AllocError),
+    }
+}
+
+/// The first of some values, so many where there are as many.
+fn first_of<T: Drop>(values: &[T], count: usize) -> &[T]
+    ensures { result.now ≡ take count values.now }
+{
+    match values.get(..count) {
+        Some(front) => front,
+        None => values,
     }
 }
 
@@ -251,5 +261,42 @@ impl Scene {
             Sig::Functor(_, _) => Ok(()),
             Sig::Hole => Ok(()),
         }
+    }
+
+    /// The name of each entry stands here after this.
+    fn note_all(&mut self, alloc: Global, entries: &[Rc<Entry>]) -> Result<(), NoMemory>
+        ensures noted { OnOk result ((k : Kind) (n : List ℕ) → has_name self.new k n ≡ with_names (has_name self.old) (entries_of entries.now) k n) }
+        ensures rest { OnlyNames self.old self.new }
+    {
+        for entry in entries {
+            self.note(alloc, entry.kind, entry.name.as_str())?;
+        }
+        Ok(())
+    }
+
+    /// A scene with fewer items: this environment, the first of the components and of the origins, and the names of these
+    /// components alone.
+    pub fn front(
+        &self,
+        at: &Parts,
+        env: Env,
+        components: usize,
+        makes: usize,
+    ) -> Result<Scene, NoMemory>
+        ensures env { IfOk result (λ s. s.env ≡ env) }
+        ensures components { IfOk result (λ s. entries_of s.components.items ≡ entries_of (take components self.now.components.items)) }
+        ensures makes { IfOk result (λ s. paths_of s.makes.items ≡ paths_of (take makes self.now.makes.items)) }
+        ensures names { IfOk result (λ s. (k : Kind) (n : List ℕ) → has_name s k n ≡ with_names (λ j m. false) (entries_of (take components self.now.components.items)) k n) }
+    {
+        let mut scene = Scene::new(at.alloc(), env);
+        let front = first_of(self.components.as_slice(), components);
+        scene.note_all(at.alloc(), front)?;
+        add_entries(&mut scene.components, front)?;
+        add_origins(
+            at,
+            &mut scene.makes,
+            first_of(self.makes.as_slice(), makes),
+        )?;
+        Ok(scene)
     }
 }

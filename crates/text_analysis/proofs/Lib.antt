@@ -1,2 +1,4 @@
 -- Facts on counters.
 pub mod Counting
+-- Trees that are alike.
+mod Likeness

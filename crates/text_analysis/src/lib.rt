@@ -1,12 +1,14 @@
-//! What is found of the types and names of a whole text, on a new store: the prelude's items first, as item 0, then the text's.
+//! What is found of the types and names of a text, kept while the text is edited: the prelude's items first, as item 0, then the
+//! text's, on one store, with the point before each item to go back to.
 //! It is built on the parser and on the typing of items, and gives what `analysis_api` asks for.
-//! The layer above may use `Typer`, an `Analyser`: it takes the tree of a text and gives the store of its types, what is recorded for
-//! each node and missing operand, the faults in the order of their demands, the names in scope after the last item, and the variables
-//! that are free in these.
+//! The layer above may use `Typer`, an `Analyser`: `refresh` takes the tree of the text as it is now, goes back to the first item that
+//! isn't as it was, and types from there on.
 #![tactic(auto, using(typing_state::proofs::Going::goes_trans, typing_state::proofs::Going::goes_refl))]
 
+mod alike;
+mod kept;
 mod prelude;
 mod weak;
 mod whole;
 
-pub use whole::Typer;
+pub use kept::Typer;

@@ -1,4 +1,4 @@
-use Rattle.std.proofs.Common.{◌≡◌, refl}
+use Rattle.std.proofs.Common.{refl}
 use Rattle.typing_model.specs.PreludeText.{prelude_text}
 use Rattle.text_analysis.proofs.prelude.text.Goals as goal
 

@@ -1,0 +1,19 @@
+use Rattle.std.proofs.Common.{◌≡◌, ◌∙◌, ◌+◌, ◌-◌, ◌++◌, ◌∷◌, [], suc, sym, ap, arith, rules}
+use Rattle.syntax_tree.specs.Tallies.{counted}
+use Rattle.analysis_api.specs.Typed.{more_typed}
+use Rattle.text_analysis.specs.Items.{views_of}
+use Rattle.text_analysis.proofs.Likeness.{taken_more}
+use Rattle.text_analysis.proofs.kept.Typer.go_on.Goals as goal
+
+pub loop-k-preserved : goal.loop-k-preserved
+loop-k-preserved g c =
+    let k = c.loop-k.k in
+    let item = c.index-items-k.result in
+    let (front, typed, grows) = c.loop-k.invariant in
+    let done = c.in_ok-type_next.ensures.done in
+    let more : k + 1 - c.args.place ≡ suc (k - c.args.place) = omega arith in
+    let added = c.add_typed.ensures in
+    ( done ∙ ap (λ vs. vs ++ views_of (item ∷ [])) front ∙ taken_more c.args.items.now k item c.loop-k-test.true c.index-items-k.is
+    , ap (λ t. t.typed) added ∙ ap counted typed ∙ sym (ap (λ n. more_typed n (g.C.Counts.tallies c.args.counts.now).typed) more)
+    , search rules
+    )

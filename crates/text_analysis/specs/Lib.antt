@@ -1,0 +1,2 @@
+-- The items that an analysis holds.
+pub mod Items
