@@ -292,11 +292,7 @@ impl Scene {
         let front = first_of(self.components.as_slice(), components);
         scene.note_all(at.alloc(), front)?;
         add_entries(&mut scene.components, front)?;
-        add_origins(
-            at,
-            &mut scene.makes,
-            first_of(self.makes.as_slice(), makes),
-        )?;
+        add_origins(at, &mut scene.makes, first_of(self.makes.as_slice(), makes))?;
         Ok(scene)
     }
 }

@@ -90,8 +90,8 @@ taken_more ns k n inside is =
 pub one_more_alike : (xs ys : List (Rc Node Global)) (k : ℕ) (x y : Rc Node Global) → k < length xs → k < length ys → SameFront (views_of xs) (views_of ys) k
     → x ≡ get_or xs k x → y ≡ get_or ys k y → node_view x.value ≡ node_view y.value → SameFront (views_of xs) (views_of ys) (k + 1)
 one_more_alike xs ys k x y left right same is_x is_y alike = record {
-    left = omega (arith, views_length xs, left);
-    right = omega (arith, views_length ys, right);
-    same = take_more_same (views_of xs) (views_of ys) k (node_view x.value) (omega (arith, views_length xs, left)) (omega (arith, views_length ys, right)) same.same
-        (sym (view_at xs k x) ∙ sym (ap (λ n. node_view n.value) is_x) ∙ alike ∙ ap (λ n. node_view n.value) is_y ∙ view_at ys k y ∙ ap (get_or (views_of ys) k) (sym alike));
-  }
+  left = omega (arith, views_length xs, left);
+  right = omega (arith, views_length ys, right);
+  same = take_more_same (views_of xs) (views_of ys) k (node_view x.value) (omega (arith, views_length xs, left)) (omega (arith, views_length ys, right)) same.same
+      (sym (view_at xs k x) ∙ sym (ap (λ n. node_view n.value) is_x) ∙ alike ∙ ap (λ n. node_view n.value) is_y ∙ view_at ys k y ∙ ap (get_or (views_of ys) k) (sym alike));
+}

@@ -71,7 +71,9 @@ impl Typer {
             return Ok(());
         };
         let env = point.env.share()?;
-        self.scene = self.scene.front(&self.parts, env, point.components, point.makes)?;
+        self.scene = self
+            .scene
+            .front(&self.parts, env, point.components, point.makes)?;
         if point.mark.0 <= self.parts.store.snapshot().0 {
             self.parts.store.rollback(point.mark);
         }

@@ -6,8 +6,11 @@ use Rattle.text_analysis.proofs.kept.TyperAnalyser.refresh.Goals as goal
 pub returns-in_err-cut-clause-failed : goal.returns-in_err-cut-clause-failed
 returns-in_err-cut-clause-failed g c =
     let n = c.common_front-same.result in
-    at_any c.from_residual.result (n, ap views_of c.cut.ensures.items ∙ views_take c.args.self.now.items.items n ∙ ap (λ ns. take n (views_of ns)) (sym c.deref.ensures.value)
-        ∙ c.common_front-same.ensures.same ∙ ap (λ ns. take n (views_of ns)) c.deref-2.ensures.value)
+    at_any c.from_residual.result (
+      n,
+      ap views_of c.cut.ensures.items ∙ views_take c.args.self.now.items.items n ∙ ap (λ ns. take n (views_of ns)) (sym c.deref.ensures.value)
+          ∙ c.common_front-same.ensures.same ∙ ap (λ ns. take n (views_of ns)) c.deref-2.ensures.value,
+    )
 
 pub go_on-requires-clause-front : goal.go_on-requires-clause-front
 go_on-requires-clause-front g c =
