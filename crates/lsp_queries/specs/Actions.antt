@@ -40,11 +40,11 @@ is_space b = b == 32 || b == 9 || b == 13 || b == 10
 abbrev pub is_space_between : List ℕ → ℕ → ℕ → Bool
 is_space_between text from to = list_all is_space (bytes_between text from to)
 
--- a shown span meets or touches the asked one, or only space is between it and the asked start
+-- a shown span meets or touches the asked one, or the asked one comes after it with only space between
 abbrev pub is_near : List ℕ → ℕ × ℕ → ℕ × ℕ → Bool
 is_near text shown asked =
     nat_le shown.0 asked.1 && nat_le asked.0 shown.1
-    || (if nat_le shown.1 asked.0 then is_space_between text shown.1 asked.0 else is_space_between text asked.0 shown.0)
+    || nat_le shown.1 asked.0 && is_space_between text shown.1 asked.0
 
 -- a fault is a missing part near a span
 abbrev pub is_missing_near : List ℕ → ℕ × ℕ → said.Fault → Bool

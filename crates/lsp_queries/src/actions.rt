@@ -105,22 +105,15 @@ fn is_space_between(text: &[u8], from: u32, to: u32) -> bool
     are_spaces(&tail[..(to - from) as usize])
 }
 
-/// Whether a shown span meets or touches the asked one, or only space is between it and the asked start.
+/// Whether a shown span meets or touches the asked one, or the asked one comes after it with only space between.
 fn is_near(text: &[u8], shown: Span, asked: Span) -> bool
-    requires shown { shown.end ≤ length text.now }
-    requires start { shown.start ≤ length text.now }
     requires asked { asked.start ≤ length text.now }
-    requires order { asked.start ≤ asked.end }
     ensures { result ≡ is_near_spec text.now (shown.start, shown.end) (asked.start, asked.end) }
 {
     if shown.start <= asked.end && asked.start <= shown.end {
         return true;
     }
-    if shown.end <= asked.start {
-        is_space_between(text, shown.end, asked.start)
-    } else {
-        is_space_between(text, asked.start, shown.start)
-    }
+    shown.end <= asked.start && is_space_between(text, shown.end, asked.start)
 }
 
 /// Whether a fault is a missing part near a span.
