@@ -268,6 +268,16 @@ impl<A: Analyser> Document<A> {
         }
     }
 
+    /// Brings what is kept of its text up to it, so that the queries behind need not read it again. Where memory is short, they do.
+    pub fn bring_up<C: Counts>(&mut self, counts: &mut C)
+        ensures same { self.new ≡ self.old }
+        ensures counted { Grows (C.tallies counts.old) (C.tallies counts.new) }
+    {
+        if self.why.is_none() {
+            let _ = self.session.refresh(counts);
+        }
+    }
+
     /// Its diagnostics.
     pub fn diagnostics<C: Counts>(
         &self,

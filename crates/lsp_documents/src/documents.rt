@@ -348,6 +348,7 @@ impl<A: Analyser> Documents<A> {
         ensures counted { Grows (C.tallies counts.old) (C.tallies counts.new) }
     {
         let (alloc, choices) = (self.alloc, self.choices);
+        document.bring_up(counts);
         let pieces = sends(&mut self.documents, &mut document, alloc, choices, counts)?;
         self.documents.insert(at, document)?;
         Ok(pieces)

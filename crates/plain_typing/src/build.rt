@@ -12,12 +12,12 @@ use std::rc::Rc;
 use syntax_tree::{Child, NoMemory, Node, Part, RowName, Token, Tree, leaf, node_of};
 
 /// The tree of the tokens of a plain text. None where they are those of another text.
-pub fn plain_tree(alloc: Global, tokens: Vec<Token>) -> Result<Option<Tree>, NoMemory>
-    ensures trees { IfOk result (λ o. option_map trees_of o ≡ plain.plain_trees (map tok_of tokens.items)) }
+pub fn plain_tree(alloc: Global, tokens: &[Token]) -> Result<Option<Tree>, NoMemory>
+    ensures trees { IfOk result (λ o. option_map trees_of o ≡ plain.plain_trees (map tok_of tokens.now)) }
     ensures sized { IfOk result (λ o. IfSome o (λ t. AreItemsSized (trees_of t))) }
-    ensures count { IfOk result (λ o. IfSome o (λ t. length (trees_of t) * 4 ≡ length tokens.items)) }
+    ensures count { IfOk result (λ o. IfSome o (λ t. length (trees_of t) * 4 ≡ length tokens.now)) }
 {
-    trees_over(alloc, &tokens)
+    trees_over(alloc, tokens)
 }
 
 fn trees_over(alloc: Global, tokens: &[Token]) -> Result<Option<Tree>, NoMemory>

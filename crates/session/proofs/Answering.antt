@@ -35,9 +35,13 @@ answers_request text line after a (Written v) is replies = inl (subst (λ x. Ans
 answers_request text line after a Memory is replies = inr (refl, replies)
 
 -- a query leaves the text
-pub replies_query : (text : List ℕ) (a : Asked) (P : said.Said → Type 0) (l : Line) → ((s : said.Said) → P s → Replies text a s text) → Says P l → RepliesBy text a l text
-replies_query text a P (Written v) is says = (says.0, is says.0 says.1, says.2)
-replies_query text a P Memory is says = refl
+pub replies_query : (text after : List ℕ) (a : Asked) (P : said.Said → Type 0) (l : Line) → after ≡ text → ((s : said.Said) → P s → Replies text a s text) → Says P l → RepliesBy text a l after
+replies_query text after a P (Written v) stays is says = subst (λ (t : List ℕ). RepliesBy text a (Written v) t) (sym stays) (says.0, is says.0 says.1, says.2)
+replies_query text after a P Memory stays is says = stays
+
+-- what is said of the present text is said of the one before, which it is
+pub says_still : (P : List ℕ → said.Said → Type 0) (before now : List ℕ) (l : Line) → now ≡ before → Says (P now) l → Says (P before) l
+says_still P before now l same says = subst (λ (t : List ℕ). Says (P t) l) same says
 
 -- a `tell` that is accepted
 pub told_changed : (text bytes v after : List ℕ) (range : Option ((ℕ × ℕ) × (ℕ × ℕ))) (n first : ℕ) (o : edit.Outcome) → o ≡ tell_outcome text range bytes → o ≡ edit.changed first after

@@ -1,9 +1,10 @@
 //! One text, and the answers to the request lines on it.
-//! It keeps that text, and finds everything else anew for each line; who finds types is a parameter, any `Analyser`.
-//! It is built on the text store, the lexer, the parser, the plain typing, the queries, the trials and `json_lines`.
+//! It keeps that text with its tokens and what the parser made of them, and brings these up to the text before it answers a query;
+//! types it finds anew for each line, and who finds them is a parameter, any `Analyser`.
+//! It is built on the kept text, the lexer, the parser, the plain typing, the queries, the trials and `json_lines`.
 //! The layer above may use `Session::new`, and `answer`, which says which line is given and which text is left;
 //! for a text of its own `append`, `change`, `len`, `sizes`, `slices`, `offset_of` and `pos_of`; and the queries `errors`, `outline`,
-//! and by offsets `enclosing` and `ask_at`.
+//! and by offsets `enclosing` and `ask_at`, which read the text from nothing unless `refresh` brought what is kept up to it.
 #![tactic(auto)]
 
 mod changes;

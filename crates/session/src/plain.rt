@@ -22,9 +22,9 @@ pub struct PlainText {
 }
 
 /// Reads tokens as those of a plain text. None exactly where they aren't.
-pub fn read_plain(alloc: Global, tokens: Vec<Token>) -> Result<Option<PlainText>, NoMemory>
-    requires few { length tokens.items < 2 ^ 32 - 1 }
-    ensures read { IfOk result (λ o. option_map plain_of o ≡ plain_text (map tok_of tokens.items)) }
+pub fn read_plain(alloc: Global, tokens: &[Token]) -> Result<Option<PlainText>, NoMemory>
+    requires few { length tokens.now < 2 ^ 32 - 1 }
+    ensures read { IfOk result (λ o. option_map plain_of o ≡ plain_text (map tok_of tokens.now)) }
     ensures sized { IfOk result (λ o. IfSome o (λ p. AreItemsSized (trees_of p.tree) × (length (trees_of p.tree) < 2 ^ 32 - 1))) }
 {
     let Some(tree) = plain_tree(alloc, tokens)? else {

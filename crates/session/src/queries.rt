@@ -12,11 +12,12 @@ ghost use Rattle.session.specs.Queries.{AnswersQuery, IsAnswered, IsSaidOfPlace,
 ghost use Rattle.session.specs.Structures.{IsParsedAs};
 
 use crate::changes::{cases, terms_in};
-use crate::structure::{parse_text, position};
+use crate::structure::{position, tree_of};
 use analysis_api::{Analyser, Analysis};
 use env_table::Place;
 use frame_parser::Parsed;
 use json_lines::{Entry, EntryKind, Failure, File, PosSpan, Reply};
+use kept_text::KeptText;
 use query_engine::{
     Asked, Completion, CompletionKind, QueryFault, complete_prefix, locate, occurrences,
 };
@@ -65,21 +66,20 @@ pub fn asked<'a>(tree: &'a Tree, analysis: &'a Analysis) -> Asked<'a>
     }
 }
 
-/// Answers a query of an offset of the store's text.
+/// Answers a query of an offset of a text.
 pub fn ask<A: Analyser, C: Counts>(
     alloc: Global,
-    store: &TextStore,
+    kept: &KeptText,
     query: &Query,
     offset: u32,
     counts: &mut C,
 ) -> Result<Reply, NoMemory>
-    ensures said { IfOk result (λ r. IsAnswered query.now store.now offset (said_of r)) }
+    ensures said { IfOk result (λ r. IsAnswered query.now kept.now.text offset (said_of r)) }
     ensures grows { Grows (C.tallies counts.old) (C.tallies counts.new) }
 {
-    let (left, right) = store.slices();
-    let parsed = parse_text(alloc, left, right, counts)?;
+    let parsed = tree_of(alloc, kept, counts)?;
     let analysis = A::analyse(alloc, &parsed.tree, counts)?;
-    answer::<A, C>(alloc, store, query, &parsed, &analysis, offset, counts)
+    answer::<A, C>(alloc, kept.text(), query, &parsed, &analysis, offset, counts)
 }
 
 fn answer<A: Analyser, C: Counts>(

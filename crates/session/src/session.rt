@@ -26,7 +26,7 @@ ghost use Rattle.session.specs.Lines.{line_bytes, refusal_in, IsWritten, Refuses
 use crate::plain::{PlainText, typed_among};
 use crate::queries::{Query, ask, asked, failure_of};
 use crate::reading::read_text;
-use crate::structure::{parse_text, shown_faults, shown_outline, shown_types};
+use crate::structure::{shown_faults, shown_outline, shown_types, tree_of};
 use analysis_api::Analyser;
 use env_table::Fault;
 use frame_parser::{Parsed, SyntaxFault};
@@ -34,6 +34,7 @@ use json_lines::{
     Failure, Key, Malformed, Outlined, Reply, Request, RequestError, Typed, memory_line,
     read_request, write_reply,
 };
+use kept_text::KeptText;
 use query_engine::{Asked, enclosing_types};
 use std::alloc::{AllocError, Global};
 use std::marker::{Model, PhantomData};
@@ -152,7 +153,7 @@ fn sizes_of(parsed: &Parsed, typed: usize) -> Sizes
 #[derive(Drop)]
 pub struct Session<A: Analyser> {
     alloc: Global,
-    store: TextStore,
+    kept: KeptText,
     analyser: PhantomData<A>,
 }
 
@@ -162,7 +163,7 @@ impl<A: Analyser> Model for Session<A> {
 
     ghost Value = { List ℕ };
 
-    ghost view = { λ s. s.store };
+    ghost view = { λ s. s.kept.text };
 }
 
 impl<A: Analyser> Session<A> {
@@ -172,9 +173,16 @@ impl<A: Analyser> Session<A> {
     {
         Session {
             alloc,
-            store: TextStore::new(alloc),
+            kept: KeptText::new(alloc),
             analyser: PhantomData,
         }
+    }
+
+    /// The present text.
+    fn text(&self) -> &TextStore
+        ensures { result.now ≡ self.now }
+    {
+        self.kept.text()
     }
 
     /// Answers one line that isn't blank. Only a `tell` that is accepted changes the text.
@@ -217,7 +225,7 @@ impl<A: Analyser> Session<A> {
         let edit = self.edit_for(range, text);
         match written(self.alloc, &Reply::Size(self.len_after(&edit))) {
             Line::Memory => Line::Memory,
-            Line::Written(bytes) => match self.store.apply(&edit) {
+            Line::Written(bytes) => match self.kept.apply(&edit) {
                 Ok(_) => Line::Written(bytes),
                 Err(refusal) => refused_edit_line(self.alloc, refusal),
             },
@@ -243,22 +251,22 @@ impl<A: Analyser> Session<A> {
         ensures place { (result.line, result.col) ≡ position_of self.now (length self.now) }
         ensures utf8 { IsUtf8 self.now }
     {
-        let (left, right) = self.store.slices();
-        self.store.pos_of((left.len() + right.len()) as u32)
+        let (left, right) = self.text().slices();
+        self.text().pos_of((left.len() + right.len()) as u32)
     }
 
     /// How many bytes the text has once the edit is made; of an edit that is refused it tells nothing.
     fn len_after(&self, edit: &Edit) -> u64
         ensures { (first : ℕ) (new : List ℕ) → outcome_of self.now (edit_of edit.now) ≡ changed first new → result ≡ length new }
     {
-        let Ok(start) = self.store.offset_of(edit.start) else {
+        let Ok(start) = self.text().offset_of(edit.start) else {
             return 0;
         };
-        let Ok(end) = self.store.offset_of(edit.end) else {
+        let Ok(end) = self.text().offset_of(edit.end) else {
             return 0;
         };
         let cut = end.saturating_sub(start);
-        let kept = self.store.len().saturating_sub(cut);
+        let kept = self.text().len().saturating_sub(cut);
         (kept as u64).saturating_add(edit.text.as_str().len() as u64)
     }
 
@@ -266,7 +274,7 @@ impl<A: Analyser> Session<A> {
     pub fn len(&self) -> u64
         ensures { result ≡ length self.now }
     {
-        self.store.len() as u64
+        self.text().len() as u64
     }
 
     /// Puts bytes behind the text, by the edit of a `tell`. Where the text would be too long, memory counts as short.
@@ -279,7 +287,7 @@ impl<A: Analyser> Session<A> {
             end,
             text,
         };
-        match self.store.apply(&edit) {
+        match self.kept.apply(&edit) {
             Ok(_) => Ok(()),
             Err(_) => Err(AllocError),
         }
@@ -290,7 +298,7 @@ impl<A: Analyser> Session<A> {
         ensures text { result.0.now ++ result.1.now ≡ self.now }
         ensures short { length self.now ≤ text_limit }
     {
-        self.store.slices()
+        self.text().slices()
     }
 
     /// The offset of a position, or None where the text has no such position.
@@ -298,7 +306,7 @@ impl<A: Analyser> Session<A> {
         ensures value { result ≡ offset self.now at.line at.col }
         ensures within { IfSome result (λ n. n ≤ length self.now) }
     {
-        self.store.offset_of(at).ok()
+        self.text().offset_of(at).ok()
     }
 
     /// The position of an offset in bytes.
@@ -306,7 +314,7 @@ impl<A: Analyser> Session<A> {
         requires { place ≤ length self.now }
         ensures { (result.line, result.col) ≡ position_of self.now place }
     {
-        self.store.pos_of(place)
+        self.text().pos_of(place)
     }
 
     /// Makes the edit of a `tell`. The text stays where it is refused.
@@ -315,7 +323,7 @@ impl<A: Analyser> Session<A> {
         ensures refused { IfErr result (λ refusal. (self.new ≡ self.old) × IsRefusal (tell_outcome self.old (option_map range_of range) (str_bytes text)) refusal) }
     {
         let edit = self.edit_for(range, text);
-        match self.store.apply(&edit) {
+        match self.kept.apply(&edit) {
             Ok(_) => Ok(()),
             Err(refusal) => Err(refusal),
         }
@@ -331,35 +339,52 @@ impl<A: Analyser> Session<A> {
         ensures said { IfOk result (λ r. IsAnswered query.now self.now offset (said_of r)) }
         ensures counted { Grows (C.tallies counts.old) (C.tallies counts.new) }
     {
-        ask::<A, C>(self.alloc, &self.store, query, offset, counts)
+        ask::<A, C>(self.alloc, &self.kept, query, offset, counts)
+    }
+
+    /// Brings what is kept of the text up to it, so that the queries behind need not read it again. The text stays.
+    pub fn refresh<C: Counts>(&mut self, counts: &mut C) -> Result<(), NoMemory>
+        ensures text { self.new ≡ self.old }
+        ensures counted { Grows (C.tallies counts.old) (C.tallies counts.new) }
+    {
+        self.kept.refresh(counts)
     }
 
     /// A query of a position.
-    fn query_at<C: Counts>(&self, query: &Query, at: Pos, counts: &mut C) -> Line
-        ensures says { Says (PlacedIs (offset self.now at.line at.col) (IsAnswered query.now self.now)) result }
+    fn query_at<C: Counts>(&mut self, query: &Query, at: Pos, counts: &mut C) -> Line
+        ensures says { Says (PlacedIs (offset self.old at.line at.col) (IsAnswered query.now self.old)) result }
+        ensures text { self.new ≡ self.old }
         ensures counted { Grows (C.tallies counts.old) (C.tallies counts.new) }
     {
-        match self.store.offset_of(at) {
+        match self.text().offset_of(at) {
             Ok(offset) => self.query_line(query, offset, counts),
             Err(_) => error_line(self.alloc, RequestError::BadPosition { key: Key::At }),
         }
     }
 
-    fn query_line<C: Counts>(&self, query: &Query, offset: u32, counts: &mut C) -> Line
-        ensures says { Says (IsAnswered query.now self.now offset) result }
+    fn query_line<C: Counts>(&mut self, query: &Query, offset: u32, counts: &mut C) -> Line
+        ensures says { Says (IsAnswered query.now self.old offset) result }
+        ensures text { self.new ≡ self.old }
         ensures counted { Grows (C.tallies counts.old) (C.tallies counts.new) }
     {
-        match ask::<A, C>(self.alloc, &self.store, query, offset, counts) {
+        let Ok(()) = self.refresh(counts) else {
+            return Line::Memory;
+        };
+        match self.ask_at(query, offset, counts) {
             Ok(reply) => written(self.alloc, &reply),
             Err(_) => Line::Memory,
         }
     }
 
     /// The outline of the text.
-    fn outline_line<C: Counts>(&self, counts: &mut C) -> Line
-        ensures says { Says (OutlineIs self.now) result }
+    fn outline_line<C: Counts>(&mut self, counts: &mut C) -> Line
+        ensures says { Says (OutlineIs self.old) result }
+        ensures text { self.new ≡ self.old }
         ensures counted { Grows (C.tallies counts.old) (C.tallies counts.new) }
     {
+        let Ok(()) = self.refresh(counts) else {
+            return Line::Memory;
+        };
         match self.outline(counts) {
             Ok(members) => written(self.alloc, &Reply::Outline(members)),
             Err(_) => Line::Memory,
@@ -371,17 +396,20 @@ impl<A: Analyser> Session<A> {
         ensures said { IfOk result (λ v. OutlineIs self.now (outline (outline_of (map outlined_of v.items)))) }
         ensures counted { Grows (C.tallies counts.old) (C.tallies counts.new) }
     {
-        let (left, right) = self.store.slices();
-        let parsed = parse_text(self.alloc, left, right, counts)?;
+        let parsed = tree_of(self.alloc, &self.kept, counts)?;
         let members = query_engine::outline(self.alloc, &parsed.tree)?;
-        shown_outline(self.alloc, &self.store, &members)
+        shown_outline(self.alloc, self.text(), &members)
     }
 
     /// The faults of the text.
-    fn errors_line<C: Counts>(&self, counts: &mut C) -> Line
-        ensures says { Says (ErrorsAre self.now) result }
+    fn errors_line<C: Counts>(&mut self, counts: &mut C) -> Line
+        ensures says { Says (ErrorsAre self.old) result }
+        ensures text { self.new ≡ self.old }
         ensures counted { Grows (C.tallies counts.old) (C.tallies counts.new) }
     {
+        let Ok(()) = self.refresh(counts) else {
+            return Line::Memory;
+        };
         match self.errors(counts) {
             Ok(reply) => written(self.alloc, &reply),
             Err(_) => Line::Memory,
@@ -393,8 +421,7 @@ impl<A: Analyser> Session<A> {
         ensures said { IfOk result (λ r. ErrorsAre self.now (said_of r)) }
         ensures counted { Grows (C.tallies counts.old) (C.tallies counts.new) }
     {
-        let (left, right) = self.store.slices();
-        let read = read_text(self.alloc, left, right, counts)?;
+        let read = read_text(self.alloc, &self.kept, counts)?;
         if read.is_well_typed() {
             return self.page_of(&read.parsed.faults, &[]);
         }
@@ -416,7 +443,7 @@ impl<A: Analyser> Session<A> {
     {
         let page = query_engine::errors(self.alloc, parsed, typed)?;
         Ok(Reply::Faults {
-            list: shown_faults(self.alloc, &self.store, &page.list)?,
+            list: shown_faults(self.alloc, self.text(), &page.list)?,
             more: page.more,
         })
     }
@@ -426,8 +453,7 @@ impl<A: Analyser> Session<A> {
         ensures sizes { IfOk result (λ s. SizesAre self.now s.items s.faults) }
         ensures counted { Grows (C.tallies counts.old) (C.tallies counts.new) }
     {
-        let (left, right) = self.store.slices();
-        let read = read_text(self.alloc, left, right, counts)?;
+        let read = read_text(self.alloc, &self.kept, counts)?;
         if read.is_well_typed() {
             return Ok(sizes_of(&read.parsed, 0));
         }
@@ -446,20 +472,25 @@ impl<A: Analyser> Session<A> {
     }
 
     /// The types round a position, innermost first.
-    fn type_enclosing<C: Counts>(&self, at: Pos, counts: &mut C) -> Line
-        ensures says { Says (PlacedIs (offset self.now at.line at.col) (EnclosingIs self.now)) result }
+    fn type_enclosing<C: Counts>(&mut self, at: Pos, counts: &mut C) -> Line
+        ensures says { Says (PlacedIs (offset self.old at.line at.col) (EnclosingIs self.old)) result }
+        ensures text { self.new ≡ self.old }
         ensures counted { Grows (C.tallies counts.old) (C.tallies counts.new) }
     {
-        match self.store.offset_of(at) {
+        match self.text().offset_of(at) {
             Ok(offset) => self.enclosing_line(offset, counts),
             Err(_) => error_line(self.alloc, RequestError::BadPosition { key: Key::At }),
         }
     }
 
-    fn enclosing_line<C: Counts>(&self, offset: u32, counts: &mut C) -> Line
-        ensures says { Says (EnclosingIs self.now offset) result }
+    fn enclosing_line<C: Counts>(&mut self, offset: u32, counts: &mut C) -> Line
+        ensures says { Says (EnclosingIs self.old offset) result }
+        ensures text { self.new ≡ self.old }
         ensures counted { Grows (C.tallies counts.old) (C.tallies counts.new) }
     {
+        let Ok(()) = self.refresh(counts) else {
+            return Line::Memory;
+        };
         match self.enclosing(offset, counts) {
             Ok(reply) => written(self.alloc, &reply),
             Err(_) => Line::Memory,
@@ -471,8 +502,7 @@ impl<A: Analyser> Session<A> {
         ensures said { IfOk result (λ r. EnclosingIs self.now offset (said_of r)) }
         ensures counted { Grows (C.tallies counts.old) (C.tallies counts.new) }
     {
-        let (left, right) = self.store.slices();
-        let read = read_text(self.alloc, left, right, counts)?;
+        let read = read_text(self.alloc, &self.kept, counts)?;
         match &read.plain {
             Some(plain) => self.plain_types(plain, offset),
             None => self.types_in(&read.parsed.tree, offset, counts),
@@ -487,7 +517,7 @@ impl<A: Analyser> Session<A> {
         ensures { IfOk result (λ r. said_of r ≡ types_or_none (typed_among_spec self.now (map seen_of plain.now.seen.items) (reverse (nodes_at offset (trees_of plain.now.tree))))) }
     {
         let ids = enclosing(self.alloc, &plain.tree, offset)?;
-        Ok(types_reply(typed_among(self.alloc, &self.store, &plain.seen, &ids)?))
+        Ok(types_reply(typed_among(self.alloc, self.text(), &plain.seen, &ids)?))
     }
 
     /// The types round an offset of a text with this tree, innermost first.
@@ -508,7 +538,7 @@ impl<A: Analyser> Session<A> {
         ensures { IfOk result (λ r. TypesAre self.now (typed_round offset (trees_of asked.now.tree.now)) (said_of r)) }
     {
         match enclosing_types(self.alloc, asked, offset) {
-            Ok(types) => Ok(types_reply(shown_types(self.alloc, &self.store, &types)?)),
+            Ok(types) => Ok(types_reply(shown_types(self.alloc, self.text(), &types)?)),
             Err(fault) => Ok(Reply::Failure(failure_of(fault)?)),
         }
     }

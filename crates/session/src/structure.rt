@@ -14,6 +14,7 @@ ghost use Rattle.json_lines.specs.Means.{fault_of, outline_of, outlined_of, type
 ghost use Rattle.session.specs.Structures.{IsParsedAs};
 
 use frame_parser::{Parsed, Text, parse};
+use kept_text::KeptText;
 use ml_lexer::lex_all;
 use query_engine as engine;
 use std::alloc::{AllocError, Global};
@@ -34,6 +35,26 @@ pub fn parse_text<C: Counts>(
 {
     let tokens = lex_all(alloc, left, right, counts)?;
     parse(alloc, Text::Program, &tokens, counts)
+}
+
+/// The tree and the faults of a text: those that are kept, where these are of the present text, and else those of a parse from
+/// nothing.
+pub fn tree_of<C: Counts>(
+    alloc: Global,
+    kept: &KeptText,
+    counts: &mut C,
+) -> Result<Parsed, NoMemory>
+    ensures parsed { IfOk result (λ p. IsParsedAs kept.now.text p) }
+    ensures grows { Grows (C.tallies counts.old) (C.tallies counts.new) }
+{
+    let found = kept.parsed()?;
+    match found {
+        Some(parsed) => Ok(parsed),
+        None => {
+            let (left, right) = kept.text().slices();
+            parse_text(alloc, left, right, counts)
+        }
+    }
 }
 
 /// The position of an offset. One behind the text's end, where nothing stands, is on a line behind the last.

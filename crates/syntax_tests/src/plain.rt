@@ -54,7 +54,7 @@ fn tree_of(alloc: Global, text: &str) -> Result<Option<Tree>, NoMemory> {
     if text.len() > 100 {
         return Err(AllocError);
     }
-    plain_tree(alloc, lex_all(alloc, text.as_bytes(), &[], &mut zero())?)
+    plain_tree(alloc, &lex_all(alloc, text.as_bytes(), &[], &mut zero())?)
 }
 
 /// Whether the nodes of a plain text have these types, if any.

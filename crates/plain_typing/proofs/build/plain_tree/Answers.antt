@@ -4,7 +4,7 @@ use Rattle.plain_typing.proofs.Trees.{trees_sized, trees_count}
 use Rattle.plain_typing.proofs.build.plain_tree.Goals as goal
 
 pub returns-clause-sized : goal.returns-clause-sized
-returns-clause-sized c = trees_sized (map tok_of c.args.tokens.items) c.trees_over.result (rw (← c.deref.ensures.value) c.trees_over.ensures)
+returns-clause-sized c = trees_sized (map tok_of c.args.tokens.now) c.trees_over.result c.trees_over.ensures
 
 pub returns-clause-count : goal.returns-clause-count
-returns-clause-count c = trees_count c.args.tokens.items c.trees_over.result (rw (← c.deref.ensures.value) c.trees_over.ensures)
+returns-clause-count c = trees_count c.args.tokens.now c.trees_over.result c.trees_over.ensures

@@ -1,14 +1,16 @@
 use Rattle.session.specs.Queries.{AnswersQuery}
-use Rattle.std.proofs.Common.{subst, List, ℕ}
+use Rattle.std.proofs.Common.{subst, sym, List, ℕ, IfOk}
+use Rattle.syntax_tree.specs.View.{trees_of}
+use Rattle.json_lines.specs.Means.{said_of}
 use Rattle.session.specs.Structures.{IsParsedAs}
 use Rattle.session.proofs.Naming.{of_items}
 use Rattle.session.proofs.queries.ask.Goals as goal
 
 pub answer-requires : goal.answer-requires
-answer-requires g c = record { parsed = subst (λ (t : List ℕ). IsParsedAs t c.in_ok-parsed.parsed) c.slices.ensures.text c.in_ok-parsed.ensures.parsed }
+answer-requires g c = record { parsed = subst (λ (t : List ℕ). IsParsedAs t c.in_ok-parsed.parsed) (sym c.text.ensures) c.in_ok-parsed.ensures.parsed }
 
 pub returns-clause-said : goal.returns-clause-said
 returns-clause-said g c =
-    let text = c.args.store.now in
-    of_items text c.in_ok-parsed.parsed (AnswersQuery c.args.query.now text c.args.offset) c.answer.result
-    (subst (λ (t : List ℕ). IsParsedAs t c.in_ok-parsed.parsed) c.slices.ensures.text c.in_ok-parsed.ensures.parsed) c.answer.ensures.said
+    let text = c.args.kept.now.text in
+    of_items text c.in_ok-parsed.parsed (AnswersQuery c.args.query.now text c.args.offset) c.answer.result c.in_ok-parsed.ensures.parsed
+    (subst (λ (t : List ℕ). IfOk c.answer.result (λ r. AnswersQuery c.args.query.now t c.args.offset (trees_of c.in_ok-parsed.parsed.tree) (said_of r))) c.text.ensures c.answer.ensures.said)

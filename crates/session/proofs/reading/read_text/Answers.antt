@@ -1,19 +1,22 @@
-use Rattle.std.proofs.Common.{◌≡◌, ◌++◌, ◌∙◌, ap, map, subst, List}
-use Rattle.std.specs.List.{list_all}
-use Rattle.grammar_model.specs.Named.{named, items_of}
-use Rattle.recovery_model.specs.Recovery.{recover}
-use Rattle.grammar_model.specs.Ocaml.{grammar, program_text, row_name}
-use Rattle.service_model.specs.WellTyped.{is_short}
-use Rattle.syntax_tree.specs.View.{tok_of}
-use Rattle.syntax_tree.specs.declared.tree.Token.{Token}
-use Rattle.frame_steps.specs.Told.{told}
-use Rattle.session.proofs.Typing.{read_as}
+use Rattle.std.proofs.Common.{◌<◌, List, ℕ, IfOk, arith, subst}
+use Rattle.token_store.specs.Stored.{toks_of}
+use Rattle.session.specs.PlainTexts.{IsReadAs}
+use Rattle.session.proofs.Typing.{read_kept}
 use Rattle.session.proofs.reading.read_text.Goals as goal
 
-pub returns-clause-read : goal.returns-clause-read
-returns-clause-read g c =
-    read_as (c.args.left.now ++ c.args.right.now) c.in_ok-tokens.tokens.items _ c.in_ok-tokens.ensures.tokens c.in_ok-tokens.ensures.within
-    (c.in_ok-parsed.ensures.tree ∙ ap (λ (ts : List Token). items_of (named row_name (recover (grammar program_text) (map tok_of ts)).0)) c.deref.ensures.value)
-    (c.in_ok-parsed.ensures.faults ∙ ap (λ (ts : List Token). map told (recover (grammar program_text) (map tok_of ts)).1) c.deref.ensures.value)
-    c.in_ok-plain.ensures.read
-    (c.are_short-short_numerals.ensures ∙ ap (λ (ts : List Token). list_all is_short (map tok_of ts)) c.deref-2.ensures.value)
+pub read_tokens-requires : goal.read_tokens-requires
+read_tokens-requires g c = record { few = omega (arith, c.in-Some-tokens.ensures.few) }
+
+pub returns-in-Some-tokens-clause-read : goal.returns-in-Some-tokens-clause-read
+returns-in-Some-tokens-clause-read g c =
+    let kept = c.args.kept.now in
+    let found = c.in_ok-found.ensures in
+    let there = c.in-Some-tokens.ensures in
+    read_kept kept.text (toks_of kept.tokens) c.in-Some-tokens.tokens.now c.in_ok-found.found c.in-Some.parsed c.read_tokens.result c.in-Some.is there.kept there.lexed there.within found.tree found.faults
+    c.read_tokens.ensures.parsed c.read_tokens.ensures.plain c.read_tokens.ensures.short
+
+pub returns-in-None-clause-read : goal.returns-in-None-clause-read
+returns-in-None-clause-read g c = subst (λ (t : List ℕ). IfOk c.read_anew.result (IsReadAs t)) c.text.ensures c.read_anew.ensures.read
+
+pub returns-in_default-clause-read : goal.returns-in_default-clause-read
+returns-in_default-clause-read g c = subst (λ (t : List ℕ). IfOk c.read_anew.result (IsReadAs t)) c.text.ensures c.read_anew.ensures.read

@@ -7,10 +7,10 @@ use Rattle.session.proofs.session.Session.enclosing.Goals as goal
 
 pub plain_types-requires-clause-within : goal.plain_types-requires-clause-within
 plain_types-requires-clause-within g c =
-    let read = subst (λ (t : List ℕ). IsReadAs t c.in_ok-read.read) (c.slices.ensures.text ∙ c.self.view_is) c.in_ok-read.ensures.read in
+    let read = subst (λ (t : List ℕ). IsReadAs t c.in_ok-read.read) c.self.view_is c.in_ok-read.ensures.read in
     plain_within c.args.self.now c.in_ok-read.read c.in-Some.plain read c.in-Some.is
 
 pub returns-in-Some-clause-said : goal.returns-in-Some-clause-said
 returns-in-Some-clause-said g c =
-    let read = subst (λ (t : List ℕ). IsReadAs t c.in_ok-read.read) (c.slices.ensures.text ∙ c.self.view_is) c.in_ok-read.ensures.read in
+    let read = subst (λ (t : List ℕ). IsReadAs t c.in_ok-read.read) c.self.view_is c.in_ok-read.ensures.read in
     enclosing_plain c.args.self.now c.args.offset c.in_ok-read.read c.in-Some.plain c.plain_types.result read c.in-Some.is c.plain_types.ensures

@@ -9,11 +9,11 @@ use Rattle.session.proofs.session.Session.errors.Goals as goal
 
 pub returns-then-is_well_typed-clause-said : goal.returns-then-is_well_typed-clause-said
 returns-then-is_well_typed-clause-said g c =
-    let read = subst (λ (t : List ℕ). IsReadAs t c.in_ok-read.read) (c.slices.ensures.text ∙ c.self.view_is) c.in_ok-read.ensures.read in
+    let read = subst (λ (t : List ℕ). IsReadAs t c.in_ok-read.read) c.self.view_is c.in_ok-read.ensures.read in
     errors_plain c.args.self.now c.in_ok-read.read c.page_of.result c.is_well_typed.result read c.is_well_typed.ensures c.if-is_well_typed.true
     (subst (λ (fs : List SyntaxFault). IfOk c.page_of.result (λ x. said_of x ≡ faults_said c.args.self.now (map fault_of fs ++ []))) c.deref.ensures.value c.page_of.ensures)
 
 pub returns-clause-said : goal.returns-clause-said
 returns-clause-said g c =
-    let read = subst (λ (t : List ℕ). IsReadAs t c.in_ok-read.read) (c.slices.ensures.text ∙ c.self.view_is) c.in_ok-read.ensures.read in
+    let read = subst (λ (t : List ℕ). IsReadAs t c.in_ok-read.read) c.self.view_is c.in_ok-read.ensures.read in
     errors_typed c.args.self.now c.in_ok-read.read c.typed_errors.result c.is_well_typed.result read c.is_well_typed.ensures c.if-is_well_typed.false c.typed_errors.ensures.said

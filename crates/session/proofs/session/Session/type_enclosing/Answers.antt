@@ -7,11 +7,11 @@ use Rattle.session.proofs.session.Session.type_enclosing.Goals as goal
 
 pub returns-in-Ok-clause-says : goal.returns-in-Ok-clause-says
 returns-in-Ok-clause-says g c =
-    let there = ap (λ (t : List ℕ). offset t c.args.at.line c.args.at.col) (sym c.self.view_is) ∙ c.in-Ok.ensures.value in
+    let there = ap (λ (t : List ℕ). offset t c.args.at.line c.args.at.col) (sym c.text.ensures) ∙ c.in-Ok.ensures.value in
     says_so (EnclosingIs c.args.self.now c.in-Ok.offset) (PlacedIs (offset c.args.self.now c.args.at.line c.args.at.col) (EnclosingIs c.args.self.now)) c.enclosing_line.result
     (λ s holds. subst (λ o. PlacedIs o (EnclosingIs c.args.self.now) s) (sym there) holds) c.enclosing_line.ensures.says
 
 pub returns-in-Err-clause-says : goal.returns-in-Err-clause-says
 returns-in-Err-clause-says g c =
-    let nowhere = ap (λ (t : List ℕ). offset t c.args.at.line c.args.at.col) (sym c.self.view_is) ∙ c.in-Err.ensures.value in
+    let nowhere = ap (λ (t : List ℕ). offset t c.args.at.line c.args.at.col) (sym c.text.ensures) ∙ c.in-Err.ensures.value in
     says _ (said.bad_position (codes "at")) c.error_line.result (subst (λ o. PlacedIs o (EnclosingIs c.args.self.now) (said.bad_position (codes "at"))) (sym nowhere) refl) c.error_line.ensures

@@ -1,0 +1,213 @@
+-- What is kept of a text still holds of it after an edit, after it is read again, and after it is parsed again.
+use Rattle.std.proofs.Common.{◌≡◌, ℕ, zero, suc, ◌≤◌, List, [], ◌∷◌, ◌++◌, length, length-append, map, take, drop, min, Option, Some, None, Bool, true, false, nat_lt, refl, sym, ap, ◌∙◌, subst, arith, Ok, Err}
+use Rattle.std.specs.Prelude.{if◌then◌else◌, is_some}
+use Rattle.std.specs.Result.{OnOk, OnErr}
+use Rattle.std.specs.declared.result.Result.{Result}
+use Rattle.std.proofs.lemmas.Bool.Decides.{nat_tests}
+use Rattle.std.proofs.lemmas.List.{take-take, take_all, take-append-le, length-map, length-take, length-take-le}
+use Rattle.text_model.specs.Edits.{Edit, Outcome, Refusal, apply, changed, is_inside_char, outcome_between, outcome_of, text_limit}
+use Rattle.text_model.specs.Edits as edit
+use Rattle.text_model.specs.Positions.{offset}
+use Rattle.text_model.proofs.Positions.{offset-le}
+use Rattle.token_model.specs.Kinds.{Tok}
+use Rattle.syntax_tree.specs.Tallies.{Tallies, Grows, lexed_more}
+use Rattle.syntax_tree.specs.View.{tok_of}
+use Rattle.syntax_tree.specs.declared.tree.Token.{Token}
+use Rattle.ml_lexer.specs.Reached.{Reached, FirstReached, end_of, reach_of, reached_of}
+use Rattle.ml_lexer.specs.Steady.{steady, AllTokens}
+use Rattle.ml_lexer.proofs.Agree.{agree_less}
+use Rattle.token_store.specs.Stored.{lexed_by, toks_of, IsFront}
+use Rattle.grammar_model.specs.Ocaml.{program_text}
+use Rattle.resume_parser.specs.Kept.{text_in, HasParsed}
+use Rattle.resume_parser.specs.declared.kept.KeptParse.{KeptParse}
+use Rattle.resume_parser.proofs.Steps.{mapped_first}
+use Rattle.kept_text.specs.Keeping.{sooner, IsKept, IsParsedUpTo, IsParsedWhole, IsUpToDate}
+use Rattle.kept_text.proofs.Fronts.{steady_less, front_on, all_front, front_of_all, steady_first, all_few, toks_first}
+
+-- the code's tokens, with their reaches and then without
+pub toks_mapped : (ts : List Token) → toks_of (map reached_of ts) ≡ map tok_of ts
+toks_mapped [] = refl
+toks_mapped (t ∷ ts) = ap (λ (l : List Tok). tok_of t ∷ l) (toks_mapped ts)
+
+-- ---- reading again
+
+-- what was read again, or could not be, begins with the steady tokens
+pub read_front : {T E : Type 0} (r : Result T E) (text : List ℕ) (from : ℕ) (old new : List Reached) → IsFront FirstReached end_of text 0 (steady reach_of from old)
+    → OnOk r (AllTokens FirstReached end_of text 0 new) → OnErr r (new ≡ steady reach_of from old) → IsFront FirstReached end_of text 0 (steady reach_of from new)
+read_front (Ok x) text from old new front all refused = front_on from text text 0 new refl (all_front text 0 new all)
+read_front (Err e) text from old new front all refused =
+    subst (λ (l : List Reached). IsFront FirstReached end_of text 0 l) (sym (ap (steady reach_of from) refused ∙ steady_less from from old (omega arith))) front
+
+-- so both lists have these in front
+pub read_first : {T E : Type 0} (r : Result T E) (text : List ℕ) (from : ℕ) (old new : List Reached) → IsFront FirstReached end_of text 0 (steady reach_of from old)
+    → OnOk r (AllTokens FirstReached end_of text 0 new) → OnErr r (new ≡ steady reach_of from old) → take (length (steady reach_of from old)) new ≡ steady reach_of from old
+read_first (Ok x) text from old new front all refused = front_of_all text 0 (steady reach_of from old) new front all
+read_first (Err e) text from old new front all refused =
+    ap (take (length (steady reach_of from old))) refused ∙ take_all (length (steady reach_of from old)) (steady reach_of from old) (omega arith)
+
+-- what the parser knows of tokens it knows of others with the same ones in front
+known_less : (same kept : ℕ) (xs ys : List Tok) (parse : Option KeptParse) → kept ≤ length ys → take kept xs ≡ take kept ys → IsParsedUpTo same xs parse → IsParsedUpTo (min same kept) ys parse
+known_less same kept xs ys parse within eq h =
+    let m = min same kept in
+    record {
+      old = h.old;
+      parsed = h.parsed;
+      known = omega (arith, h.known);
+      within = omega (arith, within);
+      first =
+          sym (take-take m same h.old (omega arith)) ∙ ap (take m) h.first ∙ take-take m same xs (omega arith)
+          ∙ sym (take-take m kept xs (omega arith)) ∙ ap (take m) eq ∙ take-take m kept ys (omega arith);
+    }
+
+-- what the parser knows of the tokens once they are read again
+pub read_known : {T E : Type 0} (r : Result T E) (text : List ℕ) (from same kept : ℕ) (old new : List Reached) (parse : Option KeptParse) → IsFront FirstReached end_of text 0 (steady reach_of from old)
+    → OnOk r (AllTokens FirstReached end_of text 0 new) → OnErr r (new ≡ steady reach_of from old) → kept ≡ length (steady reach_of from old)
+    → IsParsedUpTo same (toks_of old) parse → IsParsedUpTo (min same kept) (toks_of new) parse
+read_known r text from same kept old new parse front all refused many h =
+    let first = read_first r text from old new front all refused in
+    let eq : take kept (toks_of old) ≡ take kept (toks_of new) =
+    toks_first kept old ∙ ap (λ n. toks_of (take n old)) many ∙ ap toks_of (steady_first from old ∙ sym first) ∙ ap (λ n. toks_of (take n new)) (sym many) ∙ sym (toks_first kept new) in
+    known_less same kept (toks_of old) (toks_of new) parse (omega (arith, many, ap length first, length-take (length (steady reach_of from old)) new, length-map new (λ (t : Reached). t.token))) eq h
+
+-- ---- counting
+
+counted_one : (a b : Tallies) → Grows a b → Grows a (lexed_more b)
+counted_one a b g = let x = g.lexed in let y = g.shifted in let z = g.typed in record { lexed = omega arith; shifted = omega arith; typed = omega arith }
+
+counted_by : (a : Tallies) (n : ℕ) → Grows a (lexed_by n a)
+counted_by a zero = record { lexed = omega arith; shifted = omega arith; typed = omega arith }
+counted_by a (suc n) = counted_one a (lexed_by n a) (counted_by a n)
+
+-- a counter grows by tokens that are lexed
+pub grows_lexed : (a b : Tallies) (n : ℕ) → b ≡ lexed_by n a → Grows a b
+grows_lexed a b n is = subst (Grows a) (sym is) (counted_by a n)
+
+pub grows_on : (a b c : Tallies) → Grows a b → Grows b c → Grows a c
+grows_on a b c g h = record { lexed = omega (arith, g.lexed, h.lexed); shifted = omega (arith, g.shifted, h.shifted); typed = omega (arith, g.typed, h.typed) }
+
+-- ---- an edit
+
+-- what isn't refused goes on
+not_refused : (t : Bool) (r : Refusal) (other : Outcome) (first : ℕ) (new : List ℕ) → (if t then edit.refused r else other) ≡ changed first new → other ≡ changed first new
+not_refused true r other first new is = cc
+not_refused false r other first new is = is
+
+-- the first changed byte is where the edit starts
+starts_there : (text : List ℕ) (start end : Option ℕ) (bytes : List ℕ) (first : ℕ) (new : List ℕ) → outcome_between text start end bytes ≡ changed first new → (start ≡ Some first) × ((to : ℕ) × (new ≡ apply text first to bytes))
+starts_there text None end bytes first new is = cc
+starts_there text (Some from) None bytes first new is = cc
+starts_there text (Some from) (Some to) bytes first new is =
+    let a = apply text from to bytes in
+    let made : changed from a ≡ changed first new = not_refused (nat_lt text_limit (length a)) _ _ first new (not_refused (is_inside_char text to) _ _ first new (not_refused (is_inside_char text from) _ _ first new (not_refused (nat_lt to from) _ _ first new is))) in
+    let same : from ≡ first = cc made in
+    let there : a ≡ new = cc made in
+    (ap Some same, (to, sym there ∙ ap (λ n. apply text n to bytes) same))
+
+-- the bytes before the first changed one are as they were
+same_before : (text : List ℕ) (e : Edit) (first : ℕ) (new : List ℕ) → outcome_of text e ≡ changed first new → take first text ≡ take first new
+unfolding outcome_of
+same_before text e first new is =
+    let (there, (to, made)) = starts_there text (offset text e.start.0 e.start.1) (offset text e.end.0 e.end.1) e.bytes first new is in
+    let within : first ≤ length text = offset-le text e.start.0 e.start.1 first there in
+    let size : length (take first text) ≡ first = length-take-le first text within in
+    let long : first ≤ length (take first text) = omega (arith, size) in
+    let longer : first ≤ length (take first text ++ e.bytes) = omega (arith, length-append (take first text) e.bytes, size) in
+    sym (take-take first first text (omega arith)) ∙ sym (take-append-le first (take first text) e.bytes long)
+    ∙ sym (take-append-le first (take first text ++ e.bytes) (drop to text) longer) ∙ ap (take first) (sym made)
+
+-- what is kept of a text after an edit of it
+pub kept_edited : (text new : List ℕ) (e : Edit) (first same : ℕ) (tokens : List Reached) (parse : Option KeptParse) (noted : Option ℕ) → outcome_of text e ≡ changed first new
+    → IsKept text tokens parse noted same → IsKept new tokens parse (Some (sooner first noted)) same
+kept_edited text new e first same tokens parse None is h = record {
+  lexed = front_on first text new 0 tokens (same_before text e first new is) (all_front text 0 tokens h.lexed);
+  parsed = h.parsed;
+  whole = tt;
+}
+kept_edited text new e first same tokens parse (Some before) is h =
+    let s = sooner first (Some before) in
+    let le : (s ≤ first) × (s ≤ before) = go (nat_lt first before) refl in
+    let bytes : take s text ≡ take s new = agree_less first s text new le.0 (same_before text e first new is) in
+    record {
+      lexed = subst (λ (l : List Reached). IsFront FirstReached end_of new 0 l) (steady_less s before tokens le.1) (front_on s text new 0 (steady reach_of before tokens) bytes h.lexed);
+      parsed = h.parsed;
+      whole = tt;
+    }
+  where
+    go : (c : Bool) → nat_lt first before ≡ c → ((if c then first else before) ≤ first) × ((if c then first else before) ≤ before)
+    go true is = (omega arith, grind (arith, nat_tests))
+    go false is = (grind (arith, nat_tests), omega arith)
+
+-- ---- reading and parsing the text again
+
+-- what is kept once the tokens are read again, or could not be
+pub kept_read : (text : List ℕ) (tokens : List Reached) (parse : Option KeptParse) (from same : ℕ) → IsFront FirstReached end_of text 0 (steady reach_of from tokens) → IsParsedUpTo same (toks_of tokens) parse → IsKept text tokens parse (Some from) same
+kept_read text tokens parse from same front parsed = record { lexed = front; parsed = parsed; whole = tt }
+
+-- all tokens of a text are few enough for the parser
+pub few_tokens : (text : List ℕ) (tokens : List Token) (ts : List Reached) → length text ≤ text_limit → AllTokens FirstReached end_of text 0 ts → map reached_of tokens ≡ ts → length tokens ≤ 1048576
+few_tokens text tokens ts short all same = omega (arith, short, all_few text 0 ts (omega arith) all, ap length same, length-map tokens reached_of)
+
+-- the parser's tokens, as the code has them and as the store is seen
+pub toks_are : (tokens : List Token) (ts : List Reached) → map reached_of tokens ≡ ts → map tok_of tokens ≡ toks_of ts
+toks_are tokens ts same = sym (toks_mapped tokens) ∙ ap toks_of same
+
+-- a parser that has taken all tokens knows them
+whole_known : (ts : List Tok) (parse : Option KeptParse) → IsParsedWhole ts parse → IsParsedUpTo (length ts) ts parse
+whole_known ts None whole = absurd whole
+whole_known ts (Some k) whole = record { old = ts; parsed = whole; known = omega arith; within = omega arith; first = refl }
+
+-- what is kept once all of it is of the text
+pub kept_whole : (text : List ℕ) (tokens : List Token) (ts : List Reached) (parse : Option KeptParse) (same : ℕ) → length text ≤ text_limit → AllTokens FirstReached end_of text 0 ts → map reached_of tokens ≡ ts
+    → IsParsedWhole (map tok_of tokens) parse → same ≡ length tokens → IsKept text ts parse None same
+kept_whole text tokens ts parse same short all are whole many =
+    let toks = toks_are tokens ts are in
+    let count : length (toks_of ts) ≡ same = sym (ap length toks) ∙ length-map tokens tok_of ∙ sym many in
+    let known = subst (λ (l : List Tok). IsParsedWhole l parse) toks whole in
+    record {
+      lexed = all;
+      parsed = subst (λ n. IsParsedUpTo n (toks_of ts) parse) count (whole_known (toks_of ts) parse known);
+      whole = (known, omega (arith, few_tokens text tokens ts short all are, count, many));
+    }
+
+-- a parser that has not begun knows none
+pub none_known : (same : ℕ) (ts : List Tok) → IsParsedUpTo same ts None → same ≡ 0
+none_known same ts h = omega (arith, h.known, ap length h.parsed)
+
+-- what the parser requires of the tokens that it knows
+pub resumed : (same : ℕ) (ts : List Tok) (k : KeptParse) → IsParsedUpTo same ts (Some k) → (old : List Tok) × HasParsed old k × (same ≤ length old) × (take same old ≡ take same ts)
+resumed same ts k h = (h.old, h.parsed.0, h.known, h.first)
+
+-- what the parser knows once it went on, or could not
+pub resumed_known : {T E : Type 0} (r : Result T E) (same : ℕ) (tokens : List Token) (k : KeptParse) → same ≤ length tokens → text_in k ≡ program_text
+    → OnOk r (HasParsed (map tok_of tokens) k) → OnErr r ((n : ℕ) × (same ≤ n) × (n ≤ length tokens) × HasParsed (map tok_of (take n tokens)) k) → IsParsedUpTo same (map tok_of tokens) (Some k)
+resumed_known (Ok x) same tokens k within text all some = record {
+  old = map tok_of tokens;
+  parsed = (all, text);
+  known = omega (arith, within, length-map tokens tok_of);
+  within = omega (arith, within, length-map tokens tok_of);
+  first = refl;
+}
+resumed_known (Err e) same tokens k within text all (n, least, most, parsed) = record {
+  old = map tok_of (take n tokens);
+  parsed = (parsed, text);
+  known = omega (arith, least, most, length-map (take n tokens) tok_of, length-take n tokens);
+  within = omega (arith, within, length-map tokens tok_of);
+  first = ap (take same) (sym (mapped_first tokens n)) ∙ take-take same n (map tok_of tokens) least;
+}
+
+pub resumed_whole : {T E : Type 0} (r : Result T E) (ts : List Tok) (k : KeptParse) → OnOk r (HasParsed ts k) → text_in k ≡ program_text → OnOk r (IsParsedWhole ts (Some k))
+resumed_whole (Ok x) ts k all text = (all, text)
+resumed_whole (Err e) ts k all text = tt
+
+-- what is kept of a text of which nothing was read yet
+pub kept_new : (text : List ℕ) (tokens : List Reached) → tokens ≡ [] → IsKept text tokens None (Some 0) 0
+kept_new text tokens none = subst (λ (ts : List Reached). IsKept text ts None (Some 0) 0) (sym none) (record { lexed = tt; parsed = record { old = []; parsed = refl; known = omega arith; within = omega arith; first = refl }; whole = tt })
+
+-- where no change is noted
+pub none_noted : (b : Bool) (o : Option ℕ) → b ≡ is_some o → b ≡ false → o ≡ None
+none_noted b None is not = refl
+none_noted b (Some n) is not = cc
+
+-- what is kept where no change is noted and the parser has begun
+pub whole_of : (noted : Option ℕ) (ts : List Tok) (parse : Option KeptParse) (k : KeptParse) → noted ≡ None → parse ≡ Some k → IsUpToDate noted ts parse → IsUpToDate None ts (Some k)
+whole_of noted ts parse k none begun h = subst (λ (o : Option KeptParse). IsUpToDate None ts o) begun (subst (λ (o : Option ℕ). IsUpToDate o ts parse) none h)

@@ -1,0 +1,54 @@
+-- A text with what is kept of it: its tokens, and what the parser made of them.
+use Rattle.std.specs.Prelude.{◌≡◌, ℕ, ◌≤◌, List, [], length, take, Option, Some, None, if◌then◌else◌, nat_lt}
+use Rattle.token_model.specs.Kinds.{Tok}
+use Rattle.grammar_model.specs.Ocaml.{program_text}
+use Rattle.ml_lexer.specs.Reached.{end_of, reach_of, FirstReached, Reached}
+use Rattle.ml_lexer.specs.Steady.{steady, AllTokens}
+use Rattle.token_store.specs.Stored.{toks_of, IsFront}
+use Rattle.resume_parser.specs.Kept.{text_in, HasParsed}
+use Rattle.resume_parser.specs.declared.kept.KeptParse.{KeptParse}
+
+-- a text, the tokens that are kept of it with their reaches, and the first byte that may have changed since they were read; none, where they are those of the text
+pub record Kept : Type 0 where
+  pub text : List ℕ
+  pub tokens : List Reached
+  pub changed : Option ℕ
+
+-- the first changed byte where bytes from one place on are changed and had been from another, or nothing had been
+abbrev pub sooner : ℕ → Option ℕ → ℕ
+sooner first None = first
+sooner first (Some before) = if nat_lt first before then first else before
+
+-- the tokens are those of the text, or those among them are which the first changed byte leaves as they are
+abbrev pub AreTokens : List ℕ → Option ℕ → List Reached → Type 0
+AreTokens text None ts = AllTokens FirstReached end_of text 0 ts
+AreTokens text (Some from) ts = IsFront FirstReached end_of text 0 (steady reach_of from ts)
+
+-- the parser has taken these tokens, as those of a program; none, where it hasn't begun
+abbrev pub IsParserOf : List Tok → Option KeptParse → Type 0
+IsParserOf ts None = ts ≡ []
+IsParserOf ts (Some k) = HasParsed ts k × (text_in k ≡ program_text)
+
+-- the parser has taken tokens of which so many are the first of these
+pub record IsParsedUpTo (same : ℕ) (ts : List Tok) (parse : Option KeptParse) : Type 0 where
+  pub old : List Tok
+  pub parsed : IsParserOf old parse
+  pub known : same ≤ length old
+  pub within : same ≤ length ts
+  pub first : take same old ≡ take same ts
+
+-- the parser has begun, and has taken these tokens and no others
+abbrev pub IsParsedWhole : List Tok → Option KeptParse → Type 0
+IsParsedWhole ts None = ⊥
+IsParsedWhole ts (Some k) = HasParsed ts k × (text_in k ≡ program_text)
+
+-- where nothing was changed, the parser has taken all tokens, and they are few enough for it
+abbrev pub IsUpToDate : Option ℕ → List Tok → Option KeptParse → Type 0
+IsUpToDate None ts parse = IsParsedWhole ts parse × (length ts ≤ 1048576)
+IsUpToDate (Some from) ts parse = Unit {0}
+
+-- what ties the tokens and the parser to the text
+pub record IsKept (text : List ℕ) (tokens : List Reached) (parse : Option KeptParse) (changed : Option ℕ) (same : ℕ) : Type 0 where
+  pub lexed : AreTokens text changed tokens
+  pub parsed : IsParsedUpTo same (toks_of tokens) parse
+  pub whole : IsUpToDate changed (toks_of tokens) parse

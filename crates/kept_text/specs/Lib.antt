@@ -1,0 +1,2 @@
+-- What is kept of a text.
+pub mod Keeping
