@@ -27,7 +27,7 @@ const BAD_POSITION: &[u8] =
 const MISPLACED: &[u8] =
     b"{\"query\":\"tell\",\"start\":{\"line\":1,\"col\":0},\"end\":{\"line\":3,\"col\":0},\"text\":\"\"}\n";
 
-const MADE: &[u8] = b"{\"bytes\":151,\"faults\":0,\"items\":6,\"typed\":6}\n";
+const MADE: &[u8] = b"{\"bytes\":151,\"faults\":0,\"items\":6,\"typed\":1}\n";
 
 /// A counter of its own.
 #[derive(Clone, Copy)]
@@ -238,14 +238,14 @@ const REFUSED: [WordRow; 7] = [
 ];
 
 const MADE_RUNS: [WordRow; 3] = [
-    ("--make 5", &["--make", "5"], &[], Status::Done, 11, MADE),
-    ("--make=5", &["--make=5"], &[], Status::Done, 11, MADE),
+    ("--make 5", &["--make", "5"], &[], Status::Done, 6, MADE),
+    ("--make=5", &["--make=5"], &[], Status::Done, 6, MADE),
     (
         "a put that fails",
         &["--make", "5"],
         &[(1, 4)],
         Status::WriteFault,
-        11,
+        6,
         b"{\"by",
     ),
 ];

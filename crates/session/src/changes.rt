@@ -79,7 +79,7 @@ pub fn cases<A: Analyser, C: Counts>(
     alloc: Global,
     store: &TextStore,
     parsed: &Parsed,
-    analysis: &Analysis,
+    analysis: &Analysis<'_>,
     offset: u32,
     counts: &mut C,
 ) -> Result<Reply, NoMemory>
@@ -148,7 +148,7 @@ pub fn terms_in<A: Analyser, C: Counts>(
     alloc: Global,
     store: &TextStore,
     parsed: &Parsed,
-    analysis: &Analysis,
+    analysis: &Analysis<'_>,
     offset: u32,
     counts: &mut C,
 ) -> Result<Reply, NoMemory>

@@ -13,6 +13,7 @@ ghost use Rattle.session.specs.Structures.{IsParsedAs};
 
 use crate::changes::{cases, terms_in};
 use crate::structure::{position, tree_of};
+use crate::types::find_types;
 use analysis_api::{Analyser, Analysis};
 use env_table::Place;
 use frame_parser::Parsed;
@@ -53,23 +54,24 @@ pub fn failure_of(fault: QueryFault) -> Result<Failure, NoMemory>
 }
 
 /// What queries are asked of.
-pub fn asked<'a>(tree: &'a Tree, analysis: &'a Analysis) -> Asked<'a>
+pub fn asked<'a>(tree: &'a Tree, analysis: &Analysis<'a>) -> Asked<'a>
     ensures { result.tree.now ≡ tree.now }
 {
     Asked {
         tree,
-        index: &analysis.index,
-        store: &analysis.store,
-        end: &analysis.end,
-        faults: &analysis.faults,
-        weak: &analysis.weak,
+        index: analysis.index,
+        store: analysis.store,
+        end: analysis.end,
+        faults: analysis.faults,
+        weak: analysis.weak,
     }
 }
 
-/// Answers a query of an offset of a text.
+/// Answers a query of an offset of a text, of which the types may be known already.
 pub fn ask<A: Analyser, C: Counts>(
     alloc: Global,
     kept: &KeptText,
+    known: Option<&A>,
     query: &Query,
     offset: u32,
     counts: &mut C,
@@ -78,8 +80,17 @@ pub fn ask<A: Analyser, C: Counts>(
     ensures grows { Grows (C.tallies counts.old) (C.tallies counts.new) }
 {
     let parsed = tree_of(alloc, kept, counts)?;
-    let analysis = A::analyse(alloc, &parsed.tree, counts)?;
-    answer::<A, C>(alloc, kept.text(), query, &parsed, &analysis, offset, counts)
+    let found = find_types(alloc, known, &parsed.tree, counts)?;
+    let analysis = found.analysis();
+    answer::<A, C>(
+        alloc,
+        kept.text(),
+        query,
+        &parsed,
+        &analysis,
+        offset,
+        counts,
+    )
 }
 
 fn answer<A: Analyser, C: Counts>(
@@ -87,7 +98,7 @@ fn answer<A: Analyser, C: Counts>(
     store: &TextStore,
     query: &Query,
     parsed: &Parsed,
-    analysis: &Analysis,
+    analysis: &Analysis<'_>,
     offset: u32,
     counts: &mut C,
 ) -> Result<Reply, NoMemory>

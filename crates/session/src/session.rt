@@ -27,6 +27,7 @@ use crate::plain::{PlainText, typed_among};
 use crate::queries::{Query, ask, asked, failure_of};
 use crate::reading::read_text;
 use crate::structure::{shown_faults, shown_outline, shown_types, tree_of};
+use crate::types::{KeptTypes, find_types};
 use analysis_api::Analyser;
 use env_table::Fault;
 use frame_parser::{Parsed, SyntaxFault};
@@ -37,7 +38,7 @@ use json_lines::{
 use kept_text::KeptText;
 use query_engine::{Asked, enclosing_types};
 use std::alloc::{AllocError, Global};
-use std::marker::{Model, PhantomData};
+use std::marker::Model;
 use syntax_tree::{Counts, NoMemory, Pos, RcStr, Tree, enclosing};
 use text_store::{Edit, TextRefusal, TextStore};
 
@@ -154,7 +155,7 @@ fn sizes_of(parsed: &Parsed, typed: usize) -> Sizes
 pub struct Session<A: Analyser> {
     alloc: Global,
     kept: KeptText,
-    analyser: PhantomData<A>,
+    types: KeptTypes<A>,
 }
 
 /// A session is seen as the bytes of its text.
@@ -174,7 +175,7 @@ impl<A: Analyser> Session<A> {
         Session {
             alloc,
             kept: KeptText::new(alloc),
-            analyser: PhantomData,
+            types: KeptTypes::new(),
         }
     }
 
@@ -226,7 +227,10 @@ impl<A: Analyser> Session<A> {
         match written(self.alloc, &Reply::Size(self.len_after(&edit))) {
             Line::Memory => Line::Memory,
             Line::Written(bytes) => match self.kept.apply(&edit) {
-                Ok(_) => Line::Written(bytes),
+                Ok(_) => {
+                    self.types.outdate();
+                    Line::Written(bytes)
+                }
                 Err(refusal) => refused_edit_line(self.alloc, refusal),
             },
         }
@@ -288,7 +292,10 @@ impl<A: Analyser> Session<A> {
             text,
         };
         match self.kept.apply(&edit) {
-            Ok(_) => Ok(()),
+            Ok(_) => {
+                self.types.outdate();
+                Ok(())
+            }
             Err(_) => Err(AllocError),
         }
     }
@@ -324,7 +331,10 @@ impl<A: Analyser> Session<A> {
     {
         let edit = self.edit_for(range, text);
         match self.kept.apply(&edit) {
-            Ok(_) => Ok(()),
+            Ok(_) => {
+                self.types.outdate();
+                Ok(())
+            }
             Err(refusal) => Err(refusal),
         }
     }
@@ -339,15 +349,38 @@ impl<A: Analyser> Session<A> {
         ensures said { IfOk result (λ r. IsAnswered query.now self.now offset (said_of r)) }
         ensures counted { Grows (C.tallies counts.old) (C.tallies counts.new) }
     {
-        ask::<A, C>(self.alloc, &self.kept, query, offset, counts)
+        ask::<A, C>(
+            self.alloc,
+            &self.kept,
+            self.types.known(),
+            query,
+            offset,
+            counts,
+        )
     }
 
-    /// Brings what is kept of the text up to it, so that the queries behind need not read it again. The text stays.
-    pub fn refresh<C: Counts>(&mut self, counts: &mut C) -> Result<(), NoMemory>
+    /// Brings the kept tokens and the kept tree up to the text. The text stays.
+    fn read_again<C: Counts>(&mut self, counts: &mut C) -> Result<(), NoMemory>
         ensures text { self.new ≡ self.old }
         ensures counted { Grows (C.tallies counts.old) (C.tallies counts.new) }
     {
         self.kept.refresh(counts)
+    }
+
+    /// Brings what is kept of the text up to it, its types and names among that, so that the queries after it find nothing anew.
+    /// The text stays; after `NoMemory` the next call does what is left.
+    pub fn refresh<C: Counts>(&mut self, counts: &mut C) -> Result<(), NoMemory>
+        ensures text { self.new ≡ self.old }
+        ensures counted { Grows (C.tallies counts.old) (C.tallies counts.new) }
+    {
+        self.read_again(counts)?;
+        if self.types.known().is_some() {
+            return Ok(());
+        }
+        match self.kept.parsed()? {
+            Some(parsed) => self.types.refresh(self.alloc, &parsed.tree, counts),
+            None => Ok(()),
+        }
     }
 
     /// A query of a position.
@@ -382,7 +415,7 @@ impl<A: Analyser> Session<A> {
         ensures text { self.new ≡ self.old }
         ensures counted { Grows (C.tallies counts.old) (C.tallies counts.new) }
     {
-        let Ok(()) = self.refresh(counts) else {
+        let Ok(()) = self.read_again(counts) else {
             return Line::Memory;
         };
         match self.outline(counts) {
@@ -433,8 +466,8 @@ impl<A: Analyser> Session<A> {
         ensures said { IfOk result (λ r. FaultsAre self.now (map fault_of parsed.now.faults.items) (said_of r)) }
         ensures counted { Grows (C.tallies counts.old) (C.tallies counts.new) }
     {
-        let analysis = A::analyse(self.alloc, &parsed.tree, counts)?;
-        self.page_of(&parsed.faults, &analysis.faults.list)
+        let found = find_types(self.alloc, self.types.known(), &parsed.tree, counts)?;
+        self.page_of(&parsed.faults, &found.analysis().faults.list)
     }
 
     /// The page of the parser's faults and of the typer's.
@@ -467,8 +500,8 @@ impl<A: Analyser> Session<A> {
         ensures fits { IfOk result (λ n. n < 2 ^ 63) }
         ensures counted { Grows (C.tallies counts.old) (C.tallies counts.new) }
     {
-        let analysis = A::analyse(self.alloc, &parsed.tree, counts)?;
-        Ok(analysis.faults.list.len())
+        let found = find_types(self.alloc, self.types.known(), &parsed.tree, counts)?;
+        Ok(found.analysis().faults.list.len())
     }
 
     /// The types round a position, innermost first.
@@ -530,8 +563,8 @@ impl<A: Analyser> Session<A> {
         ensures said { IfOk result (λ r. TypesAre self.now (typed_round offset (trees_of tree.now)) (said_of r)) }
         ensures counted { Grows (C.tallies counts.old) (C.tallies counts.new) }
     {
-        let analysis = A::analyse(self.alloc, tree, counts)?;
-        self.types_of(&asked(tree, &analysis), offset)
+        let found = find_types(self.alloc, self.types.known(), tree, counts)?;
+        self.types_of(&asked(tree, &found.analysis()), offset)
     }
 
     fn types_of(&self, asked: &Asked<'_>, offset: u32) -> Result<Reply, NoMemory>

@@ -12,6 +12,7 @@ ghost use Rattle.query_engine.specs.Faults.{fault_of, typer_fault_of};
 ghost use Rattle.session.specs.Trials.{HasMarks, IsParserOf, Knows, lesser, mark_in};
 
 use crate::structure::parse_text;
+use crate::types::analysed;
 use analysis_api::Analyser;
 use env_table::Fault;
 use frame_parser::SyntaxFault;
@@ -244,8 +245,8 @@ impl<'a, A: Analyser> TextTrial<'a, A> {
         ensures grows { Grows (C.tallies counts.old) (C.tallies counts.new) }
     {
         let parsed = parse_text(self.alloc, changed.as_bytes(), &[], counts)?;
-        let analysis = A::analyse(self.alloc, &parsed.tree, counts)?;
-        let marks = marks_of(self.alloc, &parsed.faults, &analysis.faults.list)?;
+        let typer: A = analysed(self.alloc, &parsed.tree, counts)?;
+        let marks = marks_of(self.alloc, &parsed.faults, &typer.found().faults.list)?;
         Ok(self.first_new(replacement, &marks))
     }
 }

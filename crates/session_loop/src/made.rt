@@ -113,14 +113,16 @@ fn made_text(alloc: Global, items: u32) -> Result<RcStr, NoMemory>
 
 /// The sizes of a session's text, and by how much the query for them made the count of typed items grow.
 fn asked<A: Analyser, C: Counts>(
-    session: &Session<A>,
+    session: &mut Session<A>,
     counts: &mut C,
 ) -> Result<(Sizes, u64), NoMemory>
-    ensures sizes { IfOk result (λ r. SizesAre session.now r.0.items r.0.faults) }
+    ensures sizes { IfOk result (λ r. SizesAre session.old r.0.items r.0.faults) }
+    ensures text { session.new ≡ session.old }
     ensures typed { IfOk result (λ r. (C.tallies counts.new).typed ≡ (C.tallies counts.old).typed + r.1) }
     ensures grows { Grows (C.tallies counts.old) (C.tallies counts.new) }
 {
     let before = counts.typed();
+    session.refresh(counts)?;
     let sizes = session.sizes(counts)?;
     Ok((sizes, counts.typed() - before))
 }
@@ -137,9 +139,9 @@ fn found_of_made<A: Analyser, C: Counts>(
 {
     let mut session = Session::<A>::new(alloc);
     session.append(made_text(alloc, items)?)?;
-    asked(&session, counts)?;
+    asked(&mut session, counts)?;
     session.append(RcStr::from_str(alloc, LAST_LINE)?)?;
-    let (sizes, typed) = asked(&session, counts)?;
+    let (sizes, typed) = asked(&mut session, counts)?;
     Ok(Summary {
         bytes: session.len(),
         faults: sizes.faults,
