@@ -4,10 +4,10 @@
 ghost use Rattle.std.specs.Prelude.{◌≡◌, ℕ, [], ◌∷◌, ◌++◌, map, All, IfOk, OnOk};
 ghost use Rattle.tree_model.specs.Trees.{Place, inner};
 ghost use Rattle.operand_laws.specs.Operands.{number_of, expression_of};
-ghost use Rattle.typing_steps.specs.Typing.{TypesRow};
+ghost use Rattle.typing_steps.specs.Typing.{TypesRow, path_as};
 ghost use Rattle.typing_rows.specs.CarriedRows.{IsCarried};
 ghost use Rattle.typing_rows.specs.Asked.{under_minus, row_expression, expressions_of, signed_expressions, applied_asks, operated_asks};
-ghost use Rattle.typing_rows.specs.Contracts.{TypesAs, TypesArgument, TypesGiven};
+ghost use Rattle.typing_rows.specs.Contracts.{TypesAs, TypesArgument, TypesGiven, TypesHead, TypesLater, TypesConstructed};
 ghost use Rattle.use_typing.specs.Constants.{is_negated};
 ghost use Rattle.expression_steps.specs.Operators.{IsOperation};
 ghost use Rattle.syntax_tree.specs.View.{place_of, tok_of, node_view};
@@ -16,17 +16,17 @@ ghost use Rattle.env_table.specs.declared.faults.FaultKind.{FaultKind};
 ghost use Rattle.typing_state.specs.Goes.{Goes};
 ghost use Rattle.typing_state.specs.Steps.{asks, Follows};
 ghost use Rattle.expression_steps.specs.declared.forms.RowForm.{RowForm};
-ghost use Rattle.expression_steps.specs.ExpressionSteps.{expression_at, expression_steps, form_of, argument_steps, arguments_steps, constructed_steps, is_float_at, row_at, steps_as};
+ghost use Rattle.expression_steps.specs.ExpressionSteps.{expression_at, expression_steps, form_of, argued_constructor, argument_steps, arguments_steps, constructed_steps, is_float_at, row_at, steps_as};
 
 use crate::exprs::{type_each, type_under, typed_as};
 use expression_steps::{
     Head, Operator, ask_arrow, built_by_unknown, constructor_path, is_float, negative_float,
-    operator_of, operator_value, recorded_constructor,
+    note_head, operator_of, operator_value,
 };
 use row_parts::{Operand, WrittenPath, operand_in, operands, operands_of};
 use syntax_tree::{Node, Span};
 use typing_state::{Depth, Env, NoMemory, NodeRef, Parts};
-use use_typing::{Names, Sign, Used, any_type, unnamed};
+use use_typing::{Names, Sign, Used, any_type, constructor, unnamed};
 
 /// e e e
 #[cycle(exprs)]
@@ -67,8 +67,8 @@ fn applied(
     Ok(unnamed(at, ty))
 }
 
-/// A e e: the constructor; the first argument, which is the declared one; the others as those of any head. Of the arguments of one
-/// that isn't known nothing is asked.
+/// A e e: the constructor with its first argument; the others as those of any head. Of the arguments of one that isn't known nothing
+/// is asked.
 #[cycle(exprs)]
 fn constructed(
     at: &mut Parts,
@@ -78,6 +78,7 @@ fn constructed(
     env: &Env,
     depth: Depth,
 ) -> Result<Used, NoMemory>
+    ensures carries { IfOk result (λ u. All IsCarried (map operand_view given.now) → (n : ℕ) → TypesConstructed at.old at.new env.now n (path_as (path_view path.now)) (expression_of at.old.item (operand_view head.entry)) (expressions_of at.old.item (map operand_view given.now)) u.ty.0) }
     ensures follows { OnOk result (Follows (constructed_steps (expression_at (operand_view head.entry)) (path_view path.now) (map expression_at (map operand_view given.now))) at.old at.new) }
     ensures goes { Goes at.old at.new }
 {
@@ -85,12 +86,30 @@ fn constructed(
         let ty = type_under(at, head, Sign::None, env, depth.inside()?)?;
         return Ok(unnamed(at, ty));
     };
-    let built = recorded_constructor(at, head.number, path, env)?;
-    typed_as(at, *first, built.argument, env, env, depth)?;
+    let built = with_argument(at, head.number, path, *first, env, depth)?;
     later_arguments(at, head.span, built, later, env, depth)
 }
 
-/// The further arguments of a constructor.
+/// A constructor with its first argument, which has the declared type. The constructor is recorded.
+#[cycle(exprs)]
+fn with_argument(
+    at: &mut Parts,
+    number: u32,
+    path: &WrittenPath<'_>,
+    first: Operand<'_>,
+    env: &Env,
+    depth: Depth,
+) -> Result<Head, NoMemory>
+    ensures carries { IfOk result (λ h. IsCarried (operand_view first.entry) → (n : ℕ) → TypesHead at.old at.new env.now n (number_of at.old.item number) (path_as (path_view path.now)) h.known (expression_of at.old.item (operand_view first.entry)) h.ty.0) }
+    ensures follows { OnOk result (Follows (argued_constructor number (path_view path.now) (expression_at (operand_view first.entry))) at.old at.new) }
+    ensures goes { Goes at.old at.new }
+{
+    let found = constructor(at, env, path, 1)?;
+    typed_as(at, first, found.argument, env, env, depth)?;
+    note_head(at, number, found, env)
+}
+
+/// The arguments of a constructor after the first one.
 #[cycle(exprs)]
 fn later_arguments(
     at: &mut Parts,
@@ -100,6 +119,7 @@ fn later_arguments(
     env: &Env,
     depth: Depth,
 ) -> Result<Used, NoMemory>
+    ensures carries { IfOk result (λ u. All IsCarried (map operand_view later.now) → TypesLater at.old at.new env.now head.known (place_of place) (expressions_of at.old.item (map operand_view later.now)) head.ty.0 u.ty.0) }
     ensures follows { OnOk result (Follows (arguments_steps (place_of place) (map expression_at (map operand_view later.now))) at.old at.new) }
     ensures goes { Goes at.old at.new }
 {

@@ -1,13 +1,13 @@
 //! The walk over expressions: each row types its parts in order, with its demands between and behind them.
 #![tactic(auto, using(typing_state::proofs::Going::goes_trans, typing_state::proofs::Going::goes_refl, typing_state::proofs::Following::follows_both, typing_state::proofs::Following::follows_then, typing_state::proofs::Following::follows_before, typing_state::proofs::Following::follows_behind, typing_state::proofs::Following::follows_none, typing_state::proofs::Following::follows_silent, typing_state::proofs::Following::store_silent, typing_state::proofs::Following::silent_refl, typing_state::proofs::Following::silent_trans, typing_state::proofs::Following::ends_both, typing_state::proofs::Following::ends_behind, typing_state::proofs::Following::ends_before, typing_state::proofs::Following::ends_silent, typing_state::proofs::Following::gets_start, typing_state::proofs::Following::gets_more, typing_state::proofs::Following::gets_before, typing_state::proofs::Following::gets_done, expression_steps::proofs::ExpressionLaws::value_no_record, expression_steps::proofs::ExpressionLaws::form_follows), unfolding(syntax_tree::specs::Names::row_of))]
 
-ghost use Rattle.std.specs.Prelude.{false, [], ◌∷◌, ◌++◌, map, All, IfOk, OnOk};
+ghost use Rattle.std.specs.Prelude.{false, [], ◌∷◌, ◌++◌, map, option_map, All, IfOk, OnOk};
 ghost use Rattle.tree_model.specs.Trees.{Place, inner};
 ghost use Rattle.operand_laws.specs.Operands.{number_of, expression_of};
 ghost use Rattle.typing_steps.specs.Typing.{TypesTo, TypesRow};
 ghost use Rattle.typing_rows.specs.CarriedRows.{IsCarried};
 ghost use Rattle.typing_rows.specs.Asked.{under_minus, row_expression, expressions_of};
-ghost use Rattle.typing_rows.specs.Contracts.{TypesEach};
+ghost use Rattle.typing_rows.specs.Contracts.{TypesEach, TypesAsIf};
 ghost use Rattle.syntax_tree.specs.View.{place_of, node_view};
 ghost use Rattle.row_parts.specs.Numbered.{numbered, operand_view};
 ghost use Rattle.env_table.specs.declared.faults.FaultKind.{FaultKind};
@@ -129,6 +129,7 @@ pub fn typed_as(
     env: &Env,
     depth: Depth,
 ) -> Result<NodeRef, NoMemory>
+    ensures carries { OnOk result (IsCarried (operand_view e.entry) → TypesAsIf at.old at.new scope.now (expression_of at.old.item (operand_view e.entry)) (option_map (λ w. w.0) wanted)) }
     ensures follows { OnOk result (Follows (expression_steps (operand_view e.entry) ++ asks FaultKind.Equal (place_of e.entry.span ∷ []) ∷ []) at.old at.new) }
     ensures goes { Goes at.old at.new }
 {

@@ -7,7 +7,7 @@ ghost use Rattle.type_nodes.specs.Views.{numbers};
 ghost use Rattle.operand_laws.specs.Operands.{number_of, expression_of};
 ghost use Rattle.typing_steps.specs.Typing.{TypesRow};
 ghost use Rattle.typing_rows.specs.CarriedRows.{IsCarried};
-ghost use Rattle.typing_rows.specs.Asked.{row_expression, expressions_of, IsPlainRow};
+ghost use Rattle.typing_rows.specs.Asked.{row_expression, expressions_of, IsOrderedRow};
 ghost use Rattle.typing_rows.specs.Contracts.{TypesParts, TypesPart};
 ghost use Rattle.syntax_tree.specs.Names.{row_of};
 ghost use Rattle.syntax_tree.specs.View.{node_view};
@@ -54,7 +54,7 @@ fn type_parts(
     inner: &Env,
     depth: Depth,
 ) -> Result<Vec<NodeRef>, NoMemory>
-    ensures carries { IfOk result (λ ts. IsPlainRow (row_of row) → inner.now ≡ env.now → All IsCarried (map operand_view parts.now) → TypesParts at.old at.new env.now (row_of row) (expressions_of at.old.item (map operand_view parts.now)) (numbers ts.items)) }
+    ensures carries { IfOk result (λ ts. IsOrderedRow (row_of row) → inner.now ≡ env.now → All IsCarried (map operand_view parts.now) → TypesParts at.old at.new env.now (row_of row) (expressions_of at.old.item (map operand_view parts.now)) (numbers ts.items)) }
     ensures follows { OnOk result (Follows (parts_from (row_of row) 0 (map expression_at (map operand_view parts.now))) at.old at.new) }
     ensures goes { Goes at.old at.new }
 {
@@ -79,7 +79,7 @@ fn type_part(
     env: &Env,
     depth: Depth,
 ) -> Result<NodeRef, NoMemory>
-    ensures carries { IfOk result (λ m. IsPlainRow (row_of row) → scope.now ≡ env.now → IsCarried (operand_view part.entry) → TypesPart at.old at.new env.now (row_of row) place (expression_of at.old.item (operand_view part.entry)) m.0) }
+    ensures carries { IfOk result (λ m. IsOrderedRow (row_of row) → scope.now ≡ env.now → IsCarried (operand_view part.entry) → TypesPart at.old at.new env.now (row_of row) place (expression_of at.old.item (operand_view part.entry)) m.0) }
     ensures follows { OnOk result (Follows (part_steps (row_of row) place (expression_at (operand_view part.entry))) at.old at.new) }
     ensures goes { Goes at.old at.new }
 {

@@ -5,7 +5,7 @@ use Rattle.std.proofs.lemmas.List.Elements.{All-head, All-tail}
 use Rattle.std.specs.Str.{bytes_eq}
 use Rattle.std.proofs.lemmas.Slice.Eq.{bytes_eq-Decides}
 use Rattle.token_model.specs.Kinds.{Tok, Kind, upper, lower, float, false_word}
-use Rattle.tree_model.specs.Rows.{Row, erecord_row, econ_row, epath_row, econst_row, eparen_row, prefix_row, eapp_row, eneg_row, infix_row, eassert_row, ewhile_row, ebegin_row, elist_row, econs_row, etuple_row, eif_row, eseq_row, name_row, hole_row}
+use Rattle.tree_model.specs.Rows.{Row, erecord_row, econ_row, epath_row, econst_row, eparen_row, prefix_row, field_row, eapp_row, eneg_row, infix_row, eassert_row, ewhile_row, ebegin_row, elist_row, econs_row, etuple_row, eif_row, eseq_row, name_row, hole_row}
 use Rattle.tree_model.specs.Trees.{Place, Tree, Forest, Part, taken, inner, missing, node}
 use Rattle.row_parts.specs.Numbered.{Numbered, Written, numbered, operand_view, token_in, path_in, filled_in, all_operands, operands_in, first_in}
 use Rattle.typing_model.specs.Contexts.{Context, tell_typed}
@@ -21,17 +21,21 @@ use Rattle.typing_state.specs.Goes.{Goes}
 use Rattle.env_table.specs.declared.entries.Entry.{Entry}
 use Rattle.typing_state.specs.declared.parts.Parts.{Parts}
 use Rattle.syntax_tree.specs.View.{tok_of}
-use Rattle.typing_steps.specs.Typing.{TypesRow, TypesTo, TypesAny, AsksEqual}
+use Rattle.typing_steps.specs.Typing.{TypesRow, TypesTo, TypesAny, AsksEqual, AsksEqualIf}
 use Rattle.operand_laws.specs.Formed.{row_of, is_in}
-use Rattle.operand_laws.specs.Operands.{number_of, parts_of, expression_of}
+use Rattle.operand_laws.specs.Operands.{number_of, parts_of, path_of, expression_of}
 use Rattle.operand_laws.proofs.Tokens.{token_stands}
 use Rattle.operand_laws.proofs.Standing.{expression_of_stands}
-use Rattle.typing_rows.specs.CarriedRows.{is_upper, names_constructor, is_sign, IsCarriedRow, IsTreeOfCarriedRows, IsOfCarriedRows, IsCarried}
-use Rattle.typing_rows.specs.Asked.{under_minus, row_expression, expressions_of, signed_expressions, IsPlainRow, end_of, applied_asks, operated_asks}
+use Rattle.typing_rows.specs.CarriedRows.{is_sign, IsCarriedRow, IsTreeOfCarriedRows, IsOfCarriedRows, IsCarried}
+use Rattle.typing_rows.specs.Asked.{under_minus, row_expression, expressions_of, signed_expressions, IsOrderedRow, ordered_end, applied_asks, operated_asks}
 use Rattle.typing_rows.proofs.Going.{none_first, filled_carried, operands_carried, all_carried}
 use Rattle.typing_rows.proofs.Typed.{IsUsual, IsNoFloat, application_typed, paren_typed, ordered_typed, unoperated_typed, float_typed, operated_as, prefix_typed, infix_typed, minus_typed, minus_operand}
-use Rattle.typing_rows.specs.Contracts.{TypesFirst, TypesGivenFirst, TypesArgument, TypesPartsFirst, TypesPart, TypesAs, TypesParts, TypesEach, EndsRow}
+use Rattle.typing_rows.specs.Contracts.{TypesFirst, TypesGivenFirst, TypesArgument, TypesPartsFirst, TypesPart, TypesAs, TypesParts, TypesEach, EndsRow, TypesGiven, TypesAsIf, TypesHead, TypesLater, EndsUnknown, TypesConstructed}
 use Rattle.typing_rows.proofs.Given.{each_more, given_more, types_as}
+use Rattle.typing_rows.proofs.Applied.{head_typed, later_known, later_unknown, types_as_if, constructed_typed, construction_typed}
+use Rattle.typing_steps.specs.Building.{TypesConstructor}
+use Rattle.use_typing.specs.declared.uses.Construction.{Construction}
+use Rattle.expression_steps.specs.declared.heads.Head.{Head}
 use Rattle.typing_rows.proofs.Ordered.{parts_more, numbers_more}
 use Rattle.typing_rows.proofs.Ending.{row_as}
 use Rattle.typing_conditions.specs.Steps.{Records}
@@ -41,7 +45,8 @@ use Rattle.use_typing.specs.Uses.{IsAsWritten}
 use Rattle.expression_steps.specs.declared.operators.Operator.{Operator}
 use Rattle.expression_steps.specs.declared.forms.RowForm.{RowForm}
 use Rattle.expression_steps.specs.declared.forms.RowForm.TheVariants as form
-use Rattle.expression_steps.specs.ExpressionSteps.{form_of, row_at, constructor_at, constructor_in, upper_path, if_upper, is_float_kind, is_float_token, is_float_in, is_float_at}
+use Rattle.expression_steps.specs.ExpressionSteps.{form_of, row_at, constructor_at, is_float_kind, is_float_token, is_float_in, is_float_at}
+use Rattle.expression_steps.proofs.ConstructorLaws.{operand_no, operand_is}
 use Rattle.expression_steps.specs.Operators.{IsSignOf, sign_in, is_false_kind, is_false_token, is_false_in, is_false_at, IsOperation, operator_name, operator_negates, IsOperator}
 
 -- the row of a node, in both definitions
@@ -69,25 +74,27 @@ operation_form prefix_row b e = tt
 operation_form infix_row b e = tt
 operation_form _ b e = absurd (cc)
 
-plain_form : (r : Row) (t : Tree) (ps : Forest) → IsCarriedRow r t ps → form_of r ≡ form.Plain → IsPlainRow r
-plain_form ebegin_row t ps h e = tt
-plain_form elist_row t ps h e = tt
-plain_form eassert_row t ps h e = tt
-plain_form ewhile_row t ps h e = tt
-plain_form econs_row t ps h e = tt
-plain_form etuple_row t ps h e = tt
-plain_form eif_row t ps h e = tt
-plain_form eseq_row t ps h e = tt
-plain_form name_row t ps h e = absurd (cc)
-plain_form epath_row t ps h e = absurd (cc)
-plain_form econst_row t ps h e = absurd (cc)
-plain_form hole_row t ps h e = absurd (cc)
-plain_form eparen_row t ps h e = absurd (cc)
-plain_form prefix_row t ps h e = absurd (cc)
-plain_form eapp_row t ps h e = absurd (cc)
-plain_form eneg_row t ps h e = absurd (cc)
-plain_form infix_row t ps h e = absurd (cc)
-plain_form _ t ps h e = absurd h
+ordered_form : (r : Row) (t : Tree) (ps : Forest) → IsCarriedRow r t ps → form_of r ≡ form.Plain → IsOrderedRow r
+ordered_form ebegin_row t ps h e = tt
+ordered_form elist_row t ps h e = tt
+ordered_form field_row t ps h e = tt
+ordered_form eassert_row t ps h e = tt
+ordered_form ewhile_row t ps h e = tt
+ordered_form econs_row t ps h e = tt
+ordered_form etuple_row t ps h e = tt
+ordered_form eif_row t ps h e = tt
+ordered_form eseq_row t ps h e = tt
+ordered_form name_row t ps h e = absurd (cc)
+ordered_form econ_row t ps h e = absurd (cc)
+ordered_form epath_row t ps h e = absurd (cc)
+ordered_form econst_row t ps h e = absurd (cc)
+ordered_form hole_row t ps h e = absurd (cc)
+ordered_form eparen_row t ps h e = absurd (cc)
+ordered_form prefix_row t ps h e = absurd (cc)
+ordered_form eapp_row t ps h e = absurd (cc)
+ordered_form eneg_row t ps h e = absurd (cc)
+ordered_form infix_row t ps h e = absurd (cc)
+ordered_form _ t ps h e = absurd h
 
 -- a carried row isn't one with binders, nor a record
 abbrev pub IsCarriedForm : RowForm → Type 0
@@ -101,6 +108,7 @@ IsCarriedForm _ = ⊥
 
 carried_form : (r : Row) (t : Tree) (ps : Forest) → IsCarriedRow r t ps → IsCarriedForm (form_of r)
 carried_form name_row t ps h = tt
+carried_form econ_row t ps h = tt
 carried_form epath_row t ps h = tt
 carried_form econst_row t ps h = tt
 carried_form hole_row t ps h = tt
@@ -109,6 +117,7 @@ carried_form prefix_row t ps h = tt
 carried_form eapp_row t ps h = tt
 carried_form eneg_row t ps h = tt
 carried_form infix_row t ps h = tt
+carried_form field_row t ps h = tt
 carried_form ebegin_row t ps h = tt
 carried_form elist_row t ps h = tt
 carried_form eassert_row t ps h = tt
@@ -135,8 +144,8 @@ by_paren t e = rows_same t ∙ paren_form (row_at t) e
 pub by_operation : (t : Tree) (b : Bool) → form_of (row_at t) ≡ form.Operation → IsOperation (row_at t) b
 by_operation t b e = operation_form (row_at t) b e
 
-pub by_plain : (n : ℕ) (at : Place) (t : Tree) → IsCarried (numbered n at (inner t)) → form_of (row_at t) ≡ form.Plain → IsPlainRow (row_at t)
-by_plain n at t h e = let (ps, c, none) = row_there t h.rows in plain_form (row_at t) t ps c e
+pub by_ordered : (n : ℕ) (at : Place) (t : Tree) → IsCarried (numbered n at (inner t)) → form_of (row_at t) ≡ form.Plain → IsOrderedRow (row_at t)
+by_ordered n at t h e = let (ps, c, none) = row_there t h.rows in ordered_form (row_at t) t ps c e
 
 -- no other form is that of a carried row
 pub form_there : (n : ℕ) (at : Place) (t : Tree) (f : RowForm) → IsCarried (numbered n at (inner t)) → f ≡ form_of (row_at t) → IsCarriedForm f
@@ -149,33 +158,6 @@ paren_none _ t ps e h = absurd (cc)
 
 pub no_annotation : (n : ℕ) (at : Place) (t : Tree) → IsCarried (numbered n at (inner t)) → row_at t ≡ eparen_row → first_in n t 3 ≡ None
 no_annotation n at t h row = let (ps, c, none) = row_there t h.rows in none n 3 (paren_none (row_at t) t ps row c)
-
--- a leaf that is carried is no constructor
-upper_none : (p : Written) (k : Kind) → is_upper k ≡ false → if_upper p k ≡ None
-upper_none p upper h = absurd (cc)
-upper_none p _ h = refl
-
-path_none : (p : Written) → names_constructor p.last ≡ false → upper_path p ≡ None
-path_none p h = by p.last h
-  where
-    by : (o : Option Tok) → names_constructor o ≡ false → upper_path (record { qualifiers = p.qualifiers; last = o }) ≡ None
-    by None h = refl
-    by (Some t) h = upper_none (record { qualifiers = p.qualifiers; last = Some t }) t.kind h
-
-row_no_constructor : (r : Row) (t : Tree) (ps : Forest) → IsCarriedRow r t ps → constructor_in r t ≡ None
-row_no_constructor econ_row t ps h = absurd h
-row_no_constructor epath_row t ps h = path_none (path_in t 0 1) h
-row_no_constructor _ t ps h = refl
-
-pub no_constructor : (t : Tree) → IsTreeOfCarriedRows t → constructor_in (row_at t) t ≡ None
-no_constructor t h = let (ps, c, none) = row_there t h in row_no_constructor (row_at t) t ps c
-
-path_carried : (r : Row) (t : Tree) (ps : Forest) → r ≡ epath_row → IsCarriedRow r t ps → names_constructor (token_in t 1) ≡ false
-path_carried epath_row t ps e h = h
-path_carried _ t ps e h = absurd (cc)
-
-pub names_none : (t : Tree) → IsTreeOfCarriedRows t → row_at t ≡ epath_row → names_constructor (token_in t 1) ≡ false
-names_none t h row = let (ps, c, none) = row_there t h in path_carried (row_at t) t ps row c
 
 sign_carried : (r : Row) (t : Tree) (ps : Forest) → r ≡ eneg_row → IsCarriedRow r t ps → is_sign (token_in t 0) ≡ true
 sign_carried eneg_row t ps e h = h
@@ -408,7 +390,7 @@ operator_none a d env i n at t eneg_row m row is none carried typed =
 operator_none a d env i n at t _ m row is none carried typed = absurd is
 
 -- an operand that is read from a list of carried ones
-read_carried : (os : List Operand) (k : ℕ) (x : Operand) → k < length os → x ≡ slice_index_or os k x → All IsCarried (map operand_view os) → IsCarried (operand_view x)
+pub read_carried : (os : List Operand) (k : ℕ) (x : Operand) → k < length os → x ≡ slice_index_or os k x → All IsCarried (map operand_view os) → IsCarried (operand_view x)
 read_carried [] k x lt e all = absurd (omega arith)
 read_carried (o ∷ os) zero x lt e all = subst (λ z. IsCarried (operand_view z)) (sym e) (All-head IsCarried (operand_view o) (map operand_view os) all)
 read_carried (o ∷ os) (suc k) x lt e all = read_carried os k x (omega arith) e (All-tail IsCarried (operand_view o) (map operand_view os) all)
@@ -435,13 +417,13 @@ given_step a b d env at negated os k x head m to lt e goes first typed all =
 
 -- one part more of a row
 pub parts_step : (a b d : Parts) (env scope : List Entry) (r : Row) (os : List Operand) (k j : ℕ) (x : Operand) (ms more : List NodeRef) (m : NodeRef) → k < length os → x ≡ slice_index_or os k x → j ≡ k → more ≡ ms ++ m ∷ [] → Goes a b →
-    (IsPlainRow r → scope ≡ env → All IsCarried (map operand_view os) → TypesPartsFirst a b env r k (expressions_of a.item (map operand_view os)) (expressions_of a.item (map operand_view (drop k os))) (numbers ms)) →
-    (IsPlainRow r → scope ≡ env → IsCarried (operand_view x) → TypesPart b d env r j (expression_of b.item (operand_view x)) m.0) →
-    IsPlainRow r → scope ≡ env → All IsCarried (map operand_view os) → TypesPartsFirst a d env r (k + 1) (expressions_of a.item (map operand_view os)) (expressions_of a.item (map operand_view (drop (k + 1) os))) (numbers more)
-parts_step a b d env scope r os k j x ms more m lt e place longer goes first typed plain same all =
+    (IsOrderedRow r → scope ≡ env → All IsCarried (map operand_view os) → TypesPartsFirst a b env r k (expressions_of a.item (map operand_view os)) (expressions_of a.item (map operand_view (drop k os))) (numbers ms)) →
+    (IsOrderedRow r → scope ≡ env → IsCarried (operand_view x) → TypesPart b d env r j (expression_of b.item (operand_view x)) m.0) →
+    IsOrderedRow r → scope ≡ env → All IsCarried (map operand_view os) → TypesPartsFirst a d env r (k + 1) (expressions_of a.item (map operand_view os)) (expressions_of a.item (map operand_view (drop (k + 1) os))) (numbers more)
+parts_step a b d env scope r os k j x ms more m lt e place longer goes first typed ordered same all =
     let view : List Operand → List Expression = λ qs. expressions_of a.item (map operand_view qs) in
-    parts_more a b d env r k j (view os) (view (drop k os)) (view (drop (k + 1) os)) (expression_of a.item (operand_view x)) (numbers ms) (numbers more) m.0 (ap view (drop_read os k x lt e)) place (numbers_more ms more m longer) goes (first plain same all)
-    (subst (λ i. TypesPart b d env r j (expression_of i (operand_view x)) m.0) goes.item (typed plain same (read_carried os k x lt e all)))
+    parts_more a b d env r k j (view os) (view (drop k os)) (view (drop (k + 1) os)) (expression_of a.item (operand_view x)) (numbers ms) (numbers more) m.0 (ap view (drop_read os k x lt e)) place (numbers_more ms more m longer) goes (first ordered same all)
+    (subst (λ i. TypesPart b d env r j (expression_of i (operand_view x)) m.0) goes.item (typed ordered same (read_carried os k x lt e all)))
 
 -- an argument, which may be directly under a minus, has a type
 pub argument_typed : (a b d : Parts) (env : List Entry) (negated : Bool) (i : ℕ) (o : Numbered) (found wanted : ℕ) → TypesTo a b env (λ c. (under_minus negated (expression_of i o)).typed c) (λ ch. ch.type_at (expression_of i o).node) found → Goes a b → AsksEqual b d o.at found wanted →
@@ -479,14 +461,14 @@ paren_row a b d env n at t part given found ty u carried is here there typed wri
 
 -- a row whose parts are typed in order
 pub plain_row : (a b d : Parts) (env : List Entry) (n : ℕ) (at : Place) (t : Tree) (r : Row) (os : List Operand) (ms : List ℕ) (m : ℕ) → IsCarried (numbered n at (inner t)) → form_of (row_at t) ≡ form.Plain → row_at t ≡ r → map operand_view os ≡ all_operands n t →
-    (IsPlainRow r → All IsCarried (map operand_view os) → TypesParts a b env r (expressions_of a.item (map operand_view os)) ms) → Goes a b →
-    (IsPlainRow (row_at t) → EndsRow b d env (end_of (row_at t) (expressions_of b.item (map operand_view os))) (expressions_of b.item (map operand_view os)) ms m) → TypesRow a d env (λ c. (row_expression a.item n at t).typed c) (number_of a.item n) m
+    (IsOrderedRow r → All IsCarried (map operand_view os) → TypesParts a b env r (expressions_of a.item (map operand_view os)) ms) → Goes a b →
+    (IsOrderedRow (row_at t) → EndsRow b d env (ordered_end (row_at t) t (expressions_of b.item (map operand_view os))) (expressions_of b.item (map operand_view os)) ms m) → TypesRow a d env (λ c. (row_expression a.item n at t).typed c) (number_of a.item n) m
 plain_row a b d env n at t r os ms m carried is row given typed goes ends =
-    let plain = by_plain n at t carried is in
+    let ordered = by_ordered n at t carried is in
     let same = rows_same t in
-    let parts = typed (subst IsPlainRow row plain) (subst (All IsCarried) (sym given) (all_carried n at t carried)) in
-    ordered_typed a b d env n at t ms m carried.formed (subst IsPlainRow (sym same) plain) (subst (λ q. TypesParts a b env q (expressions_of a.item (all_operands n t)) ms) (sym (same ∙ row)) (subst (λ qs. TypesParts a b env r (expressions_of a.item qs) ms) given parts)) goes
-    (subst (λ q. EndsRow b d env (end_of q (expressions_of b.item (all_operands n t))) (expressions_of b.item (all_operands n t)) ms m) (sym same) (subst (λ qs. EndsRow b d env (end_of (row_at t) (expressions_of b.item qs)) (expressions_of b.item qs) ms m) given (ends plain)))
+    let parts = typed (subst IsOrderedRow row ordered) (subst (All IsCarried) (sym given) (all_carried n at t carried)) in
+    ordered_typed a b d env n at t ms m carried.formed (subst IsOrderedRow (sym same) ordered) (subst (λ q. TypesParts a b env q (expressions_of a.item (all_operands n t)) ms) (sym (same ∙ row)) (subst (λ qs. TypesParts a b env r (expressions_of a.item qs) ms) given parts)) goes
+    (subst (λ q. EndsRow b d env (ordered_end q t (expressions_of b.item (all_operands n t))) (expressions_of b.item (all_operands n t)) ms m) (sym same) (subst (λ qs. EndsRow b d env (ordered_end (row_at t) t (expressions_of b.item qs)) (expressions_of b.item qs) ms m) given (ends ordered)))
 
 -- an operator that is there, with its arguments
 pub operation_row : (a d : Parts) (env : List Entry) (n : ℕ) (at : Place) (t : Tree) (os : List Operand) (o : Operator) (m : ℕ) → IsCarried (numbered n at (inner t)) → IsOperation (row_at t) (is_float_at (filled_in n t 1).part) → IsSignOf (row_at t) (sign_in (row_at t) t) o → map operand_view os ≡ all_operands n t →
@@ -521,22 +503,72 @@ minus_operation n t part is here apart = subst (λ r. IsOperation r (is_float_at
 
 -- an application whose head is no constructor
 pub application_row : (a d : Parts) (env : List Entry) (n : ℕ) (at : Place) (t : Tree) (head : Operand) (os : List Operand) (m : ℕ) → IsCarried (numbered n at (inner t)) → form_of (row_at t) ≡ form.Application → operand_view head ≡ filled_in n t 0 → map operand_view os ≡ operands_in n t 1 →
-    (IsCarried (operand_view head) → All IsCarried (map operand_view os) → (k : ℕ) → TypesRow a d env (applied_asks k (expression_of a.item (operand_view head)) (expressions_of a.item (map operand_view os))) k m) → TypesRow a d env (λ c. (row_expression a.item n at t).typed c) (number_of a.item n) m
-application_row a d env n at t head os m carried is here given typed =
+    constructor_at (operand_view head).part ≡ None → (IsCarried (operand_view head) → All IsCarried (map operand_view os) → (k : ℕ) → TypesRow a d env (applied_asks k (expression_of a.item (operand_view head)) (expressions_of a.item (map operand_view os))) k m) →
+    TypesRow a d env (λ c. (row_expression a.item n at t).typed c) (number_of a.item n) m
+application_row a d env n at t head os m carried is here given none typed =
     let first = filled_carried n at t 0 carried in
     let row = typed (subst IsCarried (sym here) first) (subst (All IsCarried) (sym given) (operands_carried n at t 1 carried)) (number_of a.item n) in
-    application_typed a d env a.item n at t m carried.formed (by_application t is) first.rows
+    application_typed a d env a.item n at t m carried.formed (by_application t is) (operand_no a.item (filled_in n t 0) (ap (λ o. constructor_at o.part) (sym here) ∙ none))
     (subst (λ qs. TypesRow a d env (applied_asks (number_of a.item n) (expression_of a.item (filled_in n t 0)) (expressions_of a.item qs)) (number_of a.item n) m) given
     (subst (λ o. TypesRow a d env (applied_asks (number_of a.item n) (expression_of a.item o) (expressions_of a.item (map operand_view os))) (number_of a.item n) m) here row))
 
--- a part that is carried is no constructor alone
-part_no_constructor : (p : Part) → IsOfCarriedRows p → constructor_at p ≡ None
-part_no_constructor (taken t) h = refl
-part_no_constructor (inner t) h = no_constructor t h
-part_no_constructor (missing q) h = refl
+-- one whose head is a constructor
+pub construction_row : (a d : Parts) (env : List Entry) (n : ℕ) (at : Place) (t : Tree) (head : Operand) (p : Written) (os : List Operand) (m : ℕ) → IsCarried (numbered n at (inner t)) → form_of (row_at t) ≡ form.Application → operand_view head ≡ filled_in n t 0 →
+    map operand_view os ≡ operands_in n t 1 → constructor_at (operand_view head).part ≡ Some p →
+    (All IsCarried (map operand_view os) → (k : ℕ) → TypesConstructed a d env k (path_of p) (expression_of a.item (operand_view head)) (expressions_of a.item (map operand_view os)) m) → TypesRow a d env (λ c. (row_expression a.item n at t).typed c) (number_of a.item n) m
+construction_row a d env n at t head p os m carried is here given named typed =
+    let row = typed (subst (All IsCarried) (sym given) (operands_carried n at t 1 carried)) (number_of a.item n) in
+    construction_typed a d env a.item n at t (path_of p) m carried.formed (by_application t is) (operand_is a.item (filled_in n t 0) p (ap (λ o. constructor_at o.part) (sym here) ∙ named))
+    (subst (λ qs. TypesConstructed a d env (number_of a.item n) (path_of p) (expression_of a.item (filled_in n t 0)) (expressions_of a.item qs) m) given
+    (subst (λ o. TypesConstructed a d env (number_of a.item n) (path_of p) (expression_of a.item o) (expressions_of a.item (map operand_view os)) m) here row))
 
-pub operand_no_constructor : (o : Numbered) → IsCarried o → constructor_at o.part ≡ None
-operand_no_constructor o h = part_no_constructor o.part h.rows
+-- the first of some carried operands, and the others
+pub first_carried : (x : Operand) (os all : List Operand) → all ≡ x ∷ os → All IsCarried (map operand_view all) → IsCarried (operand_view x)
+first_carried x os all split h = All-head IsCarried (operand_view x) (map operand_view os) (subst (λ ys. All IsCarried (map operand_view ys)) split h)
+
+pub later_carried : (x : Operand) (os all : List Operand) → all ≡ x ∷ os → All IsCarried (map operand_view all) → All IsCarried (map operand_view os)
+later_carried x os all split h = All-tail IsCarried (operand_view x) (map operand_view os) (subst (λ ys. All IsCarried (map operand_view ys)) split h)
+
+-- a constructor with its first argument, which is recorded
+pub head_row : (a b d f : Parts) (env : List Entry) (n number : ℕ) (p : parts.Written) (x : Operand) (found : Construction) (h : Head) → TypesConstructor a b env p 1 found.known found.built.0 (option_map (λ (m : NodeRef). m.0) found.argument) → Goes a b →
+    TypesAsIf b d env (expression_of b.item (operand_view x)) (option_map (λ (m : NodeRef). m.0) found.argument) → Goes b d → (is_aloud d.telling ≡ true → Records (sight d) (sight f) number h.ty.0) → (h.ty ≡ found.built) × (h.known ≡ found.known) →
+    TypesHead a f env n (number_of a.item number) p h.known (expression_of a.item (operand_view x)) h.ty.0
+head_row a b d f env n number p x found h built goes argued goes' records same =
+    let e = expression_of a.item (operand_view x) in
+    let k = number_of a.item number in
+    let argument : Option ℕ = option_map (λ (m : NodeRef). m.0) found.argument in
+    subst (λ v. TypesHead a f env n k p v e h.ty.0) (sym same.1)
+    (subst (λ m. TypesHead a f env n k p found.known e m.0) (sym same.0)
+    (head_typed a b d f env n k number p.qualifiers p.last found.known e found.built.0 argument built goes (subst (λ i. TypesAsIf b d env (expression_of i (operand_view x)) argument) goes.item argued) goes'
+    (ap (λ i. number_of i number) (goes'.item ∙ goes.item)) (subst (λ m. is_aloud d.telling ≡ true → Records (sight d) (sight f) number m.0) same.0 records)))
+
+-- the arguments after the first one, where the constructor is known
+pub known_later : (a b : Parts) (env : List Entry) (at : Place) (es : List Expression) (head : Head) (ty u : NodeRef) → head.known ≡ true → u ≡ ty → TypesGiven a b env at es head.ty.0 ty.0 → TypesLater a b env head.known at es head.ty.0 u.0
+known_later a b env at es head ty u known same given =
+    subst (λ k. TypesLater a b env k at es head.ty.0 u.0) (sym known) (subst (λ m. TypesLater a b env true at es head.ty.0 m.0) (sym same) (later_known a b env at es head.ty.0 ty.0 given))
+
+-- where it isn't
+pub unknown_later : (a b d : Parts) (env : List Entry) (at : Place) (os : List Numbered) (head : Head) (u : NodeRef) → head.known ≡ false → TypesEach a b env (expressions_of a.item os) → Goes a b → EndsUnknown b d (expressions_of b.item os) head.ty.0 u.0 →
+    TypesLater a d env head.known at (expressions_of a.item os) head.ty.0 u.0
+unknown_later a b d env at os head u known each goes ends =
+    subst (λ k. TypesLater a d env k at (expressions_of a.item os) head.ty.0 u.0) (sym known)
+    (later_unknown a b d env at (expressions_of a.item os) head.ty.0 u.0 each goes (subst (λ i. EndsUnknown b d (expressions_of i os) head.ty.0 u.0) goes.item ends))
+
+-- an expression that has the type that may be wanted
+pub typed_as_if : (a b d : Parts) (env : List Entry) (o : Numbered) (found : ℕ) (wanted : Option NodeRef) → TypesTo a b env (λ c. (expression_of a.item o).typed c) (λ ch. ch.type_at (expression_of a.item o).node) found → Goes a b → AsksEqualIf b d o.at found wanted →
+    TypesAsIf a d env (expression_of a.item o) (option_map (λ (w : NodeRef). w.0) wanted)
+typed_as_if a b d env o found wanted typed goes asked = types_as_if a b d env (expression_of a.item o) o.at found wanted (expression_of_stands a.item o).where_it_is typed goes asked
+
+-- a constructor with its arguments, of which there is at least one
+pub constructed_row : (a b d : Parts) (env : List Entry) (n : ℕ) (p : parts.Written) (head : Numbered) (x : Operand) (os all : List Operand) (known : Bool) (ty m : ℕ) → all ≡ x ∷ os →
+    TypesHead a b env n (number_of a.item head.number) p known (expression_of a.item (operand_view x)) ty → Goes a b → TypesLater b d env known head.at (expressions_of b.item (map operand_view os)) ty m →
+    TypesConstructed a d env n p (expression_of a.item head) (expressions_of a.item (map operand_view all)) m
+constructed_row a b d env n p head x os all known ty m split typed goes later =
+    let at = expression_of_stands a.item head in
+    subst (λ ys. TypesConstructed a d env n p (expression_of a.item head) (expressions_of a.item (map operand_view ys)) m) (sym split)
+    (constructed_typed a b d env n p (expression_of a.item head) (expression_of a.item (operand_view x)) (expressions_of a.item (map operand_view os)) head.at known ty m at.where_it_is
+    (subst (λ k. TypesHead a b env n k p known (expression_of a.item (operand_view x)) ty) (sym at.number) typed) goes
+    (subst (λ i. TypesLater b d env known head.at (expressions_of i (map operand_view os)) ty m) goes.item later))
 
 -- what is there isn't missing
 pub some_none : {A : Type 0} (x : A) → Some x ≡ None → ⊥

@@ -1,7 +1,8 @@
 -- The end of a row whose parts are typed in order, as the code reads the parts: by their places, and by how many there are.
-use Rattle.std.proofs.Common.{◌≡◌, ◌∙◌, ◌⊎◌, inl, inr, ◌+◌, ◌-◌, ◌<◌, ◌≤◌, ℕ, zero, suc, Bool, true, false, not, List, [], ◌∷◌, map, length, drop, Option, Some, None, refl, sym, ap, subst, arith}
+use Rattle.std.proofs.Common.{◌≡◌, ◌∙◌, ◌⊎◌, inl, inr, ◌+◌, ◌-◌, ◌<◌, ◌≤◌, ◌==◌, ℕ, zero, suc, Bool, true, false, not, List, [], ◌∷◌, map, length, drop, Option, Some, None, refl, sym, ap, subst, arith}
 use Rattle.std.specs.Prelude.{codes, slice_get, slice_index_or, if◌then◌else◌, Result, Ok, Err, OnOk}
 use Rattle.std.specs.Str.{bytes_eq}
+use Rattle.std.proofs.lemmas.Bool.{eqb-true}
 use Rattle.std.proofs.lemmas.List.{drop_more}
 use Rattle.std.proofs.lemmas.Option.{slice_get-get_or}
 use Rattle.tree_model.specs.Rows.{Row, name_row, epath_row, econst_row, hole_row, elist_row, econs_row, eif_row, eassert_row, ewhile_row, ebegin_row, etuple_row, eseq_row}
@@ -19,7 +20,8 @@ use Rattle.expression_steps.specs.Operators.{operator_name, operator_negates, Is
 use Rattle.syntax_tree.specs.Names.{row_of}
 use Rattle.syntax_tree.specs.View.{node_view, tok_of}
 use Rattle.row_parts.specs.declared.slots.Operand.{Operand}
-use Rattle.row_parts.specs.Numbered.{numbered, operand_view}
+use Rattle.row_parts.specs.Numbered.{Written, numbered, operand_view, path_in}
+use Rattle.operand_laws.specs.Operands.{path_of}
 use Rattle.type_terms.specs.declared.types.NodeRef.{NodeRef}
 use Rattle.type_nodes.specs.Nodes.{Con, IsNode}
 use Rattle.type_nodes.specs.Changes.{Makes}
@@ -41,15 +43,17 @@ use Rattle.typing_conditions.proofs.Carried.{carried_refl}
 use Rattle.typing_conditions.specs.Carrying.{Scope}
 use Rattle.typing_conditions.specs.Surroundings.{Surrounds}
 use Rattle.typing_steps.specs.States.{is_aloud, sight}
-use Rattle.typing_steps.specs.Typing.{as_declared, RowCarried, TypesAny}
+use Rattle.typing_steps.specs.Typing.{as_declared, RowCarried, TypesAny, path_as}
+use Rattle.use_typing.specs.declared.uses.LabelUse.{LabelUse}
+use Rattle.typing_rows.proofs.Fielded.{ends_field, ends_field_unknown}
 use Rattle.operand_laws.specs.Formed as formed
-use Rattle.use_typing.specs.Uses.{GivenOrNew}
+use Rattle.use_typing.specs.Uses.{GivenOrNew, TypesLabelIf}
 use Rattle.typing_rows.specs.CarriedRows.{IsCarriedRow, IsTreeOfCarriedRows, IsCarried}
-use Rattle.typing_rows.specs.Asked.{expressions_of, IsPlainRow, end_of, last_asks, assert_ends}
-use Rattle.typing_rows.specs.Contracts.{types_at, AsksAt, AsksLater, AsksLaterFirst, EndsRow}
+use Rattle.typing_rows.specs.Asked.{expressions_of, IsPlainRow, IsOrderedRow, end_of, field_ends, ordered_end, last_asks, assert_ends}
+use Rattle.typing_rows.specs.Contracts.{types_at, AsksAt, AsksLater, AsksLaterFirst, EndsRow, EndsUnknown}
 use Rattle.typing_rows.proofs.Ending.{reads_at, none_at, later_none, later_more, later_all, ends_still, ends_unit, ends_any, row_of_type, ends_cons, ends_then, ends_else, ends_list, ends_list_none}
 use Rattle.expression_steps.specs.declared.forms.RowForm.TheVariants as form
-use Rattle.expression_steps.specs.ExpressionSteps.{ExpressionSteps, Value, anything, asked_behind, behind_parts, form_of, has_type, row_at, value_in}
+use Rattle.expression_steps.specs.ExpressionSteps.{ExpressionSteps, Value, anything, asked_behind, behind_parts, constructor_in, form_of, has_type, row_at, value_in}
 use Rattle.expression_steps.specs.Leaves.{TellsValue}
 use Rattle.expression_steps.specs.Operators.{is_false_at}
 use Rattle.expression_steps.proofs.ExpressionLaws.{row_of_node}
@@ -60,13 +64,44 @@ pub row_named : (nd : Node) (r : RowName) → (out-Node nd).row ≡ r → row_at
 row_named nd r e = row_of_node nd ∙ ap row_of e
 
 -- the variable of a `for` is no row that is typed in order here
-pub no_for : (nd : Node) → (out-Node nd).row ≡ name.Efor → IsPlainRow (row_at (node_view nd)) → ⊥
+pub no_for : (nd : Node) → (out-Node nd).row ≡ name.Efor → IsOrderedRow (row_at (node_view nd)) → ⊥
 unfolding row_of
-no_for nd e plain = subst IsPlainRow (row_named nd name.Efor e) plain
+no_for nd e ordered = subst IsOrderedRow (row_named nd name.Efor e) ordered
 
-pub no_field : (nd : Node) → (out-Node nd).row ≡ name.Field → IsPlainRow (row_at (node_view nd)) → ⊥
+-- the end of a field
+pub field_end : (nd : Node) (a b : Parts) (env : List Entry) (es : List Expression) (ms : List ℕ) (m : ℕ) → (out-Node nd).row ≡ name.Field → EndsRow a b env (field_ends (path_of (path_in (node_view nd) 2 3)) es) es ms m → EndsRow a b env (ordered_end (row_at (node_view nd)) (node_view nd) es) es ms m
 unfolding row_of
-no_field nd e plain = subst IsPlainRow (row_named nd name.Field e) plain
+field_end nd a b env es ms m e ends = subst (λ r. EndsRow a b env (ordered_end r (node_view nd) es) es ms m) (sym (row_named nd name.Field e)) ends
+
+-- what the end of a field is, by the label that is found
+pub field_found : (a b d : Parts) (env : List Entry) (os : List Operand) (ms : List ℕ) (w p : Written) (found : Option LabelUse) (u : LabelUse) → w ≡ p → found ≡ Some u → TypesLabelIf found a b env (path_as w) → Goes a b →
+    AsksAt b d env (expressions_of b.item (map operand_view os)) ms 0 u.record.0 → EndsRow a d env (field_ends (path_of p) (expressions_of a.item (map operand_view os))) (expressions_of a.item (map operand_view os)) ms u.field.0
+field_found a b d env os ms w p found u same is typed goes asked =
+    ends_field a b d env (expressions_of a.item (map operand_view os)) ms (path_of p) u.record.0 u.field.0 u.is_mutable
+    (subst (λ o. TypesLabelIf o a b env (path_as p)) is (subst (λ q. TypesLabelIf found a b env (path_as q)) same typed)) goes (subst (λ j. AsksAt b d env (expressions_of j (map operand_view os)) ms 0 u.record.0) goes.item asked)
+
+pub field_lost : (a b d : Parts) (env : List Entry) (es : List Expression) (ms : List ℕ) (w p : Written) (found : Option LabelUse) (m : ℕ) → w ≡ p → found ≡ None → TypesLabelIf found a b env (path_as w) → Goes a b → TypesAny b d m → EndsRow a d env (field_ends (path_of p) es) es ms m
+field_lost a b d env es ms w p found m same is typed goes any =
+    ends_field_unknown a b d env es ms (path_of p) m (subst (λ o. TypesLabelIf o a b env (path_as p)) is (subst (λ q. TypesLabelIf found a b env (path_as q)) same typed)) goes any
+
+-- the end of any other row
+other_end : (r : RowName) (t : Tree) (a b : Parts) (env : List Entry) (es : List Expression) (ms : List ℕ) (m : ℕ) → (r ≡ name.Field → ⊥) → IsOrderedRow (row_of r) → (IsPlainRow (row_of r) → EndsRow a b env (end_of (row_of r) es) es ms m) → EndsRow a b env (ordered_end (row_of r) t es) es ms m
+unfolding row_of
+other_end name.Field t a b env es ms m apart ordered ends = absurd (apart refl)
+other_end name.Ebegin t a b env es ms m apart ordered ends = ends tt
+other_end name.Elist t a b env es ms m apart ordered ends = ends tt
+other_end name.Econs t a b env es ms m apart ordered ends = ends tt
+other_end name.Etuple t a b env es ms m apart ordered ends = ends tt
+other_end name.Eseq t a b env es ms m apart ordered ends = ends tt
+other_end name.Eif t a b env es ms m apart ordered ends = ends tt
+other_end name.Eassert t a b env es ms m apart ordered ends = ends tt
+other_end name.Ewhile t a b env es ms m apart ordered ends = ends tt
+other_end _ t a b env es ms m apart ordered ends = absurd ordered
+
+pub plain_end : (nd : Node) (a b : Parts) (env : List Entry) (es : List Expression) (ms : List ℕ) (m : ℕ) → ((out-Node nd).row ≡ name.Field → ⊥) → IsOrderedRow (row_at (node_view nd)) → (IsPlainRow (row_of (out-Node nd).row) → EndsRow a b env (end_of (row_of (out-Node nd).row) es) es ms m) →
+    EndsRow a b env (ordered_end (row_at (node_view nd)) (node_view nd) es) es ms m
+plain_end nd a b env es ms m apart ordered ends =
+    subst (λ r. EndsRow a b env (ordered_end r (node_view nd) es) es ms m) (sym (row_of_node nd)) (other_end (out-Node nd).row (node_view nd) a b env es ms m apart (subst IsOrderedRow (row_of_node nd) ordered) ends)
 
 -- leaves by their names
 pub leaf_name : (nd : Node) → (out-Node nd).row ≡ name.Name → formed.row_of (node_view nd) ≡ name_row
@@ -81,35 +116,37 @@ pub leaf_constant : (nd : Node) → (out-Node nd).row ≡ name.Econst → formed
 unfolding row_of
 leaf_constant nd e = rows_same (node_view nd) ∙ row_named nd name.Econst e
 
-hole_by : (r : RowName) (t : Tree) (ps : Forest) → IsCarriedRow (row_of r) t ps → form_of (row_of r) ≡ form.Leaf → (r ≡ name.Name → ⊥) → (r ≡ name.Epath → ⊥) → (r ≡ name.Econst → ⊥) → row_of r ≡ hole_row
+hole_by : (r : RowName) (t : Tree) (ps : Forest) → IsCarriedRow (row_of r) t ps → form_of (row_of r) ≡ form.Leaf → constructor_in (row_of r) t ≡ None → (r ≡ name.Name → ⊥) → (r ≡ name.Epath → ⊥) → (r ≡ name.Econst → ⊥) → row_of r ≡ hole_row
 unfolding row_of
-hole_by name.Name t ps h is a b c = absurd (a refl)
-hole_by name.Epath t ps h is a b c = absurd (b refl)
-hole_by name.Econst t ps h is a b c = absurd (c refl)
-hole_by name.Hole t ps h is a b c = refl
-hole_by name.Eparen t ps h is a b c = absurd (cc)
-hole_by name.Ebegin t ps h is a b c = absurd (cc)
-hole_by name.Elist t ps h is a b c = absurd (cc)
-hole_by name.Prefix t ps h is a b c = absurd (cc)
-hole_by name.Eapp t ps h is a b c = absurd (cc)
-hole_by name.Eassert t ps h is a b c = absurd (cc)
-hole_by name.Ewhile t ps h is a b c = absurd (cc)
-hole_by name.Eneg t ps h is a b c = absurd (cc)
-hole_by name.Infix t ps h is a b c = absurd (cc)
-hole_by name.Econs t ps h is a b c = absurd (cc)
-hole_by name.Etuple t ps h is a b c = absurd (cc)
-hole_by name.Eif t ps h is a b c = absurd (cc)
-hole_by name.Eseq t ps h is a b c = absurd (cc)
-hole_by _ t ps h is a b c = absurd h
+hole_by name.Name t ps h is none a b c = absurd (a refl)
+hole_by name.Epath t ps h is none a b c = absurd (b refl)
+hole_by name.Econst t ps h is none a b c = absurd (c refl)
+hole_by name.Econ t ps h is none a b c = absurd (cc)
+hole_by name.Hole t ps h is none a b c = refl
+hole_by name.Field t ps h is none a b c = absurd (cc)
+hole_by name.Eparen t ps h is none a b c = absurd (cc)
+hole_by name.Ebegin t ps h is none a b c = absurd (cc)
+hole_by name.Elist t ps h is none a b c = absurd (cc)
+hole_by name.Prefix t ps h is none a b c = absurd (cc)
+hole_by name.Eapp t ps h is none a b c = absurd (cc)
+hole_by name.Eassert t ps h is none a b c = absurd (cc)
+hole_by name.Ewhile t ps h is none a b c = absurd (cc)
+hole_by name.Eneg t ps h is none a b c = absurd (cc)
+hole_by name.Infix t ps h is none a b c = absurd (cc)
+hole_by name.Econs t ps h is none a b c = absurd (cc)
+hole_by name.Etuple t ps h is none a b c = absurd (cc)
+hole_by name.Eif t ps h is none a b c = absurd (cc)
+hole_by name.Eseq t ps h is none a b c = absurd (cc)
+hole_by _ t ps h is none a b c = absurd h
 
 carried_there : (t : Tree) → IsTreeOfCarriedRows t → (ps : Forest) × IsCarriedRow (row_at t) t ps
 carried_there (node r x ps) h = (ps, h.0)
 
 -- a carried leaf that is none of the others is a hole
-pub leaf_hole : (nd : Node) (n : ℕ) (at : Place) → IsCarried (numbered n at (inner (node_view nd))) → form_of (row_at (node_view nd)) ≡ form.Leaf → ((out-Node nd).row ≡ name.Name → ⊥) → ((out-Node nd).row ≡ name.Epath → ⊥) → ((out-Node nd).row ≡ name.Econst → ⊥) → formed.row_of (node_view nd) ≡ hole_row
-leaf_hole nd n at carried is a b c =
+pub leaf_hole : (nd : Node) (n : ℕ) (at : Place) → IsCarried (numbered n at (inner (node_view nd))) → form_of (row_at (node_view nd)) ≡ form.Leaf → constructor_in (row_at (node_view nd)) (node_view nd) ≡ None → ((out-Node nd).row ≡ name.Name → ⊥) → ((out-Node nd).row ≡ name.Epath → ⊥) → ((out-Node nd).row ≡ name.Econst → ⊥) → formed.row_of (node_view nd) ≡ hole_row
+leaf_hole nd n at carried is none a b c =
     let (ps, h) = carried_there (node_view nd) carried.rows in
-    rows_same (node_view nd) ∙ row_of_node nd ∙ hole_by (out-Node nd).row (node_view nd) ps (subst (λ r. IsCarriedRow r (node_view nd) ps) (row_of_node nd) h) (ap form_of (sym (row_of_node nd)) ∙ is) a b c
+    rows_same (node_view nd) ∙ row_of_node nd ∙ hole_by (out-Node nd).row (node_view nd) ps (subst (λ r. IsCarriedRow r (node_view nd) ps) (row_of_node nd) h) (ap form_of (sym (row_of_node nd)) ∙ is) (subst (λ r. constructor_in r (node_view nd) ≡ None) (row_of_node nd) none) a b c
 
 -- as many expressions as parts
 pub parts_count : (i : ℕ) (os : List Operand) → length (expressions_of i (map operand_view os)) ≡ length os
@@ -235,6 +272,14 @@ for_apart r e plain = subst (λ k. IsPlainRow (row_of k)) e plain
 pub set_apart : (r : RowName) → r ≡ name.Eset → IsPlainRow (row_of r) → ⊥
 unfolding row_of
 set_apart r e plain = subst (λ k. IsPlainRow (row_of k)) e plain
+
+pub for_unordered : (r : RowName) → r ≡ name.Efor → IsOrderedRow (row_of r) → ⊥
+unfolding row_of
+for_unordered r e ordered = subst (λ k. IsOrderedRow (row_of k)) e ordered
+
+pub set_unordered : (r : RowName) → r ≡ name.Eset → IsOrderedRow (row_of r) → ⊥
+unfolding row_of
+set_unordered r e ordered = subst (λ k. IsOrderedRow (row_of k)) e ordered
 
 pub others_apart : (r : RowName) → IsPlainRow (row_of r) → (r ≡ name.Ebegin → ⊥) → (r ≡ name.Elist → ⊥) → (r ≡ name.Econs → ⊥) → (r ≡ name.Etuple → ⊥) → (r ≡ name.Eseq → ⊥) → (r ≡ name.Eif → ⊥) → (r ≡ name.Eassert → ⊥) → (r ≡ name.Ewhile → ⊥) → ⊥
 unfolding row_of
@@ -436,3 +481,13 @@ behind_by _ t es h = refl
 
 pub no_label_behind : (nd : Node) (es : List ExpressionSteps) → ((out-Node nd).row ≡ name.Field → ⊥) → each has_type (asked_behind (row_of (out-Node nd).row) es) ≡ behind_parts (row_at (node_view nd)) (node_view nd) es
 no_label_behind nd es h = behind_by (out-Node nd).row (node_view nd) es h ∙ ap (λ r. behind_parts r (node_view nd) es) (sym (row_of_node nd))
+
+-- a constructor that isn't known, with its one argument
+pub unknown_alone : (a : Parts) (i : ℕ) (os : List Operand) (head : ℕ) → (length os == 0) ≡ true → EndsUnknown a a (expressions_of i (map operand_view os)) head head
+unknown_alone a i [] head none = (refl, refl)
+unknown_alone a i (o ∷ os) head none = let zero_many : length (o ∷ os) ≡ 0 = eqb-true (length (o ∷ os)) 0 none in absurd (omega arith)
+
+-- with more
+pub unknown_more : (a b : Parts) (i : ℕ) (os : List Operand) (head m : ℕ) → (length os == 0) ≡ false → TypesAny a b m → EndsUnknown a b (expressions_of i (map operand_view os)) head m
+unknown_more a b i [] head m more any = absurd (cc)
+unknown_more a b i (o ∷ os) head m more any = any

@@ -1,5 +1,6 @@
 -- The laws of the steps of expressions, and of the ends of rows.
 pub mod ExpressionLaws
 pub mod LeafLaws
+pub mod ConstructorLaws
 pub mod CarryingLaws
 pub mod EndingLaws

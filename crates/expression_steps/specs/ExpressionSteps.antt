@@ -134,14 +134,14 @@ argument_steps at e = asks fault.Equal (at ∷ []) ∷ typed_as e
 abbrev pub arguments_steps : Place → List ExpressionSteps → Steps
 arguments_steps at es = each (argument_steps at) es
 
--- a constructor in front of arguments, which is recorded
-abbrev pub recorded_constructor : ℕ → Written → Steps
-recorded_constructor n p = constructor_steps p ++ records n ∷ []
+-- a constructor and its first argument, which is the declared one; the constructor is recorded
+abbrev pub argued_constructor : ℕ → Written → ExpressionSteps → Steps
+argued_constructor n p e = constructor_steps p ++ typed_as e ++ records n ∷ []
 
--- A e e: the constructor; the first argument, which is the declared one; the others as those of any head
+-- A e e: the constructor with its first argument; the others as those of any head
 abbrev pub constructed_steps : ExpressionSteps → Written → List ExpressionSteps → Steps
 constructed_steps head p [] = head.typed
-constructed_steps head p (e ∷ es) = recorded_constructor head.self.number p ++ typed_as e ++ arguments_steps head.self.at es
+constructed_steps head p (e ∷ es) = argued_constructor head.self.number p e ++ arguments_steps head.self.at es
 
 -- e e e
 abbrev pub application_steps : ExpressionSteps → List ExpressionSteps → Steps

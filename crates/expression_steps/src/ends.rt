@@ -4,7 +4,8 @@
 ghost use Rattle.std.specs.Prelude.{map, IfOk, OnOk};
 ghost use Rattle.tree_model.specs.Rows.{elist_row, econs_row, eif_row};
 ghost use Rattle.type_nodes.specs.Views.{numbers};
-ghost use Rattle.typing_rows.specs.Asked.{expressions_of, IsPlainRow, end_of};
+ghost use Rattle.operand_laws.specs.Operands.{path_of};
+ghost use Rattle.typing_rows.specs.Asked.{expressions_of, IsPlainRow, IsOrderedRow, end_of, field_ends, ordered_end};
 ghost use Rattle.typing_rows.specs.Contracts.{EndsRow, AsksAt, AsksLater};
 ghost use Rattle.syntax_tree.specs.Names.{row_of};
 ghost use Rattle.syntax_tree.specs.View.{node_view};
@@ -29,7 +30,7 @@ pub fn behind_parts(
     names: Names,
     env: &Env,
 ) -> Result<Used, NoMemory>
-    ensures carries { IfOk result (λ u. IsPlainRow (row_at (node_view node.now)) → EndsRow at.old at.new env.now (end_of (row_at (node_view node.now)) (expressions_of at.old.item (map operand_view parts.now))) (expressions_of at.old.item (map operand_view parts.now)) (numbers types.now) u.ty.0) }
+    ensures carries { IfOk result (λ u. IsOrderedRow (row_at (node_view node.now)) → EndsRow at.old at.new env.now (ordered_end (row_at (node_view node.now)) (node_view node.now) (expressions_of at.old.item (map operand_view parts.now))) (expressions_of at.old.item (map operand_view parts.now)) (numbers types.now) u.ty.0) }
     ensures follows { OnOk result (Follows (behind_parts (row_at (node_view node.now)) (node_view node.now) (map expression_at (map operand_view parts.now))) at.old at.new) }
     ensures goes { Goes at.old at.new }
 {
@@ -198,6 +199,7 @@ fn field(
     types: &[NodeRef],
     env: &Env,
 ) -> Result<Used, NoMemory>
+    ensures carries { IfOk result (λ u. EndsRow at.old at.new env.now (field_ends (path_of (path_in (node_view node.now) 2 3)) (expressions_of at.old.item (map operand_view parts.now))) (expressions_of at.old.item (map operand_view parts.now)) (numbers types.now) u.ty.0) }
     ensures follows { OnOk result (Follows (label_steps (path_in (node_view node.now) 2 3) (map expression_at (map operand_view parts.now))) at.old at.new) }
     ensures goes { Goes at.old at.new }
 {

@@ -1,55 +1,45 @@
-//! Heads in front of arguments: the demand that one is an arrow, a constructor that is recorded, and arrows from parameters.
+//! Heads in front of arguments: the demand that one is an arrow, a constructor that is recorded with its arguments, and arrows from parameters.
 #![tactic(auto, using(typing_state::proofs::Going::goes_trans, typing_state::proofs::Going::goes_refl, typing_state::proofs::Following::follows_both, typing_state::proofs::Following::follows_then, typing_state::proofs::Following::follows_before, typing_state::proofs::Following::follows_behind, typing_state::proofs::Following::follows_none, typing_state::proofs::Following::follows_silent, typing_state::proofs::Following::store_silent, typing_state::proofs::Following::silent_refl, typing_state::proofs::Following::silent_trans, typing_state::proofs::Following::ends_both, typing_state::proofs::Following::ends_behind, typing_state::proofs::Following::ends_before, typing_state::proofs::Following::ends_silent, typing_state::proofs::Following::gets_start, typing_state::proofs::Following::gets_more, typing_state::proofs::Following::gets_before, typing_state::proofs::Following::gets_done, crate::proofs::ExpressionLaws::ends_then), unfolding(syntax_tree::specs::Names::row_of))]
 
-ghost use Rattle.std.specs.Prelude.{[], ◌∷◌, IfOk, OnOk};
-ghost use Rattle.typing_rows.specs.Contracts.{MakesBoth, HeadIsArrow};
+ghost use Rattle.std.specs.Prelude.{◌≡◌, true, [], ◌∷◌, map, IfOk, OnOk};
+ghost use Rattle.typing_conditions.specs.Steps.{Records};
+ghost use Rattle.typing_steps.specs.States.{is_aloud, sight};
+ghost use Rattle.typing_rows.specs.Asked.{expressions_of};
+ghost use Rattle.typing_rows.specs.Contracts.{MakesBoth, HeadIsArrow, EndsUnknown};
 ghost use Rattle.syntax_tree.specs.View.{place_of};
-ghost use Rattle.row_parts.specs.Numbered.{path_view};
+ghost use Rattle.row_parts.specs.Numbered.{operand_view};
 ghost use Rattle.env_table.specs.declared.faults.FaultKind.{FaultKind};
 ghost use Rattle.typing_state.specs.Goes.{Goes};
 ghost use Rattle.typing_state.specs.Steps.{asks, records, Follows, Silent};
-ghost use Rattle.use_typing.specs.Uses.{TellsUse};
-ghost use Rattle.expression_steps.specs.ExpressionSteps.{recorded_constructor};
 
-use row_parts::{Operand, WrittenPath};
+use row_parts::Operand;
 use syntax_tree::Span;
 use typing_state::{Env, NoMemory, NodeRef, Parts};
-use use_typing::{Construction, Used, any_type, constructor, unnamed};
+use use_typing::{Construction, Used, any_type, unnamed};
 
-/// A constructor in front of arguments, which is recorded.
-pub fn recorded_constructor(
-    at: &mut Parts,
-    number: u32,
-    path: &WrittenPath<'_>,
-    env: &Env,
-) -> Result<Head, NoMemory>
-    ensures tells { OnOk result (TellsUse (path_view path.now) 1 at.old at.new env.now) }
-    ensures follows { OnOk result (Follows (recorded_constructor number (path_view path.now)) at.old at.new) }
-    ensures goes { Goes at.old at.new }
-{
-    let found = constructor(at, env, path, 1)?;
-    note_head(at, number, found, env)
-}
-
-/// A constructor in front of arguments, which is recorded.
+/// A constructor with arguments, which is recorded.
 #[derive(Clone, Copy, Drop)]
 pub struct Head {
     /// The type of what it builds.
     pub ty: NodeRef,
-    /// The type of its argument; None where it takes none, and where it isn't known.
-    pub argument: Option<NodeRef>,
     pub known: bool,
 }
 
-/// Records the constructor in front of arguments.
-fn note_head(at: &mut Parts, number: u32, found: Construction, env: &Env) -> Result<Head, NoMemory>
+/// Records a constructor that has arguments.
+pub fn note_head(
+    at: &mut Parts,
+    number: u32,
+    found: Construction,
+    env: &Env,
+) -> Result<Head, NoMemory>
+    ensures carries { IfOk result (λ h. is_aloud at.old.telling ≡ true → Records (sight at.old) (sight at.new) number h.ty.0) }
+    ensures head { IfOk result (λ h. (h.ty ≡ found.built) × (h.known ≡ found.known)) }
     ensures follows { OnOk result (Follows (records number ∷ []) at.old at.new) }
     ensures goes { Goes at.old at.new }
 {
     at.note(number, env, Some(found.built), found.names)?;
     Ok(Head {
         ty: found.built,
-        argument: found.argument,
         known: found.known,
     })
 }
@@ -60,6 +50,7 @@ pub fn built_by_unknown(
     built: NodeRef,
     later: &[Operand<'_>],
 ) -> Result<Used, NoMemory>
+    ensures carries { IfOk result (λ u. EndsUnknown at.old at.new (expressions_of at.old.item (map operand_view later.now)) built.0 u.ty.0) }
     ensures silent { Silent at.old at.new }
     ensures goes { Goes at.old at.new }
 {

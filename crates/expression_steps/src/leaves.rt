@@ -1,10 +1,11 @@
 //! Rows without parts: names, constants, holes, and constructors alone.
 #![tactic(auto, using(typing_state::proofs::Going::goes_trans, typing_state::proofs::Going::goes_refl, typing_state::proofs::Following::follows_both, typing_state::proofs::Following::follows_then, typing_state::proofs::Following::follows_before, typing_state::proofs::Following::follows_behind, typing_state::proofs::Following::follows_none, typing_state::proofs::Following::follows_silent, typing_state::proofs::Following::store_silent, typing_state::proofs::Following::silent_refl, typing_state::proofs::Following::silent_trans, typing_state::proofs::Following::ends_both, typing_state::proofs::Following::ends_behind, typing_state::proofs::Following::ends_before, typing_state::proofs::Following::ends_silent, typing_state::proofs::Following::gets_start, typing_state::proofs::Following::gets_more, typing_state::proofs::Following::gets_before, typing_state::proofs::Following::gets_done, crate::proofs::ExpressionLaws::value_no_record, crate::proofs::ExpressionLaws::form_follows), unfolding(syntax_tree::specs::Names::row_of))]
 
-ghost use Rattle.std.specs.Prelude.{◌≡◌, ℕ, IfOk, OnOk, option_map};
+ghost use Rattle.std.specs.Prelude.{◌≡◌, ℕ, None, IfOk, OnOk, option_map};
+ghost use Rattle.typing_model.specs.Patterns.{constructor_alone};
 ghost use Rattle.tree_model.specs.Trees.{Place, inner};
 ghost use Rattle.operand_laws.specs.Operands.{number_of};
-ghost use Rattle.typing_steps.specs.Typing.{TypesRow};
+ghost use Rattle.typing_steps.specs.Typing.{TypesRow, path_as};
 ghost use Rattle.typing_rows.specs.CarriedRows.{IsCarried};
 ghost use Rattle.typing_rows.specs.Asked.{under_minus, row_expression};
 ghost use Rattle.syntax_tree.specs.View.{node_view};
@@ -16,7 +17,7 @@ ghost use Rattle.use_typing.specs.Constants.{is_negated};
 ghost use Rattle.use_typing.specs.Uses.{TellsUse};
 ghost use Rattle.expression_steps.specs.declared.forms.RowForm.{RowForm};
 ghost use Rattle.expression_steps.specs.Leaves.{TellsLeaf, TellsValue};
-ghost use Rattle.expression_steps.specs.ExpressionSteps.{form_of, row_at, steps_as, value_in, value_steps, constructor_at, upper_path};
+ghost use Rattle.expression_steps.specs.ExpressionSteps.{form_of, row_at, steps_as, value_in, value_steps, constructor_at, constructor_in, upper_path};
 
 use row_parts::{Operand, WrittenPath, token, written_path};
 use syntax_tree::{Node, RowName, TokenKind};
@@ -44,6 +45,7 @@ pub fn leaf(
 
 /// A constructor without arguments.
 fn constructor_alone(at: &mut Parts, env: &Env, path: &WrittenPath<'_>) -> Result<Used, NoMemory>
+    ensures carries { IfOk result (λ u. (n : ℕ) → TypesRow at.old at.new env.now (λ c. constructor_alone c n (path_as (path_view path.now))) n u.ty.0) }
     ensures tells { OnOk result (TellsUse (path_view path.now) 0 at.old at.new env.now) }
     ensures follows { OnOk result (Follows (constructor_steps (path_view path.now)) at.old at.new) }
     ensures goes { Goes at.old at.new }
@@ -57,7 +59,7 @@ fn constructor_alone(at: &mut Parts, env: &Env, path: &WrittenPath<'_>) -> Resul
 
 /// A row without parts that is no constructor.
 fn leaf_value(at: &mut Parts, node: &Node, sign: Sign, env: &Env) -> Result<Used, NoMemory>
-    ensures carries { IfOk result (λ u. (number : ℕ) (place : Place) → IsCarried (numbered number place (inner (node_view node.now))) → form_of (row_at (node_view node.now)) ≡ RowForm.Leaf → TypesRow at.old at.new env.now (λ c. (under_minus (is_negated sign) (row_expression at.old.item number place (node_view node.now))).typed c) (number_of at.old.item number) u.ty.0) }
+    ensures carries { IfOk result (λ u. (number : ℕ) (place : Place) → IsCarried (numbered number place (inner (node_view node.now))) → form_of (row_at (node_view node.now)) ≡ RowForm.Leaf → constructor_in (row_at (node_view node.now)) (node_view node.now) ≡ None → TypesRow at.old at.new env.now (λ c. (under_minus (is_negated sign) (row_expression at.old.item number place (node_view node.now))).typed c) (number_of at.old.item number) u.ty.0) }
     ensures tells { OnOk result (TellsValue (value_in (row_at (node_view node.now)) (node_view node.now)) (is_negated sign) at.old at.new env.now) }
     ensures follows { OnOk result (Follows (value_steps (value_in (row_at (node_view node.now)) (node_view node.now))) at.old at.new) }
     ensures goes { Goes at.old at.new }

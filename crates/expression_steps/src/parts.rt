@@ -3,7 +3,7 @@
 
 ghost use Rattle.std.specs.Prelude.{◌≡◌, ◌==◌, ◌&&◌, IfOk, OnOk};
 ghost use Rattle.operand_laws.specs.Operands.{expression_of};
-ghost use Rattle.typing_rows.specs.Asked.{IsPlainRow, wants_bool};
+ghost use Rattle.typing_rows.specs.Asked.{IsOrderedRow, wants_bool};
 ghost use Rattle.typing_rows.specs.Contracts.{AsksBehind, AsksBool};
 ghost use Rattle.expression_steps.specs.Operators.{is_false_at};
 ghost use Rattle.syntax_tree.specs.Names.{row_of};
@@ -31,7 +31,7 @@ pub struct Scope {
 
 /// In the body of a `for` its variable stands; elsewhere all parts have the environment of the row.
 pub fn last_scope(at: &Parts, node: &Node, env: &Env) -> Result<Scope, NoMemory>
-    ensures { IfOk result (λ s. IsPlainRow (row_at (node_view node.now)) → s.env ≡ env.now) }
+    ensures { IfOk result (λ s. IsOrderedRow (row_at (node_view node.now)) → s.env ≡ env.now) }
 {
     match (node.row, token(node, 1)) {
         (RowName::Efor, Some(name)) => scope_in_loop(at, name, env),
@@ -63,7 +63,7 @@ pub fn behind_part(
     ty: NodeRef,
     env: &Env,
 ) -> Result<(), NoMemory>
-    ensures carries { OnOk result (IsPlainRow (row_of row) → AsksBehind at.old at.new env.now (row_of row) place (expression_of at.old.item (operand_view part.entry)) ty.0) }
+    ensures carries { OnOk result (IsOrderedRow (row_of row) → AsksBehind at.old at.new env.now (row_of row) place (expression_of at.old.item (operand_view part.entry)) ty.0) }
     ensures follows { OnOk result (Follows (behind_part_steps (row_of row) place (expression_at (operand_view part.entry))) at.old at.new) }
     ensures goes { Goes at.old at.new }
 {

@@ -90,11 +90,10 @@ pub constructor_term : (i n : ℕ) (at : Place) (t : Tree) → row_of t ≡ econ
 unfolding expression_row
 constructor_term i n at t row = ap (λ q. expression_row q (number_of i n) at (parts_of i n t)) row ∙ ap (λ p. constructor_expression (number_of i n) at p) (path_stands i n t 9 0)
 
-pub constructor_row : (a b : Parts) (env : List Entry) (i n : ℕ) (at : Place) (t : Tree) (negated known : Bool) (m : ℕ) (argument : Option ℕ) → row_of t ≡ econ_row → TypesConstructor a b env (path_of (path_in t 9 0)) 0 known m argument →
+pub constructor_row : (a b : Parts) (env : List Entry) (i n : ℕ) (at : Place) (t : Tree) (negated : Bool) (m : ℕ) → row_of t ≡ econ_row → TypesRow a b env (λ c. constructor_alone c (number_of i n) (path_of (path_in t 9 0))) (number_of i n) m →
     TypesRow a b env (λ c. (under_minus negated (row_expression i n at t)).typed c) (number_of i n) m
-constructor_row a b env i n at t negated known m argument row typed = λ aloud F scope G s.
-    let p = path_of (path_in t 9 0) in
-    row_as (λ c. under_as negated (row_expression i n at t) (constructor_expression (number_of i n) at p) c (constructor_term i n at t row) refl) (alone_typed a b {env = env} p.qualifiers p.last known m argument (number_of i n) typed aloud F scope G s)
+constructor_row a b env i n at t negated m row typed = λ aloud F scope G s.
+    row_as (λ c. under_as negated (row_expression i n at t) (constructor_expression (number_of i n) at (path_of (path_in t 9 0))) c (constructor_term i n at t row) refl) (typed aloud F scope G s)
 
 -- what a path asks that names a constructor
 record AsksConstructor (n : ℕ) (p : Written) (e : Expression) (c : Context) : Type 0 where
@@ -114,9 +113,9 @@ asks_constructor n at p c h = by p.last h
     by (Some t) h = constructor_by_kind n at p.qualifiers t.start t.end t.col t.name t.kind c h
 
 -- M.A
-pub constructor_path_row : (a b : Parts) (env : List Entry) (i n : ℕ) (at : Place) (t : Tree) (negated known : Bool) (m : ℕ) (argument : Option ℕ) → row_of t ≡ epath_row → names_constructor (token_in t 1) ≡ true →
-    TypesConstructor a b env (path_of (path_in t 0 1)) 0 known m argument → TypesRow a b env (λ c. (under_minus negated (row_expression i n at t)).typed c) (number_of i n) m
-constructor_path_row a b env i n at t negated known m argument row names typed = λ aloud F scope G s.
+pub constructor_path_row : (a b : Parts) (env : List Entry) (i n : ℕ) (at : Place) (t : Tree) (negated : Bool) (m : ℕ) → row_of t ≡ epath_row → names_constructor (token_in t 1) ≡ true →
+    TypesRow a b env (λ c. constructor_alone c (number_of i n) (path_of (path_in t 0 1))) (number_of i n) m → TypesRow a b env (λ c. (under_minus negated (row_expression i n at t)).typed c) (number_of i n) m
+constructor_path_row a b env i n at t negated m row names typed = λ aloud F scope G s.
     let p = path_of (path_in t 0 1) in
     let asks = λ (c : Context). asks_constructor (number_of i n) at p c names in
-    row_as (λ c. (asks c).typed ∙ under_as negated (row_expression i n at t) (path_expression (number_of i n) at p) c (path_term i n at t row) (asks c).same_under) (alone_typed a b {env = env} p.qualifiers p.last known m argument (number_of i n) typed aloud F scope G s)
+    row_as (λ c. (asks c).typed ∙ under_as negated (row_expression i n at t) (path_expression (number_of i n) at p) c (path_term i n at t row) (asks c).same_under) (typed aloud F scope G s)

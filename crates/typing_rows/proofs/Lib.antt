@@ -5,5 +5,8 @@ pub mod Ordered
 pub mod Ending
 pub mod Terms
 pub mod Typed
+pub mod Own
+pub mod Applied
 pub mod Constructed
 pub mod Fielded
+pub mod Valued

@@ -1,47 +1,51 @@
 -- The rows that carry, as the definitions take them, over the operands of the code.
-use Rattle.std.proofs.Common.{◌≡◌, ◌∙◌, ◌++◌, ◌==◌, ◌&&◌, not, ℕ, ◌+◌, Bool, true, false, arith, List, [], ◌∷◌, Option, Some, None, option_map, option_to_list, refl, sym, ap, append_assoc, append-nil}
+use Rattle.std.proofs.Common.{◌≡◌, ◌∙◌, ◌++◌, ◌==◌, ◌&&◌, not, ℕ, ◌+◌, Bool, true, false, arith, List, [], ◌∷◌, Option, Some, None, option_map, option_to_list, refl, sym, ap, append_assoc, append-nil, if◌then◌else◌}
 use Rattle.std.specs.List.{flat_map}
 use Rattle.std.proofs.lemmas.Bool.{eqb-true}
 use Rattle.tree_model.specs.Rows.{Row, name_row, epath_row, econst_row, hole_row, eparen_row, ebegin_row, elist_row, prefix_row, field_row, eapp_row, eassert_row, ewhile_row, eneg_row, infix_row, econs_row, etuple_row, eif_row, eseq_row}
 use Rattle.tree_model.specs.Slots.{is_operand, operand_slots}
 use Rattle.tree_model.specs.Trees.{Place, Tree}
 use Rattle.row_parts.specs.Numbered.{Numbered, operands_in, all_operands, first_in, filled_in, token_in, path_in}
-use Rattle.typing_model.specs.Demands.{Condition}
-use Rattle.typing_model.specs.Contexts.{Context, type_at}
+use Rattle.token_model.specs.Kinds.{Tok}
+use Rattle.signature_model.specs.Declarations.{Declaration, Label, type_of}
+use Rattle.signature_model.specs.Entries.{label_kind}
+use Rattle.typing_model.specs.Demands.{Condition, label_word}
+use Rattle.typing_model.specs.Contexts.{Context, type_at, is_kept}
+use Rattle.typing_model.specs.Names.{ask_bound, used_at}
 use Rattle.typing_model.specs.BuiltIns.{unit_type, bool_type, list_type}
 use Rattle.typing_model.specs.Patterns.{ask_all, behind_first}
 use Rattle.typing_model.specs.Parts as parts
 use Rattle.typing_model.specs.Parts.{Expression, expressions_in, expression_in, types_in, last_of, Form}
-use Rattle.typing_model.specs.Expressions.{expression_row, typed_all, has_type, is_of, first_type, each_has, application, name_expression, path_expression, field_expression, constant_expression, hole_expression, parenthesised, begun, list_expression, cons_expression, tuple_expression, if_expression, sequence_expression, while_expression, assert_expression, assert_asks, infix_expression, prefix_expression, minus_expression, is_false}
+use Rattle.typing_model.specs.Expressions.{expression_row, typed_all, has_type, is_of, first_type, each_has, application, name_expression, path_expression, field_expression, field_asks, label_found, constant_expression, hole_expression, parenthesised, begun, list_expression, cons_expression, tuple_expression, if_expression, sequence_expression, while_expression, assert_expression, assert_asks, infix_expression, prefix_expression, minus_expression, is_false}
 use Rattle.operand_laws.specs.Formed.{row_of, is_needed, may_repeat, IsFormed}
 use Rattle.operand_laws.specs.Operands.{number_of, parts_of, path_of, expression_of}
 use Rattle.operand_laws.proofs.Sorts.{expression_stands, expressions_stand, first_expression_stands, first_type_stands}
 use Rattle.operand_laws.proofs.SlotBySlot.{all_in_order, at_most_one, exactly_one}
 use Rattle.operand_laws.proofs.Tokens.{token_stands, path_stands}
-use Rattle.typing_rows.specs.Asked.{IsPlainRow, row_expression, expressions_of, parts_ask, bool_if, wants_bool, end_asks, last_asks, assert_ends}
+use Rattle.typing_rows.specs.Asked.{IsPlainRow, IsOrderedRow, row_expression, expressions_of, parts_ask, bool_if, wants_bool, end_asks, last_asks, assert_ends, label_ends, field_ends, ordered_end}
 
 -- one expression in a slot that is needed
 module _ (i n : ℕ) (t : Tree) (formed : IsFormed n t) where
-  one : (r : Row) (s : ℕ) → row_of t ≡ r → is_operand r s ≡ true → is_needed r s ≡ true → expression_in s (parts_of i n t) ≡ expression_of i (filled_in n t s)
+  pub one : (r : Row) (s : ℕ) → row_of t ≡ r → is_operand r s ≡ true → is_needed r s ≡ true → expression_in s (parts_of i n t) ≡ expression_of i (filled_in n t s)
   one r s row takes needs = expression_stands i n t s formed (ap (λ q. is_operand q s) row ∙ takes) (ap (λ q. is_needed q s) row ∙ needs)
 
-  several : (r : Row) (s : ℕ) → row_of t ≡ r → is_operand r s ≡ true → expressions_in s (parts_of i n t) ≡ expressions_of i (operands_in n t s)
+  pub several : (r : Row) (s : ℕ) → row_of t ≡ r → is_operand r s ≡ true → expressions_in s (parts_of i n t) ≡ expressions_of i (operands_in n t s)
   several r s row takes = expressions_stand i n t s formed (ap (λ q. is_operand q s) row ∙ takes)
 
-  perhaps : (r : Row) (s : ℕ) → row_of t ≡ r → is_operand r s ≡ true → parts.first_of (expressions_in s (parts_of i n t)) ≡ option_map (expression_of i) (first_in n t s)
+  pub perhaps : (r : Row) (s : ℕ) → row_of t ≡ r → is_operand r s ≡ true → parts.first_of (expressions_in s (parts_of i n t)) ≡ option_map (expression_of i) (first_in n t s)
   perhaps r s row takes = first_expression_stands i n t s formed (ap (λ q. is_operand q s) row ∙ takes)
 
-  alone : (r : Row) (s : ℕ) → row_of t ≡ r → is_operand r s ≡ true → is_needed r s ≡ true → may_repeat r s ≡ false → operands_in n t s ≡ filled_in n t s ∷ []
+  pub alone : (r : Row) (s : ℕ) → row_of t ≡ r → is_operand r s ≡ true → is_needed r s ≡ true → may_repeat r s ≡ false → operands_in n t s ≡ filled_in n t s ∷ []
   alone r s row takes needs once = exactly_one n t s formed (ap (λ q. is_operand q s) row ∙ takes) (ap (λ q. is_needed q s) row ∙ needs) (ap (λ q. may_repeat q s) row ∙ once)
 
-  one_at_most : (r : Row) (s : ℕ) → row_of t ≡ r → may_repeat r s ≡ false → operands_in n t s ≡ option_to_list (first_in n t s)
+  pub one_at_most : (r : Row) (s : ℕ) → row_of t ≡ r → may_repeat r s ≡ false → operands_in n t s ≡ option_to_list (first_in n t s)
   one_at_most r s row once = at_most_one n t s formed (ap (λ q. may_repeat q s) row ∙ once)
 
-  all_of : (r : Row) → row_of t ≡ r → all_operands n t ≡ flat_map (operands_in n t) (operand_slots r)
+  pub all_of : (r : Row) → row_of t ≡ r → all_operands n t ≡ flat_map (operands_in n t) (operand_slots r)
   all_of r row = all_in_order n t formed ∙ ap (λ q. flat_map (operands_in n t) (operand_slots q)) row
 
   -- a row in the place of the node's
-  as_row : (at : Place) (r : Row) → row_of t ≡ r → row_expression i n at t ≡ expression_row r (number_of i n) at (parts_of i n t)
+  pub as_row : (at : Place) (r : Row) → row_of t ≡ r → row_expression i n at t ≡ expression_row r (number_of i n) at (parts_of i n t)
   as_row at r row = ap (λ q. expression_row q (number_of i n) at (parts_of i n t)) row
 
 -- x
@@ -108,10 +112,14 @@ minus_term i n at t formed row =
     as_row i n t formed at eneg_row row ∙ ap (λ o. minus_expression (number_of i n) at o (expression_in 1 (parts_of i n t))) (token_stands i n t 0) ∙
     ap (λ e. minus_expression (number_of i n) at (token_in t 0) e) (one i n t formed eneg_row 1 row refl refl)
 
+-- the operands of the one slot of a row, which is needed
+pub one_in : (n : ℕ) (t : Tree) (r : Row) (s : ℕ) → IsFormed n t → row_of t ≡ r → operand_slots r ≡ s ∷ [] → is_needed r s ≡ true → may_repeat r s ≡ false → is_operand r s ≡ true → all_operands n t ≡ filled_in n t s ∷ []
+one_in n t r s formed row slots needs once takes =
+    all_of 0 n t formed r row ∙ ap (flat_map (operands_in n t)) slots ∙ ap (λ os. os ++ []) (alone 0 n t formed r s row takes needs once)
+
 -- the operands of a prefix and of a minus
 pub one_operand : (n : ℕ) (t : Tree) (r : Row) → IsFormed n t → row_of t ≡ r → operand_slots r ≡ 1 ∷ [] → is_needed r 1 ≡ true → may_repeat r 1 ≡ false → is_operand r 1 ≡ true → all_operands n t ≡ filled_in n t 1 ∷ []
-one_operand n t r formed row slots needs once takes =
-    all_of 0 n t formed r row ∙ ap (flat_map (operands_in n t)) slots ∙ ap (λ os. os ++ []) (alone 0 n t formed r 1 row takes needs once)
+one_operand n t r formed row slots needs once takes = one_in n t r 1 formed row slots needs once takes
 
 -- the operands of two slots that are needed
 pub two_operands : (n : ℕ) (t : Tree) (r : Row) (p q : ℕ) → IsFormed n t → row_of t ≡ r → operand_slots r ≡ p ∷ q ∷ [] → is_needed r p ≡ true → is_needed r q ≡ true → may_repeat r p ≡ false → may_repeat r q ≡ false → is_operand r p ≡ true → is_operand r q ≡ true →
@@ -121,7 +129,7 @@ two_operands n t r p q formed row slots needs needs' once once' takes takes' =
     ap (λ os. filled_in n t p ∷ (os ++ [])) (alone 0 n t formed r q row takes' needs' once')
 
 -- a list of lists of operands as expressions
-both_lists : (i : ℕ) (xs ys : List Numbered) → expressions_of i (xs ++ ys) ≡ expressions_of i xs ++ expressions_of i ys
+pub both_lists : (i : ℕ) (xs ys : List Numbered) → expressions_of i (xs ++ ys) ≡ expressions_of i xs ++ expressions_of i ys
 both_lists i [] ys = refl
 both_lists i (x ∷ xs) ys = ap (λ es. expression_of i x ∷ es) (both_lists i xs ys)
 
@@ -254,3 +262,39 @@ plain_term i n at t eif_row formed row plain c =
     if_plain i (number_of i n) at c (expression_of i first) (expression_of i second) (first_in n t 5) ∙
     (λ k. (if_expression (number_of i n) at (sym (one i n t formed eif_row 1 row refl refl) k) (sym (one i n t formed eif_row 3 row refl refl) k) (sym (perhaps i n t formed eif_row 5 row refl) k)).typed c) ∙ ap (λ e. e.typed c) (sym (as_row i n t formed at eif_row row))
 plain_term i n at t _ formed row plain c = absurd plain
+
+-- e . l, by its label
+field_plain : (n : ℕ) (at : Place) (c : Context) (e : Expression) (qs : List Tok) (last : Option Tok) → let p : parts.Written = record { qualifiers = qs; last = last } in
+    parts_ask field_row 0 c n (e ∷ []) ++ field_ends p (e ∷ []) c n ≡ (field_expression n at e p).typed c
+field_plain n at c e qs last = ap (λ xs. xs ++ field_ends (record { qualifiers = qs; last = last }) (e ∷ []) c n) (silent_parts field_row 0 c n (e ∷ []) (λ b. refl) ∙ append-nil (e.typed c)) ∙ by last
+  where
+    found : (xs : List Condition) (o : Option (Declaration × Label)) → e.typed c ++ (xs ++ label_ends c n (e ∷ []) o) ≡
+        (e.typed c ++ xs) ++ elim o [ None ↦ [] | Some (d, l) ↦ has_type c n 1 e (used_at c n (type_of d)) ++ is_of c n (used_at c n l.body) ]
+    found xs None = sym (append_assoc (e.typed c) xs [])
+    found xs (Some (d, l)) = sym (append_assoc (e.typed c) xs (has_type c n 1 e (used_at c n (type_of d)) ++ is_of c n (used_at c n l.body)))
+
+    none : (k : Bool) → e.typed c ++ label_ends c n (e ∷ []) (if k then None else None) ≡ e.typed c
+    none true = append-nil (e.typed c)
+    none false = append-nil (e.typed c)
+
+    by : (o : Option Tok) → let p : parts.Written = record { qualifiers = qs; last = o } in e.typed c ++ field_ends p (e ∷ []) c n ≡ field_asks c n e p
+    by None = none (is_kept c n 0)
+    by (Some t) = let p : parts.Written = record { qualifiers = qs; last = Some t } in found (ask_bound c n 0 label_kind label_word p t) (if is_kept c n 0 then label_found c p else None)
+
+-- A row whose parts are typed in order asks these, and then its end.
+pub ordered_term : (i n : ℕ) (at : Place) (t : Tree) (r : Row) → IsFormed n t → row_of t ≡ r → IsOrderedRow r → (c : Context) →
+    parts_ask r 0 c (number_of i n) (expressions_of i (all_operands n t)) ++ ordered_end r t (expressions_of i (all_operands n t)) c (number_of i n) ≡ (row_expression i n at t).typed c
+unfolding is_operand is_needed may_repeat
+ordered_term i n at t field_row formed row ordered c =
+    let p = path_of (path_in t 2 3) in
+    ap (λ os. parts_ask field_row 0 c (number_of i n) (expressions_of i os) ++ field_ends p (expressions_of i os) c (number_of i n)) (one_in n t field_row 0 formed row refl refl refl refl) ∙
+    field_plain (number_of i n) at c (expression_of i (filled_in n t 0)) p.qualifiers p.last ∙ ap (λ e. e.typed c) (sym (field_term i n at t formed row))
+ordered_term i n at t ebegin_row formed row ordered c = plain_term i n at t ebegin_row formed row tt c
+ordered_term i n at t elist_row formed row ordered c = plain_term i n at t elist_row formed row tt c
+ordered_term i n at t etuple_row formed row ordered c = plain_term i n at t etuple_row formed row tt c
+ordered_term i n at t eseq_row formed row ordered c = plain_term i n at t eseq_row formed row tt c
+ordered_term i n at t econs_row formed row ordered c = plain_term i n at t econs_row formed row tt c
+ordered_term i n at t ewhile_row formed row ordered c = plain_term i n at t ewhile_row formed row tt c
+ordered_term i n at t eassert_row formed row ordered c = plain_term i n at t eassert_row formed row tt c
+ordered_term i n at t eif_row formed row ordered c = plain_term i n at t eif_row formed row tt c
+ordered_term i n at t _ formed row ordered c = absurd ordered

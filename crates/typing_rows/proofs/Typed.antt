@@ -28,11 +28,11 @@ use Rattle.operand_laws.specs.Formed.{row_of, is_needed, may_repeat, IsFormed}
 use Rattle.operand_laws.specs.Operands.{number_of, parts_of, path_of, expression_of}
 use Rattle.operand_laws.proofs.Tokens.{token_stands}
 use Rattle.typing_rows.specs.CarriedRows.{is_upper, names_constructor, IsCarriedRow, IsOfCarriedRows}
-use Rattle.typing_rows.specs.Asked.{under_minus, row_expression, expressions_of, IsPlainRow, end_of, applied_asks, operated_asks}
+use Rattle.typing_rows.specs.Asked.{under_minus, row_expression, expressions_of, IsOrderedRow, ordered_end, applied_asks, operated_asks}
 use Rattle.typing_rows.specs.Contracts.{TypesEach, TypesGiven, TypesParts, EndsRow}
 use Rattle.typing_rows.proofs.Given.{applied_row}
 use Rattle.typing_rows.proofs.Ending.{row_of_type, row_as, row_after, plain_typed}
-use Rattle.typing_rows.proofs.Terms.{name_term, path_term, constant_term, hole_term, application_term, paren_term, prefix_term, infix_term, minus_term, one_operand, two_operands, plain_term}
+use Rattle.typing_rows.proofs.Terms.{name_term, path_term, constant_term, hole_term, application_term, paren_term, prefix_term, infix_term, minus_term, one_operand, two_operands, ordered_term}
 
 -- an expression that asks the same under a minus
 pub under_as : (negated : Bool) (e x : Expression) (c : Context) → e ≡ x → x.negated c ≡ x.typed c → x.typed c ≡ (under_minus negated e).typed c
@@ -100,73 +100,6 @@ operated_typed a b d env t es ty to n typed goes given = λ aloud F scope G s.
     let here : TypesGiven b d env (parts.place_of t) (es a.item) ty to = subst (λ j. TypesGiven b d env (parts.place_of t) (es j) ty to) goes.item given in
     applied_row ((key.letter n 0, ty) ∷ []) x (here (ap is_aloud goes.telling ∙ aloud) F scope ((key.letter n 0, ty) ∷ G) n 1 1 (λ ch. ch.letter n 0) (surrounds_on x.carried.stays s) x.means)
 
--- the form of an operand that is made of carried rows isn't a constructor's
-name_plain : (q : List Tok) (start end col : ℕ) (name : List ℕ) (k : Kind) → IsNoConstructor (name_form (record { qualifiers = q; last = Some (record { kind = k; start = start; end = end; col = col; name = name }) }))
-name_plain q start end col name lower = tt
-name_plain q start end col name _ = tt
-
-name_no : (p : Written) → IsNoConstructor (name_form p)
-name_no p = by p.last
-  where
-    by : (o : Option Tok) → IsNoConstructor (name_form (record { qualifiers = p.qualifiers; last = o }))
-    by None = tt
-    by (Some t) = name_plain p.qualifiers t.start t.end t.col t.name t.kind
-
-path_plain : (n : ℕ) (at : Place) (q : List Tok) (start end col : ℕ) (name : List ℕ) (k : Kind) → is_upper k ≡ false →
-    IsNoConstructor (path_expression n at (record { qualifiers = q; last = Some (record { kind = k; start = start; end = end; col = col; name = name }) })).form
-path_plain n at q start end col name upper h = absurd (cc)
-path_plain n at q start end col name lower h = tt
-path_plain n at q start end col name _ h = tt
-
-path_no : (n : ℕ) (at : Place) (p : Written) → names_constructor p.last ≡ false → IsNoConstructor (path_expression n at p).form
-path_no n at p h = by p.last h
-  where
-    by : (o : Option Tok) → names_constructor o ≡ false → IsNoConstructor (path_expression n at (record { qualifiers = p.qualifiers; last = o })).form
-    by None h = tt
-    by (Some t) h = path_plain n at p.qualifiers t.start t.end t.col t.name t.kind h
-
-literal_plain : (start end col : ℕ) (name : List ℕ) (k : Kind) → IsNoConstructor (literal_form (Some (record { kind = k; start = start; end = end; col = col; name = name })))
-literal_plain start end col name float = tt
-literal_plain start end col name false_word = tt
-literal_plain start end col name _ = tt
-
-literal_no : (o : Option Tok) → IsNoConstructor (literal_form o)
-literal_no None = tt
-literal_no (Some t) = literal_plain t.start t.end t.col t.name t.kind
-
-paren_no : (n : ℕ) (at : Place) (e : Expression) (o : Option parts.TypeExpression) → IsNoConstructor (parenthesised n at e o).form
-paren_no n at e None = tt
-paren_no n at e (Some t) = tt
-
-begun_no : (n : ℕ) (at : Place) (o : Option Expression) → IsNoConstructor (begun n at o).form
-begun_no n at None = tt
-begun_no n at (Some e) = tt
-
-if_no : (n : ℕ) (at : Place) (e f : Expression) (o : Option Expression) → IsNoConstructor (if_expression n at e f o).form
-if_no n at e f None = tt
-if_no n at e f (Some g) = tt
-
-row_no : (r : Row) (n : ℕ) (at : Place) (cs : List Child) (t : Tree) (ps : Forest) → IsCarriedRow r t ps → child_token 1 cs ≡ token_in t 1 → IsNoConstructor (expression_row r n at cs).form
-unfolding expression_row
-row_no name_row n at cs t ps h e = name_no (child_path 9 0 cs)
-row_no epath_row n at cs t ps h e = path_no n at (child_path 0 1 cs) (ap names_constructor e ∙ h)
-row_no econst_row n at cs t ps h e = literal_no (child_token 0 cs)
-row_no eparen_row n at cs t ps h e = paren_no n at (parts.expression_in 1 cs) (parts.first_of (types_in 3 cs))
-row_no ebegin_row n at cs t ps h e = begun_no n at (parts.first_of (expressions_in 1 cs))
-row_no eif_row n at cs t ps h e = if_no n at (parts.expression_in 1 cs) (parts.expression_in 3 cs) (parts.first_of (expressions_in 5 cs))
-row_no econ_row n at cs t ps h e = absurd h
-row_no erecord_row n at cs t ps h e = absurd h
-row_no _ n at cs t ps h e = tt
-
--- an operand that is made of carried rows is no constructor
-pub operand_no : (i : ℕ) (o : Numbered) → IsOfCarriedRows o.part → IsNoConstructor (expression_of i o).form
-operand_no i o h = by o.number o.at o.part h
-  where
-    by : (n : ℕ) (at : Place) (p : Part) → IsOfCarriedRows p → IsNoConstructor (expression_of i (numbered n at p)).form
-    by n at (taken t) h = tt
-    by n at (missing q) h = tt
-    by n at (inner (node r x ps)) h = row_no r (number_of i n) at (parts_of i n (node r x ps)) (node r x ps) ps h.0 (token_stands i n (node r x ps) 1)
-
 -- a row that asks the same under a minus
 abbrev pub IsUsual : Row → Type 0
 IsUsual econst_row = ⊥
@@ -223,11 +156,11 @@ application_asked c n head es parts.no_expression no_one = refl
 application_asked c n head es parts.other no_one = refl
 
 -- e e e
-pub application_typed : (a d : Parts) (env : List Entry) (i n : ℕ) (at : Place) (t : Tree) (m : ℕ) → IsFormed n t → row_of t ≡ eapp_row → IsOfCarriedRows (filled_in n t 0).part →
+pub application_typed : (a d : Parts) (env : List Entry) (i n : ℕ) (at : Place) (t : Tree) (m : ℕ) → IsFormed n t → row_of t ≡ eapp_row → IsNoConstructor (expression_of i (filled_in n t 0)).form →
     TypesRow a d env (applied_asks (number_of i n) (expression_of i (filled_in n t 0)) (expressions_of i (operands_in n t 1))) (number_of i n) m → TypesRow a d env (λ c. (row_expression i n at t).typed c) (number_of i n) m
 application_typed a d env i n at t m formed row plain typed = λ aloud F scope G s.
     let head = expression_of i (filled_in n t 0) in
-    row_as (λ c. application_asked c (number_of i n) head (expressions_of i (operands_in n t 1)) head.form (operand_no i (filled_in n t 0) plain) ∙ ap (λ e. e.typed c) (sym (application_term i n at t formed row))) (typed aloud F scope G s)
+    row_as (λ c. application_asked c (number_of i n) head (expressions_of i (operands_in n t 1)) head.form plain ∙ ap (λ e. e.typed c) (sym (application_term i n at t formed row))) (typed aloud F scope G s)
 
 -- ( e )
 pub paren_typed : (a b : Parts) (env : List Entry) (i n : ℕ) (at : Place) (t : Tree) (m : ℕ) → IsFormed n t → row_of t ≡ eparen_row → first_in n t 3 ≡ None → TypesTo a b env (λ c. (expression_of i (filled_in n t 1)).typed c) (λ ch. ch.type_at (expression_of i (filled_in n t 1)).node) m →
@@ -238,12 +171,12 @@ paren_typed a b env i n at t m formed row none typed = λ aloud F scope G s.
     row_of_type (λ c. e.typed c) (λ ch. ch.type_at e.node) x.carried x.means (λ c. ap (λ y. y.typed c) (sym (paren_term i n at t formed row none)))
 
 -- a row whose parts are typed in order
-pub ordered_typed : (a b d : Parts) (env : List Entry) (n : ℕ) (at : Place) (t : Tree) (ms : List ℕ) (m : ℕ) → IsFormed n t → IsPlainRow (row_of t) → TypesParts a b env (row_of t) (expressions_of a.item (all_operands n t)) ms → Goes a b →
-    EndsRow b d env (end_of (row_of t) (expressions_of b.item (all_operands n t))) (expressions_of b.item (all_operands n t)) ms m → TypesRow a d env (λ c. (row_expression a.item n at t).typed c) (number_of a.item n) m
-ordered_typed a b d env n at t ms m formed plain parts goes ends =
-    plain_typed a b d env (row_of t) (end_of (row_of t) (expressions_of a.item (all_operands n t))) (expressions_of a.item (all_operands n t)) ms m (number_of a.item n) (λ c. (row_expression a.item n at t).typed c)
-    (λ c. plain_term a.item n at t (row_of t) formed refl plain c) parts goes
-    (subst (λ j. EndsRow b d env (end_of (row_of t) (expressions_of j (all_operands n t))) (expressions_of j (all_operands n t)) ms m) goes.item ends)
+pub ordered_typed : (a b d : Parts) (env : List Entry) (n : ℕ) (at : Place) (t : Tree) (ms : List ℕ) (m : ℕ) → IsFormed n t → IsOrderedRow (row_of t) → TypesParts a b env (row_of t) (expressions_of a.item (all_operands n t)) ms → Goes a b →
+    EndsRow b d env (ordered_end (row_of t) t (expressions_of b.item (all_operands n t))) (expressions_of b.item (all_operands n t)) ms m → TypesRow a d env (λ c. (row_expression a.item n at t).typed c) (number_of a.item n) m
+ordered_typed a b d env n at t ms m formed ordered parts goes ends =
+    plain_typed a b d env (row_of t) (ordered_end (row_of t) t (expressions_of a.item (all_operands n t))) (expressions_of a.item (all_operands n t)) ms m (number_of a.item n) (λ c. (row_expression a.item n at t).typed c)
+    (λ c. ordered_term a.item n at t (row_of t) formed refl ordered c) parts goes
+    (subst (λ j. EndsRow b d env (ordered_end (row_of t) t (expressions_of j (all_operands n t))) (expressions_of j (all_operands n t)) ms m) goes.item ends)
 
 -- the arguments of an operator alone, where it is missing
 pub unoperated_typed : (a b d : Parts) (env : List Entry) (es : List Expression) (n m : ℕ) → TypesEach a b env es → Goes a b → TypesAny b d m → TypesRow a d env (λ c. typed_all c es) n m

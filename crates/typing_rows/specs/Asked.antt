@@ -1,18 +1,21 @@
 -- What is asked of the parts of a row and after them, in the order in which the code types them.
-use Rattle.std.specs.Prelude.{ℕ, ◌+◌, ◌==◌, ◌&&◌, Bool, true, false, not, List, [], ◌∷◌, ◌++◌, map, Option, Some, None, slice_get}
+use Rattle.std.specs.Prelude.{ℕ, ◌+◌, ◌==◌, ◌&&◌, Bool, true, false, not, List, [], ◌∷◌, ◌++◌, map, Option, Some, None, slice_get, if◌then◌else◌}
 use Rattle.token_model.specs.Kinds.{Tok}
-use Rattle.tree_model.specs.Rows.{Row, ebegin_row, elist_row, eassert_row, ewhile_row, econs_row, etuple_row, eif_row, eseq_row}
+use Rattle.tree_model.specs.Rows.{Row, ebegin_row, elist_row, field_row, eassert_row, ewhile_row, econs_row, etuple_row, eif_row, eseq_row}
 use Rattle.tree_model.specs.Trees.{Place, Tree}
 use Rattle.type_model.specs.Types.{Typ, Tuple, types_of}
 use Rattle.typing_model.specs.Demands.{Condition}
-use Rattle.typing_model.specs.Contexts.{Context, type_at, letter}
-use Rattle.typing_model.specs.Parts.{Expression, last_of, place_of}
+use Rattle.signature_model.specs.Declarations.{Declaration, Label, type_of}
+use Rattle.typing_model.specs.Contexts.{Context, type_at, letter, is_kept}
+use Rattle.typing_model.specs.Names.{used_at}
+use Rattle.typing_model.specs.Parts.{Expression, Written, last_of, place_of}
 use Rattle.typing_model.specs.BuiltIns.{unit_type, bool_type, list_type}
-use Rattle.typing_model.specs.Patterns.{ask_all, behind_first}
-use Rattle.typing_model.specs.Expressions.{expression_row, has_type, is_of, first_type, each_has, node_types, is_false, applied_from, value_asks}
-use Rattle.row_parts.specs.Numbered.{Numbered}
+use Rattle.typing_model.specs.Patterns.{ask_all, behind_first, applied_constructor, argument_has}
+use Rattle.typing_model.specs.Expressions.{expression_row, typed_all, has_type, is_of, first_type, each_has, node_types, is_false, applied_from, value_asks}
+use Rattle.row_parts.specs.Numbered.{Numbered, path_in}
 use Rattle.operand_laws.specs.Formed.{row_of}
-use Rattle.operand_laws.specs.Operands.{number_of, parts_of, expression_of}
+use Rattle.operand_laws.specs.Operands.{number_of, parts_of, path_of, expression_of}
+use Rattle.typing_steps.specs.Building.{label_asks, label_in_scope}
 
 -- an expression directly under a minus asks something else
 abbrev pub under_minus : Bool → Expression → Expression
@@ -31,7 +34,7 @@ expressions_of i os = map (λ o. expression_of i o) os
 abbrev pub signed_expressions : Bool → ℕ → List Numbered → List Expression
 signed_expressions negated i os = map (λ o. under_minus negated (expression_of i o)) os
 
--- the rows whose parts are typed in order
+-- the rows whose parts are typed in order, and whose end depends on these alone
 abbrev pub IsPlainRow : Row → Type 0
 IsPlainRow ebegin_row = Unit {0}
 IsPlainRow elist_row = Unit {0}
@@ -42,6 +45,11 @@ IsPlainRow etuple_row = Unit {0}
 IsPlainRow eif_row = Unit {0}
 IsPlainRow eseq_row = Unit {0}
 IsPlainRow _ = ⊥
+
+-- the same with those whose end depends on a path of their own too
+abbrev pub IsOrderedRow : Row → Type 0
+IsOrderedRow field_row = Unit {0}
+IsOrderedRow r = IsPlainRow r
 
 -- whether the first part of a row is a bool; after `assert` the word `false` needn't be
 abbrev pub wants_bool : Row → Bool → Bool
@@ -120,6 +128,30 @@ end_asks _ c n es = []
 -- the same by the row
 abbrev pub end_of : Row → List Expression → Context → ℕ → List Condition
 end_of r es c n = end_asks r c n es
+
+-- `e . l` with its part, by the label that is found
+abbrev pub label_ends : Context → ℕ → List Expression → Option (Declaration × Label) → List Condition
+label_ends c n es None = []
+label_ends c n es (Some (d, l)) = has_if c n 1 (slice_get es 0) (used_at c n (type_of d)) ++ is_of c n (used_at c n l.body)
+
+-- `e . l` with its part: the label, and what it asks
+abbrev pub field_ends : Written → List Expression → Context → ℕ → List Condition
+field_ends p es c n = label_asks c n p ++ label_ends c n es (if is_kept c n 0 then label_in_scope c.env p else None)
+
+-- what is asked after all parts of a row that are typed in order
+abbrev pub ordered_end : Row → Tree → List Expression → Context → ℕ → List Condition
+ordered_end field_row t es = field_ends (path_of (path_in t 2 3)) es
+ordered_end r t es = end_of r es
+
+-- a constructor with its first argument; its node is `head`
+abbrev pub head_asks : Context → ℕ → Written → (head : ℕ) → Expression → List Condition
+head_asks c n p head e = applied_constructor c n p head (head ∷ []) (e.typed c) (argument_has n 2 e.at (type_at c e.node))
+
+-- the arguments after the first one of a constructor of this type, by whether it is known
+abbrev pub later_asks : (known : Bool) → Context → ℕ → Place → Typ → List Expression → List Condition
+later_asks true c n at t es = applied_from c n 3 0 at t es
+later_asks false c n at t [] = is_of c n t
+later_asks false c n at t (e ∷ es) = typed_all c (e ∷ es)
 
 -- a head that is no constructor, and its arguments
 abbrev pub applied_asks : ℕ → Expression → List Expression → Context → List Condition

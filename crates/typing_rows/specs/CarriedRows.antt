@@ -2,7 +2,7 @@
 use Rattle.std.specs.Prelude.{◌≡◌, Bool, true, false, ◌||◌, codes, Option, Some, None}
 use Rattle.std.specs.Str.{bytes_eq}
 use Rattle.token_model.specs.Kinds.{Tok, Kind, upper}
-use Rattle.tree_model.specs.Rows.{Row, name_row, epath_row, econst_row, hole_row, eparen_row, ebegin_row, elist_row, prefix_row, eapp_row, eassert_row, ewhile_row, eneg_row, infix_row, econs_row, etuple_row, eif_row, eseq_row}
+use Rattle.tree_model.specs.Rows.{Row, name_row, econ_row, epath_row, econst_row, hole_row, eparen_row, ebegin_row, elist_row, prefix_row, field_row, eapp_row, eassert_row, ewhile_row, eneg_row, infix_row, econs_row, etuple_row, eif_row, eseq_row}
 use Rattle.tree_model.specs.Trees.{Tree, Forest, Part, node, no_parts, part, taken, inner, missing}
 use Rattle.row_parts.specs.Numbered.{Numbered, token_in}
 use Rattle.operand_laws.specs.Formed.{is_in, IsOperandFormed}
@@ -22,17 +22,19 @@ abbrev pub is_sign : Option Tok → Bool
 is_sign None = true
 is_sign (Some t) = bytes_eq t.name (codes "-") || bytes_eq t.name (codes "-.")
 
--- rows without binders, type expressions, constructors, records and fields
+-- rows without binders, type expressions, records, and fields that are set
 abbrev pub IsCarriedRow : Row → Tree → Forest → Type 0
 IsCarriedRow name_row t ps = Unit {0}  -- x
-IsCarriedRow epath_row t ps = names_constructor (token_in t 1) ≡ false  -- M.x
+IsCarriedRow econ_row t ps = Unit {0}  -- A
+IsCarriedRow epath_row t ps = Unit {0}  -- M.x, M.A
 IsCarriedRow econst_row t ps = Unit {0}  -- 1, "a", true
 IsCarriedRow hole_row t ps = Unit {0}  -- _
 IsCarriedRow eparen_row t ps = is_in 3 ps ≡ false  -- ( e )
 IsCarriedRow ebegin_row t ps = Unit {0}  -- begin e end
 IsCarriedRow elist_row t ps = Unit {0}  -- [ e; e ]
 IsCarriedRow prefix_row t ps = Unit {0}  -- ! e
-IsCarriedRow eapp_row t ps = Unit {0}  -- e e e
+IsCarriedRow field_row t ps = Unit {0}  -- e . l
+IsCarriedRow eapp_row t ps = Unit {0}  -- e e e, A e
 IsCarriedRow eassert_row t ps = Unit {0}  -- assert e
 IsCarriedRow ewhile_row t ps = Unit {0}  -- while e do e done
 IsCarriedRow eneg_row t ps = is_sign (token_in t 0) ≡ true  -- - e

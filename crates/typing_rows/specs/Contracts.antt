@@ -1,25 +1,28 @@
 -- What the functions of a row carry, each of its own part of the row.
-use Rattle.std.specs.Prelude.{◌≡◌, ℕ, ◌+◌, true, List, ◌∷◌, ◌++◌, map, slice_get}
+use Rattle.std.specs.Prelude.{◌≡◌, ℕ, ◌+◌, Bool, true, List, [], ◌∷◌, ◌++◌, map, slice_get, Option, Some, None}
 use Rattle.tree_model.specs.Rows.{Row}
 use Rattle.tree_model.specs.Trees.{Place}
 use Rattle.type_model.specs.Types.{Typ}
 use Rattle.typing_model.specs.Demands.{Condition}
 use Rattle.typing_model.specs.Contexts.{Choice, Context}
-use Rattle.typing_model.specs.Parts.{Expression}
+use Rattle.typing_model.specs.Names.{then_by}
+use Rattle.typing_model.specs.Parts.{Expression, Written}
 use Rattle.typing_model.specs.BuiltIns.{bool_type}
-use Rattle.typing_model.specs.Patterns.{ask_all, behind_first}
-use Rattle.typing_model.specs.Expressions.{typed_all, has_type, each_has}
+use Rattle.typing_model.specs.Patterns.{ask_all, behind_first, built_by}
+use Rattle.typing_model.specs.Expressions.{typed_all, has_type, each_has, is_some, constructor_applied}
 use Rattle.env_table.specs.declared.entries.Entry.{Entry}
 use Rattle.typing_state.specs.declared.parts.Parts.{Parts}
 use Rattle.typing_conditions.specs.Sights.{Sight, Key, letter, Letters, IsKnownFor}
 use Rattle.typing_conditions.specs.Frames.{Frame, Reaches}
+use Rattle.typing_conditions.specs.Judging.{AreKept}
 use Rattle.typing_conditions.specs.Meanings.{Means, AllMean}
 use Rattle.typing_conditions.specs.Carrying.{Asks, Scope, Carried, CarriedTo}
 use Rattle.typing_conditions.specs.Surroundings.{Surrounds}
 use Rattle.typing_steps.specs.States.{is_aloud, sight}
 use Rattle.typing_steps.specs.Rows.{MakesTwo, AsksArrow, argument_asks, given_from, result_of}
-use Rattle.typing_steps.specs.Typing.{as_declared, RowCarried}
-use Rattle.typing_rows.specs.Asked.{behind_asks, parts_ask, has_if}
+use Rattle.typing_steps.specs.Typing.{as_declared, RowCarried, TypesAny, TypesRow}
+use Rattle.typing_steps.specs.Building.{InEach}
+use Rattle.typing_rows.specs.Asked.{behind_asks, parts_ask, has_if, head_asks, later_asks}
 
 -- the types of expressions' nodes
 abbrev pub types_at : List Expression → List (Choice → Typ)
@@ -147,3 +150,33 @@ AsksLaterFirst a b env es ms wanted all left = is_aloud a.telling ≡ true → (
 abbrev pub EndsRow : (a b : Parts) → List Entry → (Context → ℕ → List Condition) → List Expression → List ℕ → (m : ℕ) → Type 0
 EndsRow a b env asks es ms m = is_aloud a.telling ≡ true → (F : Frame) (scope : Scope) (G : Letters) (n : ℕ) → Surrounds as_declared F (sight a) G env scope → AllMean F (sight a) G (types_at es) ms →
     RowCarried F scope (λ c. asks c n) (sight a) G (sight b) n m
+
+-- an expression, which has the type that may be wanted
+abbrev pub TypesAsIf : (a b : Parts) → List Entry → Expression → (wanted : Option ℕ) → Type 0
+TypesAsIf a b env e None = TypesEach a b env (e ∷ [])
+TypesAsIf a b env e (Some wanted) = TypesAs a b env e wanted
+
+-- What a constructor and its first argument ask is carried, the constructor's node is recorded, and in each context the definitions find it where it is known.
+pub record HeadCarried (F : Frame) (scope : Scope) (a : Sight) (G : Letters) (b : Sight) (n head : ℕ) (p : Written) (known : Bool) (e : Expression) (m : ℕ) : Type 0 where
+  pub own : Letters
+  pub typed : CarriedTo F scope (λ c. head_asks c n p head e) a G b (own ++ G) (λ ch. ch.type_at head) m
+  pub found : InEach F scope a G (λ c. AreKept c.kept typed.carried.judged → is_some (then_by p.last (built_by c n p)) ≡ known)
+
+-- a constructor with its first argument
+abbrev pub TypesHead : (a b : Parts) → List Entry → (n head : ℕ) → Written → (known : Bool) → Expression → (m : ℕ) → Type 0
+TypesHead a b env n head p known e m = is_aloud a.telling ≡ true → (F : Frame) (scope : Scope) (G : Letters) → Surrounds as_declared F (sight a) G env scope → HeadCarried F scope (sight a) G (sight b) n head p known e m
+
+-- the arguments of a constructor after the first one
+abbrev pub TypesLater : (a b : Parts) → List Entry → (known : Bool) → Place → List Expression → (head m : ℕ) → Type 0
+TypesLater a b env known at es head m = is_aloud a.telling ≡ true → (F : Frame) (scope : Scope) (G : Letters) (n : ℕ) (h : Choice → Typ) → Surrounds as_declared F (sight a) G env scope → Means F (sight a) G h head →
+    RowCarried F scope (λ c. later_asks known c n at (h c.chosen) es) (sight a) G (sight b) n m
+
+-- the type of the whole where the constructor isn't known: with one argument the constructor's, with more any
+abbrev pub EndsUnknown : (a b : Parts) → (later : List Expression) → (head m : ℕ) → Type 0
+EndsUnknown a b [] head m = (b ≡ a) × (m ≡ head)
+EndsUnknown a b (e ∷ es) head m = TypesAny a b m
+
+-- a constructor with its arguments, of which there is at least one
+abbrev pub TypesConstructed : (a b : Parts) → List Entry → (n : ℕ) → Written → (head : Expression) → List Expression → (m : ℕ) → Type 0
+TypesConstructed a b env n p head [] m = Unit {0}
+TypesConstructed a b env n p head (e ∷ es) m = TypesRow a b env (λ c. constructor_applied c n p head (e ∷ es)) n m

@@ -2,3 +2,4 @@
 pub mod CarriedRows
 pub mod Asked
 pub mod Contracts
+pub mod Valued

@@ -8,7 +8,7 @@ use Rattle.typing_state.specs.Steps.{records, each, Follows, GetsOn, asks}
 use Rattle.typing_state.proofs.Going.{goes_trans, goes_refl}
 use Rattle.typing_state.proofs.Following.{ends_both, ends_before, follows_both, follows_behind, gets_start, gets_more, store_silent, follows_before, follows_none, ends_behind}
 use Rattle.type_reading.proofs.TypeLaws.{drop_read}
-use Rattle.expression_steps.specs.ExpressionSteps.{argument_steps, arguments_steps, behind_parts, constructed_steps, expression_at, expression_steps, part_steps, parts_from, recorded_constructor, row_at, steps_as, typed_as, unrecorded_steps, cases_at, expression_case, parameter_steps, typed_as_if, typed_pattern, unused_case, expression_field, field_steps, fields_steps, typed_if, turn_steps, bindings_at, bound_pattern, right_at, whole_steps, form_of}
+use Rattle.expression_steps.specs.ExpressionSteps.{argued_constructor, argument_steps, arguments_steps, behind_parts, constructed_steps, expression_at, expression_steps, part_steps, parts_from, row_at, steps_as, typed_as, unrecorded_steps, cases_at, expression_case, parameter_steps, typed_as_if, typed_pattern, unused_case, expression_field, field_steps, fields_steps, typed_if, turn_steps, bindings_at, bound_pattern, right_at, whole_steps, form_of}
 use Rattle.expression_steps.proofs.ExpressionLaws.{each_typed, follows_more, operand_missing, operand_there, operation_as, plain_as, skips_arguments, row_of_node}
 use Rattle.pattern_typing.specs.Warnings.{spans_of, unused_steps}
 use Rattle.core_typing.proofs.GroupLaws.{case_lost, case_parts_are, case_there, cases_follow, steps_read, unused_follow, unused_same, done_follows, together_follow, turn_of, turns_follow}
@@ -29,17 +29,17 @@ use Rattle.typing_model.specs.Parts.{Expression}
 use Rattle.row_parts.specs.declared.slots.Operand.{Operand}
 use Rattle.operand_laws.specs.Operands.{expression_of}
 use Rattle.operand_laws.proofs.Standing.{expression_of_stands}
-use Rattle.typing_steps.specs.Typing.{TypesTo, TypesRow}
+use Rattle.typing_steps.specs.Typing.{TypesTo, TypesRow, path_as}
+use Rattle.type_reading.specs.TypeSteps.{constructor_steps}
 use Rattle.typing_rows.specs.CarriedRows.{IsCarried}
-use Rattle.typing_rows.specs.Asked.{under_minus, expressions_of, signed_expressions, applied_asks, IsPlainRow, end_of}
+use Rattle.typing_rows.specs.Asked.{under_minus, expressions_of, signed_expressions, applied_asks, IsOrderedRow, ordered_end}
 use Rattle.typing_rows.specs.Contracts.{TypesAs, TypesParts, EndsRow, AsksBehind}
-use Rattle.typing_rows.proofs.Going.{filled_carried}
 use Rattle.typing_rows.proofs.Recorded.{row_typed, missing_typed}
 use Rattle.typing_rows.proofs.Given.{types_argument, given_none, given_all, each_none, each_all}
 use Rattle.typing_rows.proofs.Ordered.{part_typed, parts_none, parts_all}
 use Rattle.typing_rows.proofs.Typed.{applied_typed, operated_typed, signed_row}
 use Rattle.typing_steps.proofs.Rows.{equal_asks}
-use Rattle.expression_steps.proofs.CarryingLaws.{some_none, if_ok, if_any, both_ok, usual_by, by_operation, form_there, paren_row, plain_row, operation_row, operation_missing, minus_float, minus_operation, application_row, operand_no_constructor, argument_typed, each_step, given_step, parts_step}
+use Rattle.expression_steps.proofs.CarryingLaws.{if_ok, if_any, both_ok, usual_by, by_operation, form_there, paren_row, plain_row, operation_row, operation_missing, minus_float, minus_operation, application_row, construction_row, first_carried, later_carried, head_row, known_later, unknown_later, typed_as_if, constructed_row, argument_typed, each_step, given_step, parts_step}
 use Rattle.std.specs.Option.{IfSome}
 use Rattle.expression_steps.specs.Operators.{sign_in, IsSignOf}
 use Rattle.core_typing.proofs.+exprs.Goals.{plain::type_parts-then-place-eq2, plain::type_parts-else-place-eq2}
@@ -82,12 +82,28 @@ apply::constructed-returns-clause-follows t c =
     let p = path_view c.args.path.now in
     let x = c.in-Some.first.now in
     let ys = c.in-Some.later.now in
-    let front = recorded_constructor c.args.head.number p in
-    let first = typed_as (expression_at (operand_view x)) in
     subst (λ os. OnOk c.later_arguments.result (Follows (constructed_steps h p (map expression_at (map operand_view os))) c.args.at.now c.later_arguments.new.at)) (sym c.in-Some.ensures.cases.0)
-    (ends_both c.later_arguments.result (front ++ first) (arguments_steps (place_of c.args.head.span) (map expression_at (map operand_view ys))) c.args.at.now c.typed_as.new.at c.later_arguments.new.at
-    (follows_both front first c.args.at.now c.recorded_constructor.new.at c.typed_as.new.at c.in_ok-built.ensures.follows c.typed_as.ensures.goes c.in_ok-typed_as.ensures.follows)
-    c.later_arguments.ensures.goes c.later_arguments.ensures.follows)
+    (ends_both c.later_arguments.result (argued_constructor c.args.head.number p (expression_at (operand_view x))) (arguments_steps (place_of c.args.head.span) (map expression_at (map operand_view ys))) c.args.at.now c.with_argument.new.at c.later_arguments.new.at
+    c.in_ok-built.ensures.follows c.later_arguments.ensures.goes c.later_arguments.ensures.follows)
+
+pub apply::constructed-returns-clause-carries : goal.apply::constructed-returns-clause-carries
+apply::constructed-returns-clause-carries t c =
+    let head = operand_view c.args.head in
+    let x = c.in-Some.first.now in
+    let ys = c.in-Some.later.now in
+    let split = c.in-Some.ensures.cases.0 in
+    if_ok c.later_arguments.result _ _ (λ u h carried n.
+    constructed_row c.args.at.now c.with_argument.new.at c.later_arguments.new.at c.args.env.now n (path_as (path_view c.args.path.now)) head x ys c.args.given.now c.in_ok-built.built.known c.in_ok-built.built.ty.0 u.ty.0 split
+    (c.in_ok-built.ensures.carries (first_carried x ys c.args.given.now split carried) n) c.with_argument.ensures.goes (h (later_carried x ys c.args.given.now split carried))) c.later_arguments.ensures.carries
+
+pub apply::with_argument-returns-clause-follows : goal.apply::with_argument-returns-clause-follows
+apply::with_argument-returns-clause-follows t c =
+    let p = path_view c.args.path.now in
+    let front = constructor_steps p in
+    let first = typed_as (expression_at (operand_view c.args.first)) in
+    ends_both c.note_head.result (front ++ first) (records c.args.number ∷ []) c.args.at.now c.typed_as.new.at c.note_head.new.at
+    (follows_both front first c.args.at.now c.constructor.new.at c.typed_as.new.at c.in_ok-found.ensures.follows c.typed_as.ensures.goes c.in_ok-typed_as.ensures.follows)
+    c.note_head.ensures.goes c.note_head.ensures.follows
 
 pub apply::later_arguments-returns-then-not-head-clause-follows : goal.apply::later_arguments-returns-then-not-head-clause-follows
 apply::later_arguments-returns-then-not-head-clause-follows t c =
@@ -454,15 +470,35 @@ plain::type_part-returns-clause-carries t c = λ plain same carried.
 
 pub apply::application-returns-in-Some-clause-carries : goal.apply::application-returns-in-Some-clause-carries
 apply::application-returns-in-Some-clause-carries t c =
-    let head = c.operand_in-head.result in
-    if_any c.constructed.result _ (λ u place carried is.
-    absurd (some_none (path_view c.in-Some.path)
-    (ap (option_map path_view) (sym c.in-Some.is) ∙ c.in_ok-path.ensures ∙ operand_no_constructor (operand_view head) (subst IsCarried (sym c.operand_in-head.ensures) (filled_carried c.args.number place (node_view c.args.node.now) 0 carried)))))
+    let p = path_view c.in-Some.path in
+    if_ok c.constructed.result _ _ (λ u h place carried is.
+    construction_row c.args.at.now c.constructed.new.at c.args.env.now c.args.number place (node_view c.args.node.now) c.operand_in-head.result p c.deref.result.now u.ty.0 carried is c.operand_in-head.ensures (ap (map operand_view) c.deref.ensures.value ∙ c.in_ok-given.ensures)
+    (sym (ap (option_map path_view) (sym c.in-Some.is) ∙ c.in_ok-path.ensures)) h) c.constructed.ensures.carries
 
 pub apply::application-returns-clause-carries : goal.apply::application-returns-clause-carries
 apply::application-returns-clause-carries t c =
     if_ok c.applied.result _ _ (λ u h place carried is.
-    application_row c.args.at.now c.applied.new.at c.args.env.now c.args.number place (node_view c.args.node.now) c.operand_in-head.result c.deref-in-None.result.now u.ty.0 carried is c.operand_in-head.ensures (ap (map operand_view) c.deref-in-None.ensures.value ∙ c.in_ok-given.ensures) h) c.applied.ensures.carries
+    application_row c.args.at.now c.applied.new.at c.args.env.now c.args.number place (node_view c.args.node.now) c.operand_in-head.result c.deref-in-None.result.now u.ty.0 carried is c.operand_in-head.ensures (ap (map operand_view) c.deref-in-None.ensures.value ∙ c.in_ok-given.ensures)
+    (sym (ap (option_map path_view) (sym c.in-None.is) ∙ c.in_ok-path.ensures)) h) c.applied.ensures.carries
+
+pub exprs::typed_as-returns-clause-carries : goal.exprs::typed_as-returns-clause-carries
+exprs::typed_as-returns-clause-carries t c = λ carried.
+    typed_as_if c.args.at.now c.type_under.new.at c.equal_if.new.at c.args.scope.now (operand_view c.args.e) c.in_ok-ty.ty.0 c.args.wanted (c.in_ok-ty.ensures.carries carried) c.type_under.ensures.goes c.in_ok-equal_if.ensures.carries
+
+pub apply::with_argument-returns-clause-carries : goal.apply::with_argument-returns-clause-carries
+apply::with_argument-returns-clause-carries t c =
+    if_ok c.note_head.result _ _ (λ h both carried n.
+    head_row c.args.at.now c.constructor.new.at c.typed_as.new.at c.note_head.new.at c.args.env.now n c.args.number (path_as (path_view c.args.path.now)) c.args.first c.in_ok-found.found h c.in_ok-found.ensures.carries c.constructor.ensures.goes
+    (c.in_ok-typed_as.ensures.carries carried) c.typed_as.ensures.goes both.0 both.1) (both_ok c.note_head.result _ _ c.note_head.ensures.carries c.note_head.ensures.head)
+
+pub apply::later_arguments-returns-then-not-head-clause-carries : goal.apply::later_arguments-returns-then-not-head-clause-carries
+apply::later_arguments-returns-then-not-head-clause-carries t c =
+    if_ok c.built_by_unknown.result _ _ (λ u h all.
+    unknown_later c.args.at.now c.type_each.new.at c.built_by_unknown.new.at c.args.env.now (place_of c.args.place) (map operand_view c.args.later.now) c.args.head u.ty c.if-not-head.true (c.in_ok-type_each.ensures.carries all) c.type_each.ensures.goes h) c.built_by_unknown.ensures.carries
+
+pub apply::later_arguments-returns-clause-carries : goal.apply::later_arguments-returns-clause-carries
+apply::later_arguments-returns-clause-carries t c = λ all.
+    known_later c.args.at.now c.arguments.new.at c.args.env.now (place_of c.args.place) (expressions_of c.args.at.now.item (map operand_view c.args.later.now)) c.args.head c.in_ok-ty.ty c.unnamed.result.ty c.if-not-head.false c.unnamed.ensures.ty (c.in_ok-ty.ensures.carries all)
 
 pub apply::operated-returns-clause-carries : goal.apply::operated-returns-clause-carries
 apply::operated-returns-clause-carries t c = λ all n.
@@ -502,9 +538,9 @@ plain::plain-returns-clause-carries t c =
     if_ok c.behind_parts.result _ _ (λ u h place carried is.
     plain_row c.args.at.now c.type_parts.new.at c.behind_parts.new.at c.args.env.now c.args.number place tree (row_of (out-Node nd).row) os (numbers c.in_ok-types.types.items) u.ty.0 carried is (row_of_node nd) c.in_ok-parts.ensures
     (λ plain all. subst (λ qs. TypesParts c.args.at.now c.type_parts.new.at c.args.env.now (row_of (out-Node nd).row) (expressions_of c.args.at.now.item (map operand_view qs)) (numbers c.in_ok-types.types.items)) c.deref.ensures.value
-    (c.in_ok-types.ensures.carries plain (c.in_ok-scope.ensures (subst IsPlainRow (sym (row_of_node nd)) plain)) (subst (λ qs. All IsCarried (map operand_view qs)) (sym c.deref.ensures.value) all))) c.type_parts.ensures.goes
-    (subst (λ qs. IsPlainRow (row_at tree) → EndsRow c.type_parts.new.at c.behind_parts.new.at c.args.env.now (end_of (row_at tree) (expressions_of c.type_parts.new.at.item (map operand_view qs))) (expressions_of c.type_parts.new.at.item (map operand_view qs)) (numbers c.in_ok-types.types.items) u.ty.0) c.deref-2.ensures.value
-    (subst (λ ms. IsPlainRow (row_at tree) → EndsRow c.type_parts.new.at c.behind_parts.new.at c.args.env.now (end_of (row_at tree) (expressions_of c.type_parts.new.at.item (map operand_view c.deref-2.result.now))) (expressions_of c.type_parts.new.at.item (map operand_view c.deref-2.result.now)) (numbers ms) u.ty.0) c.deref-3.ensures.value h)))
+    (c.in_ok-types.ensures.carries plain (c.in_ok-scope.ensures (subst IsOrderedRow (sym (row_of_node nd)) plain)) (subst (λ qs. All IsCarried (map operand_view qs)) (sym c.deref.ensures.value) all))) c.type_parts.ensures.goes
+    (subst (λ qs. IsOrderedRow (row_at tree) → EndsRow c.type_parts.new.at c.behind_parts.new.at c.args.env.now (ordered_end (row_at tree) tree (expressions_of c.type_parts.new.at.item (map operand_view qs))) (expressions_of c.type_parts.new.at.item (map operand_view qs)) (numbers c.in_ok-types.types.items) u.ty.0) c.deref-2.ensures.value
+    (subst (λ ms. IsOrderedRow (row_at tree) → EndsRow c.type_parts.new.at c.behind_parts.new.at c.args.env.now (ordered_end (row_at tree) tree (expressions_of c.type_parts.new.at.item (map operand_view c.deref-2.result.now))) (expressions_of c.type_parts.new.at.item (map operand_view c.deref-2.result.now)) (numbers ms) u.ty.0) c.deref-3.ensures.value h)))
     c.behind_parts.ensures.carries
 
 pub plain::parenthesised-returns-clause-carries : goal.plain::parenthesised-returns-clause-carries

@@ -11,7 +11,7 @@ use Rattle.std.specs.Prelude.{All}
 use Rattle.type_nodes.specs.Views.{numbers}
 use Rattle.use_typing.specs.Constants.{is_negated}
 use Rattle.typing_rows.specs.CarriedRows.{IsCarried}
-use Rattle.typing_rows.specs.Asked.{expressions_of, signed_expressions, IsPlainRow}
+use Rattle.typing_rows.specs.Asked.{expressions_of, signed_expressions, IsOrderedRow}
 use Rattle.typing_rows.specs.Contracts.{TypesFirst, TypesGivenFirst, TypesPartsFirst}
 use Rattle.core_typing.proofs.+exprs.Given as goal
 
@@ -41,6 +41,9 @@ decreases-apply::applied l = 16 * l.depth.0 + 12
 
 abbrev pub decreases-apply::constructed : goal.decreases-apply::constructed
 decreases-apply::constructed l = 16 * l.depth.0 + 12
+
+abbrev pub decreases-apply::with_argument : goal.decreases-apply::with_argument
+decreases-apply::with_argument l = 16 * l.depth.0 + 2
 
 abbrev pub decreases-apply::operated : goal.decreases-apply::operated
 decreases-apply::operated l = 16 * l.depth.0 + 11
@@ -88,7 +91,7 @@ invariant-plain::type_parts-loop-part l = record {
   goes : Goes l.fn.at l.at;
   places : length l.types.items ≡ l.part-index;
   gets : GetsOn l.fn.at l.at (parts_from (row_of l.row) 0 (map expression_at (map operand_view l.parts))) (parts_from (row_of l.row) l.part-index (map expression_at (map operand_view (drop l.part-index l.parts))));
-  carries : IsPlainRow (row_of l.row) → l.inner ≡ l.env → All IsCarried (map operand_view l.parts) → TypesPartsFirst l.fn.at l.at l.env (row_of l.row) l.part-index (expressions_of l.fn.at.item (map operand_view l.parts)) (expressions_of l.fn.at.item (map operand_view (drop l.part-index l.parts))) (numbers l.types.items);
+  carries : IsOrderedRow (row_of l.row) → l.inner ≡ l.env → All IsCarried (map operand_view l.parts) → TypesPartsFirst l.fn.at l.at l.env (row_of l.row) l.part-index (expressions_of l.fn.at.item (map operand_view l.parts)) (expressions_of l.fn.at.item (map operand_view (drop l.part-index l.parts))) (numbers l.types.items);
 }
 
 abbrev pub decreases-cases::match_of : goal.decreases-cases::match_of

@@ -1,23 +1,23 @@
-use Rattle.std.proofs.Common.{map, sym, subst}
+use Rattle.std.proofs.Common.{map, subst}
 use Rattle.type_nodes.specs.Views.{numbers}
 use Rattle.row_parts.specs.Numbered.{operand_view}
 use Rattle.typing_state.specs.Steps.{Follows}
-use Rattle.typing_rows.specs.Asked.{expressions_of, IsPlainRow, end_of}
-use Rattle.typing_rows.specs.Contracts.{EndsRow}
-use Rattle.expression_steps.proofs.ExpressionLaws.{row_of_node}
-use Rattle.expression_steps.proofs.CarryingLaws.{if_any}
+use Rattle.typing_rows.specs.Asked.{expressions_of}
+use Rattle.expression_steps.proofs.CarryingLaws.{if_ok}
 use Rattle.expression_steps.specs.ExpressionSteps.{expression_at}
-use Rattle.expression_steps.proofs.EndingLaws.{no_field, no_label_behind}
+use Rattle.expression_steps.proofs.EndingLaws.{field_end, plain_end, no_label_behind}
 use Rattle.expression_steps.proofs.ends.behind_parts.Goals as goal
 
 pub returns-in-Field-clause-carries : goal.returns-in-Field-clause-carries
-returns-in-Field-clause-carries c = if_any c.field.result _ (λ u plain. absurd (no_field c.args.node.now c.in-Field.is plain))
+returns-in-Field-clause-carries c =
+    let es = expressions_of c.args.at.now.item (map operand_view c.args.parts.now) in
+    if_ok c.field.result _ _ (λ u h ordered. field_end c.args.node.now c.args.at.now c.field.new.at c.args.env.now es (numbers c.args.types.now) u.ty.0 c.in-Field.is h) c.field.ensures.carries
 
 pub returns-in_ok-ty-in_default : goal.returns-in_ok-ty-in_default
 returns-in_ok-ty-in_default c = record {
-  carries =
+  carries = λ ordered.
       let es = expressions_of c.args.at.now.item (map operand_view c.args.parts.now) in
-      subst (λ r. IsPlainRow r → EndsRow c.args.at.now c.type_of.new.at c.args.env.now (end_of r es) es (numbers c.args.types.now) c.in_ok-ty-in_default.ty.0) (sym (row_of_node c.args.node.now)) c.in_ok-ty-in_default.ensures.carries;
+      plain_end c.args.node.now c.args.at.now c.type_of.new.at c.args.env.now es (numbers c.args.types.now) c.in_ok-ty-in_default.ty.0 c.in_default.not-Field ordered c.in_ok-ty-in_default.ensures.carries;
   follows = subst (λ ss. Follows ss c.args.at.now c.type_of.new.at) (no_label_behind c.args.node.now (map expression_at (map operand_view c.args.parts.now)) c.in_default.not-Field) c.in_ok-ty-in_default.ensures.follows;
   goes = c.type_of.ensures.goes;
 }

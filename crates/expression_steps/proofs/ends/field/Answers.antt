@@ -1,0 +1,18 @@
+use Rattle.std.proofs.Common.{map}
+use Rattle.type_nodes.specs.Views.{numbers}
+use Rattle.syntax_tree.specs.View.{node_view}
+use Rattle.row_parts.specs.Numbered.{operand_view, path_view, path_in}
+use Rattle.typing_steps.proofs.Rows.{var_any}
+use Rattle.typing_rows.specs.Asked.{expressions_of}
+use Rattle.expression_steps.proofs.EndingLaws.{field_found, field_lost}
+use Rattle.expression_steps.proofs.ends.field.Goals as goal
+
+pub returns-in-Some-clause-carries : goal.returns-in-Some-clause-carries
+returns-in-Some-clause-carries c =
+    field_found c.args.at.now c.field_label.new.at c.has.new.at c.args.env.now c.args.parts.now (numbers c.args.types.now) (path_view c.in_ok-path.path) (path_in (node_view c.args.node.now) 2 3) c.in_ok-found.found c.in-Some.label c.in_ok-path.ensures c.in-Some.is
+    c.in_ok-found.ensures.carries c.field_label.ensures.goes c.in_ok-has-in-Some.ensures.carries
+
+pub returns-clause-carries : goal.returns-clause-carries
+returns-clause-carries c =
+    field_lost c.args.at.now c.field_label.new.at c.var.new.self c.args.env.now (expressions_of c.args.at.now.item (map operand_view c.args.parts.now)) (numbers c.args.types.now) (path_view c.in_ok-path.path) (path_in (node_view c.args.node.now) 2 3) c.in_ok-found.found c.in_ok-var-in-None.field-0.0
+    c.in_ok-path.ensures c.in-None.is c.in_ok-found.ensures.carries c.field_label.ensures.goes (var_any c.field_label.new.at c.var.new.self c.in_ok-var-in-None.ensures.made c.var.ensures.rest)

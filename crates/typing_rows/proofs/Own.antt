@@ -1,0 +1,127 @@
+-- A node whose type is what the choice has for it: at the end of its row, and where it is recorded.
+use Rattle.std.proofs.Common.{◌≡◌, ◌∙◌, ◌⊎◌, inl, inr, ℕ, zero, suc, Bool, true, false, ◌&&◌, ◌==◌, if◌then◌else◌, List, [], ◌∷◌, ◌++◌, take, refl, sym, ap, subst, append-nil, Some, None}
+use Rattle.std.proofs.lemmas.Bool.{eqb-true}
+use Rattle.type_model.specs.Types.{Typ}
+use Rattle.type_model.proofs.Applying.{eqb_same}
+use Rattle.signature_model.specs.Matching.{IsKnown}
+use Rattle.typing_laws.proofs.Bools.{and_cases, and_both}
+use Rattle.typing_model.specs.Demands.{same, AllHold}
+use Rattle.typing_model.specs.Contexts.{Choice, Context, tell_typed}
+use Rattle.type_nodes.specs.Readings.{Types, Fits}
+use Rattle.level_unify.proofs.Unified.{fits_loosely}
+use Rattle.typing_conditions.specs.Sights.{Sight, own, number_in, Letters}
+use Rattle.typing_conditions.specs.Frames.{Frame}
+use Rattle.typing_conditions.specs.Meanings.{Means}
+use Rattle.typing_conditions.specs.Judging.{judgements, StartsWith, FallsShort}
+use Rattle.typing_conditions.specs.Steps.{Records}
+use Rattle.typing_conditions.specs.Carrying.{Asks, Scope, Enters, GoesOn, Stays, Continues, Carried, EndsAs}
+use Rattle.typing_conditions.proofs.Judged.{starts_all}
+use Rattle.typing_conditions.proofs.Stays.{stays_refl, stays_trans, stays_opened, agrees_before}
+use Rattle.typing_conditions.proofs.First.{first_one, starts_none}
+use Rattle.typing_conditions.proofs.Carried.{Decides}
+use Rattle.typing_conditions.proofs.Recording.{records_stay}
+
+-- a type is itself
+pub same_itself : {F : Frame} {scope : Scope} {G : Letters} {a : Sight} (type : Choice → Typ) → Carried F scope (λ c. same (type c.chosen) (type c.chosen) ∷ []) a G a G
+same_itself {F} {scope} {G} {a} type = record {
+  stays = stays_refl;
+  hidden = [];
+  judged = [];
+  told = [];
+  reports = sym (append-nil a.reports);
+  sound = λ V c l. record { same = refl; holds = (refl, tt); tells = refl };
+  complete = complete;
+  first = first_one (λ c. same (type c.chosen) (type c.chosen)) complete;
+}
+  where
+    complete : (V : Types) (c : Context) → Enters F scope a G V c → AllHold c.kept (same (type c.chosen) (type c.chosen) ∷ []) →
+        Continues F (λ c. same (type c.chosen) (type c.chosen) ∷ []) a a G [] V c ⊎ FallsShort [] []
+    complete V c e h = inl (record { same = refl; types = V; on = record { fits = e.fits; before = λ i lt. refl; agrees = e.agrees } })
+
+-- what a row asks at its end: from then on the choice has the row's type for its node
+pub ends_made : {F : Frame} {scope : Scope} {G : Letters} {a : Sight} {n m : ℕ} {type : Choice → Typ} {ends : Asks} → Means F a G type m → EndsAs n type ends → Carried F scope ends a G a ((own n, m) ∷ G)
+ends_made {F} {scope} {G} {a} {n} {m} {type} {ends} p end = record {
+  stays = stays_opened (own n) p.open_node.inside;
+  hidden = [];
+  judged = [];
+  told = [];
+  reports = sym (append-nil a.reports);
+  sound = λ V c l.
+      let before = agrees_before (stays_opened {F = F} (own n) p.open_node.inside) l.agrees in
+      record { same = end.silent c; holds = end.holds c (l.agrees.given.0.is ∙ sym (p.is V c.chosen (fits_loosely a.nodes V l.reads.fits) before)); tells = end.reports_none c };
+  complete = λ V c e h.
+      let g = e.agrees in
+      inl (record {
+        same = end.silent c;
+        types = V;
+        on = record {
+          fits = e.fits;
+          before = λ i lt. refl;
+          agrees = record { recorded = g.recorded; known = g.known; written = g.written; given = (record { is = end.gives c (V m) h (p.is V c.chosen (fits_loosely a.nodes V e.fits) g); known = tt }, g.given) };
+        };
+      });
+  first = λ k V c e h. inl (subst (StartsWith []) (sym (end.silent_first k c)) (starts_all []));
+}
+
+one_some : (x y : ℕ) → Some x ≡ Some y → x ≡ y
+one_some x y e = cc
+
+-- what is recorded after a record is its node, or was recorded before
+pub now_or_before : {a b : Sight} {p m : ℕ} → Records a b p m → (i q x : ℕ) → b.types i q ≡ Some x → ((a.item ≡ i) × (p ≡ q) × (m ≡ x)) ⊎ (a.types i q ≡ Some x)
+now_or_before {a} {b} {p} {m} r i q x e = at (a.item == i && p == q) refl
+  where
+    at : (t : Bool) → (a.item == i && p == q) ≡ t → ((a.item ≡ i) × (p ≡ q) × (m ≡ x)) ⊎ (a.types i q ≡ Some x)
+    at true f =
+        let both = and_cases (a.item == i) (p == q) f in
+        inl (eqb-true a.item i both.0, eqb-true p q both.1, one_some m x (sym (ap (λ t. if t then Some m else a.types i q) f) ∙ sym (r.types i q) ∙ e))
+    at false f = inr (sym (ap (λ t. if t then Some m else a.types i q) f) ∙ sym (r.types i q) ∙ e)
+
+pub here_now : {a b : Sight} {p m : ℕ} → Records a b p m → b.types a.item p ≡ Some m
+here_now {a} {b} {p} {m} r = r.types a.item p ∙ ap (λ t. if t then Some m else a.types a.item p) (and_both (a.item == a.item) (p == p) (eqb_same a.item) (eqb_same p))
+
+-- A node for which the choice has its type already is recorded. It tells what it is before all that was asked.
+unfoldable pub own_recorded : {F : Frame} {scope : Scope} {asks : Asks} {a b d : Sight} {G H : Letters} (n : ℕ) {p m : ℕ} → number_in b.item p ≡ n → Carried F scope asks a G b H → Means F b H (λ ch. ch.type_at n) m → Records b d p m →
+    Carried F scope (λ c. tell_typed n c ++ asks c) a G d H
+own_recorded {F} {scope} {asks} {a} {b} {d} {G} {H} n {p} {m} number it means r = record {
+  stays = stays_trans it.stays later;
+  hidden = it.hidden;
+  judged = it.judged;
+  told = it.told;
+  reports = r.reports ∙ it.reports;
+  sound = λ V c l.
+      let g = agrees_before later l.agrees in
+      let meets = it.sound V c (record { under = l.under; reads = later.reads V l.reads; agrees = g; hidden_too = l.hidden_too; kept = l.kept }) in
+      let here = means.is V c.chosen (fits_loosely b.nodes V (later.reads V l.reads).fits) g in
+      record { same = meets.same; holds = (tt, (subst IsKnown (sym here) (l.agrees.known b.item p m (here_now r)), meets.holds)); tells = meets.tells };
+  complete = λ V c e h. elim (it.complete V c e h.1.1) [
+    | inl on ↦ inl (record { same = on.same; types = on.types; on = goes V c h.1.0 on })
+    | inr short ↦ inr short
+  ];
+  first = first;
+}
+  where
+    later : Stays F b H d H
+    later = records_stay r means.open_node.inside
+
+    goes : (V : Types) (c : Context) → IsKnown (c.chosen.type_at n) → (on : Continues F asks a b H it.judged V c) → GoesOn F a d H V on.types c.chosen
+    goes V c is_known on =
+        let g = on.on.agrees in
+        let here = means.is on.types c.chosen (fits_loosely b.nodes on.types on.on.fits) g in
+        record {
+          fits = subst (λ ns. Fits ns on.types) (sym r.nodes) on.on.fits;
+          before = on.on.before;
+          agrees = record {
+            recorded = λ i q x f. elim (now_or_before r i q x f) [
+              | inl (item, place, one) ↦ (λ k. c.chosen.type_at (number_in (sym item k) (sym place k))) ∙ ap c.chosen.type_at number ∙ here ∙ ap on.types one
+              | inr h ↦ g.recorded i q x h
+            ];
+            known = λ i q x f. elim (now_or_before r i q x f) [ inl (item, place, one) ↦ subst IsKnown (here ∙ ap on.types one) is_known | inr h ↦ g.known i q x h ];
+            written = λ x y e. g.written x y (sym (r.written x) ∙ e);
+            given = g.given;
+          };
+        }
+
+    first : (k : ℕ) (V : Types) (c : Context) → Enters F scope a G V c → AllHold c.kept (take k (tell_typed n c ++ asks c)) → Decides c it.judged (take k (tell_typed n c ++ asks c))
+    first zero V c e h = inl (starts_none it.judged)
+    first (suc zero) V c e h = inl (starts_none it.judged)
+    first (suc (suc k)) V c e h = it.first k V c e h.1.1
