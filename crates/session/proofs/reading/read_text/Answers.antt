@@ -16,7 +16,7 @@ returns-in-Some-tokens-clause-read g c =
     c.read_tokens.ensures.parsed c.read_tokens.ensures.plain c.read_tokens.ensures.short
 
 pub returns-in-None-clause-read : goal.returns-in-None-clause-read
-returns-in-None-clause-read g c = subst (λ (t : List ℕ). IfOk c.read_anew.result (IsReadAs t)) c.text.ensures c.read_anew.ensures.read
+returns-in-None-clause-read g c = subst (λ (t : List ℕ). IfOk c.read_anew-in-None.result (IsReadAs t)) c.text-in-None.ensures c.read_anew-in-None.ensures.read
 
 pub returns-in_default-clause-read : goal.returns-in_default-clause-read
 returns-in_default-clause-read g c = subst (λ (t : List ℕ). IfOk c.read_anew.result (IsReadAs t)) c.text.ensures c.read_anew.ensures.read
