@@ -124,19 +124,8 @@ fn match_pattern<'a>(
 {
     match p.node {
         Some(node) => match_node(at, node, p.number, env, names, seen, depth),
-        None => missing(at, p.number, env),
+        None => anything(at, p.number, env),
     }
-}
-
-/// A missing pattern may have any type.
-fn missing(at: &mut Parts, number: u32, env: &Env) -> Result<NodeRef, NoMemory>
-    ensures follows { OnOk result (Follows (records number ∷ []) at.old at.new) }
-    ensures recorded { OnOk result (IsRecorded at.new number) }
-    ensures goes { Goes at.old at.new }
-{
-    let ty = at.var()?;
-    at.note_plain(number, env)?;
-    Ok(ty)
 }
 
 /// A pattern by its row.
@@ -253,7 +242,7 @@ fn number_row(
     Ok(ty)
 }
 
-/// _, and what is no pattern
+/// _, what is no pattern, and a missing one: any type
 fn anything(at: &mut Parts, number: u32, env: &Env) -> Result<NodeRef, NoMemory>
     ensures follows { OnOk result (Follows (records number ∷ []) at.old at.new) }
     ensures recorded { OnOk result (IsRecorded at.new number) }

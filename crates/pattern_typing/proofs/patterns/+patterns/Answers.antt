@@ -120,10 +120,10 @@ match_pattern-returns-in-Some t c = record {
 
 pub match_pattern-returns-in-None : goal.match_pattern-returns-in-None
 match_pattern-returns-in-None t c = record {
-  follows = subst (λ ss. OnOk c.missing.result (Follows ss c.args.at.now c.missing.new.at)) (sym (steps_missing c.args.p c.in-None.is)) c.missing.ensures.follows;
-  names = on_any c.missing.result (Binds c.args.names.now.items c.args.names.now.items (pattern_names (operand_view c.args.p))) (subst (λ ts. Binds c.args.names.now.items c.args.names.now.items ts) (sym (names_missing c.args.p c.in-None.is)) (binds_none c.args.names.now.items));
-  recorded = c.missing.ensures.recorded;
-  goes = c.missing.ensures.goes;
+  follows = subst (λ ss. OnOk c.anything.result (Follows ss c.args.at.now c.anything.new.at)) (sym (steps_missing c.args.p c.in-None.is)) c.anything.ensures.follows;
+  names = on_any c.anything.result (Binds c.args.names.now.items c.args.names.now.items (pattern_names (operand_view c.args.p))) (subst (λ ts. Binds c.args.names.now.items c.args.names.now.items ts) (sym (names_missing c.args.p c.in-None.is)) (binds_none c.args.names.now.items));
+  recorded = c.anything.ensures.recorded;
+  goes = c.anything.ensures.goes;
 }
 
 pub match_node-returns-in-Papp : goal.match_node-returns-in-Papp
