@@ -3,3 +3,4 @@
 //! No program calls it. `specs/Bounds` says how a name that the code binds stands for one of the definitions, `specs/Contracts` and `specs/Sides` what is carried;
 //! the laws of `proofs/` are of such names (`Naming`), of rows once they are recorded (`Recorded`), of rows over their operands (`Terms`), of patterns in order
 //! (`Ordered`), and of whole rows: those without patterns in them (`Leaves`), those whose patterns are matched in order (`Typed`, `Listed`), and or-patterns (`Beside`).
+#![tactic(auto)]
