@@ -1,19 +1,19 @@
--- Rows without patterns in them: names, `_` and constants.
-use Rattle.std.proofs.Common.{◌≡◌, ◌∙◌, ℕ, true, false, List, [], ◌∷◌, Some, None, refl, sym, ap, subst, append-nil}
+-- Rows without patterns in them: names, `_`, constants, and constructors without arguments.
+use Rattle.std.proofs.Common.{◌≡◌, ◌∙◌, ℕ, Bool, true, false, List, [], ◌∷◌, Option, Some, None, refl, sym, ap, subst, append-nil}
 use Rattle.std.specs.Prelude.{not}
 use Rattle.token_model.specs.Kinds.{Tok}
 use Rattle.text_terms.specs.declared.Span.{Span}
-use Rattle.tree_model.specs.Rows.{pname_row, pany_row, pconst_row, pneg_row}
+use Rattle.tree_model.specs.Rows.{pname_row, pany_row, pconst_row, pneg_row, pcon_row}
 use Rattle.tree_model.specs.Trees.{Place, Tree}
 use Rattle.syntax_tree.specs.View.{place_of}
 use Rattle.signature_model.specs.Declarations.{Name}
-use Rattle.row_parts.specs.Numbered.{token_in}
+use Rattle.row_parts.specs.Numbered.{token_in, path_in}
 use Rattle.typing_model.specs.Demands.{site, test, demand, twice}
 use Rattle.typing_model.specs.Parts as parts
-use Rattle.typing_model.specs.Parts.{no_pattern_at}
+use Rattle.typing_model.specs.Parts.{Written, no_pattern_at}
 use Rattle.typing_model.specs.Records.{is_among}
 use Rattle.typing_model.specs.BuiltIns.{constant}
-use Rattle.typing_model.specs.Patterns.{ask_fresh, over, pname, pconst, pneg}
+use Rattle.typing_model.specs.Patterns.{ask_fresh, over, pname, pconst, pneg, pcon}
 use Rattle.type_terms.specs.declared.types.NodeRef.{NodeRef}
 use Rattle.env_table.specs.declared.faults.FaultKind.TheVariants as fault
 use Rattle.env_table.specs.declared.entries.Entry.{Entry}
@@ -26,15 +26,17 @@ use Rattle.typing_conditions.specs.Surroundings.{IsEntry}
 use Rattle.typing_conditions.proofs.Recording.{ends_own}
 use Rattle.typing_conditions.proofs.Answering.{to_then}
 use Rattle.typing_steps.specs.States.{is_aloud, sight}
+use Rattle.typing_steps.specs.Building.{TypesConstructor}
 use Rattle.typing_steps.specs.Demands.{TestedAs}
 use Rattle.typing_steps.specs.Typing.{TypesAny, TypesRow}
 use Rattle.typing_steps.proofs.Rows.{row_any}
 use Rattle.typing_steps.proofs.Testing.{new_asked}
 use Rattle.operand_laws.specs.Formed.{row_of}
-use Rattle.operand_laws.specs.Operands.{number_of}
+use Rattle.operand_laws.specs.Operands.{number_of, path_of}
+use Rattle.typing_rows.proofs.Constructed.{alone_typed}
 use Rattle.pattern_rows.specs.Bounds.{Bind, none_bound, one_bound}
 use Rattle.pattern_rows.specs.Contracts.{row_pattern, MatchesRow, AsksFresh}
-use Rattle.pattern_rows.proofs.Terms.{name_term, any_term, constant_term, minus_term, IsNoPattern, no_term}
+use Rattle.pattern_rows.proofs.Terms.{name_term, any_term, constant_term, minus_term, con_term, IsNoPattern, no_term}
 
 -- The demand that a name is new among those before: the call reports it where it isn't, and else leaves all as it was.
 pub fresh_asked : (a b : Parts) (t : Tok) (at : Span) (seen : List Name) → place_of at ≡ parts.place_of t → TestedAs (not (is_among t.name seen)) a b at fault.Unique (twice_text t.name) → AsksFresh a b t seen
@@ -98,3 +100,14 @@ minus_row_typed a b env i n at t seen m row typed = subst (λ p. MatchesRow a b 
   where
     here : MatchesRow a b env (pneg (number_of i n) at (token_in t 1)) seen [] (number_of i n) m
     here = λ aloud F scope G s. record { row = typed aloud F scope G s; names = λ o st h. none_bound }
+
+-- A
+pub con_row_typed : (a b : Parts) (env : List Entry) (i n : ℕ) (at : Place) (t : Tree) (seen : List Name) (known : Bool) (m : ℕ) (argument : Option ℕ) → row_of t ≡ pcon_row → TypesConstructor a b env (path_of (path_in t 0 1)) 0 known m argument →
+    MatchesRow a b env (row_pattern i n at t) seen [] (number_of i n) m
+con_row_typed a b env i n at t seen known m argument row typed = subst (λ p. MatchesRow a b env p seen [] (number_of i n) m) (sym (con_term i n at t row)) here
+  where
+    p : Written
+    p = path_of (path_in t 0 1)
+
+    here : MatchesRow a b env (pcon (number_of i n) at p) seen [] (number_of i n) m
+    here = λ aloud F scope G s. record { row = alone_typed a b {env = env} p.qualifiers p.last known m argument (number_of i n) typed aloud F scope G s; names = λ o st h. none_bound }

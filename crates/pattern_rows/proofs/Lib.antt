@@ -7,3 +7,5 @@ pub mod Ordered
 pub mod Typed
 pub mod Listed
 pub mod Beside
+pub mod Going
+pub mod Matching

@@ -5,12 +5,12 @@ use Rattle.tree_model.specs.Rows.{plist_row}
 use Rattle.tree_model.specs.Trees.{Place, Tree}
 use Rattle.signature_model.specs.Declarations.{Name}
 use Rattle.row_parts.specs.Numbered.{operands_in}
-use Rattle.typing_model.specs.Demands.{Condition, site, same, equal}
+use Rattle.typing_model.specs.Demands.{site, same, equal}
 use Rattle.typing_model.specs.Contexts.{Choice, Context, ask, type_at}
 use Rattle.typing_model.specs.Contexts as contexts
 use Rattle.typing_model.specs.Parts.{Pattern}
 use Rattle.typing_model.specs.BuiltIns.{list_type}
-use Rattle.typing_model.specs.Patterns.{ask_all, each_has, first_type, behind_first}
+use Rattle.typing_model.specs.Patterns.{ask_all, each_has}
 use Rattle.type_nodes.specs.Nodes.{Con, IsNode}
 use Rattle.type_nodes.specs.Changes.{Makes}
 use Rattle.env_table.specs.declared.entries.Entry.{Entry}
@@ -31,7 +31,7 @@ use Rattle.operand_laws.specs.Formed.{row_of, IsFormed}
 use Rattle.operand_laws.specs.Operands.{number_of}
 use Rattle.typing_rows.proofs.Ending.{row_of_type}
 use Rattle.pattern_rows.specs.Bounds.{Bind}
-use Rattle.pattern_rows.specs.Contracts.{row_pattern, patterns_of, types_at, MatchesRow, MatchesAll, EndsPatterns, AsksEach, AsksEachFirst}
+use Rattle.pattern_rows.specs.Contracts.{row_pattern, patterns_of, types_at, MatchesRow, MatchesAll, EndsPatterns, list_asks, AsksEach, AsksEachFirst}
 use Rattle.pattern_rows.proofs.Terms.{list_term}
 use Rattle.pattern_rows.proofs.Typed.{over_row}
 
@@ -75,11 +75,7 @@ equal_all a b env all left nodes left_nodes wanted none first = λ aloud F scope
     let x = first aloud F scope G n t s means has in
     carried_as (λ c. sym (append-nil (x.done c)) ∙ ap (λ ps. x.done c ++ ask_all n x.k (each_has c (t c.chosen) ps)) (sym none) ∙ sym (x.asks c)) x.carried
 
--- what [ p; p ] asks once its patterns are matched
-abbrev pub list_asks : List Pattern → Context → ℕ → List Condition
-list_asks ps c n = ask_all n 0 (each_has c (first_type c n ps) (behind_first ps)) ++ same (type_at c n) (list_type (first_type c n ps)) ∷ []
-
--- its end, where there is a first pattern
+-- the end of [ p; p ], where there is a first pattern
 pub ends_list : (a b d : Parts) (env : List Entry) (p : Pattern) (ps : List Pattern) (element m : ℕ) (ms : List ℕ) → Goes a b → AsksEach a b env ps ms element → (IsNode b.store.nodes element → Makes b.store d.store m (Con list_path (codes "list") (element ∷ []))) → OnlyStore b d →
     EndsPatterns a d env (list_asks (p ∷ ps)) (p ∷ ps) (element ∷ ms) m
 ends_list a b d env p ps element m ms goes each made rest = λ aloud F scope G n s all.

@@ -4,15 +4,15 @@ use Rattle.std.specs.List.{flat_map}
 use Rattle.tree_model.specs.Rows.{Row, pname_row, pany_row, pconst_row, pneg_row, pcon_row, pparen_row, plist_row, precord_row, papp_row, pcons_row, ptuple_row, por_row, pas_row}
 use Rattle.tree_model.specs.Slots.{is_operand, operand_slots}
 use Rattle.tree_model.specs.Trees.{Place, Tree}
-use Rattle.row_parts.specs.Numbered.{Numbered, operands_in, all_operands, first_in, filled_in, token_in}
+use Rattle.row_parts.specs.Numbered.{Numbered, operands_in, all_operands, first_in, filled_in, token_in, path_in}
 use Rattle.typing_model.specs.Parts as parts
 use Rattle.typing_model.specs.Parts.{Child, Pattern, patterns_in, pattern_in, types_in, no_pattern_at}
-use Rattle.typing_model.specs.Patterns.{pattern_row, over, pname, pconst, pneg, pparen, plist, pcons, ptuple, por, pas}
+use Rattle.typing_model.specs.Patterns.{pattern_row, over, pname, pconst, pneg, pcon, pparen, plist, pcons, ptuple, por, pas}
 use Rattle.operand_laws.specs.Formed.{row_of, is_needed, may_repeat, IsFormed}
-use Rattle.operand_laws.specs.Operands.{number_of, parts_of, pattern_of, type_of}
+use Rattle.operand_laws.specs.Operands.{number_of, parts_of, pattern_of, type_of, path_of}
 use Rattle.operand_laws.proofs.Sorts.{pattern_stands, patterns_stand, first_type_stands}
 use Rattle.operand_laws.proofs.SlotBySlot.{all_in_order, exactly_one}
-use Rattle.operand_laws.proofs.Tokens.{token_stands}
+use Rattle.operand_laws.proofs.Tokens.{token_stands, path_stands}
 use Rattle.pattern_rows.specs.Contracts.{row_pattern, patterns_of}
 
 -- a row in the place of the node's
@@ -60,6 +60,11 @@ constant_term i n at t row = as_row i n at t pconst_row row ∙ ap (λ o. pconst
 pub minus_term : (i n : ℕ) (at : Place) (t : Tree) → row_of t ≡ pneg_row → row_pattern i n at t ≡ pneg (number_of i n) at (token_in t 1)
 unfolding pattern_row
 minus_term i n at t row = as_row i n at t pneg_row row ∙ ap (λ o. pneg (number_of i n) at o) (token_stands i n t 1)
+
+-- A
+pub con_term : (i n : ℕ) (at : Place) (t : Tree) → row_of t ≡ pcon_row → row_pattern i n at t ≡ pcon (number_of i n) at (path_of (path_in t 0 1))
+unfolding pattern_row
+con_term i n at t row = as_row i n at t pcon_row row ∙ ap (λ p. pcon (number_of i n) at p) (path_stands i n t 0 1)
 
 -- ( p ), where no type is written
 pub paren_term : (i n : ℕ) (at : Place) (t : Tree) → IsFormed n t → row_of t ≡ pparen_row → first_in n t 3 ≡ None → row_pattern i n at t ≡ pparen (number_of i n) at (pattern_of i (filled_in n t 1)) None

@@ -40,7 +40,7 @@ use Rattle.operand_laws.proofs.SlotBySlot.{exactly_one}
 use Rattle.typing_rows.proofs.Ending.{row_of_type, row_after}
 use Rattle.typing_rows.proofs.Terms.{two_operands}
 use Rattle.pattern_rows.specs.Bounds.{Bind, AllBound, none_bound, one_bound}
-use Rattle.pattern_rows.specs.Contracts.{row_pattern, patterns_of, types_at, AsksFresh, MatchesRow, MatchesAll, EndsPatterns}
+use Rattle.pattern_rows.specs.Contracts.{row_pattern, patterns_of, types_at, AsksFresh, MatchesRow, MatchesAll, EndsPatterns, cons_asks}
 use Rattle.pattern_rows.proofs.Naming.{all_bound_on, all_bound_both}
 use Rattle.pattern_rows.proofs.Terms.{paren_term, written_term, cons_term, tuple_term, as_term, one_operand}
 
@@ -118,10 +118,6 @@ tuple_typed a b d env i n at t seen added ms m formed row goes all made rest =
     let ps = patterns_of i (all_operands n t) in
     subst (λ x. MatchesRow a d env x seen added (number_of i n) m) (sym (tuple_term i n at t formed row))
     (over_row a b d env (number_of i n) at ps seen added ms m (λ c k. same (type_at c k) (type.Tuple (types_of (map (λ p. type_at c p.node) ps))) ∷ []) all goes (ends_tuple b d env ps ms m made rest))
-
--- what p :: p asks once its patterns are matched
-abbrev cons_asks : Pattern → Pattern → Context → ℕ → List Condition
-cons_asks p q c n = ask n 0 q.at (equal (type_at c q.node) (list_type (type_at c p.node))) ++ same (type_at c n) (list_type (type_at c p.node)) ∷ []
 
 -- the end of p :: p
 pub ends_cons : (a b d : Parts) (env : List Entry) (p q : Pattern) (at : Place) (left right m : ℕ) → q.at ≡ at → (IsNode a.store.nodes left → Makes a.store b.store m (Con list_path (codes "list") (left ∷ []))) → OnlyStore a b → AsksEqual b d at right m →

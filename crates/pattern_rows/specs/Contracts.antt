@@ -1,13 +1,14 @@
 -- What the functions of rows of patterns carry.
-use Rattle.std.specs.Prelude.{◌≡◌, ℕ, true, List, ◌++◌, map}
+use Rattle.std.specs.Prelude.{◌≡◌, ℕ, true, List, [], ◌∷◌, ◌++◌, map}
 use Rattle.token_model.specs.Kinds.{Tok}
 use Rattle.tree_model.specs.Trees.{Place, Tree}
 use Rattle.type_model.specs.Types.{Typ}
 use Rattle.signature_model.specs.Declarations.{Name}
-use Rattle.typing_model.specs.Demands.{Condition}
-use Rattle.typing_model.specs.Contexts.{Choice, Context, Bound}
+use Rattle.typing_model.specs.Demands.{Condition, same, equal}
+use Rattle.typing_model.specs.Contexts.{Choice, Context, Bound, ask, type_at}
 use Rattle.typing_model.specs.Parts.{Pattern}
-use Rattle.typing_model.specs.Patterns.{pattern_row, ask_fresh, ask_all, each_has, matched_all, all_names, all_mentions}
+use Rattle.typing_model.specs.BuiltIns.{list_type}
+use Rattle.typing_model.specs.Patterns.{pattern_row, ask_fresh, ask_all, each_has, first_type, behind_first, matched_all, all_names, all_mentions}
 use Rattle.env_table.specs.declared.entries.Entry.{Entry}
 use Rattle.typing_state.specs.declared.parts.Parts.{Parts}
 use Rattle.row_parts.specs.Numbered.{Numbered}
@@ -106,6 +107,14 @@ pub record InOrderFirst (a b : Parts) (env : List Entry) (all left : List Patter
 abbrev pub EndsPatterns : (a b : Parts) → List Entry → (Context → ℕ → List Condition) → List Pattern → List ℕ → (m : ℕ) → Type 0
 EndsPatterns a b env asks ps ms m = is_aloud a.telling ≡ true → (F : Frame) (scope : Scope) (G : Letters) (n : ℕ) → Surrounds as_declared F (sight a) G env scope → AllMean F (sight a) G (types_at ps) ms →
     RowCarried F scope (λ c. asks c n) (sight a) G (sight b) n m
+
+-- what [ p; p ] asks once its patterns are matched
+abbrev pub list_asks : List Pattern → Context → ℕ → List Condition
+list_asks ps c n = ask_all n 0 (each_has c (first_type c n ps) (behind_first ps)) ++ same (type_at c n) (list_type (first_type c n ps)) ∷ []
+
+-- what p :: p asks once its patterns are matched
+abbrev pub cons_asks : Pattern → Pattern → Context → ℕ → List Condition
+cons_asks p q c n = ask n 0 q.at (equal (type_at c q.node) (list_type (type_at c p.node))) ++ same (type_at c n) (list_type (type_at c p.node)) ∷ []
 
 -- the first of some patterns were asked to have a type, and some are left, whose nodes are these
 pub record EqualFirst (F : Frame) (scope : Scope) (a : Sight) (G : Letters) (b : Sight) (n : ℕ) (t : Choice → Typ) (all left : List Pattern) (nodes : List ℕ) : Type 0 where

@@ -3,3 +3,5 @@ pub mod Binding
 pub mod MatchedRows
 pub mod OtherRows
 pub mod PatternLaws
+pub mod Carrying
+pub mod Stepping

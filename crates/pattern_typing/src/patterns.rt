@@ -1,8 +1,8 @@
 //! Patterns.
 #![tactic(auto, using(typing_state::proofs::Going::goes_trans, typing_state::proofs::Going::goes_refl, typing_state::proofs::Following::follows_both, typing_state::proofs::Following::follows_then, typing_state::proofs::Following::follows_before, typing_state::proofs::Following::follows_behind, typing_state::proofs::Following::follows_silent, typing_state::proofs::Following::store_silent, typing_state::proofs::Following::ends_both, typing_state::proofs::Following::ends_behind, typing_state::proofs::Following::ends_before, typing_state::proofs::Following::ends_silent, typing_state::proofs::Following::gets_start, typing_state::proofs::Following::gets_more, typing_state::proofs::Following::gets_before, typing_state::proofs::Following::gets_done, crate::proofs::Binding::binds_none, crate::proofs::Binding::binds_both, crate::proofs::Binding::binds_ends, crate::proofs::Binding::binds_one, crate::proofs::PatternLaws::slot_follows, crate::proofs::PatternLaws::slot_binds, crate::proofs::PatternLaws::slots_follow, crate::proofs::PatternLaws::slots_bind))]
 
-ghost use Rattle.std.specs.Prelude.{◌≡◌, [], ◌∷◌, ◌++◌, List, map, option_map, None, Some, IfOk, OnOk};
-ghost use Rattle.tree_model.specs.Rows.{pparen_row, plist_row, precord_row, papp_row, pcons_row, ptuple_row, por_row, pas_row};
+ghost use Rattle.std.specs.Prelude.{◌≡◌, ℕ, [], ◌∷◌, ◌++◌, List, map, option_map, slice_get, take, drop, None, Some, IfOk, OnOk};
+ghost use Rattle.tree_model.specs.Rows.{pname_row, pany_row, pconst_row, pneg_row, pcon_row, pparen_row, plist_row, precord_row, papp_row, pcons_row, ptuple_row, por_row, pas_row};
 ghost use Rattle.syntax_tree.specs.View.{place_of, tok_of, node_view};
 ghost use Rattle.row_parts.specs.Numbered.{all_operands, first_in, first_of, in_slot, in_slots, operand_view, operands_in, path_in, path_view, token_in};
 ghost use Rattle.env_table.specs.declared.faults.FaultKind.{FaultKind};
@@ -17,17 +17,28 @@ ghost use Rattle.use_typing.specs.Uses.{TellsUse};
 ghost use Rattle.pattern_typing.specs.Names.{TellsName, TellsNameIf};
 ghost use Rattle.use_typing.specs.UseSteps.{annotation_steps, asks_equal, asks_equal_if, asks_labels, labels_of, asks_token, lost_steps, path_at, range_steps};
 ghost use Rattle.pattern_steps.specs.PatternSteps.{beside, bound_as, common_names, construction_steps, field_pattern_names, field_pattern_steps, find_name, last_of, later, match_each, matched_as, matched_tree, name_of, names_in, names_of, names_of_first, names_of_tree, parts_of_pattern, pattern_names, pattern_steps, side_at, sides_beside, sides_of};
-ghost use Rattle.pattern_typing.specs.Matching.{Binds, side_view, tokens_of, typed_view};
+ghost use Rattle.pattern_typing.specs.Matching.{Binds, bind_of, binds_of, names_seen, nodes_of, parts_of_sides, side_of, side_view, tokens_of, typed_view};
+ghost use Rattle.row_parts.specs.Numbered.{Numbered};
+ghost use Rattle.type_nodes.specs.Views.{numbers};
+ghost use Rattle.typing_model.specs.BuiltIns.{constant};
+ghost use Rattle.operand_laws.specs.Operands.{pattern_of};
+ghost use Rattle.typing_conditions.specs.Surroundings.{IsEntry};
+ghost use Rattle.signature_model.specs.Declarations.{Name};
+ghost use Rattle.pattern_rows.specs.Bounds.{Bind};
+ghost use Rattle.pattern_rows.specs.CarriedPatterns.{IsCarriedPattern, MatchesBeside, MatchesNode, MatchesNodeOf, MatchesOperand, MatchesOperands};
+ghost use Rattle.pattern_rows.specs.Contracts.{AsksEach, AsksFresh, EndsPatterns, Matches, cons_asks, list_asks, patterns_of};
+ghost use Rattle.pattern_rows.specs.Named.{BindsName, BindsNameIf, NotesAny, NotesRow};
+ghost use Rattle.pattern_rows.specs.Sides.{AsksBeside, AsksLater, AsksName, AsksNames, AsksSides, Side, find_bind, first_apart_here, name_apart_here};
 
 use env_table::{Entry, Kind, What};
-use owned_lists::push;
+use owned_lists::{owned, push};
 use row_parts::{
     Operand, WrittenPath, first_operand, operand_in, operands, operands_of, token, written_path,
 };
 use std::alloc::Global;
 use std::rc::Rc;
 use syntax_tree::{Node, RowName, Span, Token};
-use typing_state::{Depth, Env, NoMemory, NodeRef, Parts, new_entry, share_entry};
+use typing_state::{Depth, Env, NoMemory, NodeRef, Parts, share_entry};
 use use_typing::{
     Fields, RecordType, Sign, as_written, begin_field, constant, constructor, equal_if, is_again,
     note_label, note_missing, record_of_fields, type_or_var, written_at,
@@ -68,16 +79,23 @@ struct SideMatch<'a> {
 
 /// A name with a type, as an entry.
 fn bound_name<'a>(at: &Parts, token: &'a Token, node: NodeRef) -> Result<BoundName<'a>, NoMemory>
-    ensures { IfOk result (λ b. b.token ≡ token.entry) }
+    ensures token { IfOk result (λ b. b.token ≡ token.entry) }
+    ensures node { IfOk result (λ b. b.node ≡ node) }
+    ensures entry { IfOk result (λ b. IsEntry b.entry.value (tok_of token.now).name node) }
 {
-    let name = token.name.share()?;
-    let place = at.place(token.span);
-    let entry = new_entry(at.alloc(), name, Kind::Value, place, What::Scheme(node))?;
+    let entry = Entry {
+        name: token.name.share()?,
+        kind: Kind::Value,
+        place: at.place(token.span),
+        what: What::Scheme(node),
+    };
+    let entry = owned(at.alloc(), entry)?;
     Ok(BoundName { token, node, entry })
 }
 
 /// The demand that a name is new within its pattern.
 fn is_new<'a>(at: &mut Parts, seen: &mut Mentioned<'a>, token: &'a Token) -> Result<(), NoMemory>
+    ensures fresh { OnOk result (AsksFresh at.old at.new (tok_of token.now) (names_seen seen.old.items)) }
     ensures tells { OnOk result (TellsName (toks_of seen.old.items) (tok_of token.now) at.old at.new) }
     ensures seen { OnOk result (toks_of seen.new.items ≡ toks_of seen.old.items ++ tok_of token.now ∷ []) }
     ensures follows { OnOk result (Follows (asks FaultKind.Unique (place_of token.now.span ∷ []) ∷ []) at.old at.new) }
@@ -97,6 +115,7 @@ pub fn type_pattern<'a>(
     seen: &mut Mentioned<'a>,
     depth: Depth,
 ) -> Result<Matched<'a>, NoMemory>
+    ensures carries { IfOk result (λ m. IsCarriedPattern (operand_view p.entry) → Matches at.old at.new env.now (pattern_of at.old.item (operand_view p.entry)) [] (binds_of m.names.items) (names_seen seen.old.items) (names_seen seen.new.items) m.ty.0) }
     ensures follows { OnOk result (Follows (pattern_steps (operand_view p.entry)) at.old at.new) }
     ensures names { IfOk result (λ m. Binds [] m.names.items (pattern_names (operand_view p.entry))) }
     ensures recorded { OnOk result (IsRecorded at.new p.entry.number) }
@@ -117,6 +136,7 @@ fn match_pattern<'a>(
     seen: &mut Mentioned<'a>,
     depth: Depth,
 ) -> Result<NodeRef, NoMemory>
+    ensures carries { IfOk result (λ m. MatchesOperand at.old at.new env.now (operand_view p.entry) (binds_of names.old.items) (binds_of names.new.items) (names_seen seen.old.items) (names_seen seen.new.items) m.0) }
     ensures follows { OnOk result (Follows (pattern_steps (operand_view p.entry)) at.old at.new) }
     ensures names { OnOk result (Binds names.old.items names.new.items (pattern_names (operand_view p.entry))) }
     ensures recorded { OnOk result (IsRecorded at.new p.entry.number) }
@@ -124,19 +144,8 @@ fn match_pattern<'a>(
 {
     match p.node {
         Some(node) => match_node(at, node, p.number, env, names, seen, depth),
-        None => missing(at, p.number, env),
+        None => anything(at, p.number, env),
     }
-}
-
-/// A missing pattern may have any type.
-fn missing(at: &mut Parts, number: u32, env: &Env) -> Result<NodeRef, NoMemory>
-    ensures follows { OnOk result (Follows (records number ∷ []) at.old at.new) }
-    ensures recorded { OnOk result (IsRecorded at.new number) }
-    ensures goes { Goes at.old at.new }
-{
-    let ty = at.var()?;
-    at.note_plain(number, env)?;
-    Ok(ty)
 }
 
 /// A pattern by its row.
@@ -150,6 +159,7 @@ fn match_node<'a>(
     seen: &mut Mentioned<'a>,
     depth: Depth,
 ) -> Result<NodeRef, NoMemory>
+    ensures carries { IfOk result (λ m. MatchesNode at.old at.new env.now number (node_view node.now) (binds_of names.old.items) (binds_of names.new.items) (names_seen seen.old.items) (names_seen seen.new.items) m.0) }
     ensures follows { OnOk result (Follows (matched_tree number (node_view node.now)) at.old at.new) }
     ensures names { OnOk result (Binds names.old.items names.new.items (names_of_tree number (node_view node.now))) }
     ensures recorded { OnOk result (IsRecorded at.new number) }
@@ -183,6 +193,7 @@ fn in_brackets<'a>(
     seen: &mut Mentioned<'a>,
     depth: Depth,
 ) -> Result<Vec<TypedPart<'a>>, NoMemory>
+    ensures carries { IfOk result (λ ts. MatchesOperands at.old at.new env.now (operands_in number (node_view node.now) 1) (binds_of names.old.items) (binds_of names.new.items) (names_seen seen.old.items) (names_seen seen.new.items) (nodes_of ts.items)) }
     ensures follows { OnOk result (Follows (match_each (in_slot 1 (parts_of_pattern number (node_view node.now)))) at.old at.new) }
     ensures names { OnOk result (Binds names.old.items names.new.items (names_of (in_slot 1 (parts_of_pattern number (node_view node.now))))) }
     ensures typed { IfOk result (λ ts. typed_view ts.items ≡ operands_in number (node_view node.now) 1) }
@@ -203,6 +214,7 @@ fn in_row<'a>(
     seen: &mut Mentioned<'a>,
     depth: Depth,
 ) -> Result<Vec<TypedPart<'a>>, NoMemory>
+    ensures carries { IfOk result (λ ts. MatchesOperands at.old at.new env.now (all_operands number (node_view node.now)) (binds_of names.old.items) (binds_of names.new.items) (names_seen seen.old.items) (names_seen seen.new.items) (nodes_of ts.items)) }
     ensures follows { OnOk result (Follows (match_each (in_slots (parts_of_pattern number (node_view node.now)))) at.old at.new) }
     ensures names { OnOk result (Binds names.old.items names.new.items (names_of (in_slots (parts_of_pattern number (node_view node.now))))) }
     ensures typed { IfOk result (λ ts. typed_view ts.items ≡ all_operands number (node_view node.now)) }
@@ -222,6 +234,7 @@ fn in_order<'a>(
     seen: &mut Mentioned<'a>,
     depth: Depth,
 ) -> Result<Vec<TypedPart<'a>>, NoMemory>
+    ensures carries { IfOk result (λ ts. MatchesOperands at.old at.new env.now (map operand_view parts.now) (binds_of names.old.items) (binds_of names.new.items) (names_seen seen.old.items) (names_seen seen.new.items) (nodes_of ts.items)) }
     ensures follows { OnOk result (Follows (each pattern_steps (map operand_view parts.now)) at.old at.new) }
     ensures names { OnOk result (Binds names.old.items names.new.items (names_in pattern_names (map operand_view parts.now))) }
     ensures typed { IfOk result (λ ts. typed_view ts.items ≡ map operand_view parts.now) }
@@ -243,6 +256,7 @@ fn number_row(
     number: u32,
     env: &Env,
 ) -> Result<NodeRef, NoMemory>
+    ensures carries { IfOk result (λ m. NotesRow at.old at.new env.now number (λ n. constant (is_negated sign) n (option_map (λ t. tok_of t.now) token.entry)) m) }
     ensures tells { OnOk result (TellsRange (option_map (λ t. tok_of t.now) token.entry) (is_negated sign) at.old at.new) }
     ensures follows { OnOk result (Follows (range_steps (option_map (λ t. tok_of t.now) token.entry) ++ records number ∷ []) at.old at.new) }
     ensures recorded { OnOk result (IsRecorded at.new number) }
@@ -253,8 +267,9 @@ fn number_row(
     Ok(ty)
 }
 
-/// _, and what is no pattern
+/// _, what is no pattern, and a missing one: any type
 fn anything(at: &mut Parts, number: u32, env: &Env) -> Result<NodeRef, NoMemory>
+    ensures carries { IfOk result (λ m. NotesAny at.old at.new env.now number m) }
     ensures follows { OnOk result (Follows (records number ∷ []) at.old at.new) }
     ensures recorded { OnOk result (IsRecorded at.new number) }
     ensures goes { Goes at.old at.new }
@@ -271,6 +286,7 @@ fn constant_constructor(
     number: u32,
     env: &Env,
 ) -> Result<NodeRef, NoMemory>
+    ensures carries { IfOk result (λ m. (names : List Bind) (seen : List Name) → MatchesNodeOf pcon_row at.old at.new env.now number (node_view node.now) names names seen seen m.0) }
     ensures tells { OnOk result (TellsUse (path_in (node_view node.now) 0 1) 0 at.old at.new env.now) }
     ensures follows { OnOk result (Follows (constructor_steps (path_in (node_view node.now) 0 1) ++ records number ∷ []) at.old at.new) }
     ensures recorded { OnOk result (IsRecorded at.new number) }
@@ -291,6 +307,7 @@ fn name<'a>(
     names: &mut Vec<BoundName<'a>>,
     seen: &mut Mentioned<'a>,
 ) -> Result<NodeRef, NoMemory>
+    ensures carries { IfOk result (λ m. MatchesNodeOf pname_row at.old at.new env.now number (node_view node.now) (binds_of names.old.items) (binds_of names.new.items) (names_seen seen.old.items) (names_seen seen.new.items) m.0) }
     ensures tells { OnOk result (TellsNameIf (toks_of seen.old.items) (token_in (node_view node.now) 0) at.old at.new) }
     ensures seen { OnOk result (toks_of seen.new.items ≡ toks_of seen.old.items ++ name_of (token_in (node_view node.now) 0)) }
     ensures follows { OnOk result (Follows (asks_token FaultKind.Unique (token_in (node_view node.now) 0) ++ records number ∷ []) at.old at.new) }
@@ -313,6 +330,7 @@ fn bind_if<'a>(
     names: &mut Vec<BoundName<'a>>,
     seen: &mut Mentioned<'a>,
 ) -> Result<(), NoMemory>
+    ensures binds { OnOk result (BindsNameIf (option_map (λ t. tok_of t.now) token.entry) at.old at.new env.now number ty (binds_of names.old.items) (binds_of names.new.items) (names_seen seen.old.items) (names_seen seen.new.items)) }
     ensures tells { OnOk result (TellsNameIf (toks_of seen.old.items) (option_map (λ t. tok_of t.now) token.entry) at.old at.new) }
     ensures seen { OnOk result (toks_of seen.new.items ≡ toks_of seen.old.items ++ name_of (option_map (λ t. tok_of t.now) token.entry)) }
     ensures follows { OnOk result (Follows (asks_token FaultKind.Unique (option_map (λ t. tok_of t.now) token.entry) ++ records number ∷ []) at.old at.new) }
@@ -336,6 +354,7 @@ fn bind<'a>(
     names: &mut Vec<BoundName<'a>>,
     seen: &mut Mentioned<'a>,
 ) -> Result<(), NoMemory>
+    ensures binds { OnOk result (BindsName at.old at.new number (tok_of token.now) ty (binds_of names.old.items) (binds_of names.new.items) (names_seen seen.old.items) (names_seen seen.new.items)) }
     ensures tells { OnOk result (TellsName (toks_of seen.old.items) (tok_of token.now) at.old at.new) }
     ensures seen { OnOk result (toks_of seen.new.items ≡ toks_of seen.old.items ++ tok_of token.now ∷ []) }
     ensures follows { OnOk result (Follows (asks FaultKind.Unique (place_of token.now.span ∷ []) ∷ records number ∷ []) at.old at.new) }
@@ -361,6 +380,7 @@ fn named<'a>(
     seen: &mut Mentioned<'a>,
     depth: Depth,
 ) -> Result<NodeRef, NoMemory>
+    ensures carries { IfOk result (λ m. MatchesNodeOf pas_row at.old at.new env.now number (node_view node.now) (binds_of names.old.items) (binds_of names.new.items) (names_seen seen.old.items) (names_seen seen.new.items) m.0) }
     ensures follows { OnOk result (Follows (matched_as pas_row number (node_view node.now)) at.old at.new) }
     ensures names { OnOk result (Binds names.old.items names.new.items (bound_as pas_row number (node_view node.now))) }
     ensures recorded { OnOk result (IsRecorded at.new number) }
@@ -374,6 +394,7 @@ fn named<'a>(
 
 /// The type of the first part; where there is none, any type.
 fn first_type(at: &mut Parts, typed: &[TypedPart<'_>]) -> Result<NodeRef, NoMemory>
+    ensures first { IfOk result (λ m. (o : Numbered) (os : List Numbered) → typed_view typed.now ≡ o ∷ os → (slice_get (nodes_of typed.now) 0 ≡ Some m.0) × (at.new ≡ at.old)) }
     ensures silent { Silent at.old at.new }
     ensures goes { Goes at.old at.new }
 {
@@ -394,6 +415,7 @@ fn parenthesised<'a>(
     seen: &mut Mentioned<'a>,
     depth: Depth,
 ) -> Result<NodeRef, NoMemory>
+    ensures carries { IfOk result (λ m. MatchesNodeOf pparen_row at.old at.new env.now number (node_view node.now) (binds_of names.old.items) (binds_of names.new.items) (names_seen seen.old.items) (names_seen seen.new.items) m.0) }
     ensures follows { OnOk result (Follows (matched_as pparen_row number (node_view node.now)) at.old at.new) }
     ensures names { OnOk result (Binds names.old.items names.new.items (bound_as pparen_row number (node_view node.now))) }
     ensures recorded { OnOk result (IsRecorded at.new number) }
@@ -413,6 +435,7 @@ fn annotated(
     env: &Env,
     depth: Depth,
 ) -> Result<NodeRef, NoMemory>
+    ensures first { IfOk result (λ m. written.entry ≡ None → (o : Numbered) (os : List Numbered) → typed_view typed.now ≡ o ∷ os → (slice_get (nodes_of typed.now) 0 ≡ Some m.0) × (at.new ≡ at.old)) }
     ensures follows { OnOk result (Follows (annotation_steps (first_of (typed_view typed.now)) (option_map operand_view written.entry)) at.old at.new) }
     ensures goes { Goes at.old at.new }
 {
@@ -433,6 +456,7 @@ fn list<'a>(
     seen: &mut Mentioned<'a>,
     depth: Depth,
 ) -> Result<NodeRef, NoMemory>
+    ensures carries { IfOk result (λ m. MatchesNodeOf plist_row at.old at.new env.now number (node_view node.now) (binds_of names.old.items) (binds_of names.new.items) (names_seen seen.old.items) (names_seen seen.new.items) m.0) }
     ensures follows { OnOk result (Follows (matched_as plist_row number (node_view node.now)) at.old at.new) }
     ensures names { OnOk result (Binds names.old.items names.new.items (bound_as plist_row number (node_view node.now))) }
     ensures recorded { OnOk result (IsRecorded at.new number) }
@@ -446,6 +470,7 @@ fn list<'a>(
 
 /// The list of some parts, which all have the type of the first.
 fn list_of(at: &mut Parts, typed: &[TypedPart<'_>], env: &Env) -> Result<NodeRef, NoMemory>
+    ensures carries { IfOk result (λ m. EndsPatterns at.old at.new env.now (list_asks (patterns_of at.old.item (typed_view typed.now))) (patterns_of at.old.item (typed_view typed.now)) (nodes_of typed.now) m.0) }
     ensures follows { OnOk result (Follows (each asks_equal (later (typed_view typed.now))) at.old at.new) }
     ensures goes { Goes at.old at.new }
 {
@@ -468,6 +493,7 @@ fn all_equal(
     typed: &[TypedPart<'_>],
     env: &Env,
 ) -> Result<(), NoMemory>
+    ensures carries { OnOk result (AsksEach at.old at.new env.now (patterns_of at.old.item (typed_view typed.now)) (nodes_of typed.now) wanted.0) }
     ensures follows { OnOk result (Follows (each asks_equal (typed_view typed.now)) at.old at.new) }
     ensures goes { Goes at.old at.new }
 {
@@ -488,6 +514,7 @@ fn cons<'a>(
     seen: &mut Mentioned<'a>,
     depth: Depth,
 ) -> Result<NodeRef, NoMemory>
+    ensures carries { IfOk result (λ m. MatchesNodeOf pcons_row at.old at.new env.now number (node_view node.now) (binds_of names.old.items) (binds_of names.new.items) (names_seen seen.old.items) (names_seen seen.new.items) m.0) }
     ensures follows { OnOk result (Follows (matched_as pcons_row number (node_view node.now)) at.old at.new) }
     ensures names { OnOk result (Binds names.old.items names.new.items (bound_as pcons_row number (node_view node.now))) }
     ensures recorded { OnOk result (IsRecorded at.new number) }
@@ -501,6 +528,7 @@ fn cons<'a>(
 
 /// The list of two parts.
 fn cons_of(at: &mut Parts, typed: &[TypedPart<'_>], env: &Env) -> Result<NodeRef, NoMemory>
+    ensures carries { IfOk result (λ m. (o p : Numbered) → typed_view typed.now ≡ o ∷ p ∷ [] → EndsPatterns at.old at.new env.now (cons_asks (pattern_of at.old.item o) (pattern_of at.old.item p)) (pattern_of at.old.item o ∷ pattern_of at.old.item p ∷ []) (nodes_of typed.now) m.0) }
     ensures follows { OnOk result (Follows (asks_equal_if (last_of (typed_view typed.now))) at.old at.new) }
     ensures goes { Goes at.old at.new }
 {
@@ -523,18 +551,22 @@ fn tuple<'a>(
     seen: &mut Mentioned<'a>,
     depth: Depth,
 ) -> Result<NodeRef, NoMemory>
+    ensures carries { IfOk result (λ m. MatchesNodeOf ptuple_row at.old at.new env.now number (node_view node.now) (binds_of names.old.items) (binds_of names.new.items) (names_seen seen.old.items) (names_seen seen.new.items) m.0) }
     ensures follows { OnOk result (Follows (matched_as ptuple_row number (node_view node.now)) at.old at.new) }
     ensures names { OnOk result (Binds names.old.items names.new.items (bound_as ptuple_row number (node_view node.now))) }
     ensures recorded { OnOk result (IsRecorded at.new number) }
     ensures goes { Goes at.old at.new }
 {
     let typed = in_row(at, node, number, env, names, seen, depth)?;
-    let ty = at.tuple(&types_of(at.alloc(), &typed)?)?;
+    let types = types_of(at.alloc(), &typed)?;
+    let ty = at.tuple(&types)?;
     at.note_type(number, env, ty)?;
     Ok(ty)
 }
 
-fn types_of(alloc: Global, typed: &[TypedPart<'_>]) -> Result<Vec<NodeRef>, NoMemory> {
+fn types_of(alloc: Global, typed: &[TypedPart<'_>]) -> Result<Vec<NodeRef>, NoMemory>
+    ensures { IfOk result (λ ns. numbers ns.items ≡ nodes_of typed.now) }
+{
     let mut types = Vec::new(alloc);
     for one in typed {
         push(&mut types, one.ty)?;
@@ -612,6 +644,7 @@ fn alternatives<'a>(
     seen: &mut Mentioned<'a>,
     depth: Depth,
 ) -> Result<NodeRef, NoMemory>
+    ensures carries { IfOk result (λ m. MatchesNodeOf por_row at.old at.new env.now number (node_view node.now) (binds_of names.old.items) (binds_of names.new.items) (names_seen seen.old.items) (names_seen seen.new.items) m.0) }
     ensures follows { OnOk result (Follows (matched_as por_row number (node_view node.now)) at.old at.new) }
     ensures names { OnOk result (Binds names.old.items names.new.items (bound_as por_row number (node_view node.now))) }
     ensures recorded { OnOk result (IsRecorded at.new number) }
@@ -634,6 +667,8 @@ fn sides_in<'a>(
     seen: &mut Mentioned<'a>,
     depth: Depth,
 ) -> Result<Vec<SideMatch<'a>>, NoMemory>
+    ensures carries { IfOk result (λ ss. MatchesBeside at.old at.new env.now (all_operands number (node_view node.now)) (names_seen seen.old.items) (names_seen seen.new.items) (map side_of ss.items)) }
+    ensures parts { IfOk result (λ ss. parts_of_sides ss.items ≡ all_operands number (node_view node.now)) }
     ensures follows { OnOk result (Follows (match_each (in_slots (parts_of_pattern number (node_view node.now)))) at.old at.new) }
     ensures sides { IfOk result (λ ss. map side_view ss.items ≡ sides_of (all_operands number (node_view node.now)) (in_slots (parts_of_pattern number (node_view node.now)))) }
     ensures goes { Goes at.old at.new }
@@ -651,6 +686,8 @@ fn match_sides<'a>(
     seen: &mut Mentioned<'a>,
     depth: Depth,
 ) -> Result<Vec<SideMatch<'a>>, NoMemory>
+    ensures carries { IfOk result (λ ss. MatchesBeside at.old at.new env.now (map operand_view parts.now) (names_seen seen.old.items) (names_seen seen.new.items) (map side_of ss.items)) }
+    ensures parts { IfOk result (λ ss. parts_of_sides ss.items ≡ map operand_view parts.now) }
     ensures follows { OnOk result (Follows (each pattern_steps (map operand_view parts.now)) at.old at.new) }
     ensures sides { IfOk result (λ ss. map side_view ss.items ≡ map side_at (map operand_view parts.now)) }
     ensures goes { Goes at.old at.new }
@@ -676,6 +713,8 @@ fn match_side<'a>(
     seen: &mut Mentioned<'a>,
     depth: Depth,
 ) -> Result<SideMatch<'a>, NoMemory>
+    ensures carries { IfOk result (λ s. MatchesOperand at.old at.new env.now (operand_view part.entry) [] (binds_of s.names.items) (names_seen seen.old.items) (names_seen seen.new.items) s.ty.0) }
+    ensures part { IfOk result (λ s. s.part ≡ part.entry) }
     ensures follows { OnOk result (Follows (pattern_steps (operand_view part.entry)) at.old at.new) }
     ensures side { IfOk result (λ s. side_view s ≡ side_at (operand_view part.entry)) }
     ensures goes { Goes at.old at.new }
@@ -691,30 +730,24 @@ fn first_side<'a>(
     sides: Vec<SideMatch<'a>>,
     names: &mut Vec<BoundName<'a>>,
 ) -> Result<NodeRef, NoMemory>
+    ensures first { IfOk result (λ m. (x : Side) (xs : List Side) → map side_of sides.entry.items ≡ x ∷ xs → (x.node ≡ m.0) × (binds_of names.new.items ≡ binds_of names.old.items ++ x.names) × (at.new ≡ at.old)) }
     ensures silent { Silent at.old at.new }
     ensures names { OnOk result (Binds names.old.items names.new.items (names_of_first (map side_view sides.entry.items))) }
     ensures goes { Goes at.old at.new }
 {
     match sides.into_iter().next() {
         Some(first) => {
-            bind_all(names, first.names)?;
+            append(names, first.names)?;
             Ok(first.ty)
         }
         None => at.var(),
     }
 }
 
-/// Binds names behind others.
-fn bind_all<'a>(names: &mut Vec<BoundName<'a>>, more: Vec<BoundName<'a>>) -> Result<(), NoMemory>
-    ensures names { OnOk result (Binds names.old.items names.new.items (tokens_of more.entry.items)) }
+/// Puts items behind others.
+fn append<T: Drop>(list: &mut Vec<T>, more: Vec<T>) -> Result<(), NoMemory>
+    ensures { OnOk result (list.new.items ≡ list.old.items ++ more.items) }
 {
-    for name in more {
-        push(names, name)?;
-    }
-    Ok(())
-}
-
-fn append<T: Drop>(list: &mut Vec<T>, more: Vec<T>) -> Result<(), NoMemory> {
     for item in more {
         push(list, item)?;
     }
@@ -726,9 +759,12 @@ fn keep_apart<'a>(
     seen: &mut Mentioned<'a>,
     before: usize,
     all: &mut Mentioned<'a>,
-) -> Result<(), NoMemory> {
-    for name in seen.iter().skip(before) {
-        push(all, *name)?;
+) -> Result<(), NoMemory>
+    ensures kept { OnOk result (seen.new.items ≡ take before seen.old.items) }
+    ensures moved { OnOk result (all.new.items ≡ all.old.items ++ drop before seen.old.items) }
+{
+    for place in before..seen.len() {
+        push(all, seen[place])?;
     }
     seen.truncate(before);
     Ok(())
@@ -736,6 +772,7 @@ fn keep_apart<'a>(
 
 /// The demands of each later side beside the first.
 fn compare_sides(at: &mut Parts, sides: &[SideMatch<'_>], env: &Env) -> Result<(), NoMemory>
+    ensures carries { OnOk result ((i : ℕ) (x : Side) (xs : List Side) (o : Numbered) (os : List Numbered) → map side_of sides.now ≡ x ∷ xs → parts_of_sides sides.now ≡ o ∷ os → AsksLater at.old at.new x xs (patterns_of i os)) }
     ensures follows { OnOk result (Follows (sides_beside (map side_view sides.now)) at.old at.new) }
     ensures goes { Goes at.old at.new }
 {
@@ -752,6 +789,7 @@ fn compare_later(
     sides: &[SideMatch<'_>],
     env: &Env,
 ) -> Result<(), NoMemory>
+    ensures carries { OnOk result ((i : ℕ) → AsksLater at.old at.new (side_of first.now) (map side_of sides.now) (patterns_of i (parts_of_sides sides.now))) }
     ensures follows { OnOk result (Follows (each (beside (side_view first.now)) (map side_view sides.now)) at.old at.new) }
     ensures goes { Goes at.old at.new }
 {
@@ -768,23 +806,11 @@ fn compare_side(
     side: &SideMatch<'_>,
     env: &Env,
 ) -> Result<(), NoMemory>
+    ensures carries { OnOk result (AsksBeside at.old at.new (side_of first.now) (side_of side.now) (place_of side.now.part.span)) }
     ensures follows { OnOk result (Follows (beside (side_view first.now) (side_view side.now)) at.old at.new) }
     ensures goes { Goes at.old at.new }
 {
     ask_sides(at, first, side)?;
-    compare_types(at, first, side, env)
-}
-
-/// The types of the common names of a later side, and its own.
-fn compare_types(
-    at: &mut Parts,
-    first: &SideMatch<'_>,
-    side: &SideMatch<'_>,
-    env: &Env,
-) -> Result<(), NoMemory>
-    ensures follows { OnOk result (Follows (common_names (tokens_of first.now.names.items) (tokens_of side.now.names.items) ++ asks FaultKind.Equal (place_of side.now.part.span ∷ []) ∷ []) at.old at.new) }
-    ensures goes { Goes at.old at.new }
-{
     compare_names(at, &first.names, &side.names, env)?;
     at.equal(side.part.span, side.ty, first.ty, env)?;
     Ok(())
@@ -792,6 +818,7 @@ fn compare_types(
 
 /// The demand that no name stands on one of two sides alone.
 fn ask_sides(at: &mut Parts, first: &SideMatch<'_>, side: &SideMatch<'_>) -> Result<(), NoMemory>
+    ensures carries { OnOk result (AsksSides at.old at.new (place_of side.now.part.span) (binds_of first.now.names.items) (binds_of side.now.names.items)) }
     ensures follows { OnOk result (Follows (asks FaultKind.Sides (place_of side.now.part.span ∷ []) ∷ []) at.old at.new) }
     ensures goes { Goes at.old at.new }
 {
@@ -802,7 +829,8 @@ fn ask_sides(at: &mut Parts, first: &SideMatch<'_>, side: &SideMatch<'_>) -> Res
 }
 
 fn find<'a, 'b>(name: &Token, names: &'b [BoundName<'a>]) -> Option<&'b BoundName<'a>>
-    ensures { option_map (λ b. tok_of b.now.token.now) result ≡ find_name (tok_of name.now).name (tokens_of names.now) }
+    ensures token { option_map (λ b. tok_of b.now.token.now) result ≡ find_name (tok_of name.now).name (tokens_of names.now) }
+    ensures found { option_map (λ b. bind_of b.now) result ≡ find_bind (tok_of name.now).name (binds_of names.now) }
 {
     for other in names {
         if other.token.name.is(name.name.as_str()) {
@@ -813,7 +841,9 @@ fn find<'a, 'b>(name: &Token, names: &'b [BoundName<'a>]) -> Option<&'b BoundNam
 }
 
 /// The first name of some that isn't among others.
-fn first_apart<'a>(names: &[BoundName<'a>], others: &[BoundName<'_>]) -> Option<&'a Token> {
+fn first_apart<'a>(names: &[BoundName<'a>], others: &[BoundName<'_>]) -> Option<&'a Token>
+    ensures { option_map (λ t. (tok_of t.now).name) result ≡ first_apart_here (binds_of names.now) (binds_of others.now) }
+{
     for name in names {
         if find(name.token, others).is_none() {
             return Some(name.token);
@@ -823,7 +853,9 @@ fn first_apart<'a>(names: &[BoundName<'a>], others: &[BoundName<'_>]) -> Option<
 }
 
 /// The first name that one of two sides has and the other hasn't, those of the first side before those of the second.
-fn name_apart<'a>(first: &[BoundName<'a>], later: &[BoundName<'a>]) -> Option<&'a Token> {
+fn name_apart<'a>(first: &[BoundName<'a>], later: &[BoundName<'a>]) -> Option<&'a Token>
+    ensures { option_map (λ t. (tok_of t.now).name) result ≡ name_apart_here (binds_of first.now) (binds_of later.now) }
+{
     match first_apart(first, later) {
         Some(name) => Some(name),
         None => first_apart(later, first),
@@ -837,6 +869,7 @@ fn compare_names(
     later: &[BoundName<'_>],
     env: &Env,
 ) -> Result<(), NoMemory>
+    ensures carries { OnOk result (AsksNames at.old at.new (binds_of first.now) (binds_of later.now)) }
     ensures follows { OnOk result (Follows (common_names (tokens_of first.now) (tokens_of later.now)) at.old at.new) }
     ensures goes { Goes at.old at.new }
 {
@@ -853,6 +886,7 @@ fn compare_name(
     later: &[BoundName<'_>],
     env: &Env,
 ) -> Result<(), NoMemory>
+    ensures carries { OnOk result (AsksName at.old at.new (bind_of name.now) (binds_of later.now)) }
     ensures follows { OnOk result (Follows (asks_token FaultKind.Equal (find_name (tok_of name.now.token.now).name (tokens_of later.now))) at.old at.new) }
     ensures goes { Goes at.old at.new }
 {

@@ -1,20 +1,35 @@
-use Rattle.std.proofs.Common.{◌≡◌, ◌∙◌, ◌++◌, ◌∷◌, ◌+◌, ◌<◌, [], length, map, drop, refl, sym, ap, subst, arith, append_assoc}
-use Rattle.std.specs.Prelude.{OnOk, IfOk, Some, None, option_map}
+use Rattle.std.proofs.Common.{◌≡◌, ◌∙◌, ◌++◌, ◌∷◌, ◌+◌, ◌<◌, ℕ, true, false, List, [], length, map, drop, refl, sym, ap, subst, arith, append_assoc}
+use Rattle.std.specs.Prelude.{OnOk, IfOk, All, slice_get, Some, None, option_map}
 use Rattle.std.proofs.lemmas.List.{drop_all}
 use Rattle.tree_model.specs.Rows.{pname_row, pconst_row, pneg_row, pcon_row, pparen_row, plist_row, precord_row, papp_row, pcons_row, ptuple_row, por_row, pas_row}
 use Rattle.syntax_tree.specs.Names.{row_of}
 use Rattle.syntax_tree.specs.View.{node_view}
 use Rattle.syntax_tree.specs.declared.tree.Node.{out-Node}
 use Rattle.syntax_tree.specs.declared.rows.RowName.TheVariants as row_name
-use Rattle.row_parts.specs.Numbered.{all_operands, filled_in, first_in, first_of, in_slot, in_slots, operand_view, operands_in, token_in}
+use Rattle.row_parts.specs.Numbered.{Numbered, all_operands, filled_in, first_in, first_of, in_slot, in_slots, operand_view, operands_in, token_in}
 use Rattle.env_table.specs.declared.faults.FaultKind.TheVariants as fault
 use Rattle.typing_state.specs.Steps.{each, records, Follows, GetsOn}
 use Rattle.typing_state.proofs.Going.{goes_refl, goes_trans}
-use Rattle.typing_state.proofs.Following.{ends_both, follows_before, follows_both, follows_none, gets_more, gets_done, store_silent}
+use Rattle.typing_state.proofs.Following.{gets_start, ends_both, follows_before, follows_both, follows_none, gets_more, gets_done, store_silent}
 use Rattle.type_reading.proofs.TypeLaws.{drop_read}
 use Rattle.use_typing.specs.UseSteps.{annotation_steps, asks_equal, asks_equal_if, asks_labels, asks_token, labels_of, lost_steps, path_at, range_steps}
 use Rattle.pattern_steps.specs.PatternSteps.{construction_steps, field_pattern_steps, field_pattern_names, last_of, later, match_each, name_of, names_in, names_of, names_of_first, names_of_tree, parts_of_pattern, pattern_names, pattern_or_missing, pattern_steps, side_at, sides_beside, sides_of}
-use Rattle.pattern_typing.specs.Matching.{Binds, side_view, tokens_of, typed_view}
+use Rattle.pattern_typing.specs.Matching.{Binds, binds_of, names_seen, nodes_of, parts_of_sides, side_of, side_view, tokens_of, typed_view}
+use Rattle.pattern_typing.specs.declared.patterns.SideMatch.{SideMatch}
+use Rattle.typing_model.specs.BuiltIns.{constant}
+use Rattle.type_nodes.specs.Nodes as node
+use Rattle.type_nodes.specs.Nodes.{IsNode}
+use Rattle.type_nodes.specs.Changes.{Makes}
+use Rattle.type_nodes.specs.Views.{numbers}
+use Rattle.operand_laws.specs.Operands.{pattern_of}
+use Rattle.pattern_rows.specs.CarriedPatterns.{MatchesOperand, MatchesOperands, MatchesBeside}
+use Rattle.pattern_rows.specs.Contracts.{EndsPatterns, list_asks, cons_asks, patterns_of}
+use Rattle.pattern_rows.specs.Named.{NotesRow, BindsNameIf}
+use Rattle.pattern_rows.specs.Sides.{Side, AsksLater}
+use Rattle.pattern_rows.proofs.Matching.{operand_matches, nothing_matches, any_matches, constant_matches, minus_matches, tuple_matches, list_matches, cons_matches, paren_matches, as_matches, or_matches}
+use Rattle.pattern_rows.proofs.Ordered.{in_order_none, in_order_all}
+use Rattle.pattern_typing.proofs.Carrying.{if_ok, if_any, none_of, tree_row, refused_row, any_row}
+use Rattle.pattern_typing.proofs.Stepping.{as_patterns, order_step, beside_none, beside_step, beside_done, sides_compared}
 use Rattle.pattern_typing.specs.declared.patterns.TypedPart.{TypedPart}
 use Rattle.pattern_typing.proofs.Binding.{binds_both, binds_none}
 use Rattle.use_typing.proofs.Reading.{map_push, list_done, follows_three}
@@ -39,6 +54,7 @@ in_order-loop-part-preserved t c =
           (subst (λ os. tokens_of c.loop-part.names.items ++ names_in pattern_names (map operand_view os) ≡ tokens_of c.args.names.now.items ++ names_in pattern_names (map operand_view all)) cut c.loop-part.invariant.names);
       typed = map_push (λ (p : TypedPart). operand_view p.part) c.loop-part.typed.items c.push.new.list.items (record { part = x; ty = c.in_ok-ty.ty }) (operand_view x) (map operand_view (drop (i + 1) all)) (map operand_view all) c.in_ok-push.ensures.pushed refl
           (subst (λ os. typed_view c.loop-part.typed.items ++ map operand_view os ≡ map operand_view all) cut c.loop-part.invariant.typed);
+      carries = order_step c.args.at.now c.loop-part.at c.match_pattern.new.at c.args.env.now all i x c.args.names.now.items c.loop-part.names.items c.match_pattern.new.names.items c.args.seen.now.items c.loop-part.seen.items c.match_pattern.new.seen.items c.loop-part.typed.items c.push.new.list.items c.in_ok-ty.ty lt c.part-item.is c.in_ok-push.ensures.pushed c.loop-part.invariant.goes c.loop-part.invariant.carries c.in_ok-ty.ensures.carries;
     }
 
 pub in_order-returns : goal.in_order-returns
@@ -52,6 +68,7 @@ in_order-returns t c =
       names = binds_done c.args.names.now.items c.loop-part.names.items (names_in pattern_names (map operand_view all)) (names_in pattern_names (map operand_view (drop i all))) (ap (λ os. names_in pattern_names (map operand_view os)) none) c.loop-part.invariant.names;
       typed = list_done (typed_view c.loop-part.typed.items) (map operand_view all) (map operand_view (drop i all)) (ap (map operand_view) none) c.loop-part.invariant.typed;
       goes = c.loop-part.invariant.goes;
+      carries = λ carried. in_order_all c.args.at.now c.loop-part.at c.args.env.now (as_patterns c.args.at.now.item all) (as_patterns c.args.at.now.item (drop i all)) (binds_of c.args.names.now.items) (binds_of c.loop-part.names.items) (names_seen c.args.seen.now.items) (names_seen c.loop-part.seen.items) (nodes_of c.loop-part.typed.items) (ap (as_patterns c.args.at.now.item) none) (c.loop-part.invariant.carries carried);
     }
 
 pub match_sides-loop-part-preserved : goal.match_sides-loop-part-preserved
@@ -68,6 +85,10 @@ match_sides-loop-part-preserved t c =
           c.match_side.ensures.goes c.in_ok-side.ensures.follows;
       sides = map_push side_view c.loop-part.sides.items c.push.new.list.items c.in_ok-side.side (side_at (operand_view x)) (map side_at (map operand_view (drop (i + 1) all))) (map side_at (map operand_view all)) c.in_ok-push.ensures.pushed c.in_ok-side.ensures.side
           (subst (λ os. map side_view c.loop-part.sides.items ++ map side_at (map operand_view os) ≡ map side_at (map operand_view all)) cut c.loop-part.invariant.sides);
+      carries = beside_step c.args.at.now c.loop-part.at c.match_side.new.at c.args.env.now all i x c.args.seen.now.items c.loop-part.seen.items c.match_side.new.seen.items c.keep_apart.new.seen.items c.loop-part.all.items c.keep_apart.new.all.items c.loop-part.sides.items c.push.new.list.items c.in_ok-side.side c.len-before.result lt c.part-item.is c.in_ok-push.ensures.pushed c.loop-part.invariant.goes
+          (let got = c.len-before.ensures in let listed = c.args.seen.now.ok in let e : c.len-before.result ≡ length c.args.seen.now.items = omega arith in e) c.in_ok-keep_apart.ensures.kept c.in_ok-keep_apart.ensures.moved c.loop-part.invariant.carries c.in_ok-side.ensures.carries;
+      parts = map_push (λ (s : SideMatch). operand_view s.part) c.loop-part.sides.items c.push.new.list.items c.in_ok-side.side (operand_view x) (map operand_view (drop (i + 1) all)) (map operand_view all) c.in_ok-push.ensures.pushed (ap operand_view c.in_ok-side.ensures.part)
+          (subst (λ os. parts_of_sides c.loop-part.sides.items ++ map operand_view os ≡ map operand_view all) cut c.loop-part.invariant.parts);
     }
 
 pub match_sides-returns : goal.match_sides-returns
@@ -80,6 +101,8 @@ match_sides-returns t c =
           (subst (λ os. GetsOn c.args.at.now c.loop-part.at (each pattern_steps (map operand_view all)) (each pattern_steps (map operand_view os))) none c.loop-part.invariant.gets);
       sides = list_done (map side_view c.loop-part.sides.items) (map side_at (map operand_view all)) (map side_at (map operand_view (drop i all))) (ap (λ os. map side_at (map operand_view os)) none) c.loop-part.invariant.sides;
       goes = c.loop-part.invariant.goes;
+      carries = λ carried. beside_done c.args.at.now c.loop-part.at c.args.env.now (as_patterns c.args.at.now.item all) (as_patterns c.args.at.now.item (drop i all)) c.args.seen.now.items c.loop-part.seen.items c.loop-part.all.items c.append.new.list.items (map side_of c.loop-part.sides.items) (ap (as_patterns c.args.at.now.item) none) c.in_ok-append.ensures (c.loop-part.invariant.carries carried);
+      parts = list_done (parts_of_sides c.loop-part.sides.items) (map operand_view all) (map operand_view (drop i all)) (ap (map operand_view) none) c.loop-part.invariant.parts;
     }
 
 pub match_fields-loop-field-preserved : goal.match_fields-loop-field-preserved
@@ -116,14 +139,16 @@ match_pattern-returns-in-Some t c = record {
   names = subst (λ ts. OnOk c.match_node.result (Binds c.args.names.now.items c.match_node.new.names.items ts)) (sym (names_there c.args.p c.in-Some.node c.in-Some.is)) c.match_node.ensures.names;
   recorded = c.match_node.ensures.recorded;
   goes = c.match_node.ensures.goes;
+  carries = if_ok c.match_node.result _ _ (λ m h. operand_matches c.args.at.now c.match_node.new.at c.args.env.now c.args.p c.in-Some.node (binds_of c.args.names.now.items) (binds_of c.match_node.new.names.items) (names_seen c.args.seen.now.items) (names_seen c.match_node.new.seen.items) m.0 c.in-Some.is h) c.match_node.ensures.carries;
 }
 
 pub match_pattern-returns-in-None : goal.match_pattern-returns-in-None
 match_pattern-returns-in-None t c = record {
-  follows = subst (λ ss. OnOk c.missing.result (Follows ss c.args.at.now c.missing.new.at)) (sym (steps_missing c.args.p c.in-None.is)) c.missing.ensures.follows;
-  names = on_any c.missing.result (Binds c.args.names.now.items c.args.names.now.items (pattern_names (operand_view c.args.p))) (subst (λ ts. Binds c.args.names.now.items c.args.names.now.items ts) (sym (names_missing c.args.p c.in-None.is)) (binds_none c.args.names.now.items));
-  recorded = c.missing.ensures.recorded;
-  goes = c.missing.ensures.goes;
+  follows = subst (λ ss. OnOk c.anything.result (Follows ss c.args.at.now c.anything.new.at)) (sym (steps_missing c.args.p c.in-None.is)) c.anything.ensures.follows;
+  names = on_any c.anything.result (Binds c.args.names.now.items c.args.names.now.items (pattern_names (operand_view c.args.p))) (subst (λ ts. Binds c.args.names.now.items c.args.names.now.items ts) (sym (names_missing c.args.p c.in-None.is)) (binds_none c.args.names.now.items));
+  recorded = c.anything.ensures.recorded;
+  goes = c.anything.ensures.goes;
+  carries = if_ok c.anything.result _ _ (λ m h. nothing_matches c.args.at.now c.anything.new.at c.args.env.now c.args.p m (binds_of c.args.names.now.items) (names_seen c.args.seen.now.items) c.in-None.is h) c.anything.ensures.carries;
 }
 
 pub match_node-returns-in-Papp : goal.match_node-returns-in-Papp
@@ -133,6 +158,7 @@ match_node-returns-in-Papp t c = record {
   names = row_names c.applied.result c.args.number c.args.node.now row_name.Papp papp_row c.args.names.now.items c.applied.new.names.items c.in-Papp.is refl c.applied.ensures.names;
   recorded = c.applied.ensures.recorded;
   goes = c.applied.ensures.goes;
+  carries = if_any c.applied.result _ (λ m place carried. absurd (refused_row (node_view c.args.node.now) papp_row (λ ps h. h) (tree_row c.args.node.now row_name.Papp papp_row c.in-Papp.is refl) carried.rows));
 }
 
 pub match_node-returns-in-Precord : goal.match_node-returns-in-Precord
@@ -142,6 +168,7 @@ match_node-returns-in-Precord t c = record {
   names = row_names c.«record».result c.args.number c.args.node.now row_name.Precord precord_row c.args.names.now.items c.«record».new.names.items c.in-Precord.is refl c.«record».ensures.names;
   recorded = c.«record».ensures.recorded;
   goes = c.«record».ensures.goes;
+  carries = if_any c.«record».result _ (λ m place carried. absurd (refused_row (node_view c.args.node.now) precord_row (λ ps h. h) (tree_row c.args.node.now row_name.Precord precord_row c.in-Precord.is refl) carried.rows));
 }
 
 pub match_node-returns-in-Por : goal.match_node-returns-in-Por
@@ -151,6 +178,7 @@ match_node-returns-in-Por t c = record {
   names = row_names c.alternatives.result c.args.number c.args.node.now row_name.Por por_row c.args.names.now.items c.alternatives.new.names.items c.in-Por.is refl c.alternatives.ensures.names;
   recorded = c.alternatives.ensures.recorded;
   goes = c.alternatives.ensures.goes;
+  carries = if_ok c.alternatives.result _ _ (λ m h. h (tree_row c.args.node.now row_name.Por por_row c.in-Por.is refl)) c.alternatives.ensures.carries;
 }
 
 pub match_node-returns-in-Pparen : goal.match_node-returns-in-Pparen
@@ -160,6 +188,7 @@ match_node-returns-in-Pparen t c = record {
   names = row_names c.parenthesised.result c.args.number c.args.node.now row_name.Pparen pparen_row c.args.names.now.items c.parenthesised.new.names.items c.in-Pparen.is refl c.parenthesised.ensures.names;
   recorded = c.parenthesised.ensures.recorded;
   goes = c.parenthesised.ensures.goes;
+  carries = if_ok c.parenthesised.result _ _ (λ m h. h (tree_row c.args.node.now row_name.Pparen pparen_row c.in-Pparen.is refl)) c.parenthesised.ensures.carries;
 }
 
 pub match_node-returns-in-Plist : goal.match_node-returns-in-Plist
@@ -169,6 +198,7 @@ match_node-returns-in-Plist t c = record {
   names = row_names c.list.result c.args.number c.args.node.now row_name.Plist plist_row c.args.names.now.items c.list.new.names.items c.in-Plist.is refl c.list.ensures.names;
   recorded = c.list.ensures.recorded;
   goes = c.list.ensures.goes;
+  carries = if_ok c.list.result _ _ (λ m h. h (tree_row c.args.node.now row_name.Plist plist_row c.in-Plist.is refl)) c.list.ensures.carries;
 }
 
 pub match_node-returns-in-Pcons : goal.match_node-returns-in-Pcons
@@ -178,6 +208,7 @@ match_node-returns-in-Pcons t c = record {
   names = row_names c.cons.result c.args.number c.args.node.now row_name.Pcons pcons_row c.args.names.now.items c.cons.new.names.items c.in-Pcons.is refl c.cons.ensures.names;
   recorded = c.cons.ensures.recorded;
   goes = c.cons.ensures.goes;
+  carries = if_ok c.cons.result _ _ (λ m h. h (tree_row c.args.node.now row_name.Pcons pcons_row c.in-Pcons.is refl)) c.cons.ensures.carries;
 }
 
 pub match_node-returns-in-Ptuple : goal.match_node-returns-in-Ptuple
@@ -187,6 +218,7 @@ match_node-returns-in-Ptuple t c = record {
   names = row_names c.tuple.result c.args.number c.args.node.now row_name.Ptuple ptuple_row c.args.names.now.items c.tuple.new.names.items c.in-Ptuple.is refl c.tuple.ensures.names;
   recorded = c.tuple.ensures.recorded;
   goes = c.tuple.ensures.goes;
+  carries = if_ok c.tuple.result _ _ (λ m h. h (tree_row c.args.node.now row_name.Ptuple ptuple_row c.in-Ptuple.is refl)) c.tuple.ensures.carries;
 }
 
 pub match_node-returns-in-Pas : goal.match_node-returns-in-Pas
@@ -196,6 +228,7 @@ match_node-returns-in-Pas t c = record {
   names = row_names c.named.result c.args.number c.args.node.now row_name.Pas pas_row c.args.names.now.items c.named.new.names.items c.in-Pas.is refl c.named.ensures.names;
   recorded = c.named.ensures.recorded;
   goes = c.named.ensures.goes;
+  carries = if_ok c.named.result _ _ (λ m h. h (tree_row c.args.node.now row_name.Pas pas_row c.in-Pas.is refl)) c.named.ensures.carries;
 }
 
 pub match_node-returns-in-Pname : goal.match_node-returns-in-Pname
@@ -205,6 +238,7 @@ match_node-returns-in-Pname t c = record {
   names = row_names c.name.result c.args.number c.args.node.now row_name.Pname pname_row c.args.names.now.items c.name.new.names.items c.in-Pname.is refl c.name.ensures.names;
   recorded = c.name.ensures.recorded;
   goes = c.name.ensures.goes;
+  carries = if_ok c.name.result _ _ (λ m h. h (tree_row c.args.node.now row_name.Pname pname_row c.in-Pname.is refl)) c.name.ensures.carries;
 }
 
 pub match_node-returns-in-Pcon : goal.match_node-returns-in-Pcon
@@ -214,6 +248,7 @@ match_node-returns-in-Pcon t c = record {
   names = row_names c.constant_constructor.result c.args.number c.args.node.now row_name.Pcon pcon_row c.args.names.now.items c.args.names.now.items c.in-Pcon.is refl (on_any c.constant_constructor.result (Binds c.args.names.now.items c.args.names.now.items []) (binds_none c.args.names.now.items));
   recorded = c.constant_constructor.ensures.recorded;
   goes = c.constant_constructor.ensures.goes;
+  carries = if_ok c.constant_constructor.result _ _ (λ m h. h (binds_of c.args.names.now.items) (names_seen c.args.seen.now.items) (tree_row c.args.node.now row_name.Pcon pcon_row c.in-Pcon.is refl)) c.constant_constructor.ensures.carries;
 }
 
 pub match_node-returns-in-Pconst : goal.match_node-returns-in-Pconst
@@ -224,6 +259,8 @@ match_node-returns-in-Pconst t c = record {
   names = row_names c.number_row.result c.args.number c.args.node.now row_name.Pconst pconst_row c.args.names.now.items c.args.names.now.items c.in-Pconst.is refl (on_any c.number_row.result (Binds c.args.names.now.items c.args.names.now.items []) (binds_none c.args.names.now.items));
   recorded = c.number_row.ensures.recorded;
   goes = c.number_row.ensures.goes;
+  carries = if_ok c.number_row.result _ _ (λ m h. constant_matches c.args.at.now c.number_row.new.at c.args.env.now c.args.number (node_view c.args.node.now) m (binds_of c.args.names.now.items) (names_seen c.args.seen.now.items)
+      (subst (λ o. NotesRow c.args.at.now c.number_row.new.at c.args.env.now c.args.number (λ n. constant false n o) m) c.token.ensures h) (tree_row c.args.node.now row_name.Pconst pconst_row c.in-Pconst.is refl)) c.number_row.ensures.carries;
 }
 
 pub match_node-returns-in-Pneg : goal.match_node-returns-in-Pneg
@@ -234,6 +271,8 @@ match_node-returns-in-Pneg t c = record {
   names = row_names c.number_row-in-Pneg.result c.args.number c.args.node.now row_name.Pneg pneg_row c.args.names.now.items c.args.names.now.items c.in-Pneg.is refl (on_any c.number_row-in-Pneg.result (Binds c.args.names.now.items c.args.names.now.items []) (binds_none c.args.names.now.items));
   recorded = c.number_row-in-Pneg.ensures.recorded;
   goes = c.number_row-in-Pneg.ensures.goes;
+  carries = if_ok c.number_row-in-Pneg.result _ _ (λ m h. minus_matches c.args.at.now c.number_row-in-Pneg.new.at c.args.env.now c.args.number (node_view c.args.node.now) m (binds_of c.args.names.now.items) (names_seen c.args.seen.now.items)
+      (subst (λ o. NotesRow c.args.at.now c.number_row-in-Pneg.new.at c.args.env.now c.args.number (λ n. constant true n o) m) c.token-in-Pneg.ensures h) (tree_row c.args.node.now row_name.Pneg pneg_row c.in-Pneg.is refl)) c.number_row-in-Pneg.ensures.carries;
 }
 
 pub match_node-returns-in_default : goal.match_node-returns-in_default
@@ -246,6 +285,8 @@ match_node-returns-in_default t c =
       names = on_any c.anything.result (Binds c.args.names.now.items c.args.names.now.items (names_of_tree n (node_view nd))) (subst (λ ts. Binds c.args.names.now.items c.args.names.now.items ts) (sym (other_bound n nd (other_names (out-Node nd).row n (node_view nd) parts c.in_default.not-Papp c.in_default.not-Precord c.in_default.not-Por c.in_default.not-Pparen c.in_default.not-Plist c.in_default.not-Pcons c.in_default.not-Ptuple c.in_default.not-Pas c.in_default.not-Pname c.in_default.not-Pcon c.in_default.not-Pconst c.in_default.not-Pneg))) (binds_none c.args.names.now.items));
       recorded = c.anything.ensures.recorded;
       goes = c.anything.ensures.goes;
+      carries = if_ok c.anything.result _ _ (λ m h place carried. any_matches c.args.at.now c.anything.new.at c.args.env.now n (node_view nd) m (binds_of c.args.names.now.items) (names_seen c.args.seen.now.items) h
+          (any_row nd carried.rows c.in_default.not-Pcon c.in_default.not-Por c.in_default.not-Pparen c.in_default.not-Plist c.in_default.not-Pcons c.in_default.not-Ptuple c.in_default.not-Pas c.in_default.not-Pname c.in_default.not-Pconst c.in_default.not-Pneg) place carried) c.anything.ensures.carries;
     }
 
 pub match_field-returns-in_default : goal.match_field-returns-in_default
@@ -284,6 +325,7 @@ in_brackets-returns t c =
       names = slot_binds c.in_order.result n tree 1 os c.args.names.now.items c.in_order.new.names.items same c.in_order.ensures.names;
       typed = subst (λ xs. IfOk c.in_order.result (λ ts. typed_view ts.items ≡ xs)) same c.in_order.ensures.typed;
       goes = c.in_order.ensures.goes;
+      carries = subst (λ xs. IfOk c.in_order.result (λ ts. MatchesOperands c.args.at.now c.in_order.new.at c.args.env.now xs (binds_of c.args.names.now.items) (binds_of c.in_order.new.names.items) (names_seen c.args.seen.now.items) (names_seen c.in_order.new.seen.items) (nodes_of ts.items))) same c.in_order.ensures.carries;
     }
 
 pub in_row-returns : goal.in_row-returns
@@ -297,6 +339,7 @@ in_row-returns t c =
       names = slots_bind c.in_order.result n tree os c.args.names.now.items c.in_order.new.names.items same c.in_order.ensures.names;
       typed = subst (λ xs. IfOk c.in_order.result (λ ts. typed_view ts.items ≡ xs)) same c.in_order.ensures.typed;
       goes = c.in_order.ensures.goes;
+      carries = subst (λ xs. IfOk c.in_order.result (λ ts. MatchesOperands c.args.at.now c.in_order.new.at c.args.env.now xs (binds_of c.args.names.now.items) (binds_of c.in_order.new.names.items) (names_seen c.args.seen.now.items) (names_seen c.in_order.new.seen.items) (nodes_of ts.items))) same c.in_order.ensures.carries;
     }
 
 pub sides_in-returns : goal.sides_in-returns
@@ -309,6 +352,8 @@ sides_in-returns t c =
       follows = slots_follow c.match_sides.result n tree os c.args.at.now c.match_sides.new.at same c.match_sides.ensures.follows;
       sides = subst (λ xs. IfOk c.match_sides.result (λ ss. map side_view ss.items ≡ xs)) (sides_come n tree os same) c.match_sides.ensures.sides;
       goes = c.match_sides.ensures.goes;
+      carries = subst (λ xs. IfOk c.match_sides.result (λ ss. MatchesBeside c.args.at.now c.match_sides.new.at c.args.env.now xs (names_seen c.args.seen.now.items) (names_seen c.match_sides.new.seen.items) (map side_of ss.items))) same c.match_sides.ensures.carries;
+      parts = subst (λ xs. IfOk c.match_sides.result (λ ss. parts_of_sides ss.items ≡ xs)) same c.match_sides.ensures.parts;
     }
 
 pub parenthesised-returns : goal.parenthesised-returns
@@ -326,6 +371,9 @@ parenthesised-returns t c =
       names = c.in_ok-typed.ensures.names;
       recorded = c.in_ok-note_type.ensures.recorded;
       goes = goes_trans c.args.at.now c.in_brackets.new.at c.note_type.new.self c.in_brackets.ensures.goes (goes_trans c.in_brackets.new.at c.annotated.new.at c.note_type.new.self c.annotated.ensures.goes c.note_type.ensures.goes);
+      carries = paren_matches c.args.at.now c.in_brackets.new.at c.annotated.new.at c.note_type.new.self c.args.env.now n tree c.in_ok-ty.ty (binds_of c.args.names.now.items) (binds_of c.in_brackets.new.names.items) (names_seen c.args.seen.now.items) (names_seen c.in_brackets.new.seen.items) (nodes_of c.in_ok-typed.typed.items) c.in_ok-typed.ensures.carries c.in_brackets.ensures.goes
+          (λ none o os is. subst (λ ts. (slice_get (nodes_of ts) 0 ≡ Some c.in_ok-ty.ty.0) × (c.annotated.new.at ≡ c.in_brackets.new.at)) c.deref.ensures.value (c.in_ok-ty.ensures.first (none_of operand_view c.first_operand.result (c.first_operand.ensures ∙ none)) o os (ap typed_view c.deref.ensures.value ∙ c.in_ok-typed.ensures.typed ∙ is)))
+          c.in_ok-note_type.ensures.noted c.note_type.ensures.rest;
     }
 
 pub list-returns : goal.list-returns
@@ -341,6 +389,10 @@ list-returns t c =
       names = c.in_ok-typed.ensures.names;
       recorded = c.in_ok-note_type.ensures.recorded;
       goes = goes_trans c.args.at.now c.in_brackets.new.at c.note_type.new.self c.in_brackets.ensures.goes (goes_trans c.in_brackets.new.at c.list_of.new.at c.note_type.new.self c.list_of.ensures.goes c.note_type.ensures.goes);
+      carries = list_matches c.args.at.now c.in_brackets.new.at c.list_of.new.at c.note_type.new.self c.args.env.now n tree c.in_ok-ty.ty (binds_of c.args.names.now.items) (binds_of c.in_brackets.new.names.items) (names_seen c.args.seen.now.items) (names_seen c.in_brackets.new.seen.items) (nodes_of c.in_ok-typed.typed.items) c.in_ok-typed.ensures.carries c.in_brackets.ensures.goes
+          (subst (λ os. EndsPatterns c.in_brackets.new.at c.list_of.new.at c.args.env.now (list_asks (patterns_of c.in_brackets.new.at.item os)) (patterns_of c.in_brackets.new.at.item os) (nodes_of c.in_ok-typed.typed.items) c.in_ok-ty.ty.0) same
+          (subst (λ ts. EndsPatterns c.in_brackets.new.at c.list_of.new.at c.args.env.now (list_asks (patterns_of c.in_brackets.new.at.item (typed_view c.deref.result.now))) (patterns_of c.in_brackets.new.at.item (typed_view c.deref.result.now)) (nodes_of ts) c.in_ok-ty.ty.0) c.deref.ensures.value c.in_ok-ty.ensures.carries))
+          c.list_of.ensures.goes c.in_ok-note_type.ensures.noted c.note_type.ensures.rest;
     }
 
 pub cons-returns : goal.cons-returns
@@ -356,6 +408,9 @@ cons-returns t c =
       names = c.in_ok-typed.ensures.names;
       recorded = c.in_ok-note_type.ensures.recorded;
       goes = goes_trans c.args.at.now c.in_row.new.at c.note_type.new.self c.in_row.ensures.goes (goes_trans c.in_row.new.at c.cons_of.new.at c.note_type.new.self c.cons_of.ensures.goes c.note_type.ensures.goes);
+      carries = cons_matches c.args.at.now c.in_row.new.at c.cons_of.new.at c.note_type.new.self c.args.env.now n tree c.in_ok-ty.ty (binds_of c.args.names.now.items) (binds_of c.in_row.new.names.items) (names_seen c.args.seen.now.items) (names_seen c.in_row.new.seen.items) (nodes_of c.in_ok-typed.typed.items) c.in_ok-typed.ensures.carries c.in_row.ensures.goes
+          (λ o p is. subst (λ ts. EndsPatterns c.in_row.new.at c.cons_of.new.at c.args.env.now (cons_asks (pattern_of c.in_row.new.at.item o) (pattern_of c.in_row.new.at.item p)) (pattern_of c.in_row.new.at.item o ∷ pattern_of c.in_row.new.at.item p ∷ []) (nodes_of ts) c.in_ok-ty.ty.0) c.deref.ensures.value (c.in_ok-ty.ensures.carries o p (same ∙ is)))
+          c.cons_of.ensures.goes c.in_ok-note_type.ensures.noted c.note_type.ensures.rest;
     }
 
 pub tuple-returns : goal.tuple-returns
@@ -370,6 +425,9 @@ tuple-returns t c =
       names = c.in_ok-typed.ensures.names;
       recorded = c.in_ok-note_type.ensures.recorded;
       goes = goes_trans c.args.at.now c.in_row.new.at c.note_type.new.self c.in_row.ensures.goes (goes_trans c.in_row.new.at c.tuple.new.self c.note_type.new.self c.tuple.ensures.goes c.note_type.ensures.goes);
+      carries = tuple_matches c.args.at.now c.in_row.new.at c.tuple.new.self c.note_type.new.self c.args.env.now n (node_view c.args.node.now) c.in_ok-ty.ty (binds_of c.args.names.now.items) (binds_of c.in_row.new.names.items) (names_seen c.args.seen.now.items) (names_seen c.in_row.new.seen.items) (nodes_of c.in_ok-typed.typed.items) c.in_ok-typed.ensures.carries c.in_row.ensures.goes
+          (subst (λ ms. All (IsNode c.in_row.new.at.store.nodes) ms → Makes c.in_row.new.at.store c.tuple.new.self.store c.in_ok-ty.ty.0 (node.Tuple ms)) (ap numbers c.deref-2.ensures.value ∙ c.in_ok-types.ensures ∙ ap nodes_of c.deref.ensures.value) c.in_ok-ty.ensures.made)
+          c.tuple.ensures.rest c.tuple.ensures.goes c.in_ok-note_type.ensures.noted c.note_type.ensures.rest;
     }
 
 pub named-returns : goal.named-returns
@@ -389,6 +447,9 @@ named-returns t c =
       names = binds_both c.args.names.now.items c.in_row.new.names.items c.bind_if.new.names.items (names_of (in_slots ps)) (name_of (token_in tree 2)) c.in_ok-typed.ensures.names names;
       recorded = c.in_ok-bind_if.ensures.recorded;
       goes = goes_trans c.args.at.now c.in_row.new.at c.bind_if.new.at c.in_row.ensures.goes (goes_trans c.in_row.new.at c.first_type.new.at c.bind_if.new.at c.first_type.ensures.goes c.bind_if.ensures.goes);
+      carries = as_matches c.args.at.now c.in_row.new.at c.first_type.new.at c.bind_if.new.at c.args.env.now n tree c.in_ok-ty.ty (binds_of c.args.names.now.items) (binds_of c.in_row.new.names.items) (binds_of c.bind_if.new.names.items) (names_seen c.args.seen.now.items) (names_seen c.in_row.new.seen.items) (names_seen c.bind_if.new.seen.items) (nodes_of c.in_ok-typed.typed.items) c.in_ok-typed.ensures.carries c.in_row.ensures.goes
+          (λ o os is. subst (λ ts. (slice_get (nodes_of ts) 0 ≡ Some c.in_ok-ty.ty.0) × (c.first_type.new.at ≡ c.in_row.new.at)) c.deref.ensures.value (c.in_ok-ty.ensures.first o os (ap typed_view c.deref.ensures.value ∙ c.in_ok-typed.ensures.typed ∙ is)))
+          (subst (λ q. BindsNameIf q c.first_type.new.at c.bind_if.new.at c.args.env.now c.args.number c.in_ok-ty.ty (binds_of c.in_row.new.names.items) (binds_of c.bind_if.new.names.items) (names_seen c.in_row.new.seen.items) (names_seen c.bind_if.new.seen.items)) c.token.ensures c.in_ok-bind_if.ensures.binds);
     }
 
 pub applied-returns : goal.applied-returns
@@ -430,6 +491,11 @@ alternatives-returns t c =
       names = subst (λ ss. Binds c.args.names.now.items c.first_side.new.names.items (names_of_first ss)) c.in_ok-sides.ensures.sides c.in_ok-first.ensures.names;
       recorded = c.in_ok-note_type.ensures.recorded;
       goes = goes_trans c.args.at.now c.sides_in.new.at c.note_type.new.self c.sides_in.ensures.goes (goes_trans c.sides_in.new.at c.compare_sides.new.at c.note_type.new.self c.compare_sides.ensures.goes (goes_trans c.compare_sides.new.at c.first_side.new.at c.note_type.new.self c.first_side.ensures.goes c.note_type.ensures.goes));
+      carries = or_matches c.args.at.now c.sides_in.new.at c.first_side.new.at c.note_type.new.self c.args.env.now n tree c.in_ok-first.first (binds_of c.args.names.now.items) (binds_of c.first_side.new.names.items) (names_seen c.args.seen.now.items) (names_seen c.sides_in.new.seen.items) (map side_of c.in_ok-sides.sides.items) c.in_ok-sides.ensures.carries c.sides_in.ensures.goes
+          (sides_compared c.sides_in.new.at c.compare_sides.new.at c.first_side.new.at (all_operands n tree) c.in_ok-sides.sides.items c.in_ok-first.first.0 c.args.names.now.items c.first_side.new.names.items c.in_ok-sides.ensures.parts
+          (subst (λ ss. (i : ℕ) (x : Side) (xs : List Side) (o : Numbered) (os : List Numbered) → map side_of ss ≡ x ∷ xs → parts_of_sides ss ≡ o ∷ os → AsksLater c.sides_in.new.at c.compare_sides.new.at x xs (patterns_of i os)) c.deref.ensures.value c.in_ok-compare_sides.ensures.carries)
+          c.in_ok-first.ensures.first)
+          (goes_trans c.sides_in.new.at c.compare_sides.new.at c.first_side.new.at c.compare_sides.ensures.goes c.first_side.ensures.goes) c.in_ok-note_type.ensures.noted c.note_type.ensures.rest;
     }
 
 pub record-returns : goal.record-returns
@@ -484,3 +550,29 @@ match_record-returns t c =
 pub match_side-returns-clause-side : goal.match_side-returns-clause-side
 match_side-returns-clause-side t c =
     side_is (record { part = c.args.part; ty = c.in_ok-ty.ty; names = c.match_pattern.new.names }) (operand_view c.args.part) c.new-names.result.items c.new-names.ensures.items refl c.in_ok-ty.ensures.names
+
+pub match_side-returns-clause-carries : goal.match_side-returns-clause-carries
+match_side-returns-clause-carries t c =
+    subst (λ bs. MatchesOperand c.args.at.now c.match_pattern.new.at c.args.env.now (operand_view c.args.part) (binds_of bs) (binds_of c.match_pattern.new.names.items) (names_seen c.args.seen.now.items) (names_seen c.match_pattern.new.seen.items) c.in_ok-ty.ty.0) c.new-names.ensures.items c.in_ok-ty.ensures.carries
+
+pub in_order-loop-part-init : goal.in_order-loop-part-init
+in_order-loop-part-init t c =
+    let all = c.args.parts.now in
+    record {
+      goes = goes_refl c.args.at.now;
+      gets = gets_start (each pattern_steps (map operand_view all)) c.args.at.now;
+      names = refl;
+      typed = ap (λ ts. typed_view ts ++ map operand_view all) c.new-typed.ensures.items;
+      carries = λ carried. in_order_none c.args.at.now c.args.env.now (as_patterns c.args.at.now.item all) (binds_of c.args.names.now.items) (names_seen c.args.seen.now.items) (nodes_of c.new-typed.result.items) (ap nodes_of c.new-typed.ensures.items);
+    }
+
+pub match_sides-loop-part-init : goal.match_sides-loop-part-init
+match_sides-loop-part-init t c =
+    let all = c.args.parts.now in
+    record {
+      goes = goes_refl c.args.at.now;
+      gets = gets_start (each pattern_steps (map operand_view all)) c.args.at.now;
+      sides = ap (λ ss. map side_view ss ++ map side_at (map operand_view all)) c.new-sides.ensures.items;
+      carries = λ carried. beside_none c.args.at.now c.args.env.now (as_patterns c.args.at.now.item all) c.args.seen.now.items c.new-all.result.items c.new-sides.result.items c.new-all.ensures.items c.new-sides.ensures.items;
+      parts = ap (λ ss. parts_of_sides ss ++ map operand_view all) c.new-sides.ensures.items;
+    }

@@ -3,7 +3,11 @@ use Rattle.row_parts.specs.Numbered.{operand_view}
 use Rattle.typing_state.specs.Goes.{Goes}
 use Rattle.typing_state.specs.Steps.{each, GetsOn}
 use Rattle.pattern_steps.specs.PatternSteps.{pattern_steps, pattern_names, field_pattern_steps, field_pattern_names, names_in, side_at}
-use Rattle.pattern_typing.specs.Matching.{tokens_of, side_view, typed_view}
+use Rattle.pattern_typing.specs.Matching.{binds_of, names_seen, nodes_of, parts_of_sides, side_of, tokens_of, side_view, typed_view}
+use Rattle.pattern_rows.specs.CarriedPatterns.{IsCarriedPattern}
+use Rattle.pattern_rows.specs.Contracts.{patterns_of, InOrderFirst}
+use Rattle.pattern_typing.proofs.Stepping.{BesideFirst}
+use Rattle.std.specs.Prelude.{All}
 use Rattle.pattern_typing.proofs.patterns.+patterns.Given as goal
 
 abbrev pub decreases-match_pattern : goal.decreases-match_pattern
@@ -75,6 +79,7 @@ invariant-in_order-loop-part l = record {
   gets : GetsOn l.fn.at l.at (each pattern_steps (map operand_view l.parts)) (each pattern_steps (map operand_view (drop l.part-index l.parts)));
   names : tokens_of l.names.items ++ names_in pattern_names (map operand_view (drop l.part-index l.parts)) ≡ tokens_of l.fn.names.items ++ names_in pattern_names (map operand_view l.parts);
   typed : typed_view l.typed.items ++ map operand_view (drop l.part-index l.parts) ≡ map operand_view l.parts;
+  carries : All IsCarriedPattern (map operand_view l.parts) → InOrderFirst l.fn.at l.at l.env (patterns_of l.fn.at.item (map operand_view l.parts)) (patterns_of l.fn.at.item (map operand_view (drop l.part-index l.parts))) (binds_of l.fn.names.items) (binds_of l.names.items) (names_seen l.fn.seen.items) (names_seen l.seen.items) (nodes_of l.typed.items);
 }
 
 abbrev pub invariant-match_sides-loop-part : goal.invariant-match_sides-loop-part
@@ -82,6 +87,8 @@ invariant-match_sides-loop-part l = record {
   goes : Goes l.fn.at l.at;
   gets : GetsOn l.fn.at l.at (each pattern_steps (map operand_view l.parts)) (each pattern_steps (map operand_view (drop l.part-index l.parts)));
   sides : map side_view l.sides.items ++ map side_at (map operand_view (drop l.part-index l.parts)) ≡ map side_at (map operand_view l.parts);
+  carries : All IsCarriedPattern (map operand_view l.parts) → BesideFirst l.fn.at l.at l.env (patterns_of l.fn.at.item (map operand_view l.parts)) (patterns_of l.fn.at.item (map operand_view (drop l.part-index l.parts))) (names_seen l.fn.seen.items) (names_seen l.seen.items) (names_seen l.all.items) (map side_of l.sides.items);
+  parts : parts_of_sides l.sides.items ++ map operand_view (drop l.part-index l.parts) ≡ map operand_view l.parts;
 }
 
 abbrev pub invariant-match_fields-loop-field : goal.invariant-match_fields-loop-field

@@ -8,3 +8,12 @@ pub returns-clause-tells : goal.returns-clause-tells
 returns-clause-tells c =
     range_stays (option_map (λ t. tok_of t.now) c.args.token) (is_negated c.args.sign) c.args.at.now c.constant.new.at c.note_type.new.self c.in_ok-ty.ensures.tells
     (ap (λ f. f.list.items) c.note_type.ensures.rest.faults)
+
+pub returns-clause-carries : goal.returns-clause-carries
+returns-clause-carries c = record {
+  between = c.constant.new.at;
+  typed = λ n. c.in_ok-ty.ensures.carries c.args.env.now n;
+  goes = c.constant.ensures.goes;
+  noted = c.in_ok-note_type.ensures.noted;
+  rest = c.note_type.ensures.rest;
+}

@@ -1,0 +1,16 @@
+use Rattle.std.proofs.Common.{subst}
+use Rattle.syntax_tree.specs.View.{node_view}
+use Rattle.typing_steps.proofs.Rows.{var_any}
+use Rattle.pattern_rows.specs.Named.{BindsNameIf}
+use Rattle.pattern_rows.proofs.Matching.{name_matches}
+use Rattle.pattern_typing.specs.Matching.{binds_of, names_seen}
+use Rattle.pattern_typing.proofs.patterns.name.Goals as goal
+
+pub returns-clause-carries : goal.returns-clause-carries
+returns-clause-carries c =
+    let xs = binds_of c.args.names.now.items in
+    let ys = binds_of c.bind_if.new.names.items in
+    let seen = names_seen c.args.seen.now.items in
+    let then = names_seen c.bind_if.new.seen.items in
+    name_matches c.args.at.now c.var.new.self c.bind_if.new.at c.args.env.now c.args.number (node_view c.args.node.now) c.in_ok-ty.ty xs ys seen then (var_any c.args.at.now c.var.new.self c.in_ok-ty.ensures.made c.var.ensures.rest) c.var.ensures.goes
+    (subst (λ q. BindsNameIf q c.var.new.self c.bind_if.new.at c.args.env.now c.args.number c.in_ok-ty.ty xs ys seen then) c.token.ensures c.in_ok-bind_if.ensures.binds)
