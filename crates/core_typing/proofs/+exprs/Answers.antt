@@ -39,7 +39,7 @@ use Rattle.typing_rows.proofs.Given.{types_argument, given_none, given_all, each
 use Rattle.typing_rows.proofs.Ordered.{part_typed, parts_none, parts_all}
 use Rattle.typing_rows.proofs.Typed.{applied_typed, operated_typed, signed_row}
 use Rattle.typing_steps.proofs.Rows.{equal_asks}
-use Rattle.expression_steps.proofs.CarryingLaws.{if_ok, if_any, both_ok, usual_by, by_operation, form_there, paren_row, plain_row, operation_row, operation_missing, minus_float, minus_operation, application_row, construction_row, first_carried, later_carried, head_row, known_later, unknown_later, typed_as_if, constructed_row, argument_typed, each_step, given_step, parts_step}
+use Rattle.expression_steps.proofs.CarryingLaws.{if_ok, if_any, both_ok, usual_by, by_operation, form_there, paren_row, plain_row, operation_row, operation_missing, minus_float, minus_operation, application_row, construction_row, first_carried, later_carried, head_row, known_later, unknown_later, typed_as_if as typed_where_wanted, constructed_row, argument_typed, each_step, given_step, parts_step}
 use Rattle.std.specs.Option.{IfSome}
 use Rattle.expression_steps.specs.Operators.{sign_in, IsSignOf}
 use Rattle.core_typing.proofs.+exprs.Goals.{plain::type_parts-then-place-eq2, plain::type_parts-else-place-eq2}
@@ -483,7 +483,7 @@ apply::application-returns-clause-carries t c =
 
 pub exprs::typed_as-returns-clause-carries : goal.exprs::typed_as-returns-clause-carries
 exprs::typed_as-returns-clause-carries t c = λ carried.
-    typed_as_if c.args.at.now c.type_under.new.at c.equal_if.new.at c.args.scope.now (operand_view c.args.e) c.in_ok-ty.ty.0 c.args.wanted (c.in_ok-ty.ensures.carries carried) c.type_under.ensures.goes c.in_ok-equal_if.ensures.carries
+    typed_where_wanted c.args.at.now c.type_under.new.at c.equal_if.new.at c.args.scope.now (operand_view c.args.e) c.in_ok-ty.ty.0 c.args.wanted (c.in_ok-ty.ensures.carries carried) c.type_under.ensures.goes c.in_ok-equal_if.ensures.carries
 
 pub apply::with_argument-returns-clause-carries : goal.apply::with_argument-returns-clause-carries
 apply::with_argument-returns-clause-carries t c =
