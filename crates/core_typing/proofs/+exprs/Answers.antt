@@ -1,5 +1,5 @@
-use Rattle.std.proofs.Common.{◌≡◌, ◌∙◌, ◌++◌, ◌+◌, ◌<◌, [], ◌∷◌, length, map, drop, sym, ap, subst, arith, length-append, refl, rules, ◌==◌, ℕ, List}
-use Rattle.std.specs.Prelude.{OnOk, None, option_map, All, Some}
+use Rattle.std.proofs.Common.{◌≡◌, ◌∙◌, ◌++◌, ◌+◌, ◌<◌, [], ◌∷◌, length, map, drop, sym, ap, subst, arith, length-append, refl, rules, ◌==◌, ℕ, List, Bool, true, false}
+use Rattle.std.specs.Prelude.{OnOk, None, option_map, All, Some, not}
 use Rattle.syntax_tree.specs.Names.{row_of}
 use Rattle.syntax_tree.specs.View.{node_view, place_of, tok_of}
 use Rattle.syntax_tree.specs.declared.tree.Node.{out-Node}
@@ -491,14 +491,22 @@ apply::with_argument-returns-clause-carries t c =
     head_row c.args.at.now c.constructor.new.at c.typed_as.new.at c.note_head.new.at c.args.env.now n c.args.number (path_as (path_view c.args.path.now)) c.args.first c.in_ok-found.found h c.in_ok-found.ensures.carries c.constructor.ensures.goes
     (c.in_ok-typed_as.ensures.carries carried) c.typed_as.ensures.goes both.0 both.1) (both_ok c.note_head.result _ _ c.note_head.ensures.carries c.note_head.ensures.head)
 
+is_false : (b : Bool) → not b ≡ true → b ≡ false
+is_false true h = sym h
+is_false false h = refl
+
+is_true : (b : Bool) → not b ≡ false → b ≡ true
+is_true true h = refl
+is_true false h = sym h
+
 pub apply::later_arguments-returns-then-not-head-clause-carries : goal.apply::later_arguments-returns-then-not-head-clause-carries
 apply::later_arguments-returns-then-not-head-clause-carries t c =
     if_ok c.built_by_unknown.result _ _ (λ u h all.
-    unknown_later c.args.at.now c.type_each.new.at c.built_by_unknown.new.at c.args.env.now (place_of c.args.place) (map operand_view c.args.later.now) c.args.head u.ty c.if-not-head.true (c.in_ok-type_each.ensures.carries all) c.type_each.ensures.goes h) c.built_by_unknown.ensures.carries
+    unknown_later c.args.at.now c.type_each.new.at c.built_by_unknown.new.at c.args.env.now (place_of c.args.place) (map operand_view c.args.later.now) c.args.head u.ty (is_false c.args.head.known c.if-not-head.true) (c.in_ok-type_each.ensures.carries all) c.type_each.ensures.goes h) c.built_by_unknown.ensures.carries
 
 pub apply::later_arguments-returns-clause-carries : goal.apply::later_arguments-returns-clause-carries
 apply::later_arguments-returns-clause-carries t c = λ all.
-    known_later c.args.at.now c.arguments.new.at c.args.env.now (place_of c.args.place) (expressions_of c.args.at.now.item (map operand_view c.args.later.now)) c.args.head c.in_ok-ty.ty c.unnamed.result.ty c.if-not-head.false c.unnamed.ensures.ty (c.in_ok-ty.ensures.carries all)
+    known_later c.args.at.now c.arguments.new.at c.args.env.now (place_of c.args.place) (expressions_of c.args.at.now.item (map operand_view c.args.later.now)) c.args.head c.in_ok-ty.ty c.unnamed.result.ty (is_true c.args.head.known c.if-not-head.false) c.unnamed.ensures.ty (c.in_ok-ty.ensures.carries all)
 
 pub apply::operated-returns-clause-carries : goal.apply::operated-returns-clause-carries
 apply::operated-returns-clause-carries t c = λ all n.
