@@ -1,6 +1,6 @@
 -- What is said of names.
-use Rattle.std.proofs.Common.{◌≡◌, ◌⊎◌, inl, inr, ℕ, List, map, filter, refl, sym, ◌∙◌, ap, subst, Result, Ok, Err, IfOk, true, false, ◌&&◌}
-use Rattle.std.specs.Prelude.{Option, Some, None, nat_eq}
+use Rattle.std.proofs.Common.{◌≡◌, inl, inr, ℕ, List, map, filter, refl, sym, ◌∙◌, ap, subst, Result, Ok, Err, IfOk, true, false}
+use Rattle.std.specs.Prelude.{Option, Some, None}
 use Rattle.std.proofs.lemmas.Bool.{eq-eqb}
 use Rattle.std.specs.declared.vec.Vec.{Vec}
 use Rattle.std.specs.declared.alloc.Global.{Global}
@@ -10,7 +10,6 @@ use Rattle.text_terms.specs.declared.Span.{Span}
 use Rattle.tree_model.specs.Trees.{Tree}
 use Rattle.query_model.specs.NameTokens.{Name}
 use Rattle.service_model.specs.Replies as said
-use Rattle.service_model.specs.Structure.{items_in}
 use Rattle.service_model.specs.Answers.{ItemsAre, NameIs, PlaceIs, UsesAre, shown_place}
 use Rattle.syntax_tree.specs.View.{place_of, trees_of}
 use Rattle.env_table.specs.declared.entries.Place.{Place}

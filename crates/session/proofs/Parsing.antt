@@ -1,5 +1,5 @@
 -- What a text is parsed as, and how its outline is shown.
-use Rattle.std.proofs.Common.{◌≡◌, ℕ, List, [], ◌∷◌, map, refl, sym, ◌∙◌, ap, subst, Result, Ok, Err, IfOk, Option, Some, None, IfSome}
+use Rattle.std.proofs.Common.{◌≡◌, ℕ, List, [], ◌∷◌, map, refl, ap, subst, Result, Ok, Err, IfOk, Option, Some, None, IfSome}
 use Rattle.token_model.specs.Kinds.{Tok}
 use Rattle.text_model.specs.Positions.{position_of}
 use Rattle.text_terms.specs.Bytes.{str_bytes}

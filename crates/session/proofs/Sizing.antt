@@ -1,8 +1,7 @@
 -- The sizes of a text, and a text with bytes put behind it.
-use Rattle.std.proofs.Common.{◌≡◌, ℕ, ◌+◌, List, [], ◌++◌, length, map, take, drop, append-nil, Some, refl, sym, ◌∙◌, ap, subst, arith, Bool, true, false, ◌&&◌}
+use Rattle.std.proofs.Common.{◌≡◌, ℕ, ◌+◌, List, ◌++◌, length, map, drop, append-nil, Some, sym, ◌∙◌, ap, subst, arith, Bool, true, false, ◌&&◌}
 use Rattle.std.specs.Prelude.{is_some}
 use Rattle.std.proofs.lemmas.List.{take_all, drop_all}
-use Rattle.std.specs.Str.{IsUtf8}
 use Rattle.text_model.specs.Edits.{apply, changed, outcome_of}
 use Rattle.text_model.specs.Positions.{offset, position_of}
 use Rattle.text_model.proofs.Positions.{offset-position_of}

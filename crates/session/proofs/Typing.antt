@@ -3,22 +3,18 @@ use Rattle.std.proofs.Common.{◌≡◌, ℕ, List, [], ◌++◌, length, map, a
 use Rattle.std.specs.Prelude.{Option, Some, None, option_map, is_some, reverse, IfSome}
 use Rattle.std.specs.List.{list_all}
 use Rattle.std.specs.declared.alloc.AllocError.{AllocError}
-use Rattle.text_terms.specs.Bytes.{str_bytes}
 use Rattle.token_model.specs.Kinds.{Tok, AllWithin}
 use Rattle.token_model.specs.Tokens.{Lex}
 use Rattle.tree_model.specs.Nodes.{nodes_at}
-use Rattle.tree_model.specs.Trees.{Tree}
 use Rattle.grammar_model.specs.Named.{named, items_of}
 use Rattle.recovery_model.specs.Recovery.{recover}
 use Rattle.grammar_model.specs.Ocaml.{grammar, program_text, row_name}
 use Rattle.plain_model.specs.Plain.{AllSeenWithin, plain_text}
-use Rattle.plain_model.specs.Plain as plain
 use Rattle.plain_model.proofs.Within.{seen_within}
-use Rattle.query_model.specs.Faults.{Fault, TyperFault, by_typer}
 use Rattle.query_model.specs.TypedNodes.{Typed}
 use Rattle.service_model.specs.Replies as said
 use Rattle.service_model.specs.Structure.{items_in, faults_in, faults_said, ErrorsAre, ErrorsBy, FaultsAre}
-use Rattle.service_model.specs.Answers.{EnclosingBy, EnclosingIs, TypesAre, typed_among, typed_round, types_or_none}
+use Rattle.service_model.specs.Answers.{EnclosingBy, EnclosingIs, TypesAre, typed_among, types_or_none}
 use Rattle.service_model.specs.WellTyped.{is_short, is_well_typed}
 use Rattle.syntax_tree.specs.View.{tok_of, trees_of}
 use Rattle.syntax_tree.specs.declared.tree.Token.{Token}

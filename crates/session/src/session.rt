@@ -383,6 +383,19 @@ impl<A: Analyser> Session<A> {
         }
     }
 
+    /// The same before a query that a plain text answers without a typer: the types of such a text aren't found.
+    fn refresh_unless_plain<C: Counts>(&mut self, counts: &mut C) -> Result<(), NoMemory>
+        ensures text { self.new ≡ self.old }
+        ensures counted { Grows (C.tallies counts.old) (C.tallies counts.new) }
+    {
+        self.read_again(counts)?;
+        let read = read_text(self.alloc, &self.kept, counts)?;
+        if read.plain.is_some() {
+            return Ok(());
+        }
+        self.refresh(counts)
+    }
+
     /// A query of a position.
     fn query_at<C: Counts>(&mut self, query: &Query, at: Pos, counts: &mut C) -> Line
         ensures says { Says (PlacedIs (offset self.old at.line at.col) (IsAnswered query.now self.old)) result }
@@ -440,7 +453,7 @@ impl<A: Analyser> Session<A> {
         ensures text { self.new ≡ self.old }
         ensures counted { Grows (C.tallies counts.old) (C.tallies counts.new) }
     {
-        let Ok(()) = self.refresh(counts) else {
+        let Ok(()) = self.refresh_unless_plain(counts) else {
             return Line::Memory;
         };
         match self.errors(counts) {
@@ -521,7 +534,7 @@ impl<A: Analyser> Session<A> {
         ensures text { self.new ≡ self.old }
         ensures counted { Grows (C.tallies counts.old) (C.tallies counts.new) }
     {
-        let Ok(()) = self.refresh(counts) else {
+        let Ok(()) = self.refresh_unless_plain(counts) else {
             return Line::Memory;
         };
         match self.enclosing(offset, counts) {

@@ -1,4 +1,4 @@
-use Rattle.std.proofs.Common.{◌≡◌, ◌++◌, ◌∙◌, ap, map, sym, subst, List, ℕ, length, IfOk, Option}
+use Rattle.std.proofs.Common.{◌≡◌, ◌∙◌, ap, map, subst, List, ℕ, length, IfOk}
 use Rattle.std.specs.Prelude.{option_map}
 use Rattle.std.specs.List.{list_all}
 use Rattle.token_model.specs.Kinds.{AllWithin}
@@ -11,7 +11,7 @@ use Rattle.service_model.specs.WellTyped.{is_short}
 use Rattle.syntax_tree.specs.View.{tok_of}
 use Rattle.syntax_tree.specs.declared.tree.Token.{Token}
 use Rattle.frame_steps.specs.Told.{told}
-use Rattle.session.specs.PlainTexts.{plain_of, IsReadAs}
+use Rattle.session.specs.PlainTexts.{plain_of}
 use Rattle.session.proofs.Typing.{read_parsed}
 use Rattle.session.proofs.reading.read_anew.Goals as goal
 

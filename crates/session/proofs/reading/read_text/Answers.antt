@@ -1,4 +1,4 @@
-use Rattle.std.proofs.Common.{◌<◌, List, ℕ, IfOk, arith, subst}
+use Rattle.std.proofs.Common.{List, ℕ, IfOk, arith, subst}
 use Rattle.token_store.specs.Stored.{toks_of}
 use Rattle.session.specs.PlainTexts.{IsReadAs}
 use Rattle.session.proofs.Typing.{read_kept}

@@ -1,6 +1,4 @@
-use Rattle.std.proofs.Common.{◌∙◌, subst, List, ℕ, length, map}
-use Rattle.plain_model.specs.Plain.{AllSeenWithin}
-use Rattle.plain_typing.specs.View.{seen_of}
+use Rattle.std.proofs.Common.{subst, List, ℕ}
 use Rattle.session.specs.PlainTexts.{IsReadAs}
 use Rattle.session.proofs.Typing.{enclosing_plain, plain_within}
 use Rattle.session.proofs.session.Session.enclosing.Goals as goal

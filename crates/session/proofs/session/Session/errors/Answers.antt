@@ -1,4 +1,4 @@
-use Rattle.std.proofs.Common.{◌∙◌, ◌++◌, [], ◌≡◌, IfOk, subst, List, ℕ, map}
+use Rattle.std.proofs.Common.{◌++◌, [], ◌≡◌, IfOk, subst, List, ℕ, map}
 use Rattle.service_model.specs.Structure.{faults_said}
 use Rattle.frame_steps.specs.declared.stack.SyntaxFault.{SyntaxFault}
 use Rattle.query_engine.specs.Faults.{fault_of}

@@ -1,4 +1,4 @@
-use Rattle.std.proofs.Common.{◌∙◌, subst, List, ℕ}
+use Rattle.std.proofs.Common.{subst, List, ℕ}
 use Rattle.session.specs.PlainTexts.{IsReadAs}
 use Rattle.session.proofs.Sizing.{sizes_plain, sizes_typed}
 use Rattle.session.proofs.session.Session.sizes.Goals as goal
