@@ -1,3 +1,4 @@
+use Rattle.typing_state.proofs.Going.{goes_refl}
 use Rattle.typed_index.specs.Seen.{seen_at}
 use Rattle.std.proofs.Common.{◌≡◌, ◌≢◌, ◌∙◌, false, refl, sym, subst}
 use Rattle.std.proofs.lemmas.Bool.{false≢true}
@@ -26,3 +27,12 @@ returns-clause-follows c = follows_noted c.note.result c.args.number c.args.self
 
 pub returns-clause-goes : goal.returns-clause-goes
 returns-clause-goes c = note_goes c.note.result c.args.self.now c.note.new.self c.args.number _ (none_there _ c.get.result _ c.get.ensures (sym c.is_some.ensures ∙ c.if-is_some.false)) c.note.ensures.noted c.note.ensures.failed
+
+pub returns-in_err-env-clause-goes : goal.returns-in_err-env-clause-goes
+returns-in_err-env-clause-goes c = goes_refl c.args.self.now
+
+pub returns-then-eq-clause-goes : goal.returns-then-eq-clause-goes
+returns-then-eq-clause-goes c = goes_refl c.args.self.now
+
+pub returns-then-is_some-clause-goes : goal.returns-then-is_some-clause-goes
+returns-then-is_some-clause-goes c = goes_refl c.args.self.now
