@@ -19,3 +19,6 @@ returns-in-Some-clause-goes c =
 
 pub returns-clause-extends : goal.returns-clause-extends
 returns-clause-extends c = node_extends c.var.result c.args.at.now.store c.var.new.self.store _ c.var.ensures.made
+
+pub returns-clause-goes : goal.returns-clause-goes
+returns-clause-goes c = c.var.ensures.goes

@@ -1,3 +1,4 @@
+use Rattle.typing_state.proofs.Going.{goes_refl}
 use Rattle.typing_state.proofs.Following.{store_silent}
 use Rattle.std.proofs.Common.{Some, ◌∙◌, ap, arith}
 use Rattle.type_nodes.specs.Nodes.{Tuple, IsNode}
@@ -33,3 +34,18 @@ returns c =
       silent = store_silent c.args.at.now c.var-in_default.new.self c.var-in_default.ensures.rest;
       goes = c.var-in_default.ensures.goes;
     }
+
+pub returns-in-Tuple-clause-goes : goal.returns-in-Tuple-clause-goes
+returns-in-Tuple-clause-goes c = c.applied.ensures.goes
+
+pub returns-in_err-parts-clause-goes : goal.returns-in_err-parts-clause-goes
+returns-in_err-parts-clause-goes c = goes_refl c.args.at.now
+
+pub returns-then-arity-eq0-clause-goes : goal.returns-then-arity-eq0-clause-goes
+returns-then-arity-eq0-clause-goes c = goes_refl c.args.at.now
+
+pub returns-then-len-root-clause-goes : goal.returns-then-len-root-clause-goes
+returns-then-len-root-clause-goes c = c.var.ensures.goes
+
+pub returns-then-not-are_nodes-clause-goes : goal.returns-then-not-are_nodes-clause-goes
+returns-then-not-are_nodes-clause-goes c = c.var-then-not-are_nodes.ensures.goes

@@ -1,3 +1,4 @@
+use Rattle.typing_state.proofs.Going.{goes_refl}
 use Rattle.std.proofs.Common.{refl, ◌∷◌, []}
 use Rattle.type_nodes.specs.Nodes.{Arrow}
 use Rattle.level_unify.specs.Copies.{table_of}
@@ -20,3 +21,9 @@ returns-clause-changed c = arrow_answer c.arrow.result c.args.at.now.store c.arr
 
 pub returns-clause-extends : goal.returns-clause-extends
 returns-clause-extends c = arrow_extends c.arrow.result c.args.at.now.store c.arrow.new.self.store c.image-left.result.0 c.image-right.result.0 _ _ c.arrow.ensures.made c.arrow.ensures.otherwise
+
+pub returns-clause-goes : goal.returns-clause-goes
+returns-clause-goes c = c.arrow.ensures.goes
+
+pub returns-then-not-is_any_changed-clause-goes : goal.returns-then-not-is_any_changed-clause-goes
+returns-then-not-is_any_changed-clause-goes c = goes_refl c.args.at.now

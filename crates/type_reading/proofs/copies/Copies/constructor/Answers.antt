@@ -1,3 +1,4 @@
+use Rattle.typing_state.proofs.Going.{goes_refl}
 use Rattle.std.proofs.Common.{refl, sym, ◌∙◌, ap, map}
 use Rattle.text_terms.specs.Bytes.{str_bytes}
 use Rattle.type_nodes.specs.Nodes.{Con}
@@ -54,3 +55,21 @@ returns-clause-changed c = λ known lt at copied.
     itself_changed nodes changes T c.args.n.0 (Con o name ms) (extends_refl nodes) tt put.1 at copied
     (c.is_any_changed.ensures c.if-is_any_changed.false (copied_nodes nodes (change_by changes) T ms copied))
     (ap (λ p. Con p name (map (image nodes T) ms)) (sym put.0)) lt
+
+pub returns-clause-goes : goal.returns-clause-goes
+returns-clause-goes c = goes_refl c.args.at.now
+
+pub returns-in-Path-clause-goes : goal.returns-in-Path-clause-goes
+returns-in-Path-clause-goes c = c.con.ensures.goes
+
+pub returns-in-Type-clause-goes : goal.returns-in-Type-clause-goes
+returns-in-Type-clause-goes c = c.over.ensures.goes
+
+pub returns-in_err-images-clause-goes : goal.returns-in_err-images-clause-goes
+returns-in_err-images-clause-goes c = goes_refl c.args.at.now
+
+pub returns-in_err-moved-in-Path-clause-goes : goal.returns-in_err-moved-in-Path-clause-goes
+returns-in_err-moved-in-Path-clause-goes c = goes_refl c.args.at.now
+
+pub returns-then-is_any_changed-clause-goes : goal.returns-then-is_any_changed-clause-goes
+returns-then-is_any_changed-clause-goes c = c.con-then-is_any_changed.ensures.goes

@@ -1,3 +1,4 @@
+use Rattle.typing_state.proofs.Going.{goes_refl}
 use Rattle.std.proofs.Common.{◌≡◌, refl, sym, ◌∙◌, ap, subst, ◌++◌, ◌∷◌, [], inl}
 use Rattle.level_unify.specs.Copies.{table_of}
 use Rattle.type_reading.specs.declared.copies.Task.TheVariants.{Enter}
@@ -25,3 +26,15 @@ returns-clause-changed c = λ leaves kept lt.
 
 pub returns-clause-otherwise : goal.returns-clause-otherwise
 returns-clause-otherwise c = λ not. absurd (not (c.is_node.ensures.0 c.if-not-is_node.false))
+
+pub returns-clause-goes : goal.returns-clause-goes
+returns-clause-goes c = c.work.ensures.goes
+
+pub returns-in_err-push-clause-goes : goal.returns-in_err-push-clause-goes
+returns-in_err-push-clause-goes c = goes_refl c.args.at.now
+
+pub returns-in_err-work-clause-goes : goal.returns-in_err-work-clause-goes
+returns-in_err-work-clause-goes c = c.work.ensures.goes
+
+pub returns-then-not-is_node-clause-goes : goal.returns-then-not-is_node-clause-goes
+returns-then-not-is_node-clause-goes c = goes_refl c.args.at.now

@@ -1,3 +1,4 @@
+use Rattle.typing_state.proofs.Going.{goes_refl}
 use Rattle.std.proofs.Common.{◌∷◌, [], Some, refl, sym, ◌∙◌, ap, subst}
 use Rattle.std.specs.Prelude.{nat_eq}
 use Rattle.std.specs.HashMap.{get}
@@ -73,3 +74,24 @@ returns-clause-stands c =
     (entered_parts nodes d (table_of c.args.self.now.table) c.args.self.now.todo.items c.args.n c.root-root.result ps (Con o.path.items (str_bytes o.name) (numbers ps)) aim c.view_of.ensures.sound tt c.root-root.ensures.node
     (λ lt. c.in_ok-level.ensures.seen lt ∙ ap (λ x. Some (seen_node x)) c.in-Con.is ∙ ap (λ ns. Some (Con o.path.items (str_bytes o.name) (numbers ns))) (sym c.deref-in-Con.ensures.value)) refl s))
     c.later-in-Con.ensures.pushed
+
+pub returns-clause-goes : goal.returns-clause-goes
+returns-clause-goes c = goes_refl c.args.at.now
+
+pub returns-in-Arrow-clause-goes : goal.returns-in-Arrow-clause-goes
+returns-in-Arrow-clause-goes c = goes_refl c.args.at.now
+
+pub returns-in-Other-clause-goes : goal.returns-in-Other-clause-goes
+returns-in-Other-clause-goes c = goes_refl c.args.at.now
+
+pub returns-in-Tuple-clause-goes : goal.returns-in-Tuple-clause-goes
+returns-in-Tuple-clause-goes c = goes_refl c.args.at.now
+
+pub returns-in-Variable-clause-goes : goal.returns-in-Variable-clause-goes
+returns-in-Variable-clause-goes c = c.enter_variable.ensures.goes
+
+pub returns-in_err-level-clause-goes : goal.returns-in_err-level-clause-goes
+returns-in_err-level-clause-goes c = goes_refl c.args.at.now
+
+pub returns-then-contains_key-clause-goes : goal.returns-then-contains_key-clause-goes
+returns-then-contains_key-clause-goes c = goes_refl c.args.at.now

@@ -13,3 +13,9 @@ returns-clause-stands c = on_ok c.set.result
     (left c.args.at.now.store.nodes c.rebuilt.new.at.store.nodes d (table_of c.args.self.now.table) (table_of c.set.new.self.table) c.args.self.now.todo.items c.args.n c.in_ok-copy.copy.0 aim
     c.rebuilt.ensures.sound c.in_ok-copy.ensures.extends sets c.in_ok-copy.ensures.changed s))
     c.set.ensures.set
+
+pub returns-clause-goes : goal.returns-clause-goes
+returns-clause-goes c = c.rebuilt.ensures.goes
+
+pub returns-in_err-copy-clause-goes : goal.returns-in_err-copy-clause-goes
+returns-in_err-copy-clause-goes c = c.rebuilt.ensures.goes

@@ -1,3 +1,4 @@
+use Rattle.typing_state.proofs.Going.{goes_refl}
 use Rattle.std.proofs.Common.{◌≡◌, Some, sym, ◌∙◌, ap}
 use Rattle.text_terms.specs.Bytes.{str_bytes}
 use Rattle.type_nodes.specs.Nodes.{Arrow, Tuple, Con, IsNode, parts}
@@ -39,3 +40,18 @@ returns-in-Con-clause-changed c =
     rebuilt_as c.constructor.result (AreDeclared c.args.at.now.store.nodes c.args.how.changes.now.real.items) c.args.at.now.store.nodes c.constructor.new.at.store.nodes (change_by c.args.how.changes.now) (table_of c.args.self.now.table) c.args.n.0 x
     (λ lt. c.in_ok-from.ensures.seen lt ∙ ap (λ s. Some (seen_node s)) c.in-Con.is ∙ ap (λ ns. Some (Con c.in-Con.origin.path.items (str_bytes c.in-Con.origin.name) (numbers ns))) (sym c.deref-in-Con.ensures.value))
     c.constructor.ensures.changed
+
+pub returns-in-Arrow-clause-goes : goal.returns-in-Arrow-clause-goes
+returns-in-Arrow-clause-goes c = c.arrow.ensures.goes
+
+pub returns-in-Con-clause-goes : goal.returns-in-Con-clause-goes
+returns-in-Con-clause-goes c = c.constructor.ensures.goes
+
+pub returns-in-Tuple-clause-goes : goal.returns-in-Tuple-clause-goes
+returns-in-Tuple-clause-goes c = c.tuple.ensures.goes
+
+pub returns-in_default-clause-goes : goal.returns-in_default-clause-goes
+returns-in_default-clause-goes c = goes_refl c.args.at.now
+
+pub returns-in_err-from-clause-goes : goal.returns-in_err-from-clause-goes
+returns-in_err-from-clause-goes c = goes_refl c.args.at.now

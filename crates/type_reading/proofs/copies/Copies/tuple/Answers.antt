@@ -1,3 +1,4 @@
+use Rattle.typing_state.proofs.Going.{goes_refl}
 use Rattle.std.proofs.Common.{refl, ◌∙◌, ap}
 use Rattle.type_nodes.specs.Nodes.{Tuple}
 use Rattle.type_nodes.specs.Views.{numbers}
@@ -21,3 +22,12 @@ returns-clause-changed c = tuple_answer c.tuple.result c.args.at.now.store c.tup
 
 pub returns-clause-extends : goal.returns-clause-extends
 returns-clause-extends c = over_extends c.tuple.result c.args.at.now.store c.tuple.new.self.store (numbers c.deref.result.now) _ _ c.tuple.ensures.made c.tuple.ensures.otherwise
+
+pub returns-clause-goes : goal.returns-clause-goes
+returns-clause-goes c = c.tuple.ensures.goes
+
+pub returns-in_err-images-clause-goes : goal.returns-in_err-images-clause-goes
+returns-in_err-images-clause-goes c = goes_refl c.args.at.now
+
+pub returns-then-not-is_any_changed-clause-goes : goal.returns-then-not-is_any_changed-clause-goes
+returns-then-not-is_any_changed-clause-goes c = goes_refl c.args.at.now

@@ -20,3 +20,12 @@ loop-preserved c =
       stands = λ leaves aim s. c.in_ok-step.ensures.stands leaves aim
           (subst (λ ts. Stands c.loop.at.store.nodes d (table_of c.loop.self.table) ts aim) taken (c.loop.invariant.stands leaves aim s));
     }
+
+pub returns-clause-goes : goal.returns-clause-goes
+returns-clause-goes c = c.loop.invariant.goes
+
+pub returns-in_default-clause-goes : goal.returns-in_default-clause-goes
+returns-in_default-clause-goes c = c.loop.invariant.goes
+
+pub returns-in_err-step-clause-goes : goal.returns-in_err-step-clause-goes
+returns-in_err-step-clause-goes c = goes_trans c.args.at.now c.loop.at c.step.new.at c.loop.invariant.goes c.step.ensures.goes
