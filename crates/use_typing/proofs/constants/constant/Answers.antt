@@ -1,3 +1,4 @@
+use Rattle.typing_state.proofs.Going.{goes_trans, goes_same, goes_refl}
 use Rattle.std.proofs.Common.{◌≡◌, ◌∙◌, sym, ap, subst}
 use Rattle.text_terms.specs.Bytes.{str_bytes}
 use Rattle.syntax_tree.specs.View.{tok_of}
@@ -46,3 +47,33 @@ returns-in_default-kind-clause-carries c =
     let k = c.in_default-kind in
     other_typed c.args.at.now (is_negated c.args.sign) c.args.token c.in-Some.token c.in-Some.is c.var-in_default-kind.result c.var-in_default-kind.new.self
     (other_asks c.in-Some.token.now.kind k.not-Int k.not-Float k.not-Char k.not-Str k.not-Unit k.not-True k.not-False k.not-Nil (is_negated c.args.sign) (tok_of c.in-Some.token.now)) c.var-in_default-kind.ensures.made c.var-in_default-kind.ensures.rest
+
+pub returns-after-not-in_range-clause-goes : goal.returns-after-not-in_range-clause-goes
+returns-after-not-in_range-clause-goes c = (elim c.if-not-in_range.branch [ then-not-in_range+in_ok-too_large-in-Int w ↦ goes_trans c.args.at.now w.too_large.new.self c.if-not-in_range.at w.too_large.ensures.goes (goes_same w.too_large.new.self c.if-not-in_range.at w.at-is) | else-not-in_range w ↦ goes_same c.args.at.now c.if-not-in_range.at w.at-is ])
+
+pub returns-in-Char-clause-goes : goal.returns-in-Char-clause-goes
+returns-in-Char-clause-goes c = goes_refl c.args.at.now
+
+pub returns-in-Float-clause-goes : goal.returns-in-Float-clause-goes
+returns-in-Float-clause-goes c = goes_refl c.args.at.now
+
+pub returns-in-Nil-clause-goes : goal.returns-in-Nil-clause-goes
+returns-in-Nil-clause-goes c = c.empty_list.ensures.goes
+
+pub returns-in-Str-clause-goes : goal.returns-in-Str-clause-goes
+returns-in-Str-clause-goes c = goes_refl c.args.at.now
+
+pub returns-in-True-clause-goes : goal.returns-in-True-clause-goes
+returns-in-True-clause-goes c = goes_refl c.args.at.now
+
+pub returns-in-Unit-clause-goes : goal.returns-in-Unit-clause-goes
+returns-in-Unit-clause-goes c = goes_refl c.args.at.now
+
+pub returns-in_default-clause-goes : goal.returns-in_default-clause-goes
+returns-in_default-clause-goes c = c.var.ensures.goes
+
+pub returns-in_default-kind-clause-goes : goal.returns-in_default-kind-clause-goes
+returns-in_default-kind-clause-goes c = c.var-in_default-kind.ensures.goes
+
+pub returns-in_err-too_large-in-Int-clause-goes : goal.returns-in_err-too_large-in-Int-clause-goes
+returns-in_err-too_large-in-Int-clause-goes c = c.too_large.ensures.goes
