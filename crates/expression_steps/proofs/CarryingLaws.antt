@@ -7,7 +7,7 @@ use Rattle.std.proofs.lemmas.Slice.Eq.{bytes_eq-Decides}
 use Rattle.token_model.specs.Kinds.{Tok, Kind, upper, lower, float, false_word}
 use Rattle.tree_model.specs.Rows.{Row, erecord_row, econ_row, epath_row, econst_row, eparen_row, prefix_row, field_row, eapp_row, eneg_row, infix_row, eassert_row, ewhile_row, ebegin_row, elist_row, econs_row, etuple_row, eif_row, eseq_row, name_row, hole_row}
 use Rattle.tree_model.specs.Trees.{Place, Tree, Forest, Part, taken, inner, missing, node}
-use Rattle.row_parts.specs.Numbered.{Numbered, Written, numbered, operand_view, token_in, path_in, filled_in, all_operands, operands_in, first_in}
+use Rattle.row_parts.specs.Numbered.{Numbered, Written, numbered, operand_view, token_in, filled_in, all_operands, operands_in, first_in}
 use Rattle.typing_model.specs.Contexts.{Context, tell_typed}
 use Rattle.typing_model.specs.BuiltIns.{float_type, constant_by}
 use Rattle.typing_model.specs.Parts as parts

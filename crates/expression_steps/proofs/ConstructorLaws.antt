@@ -12,7 +12,6 @@ use Rattle.env_table.specs.declared.entries.Entry.{Entry}
 use Rattle.typing_state.specs.declared.parts.Parts.{Parts}
 use Rattle.typing_steps.specs.Rows.{IsNoConstructor}
 use Rattle.typing_steps.specs.Typing.{TypesRow}
-use Rattle.operand_laws.specs.Formed.{row_of}
 use Rattle.operand_laws.specs.Operands.{number_of, parts_of, path_of, expression_of}
 use Rattle.operand_laws.proofs.Tokens.{token_stands, path_stands}
 use Rattle.typing_rows.specs.CarriedRows.{is_upper, names_constructor}

@@ -4,3 +4,4 @@ pub mod LeafLaws
 pub mod ConstructorLaws
 pub mod CarryingLaws
 pub mod EndingLaws
+pub mod ValueLaws

@@ -1,9 +1,17 @@
 //! Which expressions are non-expansive, so that the names of their bindings are generalised (the value restriction).
-ghost use Rattle.std.specs.Prelude.{◌≡◌, option_map, IfOk};
-ghost use Rattle.syntax_tree.specs.View.{tok_of};
-ghost use Rattle.row_parts.specs.Numbered.{operand_view, path_view};
+ghost use Rattle.std.specs.Prelude.{◌≡◌, ◌++◌, ℕ, map, option_map, All, IfOk};
+ghost use Rattle.std.specs.Option.{option_to_list};
+ghost use Rattle.tree_model.specs.Rows.{eapp_row};
+ghost use Rattle.tree_model.specs.Trees.{Place, inner};
+ghost use Rattle.syntax_tree.specs.View.{tok_of, node_view};
+ghost use Rattle.row_parts.specs.Numbered.{numbered, operand_view, operands_in, first_in, path_view};
+ghost use Rattle.typing_model.specs.Contexts.{Context};
+ghost use Rattle.typing_model.specs.Expressions.{all_values, is_some};
+ghost use Rattle.operand_laws.specs.Operands.{expression_of};
+ghost use Rattle.typing_rows.specs.Asked.{row_expression, expressions_of};
+ghost use Rattle.typing_rows.specs.Valued.{value_operands, IsDecided};
 ghost use Rattle.expression_steps.specs.Operators.{is_false_at, is_false_token};
-ghost use Rattle.expression_steps.specs.ExpressionSteps.{label_at, lower_path};
+ghost use Rattle.expression_steps.specs.ExpressionSteps.{constructor_at, label_at, lower_path, row_at};
 
 use env_table::{Found, Path, What};
 use owned_lists::push;
@@ -16,7 +24,9 @@ use use_typing::labels_in;
 
 /// Whether an expression is non-expansive in an environment. A missing one is.
 #[cycle(values)]
-pub fn is_value(at: &Parts, e: Operand<'_>, env: &Env, depth: Depth) -> Result<bool, NoMemory> {
+pub fn is_value(at: &Parts, e: Operand<'_>, env: &Env, depth: Depth) -> Result<bool, NoMemory>
+    ensures value { IfOk result (λ b. IsDecided (operand_view e.entry) → (i : ℕ) (c : Context) → (expression_of i (operand_view e.entry)).is_value c ≡ b) }
+{
     let Some(node) = e.node else {
         return Ok(true);
     };
@@ -35,12 +45,9 @@ pub fn is_value(at: &Parts, e: Operand<'_>, env: &Env, depth: Depth) -> Result<b
 
 /// Whether all of these are non-expansive.
 #[cycle(values)]
-fn are_values(
-    at: &Parts,
-    parts: &[Operand<'_>],
-    env: &Env,
-    depth: Depth,
-) -> Result<bool, NoMemory> {
+fn are_values(at: &Parts, parts: &[Operand<'_>], env: &Env, depth: Depth) -> Result<bool, NoMemory>
+    ensures value { IfOk result (λ b. All IsDecided (map operand_view parts.now) → (i : ℕ) (c : Context) → all_values c (expressions_of i (map operand_view parts.now)) ≡ b) }
+{
     for part in parts {
         if !is_value(at, *part, env, depth.inside()?)? {
             return Ok(false);
@@ -75,11 +82,14 @@ fn is_false_word(token: Option<&Token>) -> bool
 }
 
 /// The parts of a row that have to be non-expansive for it to be; None where it never is.
+#[tactic(auto, unfolding(syntax_tree::specs::Names::row_of))]
 fn value_parts<'a>(
     at: &Parts,
     node: &'a Node,
     number: u32,
-) -> Result<Option<Vec<Operand<'a>>>, NoMemory> {
+) -> Result<Option<Vec<Operand<'a>>>, NoMemory>
+    ensures { IfOk result (λ o. option_map (λ v. map operand_view v.items) o ≡ value_operands (row_at (node_view node.now)) number (node_view node.now)) }
+{
     match node.row {
         RowName::Econst
         | RowName::Name
@@ -99,7 +109,10 @@ fn value_parts<'a>(
     }
 }
 
-fn branches<'a>(at: &Parts, node: &'a Node, number: u32) -> Result<Vec<Operand<'a>>, NoMemory> {
+/// The branches of an `if`.
+fn branches<'a>(at: &Parts, node: &'a Node, number: u32) -> Result<Vec<Operand<'a>>, NoMemory>
+    ensures { IfOk result (λ v. map operand_view v.items ≡ operands_in number (node_view node.now) 3 ++ option_to_list (first_in number (node_view node.now) 5)) }
+{
     let mut parts = operands(at.alloc(), node, number, 3)?;
     if let Some(part) = first_operand(node, number, 5) {
         push(&mut parts, part)?;
@@ -108,7 +121,10 @@ fn branches<'a>(at: &Parts, node: &'a Node, number: u32) -> Result<Vec<Operand<'
 }
 
 /// Whether an operand is a constructor alone.
-pub fn is_constructor(e: Operand<'_>) -> bool {
+#[tactic(auto, unfolding(syntax_tree::specs::Names::row_of, syntax_tree::specs::Names::kind_of))]
+pub fn is_constructor(e: Operand<'_>) -> bool
+    ensures { result ≡ is_some (constructor_at (operand_view e.entry).part) }
+{
     match e.node {
         Some(node) => match node.row {
             RowName::Econ => true,
@@ -124,15 +140,14 @@ pub fn is_constructor(e: Operand<'_>) -> bool {
 
 /// A constructor with a non-expansive argument.
 #[cycle(values)]
-fn is_built(
-    at: &Parts,
-    node: &Node,
-    number: u32,
-    env: &Env,
-    depth: Depth,
-) -> Result<bool, NoMemory> {
+fn is_built(at: &Parts, node: &Node, number: u32, env: &Env, depth: Depth) -> Result<bool, NoMemory>
+    ensures value { IfOk result (λ b. (place : Place) → IsDecided (numbered number place (inner (node_view node.now))) → row_at (node_view node.now) ≡ eapp_row → (i : ℕ) (c : Context) → (row_expression i number place (node_view node.now)).is_value c ≡ b) }
+{
     let arguments = operands(at.alloc(), node, number, 1)?;
-    if arguments.len() != 1 || !is_constructor(operand_in(node, number, 0)) {
+    if arguments.len() != 1 {
+        return Ok(false);
+    }
+    if !is_constructor(operand_in(node, number, 0)) {
         return Ok(false);
     }
     are_values(at, &arguments, env, depth)

@@ -1,4 +1,5 @@
-use Rattle.std.proofs.Common.{◌+◌, ◌*◌}
+use Rattle.std.proofs.Common.{◌+◌, ◌*◌, drop}
+use Rattle.expression_steps.proofs.ValueLaws.{ValuesLeft}
 use Rattle.expression_steps.proofs.values.+values.Given as goal
 
 abbrev pub decreases-is_value : goal.decreases-is_value
@@ -18,3 +19,6 @@ decreases-is_let_value l = 3 * l.depth.0 + 1
 
 abbrev pub decreases-is_record_value : goal.decreases-is_record_value
 decreases-is_record_value l = 3 * l.depth.0 + 1
+
+abbrev pub invariant-are_values-loop-part : goal.invariant-are_values-loop-part
+invariant-are_values-loop-part l = ValuesLeft l.parts (drop l.part-index l.parts)

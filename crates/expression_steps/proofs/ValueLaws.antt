@@ -1,0 +1,152 @@
+-- Whether an expression is non-expansive, as the code reads it.
+use Rattle.std.proofs.Common.{◌≡◌, ◌∙◌, ◌&&◌, ◌==◌, ◌+◌, ◌<◌, ℕ, Bool, true, false, zero, suc, List, [], ◌∷◌, length, map, drop, arith, Option, Some, None, option_map, refl, sym, ap, subst}
+use Rattle.std.specs.Prelude.{All, slice_index_or}
+use Rattle.std.proofs.lemmas.List.Elements.{All-head, All-tail}
+use denote.Ref.{Bor}
+use Rattle.tree_model.specs.Rows.{Row, eapp_row, eassert_row, erecord_row, ematch_row, elet_row}
+use Rattle.tree_model.specs.Trees.{Place, Tree, inner}
+use Rattle.syntax_tree.specs.declared.rows.RowName.{RowName}
+use Rattle.syntax_tree.specs.declared.rows.RowName.TheVariants as name
+use Rattle.syntax_tree.specs.declared.tree.Node.{Node, out-Node}
+use Rattle.syntax_tree.specs.Names.{row_of}
+use Rattle.syntax_tree.specs.View.{node_view, place_of}
+use Rattle.row_parts.specs.declared.slots.Operand.{Operand}
+use Rattle.row_parts.specs.Numbered.{Numbered, Written, numbered, operand_view, part_of, operands_in, filled_in}
+use Rattle.typing_model.specs.Contexts.{Context}
+use Rattle.typing_model.specs.Expressions.{all_values, is_some}
+use Rattle.use_typing.proofs.Reading.{drop_read}
+use Rattle.operand_laws.specs.Operands.{path_of, expression_of}
+use Rattle.operand_laws.proofs.Sorts.{expression_by_row}
+use Rattle.typing_rows.specs.Asked.{row_expression, expressions_of}
+use Rattle.typing_rows.specs.Valued.{value_operands, are_values, decides, IsValueRow, IsDecided}
+use Rattle.typing_rows.proofs.Valued.{value_term, operands_decided, decided_row, value_decided, assert_value, application_value, built_by_none, built_of_more, built_of_one}
+use Rattle.expression_steps.specs.ExpressionSteps.{row_at, constructor_at}
+use Rattle.expression_steps.specs.Operators.{is_false_at}
+use Rattle.expression_steps.proofs.ExpressionLaws.{row_of_node}
+use Rattle.expression_steps.proofs.CarryingLaws.{rows_same, false_at}
+use Rattle.expression_steps.proofs.ConstructorLaws.{operand_no, operand_is}
+use Rattle.expression_steps.proofs.EndingLaws.{row_named, parts_count}
+
+-- an expression that is missing
+pub value_missing : (o : Operand) → o.node ≡ None → (i : ℕ) (c : Context) → (expression_of i (operand_view o)).is_value c ≡ true
+value_missing o none i c = subst (λ m. (expression_of i (numbered o.number (place_of o.span) (part_of m o.span))).is_value c ≡ true) (sym none) refl
+
+-- what is made of something that isn't there, and of something that is
+pub none_by : {A B : Type 0} (f : A → B) (o : Option A) (r : Option B) → o ≡ None → option_map f o ≡ r → None ≡ r
+none_by f o r none is = ap (option_map f) (sym none) ∙ is
+
+pub some_by : {A B : Type 0} (f : A → B) (o : Option A) (r : Option B) (x : A) → o ≡ Some x → option_map f o ≡ r → Some (f x) ≡ r
+some_by f o r x some is = ap (option_map f) (sym some) ∙ is
+
+-- what is said of a node is said of the operand that has it
+abbrev pub IsValueOf : Node → (number : ℕ) → Bool → Type 0
+IsValueOf nd n v = (place : Place) → IsDecided (numbered n place (inner (node_view nd))) → (i : ℕ) (c : Context) → (row_expression i n place (node_view nd)).is_value c ≡ v
+
+-- one that is there
+pub value_there : (o : Operand) (nd : Bor Node) (v : Bool) → o.node ≡ Some nd → IsValueOf nd.now o.number v → IsDecided (operand_view o) → (i : ℕ) (c : Context) → (expression_of i (operand_view o)).is_value c ≡ v
+value_there o nd v there by carried i c =
+    subst (λ m. (expression_of i (numbered o.number (place_of o.span) (part_of m o.span))).is_value c ≡ v) (sym there)
+    (ap (λ e. e.is_value c) (expression_by_row i o.number (place_of o.span) (node_view nd.now)) ∙ by (place_of o.span) (subst (λ m. IsDecided (numbered o.number (place_of o.span) (part_of m o.span))) there carried) i c)
+
+-- rows by their names
+pub row_app : (nd : Node) → (out-Node nd).row ≡ name.Eapp → row_at (node_view nd) ≡ eapp_row
+unfolding row_of
+row_app nd e = row_named nd name.Eapp e
+
+row_assert : (nd : Node) → (out-Node nd).row ≡ name.Eassert → row_at (node_view nd) ≡ eassert_row
+unfolding row_of
+row_assert nd e = row_named nd name.Eassert e
+
+not_app : (r : RowName) → (r ≡ name.Eapp → ⊥) → row_of r ≡ eapp_row → ⊥
+unfolding row_of
+not_app name.Eapp apart e = apart refl
+not_app _ apart e = cc
+
+not_assert : (r : RowName) → (r ≡ name.Eassert → ⊥) → row_of r ≡ eassert_row → ⊥
+unfolding row_of
+not_assert name.Eassert apart e = apart refl
+not_assert _ apart e = cc
+
+-- rows of which nothing is said
+no_row : (t : Tree) (r : Row) (n : ℕ) (at : Place) → row_at t ≡ r → (IsValueRow r → ⊥) → IsDecided (numbered n at (inner t)) → ⊥
+no_row t r n at e none h = none (subst IsValueRow (rows_same t ∙ e) (decided_row t h.rows))
+
+pub value_record : (nd : Node) (n : ℕ) (v : Bool) → (out-Node nd).row ≡ name.Erecord → IsValueOf nd n v
+unfolding row_of
+value_record nd n v e = λ place h i c. absurd (no_row (node_view nd) erecord_row n place (row_named nd name.Erecord e) (λ k. k) h)
+
+pub value_match : (nd : Node) (n : ℕ) (v : Bool) → (out-Node nd).row ≡ name.Ematch → IsValueOf nd n v
+unfolding row_of
+value_match nd n v e = λ place h i c. absurd (no_row (node_view nd) ematch_row n place (row_named nd name.Ematch e) (λ k. k) h)
+
+pub value_let : (nd : Node) (n : ℕ) (v : Bool) → (out-Node nd).row ≡ name.Elet → IsValueOf nd n v
+unfolding row_of
+value_let nd n v e = λ place h i c. absurd (no_row (node_view nd) elet_row n place (row_named nd name.Elet e) (λ k. k) h)
+
+-- `assert`
+pub value_assert : (nd : Node) (n : ℕ) (o : Operand) → (out-Node nd).row ≡ name.Eassert → operand_view o ≡ filled_in n (node_view nd) 1 → IsValueOf nd n (is_false_at (operand_view o).part)
+value_assert nd n o e here = λ place h i c.
+    assert_value i n place (node_view nd) h.formed (rows_same (node_view nd) ∙ row_assert nd e) c ∙ false_at i (filled_in n (node_view nd) 1) ∙ ap (λ x. is_false_at x.part) (sym here)
+
+-- a row by its operands
+value_by : (nd : Node) (n : ℕ) (o : Option (List Numbered)) → ((out-Node nd).row ≡ name.Eapp → ⊥) → ((out-Node nd).row ≡ name.Eassert → ⊥) → o ≡ value_operands (row_at (node_view nd)) n (node_view nd) → (place : Place) → IsDecided (numbered n place (inner (node_view nd))) →
+    (i : ℕ) (c : Context) → (row_expression i n place (node_view nd)).is_value c ≡ are_values c i o
+value_by nd n o apart apart' is place h i c =
+    value_term i n place (node_view nd) (row_at (node_view nd)) h.formed (rows_same (node_view nd)) (subst IsValueRow (rows_same (node_view nd)) (decided_row (node_view nd) h.rows)) (λ e. not_app (out-Node nd).row apart (sym (row_of_node nd) ∙ e)) (λ e. not_assert (out-Node nd).row apart' (sym (row_of_node nd) ∙ e)) c ∙ ap (are_values c i) (sym is)
+
+-- one that never is
+pub value_never : (nd : Node) (n : ℕ) → ((out-Node nd).row ≡ name.Eapp → ⊥) → ((out-Node nd).row ≡ name.Eassert → ⊥) → None ≡ value_operands (row_at (node_view nd)) n (node_view nd) → IsValueOf nd n false
+value_never nd n apart apart' is = λ place h i c. value_by nd n None apart apart' is place h i c
+
+-- one whose operands decide
+pub value_parts : (nd : Node) (n : ℕ) (os : List Operand) (v : Bool) → ((out-Node nd).row ≡ name.Eapp → ⊥) → ((out-Node nd).row ≡ name.Eassert → ⊥) → Some (map operand_view os) ≡ value_operands (row_at (node_view nd)) n (node_view nd) →
+    (All IsDecided (map operand_view os) → (i : ℕ) (c : Context) → all_values c (expressions_of i (map operand_view os)) ≡ v) → IsValueOf nd n v
+value_parts nd n os v apart apart' is values = λ place h i c.
+    value_by nd n (Some (map operand_view os)) apart apart' is place h i c ∙ values (value_decided n place (node_view nd) (map operand_view os) h (ap (λ r. value_operands r n (node_view nd)) (rows_same (node_view nd)) ∙ sym is)) i c
+
+-- an application whose head is no constructor
+pub built_not : (nd : Node) (n : ℕ) (head : Operand) (os : List Operand) → operand_view head ≡ filled_in n (node_view nd) 0 → map operand_view os ≡ operands_in n (node_view nd) 1 → is_some (constructor_at (operand_view head).part) ≡ false →
+    row_at (node_view nd) ≡ eapp_row → IsValueOf nd n false
+built_not nd n head os here given none row = λ place h i c.
+    application_value i n place (node_view nd) h.formed (rows_same (node_view nd) ∙ row) c ∙ built_by_none c (expressions_of i (operands_in n (node_view nd) 1)) (expression_of i (filled_in n (node_view nd) 0)).form
+    (operand_no i (filled_in n (node_view nd) 0) (no_path (constructor_at (filled_in n (node_view nd) 0).part) (ap (λ o. is_some (constructor_at o.part)) (sym here) ∙ none)))
+  where
+    no_path : (o : Option Written) → is_some o ≡ false → o ≡ None
+    no_path None e = refl
+    no_path (Some p) e = absurd (cc)
+
+-- one without one argument
+pub built_of_others : (nd : Node) (n : ℕ) (os : List Operand) → map operand_view os ≡ operands_in n (node_view nd) 1 → (length os == 1) ≡ false → row_at (node_view nd) ≡ eapp_row → IsValueOf nd n false
+built_of_others nd n os given others row = λ place h i c.
+    application_value i n place (node_view nd) h.formed (rows_same (node_view nd) ∙ row) c ∙
+    built_of_more c (expressions_of i (operands_in n (node_view nd) 1)) (expression_of i (filled_in n (node_view nd) 0)).form (ap (λ k. k == 1) (ap (λ xs. length (expressions_of i xs)) (sym given) ∙ parts_count i os) ∙ others)
+
+-- one of a constructor with one argument
+pub built_is : (nd : Node) (n : ℕ) (head : Operand) (os : List Operand) (v : Bool) → operand_view head ≡ filled_in n (node_view nd) 0 → map operand_view os ≡ operands_in n (node_view nd) 1 → (length os == 1) ≡ true → is_some (constructor_at (operand_view head).part) ≡ true →
+    (All IsDecided (map operand_view os) → (i : ℕ) (c : Context) → all_values c (expressions_of i (map operand_view os)) ≡ v) → row_at (node_view nd) ≡ eapp_row → IsValueOf nd n v
+built_is nd n head os v here given one some values row = λ place h i c.
+    let (p, named) = path (constructor_at (filled_in n (node_view nd) 0).part) (ap (λ o. is_some (constructor_at o.part)) (sym here) ∙ some) in
+    application_value i n place (node_view nd) h.formed (rows_same (node_view nd) ∙ row) c ∙
+    built_of_one c (expressions_of i (operands_in n (node_view nd) 1)) (expression_of i (filled_in n (node_view nd) 0)).form (path_of p) (operand_is i (filled_in n (node_view nd) 0) p named)
+    (ap (λ k. k == 1) (ap (λ xs. length (expressions_of i xs)) (sym given) ∙ parts_count i os) ∙ one) ∙
+    ap (λ xs. all_values c (expressions_of i xs)) (sym given) ∙ values (subst (All IsDecided) (sym given) (operands_decided n place (node_view nd) 1 (ap (λ r. decides r 1) (rows_same (node_view nd) ∙ row)) h)) i c
+  where
+    path : (o : Option Written) → is_some o ≡ true → (p : Written) × (o ≡ Some p)
+    path None e = absurd (cc)
+    path (Some p) e = (p, refl)
+
+-- an operand that is read from a list of decided ones
+read_decided : (os : List Operand) (k : ℕ) (x : Operand) → k < length os → x ≡ slice_index_or os k x → All IsDecided (map operand_view os) → IsDecided (operand_view x)
+read_decided [] k x lt e all = absurd (omega arith)
+read_decided (o ∷ os) zero x lt e all = subst (λ z. IsDecided (operand_view z)) (sym e) (All-head IsDecided (operand_view o) (map operand_view os) all)
+read_decided (o ∷ os) (suc k) x lt e all = read_decided os k x (omega arith) e (All-tail IsDecided (operand_view o) (map operand_view os) all)
+
+-- what is left of some operands
+abbrev pub ValuesLeft : (all left : List Operand) → Type 0
+ValuesLeft all left = All IsDecided (map operand_view all) → (i : ℕ) (c : Context) → all_values c (expressions_of i (map operand_view all)) ≡ all_values c (expressions_of i (map operand_view left))
+
+-- one operand more
+pub values_one : (os : List Operand) (k : ℕ) (x : Operand) (v : Bool) → k < length os → x ≡ slice_index_or os k x → ValuesLeft os (drop k os) → (IsDecided (operand_view x) → (i : ℕ) (c : Context) → (expression_of i (operand_view x)).is_value c ≡ v) →
+    All IsDecided (map operand_view os) → (i : ℕ) (c : Context) → all_values c (expressions_of i (map operand_view os)) ≡ (v && all_values c (expressions_of i (map operand_view (drop (k + 1) os))))
+values_one os k x v lt e left value all i c =
+    left all i c ∙ ap (λ ys. all_values c (expressions_of i (map operand_view ys))) (drop_read os k x lt e) ∙ ap (λ b. b && all_values c (expressions_of i (map operand_view (drop (k + 1) os)))) (value (read_decided os k x lt e all) i c)
