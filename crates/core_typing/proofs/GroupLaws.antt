@@ -14,7 +14,7 @@ use Rattle.typing_state.specs.declared.parts.Parts.{Parts}
 use Rattle.typing_state.specs.Goes.{Goes}
 use Rattle.typing_state.specs.Steps.{Steps, asks, records, each, Follows, Silent}
 use Rattle.typing_state.proofs.Following.{follows_both, follows_before, ends_both}
-use Rattle.type_reading.proofs.TypeLaws.{each_map}
+use Rattle.type_expressions.proofs.TypeLaws.{each_map}
 use Rattle.use_typing.specs.UseSteps.{lost_steps}
 use Rattle.pattern_steps.specs.PatternSteps.{pattern_steps}
 use Rattle.pattern_typing.specs.Warnings.{unused_steps, warning_steps}

@@ -20,7 +20,7 @@ use pattern_typing::{BoundName, Matched, Mentioned, report_pattern, type_pattern
 use row_parts::{Operand, first_operand, operand_in, operands, token};
 use std::rc::Rc;
 use syntax_tree::Node;
-use type_reading::{Variables, read_type};
+use type_expressions::{Variables, read_type};
 use typing_state::{Depth, Entry, Env, NO_SCOPE, NoMemory, NodeRef, Parts, Verdict, share_entry};
 use use_typing::{Sign, Used, note_missing, unnamed};
 

@@ -22,8 +22,9 @@ use expression_steps::{behind_part, behind_parts, last_scope};
 use owned_lists::push;
 use row_parts::{Operand, first_operand, operand_in, operands_of};
 use syntax_tree::{Node, RowName};
+use type_expressions::as_written;
 use typing_state::{Depth, Env, NoMemory, NodeRef, Parts};
-use use_typing::{Sign, Used, as_written, unnamed};
+use use_typing::{Sign, Used, unnamed};
 
 /// A row whose parts are typed in order.
 #[cycle(exprs)]

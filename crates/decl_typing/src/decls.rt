@@ -16,8 +16,8 @@ use std::collections::HashSet;
 use std::rc::Rc;
 use syntax_tree::{Node, Token};
 use text_terms::RcStr;
+use type_expressions::{Parameter, Variables, read_type};
 use type_nodes::{NoMemory, NodeRef, Origin};
-use type_reading::{Parameter, Variables, read_type};
 use typing_state::{Depth, Parts, Telling, new_entry};
 
 /// What a group or an exception adds: the environment behind it, its entries in order, and the origins that it makes.

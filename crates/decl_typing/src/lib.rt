@@ -1,5 +1,5 @@
 //! Declarations of types and exceptions: groups in which the names stand for each other, re-exports, and the orders in which they are read.
-//! It stands on type expressions (`type_reading`) and on what the typing of a text works on (`typing_state`).
+//! It is built on type expressions (`type_expressions`) and on what the typing of a text works on (`typing_state`).
 //! Above, `type_decls` and `type_exception` type an item and give what it adds (`Declared`): the environment after it, its entries in
 //! order, and the origins that it makes.
 //! That the names of types are new in their structure or signature is asked by the caller.

@@ -9,8 +9,9 @@ use owned_lists::{push, shared};
 use row_parts::Operand;
 use std::rc::Rc;
 use syntax_tree::Token;
+use type_expressions::{Parameter, Variables, applied, read_type};
 use type_nodes::{NoMemory, NodeRef, View};
-use type_reading::{Parameter, Variables, applied, owner_of, read_type};
+use type_reading::owner_of;
 use typing_state::{Depth, Parts, Telling};
 
 /// A type that a re-export names: the declaration of its origin, if it is a constructor, and its arguments.

@@ -16,7 +16,7 @@ use Rattle.typing_model.specs.Expressions.{expression_row, is_false, is_of, lite
 use Rattle.type_terms.specs.declared.types.NodeRef.{NodeRef}
 use Rattle.type_nodes.specs.Views.{numbers}
 use Rattle.row_parts.specs.declared.slots.Operand.{Operand}
-use Rattle.type_reading.proofs.TypeLaws.{drop_read}
+use Rattle.use_typing.proofs.Reading.{drop_read}
 use Rattle.typing_state.specs.Goes.{Goes}
 use Rattle.env_table.specs.declared.entries.Entry.{Entry}
 use Rattle.typing_state.specs.declared.parts.Parts.{Parts}
@@ -41,7 +41,7 @@ use Rattle.typing_rows.proofs.Ending.{row_as}
 use Rattle.typing_conditions.specs.Steps.{Records}
 use Rattle.typing_steps.specs.States.{is_aloud, sight}
 use Rattle.use_typing.specs.Constants.{is_negated}
-use Rattle.use_typing.specs.Uses.{IsAsWritten}
+use Rattle.type_expressions.specs.Written.{IsAsWritten}
 use Rattle.expression_steps.specs.declared.operators.Operator.{Operator}
 use Rattle.expression_steps.specs.declared.forms.RowForm.{RowForm}
 use Rattle.expression_steps.specs.declared.forms.RowForm.TheVariants as form

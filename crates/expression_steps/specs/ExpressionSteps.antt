@@ -8,10 +8,11 @@ use Rattle.row_parts.specs.Numbered.{Numbered, numbered, Written, in_slot, in_sl
 use Rattle.row_parts.specs.Folds.{Rule, operand_by}
 use Rattle.env_table.specs.declared.faults.FaultKind.TheVariants as fault
 use Rattle.typing_state.specs.Steps.{Steps, asks, records, each, place_of_tok, asks_bound}
-use Rattle.type_reading.specs.TypeSteps.{constructor_steps, type_steps}
+use Rattle.type_expressions.specs.TypeSteps.{constructor_steps, type_steps}
 use Rattle.expression_steps.specs.declared.forms.RowForm.{RowForm}
 use Rattle.expression_steps.specs.declared.forms.RowForm.TheVariants as form
-use Rattle.use_typing.specs.UseSteps.{asks_equal, asks_token, range_steps, lost_steps, labels_of, asks_labels, annotation_steps}
+use Rattle.type_expressions.specs.Written.{annotation_steps}
+use Rattle.use_typing.specs.UseSteps.{asks_equal, asks_token, range_steps, lost_steps, labels_of, asks_labels}
 use Rattle.pattern_steps.specs.PatternSteps.{pattern_steps, later, missed_steps}
 
 -- what an operand comes to: itself, and its steps as an expression, as a field of a record, as a case, and as the right side of a binding

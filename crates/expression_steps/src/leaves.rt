@@ -12,7 +12,7 @@ ghost use Rattle.syntax_tree.specs.View.{node_view};
 ghost use Rattle.row_parts.specs.Numbered.{numbered, operand_view, path_view};
 ghost use Rattle.typing_state.specs.Goes.{Goes};
 ghost use Rattle.typing_state.specs.Steps.{Follows};
-ghost use Rattle.type_reading.specs.TypeSteps.{constructor_steps};
+ghost use Rattle.type_expressions.specs.TypeSteps.{constructor_steps};
 ghost use Rattle.use_typing.specs.Constants.{is_negated};
 ghost use Rattle.use_typing.specs.Uses.{TellsUse};
 ghost use Rattle.expression_steps.specs.declared.forms.RowForm.{RowForm};

@@ -8,8 +8,9 @@ use Rattle.row_parts.specs.Numbered.{Numbered, behind, in_slot, in_slots, operan
 use Rattle.row_parts.specs.Folds.{Rule, operands_by, operand_by, tree_by}
 use Rattle.env_table.specs.declared.faults.FaultKind.TheVariants as fault
 use Rattle.typing_state.specs.Steps.{Steps, asks, records, each}
-use Rattle.type_reading.specs.TypeSteps.{constructor_steps}
-use Rattle.use_typing.specs.UseSteps.{asks_equal, asks_equal_if, asks_token, range_steps, path_at, lost_steps, annotation_steps, labels_of, asks_labels}
+use Rattle.type_expressions.specs.TypeSteps.{constructor_steps}
+use Rattle.type_expressions.specs.Written.{annotation_steps}
+use Rattle.use_typing.specs.UseSteps.{asks_equal, asks_equal_if, asks_token, range_steps, path_at, lost_steps, labels_of, asks_labels}
 
 -- what an operand comes to: its steps as a pattern and the names that it binds, and the same as a field of a record pattern
 pub record PatternSteps : Type 0 where

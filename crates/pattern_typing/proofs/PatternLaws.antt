@@ -12,7 +12,7 @@ use Rattle.row_parts.specs.Folds.{operand_by}
 use Rattle.row_parts.proofs.Folding.{comes_to, folds_from, slot_comes, slots_come}
 use Rattle.typing_state.specs.declared.parts.Parts.{Parts}
 use Rattle.typing_state.specs.Steps.{each, Follows}
-use Rattle.type_reading.proofs.TypeLaws.{each_map}
+use Rattle.type_expressions.proofs.TypeLaws.{each_map}
 use Rattle.pattern_typing.specs.declared.patterns.BoundName.{BoundName}
 use Rattle.use_typing.proofs.Reading.{same_follows}
 use Rattle.pattern_typing.specs.Matching.{Binds}

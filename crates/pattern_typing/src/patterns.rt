@@ -9,13 +9,14 @@ ghost use Rattle.env_table.specs.declared.faults.FaultKind.{FaultKind};
 ghost use Rattle.typing_state.specs.Goes.{Goes};
 ghost use Rattle.typing_state.specs.Notes.{IsRecorded};
 ghost use Rattle.typing_state.specs.Steps.{asks, each, records, Follows, Silent};
-ghost use Rattle.type_reading.specs.TypeSteps.{constructor_steps};
+ghost use Rattle.type_expressions.specs.TypeSteps.{constructor_steps};
 ghost use Rattle.pattern_typing.specs.declared.patterns.BoundName.{BoundName};
 ghost use Rattle.use_typing.specs.Constants.{TellsRange, is_negated};
 ghost use Rattle.use_typing.specs.Labels.{toks_of};
 ghost use Rattle.use_typing.specs.Uses.{TellsUse};
 ghost use Rattle.pattern_typing.specs.Names.{TellsName, TellsNameIf};
-ghost use Rattle.use_typing.specs.UseSteps.{annotation_steps, asks_equal, asks_equal_if, asks_labels, labels_of, asks_token, lost_steps, path_at, range_steps};
+ghost use Rattle.type_expressions.specs.Written.{annotation_steps};
+ghost use Rattle.use_typing.specs.UseSteps.{asks_equal, asks_equal_if, asks_labels, labels_of, asks_token, lost_steps, path_at, range_steps};
 ghost use Rattle.pattern_steps.specs.PatternSteps.{beside, bound_as, common_names, construction_steps, field_pattern_names, field_pattern_steps, find_name, last_of, later, match_each, matched_as, matched_tree, name_of, names_in, names_of, names_of_first, names_of_tree, parts_of_pattern, pattern_names, pattern_steps, side_at, sides_beside, sides_of};
 ghost use Rattle.pattern_typing.specs.Matching.{Binds, bind_of, binds_of, names_seen, nodes_of, parts_of_sides, side_of, side_view, tokens_of, typed_view};
 ghost use Rattle.row_parts.specs.Numbered.{Numbered};
@@ -38,10 +39,11 @@ use row_parts::{
 use std::alloc::Global;
 use std::rc::Rc;
 use syntax_tree::{Node, RowName, Span, Token};
+use type_expressions::as_written;
 use typing_state::{Depth, Env, NoMemory, NodeRef, Parts, share_entry};
 use use_typing::{
-    Fields, RecordType, Sign, as_written, begin_field, constant, constructor, equal_if, is_again,
-    note_label, note_missing, record_of_fields, type_or_var, written_at,
+    Fields, RecordType, Sign, begin_field, constant, constructor, equal_if, is_again, note_label,
+    note_missing, record_of_fields, type_or_var, written_at,
 };
 
 /// A name that a pattern binds, with its type.

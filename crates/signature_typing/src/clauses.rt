@@ -13,7 +13,7 @@ use std::alloc::Global;
 use std::rc::Rc;
 use syntax_tree::{Node, Token};
 use text_terms::RcStr;
-use type_reading::{Parameter, Variables, read_type};
+use type_expressions::{Parameter, Variables, read_type};
 use typing_state::{Depth, Env, NoMemory, NodeRef, Parts};
 
 /// y with w and w

@@ -8,7 +8,7 @@ use owned_lists::push;
 use row_parts::{operand_in, operands, token};
 use std::rc::Rc;
 use syntax_tree::{Node, Part, Token, TokenKind};
-use type_reading::{Parameter, Variables, read_type};
+use type_expressions::{Parameter, Variables, read_type};
 use typing_state::{Depth, Env, NoMemory, NodeRef, Parts, new_entry};
 
 /// type d and d

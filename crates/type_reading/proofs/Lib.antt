@@ -4,5 +4,3 @@ pub mod Copied
 pub mod Tasks
 pub mod Imaging
 pub mod Answering
-pub mod TypeLaws
-pub mod RowSteps

@@ -1,3 +1,2 @@
--- Copies of types, and the steps of type expressions.
+-- Copies of types.
 pub mod Copying
-pub mod TypeSteps

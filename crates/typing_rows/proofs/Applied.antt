@@ -10,12 +10,12 @@ use Rattle.type_model.specs.Types.{Typ}
 use Rattle.type_terms.specs.declared.types.NodeRef.{NodeRef}
 use Rattle.signature_model.specs.Entries.{constructor_kind}
 use Rattle.typing_model.specs.Demands.{Condition, same, test, arity, constructor_word}
-use Rattle.typing_model.specs.Contexts.{Choice, Context, is_kept, ask, type_at, tell_typed}
+use Rattle.typing_model.specs.Contexts.{Context, is_kept, ask, type_at, tell_typed}
 use Rattle.typing_model.specs.Names.{Built, ask_bound, then_by, used_at}
 use Rattle.typing_model.specs.Parts as parts
 use Rattle.typing_model.specs.Parts.{Expression, Written, Form, place_of}
 use Rattle.typing_model.specs.Patterns.{built_by, taken_by, with_built, argument_has, argument_type, of_one_type}
-use Rattle.typing_model.specs.Expressions.{typed_all, is_some, behind_argument, constructor_applied, application_asks}
+use Rattle.typing_model.specs.Expressions.{is_some, behind_argument, constructor_applied, application_asks}
 use Rattle.env_table.specs.declared.entries.Entry.{Entry}
 use Rattle.typing_state.specs.declared.parts.Parts.{Parts}
 use Rattle.typing_state.specs.Goes.{Goes}
@@ -33,13 +33,13 @@ use Rattle.typing_conditions.proofs.Recording.{ends_own, records_stay}
 use Rattle.typing_conditions.proofs.Branching.{carried_after}
 use Rattle.typing_conditions.proofs.Surrounding.{surrounds_on}
 use Rattle.typing_steps.specs.States.{is_aloud, sight}
-use Rattle.typing_steps.specs.Typing.{as_declared, TypesTo, TypesRow, TypesAny, AsksEqualIf}
+use Rattle.typing_steps.specs.Typing.{as_declared, TypesTo, TypesRow, AsksEqualIf}
 use Rattle.typing_steps.specs.Building.{used_by, building_in, construction_asks, TakesAs, TypesConstructor}
 use Rattle.operand_laws.specs.Formed.{row_of, is_needed, IsFormed}
 use Rattle.operand_laws.specs.Operands.{number_of, expression_of}
 use Rattle.operand_laws.proofs.There.{filled_first}
 use Rattle.typing_rows.specs.Asked.{row_expression, expressions_of, head_asks, later_asks}
-use Rattle.typing_rows.specs.Contracts.{TypesEach, TypesAs, TypesGiven, TypesAsIf, TypesHead, TypesLater, EndsUnknown, TypesConstructed}
+use Rattle.typing_rows.specs.Contracts.{TypesEach, TypesGiven, TypesAsIf, TypesHead, TypesLater, EndsUnknown, TypesConstructed}
 use Rattle.typing_rows.proofs.Own.{same_itself, ends_made, own_recorded}
 use Rattle.typing_rows.proofs.Given.{applied_row, types_as}
 use Rattle.typing_rows.proofs.Ending.{row_of_type, row_as}

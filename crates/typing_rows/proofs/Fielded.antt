@@ -1,9 +1,8 @@
 -- A field of a record, from what its label and its part carry.
-use Rattle.std.proofs.Common.{◌≡◌, ◌∙◌, ◌++◌, ℕ, Bool, true, List, [], ◌∷◌, Option, Some, refl, ap, append-nil, if◌then◌else◌}
+use Rattle.std.proofs.Common.{◌≡◌, ◌∙◌, ◌++◌, ℕ, Bool, List, [], ◌∷◌, Option, ap, append-nil, if◌then◌else◌}
 use Rattle.std.specs.Prelude.{None, slice_get}
 use Rattle.type_model.specs.Types.{Typ}
-use Rattle.signature_model.specs.Declarations.{Declaration, Label, type_of}
-use Rattle.typing_model.specs.Demands.{Condition}
+use Rattle.signature_model.specs.Declarations.{Declaration, Label}
 use Rattle.typing_model.specs.Contexts.{Context}
 use Rattle.typing_model.specs.Names.{used_at}
 use Rattle.typing_model.specs.Parts.{Expression, Written}
@@ -18,7 +17,7 @@ use Rattle.typing_conditions.proofs.Nodes.{same_made}
 use Rattle.typing_conditions.proofs.Recording.{ends_own}
 use Rattle.typing_conditions.proofs.Branching.{carried_after}
 use Rattle.typing_conditions.proofs.Surrounding.{surrounds_on}
-use Rattle.typing_steps.specs.States.{is_aloud, sight}
+use Rattle.typing_steps.specs.States.{is_aloud}
 use Rattle.typing_steps.specs.Typing.{TypesAny}
 use Rattle.typing_steps.specs.Building.{used_by, label_in_scope, IsLabelOf, TypesLabel, TypesNoLabel}
 use Rattle.typing_rows.specs.Asked.{has_if, label_ends, field_ends}

@@ -1,5 +1,5 @@
 -- A node whose type is what the choice has for it: at the end of its row, and where it is recorded.
-use Rattle.std.proofs.Common.{◌≡◌, ◌∙◌, ◌⊎◌, inl, inr, ℕ, zero, suc, Bool, true, false, ◌&&◌, ◌==◌, if◌then◌else◌, List, [], ◌∷◌, ◌++◌, take, refl, sym, ap, subst, append-nil, Some, None}
+use Rattle.std.proofs.Common.{◌≡◌, ◌∙◌, ◌⊎◌, inl, inr, ℕ, zero, suc, Bool, true, false, ◌&&◌, ◌==◌, if◌then◌else◌, [], ◌∷◌, ◌++◌, take, refl, sym, ap, subst, append-nil, Some}
 use Rattle.std.proofs.lemmas.Bool.{eqb-true}
 use Rattle.type_model.specs.Types.{Typ}
 use Rattle.type_model.proofs.Applying.{eqb_same}
@@ -12,7 +12,7 @@ use Rattle.level_unify.proofs.Unified.{fits_loosely}
 use Rattle.typing_conditions.specs.Sights.{Sight, own, number_in, Letters}
 use Rattle.typing_conditions.specs.Frames.{Frame}
 use Rattle.typing_conditions.specs.Meanings.{Means}
-use Rattle.typing_conditions.specs.Judging.{judgements, StartsWith, FallsShort}
+use Rattle.typing_conditions.specs.Judging.{StartsWith, FallsShort}
 use Rattle.typing_conditions.specs.Steps.{Records}
 use Rattle.typing_conditions.specs.Carrying.{Asks, Scope, Enters, GoesOn, Stays, Continues, Carried, EndsAs}
 use Rattle.typing_conditions.proofs.Judged.{starts_all}

@@ -1,16 +1,16 @@
 -- Whole rows from what their functions carry.
 use Rattle.std.proofs.Common.{◌≡◌, ◌∙◌, ◌++◌, ℕ, Bool, true, false, List, [], ◌∷◌, Option, Some, None, refl, sym, ap, subst, append-nil}
 use Rattle.std.specs.Prelude.{codes}
-use Rattle.token_model.specs.Kinds.{Tok, Kind, upper, lower, float, false_word}
-use Rattle.tree_model.specs.Rows.{Row, name_row, econ_row, epath_row, econst_row, hole_row, eparen_row, ebegin_row, erecord_row, prefix_row, eapp_row, eneg_row, infix_row, eif_row}
+use Rattle.token_model.specs.Kinds.{Tok, Kind, upper}
+use Rattle.tree_model.specs.Rows.{Row, name_row, epath_row, econst_row, hole_row, eparen_row, ebegin_row, erecord_row, prefix_row, eapp_row, eneg_row, infix_row, eif_row}
 use Rattle.tree_model.specs.Slots.{is_operand}
-use Rattle.tree_model.specs.Trees.{Place, Tree, Forest, Part, taken, inner, missing, node}
-use Rattle.row_parts.specs.Numbered.{Numbered, numbered, operands_in, all_operands, first_in, filled_in, token_in, path_in}
+use Rattle.tree_model.specs.Trees.{Place, Tree}
+use Rattle.row_parts.specs.Numbered.{operands_in, all_operands, first_in, filled_in, token_in, path_in}
 use Rattle.typing_model.specs.Contexts.{Context, type_at, tell_typed}
 use Rattle.typing_model.specs.BuiltIns.{float_type, constant}
 use Rattle.typing_model.specs.Parts as parts
 use Rattle.typing_model.specs.Parts.{Expression, Form, Child, Written, path_in as child_path, types_in, expressions_in, token_in as child_token}
-use Rattle.typing_model.specs.Expressions.{expression_row, value_asks, typed_all, is_of, name_expression, path_expression, constant_expression, hole_expression, application_asks, operator_applied, name_of, under_sign, minus_asks, parenthesised, begun, if_expression, literal_form, name_form}
+use Rattle.typing_model.specs.Expressions.{expression_row, value_asks, typed_all, is_of, name_expression, path_expression, constant_expression, hole_expression, application_asks, operator_applied, name_of, under_sign, minus_asks, parenthesised, begun, if_expression}
 use Rattle.env_table.specs.declared.entries.Entry.{Entry}
 use Rattle.typing_state.specs.declared.parts.Parts.{Parts}
 use Rattle.typing_state.specs.Goes.{Goes}
@@ -26,8 +26,7 @@ use Rattle.typing_steps.specs.Typing.{TypesTo, TypesOwn, TypesAny, TypesRow, Row
 use Rattle.typing_steps.proofs.Rows.{row_carried, row_own, row_any}
 use Rattle.operand_laws.specs.Formed.{row_of, is_needed, may_repeat, IsFormed}
 use Rattle.operand_laws.specs.Operands.{number_of, parts_of, path_of, expression_of}
-use Rattle.operand_laws.proofs.Tokens.{token_stands}
-use Rattle.typing_rows.specs.CarriedRows.{is_upper, names_constructor, IsCarriedRow, IsOfCarriedRows}
+use Rattle.typing_rows.specs.CarriedRows.{is_upper, names_constructor}
 use Rattle.typing_rows.specs.Asked.{under_minus, row_expression, expressions_of, IsOrderedRow, ordered_end, applied_asks, operated_asks}
 use Rattle.typing_rows.specs.Contracts.{TypesEach, TypesGiven, TypesParts, EndsRow}
 use Rattle.typing_rows.proofs.Given.{applied_row}

@@ -1,7 +1,7 @@
 //! Uses of values, constructors and labels by their paths.
 #![tactic(auto, using(typing_state::proofs::Going::goes_trans, typing_state::proofs::Going::goes_refl, typing_state::proofs::Following::follows_both, typing_state::proofs::Following::follows_before, typing_state::proofs::Following::follows_behind, typing_state::proofs::Following::follows_silent, typing_state::proofs::Following::store_silent, typing_state::proofs::Following::silent_refl, typing_state::proofs::Following::silent_trans, typing_state::proofs::Following::ends_both, typing_state::proofs::Following::ends_behind, typing_state::proofs::Following::ends_before, typing_state::proofs::Following::ends_silent))]
 
-ghost use Rattle.std.specs.Prelude.{◌≡◌, ℕ, true, None, Some, IfNone, IfOk, IfSome, OnOk, option_map, option_and_then};
+ghost use Rattle.std.specs.Prelude.{◌≡◌, ◌++◌, ℕ, true, None, Some, IfNone, IfOk, IfSome, OnOk, option_map, option_and_then};
 ghost use Rattle.type_nodes.specs.Nodes.{Node as plain};
 ghost use Rattle.type_nodes.specs.Links.{reading};
 ghost use Rattle.std.specs.Option.{option_copied};
@@ -11,7 +11,6 @@ ghost use Rattle.typing_state.specs.Goes.{Goes, OnlyFaults, OnlyStore};
 ghost use Rattle.typing_model.specs.Expressions.{value_asks};
 ghost use Rattle.typing_steps.specs.Typing.{TypesOwn, path_as};
 ghost use Rattle.typing_state.specs.Steps.{Follows, Silent, asks_at_last, asks_bound};
-ghost use Rattle.type_reading.specs.TypeSteps.{constructor_steps};
 ghost use Rattle.env_table.specs.declared.entries.Kind.{Kind};
 ghost use Rattle.use_typing.specs.Uses.{BuildsBy, BuildsIf, BuildsNew, IsNoArrow, TellsCountsLast, taken_by, LastHas, TellsBound, TellsUse, UsesScheme, SidesOf, UsesLabel, UsesLabelIf, label_named, constructor_named, scheme_in, TypesLabelIf};
 ghost use Rattle.typing_declarations.specs.Declared.{constructor_in, label_in};
@@ -105,7 +104,7 @@ pub fn constructor(
     ensures tells { OnOk result (TellsUse (path_view path.now) given at.old at.new env.now) }
     ensures builds { IfOk result (λ r. BuildsIf (constructor_named (path_view path.now).last env.now (path_view path.now).qualifiers) at.old at.new r) }
     ensures carries { IfOk result (λ r. TypesConstructor at.old at.new env.now (path_as (path_view path.now)) given r.known r.built.0 (option_map (λ m. m.0) r.argument)) }
-    ensures follows { OnOk result (Follows (constructor_steps (path_view path.now)) at.old at.new) }
+    ensures follows { OnOk result (Follows (asks_bound (path_view path.now) ++ asks_at_last FaultKind.Arity (path_view path.now)) at.old at.new) }
     ensures goes { Goes at.old at.new }
 {
     let entry = at.bound_last(env, path, Kind::Constructor)?;

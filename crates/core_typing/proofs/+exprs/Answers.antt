@@ -7,12 +7,11 @@ use Rattle.row_parts.specs.Numbered.{operand_view, path_view, filled_in, operand
 use Rattle.typing_state.specs.Steps.{records, each, Follows, GetsOn, asks}
 use Rattle.typing_state.proofs.Going.{goes_trans, goes_refl}
 use Rattle.typing_state.proofs.Following.{ends_both, ends_before, follows_both, follows_behind, gets_start, gets_more, store_silent, follows_before, follows_none, ends_behind}
-use Rattle.type_reading.proofs.TypeLaws.{drop_read}
 use Rattle.expression_steps.specs.ExpressionSteps.{argued_constructor, argument_steps, arguments_steps, behind_parts, constructed_steps, expression_at, expression_steps, part_steps, parts_from, row_at, steps_as, typed_as, unrecorded_steps, cases_at, expression_case, parameter_steps, typed_as_if, typed_pattern, unused_case, expression_field, field_steps, fields_steps, typed_if, turn_steps, bindings_at, bound_pattern, right_at, whole_steps, form_of}
 use Rattle.expression_steps.proofs.ExpressionLaws.{each_typed, follows_more, operand_missing, operand_there, operation_as, plain_as, skips_arguments, row_of_node}
 use Rattle.pattern_typing.specs.Warnings.{spans_of, unused_steps}
 use Rattle.core_typing.proofs.GroupLaws.{case_lost, case_parts_are, case_there, cases_follow, steps_read, unused_follow, unused_same, done_follows, together_follow, turn_of, turns_follow}
-use Rattle.use_typing.proofs.Reading.{gets_read, same_follows, follows_three}
+use Rattle.use_typing.proofs.Reading.{drop_read, gets_read, same_follows, follows_three}
 use Rattle.use_typing.specs.UseSteps.{asks_equal, asks_labels, labels_of, lost_steps}
 use Rattle.pattern_steps.specs.PatternSteps.{pattern_steps}
 use Rattle.expression_steps.specs.declared.fields.Pieces.{Pieces}
@@ -30,7 +29,7 @@ use Rattle.row_parts.specs.declared.slots.Operand.{Operand}
 use Rattle.operand_laws.specs.Operands.{expression_of}
 use Rattle.operand_laws.proofs.Standing.{expression_of_stands}
 use Rattle.typing_steps.specs.Typing.{TypesTo, TypesRow, path_as}
-use Rattle.type_reading.specs.TypeSteps.{constructor_steps}
+use Rattle.type_expressions.specs.TypeSteps.{constructor_steps}
 use Rattle.typing_rows.specs.CarriedRows.{IsCarried}
 use Rattle.typing_rows.specs.Asked.{under_minus, expressions_of, signed_expressions, applied_asks, IsOrderedRow, ordered_end}
 use Rattle.typing_rows.specs.Contracts.{TypesAs, TypesParts, EndsRow, AsksBehind}

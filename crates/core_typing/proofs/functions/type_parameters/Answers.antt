@@ -3,7 +3,7 @@ use Rattle.row_parts.specs.Numbered.{operand_view}
 use Rattle.typing_state.specs.Steps.{each, GetsOn}
 use Rattle.typing_state.proofs.Going.{goes_trans}
 use Rattle.typing_state.proofs.Following.{gets_more}
-use Rattle.type_reading.proofs.TypeLaws.{drop_read}
+use Rattle.use_typing.proofs.Reading.{drop_read}
 use Rattle.expression_steps.specs.ExpressionSteps.{parameter_steps}
 use Rattle.core_typing.proofs.functions.type_parameters.Goals as goal
 

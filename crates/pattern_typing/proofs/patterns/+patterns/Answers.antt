@@ -11,8 +11,8 @@ use Rattle.env_table.specs.declared.faults.FaultKind.TheVariants as fault
 use Rattle.typing_state.specs.Steps.{each, records, Follows, GetsOn}
 use Rattle.typing_state.proofs.Going.{goes_refl, goes_trans}
 use Rattle.typing_state.proofs.Following.{gets_start, ends_both, follows_before, follows_both, follows_none, gets_more, gets_done, store_silent}
-use Rattle.type_reading.proofs.TypeLaws.{drop_read}
-use Rattle.use_typing.specs.UseSteps.{annotation_steps, asks_equal, asks_equal_if, asks_labels, asks_token, labels_of, lost_steps, path_at, range_steps}
+use Rattle.type_expressions.specs.Written.{annotation_steps}
+use Rattle.use_typing.specs.UseSteps.{asks_equal, asks_equal_if, asks_labels, asks_token, labels_of, lost_steps, path_at, range_steps}
 use Rattle.pattern_steps.specs.PatternSteps.{construction_steps, field_pattern_steps, field_pattern_names, last_of, later, match_each, name_of, names_in, names_of, names_of_first, names_of_tree, parts_of_pattern, pattern_names, pattern_or_missing, pattern_steps, side_at, sides_beside, sides_of}
 use Rattle.pattern_typing.specs.Matching.{Binds, binds_of, names_seen, nodes_of, parts_of_sides, side_of, side_view, tokens_of, typed_view}
 use Rattle.pattern_typing.specs.declared.patterns.SideMatch.{SideMatch}
@@ -32,7 +32,7 @@ use Rattle.pattern_typing.proofs.Carrying.{if_ok, if_any, none_of, tree_row, ref
 use Rattle.pattern_typing.proofs.Stepping.{as_patterns, order_step, beside_none, beside_step, beside_done, sides_compared}
 use Rattle.pattern_typing.specs.declared.patterns.TypedPart.{TypedPart}
 use Rattle.pattern_typing.proofs.Binding.{binds_both, binds_none}
-use Rattle.use_typing.proofs.Reading.{map_push, list_done, follows_three}
+use Rattle.use_typing.proofs.Reading.{drop_read, map_push, list_done, follows_three}
 use Rattle.pattern_typing.proofs.MatchedRows.{binds_more, binds_done, side_is, row_steps, row_names, steps_there, names_there, steps_missing, names_missing, field_missing, field_names_missing, field_written, field_names_written, field_alone, field_names_alone, on_any, other_matched, other_bound, record_follows, record_binds}
 use Rattle.pattern_typing.proofs.OtherRows.{other_steps, other_names}
 use Rattle.pattern_typing.proofs.PatternLaws.{filled_binds, filled_follows, sides_come, slot_binds, slot_follows, slots_bind, slots_follow}

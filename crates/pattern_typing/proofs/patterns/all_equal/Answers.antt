@@ -5,7 +5,7 @@ use Rattle.row_parts.specs.Numbered.{operand_view}
 use Rattle.typing_state.specs.Steps.{each, GetsOn}
 use Rattle.typing_state.proofs.Going.{goes_refl, goes_trans}
 use Rattle.typing_state.proofs.Following.{gets_start, gets_more}
-use Rattle.type_reading.proofs.TypeLaws.{drop_read}
+use Rattle.use_typing.proofs.Reading.{drop_read}
 use Rattle.use_typing.specs.UseSteps.{asks_equal}
 use Rattle.typing_steps.proofs.Rows.{equal_asks}
 use Rattle.pattern_rows.specs.Contracts.{patterns_of}

@@ -3,7 +3,7 @@ use Rattle.std.specs.Prelude.{None, Some}
 use Rattle.std.proofs.lemmas.List.{nil_from_length}
 use Rattle.row_parts.specs.Numbered.{operand_view}
 use Rattle.type_terms.specs.declared.types.NodeRef.{NodeRef}
-use Rattle.use_typing.specs.Uses.{IsAsWritten}
+use Rattle.type_expressions.specs.Written.{IsAsWritten}
 use Rattle.pattern_typing.proofs.Carrying.{if_any, if_ok}
 use Rattle.pattern_typing.proofs.Stepping.{first_node, no_typed}
 use Rattle.pattern_typing.proofs.patterns.annotated.Goals as goal

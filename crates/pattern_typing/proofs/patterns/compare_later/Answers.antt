@@ -3,7 +3,7 @@ use Rattle.std.proofs.lemmas.List.{drop_all}
 use Rattle.typing_state.specs.Steps.{each, GetsOn}
 use Rattle.typing_state.proofs.Going.{goes_refl, goes_trans}
 use Rattle.typing_state.proofs.Following.{gets_start, gets_more}
-use Rattle.type_reading.proofs.TypeLaws.{drop_read}
+use Rattle.use_typing.proofs.Reading.{drop_read}
 use Rattle.pattern_steps.specs.PatternSteps.{beside}
 use Rattle.pattern_rows.specs.Contracts.{patterns_of}
 use Rattle.pattern_rows.proofs.Beside.{later_none, later_all}

@@ -3,7 +3,7 @@ use Rattle.std.specs.Prelude.{true, false}
 use Rattle.std.specs.Str.{bytes_eq}
 use Rattle.std.proofs.lemmas.List.{drop_all}
 use Rattle.syntax_tree.specs.View.{tok_of}
-use Rattle.type_reading.proofs.TypeLaws.{drop_read}
+use Rattle.use_typing.proofs.Reading.{drop_read}
 use Rattle.pattern_steps.specs.PatternSteps.{find_name}
 use Rattle.pattern_rows.specs.Sides.{find_bind}
 use Rattle.pattern_typing.specs.Matching.{binds_of, tokens_of}

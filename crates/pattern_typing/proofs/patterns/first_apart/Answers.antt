@@ -1,6 +1,6 @@
 use Rattle.std.proofs.Common.{◌≡◌, ◌∙◌, ◌+◌, ◌<◌, [], length, drop, sym, ap, arith}
 use Rattle.std.proofs.lemmas.List.{drop_all}
-use Rattle.type_reading.proofs.TypeLaws.{drop_read}
+use Rattle.use_typing.proofs.Reading.{drop_read}
 use Rattle.pattern_rows.specs.Sides.{first_apart_here}
 use Rattle.pattern_typing.specs.Matching.{binds_of}
 use Rattle.pattern_typing.proofs.Carrying.{apart_first, apart_behind}

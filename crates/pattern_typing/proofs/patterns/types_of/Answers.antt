@@ -2,8 +2,7 @@ use Rattle.std.proofs.Common.{◌≡◌, ◌++◌, ◌+◌, ◌<◌, [], length,
 use Rattle.std.proofs.lemmas.List.{drop_all}
 use Rattle.type_terms.specs.declared.types.NodeRef.{NodeRef}
 use Rattle.type_nodes.specs.Views.{numbers}
-use Rattle.type_reading.proofs.TypeLaws.{drop_read}
-use Rattle.use_typing.proofs.Reading.{map_push, list_done}
+use Rattle.use_typing.proofs.Reading.{drop_read, map_push, list_done}
 use Rattle.pattern_typing.specs.Matching.{nodes_of}
 use Rattle.pattern_typing.proofs.patterns.types_of.Goals as goal
 

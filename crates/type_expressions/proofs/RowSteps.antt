@@ -8,7 +8,7 @@ use Rattle.row_parts.specs.Numbered.{Written, token_in, path_in}
 use Rattle.env_table.specs.declared.faults.FaultKind.{FaultKind}
 use Rattle.env_table.specs.declared.faults.FaultKind.TheVariants as fault
 use Rattle.typing_state.specs.Steps.{HasNoRecord, asks_bound, asks_at_last}
-use Rattle.type_reading.specs.TypeSteps.{row_steps, variable_steps, constructor_steps}
+use Rattle.type_expressions.specs.TypeSteps.{row_steps, variable_steps, constructor_steps}
 
 variable_no_record : (t : Option Tok) → HasNoRecord (variable_steps t)
 variable_no_record None = tt

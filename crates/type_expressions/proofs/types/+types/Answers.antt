@@ -1,13 +1,14 @@
 use Rattle.std.proofs.Common.{◌≡◌, ◌∙◌, ◌∷◌, ◌++◌, ◌+◌, ◌<◌, [], length, map, drop, sym, ap, subst, arith}
+use Rattle.std.proofs.lemmas.List.{drop_more}
 use Rattle.std.specs.Prelude.{OnOk, Some, None, option_map}
 use Rattle.syntax_tree.specs.View.{node_view}
 use Rattle.row_parts.specs.Numbered.{operand_view, part_of}
 use Rattle.typing_state.specs.Steps.{records, each, Follows, GetsOn}
-use Rattle.type_reading.specs.TypeSteps.{several, parts_read, type_steps, steps_given, type_unrecorded}
+use Rattle.type_expressions.specs.TypeSteps.{several, parts_read, type_steps, steps_given, type_unrecorded}
 use Rattle.typing_state.proofs.Going.{goes_refl, goes_trans}
 use Rattle.typing_state.proofs.Following.{follows_both, ends_both, ends_before, gets_more, silent_refl}
-use Rattle.type_reading.proofs.TypeLaws.{each_map, each_operand, type_steps_are, given_several, given_alone, drop_read, parts_in_front, parts_in_order}
-use Rattle.type_reading.proofs.types.+types.Goals as goal
+use Rattle.type_expressions.proofs.TypeLaws.{each_map, each_operand, type_steps_are, given_several, given_alone, parts_in_front, parts_in_order}
+use Rattle.type_expressions.proofs.types.+types.Goals as goal
 
 pub read_each-loop-part-preserved : goal.read_each-loop-part-preserved
 read_each-loop-part-preserved t c =
@@ -15,7 +16,7 @@ read_each-loop-part-preserved t c =
     let i = c.loop-part.part-index in
     let x = c.part-item.result in
     let lt : i < length all = let n = c.loop-part-test.true in omega arith in
-    let cut = drop_read all i x lt c.part-item.is in
+    let cut = drop_more all i x lt ∙ ap (λ o. o ∷ drop (i + 1) all) (sym c.part-item.is) in
     record {
       goes = goes_trans c.args.at.now c.loop-part.at c.read_type.new.at c.loop-part.invariant.goes c.read_type.ensures.goes;
       gets = gets_more (each (λ o. type_steps (operand_view o)) all) (type_steps (operand_view x)) (each (λ o. type_steps (operand_view o)) (drop (i + 1) all)) c.args.at.now c.loop-part.at c.read_type.new.at

@@ -10,11 +10,10 @@ ghost use Rattle.env_table.specs.declared.faults.FaultKind.{FaultKind};
 ghost use Rattle.typing_state.specs.Goes.{Goes};
 ghost use Rattle.typing_state.specs.Notes.{IsRecorded};
 ghost use Rattle.typing_state.specs.Steps.{asks, each, Follows, Silent};
-ghost use Rattle.type_reading.specs.TypeSteps.{several, parts_read, type_steps, steps_given, type_parts, type_demands, type_unrecorded, variable_steps, constructor_steps};
+ghost use Rattle.type_expressions.specs.TypeSteps.{several, parts_read, type_steps, steps_given, type_parts, type_demands, type_unrecorded, variable_steps, constructor_steps};
 
-use crate::changes::Changes;
-use crate::copies::{Copies, ForBound, ForUnknown, unchanged};
-use env_table::{Declaration, Entry, Env, Kind};
+use crate::arguments::{applied, applied_with_unknowns};
+use env_table::{Entry, Env, Kind};
 use owned_lists::push;
 use row_parts::{Operand, WrittenPath, operand_in, operands, operands_of, token, written_path};
 use std::alloc::{AllocError, Global};
@@ -375,69 +374,6 @@ fn declared(
             Variables::OfItem => applied(at, declaration, types),
             Variables::Parameters(_) => applied_with_unknowns(at, declaration, types),
         },
-    }
-}
-
-/// The same in a declaration, where the unknown types in it become others.
-fn applied_with_unknowns(
-    at: &mut Parts,
-    declaration: &Declaration,
-    types: &[NodeRef],
-) -> Result<NodeRef, NoMemory>
-    ensures silent { Silent at.old at.new }
-    ensures goes { Goes at.old at.new }
-{
-    if let Some(origin) = &declaration.origin {
-        return at.con(origin, types);
-    }
-    let changes = Changes::none(at.alloc());
-    let how = unchanged(&changes, ForBound::Variable, ForUnknown::Open);
-    let instance = Copies::new(at).copy(at, declaration.root, how)?;
-    if types.is_empty() {
-        return Ok(instance);
-    }
-    filled(at, instance, types)
-}
-
-/// The type that a declaration gives arguments, abbreviations expanded.
-pub fn applied(
-    at: &mut Parts,
-    declaration: &Declaration,
-    types: &[NodeRef],
-) -> Result<NodeRef, NoMemory>
-    ensures silent { Silent at.old at.new }
-    ensures goes { Goes at.old at.new }
-{
-    if let Some(origin) = &declaration.origin {
-        return at.con(origin, types);
-    }
-    let instance = at.instance(declaration.root)?;
-    if types.is_empty() {
-        return Ok(instance);
-    }
-    filled(at, instance, types)
-}
-
-/// The last part of a tuple whose other parts are these types.
-pub fn filled(at: &mut Parts, tuple: NodeRef, types: &[NodeRef]) -> Result<NodeRef, NoMemory>
-    ensures silent { Silent at.old at.new }
-    ensures goes { Goes at.old at.new }
-{
-    for (place, ty) in types.iter().enumerate() {
-        let parameter = match at.parts_of_tuple(tuple) {
-            Some(parts) => parts.get(place).copied(),
-            None => None,
-        };
-        if let Some(parameter) = parameter {
-            at.join(parameter, *ty)?;
-        }
-    }
-    match at.parts_of_tuple(tuple) {
-        Some(parts) => match parts.last() {
-            Some(body) => Ok(*body),
-            None => at.var(),
-        },
-        None => at.var(),
     }
 }
 

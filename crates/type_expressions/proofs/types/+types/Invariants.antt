@@ -2,8 +2,8 @@ use Rattle.std.proofs.Common.{◌+◌, ◌*◌, ◌≡◌, ◌++◌, drop}
 use Rattle.row_parts.specs.Numbered.{operand_view}
 use Rattle.typing_state.specs.Goes.{Goes}
 use Rattle.typing_state.specs.Steps.{each, GetsOn}
-use Rattle.type_reading.specs.TypeSteps.{type_steps}
-use Rattle.type_reading.proofs.types.+types.Given as goal
+use Rattle.type_expressions.specs.TypeSteps.{type_steps}
+use Rattle.type_expressions.proofs.types.+types.Given as goal
 
 abbrev pub decreases-read_type : goal.decreases-read_type
 decreases-read_type l = 5 * l.depth.0 + 4

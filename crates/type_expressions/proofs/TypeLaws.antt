@@ -1,7 +1,6 @@
 -- The steps of type expressions, by their operands.
-use Rattle.std.proofs.Common.{◌≡◌, ◌∙◌, ◌++◌, ◌+◌, ◌<◌, ℕ, List, [], ◌∷◌, length, map, drop, refl, sym, ap, subst}
-use Rattle.std.specs.Prelude.{Option, Some, None, slice_index_or}
-use Rattle.std.proofs.lemmas.List.{drop_more}
+use Rattle.std.proofs.Common.{◌≡◌, ◌∙◌, ◌++◌, ℕ, List, [], ◌∷◌, map, refl, sym, ap, subst}
+use Rattle.std.specs.Prelude.{Option, Some, None}
 use Rattle.tree_model.specs.Rows.{Row, program_row, let_row, type_row, exception_row, module_row, modtype_row, open_row, include_row, break_row, val_row, gmodule_row, decl_row, head_row, alias_row, variant_row, record_row, con_row, label_row, with_row, tvar_row, tcon_row, tparen_row, tapp_row, ttuple_row, tarrow_row, pname_row, pany_row, pconst_row, pneg_row, pcon_row, pparen_row, plist_row, precord_row, papp_row, pcons_row, ptuple_row, por_row, pas_row, qfield_row, binding_row, case_row, ffield_row, name_row, econ_row, epath_row, econst_row, hole_row, eparen_row, ebegin_row, elist_row, erecord_row, prefix_row, field_row, eapp_row, eassert_row, ewhile_row, efor_row, eneg_row, infix_row, econs_row, etuple_row, eset_row, eif_row, eseq_row, elet_row, ematch_row, etry_row, efun_row, efunction_row, mpath_row, mstruct_row, mparen_row, mapp_row, mfunctor_row, ypath_row, ysig_row, yparen_row, ywith_row, yfunctor_row}
 use Rattle.syntax_tree.specs.declared.rows.RowName.{RowName}
 use Rattle.syntax_tree.specs.declared.rows.RowName.TheVariants as name
@@ -15,7 +14,7 @@ use Rattle.row_parts.specs.Folds.{operands_by, part_at, operand_by}
 use Rattle.row_parts.proofs.Folding.{comes_to, folds_from, slot_comes, slots_come}
 use Rattle.row_parts.specs.declared.slots.Operand.{Operand}
 use Rattle.typing_state.specs.Steps.{Steps, records, each}
-use Rattle.type_reading.specs.TypeSteps.{TypeSteps, type_rule, unrecorded, parts_steps, given_in, given_steps, at_least_two, several_in_row, several_in_part, several, parts_by_row, parts_read, type_parts, type_unrecorded, type_steps, steps_given, read_each, given_by, parts_of_type}
+use Rattle.type_expressions.specs.TypeSteps.{TypeSteps, type_rule, unrecorded, parts_steps, given_in, given_steps, at_least_two, several_in_row, several_in_part, several, parts_by_row, parts_read, type_parts, type_unrecorded, type_steps, steps_given, read_each, given_by, parts_of_type}
 
 -- each of what some come to
 pub each_map : {A B : Type 0} (f : B → Steps) (g : A → B) (xs : List A) → each f (map g xs) ≡ each (λ x. f (g x)) xs
@@ -250,10 +249,6 @@ given_alone o e = by o.part e
     by (taken t) e = refl
     by (inner (node r x ps)) e = alone_of_row r o.number _ (parts_of_type o.number (node r x ps)) (operands_in o.number (node r x ps) 1) (slot_of_types o.number (node r x ps) 1) e
     by (missing q) e = refl
-
--- what is left of a list
-pub drop_read : {A : Type 0} (xs : List A) (i : ℕ) (x : A) → i < length xs → x ≡ slice_index_or xs i x → drop i xs ≡ x ∷ drop (i + 1) xs
-drop_read xs i x lt e = drop_more xs i x lt ∙ ap (λ y. y ∷ drop (i + 1) xs) (sym e)
 
 -- the parts of an application are what stands in front of the constructor
 tree_in_front : (n : ℕ) (r : RowName) (x : Extent) (ps : Forest) → r ≡ name.Tapp → type_parts n (node (row_of r) x ps) ≡ steps_given (filled_in n (node (row_of r) x ps) 0)

@@ -1,0 +1,35 @@
+//! Types that are written behind patterns and expressions.
+#![tactic(auto, using(typing_state::proofs::Going::goes_trans, typing_state::proofs::Going::goes_refl, typing_state::proofs::Following::follows_both, typing_state::proofs::Following::follows_before, typing_state::proofs::Following::follows_behind, typing_state::proofs::Following::follows_silent, typing_state::proofs::Following::store_silent, typing_state::proofs::Following::silent_refl, typing_state::proofs::Following::silent_trans, typing_state::proofs::Following::ends_both, typing_state::proofs::Following::ends_behind, typing_state::proofs::Following::ends_before, typing_state::proofs::Following::ends_silent))]
+
+ghost use Rattle.std.specs.Prelude.{option_map, Some, IfOk, OnOk};
+ghost use Rattle.row_parts.specs.Numbered.{operand_view};
+ghost use Rattle.typing_state.specs.Goes.{Goes};
+ghost use Rattle.typing_state.specs.Steps.{Follows};
+ghost use Rattle.type_expressions.specs.Written.{annotation_steps, IsAsWritten};
+
+use crate::types::{Variables, read_type};
+use row_parts::Operand;
+use typing_state::{Depth, Env, NoMemory, NodeRef, Parts};
+
+/// The type that is written behind a part, which has it; without one the part's own.
+pub fn as_written(
+    at: &mut Parts,
+    written: Option<Operand<'_>>,
+    part: Operand<'_>,
+    ty: NodeRef,
+    env: &Env,
+    depth: Depth,
+) -> Result<NodeRef, NoMemory>
+    ensures written { IfOk result (λ n. IsAsWritten (option_map operand_view written.entry) part.entry.span ty at.old at.new env.now n) }
+    ensures follows { OnOk result (Follows (annotation_steps (Some (operand_view part.entry)) (option_map operand_view written.entry)) at.old at.new) }
+    ensures goes { Goes at.old at.new }
+{
+    match written {
+        Some(written) => {
+            let wanted = read_type(at, written, env, &Variables::OfItem, depth)?;
+            at.equal(part.span, ty, wanted, env)?;
+            Ok(wanted)
+        }
+        None => Ok(ty),
+    }
+}
