@@ -1,6 +1,7 @@
 //! Declarations of types and exceptions.
 ghost use Rattle.typing_state.specs.Goes.{Goes};
 
+use crate::fresh::ask_new;
 use crate::groups::{
     ConstructorPart, DeclarationPart, LabelPart, Right, Told, declarations_of, last_token,
     missing_in,
@@ -11,6 +12,7 @@ use env_table::{Constructor, Declaration, Entry, Env, Kind, Label, Shape, What};
 use owned_lists::{owned, push, shared};
 use row_parts::{Operand, first_operand, token};
 use std::alloc::Global;
+use std::collections::HashSet;
 use std::rc::Rc;
 use syntax_tree::{Node, Token};
 use text_terms::RcStr;
@@ -279,8 +281,13 @@ fn which_rename(
     for part in parts {
         push(&mut renames, may_rename(&part.right))?;
     }
+    let ordered = mentions.ordered(at.alloc(), &renames)?;
     for place in 0..renames.len() {
-        if is_set(&renames, place) && mentions.leads_to_itself(at.alloc(), place, &renames)? {
+        // what has a place in an order mentions no cycle, so it isn't searched
+        if is_set(&renames, place)
+            && !is_set(&ordered, place)
+            && mentions.leads_to_itself(at.alloc(), place, &renames)?
+        {
             clear(&mut renames, place);
         }
     }
@@ -291,9 +298,9 @@ fn which_rename(
 fn parameters_are_new(at: &mut Parts, names: &[&Token]) -> Result<(), NoMemory>
     ensures goes { Goes at.old at.new }
 {
-    let mut seen = Vec::new(at.alloc());
+    let mut seen = HashSet::new(at.alloc());
     for name in names {
-        at.is_new(&mut seen, name)?;
+        ask_new(at, &mut seen, name)?;
     }
     Ok(())
 }
@@ -490,10 +497,10 @@ fn read_constructors(
 fn names_are_new(at: &mut Parts, parts: &[ConstructorPart<'_>]) -> Result<(), NoMemory>
     ensures goes { Goes at.old at.new }
 {
-    let mut seen = Vec::new(at.alloc());
+    let mut seen = HashSet::new(at.alloc());
     for part in parts {
         if let Some(name) = part.name {
-            at.is_new(&mut seen, name)?;
+            ask_new(at, &mut seen, name)?;
         }
     }
     Ok(())
@@ -502,10 +509,10 @@ fn names_are_new(at: &mut Parts, parts: &[ConstructorPart<'_>]) -> Result<(), No
 fn labels_are_new(at: &mut Parts, parts: &[LabelPart<'_>]) -> Result<(), NoMemory>
     ensures goes { Goes at.old at.new }
 {
-    let mut seen = Vec::new(at.alloc());
+    let mut seen = HashSet::new(at.alloc());
     for part in parts {
         if let Some(name) = part.name {
-            at.is_new(&mut seen, name)?;
+            ask_new(at, &mut seen, name)?;
         }
     }
     Ok(())

@@ -212,6 +212,15 @@ impl Mentions {
         Ok(order)
     }
 
+    /// Marks those that have a place in this order.
+    pub fn ordered(&self, alloc: Global, renames: &[bool]) -> Result<Vec<bool>, NoMemory> {
+        let mut marks = vec![in alloc; false; renames.len()]?;
+        for place in self.order(alloc, renames)? {
+            set(&mut marks, place);
+        }
+        Ok(marks)
+    }
+
     /// Adds those that are ready.
     fn go_on(
         &self,
@@ -231,7 +240,7 @@ impl Mentions {
         Ok(())
     }
 
-    /// Whether a declaration is met behind itself by other names of types alone.
+    /// Whether a declaration is met again from itself by other names of types alone.
     pub fn leads_to_itself(
         &self,
         alloc: Global,
@@ -239,33 +248,37 @@ impl Mentions {
         renames: &[bool],
     ) -> Result<bool, NoMemory> {
         let mut reached = vec![in alloc; false; renames.len()]?;
-        self.reach(place, &mut reached);
+        let mut ahead = Vec::new(alloc);
+        self.reach(place, &mut reached, &mut ahead)?;
+        // each place is put ahead once at most
         for _ in 0..renames.len() {
-            let before = count(&reached);
-            self.reach_further(renames, &mut reached);
-            if is_set(&reached, place) || count(&reached) == before {
-                return Ok(is_set(&reached, place));
+            let Some(next) = ahead.pop() else {
+                break;
+            };
+            if is_set(renames, next) {
+                self.reach(next, &mut reached, &mut ahead)?;
             }
         }
         Ok(is_set(&reached, place))
     }
 
-    /// Marks what a declaration mentions.
-    fn reach(&self, place: usize, reached: &mut Vec<bool>) {
-        if let Some(mentioned) = self.of.get(place) {
-            for m in mentioned {
+    /// Marks what a declaration mentions; what wasn't marked before is ahead, to be gone on from.
+    fn reach(
+        &self,
+        place: usize,
+        reached: &mut Vec<bool>,
+        ahead: &mut Vec<usize>,
+    ) -> Result<(), NoMemory> {
+        let Some(mentioned) = self.of.get(place) else {
+            return Ok(());
+        };
+        for m in mentioned {
+            if !is_set(reached, *m) {
                 set(reached, *m);
+                push(ahead, *m)?;
             }
         }
-    }
-
-    /// Marks what the marked declarations mention.
-    fn reach_further(&self, renames: &[bool], reached: &mut Vec<bool>) {
-        for place in 0..renames.len() {
-            if is_set(reached, place) && is_set(renames, place) {
-                self.reach(place, reached);
-            }
-        }
+        Ok(())
     }
 }
 
@@ -289,8 +302,4 @@ pub fn clear(marks: &mut Vec<bool>, place: usize) {
     if place < marks.len() {
         marks[place] = false;
     }
-}
-
-fn count(marks: &[bool]) -> usize {
-    marks.iter().filter(|mark| **mark).count()
 }

@@ -1,22 +1,34 @@
 //! Weak variables: those that are free in the types of the names behind the last item.
-use env_table::{Entries, Entry, Env, Sig, What};
+use env_table::{Entries, Entry, Env, Place, Sig, What};
 use owned_lists::push;
-use std::collections::HashSet;
+use std::collections::{HashMap, HashSet};
+use std::rc::Rc;
 use type_nodes::View;
 use typing_state::{Depth, NoMemory, NodeRef, Parts};
 
 /// The level that is kept for bound variables.
 const BOUND: u32 = 4_294_967_295;
 
-/// The nodes that were looked at, those still to be looked at, and the variables that were found.
+/// The nodes and the modules that were looked at, the nodes still to be looked at, and the variables that were found. Modules are
+/// grouped by the place of their name in a text, which few of them share.
 #[derive(Drop)]
-struct Search {
+struct Search<'a> {
     seen: HashSet<u64>,
+    modules: HashMap<u32, Vec<&'a Rc<Entry>>>,
     todo: Vec<NodeRef>,
     found: Vec<NodeRef>,
 }
 
-impl Search {
+/// Where a name stands in its text, or the number of a built-in type.
+fn place_number(place: Place) -> u32 {
+    match place {
+        Place::Buffer(span) => span.start,
+        Place::Prelude(span) => span.start,
+        Place::BuiltIn(number) => number,
+    }
+}
+
+impl<'a> Search<'a> {
     /// Looks at a node behind its links, once.
     fn look(&mut self, at: &Parts, n: NodeRef) -> Result<(), NoMemory> {
         let Some(view) = at.read(n) else {
@@ -59,21 +71,46 @@ impl Search {
         Ok(())
     }
 
-    /// Looks at the types of the values behind an entry, those of a module's values and of functors' bodies included.
+    /// Whether a module wasn't looked at yet; it counts as looked at from now on. Many names may stand for one module, and only the
+    /// first of them is followed: else a text of thirty modules, each with two names for the one before it, would never be done.
+    fn is_new(&mut self, at: &Parts, entry: &'a Rc<Entry>) -> Result<bool, NoMemory> {
+        let number = place_number(entry.place);
+        if let Some(others) = self.modules.get_mut(&number) {
+            for other in others.iter() {
+                if Rc::ptr_eq(other, entry) {
+                    return Ok(false);
+                }
+            }
+            push(others, entry)?;
+            return Ok(true);
+        }
+        let mut others = Vec::new(at.alloc());
+        push(&mut others, entry)?;
+        self.modules.insert(number, others)?;
+        Ok(true)
+    }
+
+    /// Looks at the types of the values that an entry brings in, those of a module's values and of functors' bodies included.
     #[cycle(weak)]
-    fn entry(&mut self, at: &Parts, entry: &Entry, depth: Depth) -> Result<(), NoMemory> {
+    fn entry(&mut self, at: &Parts, entry: &'a Rc<Entry>, depth: Depth) -> Result<(), NoMemory> {
         match &entry.what {
             What::Scheme(root) => {
                 self.later(&[*root])?;
                 self.go_on(at)
             }
-            What::Module(sig) => self.module(at, sig, depth),
+            What::Module(sig) => {
+                if self.is_new(at, entry)? {
+                    self.module(at, sig, depth)
+                } else {
+                    Ok(())
+                }
+            }
             _ => Ok(()),
         }
     }
 
     #[cycle(weak)]
-    fn module(&mut self, at: &Parts, sig: &Sig, depth: Depth) -> Result<(), NoMemory> {
+    fn module(&mut self, at: &Parts, sig: &'a Sig, depth: Depth) -> Result<(), NoMemory> {
         match sig {
             Sig::Structure(_) => self.entries(at, sig.entries(), depth.inside()?),
             Sig::Functor(parameter, body) => {
@@ -85,7 +122,7 @@ impl Search {
     }
 
     #[cycle(weak)]
-    fn entries(&mut self, at: &Parts, entries: Entries<'_>, depth: Depth) -> Result<(), NoMemory> {
+    fn entries(&mut self, at: &Parts, entries: Entries<'a>, depth: Depth) -> Result<(), NoMemory> {
         let mut rest = entries;
         while let Some((entry, older)) = rest.split_first() {
             self.entry(at, entry, depth)?;
@@ -99,6 +136,7 @@ impl Search {
 pub fn weak_variables(at: &Parts, env: &Env) -> Result<Vec<NodeRef>, NoMemory> {
     let mut search = Search {
         seen: HashSet::new(at.alloc()),
+        modules: HashMap::new(at.alloc()),
         todo: Vec::new(at.alloc()),
         found: Vec::new(at.alloc()),
     };

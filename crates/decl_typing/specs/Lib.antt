@@ -1,0 +1,2 @@
+-- What is asked of the names of one declaration.
+pub mod Fresh
