@@ -1,5 +1,6 @@
-use Rattle.std.proofs.Common.{sym, subst}
-use Rattle.std.specs.Prelude.{All}
+use Rattle.typing_state.proofs.Following.{store_silent}
+use Rattle.std.proofs.Common.{sym, subst, refl, Result, Ok, Err}
+use Rattle.std.specs.Prelude.{All, OnOk}
 use Rattle.type_nodes.specs.Nodes.{IsNode}
 use Rattle.type_nodes.specs.Views.{numbers}
 use Rattle.level_unify.proofs.Tightening.{extends_tightens}
@@ -7,6 +8,11 @@ use Rattle.typing_state.proofs.Going.{put_goes}
 use Rattle.type_reading.proofs.Extending.{node_extends}
 use Rattle.type_reading.proofs.Declaring.{front}
 use Rattle.type_reading.proofs.copies.applied.Goals as goal
+
+-- what holds is so where a call succeeds
+on_any : {A E P : Type 0} (r : Result A E) → P → OnOk r P
+on_any (Ok x) p = p
+on_any (Err e) p = tt
 
 pub substituted-requires-clause-variables : goal.substituted-requires-clause-variables
 substituted-requires-clause-variables c =
@@ -22,3 +28,12 @@ returns-clause-extends c = node_extends c.var.result c.args.at.now.store c.var.n
 
 pub returns-clause-goes : goal.returns-clause-goes
 returns-clause-goes c = c.var.ensures.goes
+
+pub returns-in-Some-clause-silent : goal.returns-in-Some-clause-silent
+returns-in-Some-clause-silent c = refl
+
+pub returns-in-Some-clause-extends : goal.returns-in-Some-clause-extends
+returns-in-Some-clause-extends c = on_any c.substituted.result c.substituted.ensures.extends
+
+pub returns-clause-silent : goal.returns-clause-silent
+returns-clause-silent c = store_silent c.args.at.now c.var.new.self c.var.ensures.rest
