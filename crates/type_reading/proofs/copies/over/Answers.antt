@@ -1,14 +1,20 @@
+use Rattle.std.specs.Prelude.{IfOk}
 use Rattle.typing_state.proofs.Going.{goes_refl}
 use Rattle.typing_state.proofs.Following.{store_silent}
-use Rattle.std.proofs.Common.{Some, ◌∙◌, ap, arith}
+use Rattle.std.proofs.Common.{Some, ◌∙◌, ap, arith, refl, Result, Ok, Err}
 use Rattle.type_nodes.specs.Nodes.{Tuple, IsNode}
 use Rattle.type_nodes.specs.Links.{root}
 use Rattle.type_nodes.specs.Views.{numbers}
 use Rattle.level_unify.proofs.Walking.{parts_inside}
 use Rattle.type_reading.specs.Copying.{seen_node}
-use Rattle.type_reading.proofs.Extending.{node_extends}
+use Rattle.type_reading.proofs.Extending.{node_extends, extends_refl}
 use Rattle.type_reading.proofs.Declaring.{over_itself, over_answer, no_tuple_answer}
 use Rattle.type_reading.proofs.copies.over.Goals as goal
+
+-- what holds of each value holds where a call gives one
+if_any : {A E : Type 0} (r : Result A E) (P : A → Type 0) → ((x : A) → P x) → IfOk r P
+if_any (Ok x) P p = p x
+if_any (Err e) P p = tt
 
 pub returns-then-arity-eq0-clause-over : goal.returns-then-arity-eq0-clause-over
 returns-then-arity-eq0-clause-over c = λ d inside. over_itself c.args.at.now.store.nodes c.args.root.0 c.args.arity (numbers c.args.args.now) c.len.ensures.sound c.if-arity-eq0.true d
@@ -49,3 +55,33 @@ returns-then-len-root-clause-goes c = c.var.ensures.goes
 
 pub returns-then-not-are_nodes-clause-goes : goal.returns-then-not-are_nodes-clause-goes
 returns-then-not-are_nodes-clause-goes c = c.var-then-not-are_nodes.ensures.goes
+
+pub returns-then-not-are_nodes-clause-over : goal.returns-then-not-are_nodes-clause-over
+returns-then-not-are_nodes-clause-over c = if_any c.var-then-not-are_nodes.result _ (λ m declared inside. let are = c.are_nodes.ensures.1 inside in let not = c.if-not-are_nodes.true in absurd (cc))
+
+pub returns-then-not-are_nodes-clause-extends : goal.returns-then-not-are_nodes-clause-extends
+returns-then-not-are_nodes-clause-extends c = node_extends c.var-then-not-are_nodes.result c.args.at.now.store c.var-then-not-are_nodes.new.self.store _ c.var-then-not-are_nodes.ensures.made
+
+pub returns-then-not-are_nodes-clause-silent : goal.returns-then-not-are_nodes-clause-silent
+returns-then-not-are_nodes-clause-silent c = store_silent c.args.at.now c.var-then-not-are_nodes.new.self c.var-then-not-are_nodes.ensures.rest
+
+pub returns-then-len-root-clause-extends : goal.returns-then-len-root-clause-extends
+returns-then-len-root-clause-extends c = node_extends c.var.result c.args.at.now.store c.var.new.self.store _ c.var.ensures.made
+
+pub returns-then-len-root-clause-silent : goal.returns-then-len-root-clause-silent
+returns-then-len-root-clause-silent c = store_silent c.args.at.now c.var.new.self c.var.ensures.rest
+
+pub returns-then-arity-eq0-clause-extends : goal.returns-then-arity-eq0-clause-extends
+returns-then-arity-eq0-clause-extends c = extends_refl c.args.at.now.store.nodes
+
+pub returns-then-arity-eq0-clause-silent : goal.returns-then-arity-eq0-clause-silent
+returns-then-arity-eq0-clause-silent c = refl
+
+pub returns-in-Tuple-clause-extends : goal.returns-in-Tuple-clause-extends
+returns-in-Tuple-clause-extends c = c.applied.ensures.extends
+
+pub returns-in-Tuple-clause-silent : goal.returns-in-Tuple-clause-silent
+returns-in-Tuple-clause-silent c = c.applied.ensures.silent
+
+pub returns-then-len-root-clause-over : goal.returns-then-len-root-clause-over
+returns-then-len-root-clause-over c = if_any c.var.result _ (λ m declared inside. let in_it = declared.inside in let n = c.len.ensures.count in let past = c.if-len-root.true in absurd (omega arith))
