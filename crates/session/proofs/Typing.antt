@@ -1,32 +1,21 @@
 -- What is said of types and of faults.
 use Rattle.std.proofs.Common.{◌≡◌, ℕ, List, [], ◌++◌, length, map, append-nil, refl, sym, ◌∙◌, ap, subst, Result, Ok, Err, IfOk, Bool, true, false, ◌&&◌}
-use Rattle.std.specs.Prelude.{Option, Some, None, option_map, is_some, reverse, IfSome}
-use Rattle.std.specs.List.{list_all}
+use Rattle.std.specs.Prelude.{Option, Some, None, option_map, is_some, reverse}
 use Rattle.std.specs.declared.alloc.AllocError.{AllocError}
-use Rattle.token_model.specs.Kinds.{Tok, AllWithin}
-use Rattle.token_model.specs.Tokens.{Lex}
 use Rattle.tree_model.specs.Nodes.{nodes_at}
-use Rattle.grammar_model.specs.Named.{named, items_of}
-use Rattle.recovery_model.specs.Recovery.{recover}
-use Rattle.grammar_model.specs.Ocaml.{grammar, program_text, row_name}
-use Rattle.plain_model.specs.Plain.{AllSeenWithin, plain_text}
+use Rattle.plain_model.specs.Plain.{AllSeenWithin}
 use Rattle.plain_model.proofs.Within.{seen_within}
 use Rattle.query_model.specs.TypedNodes.{Typed}
 use Rattle.service_model.specs.Replies as said
-use Rattle.service_model.specs.Structure.{items_in, faults_in, faults_said, ErrorsAre, ErrorsBy, FaultsAre}
+use Rattle.service_model.specs.Structure.{faults_said, ErrorsAre, ErrorsBy, FaultsAre}
 use Rattle.service_model.specs.Answers.{EnclosingBy, EnclosingIs, TypesAre, typed_among, types_or_none}
-use Rattle.service_model.specs.WellTyped.{is_short, is_well_typed}
-use Rattle.syntax_tree.specs.View.{tok_of, trees_of}
-use Rattle.syntax_tree.specs.declared.tree.Token.{Token}
+use Rattle.service_model.specs.WellTyped.{is_well_typed}
+use Rattle.syntax_tree.specs.View.{trees_of}
 use Rattle.plain_typing.specs.View.{seen_of}
-use Rattle.frame_parser.specs.declared.whole.Parsed.{Parsed}
-use Rattle.frame_steps.specs.Told.{told}
-use Rattle.frame_steps.specs.View as parser
 use Rattle.query_engine.specs.Faults.{fault_of}
 use Rattle.query_engine.specs.Typed.{IsNoNode}
 use Rattle.query_engine.specs.declared.asked.QueryFault.{QueryFault}
 use Rattle.query_engine.specs.declared.asked.QueryFault.TheVariants as fault
-use Rattle.query_engine.proofs.Told.{told_faults}
 use Rattle.json_lines.specs.Means.{said_of}
 use Rattle.json_lines.specs.declared.reply.Reply.{Reply}
 use Rattle.session.specs.Lines.{failure_in}
