@@ -2,8 +2,6 @@ mod Answering
 pub mod Cases
 pub mod Completing
 pub mod Naming
-pub mod Parsing
-pub mod Places
 pub mod Sizing
 pub mod Terms
 pub mod Trying

@@ -22,7 +22,7 @@ use Rattle.json_lines.specs.Means.{said_of}
 use Rattle.json_lines.specs.declared.reply.Reply.{Reply}
 use Rattle.session.specs.Lines.{failure_in}
 use Rattle.session.specs.Queries.{IsSaidOfPlace}
-use Rattle.session.specs.Structures.{IsParsedAs}
+use Rattle.text_reading.specs.Structures.{IsParsedAs}
 
 -- what is said of the items of a parsed text is said of the text
 pub of_items : (text : List ℕ) (p : Parsed) (P : List Tree → said.Said → Type 0) (r : Result Reply AllocError) → IsParsedAs text p

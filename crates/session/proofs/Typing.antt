@@ -1,64 +1,27 @@
 -- What is said of types and of faults.
 use Rattle.std.proofs.Common.{◌≡◌, ℕ, List, [], ◌++◌, length, map, append-nil, refl, sym, ◌∙◌, ap, subst, Result, Ok, Err, IfOk, Bool, true, false, ◌&&◌}
-use Rattle.std.specs.Prelude.{Option, Some, None, option_map, is_some, reverse, IfSome}
-use Rattle.std.specs.List.{list_all}
+use Rattle.std.specs.Prelude.{Option, Some, None, option_map, is_some, reverse}
 use Rattle.std.specs.declared.alloc.AllocError.{AllocError}
-use Rattle.token_model.specs.Kinds.{Tok, AllWithin}
-use Rattle.token_model.specs.Tokens.{Lex}
 use Rattle.tree_model.specs.Nodes.{nodes_at}
-use Rattle.grammar_model.specs.Named.{named, items_of}
-use Rattle.recovery_model.specs.Recovery.{recover}
-use Rattle.grammar_model.specs.Ocaml.{grammar, program_text, row_name}
-use Rattle.plain_model.specs.Plain.{AllSeenWithin, plain_text}
+use Rattle.plain_model.specs.Plain.{AllSeenWithin}
 use Rattle.plain_model.proofs.Within.{seen_within}
 use Rattle.query_model.specs.TypedNodes.{Typed}
 use Rattle.service_model.specs.Replies as said
-use Rattle.service_model.specs.Structure.{items_in, faults_in, faults_said, ErrorsAre, ErrorsBy, FaultsAre}
+use Rattle.service_model.specs.Structure.{faults_said, ErrorsAre, ErrorsBy, FaultsAre}
 use Rattle.service_model.specs.Answers.{EnclosingBy, EnclosingIs, TypesAre, typed_among, types_or_none}
-use Rattle.service_model.specs.WellTyped.{is_short, is_well_typed}
-use Rattle.syntax_tree.specs.View.{tok_of, trees_of}
-use Rattle.syntax_tree.specs.declared.tree.Token.{Token}
+use Rattle.service_model.specs.WellTyped.{is_well_typed}
+use Rattle.syntax_tree.specs.View.{trees_of}
 use Rattle.plain_typing.specs.View.{seen_of}
-use Rattle.frame_parser.specs.declared.whole.Parsed.{Parsed}
-use Rattle.frame_steps.specs.Told.{told}
-use Rattle.frame_steps.specs.View as parser
 use Rattle.query_engine.specs.Faults.{fault_of}
 use Rattle.query_engine.specs.Typed.{IsNoNode}
 use Rattle.query_engine.specs.declared.asked.QueryFault.{QueryFault}
 use Rattle.query_engine.specs.declared.asked.QueryFault.TheVariants as fault
-use Rattle.query_engine.proofs.Told.{told_faults}
 use Rattle.json_lines.specs.Means.{said_of}
 use Rattle.json_lines.specs.declared.reply.Reply.{Reply}
 use Rattle.session.specs.Lines.{failure_in}
-use Rattle.session.specs.PlainTexts.{IsReadAs, plain_of}
-use Rattle.session.specs.declared.plain.PlainText.{PlainText}
-use Rattle.session.specs.declared.reading.ReadText.{ReadText}
-
--- the tokens of a text, with what they are read as
-pub read_as : (text : List ℕ) (ts : List Tok) (r : ReadText) → Lex text ts → AllWithin (length text) ts
-    → trees_of r.parsed.tree ≡ items_of (named row_name (recover (grammar program_text) ts).0)
-    → map parser.fault_of r.parsed.faults.items ≡ map told (recover (grammar program_text) ts).1
-    → option_map plain_of r.plain ≡ plain_text ts → r.short_numerals ≡ list_all is_short ts → IsReadAs text r
-unfolding items_in faults_in
-read_as text ts r lexed within items faults plain short = record {
-  tokens = ts;
-  lexed = lexed;
-  within = within;
-  items = items;
-  faults = told_faults r.parsed.faults.items (recover (grammar program_text) ts).1 faults;
-  plain = plain;
-  short = short;
-}
-
--- the same of tokens that are parsed already
-pub read_parsed : (text : List ℕ) (ts : List Tok) (p : Parsed) (r : Result ReadText AllocError) → Lex text ts → AllWithin (length text) ts
-    → trees_of p.tree ≡ items_of (named row_name (recover (grammar program_text) ts).0)
-    → map parser.fault_of p.faults.items ≡ map told (recover (grammar program_text) ts).1
-    → IfOk r (λ x. x.parsed ≡ p) → IfOk r (λ x. option_map plain_of x.plain ≡ plain_text ts) → IfOk r (λ x. x.short_numerals ≡ list_all is_short ts)
-    → IfOk r (IsReadAs text)
-read_parsed text ts p (Ok x) lexed within items faults same plain short =
-    read_as text ts x lexed within (ap (λ q. trees_of q.tree) same ∙ items) (ap (λ q. map parser.fault_of q.faults.items) same ∙ faults) plain short
-read_parsed text ts p (Err e) lexed within items faults same plain short = tt
+use Rattle.text_reading.specs.PlainTexts.{IsReadAs, plain_of}
+use Rattle.text_reading.specs.declared.plain.PlainText.{PlainText}
+use Rattle.text_reading.specs.declared.reading.ReadText.{ReadText}
 
 -- the typed nodes of a plain text stand within it
 pub plain_within : (text : List ℕ) (read : ReadText) (p : PlainText) → IsReadAs text read → read.plain ≡ Some p → AllSeenWithin (length text) (map seen_of p.seen.items)
@@ -108,17 +71,3 @@ no_types text nodes fault.NoNode s none is = let same : said.no_node ≡ s = cc 
 no_types text nodes fault.NotAName s none is = absurd none
 no_types text nodes (fault.Unbound ident) s none is = absurd none
 no_types text nodes fault.NoMemory s none is = cc
-
--- the same of what is kept of a text
-pub read_kept : (text : List ℕ) (ts : List Tok) (tokens : List Token) (o : Option Parsed) (p : Parsed) (r : Result ReadText AllocError) → o ≡ Some p → map tok_of tokens ≡ ts → Lex text (map tok_of tokens) → AllWithin (length text) (map tok_of tokens)
-    → IfSome o (λ p. trees_of p.tree ≡ items_of (named row_name (recover (grammar program_text) ts).0))
-    → IfSome o (λ p. map parser.fault_of p.faults.items ≡ map told (recover (grammar program_text) ts).1)
-    → IfOk r (λ x. x.parsed ≡ p) → IfOk r (λ x. option_map plain_of x.plain ≡ plain_text (map tok_of tokens)) → IfOk r (λ x. x.short_numerals ≡ list_all is_short (map tok_of tokens))
-    → IfOk r (IsReadAs text)
-read_kept text ts tokens None p r is are lexed within items faults same plain short = cc
-read_kept text ts tokens (Some q) p r is are lexed within items faults same plain short =
-    let there : q ≡ p = cc in
-    read_parsed text (map tok_of tokens) p r lexed within
-    (subst (λ x. trees_of x.tree ≡ items_of (named row_name (recover (grammar program_text) (map tok_of tokens)).0)) there (items ∙ ap (λ (l : List Tok). items_of (named row_name (recover (grammar program_text) l).0)) (sym are)))
-    (subst (λ x. map parser.fault_of x.faults.items ≡ map told (recover (grammar program_text) (map tok_of tokens)).1) there (faults ∙ ap (λ (l : List Tok). map told (recover (grammar program_text) l).1) (sym are)))
-    same plain short

@@ -1,7 +1,5 @@
 -- What a session says of its text, and what the values of the code mean there.
 pub mod Changes
 pub mod Lines
-pub mod PlainTexts
 pub mod Queries
-pub mod Structures
 pub mod Trials

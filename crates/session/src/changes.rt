@@ -8,10 +8,9 @@ ghost use Rattle.syntax_tree.specs.View.{trees_of};
 ghost use Rattle.json_lines.specs.Means.{said_of};
 ghost use Rattle.construct_terms.specs.Terms.{IsAt};
 ghost use Rattle.session.specs.Changes.{AreSaidTerms, IsCasesFailure, IsSaidOfCandidate, IsTermsFailure, text_in};
-ghost use Rattle.session.specs.Structures.{IsParsedAs};
+ghost use Rattle.text_reading.specs.Structures.{IsParsedAs};
 
 use crate::queries::asked;
-use crate::structure::position;
 use crate::trials::TextTrial;
 use analysis_api::{Analyser, Analysis};
 use case_analysis::{SplitFault, destruct, split};
@@ -21,6 +20,7 @@ use json_lines::{Failure, Reply};
 use query_engine::Replacement;
 use std::alloc::{AllocError, Global};
 use syntax_tree::{Counts, NoMemory, RcStr, Span};
+use text_reading::position;
 use text_store::TextStore;
 
 /// The bytes of the store's text.

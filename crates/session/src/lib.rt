@@ -1,20 +1,16 @@
 //! One text, and the answers to the request lines on it.
 //! It keeps that text with its tokens, what the parser made of them, and the typer with what it found, and brings these up to the text
 //! before it answers a query; who finds types is a parameter, any `Analyser`.
-//! It is built on the kept text, the lexer, the parser, the plain typing, the queries, the trials and `json_lines`.
+//! It is built on the kept text, on `text_reading` for what is read and found of it, on the queries, the trials and `json_lines`.
 //! The layer above may use `Session::new`, and `answer`, which says which line is given and which text is left;
 //! for a text of its own `append`, `change`, `len`, `sizes`, `slices`, `offset_of` and `pos_of`; and the queries `errors`, `outline`,
 //! and by offsets `enclosing` and `ask_at`, which read the text from nothing unless `refresh` brought what is kept up to it.
 #![tactic(auto)]
 
 mod changes;
-mod plain;
 mod queries;
-mod reading;
 mod session;
-mod structure;
 mod trials;
-mod types;
 
 pub use queries::Query;
 pub use session::{Line, Session, Sizes};

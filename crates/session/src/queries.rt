@@ -8,22 +8,20 @@ ghost use Rattle.syntax_tree.specs.View.{place_of, trees_of};
 ghost use Rattle.json_lines.specs.Means.{entry_kind_text, entry_of, failure_said, said_of, span_of};
 ghost use Rattle.session.specs.Lines.{failure_in};
 ghost use Rattle.query_engine.specs.NewestNames.{printed};
-ghost use Rattle.session.specs.Queries.{AnswersQuery, IsAnswered, IsSaidOfPlace, said_entry};
-ghost use Rattle.session.specs.Structures.{IsParsedAs};
+ghost use Rattle.session.specs.Queries.{AnswersQuery, IsSaidOfPlace, said_entry};
+ghost use Rattle.text_reading.specs.Structures.{IsParsedAs};
 
 use crate::changes::{cases, terms_in};
-use crate::structure::{position, tree_of};
-use crate::types::find_types;
 use analysis_api::{Analyser, Analysis};
 use env_table::Place;
 use frame_parser::Parsed;
 use json_lines::{Entry, EntryKind, Failure, File, PosSpan, Reply};
-use kept_text::KeptText;
 use query_engine::{
     Asked, Completion, CompletionKind, QueryFault, complete_prefix, locate, occurrences,
 };
 use std::alloc::{AllocError, Global};
 use syntax_tree::{Counts, NoMemory, Pos, RcStr, Span, Tree};
+use text_reading::position;
 use text_store::TextStore;
 
 /// A query of a position.
@@ -67,33 +65,8 @@ pub fn asked<'a>(tree: &'a Tree, analysis: &Analysis<'a>) -> Asked<'a>
     }
 }
 
-/// Answers a query of an offset of a text, of which the types may be known already.
-pub fn ask<A: Analyser, C: Counts>(
-    alloc: Global,
-    kept: &KeptText,
-    known: Option<&A>,
-    query: &Query,
-    offset: u32,
-    counts: &mut C,
-) -> Result<Reply, NoMemory>
-    ensures said { IfOk result (λ r. IsAnswered query.now kept.now.text offset (said_of r)) }
-    ensures grows { Grows (C.tallies counts.old) (C.tallies counts.new) }
-{
-    let parsed = tree_of(alloc, kept, counts)?;
-    let found = find_types(alloc, known, &parsed.tree, counts)?;
-    let analysis = found.analysis();
-    answer::<A, C>(
-        alloc,
-        kept.text(),
-        query,
-        &parsed,
-        &analysis,
-        offset,
-        counts,
-    )
-}
-
-fn answer<A: Analyser, C: Counts>(
+/// Answers a query of an offset of a text with this tree, by what was found of its types.
+pub fn answer<A: Analyser, C: Counts>(
     alloc: Global,
     store: &TextStore,
     query: &Query,

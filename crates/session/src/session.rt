@@ -20,14 +20,12 @@ ghost use Rattle.service_model.specs.Replies.{outline};
 ghost use Rattle.service_model.specs.Made.{SizesAre};
 ghost use Rattle.service_model.specs.Structure.{ErrorsAre, FaultsAre, OutlineIs, faults_said};
 ghost use Rattle.json_lines.specs.Means.{outline_of, outlined_of, said_of, typed_of};
+ghost use Rattle.text_reading.specs.Structures.{AreItemsOf};
+ghost use Rattle.text_reading.specs.Types.{items_in};
 ghost use Rattle.session.specs.Queries.{IsAnswered};
 ghost use Rattle.session.specs.Lines.{line_bytes, refusal_in, IsWritten, RefusesBy, RefusesEditBy, RepliesBy, Says};
 
-use crate::plain::{PlainText, typed_among};
-use crate::queries::{Query, ask, asked, failure_of};
-use crate::reading::read_text;
-use crate::structure::{shown_faults, shown_outline, shown_types, tree_of};
-use crate::types::{KeptTypes, find_types};
+use crate::queries::{Query, answer, asked, failure_of};
 use analysis_api::Analyser;
 use env_table::Fault;
 use frame_parser::{Parsed, SyntaxFault};
@@ -40,6 +38,10 @@ use query_engine::{Asked, enclosing_types};
 use std::alloc::{AllocError, Global};
 use std::marker::Model;
 use syntax_tree::{Counts, NoMemory, Pos, RcStr, Tree, enclosing};
+use text_reading::{
+    Found, KeptTypes, PlainText, find_types, read_text, shown_faults, shown_outline, shown_types,
+    tree_of, typed_among,
+};
 use text_store::{Edit, TextRefusal, TextStore};
 
 /// The line that answers a request line.
@@ -158,13 +160,17 @@ pub struct Session<A: Analyser> {
     types: KeptTypes<A>,
 }
 
-/// A session is seen as the bytes of its text.
+/// A session is seen as the bytes of its text. Where the typer's items are known as those of the text, they are.
 impl<A: Analyser> Model for Session<A> {
-    ghost use Rattle.std.specs.Prelude.{List, ℕ};
+    ghost use Rattle.std.specs.Prelude.{IfSome, List, ℕ};
+    ghost use Rattle.text_reading.specs.Structures.{AreItemsOf};
+    ghost use Rattle.text_reading.specs.Types.{known};
 
     ghost Value = { List ℕ };
 
     ghost view = { λ s. s.kept.text };
+
+    ghost invariant = { λ s. IfSome (known A.items s.types) (AreItemsOf s.kept.text) };
 }
 
 impl<A: Analyser> Session<A> {
@@ -226,13 +232,25 @@ impl<A: Analyser> Session<A> {
         let edit = self.edit_for(range, text);
         match written(self.alloc, &Reply::Size(self.len_after(&edit))) {
             Line::Memory => Line::Memory,
-            Line::Written(bytes) => match self.kept.apply(&edit) {
-                Ok(_) => {
-                    self.types.outdate();
-                    Line::Written(bytes)
-                }
+            Line::Written(bytes) => match self.apply(&edit) {
+                Ok(_) => Line::Written(bytes),
                 Err(refusal) => refused_edit_line(self.alloc, refusal),
             },
+        }
+    }
+
+    /// Makes an edit, and answers the first changed byte: what is found of types is then that of an earlier text. A refused edit changes
+    /// nothing.
+    fn apply(&mut self, edit: &Edit) -> Result<u32, TextRefusal>
+        ensures done { IfOk result (λ first. outcome_of self.old (edit_of edit.now) ≡ changed first self.new) }
+        ensures refused { IfErr result (λ refusal. (self.new ≡ self.old) × IsRefusal (outcome_of self.old (edit_of edit.now)) refusal) }
+    {
+        match self.kept.apply(edit) {
+            Ok(first) => {
+                self.types.outdate();
+                Ok(first)
+            }
+            Err(refusal) => Err(refusal),
         }
     }
 
@@ -291,11 +309,8 @@ impl<A: Analyser> Session<A> {
             end,
             text,
         };
-        match self.kept.apply(&edit) {
-            Ok(_) => {
-                self.types.outdate();
-                Ok(())
-            }
+        match self.apply(&edit) {
+            Ok(_) => Ok(()),
             Err(_) => Err(AllocError),
         }
     }
@@ -330,11 +345,8 @@ impl<A: Analyser> Session<A> {
         ensures refused { IfErr result (λ refusal. (self.new ≡ self.old) × IsRefusal (tell_outcome self.old (option_map range_of range) (str_bytes text)) refusal) }
     {
         let edit = self.edit_for(range, text);
-        match self.kept.apply(&edit) {
-            Ok(_) => {
-                self.types.outdate();
-                Ok(())
-            }
+        match self.apply(&edit) {
+            Ok(_) => Ok(()),
             Err(refusal) => Err(refusal),
         }
     }
@@ -349,14 +361,28 @@ impl<A: Analyser> Session<A> {
         ensures said { IfOk result (λ r. IsAnswered query.now self.now offset (said_of r)) }
         ensures counted { Grows (C.tallies counts.old) (C.tallies counts.new) }
     {
-        ask::<A, C>(
+        let parsed = tree_of(self.alloc, &self.kept, counts)?;
+        let found = self.typed(&parsed.tree, counts)?;
+        let analysis = found.analysis();
+        answer::<A, C>(
             self.alloc,
-            &self.kept,
-            self.types.known(),
+            self.text(),
             query,
+            &parsed,
+            &analysis,
             offset,
             counts,
         )
+    }
+
+    /// A typer that holds the items of the present text, whose tree this is: the one that is kept, where it knows them, and else a
+    /// new one.
+    fn typed<C: Counts>(&self, tree: &Tree, counts: &mut C) -> Result<Found<'_, A>, NoMemory>
+        requires of_text { AreItemsOf self.now (trees_of tree.now) }
+        ensures items { IfOk result (λ f. items_in A.items f ≡ trees_of tree.now) }
+        ensures counted { Grows (C.tallies counts.old) (C.tallies counts.new) }
+    {
+        find_types(self.alloc, self.types.known(), tree, counts)
     }
 
     /// Brings the kept tokens and the kept tree up to the text. The text stays.
@@ -476,10 +502,11 @@ impl<A: Analyser> Session<A> {
 
     /// The faults of a parsed text, whose types may be wrong.
     fn typed_errors<C: Counts>(&self, parsed: &Parsed, counts: &mut C) -> Result<Reply, NoMemory>
+        requires of_text { AreItemsOf self.now (trees_of parsed.now.tree) }
         ensures said { IfOk result (λ r. FaultsAre self.now (map fault_of parsed.now.faults.items) (said_of r)) }
         ensures counted { Grows (C.tallies counts.old) (C.tallies counts.new) }
     {
-        let found = find_types(self.alloc, self.types.known(), &parsed.tree, counts)?;
+        let found = self.typed(&parsed.tree, counts)?;
         self.page_of(&parsed.faults, &found.analysis().faults.list)
     }
 
@@ -509,11 +536,12 @@ impl<A: Analyser> Session<A> {
 
     /// How many faults of the typer a parsed text has, its warnings among them.
     fn count_typed<C: Counts>(&self, parsed: &Parsed, counts: &mut C) -> Result<usize, NoMemory>
+        requires of_text { AreItemsOf self.now (trees_of parsed.now.tree) }
         ensures faults { IfOk result (λ n. (typed : List TyperFault) × (n ≡ length typed)) }
         ensures fits { IfOk result (λ n. n < 2 ^ 63) }
         ensures counted { Grows (C.tallies counts.old) (C.tallies counts.new) }
     {
-        let found = find_types(self.alloc, self.types.known(), &parsed.tree, counts)?;
+        let found = self.typed(&parsed.tree, counts)?;
         Ok(found.analysis().faults.list.len())
     }
 
@@ -573,10 +601,11 @@ impl<A: Analyser> Session<A> {
         offset: u32,
         counts: &mut C,
     ) -> Result<Reply, NoMemory>
+        requires of_text { AreItemsOf self.now (trees_of tree.now) }
         ensures said { IfOk result (λ r. TypesAre self.now (typed_round offset (trees_of tree.now)) (said_of r)) }
         ensures counted { Grows (C.tallies counts.old) (C.tallies counts.new) }
     {
-        let found = find_types(self.alloc, self.types.known(), tree, counts)?;
+        let found = self.typed(tree, counts)?;
         self.types_of(&asked(tree, &found.analysis()), offset)
     }
 

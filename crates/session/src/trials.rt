@@ -11,8 +11,6 @@ ghost use Rattle.syntax_tree.specs.View.{place_of};
 ghost use Rattle.query_engine.specs.Faults.{fault_of, typer_fault_of};
 ghost use Rattle.session.specs.Trials.{HasMarks, IsParserOf, Knows, lesser, mark_in};
 
-use crate::structure::parse_text;
-use crate::types::analysed;
 use analysis_api::Analyser;
 use env_table::Fault;
 use frame_parser::SyntaxFault;
@@ -21,6 +19,7 @@ use std::alloc::{AllocError, Global};
 use std::collections::HashSet;
 use std::marker::PhantomData;
 use syntax_tree::{Counts, NoMemory, Span};
+use text_reading::{analysed, parse_text};
 
 /// How many bytes a text may have.
 const TEXT_LIMIT: usize = 1_048_576;

@@ -3,8 +3,9 @@ use Rattle.service_model.specs.Structure.{faults_said}
 use Rattle.frame_steps.specs.declared.stack.SyntaxFault.{SyntaxFault}
 use Rattle.query_engine.specs.Faults.{fault_of}
 use Rattle.json_lines.specs.Means.{said_of}
-use Rattle.session.specs.PlainTexts.{IsReadAs}
+use Rattle.text_reading.specs.PlainTexts.{IsReadAs}
 use Rattle.session.proofs.Typing.{errors_plain, errors_typed}
+use Rattle.text_reading.proofs.Knowing.{items_read}
 use Rattle.session.proofs.session.Session.errors.Goals as goal
 
 pub returns-then-is_well_typed-clause-said : goal.returns-then-is_well_typed-clause-said
@@ -17,3 +18,6 @@ pub returns-clause-said : goal.returns-clause-said
 returns-clause-said g c =
     let read = subst (λ (t : List ℕ). IsReadAs t c.in_ok-read.read) c.self.view_is c.in_ok-read.ensures.read in
     errors_typed c.args.self.now c.in_ok-read.read c.typed_errors.result c.is_well_typed.result read c.is_well_typed.ensures c.if-is_well_typed.false c.typed_errors.ensures.said
+
+pub typed_errors-requires : goal.typed_errors-requires
+typed_errors-requires g c = record { of_text = items_read c.args.self.now c.in_ok-read.read (subst (λ (t : List ℕ). IsReadAs t c.in_ok-read.read) c.self.view_is c.in_ok-read.ensures.read) }

@@ -1,6 +1,7 @@
 use Rattle.std.proofs.Common.{subst, List, ℕ}
-use Rattle.session.specs.PlainTexts.{IsReadAs}
+use Rattle.text_reading.specs.PlainTexts.{IsReadAs}
 use Rattle.session.proofs.Sizing.{sizes_plain, sizes_typed}
+use Rattle.text_reading.proofs.Knowing.{items_read}
 use Rattle.session.proofs.session.Session.sizes.Goals as goal
 
 pub returns-then-is_well_typed-clause-sizes : goal.returns-then-is_well_typed-clause-sizes
@@ -13,3 +14,6 @@ returns-clause-sizes g c =
     let read = subst (λ (t : List ℕ). IsReadAs t c.in_ok-read.read) c.self.view_is c.in_ok-read.ensures.read in
     let typed = c.in_ok-typed.ensures.faults in
     sizes_typed c.args.self.now c.in_ok-read.read c.sizes_of-2.result c.in_ok-typed.typed typed.0 c.is_well_typed.result read c.is_well_typed.ensures c.if-is_well_typed.false typed.1 c.sizes_of-2.ensures.items c.sizes_of-2.ensures.faults
+
+pub count_typed-requires : goal.count_typed-requires
+count_typed-requires g c = record { of_text = items_read c.args.self.now c.in_ok-read.read (subst (λ (t : List ℕ). IsReadAs t c.in_ok-read.read) c.self.view_is c.in_ok-read.ensures.read) }

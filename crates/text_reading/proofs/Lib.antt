@@ -1,0 +1,4 @@
+pub mod Parsing
+pub mod Places
+pub mod ReadAs
+pub mod Knowing

@@ -1,0 +1,4 @@
+-- What a text was read as, and what is known of its types.
+pub mod PlainTexts
+pub mod Structures
+pub mod Types

@@ -1,0 +1,22 @@
+-- What a text was parsed as.
+use Rattle.std.specs.Prelude.{◌≡◌, ℕ, List, map}
+use Rattle.token_model.specs.Kinds.{Tok}
+use Rattle.token_model.specs.Tokens.{Lex}
+use Rattle.tree_model.specs.Trees as plain
+use Rattle.service_model.specs.Structure.{items_in, faults_in}
+use Rattle.syntax_tree.specs.View.{trees_of}
+use Rattle.frame_parser.specs.declared.whole.Parsed.{Parsed}
+use Rattle.query_engine.specs.Faults.{fault_of}
+
+-- the text's tokens, with the items and the faults of these
+pub record IsParsedAs (text : List ℕ) (parsed : Parsed) : Type 0 where
+  pub tokens : List Tok
+  pub lexed : Lex text tokens
+  pub items : trees_of parsed.tree ≡ items_in tokens
+  pub faults : map fault_of parsed.faults.items ≡ faults_in tokens
+
+-- these trees are the items of the text
+pub record AreItemsOf (text : List ℕ) (items : List plain.Tree) : Type 0 where
+  pub tokens : List Tok
+  pub lexed : Lex text tokens
+  pub are : items ≡ items_in tokens

@@ -1,0 +1,24 @@
+-- What is known of the types and names of a text while it is edited.
+use Rattle.std.specs.Prelude.{List, [], Option, Some, None, option_map, if◌then◌else◌}
+use Rattle.tree_model.specs.Trees.{Tree}
+use Rattle.text_reading.specs.declared.types.Found.{Found}
+use Rattle.text_reading.specs.declared.types.Found.TheVariants.{Kept, New}
+use Rattle.text_reading.specs.declared.types.KeptTypes.{KeptTypes}
+
+-- the items of a typer, and none where there is none
+abbrev pub items_or_none : Option (List Tree) → List Tree
+items_or_none None = []
+items_or_none (Some items) = items
+
+-- the items whose types are held, be they those of the present text or not
+abbrev pub held : {A : Type 0} → (A → List Tree) → KeptTypes A → List Tree
+held items k = items_or_none (option_map items k.typer)
+
+-- the items whose types are known, where these are those of the present text
+abbrev pub known : {A : Type 0} → (A → List Tree) → KeptTypes A → Option (List Tree)
+known items k = if k.is_current then option_map items k.typer else None
+
+-- the items that a typer holds which is kept or new
+abbrev pub items_in : {A : Type 0} → (A → List Tree) → Found A → List Tree
+items_in items (Kept a) = items a.now
+items_in items (New a) = items a
