@@ -75,5 +75,5 @@ returns-in-Some-clause-applied c =
     let new = c.substituted.new.store.nodes in
     let types = numbers c.args.args.now in
     IfOk-weaker c.substituted.result _ _ (λ m made ps body e.
-      let parts = last_of c.pop.new.self.items c.in-Some.body ps body (sym (ap numbers c.in-Some.ensures.items) ∙ e) in
-      subst (λ b. IsSubstituted old new ps types b m.0) parts.1 (subst (λ vs. IsSubstituted old new vs types c.in-Some.body.0 m.0) (ap numbers c.deref.ensures.value ∙ parts.0) made)) c.substituted.ensures.substituted
+    let parts = last_of c.pop.new.self.items c.in-Some.body ps body (sym (ap numbers c.in-Some.ensures.items) ∙ e) in
+    subst (λ b. IsSubstituted old new ps types b m.0) parts.1 (subst (λ vs. IsSubstituted old new vs types c.in-Some.body.0 m.0) (ap numbers c.deref.ensures.value ∙ parts.0) made)) c.substituted.ensures.substituted
