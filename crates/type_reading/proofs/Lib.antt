@@ -4,3 +4,4 @@ pub mod Copied
 pub mod Tasks
 pub mod Imaging
 pub mod Answering
+pub mod Filling

@@ -82,7 +82,8 @@ enum Seen {
     Con(Origin, Vec<NodeRef>),
 }
 
-fn copied_list(at: &Parts, nodes: &[NodeRef]) -> Result<Vec<NodeRef>, NoMemory>
+/// A copy of a list of nodes.
+pub fn copied_list(at: &Parts, nodes: &[NodeRef]) -> Result<Vec<NodeRef>, NoMemory>
     ensures { IfOk result (λ v. v.items ≡ nodes.now) }
 {
     match nodes.iter().copied().collect(at.alloc()) {
