@@ -1,11 +1,17 @@
 //! A declaration over arguments.
 #![tactic(auto, using(typing_state::proofs::Going::goes_trans, typing_state::proofs::Going::goes_refl, typing_state::proofs::Following::follows_both, typing_state::proofs::Following::follows_before, typing_state::proofs::Following::follows_behind, typing_state::proofs::Following::follows_silent, typing_state::proofs::Following::store_silent, typing_state::proofs::Following::ends_both, typing_state::proofs::Following::ends_behind, typing_state::proofs::Following::ends_before, typing_state::proofs::Following::ends_silent, typing_state::proofs::Following::gets_start, typing_state::proofs::Following::gets_more, typing_state::proofs::Following::gets_before, typing_state::proofs::Following::gets_done))]
 
-ghost use Rattle.std.specs.Prelude.{◌≡◌};
-ghost use Rattle.typing_state.specs.Goes.{Goes};
+ghost use Rattle.std.specs.Prelude.{◌≡◌, All, false, IfOk};
+ghost use Rattle.text_terms.specs.Bytes.{str_bytes};
+ghost use Rattle.signature_model.specs.Matching.{is_unknown};
+ghost use Rattle.type_nodes.specs.Changes.{Makes};
+ghost use Rattle.type_nodes.specs.Nodes.{Node as plain, IsNode};
+ghost use Rattle.type_nodes.specs.Views.{numbers};
+ghost use Rattle.type_rows.specs.Declaring.{AppliesTo};
+ghost use Rattle.typing_state.specs.Goes.{Goes, OnlyStore};
 ghost use Rattle.typing_state.specs.Steps.{Silent};
 
-use env_table::Declaration;
+use env_table::{Declaration, Origin};
 use type_nodes::{NoMemory, NodeRef};
 use type_reading::{Changes, Copies, ForBound, ForUnknown, filled, unchanged};
 use typing_state::Parts;
@@ -16,17 +22,30 @@ pub fn applied(
     declaration: &Declaration,
     types: &[NodeRef],
 ) -> Result<NodeRef, NoMemory>
+    ensures carries { IfOk result (λ m. AppliesTo at.old at.new declaration.now (numbers types.now) m.0) }
     ensures silent { Silent at.old at.new }
     ensures goes { Goes at.old at.new }
 {
     if let Some(origin) = &declaration.origin {
-        return at.con(origin, types);
+        return constructor_over(at, origin, types);
     }
     let instance = at.instance(declaration.root)?;
     if types.is_empty() {
         return Ok(instance);
     }
     filled(at, instance, types)
+}
+
+/// A constructor of an origin. No origin has the path of an unknown type.
+fn constructor_over(at: &mut Parts, origin: &Origin, types: &[NodeRef]) -> Result<NodeRef, NoMemory>
+    ensures plain { is_unknown origin.now.path.items ≡ false }
+    ensures made { IfOk result (λ n. All (IsNode at.old.store.nodes) (numbers types.now) → Makes at.old.store at.new.store n.0 (plain.Con origin.now.path.items (str_bytes origin.now.name) (numbers types.now))) }
+    ensures rest { OnlyStore at.old at.new }
+    ensures silent { Silent at.old at.new }
+    ensures goes { Goes at.old at.new }
+{
+    let _first = origin.path.first().copied();
+    at.con(origin, types)
 }
 
 /// The same in a declaration, where the unknown types in it become others.

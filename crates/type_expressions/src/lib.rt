@@ -6,6 +6,7 @@
 #![tactic(auto, using(typing_state::proofs::Going::goes_trans, typing_state::proofs::Going::goes_refl))]
 
 mod arguments;
+mod by_name;
 mod types;
 mod written;
 

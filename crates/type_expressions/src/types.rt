@@ -1,7 +1,8 @@
 //! Type expressions.
 #![tactic(auto, using(typing_state::proofs::Going::goes_trans, typing_state::proofs::Going::goes_refl, typing_state::proofs::Following::follows_both, typing_state::proofs::Following::follows_before, typing_state::proofs::Following::follows_behind, typing_state::proofs::Following::follows_silent, typing_state::proofs::Following::store_silent, typing_state::proofs::Following::ends_both, typing_state::proofs::Following::ends_behind, typing_state::proofs::Following::ends_before, typing_state::proofs::Following::ends_silent, typing_state::proofs::Following::gets_start, typing_state::proofs::Following::gets_more, typing_state::proofs::Following::gets_before, typing_state::proofs::Following::gets_done), unfolding(syntax_tree::specs::Names::row_of))]
 
-ghost use Rattle.std.specs.Prelude.{◌≡◌, [], ◌∷◌, map, option_map, IfOk, OnOk};
+ghost use Rattle.std.specs.Prelude.{◌≡◌, ◌==◌, [], ◌∷◌, length, map, option_map, IfOk, OnOk};
+ghost use Rattle.std.specs.Option.{option_copied};
 ghost use Rattle.syntax_tree.specs.Names.{row_of};
 ghost use Rattle.syntax_tree.specs.declared.tree.Node.{out-Node};
 ghost use Rattle.syntax_tree.specs.View.{place_of, tok_of, node_view};
@@ -10,18 +11,26 @@ ghost use Rattle.env_table.specs.declared.faults.FaultKind.{FaultKind};
 ghost use Rattle.typing_state.specs.Goes.{Goes};
 ghost use Rattle.typing_state.specs.Notes.{IsRecorded};
 ghost use Rattle.typing_state.specs.Steps.{asks, each, Follows, Silent};
+ghost use Rattle.type_nodes.specs.Views.{numbers};
+ghost use Rattle.typing_state.specs.Goes.{OnlyStore};
+ghost use Rattle.typing_state.specs.Types.{MakesVar, any_scope};
+ghost use Rattle.typing_steps.specs.Typing.{path_as};
+ghost use Rattle.type_rows.specs.Declaring.{declared_in, DeclaresTo, NamesTo};
+ghost use Rattle.type_rows.specs.Operands.{EndsName, EndsParentheses, EndsPlainRow, EndsRow, MakesArrowOver, ReadsFront, ReadsGiven, ReadsOperand, ReadsOperands, ReadsPart, ReadsVariable};
+ghost use Rattle.type_expressions.specs.Items.{IsOfItem};
 ghost use Rattle.type_expressions.specs.TypeSteps.{several, parts_read, type_steps, steps_given, type_parts, type_demands, type_unrecorded, variable_steps, constructor_steps};
 
 use crate::arguments::{applied, applied_with_unknowns};
-use env_table::{Entry, Env, Kind};
+use crate::by_name::written_variable;
+use env_table::{Declaration, Entry, Env, Kind, What};
 use owned_lists::push;
 use row_parts::{Operand, WrittenPath, operand_in, operands, operands_of, token, written_path};
-use std::alloc::{AllocError, Global};
+use std::alloc::Global;
 use std::rc::Rc;
 use syntax_tree::{Node, RowName, Token};
 use text_terms::RcStr;
 use type_nodes::{NoMemory, NodeRef};
-use typing_state::{Depth, Parts, Verdict, Word, declaration_of};
+use typing_state::{Depth, Parts, Verdict, Word};
 
 /// A type variable by its name.
 #[derive(Drop)]
@@ -67,6 +76,7 @@ pub fn read_type(
     depth: Depth,
 ) -> Result<NodeRef, NoMemory>
     ensures recorded { OnOk result (IsRecorded at.new ty.entry.number) }
+    ensures carries { IfOk result (λ m. IsOfItem variables.now → ReadsOperand at.old at.new env.now (operand_view ty.entry) m.0) }
     ensures follows { OnOk result (Follows (type_steps (operand_view ty.entry)) at.old at.new) }
     ensures goes { Goes at.old at.new }
 {
@@ -84,6 +94,7 @@ fn read_row(
     variables: &Variables,
     depth: Depth,
 ) -> Result<Read, NoMemory>
+    ensures carries { IfOk result (λ r. IsOfItem variables.now → ReadsPart at.old at.new env.now ty.entry.number (place_of ty.entry.span) (part_of ty.entry.node ty.entry.span) r.ty.0) }
     ensures follows { OnOk result (Follows (type_unrecorded ty.entry.number (part_of ty.entry.node ty.entry.span)) at.old at.new) }
     ensures goes { Goes at.old at.new }
 {
@@ -100,7 +111,9 @@ fn read_row(
 }
 
 /// A type in which no name stands.
-fn unnamed(at: &Parts, ty: NodeRef) -> Read {
+fn unnamed(at: &Parts, ty: NodeRef) -> Read
+    ensures { result.ty ≡ ty }
+{
     Read {
         ty,
         names: Vec::new(at.alloc()),
@@ -117,6 +130,7 @@ fn read_parts(
     variables: &Variables,
     depth: Depth,
 ) -> Result<Vec<NodeRef>, NoMemory>
+    ensures carries { IfOk result (λ ms. IsOfItem variables.now → ReadsFront at.old at.new env.now number (node_view node.now) (numbers ms.items)) }
     ensures follows { OnOk result (Follows (type_parts number (node_view node.now)) at.old at.new) }
     ensures goes { Goes at.old at.new }
 {
@@ -138,6 +152,7 @@ fn read_given(
     variables: &Variables,
     depth: Depth,
 ) -> Result<Vec<NodeRef>, NoMemory>
+    ensures carries { IfOk result (λ ms. IsOfItem variables.now → ReadsGiven at.old at.new env.now (operand_view left.entry) (numbers ms.items)) }
     ensures follows { OnOk result (Follows (steps_given (operand_view left.entry)) at.old at.new) }
     ensures goes { Goes at.old at.new }
 {
@@ -162,6 +177,7 @@ fn read_each(
     variables: &Variables,
     depth: Depth,
 ) -> Result<Vec<NodeRef>, NoMemory>
+    ensures carries { IfOk result (λ ms. IsOfItem variables.now → ReadsOperands at.old at.new env.now (map operand_view parts.now) (numbers ms.items)) }
     ensures follows { OnOk result (Follows (each (λ o. type_steps (operand_view o)) parts.now) at.old at.new) }
     ensures goes { Goes at.old at.new }
 {
@@ -175,6 +191,8 @@ fn read_each(
 
 /// A type expression that names no type: any type in an item, and in a declaration an unknown one.
 fn unresolved(at: &mut Parts, variables: &Variables) -> Result<NodeRef, NoMemory>
+    ensures any { IfOk result (λ m. IsOfItem variables.now → MakesVar at.old at.new m.0 any_scope) }
+    ensures rest { OnlyStore at.old at.new }
     ensures silent { Silent at.old at.new }
     ensures goes { Goes at.old at.new }
 {
@@ -192,6 +210,7 @@ fn formed(
     env: &Env,
     variables: &Variables,
 ) -> Result<Read, NoMemory>
+    ensures carries { IfOk result (λ r. IsOfItem variables.now → EndsRow at.old at.new env.now (node_view node.now) (numbers types.now) r.ty.0) }
     ensures follows { OnOk result (Follows (type_demands (node_view node.now)) at.old at.new) }
     ensures goes { Goes at.old at.new }
 {
@@ -219,6 +238,7 @@ fn composed(
     types: &[NodeRef],
     variables: &Variables,
 ) -> Result<NodeRef, NoMemory>
+    ensures carries { IfOk result (λ m. IsOfItem variables.now → EndsPlainRow at.old at.new (node_view node.now) (numbers types.now) m.0) }
     ensures follows { OnOk result (Follows (type_demands (node_view node.now)) at.old at.new) }
     ensures goes { Goes at.old at.new }
 {
@@ -231,19 +251,27 @@ fn composed(
     }
 }
 
+/// Whether there are two types.
+fn are_two(types: &[NodeRef]) -> bool
+    ensures { result ≡ (length types.now == 2) }
+{
+    types.len() == 2
+}
+
 /// t -> t
 fn arrow_between(
     at: &mut Parts,
     types: &[NodeRef],
     variables: &Variables,
 ) -> Result<NodeRef, NoMemory>
+    ensures carries { IfOk result (λ m. IsOfItem variables.now → MakesArrowOver at.old at.new (numbers types.now) m.0) }
     ensures silent { Silent at.old at.new }
     ensures goes { Goes at.old at.new }
 {
-    match types {
-        [from, to] => at.arrow(*from, *to),
-        _ => unresolved(at, variables),
+    if are_two(types) {
+        return at.arrow(types[0], types[1]);
     }
+    unresolved(at, variables)
 }
 
 /// ( t ); several types are one only in front of a constructor.
@@ -253,6 +281,7 @@ fn in_parentheses(
     types: &[NodeRef],
     variables: &Variables,
 ) -> Result<NodeRef, NoMemory>
+    ensures carries { IfOk result (λ m. IsOfItem variables.now → EndsParentheses at.old at.new (place_of (out-Node node.now).span) (numbers types.now) m.0) }
     ensures follows { OnOk result (Follows (asks FaultKind.Arity (place_of (out-Node node.now).span ∷ []) ∷ []) at.old at.new) }
     ensures goes { Goes at.old at.new }
 {
@@ -272,6 +301,7 @@ fn variable(
     name: Option<&Token>,
     variables: &Variables,
 ) -> Result<NodeRef, NoMemory>
+    ensures carries { IfOk result (λ m. IsOfItem variables.now → ReadsVariable at.old at.new (option_map (λ t. tok_of t.now) name.entry) m.0) }
     ensures follows { OnOk result (Follows (variable_steps (option_map (λ t. tok_of t.now) name.entry)) at.old at.new) }
     ensures goes { Goes at.old at.new }
 {
@@ -292,29 +322,6 @@ fn variable(
     }
 }
 
-/// The type that a type variable of the item stands for: one of the item's own level.
-fn written_variable(at: &mut Parts, name: &Token) -> Result<NodeRef, NoMemory>
-    ensures silent { Silent at.old at.new }
-    ensures goes { Goes at.old at.new }
-{
-    let key = match String::from_str(at.alloc(), name.name.as_str()) {
-        Ok(key) => key,
-        Err(_) => return Err(AllocError),
-    };
-    if let Some(node) = at.written.variables.get(&key) {
-        return Ok(*node);
-    }
-    let level = at.level;
-    at.level = level.min(1);
-    let made = at.var();
-    at.level = level;
-    let node = made?;
-    match at.written.variables.insert(key, node) {
-        Ok(_) => Ok(node),
-        Err(_) => Err(AllocError),
-    }
-}
-
 /// t, (t, t) u: `bound`, `arity`, and the type that the declaration gives the arguments.
 fn constructed(
     at: &mut Parts,
@@ -323,6 +330,7 @@ fn constructed(
     env: &Env,
     variables: &Variables,
 ) -> Result<Read, NoMemory>
+    ensures carries { IfOk result (λ r. IsOfItem variables.now → EndsName at.old at.new env.now (path_as (path_view path.now)) (numbers types.now) r.ty.0) }
     ensures follows { OnOk result (Follows (constructor_steps (path_view path.now)) at.old at.new) }
     ensures goes { Goes at.old at.new }
 {
@@ -345,6 +353,7 @@ fn named_type(
     types: &[NodeRef],
     variables: &Variables,
 ) -> Result<NodeRef, NoMemory>
+    ensures carries { IfOk result (λ m. IsOfItem variables.now → NamesTo (option_map (λ r. r.value) (option_copied entry.entry)) at.old at.new (tok_of last.now) (numbers types.now) m.0) }
     ensures follows { OnOk result (Follows (asks FaultKind.Arity (place_of last.now.span ∷ []) ∷ []) at.old at.new) }
     ensures goes { Goes at.old at.new }
 {
@@ -354,6 +363,17 @@ fn named_type(
     }
 }
 
+/// The declaration behind a type's entry.
+fn declaration_behind(entry: &Entry) -> Option<&Declaration>
+    ensures { option_map (λ d. d.now) result ≡ declared_in entry.now.what }
+{
+    match &entry.what {
+        What::Type(declaration) => Some(declaration),
+        _ => None,
+    }
+}
+
+/// The type that a declaration gives the arguments, where there are as many as it takes; else any type.
 fn declared(
     at: &mut Parts,
     last: &Token,
@@ -361,10 +381,11 @@ fn declared(
     types: &[NodeRef],
     variables: &Variables,
 ) -> Result<NodeRef, NoMemory>
+    ensures carries { IfOk result (λ m. IsOfItem variables.now → DeclaresTo at.old at.new (tok_of last.now) entry.now (numbers types.now) m.0) }
     ensures follows { OnOk result (Follows (asks FaultKind.Arity (place_of last.now.span ∷ []) ∷ []) at.old at.new) }
     ensures goes { Goes at.old at.new }
 {
-    let Some(declaration) = declaration_of(entry) else {
+    let Some(declaration) = declaration_behind(entry) else {
         return unresolved(at, variables);
     };
     let taken = declaration.arity as usize;
@@ -408,7 +429,9 @@ fn several_in(alloc: Global, left: Operand<'_>) -> Result<Option<Vec<Operand<'_>
 }
 
 /// A list of one type.
-fn one_of(alloc: Global, ty: NodeRef) -> Result<Vec<NodeRef>, NoMemory> {
+fn one_of(alloc: Global, ty: NodeRef) -> Result<Vec<NodeRef>, NoMemory>
+    ensures { IfOk result (λ ms. ms.items ≡ ty ∷ []) }
+{
     let mut one = Vec::new(alloc);
     push(&mut one, ty)?;
     Ok(one)

@@ -3,9 +3,10 @@
 
 ghost use Rattle.std.specs.Prelude.{option_map, Some, IfOk, OnOk};
 ghost use Rattle.row_parts.specs.Numbered.{operand_view};
+ghost use Rattle.syntax_tree.specs.View.{place_of};
 ghost use Rattle.typing_state.specs.Goes.{Goes};
 ghost use Rattle.typing_state.specs.Steps.{Follows};
-ghost use Rattle.type_expressions.specs.Written.{annotation_steps, IsAsWritten};
+ghost use Rattle.type_expressions.specs.Written.{annotation_steps, AsksWritten, IsAsWritten};
 
 use crate::types::{Variables, read_type};
 use row_parts::Operand;
@@ -21,6 +22,7 @@ pub fn as_written(
     depth: Depth,
 ) -> Result<NodeRef, NoMemory>
     ensures written { IfOk result (λ n. IsAsWritten (option_map operand_view written.entry) part.entry.span ty at.old at.new env.now n) }
+    ensures carries { IfOk result (λ n. AsksWritten at.old at.new env.now (option_map operand_view written.entry) (place_of part.entry.span) ty.0 n.0) }
     ensures follows { OnOk result (Follows (annotation_steps (Some (operand_view part.entry)) (option_map operand_view written.entry)) at.old at.new) }
     ensures goes { Goes at.old at.new }
 {

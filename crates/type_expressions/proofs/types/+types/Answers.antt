@@ -1,12 +1,19 @@
-use Rattle.std.proofs.Common.{◌≡◌, ◌∙◌, ◌∷◌, ◌++◌, ◌+◌, ◌<◌, [], length, map, drop, sym, ap, subst, arith}
-use Rattle.std.proofs.lemmas.List.{drop_more}
+use Rattle.std.proofs.Common.{◌≡◌, ◌∙◌, ◌∷◌, ◌++◌, ◌+◌, ◌<◌, [], length, map, drop, refl, sym, ap, subst, arith}
+use Rattle.std.proofs.lemmas.List.{drop_more, drop_all}
 use Rattle.std.specs.Prelude.{OnOk, Some, None, option_map}
-use Rattle.syntax_tree.specs.View.{node_view}
+use Rattle.syntax_tree.specs.View.{place_of, node_view}
 use Rattle.row_parts.specs.Numbered.{operand_view, part_of}
 use Rattle.typing_state.specs.Steps.{records, each, Follows, GetsOn}
+use Rattle.type_nodes.specs.Views.{numbers}
+use Rattle.type_rows.specs.Contracts.{ReadsFirst}
+use Rattle.type_rows.specs.Rows.{types_read}
+use Rattle.type_rows.specs.Operands.{ReadsPart, ReadsOperands, ReadsGiven, EndsRow}
+use Rattle.type_rows.proofs.Ordered.{none_read, all_read}
+use Rattle.type_expressions.proofs.Answering.{if_ok}
+use Rattle.type_expressions.proofs.Carrying.{operand_reads, missing_reads, node_reads, app_front, other_front, alone_reads, several_reads, each_read, app_row, not_app_row}
 use Rattle.type_expressions.specs.TypeSteps.{several, parts_read, type_steps, steps_given, type_unrecorded}
 use Rattle.typing_state.proofs.Going.{goes_refl, goes_trans}
-use Rattle.typing_state.proofs.Following.{follows_both, ends_both, ends_before, gets_more, silent_refl}
+use Rattle.typing_state.proofs.Following.{follows_both, ends_both, ends_before, gets_start, gets_more, silent_refl}
 use Rattle.type_expressions.proofs.TypeLaws.{each_map, each_operand, type_steps_are, given_several, given_alone, parts_in_front, parts_in_order}
 use Rattle.type_expressions.proofs.types.+types.Goals as goal
 
@@ -22,7 +29,61 @@ read_each-loop-part-preserved t c =
       gets = gets_more (each (λ o. type_steps (operand_view o)) all) (type_steps (operand_view x)) (each (λ o. type_steps (operand_view o)) (drop (i + 1) all)) c.args.at.now c.loop-part.at c.read_type.new.at
           (subst (λ os. GetsOn c.args.at.now c.loop-part.at (each (λ o. type_steps (operand_view o)) all) (each (λ o. type_steps (operand_view o)) os)) cut c.loop-part.invariant.gets)
           c.read_type.ensures.goes c.in_ok-ty.ensures.follows;
+      reads = λ item operands. each_read c.args.at.now c.loop-part.at c.read_type.new.at c.args.env.now all i x c.loop-part.types.items c.push.new.list.items c.in_ok-ty.ty lt c.part-item.is c.in_ok-push.ensures.pushed operands
+          (c.loop-part.invariant.reads item operands) c.loop-part.invariant.goes (c.in_ok-ty.ensures.carries item);
     }
+
+pub read_each-loop-part-init : goal.read_each-loop-part-init
+read_each-loop-part-init t c = record {
+  goes = goes_refl c.args.at.now;
+  gets = gets_start (each (λ o. type_steps (operand_view o)) c.args.parts.now) c.args.at.now;
+  reads = λ item operands.
+      let all = types_read c.args.at.now.item (map operand_view c.args.parts.now) in
+      subst (λ ns. ReadsFirst c.args.at.now c.args.at.now c.args.env.now all all (numbers ns)) (sym c.new-types.ensures.items) (none_read c.args.at.now c.args.env.now all);
+}
+
+pub read_each-returns-clause-carries : goal.read_each-returns-clause-carries
+read_each-returns-clause-carries t c = λ item operands.
+    let all = c.args.parts.now in
+    let none = drop_all c.loop-part.part-index all c.loop-part-test.false in
+    all_read c.args.at.now c.loop-part.at c.args.env.now (types_read c.args.at.now.item (map operand_view all)) (numbers c.loop-part.types.items)
+    (subst (λ os. ReadsFirst c.args.at.now c.loop-part.at c.args.env.now (types_read c.args.at.now.item (map operand_view all)) (types_read c.args.at.now.item (map operand_view os)) (numbers c.loop-part.types.items)) none (c.loop-part.invariant.reads item operands))
+
+pub read_type-returns-clause-carries : goal.read_type-returns-clause-carries
+read_type-returns-clause-carries t c = λ item.
+    operand_reads c.args.at.now c.read_row.new.at c.note.new.self c.args.env.now c.args.ty c.in_ok-read.read.ty.0 (record { env = c.args.env.now; ty = None; names = c.in_ok-read.read.names }) (c.in_ok-read.ensures.carries item) refl c.in_ok-note.ensures.noted c.note.ensures.rest
+
+pub read_row-returns-in_ok-any-in-None-clause-carries : goal.read_row-returns-in_ok-any-in-None-clause-carries
+read_row-returns-in_ok-any-in-None-clause-carries t c = λ item.
+    subst (λ x. ReadsPart c.args.at.now c.unresolved.new.at c.args.env.now c.args.ty.number (place_of c.args.ty.span) (part_of c.args.ty.node c.args.ty.span) x.0) (sym c.unnamed.ensures)
+    (missing_reads c.args.at.now c.unresolved.new.at c.args.env.now c.args.ty c.in_ok-any-in-None.any.0 c.in-None.is (c.in_ok-any-in-None.ensures.any item) c.unresolved.ensures.rest)
+
+pub read_row-returns-in_ok-types-in-Some-clause-carries : goal.read_row-returns-in_ok-types-in-Some-clause-carries
+read_row-returns-in_ok-types-in-Some-clause-carries t c =
+    if_ok c.formed.result _ _ (λ r ends item.
+    node_reads c.args.at.now c.read_parts.new.at c.formed.new.at c.args.env.now c.args.ty c.in-Some.node (numbers c.in_ok-types-in-Some.types.items) r.ty.0 c.in-Some.is (c.in_ok-types-in-Some.ensures.carries item) c.read_parts.ensures.goes
+    (subst (λ ts. EndsRow c.read_parts.new.at c.formed.new.at c.args.env.now (node_view c.in-Some.node.now) (numbers ts) r.ty.0) c.deref.ensures.value (ends item))) c.formed.ensures.carries
+
+pub read_given-returns-in_ok-note_plain-in-Some-clause-carries : goal.read_given-returns-in_ok-note_plain-in-Some-clause-carries
+read_given-returns-in_ok-note_plain-in-Some-clause-carries t c =
+    let items = c.in-Some.several.items in
+    let some : several (operand_view c.args.left) ≡ Some (map operand_view items) = sym c.in_ok-several.ensures ∙ ap (λ o. option_map (λ os. map operand_view os.items) o) c.in-Some.is in
+    if_ok c.read_each.result _ _ (λ ms reads item.
+    several_reads c.args.at.now c.note_plain.new.self c.read_each.new.at c.args.env.now (operand_view c.args.left) (map operand_view items) (numbers ms.items) some c.in_ok-note_plain-in-Some.ensures.noted c.note_plain.ensures.rest c.note_plain.ensures.goes
+    (subst (λ os. ReadsOperands c.note_plain.new.self c.read_each.new.at c.args.env.now (map operand_view os) (numbers ms.items)) c.deref.ensures.value (reads item))) c.read_each.ensures.carries
+
+pub read_given-returns-in_ok-ty-in-None-clause-carries : goal.read_given-returns-in_ok-ty-in-None-clause-carries
+read_given-returns-in_ok-ty-in-None-clause-carries t c =
+    let none : several (operand_view c.args.left) ≡ None = sym c.in_ok-several.ensures ∙ ap (λ o. option_map (λ os. map operand_view os.items) o) c.in-None.is in
+    if_ok c.one_of.result _ _ (λ ms is item.
+    subst (λ xs. ReadsGiven c.args.at.now c.read_type.new.at c.args.env.now (operand_view c.args.left) (numbers xs)) (sym is)
+    (alone_reads c.args.at.now c.read_type.new.at c.args.env.now (operand_view c.args.left) c.in_ok-ty-in-None.ty.0 none (c.in_ok-ty-in-None.ensures.carries item))) c.one_of.ensures
+
+pub read_parts-returns-in-Tapp-clause-carries : goal.read_parts-returns-in-Tapp-clause-carries
+read_parts-returns-in-Tapp-clause-carries t c =
+    if_ok c.read_given.result _ _ (λ ms reads item.
+    app_front c.args.at.now c.read_given.new.at c.args.env.now c.args.number (node_view c.args.node.now) (numbers ms.items) (app_row c.args.node.now c.in-Tapp.is)
+    (subst (λ o. ReadsGiven c.args.at.now c.read_given.new.at c.args.env.now o (numbers ms.items)) c.operand_in.ensures (reads item))) c.read_given.ensures.carries
 
 pub read_given-returns-in_ok-note_plain-in-Some-clause-follows : goal.read_given-returns-in_ok-note_plain-in-Some-clause-follows
 read_given-returns-in_ok-note_plain-in-Some-clause-follows t c =
@@ -51,6 +112,9 @@ read_parts-returns-in_ok-parts-in_default t c =
     let read = subst (λ os. OnOk c.read_each.result (Follows (each (λ o. type_steps (operand_view o)) os) c.args.at.now c.read_each.new.at)) c.deref.ensures.value c.read_each.ensures.follows in
     let steps = parts_in_order c.args.number c.args.node.now c.in_default.not-Tapp ∙ sym (each_operand type_steps items (parts_read c.args.number (node_view c.args.node.now)) c.in_ok-parts-in_default.ensures) in
     record {
+      carries = if_ok c.read_each.result _ _ (λ ms reads item.
+          other_front c.args.at.now c.read_each.new.at c.args.env.now c.args.number (node_view c.args.node.now) (numbers ms.items) (not_app_row c.args.node.now c.in_default.not-Tapp)
+          (subst (λ os. ReadsOperands c.args.at.now c.read_each.new.at c.args.env.now os (numbers ms.items)) (ap (map operand_view) c.deref.ensures.value ∙ c.in_ok-parts-in_default.ensures) (reads item))) c.read_each.ensures.carries;
       follows = subst (λ ss. OnOk c.read_each.result (Follows ss c.args.at.now c.read_each.new.at)) (sym steps) read;
       goes = c.read_each.ensures.goes;
     }

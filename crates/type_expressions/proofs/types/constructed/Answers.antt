@@ -1,0 +1,25 @@
+use Rattle.std.proofs.Common.{option_map, sym, ap, subst}
+use Rattle.std.specs.Option.{option_copied}
+use Rattle.syntax_tree.specs.View.{tok_of}
+use Rattle.row_parts.specs.Numbered.{path_view, token_view}
+use Rattle.type_nodes.specs.Views.{numbers}
+use Rattle.type_rows.specs.Declaring.{NamesTo}
+use Rattle.type_rows.specs.Operands.{EndsName}
+use Rattle.type_rows.proofs.Named.{name_ends, nameless_ends}
+use Rattle.type_expressions.proofs.types.constructed.Goals as goal
+
+pub returns-in_default-clause-carries : goal.returns-in_default-clause-carries
+returns-in_default-clause-carries c = λ item.
+    let qs = (path_view c.args.path.now).qualifiers in
+    subst (λ l. EndsName c.args.at.now c.unresolved.new.at c.args.env.now (record { qualifiers = qs; last = l }) (numbers c.args.types.now) c.in_ok-ty.ty.0) (sym (ap token_view c.in_default.is))
+    (λ ns n. nameless_ends c.args.at.now c.unresolved.new.at c.args.env.now qs ns (numbers c.args.types.now) n c.in_ok-ty.ty.0 (c.in_ok-ty.ensures.any item) c.unresolved.ensures.rest)
+
+pub returns-clause-carries : goal.returns-clause-carries
+returns-clause-carries c = λ item.
+    let qs = (path_view c.args.path.now).qualifiers in
+    let t = tok_of c.in-Some.last.now in
+    let ms = numbers c.args.types.now in
+    let m = c.in_ok-ty-2.ty.0 in
+    let named = subst (λ o. NamesTo (option_map (λ r. r.value) o) c.bound.new.self c.named_type.new.at t ms m) c.as_ref-2.ensures.value (c.in_ok-ty-2.ensures.carries item) in
+    subst (λ l. EndsName c.args.at.now c.named_type.new.at c.args.env.now (record { qualifiers = qs; last = l }) ms m) (sym (ap token_view c.in-Some.is))
+    (λ ns n. name_ends c.args.at.now c.bound.new.self c.named_type.new.at c.args.env.now (option_map (λ r. r.value) c.in_ok-entry.entry) qs t ns ms n m c.in_ok-entry.ensures.verdict named)

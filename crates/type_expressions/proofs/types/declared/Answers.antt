@@ -1,0 +1,33 @@
+use Rattle.std.proofs.Common.{◌≡◌, ◌∙◌, length, option_map, refl, sym, ap, subst}
+use Rattle.syntax_tree.specs.View.{tok_of}
+use Rattle.type_nodes.specs.Views.{numbers}
+use Rattle.typing_state.specs.declared.demands.Verdict.TheVariants.{Kept, Reported}
+use Rattle.typing_state.specs.Demands.{ArityIs}
+use Rattle.type_rows.specs.Declaring.{declared_in}
+use Rattle.type_rows.proofs.Named.{declared_kept, declared_reported}
+use Rattle.type_expressions.proofs.Answering.{if_ok, many_numbers}
+use Rattle.type_expressions.proofs.types.declared.Goals as goal
+
+pub returns-in-Reported-clause-carries : goal.returns-in-Reported-clause-carries
+returns-in-Reported-clause-carries c =
+    let t = tok_of c.args.last.now in
+    let d = c.in-Some.declaration.now in
+    let here : declared_in c.args.entry.now.what ≡ _ = sym c.declaration_behind.ensures ∙ ap (option_map (λ x. x.now)) c.in-Some.is in
+    let verdict = subst (λ v. ArityIs v c.args.at.now c.arity.new.self c.args.last.now.span c.as_str.result.now d.arity (length c.args.types.now)) c.in-Reported.is c.in_ok-arity.ensures.verdict in
+    let named = subst (λ x. ArityIs Reported c.args.at.now c.arity.new.self c.args.last.now.span x d.arity (length c.args.types.now)) c.as_str.ensures verdict in
+    let many = subst (λ k. ArityIs Reported c.args.at.now c.arity.new.self c.args.last.now.span t.name d.arity k) (sym (many_numbers c.args.types.now)) named in
+    if_ok c.unresolved-in-Reported.result _ _ (λ m any item.
+    declared_reported c.args.at.now c.arity.new.self c.unresolved-in-Reported.new.at t c.args.entry.now d (numbers c.args.types.now) m.0 c.args.last.now.span refl here many c.arity.ensures.rest (any item) c.unresolved-in-Reported.ensures.rest)
+    c.unresolved-in-Reported.ensures.any
+
+pub returns-in-OfItem-clause-carries : goal.returns-in-OfItem-clause-carries
+returns-in-OfItem-clause-carries c =
+    let t = tok_of c.args.last.now in
+    let d = c.in-Some.declaration.now in
+    let here : declared_in c.args.entry.now.what ≡ _ = sym c.declaration_behind.ensures ∙ ap (option_map (λ x. x.now)) c.in-Some.is in
+    let verdict = subst (λ v. ArityIs v c.args.at.now c.arity.new.self c.args.last.now.span c.as_str.result.now d.arity (length c.args.types.now)) c.in-Kept.is c.in_ok-arity.ensures.verdict in
+    let named = subst (λ x. ArityIs Kept c.args.at.now c.arity.new.self c.args.last.now.span x d.arity (length c.args.types.now)) c.as_str.ensures verdict in
+    let many = subst (λ k. ArityIs Kept c.args.at.now c.arity.new.self c.args.last.now.span t.name d.arity k) (sym (many_numbers c.args.types.now)) named in
+    if_ok c.applied.result _ _ (λ m applies item.
+    declared_kept c.args.at.now c.arity.new.self c.applied.new.at t c.args.entry.now d (numbers c.args.types.now) m.0 c.args.last.now.span refl here many c.arity.ensures.rest applies)
+    c.applied.ensures.carries

@@ -1,0 +1,26 @@
+use Rattle.std.proofs.Common.{sym, subst}
+use Rattle.syntax_tree.specs.View.{node_view}
+use Rattle.type_nodes.specs.Views.{numbers}
+use Rattle.typing_steps.specs.Typing.{path_as}
+use Rattle.type_rows.specs.Operands.{EndsName, EndsRow}
+use Rattle.type_rows.proofs.Ended.{con_ends, app_ends, plain_ends}
+use Rattle.type_expressions.proofs.Answering.{if_ok}
+use Rattle.type_expressions.proofs.Carrying.{con_row, app_row}
+use Rattle.type_expressions.proofs.types.formed.Goals as goal
+
+pub returns-in_ok-path-in-Tcon-clause-carries : goal.returns-in_ok-path-in-Tcon-clause-carries
+returns-in_ok-path-in-Tcon-clause-carries c =
+    if_ok c.constructed.result _ _ (λ r ends item.
+    con_ends c.args.at.now c.constructed.new.at c.args.env.now (node_view c.args.node.now) (numbers c.args.types.now) r.ty.0 (con_row c.args.node.now c.in-Tcon.is)
+    (subst (λ p. EndsName c.args.at.now c.constructed.new.at c.args.env.now (path_as p) (numbers c.args.types.now) r.ty.0) c.in_ok-path-in-Tcon.ensures (ends item))) c.constructed.ensures.carries
+
+pub returns-in_ok-path-in-Tapp-clause-carries : goal.returns-in_ok-path-in-Tapp-clause-carries
+returns-in_ok-path-in-Tapp-clause-carries c =
+    if_ok c.constructed-in-Tapp.result _ _ (λ r ends item.
+    app_ends c.args.at.now c.constructed-in-Tapp.new.at c.args.env.now (node_view c.args.node.now) (numbers c.args.types.now) r.ty.0 (app_row c.args.node.now c.in-Tapp.is)
+    (subst (λ p. EndsName c.args.at.now c.constructed-in-Tapp.new.at c.args.env.now (path_as p) (numbers c.args.types.now) r.ty.0) c.in_ok-path-in-Tapp.ensures (ends item))) c.constructed-in-Tapp.ensures.carries
+
+pub returns-in_ok-ty-in_default-clause-carries : goal.returns-in_ok-ty-in_default-clause-carries
+returns-in_ok-ty-in_default-clause-carries c = λ item.
+    subst (λ x. EndsRow c.args.at.now c.composed.new.at c.args.env.now (node_view c.args.node.now) (numbers c.args.types.now) x.0) (sym c.unnamed.ensures)
+    (plain_ends c.args.at.now c.composed.new.at c.args.env.now c.args.node.now (numbers c.args.types.now) c.in_ok-ty-in_default.ty.0 c.in_default.not-Tcon c.in_default.not-Tapp (c.in_ok-ty-in_default.ensures.carries item))

@@ -1,0 +1,19 @@
+use Rattle.type_expressions.proofs.Answering.{if_ok}
+use Rattle.type_expressions.proofs.Carrying.{empty_end, single_end, several_end}
+use Rattle.syntax_tree.specs.View.{place_of}
+use Rattle.syntax_tree.specs.declared.tree.Node.{out-Node}
+use Rattle.type_expressions.proofs.types.in_parentheses.Goals as goal
+
+pub returns-in-empty-clause-carries : goal.returns-in-empty-clause-carries
+returns-in-empty-clause-carries c =
+    if_ok c.unresolved.result _ _ (λ m any item.
+    empty_end c.args.at.now c.unresolved.new.at (place_of (out-Node c.args.node.now).span) m.0 c.args.types.now c.in-empty.len_below (any item) c.unresolved.ensures.rest) c.unresolved.ensures.any
+
+pub returns-in-len1-clause-carries : goal.returns-in-len1-clause-carries
+returns-in-len1-clause-carries c = λ item. single_end c.args.at.now (place_of (out-Node c.args.node.now).span) c.args.types.now (record { 0 = 0 }) c.in-len1.len_at_least c.in-len1.len_below
+
+pub returns-in_ok-arity-in_default-clause-carries : goal.returns-in_ok-arity-in_default-clause-carries
+returns-in_ok-arity-in_default-clause-carries c =
+    if_ok c.unresolved-in_default.result _ _ (λ m any item.
+    several_end c.args.at.now c.arity.new.self c.unresolved-in_default.new.at m.0 (out-Node c.args.node.now).span c.args.types.now c.in_ok-arity-in_default.field-0 c.in_default.len_at_least c.in_ok-arity-in_default.ensures.verdict c.arity.ensures.rest (any item) c.unresolved-in_default.ensures.rest)
+    c.unresolved-in_default.ensures.any

@@ -1,0 +1,20 @@
+use Rattle.std.proofs.Common.{option_map, sym, subst}
+use Rattle.std.specs.Option.{option_copied}
+use Rattle.syntax_tree.specs.View.{tok_of}
+use Rattle.type_nodes.specs.Views.{numbers}
+use Rattle.type_rows.specs.Declaring.{DeclaresTo, NamesTo}
+use Rattle.type_expressions.proofs.Answering.{if_ok}
+use Rattle.type_expressions.proofs.types.named_type.Goals as goal
+
+pub returns-in-None-clause-carries : goal.returns-in-None-clause-carries
+returns-in-None-clause-carries c =
+    if_ok c.unresolved.result _ _ (λ m any item.
+    subst (λ o. NamesTo (option_map (λ r. r.value) (option_copied o)) c.args.at.now c.unresolved.new.at (tok_of c.args.last.now) (numbers c.args.types.now) m.0) (sym c.in-None.is) (any item, c.unresolved.ensures.rest))
+    c.unresolved.ensures.any
+
+pub returns-in-Some-clause-carries : goal.returns-in-Some-clause-carries
+returns-in-Some-clause-carries c =
+    if_ok c.declared.result _ _ (λ m carries item.
+    subst (λ o. NamesTo (option_map (λ r. r.value) (option_copied o)) c.args.at.now c.declared.new.at (tok_of c.args.last.now) (numbers c.args.types.now) m.0) (sym c.in-Some.is)
+    (subst (λ x. DeclaresTo c.args.at.now c.declared.new.at (tok_of c.args.last.now) x (numbers c.args.types.now) m.0) c.deref.ensures (carries item)))
+    c.declared.ensures.carries
