@@ -21,7 +21,9 @@ ghost use Rattle.expression_steps.specs.ExpressionSteps.{expression_steps, form_
 use crate::apply::{application, minus, operation};
 use crate::bindings::let_in;
 use crate::cases::{function_of_cases, match_of};
+use crate::fields::set;
 use crate::functions::function;
+use crate::loops::for_loop;
 use crate::plain::{parenthesised, plain};
 use crate::records::record;
 use expression_steps::{RowForm, form_of, leaf};
@@ -97,6 +99,8 @@ fn typed_row(
         RowForm::Cases => function_of_cases(at, node, number, env, depth),
         RowForm::Function => function(at, node, number, env, depth),
         RowForm::Parenthesised => parenthesised(at, node, number, env, depth),
+        RowForm::Set => set(at, node, number, env, depth),
+        RowForm::Loop => for_loop(at, node, number, env, depth),
         RowForm::Plain => plain(at, node, number, env, depth),
     }
 }

@@ -9,7 +9,9 @@ mod apply;
 mod bindings;
 mod cases;
 mod exprs;
+mod fields;
 mod functions;
+mod loops;
 mod plain;
 mod records;
 

@@ -7,7 +7,7 @@ ghost use Rattle.type_nodes.specs.Views.{numbers};
 ghost use Rattle.operand_laws.specs.Operands.{number_of, expression_of};
 ghost use Rattle.typing_steps.specs.Typing.{TypesRow};
 ghost use Rattle.typing_rows.specs.CarriedRows.{IsCarried};
-ghost use Rattle.typing_rows.specs.Asked.{row_expression, expressions_of, IsOrderedRow};
+ghost use Rattle.typing_rows.specs.Asked.{row_expression, expressions_of};
 ghost use Rattle.typing_rows.specs.Contracts.{TypesParts, TypesPart};
 ghost use Rattle.syntax_tree.specs.Names.{row_of};
 ghost use Rattle.syntax_tree.specs.View.{node_view};
@@ -18,7 +18,7 @@ ghost use Rattle.expression_steps.specs.declared.forms.RowForm.{RowForm};
 ghost use Rattle.expression_steps.specs.ExpressionSteps.{expression_at, form_of, part_steps, parts_from, row_at, steps_as};
 
 use crate::exprs::type_under;
-use expression_steps::{behind_part, behind_parts, last_scope};
+use expression_steps::{behind_part, behind_parts};
 use owned_lists::push;
 use row_parts::{Operand, first_operand, operand_in, operands_of};
 use syntax_tree::{Node, RowName};
@@ -40,51 +40,47 @@ pub fn plain(
     ensures goes { Goes at.old at.new }
 {
     let parts = operands_of(at.alloc(), node, number)?;
-    let scope = last_scope(at, node, env)?;
-    let types = type_parts(at, node.row, &parts, env, &scope.env, depth)?;
-    behind_parts(at, node, &parts, &types, scope.names, env)
+    let types = type_parts(at, node.row, &parts, env, depth)?;
+    behind_parts(at, node, &parts, &types, env)
 }
 
-/// The types of the parts of a row, each with what is asked of it as soon as it is typed. The third one is typed in `inner`.
+/// The types of the parts of a row, each with what is asked of it as soon as it is typed.
 #[cycle(exprs)]
-fn type_parts(
+pub fn type_parts(
     at: &mut Parts,
     row: RowName,
     parts: &[Operand<'_>],
     env: &Env,
-    inner: &Env,
     depth: Depth,
 ) -> Result<Vec<NodeRef>, NoMemory>
-    ensures carries { IfOk result (λ ts. IsOrderedRow (row_of row) → inner.now ≡ env.now → All IsCarried (map operand_view parts.now) → TypesParts at.old at.new env.now (row_of row) (expressions_of at.old.item (map operand_view parts.now)) (numbers ts.items)) }
+    ensures carries { IfOk result (λ ts. All IsCarried (map operand_view parts.now) → TypesParts at.old at.new env.now (row_of row) (expressions_of at.old.item (map operand_view parts.now)) (numbers ts.items)) }
     ensures follows { OnOk result (Follows (parts_from (row_of row) 0 (map expression_at (map operand_view parts.now))) at.old at.new) }
     ensures goes { Goes at.old at.new }
 {
     let mut types = Vec::new(at.alloc());
     for part in parts {
         let place = types.len();
-        let scope = if place == 2 { inner } else { env };
-        let ty = type_part(at, row, place, *part, scope, env, depth)?;
+        let ty = type_part(at, row, place, *part, env, depth)?;
         push(&mut types, ty)?;
     }
     Ok(types)
 }
 
-/// The type of a part of a row in a scope, with what is asked of it as soon as it is typed. A fault shows the names of `env`.
+/// The type of a part of a row, with what is asked of it as soon as it is typed.
 #[cycle(exprs)]
 fn type_part(
     at: &mut Parts,
     row: RowName,
     place: usize,
     part: Operand<'_>,
-    scope: &Env,
     env: &Env,
     depth: Depth,
 ) -> Result<NodeRef, NoMemory>
-    ensures carries { IfOk result (λ m. IsOrderedRow (row_of row) → scope.now ≡ env.now → IsCarried (operand_view part.entry) → TypesPart at.old at.new env.now (row_of row) place (expression_of at.old.item (operand_view part.entry)) m.0) }
+    ensures carries { IfOk result (λ m. IsCarried (operand_view part.entry) → TypesPart at.old at.new env.now (row_of row) place (expression_of at.old.item (operand_view part.entry)) m.0) }
     ensures follows { OnOk result (Follows (part_steps (row_of row) place (expression_at (operand_view part.entry))) at.old at.new) }
     ensures goes { Goes at.old at.new }
 {
-    let ty = type_under(at, part, Sign::None, scope, depth.inside()?)?;
+    let ty = type_under(at, part, Sign::None, env, depth.inside()?)?;
     behind_part(at, row, place, part, ty, env)?;
     Ok(ty)
 }

@@ -5,7 +5,7 @@ use Rattle.std.proofs.lemmas.List.Elements.{All-head, All-tail}
 use Rattle.std.specs.Str.{bytes_eq}
 use Rattle.std.proofs.lemmas.Slice.Eq.{bytes_eq-Decides}
 use Rattle.token_model.specs.Kinds.{Tok, Kind, upper, lower, float, false_word}
-use Rattle.tree_model.specs.Rows.{Row, erecord_row, econ_row, epath_row, econst_row, eparen_row, prefix_row, field_row, eapp_row, eneg_row, infix_row, eassert_row, ewhile_row, ebegin_row, elist_row, econs_row, etuple_row, eif_row, eseq_row, name_row, hole_row}
+use Rattle.tree_model.specs.Rows.{Row, erecord_row, econ_row, epath_row, econst_row, eparen_row, prefix_row, field_row, eapp_row, eneg_row, infix_row, eassert_row, ewhile_row, efor_row, ebegin_row, elist_row, econs_row, etuple_row, eset_row, eif_row, eseq_row, name_row, hole_row}
 use Rattle.tree_model.specs.Trees.{Place, Tree, Forest, Part, taken, inner, missing, node}
 use Rattle.row_parts.specs.Numbered.{Numbered, Written, numbered, operand_view, token_in, filled_in, all_operands, operands_in, first_in}
 use Rattle.typing_model.specs.Contexts.{Context, tell_typed}
@@ -69,6 +69,14 @@ paren_form : (r : Row) → form_of r ≡ form.Parenthesised → r ≡ eparen_row
 paren_form eparen_row e = refl
 paren_form _ e = absurd (cc)
 
+set_form : (r : Row) → form_of r ≡ form.Set → r ≡ eset_row
+set_form eset_row e = refl
+set_form _ e = absurd (cc)
+
+loop_form : (r : Row) → form_of r ≡ form.Loop → r ≡ efor_row
+loop_form efor_row e = refl
+loop_form _ e = absurd (cc)
+
 operation_form : (r : Row) (b : Bool) → form_of r ≡ form.Operation → IsOperation r b
 operation_form prefix_row b e = tt
 operation_form infix_row b e = tt
@@ -94,15 +102,19 @@ ordered_form prefix_row t ps h e = absurd (cc)
 ordered_form eapp_row t ps h e = absurd (cc)
 ordered_form eneg_row t ps h e = absurd (cc)
 ordered_form infix_row t ps h e = absurd (cc)
+ordered_form eset_row t ps h e = absurd (cc)
+ordered_form efor_row t ps h e = absurd (cc)
 ordered_form _ t ps h e = absurd h
 
--- a carried row isn't one with binders, nor a record
+-- a carried row isn't one with patterns or bindings, nor a record
 abbrev pub IsCarriedForm : RowForm → Type 0
 IsCarriedForm form.Leaf = Unit {0}
 IsCarriedForm form.Application = Unit {0}
 IsCarriedForm form.Operation = Unit {0}
 IsCarriedForm form.Minus = Unit {0}
 IsCarriedForm form.Parenthesised = Unit {0}
+IsCarriedForm form.Set = Unit {0}
+IsCarriedForm form.Loop = Unit {0}
 IsCarriedForm form.Plain = Unit {0}
 IsCarriedForm _ = ⊥
 
@@ -117,6 +129,8 @@ carried_form prefix_row t ps h = tt
 carried_form eapp_row t ps h = tt
 carried_form eneg_row t ps h = tt
 carried_form infix_row t ps h = tt
+carried_form eset_row t ps h = tt
+carried_form efor_row t ps h = tt
 carried_form field_row t ps h = tt
 carried_form ebegin_row t ps h = tt
 carried_form elist_row t ps h = tt
@@ -128,7 +142,7 @@ carried_form eif_row t ps h = tt
 carried_form eseq_row t ps h = tt
 carried_form _ t ps h = absurd h
 
--- the row of an application, a minus, parentheses, an operation, and a plain row
+-- the row of an application, a minus, parentheses, a field that is set, a loop, an operation, and a plain row
 pub is_application : (t : Tree) (f : RowForm) → f ≡ form.Application → f ≡ form_of (row_at t) → row_of t ≡ eapp_row
 is_application t f e is = rows_same t ∙ application_form (row_at t) (sym is ∙ e)
 
@@ -140,6 +154,12 @@ by_minus t e = rows_same t ∙ minus_form (row_at t) e
 
 pub by_paren : (t : Tree) → form_of (row_at t) ≡ form.Parenthesised → row_of t ≡ eparen_row
 by_paren t e = rows_same t ∙ paren_form (row_at t) e
+
+pub by_set : (t : Tree) → form_of (row_at t) ≡ form.Set → row_of t ≡ eset_row
+by_set t e = rows_same t ∙ set_form (row_at t) e
+
+pub by_loop : (t : Tree) → form_of (row_at t) ≡ form.Loop → row_of t ≡ efor_row
+by_loop t e = rows_same t ∙ loop_form (row_at t) e
 
 pub by_operation : (t : Tree) (b : Bool) → form_of (row_at t) ≡ form.Operation → IsOperation (row_at t) b
 by_operation t b e = operation_form (row_at t) b e
@@ -416,14 +436,14 @@ given_step a b d env at negated os k x head m to lt e goes first typed all =
     (subst (λ j. TypesArgument b d env at (under_minus negated (expression_of j (operand_view x))) m to) goes.item (typed (read_carried os k x lt e all)))
 
 -- one part more of a row
-pub parts_step : (a b d : Parts) (env scope : List Entry) (r : Row) (os : List Operand) (k j : ℕ) (x : Operand) (ms more : List NodeRef) (m : NodeRef) → k < length os → x ≡ slice_index_or os k x → j ≡ k → more ≡ ms ++ m ∷ [] → Goes a b →
-    (IsOrderedRow r → scope ≡ env → All IsCarried (map operand_view os) → TypesPartsFirst a b env r k (expressions_of a.item (map operand_view os)) (expressions_of a.item (map operand_view (drop k os))) (numbers ms)) →
-    (IsOrderedRow r → scope ≡ env → IsCarried (operand_view x) → TypesPart b d env r j (expression_of b.item (operand_view x)) m.0) →
-    IsOrderedRow r → scope ≡ env → All IsCarried (map operand_view os) → TypesPartsFirst a d env r (k + 1) (expressions_of a.item (map operand_view os)) (expressions_of a.item (map operand_view (drop (k + 1) os))) (numbers more)
-parts_step a b d env scope r os k j x ms more m lt e place longer goes first typed ordered same all =
+pub parts_step : (a b d : Parts) (env : List Entry) (r : Row) (os : List Operand) (k j : ℕ) (x : Operand) (ms more : List NodeRef) (m : NodeRef) → k < length os → x ≡ slice_index_or os k x → j ≡ k → more ≡ ms ++ m ∷ [] → Goes a b →
+    (All IsCarried (map operand_view os) → TypesPartsFirst a b env r k (expressions_of a.item (map operand_view os)) (expressions_of a.item (map operand_view (drop k os))) (numbers ms)) →
+    (IsCarried (operand_view x) → TypesPart b d env r j (expression_of b.item (operand_view x)) m.0) →
+    All IsCarried (map operand_view os) → TypesPartsFirst a d env r (k + 1) (expressions_of a.item (map operand_view os)) (expressions_of a.item (map operand_view (drop (k + 1) os))) (numbers more)
+parts_step a b d env r os k j x ms more m lt e place longer goes first typed all =
     let view : List Operand → List Expression = λ qs. expressions_of a.item (map operand_view qs) in
-    parts_more a b d env r k j (view os) (view (drop k os)) (view (drop (k + 1) os)) (expression_of a.item (operand_view x)) (numbers ms) (numbers more) m.0 (ap view (drop_read os k x lt e)) place (numbers_more ms more m longer) goes (first ordered same all)
-    (subst (λ i. TypesPart b d env r j (expression_of i (operand_view x)) m.0) goes.item (typed ordered same (read_carried os k x lt e all)))
+    parts_more a b d env r k j (view os) (view (drop k os)) (view (drop (k + 1) os)) (expression_of a.item (operand_view x)) (numbers ms) (numbers more) m.0 (ap view (drop_read os k x lt e)) place (numbers_more ms more m longer) goes (first all)
+    (subst (λ i. TypesPart b d env r j (expression_of i (operand_view x)) m.0) goes.item (typed (read_carried os k x lt e all)))
 
 -- an argument, which may be directly under a minus, has a type
 pub argument_typed : (a b d : Parts) (env : List Entry) (negated : Bool) (i : ℕ) (o : Numbered) (found wanted : ℕ) → TypesTo a b env (λ c. (under_minus negated (expression_of i o)).typed c) (λ ch. ch.type_at (expression_of i o).node) found → Goes a b → AsksEqual b d o.at found wanted →
@@ -461,12 +481,12 @@ paren_row a b d env n at t part given found ty u carried is here there typed wri
 
 -- a row whose parts are typed in order
 pub plain_row : (a b d : Parts) (env : List Entry) (n : ℕ) (at : Place) (t : Tree) (r : Row) (os : List Operand) (ms : List ℕ) (m : ℕ) → IsCarried (numbered n at (inner t)) → form_of (row_at t) ≡ form.Plain → row_at t ≡ r → map operand_view os ≡ all_operands n t →
-    (IsOrderedRow r → All IsCarried (map operand_view os) → TypesParts a b env r (expressions_of a.item (map operand_view os)) ms) → Goes a b →
+    (All IsCarried (map operand_view os) → TypesParts a b env r (expressions_of a.item (map operand_view os)) ms) → Goes a b →
     (IsOrderedRow (row_at t) → EndsRow b d env (ordered_end (row_at t) t (expressions_of b.item (map operand_view os))) (expressions_of b.item (map operand_view os)) ms m) → TypesRow a d env (λ c. (row_expression a.item n at t).typed c) (number_of a.item n) m
 plain_row a b d env n at t r os ms m carried is row given typed goes ends =
     let ordered = by_ordered n at t carried is in
     let same = rows_same t in
-    let parts = typed (subst IsOrderedRow row ordered) (subst (All IsCarried) (sym given) (all_carried n at t carried)) in
+    let parts = typed (subst (All IsCarried) (sym given) (all_carried n at t carried)) in
     ordered_typed a b d env n at t ms m carried.formed (subst IsOrderedRow (sym same) ordered) (subst (λ q. TypesParts a b env q (expressions_of a.item (all_operands n t)) ms) (sym (same ∙ row)) (subst (λ qs. TypesParts a b env r (expressions_of a.item qs) ms) given parts)) goes
     (subst (λ q. EndsRow b d env (ordered_end q t (expressions_of b.item (all_operands n t))) (expressions_of b.item (all_operands n t)) ms m) (sym same) (subst (λ qs. EndsRow b d env (ordered_end (row_at t) t (expressions_of b.item qs)) (expressions_of b.item qs) ms m) given (ends ordered)))
 

@@ -1,11 +1,11 @@
 -- The end of a row whose parts are typed in order, as the code reads the parts: by their places, and by how many there are.
-use Rattle.std.proofs.Common.{◌≡◌, ◌∙◌, ◌⊎◌, inl, inr, ◌+◌, ◌-◌, ◌<◌, ◌≤◌, ◌==◌, ℕ, zero, suc, Bool, true, false, not, List, [], ◌∷◌, map, length, drop, Option, Some, None, refl, sym, ap, subst, arith}
+use Rattle.std.proofs.Common.{◌≡◌, ◌∙◌, ◌+◌, ◌-◌, ◌<◌, ◌≤◌, ◌==◌, ℕ, zero, suc, Bool, true, false, not, List, [], ◌∷◌, map, length, drop, Option, Some, None, refl, sym, ap, subst, arith}
 use Rattle.std.specs.Prelude.{codes, slice_get, slice_index_or, if◌then◌else◌, Result, Ok, Err, OnOk}
 use Rattle.std.specs.Str.{bytes_eq}
 use Rattle.std.proofs.lemmas.Bool.{eqb-true}
 use Rattle.std.proofs.lemmas.List.{drop_more}
 use Rattle.std.proofs.lemmas.Option.{slice_get-get_or}
-use Rattle.tree_model.specs.Rows.{Row, name_row, epath_row, econst_row, hole_row, elist_row, econs_row, eif_row, eassert_row, ewhile_row, ebegin_row, etuple_row, eseq_row}
+use Rattle.tree_model.specs.Rows.{Row, name_row, epath_row, econst_row, hole_row, elist_row, field_row, econs_row, eif_row, eassert_row, ewhile_row, ebegin_row, etuple_row, eseq_row}
 use Rattle.tree_model.specs.Trees.{Place, Tree, Forest, inner, node}
 use Rattle.syntax_tree.specs.declared.rows.RowName.{RowName}
 use Rattle.syntax_tree.specs.declared.rows.RowName.TheVariants as name
@@ -20,7 +20,7 @@ use Rattle.expression_steps.specs.Operators.{operator_name, operator_negates, Is
 use Rattle.syntax_tree.specs.Names.{row_of}
 use Rattle.syntax_tree.specs.View.{node_view, tok_of}
 use Rattle.row_parts.specs.declared.slots.Operand.{Operand}
-use Rattle.row_parts.specs.Numbered.{Written, numbered, operand_view, path_in}
+use Rattle.row_parts.specs.Numbered.{Written, numbered, operand_view, path_in, path_view, token_view}
 use Rattle.operand_laws.specs.Operands.{path_of}
 use Rattle.type_terms.specs.declared.types.NodeRef.{NodeRef}
 use Rattle.type_nodes.specs.Nodes.{Con, IsNode}
@@ -32,7 +32,7 @@ use Rattle.typing_model.specs.Parts.{Expression, last_of}
 use Rattle.typing_model.specs.Patterns.{behind_first}
 use Rattle.env_table.specs.declared.entries.Entry.{Entry}
 use Rattle.typing_state.specs.declared.parts.Parts.{Parts}
-use Rattle.typing_state.specs.Goes.{Goes, OnlyStore}
+use Rattle.typing_state.specs.Goes.{Goes, OnlyStore, OnlyFaults, Told, faults_of}
 use Rattle.typing_state.specs.Steps.{each, Silent}
 use Rattle.typing_state.specs.Types.{list_path}
 use Rattle.pattern_steps.specs.PatternSteps.{later}
@@ -46,11 +46,17 @@ use Rattle.typing_steps.specs.States.{is_aloud, sight}
 use Rattle.typing_steps.specs.Typing.{as_declared, RowCarried, TypesAny, path_as}
 use Rattle.use_typing.specs.declared.uses.LabelUse.{LabelUse}
 use Rattle.typing_rows.proofs.Fielded.{ends_field, ends_field_unknown}
+use Rattle.typing_rows.proofs.Setting.{asks_settable, settable_none, ends_settable, ends_settable_unknown}
 use Rattle.operand_laws.specs.Formed as formed
 use Rattle.use_typing.specs.Uses.{GivenOrNew, TypesLabelIf}
 use Rattle.typing_rows.specs.CarriedRows.{IsCarriedRow, IsTreeOfCarriedRows, IsCarried}
 use Rattle.typing_rows.specs.Asked.{expressions_of, IsPlainRow, IsOrderedRow, end_of, field_ends, ordered_end, last_asks, assert_ends}
 use Rattle.typing_rows.specs.Contracts.{types_at, AsksAt, AsksLater, AsksLaterFirst, EndsRow, EndsUnknown}
+use Rattle.typing_rows.specs.Fields.{AsksSettable, EndsSettable}
+use Rattle.typing_steps.specs.Demands.{TestedAs}
+use Rattle.env_table.specs.declared.faults.FaultKind.TheVariants as fault
+use denote.Ref.{Bor}
+use Rattle.row_parts.specs.declared.paths.WrittenPath.{WrittenPath}
 use Rattle.typing_rows.proofs.Ending.{reads_at, none_at, later_none, later_more, later_all, ends_still, ends_unit, ends_any, row_of_type, ends_cons, ends_then, ends_else, ends_list, ends_list_none}
 use Rattle.expression_steps.specs.declared.forms.RowForm.TheVariants as form
 use Rattle.expression_steps.specs.ExpressionSteps.{ExpressionSteps, Value, anything, asked_behind, behind_parts, constructor_in, form_of, has_type, row_at, value_in}
@@ -62,11 +68,6 @@ use Rattle.expression_steps.proofs.CarryingLaws.{rows_same, number_here, number_
 -- the row of a node of the code
 pub row_named : (nd : Node) (r : RowName) → (out-Node nd).row ≡ r → row_at (node_view nd) ≡ row_of r
 row_named nd r e = row_of_node nd ∙ ap row_of e
-
--- the variable of a `for` is no row that is typed in order here
-pub no_for : (nd : Node) → (out-Node nd).row ≡ name.Efor → IsOrderedRow (row_at (node_view nd)) → ⊥
-unfolding row_of
-no_for nd e ordered = subst IsOrderedRow (row_named nd name.Efor e) ordered
 
 -- the end of a field
 pub field_end : (nd : Node) (a b : Parts) (env : List Entry) (es : List Expression) (ms : List ℕ) (m : ℕ) → (out-Node nd).row ≡ name.Field → EndsRow a b env (field_ends (path_of (path_in (node_view nd) 2 3)) es) es ms m → EndsRow a b env (ordered_end (row_at (node_view nd)) (node_view nd) es) es ms m
@@ -83,6 +84,36 @@ field_found a b d env os ms w p found u same is typed goes asked =
 pub field_lost : (a b d : Parts) (env : List Entry) (es : List Expression) (ms : List ℕ) (w p : Written) (found : Option LabelUse) (m : ℕ) → w ≡ p → found ≡ None → TypesLabelIf found a b env (path_as w) → Goes a b → TypesAny b d m → EndsRow a d env (field_ends (path_of p) es) es ms m
 field_lost a b d env es ms w p found m same is typed goes any =
     ends_field_unknown a b d env es ms (path_of p) m (subst (λ o. TypesLabelIf o a b env (path_as p)) is (subst (λ q. TypesLabelIf found a b env (path_as q)) same typed)) goes any
+
+-- the end of a field that is set, by the label that is found
+pub settable_found : (a b d f : Parts) (env : List Entry) (os : List Operand) (ms : List ℕ) (w p : Written) (found : Option LabelUse) (u : LabelUse) → w ≡ p → found ≡ Some u → TypesLabelIf found a b env (path_as w) → Goes a b →
+    AsksAt b d env (expressions_of b.item (map operand_view os)) ms 0 u.record.0 → Goes b d → AsksSettable d f (path_as w) u.is_mutable → EndsSettable a f env (path_of p) (expressions_of a.item (map operand_view os)) ms u.field.0
+settable_found a b d f env os ms w p found u same is typed goes asked goes' tested =
+    ends_settable a b d f env (expressions_of a.item (map operand_view os)) ms (path_of p) u.record.0 u.field.0 u.is_mutable
+    (subst (λ o. TypesLabelIf o a b env (path_as p)) is (subst (λ q. TypesLabelIf found a b env (path_as q)) same typed)) goes (subst (λ j. AsksAt b d env (expressions_of j (map operand_view os)) ms 0 u.record.0) goes.item asked) goes'
+    (subst (λ q. AsksSettable d f (path_as q) u.is_mutable) same tested)
+
+pub settable_lost : (a b d : Parts) (env : List Entry) (es : List Expression) (ms : List ℕ) (w p : Written) (found : Option LabelUse) (m : ℕ) → w ≡ p → found ≡ None → TypesLabelIf found a b env (path_as w) → Goes a b → TypesAny b d m → EndsSettable a d env (path_of p) es ms m
+settable_lost a b d env es ms w p found m same is typed goes any =
+    ends_settable_unknown a b d env es ms (path_of p) m (subst (λ o. TypesLabelIf o a b env (path_as p)) is (subst (λ q. TypesLabelIf found a b env (path_as q)) same typed)) goes any
+
+-- the demand that a label is mutable: where it is missing
+pub settable_missing : (a : Parts) (p : WrittenPath) (mutable : Bool) → p.last ≡ None → AsksSettable a a (path_as (path_view p)) mutable
+settable_missing a p mutable none = subst (λ o. AsksSettable a a (record { qualifiers = (path_view p).qualifiers; last = token_view o }) mutable) (sym none) (settable_none a (path_view p).qualifiers mutable)
+
+-- where it is mutable
+pub settable_held : (a : Parts) (p : WrittenPath) (t : Bor Token) (mutable : Bool) → p.last ≡ Some t → mutable ≡ true → AsksSettable a a (path_as (path_view p)) mutable
+settable_held a p t mutable there is =
+    subst (λ o. AsksSettable a a (record { qualifiers = (path_view p).qualifiers; last = token_view o }) mutable) (sym there)
+    (asks_settable a a t.now.span [] (path_view p).qualifiers (tok_of t.now) mutable refl (subst (λ v. TestedAs v a a t.now.span fault.Mutable []) (sym is) refl))
+
+-- where it isn't, and that is reported
+pub settable_told : {A E : Type 0} (r : Result A E) (a b : Parts) (p : WrittenPath) (t : Bor Token) (mutable : Bool) (message : List ℕ) → p.last ≡ Some t → mutable ≡ false → OnOk r (Told a.telling (faults_of a) (faults_of b) t.now.span fault.Mutable message) → OnlyFaults a b →
+    OnOk r (AsksSettable a b (path_as (path_view p)) mutable)
+settable_told (Err e) a b p t mutable message there is told rest = tt
+settable_told (Ok x) a b p t mutable message there is told rest =
+    subst (λ o. AsksSettable a b (record { qualifiers = (path_view p).qualifiers; last = token_view o }) mutable) (sym there)
+    (asks_settable a b t.now.span message (path_view p).qualifiers (tok_of t.now) mutable refl (subst (λ v. TestedAs v a b t.now.span fault.Mutable message) (sym is) (told, rest)))
 
 -- the end of any other row
 other_end : (r : RowName) (t : Tree) (a b : Parts) (env : List Entry) (es : List Expression) (ms : List ℕ) (m : ℕ) → (r ≡ name.Field → ⊥) → IsOrderedRow (row_of r) → (IsPlainRow (row_of r) → EndsRow a b env (end_of (row_of r) es) es ms m) → EndsRow a b env (ordered_end (row_of r) t es) es ms m
@@ -131,6 +162,8 @@ hole_by name.Prefix t ps h is none a b c = absurd (cc)
 hole_by name.Eapp t ps h is none a b c = absurd (cc)
 hole_by name.Eassert t ps h is none a b c = absurd (cc)
 hole_by name.Ewhile t ps h is none a b c = absurd (cc)
+hole_by name.Efor t ps h is none a b c = absurd (cc)
+hole_by name.Eset t ps h is none a b c = absurd (cc)
 hole_by name.Eneg t ps h is none a b c = absurd (cc)
 hole_by name.Infix t ps h is none a b c = absurd (cc)
 hole_by name.Econs t ps h is none a b c = absurd (cc)
@@ -264,23 +297,7 @@ pub on_any : {A E : Type 0} (r : Result A E) (Q : Type 0) → Q → OnOk r Q
 on_any (Ok x) Q h = h
 on_any (Err e) Q h = tt
 
--- rows that aren't typed in order here, by their names
-pub for_apart : (r : RowName) → r ≡ name.Efor → IsPlainRow (row_of r) → ⊥
-unfolding row_of
-for_apart r e plain = subst (λ k. IsPlainRow (row_of k)) e plain
-
-pub set_apart : (r : RowName) → r ≡ name.Eset → IsPlainRow (row_of r) → ⊥
-unfolding row_of
-set_apart r e plain = subst (λ k. IsPlainRow (row_of k)) e plain
-
-pub for_unordered : (r : RowName) → r ≡ name.Efor → IsOrderedRow (row_of r) → ⊥
-unfolding row_of
-for_unordered r e ordered = subst (λ k. IsOrderedRow (row_of k)) e ordered
-
-pub set_unordered : (r : RowName) → r ≡ name.Eset → IsOrderedRow (row_of r) → ⊥
-unfolding row_of
-set_unordered r e ordered = subst (λ k. IsOrderedRow (row_of k)) e ordered
-
+-- no other row is typed in order here
 pub others_apart : (r : RowName) → IsPlainRow (row_of r) → (r ≡ name.Ebegin → ⊥) → (r ≡ name.Elist → ⊥) → (r ≡ name.Econs → ⊥) → (r ≡ name.Etuple → ⊥) → (r ≡ name.Eseq → ⊥) → (r ≡ name.Eif → ⊥) → (r ≡ name.Eassert → ⊥) → (r ≡ name.Ewhile → ⊥) → ⊥
 unfolding row_of
 others_apart name.Ebegin p a b c d e f g h = a refl
@@ -297,6 +314,10 @@ others_apart _ p a b c d e f g h = p
 pub is_begin : row_of name.Ebegin ≡ ebegin_row
 unfolding row_of
 is_begin = refl
+
+pub is_field : row_of name.Field ≡ field_row
+unfolding row_of
+is_field = refl
 
 pub is_list : row_of name.Elist ≡ elist_row
 unfolding row_of
@@ -435,11 +456,6 @@ none_apart (o ∷ os) e x f = absurd (cc)
 -- while e do e done
 pub while_ends : (r : RowName) (a : Parts) (env : List Entry) (es : List Expression) (ms : List ℕ) → r ≡ name.Ewhile → EndsRow a a env (end_of (row_of r) es) es ms a.constants.unit.0
 while_ends r a env es ms e = as_named r name.Ewhile ewhile_row a a env es ms a.constants.unit.0 e is_while (ends_unit a env (end_of ewhile_row es) es ms (λ c n. refl))
-
--- the same where the row is that or a `for`
-pub while_or_for : (r : RowName) (a : Parts) (env : List Entry) (es : List Expression) (ms : List ℕ) → (r ≡ name.Ewhile) ⊎ (r ≡ name.Efor) → IsPlainRow (row_of r) → EndsRow a a env (end_of (row_of r) es) es ms a.constants.unit.0
-while_or_for r a env es ms (inl e) plain = while_ends r a env es ms e
-while_or_for r a env es ms (inr e) plain = absurd (for_apart r e plain)
 
 at_end : (x : NodeRef) (xs : List NodeRef) → slice_get (x ∷ xs) (length xs) ≡ last_of (x ∷ xs)
 at_end x [] = refl

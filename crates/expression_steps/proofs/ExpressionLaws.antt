@@ -27,7 +27,7 @@ use Rattle.expression_steps.specs.declared.forms.RowForm.{RowForm}
 use Rattle.expression_steps.specs.declared.forms.RowForm.TheVariants as form
 use Rattle.use_typing.specs.UseSteps.{asks_token, is_int, range_steps}
 use Rattle.pattern_steps.specs.PatternSteps.{later}
-use Rattle.expression_steps.specs.ExpressionSteps.{ExpressionSteps, no_expression, expression_rule, expression_or_missing, expression_at, expression_steps, expression_field, expression_case, right_side, expressions_in, all_expressions, filled_expression, pieces_of, pieces_at, form_of, steps_of_form, row_at, place_at, steps_as, unrecorded_steps, field_steps, case_steps, right_steps, Value, named, constant, anything, value_steps, has_type, part_at, arguments_steps, asked_part, asked_label, asked_branch, behind_part_steps, behind_parts, type_each, parts_from, plain_steps, operator_in, operator_steps}
+use Rattle.expression_steps.specs.ExpressionSteps.{ExpressionSteps, no_expression, expression_rule, expression_or_missing, expression_at, expression_steps, expression_field, expression_case, right_side, expressions_in, all_expressions, filled_expression, pieces_of, pieces_at, form_of, steps_of_form, row_at, place_at, steps_as, unrecorded_steps, field_steps, case_steps, right_steps, Value, named, constant, anything, value_steps, has_type, part_at, arguments_steps, asked_part, asked_branch, behind_part_steps, behind_parts, type_each, parts_from, plain_steps, operator_in, operator_steps}
 
 -- what a node with a number comes to as an operand
 comes_of_node : (n : ℕ) (t : Tree) → expression_at (node_with n t) ≡ tree_by expression_rule n t
@@ -202,7 +202,7 @@ told_behind kind ps some all k fs (inl p) = inl (k fs p)
 told_behind kind ps some all k fs (inr (f, later, e, at, p)) = inr (f, later, e, at, k later p)
 
 -- some are left out behind others
-skips_behind : (ss ts us : Steps) → Skips ts us → Skips (ss ++ ts) (ss ++ us)
+pub skips_behind : (ss ts us : Steps) → Skips ts us → Skips (ss ++ ts) (ss ++ us)
 skips_behind [] ts us k = k
 skips_behind (asks kind ps ∷ ss) ts us k = let rest = skips_behind ss ts us k in record {
   told = told_behind kind ps (ss ++ ts) (ss ++ us) (λ fs t. rest.told fs t);
@@ -240,15 +240,9 @@ left_from ps k lt =
     let next : suc k ≡ k + 1 = omega arith in
     subst (λ m. each has_type (drop k es) ≡ each has_type (part_at k es) ++ each has_type (drop m es)) next (left_at ps k lt)
 
--- steps one after another without a record
-pub no_record_both : (ss ts : Steps) → HasNoRecord ss → HasNoRecord ts → HasNoRecord (ss ++ ts)
-no_record_both [] ts p q = q
-no_record_both (asks kind ps ∷ ss) ts p q = no_record_both ss ts p q
-no_record_both (records n ∷ ss) ts p q = absurd p
-
 -- what is asked of a part as soon as it is typed
 pub behind_part_no_record : (r : Row) (k : ℕ) (e : ExpressionSteps) → HasNoRecord (behind_part_steps r k e)
-behind_part_no_record r k e = no_record_both (each has_type (asked_part r k e)) (asks_token fault.Mutable (asked_label r k e)) (types_no_record (asked_part r k e)) (token_no_record fault.Mutable (asked_label r k e))
+behind_part_no_record r k e = types_no_record (asked_part r k e)
 
 -- expressions are typed in order
 pub each_typed : (os : List Operand) → type_each (map expression_at (map operand_view os)) ≡ each (λ o. expression_steps (operand_view o)) os

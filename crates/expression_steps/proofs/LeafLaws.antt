@@ -43,6 +43,8 @@ form_stays form.Match t negated env a b c told q = tt
 form_stays form.Cases t negated env a b c told q = tt
 form_stays form.Function t negated env a b c told q = tt
 form_stays form.Parenthesised t negated env a b c told q = tt
+form_stays form.Set t negated env a b c told q = tt
+form_stays form.Loop t negated env a b c told q = tt
 form_stays form.Plain t negated env a b c told q = tt
 
 -- an expression that is missing

@@ -5,3 +5,4 @@ pub mod ConstructorLaws
 pub mod CarryingLaws
 pub mod EndingLaws
 pub mod ValueLaws
+pub mod SettingLaws

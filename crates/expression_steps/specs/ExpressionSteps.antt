@@ -105,6 +105,17 @@ is_float_at (taken t) = false
 is_float_at (inner t) = is_float_in (row_at t) t
 is_float_at (missing at) = false
 
+-- the row of e . l
+abbrev pub is_field_row : Row → Bool
+is_field_row field_row = true
+is_field_row _ = false
+
+-- whether a part is e . l
+abbrev pub is_field_at : Part → Bool
+is_field_at (taken t) = false
+is_field_at (inner t) = is_field_row (row_at t)
+is_field_at (missing at) = false
+
 -- each of these is typed
 abbrev pub type_each : List ExpressionSteps → Steps
 type_each es = each (λ e. e.typed) es
@@ -162,18 +173,11 @@ abbrev pub asked_part : Row → ℕ → ExpressionSteps → List ExpressionSteps
 asked_part eif_row zero e = e ∷ []
 asked_part ewhile_row zero e = e ∷ []
 asked_part eassert_row zero e = e ∷ []
-asked_part efor_row zero e = e ∷ []
-asked_part efor_row (suc zero) e = e ∷ []
 asked_part _ _ e = []
-
--- the label of which is asked that it is mutable, as soon as the part that it stands in is typed
-abbrev pub asked_label : Row → ℕ → ExpressionSteps → Option Tok
-asked_label eset_row zero e = set_label_at e.self.part
-asked_label _ _ e = None
 
 -- what is asked of a part of a row as soon as it is typed, by its place among the parts
 abbrev pub behind_part_steps : Row → ℕ → ExpressionSteps → Steps
-behind_part_steps r k e = each has_type (asked_part r k e) ++ asks_token fault.Mutable (asked_label r k e)
+behind_part_steps r k e = each has_type (asked_part r k e)
 
 -- a part of a row, and what is asked as soon as it is typed
 abbrev pub part_steps : Row → ℕ → ExpressionSteps → Steps
@@ -198,7 +202,6 @@ asked_branch es = elim (part_at 2 es) [ [] ↦ part_at 1 es | e ∷ more ↦ e �
 abbrev pub asked_behind : Row → List ExpressionSteps → List ExpressionSteps
 asked_behind elist_row es = later es
 asked_behind econs_row es = part_at 1 es
-asked_behind eset_row es = part_at 1 es
 asked_behind eif_row es = asked_branch es
 asked_behind _ es = []
 
@@ -214,6 +217,18 @@ behind_parts r t es = each has_type (asked_behind r es)
 -- a row whose parts are typed in order
 abbrev pub plain_steps : Row → Tree → List ExpressionSteps → Steps
 plain_steps r t es = parts_from r 0 es ++ behind_parts r t es
+
+-- the left part of e . l <- e, and then the demand that its label is mutable
+abbrev pub set_part_steps : ExpressionSteps → Steps
+set_part_steps e = e.typed ++ asks_token fault.Mutable (set_label_at e.self.part)
+
+-- e . l <- e: the right part is the field
+abbrev pub set_steps : ExpressionSteps → ExpressionSteps → Steps
+set_steps e f = set_part_steps e ++ typed_as f
+
+-- for x = e to e do e done: the bounds are ints
+abbrev pub loop_steps : ExpressionSteps → ExpressionSteps → ExpressionSteps → Steps
+loop_steps e f g = typed_as e ++ typed_as f ++ g.typed
 
 -- ( e ), ( e : t )
 abbrev pub parenthesised_steps : ExpressionSteps → Option Numbered → Steps
@@ -400,6 +415,8 @@ form_of etry_row = form.Match
 form_of efunction_row = form.Cases
 form_of efun_row = form.Function
 form_of eparen_row = form.Parenthesised
+form_of eset_row = form.Set
+form_of efor_row = form.Loop
 form_of _ = form.Plain
 
 -- the steps of a row in a form, without its record
@@ -414,6 +431,8 @@ steps_of_form form.Match r n at t p = (p.filled 1).typed ++ cases_steps r at (p.
 steps_of_form form.Cases r n at t p = cases_steps r at (p.slot 4)
 steps_of_form form.Function r n at t p = each parameter_steps (operands_in n t 1) ++ (p.filled 3).typed
 steps_of_form form.Parenthesised r n at t p = parenthesised_steps (p.filled 1) (first_in n t 3)
+steps_of_form form.Set r n at t p = set_steps (p.filled 0) (p.filled 2)
+steps_of_form form.Loop r n at t p = loop_steps (p.filled 3) (p.filled 5) (p.filled 7)
 steps_of_form form.Plain r n at t p = plain_steps r t p.all
 
 -- a row by its parts
@@ -477,6 +496,10 @@ pieces_at n t = record { slot = λ s. expressions_in n t s; filled = λ s. fille
 -- the steps of a node with this number in a form, without its record
 abbrev pub steps_as : RowForm → ℕ → Tree → Steps
 steps_as f n t = steps_of_form f (row_at t) n (place_at t) t (pieces_at n t)
+
+-- a field that is set, with its record
+abbrev pub set_field_steps : ℕ → Tree → Steps
+set_field_steps n t = ((parts_from field_row 0 (all_expressions n t) ++ label_steps (path_in t 2 3) (all_expressions n t)) ++ records n ∷ []) ++ asks_token fault.Mutable (token_in t 3)
 
 -- those of its own form
 abbrev pub unrecorded_steps : ℕ → Tree → Steps

@@ -1,25 +1,30 @@
 //! What is asked behind all parts of a row whose parts are typed in order: its type, with the demands between its parts.
 #![tactic(auto, using(typing_state::proofs::Going::goes_trans, typing_state::proofs::Going::goes_refl, typing_state::proofs::Following::follows_both, typing_state::proofs::Following::follows_before, typing_state::proofs::Following::follows_behind, typing_state::proofs::Following::follows_none, typing_state::proofs::Following::follows_silent, typing_state::proofs::Following::store_silent, typing_state::proofs::Following::silent_refl, typing_state::proofs::Following::silent_trans, typing_state::proofs::Following::ends_both, typing_state::proofs::Following::ends_behind, typing_state::proofs::Following::ends_before, typing_state::proofs::Following::ends_silent, typing_state::proofs::Following::gets_start, typing_state::proofs::Following::gets_more, typing_state::proofs::Following::gets_before, typing_state::proofs::Following::gets_done, crate::proofs::ExpressionLaws::types_no_record, crate::proofs::ExpressionLaws::token_no_record), unfolding(syntax_tree::specs::Names::row_of))]
 
-ghost use Rattle.std.specs.Prelude.{map, IfOk, OnOk};
-ghost use Rattle.tree_model.specs.Rows.{elist_row, econs_row, eif_row};
+ghost use Rattle.std.specs.Prelude.{◌≡◌, ◌++◌, Some, None, false, map, IfOk, OnOk};
+ghost use Rattle.std.specs.Option.{IfSome};
+ghost use Rattle.tree_model.specs.Rows.{field_row, elist_row, econs_row, eif_row};
 ghost use Rattle.type_nodes.specs.Views.{numbers};
 ghost use Rattle.operand_laws.specs.Operands.{path_of};
 ghost use Rattle.typing_rows.specs.Asked.{expressions_of, IsPlainRow, IsOrderedRow, end_of, field_ends, ordered_end};
 ghost use Rattle.typing_rows.specs.Contracts.{EndsRow, AsksAt, AsksLater};
+ghost use Rattle.typing_rows.specs.Fields.{AsksSettable, EndsSettable};
+ghost use Rattle.typing_steps.specs.Typing.{path_as};
 ghost use Rattle.syntax_tree.specs.Names.{row_of};
 ghost use Rattle.syntax_tree.specs.View.{node_view};
-ghost use Rattle.row_parts.specs.Numbered.{operand_view, path_in};
+ghost use Rattle.row_parts.specs.Numbered.{operand_view, path_in, path_view};
+ghost use Rattle.env_table.specs.declared.faults.FaultKind.{FaultKind};
 ghost use Rattle.typing_state.specs.Goes.{Goes};
 ghost use Rattle.typing_state.specs.Steps.{each, Follows};
+ghost use Rattle.use_typing.specs.UseSteps.{asks_token};
 ghost use Rattle.pattern_steps.specs.PatternSteps.{later};
-ghost use Rattle.expression_steps.specs.ExpressionSteps.{asked_behind, asked_branch, behind_parts, expression_at, has_type, label_steps, part_at, row_at};
+ghost use Rattle.expression_steps.specs.ExpressionSteps.{asked_behind, asked_branch, behind_parts, expression_at, has_type, is_field_at, label_steps, part_at, row_at};
 
 use crate::values::is_false;
-use row_parts::{Operand, written_path};
+use row_parts::{Operand, WrittenPath, written_path};
 use syntax_tree::{Node, RowName};
 use typing_state::{Env, NoMemory, NodeRef, Parts};
-use use_typing::{Names, Used, field_label, type_or_var};
+use use_typing::{Used, field_label, type_or_var, unnamed};
 
 /// What is asked behind all parts of a row: its type and its names.
 pub fn behind_parts(
@@ -27,7 +32,6 @@ pub fn behind_parts(
     node: &Node,
     parts: &[Operand<'_>],
     types: &[NodeRef],
-    names: Names,
     env: &Env,
 ) -> Result<Used, NoMemory>
     ensures carries { IfOk result (λ u. IsOrderedRow (row_at (node_view node.now)) → EndsRow at.old at.new env.now (ordered_end (row_at (node_view node.now)) (node_view node.now) (expressions_of at.old.item (map operand_view parts.now))) (expressions_of at.old.item (map operand_view parts.now)) (numbers types.now) u.ty.0) }
@@ -38,7 +42,7 @@ pub fn behind_parts(
         RowName::Field => field(at, node, parts, types, env),
         _ => {
             let ty = type_of(at, node.row, parts, types, env)?;
-            Ok(Used { ty, names })
+            Ok(unnamed(at, ty))
         }
     }
 }
@@ -64,13 +68,12 @@ fn type_of(
         RowName::Econs => cons(at, parts, types, env),
         RowName::Etuple => at.tuple(types),
         RowName::Eseq => type_or_var(at, types.last().copied()),
-        RowName::Eset => set(at, parts, types, env),
         RowName::Eif => branches(at, parts, types, env),
         RowName::Eassert => match parts.first() {
             Some(part) if is_false(*part) => at.var(),
             _ => Ok(at.constants.unit),
         },
-        RowName::Ewhile | RowName::Efor => Ok(at.constants.unit),
+        RowName::Ewhile => Ok(at.constants.unit),
         _ => at.var(),
     }
 }
@@ -175,22 +178,6 @@ fn branches(
     }
 }
 
-/// e . l <- e: the right part is the field
-fn set(
-    at: &mut Parts,
-    parts: &[Operand<'_>],
-    types: &[NodeRef],
-    env: &Env,
-) -> Result<NodeRef, NoMemory>
-    ensures follows { OnOk result (Follows (each has_type (part_at 1 (map expression_at (map operand_view parts.now)))) at.old at.new) }
-    ensures goes { Goes at.old at.new }
-{
-    if let Some(ty) = types.first() {
-        has(at, parts, types, 1, *ty, env)?;
-    }
-    Ok(at.constants.unit)
-}
-
 /// e . l: `bound` of the label; the left part is the record; the field
 fn field(
     at: &mut Parts,
@@ -217,5 +204,65 @@ fn field(
             ty: at.var()?,
             names,
         }),
+    }
+}
+
+/// The end of a field that is set: as of any field, and then `mutable` of its label.
+pub fn settable(
+    at: &mut Parts,
+    node: &Node,
+    parts: &[Operand<'_>],
+    types: &[NodeRef],
+    env: &Env,
+) -> Result<Used, NoMemory>
+    ensures carries { IfOk result (λ u. EndsSettable at.old at.new env.now (path_of (path_in (node_view node.now) 2 3)) (expressions_of at.old.item (map operand_view parts.now)) (numbers types.now) u.ty.0) }
+    ensures follows { OnOk result (Follows (label_steps (path_in (node_view node.now) 2 3) (map expression_at (map operand_view parts.now)) ++ asks_token FaultKind.Mutable (path_in (node_view node.now) 2 3).last) at.old at.new) }
+    ensures goes { Goes at.old at.new }
+{
+    let path = written_path(at.alloc(), node, 2, 3)?;
+    let (found, names) = field_label(at, env, &path)?;
+    match found {
+        Some(used) => {
+            has(at, parts, types, 0, used.record, env)?;
+            ask_settable(at, &path, used.is_mutable)?;
+            Ok(Used {
+                ty: used.field,
+                names,
+            })
+        }
+        None => Ok(Used {
+            ty: at.var()?,
+            names,
+        }),
+    }
+}
+
+/// The demand that a label is mutable.
+fn ask_settable(at: &mut Parts, path: &WrittenPath<'_>, is_mutable: bool) -> Result<(), NoMemory>
+    ensures carries { OnOk result (AsksSettable at.old at.new (path_as (path_view path.now)) is_mutable) }
+    ensures follows { OnOk result (Follows (asks_token FaultKind.Mutable (path_view path.now).last) at.old at.new) }
+    ensures goes { Goes at.old at.new }
+{
+    let Some(last) = path.last else {
+        return Ok(());
+    };
+    if is_mutable {
+        return Ok(());
+    }
+    at.not_mutable(last.span, last.name.as_str())
+}
+
+/// The node of an operand that is a field.
+#[tactic(auto, unfolding(syntax_tree::specs::Names::row_of))]
+pub fn field_node<'a>(e: Operand<'a>) -> Option<&'a Node>
+    ensures some { IfSome result (λ nd. (e.entry.node ≡ Some nd) × (row_at (node_view nd.now) ≡ field_row)) }
+    ensures none { result ≡ None → is_field_at (operand_view e.entry).part ≡ false }
+{
+    let Some(node) = e.node else {
+        return None;
+    };
+    match node.row {
+        RowName::Field => Some(node),
+        _ => None,
     }
 }

@@ -26,6 +26,10 @@ pub enum RowForm {
     /// `fun`.
     Function,
     Parenthesised,
+    /// A field that is set.
+    Set,
+    /// `for`.
+    Loop,
     /// Parts in order, with demands between and behind them.
     Plain,
 }
@@ -47,6 +51,8 @@ pub fn form_of(row: RowName) -> RowForm
         RowName::Efunction => RowForm::Cases,
         RowName::Efun => RowForm::Function,
         RowName::Eparen => RowForm::Parenthesised,
+        RowName::Eset => RowForm::Set,
+        RowName::Efor => RowForm::Loop,
         _ => RowForm::Plain,
     }
 }

@@ -1,57 +1,73 @@
-//! What is asked of a part of a row as soon as it is typed, and the environment of the parts.
+//! What is asked of a part of a row as soon as it is typed, and the environment of the body of a loop.
 #![tactic(auto, using(typing_state::proofs::Going::goes_trans, typing_state::proofs::Going::goes_refl, typing_state::proofs::Following::follows_both, typing_state::proofs::Following::follows_before, typing_state::proofs::Following::follows_behind, typing_state::proofs::Following::follows_none, typing_state::proofs::Following::follows_silent, typing_state::proofs::Following::store_silent, typing_state::proofs::Following::silent_refl, typing_state::proofs::Following::silent_trans, typing_state::proofs::Following::ends_both, typing_state::proofs::Following::ends_behind, typing_state::proofs::Following::ends_before, typing_state::proofs::Following::ends_silent, typing_state::proofs::Following::gets_start, typing_state::proofs::Following::gets_more, typing_state::proofs::Following::gets_before, typing_state::proofs::Following::gets_done, crate::proofs::ExpressionLaws::types_no_record, crate::proofs::ExpressionLaws::token_no_record), unfolding(syntax_tree::specs::Names::row_of))]
 
-ghost use Rattle.std.specs.Prelude.{◌≡◌, ◌==◌, ◌&&◌, IfOk, OnOk};
+ghost use Rattle.std.specs.Prelude.{◌≡◌, ◌==◌, ◌&&◌, option_map, Some, IfOk, OnOk};
 ghost use Rattle.operand_laws.specs.Operands.{expression_of};
-ghost use Rattle.typing_rows.specs.Asked.{IsOrderedRow, wants_bool};
+ghost use Rattle.typing_conditions.specs.Surroundings.{IsEntry};
+ghost use Rattle.typing_rows.specs.Asked.{wants_bool};
 ghost use Rattle.typing_rows.specs.Contracts.{AsksBehind, AsksBool};
+ghost use Rattle.typing_rows.specs.Loops.{IsLoopScope};
 ghost use Rattle.expression_steps.specs.Operators.{is_false_at};
 ghost use Rattle.syntax_tree.specs.Names.{row_of};
-ghost use Rattle.syntax_tree.specs.View.{node_view};
-ghost use Rattle.row_parts.specs.Numbered.{operand_view, path_view};
-ghost use Rattle.env_table.specs.declared.faults.FaultKind.{FaultKind};
+ghost use Rattle.syntax_tree.specs.View.{node_view, tok_of};
+ghost use Rattle.row_parts.specs.Numbered.{operand_view, token_in};
 ghost use Rattle.typing_state.specs.Goes.{Goes};
 ghost use Rattle.typing_state.specs.Steps.{Follows};
-ghost use Rattle.use_typing.specs.UseSteps.{asks_equal, asks_token};
-ghost use Rattle.expression_steps.specs.ExpressionSteps.{behind_part_steps, expression_at, row_at, set_label_at};
+ghost use Rattle.use_typing.specs.UseSteps.{asks_equal};
+ghost use Rattle.expression_steps.specs.ExpressionSteps.{behind_part_steps, expression_at};
 
 use crate::values::is_false;
-use env_table::{Found, Kind, What};
-use row_parts::{Operand, WrittenPath, token, written_path};
+use env_table::{Entry, Kind, What};
+use owned_lists::owned;
+use row_parts::{Operand, token};
+use std::rc::Rc;
 use syntax_tree::{Node, RowName, Token};
-use typing_state::{Env, NoMemory, NodeRef, Parts, new_entry, path_of};
-use use_typing::{Names, label_of};
+use typing_state::{Env, NoMemory, NodeRef, Parts};
+use use_typing::Names;
 
-/// The environment of the third part of a row, and what the row's own names stand for.
+/// The environment of the body of a loop, and what the loop's own name stands for.
 #[derive(Drop)]
 pub struct Scope {
     pub env: Env,
     pub names: Names,
 }
 
-/// In the body of a `for` its variable stands; elsewhere all parts have the environment of the row.
-pub fn last_scope(at: &Parts, node: &Node, env: &Env) -> Result<Scope, NoMemory>
-    ensures { IfOk result (λ s. IsOrderedRow (row_at (node_view node.now)) → s.env ≡ env.now) }
+/// In the body of a `for` its variable stands, an int, where its name is there.
+pub fn loop_scope(at: &Parts, node: &Node, env: &Env) -> Result<Scope, NoMemory>
+    ensures { IfOk result (λ s. IsLoopScope at.now.constants.int (token_in (node_view node.now) 1) env.now s.env) }
 {
-    match (node.row, token(node, 1)) {
-        (RowName::Efor, Some(name)) => scope_in_loop(at, name, env),
-        _ => Ok(Scope {
+    match token(node, 1) {
+        Some(name) => scope_of_name(at, name, env),
+        None => Ok(Scope {
             env: env.share()?,
             names: Vec::new(at.alloc()),
         }),
     }
 }
 
-/// The environment with the variable of a `for`, an int.
-fn scope_in_loop(at: &Parts, name: &Token, env: &Env) -> Result<Scope, NoMemory> {
-    let what = What::Scheme(at.constants.int);
-    let place = at.place(name.span);
-    let entry = new_entry(at.alloc(), name.name.share()?, Kind::Value, place, what)?;
+/// The environment with the variable of a `for`.
+fn scope_of_name(at: &Parts, name: &Token, env: &Env) -> Result<Scope, NoMemory>
+    ensures { IfOk result (λ s. IsLoopScope at.now.constants.int (Some (tok_of name.now)) env.now s.env) }
+{
+    let entry = loop_entry(at, name)?;
     let names = at.one_name(Some(&entry))?;
     Ok(Scope {
         env: env.add(at.alloc(), entry)?,
         names,
     })
+}
+
+/// The entry of the variable of a `for`, an int.
+fn loop_entry(at: &Parts, name: &Token) -> Result<Rc<Entry>, NoMemory>
+    ensures { IfOk result (λ e. IsEntry e.value (tok_of name.now).name at.now.constants.int) }
+{
+    let entry = Entry {
+        name: name.name.share()?,
+        kind: Kind::Value,
+        place: at.place(name.span),
+        what: What::Scheme(at.constants.int),
+    };
+    owned(at.alloc(), entry)
 }
 
 /// What is asked of a part of a row as soon as it is typed, by its place among the parts.
@@ -63,18 +79,14 @@ pub fn behind_part(
     ty: NodeRef,
     env: &Env,
 ) -> Result<(), NoMemory>
-    ensures carries { OnOk result (IsOrderedRow (row_of row) → AsksBehind at.old at.new env.now (row_of row) place (expression_of at.old.item (operand_view part.entry)) ty.0) }
+    ensures carries { OnOk result (AsksBehind at.old at.new env.now (row_of row) place (expression_of at.old.item (operand_view part.entry)) ty.0) }
     ensures follows { OnOk result (Follows (behind_part_steps (row_of row) place (expression_at (operand_view part.entry))) at.old at.new) }
     ensures goes { Goes at.old at.new }
 {
     if is_condition(row, place, part) {
         return ask_bool(at, part, ty, env);
     }
-    match (row, place) {
-        (RowName::Efor, 0 | 1) => ask_int(at, part, ty, env),
-        (RowName::Eset, 0) => ask_mutable(at, part, env),
-        _ => Ok(()),
-    }
+    Ok(())
 }
 
 /// Whether the part of a row at a place is a bool.
@@ -105,55 +117,4 @@ fn ask_bool(at: &mut Parts, part: Operand<'_>, ty: NodeRef, env: &Env) -> Result
     let bool = at.constants.bool;
     at.equal(part.span, ty, bool, env)?;
     Ok(())
-}
-
-/// The demand that a part is an int.
-fn ask_int(at: &mut Parts, part: Operand<'_>, ty: NodeRef, env: &Env) -> Result<(), NoMemory>
-    ensures follows { OnOk result (Follows (asks_equal (operand_view part.entry)) at.old at.new) }
-    ensures goes { Goes at.old at.new }
-{
-    let int = at.constants.int;
-    at.equal(part.span, ty, int, env)?;
-    Ok(())
-}
-
-/// `mutable` of the label of a field that is set, where it is found.
-fn ask_mutable(at: &mut Parts, field: Operand<'_>, env: &Env) -> Result<(), NoMemory>
-    ensures follows { OnOk result (Follows (asks_token FaultKind.Mutable (set_label_at (operand_view field.entry).part)) at.old at.new) }
-    ensures goes { Goes at.old at.new }
-{
-    let Some(node) = field.node else {
-        return Ok(());
-    };
-    if node.row != RowName::Field {
-        return Ok(());
-    }
-    let path = written_path(at.alloc(), node, 2, 3)?;
-    ask_mutable_label(at, &path, env)
-}
-
-/// The same by the label's path.
-fn ask_mutable_label(at: &mut Parts, path: &WrittenPath<'_>, env: &Env) -> Result<(), NoMemory>
-    ensures follows { OnOk result (Follows (asks_token FaultKind.Mutable (path_view path.now).last) at.old at.new) }
-    ensures goes { Goes at.old at.new }
-{
-    let Some(last) = path.last else {
-        return Ok(());
-    };
-    if is_fixed(at, env, path, last)? {
-        return at.not_mutable(last.span, last.name.as_str());
-    }
-    Ok(())
-}
-
-/// Whether a path finds a label that isn't mutable.
-fn is_fixed(at: &Parts, env: &Env, path: &WrittenPath<'_>, last: &Token) -> Result<bool, NoMemory> {
-    let path = path_of(at.alloc(), path, last)?;
-    match env.lookup(&path, Kind::Label) {
-        Found::Entry(entry) => match label_of(entry) {
-            Some(label) => Ok(!label.is_mutable),
-            None => Ok(false),
-        },
-        _ => Ok(false),
-    }
 }

@@ -24,7 +24,7 @@ use Rattle.typing_rows.specs.Asked.{has_if, label_ends, field_ends}
 use Rattle.typing_rows.specs.Contracts.{AsksAt, EndsRow}
 
 -- what is asked where a label of these types is found
-found_ends : (c : Context) (n : ℕ) (es : List Expression) (o : Option (Declaration × Label)) (owner body : Typ) {mutable : Bool} → IsLabelOf owner body mutable o →
+pub found_ends : (c : Context) (n : ℕ) (es : List Expression) (o : Option (Declaration × Label)) (owner body : Typ) {mutable : Bool} → IsLabelOf owner body mutable o →
     label_ends c n es o ≡ has_if c n 1 (slice_get es 0) (used_by n owner c.chosen) ++ is_of c n (used_by n body c.chosen)
 found_ends c n es o owner body h =
     ap (label_ends c n es) h.is ∙ ap (λ t. has_if c n 1 (slice_get es 0) (used_at c n t) ++ is_of c n (used_at c n h.label.body)) h.owned ∙

@@ -9,4 +9,6 @@ pub mod Own
 pub mod Applied
 pub mod Constructed
 pub mod Fielded
+pub mod Setting
+pub mod Looped
 pub mod Valued

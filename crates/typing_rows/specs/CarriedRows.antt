@@ -2,7 +2,7 @@
 use Rattle.std.specs.Prelude.{◌≡◌, Bool, true, false, ◌||◌, codes, Option, Some, None}
 use Rattle.std.specs.Str.{bytes_eq}
 use Rattle.token_model.specs.Kinds.{Tok, Kind, upper}
-use Rattle.tree_model.specs.Rows.{Row, name_row, econ_row, epath_row, econst_row, hole_row, eparen_row, ebegin_row, elist_row, prefix_row, field_row, eapp_row, eassert_row, ewhile_row, eneg_row, infix_row, econs_row, etuple_row, eif_row, eseq_row}
+use Rattle.tree_model.specs.Rows.{Row, name_row, econ_row, epath_row, econst_row, hole_row, eparen_row, ebegin_row, elist_row, prefix_row, field_row, eapp_row, eassert_row, ewhile_row, efor_row, eneg_row, infix_row, econs_row, etuple_row, eset_row, eif_row, eseq_row}
 use Rattle.tree_model.specs.Trees.{Tree, Forest, Part, node, no_parts, part, taken, inner, missing}
 use Rattle.row_parts.specs.Numbered.{Numbered, token_in}
 use Rattle.operand_laws.specs.Formed.{is_in, IsOperandFormed}
@@ -22,7 +22,7 @@ abbrev pub is_sign : Option Tok → Bool
 is_sign None = true
 is_sign (Some t) = bytes_eq t.name (codes "-") || bytes_eq t.name (codes "-.")
 
--- rows without binders, type expressions, records, and fields that are set
+-- rows without patterns, bindings, type expressions and records
 abbrev pub IsCarriedRow : Row → Tree → Forest → Type 0
 IsCarriedRow name_row t ps = Unit {0}  -- x
 IsCarriedRow econ_row t ps = Unit {0}  -- A
@@ -37,10 +37,12 @@ IsCarriedRow field_row t ps = Unit {0}  -- e . l
 IsCarriedRow eapp_row t ps = Unit {0}  -- e e e, A e
 IsCarriedRow eassert_row t ps = Unit {0}  -- assert e
 IsCarriedRow ewhile_row t ps = Unit {0}  -- while e do e done
+IsCarriedRow efor_row t ps = Unit {0}  -- for x = e to e do e done
 IsCarriedRow eneg_row t ps = is_sign (token_in t 0) ≡ true  -- - e
 IsCarriedRow infix_row t ps = Unit {0}  -- e + e
 IsCarriedRow econs_row t ps = Unit {0}  -- e :: e
 IsCarriedRow etuple_row t ps = Unit {0}  -- e, e
+IsCarriedRow eset_row t ps = Unit {0}  -- e . l <- e
 IsCarriedRow eif_row t ps = Unit {0}  -- if e then e else e
 IsCarriedRow eseq_row t ps = Unit {0}  -- e; e
 IsCarriedRow _ t ps = ⊥

@@ -2,4 +2,6 @@
 pub mod CarriedRows
 pub mod Asked
 pub mod Contracts
+pub mod Fields
+pub mod Loops
 pub mod Valued

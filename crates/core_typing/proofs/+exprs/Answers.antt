@@ -38,10 +38,19 @@ use Rattle.typing_rows.proofs.Given.{types_argument, given_none, given_all, each
 use Rattle.typing_rows.proofs.Ordered.{part_typed, parts_none, parts_all}
 use Rattle.typing_rows.proofs.Typed.{applied_typed, operated_typed, signed_row}
 use Rattle.typing_steps.proofs.Rows.{equal_asks}
+use Rattle.expression_steps.proofs.SettingLaws.{set_row, for_row, part_set, part_unset, set_part_there, set_part_else, field_set, set_field_follows}
+use Rattle.tree_model.specs.Rows.{field_row}
+use Rattle.syntax_tree.specs.declared.rows.RowName.TheVariants as name
+use Rattle.expression_steps.proofs.EndingLaws.{is_field}
+use Rattle.operand_laws.specs.Operands.{path_of}
+use Rattle.row_parts.specs.Numbered.{path_in, token_in}
+use Rattle.typing_steps.proofs.Recording.{type_noted}
+use Rattle.typing_rows.specs.Fields.{EndsSettable}
+use Rattle.use_typing.specs.UseSteps.{asks_token}
+use Rattle.expression_steps.specs.ExpressionSteps.{all_expressions, label_steps, set_part_steps}
 use Rattle.expression_steps.proofs.CarryingLaws.{if_ok, if_any, both_ok, usual_by, by_operation, form_there, paren_row, plain_row, operation_row, operation_missing, minus_float, minus_operation, application_row, construction_row, first_carried, later_carried, head_row, known_later, unknown_later, typed_as_if as typed_where_wanted, constructed_row, argument_typed, each_step, given_step, parts_step}
 use Rattle.std.specs.Option.{IfSome}
 use Rattle.expression_steps.specs.Operators.{sign_in, IsSignOf}
-use Rattle.core_typing.proofs.+exprs.Goals.{plain::type_parts-then-place-eq2, plain::type_parts-else-place-eq2}
 use Rattle.expression_steps.specs.declared.forms.RowForm.TheVariants as form
 use Rattle.env_table.specs.declared.faults.FaultKind.TheVariants as fault
 use Rattle.core_typing.proofs.+exprs.Goals as goal
@@ -171,7 +180,7 @@ plain::type_parts-loop-part-preserved t c =
       gets = gets_more (parts_from r 0 (map expression_at (map operand_view all))) (part_steps r i (expression_at (operand_view x))) (parts_from r (i + 1) (map expression_at (map operand_view (drop (i + 1) all)))) c.args.at.now c.loop-part.at c.type_part.new.at
           (subst (λ os. GetsOn c.args.at.now c.loop-part.at (parts_from r 0 (map expression_at (map operand_view all))) (parts_from r i (map expression_at (map operand_view os)))) (drop_read all i x lt c.part-item.is) c.loop-part.invariant.gets)
           c.type_part.ensures.goes one;
-      carries = parts_step c.args.at.now c.loop-part.at c.type_part.new.at c.args.env.now c.args.inner.now (row_of c.args.row) all i c.len-place.result c.part-item.result c.loop-part.types.items c.push.new.list.items c.in_ok-ty.ty lt c.part-item.is place c.in_ok-push.ensures.pushed c.loop-part.invariant.goes c.loop-part.invariant.carries (λ plain same carried. c.in_ok-ty.ensures.carries plain (elim c.if-place-eq2.branch [ plain::type_parts-then-place-eq2 w ↦ ap (λ b. b.now) w.scope-is ∙ same | plain::type_parts-else-place-eq2 w ↦ ap (λ b. b.now) w.scope-is ]) carried);
+      carries = parts_step c.args.at.now c.loop-part.at c.type_part.new.at c.args.env.now (row_of c.args.row) all i c.len-place.result c.part-item.result c.loop-part.types.items c.push.new.list.items c.in_ok-ty.ty lt c.part-item.is place c.in_ok-push.ensures.pushed c.loop-part.invariant.goes c.loop-part.invariant.carries c.in_ok-ty.ensures.carries;
     }
 
 pub cases::type_each_case-loop-case-preserved : goal.cases::type_each_case-loop-case-preserved
@@ -422,15 +431,15 @@ pub plain::type_parts-loop-part-init : goal.plain::type_parts-loop-part-init
 plain::type_parts-loop-part-init t c = record {
   goes = goes_refl c.args.at.now;
   places = ap length c.new-types.ensures.items;
-  carries = λ plain same all. parts_none c.args.at.now c.args.env.now (row_of c.args.row) (expressions_of c.args.at.now.item (map operand_view c.args.parts.now)) (numbers c.new-types.result.items) (ap numbers c.new-types.ensures.items);
+  carries = λ all. parts_none c.args.at.now c.args.env.now (row_of c.args.row) (expressions_of c.args.at.now.item (map operand_view c.args.parts.now)) (numbers c.new-types.result.items) (ap numbers c.new-types.ensures.items);
   gets = gets_start (parts_from (row_of c.args.row) 0 (map expression_at (map operand_view c.args.parts.now))) c.args.at.now;
 }
 
 pub plain::type_parts-returns-clause-carries : goal.plain::type_parts-returns-clause-carries
-plain::type_parts-returns-clause-carries t c = λ plain same all.
+plain::type_parts-returns-clause-carries t c = λ all.
     let view : List Operand → List Expression = λ os. expressions_of c.args.at.now.item (map operand_view os) in
     parts_all c.args.at.now c.loop-part.at c.args.env.now (row_of c.args.row) c.loop-part.part-index (view c.args.parts.now) (view (drop c.loop-part.part-index c.args.parts.now)) (numbers c.loop-part.types.items)
-    (ap view (drop_all c.loop-part.part-index c.args.parts.now c.loop-part-test.false)) (c.loop-part.invariant.carries plain same all)
+    (ap view (drop_all c.loop-part.part-index c.args.parts.now c.loop-part-test.false)) (c.loop-part.invariant.carries all)
 
 pub exprs::type_under-returns-in_default-clause-carries : goal.exprs::type_under-returns-in_default-clause-carries
 exprs::type_under-returns-in_default-clause-carries t c = λ carried.
@@ -461,11 +470,11 @@ apply::applied-returns-clause-carries t c = λ carried all n.
     (c.in_ok-ty.ensures.carries carried) c.type_under.ensures.goes (c.in_ok-ty-2.ensures.carries all))
 
 pub plain::type_part-returns-clause-carries : goal.plain::type_part-returns-clause-carries
-plain::type_part-returns-clause-carries t c = λ plain same carried.
+plain::type_part-returns-clause-carries t c = λ carried.
     let o = operand_view c.args.part in
     part_typed c.args.at.now c.type_under.new.at c.behind_part.new.at c.args.env.now (row_of c.args.row) c.args.place (expression_of c.args.at.now.item o) c.in_ok-ty.ty.0
-    (subst (λ env. TypesTo c.args.at.now c.type_under.new.at env (λ k. (expression_of c.args.at.now.item o).typed k) (λ ch. ch.type_at (expression_of c.args.at.now.item o).node) c.in_ok-ty.ty.0) same (c.in_ok-ty.ensures.carries carried)) c.type_under.ensures.goes
-    (subst (λ i. AsksBehind c.type_under.new.at c.behind_part.new.at c.args.env.now (row_of c.args.row) c.args.place (expression_of i o) c.in_ok-ty.ty.0) c.type_under.ensures.goes.item (c.in_ok-behind_part.ensures.carries plain))
+    (c.in_ok-ty.ensures.carries carried) c.type_under.ensures.goes
+    (subst (λ i. AsksBehind c.type_under.new.at c.behind_part.new.at c.args.env.now (row_of c.args.row) c.args.place (expression_of i o) c.in_ok-ty.ty.0) c.type_under.ensures.goes.item c.in_ok-behind_part.ensures.carries)
 
 pub apply::application-returns-in-Some-clause-carries : goal.apply::application-returns-in-Some-clause-carries
 apply::application-returns-in-Some-clause-carries t c =
@@ -544,8 +553,8 @@ plain::plain-returns-clause-carries t c =
     let os = c.in_ok-parts.parts.items in
     if_ok c.behind_parts.result _ _ (λ u h place carried is.
     plain_row c.args.at.now c.type_parts.new.at c.behind_parts.new.at c.args.env.now c.args.number place tree (row_of (out-Node nd).row) os (numbers c.in_ok-types.types.items) u.ty.0 carried is (row_of_node nd) c.in_ok-parts.ensures
-    (λ plain all. subst (λ qs. TypesParts c.args.at.now c.type_parts.new.at c.args.env.now (row_of (out-Node nd).row) (expressions_of c.args.at.now.item (map operand_view qs)) (numbers c.in_ok-types.types.items)) c.deref.ensures.value
-    (c.in_ok-types.ensures.carries plain (c.in_ok-scope.ensures (subst IsOrderedRow (sym (row_of_node nd)) plain)) (subst (λ qs. All IsCarried (map operand_view qs)) (sym c.deref.ensures.value) all))) c.type_parts.ensures.goes
+    (λ all. subst (λ qs. TypesParts c.args.at.now c.type_parts.new.at c.args.env.now (row_of (out-Node nd).row) (expressions_of c.args.at.now.item (map operand_view qs)) (numbers c.in_ok-types.types.items)) c.deref.ensures.value
+    (c.in_ok-types.ensures.carries (subst (λ qs. All IsCarried (map operand_view qs)) (sym c.deref.ensures.value) all))) c.type_parts.ensures.goes
     (subst (λ qs. IsOrderedRow (row_at tree) → EndsRow c.type_parts.new.at c.behind_parts.new.at c.args.env.now (ordered_end (row_at tree) tree (expressions_of c.type_parts.new.at.item (map operand_view qs))) (expressions_of c.type_parts.new.at.item (map operand_view qs)) (numbers c.in_ok-types.types.items) u.ty.0) c.deref-2.ensures.value
     (subst (λ ms. IsOrderedRow (row_at tree) → EndsRow c.type_parts.new.at c.behind_parts.new.at c.args.env.now (ordered_end (row_at tree) tree (expressions_of c.type_parts.new.at.item (map operand_view c.deref-2.result.now))) (expressions_of c.type_parts.new.at.item (map operand_view c.deref-2.result.now)) (numbers ms) u.ty.0) c.deref-3.ensures.value h)))
     c.behind_parts.ensures.carries
@@ -588,6 +597,98 @@ exprs::typed_row-returns-in-Parenthesised-clause-carries t c =
     let is : form_of (row_at tree) ≡ form.Parenthesised = ap form_of (row_of_node c.args.node.now) ∙ sym c.form_of.ensures ∙ c.in-Parenthesised.is in
     if_ok c.parenthesised.result _ _ (λ u h place carried.
     signed_row c.args.at.now c.parenthesised.new.at c.args.env.now c.args.at.now.item c.args.number place tree (is_negated c.args.sign) u.ty.0 (usual_by c.args.number place tree form.Parenthesised carried is tt) (h place carried is)) c.parenthesised.ensures.carries
+
+pub exprs::typed_row-returns-in-Set-clause-carries : goal.exprs::typed_row-returns-in-Set-clause-carries
+exprs::typed_row-returns-in-Set-clause-carries t c =
+    let tree = node_view c.args.node.now in
+    let is : form_of (row_at tree) ≡ form.Set = ap form_of (row_of_node c.args.node.now) ∙ sym c.form_of.ensures ∙ c.in-Set.is in
+    if_ok c.set.result _ _ (λ u h place carried.
+    signed_row c.args.at.now c.set.new.at c.args.env.now c.args.at.now.item c.args.number place tree (is_negated c.args.sign) u.ty.0 (usual_by c.args.number place tree form.Set carried is tt) (h place carried is)) c.set.ensures.carries
+
+pub exprs::typed_row-returns-in-Loop-clause-carries : goal.exprs::typed_row-returns-in-Loop-clause-carries
+exprs::typed_row-returns-in-Loop-clause-carries t c =
+    let tree = node_view c.args.node.now in
+    let is : form_of (row_at tree) ≡ form.Loop = ap form_of (row_of_node c.args.node.now) ∙ sym c.form_of.ensures ∙ c.in-Loop.is in
+    if_ok c.for_loop.result _ _ (λ u h place carried.
+    signed_row c.args.at.now c.for_loop.new.at c.args.env.now c.args.at.now.item c.args.number place tree (is_negated c.args.sign) u.ty.0 (usual_by c.args.number place tree form.Loop carried is tt) (h place carried is)) c.for_loop.ensures.carries
+
+pub fields::set-returns-clause-carries : goal.fields::set-returns-clause-carries
+fields::set-returns-clause-carries t c = λ place carried is.
+    set_row c.args.at.now c.set_part.new.at c.typed_as.new.at c.args.env.now c.args.number place (node_view c.args.node.now) c.operand_in-left.result c.operand_in-right.result c.in_ok-ty.ty.0 c.unnamed.result.ty carried is c.operand_in-left.ensures c.operand_in-right.ensures
+    c.in_ok-ty.ensures.carries c.set_part.ensures.goes c.in_ok-typed_as.ensures.carries c.unnamed.ensures.ty
+
+pub fields::set-returns-clause-follows : goal.fields::set-returns-clause-follows
+fields::set-returns-clause-follows t c =
+    let n = c.args.number in
+    let tree = node_view c.args.node.now in
+    follows_both (set_part_steps (expression_at (filled_in n tree 0))) (typed_as (expression_at (filled_in n tree 2))) c.args.at.now c.set_part.new.at c.typed_as.new.at
+    (subst (λ o. Follows (set_part_steps (expression_at o)) c.args.at.now c.set_part.new.at) c.operand_in-left.ensures c.in_ok-ty.ensures.follows) c.typed_as.ensures.goes
+    (subst (λ o. Follows (typed_as (expression_at o)) c.set_part.new.at c.typed_as.new.at) c.operand_in-right.ensures c.in_ok-typed_as.ensures.follows)
+
+pub fields::set_part-returns-in_ok-inside-in-Some-clause-carries : goal.fields::set_part-returns-in_ok-inside-in-Some-clause-carries
+fields::set_part-returns-in_ok-inside-in-Some-clause-carries t c =
+    let there = c.in-Some.node in
+    let some = subst (λ o. IfSome o (λ nd. (c.args.part.node ≡ Some nd) × (row_at (node_view nd.now) ≡ field_row))) c.in-Some.is c.field_node.ensures.some in
+    if_ok c.set_field.result _ _ (λ m h. part_set c.args.at.now c.set_field.new.at c.args.env.now c.args.part there m.0 some.0 some.1 h) c.set_field.ensures.carries
+
+pub fields::set_part-returns-in_ok-inside-in-Some-clause-follows : goal.fields::set_part-returns-in_ok-inside-in-Some-clause-follows
+fields::set_part-returns-in_ok-inside-in-Some-clause-follows t c =
+    let there = c.in-Some.node in
+    let some = subst (λ o. IfSome o (λ nd. (c.args.part.node ≡ Some nd) × (row_at (node_view nd.now) ≡ field_row))) c.in-Some.is c.field_node.ensures.some in
+    same_follows c.set_field.result _ _ _ _ (set_part_there c.args.part there some.0 some.1) c.set_field.ensures.follows
+
+pub fields::set_part-returns-in_ok-inside-in-None-clause-carries : goal.fields::set_part-returns-in_ok-inside-in-None-clause-carries
+fields::set_part-returns-in_ok-inside-in-None-clause-carries t c =
+    if_ok c.type_under.result _ _ (λ m h carried. part_unset c.args.at.now c.type_under.new.at c.args.env.now (operand_view c.args.part) m.0 (c.field_node.ensures.none c.in-None.is) (h carried)) c.type_under.ensures.carries
+
+pub fields::set_part-returns-in_ok-inside-in-None-clause-follows : goal.fields::set_part-returns-in_ok-inside-in-None-clause-follows
+fields::set_part-returns-in_ok-inside-in-None-clause-follows t c =
+    same_follows c.type_under.result _ _ _ _ (set_part_else (operand_view c.args.part) (c.field_node.ensures.none c.in-None.is)) c.type_under.ensures.follows
+
+pub fields::set_field-returns-clause-carries : goal.fields::set_field-returns-clause-carries
+fields::set_field-returns-clause-carries t c = λ place carried row.
+    let tree = node_view c.args.node.now in
+    let a = c.args.at.now in
+    let b = c.type_parts.new.at in
+    let d = c.settable.new.at in
+    let env = c.args.env.now in
+    let ty = c.in_ok-used.used.ty in
+    field_set a b d c.note.new.self env c.args.number place tree c.in_ok-parts.parts.items (numbers c.in_ok-types.types.items) ty.0 carried row c.in_ok-parts.ensures
+    (λ all. subst (λ r. TypesParts a b env r (expressions_of a.item (map operand_view c.in_ok-parts.parts.items)) (numbers c.in_ok-types.types.items)) is_field
+    (subst (λ qs. TypesParts a b env (row_of name.Field) (expressions_of a.item (map operand_view qs)) (numbers c.in_ok-types.types.items)) c.deref.ensures.value
+    (c.in_ok-types.ensures.carries (subst (λ qs. All IsCarried (map operand_view qs)) (sym c.deref.ensures.value) all)))) c.type_parts.ensures.goes
+    (subst (λ qs. EndsSettable b d env (path_of (path_in tree 2 3)) (expressions_of b.item (map operand_view qs)) (numbers c.in_ok-types.types.items) ty.0) c.deref-2.ensures.value
+    (subst (λ ms. EndsSettable b d env (path_of (path_in tree 2 3)) (expressions_of b.item (map operand_view c.deref-2.result.now)) (numbers ms) ty.0) c.deref-3.ensures.value c.in_ok-used.ensures.carries)) c.settable.ensures.goes
+    (λ loud. type_noted d c.note.new.self c.args.number ty (record { env = env; ty = Some ty; names = c.in_ok-used.used.names }) refl loud c.in_ok-note.ensures.noted c.note.ensures.rest)
+
+pub fields::set_field-returns-clause-follows : goal.fields::set_field-returns-clause-follows
+fields::set_field-returns-clause-follows t c =
+    let n = c.args.number in
+    let tree = node_view c.args.node.now in
+    let es = all_expressions n tree in
+    let parts = subst (λ r. Follows (parts_from r 0 (map expression_at (map operand_view c.in_ok-parts.parts.items))) c.args.at.now c.type_parts.new.at) is_field
+    (subst (λ os. Follows (parts_from (row_of name.Field) 0 (map expression_at (map operand_view os))) c.args.at.now c.type_parts.new.at) c.deref.ensures.value c.in_ok-types.ensures.follows) in
+    let end = subst (λ os. Follows (label_steps (path_in tree 2 3) (map expression_at (map operand_view os)) ++ asks_token fault.Mutable (token_in tree 3)) c.type_parts.new.at c.settable.new.at) c.deref-2.ensures.value c.in_ok-used.ensures.follows in
+    set_field_follows (parts_from field_row 0 es) (label_steps (path_in tree 2 3) es) fault.Mutable (token_in tree 3) n c.args.at.now c.type_parts.new.at c.settable.new.at c.note.new.self
+    (subst (λ os. Follows (parts_from field_row 0 (map expression_at os)) c.args.at.now c.type_parts.new.at) c.in_ok-parts.ensures parts) c.settable.ensures.goes
+    (subst (λ os. Follows (label_steps (path_in tree 2 3) (map expression_at os) ++ asks_token fault.Mutable (token_in tree 3)) c.type_parts.new.at c.settable.new.at) c.in_ok-parts.ensures end) c.note.ensures.goes c.in_ok-note.ensures.follows
+
+pub loops::for_loop-returns-clause-carries : goal.loops::for_loop-returns-clause-carries
+loops::for_loop-returns-clause-carries t c = λ place carried is.
+    for_row c.args.at.now c.typed_as.new.at c.typed_as-2.new.at c.type_under.new.at c.args.env.now c.in_ok-scope.scope.env c.args.number place (node_view c.args.node.now) c.operand_in-first.result c.operand_in-last.result c.operand_in-body.result c.in_ok-type_under.field-0.0 carried is
+    c.operand_in-first.ensures c.operand_in-last.ensures c.operand_in-body.ensures c.in_ok-typed_as.ensures.carries c.typed_as.ensures.goes c.in_ok-typed_as-2.ensures.carries c.typed_as-2.ensures.goes c.in_ok-scope.ensures c.in_ok-type_under.ensures.carries
+
+pub loops::for_loop-returns-clause-follows : goal.loops::for_loop-returns-clause-follows
+loops::for_loop-returns-clause-follows t c =
+    let n = c.args.number in
+    let tree = node_view c.args.node.now in
+    let first = typed_as (expression_at (filled_in n tree 3)) in
+    let last = typed_as (expression_at (filled_in n tree 5)) in
+    follows_both (first ++ last) (expression_steps (filled_in n tree 7)) c.args.at.now c.typed_as-2.new.at c.type_under.new.at
+    (follows_both first last c.args.at.now c.typed_as.new.at c.typed_as-2.new.at
+    (subst (λ o. Follows (typed_as (expression_at o)) c.args.at.now c.typed_as.new.at) c.operand_in-first.ensures c.in_ok-typed_as.ensures.follows) c.typed_as-2.ensures.goes
+    (subst (λ o. Follows (typed_as (expression_at o)) c.typed_as.new.at c.typed_as-2.new.at) c.operand_in-last.ensures c.in_ok-typed_as-2.ensures.follows)) c.type_under.ensures.goes
+    (subst (λ o. Follows (expression_steps o) c.typed_as-2.new.at c.type_under.new.at) c.operand_in-body.ensures c.in_ok-type_under.ensures.follows)
 
 pub exprs::typed_row-returns-in-Plain-clause-carries : goal.exprs::typed_row-returns-in-Plain-clause-carries
 exprs::typed_row-returns-in-Plain-clause-carries t c =

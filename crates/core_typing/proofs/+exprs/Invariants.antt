@@ -11,7 +11,7 @@ use Rattle.std.specs.Prelude.{All}
 use Rattle.type_nodes.specs.Views.{numbers}
 use Rattle.use_typing.specs.Constants.{is_negated}
 use Rattle.typing_rows.specs.CarriedRows.{IsCarried}
-use Rattle.typing_rows.specs.Asked.{expressions_of, signed_expressions, IsOrderedRow}
+use Rattle.typing_rows.specs.Asked.{expressions_of, signed_expressions}
 use Rattle.typing_rows.specs.Contracts.{TypesFirst, TypesGivenFirst, TypesPartsFirst}
 use Rattle.core_typing.proofs.+exprs.Given as goal
 
@@ -26,6 +26,18 @@ decreases-plain::plain l = 16 * l.depth.0 + 13
 
 abbrev pub decreases-plain::parenthesised : goal.decreases-plain::parenthesised
 decreases-plain::parenthesised l = 16 * l.depth.0 + 13
+
+abbrev pub decreases-fields::set : goal.decreases-fields::set
+decreases-fields::set l = 16 * l.depth.0 + 13
+
+abbrev pub decreases-fields::set_part : goal.decreases-fields::set_part
+decreases-fields::set_part l = 16 * l.depth.0 + 12
+
+abbrev pub decreases-fields::set_field : goal.decreases-fields::set_field
+decreases-fields::set_field l = 16 * l.depth.0 + 13
+
+abbrev pub decreases-loops::for_loop : goal.decreases-loops::for_loop
+decreases-loops::for_loop l = 16 * l.depth.0 + 13
 
 abbrev pub decreases-apply::application : goal.decreases-apply::application
 decreases-apply::application l = 16 * l.depth.0 + 13
@@ -91,7 +103,7 @@ invariant-plain::type_parts-loop-part l = record {
   goes : Goes l.fn.at l.at;
   places : length l.types.items ≡ l.part-index;
   gets : GetsOn l.fn.at l.at (parts_from (row_of l.row) 0 (map expression_at (map operand_view l.parts))) (parts_from (row_of l.row) l.part-index (map expression_at (map operand_view (drop l.part-index l.parts))));
-  carries : IsOrderedRow (row_of l.row) → l.inner ≡ l.env → All IsCarried (map operand_view l.parts) → TypesPartsFirst l.fn.at l.at l.env (row_of l.row) l.part-index (expressions_of l.fn.at.item (map operand_view l.parts)) (expressions_of l.fn.at.item (map operand_view (drop l.part-index l.parts))) (numbers l.types.items);
+  carries : All IsCarried (map operand_view l.parts) → TypesPartsFirst l.fn.at l.at l.env (row_of l.row) l.part-index (expressions_of l.fn.at.item (map operand_view l.parts)) (expressions_of l.fn.at.item (map operand_view (drop l.part-index l.parts))) (numbers l.types.items);
 }
 
 abbrev pub decreases-cases::match_of : goal.decreases-cases::match_of

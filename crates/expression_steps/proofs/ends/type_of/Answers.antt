@@ -10,7 +10,7 @@ use Rattle.typing_state.proofs.Following.{ends_silent, store_silent}
 use Rattle.expression_steps.specs.ExpressionSteps.{asked_behind, expression_at, has_type}
 use Rattle.expression_steps.proofs.ExpressionLaws.{types_no_record}
 use Rattle.expression_steps.proofs.CarryingLaws.{if_ok, if_any, both_ok, number_here, number_missing}
-use Rattle.expression_steps.proofs.EndingLaws.{as_named, is_begin, is_list, is_cons, is_tuple, is_seq, is_if, is_assert, begin_ends, begin_empty, seq_ends, set_apart, others_apart, false_ends, assert_ends_unit, one_apart, none_apart, while_or_for, last_at}
+use Rattle.expression_steps.proofs.EndingLaws.{as_named, is_begin, is_list, is_cons, is_tuple, is_seq, is_if, is_assert, begin_ends, begin_empty, seq_ends, others_apart, false_ends, assert_ends_unit, one_apart, none_apart, while_ends, last_at}
 use Rattle.typing_steps.proofs.Rows.{var_any}
 use Rattle.expression_steps.proofs.ends.type_of.Goals.{in_default-first-via-in-Some-first+else-is_false, in_default-first-via-in_default-first}
 use Rattle.syntax_tree.specs.declared.rows.RowName.TheVariants as name
@@ -52,9 +52,6 @@ returns-in-Eseq-clause-carries c =
     let types = c.args.types.now in
     if_ok c.type_or_var.result _ _ (λ m h plain. as_named c.args.row name.Eseq eseq_row c.args.at.now c.type_or_var.new.at c.args.env.now es (numbers types) m.0 c.in-Eseq.is is_seq (seq_ends c.args.at.now c.type_or_var.new.at c.args.env.now es types c.copied.result m (c.copied.ensures ∙ c.last.ensures.value ∙ last_at types) h.0 h.1)) (both_ok c.type_or_var.result _ _ c.type_or_var.ensures.ty c.type_or_var.ensures.carries)
 
-pub returns-in-Eset-clause-carries : goal.returns-in-Eset-clause-carries
-returns-in-Eset-clause-carries c = if_any c.set.result _ (λ m plain. absurd (set_apart c.args.row c.in-Eset.is plain))
-
 pub returns-in-Some-first-clause-carries : goal.returns-in-Some-first-clause-carries
 returns-in-Some-first-clause-carries c =
     let i = c.args.at.now.item in
@@ -77,7 +74,7 @@ returns-in_default-first-clause-carries c = λ plain.
     ]))
 
 pub returns-in-Ewhile-clause-carries : goal.returns-in-Ewhile-clause-carries
-returns-in-Ewhile-clause-carries c = λ plain. while_or_for c.args.row c.args.at.now c.args.env.now (expressions_of c.args.at.now.item (map operand_view c.args.parts.now)) (numbers c.args.types.now) c.in-Ewhile.is plain
+returns-in-Ewhile-clause-carries c = λ plain. while_ends c.args.row c.args.at.now c.args.env.now (expressions_of c.args.at.now.item (map operand_view c.args.parts.now)) (numbers c.args.types.now) c.in-Ewhile.is
 
 pub returns-in_default : goal.returns-in_default
 returns-in_default c = record {

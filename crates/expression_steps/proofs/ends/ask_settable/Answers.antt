@@ -1,0 +1,12 @@
+use Rattle.row_parts.specs.Numbered.{path_view}
+use Rattle.expression_steps.proofs.EndingLaws.{settable_missing, settable_held, settable_told}
+use Rattle.expression_steps.proofs.ends.ask_settable.Goals as goal
+
+pub returns-in_default-clause-carries : goal.returns-in_default-clause-carries
+returns-in_default-clause-carries c = settable_missing c.args.at.now c.args.path.now c.args.is_mutable c.in_default.is
+
+pub returns-then-is_mutable-clause-carries : goal.returns-then-is_mutable-clause-carries
+returns-then-is_mutable-clause-carries c = settable_held c.args.at.now c.args.path.now c.in-Some.last c.args.is_mutable c.in-Some.is c.if-is_mutable.true
+
+pub returns-clause-carries : goal.returns-clause-carries
+returns-clause-carries c = settable_told c.not_mutable.result c.args.at.now c.not_mutable.new.self c.args.path.now c.in-Some.last c.args.is_mutable _ c.in-Some.is c.if-is_mutable.false c.not_mutable.ensures.told c.not_mutable.ensures.rest
