@@ -2,13 +2,13 @@
 //! It keeps nothing itself, and knows nothing of how types are found: the typer is one `Analyser`, and a session takes any.
 //! It is built on the tables that an analysis fills: the nodes of types, environments, and the records of a tree's nodes.
 //! The layer above may use the fields of an `Analysis`, and an `Analyser`: `refresh` says which trees it holds, and that each item
-//! is counted as typed but for those in front that are as they were.
+//! is counted as typed but for those at the front that are as they were, and no others.
 #![tactic(auto)]
 
-ghost use Rattle.std.specs.Prelude.{◌≡◌, ℕ, [], ◌-◌, length, take, IfOk, OnOk, OnErr};
+ghost use Rattle.std.specs.Prelude.{◌≡◌, ℕ, [], ◌-◌, length, IfOk, OnOk, OnErr};
 ghost use Rattle.syntax_tree.specs.Tallies.{Grows};
 ghost use Rattle.syntax_tree.specs.View.{trees_of};
-ghost use Rattle.analysis_api.specs.Typed.{more_typed, SameFront};
+ghost use Rattle.analysis_api.specs.Typed.{more_typed, GoesOn, LongestFront};
 
 use env_table::{Env, Faults, Seen};
 use std::alloc::Global;
@@ -35,9 +35,13 @@ pub struct Analysis<'a> {
 pub trait Analyser: Drop {
     ghost use Rattle.std.specs.Prelude.{List};
     ghost use Rattle.tree_model.specs.Trees as plain;
+    ghost use Rattle.analysis_api.specs.declared.Analysis.{Analysis};
 
     /// The trees of the items whose types and names it holds.
     ghost items: { Self → List plain.Tree };
+
+    /// Whether an analysis is what it found of these items.
+    ghost finds: { Self → Analysis → Type 0 };
 
     /// What every text has at hand, and no item. The prelude's tokens are counted, and no item.
     fn new<C: Counts>(alloc: Global, counts: &mut C) -> Result<Self, NoMemory>
@@ -45,16 +49,18 @@ pub trait Analyser: Drop {
         ensures grows { Grows (C.tallies counts.old) (C.tallies counts.new) }
         ensures untyped { OnOk result ((C.tallies counts.new).typed ≡ (C.tallies counts.old).typed) };
 
-    /// Finds the types and names of a text with this tree. Items at the front that it holds already stay as they are; each item after
-    /// them is typed, and counted once. After `NoMemory` it holds some of the items at the front, and can be asked again.
+    /// Finds the types and names of a text with this tree. The items at the front that it holds already stay as they are, all of them;
+    /// each item after them is typed, and counted once. After `NoMemory` it holds those that stay and some after them, which were
+    /// typed, and can be asked again.
     fn refresh<C: Counts>(&mut self, tree: &Tree, counts: &mut C) -> Result<(), NoMemory>
         ensures items { OnOk result (items self.new ≡ trees_of tree.now) }
-        ensures failed { OnErr result ((n : ℕ) × (items self.new ≡ take n (trees_of tree.now))) }
-        ensures typed { OnOk result ((n : ℕ) × SameFront (items self.old) (trees_of tree.now) n × ((C.tallies counts.new).typed ≡ more_typed (length tree.now.items.items - n) (C.tallies counts.old).typed)) }
+        ensures typed { OnOk result ((n : ℕ) × LongestFront (items self.old) (trees_of tree.now) n × ((C.tallies counts.new).typed ≡ more_typed (length tree.now.items.items - n) (C.tallies counts.old).typed)) }
+        ensures failed { OnErr result (GoesOn (items self.old) (trees_of tree.now) (items self.new) (C.tallies counts.old).typed (C.tallies counts.new).typed) }
         ensures grows { Grows (C.tallies counts.old) (C.tallies counts.new) };
 
     /// What is found of the items that it holds, after a `refresh` that succeeded.
-    fn found(&self) -> Analysis<'_>;
+    fn found(&self) -> Analysis<'_>
+        ensures { finds self.now result };
 
     /// The text of the prelude, whose names every text has at hand; its lines are counted from 1.
     fn prelude() -> &'static str;

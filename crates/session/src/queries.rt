@@ -10,6 +10,7 @@ ghost use Rattle.session.specs.Lines.{failure_in};
 ghost use Rattle.query_engine.specs.NewestNames.{printed};
 ghost use Rattle.session.specs.Queries.{AnswersQuery, IsSaidOfPlace, said_entry};
 ghost use Rattle.text_reading.specs.Structures.{IsParsedAs};
+ghost use Rattle.text_reading.specs.Types.{IsOf};
 
 use crate::changes::{cases, terms_in};
 use analysis_api::{Analyser, Analysis};
@@ -65,7 +66,7 @@ pub fn asked<'a>(tree: &'a Tree, analysis: &Analysis<'a>) -> Asked<'a>
     }
 }
 
-/// Answers a query of an offset of a text with this tree, by what was found of its types.
+/// Answers a query of an offset of a text with this tree, by what a typer found that holds its items.
 pub fn answer<A: Analyser, C: Counts>(
     alloc: Global,
     store: &TextStore,
@@ -76,6 +77,7 @@ pub fn answer<A: Analyser, C: Counts>(
     counts: &mut C,
 ) -> Result<Reply, NoMemory>
     requires parsed { IsParsedAs store.now parsed.now }
+    requires found { IsOf A.items A.finds (trees_of parsed.now.tree) analysis.now }
     ensures said { IfOk result (λ r. AnswersQuery query.now store.now offset (trees_of parsed.now.tree) (said_of r)) }
     ensures grows { Grows (C.tallies counts.old) (C.tallies counts.new) }
 {

@@ -2,3 +2,7 @@
 pub mod Counting
 -- Trees that are alike.
 mod Likeness
+-- Names that are one.
+mod OneName
+-- Parts of different sorts.
+mod Sorts

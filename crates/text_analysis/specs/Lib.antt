@@ -1,2 +1,3 @@
--- The items that an analysis holds.
+-- The items that an analysis holds, and what it shows of them.
 pub mod Items
+pub mod Shown

@@ -2,14 +2,15 @@
 ghost use Rattle.std.specs.Prelude.{◌≡◌, ◌≤◌, true, length, map, take};
 ghost use Rattle.syntax_tree.specs.View.{tok_of, place_of, node_view, child_view, part_view, forest_of};
 ghost use Rattle.text_analysis.specs.Items.{views_of};
-ghost use Rattle.analysis_api.specs.Typed.{SameFront};
+ghost use Rattle.analysis_api.specs.Typed.{LongestFront};
 
 use std::rc::Rc;
 use syntax_tree::{Child, Node, Part, Token};
 
 /// Whether two tokens are alike, but for their reaches.
 fn alike_tokens(left: &Token, right: &Token) -> bool
-    ensures { result ≡ true → tok_of left.now ≡ tok_of right.now }
+    ensures alike { result ≡ true → tok_of left.now ≡ tok_of right.now }
+    ensures all { tok_of left.now ≡ tok_of right.now → result ≡ true }
 {
     if left.kind != right.kind || left.span != right.span || left.col != right.col {
         return false;
@@ -20,7 +21,8 @@ fn alike_tokens(left: &Token, right: &Token) -> bool
 /// Whether two parts are alike.
 #[cycle(alike)]
 fn alike_parts(left: &Part, right: &Part) -> bool
-    ensures { result ≡ true → part_view left.now ≡ part_view right.now }
+    ensures alike { result ≡ true → part_view left.now ≡ part_view right.now }
+    ensures all { part_view left.now ≡ part_view right.now → result ≡ true }
 {
     match (left, right) {
         (Part::Taken(a), Part::Taken(b)) => alike_tokens(a, b),
@@ -33,7 +35,8 @@ fn alike_parts(left: &Part, right: &Part) -> bool
 /// Whether two lists of parts with their slots are alike.
 #[cycle(alike)]
 fn alike_children(left: &[Child], right: &[Child]) -> bool
-    ensures { result ≡ true → map child_view left.now ≡ map child_view right.now }
+    ensures alike { result ≡ true → map child_view left.now ≡ map child_view right.now }
+    ensures all { map child_view left.now ≡ map child_view right.now → result ≡ true }
 {
     if left.len() != right.len() {
         return false;
@@ -50,7 +53,8 @@ fn alike_children(left: &[Child], right: &[Child]) -> bool
 /// Whether two nodes are alike, with all nodes in them. The calls are as deep as the first of the trees is high.
 #[cycle(alike)]
 fn alike_nodes(left: &Node, right: &Node) -> bool
-    ensures { result ≡ true → node_view left.now ≡ node_view right.now }
+    ensures alike { result ≡ true → node_view left.now ≡ node_view right.now }
+    ensures all { node_view left.now ≡ node_view right.now → result ≡ true }
 {
     if left.row != right.row || left.span != right.span {
         return false;
@@ -63,7 +67,7 @@ fn alike_nodes(left: &Node, right: &Node) -> bool
 
 /// How many items at the front of two lists are alike.
 pub fn common_front(left: &[Rc<Node>], right: &[Rc<Node>]) -> usize
-    ensures { SameFront (views_of left.now) (views_of right.now) result }
+    ensures { LongestFront (views_of left.now) (views_of right.now) result }
 {
     let most = left.len().min(right.len());
     for k in 0..most {

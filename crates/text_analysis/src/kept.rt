@@ -3,7 +3,7 @@ ghost use Rattle.std.specs.Prelude.{◌≡◌, ◌≤◌, ◌+◌, ◌-◌, ◌+
 ghost use Rattle.syntax_tree.specs.Tallies.{Grows};
 ghost use Rattle.syntax_tree.specs.View.{trees_of};
 ghost use Rattle.typing_model.specs.PreludeText.{prelude_text};
-ghost use Rattle.analysis_api.specs.Typed.{more_typed, SameFront};
+ghost use Rattle.analysis_api.specs.Typed.{more_typed, GoesOn, LongestFront};
 ghost use Rattle.text_analysis.specs.Items.{views_of};
 
 use crate::alike::common_front;
@@ -113,7 +113,7 @@ impl Typer {
         requires within { place ≤ length items.now }
         requires front { views_of self.old.items.items ≡ take place (views_of items.now) }
         ensures done { OnOk result (views_of self.new.items.items ≡ views_of items.now) }
-        ensures failed { OnErr result ((n : ℕ) × (views_of self.new.items.items ≡ take n (views_of items.now))) }
+        ensures failed { OnErr result ((n : ℕ) × (place + n ≤ length items.now) × (views_of self.new.items.items ≡ take (place + n) (views_of items.now)) × ((C.tallies counts.new).typed ≡ more_typed n (C.tallies counts.old).typed)) }
         ensures typed { OnOk result ((C.tallies counts.new).typed ≡ more_typed (length items.now - place) (C.tallies counts.old).typed) }
         ensures grows { Grows (C.tallies counts.old) (C.tallies counts.new) }
     {
@@ -127,8 +127,11 @@ impl Typer {
 
 impl Analyser for Typer {
     ghost use Rattle.text_analysis.specs.Items.{views_of};
+    ghost use Rattle.text_analysis.specs.Shown.{Shows};
 
     ghost items = { λ t. views_of t.items.items };
+
+    ghost finds = { Shows };
 
     fn new<C: Counts>(alloc: Global, counts: &mut C) -> Result<Typer, NoMemory> {
         let mut parts = Parts::new(alloc)?;

@@ -1,6 +1,7 @@
--- What is known of the types and names of a text while it is edited.
-use Rattle.std.specs.Prelude.{List, [], Option, Some, None, option_map, if◌then◌else◌}
+-- What is known of the types and names of a text while it is edited, and who found it.
+use Rattle.std.specs.Prelude.{◌≡◌, List, [], Option, Some, None, option_map, if◌then◌else◌}
 use Rattle.tree_model.specs.Trees.{Tree}
+use Rattle.analysis_api.specs.declared.Analysis.{Analysis}
 use Rattle.text_reading.specs.declared.types.Found.{Found}
 use Rattle.text_reading.specs.declared.types.Found.TheVariants.{Kept, New}
 use Rattle.text_reading.specs.declared.types.KeptTypes.{KeptTypes}
@@ -22,3 +23,7 @@ known items k = if k.is_current then option_map items k.typer else None
 abbrev pub items_in : {A : Type 0} → (A → List Tree) → Found A → List Tree
 items_in items (Kept a) = items a.now
 items_in items (New a) = items a
+
+-- this is what a typer finds that holds these items, and no others
+abbrev pub IsOf : {A : Type 0} → (A → List Tree) → (A → Analysis → Type 0) → List Tree → Analysis → Type 0
+IsOf items finds trees x = (a : _) × (items a ≡ trees) × finds a x

@@ -2,8 +2,8 @@
 ghost use Rattle.std.specs.Prelude.{◌≡◌, ◌-◌, ℕ, [], None, Some, true, is_some, length, take, option_map, IfOk, IfSome, OnErr, OnOk};
 ghost use Rattle.syntax_tree.specs.Tallies.{Grows};
 ghost use Rattle.syntax_tree.specs.View.{trees_of};
-ghost use Rattle.analysis_api.specs.Typed.{more_typed, SameFront};
-ghost use Rattle.text_reading.specs.Types.{held, items_in, known};
+ghost use Rattle.analysis_api.specs.Typed.{more_typed, LongestFront};
+ghost use Rattle.text_reading.specs.Types.{held, items_in, known, IsOf};
 
 use analysis_api::{Analyser, Analysis};
 use std::alloc::Global;
@@ -18,7 +18,9 @@ pub enum Found<'a, A: Analyser> {
 
 impl<'a, A: Analyser> Found<'a, A> {
     /// What was found.
-    pub fn analysis(&self) -> Analysis<'_> {
+    pub fn analysis(&self) -> Analysis<'_>
+        ensures { IsOf A.items A.finds (items_in A.items self.now) result }
+    {
         match self {
             Found::Kept(typer) => typer.found(),
             Found::New(typer) => typer.found(),
@@ -120,7 +122,7 @@ impl<A: Analyser> KeptTypes<A> {
         counts: &mut C,
     ) -> Result<(), NoMemory>
         ensures known { OnOk result (known A.items self.new ≡ Some (trees_of tree.now)) }
-        ensures typed { OnOk result ((n : ℕ) × SameFront (held A.items self.old) (trees_of tree.now) n × ((C.tallies counts.new).typed ≡ more_typed (length tree.now.items.items - n) (C.tallies counts.old).typed)) }
+        ensures typed { OnOk result ((n : ℕ) × LongestFront (held A.items self.old) (trees_of tree.now) n × ((C.tallies counts.new).typed ≡ more_typed (length tree.now.items.items - n) (C.tallies counts.old).typed)) }
         ensures unknown { OnErr result (known A.items self.new ≡ None) }
         ensures failed { OnErr result ((n : ℕ) × (held A.items self.new ≡ take n (trees_of tree.now))) }
         ensures grows { Grows (C.tallies counts.old) (C.tallies counts.new) }

@@ -1,7 +1,9 @@
 use Rattle.std.proofs.Common.{subst, sym, ◌∙◌, List, ℕ, IfOk}
+use Rattle.tree_model.specs.Trees.{Tree}
 use Rattle.syntax_tree.specs.View.{trees_of}
 use Rattle.json_lines.specs.Means.{said_of}
 use Rattle.text_reading.specs.Structures.{IsParsedAs}
+use Rattle.text_reading.specs.Types.{IsOf}
 use Rattle.text_reading.proofs.Knowing.{items_parsed}
 use Rattle.session.specs.Queries.{AnswersQuery}
 use Rattle.session.proofs.Naming.{of_items}
@@ -13,6 +15,7 @@ typed-requires g c = record { of_text = items_parsed c.args.self.now c.in_ok-par
 pub answer-requires : goal.answer-requires
 answer-requires g c = record {
   parsed = subst (λ (t : List ℕ). IsParsedAs t c.in_ok-parsed.parsed) (c.self.view_is ∙ sym c.text.ensures) c.in_ok-parsed.ensures.parsed;
+  found = subst (λ (ts : List Tree). IsOf g.A.Analyser.items g.A.Analyser.finds ts c.analysis.result) c.in_ok-found.ensures.items c.analysis.ensures;
 }
 
 pub returns-clause-said : goal.returns-clause-said

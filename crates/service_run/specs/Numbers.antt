@@ -1,4 +1,4 @@
--- The program's exit status for the way in which a run ended.
+-- The exit status of the program, by how its run ended.
 use Rattle.std.specs.Prelude.{ℕ}
 use Rattle.lsp_loop.specs.declared.ends.End.{End}
 use Rattle.lsp_loop.specs.declared.ends.End.TheVariants as end

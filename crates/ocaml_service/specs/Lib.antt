@@ -1,2 +1,0 @@
--- The program's exit status.
-pub mod Numbers
