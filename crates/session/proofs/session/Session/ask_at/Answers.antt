@@ -15,7 +15,7 @@ typed-requires g c = record { of_text = items_parsed c.args.self.now c.in_ok-par
 pub answer-requires : goal.answer-requires
 answer-requires g c = record {
   parsed = subst (λ (t : List ℕ). IsParsedAs t c.in_ok-parsed.parsed) (c.self.view_is ∙ sym c.text.ensures) c.in_ok-parsed.ensures.parsed;
-  found = subst (λ (ts : List Tree). IsOf g.A.Analyser.items g.A.Analyser.finds ts c.analysis.result) c.in_ok-found.ensures.items c.analysis.ensures;
+  found = subst (λ (ts : List Tree). IsOf g.A.Analyser.items g.A.Analyser.finds ts c.analysis-analysis.result) c.in_ok-found.ensures.items c.analysis-analysis.ensures;
 }
 
 pub returns-clause-said : goal.returns-clause-said
