@@ -1,4 +1,3 @@
--- The warnings of a match, and the names of patterns.
-pub mod Warnings
+-- What patterns bind, and what is told of their names.
 pub mod Matching
 pub mod Names

@@ -1,11 +1,15 @@
 -- What patterns bind, as plain values.
 use denote.Ref.{Bor}
-use Rattle.std.specs.Prelude.{◌≡◌, ℕ, ◌++◌, List, map}
+use Rattle.std.specs.Prelude.{◌≡◌, ℕ, ◌++◌, List, map, slice_get, Option, Some}
 use Rattle.token_model.specs.Kinds.{Tok}
+use Rattle.tree_model.specs.Trees.{Place}
 use Rattle.signature_model.specs.Declarations.{Name}
 use Rattle.syntax_tree.specs.View.{place_of, tok_of}
 use Rattle.syntax_tree.specs.declared.tree.Token.{Token}
 use Rattle.row_parts.specs.Numbered.{Numbered, operand_view}
+use Rattle.env_table.specs.declared.entries.Entry.{Entry}
+use Rattle.typing_state.specs.declared.parts.Parts.{Parts}
+use Rattle.type_expressions.specs.Written.{AsksWritten}
 use Rattle.use_typing.specs.Labels.{toks_of}
 use Rattle.pattern_steps.specs.PatternSteps.{Side}
 use Rattle.pattern_rows.specs.Bounds.{Bind}
@@ -53,3 +57,7 @@ typed_view ts = map (λ t. operand_view t.part) ts
 -- the nodes of their types
 abbrev pub nodes_of : List TypedPart → List ℕ
 nodes_of ts = map (λ t. t.ty.0) ts
+
+-- the first of parts with these nodes is asked to have the type that is written after it, if any
+abbrev pub AsksFirst : (a b : Parts) → List Entry → Option Numbered → Place → List ℕ → ℕ → Type 0
+AsksFirst a b env given at ms m = (found : ℕ) × (slice_get ms 0 ≡ Some found) × AsksWritten a b env given at found m

@@ -6,4 +6,5 @@ pub mod Starts
 pub mod Rows
 pub mod Typing
 pub mod Writing
+pub mod Warning
 pub mod Building

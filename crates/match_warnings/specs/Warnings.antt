@@ -6,7 +6,7 @@ use Rattle.syntax_tree.specs.View.{place_of}
 use Rattle.env_table.specs.declared.faults.FaultKind.TheVariants as fault
 use Rattle.typing_state.specs.Steps.{Steps, asks, each}
 use Rattle.pattern_steps.specs.PatternSteps.{missed_steps}
-use Rattle.pattern_typing.specs.declared.warnings.Rows.{Rows}
+use Rattle.match_warnings.specs.declared.warnings.Rows.{Rows}
 
 -- each case that no value reaches
 abbrev pub unused_steps : List Place → Steps

@@ -1,5 +1,5 @@
 use Rattle.std.proofs.Common.{◌+◌, ◌*◌}
-use Rattle.pattern_typing.proofs.pats.+pats.Given as goal
+use Rattle.match_warnings.proofs.pats.+pats.Given as goal
 
 abbrev pub decreases-pat_of : goal.decreases-pat_of
 decreases-pat_of l = 2 * l.depth.0 + 1

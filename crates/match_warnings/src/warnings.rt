@@ -7,7 +7,8 @@ ghost use Rattle.syntax_tree.specs.View.{place_of};
 ghost use Rattle.env_table.specs.declared.faults.FaultKind.{FaultKind};
 ghost use Rattle.typing_state.specs.Goes.{Goes};
 ghost use Rattle.typing_state.specs.Steps.{Follows, asks};
-ghost use Rattle.pattern_typing.specs.Warnings.{spans_of, unused_steps, warning_steps};
+ghost use Rattle.typing_steps.specs.Warning.{OnlyWarnings};
+ghost use Rattle.match_warnings.specs.Warnings.{spans_of, unused_steps, warning_steps};
 ghost use Rattle.pattern_steps.specs.PatternSteps.{missed_steps};
 
 use crate::pats::row_pat;
@@ -66,6 +67,7 @@ fn row(alloc: Global, pat: Pat, guarded: bool) -> Result<PatRow, NoMemory> {
 /// Reports the first shape that rows miss, if they miss one.
 fn report_missed(at: &mut Parts, matrix: &Matrix, span: Span) -> Result<(), NoMemory>
     ensures follows { OnOk result (Follows (asks FaultKind.Missed (place_of span ∷ []) ∷ []) at.old at.new) }
+    ensures warns { OnOk result (OnlyWarnings at.old at.new) }
     ensures goes { Goes at.old at.new }
 {
     let alloc = at.alloc();
@@ -123,6 +125,7 @@ impl Rows {
     /// The warnings of a match at this place: the first missed shape, but not of a `try`, and the cases that no value reaches.
     pub fn report(self, at: &mut Parts, match_row: RowName, span: Span) -> Result<(), NoMemory>
         ensures follows { OnOk result (Follows (warning_steps (row_of match_row) (place_of span) (spans_of self)) at.old at.new) }
+        ensures warns { OnOk result (OnlyWarnings at.old at.new) }
         ensures goes { Goes at.old at.new }
     {
         if self.is_open || self.rows.is_empty() {
@@ -138,6 +141,7 @@ impl Rows {
 /// The warnings of cases that no value reaches, by their places among all.
 fn report_unused(at: &mut Parts, cases: &[Span], unused: &[usize]) -> Result<(), NoMemory>
     ensures follows { OnOk result (Follows (unused_steps (map place_of cases.now)) at.old at.new) }
+    ensures warns { OnOk result (OnlyWarnings at.old at.new) }
     ensures goes { Goes at.old at.new }
 {
     for place in 0..cases.len() {
@@ -154,6 +158,7 @@ fn report_if_unused(
     unused: &[usize],
 ) -> Result<(), NoMemory>
     ensures follows { OnOk result (Follows (asks FaultKind.Unused (place_of case ∷ []) ∷ []) at.old at.new) }
+    ensures warns { OnOk result (OnlyWarnings at.old at.new) }
     ensures goes { Goes at.old at.new }
 {
     if !unused.contains(&place) {
@@ -171,6 +176,7 @@ fn report_missed_in(
     span: Span,
 ) -> Result<(), NoMemory>
     ensures follows { OnOk result (Follows (missed_steps (row_of match_row) (place_of span)) at.old at.new) }
+    ensures warns { OnOk result (OnlyWarnings at.old at.new) }
     ensures goes { Goes at.old at.new }
 {
     if match_row == RowName::Etry {
@@ -187,6 +193,7 @@ pub fn report_pattern(
     depth: Depth,
 ) -> Result<(), NoMemory>
     ensures follows { OnOk result (Follows (asks FaultKind.Missed (place_of pattern.entry.span ∷ []) ∷ []) at.old at.new) }
+    ensures warns { OnOk result (OnlyWarnings at.old at.new) }
     ensures goes { Goes at.old at.new }
 {
     if is_plain(pattern) || is_unfinished(pattern) {

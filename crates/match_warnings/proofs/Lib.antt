@@ -1,0 +1,2 @@
+-- What only warns.
+pub mod Warned

@@ -1,0 +1,20 @@
+use Rattle.std.proofs.Common.{refl}
+use Rattle.env_table.specs.declared.faults.FaultKind.TheVariants as fault
+use Rattle.typing_state.proofs.Going.{goes_refl}
+use Rattle.match_warnings.proofs.Warned.{warns_none, report_warns}
+use Rattle.match_warnings.proofs.warnings.report_if_unused.Goals as goal
+
+pub returns-then-not-contains-clause-warns : goal.returns-then-not-contains-clause-warns
+returns-then-not-contains-clause-warns c = warns_none c.args.at.now
+
+pub returns-then-not-contains-clause-goes : goal.returns-then-not-contains-clause-goes
+returns-then-not-contains-clause-goes c = goes_refl c.args.at.now
+
+pub returns-in_err-text-clause-goes : goal.returns-in_err-text-clause-goes
+returns-in_err-text-clause-goes c = goes_refl c.args.at.now
+
+pub returns-clause-warns : goal.returns-clause-warns
+returns-clause-warns c = report_warns c.report.result c.args.at.now.telling c.args.at.now c.report.new.self c.args.case fault.Unused _ refl c.report.ensures.rest c.report.ensures.told
+
+pub returns-clause-goes : goal.returns-clause-goes
+returns-clause-goes c = c.report.ensures.goes

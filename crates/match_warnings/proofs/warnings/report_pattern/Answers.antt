@@ -1,0 +1,33 @@
+use Rattle.typing_state.proofs.Going.{goes_refl}
+use Rattle.match_warnings.proofs.Warned.{warns_none}
+use Rattle.match_warnings.proofs.warnings.report_pattern.Goals as goal
+
+pub returns-then-is_plain-clause-warns : goal.returns-then-is_plain-clause-warns
+returns-then-is_plain-clause-warns c = warns_none c.args.at.now
+
+pub returns-then-is_plain-clause-goes : goal.returns-then-is_plain-clause-goes
+returns-then-is_plain-clause-goes c = goes_refl c.args.at.now
+
+pub returns-in_err-pat-clause-goes : goal.returns-in_err-pat-clause-goes
+returns-in_err-pat-clause-goes c = goes_refl c.args.at.now
+
+pub returns-in_err-row-clause-goes : goal.returns-in_err-row-clause-goes
+returns-in_err-row-clause-goes c = goes_refl c.args.at.now
+
+pub returns-in_err-push-clause-goes : goal.returns-in_err-push-clause-goes
+returns-in_err-push-clause-goes c = goes_refl c.args.at.now
+
+pub returns-in_err-report_missed-clause-goes : goal.returns-in_err-report_missed-clause-goes
+returns-in_err-report_missed-clause-goes c = c.report_missed.ensures.goes
+
+pub returns-in_ok-report_missed-clause-warns : goal.returns-in_ok-report_missed-clause-warns
+returns-in_ok-report_missed-clause-warns c = c.in_ok-report_missed.ensures.warns
+
+pub returns-in_ok-report_missed-clause-goes : goal.returns-in_ok-report_missed-clause-goes
+returns-in_ok-report_missed-clause-goes c = c.report_missed.ensures.goes
+
+pub returns-in_default-clause-warns : goal.returns-in_default-clause-warns
+returns-in_default-clause-warns c = warns_none c.args.at.now
+
+pub returns-in_default-clause-goes : goal.returns-in_default-clause-goes
+returns-in_default-clause-goes c = goes_refl c.args.at.now

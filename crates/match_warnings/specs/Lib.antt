@@ -1,0 +1,2 @@
+-- The warnings of a match.
+pub mod Warnings
