@@ -15,9 +15,8 @@ use crate::nodes::is_node;
 use crate::parts::Parts;
 use env_table::{Env, FaultKind};
 use level_unify::{ClashKind, UnifyFault};
-use owned_lists::push;
 use std::alloc::AllocError;
-use syntax_tree::{Span, Token};
+use syntax_tree::Span;
 use text_terms::RcStr;
 use type_nodes::{NoMemory, NodeRef};
 use type_print::print_two;
@@ -178,16 +177,6 @@ impl Parts {
             self.alloc,
         )?;
         self.report(at, FaultKind::Unique, text)
-    }
-
-    /// The demand that a name is new behind those before; it is one of them then.
-    pub fn is_new<'a>(&mut self, seen: &mut Vec<&'a Token>, name: &'a Token) -> Result<(), NoMemory>
-        ensures goes { Goes self.old self.new }
-    {
-        if seen.iter().any(|other| other.name.is(name.name.as_str())) {
-            self.twice(name.span, name.name.as_str())?;
-        }
-        push(seen, name)
     }
 
     /// A name of an or-pattern is bound on one side only.
