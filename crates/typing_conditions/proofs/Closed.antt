@@ -166,6 +166,7 @@ module _ {D : Declared} {F : Frame} {scope : Scope} {asks : Asks} {a b c d : Sig
     reached = rest.at.reached;
     fixed = rest.at.fixed;
     written = rest.at.written;
+    item = rest.at.item;
     roots = joined ns rest.at.roots;
     names = rest.at.names;
     steady = rest.at.steady;

@@ -105,6 +105,7 @@ module _ {F : Frame} {a b : Sight} {J : Types} {roots : List ℕ} {held : ℕ �
     reached = reached_inward;
     fixed = fixed_inward fixed_in at.fixed;
     written = written_inward at.written;
+    item = at.item;
     roots = at.roots;
     names = at.names;
     steady = at.steady;

@@ -39,7 +39,8 @@ now_or_before {a} {b} {p} {m} r i q x e = at (a.item == i && p == q) refl
         inl (eqb-true a.item i both.0, eqb-true p q both.1, one_some m x (sym (ap (λ t. if t then Some m else a.types i q) f) ∙ sym (r.types i q) ∙ e))
     at false f = inr (sym (ap (λ t. if t then Some m else a.types i q) f) ∙ sym (r.types i q) ∙ e)
 
-here_now : {a b : Sight} {p m : ℕ} → Records a b p m → b.types a.item p ≡ Some m
+-- what is recorded now
+pub here_now : {a b : Sight} {p m : ℕ} → Records a b p m → b.types a.item p ≡ Some m
 here_now {a} {b} {p} {m} r = r.types a.item p ∙ ap (λ t. if t then Some m else a.types a.item p) (and_both (a.item == a.item) (p == p) (eqb_same a.item) (eqb_same p))
 
 still_there : {a b : Sight} {p m : ℕ} → Records a b p m → (i q x : ℕ) → a.types i q ≡ Some x → b.types i q ≡ Some x

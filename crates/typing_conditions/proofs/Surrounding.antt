@@ -8,12 +8,13 @@ use Rattle.signature_model.specs.Declarations as rules
 use Rattle.signature_model.specs.Declarations.{Name}
 use Rattle.signature_model.specs.Entries.{Environment, entry, a_value}
 use Rattle.signature_model.specs.Matching.{IsKnown}
-use Rattle.typing_model.specs.Contexts.{Choice, monomorphic}
+use Rattle.typing_model.specs.Contexts.{Choice, in_item, monomorphic}
 use Rattle.typing_model.specs.Typings.{no_choice}
 use Rattle.typing_laws.proofs.Bools.{no_yes}
 use Rattle.type_terms.specs.declared.types.NodeRef.{NodeRef}
 use Rattle.type_nodes.specs.Nodes.{Node, Var}
 use Rattle.type_nodes.specs.Readings.{Types}
+use Rattle.level_unify.specs.Solutions.{Loose}
 use Rattle.level_unify.proofs.Unified.{fits_loosely}
 use Rattle.env_table.specs.declared.entries.Constructor.{Constructor}
 use Rattle.env_table.specs.declared.entries.Declaration.{Declaration}
@@ -46,11 +47,12 @@ pub covers_declared : {D D' : Declaration → rules.Declaration → Type 0} {X X
 covers_declared {D} {D'} {X} {X'} C more also (E, h) = (E, env_map (λ r sc. IsIn C r) (λ r sc. IsIn C r) D D' X X' (λ r sc k. k) more also h)
 
 -- no names stand for none
-pub surrounds_none : {D : Declared} {F : Frame} {a : Sight} {G : Letters} {scope : Scope} → IsSteady D → ((ch : Choice) → scope.env ch ≡ []) → Reaches F a → KnowsFixed F a → KnowsWritten F a → Surrounds D F a G [] scope
-surrounds_none {D} {F} {a} {G} {scope} steady none reached fixed written = record {
+pub surrounds_none : {D : Declared} {F : Frame} {a : Sight} {G : Letters} {scope : Scope} → IsSteady D → ((ch : Choice) → scope.env ch ≡ []) → Reaches F a → KnowsFixed F a → KnowsWritten F a → scope.variables ≡ in_item F.owner → Surrounds D F a G [] scope
+surrounds_none {D} {F} {a} {G} {scope} steady none reached fixed written item = record {
   reached = reached;
   fixed = fixed;
   written = written;
+  item = item;
   roots = [];
   names = type.Var;
   steady = steady;
@@ -66,6 +68,7 @@ surrounds_on {D} {F} {a} {b} {G} {H} {env} {scope} s at = record {
   reached = s.reaches at.reached;
   fixed = fixed_on s at.fixed;
   written = s.writes at.written;
+  item = at.item;
   roots = at.roots;
   names = at.names;
   steady = at.steady;
@@ -89,11 +92,12 @@ surrounds_on {D} {F} {a} {b} {G} {H} {env} {scope} s at = record {
 
 -- A part is typed among one name more: its type is that of an open node, in which no unknown type stands.
 pub surrounds_named : {D : Declared} {F : Frame} {a : Sight} {G : Letters} {env : List Entry} {scope : Scope} {type : Choice → Typ} {e : Entry} {x : Name} {n : NodeRef} (place : rules.Place) → IsEntry e x n → Means F a G type n.0 →
-    ((V : Types) (ch : Choice) → Agrees F.owner a G V ch → IsKnown (V n.0)) → Surrounds D F a G env scope → Surrounds D F a G (e ∷ env) (with_one x place type scope)
+    ((V : Types) (ch : Choice) → Loose a.nodes V → Agrees F.owner a G V ch → IsKnown (V n.0)) → Surrounds D F a G env scope → Surrounds D F a G (e ∷ env) (with_one x place type scope)
 surrounds_named {D} {F} {a} {G} {env} {scope} {type} {e} {x} {n} place is p known at = record {
   reached = at.reached;
   fixed = at.fixed;
   written = at.written;
+  item = at.item;
   roots = n.0 ∷ at.roots;
   names = at.names;
   steady = at.steady;
@@ -105,13 +109,12 @@ surrounds_named {D} {F} {a} {G} {env} {scope} {type} {e} {x} {n} place is p know
         (λ r sc h. more_in at.roots n.0 r h) (let own = own_of a.nodes at.reached.sound in declared own.0 own.1) (let own = own_of a.nodes at.reached.sound in excepted own.0 own.1) at.covered.1),
   );
   reads = λ J V ch own reads g.
-      let known_here = known V ch g in
       let loose = fits_loosely a.nodes V reads.fits in
-      let scheme = one_type_reads a.nodes J V n.0 own reads p.open_node.inside known_here (λ v o. free J own v o) in
+      let scheme = one_type_reads a.nodes J V n.0 own reads p.open_node.inside (known V ch loose g) (λ v o. free J own v o) in
       subst (λ t. Stands SchemeReads (D.declaration a.nodes (n.0 ∷ at.roots) at.names) (D.exception a.nodes (n.0 ∷ at.roots) at.names) a.nodes J (n.0 ∷ at.roots) V (e ∷ env) (entry x place (a_value (monomorphic t)) ∷ scope.env ch)) (sym (p.is V ch loose g))
       (stands_declared (declared J own) (excepted J own) (stands_named SchemeReads (D.declaration a.nodes at.roots at.names) (D.exception a.nodes at.roots at.names) a.nodes J V at.roots env (scope.env ch) own e x place n (monomorphic (V n.0)) is.named is.kind is.is scheme scheme.free (at.reads J V ch own reads g)));
   fits = λ J V ch own loose g.
-      let scheme = one_type_fits a.nodes J V n.0 own loose p.open_node.inside (known V ch g) in
+      let scheme = one_type_fits a.nodes J V n.0 own loose p.open_node.inside (known V ch loose g) in
       subst (λ t. Stands SchemeFits (D.declaration a.nodes (n.0 ∷ at.roots) at.names) (D.exception a.nodes (n.0 ∷ at.roots) at.names) a.nodes J (n.0 ∷ at.roots) V (e ∷ env) (entry x place (a_value (monomorphic t)) ∷ scope.env ch)) (sym (p.is V ch loose g))
       (stands_declared (declared J own) (excepted J own) (stands_named SchemeFits (D.declaration a.nodes at.roots at.names) (D.exception a.nodes at.roots at.names) a.nodes J V at.roots env (scope.env ch) own e x place n (monomorphic (V n.0)) is.named is.kind is.is scheme scheme.free (at.fits J V ch own loose g)));
 }

@@ -35,11 +35,13 @@ pub record IsSteady (D : Declared) : Type 0 where
   pub exception : {old new : List Node} {I J N : Types} {C C' : List ℕ} {c : Constructor} {o : Option Typ} → IsOwn old I → Refines old new J → ((r : ℕ) → IsIn C r → IsIn C' r) → D.exception old C N c o → D.exception new C' N c o
 
 -- A state that the frame allows, where the code's names stand for those of the scope: at each reading schemes both ways, under types that fit one way.
--- `roots` are those of the schemes and of the declarations, and `names` what the bound variables of declarations are in the definitions.
+-- `roots` are those of the schemes and of the declarations, and `names` what the bound variables of declarations are in the definitions. Written type variables
+-- are those of the frame's item.
 pub record Surrounds (D : Declared) (F : Frame) (a : Sight) (G : Letters) (env : List Entry) (scope : Scope) : Type 0 where
   pub reached : Reaches F a
   pub fixed : KnowsFixed F a
   pub written : KnowsWritten F a
+  pub item : scope.variables ≡ in_item F.owner
   pub roots : List ℕ
   pub names : Types
   pub steady : IsSteady D

@@ -1,11 +1,10 @@
 -- A `for`, from what its bounds and its body carry.
-use Rattle.std.proofs.Common.{◌≡◌, ◌∙◌, ◌++◌, ℕ, zero, suc, ◌≤◌, true, List, ◌∷◌, Option, Some, None, refl, sym, ap, subst, append_assoc, arith}
-use Rattle.std.specs.Prelude.{slice_get}
+use Rattle.std.proofs.Common.{◌≡◌, ◌∙◌, ◌++◌, ℕ, true, List, ◌∷◌, Option, Some, None, refl, sym, ap, subst, append_assoc}
 use Rattle.token_model.specs.Kinds.{Tok}
 use Rattle.tree_model.specs.Rows.{efor_row}
 use Rattle.tree_model.specs.Slots.{is_operand}
 use Rattle.tree_model.specs.Trees.{Place, Tree}
-use Rattle.type_model.specs.Types.{Typ, occurs}
+use Rattle.type_model.specs.Types.{Typ}
 use Rattle.row_parts.specs.Numbered.{filled_in, token_in}
 use Rattle.signature_model.specs.Declarations as rules
 use Rattle.signature_model.specs.Declarations.{Name, in_text}
@@ -14,33 +13,19 @@ use Rattle.signature_model.specs.Matching.{IsKnown}
 use Rattle.typing_model.specs.Contexts.{Choice, monomorphic, with_names}
 use Rattle.typing_model.specs.BuiltIns.{int_type, unit_type}
 use Rattle.typing_model.specs.Parts.{Expression, place_of}
-use Rattle.typing_model.specs.Typings.{no_choice}
 use Rattle.typing_model.specs.Expressions.{expression_row, has_type, is_of, loop_names, for_expression}
 use Rattle.type_terms.specs.declared.types.NodeRef.{NodeRef}
-use Rattle.type_nodes.specs.Nodes.{Var}
-use Rattle.type_nodes.specs.Readings.{Types}
-use Rattle.level_unify.proofs.Unified.{fits_loosely}
-use Rattle.env_table.specs.declared.entries.Constructor.{Constructor}
-use Rattle.env_table.specs.declared.entries.Declaration.{Declaration}
 use Rattle.env_table.specs.declared.entries.Entry.{Entry}
-use Rattle.typing_environments.specs.Locals.{IsOwn, IsFreeVar}
-use Rattle.typing_environments.specs.Assumptions.{SchemeFits, SchemeReads}
-use Rattle.typing_environments.specs.Environments.{of_value, entry_as, newest}
-use Rattle.typing_environments.specs.Standing.{IsIn, Stands}
-use Rattle.typing_environments.proofs.Own.{own_of}
-use Rattle.typing_environments.proofs.Environments.{env_map}
-use Rattle.typing_environments.proofs.Steps.{same_node, refines_none}
-use Rattle.typing_environments.proofs.Standing.{more_in, stands_named, one_type_fits, one_type_reads}
 use Rattle.typing_state.specs.declared.parts.Parts.{Parts}
 use Rattle.typing_state.specs.Goes.{Goes}
 use Rattle.typing_conditions.specs.Sights.{Sight, Letters}
-use Rattle.typing_conditions.specs.Frames.{Frame, IsRoot}
+use Rattle.typing_conditions.specs.Frames.{Frame}
 use Rattle.typing_conditions.specs.Meanings.{Means}
 use Rattle.typing_conditions.specs.Carrying.{Scope}
 use Rattle.typing_conditions.specs.Surroundings.{Declared, Surrounds, with_one, IsEntry}
 use Rattle.typing_conditions.proofs.Carried.{carried_trans, carried_under}
 use Rattle.typing_conditions.proofs.Meaning.{means_on, means_more}
-use Rattle.typing_conditions.proofs.Surrounding.{stands_declared, surrounds_on}
+use Rattle.typing_conditions.proofs.Surrounding.{surrounds_named, surrounds_on}
 use Rattle.typing_steps.specs.States.{is_aloud}
 use Rattle.typing_steps.specs.Typing.{TypesTo, TypesRow}
 use Rattle.operand_laws.specs.Formed.{row_of, is_needed, IsFormed}
@@ -55,46 +40,7 @@ use Rattle.typing_rows.proofs.Terms.{one, as_row}
 -- A part is typed among one name more, whose type is that of an open node, and in which no unknown type stands whatever is chosen.
 pub surrounds_known : {D : Declared} {F : Frame} {a : Sight} {G : Letters} {env : List Entry} {scope : Scope} {type : Choice → Typ} {e : Entry} {x : Name} {n : NodeRef} (place : rules.Place) → IsEntry e x n → Means F a G type n.0 →
     ((ch : Choice) → IsKnown (type ch)) → Surrounds D F a G env scope → Surrounds D F a G (e ∷ env) (with_one x place type scope)
-surrounds_known {D} {F} {a} {G} {env} {scope} {type} {e} {x} {n} place is p known at = record {
-  reached = at.reached;
-  fixed = at.fixed;
-  written = at.written;
-  roots = n.0 ∷ at.roots;
-  names = at.names;
-  steady = at.steady;
-  are_roots = are_roots;
-  covered = (
-    entry x place (a_value (monomorphic (type no_choice))) ∷ at.covered.0,
-    newest (entry_as is.named (sym is.kind) (of_value is.is (zero, refl)))
-        (env_map (λ r sc. IsIn at.roots r) (λ r sc. IsIn (n.0 ∷ at.roots) r) (D.declaration a.nodes at.roots at.names) (D.declaration a.nodes (n.0 ∷ at.roots) at.names) (D.exception a.nodes at.roots at.names) (D.exception a.nodes (n.0 ∷ at.roots) at.names)
-        (λ r sc h. more_in at.roots n.0 r h) (let own = own_of a.nodes at.reached.sound in declared own.0 own.1) (let own = own_of a.nodes at.reached.sound in excepted own.0 own.1) at.covered.1),
-  );
-  reads = λ J V ch own reads g.
-      let loose = fits_loosely a.nodes V reads.fits in
-      let scheme = one_type_reads a.nodes J V n.0 own reads p.open_node.inside (subst IsKnown (p.is V ch loose g) (known ch)) (λ v o. free J own v o) in
-      subst (λ t. Stands SchemeReads (D.declaration a.nodes (n.0 ∷ at.roots) at.names) (D.exception a.nodes (n.0 ∷ at.roots) at.names) a.nodes J (n.0 ∷ at.roots) V (e ∷ env) (entry x place (a_value (monomorphic t)) ∷ scope.env ch)) (sym (p.is V ch loose g))
-      (stands_declared (declared J own) (excepted J own) (stands_named SchemeReads (D.declaration a.nodes at.roots at.names) (D.exception a.nodes at.roots at.names) a.nodes J V at.roots env (scope.env ch) own e x place n (monomorphic (V n.0)) is.named is.kind is.is scheme scheme.free (at.reads J V ch own reads g)));
-  fits = λ J V ch own loose g.
-      let scheme = one_type_fits a.nodes J V n.0 own loose p.open_node.inside (subst IsKnown (p.is V ch loose g) (known ch)) in
-      subst (λ t. Stands SchemeFits (D.declaration a.nodes (n.0 ∷ at.roots) at.names) (D.exception a.nodes (n.0 ∷ at.roots) at.names) a.nodes J (n.0 ∷ at.roots) V (e ∷ env) (entry x place (a_value (monomorphic t)) ∷ scope.env ch)) (sym (p.is V ch loose g))
-      (stands_declared (declared J own) (excepted J own) (stands_named SchemeFits (D.declaration a.nodes at.roots at.names) (D.exception a.nodes at.roots at.names) a.nodes J V at.roots env (scope.env ch) own e x place n (monomorphic (V n.0)) is.named is.kind is.is scheme scheme.free (at.fits J V ch own loose g)));
-}
-  where
-    declared : (J : Types) → IsOwn a.nodes J → (d : Declaration) (f : rules.Declaration) → D.declaration a.nodes at.roots at.names d f → D.declaration a.nodes (n.0 ∷ at.roots) at.names d f
-    declared J own d f h = at.steady.declaration own (refines_none a.nodes J own) (λ r i. more_in at.roots n.0 r i) h
-
-    excepted : (J : Types) → IsOwn a.nodes J → (c : Constructor) (o : Option Typ) → D.exception a.nodes at.roots at.names c o → D.exception a.nodes (n.0 ∷ at.roots) at.names c o
-    excepted J own c o h = at.steady.exception own (refines_none a.nodes J own) (λ r i. more_in at.roots n.0 r i) h
-
-    free : (J : Types) → IsOwn a.nodes J → (v : ℕ) → occurs v (J n.0) ≡ true → IsFreeVar a.nodes v
-    free J own v o = let low = p.open_node.free J own v o in record { level = low.level; scope = low.scope; at = low.at; free = low.free }
-
-    are_roots : (k r : ℕ) → slice_get (n.0 ∷ at.roots) k ≡ Some r → IsRoot F a r
-    are_roots zero r f = let s : n.0 ≡ r = cc in subst (IsRoot F a) s (record { inside = p.open_node.inside; within = p.open_node.within; low = λ J own v l o h e free. low_as J own v l o h e })
-      where
-        low_as : (J : Types) → IsOwn a.nodes J → (v l o : ℕ) → occurs v (J n.0) ≡ true → slice_get a.nodes v ≡ Some (Var l o) → l ≤ F.level
-        low_as J own v l o h e = let low = p.open_node.free J own v h in let s : l ≡ low.level = same_node a.nodes v l o low.level low.scope e low.at in let y = low.low in omega arith
-    are_roots (suc k) r f = at.are_roots k r f
+surrounds_known place is p known at = surrounds_named place is p (λ V ch loose g. subst IsKnown (p.is V ch loose g) (known ch)) at
 
 -- no unknown type stands in an int
 known_int : IsKnown int_type

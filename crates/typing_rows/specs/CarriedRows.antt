@@ -1,11 +1,12 @@
 -- Which expressions are made of rows whose conditions are carried so far.
-use Rattle.std.specs.Prelude.{◌≡◌, Bool, true, false, ◌||◌, codes, Option, Some, None}
+use Rattle.std.specs.Prelude.{◌≡◌, ℕ, ◌==◌, Bool, true, false, ◌||◌, codes, Option, Some, None, if◌then◌else◌}
 use Rattle.std.specs.Str.{bytes_eq}
 use Rattle.token_model.specs.Kinds.{Tok, Kind, upper}
-use Rattle.tree_model.specs.Rows.{Row, name_row, econ_row, epath_row, econst_row, hole_row, eparen_row, ebegin_row, elist_row, prefix_row, field_row, eapp_row, eassert_row, ewhile_row, efor_row, eneg_row, infix_row, econs_row, etuple_row, eset_row, eif_row, eseq_row}
+use Rattle.tree_model.specs.Rows.{Row, pparen_row, plist_row, papp_row, pcons_row, ptuple_row, por_row, pas_row, case_row, ematch_row, etry_row, efun_row, efunction_row, name_row, econ_row, epath_row, econst_row, hole_row, eparen_row, ebegin_row, elist_row, prefix_row, field_row, eapp_row, eassert_row, ewhile_row, efor_row, eneg_row, infix_row, econs_row, etuple_row, eset_row, eif_row, eseq_row}
 use Rattle.tree_model.specs.Trees.{Tree, Forest, Part, node, no_parts, part, taken, inner, missing}
 use Rattle.row_parts.specs.Numbered.{Numbered, token_in}
-use Rattle.operand_laws.specs.Formed.{is_in, IsOperandFormed}
+use Rattle.operand_laws.specs.Formed.{IsOperandFormed}
+use Rattle.typing_rows.specs.CarriedPatternRows.{IsCarriedPatternRow}
 
 -- a kind that isn't that of a constructor's name
 abbrev pub is_upper : Kind → Bool
@@ -22,14 +23,14 @@ abbrev pub is_sign : Option Tok → Bool
 is_sign None = true
 is_sign (Some t) = bytes_eq t.name (codes "-") || bytes_eq t.name (codes "-.")
 
--- rows without patterns, bindings, type expressions and records
+-- rows without bindings and records
 abbrev pub IsCarriedRow : Row → Tree → Forest → Type 0
 IsCarriedRow name_row t ps = Unit {0}  -- x
 IsCarriedRow econ_row t ps = Unit {0}  -- A
 IsCarriedRow epath_row t ps = Unit {0}  -- M.x, M.A
 IsCarriedRow econst_row t ps = Unit {0}  -- 1, "a", true
 IsCarriedRow hole_row t ps = Unit {0}  -- _
-IsCarriedRow eparen_row t ps = is_in 3 ps ≡ false  -- ( e )
+IsCarriedRow eparen_row t ps = Unit {0}  -- ( e ), ( e : t )
 IsCarriedRow ebegin_row t ps = Unit {0}  -- begin e end
 IsCarriedRow elist_row t ps = Unit {0}  -- [ e; e ]
 IsCarriedRow prefix_row t ps = Unit {0}  -- ! e
@@ -45,25 +46,82 @@ IsCarriedRow etuple_row t ps = Unit {0}  -- e, e
 IsCarriedRow eset_row t ps = Unit {0}  -- e . l <- e
 IsCarriedRow eif_row t ps = Unit {0}  -- if e then e else e
 IsCarriedRow eseq_row t ps = Unit {0}  -- e; e
+IsCarriedRow ematch_row t ps = Unit {0}  -- match e with p -> e
+IsCarriedRow etry_row t ps = Unit {0}  -- try e with p -> e
+IsCarriedRow efun_row t ps = Unit {0}  -- fun p p -> e
+IsCarriedRow efunction_row t ps = Unit {0}  -- function p -> e
 IsCarriedRow _ t ps = ⊥
 
-abbrev mutual
-  -- a node and all nodes in it are of such rows
-  pub IsTreeOfCarriedRows : Tree → Type 0
-  IsTreeOfCarriedRows (node r x ps) = IsCarriedRow r (node r x ps) ps × AreOfCarriedRows ps
+-- what parts of trees are
+pub data Sort : Type 0 where
+  an_expression : Sort
+  a_pattern : Sort
+  a_type : Sort
+  a_case : Sort
 
-  -- so are all parts of a row
-  pub AreOfCarriedRows : Forest → Type 0
-  AreOfCarriedRows no_parts = Unit {0}
-  AreOfCarriedRows (part s p ps) = IsOfCarriedRows p × AreOfCarriedRows ps
+-- the sort of what is in a slot of a row of expressions or patterns, or of a case
+abbrev pub sort_in : Row → ℕ → Sort
+sort_in pparen_row s = if s == 3 then a_type else a_pattern
+sort_in plist_row s = a_pattern
+sort_in papp_row s = a_pattern
+sort_in pcons_row s = a_pattern
+sort_in ptuple_row s = a_pattern
+sort_in por_row s = a_pattern
+sort_in pas_row s = a_pattern
+sort_in case_row s = if s == 0 then a_pattern else an_expression
+sort_in eparen_row s = if s == 3 then a_type else an_expression
+sort_in ematch_row s = if s == 4 then a_case else an_expression
+sort_in etry_row s = if s == 4 then a_case else an_expression
+sort_in efunction_row s = if s == 4 then a_case else an_expression
+sort_in efun_row s = if s == 1 then a_pattern else an_expression
+sort_in _ s = an_expression
+
+-- the row of a case
+abbrev pub IsCaseRow : Row → Type 0
+IsCaseRow case_row = Unit {0}
+IsCaseRow _ = ⊥
+
+abbrev mutual
+  -- a node of a sort, and all nodes in it, are of such rows; of a type expression nothing is asked
+  pub IsTreeOfSort : Sort → Tree → Type 0
+  IsTreeOfSort an_expression (node r x ps) = IsCarriedRow r (node r x ps) ps × AreOfCarriedRows r ps
+  IsTreeOfSort a_pattern (node r x ps) = IsCarriedPatternRow r ps × AreOfCarriedRows r ps
+  IsTreeOfSort a_case (node r x ps) = IsCaseRow r × AreOfCarriedRows r ps
+  IsTreeOfSort a_type (node r x ps) = Unit {0}
+
+  -- so are all parts of a row, each of the sort of its slot
+  pub AreOfCarriedRows : Row → Forest → Type 0
+  AreOfCarriedRows r no_parts = Unit {0}
+  AreOfCarriedRows r (part s p ps) = IsOfSort (sort_in r s) p × AreOfCarriedRows r ps
 
   -- so is a part; one that is missing is too
-  pub IsOfCarriedRows : Part → Type 0
-  IsOfCarriedRows (taken t) = Unit {0}
-  IsOfCarriedRows (inner t) = IsTreeOfCarriedRows t
-  IsOfCarriedRows (missing at) = Unit {0}
+  pub IsOfSort : Sort → Part → Type 0
+  IsOfSort k (taken t) = Unit {0}
+  IsOfSort k (inner t) = IsTreeOfSort k t
+  IsOfSort k (missing at) = Unit {0}
 
--- an operand whose tree is well formed and made of such rows
+-- an expression made of such rows
+abbrev pub IsTreeOfCarriedRows : Tree → Type 0
+IsTreeOfCarriedRows t = IsTreeOfSort an_expression t
+
+-- a part that is one
+abbrev pub IsOfCarriedRows : Part → Type 0
+IsOfCarriedRows p = IsOfSort an_expression p
+
+-- a pattern made of such rows
+abbrev pub IsTreeOfCarriedPatterns : Tree → Type 0
+IsTreeOfCarriedPatterns t = IsTreeOfSort a_pattern t
+
+-- a part that is one
+abbrev pub IsOfCarriedPatterns : Part → Type 0
+IsOfCarriedPatterns p = IsOfSort a_pattern p
+
+-- an operand that is an expression whose tree is well formed and made of such rows
 pub record IsCarried (o : Numbered) : Type 0 where
   pub formed : IsOperandFormed o
   pub rows : IsOfCarriedRows o.part
+
+-- one that is such a case
+pub record IsCarriedCase (o : Numbered) : Type 0 where
+  pub formed : IsOperandFormed o
+  pub rows : IsOfSort a_case o.part

@@ -1,4 +1,5 @@
 -- Rows whose conditions are carried, and what is carried of them.
+pub mod CarriedPatternRows
 pub mod CarriedRows
 pub mod Asked
 pub mod Contracts

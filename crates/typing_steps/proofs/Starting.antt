@@ -8,7 +8,7 @@ use Rattle.type_model.specs.Types.{Path, Typ, occurs}
 use Rattle.type_model.specs.Types.{Typ as type, Typs as types}
 use Rattle.signature_model.specs.Declarations.{Name}
 use Rattle.typing_laws.proofs.Bools.{no_yes}
-use Rattle.typing_model.specs.Contexts.{Choice}
+use Rattle.typing_model.specs.Contexts.{Choice, in_item}
 use Rattle.type_terms.specs.declared.types.NodeRef.{NodeRef}
 use Rattle.type_nodes.specs.Nodes.{Node, Var, Con, bound_level, IsSound}
 use Rattle.type_nodes.specs.Readings.{Types, IsReading}
@@ -121,11 +121,12 @@ module _ (a : Sight) (J : Types) (roots : List ℕ) (sound : IsSound a.nodes) (o
   pub start_surrounds : {D : Declared} {G : Letters} {env : List Entry} {scope : Scope} (names : List ℕ) (N : Types) → IsSteady D → KnowsFixed (frame_at a J roots) a → ((x : Name) → a.written x ≡ None) → ((k r : ℕ) → slice_get names k ≡ Some r → IsIn roots r) →
       Covers (D.declaration a.nodes names N) (D.exception a.nodes names N) names env →
       ((M V : Types) (ch : Choice) → IsOwn a.nodes M → IsReading a.nodes V → Agrees a.item a G V ch → Stands SchemeReads (D.declaration a.nodes names N) (D.exception a.nodes names N) a.nodes M names V env (scope.env ch)) →
-      ((M V : Types) (ch : Choice) → IsOwn a.nodes M → Loose a.nodes V → Agrees a.item a G V ch → Stands SchemeFits (D.declaration a.nodes names N) (D.exception a.nodes names N) a.nodes M names V env (scope.env ch)) → Surrounds D (frame_at a J roots) a G env scope
-  start_surrounds names N steady fixed none among covered reads fits = record {
+      ((M V : Types) (ch : Choice) → IsOwn a.nodes M → Loose a.nodes V → Agrees a.item a G V ch → Stands SchemeFits (D.declaration a.nodes names N) (D.exception a.nodes names N) a.nodes M names V env (scope.env ch)) → scope.variables ≡ in_item a.item → Surrounds D (frame_at a J roots) a G env scope
+  start_surrounds names N steady fixed none among covered reads fits item = record {
     reached = start_reached;
     fixed = fixed;
     written = start_written none;
+    item = item;
     roots = names;
     names = N;
     steady = steady;
