@@ -110,8 +110,8 @@ pub alone_reads : (a b : Parts) (env : List Entry) (o : Numbered) (m : ℕ) → 
 alone_reads a b env o m none read operand =
     let alone = is_alone o.part none operand.formed in
     let one = alone_read a b env (λ c. (type_of a.item o).read c) (type_of a.item o).node m (read operand) in
-    subst (λ ns. ReadsAll a b env (λ c. (type_of a.item o).grouped_read c) ns (m ∷ [])) (sym alone.grouped) (λ aloud F scope G s item.
-    let x = one aloud F scope G s item in record { letters = x.letters; carried = carried_as (λ c. sym (alone.read c)) x.carried; means = x.means })
+    subst (λ ns. ReadsAll a b env (λ c. (type_of a.item o).grouped_read c) ns (m ∷ [])) (sym alone.grouped) (λ aloud F scope G s.
+    let x = one aloud F scope G s in record { letters = x.letters; carried = carried_as (λ c. sym (alone.read c)) x.carried; means = x.means })
   where
     few : (os : List Numbered) → at_least_two os ≡ None → (x y : Numbered) (us : List Numbered) → os ≡ x ∷ y ∷ us → ⊥
     few os e x y us f = let g : at_least_two (x ∷ y ∷ us) ≡ None = ap at_least_two (sym f) ∙ e in cc
@@ -139,9 +139,9 @@ several_in : (a b d : Parts) (env : List Entry) (number : ℕ) (at : Place) (t :
 several_in a b d env number at t x y zs ms formed row there noted only goes read =
     let h = several_given a.item number at t x y zs formed row there in
     let all = subst (λ i. ReadsAll b d env (λ c. read_all c (types_read i (x ∷ y ∷ zs))) (nodes_of (types_read i (x ∷ y ∷ zs))) ms) goes.item (read (subst (All IsTypeOperand) there (slot_operands number t 1 formed))) in
-    subst (λ ns. ReadsAll a d env (λ c. (type_of a.item (numbered number at (inner t))).grouped_read c) ns ms) (sym h.0) (λ aloud F scope G s item.
+    subst (λ ns. ReadsAll a d env (λ c. (type_of a.item (numbered number at (inner t))).grouped_read c) ns ms) (sym h.0) (λ aloud F scope G s.
     let first = plain_noted a b {F = F} {scope = scope} {G = G} number env (number_of a.item number) (λ c. c.env) noted only in
-    let z = all (first.stays.aloud ∙ aloud) F scope G (surrounds_on first.stays s) item in
+    let z = all (first.stays.aloud ∙ aloud) F scope G (surrounds_on first.stays s) in
     record { letters = z.letters; carried = carried_as (λ c. sym (h.1 c)) (carried_trans first z.carried); means = z.means })
 
 -- the same of an operand
@@ -240,9 +240,9 @@ several_end a b d m span (x ∷ y ∷ zs) v le is only made rest =
 
 -- a part that has the type which is written behind it
 pub annotated : (a b d : Parts) (env : List Entry) (o : Numbered) (place : Place) (found m : ℕ) → ReadsOperand a b env o m → Goes a b → AsksEqual b d place found m → IsTypeOperand o → Annotates a d env (type_of a.item o) place found m
-annotated a b d env o place found m read goes asked operand = λ aloud F scope G n k is s item has.
+annotated a b d env o place found m read goes asked operand = λ aloud F scope G n k is s has.
     let w = type_of a.item o in
-    let x = read operand aloud F scope G s item in
+    let x = read operand aloud F scope G s in
     let y = asked (ap is_aloud goes.telling ∙ aloud) F scope ((own w.node, m) ∷ G) (site n k) is (λ ch. ch.type_at w.node) (means_on x.carried.stays has) x.means in
     record { carried = carried_trans x.carried y; means = means_on y.stays x.means }
 

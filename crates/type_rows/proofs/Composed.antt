@@ -45,11 +45,11 @@ of_item n t item x = record { carried = carried_here (λ V c loose under g. sym 
 
 -- 'a, which was written before
 pub variable_again : (a : Parts) (env : List Entry) (n : ℕ) (t : Tok) (m : ℕ) → (sight a).written t.name ≡ Some m → ReadsTo a a env (λ c. variable_asks c n t c.variables) n m
-variable_again a env n t m there = λ aloud F scope G s item. of_item n t item (same_read n (record { carried = carried_refl; means = written_means s.written there }))
+variable_again a env n t m there = λ aloud F scope G s. of_item n t s.item (same_read n (record { carried = carried_refl; means = written_means s.written there }))
 
 -- 'a, for the first time in the item
 pub variable_first : (a b : Parts) (env : List Entry) (n : ℕ) (t : Tok) (m : NodeRef) → Makes a.store b.store m.0 (Var (level_for (min a.level 1)) any_scope) → PutsVariable a b t.name m → ReadsTo a b env (λ c. variable_asks c n t c.variables) n m.0
-variable_first a b env n t m made puts = λ aloud F scope G s item. of_item n t item (same_read n (variable_made a b {F = F} {scope = scope} {G = G} s.reached made puts))
+variable_first a b env n t m made puts = λ aloud F scope G s. of_item n t s.item (same_read n (variable_made a b {F = F} {scope = scope} {G = G} s.reached made puts))
 
 -- there are as many nodes as types
 pub as_many : {F : Frame} {a : Sight} {G : Letters} (ns ms : List ℕ) → AllMean F a G (types_at ns) ms → length ns ≡ length ms
@@ -68,7 +68,7 @@ not_one k = ne_eqb 1 (suc (suc k)) (λ e. absurd (omega arith))
 
 -- parentheses around nothing, as only a malformed tree has them
 pub ends_empty : (a b : Parts) (at : Place) (m : ℕ) → MakesVar a b m any_scope → OnlyStore a b → EndsParentheses a b at [] m
-ends_empty a b at m made rest env n ts = λ aloud F scope G s item all. by ts all (any_read a b {scope = scope} {G = G} n s.reached made rest)
+ends_empty a b at m made rest env n ts = λ aloud F scope G s all. by ts all (any_read a b {scope = scope} {G = G} n s.reached made rest)
   where
     by : {F : Frame} {scope : Scope} {G : Letters} (ts : List TypeExpression) → AllMean F (sight a) G (types_at (nodes_of ts)) [] → ReadAs F scope (λ c. []) (sight a) G (sight b) n m → ReadAs F scope (λ c. in_parentheses c n at ts) (sight a) G (sight b) n m
     by [] all x = x
@@ -76,7 +76,7 @@ ends_empty a b at m made rest env n ts = λ aloud F scope G s item all. by ts al
 
 -- ( t )
 pub ends_single : (a : Parts) (at : Place) (m : ℕ) → EndsParentheses a a at (m ∷ []) m
-ends_single a at m env n ts = λ aloud F scope G s item all. by ts all
+ends_single a at m env n ts = λ aloud F scope G s all. by ts all
   where
     by : {F : Frame} {scope : Scope} {G : Letters} (ts : List TypeExpression) → AllMean F (sight a) G (types_at (nodes_of ts)) (m ∷ []) → ReadAs F scope (λ c. in_parentheses c n at ts) (sight a) G (sight a) n m
     by {F = F} {G = G} [] all = elim all [ ]
@@ -85,7 +85,7 @@ ends_single a at m env n ts = λ aloud F scope G s item all. by ts all
 
 -- ( t, t ), which is no type
 pub ends_several : (a b d : Parts) (m x y : ℕ) (span : Span) (ms : List ℕ) (v : Verdict) → ArityIs v a b span (codes "(,)") 1 (length (x ∷ y ∷ ms)) → OnlyFaults a b → MakesVar b d m any_scope → OnlyStore b d → EndsParentheses a d (place_of span) (x ∷ y ∷ ms) m
-ends_several a b d m x y span ms v is only made rest env n ts = λ aloud F scope G s item all. by ts all aloud s.reached item
+ends_several a b d m x y span ms v is only made rest env n ts = λ aloud F scope G s all. by ts all aloud s.reached s.item
   where
     by : {F : Frame} {scope : Scope} {G : Letters} (ts : List TypeExpression) → AllMean F (sight a) G (types_at (nodes_of ts)) (x ∷ y ∷ ms) → is_aloud a.telling ≡ true → Reaches F (sight a) → scope.variables ≡ in_item F.owner →
         ReadAs F scope (λ c. in_parentheses c n (place_of span) ts) (sight a) G (sight d) n m
@@ -100,22 +100,22 @@ ends_several a b d m x y span ms v is only made rest env n ts = λ aloud F scope
 
 -- t * t
 pub ends_tuple : (a b : Parts) (env : List Entry) (ns ms : List ℕ) (n m : ℕ) → (All (IsNode a.store.nodes) ms → Makes a.store b.store m (Tuple ms)) → OnlyStore a b → EndsRead a b env (λ c. same (type_at c n) (type.Tuple (types_of (types_of_nodes c ns))) ∷ []) ns ms n m
-ends_tuple a b env ns ms n m made rest = λ aloud F scope G s item all.
+ends_tuple a b env ns ms n m made rest = λ aloud F scope G s all.
     let x = same_read n (tuple_over a b {scope = scope} s.reached all made rest) in
     record { carried = carried_as (λ c. ap (λ ts. same (type_at c n) (type.Tuple (types_of ts)) ∷ []) (types_by_nodes c.chosen ns)) x.carried; means = x.means }
 
 -- t -> t
 pub ends_arrow : (a b : Parts) (env : List Entry) (from to x y n m : ℕ) → (IsNode a.store.nodes x → IsNode a.store.nodes y → Makes a.store b.store m (Arrow x y)) → OnlyStore a b →
     EndsRead a b env (λ c. same (type_at c n) (type.Arrow (type_at c from) (type_at c to)) ∷ []) (from ∷ to ∷ []) (x ∷ y ∷ []) n m
-ends_arrow a b env from to x y n m made rest = λ aloud F scope G s item all. by all
+ends_arrow a b env from to x y n m made rest = λ aloud F scope G s all. by all
   where
     by : {F : Frame} {scope : Scope} {G : Letters} → AllMean F (sight a) G (types_at (from ∷ to ∷ [])) (x ∷ y ∷ []) → ReadAs F scope (λ c. same (type_at c n) (type.Arrow (type_at c from) (type_at c to)) ∷ []) (sight a) G (sight b) n m
     by {scope = scope} (one_means p (one_means q none_mean)) = same_read n (arrow_over a b {scope = scope} p q made rest)
 
 -- another row names no type
 pub ends_other : (a b : Parts) (env : List Entry) (ns ms : List ℕ) (n m : ℕ) → MakesVar a b m any_scope → OnlyStore a b → EndsRead a b env (λ c. unresolved c n) ns ms n m
-ends_other a b env ns ms n m made rest = λ aloud F scope G s item all. unresolved_read a b n s.reached item made rest
+ends_other a b env ns ms n m made rest = λ aloud F scope G s all. unresolved_read a b n s.reached s.item made rest
 
 -- a row without parts
 pub ends_alone : (a b : Parts) (env : List Entry) (asks : Asks) (ns ms : List ℕ) (n m : ℕ) → ReadsTo a b env asks n m → EndsRead a b env asks ns ms n m
-ends_alone a b env asks ns ms n m read = λ aloud F scope G s item all. read aloud F scope G s item
+ends_alone a b env asks ns ms n m read = λ aloud F scope G s all. read aloud F scope G s

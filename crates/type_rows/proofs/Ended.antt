@@ -72,13 +72,13 @@ arrow_ends a b t ms m row made plain env number at formed placed =
     right = (type_of a.item (filled_in number t 2)).node
 
     by : (ms : List ℕ) → MakesArrowOver a b ms m → EndsRead a b env (λ c. end_asks tarrow_row a.item number at t c) (left ∷ right ∷ []) ms (number_of a.item number) m
-    by [] h = λ aloud F scope G s item all. elim all [ ]
-    by (x ∷ []) h = λ aloud F scope G s item all. absurd (few all)
+    by [] h = λ aloud F scope G s all. elim all [ ]
+    by (x ∷ []) h = λ aloud F scope G s all. absurd (few all)
       where
         few : {F : Frame} {G : Letters} → AllMean F (sight a) G (types_at (left ∷ right ∷ [])) (x ∷ []) → ⊥
         few {F = F} {G = G} (one_means p ps) = elim ps [ ]
     by (x ∷ y ∷ []) h = ends_arrow a b env left right x y (number_of a.item number) m h.0 h.1
-    by (x ∷ y ∷ z ∷ zs) h = λ aloud F scope G s item all. absurd (many all)
+    by (x ∷ y ∷ z ∷ zs) h = λ aloud F scope G s all. absurd (many all)
       where
         many : {F : Frame} {G : Letters} → AllMean F (sight a) G (types_at (left ∷ right ∷ [])) (x ∷ y ∷ z ∷ zs) → ⊥
         many {F = F} {G = G} (one_means p (one_means q qs)) = elim qs [ ]
@@ -106,10 +106,10 @@ no_type _ v p t a h = tt
 -- another row, which is no type expression
 pub other_ends : (a b : Parts) (nd : Node) (ms : List ℕ) (m : ℕ) → ((out-Node nd).row ≡ name.Tvar → ⊥) → ((out-Node nd).row ≡ name.Tparen → ⊥) → ((out-Node nd).row ≡ name.Ttuple → ⊥) → ((out-Node nd).row ≡ name.Tarrow → ⊥) → MakesVar a b m any_scope → OnlyStore a b →
     EndsPlainRow a b (node_view nd) ms m
-other_ends a b nd ms m v p t x made rest plain env number at formed placed = λ aloud F scope G s item all.
+other_ends a b nd ms m v p t x made rest plain env number at formed placed = λ aloud F scope G s all.
     let row = view_row nd (out-Node nd).row refl in
     let none = subst IsNoType (sym row) (no_type (out-Node nd).row v p t x (subst HasNoConstructor row plain)) in
-    let y = ends_other a b env [] [] (number_of a.item number) m made rest aloud F scope G s item none_mean in
+    let y = ends_other a b env [] [] (number_of a.item number) m made rest aloud F scope G s none_mean in
     record { carried = carried_as (λ c. no_end (row_of (node_view nd)) a.item number at (node_view nd) c none) y.carried; means = y.means }
 
 no_constructor : (r : RowName) → (r ≡ name.Tcon → ⊥) → (r ≡ name.Tapp → ⊥) → HasNoConstructor (names.row_of r)

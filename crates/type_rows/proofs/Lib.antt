@@ -11,3 +11,4 @@ pub mod Named
 pub mod Placed
 pub mod Given
 pub mod Ended
+pub mod Annotated

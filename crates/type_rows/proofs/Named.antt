@@ -10,7 +10,7 @@ use Rattle.signature_model.specs.Changes.{argument}
 use Rattle.signature_model.specs.Matching.{used}
 use Rattle.signature_model.specs.Lookups.{FoundAmong, an_entry, a_hole, nothing, lookup}
 use Rattle.typing_model.specs.Demands.{site, type_word, Condition, same, test, arity}
-use Rattle.typing_model.specs.Contexts.{Context, in_item, is_kept, ask, type_at, unresolved, filled_at, filled_in}
+use Rattle.typing_model.specs.Contexts.{Context, is_kept, ask, type_at, unresolved, filled_at, filled_in}
 use Rattle.typing_model.specs.Parts as parts
 use Rattle.typing_model.specs.Names.{names_of, referent_of, then_by, declaration_in}
 use Rattle.typing_model.specs.TypeExpressions.{types_of_nodes, declared_type, constructor_asks}
@@ -129,7 +129,7 @@ after_lookup c n qs t ns = declared_type c n t ns (if is_kept c n 0 then then_by
 
 -- The path was looked up.
 module _ (a b e : Parts) (env : List Entry) (given : Option Entry) (qs : List Tok) (t : Tok) (ns ms : List ℕ) (n m : ℕ) (bound : BoundIs (found_at env qs kind.TypeName t) given a b (lost_among env qs) t word.Type) (names_to : NamesTo given b e t ms m)
-    {F : Frame} {scope : Scope} {G : Letters} (aloud : is_aloud a.telling ≡ true) (names : Surrounds as_declared F (sight a) G env scope) (item : scope.variables ≡ in_item F.owner) (all : AllMean F (sight a) G (types_at ns) ms) where
+    {F : Frame} {scope : Scope} {G : Letters} (aloud : is_aloud a.telling ≡ true) (names : Surrounds as_declared F (sight a) G env scope) (all : AllMean F (sight a) G (types_at ns) ms) where
   judged : JudgedAs F scope (λ c. bound_asks c (site n 0) type_kind type_word qs t) (sight a) G (sight b) G (site n 0) (is_found_here (found_at env qs kind.TypeName t))
   judged = bound_asked a b given word.Type qs t kind.TypeName type_word (site n 0) names aloud bound
 
@@ -143,7 +143,7 @@ module _ (a b e : Parts) (env : List Entry) (given : Option Entry) (qs : List To
   unknown : (actual : (c : Context) → AreKept c.kept judged.carried.judged → (V : Types) → Loose a.store.nodes V → IsUnder scope c → Agrees F.owner (sight a) G V c.chosen → after_lookup c n qs t ns ≡ unresolved c n) → NamesTo None b e t ms m →
       ReadAs F scope (λ c. constructor_asks c n (path_to qs t) ns) (sight a) G (sight e) n m
   unknown actual to =
-      let x = unresolved_read b e {F = F} {scope = scope} {G = G} n (judged.carried.stays.reaches names.reached) item to.0 to.1 in
+      let x = unresolved_read b e {F = F} {scope = scope} {G = G} n (judged.carried.stays.reaches names.reached) names.item to.0 to.1 in
       record { carried = carried_after judged.carried (λ V c loose under g h. actual c h V loose under g) x.carried; means = x.means }
 
   pub by_found : (f : FoundAmong Entry) → found_at env qs kind.TypeName t ≡ f → BoundIs f given a b (lost_among env qs) t word.Type → ReadAs F scope (λ c. constructor_asks c n (path_to qs t) ns) (sight a) G (sight e) n m
@@ -180,15 +180,15 @@ module _ (a b e : Parts) (env : List Entry) (given : Option Entry) (qs : List To
       found : ReadAs F scope (λ c. constructor_asks c n (path_to qs t) ns) (sight a) G (sight e) n m
       found =
           let st = judged.carried.stays in
-          let y = to (st.aloud ∙ aloud) F scope G n ns names.roots names.names here.declaration here.named (st.reaches names.reached) item here.here alike_b
+          let y = to (st.aloud ∙ aloud) F scope G n ns names.roots names.names here.declaration here.named (st.reaches names.reached) names.item here.here alike_b
           (λ k r f. root_on st names.reached (names.are_roots k r f)) (all_mean_on st all) in
           record { carried = carried_after judged.carried each y.carried; means = y.means }
 
 -- A constructor of types whose name is there.
 pub name_ends : (a b e : Parts) (env : List Entry) (given : Option Entry) (qs : List Tok) (t : Tok) (ns ms : List ℕ) (n m : ℕ) → BoundIs (found_at env qs kind.TypeName t) given a b (lost_among env qs) t word.Type → NamesTo given b e t ms m →
     EndsRead a e env (λ c. constructor_asks c n (path_to qs t) ns) ns ms n m
-name_ends a b e env given qs t ns ms n m bound names_to = λ aloud F scope G names item all. by_found a b e env given qs t ns ms n m bound names_to aloud names item all (found_at env qs kind.TypeName t) refl bound
+name_ends a b e env given qs t ns ms n m bound names_to = λ aloud F scope G names all. by_found a b e env given qs t ns ms n m bound names_to aloud names all (found_at env qs kind.TypeName t) refl bound
 
 -- A constructor of types whose name is missing.
 pub nameless_ends : (a b : Parts) (env : List Entry) (qs : List Tok) (ns ms : List ℕ) (n m : ℕ) → MakesVar a b m any_scope → OnlyStore a b → EndsRead a b env (λ c. constructor_asks c n (record { qualifiers = qs; last = None }) ns) ns ms n m
-nameless_ends a b env qs ns ms n m made rest = λ aloud F scope G s item all. unresolved_read a b n s.reached item made rest
+nameless_ends a b env qs ns ms n m made rest = λ aloud F scope G s all. unresolved_read a b n s.reached s.item made rest

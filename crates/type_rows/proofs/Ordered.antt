@@ -22,7 +22,7 @@ types_more (k ∷ ns) n = ap (λ ts. (λ (ch : Choice). ch.type_at k) ∷ ts) (t
 
 -- no type expression yet
 pub none_read : (a : Parts) (env : List Entry) (all : List TypeExpression) → ReadsFirst a a env all all []
-none_read a env all = λ aloud F scope G s item. record {
+none_read a env all = λ aloud F scope G s. record {
   done = λ c. [];
   nodes = [];
   read = record { letters = []; carried = carried_refl; means = none_mean };
@@ -32,9 +32,9 @@ none_read a env all = λ aloud F scope G s item. record {
 
 -- one type expression more
 pub one_read : (a b d : Parts) (env : List Entry) (all left : List TypeExpression) (t : TypeExpression) (ms : List ℕ) (m : ℕ) → ReadsFirst a b env all (t ∷ left) ms → Goes a b → ReadsTo b d env (λ c. t.read c) t.node m → ReadsFirst a d env all left (ms ++ m ∷ [])
-one_read a b d env all left t ms m first goes read = λ aloud F scope G s item.
-    let x = first aloud F scope G s item in
-    let y = read (ap is_aloud goes.telling ∙ aloud) F scope (x.read.letters ++ G) (surrounds_on x.read.carried.stays s) item in
+one_read a b d env all left t ms m first goes read = λ aloud F scope G s.
+    let x = first aloud F scope G s in
+    let y = read (ap is_aloud goes.telling ∙ aloud) F scope (x.read.letters ++ G) (surrounds_on x.read.carried.stays s) in
     record {
       done = λ c. x.done c ++ t.read c;
       nodes = x.nodes ++ t.node ∷ [];
@@ -49,8 +49,8 @@ one_read a b d env all left t ms m first goes read = λ aloud F scope G s item.
 
 -- all of them
 pub all_read : (a b : Parts) (env : List Entry) (all : List TypeExpression) (ms : List ℕ) → ReadsFirst a b env all [] ms → ReadsAll a b env (λ c. read_all c all) (nodes_of all) ms
-all_read a b env all ms first = λ aloud F scope G s item.
-    let x = first aloud F scope G s item in
+all_read a b env all ms first = λ aloud F scope G s.
+    let x = first aloud F scope G s in
     record {
       letters = x.read.letters;
       carried = carried_as (λ c. sym (x.asks c ∙ append-nil (x.done c))) x.read.carried;
@@ -59,11 +59,11 @@ all_read a b env all ms first = λ aloud F scope G s item.
 
 -- no part at all
 pub no_parts_read : (a : Parts) (env : List Entry) → ReadsAll a a env (λ c. []) [] []
-no_parts_read a env = λ aloud F scope G s item. record { letters = []; carried = carried_refl; means = none_mean }
+no_parts_read a env = λ aloud F scope G s. record { letters = []; carried = carried_refl; means = none_mean }
 
 -- a single type expression in front of a constructor
 pub alone_read : (a b : Parts) (env : List Entry) (asks : Asks) (n m : ℕ) → ReadsTo a b env asks n m → ReadsAll a b env asks (n ∷ []) (m ∷ [])
-alone_read a b env asks n m read = λ aloud F scope G s item. let x = read aloud F scope G s item in record { letters = (own n, m) ∷ []; carried = x.carried; means = one_means x.means none_mean }
+alone_read a b env asks n m read = λ aloud F scope G s. let x = read aloud F scope G s in record { letters = (own n, m) ∷ []; carried = x.carried; means = one_means x.means none_mean }
 
 -- the types of nodes by a choice
 pub types_by_nodes : (ch : Choice) (ns : List ℕ) → types_by ch (types_at ns) ≡ map ch.type_at ns

@@ -106,22 +106,22 @@ unresolved_read a b {F} {scope} {G} {m} n reached item made rest =
 
 -- such a type expression, by its call
 pub unresolved_reads : (a b : Parts) (env : List Entry) (n m : ℕ) → MakesVar a b m any_scope → OnlyStore a b → ReadsTo a b env (λ c. unresolved c n) n m
-unresolved_reads a b env n m made rest = λ aloud F scope G s item. unresolved_read a b n s.reached item made rest
+unresolved_reads a b env n m made rest = λ aloud F scope G s. unresolved_read a b n s.reached s.item made rest
 
 -- what is recorded for the node of a type expression has no type
 pub noted_reads : (a b d : Parts) (env : List Entry) (asks : Asks) (n m number : ℕ) (seen : Seen) → seen.ty ≡ None → ReadsTo a b env asks n m → Noted b.telling b d number seen → OnlyIndex b d → ReadsTo a d env (λ c. tell n c ++ asks c) n m
-noted_reads a b d env asks n m number seen none read noted rest = λ aloud F scope G s item.
-    let x = read aloud F scope G s item in
+noted_reads a b d env asks n m number seen none read noted rest = λ aloud F scope G s.
+    let x = read aloud F scope G s in
     let y : Carried F scope (λ c. []) (sight b) ((own n, m) ∷ G) (sight d) ((own n, m) ∷ G) = carried_idle none_idle (untyped_noted b d number seen none noted rest) (ap (λ f. (sight (record b { faults = f })).reports) rest.faults) in
     record { carried = carried_trans (told_first n) (carried_as (λ c. append-nil (asks c)) (carried_trans x.carried y)); means = means_on y.stays x.means }
 
 -- the parts of a row, and then its end
 pub row_reads : (a b d : Parts) (env : List Entry) (front ends : Asks) (ns ms : List ℕ) (n m : ℕ) → ReadsAll a b env front ns ms → Goes a b → EndsRead b d env ends ns ms n m → ReadsTo a d env (λ c. front c ++ ends c) n m
-row_reads a b d env front ends ns ms n m parts goes end = λ aloud F scope G s item.
-    let x = parts aloud F scope G s item in
-    let y = end (ap is_aloud goes.telling ∙ aloud) F scope (x.letters ++ G) (surrounds_on x.carried.stays s) item x.means in
+row_reads a b d env front ends ns ms n m parts goes end = λ aloud F scope G s.
+    let x = parts aloud F scope G s in
+    let y = end (ap is_aloud goes.telling ∙ aloud) F scope (x.letters ++ G) (surrounds_on x.carried.stays s) x.means in
     read_closed x.letters (then_to x.carried y)
 
 -- what is asked may be written in another way
 pub reads_as : (a b : Parts) (env : List Entry) (asks others : Asks) (n m : ℕ) → ((c : Context) → asks c ≡ others c) → ReadsTo a b env asks n m → ReadsTo a b env others n m
-reads_as a b env asks others n m e read = λ aloud F scope G s item. let x = read aloud F scope G s item in record { carried = carried_as e x.carried; means = x.means }
+reads_as a b env asks others n m e read = λ aloud F scope G s. let x = read aloud F scope G s in record { carried = carried_as e x.carried; means = x.means }

@@ -1,7 +1,7 @@
 -- What functions that read type expressions of an item carry.
 use Rattle.std.specs.Prelude.{◌≡◌, ℕ, true, List, ◌∷◌, ◌++◌, map}
 use Rattle.type_model.specs.Types.{Typ}
-use Rattle.typing_model.specs.Contexts.{Choice, Context, in_item}
+use Rattle.typing_model.specs.Contexts.{Choice, Context}
 use Rattle.typing_model.specs.Parts.{TypeExpression}
 use Rattle.typing_model.specs.TypeExpressions.{read_all, nodes_of}
 use Rattle.env_table.specs.declared.entries.Entry.{Entry}
@@ -18,10 +18,9 @@ use Rattle.typing_steps.specs.Typing.{as_declared}
 abbrev pub ReadAs : Frame → Scope → Asks → Sight → Letters → Sight → (n m : ℕ) → Type 0
 ReadAs F scope asks a G b n m = CarriedTo F scope asks a G b ((own n, m) ∷ G) (λ ch. ch.type_at n) m
 
--- Where faults are reported, a call carries these conditions of a type expression with the node n, whatever the frame, the names in scope and the letters around it;
--- the type variables in it are those of the frame's item.
+-- Where faults are reported, a call carries these conditions of a type expression with the node n, whatever the frame, the names in scope and the letters around it.
 abbrev pub ReadsTo : (a b : Parts) → List Entry → Asks → (n m : ℕ) → Type 0
-ReadsTo a b env asks n m = is_aloud a.telling ≡ true → (F : Frame) (scope : Scope) (G : Letters) → Surrounds as_declared F (sight a) G env scope → scope.variables ≡ in_item F.owner → ReadAs F scope asks (sight a) G (sight b) n m
+ReadsTo a b env asks n m = is_aloud a.telling ≡ true → (F : Frame) (scope : Scope) (G : Letters) → Surrounds as_declared F (sight a) G env scope → ReadAs F scope asks (sight a) G (sight b) n m
 
 -- the types that a choice has for nodes
 abbrev pub types_at : List ℕ → List (Choice → Typ)
@@ -35,7 +34,7 @@ pub record AllRead (F : Frame) (scope : Scope) (asks : Asks) (a : Sight) (G : Le
 
 -- where faults are reported, a call carries the conditions of several type expressions
 abbrev pub ReadsAll : (a b : Parts) → List Entry → Asks → (ns ms : List ℕ) → Type 0
-ReadsAll a b env asks ns ms = is_aloud a.telling ≡ true → (F : Frame) (scope : Scope) (G : Letters) → Surrounds as_declared F (sight a) G env scope → scope.variables ≡ in_item F.owner → AllRead F scope asks (sight a) G (sight b) ns ms
+ReadsAll a b env asks ns ms = is_aloud a.telling ≡ true → (F : Frame) (scope : Scope) (G : Letters) → Surrounds as_declared F (sight a) G env scope → AllRead F scope asks (sight a) G (sight b) ns ms
 
 -- the first ones were read, and some are left
 pub record FirstRead (F : Frame) (scope : Scope) (a : Sight) (G : Letters) (b : Sight) (all left : List TypeExpression) (ms : List ℕ) : Type 0 where
@@ -47,9 +46,9 @@ pub record FirstRead (F : Frame) (scope : Scope) (a : Sight) (G : Letters) (b : 
 
 -- the same in a loop
 abbrev pub ReadsFirst : (a b : Parts) → List Entry → (all left : List TypeExpression) → List ℕ → Type 0
-ReadsFirst a b env all left ms = is_aloud a.telling ≡ true → (F : Frame) (scope : Scope) (G : Letters) → Surrounds as_declared F (sight a) G env scope → scope.variables ≡ in_item F.owner → FirstRead F scope (sight a) G (sight b) all left ms
+ReadsFirst a b env all left ms = is_aloud a.telling ≡ true → (F : Frame) (scope : Scope) (G : Letters) → Surrounds as_declared F (sight a) G env scope → FirstRead F scope (sight a) G (sight b) all left ms
 
 -- the end of a type expression with the node n, once the parts with the nodes ns are read and have the types of ms
 abbrev pub EndsRead : (a b : Parts) → List Entry → Asks → (ns ms : List ℕ) → (n m : ℕ) → Type 0
-EndsRead a b env asks ns ms n m = is_aloud a.telling ≡ true → (F : Frame) (scope : Scope) (G : Letters) → Surrounds as_declared F (sight a) G env scope → scope.variables ≡ in_item F.owner → AllMean F (sight a) G (types_at ns) ms →
+EndsRead a b env asks ns ms n m = is_aloud a.telling ≡ true → (F : Frame) (scope : Scope) (G : Letters) → Surrounds as_declared F (sight a) G env scope → AllMean F (sight a) G (types_at ns) ms →
     ReadAs F scope asks (sight a) G (sight b) n m

@@ -6,7 +6,7 @@ use Rattle.tree_model.specs.Trees.{Place, Tree, Part, node, taken, inner, missin
 use Rattle.row_parts.specs.Numbered.{Numbered}
 use Rattle.type_model.specs.Types.{Typ}
 use Rattle.typing_model.specs.Demands.{Condition, equal}
-use Rattle.typing_model.specs.Contexts.{Choice, Context, in_item, ask, type_at, unresolved}
+use Rattle.typing_model.specs.Contexts.{Choice, Context, ask, type_at, unresolved}
 use Rattle.typing_model.specs.Parts.{Written, TypeExpression}
 use Rattle.typing_model.specs.TypeExpressions.{read_all, nodes_of, tvar, constructor_asks, in_parentheses}
 use Rattle.type_nodes.specs.Nodes.{Arrow, IsNode}
@@ -102,5 +102,5 @@ EndsPlainRow a b t ms m = HasNoConstructor (row_of t) → (env : List Entry) (nu
 
 -- a part with the type `is` has the type w that is written behind it, whose node has a letter then; it is demanded for any site
 abbrev pub Annotates : (a b : Parts) → List Entry → TypeExpression → Place → (found m : ℕ) → Type 0
-Annotates a b env w place found m = is_aloud a.telling ≡ true → (F : Frame) (scope : Scope) (G : Letters) (n k : ℕ) (is : Choice → Typ) → Surrounds as_declared F (sight a) G env scope → scope.variables ≡ in_item F.owner → Means F (sight a) G is found →
+Annotates a b env w place found m = is_aloud a.telling ≡ true → (F : Frame) (scope : Scope) (G : Letters) (n k : ℕ) (is : Choice → Typ) → Surrounds as_declared F (sight a) G env scope → Means F (sight a) G is found →
     CarriedTo F scope (λ c. w.read c ++ ask n k place (equal (is c.chosen) (type_at c w.node))) (sight a) G (sight b) ((own w.node, m) ∷ G) (λ ch. ch.type_at w.node) m
