@@ -279,7 +279,7 @@ or_row a b d env n at p ps seen first sides matched goes asked = λ aloud F scop
         typed = record { carried = carried_trans x.carried y.carried; means = means_on y.carried.stays h.head.means };
         end = ends_same n (λ ch. ch.type_at p.node);
       };
-      names = λ o st k. all_bound_on (stays_trans y.carried.stays st) h.head.bound;
+      names = λ o st k known. all_bound_on (stays_trans y.carried.stays st) h.head.bound;
     }
 
 -- p | p, as the row of a node

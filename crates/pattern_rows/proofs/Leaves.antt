@@ -59,12 +59,12 @@ named_row a b d env n at t ty e seen any goes fresh entry = λ aloud F scope G s
         typed = to_then x y;
         end = ends_own n;
       };
-      names = λ o st h. one_bound (record { named = refl; placed = refl; chosen = λ c. refl; means = h; entry = entry }) none_bound;
+      names = λ o st h known. one_bound (record { named = refl; placed = refl; chosen = λ c. refl; means = h; known = known; entry = entry }) none_bound;
     }
 
 -- x, whose token is missing
 pub nameless_row : (a b : Parts) (env : List Entry) (n : ℕ) (at : Place) (m : ℕ) (seen : List Name) → TypesAny a b m → MatchesRow a b env (pname n at None) seen [] n m
-nameless_row a b env n at m seen any = λ aloud F scope G s. record { row = row_any a b {env = env} n any aloud F scope G s; names = λ o st h. none_bound }
+nameless_row a b env n at m seen any = λ aloud F scope G s. record { row = row_any a b {env = env} n any aloud F scope G s; names = λ o st h known. none_bound }
 
 -- x, as the row of a node
 pub name_row_typed : (a d : Parts) (env : List Entry) (i n : ℕ) (at : Place) (t : Tree) (seen : List Name) (added : List Bind) (m : ℕ) → row_of t ≡ pname_row → MatchesRow a d env (pname (number_of i n) at (token_in t 0)) seen added (number_of i n) m →
@@ -76,14 +76,14 @@ pub any_row_typed : (a b : Parts) (env : List Entry) (i n : ℕ) (at : Place) (t
 any_row_typed a b env i n at t seen m row any = subst (λ p. MatchesRow a b env p seen [] (number_of i n) m) (sym (any_term i n at t row)) here
   where
     here : MatchesRow a b env (over (number_of i n) at [] (λ c. [])) seen [] (number_of i n) m
-    here = λ aloud F scope G s. record { row = row_any a b {env = env} (number_of i n) any aloud F scope G s; names = λ o st h. none_bound }
+    here = λ aloud F scope G s. record { row = row_any a b {env = env} (number_of i n) any aloud F scope G s; names = λ o st h known. none_bound }
 
 -- what is no pattern
 pub no_row_typed : (a b : Parts) (env : List Entry) (i n : ℕ) (at : Place) (t : Tree) (seen : List Name) (m : ℕ) → IsNoPattern (row_of t) → TypesAny a b m → MatchesRow a b env (row_pattern i n at t) seen [] (number_of i n) m
 no_row_typed a b env i n at t seen m other any = subst (λ p. MatchesRow a b env p seen [] (number_of i n) m) (sym (no_term i n at t other)) here
   where
     here : MatchesRow a b env (no_pattern_at (number_of i n) at) seen [] (number_of i n) m
-    here = λ aloud F scope G s. record { row = row_any a b {env = env} (number_of i n) any aloud F scope G s; names = λ o st h. none_bound }
+    here = λ aloud F scope G s. record { row = row_any a b {env = env} (number_of i n) any aloud F scope G s; names = λ o st h known. none_bound }
 
 -- 1, "a", true
 pub constant_row_typed : (a b : Parts) (env : List Entry) (i n : ℕ) (at : Place) (t : Tree) (seen : List Name) (m : ℕ) → row_of t ≡ pconst_row → TypesRow a b env (constant false (number_of i n) (token_in t 0)) (number_of i n) m →
@@ -91,7 +91,7 @@ pub constant_row_typed : (a b : Parts) (env : List Entry) (i n : ℕ) (at : Plac
 constant_row_typed a b env i n at t seen m row typed = subst (λ p. MatchesRow a b env p seen [] (number_of i n) m) (sym (constant_term i n at t row)) here
   where
     here : MatchesRow a b env (pconst (number_of i n) at (token_in t 0)) seen [] (number_of i n) m
-    here = λ aloud F scope G s. record { row = typed aloud F scope G s; names = λ o st h. none_bound }
+    here = λ aloud F scope G s. record { row = typed aloud F scope G s; names = λ o st h known. none_bound }
 
 -- - 1
 pub minus_row_typed : (a b : Parts) (env : List Entry) (i n : ℕ) (at : Place) (t : Tree) (seen : List Name) (m : ℕ) → row_of t ≡ pneg_row → TypesRow a b env (constant true (number_of i n) (token_in t 1)) (number_of i n) m →
@@ -99,7 +99,7 @@ pub minus_row_typed : (a b : Parts) (env : List Entry) (i n : ℕ) (at : Place) 
 minus_row_typed a b env i n at t seen m row typed = subst (λ p. MatchesRow a b env p seen [] (number_of i n) m) (sym (minus_term i n at t row)) here
   where
     here : MatchesRow a b env (pneg (number_of i n) at (token_in t 1)) seen [] (number_of i n) m
-    here = λ aloud F scope G s. record { row = typed aloud F scope G s; names = λ o st h. none_bound }
+    here = λ aloud F scope G s. record { row = typed aloud F scope G s; names = λ o st h known. none_bound }
 
 -- A
 pub con_row_typed : (a b : Parts) (env : List Entry) (i n : ℕ) (at : Place) (t : Tree) (seen : List Name) (known : Bool) (m : ℕ) (argument : Option ℕ) → row_of t ≡ pcon_row → TypesConstructor a b env (path_of (path_in t 0 1)) 0 known m argument →
@@ -110,4 +110,4 @@ con_row_typed a b env i n at t seen known m argument row typed = subst (λ p. Ma
     p = path_of (path_in t 0 1)
 
     here : MatchesRow a b env (pcon (number_of i n) at p) seen [] (number_of i n) m
-    here = λ aloud F scope G s. record { row = alone_typed a b {env = env} p.qualifiers p.last known m argument (number_of i n) typed aloud F scope G s; names = λ o st h. none_bound }
+    here = λ aloud F scope G s. record { row = alone_typed a b {env = env} p.qualifiers p.last known m argument (number_of i n) typed aloud F scope G s; names = λ o st h known. none_bound }

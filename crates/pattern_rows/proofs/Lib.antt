@@ -9,3 +9,4 @@ pub mod Listed
 pub mod Beside
 pub mod Going
 pub mod Matching
+pub mod Applied

@@ -28,30 +28,34 @@ use Rattle.typing_steps.specs.Building.{TypesConstructor}
 use Rattle.typing_steps.specs.Typing.{TypesAny}
 use Rattle.typing_steps.proofs.Rows.{var_any}
 use Rattle.operand_laws.specs.Formed.{row_of, is_needed, may_repeat, IsFormed}
-use Rattle.operand_laws.specs.Operands.{number_of, pattern_of, path_of}
+use Rattle.operand_laws.specs.Operands.{number_of, pattern_of, type_of, path_of}
 use Rattle.operand_laws.proofs.SlotBySlot.{all_in_order, exactly_one}
+use Rattle.operand_laws.proofs.Standing.{pattern_of_stands}
 use Rattle.typing_rows.proofs.Terms.{two_operands}
+use Rattle.typing_rows.specs.CarriedRows.{sort_in}
+use Rattle.type_rows.specs.Operands.{IsTypeOperand, Annotates}
+use Rattle.type_rows.proofs.Placed.{first_operand}
 use Rattle.pattern_rows.specs.Bounds.{Bind, Adds}
 use Rattle.pattern_rows.specs.CarriedPatterns.{IsCarriedPattern, MatchesOperand, MatchesNode, MatchesNodeOf, MatchesOperands, MatchesBeside}
 use Rattle.pattern_rows.specs.Contracts.{row_pattern, patterns_of, Matches, MatchesRow, AsksFresh, MatchesInOrder, EndsPatterns, list_asks, cons_asks}
 use Rattle.pattern_rows.specs.Named.{NotesAny, NotesRow, BindsNameIf}
 use Rattle.pattern_rows.specs.Sides.{Side, MatchesSides, AsksLater}
 use Rattle.pattern_rows.proofs.Beside.{or_row, or_row_typed}
-use Rattle.pattern_rows.proofs.Going.{slot_patterns, row_patterns, paren_plain}
+use Rattle.pattern_rows.proofs.Going.{slot_patterns, row_patterns}
 use Rattle.pattern_rows.proofs.Leaves.{named_row, nameless_row, name_row_typed, any_row_typed, constant_row_typed, minus_row_typed, con_row_typed}
 use Rattle.pattern_rows.proofs.Listed.{list_typed}
 use Rattle.pattern_rows.proofs.Naming.{adds_none, adds_both}
 use Rattle.pattern_rows.proofs.Recorded.{node_matched, nameless_matched, node_matches, missing_matches}
-use Rattle.pattern_rows.proofs.Terms.{name_term, any_term, constant_term, minus_term, con_term, paren_term, list_term, cons_term, tuple_term, or_term, as_term}
-use Rattle.pattern_rows.proofs.Typed.{over_row, paren_typed, tuple_typed, as_typed, as_nameless, as_row_typed, as_operand}
+use Rattle.pattern_rows.proofs.Terms.{name_term, any_term, constant_term, minus_term, con_term, paren_term, written_term, list_term, cons_term, tuple_term, or_term, as_term}
+use Rattle.pattern_rows.proofs.Typed.{over_row, paren_typed, written_typed, tuple_typed, as_typed, as_nameless, as_row_typed, as_operand}
 
 -- a row that is recorded with its type and without names of its own
-row_matches : (a d e : Parts) (env : List Entry) (number : ℕ) (place : Place) (t : Tree) (ty : NodeRef) (names more added : List Bind) (seen then : List Name) → MatchesRow a d env (row_pattern a.item number place t) seen added (number_of a.item number) ty.0 →
+pub row_matches : (a d e : Parts) (env : List Entry) (number : ℕ) (place : Place) (t : Tree) (ty : NodeRef) (names more added : List Bind) (seen then : List Name) → MatchesRow a d env (row_pattern a.item number place t) seen added (number_of a.item number) ty.0 →
     Adds names more added seen then (row_pattern a.item number place t).mentions → Goes a d → NotedNameless d e number env (Some ty) → OnlyIndex d e → Matches a e env (pattern_of a.item (numbered number place (inner t))) names more seen then ty.0
 row_matches a d e env number place t ty names more added seen then row adds goes noted rest = node_matches a e env number place t names more added seen then ty.0 adds (nameless_matched a d e env number place t ty seen added row goes noted rest)
 
 -- names that are added by a row in another form
-adds_as : {names more added : List Bind} {seen then : List Name} (p q : Pattern) → q ≡ p → Adds names more added seen then p.mentions → Adds names more added seen then q.mentions
+pub adds_as : {names more added : List Bind} {seen then : List Name} (p q : Pattern) → q ≡ p → Adds names more added seen then p.mentions → Adds names more added seen then q.mentions
 adds_as {names} {more} {added} {seen} {then} p q e adds = subst (λ r. Adds names more added seen then r.mentions) (sym e) adds
 
 -- a pattern that is missing
@@ -108,7 +112,7 @@ name_matches a b e env number t ty names more seen then any goes bound row place
 pub tuple_matches : (a b d e : Parts) (env : List Entry) (number : ℕ) (t : Tree) (ty : NodeRef) (names more : List Bind) (seen then : List Name) (ms : List ℕ) → MatchesOperands a b env (all_operands number t) names more seen then ms → Goes a b →
     (All (IsNode b.store.nodes) ms → Makes b.store d.store ty.0 (Tuple ms)) → OnlyStore b d → Goes b d → NotedNameless d e number env (Some ty) → OnlyIndex d e → MatchesNodeOf ptuple_row a e env number t names more seen then ty.0
 tuple_matches a b d e env number t ty names more seen then ms matched goes made only on noted rest row place carried =
-    let all = matched (row_patterns number place t carried) in
+    let all = matched (row_patterns number place t (λ s. ap (λ r. sort_in r s) row) carried) in
     row_matches a d e env number place t ty names more all.added seen then (tuple_typed a b d env a.item number place t seen all.added ms ty.0 carried.formed row goes all.typed made only)
     (adds_as _ _ (tuple_term a.item number place t carried.formed row) all.adds) (goes_trans a b d goes on) noted rest
 
@@ -117,7 +121,7 @@ pub list_matches : (a b d e : Parts) (env : List Entry) (number : ℕ) (t : Tree
     EndsPatterns b d env (list_asks (patterns_of b.item (operands_in number t 1))) (patterns_of b.item (operands_in number t 1)) ms ty.0 → Goes b d → NotedNameless d e number env (Some ty) → OnlyIndex d e → MatchesNodeOf plist_row a e env number t names more seen then ty.0
 list_matches a b d e env number t ty names more seen then ms matched goes ends on noted rest row place carried =
     let os = operands_in number t 1 in
-    let all = matched (slot_patterns number place t 1 carried) in
+    let all = matched (slot_patterns number place t 1 (ap (λ r. sort_in r 1) row) carried) in
     row_matches a d e env number place t ty names more all.added seen then
     (list_typed a b d env a.item number place t seen all.added ms ty.0 carried.formed row goes all.typed (subst (λ i. EndsPatterns b d env (list_asks (patterns_of i os)) (patterns_of i os) ms ty.0) goes.item ends))
     (adds_as _ _ (list_term a.item number place t carried.formed row) all.adds) (goes_trans a b d goes on) noted rest
@@ -135,26 +139,40 @@ cons_matches a b d e env number t ty names more seen then ms matched goes ends o
     let q = pattern_of a.item y in
     let two : all_operands number t ≡ x ∷ y ∷ [] = two_operands number t pcons_row 0 2 carried.formed row refl refl refl refl refl refl refl in
     let term = cons_term a.item number place t carried.formed row in
-    let all : MatchesInOrder a b env (p ∷ q ∷ []) names more seen then ms = subst (λ os. MatchesInOrder a b env (patterns_of a.item os) names more seen then ms) two (matched (row_patterns number place t carried)) in
+    let all : MatchesInOrder a b env (p ∷ q ∷ []) names more seen then ms = subst (λ os. MatchesInOrder a b env (patterns_of a.item os) names more seen then ms) two (matched (row_patterns number place t (λ s. ap (λ r. sort_in r s) row) carried)) in
     let end = subst (λ i. EndsPatterns b d env (cons_asks (pattern_of i x) (pattern_of i y)) (pattern_of i x ∷ pattern_of i y ∷ []) ms ty.0) goes.item (ends x y two) in
     row_matches a d e env number place t ty names more all.added seen then
     (subst (λ r. MatchesRow a d env r seen all.added n ty.0) (sym term) (over_row a b d env n place (p ∷ q ∷ []) seen all.added ms ty.0 (cons_asks p q) all.typed goes end))
     (adds_as _ _ term all.adds) (goes_trans a b d goes on) noted rest
 
 -- ( p )
-pub paren_matches : (a b d e : Parts) (env : List Entry) (number : ℕ) (t : Tree) (ty : NodeRef) (names more : List Bind) (seen then : List Name) (ms : List ℕ) → MatchesOperands a b env (operands_in number t 1) names more seen then ms → Goes a b →
-    (first_in number t 3 ≡ None → (o : Numbered) (os : List Numbered) → operands_in number t 1 ≡ o ∷ os → (slice_get ms 0 ≡ Some ty.0) × (d ≡ b)) → NotedNameless d e number env (Some ty) → OnlyIndex d e → MatchesNodeOf pparen_row a e env number t names more seen then ty.0
+pub paren_matches : (a b d e : Parts) (env : List Entry) (number : ℕ) (t : Tree) (ty : NodeRef) (names more : List Bind) (seen then : List Name) (ms : List ℕ) → first_in number t 3 ≡ None → MatchesOperands a b env (operands_in number t 1) names more seen then ms → Goes a b →
+    ((o : Numbered) (os : List Numbered) → operands_in number t 1 ≡ o ∷ os → (slice_get ms 0 ≡ Some ty.0) × (d ≡ b)) → NotedNameless d e number env (Some ty) → OnlyIndex d e → MatchesNodeOf pparen_row a e env number t names more seen then ty.0
 unfolding is_operand is_needed may_repeat
-paren_matches a b d e env number t ty names more seen then ms matched goes first noted rest row place carried =
+paren_matches a b d e env number t ty names more seen then ms none matched goes first noted rest row place carried =
     let n = number_of a.item number in
     let x = filled_in number t 1 in
-    let none = paren_plain number t row carried.rows in
     let alone : operands_in number t 1 ≡ x ∷ [] = exactly_one number t 1 carried.formed (ap (λ q. is_operand q 1) row) (ap (λ q. is_needed q 1) row) (ap (λ q. may_repeat q 1) row) in
-    let same = first none x [] alone in
-    let all = matched (slot_patterns number place t 1 carried) in
+    let same = first x [] alone in
+    let all = matched (slot_patterns number place t 1 (ap (λ r. sort_in r 1) row) carried) in
     row_matches a d e env number place t ty names more all.added seen then
     (subst (λ s. MatchesRow a s env (row_pattern a.item number place t) seen all.added n ty.0) (sym same.1) (paren_typed a b env a.item number place t seen all.added ms ty.0 carried.formed row none goes all.typed same.0))
     (adds_as _ _ (paren_term a.item number place t carried.formed row none) (subst (λ os. Adds names more all.added seen then (all_mentions (patterns_of a.item os))) alone all.adds)) (subst (Goes a) (sym same.1) goes) noted rest
+
+-- ( p : t ), where the first of the parts is asked to have the written type
+pub written_matches : (a b d e : Parts) (env : List Entry) (number : ℕ) (t : Tree) (w : Numbered) (ty : NodeRef) (names more : List Bind) (seen then : List Name) (ms : List ℕ) → first_in number t 3 ≡ Some w → MatchesOperands a b env (operands_in number t 1) names more seen then ms → Goes a b →
+    ((o : Numbered) (os : List Numbered) → operands_in number t 1 ≡ o ∷ os → (found : ℕ) × (slice_get ms 0 ≡ Some found) × (IsTypeOperand w → Annotates b d env (type_of b.item w) o.at found ty.0)) → Goes b d → NotedNameless d e number env (Some ty) → OnlyIndex d e →
+    MatchesNodeOf pparen_row a e env number t names more seen then ty.0
+unfolding is_operand is_needed may_repeat
+written_matches a b d e env number t w ty names more seen then ms some matched goes asked on noted rest row place carried =
+    let x = filled_in number t 1 in
+    let alone : operands_in number t 1 ≡ x ∷ [] = exactly_one number t 1 carried.formed (ap (λ q. is_operand q 1) row) (ap (λ q. is_needed q 1) row) (ap (λ q. may_repeat q 1) row) in
+    let all = matched (slot_patterns number place t 1 (ap (λ r. sort_in r 1) row) carried) in
+    let (found, node, annotates) = asked x [] alone in
+    let written = subst (λ i. Annotates b d env (type_of i w) x.at found ty.0) goes.item (annotates (first_operand number t 3 w carried.formed some)) in
+    row_matches a d e env number place t ty names more all.added seen then
+    (written_typed a b d env a.item number place x.at t w seen all.added ms found ty.0 carried.formed row some goes all.typed node (pattern_of_stands a.item x).where_it_is written)
+    (adds_as _ _ (written_term a.item number place t w carried.formed row some) (subst (λ os. Adds names more all.added seen then (all_mentions (patterns_of a.item os))) alone all.adds)) (goes_trans a b d goes on) noted rest
 
 -- p as x
 pub as_matches : (a b d e : Parts) (env : List Entry) (number : ℕ) (t : Tree) (ty : NodeRef) (names more last : List Bind) (seen then later : List Name) (ms : List ℕ) → MatchesOperands a b env (all_operands number t) names more seen then ms → Goes a b →
@@ -178,7 +196,7 @@ as_matches a b d e env number t ty names more last seen then later ms matched go
     same = first x [] alone
 
     all : MatchesInOrder a b env (p ∷ []) names more seen then ms
-    all = subst (λ os. MatchesInOrder a b env (patterns_of a.item os) names more seen then ms) alone (matched (row_patterns number place t carried))
+    all = subst (λ os. MatchesInOrder a b env (patterns_of a.item os) names more seen then ms) alone (matched (row_patterns number place t (λ s. ap (λ r. sort_in r s) row) carried))
 
     adds : Adds names more all.added seen then p.mentions
     adds = subst (λ ns. Adds names more all.added seen then ns) (append-nil p.mentions) all.adds
@@ -228,7 +246,7 @@ or_matches a b d e env number t ty names more seen then sides matched goes compa
     let p = pattern_of a.item x in
     let qs = patterns_of a.item others in
     let cut : all_operands number t ≡ x ∷ others = or_operands number t carried.formed row in
-    let all : MatchesSides a b env (p ∷ qs) seen sides × (then ≡ seen ++ all_mentions (p ∷ qs)) = subst (λ os. MatchesSides a b env (patterns_of a.item os) seen sides × (then ≡ seen ++ all_mentions (patterns_of a.item os))) cut (matched (row_patterns number place t carried)) in
+    let all : MatchesSides a b env (p ∷ qs) seen sides × (then ≡ seen ++ all_mentions (p ∷ qs)) = subst (λ os. MatchesSides a b env (patterns_of a.item os) seen sides × (then ≡ seen ++ all_mentions (patterns_of a.item os))) cut (matched (row_patterns number place t (λ s. ap (λ r. sort_in r s) row) carried)) in
     let h = compared x others cut in
     let asked : AsksLater b d h.first h.rest qs = subst (λ i. AsksLater b d h.first h.rest (patterns_of i others)) goes.item (h.asked x others cut) in
     let term = or_term a.item number place t carried.formed row in

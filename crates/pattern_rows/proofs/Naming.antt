@@ -6,11 +6,12 @@ use Rattle.typing_conditions.specs.Sights.{Sight, Letters}
 use Rattle.typing_conditions.specs.Frames.{Frame}
 use Rattle.typing_conditions.specs.Carrying.{Stays}
 use Rattle.typing_conditions.proofs.Meaning.{means_on}
+use Rattle.typing_conditions.proofs.Stays.{agrees_before}
 use Rattle.pattern_rows.specs.Bounds.{Bind, IsBound, AllBound, none_bound, one_bound, Adds}
 
 -- a name that is bound still is
 pub bound_on : {F : Frame} {a b : Sight} {G H : Letters} {x : Bound} {y : Bind} → Stays F a G b H → IsBound F a G x y → IsBound F b H x y
-bound_on s h = record { named = h.named; placed = h.placed; chosen = h.chosen; means = means_on s h.means; entry = h.entry }
+bound_on s h = record { named = h.named; placed = h.placed; chosen = h.chosen; means = means_on s h.means; known = λ V ch g. h.known V ch (agrees_before s g); entry = h.entry }
 
 -- so are names
 pub all_bound_on : {F : Frame} {a b : Sight} {G H : Letters} {xs : List Bound} {ys : List Bind} → Stays F a G b H → AllBound F a G xs ys → AllBound F b H xs ys

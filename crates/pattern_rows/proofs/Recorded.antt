@@ -20,7 +20,7 @@ use Rattle.typing_conditions.specs.Sights.{Sight, Letters, number_in}
 use Rattle.typing_conditions.specs.Frames.{Frame}
 use Rattle.typing_conditions.specs.Steps.{Records}
 use Rattle.typing_conditions.specs.Carrying.{Scope}
-use Rattle.typing_conditions.proofs.Recording.{records_stay}
+use Rattle.typing_conditions.proofs.Recording.{records_stay, here_now}
 use Rattle.typing_conditions.proofs.Answering.{to_as}
 use Rattle.typing_steps.specs.States.{is_aloud, sight}
 use Rattle.typing_steps.proofs.Rows.{row_carried, row_any, var_any}
@@ -35,9 +35,9 @@ use Rattle.pattern_rows.proofs.Naming.{adds_none}
 -- the row of a node, once its type is recorded
 pub row_recorded : {F : Frame} {scope : Scope} {a b d : Sight} {G : Letters} {p : Pattern} {seen : List Name} {added : List Bind} {n number m : ℕ} → number_in b.item number ≡ n → p.node ≡ n → RowMatched F scope a G b p seen added n m → Records b d number m →
     MatchedTo F scope a G d (recorded_pattern n p) seen added m
-row_recorded {d = d} place node row r =
+row_recorded {b = b} {d = d} {number = number} {m = m} place node row r =
     let whole = row_carried place row.row r in
-    record { typed = to_as (λ c. refl) (λ ch. ap ch.type_at (sym node)) whole; names = row.names d (records_stay r row.row.typed.means.open_node.inside) whole.means }
+    record { typed = to_as (λ c. refl) (λ ch. ap ch.type_at (sym node)) whole; names = row.names d (records_stay r row.row.typed.means.open_node.inside) whole.means (λ V ch g. g.known b.item number m (here_now r)) }
 
 -- A node that is a pattern: its row, and the record of its type.
 pub node_matched : (a b d : Parts) (env : List Entry) (number : ℕ) (at : Place) (t : Tree) (ty : NodeRef) (noted_as : Seen) (seen : List Name) (added : List Bind) → noted_as.ty ≡ Some ty → MatchesRow a b env (row_pattern a.item number at t) seen added (number_of a.item number) ty.0 →
@@ -75,7 +75,7 @@ pub missing_matched : (a b d : Parts) (env : List Entry) (o : Operand) (ty : Nod
 missing_matched a b d env o ty seen none made rest goes noted only = λ aloud F scope G s.
     let n = number_of a.item o.number in
     let loud : is_aloud b.telling ≡ true = ap is_aloud goes.telling ∙ aloud in
-    let row : RowMatched F scope (sight a) G (sight b) (no_pattern_at n (place_of o.span)) seen [] n ty.0 = record { row = row_any a b {env = env} n (var_any a b made rest) aloud F scope G s; names = λ e st h. none_bound } in
+    let row : RowMatched F scope (sight a) G (sight b) (no_pattern_at n (place_of o.span)) seen [] n ty.0 = record { row = row_any a b {env = env} n (var_any a b made rest) aloud F scope G s; names = λ e st h known. none_bound } in
     let same : numbered o.number (place_of o.span) (missing (place_of o.span)) ≡ operand_view o = ap (λ m. numbered o.number (place_of o.span) (part_of m o.span)) (sym none) in
     subst (λ x. MatchedTo F scope (sight a) G (sight d) (pattern_of a.item x) seen [] ty.0) same
     (row_recorded (ap (λ i. number_in i o.number) goes.item) refl row (nameless_noted b d o.number env ty loud noted only))

@@ -7,7 +7,7 @@ use Rattle.tree_model.specs.Trees.{Place, Tree}
 use Rattle.row_parts.specs.Numbered.{Numbered, operands_in, all_operands, first_in, filled_in, token_in, path_in}
 use Rattle.typing_model.specs.Parts as parts
 use Rattle.typing_model.specs.Parts.{Child, Pattern, patterns_in, pattern_in, types_in, no_pattern_at}
-use Rattle.typing_model.specs.Patterns.{pattern_row, over, pname, pconst, pneg, pcon, pparen, plist, pcons, ptuple, por, pas}
+use Rattle.typing_model.specs.Patterns.{pattern_row, over, pname, pconst, pneg, pcon, papp, pparen, plist, pcons, ptuple, por, pas}
 use Rattle.operand_laws.specs.Formed.{row_of, is_needed, may_repeat, IsFormed}
 use Rattle.operand_laws.specs.Operands.{number_of, parts_of, pattern_of, type_of, path_of}
 use Rattle.operand_laws.proofs.Sorts.{pattern_stands, patterns_stand, first_type_stands}
@@ -84,6 +84,13 @@ written_term i n at t o formed row some =
 pub list_term : (i n : ℕ) (at : Place) (t : Tree) → IsFormed n t → row_of t ≡ plist_row → row_pattern i n at t ≡ plist (number_of i n) at (patterns_of i (operands_in n t 1))
 unfolding pattern_row is_operand
 list_term i n at t formed row = as_row i n at t plist_row row ∙ ap (λ ps. plist (number_of i n) at ps) (several i n t formed plist_row 1 row refl)
+
+-- A p
+pub applied_term : (i n : ℕ) (at : Place) (t : Tree) → IsFormed n t → row_of t ≡ papp_row → row_pattern i n at t ≡ papp (number_of i n) at (pattern_of i (filled_in n t 0)) (pattern_of i (filled_in n t 1))
+unfolding pattern_row is_operand is_needed
+applied_term i n at t formed row =
+    as_row i n at t papp_row row ∙ ap (λ p. papp (number_of i n) at p (pattern_in 1 (parts_of i n t))) (one i n t formed papp_row 0 row refl refl) ∙
+    ap (λ p. papp (number_of i n) at (pattern_of i (filled_in n t 0)) p) (one i n t formed papp_row 1 row refl refl)
 
 -- p :: p
 pub cons_term : (i n : ℕ) (at : Place) (t : Tree) → IsFormed n t → row_of t ≡ pcons_row → row_pattern i n at t ≡ pcons (number_of i n) at (pattern_of i (filled_in n t 0)) (pattern_of i (filled_in n t 2))

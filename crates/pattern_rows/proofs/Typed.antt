@@ -21,10 +21,10 @@ use Rattle.env_table.specs.declared.entries.Entry.{Entry}
 use Rattle.typing_state.specs.declared.parts.Parts.{Parts}
 use Rattle.typing_state.specs.Goes.{Goes, OnlyStore}
 use Rattle.typing_state.specs.Types.{list_path}
-use Rattle.typing_conditions.specs.Sights.{Sight, Letters}
+use Rattle.typing_conditions.specs.Sights.{Sight, own, Letters}
 use Rattle.typing_conditions.specs.Frames.{Frame}
 use Rattle.typing_conditions.specs.Meanings.{Means, AllMean, one_means, types_by}
-use Rattle.typing_conditions.specs.Carrying.{Carried}
+use Rattle.typing_conditions.specs.Carrying.{Carried, CarriedTo}
 use Rattle.typing_conditions.specs.Surroundings.{IsEntry}
 use Rattle.typing_conditions.proofs.Recording.{ends_same}
 use Rattle.typing_conditions.proofs.Carried.{carried_refl, carried_trans, carried_as}
@@ -32,13 +32,15 @@ use Rattle.typing_conditions.proofs.Meaning.{means_on}
 use Rattle.typing_conditions.proofs.Stays.{stays_trans, stays_closed}
 use Rattle.typing_conditions.proofs.Surrounding.{surrounds_on}
 use Rattle.typing_steps.specs.States.{is_aloud, sight}
-use Rattle.typing_steps.specs.Typing.{TypesTo, AsksEqual}
+use Rattle.typing_steps.specs.Typing.{AsksEqual}
 use Rattle.typing_steps.proofs.Making.{tuple_over, list_over}
 use Rattle.operand_laws.specs.Formed.{row_of, is_needed, may_repeat, IsFormed}
 use Rattle.operand_laws.specs.Operands.{number_of, pattern_of, type_of}
 use Rattle.operand_laws.proofs.SlotBySlot.{exactly_one}
 use Rattle.typing_rows.proofs.Ending.{row_of_type, row_after}
 use Rattle.typing_rows.proofs.Terms.{two_operands}
+use Rattle.type_rows.specs.Operands.{Annotates}
+use Rattle.type_rows.proofs.Annotated.{row_written}
 use Rattle.pattern_rows.specs.Bounds.{Bind, AllBound, none_bound, one_bound}
 use Rattle.pattern_rows.specs.Contracts.{row_pattern, patterns_of, types_at, AsksFresh, MatchesRow, MatchesAll, EndsPatterns, cons_asks}
 use Rattle.pattern_rows.proofs.Naming.{all_bound_on, all_bound_both}
@@ -50,7 +52,7 @@ pub over_row : (a b d : Parts) (env : List Entry) (n : ℕ) (at : Place) (ps : L
 over_row a b d env n at ps seen added ms m asks all goes ends = λ aloud F scope G s.
     let x = all aloud F scope G s in
     let y = ends (ap is_aloud goes.telling ∙ aloud) F scope G n (surrounds_on x.carried.stays s) x.means in
-    record { row = row_after x.carried y; names = λ e st h. all_bound_on (stays_trans (stays_closed y.own y.typed.carried.stays) st) x.names }
+    record { row = row_after x.carried y; names = λ e st h known. all_bound_on (stays_trans (stays_closed y.own y.typed.carried.stays) st) x.names }
 
 -- the first node is that of the first pattern
 pub first_means : {F : Frame} {a : Sight} {G : Letters} (p : Pattern) (ps : List Pattern) (ms : List ℕ) (m : ℕ) → AllMean F a G (types_at (p ∷ ps)) ms → slice_get ms 0 ≡ Some m → Means F a G (λ ch. ch.type_at p.node) m
@@ -79,25 +81,22 @@ paren_typed a b env i n at t seen added ms m formed row none goes all node =
 abbrev written_asks : Pattern → TypeExpression → Context → ℕ → List Condition
 written_asks p w c n = w.read c ++ ask n 0 p.at (equal (type_at c p.node) (type_at c w.node)) ++ same (type_at c n) (type_at c w.node) ∷ []
 
--- its end: the written type is read, and the pattern has it
-pub ends_written : (a b d : Parts) (env : List Entry) (p : Pattern) (w : TypeExpression) (at : Place) (found wanted : ℕ) → p.at ≡ at → TypesTo a b env (λ c. w.read c) (λ ch. ch.type_at w.node) wanted → Goes a b → AsksEqual b d at found wanted →
-    EndsPatterns a d env (written_asks p w) (p ∷ []) (found ∷ []) wanted
-ends_written a b d env p w at found wanted place read goes asked = λ aloud F scope G n s all.
-    let x = read aloud F scope G s in
-    let y = asked (ap is_aloud goes.telling ∙ aloud) F scope G (site n 0) (λ ch. ch.type_at p.node) (λ ch. ch.type_at w.node) (means_on x.carried.stays (first_means p [] (found ∷ []) found all refl)) x.means in
-    let z = subst (λ l. Carried F scope (λ c. ask n 0 l (equal (type_at c p.node) (type_at c w.node))) (sight b) G (sight d) G) (sym place) y in
-    row_of_type (λ c. w.read c ++ ask n 0 p.at (equal (type_at c p.node) (type_at c w.node))) (λ ch. ch.type_at w.node) (carried_trans x.carried z) (means_on z.stays x.means) (λ c. refl)
+-- its end: the pattern has the written type
+pub ends_written : (a b : Parts) (env : List Entry) (p : Pattern) (w : TypeExpression) (at : Place) (ms : List ℕ) (found wanted : ℕ) → p.at ≡ at → slice_get ms 0 ≡ Some found → Annotates a b env w at found wanted → EndsPatterns a b env (written_asks p w) (p ∷ []) ms wanted
+ends_written a b env p w at ms found wanted place node written = λ aloud F scope G n s all.
+    let x = written aloud F scope G n 0 (λ ch. ch.type_at p.node) s (first_means p [] ms found all node) in
+    let y = subst (λ l. CarriedTo F scope (λ c. w.read c ++ ask n 0 l (equal (type_at c p.node) (type_at c w.node))) (sight a) G (sight b) ((own w.node, wanted) ∷ G) (λ ch. ch.type_at w.node) wanted) (sym place) x in
+    row_written (λ c. w.read c ++ ask n 0 p.at (equal (type_at c p.node) (type_at c w.node))) w y (λ c. refl)
 
--- ( p : t ), once the reading of type expressions carries what they ask
-pub written_typed : (a b d e : Parts) (env : List Entry) (i n : ℕ) (at place : Place) (t : Tree) (o : Numbered) (seen : List Name) (added : List Bind) (found wanted : ℕ) → IsFormed n t → row_of t ≡ pparen_row → first_in n t 3 ≡ Some o → Goes a b →
-    MatchesAll a b env (patterns_of i (operands_in n t 1)) seen added (found ∷ []) → (pattern_of i (filled_in n t 1)).at ≡ place → TypesTo b d env (λ c. (type_of i o).read c) (λ ch. ch.type_at (type_of i o).node) wanted → Goes b d → AsksEqual d e place found wanted →
-    MatchesRow a e env (row_pattern i n at t) seen added (number_of i n) wanted
+-- ( p : t )
+pub written_typed : (a b d : Parts) (env : List Entry) (i n : ℕ) (at place : Place) (t : Tree) (o : Numbered) (seen : List Name) (added : List Bind) (ms : List ℕ) (found wanted : ℕ) → IsFormed n t → row_of t ≡ pparen_row → first_in n t 3 ≡ Some o → Goes a b →
+    MatchesAll a b env (patterns_of i (operands_in n t 1)) seen added ms → slice_get ms 0 ≡ Some found → (pattern_of i (filled_in n t 1)).at ≡ place → Annotates b d env (type_of i o) place found wanted → MatchesRow a d env (row_pattern i n at t) seen added (number_of i n) wanted
 unfolding is_operand is_needed may_repeat
-written_typed a b d e env i n at place t o seen added found wanted formed row some goes all here read goes' asked =
+written_typed a b d env i n at place t o seen added ms found wanted formed row some goes all node here written =
     let p = pattern_of i (filled_in n t 1) in
     let alone : operands_in n t 1 ≡ filled_in n t 1 ∷ [] = exactly_one n t 1 formed (ap (λ q. is_operand q 1) row) (ap (λ q. is_needed q 1) row) (ap (λ q. may_repeat q 1) row) in
-    subst (λ x. MatchesRow a e env x seen added (number_of i n) wanted) (sym (written_term i n at t o formed row some))
-    (over_row a b e env (number_of i n) at (p ∷ []) seen added (found ∷ []) wanted (written_asks p (type_of i o)) (subst (λ os. MatchesAll a b env (patterns_of i os) seen added (found ∷ [])) alone all) goes (ends_written b d e env p (type_of i o) place found wanted here read goes' asked))
+    subst (λ x. MatchesRow a d env x seen added (number_of i n) wanted) (sym (written_term i n at t o formed row some))
+    (over_row a b d env (number_of i n) at (p ∷ []) seen added ms wanted (written_asks p (type_of i o)) (subst (λ os. MatchesAll a b env (patterns_of i os) seen added ms) alone all) goes (ends_written b d env p (type_of i o) place ms found wanted here node written))
 
 -- types by a choice
 types_by_at : (ch : Choice) (ps : List Pattern) → types_by ch (types_at ps) ≡ map (λ p. ch.type_at p.node) ps
@@ -157,9 +156,9 @@ as_typed a b d env n at p t ty e seen added ms all node goes fresh entry = λ al
         typed = record { carried = carried_trans (carried_as (λ c. append-nil (p.matched c seen)) x.carried) y; means = means_on y.stays h };
         end = ends_same n (λ ch. ch.type_at p.node);
       };
-      names = λ o st k.
+      names = λ o st k known.
           all_bound_both (all_bound_on (stays_trans y.stays st) (subst (λ bs. AllBound F (sight b) G bs added) (append-nil p.names) x.names))
-          (one_bound (record { named = refl; placed = refl; chosen = λ c. refl; means = k; entry = entry }) none_bound);
+          (one_bound (record { named = refl; placed = refl; chosen = λ c. refl; means = k; known = known; entry = entry }) none_bound);
     }
 
 -- p as x, whose name is missing

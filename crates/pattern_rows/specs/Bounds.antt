@@ -1,12 +1,14 @@
 -- Names that patterns bind: those of the code stand for those of the definitions.
-use Rattle.std.specs.Prelude.{◌≡◌, List, [], ◌∷◌, ◌++◌}
+use Rattle.std.specs.Prelude.{◌≡◌, ℕ, List, [], ◌∷◌, ◌++◌}
 use Rattle.token_model.specs.Kinds.{Tok}
 use Rattle.signature_model.specs.Declarations.{Name}
-use Rattle.typing_model.specs.Contexts.{Context, Bound}
+use Rattle.signature_model.specs.Matching.{IsKnown}
+use Rattle.typing_model.specs.Contexts.{Choice, Context, Bound}
 use Rattle.typing_model.specs.Parts.{place_of}
 use Rattle.type_terms.specs.declared.types.NodeRef.{NodeRef}
+use Rattle.type_nodes.specs.Readings.{Types}
 use Rattle.env_table.specs.declared.entries.Entry.{Entry}
-use Rattle.typing_conditions.specs.Sights.{Sight, Letters}
+use Rattle.typing_conditions.specs.Sights.{Sight, Letters, Agrees}
 use Rattle.typing_conditions.specs.Frames.{Frame}
 use Rattle.typing_conditions.specs.Meanings.{Means}
 use Rattle.typing_conditions.specs.Surroundings.{IsEntry, context_of}
@@ -17,12 +19,18 @@ pub record Bind : Type 0 where
   pub node : NodeRef
   pub entry : Entry
 
--- The name stands for one of the definitions: its bytes, its place and its type, which only what is chosen decides; and its entry brings it into scope.
+-- no unknown type stands in the type of a node, whatever is chosen
+abbrev pub AlwaysKnown : Frame → Sight → Letters → ℕ → Type 0
+AlwaysKnown F b G m = (V : Types) (ch : Choice) → Agrees F.owner b G V ch → IsKnown (V m)
+
+-- The name stands for one of the definitions: its bytes, its place and its type, which only what is chosen decides, and in which no unknown type stands; and its
+-- entry brings it into scope.
 pub record IsBound (F : Frame) (b : Sight) (G : Letters) (bound : Bound) (code : Bind) : Type 0 where
   pub named : bound.name ≡ code.token.name
   pub placed : bound.place ≡ place_of code.token
   pub chosen : (c : Context) → bound.has_type c ≡ bound.has_type (context_of c.chosen)
   pub means : Means F b G (λ ch. bound.has_type (context_of ch)) code.node.0
+  pub known : AlwaysKnown F b G code.node.0
   pub entry : IsEntry code.entry bound.name code.node
 
 -- names stand for others, one by one and in order

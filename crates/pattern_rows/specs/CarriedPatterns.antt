@@ -1,48 +1,18 @@
 -- Which patterns are made of rows whose conditions are carried so far.
-use Rattle.std.specs.Prelude.{◌≡◌, ℕ, false, List, ◌++◌, All}
-use Rattle.tree_model.specs.Rows.{Row, pname_row, pany_row, pconst_row, pneg_row, pcon_row, pparen_row, plist_row, pcons_row, ptuple_row, por_row, pas_row}
-use Rattle.tree_model.specs.Trees.{Place, Tree, Forest, Part, node, no_parts, part, taken, inner, missing}
+use Rattle.std.specs.Prelude.{◌≡◌, ℕ, List, ◌++◌, All}
+use Rattle.tree_model.specs.Rows.{Row}
+use Rattle.tree_model.specs.Trees.{Place, Tree, inner}
 use Rattle.row_parts.specs.Numbered.{Numbered, numbered}
 use Rattle.env_table.specs.declared.entries.Entry.{Entry}
 use Rattle.typing_state.specs.declared.parts.Parts.{Parts}
 use Rattle.signature_model.specs.Declarations.{Name}
-use Rattle.operand_laws.specs.Formed.{row_of, is_in, IsOperandFormed}
+use Rattle.operand_laws.specs.Formed.{row_of, IsOperandFormed}
 use Rattle.operand_laws.specs.Operands.{pattern_of}
+use Rattle.typing_rows.specs.CarriedRows.{IsOfCarriedPatterns}
 use Rattle.pattern_rows.specs.Bounds.{Bind}
 use Rattle.typing_model.specs.Patterns.{all_mentions}
 use Rattle.pattern_rows.specs.Contracts.{patterns_of, Matches, MatchesInOrder}
 use Rattle.pattern_rows.specs.Sides.{Side, MatchesSides}
-
--- rows without written types, constructors with arguments and records
-abbrev pub IsCarriedPatternRow : Row → Forest → Type 0
-IsCarriedPatternRow pname_row ps = Unit {0}  -- x
-IsCarriedPatternRow pany_row ps = Unit {0}  -- _
-IsCarriedPatternRow pconst_row ps = Unit {0}  -- 1, "a", true
-IsCarriedPatternRow pneg_row ps = Unit {0}  -- - 1
-IsCarriedPatternRow pcon_row ps = Unit {0}  -- A
-IsCarriedPatternRow pparen_row ps = is_in 3 ps ≡ false  -- ( p )
-IsCarriedPatternRow plist_row ps = Unit {0}  -- [ p; p ]
-IsCarriedPatternRow pcons_row ps = Unit {0}  -- p :: p
-IsCarriedPatternRow ptuple_row ps = Unit {0}  -- p, p
-IsCarriedPatternRow por_row ps = Unit {0}  -- p | p
-IsCarriedPatternRow pas_row ps = Unit {0}  -- p as x
-IsCarriedPatternRow _ ps = ⊥
-
-abbrev mutual
-  -- a node and all nodes in it are of such rows
-  pub IsTreeOfCarriedPatterns : Tree → Type 0
-  IsTreeOfCarriedPatterns (node r x ps) = IsCarriedPatternRow r ps × AreOfCarriedPatterns ps
-
-  -- so are all parts of a row
-  pub AreOfCarriedPatterns : Forest → Type 0
-  AreOfCarriedPatterns no_parts = Unit {0}
-  AreOfCarriedPatterns (part s p ps) = IsOfCarriedPatterns p × AreOfCarriedPatterns ps
-
-  -- so is a part; one that is missing is too
-  pub IsOfCarriedPatterns : Part → Type 0
-  IsOfCarriedPatterns (taken t) = Unit {0}
-  IsOfCarriedPatterns (inner t) = IsTreeOfCarriedPatterns t
-  IsOfCarriedPatterns (missing at) = Unit {0}
 
 -- an operand whose tree is well formed and made of such rows
 pub record IsCarriedPattern (o : Numbered) : Type 0 where

@@ -21,7 +21,7 @@ use Rattle.typing_conditions.specs.Carrying.{Asks, Scope, Stays, Carried, Carrie
 use Rattle.typing_conditions.specs.Surroundings.{Surrounds}
 use Rattle.typing_steps.specs.States.{is_aloud, sight}
 use Rattle.typing_steps.specs.Typing.{as_declared, RowCarried}
-use Rattle.pattern_rows.specs.Bounds.{Bind, AllBound, Adds}
+use Rattle.pattern_rows.specs.Bounds.{Bind, AlwaysKnown, AllBound, Adds}
 
 -- a node of an item, as a pattern at a place, without what is recorded of it
 abbrev pub row_pattern : ℕ → ℕ → Place → Tree → Pattern
@@ -53,7 +53,7 @@ pub record Matches (a b : Parts) (env : List Entry) (p : Pattern) (names names' 
 -- A row of patterns whose type isn't recorded yet for its node n; its names have their types once it is.
 pub record RowMatched (F : Frame) (scope : Scope) (a : Sight) (G : Letters) (b : Sight) (p : Pattern) (seen : List Name) (added : List Bind) (n m : ℕ) : Type 0 where
   pub row : RowCarried F scope (λ c. p.matched c seen) a G b n m
-  pub names : (d : Sight) → Stays F b G d G → Means F d G (λ ch. ch.type_at n) m → AllBound F d G p.names added
+  pub names : (d : Sight) → Stays F b G d G → Means F d G (λ ch. ch.type_at n) m → AlwaysKnown F d G m → AllBound F d G p.names added
 
 -- the same of a call, where faults are reported
 abbrev pub MatchesRow : (a b : Parts) → List Entry → Pattern → List Name → List Bind → (n m : ℕ) → Type 0

@@ -1,4 +1,5 @@
 -- Names that patterns bind, and what is carried of rows of patterns.
+pub mod Applied
 pub mod Bounds
 pub mod CarriedPatterns
 pub mod Contracts

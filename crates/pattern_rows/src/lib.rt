@@ -4,5 +4,5 @@
 //! `specs/CarriedPatterns` of which patterns;
 //! the laws of `proofs/` are of such names (`Naming`), of rows once they are recorded (`Recorded`), of rows over their operands (`Terms`), of patterns in order
 //! (`Ordered`), and of whole rows: those without patterns in them (`Leaves`), those whose patterns are matched in order (`Typed`, `Listed`), and or-patterns (`Beside`).
-//! `Matching` has each row in the form in which `pattern_typing` matches it.
+//! `Matching` has each row in the form in which `pattern_typing` matches it, `Applied` constructors with their arguments (`specs/Applied`).
 #![tactic(auto)]

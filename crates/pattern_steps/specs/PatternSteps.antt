@@ -2,15 +2,15 @@
 use Rattle.std.specs.Prelude.{ℕ, List, [], ◌∷◌, ◌++◌, Option, Some, None, if◌then◌else◌}
 use Rattle.std.specs.Str.{bytes_eq}
 use Rattle.token_model.specs.Kinds.{Tok}
-use Rattle.tree_model.specs.Trees.{Place, Tree, node}
+use Rattle.tree_model.specs.Trees.{Place, Tree, Part, node, taken, inner, missing}
 use Rattle.tree_model.specs.Rows.{Row, pname_row, pconst_row, pneg_row, pcon_row, pparen_row, plist_row, precord_row, papp_row, pcons_row, ptuple_row, por_row, pas_row, etry_row}
-use Rattle.row_parts.specs.Numbered.{Numbered, behind, in_slot, in_slots, operands_in, all_operands, first_in, filled_in, first_of, token_in, path_in, missing_at_end}
+use Rattle.row_parts.specs.Numbered.{Numbered, Written, behind, in_slot, in_slots, operands_in, all_operands, first_in, filled_in, first_of, token_in, path_in, missing_at_end}
 use Rattle.row_parts.specs.Folds.{Rule, operands_by, operand_by, tree_by}
 use Rattle.env_table.specs.declared.faults.FaultKind.TheVariants as fault
 use Rattle.typing_state.specs.Steps.{Steps, asks, records, each}
 use Rattle.type_expressions.specs.TypeSteps.{constructor_steps}
 use Rattle.type_expressions.specs.Written.{annotation_steps}
-use Rattle.use_typing.specs.UseSteps.{asks_equal, asks_equal_if, asks_token, range_steps, path_at, lost_steps, labels_of, asks_labels}
+use Rattle.use_typing.specs.UseSteps.{asks_equal, asks_equal_if, asks_token, range_steps, lost_steps, labels_of, asks_labels}
 
 -- what an operand comes to: its steps as a pattern and the names that it binds, and the same as a field of a record pattern
 pub record PatternSteps : Type 0 where
@@ -103,9 +103,28 @@ abbrev pub pattern_or_missing : ℕ → Tree → List PatternSteps → PatternSt
 pattern_or_missing n t [] = no_pattern n (missing_at_end n t).at
 pattern_or_missing n t (p ∷ ps) = p
 
--- a constructor in front of its argument: `bound`, `arity`; it is recorded
-abbrev pub construction_steps : Numbered → Steps
-construction_steps h = constructor_steps (path_at h.part) ++ records h.number ∷ []
+-- the row of a node
+abbrev pub row_at : Tree → Row
+row_at (node r x ps) = r
+
+-- A, M.A
+abbrev pub constructor_in : Row → Tree → Option Written
+constructor_in pcon_row t = Some (path_in t 0 1)
+constructor_in _ t = None
+
+-- the path of a part that is a constructor alone
+abbrev pub constructor_at : Part → Option Written
+constructor_at (taken t) = None
+constructor_at (inner t) = constructor_in (row_at t) t
+constructor_at (missing at) = None
+
+-- a constructor with its argument, by what that comes to: `bound`, `arity`; the argument, which is the declared one; the constructor is recorded
+abbrev pub constructed_steps : ℕ → Written → (argument : Numbered) → (matched : Steps) → Steps
+constructed_steps n p argument matched = constructor_steps p ++ (matched ++ asks_equal argument) ++ records n ∷ []
+
+-- A p: behind what is no constructor the argument is matched alone
+abbrev pub construction_steps : (head argument : Numbered) → (matched : Steps) → Steps
+construction_steps head argument matched = elim (constructor_at head.part) [ None ↦ matched | Some p ↦ constructed_steps head.number p argument matched ]
 
 -- the steps of a row without its record
 abbrev pub steps_of_row : Row → ℕ → Tree → List (ℕ × PatternSteps) → Steps
@@ -116,7 +135,7 @@ steps_of_row pcon_row n t ps = constructor_steps (path_in t 0 1)
 steps_of_row pparen_row n t ps = match_each (in_slot 1 ps) ++ annotation_steps (first_in n t 1) (first_in n t 3)
 steps_of_row plist_row n t ps = match_each (in_slot 1 ps) ++ each asks_equal (later (operands_in n t 1))
 steps_of_row precord_row n t ps = each lost_steps (operands_in n t 1) ++ asks_labels (labels_of (operands_in n t 1)) ++ each (λ p. p.field) (in_slot 1 ps)
-steps_of_row papp_row n t ps = construction_steps (filled_in n t 0) ++ (pattern_or_missing n t (in_slot 1 ps)).matched ++ asks_equal (filled_in n t 1)
+steps_of_row papp_row n t ps = construction_steps (filled_in n t 0) (filled_in n t 1) (pattern_or_missing n t (in_slot 1 ps)).matched
 steps_of_row pcons_row n t ps = match_each (in_slots ps) ++ asks_equal_if (last_of (all_operands n t))
 steps_of_row ptuple_row n t ps = match_each (in_slots ps)
 steps_of_row por_row n t ps = match_each (in_slots ps) ++ sides_beside (sides_of (all_operands n t) (in_slots ps))

@@ -22,7 +22,8 @@ use Rattle.typing_state.specs.Messages.{twice_text}
 use Rattle.use_typing.specs.Labels.{toks_of, is_named_in}
 use Rattle.typing_steps.specs.Demands.{TestedAs}
 use Rattle.operand_laws.specs.Formed as formed
-use Rattle.pattern_rows.specs.CarriedPatterns.{IsCarriedPatternRow, IsTreeOfCarriedPatterns}
+use Rattle.typing_rows.specs.CarriedPatternRows.{IsCarriedPatternRow}
+use Rattle.typing_rows.specs.CarriedRows.{IsTreeOfCarriedPatterns}
 use Rattle.pattern_rows.specs.Contracts.{AsksFresh}
 use Rattle.pattern_rows.proofs.Going.{row_there}
 use Rattle.pattern_rows.proofs.Leaves.{fresh_asked}
@@ -134,29 +135,30 @@ pub refused_row : (t : Tree) (r : Row) → ((ps : Forest) → IsCarriedPatternRo
 refused_row t r none row h = let there = row_there t h in none there.0 (subst (λ q. IsCarriedPatternRow q there.0) row there.1)
 
 -- a carried row that is none of the others is _
-pub any_name : (r : RowName) (ps : Forest) → IsCarriedPatternRow (row_of r) ps → (r ≡ name.Pcon → ⊥) → (r ≡ name.Por → ⊥) → (r ≡ name.Pparen → ⊥) → (r ≡ name.Plist → ⊥) → (r ≡ name.Pcons → ⊥) → (r ≡ name.Ptuple → ⊥) → (r ≡ name.Pas → ⊥) → (r ≡ name.Pname → ⊥) → (r ≡ name.Pconst → ⊥) → (r ≡ name.Pneg → ⊥) →
+pub any_name : (r : RowName) (ps : Forest) → IsCarriedPatternRow (row_of r) ps → (r ≡ name.Papp → ⊥) → (r ≡ name.Pcon → ⊥) → (r ≡ name.Por → ⊥) → (r ≡ name.Pparen → ⊥) → (r ≡ name.Plist → ⊥) → (r ≡ name.Pcons → ⊥) → (r ≡ name.Ptuple → ⊥) → (r ≡ name.Pas → ⊥) → (r ≡ name.Pname → ⊥) → (r ≡ name.Pconst → ⊥) → (r ≡ name.Pneg → ⊥) →
     row_of r ≡ pany_row
 unfolding row_of
-any_name name.Pany ps h o0 o1 o2 o3 o4 o5 o6 o7 o8 o9 = refl
-any_name name.Pcon ps h o0 o1 o2 o3 o4 o5 o6 o7 o8 o9 = absurd (o0 refl)
-any_name name.Por ps h o0 o1 o2 o3 o4 o5 o6 o7 o8 o9 = absurd (o1 refl)
-any_name name.Pparen ps h o0 o1 o2 o3 o4 o5 o6 o7 o8 o9 = absurd (o2 refl)
-any_name name.Plist ps h o0 o1 o2 o3 o4 o5 o6 o7 o8 o9 = absurd (o3 refl)
-any_name name.Pcons ps h o0 o1 o2 o3 o4 o5 o6 o7 o8 o9 = absurd (o4 refl)
-any_name name.Ptuple ps h o0 o1 o2 o3 o4 o5 o6 o7 o8 o9 = absurd (o5 refl)
-any_name name.Pas ps h o0 o1 o2 o3 o4 o5 o6 o7 o8 o9 = absurd (o6 refl)
-any_name name.Pname ps h o0 o1 o2 o3 o4 o5 o6 o7 o8 o9 = absurd (o7 refl)
-any_name name.Pconst ps h o0 o1 o2 o3 o4 o5 o6 o7 o8 o9 = absurd (o8 refl)
-any_name name.Pneg ps h o0 o1 o2 o3 o4 o5 o6 o7 o8 o9 = absurd (o9 refl)
-any_name _ ps h o0 o1 o2 o3 o4 o5 o6 o7 o8 o9 = absurd h
+any_name name.Pany ps h o o0 o1 o2 o3 o4 o5 o6 o7 o8 o9 = refl
+any_name name.Papp ps h o o0 o1 o2 o3 o4 o5 o6 o7 o8 o9 = absurd (o refl)
+any_name name.Pcon ps h o o0 o1 o2 o3 o4 o5 o6 o7 o8 o9 = absurd (o0 refl)
+any_name name.Por ps h o o0 o1 o2 o3 o4 o5 o6 o7 o8 o9 = absurd (o1 refl)
+any_name name.Pparen ps h o o0 o1 o2 o3 o4 o5 o6 o7 o8 o9 = absurd (o2 refl)
+any_name name.Plist ps h o o0 o1 o2 o3 o4 o5 o6 o7 o8 o9 = absurd (o3 refl)
+any_name name.Pcons ps h o o0 o1 o2 o3 o4 o5 o6 o7 o8 o9 = absurd (o4 refl)
+any_name name.Ptuple ps h o o0 o1 o2 o3 o4 o5 o6 o7 o8 o9 = absurd (o5 refl)
+any_name name.Pas ps h o o0 o1 o2 o3 o4 o5 o6 o7 o8 o9 = absurd (o6 refl)
+any_name name.Pname ps h o o0 o1 o2 o3 o4 o5 o6 o7 o8 o9 = absurd (o7 refl)
+any_name name.Pconst ps h o o0 o1 o2 o3 o4 o5 o6 o7 o8 o9 = absurd (o8 refl)
+any_name name.Pneg ps h o o0 o1 o2 o3 o4 o5 o6 o7 o8 o9 = absurd (o9 refl)
+any_name _ ps h o o0 o1 o2 o3 o4 o5 o6 o7 o8 o9 = absurd h
 
 -- the same of a node
-pub any_row : (nd : Node) → IsTreeOfCarriedPatterns (node_view nd) → ((out-Node nd).row ≡ name.Pcon → ⊥) → ((out-Node nd).row ≡ name.Por → ⊥) → ((out-Node nd).row ≡ name.Pparen → ⊥) → ((out-Node nd).row ≡ name.Plist → ⊥) → ((out-Node nd).row ≡ name.Pcons → ⊥) → ((out-Node nd).row ≡ name.Ptuple → ⊥) → ((out-Node nd).row ≡ name.Pas → ⊥) →
+pub any_row : (nd : Node) → IsTreeOfCarriedPatterns (node_view nd) → ((out-Node nd).row ≡ name.Papp → ⊥) → ((out-Node nd).row ≡ name.Pcon → ⊥) → ((out-Node nd).row ≡ name.Por → ⊥) → ((out-Node nd).row ≡ name.Pparen → ⊥) → ((out-Node nd).row ≡ name.Plist → ⊥) → ((out-Node nd).row ≡ name.Pcons → ⊥) → ((out-Node nd).row ≡ name.Ptuple → ⊥) → ((out-Node nd).row ≡ name.Pas → ⊥) →
     ((out-Node nd).row ≡ name.Pname → ⊥) → ((out-Node nd).row ≡ name.Pconst → ⊥) → ((out-Node nd).row ≡ name.Pneg → ⊥) → formed.row_of (node_view nd) ≡ pany_row
-any_row nd h o0 o1 o2 o3 o4 o5 o6 o7 o8 o9 =
+any_row nd h o o0 o1 o2 o3 o4 o5 o6 o7 o8 o9 =
     let there = row_there (node_view nd) h in
     let row = ap formed.row_of (node_view_parts nd) in
-    row ∙ any_name (out-Node nd).row there.0 (subst (λ q. IsCarriedPatternRow q there.0) row there.1) o0 o1 o2 o3 o4 o5 o6 o7 o8 o9
+    row ∙ any_name (out-Node nd).row there.0 (subst (λ q. IsCarriedPatternRow q there.0) row there.1) o o0 o1 o2 o3 o4 o5 o6 o7 o8 o9
 
 -- What comes of a name that is asked to be new: the call tells whether it is named again, and then it is reported.
 pub fresh_told : (a b : Parts) (again : Bool) (t : Token) (seen : List (Bor Token)) → again ≡ is_named_in (tok_of t).name (toks_of seen) → TestedAs (not again) a b t.span fault.Unique (twice_text (tok_of t).name) → AsksFresh a b (tok_of t) (names_seen seen)

@@ -4,4 +4,5 @@ pub mod MatchedRows
 pub mod OtherRows
 pub mod PatternLaws
 pub mod Carrying
+pub mod Constructors
 pub mod Stepping

@@ -16,8 +16,7 @@ use Rattle.type_expressions.proofs.TypeLaws.{each_map}
 use Rattle.pattern_typing.specs.declared.patterns.BoundName.{BoundName}
 use Rattle.use_typing.proofs.Reading.{same_follows}
 use Rattle.pattern_typing.specs.Matching.{Binds}
-use Rattle.use_typing.specs.UseSteps.{asks_equal}
-use Rattle.pattern_steps.specs.PatternSteps.{pattern_rule, parts_of_pattern, matched_as, bound_as, matched_tree, names_of_tree, pattern_steps, pattern_names, field_pattern_steps, field_pattern_names, match_each, names_of, names_of_fields, names_in, pattern_or_missing, side_at, sides_of}
+use Rattle.pattern_steps.specs.PatternSteps.{pattern_rule, parts_of_pattern, construction_steps, matched_as, bound_as, matched_tree, names_of_tree, pattern_steps, pattern_names, field_pattern_steps, field_pattern_names, match_each, names_of, names_of_fields, names_in, pattern_or_missing, side_at, sides_of}
 
 pub parts_are : (n : ℕ) (t : Tree) → parts_of_pattern n t ≡ map (comes_to pattern_rule) (operands_with_slots n t)
 unfolding parts_of_pattern
@@ -109,10 +108,12 @@ pub slots_bind : {A E : Type 0} (r : Result A E) (n : ℕ) (t : Tree) (os : List
     OnOk r (Binds old new (names_in pattern_names os)) → OnOk r (Binds old new (names_of (in_slots (parts_of_pattern n t))))
 slots_bind r n t os old new e p = subst (λ x. OnOk r (Binds old new x)) (ap (names_in pattern_names) e ∙ sym (slots_names n t)) p
 
--- the argument of a constructor
-pub filled_follows : (n : ℕ) (t : Tree) (o : Numbered) (a b : Parts) → o ≡ filled_in n t 1 →
-    Follows (pattern_steps o ++ asks_equal o) a b → Follows ((pattern_or_missing n t (in_slot 1 (parts_of_pattern n t))).matched ++ asks_equal (filled_in n t 1)) a b
-filled_follows n t o a b e p = subst (λ ss. Follows (ss ++ asks_equal (filled_in n t 1)) a b) (sym (filled_steps n t)) (subst (λ x. Follows (pattern_steps x ++ asks_equal x) a b) e p)
+-- a head with its argument
+pub filled_follows : (n : ℕ) (t : Tree) (h o : Numbered) (a b : Parts) → h ≡ filled_in n t 0 → o ≡ filled_in n t 1 →
+    Follows (construction_steps h o (pattern_steps o)) a b → Follows (construction_steps (filled_in n t 0) (filled_in n t 1) (pattern_or_missing n t (in_slot 1 (parts_of_pattern n t))).matched) a b
+filled_follows n t h o a b first second p =
+    subst (λ ss. Follows (construction_steps (filled_in n t 0) (filled_in n t 1) ss) a b) (sym (filled_steps n t))
+    (subst (λ x. Follows (construction_steps x (filled_in n t 1) (pattern_steps (filled_in n t 1))) a b) first (subst (λ x. Follows (construction_steps h x (pattern_steps x)) a b) second p))
 
 pub filled_binds : (n : ℕ) (t : Tree) (o : Numbered) (old new : List BoundName) → o ≡ filled_in n t 1 →
     Binds old new (pattern_names o) → Binds old new ((pattern_or_missing n t (in_slot 1 (parts_of_pattern n t))).names)

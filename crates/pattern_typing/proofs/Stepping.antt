@@ -1,13 +1,15 @@
 -- What patterns carry as they are matched one after the other, and what is asked behind them.
-use Rattle.std.proofs.Common.{◌≡◌, ◌∙◌, ◌++◌, ◌+◌, ◌<◌, ℕ, zero, suc, List, [], ◌∷◌, length, map, take, drop, Some, refl, sym, ap, subst, arith, append_assoc, append-nil}
+use Rattle.std.proofs.Common.{◌≡◌, ◌∙◌, ◌++◌, ◌+◌, ◌<◌, ℕ, zero, suc, List, [], ◌∷◌, length, map, take, drop, Option, Some, None, refl, sym, ap, subst, arith, append_assoc, append-nil}
 use Rattle.std.specs.Prelude.{All, slice_get, slice_index_or, codes}
 use Rattle.std.proofs.lemmas.List.Elements.{All-head, All-tail}
 use denote.Ref.{Bor}
+use Rattle.tree_model.specs.Rows.{pparen_row}
+use Rattle.tree_model.specs.Trees.{Tree}
 use Rattle.signature_model.specs.Declarations.{Name}
 use Rattle.syntax_tree.specs.View.{place_of}
 use Rattle.syntax_tree.specs.declared.tree.Token.{Token}
 use Rattle.row_parts.specs.declared.slots.Operand.{Operand}
-use Rattle.row_parts.specs.Numbered.{Numbered, operand_view}
+use Rattle.row_parts.specs.Numbered.{Numbered, operand_view, operands_in, first_in}
 use Rattle.typing_model.specs.Parts.{Pattern}
 use Rattle.typing_model.specs.Patterns.{all_mentions}
 use Rattle.type_terms.specs.declared.types.NodeRef.{NodeRef}
@@ -16,22 +18,24 @@ use Rattle.type_nodes.specs.Changes.{Makes}
 use Rattle.use_typing.proofs.Reading.{drop_read}
 use Rattle.env_table.specs.declared.entries.Entry.{Entry}
 use Rattle.typing_state.specs.declared.parts.Parts.{Parts}
-use Rattle.typing_state.specs.Goes.{Goes, OnlyStore}
+use Rattle.typing_state.specs.Goes.{Goes, OnlyStore, OnlyIndex}
+use Rattle.typing_state.specs.Notes.{NotedNameless}
 use Rattle.typing_state.specs.Types.{list_path}
 use Rattle.typing_steps.specs.Typing.{AsksEqual, TypesAny}
 use Rattle.operand_laws.specs.Operands.{pattern_of}
 use Rattle.operand_laws.proofs.Standing.{pattern_of_stands}
 use Rattle.pattern_rows.specs.Bounds.{Bind}
-use Rattle.pattern_rows.specs.CarriedPatterns.{IsCarriedPattern, MatchesOperand}
+use Rattle.type_expressions.specs.Written.{AsksWritten}
+use Rattle.pattern_rows.specs.CarriedPatterns.{IsCarriedPattern, MatchesOperand, MatchesOperands, MatchesNodeOf}
 use Rattle.pattern_rows.specs.Contracts.{patterns_of, MatchesTo, Matches, InOrderFirst, EndsPatterns, AsksEach, AsksEachFirst, list_asks, cons_asks}
 use Rattle.pattern_rows.specs.Sides as rules
 use Rattle.pattern_rows.specs.Sides.{MatchesSides, MatchesSidesFirst, AsksName, AsksNamesFirst, AsksBeside, AsksLater, AsksLaterFirst}
 use Rattle.pattern_rows.proofs.Beside.{sides_none, sides_more, sides_all, names_more, later_more}
 use Rattle.pattern_rows.proofs.Listed.{equal_more, ends_list, ends_list_none}
-use Rattle.pattern_rows.proofs.Matching.{SidesCompared}
+use Rattle.pattern_rows.proofs.Matching.{SidesCompared, paren_matches, written_matches}
 use Rattle.pattern_rows.proofs.Ordered.{in_order_more}
 use Rattle.pattern_rows.proofs.Typed.{ends_cons}
-use Rattle.pattern_typing.specs.Matching.{bind_of, binds_of, names_seen, nodes_of, parts_of_sides, side_of, typed_view}
+use Rattle.pattern_typing.specs.Matching.{bind_of, binds_of, names_seen, nodes_of, parts_of_sides, side_of, typed_view, AsksFirst}
 use Rattle.pattern_typing.specs.declared.patterns.BoundName.{BoundName}
 use Rattle.pattern_typing.specs.declared.patterns.SideMatch.{SideMatch}
 use Rattle.pattern_typing.specs.declared.patterns.TypedPart.{TypedPart}
@@ -156,6 +160,25 @@ first_node ts rest x e = ap (λ us. slice_get (nodes_of us) 0) e
 -- there is one, where an operand was typed
 pub no_typed : (ts : List TypedPart) (o : Numbered) (os : List Numbered) → ts ≡ [] → typed_view ts ≡ o ∷ os → ⊥
 no_typed ts o os none e = let both : [] ≡ o ∷ os = sym (ap typed_view none) ∙ e in cc
+
+-- it is at the place of the first operand
+first_place : (ts rest : List TypedPart) (x : TypedPart) (o : Numbered) (os : List Numbered) → ts ≡ x ∷ rest → typed_view ts ≡ o ∷ os → place_of x.part.span ≡ o.at
+first_place ts rest x o os e is =
+    let both : operand_view x.part ∷ typed_view rest ≡ o ∷ os = sym (ap typed_view e) ∙ is in
+    let same : operand_view x.part ≡ o = cc in
+    ap (λ (y : Numbered). y.at) same
+
+-- it is asked to have the written type
+pub first_asked : (a b : Parts) (env : List Entry) (given : Option Numbered) (ts rest : List TypedPart) (x : TypedPart) (m : ℕ) → ts ≡ x ∷ rest → AsksWritten a b env given (place_of x.part.span) x.ty.0 m →
+    (o : Numbered) (os : List Numbered) → typed_view ts ≡ o ∷ os → AsksFirst a b env given o.at (nodes_of ts) m
+first_asked a b env given ts rest x m e asked o os is = (x.ty.0, first_node ts rest x e, subst (λ p. AsksWritten a b env given p x.ty.0 m) (first_place ts rest x o os e is) asked)
+
+-- a pattern in parentheses, by whether a type is written
+pub paren_row : (a b d e : Parts) (env : List Entry) (number : ℕ) (t : Tree) (given : Option Numbered) (ty : NodeRef) (names more : List Bind) (seen then : List Name) (ms : List ℕ) → first_in number t 3 ≡ given → MatchesOperands a b env (operands_in number t 1) names more seen then ms → Goes a b →
+    (given ≡ None → (o : Numbered) (os : List Numbered) → operands_in number t 1 ≡ o ∷ os → (slice_get ms 0 ≡ Some ty.0) × (d ≡ b)) → ((o : Numbered) (os : List Numbered) → operands_in number t 1 ≡ o ∷ os → AsksFirst b d env given o.at ms ty.0) → Goes b d →
+    NotedNameless d e number env (Some ty) → OnlyIndex d e → MatchesNodeOf pparen_row a e env number t names more seen then ty.0
+paren_row a b d e env number t None ty names more seen then ms is matched goes first asked on noted rest = paren_matches a b d e env number t ty names more seen then ms is matched goes (first refl) noted rest
+paren_row a b d e env number t (Some w) ty names more seen then ms is matched goes first asked on noted rest = written_matches a b d e env number t w ty names more seen then ms is matched goes asked on noted rest
 
 -- all sides: the names in them stand behind those from before
 pub beside_done : (a b : Parts) (env : List Entry) (ps left : List Pattern) (seen now apart last : List (Bor Token)) (sides : List rules.Side) → left ≡ [] → last ≡ now ++ apart → BesideFirst a b env ps left (names_seen seen) (names_seen now) (names_seen apart) sides →

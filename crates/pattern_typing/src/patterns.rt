@@ -17,14 +17,16 @@ ghost use Rattle.use_typing.specs.Uses.{TellsUse};
 ghost use Rattle.pattern_typing.specs.Names.{TellsName, TellsNameIf};
 ghost use Rattle.type_expressions.specs.Written.{annotation_steps};
 ghost use Rattle.use_typing.specs.UseSteps.{asks_equal, asks_equal_if, asks_labels, labels_of, asks_token, lost_steps, path_at, range_steps};
-ghost use Rattle.pattern_steps.specs.PatternSteps.{beside, bound_as, common_names, construction_steps, field_pattern_names, field_pattern_steps, find_name, last_of, later, match_each, matched_as, matched_tree, name_of, names_in, names_of, names_of_first, names_of_tree, parts_of_pattern, pattern_names, pattern_steps, side_at, sides_beside, sides_of};
-ghost use Rattle.pattern_typing.specs.Matching.{Binds, bind_of, binds_of, names_seen, nodes_of, parts_of_sides, side_of, side_view, tokens_of, typed_view};
+ghost use Rattle.pattern_steps.specs.PatternSteps.{beside, bound_as, common_names, constructed_steps, construction_steps, constructor_at, field_pattern_names, field_pattern_steps, find_name, last_of, later, match_each, matched_as, matched_tree, name_of, names_in, names_of, names_of_first, names_of_tree, parts_of_pattern, pattern_names, pattern_steps, side_at, sides_beside, sides_of};
+ghost use Rattle.pattern_typing.specs.Matching.{AsksFirst, Binds, bind_of, binds_of, names_seen, nodes_of, parts_of_sides, side_of, side_view, tokens_of, typed_view};
 ghost use Rattle.row_parts.specs.Numbered.{Numbered};
 ghost use Rattle.type_nodes.specs.Views.{numbers};
 ghost use Rattle.typing_model.specs.BuiltIns.{constant};
-ghost use Rattle.operand_laws.specs.Operands.{pattern_of};
+ghost use Rattle.operand_laws.specs.Operands.{number_of, pattern_of};
+ghost use Rattle.typing_steps.specs.Typing.{path_as};
 ghost use Rattle.typing_conditions.specs.Surroundings.{IsEntry};
 ghost use Rattle.signature_model.specs.Declarations.{Name};
+ghost use Rattle.pattern_rows.specs.Applied.{AppliesConstructor, MatchesApplied, MatchesWanted};
 ghost use Rattle.pattern_rows.specs.Bounds.{Bind};
 ghost use Rattle.pattern_rows.specs.CarriedPatterns.{IsCarriedPattern, MatchesBeside, MatchesNode, MatchesNodeOf, MatchesOperand, MatchesOperands};
 ghost use Rattle.pattern_rows.specs.Contracts.{AsksEach, AsksFresh, EndsPatterns, Matches, cons_asks, list_asks, patterns_of};
@@ -438,6 +440,7 @@ fn annotated(
     depth: Depth,
 ) -> Result<NodeRef, NoMemory>
     ensures first { IfOk result (λ m. written.entry ≡ None → (o : Numbered) (os : List Numbered) → typed_view typed.now ≡ o ∷ os → (slice_get (nodes_of typed.now) 0 ≡ Some m.0) × (at.new ≡ at.old)) }
+    ensures carries { IfOk result (λ m. (o : Numbered) (os : List Numbered) → typed_view typed.now ≡ o ∷ os → AsksFirst at.old at.new env.now (option_map operand_view written.entry) o.at (nodes_of typed.now) m.0) }
     ensures follows { OnOk result (Follows (annotation_steps (first_of (typed_view typed.now)) (option_map operand_view written.entry)) at.old at.new) }
     ensures goes { Goes at.old at.new }
 {
@@ -576,7 +579,7 @@ fn types_of(alloc: Global, typed: &[TypedPart<'_>]) -> Result<Vec<NodeRef>, NoMe
     Ok(types)
 }
 
-/// A p: `bound`, `arity`; the argument, which is the declared one; the result, which the constructor has too
+/// A p: the constructor with its argument; the result, which the constructor has too
 #[cycle(patterns)]
 fn applied<'a>(
     at: &mut Parts,
@@ -587,17 +590,74 @@ fn applied<'a>(
     seen: &mut Mentioned<'a>,
     depth: Depth,
 ) -> Result<NodeRef, NoMemory>
+    ensures carries { IfOk result (λ m. MatchesNodeOf papp_row at.old at.new env.now number (node_view node.now) (binds_of names.old.items) (binds_of names.new.items) (names_seen seen.old.items) (names_seen seen.new.items) m.0) }
     ensures follows { OnOk result (Follows (matched_as papp_row number (node_view node.now)) at.old at.new) }
     ensures names { OnOk result (Binds names.old.items names.new.items (bound_as papp_row number (node_view node.now))) }
     ensures recorded { OnOk result (IsRecorded at.new number) }
     ensures goes { Goes at.old at.new }
 {
     let head = operand_in(node, number, 0);
-    let (built, wanted) = construction(at, head, env)?;
     let argument = operand_in(node, number, 1);
-    match_wanted(at, argument, wanted, env, names, seen, depth.inside()?)?;
-    at.note_type(number, env, built)?;
-    Ok(built)
+    let ty = construction(at, head, argument, env, names, seen, depth)?;
+    at.note_type(number, env, ty)?;
+    Ok(ty)
+}
+
+/// A head with its argument. The grammar gives a constructor; after anything else the argument is matched alone, the whole has any
+/// type, and the head isn't recorded.
+#[cycle(patterns)]
+fn construction<'a>(
+    at: &mut Parts,
+    head: Operand<'a>,
+    argument: Operand<'a>,
+    env: &Env,
+    names: &mut Vec<BoundName<'a>>,
+    seen: &mut Mentioned<'a>,
+    depth: Depth,
+) -> Result<NodeRef, NoMemory>
+    ensures carries { IfOk result (λ m. IsCarriedPattern (operand_view argument.entry) → MatchesApplied at.old at.new env.now (pattern_of at.old.item (operand_view head.entry)) (pattern_of at.old.item (operand_view argument.entry)) (binds_of names.old.items) (binds_of names.new.items) (names_seen seen.old.items) (names_seen seen.new.items) m.0) }
+    ensures follows { OnOk result (Follows (construction_steps (operand_view head.entry) (operand_view argument.entry) (pattern_steps (operand_view argument.entry))) at.old at.new) }
+    ensures names { OnOk result (Binds names.old.items names.new.items (pattern_names (operand_view argument.entry))) }
+    ensures goes { Goes at.old at.new }
+{
+    match constructor_path(at, head)? {
+        Some(path) => with_argument(at, head.number, &path, argument, env, names, seen, depth),
+        None => {
+            match_pattern(at, argument, env, names, seen, depth.inside()?)?;
+            at.var()
+        }
+    }
+}
+
+/// A constructor with its argument: `bound`, `arity`; the argument, which is the declared one. The constructor is recorded.
+#[cycle(patterns)]
+fn with_argument<'a>(
+    at: &mut Parts,
+    number: u32,
+    path: &WrittenPath<'_>,
+    argument: Operand<'a>,
+    env: &Env,
+    names: &mut Vec<BoundName<'a>>,
+    seen: &mut Mentioned<'a>,
+    depth: Depth,
+) -> Result<NodeRef, NoMemory>
+    ensures carries { IfOk result (λ m. IsCarriedPattern (operand_view argument.entry) → AppliesConstructor at.old at.new env.now (number_of at.old.item number) (path_as (path_view path.now)) (pattern_of at.old.item (operand_view argument.entry)) (binds_of names.old.items) (binds_of names.new.items) (names_seen seen.old.items) (names_seen seen.new.items) m.0) }
+    ensures follows { OnOk result (Follows (constructed_steps number (path_view path.now) (operand_view argument.entry) (pattern_steps (operand_view argument.entry))) at.old at.new) }
+    ensures names { OnOk result (Binds names.old.items names.new.items (pattern_names (operand_view argument.entry))) }
+    ensures goes { Goes at.old at.new }
+{
+    let found = constructor(at, env, path, 1)?;
+    match_wanted(
+        at,
+        argument,
+        found.argument,
+        env,
+        names,
+        seen,
+        depth.inside()?,
+    )?;
+    at.note(number, env, Some(found.built), found.names)?;
+    Ok(found.built)
 }
 
 /// A pattern, and the demand that it has the wanted type, where one is wanted.
@@ -611,6 +671,7 @@ fn match_wanted<'a>(
     seen: &mut Mentioned<'a>,
     depth: Depth,
 ) -> Result<(), NoMemory>
+    ensures carries { OnOk result (IsCarriedPattern (operand_view p.entry) → MatchesWanted at.old at.new env.now (pattern_of at.old.item (operand_view p.entry)) (binds_of names.old.items) (binds_of names.new.items) (names_seen seen.old.items) (names_seen seen.new.items) (option_map (λ w. w.0) wanted)) }
     ensures follows { OnOk result (Follows (pattern_steps (operand_view p.entry) ++ asks_equal (operand_view p.entry)) at.old at.new) }
     ensures names { OnOk result (Binds names.old.items names.new.items (pattern_names (operand_view p.entry))) }
     ensures goes { Goes at.old at.new }
@@ -619,20 +680,18 @@ fn match_wanted<'a>(
     equal_if(at, p.span, found, wanted, env)
 }
 
-/// The constructor in front of an argument: the type of its result, and that of the argument, where it has one.
-fn construction(
-    at: &mut Parts,
-    head: Operand<'_>,
-    env: &Env,
-) -> Result<(NodeRef, Option<NodeRef>), NoMemory>
-    ensures tells { OnOk result (TellsUse (path_at (operand_view head.entry).part) 1 at.old at.new env.now) }
-    ensures follows { OnOk result (Follows (construction_steps (operand_view head.entry)) at.old at.new) }
-    ensures goes { Goes at.old at.new }
+/// The path of an operand that is a constructor alone; None where it is none.
+#[tactic(auto, unfolding(syntax_tree::specs::Names::row_of))]
+fn constructor_path<'a>(at: &Parts, p: Operand<'a>) -> Result<Option<WrittenPath<'a>>, NoMemory>
+    ensures { IfOk result (λ r. option_map path_view r ≡ constructor_at (operand_view p.entry).part) }
 {
-    let path = written_at(at, head)?;
-    let found = constructor(at, env, &path, 1)?;
-    at.note(head.number, env, Some(found.built), found.names)?;
-    Ok((found.built, found.argument))
+    let Some(node) = p.node else {
+        return Ok(None);
+    };
+    match node.row {
+        RowName::Pcon => Ok(Some(written_path(at.alloc(), node, 0, 1)?)),
+        _ => Ok(None),
+    }
 }
 
 /// p | p: its sides bind the same names with the same types; it binds those of the first

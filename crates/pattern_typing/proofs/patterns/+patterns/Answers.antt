@@ -1,35 +1,43 @@
 use Rattle.std.proofs.Common.{◌≡◌, ◌∙◌, ◌++◌, ◌∷◌, ◌+◌, ◌<◌, ℕ, true, false, List, [], length, map, drop, refl, sym, ap, subst, arith, append_assoc}
-use Rattle.std.specs.Prelude.{OnOk, IfOk, All, slice_get, Some, None, option_map}
+use Rattle.std.specs.Prelude.{OnOk, IfOk, All, slice_get, Option, Some, None, option_map}
 use Rattle.std.proofs.lemmas.List.{drop_all}
 use Rattle.tree_model.specs.Rows.{pname_row, pconst_row, pneg_row, pcon_row, pparen_row, plist_row, precord_row, papp_row, pcons_row, ptuple_row, por_row, pas_row}
 use Rattle.syntax_tree.specs.Names.{row_of}
 use Rattle.syntax_tree.specs.View.{node_view}
 use Rattle.syntax_tree.specs.declared.tree.Node.{out-Node}
 use Rattle.syntax_tree.specs.declared.rows.RowName.TheVariants as row_name
-use Rattle.row_parts.specs.Numbered.{Numbered, all_operands, filled_in, first_in, first_of, in_slot, in_slots, operand_view, operands_in, token_in}
+use Rattle.row_parts.specs.Numbered.{Numbered, all_operands, filled_in, first_in, first_of, in_slot, in_slots, operand_view, operands_in, path_view, token_in}
 use Rattle.env_table.specs.declared.faults.FaultKind.TheVariants as fault
 use Rattle.typing_state.specs.Steps.{each, records, Follows, GetsOn}
 use Rattle.typing_state.proofs.Going.{goes_refl, goes_trans}
-use Rattle.typing_state.proofs.Following.{gets_start, ends_both, follows_before, follows_both, follows_none, gets_more, gets_done, store_silent}
+use Rattle.typing_state.proofs.Following.{gets_start, ends_both, ends_before, follows_before, follows_both, follows_none, gets_more, gets_done, store_silent}
+use Rattle.type_expressions.specs.TypeSteps.{constructor_steps}
 use Rattle.type_expressions.specs.Written.{annotation_steps}
 use Rattle.use_typing.specs.UseSteps.{asks_equal, asks_equal_if, asks_labels, asks_token, labels_of, lost_steps, path_at, range_steps}
-use Rattle.pattern_steps.specs.PatternSteps.{construction_steps, field_pattern_steps, field_pattern_names, last_of, later, match_each, name_of, names_in, names_of, names_of_first, names_of_tree, parts_of_pattern, pattern_names, pattern_or_missing, pattern_steps, side_at, sides_beside, sides_of}
-use Rattle.pattern_typing.specs.Matching.{Binds, binds_of, names_seen, nodes_of, parts_of_sides, side_of, side_view, tokens_of, typed_view}
+use Rattle.pattern_steps.specs.PatternSteps.{construction_steps, constructor_at, field_pattern_steps, field_pattern_names, last_of, later, match_each, name_of, names_in, names_of, names_of_first, names_of_tree, parts_of_pattern, pattern_names, pattern_or_missing, pattern_steps, side_at, sides_beside, sides_of}
+use Rattle.pattern_typing.specs.Matching.{AsksFirst, Binds, binds_of, names_seen, nodes_of, parts_of_sides, side_of, side_view, tokens_of, typed_view}
 use Rattle.pattern_typing.specs.declared.patterns.SideMatch.{SideMatch}
 use Rattle.typing_model.specs.BuiltIns.{constant}
 use Rattle.type_nodes.specs.Nodes as node
 use Rattle.type_nodes.specs.Nodes.{IsNode}
 use Rattle.type_nodes.specs.Changes.{Makes}
 use Rattle.type_nodes.specs.Views.{numbers}
-use Rattle.operand_laws.specs.Operands.{pattern_of}
+use Rattle.operand_laws.specs.Operands.{pattern_of, path_of}
+use Rattle.operand_laws.proofs.Standing.{pattern_of_stands}
+use Rattle.type_terms.specs.declared.types.NodeRef.{NodeRef}
+use Rattle.typing_steps.specs.Typing.{path_as}
+use Rattle.typing_steps.proofs.Rows.{var_any}
+use Rattle.pattern_rows.specs.Applied.{MatchesWanted}
 use Rattle.pattern_rows.specs.CarriedPatterns.{MatchesOperand, MatchesOperands, MatchesBeside}
 use Rattle.pattern_rows.specs.Contracts.{EndsPatterns, list_asks, cons_asks, patterns_of}
 use Rattle.pattern_rows.specs.Named.{NotesRow, BindsNameIf}
 use Rattle.pattern_rows.specs.Sides.{Side, AsksLater}
-use Rattle.pattern_rows.proofs.Matching.{operand_matches, nothing_matches, any_matches, constant_matches, minus_matches, tuple_matches, list_matches, cons_matches, paren_matches, as_matches, or_matches}
+use Rattle.pattern_rows.proofs.Applied.{wanted_matches, constructor_applied, nothing_applied, applied_matches}
+use Rattle.pattern_rows.proofs.Matching.{operand_matches, nothing_matches, any_matches, constant_matches, minus_matches, tuple_matches, list_matches, cons_matches, as_matches, or_matches}
 use Rattle.pattern_rows.proofs.Ordered.{in_order_none, in_order_all}
-use Rattle.pattern_typing.proofs.Carrying.{if_ok, if_any, none_of, tree_row, refused_row, any_row}
-use Rattle.pattern_typing.proofs.Stepping.{as_patterns, order_step, beside_none, beside_step, beside_done, sides_compared}
+use Rattle.pattern_typing.proofs.Constructors.{head_constructor, constructed_follows, alone_follows}
+use Rattle.pattern_typing.proofs.Carrying.{if_ok, if_any, on_ok, none_of, tree_row, refused_row, any_row}
+use Rattle.pattern_typing.proofs.Stepping.{paren_row, as_patterns, order_step, beside_none, beside_step, beside_done, sides_compared}
 use Rattle.pattern_typing.specs.declared.patterns.TypedPart.{TypedPart}
 use Rattle.pattern_typing.proofs.Binding.{binds_both, binds_none}
 use Rattle.use_typing.proofs.Reading.{drop_read, map_push, list_done, follows_three}
@@ -158,7 +166,7 @@ match_node-returns-in-Papp t c = record {
   names = row_names c.applied.result c.args.number c.args.node.now row_name.Papp papp_row c.args.names.now.items c.applied.new.names.items c.in-Papp.is refl c.applied.ensures.names;
   recorded = c.applied.ensures.recorded;
   goes = c.applied.ensures.goes;
-  carries = if_any c.applied.result _ (λ m place carried. absurd (refused_row (node_view c.args.node.now) papp_row (λ ps h. h) (tree_row c.args.node.now row_name.Papp papp_row c.in-Papp.is refl) carried.rows));
+  carries = if_ok c.applied.result _ _ (λ m h. h (tree_row c.args.node.now row_name.Papp papp_row c.in-Papp.is refl)) c.applied.ensures.carries;
 }
 
 pub match_node-returns-in-Precord : goal.match_node-returns-in-Precord
@@ -286,7 +294,7 @@ match_node-returns-in_default t c =
       recorded = c.anything.ensures.recorded;
       goes = c.anything.ensures.goes;
       carries = if_ok c.anything.result _ _ (λ m h place carried. any_matches c.args.at.now c.anything.new.at c.args.env.now n (node_view nd) m (binds_of c.args.names.now.items) (names_seen c.args.seen.now.items) h
-          (any_row nd carried.rows c.in_default.not-Pcon c.in_default.not-Por c.in_default.not-Pparen c.in_default.not-Plist c.in_default.not-Pcons c.in_default.not-Ptuple c.in_default.not-Pas c.in_default.not-Pname c.in_default.not-Pconst c.in_default.not-Pneg) place carried) c.anything.ensures.carries;
+          (any_row nd carried.rows c.in_default.not-Papp c.in_default.not-Pcon c.in_default.not-Por c.in_default.not-Pparen c.in_default.not-Plist c.in_default.not-Pcons c.in_default.not-Ptuple c.in_default.not-Pas c.in_default.not-Pname c.in_default.not-Pconst c.in_default.not-Pneg) place carried) c.anything.ensures.carries;
     }
 
 pub match_field-returns-in_default : goal.match_field-returns-in_default
@@ -371,9 +379,10 @@ parenthesised-returns t c =
       names = c.in_ok-typed.ensures.names;
       recorded = c.in_ok-note_type.ensures.recorded;
       goes = goes_trans c.args.at.now c.in_brackets.new.at c.note_type.new.self c.in_brackets.ensures.goes (goes_trans c.in_brackets.new.at c.annotated.new.at c.note_type.new.self c.annotated.ensures.goes c.note_type.ensures.goes);
-      carries = paren_matches c.args.at.now c.in_brackets.new.at c.annotated.new.at c.note_type.new.self c.args.env.now n tree c.in_ok-ty.ty (binds_of c.args.names.now.items) (binds_of c.in_brackets.new.names.items) (names_seen c.args.seen.now.items) (names_seen c.in_brackets.new.seen.items) (nodes_of c.in_ok-typed.typed.items) c.in_ok-typed.ensures.carries c.in_brackets.ensures.goes
-          (λ none o os is. subst (λ ts. (slice_get (nodes_of ts) 0 ≡ Some c.in_ok-ty.ty.0) × (c.annotated.new.at ≡ c.in_brackets.new.at)) c.deref.ensures.value (c.in_ok-ty.ensures.first (none_of operand_view c.first_operand.result (c.first_operand.ensures ∙ none)) o os (ap typed_view c.deref.ensures.value ∙ c.in_ok-typed.ensures.typed ∙ is)))
-          c.in_ok-note_type.ensures.noted c.note_type.ensures.rest;
+      carries = paren_row c.args.at.now c.in_brackets.new.at c.annotated.new.at c.note_type.new.self c.args.env.now n tree (option_map operand_view c.first_operand.result) c.in_ok-ty.ty (binds_of c.args.names.now.items) (binds_of c.in_brackets.new.names.items) (names_seen c.args.seen.now.items) (names_seen c.in_brackets.new.seen.items) (nodes_of c.in_ok-typed.typed.items) (sym c.first_operand.ensures) c.in_ok-typed.ensures.carries c.in_brackets.ensures.goes
+          (λ none o os is. subst (λ ts. (slice_get (nodes_of ts) 0 ≡ Some c.in_ok-ty.ty.0) × (c.annotated.new.at ≡ c.in_brackets.new.at)) c.deref.ensures.value (c.in_ok-ty.ensures.first (none_of operand_view c.first_operand.result none) o os (ap typed_view c.deref.ensures.value ∙ c.in_ok-typed.ensures.typed ∙ is)))
+          (λ o os is. subst (λ ts. AsksFirst c.in_brackets.new.at c.annotated.new.at c.args.env.now (option_map operand_view c.first_operand.result) o.at (nodes_of ts) c.in_ok-ty.ty.0) c.deref.ensures.value (c.in_ok-ty.ensures.carries o os (ap typed_view c.deref.ensures.value ∙ c.in_ok-typed.ensures.typed ∙ is)))
+          c.annotated.ensures.goes c.in_ok-note_type.ensures.noted c.note_type.ensures.rest;
     }
 
 pub list-returns : goal.list-returns
@@ -456,18 +465,63 @@ pub applied-returns : goal.applied-returns
 applied-returns t c =
     let n = c.args.number in
     let tree = node_view c.args.node.now in
-    let x = construction_steps (filled_in n tree 0) in
-    let y = (pattern_or_missing n tree (in_slot 1 (parts_of_pattern n tree))).matched in
-    let z = asks_equal (filled_in n tree 1) in
-    let built = subst (λ o. Follows (construction_steps o) c.args.at.now c.construction.new.at) c.operand_in-head.ensures c.in_ok-built.ensures.follows in
-    let argument = filled_follows n tree (operand_view c.operand_in-argument.result) c.construction.new.at c.match_wanted.new.at c.operand_in-argument.ensures c.in_ok-match_wanted.ensures.follows in
+    let head = operand_view c.operand_in-head.result in
+    let argument = operand_view c.operand_in-argument.result in
     record {
-      follows = follows_both (x ++ y ++ z) (records n ∷ []) c.args.at.now c.match_wanted.new.at c.note_type.new.self
-          (subst (λ ss. Follows ss c.args.at.now c.match_wanted.new.at) (sym (append_assoc x y z)) (follows_both x (y ++ z) c.args.at.now c.construction.new.at c.match_wanted.new.at built c.match_wanted.ensures.goes argument))
-          c.note_type.ensures.goes c.in_ok-note_type.ensures.follows;
-      names = filled_binds n tree (operand_view c.operand_in-argument.result) c.args.names.now.items c.match_wanted.new.names.items c.operand_in-argument.ensures c.in_ok-match_wanted.ensures.names;
+      follows = follows_both (construction_steps (filled_in n tree 0) (filled_in n tree 1) (pattern_or_missing n tree (in_slot 1 (parts_of_pattern n tree))).matched) (records n ∷ []) c.args.at.now c.construction.new.at c.note_type.new.self
+          (filled_follows n tree head argument c.args.at.now c.construction.new.at c.operand_in-head.ensures c.operand_in-argument.ensures c.in_ok-ty.ensures.follows) c.note_type.ensures.goes c.in_ok-note_type.ensures.follows;
+      names = filled_binds n tree argument c.args.names.now.items c.construction.new.names.items c.operand_in-argument.ensures c.in_ok-ty.ensures.names;
       recorded = c.in_ok-note_type.ensures.recorded;
-      goes = goes_trans c.args.at.now c.construction.new.at c.note_type.new.self c.construction.ensures.goes (goes_trans c.construction.new.at c.match_wanted.new.at c.note_type.new.self c.match_wanted.ensures.goes c.note_type.ensures.goes);
+      goes = goes_trans c.args.at.now c.construction.new.at c.note_type.new.self c.construction.ensures.goes c.note_type.ensures.goes;
+      carries = applied_matches c.args.at.now c.construction.new.at c.note_type.new.self c.args.env.now n tree head argument c.in_ok-ty.ty (binds_of c.args.names.now.items) (binds_of c.construction.new.names.items) (names_seen c.args.seen.now.items) (names_seen c.construction.new.seen.items) c.operand_in-head.ensures c.operand_in-argument.ensures
+          c.in_ok-ty.ensures.carries c.construction.ensures.goes c.in_ok-note_type.ensures.noted c.note_type.ensures.rest;
+    }
+
+pub construction-returns-in-Some : goal.construction-returns-in-Some
+construction-returns-in-Some t c =
+    let i = c.args.at.now.item in
+    let head = operand_view c.args.head in
+    let argument = operand_view c.args.argument in
+    let named : constructor_at head.part ≡ Some (path_view c.in-Some.path) = sym (ap (option_map path_view) (sym c.in-Some.is) ∙ c.in_ok-path.ensures) in
+    record {
+      follows = constructed_follows c.with_argument.result head argument (path_view c.in-Some.path) (pattern_steps argument) c.args.at.now c.with_argument.new.at named c.with_argument.ensures.follows;
+      names = c.with_argument.ensures.names;
+      goes = c.with_argument.ensures.goes;
+      carries = if_ok c.with_argument.result _ _ (λ m h carried. h carried (pattern_of i head) (pattern_of_stands i head).number (head_constructor i head ∙ ap (option_map path_of) named)) c.with_argument.ensures.carries;
+    }
+
+pub construction-returns-in_ok-match_pattern-in-None : goal.construction-returns-in_ok-match_pattern-in-None
+construction-returns-in_ok-match_pattern-in-None t c =
+    let i = c.args.at.now.item in
+    let head = operand_view c.args.head in
+    let argument = operand_view c.args.argument in
+    let none : constructor_at head.part ≡ None = sym (ap (option_map path_view) (sym c.in-None.is) ∙ c.in_ok-path.ensures) in
+    record {
+      follows = alone_follows c.var.result head argument (pattern_steps argument) c.args.at.now c.var.new.self none
+          (ends_before c.var.result (pattern_steps argument) c.args.at.now c.match_pattern.new.at c.var.new.self c.in_ok-match_pattern-in-None.ensures.follows c.var.ensures.goes (store_silent c.match_pattern.new.at c.var.new.self c.var.ensures.rest));
+      names = on_any c.var.result (Binds c.args.names.now.items c.match_pattern.new.names.items (pattern_names argument)) c.in_ok-match_pattern-in-None.ensures.names;
+      goes = goes_trans c.args.at.now c.match_pattern.new.at c.var.new.self c.match_pattern.ensures.goes c.var.ensures.goes;
+      carries = if_ok c.var.result _ _ (λ m made carried.
+          nothing_applied c.args.at.now c.match_pattern.new.at c.var.new.self c.args.env.now (pattern_of i head) (pattern_of i argument) _ m.0 (binds_of c.args.names.now.items) (binds_of c.match_pattern.new.names.items) (names_seen c.args.seen.now.items) (names_seen c.match_pattern.new.seen.items)
+          (head_constructor i head ∙ ap (option_map path_of) none) (c.in_ok-match_pattern-in-None.ensures.carries carried) c.match_pattern.ensures.goes (var_any c.match_pattern.new.at c.var.new.self made c.var.ensures.rest)) c.var.ensures.made;
+    }
+
+pub with_argument-returns : goal.with_argument-returns
+with_argument-returns t c =
+    let o = operand_view c.args.argument in
+    let p = path_view c.args.path.now in
+    let found = c.in_ok-found.found in
+    let wanted : Option ℕ = option_map (λ (m : NodeRef). m.0) found.argument in
+    record {
+      follows = follows_three (constructor_steps p) (pattern_steps o ++ asks_equal o) (records c.args.number ∷ []) c.args.at.now c.constructor.new.at c.match_wanted.new.at c.note.new.self
+          c.in_ok-found.ensures.follows c.match_wanted.ensures.goes c.in_ok-match_wanted.ensures.follows c.note.ensures.goes c.in_ok-note.ensures.follows;
+      names = c.in_ok-match_wanted.ensures.names;
+      goes = goes_trans c.args.at.now c.constructor.new.at c.note.new.self c.constructor.ensures.goes (goes_trans c.constructor.new.at c.match_wanted.new.at c.note.new.self c.match_wanted.ensures.goes c.note.ensures.goes);
+      carries = λ carried. constructor_applied c.args.at.now c.constructor.new.at c.match_wanted.new.at c.note.new.self c.args.env.now c.args.number (path_as p) (pattern_of c.args.at.now.item o) found.known found.built wanted (record { env = c.args.env.now; ty = Some found.built; names = found.names })
+          (binds_of c.args.names.now.items) (binds_of c.match_wanted.new.names.items) (names_seen c.args.seen.now.items) (names_seen c.match_wanted.new.seen.items) refl c.in_ok-found.ensures.carries c.constructor.ensures.goes
+          (subst (λ i. MatchesWanted c.constructor.new.at c.match_wanted.new.at c.args.env.now (pattern_of i o) (binds_of c.args.names.now.items) (binds_of c.match_wanted.new.names.items) (names_seen c.args.seen.now.items) (names_seen c.match_wanted.new.seen.items) wanted) c.constructor.ensures.goes.item
+          (c.in_ok-match_wanted.ensures.carries carried))
+          c.match_wanted.ensures.goes c.in_ok-note.ensures.noted c.note.ensures.rest;
     }
 
 pub alternatives-returns-in_err-note_type-clause-goes : goal.alternatives-returns-in_err-note_type-clause-goes
@@ -516,6 +570,9 @@ match_wanted-returns t c = record {
   follows = ends_both c.equal_if.result (pattern_steps (operand_view c.args.p)) (asks_equal (operand_view c.args.p)) c.args.at.now c.match_pattern.new.at c.equal_if.new.at c.in_ok-found.ensures.follows c.equal_if.ensures.goes c.equal_if.ensures.follows;
   names = on_any c.equal_if.result (Binds c.args.names.now.items c.match_pattern.new.names.items (pattern_names (operand_view c.args.p))) c.in_ok-found.ensures.names;
   goes = goes_trans c.args.at.now c.match_pattern.new.at c.equal_if.new.at c.match_pattern.ensures.goes c.equal_if.ensures.goes;
+  carries = on_ok c.equal_if.result _ _ (λ asked carried.
+      wanted_matches c.args.at.now c.match_pattern.new.at c.equal_if.new.at c.args.env.now (operand_view c.args.p) (binds_of c.args.names.now.items) (binds_of c.match_pattern.new.names.items) (names_seen c.args.seen.now.items) (names_seen c.match_pattern.new.seen.items) c.in_ok-found.found.0 c.args.wanted
+      (c.in_ok-found.ensures.carries carried) c.match_pattern.ensures.goes asked) c.equal_if.ensures.carries;
 }
 
 pub match_written-returns : goal.match_written-returns

@@ -70,6 +70,12 @@ decreases-match_sides l = 9 * l.depth.0 + 0
 abbrev pub decreases-match_side : goal.decreases-match_side
 decreases-match_side l = 9 * l.depth.0 + 8
 
+abbrev pub decreases-construction : goal.decreases-construction
+decreases-construction l = 9 * l.depth.0 + 4
+
+abbrev pub decreases-with_argument : goal.decreases-with_argument
+decreases-with_argument l = 9 * l.depth.0 + 3
+
 abbrev pub decreases-match_wanted : goal.decreases-match_wanted
 decreases-match_wanted l = 9 * l.depth.0 + 8
 

@@ -5,7 +5,7 @@ use Rattle.row_parts.specs.Numbered.{operand_view}
 use Rattle.type_terms.specs.declared.types.NodeRef.{NodeRef}
 use Rattle.type_expressions.specs.Written.{IsAsWritten}
 use Rattle.pattern_typing.proofs.Carrying.{if_any, if_ok}
-use Rattle.pattern_typing.proofs.Stepping.{first_node, no_typed}
+use Rattle.pattern_typing.proofs.Stepping.{first_node, no_typed, first_asked}
 use Rattle.pattern_typing.proofs.patterns.annotated.Goals as goal
 
 pub returns-in-Some-clause-first : goal.returns-in-Some-clause-first
@@ -17,3 +17,10 @@ returns-in-Some-clause-first c =
 
 pub returns-in-None-clause-first : goal.returns-in-None-clause-first
 returns-in-None-clause-first c = if_any c.var.result _ (λ m none o os is. absurd (no_typed c.args.typed.now o os (nil_from_length c.args.typed.now c.in-None.ensures.cases) is))
+
+pub returns-in-Some-clause-carries : goal.returns-in-Some-clause-carries
+returns-in-Some-clause-carries c =
+    if_ok c.as_written.result _ _ (λ m h. first_asked c.args.at.now c.as_written.new.at c.args.env.now (option_map operand_view c.args.written) c.args.typed.now c.in-Some.field-0-1.now c.in-Some.first.now m.0 c.in-Some.ensures.cases.0 h) c.as_written.ensures.carries
+
+pub returns-in-None-clause-carries : goal.returns-in-None-clause-carries
+returns-in-None-clause-carries c = if_any c.var.result _ (λ m o os is. absurd (no_typed c.args.typed.now o os (nil_from_length c.args.typed.now c.in-None.ensures.cases) is))
