@@ -17,7 +17,7 @@ use Rattle.typing_state.proofs.Following.{follows_both, follows_before, ends_bot
 use Rattle.type_expressions.proofs.TypeLaws.{each_map}
 use Rattle.use_typing.specs.UseSteps.{lost_steps}
 use Rattle.pattern_steps.specs.PatternSteps.{pattern_steps}
-use Rattle.pattern_typing.specs.Warnings.{unused_steps, warning_steps}
+use Rattle.match_warnings.specs.Warnings.{unused_steps, warning_steps}
 use Rattle.pattern_steps.specs.PatternSteps.{missed_steps}
 use Rattle.expression_steps.specs.ExpressionSteps.{ExpressionSteps, expression_at, expression_case, expressions_in, filled_expression, case_parts, cases_at, unused_case, row_at, place_at, bound_pattern, whole_steps, right_at, concluded_at, turn_steps, concluded_steps, opened_steps, group_steps, bindings_at, typed_as_written}
 use Rattle.core_typing.specs.declared.bindings.Opened.{Opened}

@@ -2,3 +2,4 @@
 pub mod GroupLaws
 pub mod BindingLaws
 pub mod RecordLaws
+pub mod CaseLaws

@@ -13,10 +13,11 @@ ghost use Rattle.expression_steps.specs.ExpressionSteps.{bindings_at, bound_patt
 ghost use Rattle.core_typing.specs.Concluding.{conclusion};
 
 use crate::exprs::type_under;
-use crate::functions::{type_parameters, with_names};
-use expression_steps::{arrows, has_parameters, is_value};
+use crate::functions::{arrows, type_parameters, with_names};
+use expression_steps::{has_parameters, is_value};
+use match_warnings::report_pattern;
 use owned_lists::push;
-use pattern_typing::{BoundName, Matched, Mentioned, report_pattern, type_pattern};
+use pattern_typing::{BoundName, Matched, Mentioned, type_pattern};
 use row_parts::{Operand, first_operand, operand_in, operands, token};
 use std::rc::Rc;
 use syntax_tree::Node;

@@ -1,7 +1,7 @@
 //! The walk over expressions: each row types its parts in order, with its demands between and behind them.
 #![tactic(auto, using(typing_state::proofs::Going::goes_trans, typing_state::proofs::Going::goes_refl, typing_state::proofs::Following::follows_both, typing_state::proofs::Following::follows_then, typing_state::proofs::Following::follows_before, typing_state::proofs::Following::follows_behind, typing_state::proofs::Following::follows_none, typing_state::proofs::Following::follows_silent, typing_state::proofs::Following::store_silent, typing_state::proofs::Following::silent_refl, typing_state::proofs::Following::silent_trans, typing_state::proofs::Following::ends_both, typing_state::proofs::Following::ends_behind, typing_state::proofs::Following::ends_before, typing_state::proofs::Following::ends_silent, typing_state::proofs::Following::gets_start, typing_state::proofs::Following::gets_more, typing_state::proofs::Following::gets_before, typing_state::proofs::Following::gets_done, expression_steps::proofs::ExpressionLaws::value_no_record, expression_steps::proofs::ExpressionLaws::form_follows), unfolding(syntax_tree::specs::Names::row_of))]
 
-ghost use Rattle.std.specs.Prelude.{false, [], ◌∷◌, ◌++◌, map, option_map, All, IfOk, OnOk};
+ghost use Rattle.std.specs.Prelude.{◌≡◌, None, false, [], ◌∷◌, ◌++◌, map, option_map, All, IfOk, OnOk};
 ghost use Rattle.tree_model.specs.Trees.{Place, inner};
 ghost use Rattle.operand_laws.specs.Operands.{number_of, expression_of};
 ghost use Rattle.typing_steps.specs.Typing.{TypesTo, TypesRow};
@@ -134,6 +134,7 @@ pub fn typed_as(
     depth: Depth,
 ) -> Result<NodeRef, NoMemory>
     ensures carries { OnOk result (IsCarried (operand_view e.entry) → TypesAsIf at.old at.new scope.now (expression_of at.old.item (operand_view e.entry)) (option_map (λ w. w.0) wanted)) }
+    ensures typed { IfOk result (λ m. wanted ≡ None → IsCarried (operand_view e.entry) → TypesTo at.old at.new scope.now (λ c. (expression_of at.old.item (operand_view e.entry)).typed c) (λ ch. ch.type_at (expression_of at.old.item (operand_view e.entry)).node) m.0) }
     ensures follows { OnOk result (Follows (expression_steps (operand_view e.entry) ++ asks FaultKind.Equal (place_of e.entry.span ∷ []) ∷ []) at.old at.new) }
     ensures goes { Goes at.old at.new }
 {

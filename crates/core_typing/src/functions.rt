@@ -1,19 +1,31 @@
 //! fun p p -> e
 #![tactic(auto, using(typing_state::proofs::Going::goes_trans, typing_state::proofs::Going::goes_refl, typing_state::proofs::Following::follows_both, typing_state::proofs::Following::follows_then, typing_state::proofs::Following::follows_before, typing_state::proofs::Following::follows_behind, typing_state::proofs::Following::follows_none, typing_state::proofs::Following::follows_silent, typing_state::proofs::Following::store_silent, typing_state::proofs::Following::silent_refl, typing_state::proofs::Following::silent_trans, typing_state::proofs::Following::ends_both, typing_state::proofs::Following::ends_behind, typing_state::proofs::Following::ends_before, typing_state::proofs::Following::ends_silent, typing_state::proofs::Following::gets_start, typing_state::proofs::Following::gets_more, typing_state::proofs::Following::gets_before, typing_state::proofs::Following::gets_done))]
 
-ghost use Rattle.std.specs.Prelude.{[], ◌∷◌, map, OnOk};
+ghost use Rattle.std.specs.Prelude.{◌≡◌, [], ◌∷◌, map, All, IfOk, OnOk};
+ghost use Rattle.tree_model.specs.Trees.{Place};
 ghost use Rattle.syntax_tree.specs.View.{node_view};
 ghost use Rattle.row_parts.specs.Numbered.{operand_view};
+ghost use Rattle.type_nodes.specs.Views.{numbers};
+ghost use Rattle.operand_laws.specs.Operands.{number_of, pattern_of};
 ghost use Rattle.env_table.specs.declared.faults.FaultKind.{FaultKind};
 ghost use Rattle.typing_state.specs.Goes.{Goes};
-ghost use Rattle.typing_state.specs.Steps.{asks, each, Follows};
+ghost use Rattle.typing_state.specs.Steps.{asks, each, Follows, Silent};
+ghost use Rattle.typing_steps.specs.Typing.{TypesRow};
+ghost use Rattle.typing_steps.specs.Warning.{OnlyWarnings};
+ghost use Rattle.typing_rows.specs.Asked.{row_expression};
+ghost use Rattle.pattern_typing.specs.Matching.{binds_of};
+ghost use Rattle.pattern_rows.specs.CarriedPatterns.{IsCarriedPattern};
+ghost use Rattle.pattern_rows.specs.Contracts.{MatchesTo, patterns_of};
+ghost use Rattle.case_rows.specs.Scopes.{names_added};
+ghost use Rattle.case_rows.specs.Parameters.{MakesArrows, TypesParameters};
+ghost use Rattle.case_rows.specs.Carried.{IsFunNode};
 ghost use Rattle.expression_steps.specs.declared.forms.RowForm.{RowForm};
 ghost use Rattle.expression_steps.specs.ExpressionSteps.{parameter_steps, steps_as};
 
 use crate::exprs::type_under;
-use expression_steps::arrows;
+use match_warnings::report_pattern;
 use owned_lists::push;
-use pattern_typing::{BoundName, Matched, report_pattern, type_pattern};
+use pattern_typing::{BoundName, Matched, type_pattern};
 use row_parts::{Operand, operand_in, operands};
 use std::alloc::Global;
 use syntax_tree::Node;
@@ -29,6 +41,7 @@ pub fn function(
     env: &Env,
     depth: Depth,
 ) -> Result<Used, NoMemory>
+    ensures carries { IfOk result (λ u. (place : Place) → IsFunNode number (node_view node.now) → TypesRow at.old at.new env.now (λ c. (row_expression at.old.item number place (node_view node.now)).typed c) (number_of at.old.item number) u.ty.0) }
     ensures follows { OnOk result (Follows (steps_as RowForm.Function number (node_view node.now)) at.old at.new) }
     ensures goes { Goes at.old at.new }
 {
@@ -47,6 +60,7 @@ pub fn type_parameters(
     env: &Env,
     depth: Depth,
 ) -> Result<(Vec<NodeRef>, Env), NoMemory>
+    ensures carries { IfOk result (λ r. All IsCarriedPattern (map operand_view parameters.now) → TypesParameters at.old at.new env.now r.1 (patterns_of at.old.item (map operand_view parameters.now)) (numbers r.0.items)) }
     ensures follows { OnOk result (Follows (each parameter_steps (map operand_view parameters.now)) at.old at.new) }
     ensures goes { Goes at.old at.new }
 {
@@ -67,6 +81,7 @@ fn type_parameter<'a>(
     env: &Env,
     depth: Depth,
 ) -> Result<Matched<'a>, NoMemory>
+    ensures carries { IfOk result (λ m. IsCarriedPattern (operand_view parameter.entry) → MatchesTo at.old at.new env.now (pattern_of at.old.item (operand_view parameter.entry)) [] (binds_of m.names.items) m.ty.0) }
     ensures follows { OnOk result (Follows (parameter_steps (operand_view parameter.entry)) at.old at.new) }
     ensures goes { Goes at.old at.new }
 {
@@ -85,6 +100,7 @@ fn warn_parameter(
     env: &Env,
     depth: Depth,
 ) -> Result<(), NoMemory>
+    ensures warns { OnOk result (OnlyWarnings at.old at.new) }
     ensures follows { OnOk result (Follows (asks FaultKind.Missed ((operand_view parameter.entry).at ∷ []) ∷ []) at.old at.new) }
     ensures goes { Goes at.old at.new }
 {
@@ -94,8 +110,23 @@ fn warn_parameter(
     report_pattern(at, parameter, env, depth)
 }
 
+/// The arrow from the types of parameters to a type.
+pub fn arrows(at: &mut Parts, parameters: &[NodeRef], to: NodeRef) -> Result<NodeRef, NoMemory>
+    ensures carries { IfOk result (λ m. MakesArrows at.old at.new (numbers parameters.now) to.0 m.0) }
+    ensures silent { Silent at.old at.new }
+    ensures goes { Goes at.old at.new }
+{
+    let mut ty = to;
+    for place in (0..parameters.len()).rev() {
+        ty = at.arrow(parameters[place], ty)?;
+    }
+    Ok(ty)
+}
+
 /// The environment with the names of a pattern, in order.
-pub fn with_names(alloc: Global, names: &[BoundName<'_>], env: &Env) -> Result<Env, NoMemory> {
+pub fn with_names(alloc: Global, names: &[BoundName<'_>], env: &Env) -> Result<Env, NoMemory>
+    ensures scope { IfOk result (λ inner. inner ≡ names_added (binds_of names.now) env.now) }
+{
     let mut inner = env.share()?;
     for name in names {
         inner = inner.add(alloc, share_entry(&name.entry)?)?;

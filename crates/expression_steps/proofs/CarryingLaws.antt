@@ -5,7 +5,7 @@ use Rattle.std.proofs.lemmas.List.Elements.{All-head, All-tail}
 use Rattle.std.specs.Str.{bytes_eq}
 use Rattle.std.proofs.lemmas.Slice.Eq.{bytes_eq-Decides}
 use Rattle.token_model.specs.Kinds.{Tok, Kind, upper, lower, float, false_word}
-use Rattle.tree_model.specs.Rows.{Row, erecord_row, econ_row, epath_row, econst_row, eparen_row, prefix_row, field_row, eapp_row, eneg_row, infix_row, eassert_row, ewhile_row, efor_row, ebegin_row, elist_row, econs_row, etuple_row, eset_row, eif_row, eseq_row, name_row, hole_row}
+use Rattle.tree_model.specs.Rows.{Row, erecord_row, econ_row, epath_row, econst_row, eparen_row, prefix_row, field_row, eapp_row, eneg_row, infix_row, eassert_row, ewhile_row, efor_row, ebegin_row, elist_row, econs_row, etuple_row, eset_row, eif_row, eseq_row, ematch_row, etry_row, efun_row, efunction_row, name_row, hole_row}
 use Rattle.tree_model.specs.Trees.{Place, Tree, Forest, Part, taken, inner, missing, node}
 use Rattle.row_parts.specs.Numbered.{Numbered, Written, numbered, operand_view, token_in, filled_in, all_operands, operands_in, first_in}
 use Rattle.typing_model.specs.Contexts.{Context, tell_typed}
@@ -20,15 +20,15 @@ use Rattle.use_typing.proofs.Reading.{drop_read}
 use Rattle.typing_state.specs.Goes.{Goes}
 use Rattle.env_table.specs.declared.entries.Entry.{Entry}
 use Rattle.typing_state.specs.declared.parts.Parts.{Parts}
-use Rattle.syntax_tree.specs.View.{tok_of}
+use Rattle.syntax_tree.specs.View.{place_of, tok_of}
 use Rattle.typing_steps.specs.Typing.{TypesRow, TypesTo, TypesAny, AsksEqual, AsksEqualIf}
-use Rattle.operand_laws.specs.Formed.{row_of, is_in}
+use Rattle.operand_laws.specs.Formed.{row_of}
 use Rattle.operand_laws.specs.Operands.{number_of, parts_of, path_of, expression_of}
 use Rattle.operand_laws.proofs.Tokens.{token_stands}
 use Rattle.operand_laws.proofs.Standing.{expression_of_stands}
-use Rattle.typing_rows.specs.CarriedRows.{is_sign, IsCarriedRow, IsTreeOfCarriedRows, IsOfCarriedRows, IsCarried}
+use Rattle.typing_rows.specs.CarriedRows.{an_expression, sort_in, is_sign, IsCarriedRow, IsTreeOfCarriedRows, IsOfCarriedRows, IsCarried}
 use Rattle.typing_rows.specs.Asked.{under_minus, row_expression, expressions_of, signed_expressions, IsOrderedRow, ordered_end, applied_asks, operated_asks}
-use Rattle.typing_rows.proofs.Going.{none_first, filled_carried, operands_carried, all_carried}
+use Rattle.typing_rows.proofs.Going.{ordered_sorts, filled_carried, operands_carried, all_carried}
 use Rattle.typing_rows.proofs.Typed.{IsUsual, IsNoFloat, application_typed, paren_typed, ordered_typed, unoperated_typed, float_typed, operated_as, prefix_typed, infix_typed, minus_typed, minus_operand}
 use Rattle.typing_rows.specs.Contracts.{TypesFirst, TypesGivenFirst, TypesArgument, TypesPartsFirst, TypesPart, TypesAs, TypesParts, TypesEach, EndsRow, TypesGiven, TypesAsIf, TypesHead, TypesLater, EndsUnknown, TypesConstructed}
 use Rattle.typing_rows.proofs.Given.{each_more, given_more, types_as}
@@ -41,7 +41,9 @@ use Rattle.typing_rows.proofs.Ending.{row_as}
 use Rattle.typing_conditions.specs.Steps.{Records}
 use Rattle.typing_steps.specs.States.{is_aloud, sight}
 use Rattle.use_typing.specs.Constants.{is_negated}
-use Rattle.type_expressions.specs.Written.{IsAsWritten}
+use Rattle.type_rows.proofs.Annotated.{annotated_typed}
+use Rattle.type_rows.proofs.Placed.{first_operand}
+use Rattle.type_expressions.specs.Written.{IsAsWritten, AsksWritten}
 use Rattle.expression_steps.specs.declared.operators.Operator.{Operator}
 use Rattle.expression_steps.specs.declared.forms.RowForm.{RowForm}
 use Rattle.expression_steps.specs.declared.forms.RowForm.TheVariants as form
@@ -54,8 +56,8 @@ pub rows_same : (t : Tree) → row_of t ≡ row_at t
 rows_same (node r x ps) = refl
 
 -- the row of a node that is made of carried rows is one
-pub row_there : (t : Tree) → IsTreeOfCarriedRows t → (ps : Forest) × IsCarriedRow (row_at t) t ps × ((n s : ℕ) → is_in s ps ≡ false → first_in n t s ≡ None)
-row_there (node r x ps) h = (ps, h.0, λ n s e. none_first n r x ps s e)
+pub row_there : (t : Tree) → IsTreeOfCarriedRows t → (ps : Forest) × IsCarriedRow (row_at t) t ps
+row_there (node r x ps) h = (ps, h.0)
 
 application_form : (r : Row) → form_of r ≡ form.Application → r ≡ eapp_row
 application_form eapp_row e = refl
@@ -104,9 +106,13 @@ ordered_form eneg_row t ps h e = absurd (cc)
 ordered_form infix_row t ps h e = absurd (cc)
 ordered_form eset_row t ps h e = absurd (cc)
 ordered_form efor_row t ps h e = absurd (cc)
+ordered_form ematch_row t ps h e = absurd (cc)
+ordered_form etry_row t ps h e = absurd (cc)
+ordered_form efun_row t ps h e = absurd (cc)
+ordered_form efunction_row t ps h e = absurd (cc)
 ordered_form _ t ps h e = absurd h
 
--- a carried row isn't one with patterns or bindings, nor a record
+-- a carried row isn't one with bindings, nor a record
 abbrev pub IsCarriedForm : RowForm → Type 0
 IsCarriedForm form.Leaf = Unit {0}
 IsCarriedForm form.Application = Unit {0}
@@ -115,6 +121,9 @@ IsCarriedForm form.Minus = Unit {0}
 IsCarriedForm form.Parenthesised = Unit {0}
 IsCarriedForm form.Set = Unit {0}
 IsCarriedForm form.Loop = Unit {0}
+IsCarriedForm form.Match = Unit {0}
+IsCarriedForm form.Cases = Unit {0}
+IsCarriedForm form.Function = Unit {0}
 IsCarriedForm form.Plain = Unit {0}
 IsCarriedForm _ = ⊥
 
@@ -140,6 +149,10 @@ carried_form econs_row t ps h = tt
 carried_form etuple_row t ps h = tt
 carried_form eif_row t ps h = tt
 carried_form eseq_row t ps h = tt
+carried_form ematch_row t ps h = tt
+carried_form etry_row t ps h = tt
+carried_form efun_row t ps h = tt
+carried_form efunction_row t ps h = tt
 carried_form _ t ps h = absurd h
 
 -- the row of an application, a minus, parentheses, a field that is set, a loop, an operation, and a plain row
@@ -161,30 +174,29 @@ by_set t e = rows_same t ∙ set_form (row_at t) e
 pub by_loop : (t : Tree) → form_of (row_at t) ≡ form.Loop → row_of t ≡ efor_row
 by_loop t e = rows_same t ∙ loop_form (row_at t) e
 
+-- the parts of an operator's row are expressions
+operation_sorts : (r : Row) (b : Bool) → IsOperation r b → (s : ℕ) → sort_in r s ≡ an_expression
+operation_sorts prefix_row b h s = refl
+operation_sorts infix_row b h s = refl
+operation_sorts eneg_row b h s = refl
+operation_sorts _ b h s = absurd h
+
 pub by_operation : (t : Tree) (b : Bool) → form_of (row_at t) ≡ form.Operation → IsOperation (row_at t) b
 by_operation t b e = operation_form (row_at t) b e
 
 pub by_ordered : (n : ℕ) (at : Place) (t : Tree) → IsCarried (numbered n at (inner t)) → form_of (row_at t) ≡ form.Plain → IsOrderedRow (row_at t)
-by_ordered n at t h e = let (ps, c, none) = row_there t h.rows in ordered_form (row_at t) t ps c e
+by_ordered n at t h e = let (ps, c) = row_there t h.rows in ordered_form (row_at t) t ps c e
 
 -- no other form is that of a carried row
 pub form_there : (n : ℕ) (at : Place) (t : Tree) (f : RowForm) → IsCarried (numbered n at (inner t)) → f ≡ form_of (row_at t) → IsCarriedForm f
-form_there n at t f h e = let (ps, c, none) = row_there t h.rows in subst IsCarriedForm (sym e) (carried_form (row_at t) t ps c)
-
--- parentheses that are carried have no type
-paren_none : (r : Row) (t : Tree) (ps : Forest) → r ≡ eparen_row → IsCarriedRow r t ps → is_in 3 ps ≡ false
-paren_none eparen_row t ps e h = h
-paren_none _ t ps e h = absurd (cc)
-
-pub no_annotation : (n : ℕ) (at : Place) (t : Tree) → IsCarried (numbered n at (inner t)) → row_at t ≡ eparen_row → first_in n t 3 ≡ None
-no_annotation n at t h row = let (ps, c, none) = row_there t h.rows in none n 3 (paren_none (row_at t) t ps row c)
+form_there n at t f h e = let (ps, c) = row_there t h.rows in subst IsCarriedForm (sym e) (carried_form (row_at t) t ps c)
 
 sign_carried : (r : Row) (t : Tree) (ps : Forest) → r ≡ eneg_row → IsCarriedRow r t ps → is_sign (token_in t 0) ≡ true
 sign_carried eneg_row t ps e h = h
 sign_carried _ t ps e h = absurd (cc)
 
 pub sign_there : (t : Tree) → IsTreeOfCarriedRows t → row_at t ≡ eneg_row → is_sign (token_in t 0) ≡ true
-sign_there t h row = let (ps, c, none) = row_there t h in sign_carried (row_at t) t ps row c
+sign_there t h row = let (ps, c) = row_there t h in sign_carried (row_at t) t ps row c
 
 -- the word `false`, as a form
 false_token : (start end col : ℕ) (name : List ℕ) (k : Kind) → is_false (literal_form (Some (record { kind = k; start = start; end = end; col = col; name = name }))) ≡ is_false_kind k
@@ -385,7 +397,7 @@ operator_some a d env i n at t o tok infix_row m row is there op carried typed =
 operator_some a d env i n at t o tok eneg_row m row is there op carried typed =
     let e = expression_of i (filled_in n t 1) in
     let sign = sign_is tok.name (ap is_sign (sym there) ∙ sign_there t carried.rows (sym (rows_same t) ∙ row)) in
-    minus_typed a d env i n at t m carried.formed row (no_float i (filled_in n t 1) (filled_carried n at t 1 carried).rows is) (λ aloud F scope G s.
+    minus_typed a d env i n at t m carried.formed row (no_float i (filled_in n t 1) (filled_carried n at t 1 (ap (λ r. sort_in r 1) row) carried).rows is) (λ aloud F scope G s.
     row_as (λ c. ap (λ b. operated_asks (number_of i n) (tok_of o.named) (signed_expressions b i (all_operands n t)) c) (op.negates ∙ sign.negates) ∙
     ap (λ os. operated_asks (number_of i n) (tok_of o.named) (signed_expressions (bytes_eq tok.name (codes "-")) i os) c) (minus_operand n t carried.formed row) ∙
     ap (λ x. operated_asks (number_of i n) (tok_of o.named) (x ∷ []) c) (under_same (bytes_eq tok.name (codes "-")) e) ∙
@@ -405,7 +417,7 @@ operator_none a d env i n at t infix_row m row is none carried typed =
     infix_typed a d env i n at t m carried.formed row (λ aloud F scope G s. row_as (λ c. ap (λ x. operator_applied c (number_of i n) x (name_of x) (expressions_of i (all_operands n t))) (sym none)) (typed aloud F scope G s))
 operator_none a d env i n at t eneg_row m row is none carried typed =
     let e = expression_of i (filled_in n t 1) in
-    minus_typed a d env i n at t m carried.formed row (no_float i (filled_in n t 1) (filled_carried n at t 1 carried).rows is) (λ aloud F scope G s.
+    minus_typed a d env i n at t m carried.formed row (no_float i (filled_in n t 1) (filled_carried n at t 1 (ap (λ r. sort_in r 1) row) carried).rows is) (λ aloud F scope G s.
     row_as (λ c. ap (λ os. typed_all c (expressions_of i os)) (minus_operand n t carried.formed row) ∙ ap (λ x. operator_applied c (number_of i n) x (codes "~" ++ name_of x) (under_sign x e ∷ [])) (sym none)) (typed aloud F scope G s))
 operator_none a d env i n at t _ m row is none carried typed = absurd is
 
@@ -463,21 +475,30 @@ usual_row _ t ps c h = tt
 
 -- a row that is no leaf asks the same under a minus
 pub usual_there : (n : ℕ) (at : Place) (t : Tree) → IsCarried (numbered n at (inner t)) → (form_of (row_at t) ≡ form.Leaf → ⊥) → IsUsual (row_of t)
-usual_there n at t h no_leaf = let (ps, c, none) = row_there t h.rows in subst IsUsual (sym (rows_same t)) (usual_row (row_at t) t ps c no_leaf)
+usual_there n at t h no_leaf = let (ps, c) = row_there t h.rows in subst IsUsual (sym (rows_same t)) (usual_row (row_at t) t ps c no_leaf)
 
--- parentheses without a type
+-- parentheses, with a type written after the part or without
 pub paren_row : (a b d : Parts) (env : List Entry) (n : ℕ) (at : Place) (t : Tree) (part : Operand) (given : Option Operand) (found ty u : NodeRef) → IsCarried (numbered n at (inner t)) → form_of (row_at t) ≡ form.Parenthesised →
     operand_view part ≡ filled_in n t 1 → option_map operand_view given ≡ first_in n t 3 →
-    (IsCarried (operand_view part) → TypesTo a b env (λ c. (expression_of a.item (operand_view part)).typed c) (λ ch. ch.type_at (expression_of a.item (operand_view part)).node) found.0) →
-    IsAsWritten (option_map operand_view given) part.span found b d env ty → u ≡ ty → TypesRow a d env (λ c. (row_expression a.item n at t).typed c) (number_of a.item n) u.0
-paren_row a b d env n at t part given found ty u carried is here there typed written same =
-    let row = by_paren t is in
-    let none = no_annotation n at t carried (paren_form (row_at t) is) in
-    let (one, still) = subst (λ o. IsAsWritten o part.span found b d env ty) (there ∙ none) written in
-    let first = subst (λ o. TypesTo a b env (λ c. (expression_of a.item o).typed c) (λ ch. ch.type_at (expression_of a.item o).node) found.0) here (typed (subst IsCarried (sym here) (filled_carried n at t 1 carried))) in
-    paren_typed a d env a.item n at t u.0 carried.formed row none
-    (subst (λ p. TypesTo a p env (λ c. (expression_of a.item (filled_in n t 1)).typed c) (λ ch. ch.type_at (expression_of a.item (filled_in n t 1)).node) u.0) (sym still)
-    (subst (λ x. TypesTo a b env (λ c. (expression_of a.item (filled_in n t 1)).typed c) (λ ch. ch.type_at (expression_of a.item (filled_in n t 1)).node) x.0) (sym (same ∙ one)) first))
+    (IsCarried (operand_view part) → TypesTo a b env (λ c. (expression_of a.item (operand_view part)).typed c) (λ ch. ch.type_at (expression_of a.item (operand_view part)).node) found.0) → Goes a b →
+    IsAsWritten (option_map operand_view given) part.span found b d env ty → AsksWritten b d env (option_map operand_view given) (place_of part.span) found.0 ty.0 → u ≡ ty → TypesRow a d env (λ c. (row_expression a.item n at t).typed c) (number_of a.item n) u.0
+paren_row a b d env n at t part given found ty u carried is here there typed goes written asked same = by (option_map operand_view given) there written asked
+  where
+    row : row_of t ≡ eparen_row
+    row = by_paren t is
+
+    first : TypesTo a b env (λ c. (expression_of a.item (filled_in n t 1)).typed c) (λ ch. ch.type_at (expression_of a.item (filled_in n t 1)).node) found.0
+    first = subst (λ o. TypesTo a b env (λ c. (expression_of a.item o).typed c) (λ ch. ch.type_at (expression_of a.item o).node) found.0) here (typed (subst IsCarried (sym here) (filled_carried n at t 1 (ap (λ r. sort_in r 1) row) carried)))
+
+    place : (expression_of a.item (filled_in n t 1)).at ≡ place_of part.span
+    place = ap (λ o. (expression_of a.item o).at) (sym here) ∙ (expression_of_stands a.item (operand_view part)).where_it_is
+
+    by : (o : Option Numbered) → o ≡ first_in n t 3 → IsAsWritten o part.span found b d env ty → AsksWritten b d env o (place_of part.span) found.0 ty.0 → TypesRow a d env (λ c. (row_expression a.item n at t).typed c) (number_of a.item n) u.0
+    by None none w asks = paren_typed a d env a.item n at t u.0 carried.formed row (sym none)
+        (subst (λ p. TypesTo a p env (λ c. (expression_of a.item (filled_in n t 1)).typed c) (λ ch. ch.type_at (expression_of a.item (filled_in n t 1)).node) u.0) (sym w.1)
+        (subst (λ x. TypesTo a b env (λ c. (expression_of a.item (filled_in n t 1)).typed c) (λ ch. ch.type_at (expression_of a.item (filled_in n t 1)).node) x.0) (sym (same ∙ w.0)) first))
+    by (Some o) some w asks = subst (λ x. TypesRow a d env (λ c. (row_expression a.item n at t).typed c) (number_of a.item n) x.0) (sym same)
+        (annotated_typed a b d env n at (place_of part.span) t o found.0 ty.0 carried.formed row (sym some) first goes place (asks (first_operand n t 3 o carried.formed (sym some))))
 
 -- a row whose parts are typed in order
 pub plain_row : (a b d : Parts) (env : List Entry) (n : ℕ) (at : Place) (t : Tree) (r : Row) (os : List Operand) (ms : List ℕ) (m : ℕ) → IsCarried (numbered n at (inner t)) → form_of (row_at t) ≡ form.Plain → row_at t ≡ r → map operand_view os ≡ all_operands n t →
@@ -486,7 +507,7 @@ pub plain_row : (a b d : Parts) (env : List Entry) (n : ℕ) (at : Place) (t : T
 plain_row a b d env n at t r os ms m carried is row given typed goes ends =
     let ordered = by_ordered n at t carried is in
     let same = rows_same t in
-    let parts = typed (subst (All IsCarried) (sym given) (all_carried n at t carried)) in
+    let parts = typed (subst (All IsCarried) (sym given) (all_carried n at t (ordered_sorts (row_of t) (subst IsOrderedRow (sym same) ordered)) carried)) in
     ordered_typed a b d env n at t ms m carried.formed (subst IsOrderedRow (sym same) ordered) (subst (λ q. TypesParts a b env q (expressions_of a.item (all_operands n t)) ms) (sym (same ∙ row)) (subst (λ qs. TypesParts a b env r (expressions_of a.item qs) ms) given parts)) goes
     (subst (λ q. EndsRow b d env (ordered_end q t (expressions_of b.item (all_operands n t))) (expressions_of b.item (all_operands n t)) ms m) (sym same) (subst (λ qs. EndsRow b d env (ordered_end (row_at t) t (expressions_of b.item qs)) (expressions_of b.item qs) ms m) given (ends ordered)))
 
@@ -500,14 +521,14 @@ operation_row a d env n at t os o m carried is sign given typed = by (sign_in (r
     by (Some tok) e h =
         operator_some a d env a.item n at t o tok (row_at t) m (rows_same t) is e h carried
         (subst (λ qs. TypesRow a d env (operated_asks (number_of a.item n) (tok_of o.named) (signed_expressions (is_negated o.sign) a.item qs)) (number_of a.item n) m) given
-        (typed (subst (All IsCarried) (sym given) (all_carried n at t carried)) (number_of a.item n)))
+        (typed (subst (All IsCarried) (sym given) (all_carried n at t (λ s. ap (λ r. sort_in r s) (rows_same t) ∙ operation_sorts (row_at t) (is_float_at (filled_in n t 1).part) is s) carried)) (number_of a.item n)))
 
 -- one that is missing
 pub operation_missing : (a b d : Parts) (env : List Entry) (n : ℕ) (at : Place) (t : Tree) (os : List Operand) (m : ℕ) → IsCarried (numbered n at (inner t)) → IsOperation (row_at t) (is_float_at (filled_in n t 1).part) → sign_in (row_at t) t ≡ None → map operand_view os ≡ all_operands n t →
     (All IsCarried (map operand_view os) → TypesEach a b env (expressions_of a.item (map operand_view os))) → Goes a b → TypesAny b d m → TypesRow a d env (λ c. (row_expression a.item n at t).typed c) (number_of a.item n) m
 operation_missing a b d env n at t os m carried is none given typed goes any =
     operator_none a d env a.item n at t (row_at t) m (rows_same t) is none carried
-    (unoperated_typed a b d env (expressions_of a.item (all_operands n t)) (number_of a.item n) m (subst (λ qs. TypesEach a b env (expressions_of a.item qs)) given (typed (subst (All IsCarried) (sym given) (all_carried n at t carried)))) goes any)
+    (unoperated_typed a b d env (expressions_of a.item (all_operands n t)) (number_of a.item n) m (subst (λ qs. TypesEach a b env (expressions_of a.item qs)) given (typed (subst (All IsCarried) (sym given) (all_carried n at t (λ s. ap (λ r. sort_in r s) (rows_same t) ∙ operation_sorts (row_at t) (is_float_at (filled_in n t 1).part) is s) carried)))) goes any)
 
 -- a minus over a numeral with a point
 pub minus_float : (a d : Parts) (env : List Entry) (n : ℕ) (at : Place) (t : Tree) (part : Operand) (u : NodeRef) → IsCarried (numbered n at (inner t)) → form_of (row_at t) ≡ form.Minus → operand_view part ≡ filled_in n t 1 → is_float_at (operand_view part).part ≡ true →
@@ -526,8 +547,8 @@ pub application_row : (a d : Parts) (env : List Entry) (n : ℕ) (at : Place) (t
     constructor_at (operand_view head).part ≡ None → (IsCarried (operand_view head) → All IsCarried (map operand_view os) → (k : ℕ) → TypesRow a d env (applied_asks k (expression_of a.item (operand_view head)) (expressions_of a.item (map operand_view os))) k m) →
     TypesRow a d env (λ c. (row_expression a.item n at t).typed c) (number_of a.item n) m
 application_row a d env n at t head os m carried is here given none typed =
-    let first = filled_carried n at t 0 carried in
-    let row = typed (subst IsCarried (sym here) first) (subst (All IsCarried) (sym given) (operands_carried n at t 1 carried)) (number_of a.item n) in
+    let first = filled_carried n at t 0 (ap (λ r. sort_in r 0) (by_application t is)) carried in
+    let row = typed (subst IsCarried (sym here) first) (subst (All IsCarried) (sym given) (operands_carried n at t 1 (ap (λ r. sort_in r 1) (by_application t is)) carried)) (number_of a.item n) in
     application_typed a d env a.item n at t m carried.formed (by_application t is) (operand_no a.item (filled_in n t 0) (ap (λ o. constructor_at o.part) (sym here) ∙ none))
     (subst (λ qs. TypesRow a d env (applied_asks (number_of a.item n) (expression_of a.item (filled_in n t 0)) (expressions_of a.item qs)) (number_of a.item n) m) given
     (subst (λ o. TypesRow a d env (applied_asks (number_of a.item n) (expression_of a.item o) (expressions_of a.item (map operand_view os))) (number_of a.item n) m) here row))
@@ -537,7 +558,7 @@ pub construction_row : (a d : Parts) (env : List Entry) (n : ℕ) (at : Place) (
     map operand_view os ≡ operands_in n t 1 → constructor_at (operand_view head).part ≡ Some p →
     (All IsCarried (map operand_view os) → (k : ℕ) → TypesConstructed a d env k (path_of p) (expression_of a.item (operand_view head)) (expressions_of a.item (map operand_view os)) m) → TypesRow a d env (λ c. (row_expression a.item n at t).typed c) (number_of a.item n) m
 construction_row a d env n at t head p os m carried is here given named typed =
-    let row = typed (subst (All IsCarried) (sym given) (operands_carried n at t 1 carried)) (number_of a.item n) in
+    let row = typed (subst (All IsCarried) (sym given) (operands_carried n at t 1 (ap (λ r. sort_in r 1) (by_application t is)) carried)) (number_of a.item n) in
     construction_typed a d env a.item n at t (path_of p) m carried.formed (by_application t is) (operand_is a.item (filled_in n t 0) p (ap (λ o. constructor_at o.part) (sym here) ∙ named))
     (subst (λ qs. TypesConstructed a d env (number_of a.item n) (path_of p) (expression_of a.item (filled_in n t 0)) (expressions_of a.item qs) m) given
     (subst (λ o. TypesConstructed a d env (number_of a.item n) (path_of p) (expression_of a.item o) (expressions_of a.item (map operand_view os)) m) here row))

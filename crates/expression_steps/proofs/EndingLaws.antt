@@ -170,6 +170,10 @@ hole_by name.Econs t ps h is none a b c = absurd (cc)
 hole_by name.Etuple t ps h is none a b c = absurd (cc)
 hole_by name.Eif t ps h is none a b c = absurd (cc)
 hole_by name.Eseq t ps h is none a b c = absurd (cc)
+hole_by name.Ematch t ps h is none a b c = absurd (cc)
+hole_by name.Etry t ps h is none a b c = absurd (cc)
+hole_by name.Efun t ps h is none a b c = absurd (cc)
+hole_by name.Efunction t ps h is none a b c = absurd (cc)
 hole_by _ t ps h is none a b c = absurd h
 
 carried_there : (t : Tree) → IsTreeOfCarriedRows t → (ps : Forest) × IsCarriedRow (row_at t) t ps

@@ -10,7 +10,6 @@ use Rattle.syntax_tree.specs.View.{node_view, place_of}
 use Rattle.row_parts.specs.declared.slots.Operand.{Operand}
 use Rattle.row_parts.specs.Numbered.{Numbered, numbered, operand_view, part_of, path_in, token_in, all_operands, filled_in}
 use Rattle.type_terms.specs.declared.types.NodeRef.{NodeRef}
-use Rattle.type_nodes.specs.Views.{numbers}
 use Rattle.typing_model.specs.Contexts.{Context}
 use Rattle.typing_model.specs.Parts as parts
 use Rattle.typing_model.specs.Parts.{Expression, Child}
@@ -27,7 +26,7 @@ use Rattle.typing_steps.specs.States.{is_aloud, sight}
 use Rattle.typing_steps.specs.Typing.{TypesTo, TypesRow}
 use Rattle.use_typing.specs.UseSteps.{asks_token}
 use Rattle.operand_laws.specs.Operands.{number_of, parts_of, path_of, expression_of}
-use Rattle.typing_rows.specs.CarriedRows.{IsCarried}
+use Rattle.typing_rows.specs.CarriedRows.{sort_in, IsCarried}
 use Rattle.typing_rows.specs.Asked.{row_expression, expressions_of}
 use Rattle.typing_rows.specs.Contracts.{TypesAs, TypesParts}
 use Rattle.typing_rows.specs.Fields.{EndsSettable, TypesSettable}
@@ -36,7 +35,7 @@ use Rattle.typing_rows.proofs.Going.{all_carried, filled_carried}
 use Rattle.typing_rows.proofs.Setting.{field_settable, part_settable, set_typed}
 use Rattle.typing_rows.proofs.Looped.{for_typed}
 use Rattle.expression_steps.specs.declared.forms.RowForm.TheVariants as form
-use Rattle.expression_steps.specs.ExpressionSteps.{all_expressions, expression_at, expression_steps, form_of, is_field_row, is_field_at, label_steps, parts_from, pieces_at, place_at, row_at, set_field_steps, set_label_at, set_label_in, set_part_steps, steps_of_form}
+use Rattle.expression_steps.specs.ExpressionSteps.{expression_at, expression_steps, form_of, is_field_row, is_field_at, pieces_at, place_at, row_at, set_field_steps, set_label_at, set_label_in, set_part_steps, steps_of_form}
 use Rattle.expression_steps.proofs.ExpressionLaws.{Skips, follows_more, skips_behind, operand_there}
 use Rattle.expression_steps.proofs.CarryingLaws.{rows_same, by_set, by_loop}
 
@@ -155,7 +154,7 @@ pub field_set : (a b d f : Parts) (env : List Entry) (n : ℕ) (at : Place) (t :
     (is_aloud d.telling ≡ true → Records (sight d) (sight f) n ty) → TypesSettable a f env (expression_of a.item (numbered n at (inner t))) ty
 field_set a b d f env n at t os ms ty carried row given typed goes ends goes' noted =
     field_settable a b d f env n at t ms ty carried.formed (rows_same t ∙ row)
-    (subst (λ qs. TypesParts a b env field_row (expressions_of a.item qs) ms) given (typed (subst (All IsCarried) (sym given) (all_carried n at t carried)))) goes
+    (subst (λ qs. TypesParts a b env field_row (expressions_of a.item qs) ms) given (typed (subst (All IsCarried) (sym given) (all_carried n at t (λ s. ap (λ r. sort_in r s) (rows_same t ∙ row)) carried)))) goes
     (subst (λ qs. EndsSettable b d env (path_of (path_in t 2 3)) (expressions_of b.item qs) ms ty) given ends) goes' noted
 
 -- the left part of `e . l <- e` where it is a field
@@ -176,8 +175,8 @@ pub set_row : (a b d : Parts) (env : List Entry) (n : ℕ) (at : Place) (t : Tre
     TypesRow a d env (λ c. (row_expression a.item n at t).typed c) (number_of a.item n) u.0
 set_row a b d env n at t left right ty u carried is here there typed goes asked same =
     subst (λ x. TypesRow a d env (λ c. (row_expression a.item n at t).typed c) (number_of a.item n) x.0) (sym same)
-    (set_typed a b d env n at t ty carried.formed (by_set t is) (subst (λ o. TypesSettable a b env (expression_of a.item o) ty) here (typed (subst IsCarried (sym here) (filled_carried n at t 0 carried)))) goes
-    (subst (λ o. TypesAs b d env (expression_of b.item o) ty) there (asked (subst IsCarried (sym there) (filled_carried n at t 2 carried)))))
+    (set_typed a b d env n at t ty carried.formed (by_set t is) (subst (λ o. TypesSettable a b env (expression_of a.item o) ty) here (typed (subst IsCarried (sym here) (filled_carried n at t 0 (ap (λ r. sort_in r 0) (by_set t is)) carried)))) goes
+    (subst (λ o. TypesAs b d env (expression_of b.item o) ty) there (asked (subst IsCarried (sym there) (filled_carried n at t 2 (ap (λ r. sort_in r 2) (by_set t is)) carried)))))
 
 -- the row of a loop
 pub for_row : (a b d f : Parts) (env inner_env : List Entry) (n : ℕ) (at : Place) (t : Tree) (first second body : Operand) (m : ℕ) → IsCarried (numbered n at (inner t)) → form_of (row_at t) ≡ form.Loop →
@@ -187,6 +186,6 @@ pub for_row : (a b d f : Parts) (env inner_env : List Entry) (n : ℕ) (at : Pla
     TypesRow a f env (λ c. (row_expression a.item n at t).typed c) (number_of a.item n) f.constants.unit.0
 for_row a b d f env inner_env n at t first second body m carried is one two three typed goes typed' goes' scope inside =
     for_typed a b d f env inner_env n at t m carried.formed (by_loop t is)
-    (subst (λ o. TypesAs a b env (expression_of a.item o) a.constants.int.0) one (typed (subst IsCarried (sym one) (filled_carried n at t 3 carried)))) goes
-    (subst (λ o. TypesAs b d env (expression_of b.item o) a.constants.int.0) two (typed' (subst IsCarried (sym two) (filled_carried n at t 5 carried)))) goes' scope
-    (subst (λ o. TypesTo d f inner_env (λ c. (expression_of d.item o).typed c) (λ ch. ch.type_at (expression_of d.item o).node) m) three (inside (subst IsCarried (sym three) (filled_carried n at t 7 carried))))
+    (subst (λ o. TypesAs a b env (expression_of a.item o) a.constants.int.0) one (typed (subst IsCarried (sym one) (filled_carried n at t 3 (ap (λ r. sort_in r 3) (by_loop t is)) carried)))) goes
+    (subst (λ o. TypesAs b d env (expression_of b.item o) a.constants.int.0) two (typed' (subst IsCarried (sym two) (filled_carried n at t 5 (ap (λ r. sort_in r 5) (by_loop t is)) carried)))) goes' scope
+    (subst (λ o. TypesTo d f inner_env (λ c. (expression_of d.item o).typed c) (λ ch. ch.type_at (expression_of d.item o).node) m) three (inside (subst IsCarried (sym three) (filled_carried n at t 7 (ap (λ r. sort_in r 7) (by_loop t is)) carried))))

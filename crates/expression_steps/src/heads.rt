@@ -1,4 +1,4 @@
-//! Heads in front of arguments: the demand that one is an arrow, a constructor that is recorded with its arguments, and arrows from parameters.
+//! Heads in front of arguments: the demand that one is an arrow, and a constructor that is recorded with its arguments.
 #![tactic(auto, using(typing_state::proofs::Going::goes_trans, typing_state::proofs::Going::goes_refl, typing_state::proofs::Following::follows_both, typing_state::proofs::Following::follows_then, typing_state::proofs::Following::follows_before, typing_state::proofs::Following::follows_behind, typing_state::proofs::Following::follows_none, typing_state::proofs::Following::follows_silent, typing_state::proofs::Following::store_silent, typing_state::proofs::Following::silent_refl, typing_state::proofs::Following::silent_trans, typing_state::proofs::Following::ends_both, typing_state::proofs::Following::ends_behind, typing_state::proofs::Following::ends_before, typing_state::proofs::Following::ends_silent, typing_state::proofs::Following::gets_start, typing_state::proofs::Following::gets_more, typing_state::proofs::Following::gets_before, typing_state::proofs::Following::gets_done, crate::proofs::ExpressionLaws::ends_then), unfolding(syntax_tree::specs::Names::row_of))]
 
 ghost use Rattle.std.specs.Prelude.{◌≡◌, true, [], ◌∷◌, map, IfOk, OnOk};
@@ -86,16 +86,4 @@ fn two_types(at: &mut Parts) -> Result<(NodeRef, NodeRef), NoMemory>
     let from = at.var()?;
     let to = at.var()?;
     Ok((from, to))
-}
-
-/// The arrow from the types of parameters to a type.
-pub fn arrows(at: &mut Parts, parameters: &[NodeRef], to: NodeRef) -> Result<NodeRef, NoMemory>
-    ensures silent { Silent at.old at.new }
-    ensures goes { Goes at.old at.new }
-{
-    let mut ty = to;
-    for parameter in parameters.iter().rev() {
-        ty = at.arrow(*parameter, ty)?;
-    }
-    Ok(ty)
 }

@@ -17,7 +17,7 @@ mod values;
 pub use ends::{behind_parts, field_node, settable};
 pub use fields::{Pieces, begin_loose, complete, fields_in, pun, record_of_made, type_of_record};
 pub use forms::{RowForm, form_of};
-pub use heads::{Head, arrows, ask_arrow, built_by_unknown, note_head};
+pub use heads::{Head, ask_arrow, built_by_unknown, note_head};
 pub use leaves::{constructor_path, leaf};
 pub use operators::{Operator, is_float, negative_float, operator_of, operator_value};
 pub use parts::{Scope, behind_part, loop_scope};

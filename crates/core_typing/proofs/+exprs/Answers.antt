@@ -9,7 +9,7 @@ use Rattle.typing_state.proofs.Going.{goes_trans, goes_refl}
 use Rattle.typing_state.proofs.Following.{ends_both, ends_before, follows_both, follows_behind, gets_start, gets_more, store_silent, follows_before, follows_none, ends_behind}
 use Rattle.expression_steps.specs.ExpressionSteps.{argued_constructor, argument_steps, arguments_steps, behind_parts, constructed_steps, expression_at, expression_steps, part_steps, parts_from, row_at, steps_as, typed_as, unrecorded_steps, cases_at, expression_case, parameter_steps, typed_as_if, typed_pattern, unused_case, expression_field, field_steps, fields_steps, typed_if, turn_steps, bindings_at, bound_pattern, right_at, whole_steps, form_of}
 use Rattle.expression_steps.proofs.ExpressionLaws.{each_typed, follows_more, operand_missing, operand_there, operation_as, plain_as, skips_arguments, row_of_node}
-use Rattle.pattern_typing.specs.Warnings.{spans_of, unused_steps}
+use Rattle.match_warnings.specs.Warnings.{spans_of, unused_steps}
 use Rattle.core_typing.proofs.GroupLaws.{case_lost, case_parts_are, case_there, cases_follow, steps_read, unused_follow, unused_same, done_follows, together_follow, turn_of, turns_follow}
 use Rattle.use_typing.proofs.Reading.{drop_read, gets_read, same_follows, follows_three}
 use Rattle.use_typing.specs.UseSteps.{asks_equal, asks_labels, labels_of, lost_steps}
@@ -53,6 +53,20 @@ use Rattle.std.specs.Option.{IfSome}
 use Rattle.expression_steps.specs.Operators.{sign_in, IsSignOf}
 use Rattle.expression_steps.specs.declared.forms.RowForm.TheVariants as form
 use Rattle.env_table.specs.declared.faults.FaultKind.TheVariants as fault
+use Rattle.std.specs.Prelude.{Option}
+use Rattle.type_terms.specs.declared.types.NodeRef.{NodeRef}
+use Rattle.typing_model.specs.Parts.{Case}
+use Rattle.operand_laws.specs.Operands.{number_of}
+use Rattle.typing_rows.specs.Asked.{row_expression}
+use Rattle.case_rows.specs.Cases.{cases_of, TypesGuard}
+use Rattle.case_rows.specs.Parameters.{MakesArrows}
+use Rattle.case_rows.proofs.Ordered.{cases_none, cases_all}
+use Rattle.case_rows.proofs.Nodes.{match_node, function_node, fun_node}
+use Rattle.case_rows.proofs.Operands.{case_missing, case_there as case_found, guard_typed, operands_typed}
+use Rattle.case_rows.proofs.Cases.{guard_none}
+use Rattle.expression_steps.proofs.CarryingLaws.{rows_same}
+use Rattle.core_typing.specs.Sides.{sides_by}
+use Rattle.core_typing.proofs.CaseLaws.{node_if, by_match, by_function, by_fun, case_step, match_row, function_row, fun_row, cases_row, case_node, body_by, typed_unasked}
 use Rattle.core_typing.proofs.+exprs.Goals as goal
 
 pub exprs::type_each-loop-e-preserved : goal.exprs::type_each-loop-e-preserved
@@ -193,7 +207,89 @@ cases::type_each_case-loop-case-preserved t c =
       goes = goes_trans c.args.at.now c.loop-case.at c.type_case.new.at c.loop-case.invariant.goes c.type_case.ensures.goes;
       gets = gets_read expression_case operand_view _ all i x _ _ _ lt c.case-item.is c.loop-case.invariant.gets c.type_case.ensures.goes c.in_ok-bodies.ensures.follows;
       spans = steps_read unused_case operand_view all i x (unused_steps (spans_of c.loop-case.rows)) (unused_steps (spans_of c.type_case.new.rows)) _ lt c.case-item.is c.in_ok-bodies.ensures.spans c.loop-case.invariant.spans;
+      carries = case_step c.args.at.now c.loop-case.at c.type_case.new.at c.args.env.now all i x c.args.matched.0 (node_if c.args.known) (node_if c.loop-case.bodies) (node_if c.in_ok-bodies.bodies) lt c.case-item.is c.loop-case.invariant.goes c.loop-case.invariant.carries c.in_ok-bodies.ensures.carries;
     }
+
+pub cases::type_each_case-loop-case-init : goal.cases::type_each_case-loop-case-init
+cases::type_each_case-loop-case-init t c = record {
+  goes = goes_refl c.args.at.now;
+  gets = gets_start (each expression_case (map operand_view c.args.cases.now)) c.args.at.now;
+  spans = refl;
+  carries = λ all. cases_none c.args.at.now c.args.env.now (cases_of c.args.at.now.item (map operand_view c.args.cases.now)) c.args.matched.0 (node_if c.args.known);
+}
+
+pub cases::type_each_case-returns-clause-carries : goal.cases::type_each_case-returns-clause-carries
+cases::type_each_case-returns-clause-carries t c = λ all.
+    let view : List Operand → List Case = λ os. cases_of c.args.at.now.item (map operand_view os) in
+    cases_all c.args.at.now c.loop-case.at c.args.env.now (view c.args.cases.now) (view (drop c.loop-case.case-index c.args.cases.now)) c.args.matched.0 (node_if c.args.known) (node_if c.loop-case.bodies)
+    (ap view (drop_all c.loop-case.case-index c.args.cases.now c.loop-case-test.false)) (c.loop-case.invariant.carries all)
+
+pub cases::match_of-returns-clause-carries : goal.cases::match_of-returns-clause-carries
+cases::match_of-returns-clause-carries t c = λ place node.
+    let nd = c.args.node.now in
+    let tree = node_view nd in
+    subst (λ (u : NodeRef). TypesRow c.args.at.now c.type_cases.new.at c.args.env.now (λ x. (row_expression c.args.at.now.item c.args.number place tree).typed x) (number_of c.args.at.now.item c.args.number) u.0) (sym c.unnamed.ensures.ty)
+    (match_row c.args.at.now c.type_under.new.at c.type_cases.new.at c.args.env.now c.args.number place tree c.operand_in-subject.result c.sides_of-bodies.result c.in_ok-ty.ty c.in_ok-ty-2.ty node c.operand_in-subject.ensures c.in_ok-ty.ensures.carries c.type_under.ensures.goes
+    (c.sides_of-bodies.ensures.sides ∙ ap (λ r. sides_by r c.type_under.new.at.constants.exn c.in_ok-ty.ty) (sym (row_of_node nd) ∙ sym (rows_same tree))) c.in_ok-ty-2.ensures.carries)
+
+pub cases::function_of_cases-returns-clause-carries : goal.cases::function_of_cases-returns-clause-carries
+cases::function_of_cases-returns-clause-carries t c = λ place node.
+    function_row c.args.at.now c.var.new.self c.type_cases.new.at c.arrow.new.self c.args.env.now c.args.number place (node_view c.args.node.now) c.in_ok-from.from c.in_ok-to.to c.in_ok-ty.ty c.unnamed.result.ty node
+    c.in_ok-from.ensures.made c.var.ensures.rest c.var.ensures.goes c.in_ok-to.ensures.carries c.in_ok-ty.ensures.made c.arrow.ensures.rest c.unnamed.ensures.ty
+
+pub cases::type_cases-returns-clause-carries : goal.cases::type_cases-returns-clause-carries
+cases::type_cases-returns-clause-carries t c =
+    let same : map operand_view c.deref.result.now ≡ operands_in c.args.number (node_view c.args.node.now) 4 = ap (map operand_view) c.deref.ensures.value ∙ c.in_ok-cases.ensures in
+    if_ok c.type_or_var.result _ _ (λ m both all.
+    cases_row c.args.at.now c.type_each_case.new.at c.report.new.at c.type_or_var.new.at c.args.env.now (map operand_view c.deref.result.now) (operands_in c.args.number (node_view c.args.node.now) 4) c.args.matched.0 (node_if c.args.known) c.in_ok-bodies.bodies m same
+    c.in_ok-bodies.ensures.carries c.in_ok-report.ensures.warns both.0 both.1 all) (both_ok c.type_or_var.result _ _ c.type_or_var.ensures.ty c.type_or_var.ensures.carries)
+
+pub cases::type_case-returns-in_default-clause-carries : goal.cases::type_case-returns-in_default-clause-carries
+cases::type_case-returns-in_default-clause-carries t c = λ carried.
+    case_missing c.args.at.now c.note_plain.new.self c.args.env.now c.args.case c.args.matched.0 (node_if c.args.bodies) c.in_default.is c.in_ok-note_plain.ensures.noted c.note_plain.ensures.rest
+
+pub cases::type_case-returns-clause-carries : goal.cases::type_case-returns-clause-carries
+cases::type_case-returns-clause-carries t c =
+    if_ok c.typed_case.result _ _ (λ now h.
+    case_found c.args.at.now c.note_plain.new.self c.typed_case.new.at c.args.env.now c.args.case c.in-Some.node c.args.matched.0 (node_if c.args.bodies) (node_if now) c.in-Some.is c.in_ok-note_plain.ensures.noted c.note_plain.ensures.rest c.note_plain.ensures.goes h)
+    c.typed_case.ensures.carries
+
+pub cases::typed_case-returns-clause-carries : goal.cases::typed_case-returns-clause-carries
+cases::typed_case-returns-clause-carries t c =
+    let tree = node_view c.args.node.now in
+    if_ok c.case_of.result _ _ (λ now h node.
+    case_node c.args.at.now c.case_of.new.at c.args.env.now c.args.number tree (operand_view c.operand_in.result) (option_map operand_view c.first_operand.result) (operand_view c.operand_in-2.result) c.args.matched.0 (node_if c.args.bodies) (node_if now)
+    c.operand_in.ensures c.first_operand.ensures c.operand_in-2.ensures (h c.args.number) node) c.case_of.ensures.carries
+
+pub cases::case_of-returns-clause-carries : goal.cases::case_of-returns-clause-carries
+cases::case_of-returns-clause-carries t c = λ n pattern guard body.
+    let k = c.args.case in (
+      c.unwrap_or.result.0,
+      refl,
+      operands_typed c.args.at.now c.within_case.new.at c.type_guard.new.at c.typed_as.new.at c.args.env.now c.in_ok-inner.inner n (operand_view k.pattern) (operand_view k.body) (option_map operand_view k.guard) c.args.matched.0 (node_if c.args.bodies) c.unwrap_or.result.0
+          c.in_ok-inner.ensures.carries c.within_case.ensures.goes c.in_ok-type_guard.ensures.carries c.type_guard.ensures.goes
+          (body_by c.type_guard.new.at c.typed_as.new.at c.in_ok-inner.inner (operand_view k.body) c.args.bodies c.in_ok-ty.ty c.unwrap_or.result c.unwrap_or.ensures c.in_ok-ty.ensures.typed c.in_ok-ty.ensures.carries) pattern guard body,
+    )
+
+pub cases::type_guard-returns-in_default-clause-carries : goal.cases::type_guard-returns-in_default-clause-carries
+cases::type_guard-returns-in_default-clause-carries t c = λ carried.
+    subst (λ o. TypesGuard c.args.at.now c.args.at.now c.args.inner.now (option_map (λ p. expression_of c.args.at.now.item p) (option_map operand_view o))) (sym c.in_default.is) (guard_none c.args.at.now c.args.inner.now)
+
+pub cases::type_guard-returns-in_ok-typed_as-clause-carries : goal.cases::type_guard-returns-in_ok-typed_as-clause-carries
+cases::type_guard-returns-in_ok-typed_as-clause-carries t c =
+    subst (λ o. IfSome (option_map operand_view o) IsCarried → TypesGuard c.args.at.now c.typed_as.new.at c.args.inner.now (option_map (λ p. expression_of c.args.at.now.item p) (option_map operand_view o))) (sym c.in-Some.is)
+    (guard_typed c.args.at.now c.typed_as.new.at c.args.inner.now (operand_view c.in-Some.guard) c.in_ok-typed_as.ensures.carries)
+
+pub functions::function-returns-clause-carries : goal.functions::function-returns-clause-carries
+functions::function-returns-clause-carries t c = λ place node.
+    let same : map operand_view c.deref.result.now ≡ operands_in c.args.number (node_view c.args.node.now) 1 = ap (map operand_view) c.deref.ensures.value ∙ c.in_ok-parameters.ensures in
+    fun_row c.args.at.now c.type_parameters.new.at c.type_under.new.at c.arrows.new.at c.args.env.now c.in_ok-types.inner c.args.number place (node_view c.args.node.now) (map operand_view c.deref.result.now) c.operand_in-body.result (numbers c.in_ok-types.types.items) c.in_ok-to.to c.in_ok-ty.ty c.unnamed.result.ty node
+    same c.operand_in-body.ensures c.in_ok-types.ensures.carries c.type_parameters.ensures.goes c.in_ok-to.ensures.carries
+    (subst (λ ms. MakesArrows c.type_under.new.at c.arrows.new.at (numbers ms) c.in_ok-to.to.0 c.in_ok-ty.ty.0) c.deref-2.ensures.value c.in_ok-ty.ensures.carries) c.unnamed.ensures.ty
+
+pub exprs::typed_as-returns-clause-typed : goal.exprs::typed_as-returns-clause-typed
+exprs::typed_as-returns-clause-typed t c = λ none carried.
+    typed_unasked c.args.at.now c.type_under.new.at c.equal_if.new.at c.args.scope.now (expression_of c.args.at.now.item (operand_view c.args.e)) (place_of c.args.e.span) c.in_ok-ty.ty.0 c.args.wanted none (c.in_ok-ty.ensures.carries carried) c.in_ok-equal_if.ensures.carries
 
 pub cases::match_of-returns-clause-follows : goal.cases::match_of-returns-clause-follows
 cases::match_of-returns-clause-follows t c =
@@ -562,7 +658,7 @@ plain::plain-returns-clause-carries t c =
 pub plain::parenthesised-returns-clause-carries : goal.plain::parenthesised-returns-clause-carries
 plain::parenthesised-returns-clause-carries t c = λ place carried is.
     paren_row c.args.at.now c.type_under.new.at c.as_written.new.at c.args.env.now c.args.number place (node_view c.args.node.now) c.operand_in-part.result c.first_operand.result c.in_ok-ty.ty c.in_ok-ty-2.ty c.unnamed.result.ty carried is c.operand_in-part.ensures c.first_operand.ensures
-    c.in_ok-ty.ensures.carries c.in_ok-ty-2.ensures.written c.unnamed.ensures.ty
+    c.in_ok-ty.ensures.carries c.type_under.ensures.goes c.in_ok-ty-2.ensures.written c.in_ok-ty-2.ensures.carries c.unnamed.ensures.ty
 
 pub exprs::typed_row-returns-in-Leaf-clause-carries : goal.exprs::typed_row-returns-in-Leaf-clause-carries
 exprs::typed_row-returns-in-Leaf-clause-carries t c =
@@ -713,16 +809,19 @@ pub exprs::typed_row-returns-in-Match-clause-carries : goal.exprs::typed_row-ret
 exprs::typed_row-returns-in-Match-clause-carries t c =
     let tree = node_view c.args.node.now in
     let is : form_of (row_at tree) ≡ form.Match = ap form_of (row_of_node c.args.node.now) ∙ sym c.form_of.ensures ∙ c.in-Match.is in
-    if_any c.match_of.result _ (λ u place carried. absurd (form_there c.args.number place tree form.Match carried (sym is)))
+    if_ok c.match_of.result _ _ (λ u h place carried.
+    signed_row c.args.at.now c.match_of.new.at c.args.env.now c.args.at.now.item c.args.number place tree (is_negated c.args.sign) u.ty.0 (usual_by c.args.number place tree form.Match carried is tt) (h place (match_node c.args.number place tree (by_match tree is) carried))) c.match_of.ensures.carries
 
 pub exprs::typed_row-returns-in-Cases-clause-carries : goal.exprs::typed_row-returns-in-Cases-clause-carries
 exprs::typed_row-returns-in-Cases-clause-carries t c =
     let tree = node_view c.args.node.now in
     let is : form_of (row_at tree) ≡ form.Cases = ap form_of (row_of_node c.args.node.now) ∙ sym c.form_of.ensures ∙ c.in-Cases.is in
-    if_any c.function_of_cases.result _ (λ u place carried. absurd (form_there c.args.number place tree form.Cases carried (sym is)))
+    if_ok c.function_of_cases.result _ _ (λ u h place carried.
+    signed_row c.args.at.now c.function_of_cases.new.at c.args.env.now c.args.at.now.item c.args.number place tree (is_negated c.args.sign) u.ty.0 (usual_by c.args.number place tree form.Cases carried is tt) (h place (function_node c.args.number place tree (by_function tree is) carried))) c.function_of_cases.ensures.carries
 
 pub exprs::typed_row-returns-in-Function-clause-carries : goal.exprs::typed_row-returns-in-Function-clause-carries
 exprs::typed_row-returns-in-Function-clause-carries t c =
     let tree = node_view c.args.node.now in
     let is : form_of (row_at tree) ≡ form.Function = ap form_of (row_of_node c.args.node.now) ∙ sym c.form_of.ensures ∙ c.in-Function.is in
-    if_any c.function.result _ (λ u place carried. absurd (form_there c.args.number place tree form.Function carried (sym is)))
+    if_ok c.function.result _ _ (λ u h place carried.
+    signed_row c.args.at.now c.function.new.at c.args.env.now c.args.at.now.item c.args.number place tree (is_negated c.args.sign) u.ty.0 (usual_by c.args.number place tree form.Function carried is tt) (h place (fun_node c.args.number place tree (by_fun tree is) carried))) c.function.ensures.carries

@@ -4,10 +4,13 @@ use Rattle.syntax_tree.specs.View.{place_of}
 use Rattle.row_parts.specs.Numbered.{operand_view}
 use Rattle.typing_state.specs.Goes.{Goes}
 use Rattle.typing_state.specs.Steps.{each, GetsOn}
-use Rattle.pattern_typing.specs.Warnings.{spans_of, unused_steps}
+use Rattle.match_warnings.specs.Warnings.{spans_of, unused_steps}
 use Rattle.expression_steps.specs.ExpressionSteps.{arguments_steps, expression_at, expression_case, expression_steps, fields_steps, parts_from, turn_steps, unused_case}
 use Rattle.core_typing.specs.Concluding.{conclusion}
-use Rattle.std.specs.Prelude.{All}
+use Rattle.std.specs.Prelude.{All, option_map}
+use Rattle.type_terms.specs.declared.types.NodeRef.{NodeRef}
+use Rattle.case_rows.specs.Carried.{IsCase}
+use Rattle.case_rows.specs.Cases.{cases_of, TypesCasesFirst}
 use Rattle.type_nodes.specs.Views.{numbers}
 use Rattle.use_typing.specs.Constants.{is_negated}
 use Rattle.typing_rows.specs.CarriedRows.{IsCarried}
@@ -177,6 +180,7 @@ invariant-cases::type_each_case-loop-case l = record {
   goes : Goes l.fn.at l.at;
   gets : GetsOn l.fn.at l.at (each expression_case (map operand_view l.cases)) (each expression_case (map operand_view (drop l.case-index l.cases)));
   spans : unused_steps (spans_of l.rows) ++ each unused_case (map operand_view (drop l.case-index l.cases)) ≡ unused_steps (spans_of l.fn.rows) ++ each unused_case (map operand_view l.cases);
+  carries : All IsCase (map operand_view l.cases) → TypesCasesFirst l.fn.at l.at l.env (cases_of l.fn.at.item (map operand_view l.cases)) (cases_of l.fn.at.item (map operand_view (drop l.case-index l.cases))) l.fn.matched.0 (option_map (λ (w : NodeRef). w.0) l.fn.known) (option_map (λ (w : NodeRef). w.0) l.bodies);
 }
 
 abbrev pub invariant-bindings::in_turn-loop-binding : goal.invariant-bindings::in_turn-loop-binding

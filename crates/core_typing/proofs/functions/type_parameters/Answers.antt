@@ -1,11 +1,31 @@
-use Rattle.std.proofs.Common.{◌+◌, ◌<◌, length, map, drop, subst, arith}
+use Rattle.std.proofs.Common.{◌∙◌, ◌+◌, ◌<◌, length, map, drop, sym, ap, subst, arith, List}
+use Rattle.std.proofs.lemmas.List.{drop_all}
+use Rattle.row_parts.specs.declared.slots.Operand.{Operand}
 use Rattle.row_parts.specs.Numbered.{operand_view}
+use Rattle.type_nodes.specs.Views.{numbers}
+use Rattle.typing_model.specs.Parts.{Pattern}
 use Rattle.typing_state.specs.Steps.{each, GetsOn}
-use Rattle.typing_state.proofs.Going.{goes_trans}
-use Rattle.typing_state.proofs.Following.{gets_more}
+use Rattle.typing_state.proofs.Going.{goes_trans, goes_refl}
+use Rattle.typing_state.proofs.Following.{gets_more, gets_start}
 use Rattle.use_typing.proofs.Reading.{drop_read}
 use Rattle.expression_steps.specs.ExpressionSteps.{parameter_steps}
+use Rattle.pattern_typing.specs.Matching.{binds_of}
+use Rattle.pattern_rows.specs.Contracts.{patterns_of}
+use Rattle.case_rows.specs.Scopes.{names_added}
+use Rattle.case_rows.specs.Parameters.{ParametersSoFar}
+use Rattle.case_rows.proofs.Parameters.{parameters_none, parameters_all}
+use Rattle.core_typing.proofs.CaseLaws.{parameter_step}
 use Rattle.core_typing.proofs.functions.type_parameters.Goals as goal
+
+pub loop-parameter-init : goal.loop-parameter-init
+loop-parameter-init c =
+    let ps = patterns_of c.args.at.now.item (map operand_view c.args.parameters.now) in
+    record {
+      goes = goes_refl c.args.at.now;
+      gets = gets_start (each parameter_steps (map operand_view c.args.parameters.now)) c.args.at.now;
+      carries = λ all. subst (λ q. ParametersSoFar c.args.at.now c.args.at.now c.args.env.now q ps ps (numbers c.new-types.result.items)) (sym c.in_ok-inner.ensures)
+          (parameters_none c.args.at.now c.args.env.now ps (numbers c.new-types.result.items) (ap numbers c.new-types.ensures.items));
+    }
 
 pub loop-parameter-preserved : goal.loop-parameter-preserved
 loop-parameter-preserved c =
@@ -19,4 +39,12 @@ loop-parameter-preserved c =
       gets = gets_more (each parameter_steps (map operand_view all)) (parameter_steps (operand_view x)) (each parameter_steps (map operand_view (drop (i + 1) all))) c.args.at.now c.loop-parameter.at c.type_parameter.new.at
           (subst (λ os. GetsOn c.args.at.now c.loop-parameter.at (each parameter_steps (map operand_view all)) (each parameter_steps (map operand_view os))) cut c.loop-parameter.invariant.gets)
           c.type_parameter.ensures.goes c.in_ok-matched.ensures.follows;
+      carries = parameter_step c.args.at.now c.loop-parameter.at c.type_parameter.new.at c.args.env.now c.loop-parameter.inner c.in_ok-inner-2.inner all i x c.in_ok-matched.matched.names.items c.loop-parameter.types.items c.push.new.list.items c.in_ok-matched.matched.ty lt c.parameter-item.is c.in_ok-push.ensures.pushed
+          (c.in_ok-inner-2.ensures.scope ∙ ap (λ ns. names_added (binds_of ns) c.loop-parameter.inner) c.deref.ensures.value) c.loop-parameter.invariant.goes c.loop-parameter.invariant.carries c.in_ok-matched.ensures.carries;
     }
+
+pub returns-clause-carries : goal.returns-clause-carries
+returns-clause-carries c = λ all.
+    let view : List Operand → List Pattern = λ os. patterns_of c.args.at.now.item (map operand_view os) in
+    parameters_all c.args.at.now c.loop-parameter.at c.args.env.now c.loop-parameter.inner (view c.args.parameters.now) (view (drop c.loop-parameter.parameter-index c.args.parameters.now)) (numbers c.loop-parameter.types.items)
+    (ap view (drop_all c.loop-parameter.parameter-index c.args.parameters.now c.loop-parameter-test.false)) (c.loop-parameter.invariant.carries all)

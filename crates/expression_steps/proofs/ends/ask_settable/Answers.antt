@@ -1,4 +1,3 @@
-use Rattle.row_parts.specs.Numbered.{path_view}
 use Rattle.expression_steps.proofs.EndingLaws.{settable_missing, settable_held, settable_told}
 use Rattle.expression_steps.proofs.ends.ask_settable.Goals as goal
 

@@ -1,4 +1,4 @@
-use Rattle.std.proofs.Common.{◌++◌, map, refl, subst}
+use Rattle.std.proofs.Common.{map, refl, subst}
 use Rattle.type_nodes.specs.Views.{numbers}
 use Rattle.syntax_tree.specs.View.{node_view}
 use Rattle.row_parts.specs.Numbered.{operand_view, path_view, path_in}

@@ -1,5 +1,4 @@
 use Rattle.std.proofs.Common.{refl, sym, subst}
-use Rattle.std.specs.Prelude.{IfOk}
 use Rattle.syntax_tree.specs.View.{tok_of}
 use Rattle.typing_conditions.specs.Surroundings.{IsEntry}
 use Rattle.expression_steps.proofs.CarryingLaws.{if_ok}
