@@ -1,0 +1,90 @@
+-- Bindings without `rec`: of each its number, its right side and then its pattern, which has the type of the whole.
+use Rattle.std.proofs.Common.{◌≡◌, ◌∙◌, ◌++◌, ℕ, true, List, [], ◌∷◌, Option, Some, None, refl, sym, ap, subst, append_assoc, append-nil}
+use Rattle.std.specs.List.{cons_option}
+use Rattle.signature_model.specs.Declarations.{Name}
+use Rattle.typing_model.specs.Contexts.{tell}
+use Rattle.typing_model.specs.Parts.{Binding}
+use Rattle.typing_model.specs.Bindings.{right_side, bound_in_turn}
+use Rattle.env_table.specs.declared.entries.Entry.{Entry}
+use Rattle.typing_state.specs.declared.parts.Parts.{Parts}
+use Rattle.typing_state.specs.Goes.{Goes}
+use Rattle.typing_conditions.specs.Carrying.{Carried}
+use Rattle.typing_conditions.proofs.Carried.{carried_refl, carried_trans, carried_as}
+use Rattle.typing_conditions.proofs.Meaning.{means_on}
+use Rattle.typing_conditions.proofs.Surrounding.{surrounds_on}
+use Rattle.typing_steps.specs.States.{is_aloud, sight}
+use Rattle.pattern_rows.specs.Bounds.{Bind}
+use Rattle.pattern_rows.specs.Contracts.{MatchesTo}
+use Rattle.pattern_rows.proofs.Naming.{all_bound_on}
+use Rattle.binding_rows.specs.Rights.{whole_by, TypesRight}
+use Rattle.binding_rows.specs.Groups.{TypedBinding, AllTyped, none_typed, AsksWhole, TypesBindings, turn_asks, TypesTurn, TurnAdded, NoneAdded, TypesTurnIf, TypesTurnsFirst}
+use Rattle.binding_rows.proofs.Typed.{all_typed_on, all_typed_more, whole_same}
+
+-- a binding: its right side with its number, its pattern, and the demand on the pattern
+pub turn_typed : (a b d e : Parts) (env : List Entry) (x : Binding) (seen : List Name) (added : List Bind) (right whole found : ℕ) → TypesRight a b env (λ c. tell x.node c ++ right_side c x) x right whole → Goes a b →
+    MatchesTo b d env x.pattern seen added found → Goes b d → AsksWhole d e x.pattern found whole → TypesTurn a e env seen x (record { names = added; right = right })
+turn_typed a b d e env x seen added right whole found typed goes matched goes' asked = λ aloud F scope G s.
+    let p = typed aloud F scope G s in
+    let loud : is_aloud b.telling ≡ true = ap is_aloud goes.telling ∙ aloud in
+    let q = matched loud F scope (p.own ++ G) (surrounds_on p.typed.carried.stays s) in
+    let r = asked (ap is_aloud goes'.telling ∙ loud) F scope (p.own ++ G) x.node (whole_by x) q.typed.means (means_on q.typed.carried.stays p.typed.means) in
+    record {
+      own = p.own;
+      carried = carried_as (λ c. ap (λ cs. tell x.node c ++ right_side c x ++ x.pattern.matched c seen ++ cs) (whole_same c x)) (carried_trans (carried_trans p.typed.carried q.typed.carried) r);
+      typed = record { names = all_bound_on r.stays q.names; right = means_on r.stays (means_on q.typed.carried.stays p.right_means) };
+    }
+
+-- no binding yet
+pub turns_none : (a : Parts) (env : List Entry) (all : List Binding) (now : List Name) (ys : List TypedBinding) → now ≡ [] → ys ≡ [] → TypesTurnsFirst a a env all all now ys
+turns_none a env all now ys unseen none = λ aloud F scope G s. record {
+  done = λ c. [];
+  first = [];
+  own = [];
+  carried = carried_refl;
+  typed = subst (AllTyped F (sight a) G []) (sym none) none_typed;
+  asks = λ c. ap (λ ns. bound_in_turn c ns all) (sym unseen);
+  splits = refl;
+}
+
+-- one binding more
+pub turns_more : (a b d : Parts) (env : List Entry) (all left rest : List Binding) (x : Binding) (now then : List Name) (ys zs : List TypedBinding) → left ≡ x ∷ rest → Goes a b → TypesTurnsFirst a b env all left now ys →
+    TurnAdded b d env now then ys zs x → TypesTurnsFirst a d env all rest then zs
+turns_more a b d env all left rest x now then ys zs split goes first one = λ aloud F scope G s.
+    let p = first aloud F scope G s in
+    let q = one.typed (ap is_aloud goes.telling ∙ aloud) F scope (p.own ++ G) (surrounds_on p.carried.stays s) in
+    let same = sym (append_assoc q.own p.own G) in
+    record {
+      done = λ c. p.done c ++ turn_asks c now x;
+      first = p.first ++ x ∷ [];
+      own = q.own ++ p.own;
+      carried = subst (λ H. Carried F scope (λ c. p.done c ++ turn_asks c now x) (sight a) G (sight d) H) same (carried_trans p.carried q.carried);
+      typed = subst (λ us. AllTyped F (sight d) ((q.own ++ p.own) ++ G) (p.first ++ x ∷ []) us) (sym one.adds)
+          (subst (λ H. AllTyped F (sight d) H (p.first ++ x ∷ []) (ys ++ one.one ∷ [])) same (all_typed_more (all_typed_on q.carried.stays p.typed) q.typed));
+      asks = λ c.
+          p.asks c ∙ ap (λ xs. p.done c ++ bound_in_turn c now xs) split ∙ sym (append_assoc (p.done c) (turn_asks c now x) (bound_in_turn c (now ++ x.pattern.mentions) rest)) ∙
+          ap (λ ns. p.done c ++ turn_asks c now x ++ bound_in_turn c ns rest) (sym one.sees);
+      splits = p.splits ∙ ap (λ xs. p.first ++ xs) split ∙ sym (append_assoc p.first (x ∷ []) rest);
+    }
+
+-- an operand that is no binding
+pub turns_same : (a b d : Parts) (env : List Entry) (all left rest : List Binding) (now then : List Name) (ys zs : List TypedBinding) → left ≡ rest → TypesTurnsFirst a b env all left now ys → NoneAdded b d now then ys zs →
+    TypesTurnsFirst a d env all rest then zs
+turns_same a b d env all left rest now then ys zs split first none =
+    subst (λ q. TypesTurnsFirst a q env all rest then zs) (sym none.still) (subst (λ us. TypesTurnsFirst a b env all rest then us) (sym none.adds)
+    (subst (λ ns. TypesTurnsFirst a b env all rest ns ys) (sym none.sees) (subst (λ xs. TypesTurnsFirst a b env all xs now ys) split first)))
+
+-- one operand more, which may be no binding
+pub turns_further : (a b d : Parts) (env : List Entry) (all left rest : List Binding) (x : Option Binding) (now then : List Name) (ys zs : List TypedBinding) → left ≡ cons_option x rest → Goes a b → TypesTurnsFirst a b env all left now ys →
+    TypesTurnIf b d env now then ys zs x → TypesTurnsFirst a d env all rest then zs
+turns_further a b d env all left rest None now then ys zs split goes first none = turns_same a b d env all left rest now then ys zs split first none
+turns_further a b d env all left rest (Some x) now then ys zs split goes first one = turns_more a b d env all left rest x now then ys zs split goes first one
+
+-- all bindings
+pub turns_all : (a b : Parts) (env : List Entry) (all left : List Binding) (now : List Name) (ys : List TypedBinding) → left ≡ [] → TypesTurnsFirst a b env all left now ys → TypesBindings a b env (λ c. bound_in_turn c [] all) all ys
+turns_all a b env all left now ys none first = λ aloud F scope G s.
+    let p = first aloud F scope G s in
+    record {
+      own = p.own;
+      carried = carried_as (λ c. sym (append-nil (p.done c)) ∙ ap (λ xs. p.done c ++ bound_in_turn c now xs) (sym none) ∙ sym (p.asks c)) p.carried;
+      typed = subst (λ xs. AllTyped F (sight b) (p.own ++ G) xs ys) (sym (append-nil p.first) ∙ ap (λ xs. p.first ++ xs) (sym none) ∙ sym p.splits) p.typed;
+    }
