@@ -8,3 +8,4 @@ pub mod Putting
 pub mod Staying
 pub mod Reals
 pub mod Applying
+pub mod Shapes

@@ -25,3 +25,12 @@ loop-which-preserved c =
 pub returns-clause-entries : goal.returns-clause-entries
 returns-clause-entries c =
     c.loop-which.invariant.entries c.loop-which.env (subst (λ bs. HasBuiltIns bs c.loop-which.env c.loop-which.env) (sym (drop_all c.loop-which.which-index c.args.all.now (omega arith))) refl)
+
+pub returns-clause-goes : goal.returns-clause-goes
+returns-clause-goes c = c.loop-which.invariant.goes
+
+pub returns-in_err-entry-clause-goes : goal.returns-in_err-entry-clause-goes
+returns-in_err-entry-clause-goes c = goes_trans c.args.at.now c.loop-which.at c.built_in_entry.new.at c.loop-which.invariant.goes c.built_in_entry.ensures.goes
+
+pub returns-in_err-env-clause-goes : goal.returns-in_err-env-clause-goes
+returns-in_err-env-clause-goes c = goes_trans c.args.at.now c.loop-which.at c.built_in_entry.new.at c.loop-which.invariant.goes c.built_in_entry.ensures.goes

@@ -10,3 +10,18 @@ pub returns-in-Some-clause-named : goal.returns-in-Some-clause-named
 returns-in-Some-clause-named c =
     subst (λ (o : Option (Bor Token)). IfOk c.taken_named.result (λ p. TakesName (option_map (λ t. t.now) o) p.template.value c.args.env.now p)) (sym c.in-Some.is)
     (if_ok c.taken_named.result (λ p is. subst (λ (t : Template). TakesName (Some c.in-Some.name.now) t c.args.env.now p) (sym is.0) is) c.taken_named.ensures)
+
+pub returns-in-Some-clause-goes : goal.returns-in-Some-clause-goes
+returns-in-Some-clause-goes c = c.made_at.ensures.goes
+
+pub returns-in_err-anew-clause-goes : goal.returns-in_err-anew-clause-goes
+returns-in_err-anew-clause-goes c = c.made_at.ensures.goes
+
+pub returns-in_err-share-in-None-clause-goes : goal.returns-in_err-share-in-None-clause-goes
+returns-in_err-share-in-None-clause-goes c = c.made_at.ensures.goes
+
+pub returns-in_err-template-clause-goes : goal.returns-in_err-template-clause-goes
+returns-in_err-template-clause-goes c = c.made_at.ensures.goes
+
+pub returns-in_ok-share-in-None-clause-goes : goal.returns-in_ok-share-in-None-clause-goes
+returns-in_ok-share-in-None-clause-goes c = c.made_at.ensures.goes

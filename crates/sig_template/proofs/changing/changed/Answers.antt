@@ -21,3 +21,6 @@ turned (Err e) c old a b x y keeps p = tt
 pub returns-clause-changed : goal.returns-clause-changed
 returns-clause-changed c = turned c.sig.result c.args.changes.now c.args.sig.now c.args.at.now.store.nodes c.sig.new.at.store.nodes c.new-copies.result c.sig.new.copies
     (c.new-copies.ensures c.args.changes.now) c.sig.ensures.changed
+
+pub returns-clause-goes : goal.returns-clause-goes
+returns-clause-goes c = c.sig.ensures.goes

@@ -1,3 +1,4 @@
+use Rattle.typing_state.proofs.Going.{goes_refl}
 use Rattle.std.proofs.Common.{◌≡◌, ◌∙◌, ap, length, rules}
 use Rattle.type_reading.specs.Copying.{paths_of}
 use Rattle.sig_template.proofs.Same.{shared_same, copied_same}
@@ -13,3 +14,21 @@ returns-clause-sig c =
     copied_same c.args.at.now.store.nodes c.changed.new.at.store.nodes (paths_of c.args.template.now.made.items) (paths_of c.in_ok-copied_origins.field-0.items) c.args.node c.new.result.items
     c.args.template.now.sig.value c.deref-3.result.now c.in_ok-changed.field-0.value (c.in_ok-copied_origins.ensures ∙ ap paths_of c.deref-2.ensures.value) c.deref-3.ensures c.new.ensures.items
     c.in_ok-changed.ensures.changed
+
+pub returns-in_err-made-clause-goes : goal.returns-in_err-made-clause-goes
+returns-in_err-made-clause-goes c = goes_refl c.args.at.now
+
+pub returns-in_err-share_sig-clause-goes : goal.returns-in_err-share_sig-clause-goes
+returns-in_err-share_sig-clause-goes c = goes_refl c.args.at.now
+
+pub returns-then-is_empty-clause-goes : goal.returns-then-is_empty-clause-goes
+returns-then-is_empty-clause-goes c = goes_refl c.args.at.now
+
+pub returns-in_err-copied_origins-clause-goes : goal.returns-in_err-copied_origins-clause-goes
+returns-in_err-copied_origins-clause-goes c = goes_refl c.args.at.now
+
+pub returns-in_err-changed-clause-goes : goal.returns-in_err-changed-clause-goes
+returns-in_err-changed-clause-goes c = c.changed.ensures.goes
+
+pub returns-clause-goes : goal.returns-clause-goes
+returns-clause-goes c = c.changed.ensures.goes

@@ -1,3 +1,4 @@
+use Rattle.typing_state.proofs.Going.{goes_refl}
 use Rattle.scheme_match.specs.Covering.{Compared}
 use Rattle.signature_match.proofs.Unknowns.{asks_nothing}
 use Rattle.signature_match.proofs.compare.types_agree.Goals as goal
@@ -6,3 +7,12 @@ pub returns-then-branch-clause-compared : goal.returns-then-branch-clause-compar
 returns-then-branch-clause-compared c =
     asks_nothing c.args.at.now.store.nodes c.args.one c.args.other c.in_ok-is_either_unknown.field-0 c.known_are_one.result
     (Compared c.args.at.now.store.nodes c.known_are_one.new.at.store.nodes c.args.one.0 c.args.other.0) c.if-branch.true c.in_ok-is_either_unknown.ensures
+
+pub returns-else-branch-clause-goes : goal.returns-else-branch-clause-goes
+returns-else-branch-clause-goes c = c.covers.ensures.goes
+
+pub returns-in_err-is_either_unknown-clause-goes : goal.returns-in_err-is_either_unknown-clause-goes
+returns-in_err-is_either_unknown-clause-goes c = goes_refl c.args.at.now
+
+pub returns-then-branch-clause-goes : goal.returns-then-branch-clause-goes
+returns-then-branch-clause-goes c = c.known_are_one.ensures.goes

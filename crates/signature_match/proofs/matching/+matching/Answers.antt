@@ -1,7 +1,7 @@
 use Rattle.std.proofs.Common.{rules, arith, ◌≡◌, ◌∙◌, None, Some, map, option_map, refl, sym, ap, subst}
 use Rattle.std.proofs.lemmas.Result.{IfOk-weaker}
 use Rattle.text_terms.specs.Bytes.{str_bytes}
-use Rattle.typing_state.proofs.Going.{goes_trans}
+use Rattle.typing_state.proofs.Going.{goes_trans, goes_refl}
 use Rattle.signature_match.specs.Blames.{blame_of}
 use Rattle.signature_match.specs.Newest.{newest_module, newest_module_type}
 use Rattle.signature_match.specs.Telling.{Tells, TellsWanted, TellsFirst, TellsEntry, value, type_name, exception, no_module, «module», no_module_type, module_type, from_hole, to_hole, structures, functors, for_functor, for_structure, wants}
@@ -178,3 +178,150 @@ functors_match-returns-clause-told t c =
     (parameter_as k c.in-Some-Some.inner c.in-Some-Some.number old left c.args.actual.0.now.value c.deref.result.now c.args.wanted.0.now.value c.deref-2.result.now argument c.in_ok-argument.met
     c.in-Some-Some.ensures.1 c.in-Some-Some.ensures' c.deref.ensures c.deref-2.ensures c.in_ok-argument.ensures.told)
     c.if-not-met.false c.deref-3.ensures c.in_ok-body.ensures.are c.deref-4.ensures c.in_ok-matches.ensures.told c.is_none.ensures
+
+pub first_failing-returns-clause-goes : goal.first_failing-returns-clause-goes
+first_failing-returns-clause-goes t c = c.loop-entry.invariant.0
+
+pub first_failing-returns-in_err-failed-clause-goes : goal.first_failing-returns-in_err-failed-clause-goes
+first_failing-returns-in_err-failed-clause-goes t c = goes_trans c.args.at.now c.loop-entry.at c.match_entry.new.at c.loop-entry.invariant.0 c.match_entry.ensures.goes
+
+pub first_failing-returns-in_err-inside-clause-goes : goal.first_failing-returns-in_err-inside-clause-goes
+first_failing-returns-in_err-inside-clause-goes t c = c.loop-entry.invariant.0
+
+pub first_failing-returns-then-is_some-clause-goes : goal.first_failing-returns-then-is_some-clause-goes
+first_failing-returns-then-is_some-clause-goes t c = goes_trans c.args.at.now c.loop-entry.at c.match_entry.new.at c.loop-entry.invariant.0 c.match_entry.ensures.goes
+
+pub functors_match-returns-clause-goes : goal.functors_match-returns-clause-goes
+functors_match-returns-clause-goes t c = goes_trans c.args.at.now c.bodies.new.at c.matches.new.at (goes_trans c.args.at.now c.match_parameter.new.at c.bodies.new.at c.match_parameter.ensures.goes c.bodies.ensures.goes) c.matches.ensures.goes
+
+pub functors_match-returns-in_default-2-clause-goes : goal.functors_match-returns-in_default-2-clause-goes
+functors_match-returns-in_default-2-clause-goes t c = goes_refl c.args.at.now
+
+pub functors_match-returns-in_default-clause-goes : goal.functors_match-returns-in_default-clause-goes
+functors_match-returns-in_default-clause-goes t c = goes_refl c.args.at.now
+
+pub functors_match-returns-in_err-argument-clause-goes : goal.functors_match-returns-in_err-argument-clause-goes
+functors_match-returns-in_err-argument-clause-goes t c = c.match_parameter.ensures.goes
+
+pub functors_match-returns-in_err-body-clause-goes : goal.functors_match-returns-in_err-body-clause-goes
+functors_match-returns-in_err-body-clause-goes t c = goes_trans c.args.at.now c.match_parameter.new.at c.bodies.new.at c.match_parameter.ensures.goes c.bodies.ensures.goes
+
+pub functors_match-returns-in_err-inside-clause-goes : goal.functors_match-returns-in_err-inside-clause-goes
+functors_match-returns-in_err-inside-clause-goes t c = goes_trans c.args.at.now c.match_parameter.new.at c.bodies.new.at c.match_parameter.ensures.goes c.bodies.ensures.goes
+
+pub functors_match-returns-in_err-matches-clause-goes : goal.functors_match-returns-in_err-matches-clause-goes
+functors_match-returns-in_err-matches-clause-goes t c = goes_trans c.args.at.now c.bodies.new.at c.matches.new.at (goes_trans c.args.at.now c.match_parameter.new.at c.bodies.new.at c.match_parameter.ensures.goes c.bodies.ensures.goes) c.matches.ensures.goes
+
+pub functors_match-returns-then-not-met-clause-goes : goal.functors_match-returns-then-not-met-clause-goes
+functors_match-returns-then-not-met-clause-goes t c = c.match_parameter.ensures.goes
+
+pub match_both-returns-clause-goes : goal.match_both-returns-clause-goes
+match_both-returns-clause-goes t c = goes_trans c.args.at.now c.matches.new.at c.matches-2.new.at c.matches.ensures.goes c.matches-2.ensures.goes
+
+pub match_both-returns-in_err-inside-2-clause-goes : goal.match_both-returns-in_err-inside-2-clause-goes
+match_both-returns-in_err-inside-2-clause-goes t c = c.matches.ensures.goes
+
+pub match_both-returns-in_err-inside-clause-goes : goal.match_both-returns-in_err-inside-clause-goes
+match_both-returns-in_err-inside-clause-goes t c = goes_refl c.args.at.now
+
+pub match_both-returns-in_err-matches-2-clause-goes : goal.match_both-returns-in_err-matches-2-clause-goes
+match_both-returns-in_err-matches-2-clause-goes t c = goes_trans c.args.at.now c.matches.new.at c.matches-2.new.at c.matches.ensures.goes c.matches-2.ensures.goes
+
+pub match_both-returns-in_err-matches-clause-goes : goal.match_both-returns-in_err-matches-clause-goes
+match_both-returns-in_err-matches-clause-goes t c = c.matches.ensures.goes
+
+pub match_both-returns-then-is_some-clause-goes : goal.match_both-returns-then-is_some-clause-goes
+match_both-returns-then-is_some-clause-goes t c = c.matches.ensures.goes
+
+pub match_component-returns-in-Constructor-clause-goes : goal.match_component-returns-in-Constructor-clause-goes
+match_component-returns-in-Constructor-clause-goes t c = goes_refl c.args.at.now
+
+pub match_component-returns-in-Exception-clause-goes : goal.match_component-returns-in-Exception-clause-goes
+match_component-returns-in-Exception-clause-goes t c = c.match_exception.ensures.goes
+
+pub match_component-returns-in-Label-clause-goes : goal.match_component-returns-in-Label-clause-goes
+match_component-returns-in-Label-clause-goes t c = goes_refl c.args.at.now
+
+pub match_component-returns-in-None-clause-goes : goal.match_component-returns-in-None-clause-goes
+match_component-returns-in-None-clause-goes t c = goes_refl c.args.at.now
+
+pub match_component-returns-in-None-newest_module_type-clause-goes : goal.match_component-returns-in-None-newest_module_type-clause-goes
+match_component-returns-in-None-newest_module_type-clause-goes t c = goes_refl c.args.at.now
+
+pub match_component-returns-in-Scheme-clause-goes : goal.match_component-returns-in-Scheme-clause-goes
+match_component-returns-in-Scheme-clause-goes t c = c.match_value.ensures.goes
+
+pub match_component-returns-in-Type-clause-goes : goal.match_component-returns-in-Type-clause-goes
+match_component-returns-in-Type-clause-goes t c = c.match_type.ensures.goes
+
+pub match_component-returns-in_err-inside-in-Some-clause-goes : goal.match_component-returns-in_err-inside-in-Some-clause-goes
+match_component-returns-in_err-inside-in-Some-clause-goes t c = goes_refl c.args.at.now
+
+pub match_component-returns-in_err-inside-in-Some-newest_module_type-clause-goes : goal.match_component-returns-in_err-inside-in-Some-newest_module_type-clause-goes
+match_component-returns-in_err-inside-in-Some-newest_module_type-clause-goes t c = goes_refl c.args.at.now
+
+pub match_component-returns-in_ok-inside-in-Some-clause-goes : goal.match_component-returns-in_ok-inside-in-Some-clause-goes
+match_component-returns-in_ok-inside-in-Some-clause-goes t c = c.meets.ensures.goes
+
+pub match_component-returns-in_ok-inside-in-Some-newest_module_type-clause-goes : goal.match_component-returns-in_ok-inside-in-Some-newest_module_type-clause-goes
+match_component-returns-in_ok-inside-in-Some-newest_module_type-clause-goes t c = c.match_both.ensures.goes
+
+pub match_entry-returns-in-None-clause-goes : goal.match_entry-returns-in-None-clause-goes
+match_entry-returns-in-None-clause-goes t c = c.match_component.ensures.goes
+
+pub match_entry-returns-in_err-inside-in-Some-clause-goes : goal.match_entry-returns-in_err-inside-in-Some-clause-goes
+match_entry-returns-in_err-inside-in-Some-clause-goes t c = c.match_component.ensures.goes
+
+pub match_entry-returns-in_err-match_component-clause-goes : goal.match_entry-returns-in_err-match_component-clause-goes
+match_entry-returns-in_err-match_component-clause-goes t c = c.match_component.ensures.goes
+
+pub match_entry-returns-in_ok-inside-in-Some-clause-goes : goal.match_entry-returns-in_ok-inside-in-Some-clause-goes
+match_entry-returns-in_ok-inside-in-Some-clause-goes t c = c.match_component.ensures.goes
+
+pub match_parameter-returns-clause-goes : goal.match_parameter-returns-clause-goes
+match_parameter-returns-clause-goes t c = goes_trans c.args.at.now c.made_at.new.at c.matches.new.at c.made_at.ensures.goes c.matches.ensures.goes
+
+pub match_parameter-returns-in_err-argument-clause-goes : goal.match_parameter-returns-in_err-argument-clause-goes
+match_parameter-returns-in_err-argument-clause-goes t c = c.made_at.ensures.goes
+
+pub match_parameter-returns-in_err-failed-clause-goes : goal.match_parameter-returns-in_err-failed-clause-goes
+match_parameter-returns-in_err-failed-clause-goes t c = goes_trans c.args.at.now c.made_at.new.at c.matches.new.at c.made_at.ensures.goes c.matches.ensures.goes
+
+pub match_parameter-returns-in_err-inside-clause-goes : goal.match_parameter-returns-in_err-inside-clause-goes
+match_parameter-returns-in_err-inside-clause-goes t c = c.made_at.ensures.goes
+
+pub matches-returns-clause-goes : goal.matches-returns-clause-goes
+matches-returns-clause-goes t c = goes_trans c.args.at.now c.wanted_for.new.at c.meets.new.at c.wanted_for.ensures.goes c.meets.ensures.goes
+
+pub matches-returns-in_err-inside-clause-goes : goal.matches-returns-in_err-inside-clause-goes
+matches-returns-in_err-inside-clause-goes t c = c.wanted_for.ensures.goes
+
+pub matches-returns-in_err-sig-clause-goes : goal.matches-returns-in_err-sig-clause-goes
+matches-returns-in_err-sig-clause-goes t c = c.wanted_for.ensures.goes
+
+pub meets-returns-in-Functor-Hole-clause-goes : goal.meets-returns-in-Functor-Hole-clause-goes
+meets-returns-in-Functor-Hole-clause-goes t c = goes_refl c.args.at.now
+
+pub meets-returns-in-Functor-Structure-clause-goes : goal.meets-returns-in-Functor-Structure-clause-goes
+meets-returns-in-Functor-Structure-clause-goes t c = goes_refl c.args.at.now
+
+pub meets-returns-in-Hole-default-clause-goes : goal.meets-returns-in-Hole-default-clause-goes
+meets-returns-in-Hole-default-clause-goes t c = goes_refl c.args.at.now
+
+pub meets-returns-in-Structure-Functor-clause-goes : goal.meets-returns-in-Structure-Functor-clause-goes
+meets-returns-in-Structure-Functor-clause-goes t c = goes_refl c.args.at.now
+
+pub meets-returns-in-Structure-Hole-clause-goes : goal.meets-returns-in-Structure-Hole-clause-goes
+meets-returns-in-Structure-Hole-clause-goes t c = goes_refl c.args.at.now
+
+pub meets-returns-in-Structure-Structure-clause-goes : goal.meets-returns-in-Structure-Structure-clause-goes
+meets-returns-in-Structure-Structure-clause-goes t c = c.first_failing.ensures.goes
+
+pub meets-returns-in_err-inside-in-Functor-Functor-clause-goes : goal.meets-returns-in_err-inside-in-Functor-Functor-clause-goes
+meets-returns-in_err-inside-in-Functor-Functor-clause-goes t c = goes_refl c.args.at.now
+
+pub meets-returns-in_err-met-in-Functor-Functor-clause-goes : goal.meets-returns-in_err-met-in-Functor-Functor-clause-goes
+meets-returns-in_err-met-in-Functor-Functor-clause-goes t c = c.functors_match.ensures.goes
+
+pub meets-returns-in_ok-met-in-Functor-Functor-clause-goes : goal.meets-returns-in_ok-met-in-Functor-Functor-clause-goes
+meets-returns-in_ok-met-in-Functor-Functor-clause-goes t c = c.functors_match.ensures.goes

@@ -1,3 +1,4 @@
+use Rattle.typing_state.proofs.Going.{goes_refl}
 use Rattle.std.proofs.Common.{rules, ◌≢◌, [], subst}
 use Rattle.std.proofs.lemmas.Result.{IfOk-weaker}
 use Rattle.env_table.specs.declared.entries.Template.{out-Template}
@@ -13,3 +14,9 @@ returns-else-is_empty-clause-wanted c =
     let t = c.args.wanted.now in
     let some : (out-Template t).made.items ≢ [] = search rules in
     IfOk-weaker c.realised_in.result _ _ (λ s in_it. wants_realised old new A t s.value some (subst (λ b. IsRealisedIn old new A t b s.value) c.deref.ensures in_it)) c.realised_in.ensures.put
+
+pub returns-else-is_empty-clause-goes : goal.returns-else-is_empty-clause-goes
+returns-else-is_empty-clause-goes c = c.realised_in.ensures.goes
+
+pub returns-then-is_empty-clause-goes : goal.returns-then-is_empty-clause-goes
+returns-then-is_empty-clause-goes c = goes_refl c.args.at.now

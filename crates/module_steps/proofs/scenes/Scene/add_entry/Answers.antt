@@ -1,3 +1,4 @@
+use Rattle.typing_state.proofs.Going.{goes_refl}
 use Rattle.std.proofs.Common.{◌∙◌, ◌∷◌, ap}
 use Rattle.text_terms.specs.Bytes.{str_bytes}
 use Rattle.env_table.specs.declared.entries.Entry.{Entry}
@@ -18,3 +19,24 @@ returns-clause-added c =
       components = ap entries_of pushed ∙ values_more c.args.self.now.components.items c.in_ok-entry.entry;
       noted = (c.in_ok-names.names, c.in_ok-names.ensures, c.in_ok-note.ensures.noted);
     }) c.push.ensures.pushed
+
+pub returns-clause-goes : goal.returns-clause-goes
+returns-clause-goes c = c.note.ensures.goes
+
+pub returns-in_err-entry-clause-goes : goal.returns-in_err-entry-clause-goes
+returns-in_err-entry-clause-goes c = goes_refl c.args.at.now
+
+pub returns-in_err-names-clause-goes : goal.returns-in_err-names-clause-goes
+returns-in_err-names-clause-goes c = goes_refl c.args.at.now
+
+pub returns-in_err-note-clause-goes : goal.returns-in_err-note-clause-goes
+returns-in_err-note-clause-goes c = c.note.ensures.goes
+
+pub returns-in_err-self-clause-goes : goal.returns-in_err-self-clause-goes
+returns-in_err-self-clause-goes c = c.note.ensures.goes
+
+pub returns-in_err-share-clause-goes : goal.returns-in_err-share-clause-goes
+returns-in_err-share-clause-goes c = goes_refl c.args.at.now
+
+pub returns-in_err-shared-clause-goes : goal.returns-in_err-shared-clause-goes
+returns-in_err-shared-clause-goes c = c.note.ensures.goes

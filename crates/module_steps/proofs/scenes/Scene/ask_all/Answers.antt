@@ -49,3 +49,9 @@ returns-clause-told c =
 pub returns-clause-noted : goal.returns-clause-noted
 returns-clause-noted c k n =
     ap (λ es. with_names (has_name c.loop-entry.self) es k n) (sym (none_left c.args.entries.now c.loop-entry.entry-index (omega arith))) ∙ c.loop-entry.invariant.noted k n
+
+pub returns-clause-goes : goal.returns-clause-goes
+returns-clause-goes c = c.loop-entry.invariant.goes
+
+pub returns-in_err-ask-clause-goes : goal.returns-in_err-ask-clause-goes
+returns-in_err-ask-clause-goes c = goes_trans c.args.at.now c.loop-entry.at c.ask.new.at c.loop-entry.invariant.goes c.ask.ensures.goes

@@ -3,10 +3,11 @@ use Rattle.std.specs.declared.rc.Rc.{Rc}
 use Rattle.std.specs.declared.alloc.Global.{Global}
 use Rattle.type_nodes.specs.Nodes.{Node}
 use Rattle.env_table.specs.declared.entries.Entry.{Entry}
+use Rattle.type_reading.specs.declared.changes.Changes.{Changes}
 use Rattle.type_reading.specs.Copying.{change_by}
-use Rattle.typing_state.proofs.Going.{goes_trans}
-use Rattle.sig_template.specs.Turns.{Turns, IsTurnedEntry, IsLiveThrough}
-use Rattle.sig_template.proofs.Turning.{turns_more, turns_whole}
+use Rattle.typing_state.proofs.Going.{goes_trans, goes_refl}
+use Rattle.sig_template.specs.Turns.{Turns, IsTurnedEntry, IsTurnedWhat, IsLiveThrough, IsLiveWithin}
+use Rattle.sig_template.proofs.Turning.{turns_as, turns_more, turns_whole, owned_turns}
 use Rattle.sig_template.proofs.Whats.{what_scheme, what_constructor, what_exception, what_label, what_type, what_module, what_module_type, template_both, sig_hole, sig_structure, sig_functor}
 use Rattle.sig_template.proofs.changing.Changing.+changing.Goals as goal
 
@@ -85,3 +86,120 @@ pub template-returns-clause-changed : goal.template-returns-clause-changed
 template-returns-clause-changed t c =
     template_both c.owned.result c.args.self.changes.now c.args.old.now _ c.deref-2.result.now c.in_ok-sig.field-0.value c.deref.result.now c.in_ok-made.field-0.items
     c.args.at.now.store.nodes c.sig.new.at.store.nodes c.args.copies.now c.sig.new.copies c.owned.ensures c.deref.ensures.value refl c.deref-2.ensures refl c.in_ok-made.ensures c.in_ok-sig.ensures.changed
+
+pub entries-returns-in_err-entry-clause-goes : goal.entries-returns-in_err-entry-clause-goes
+entries-returns-in_err-entry-clause-goes t c = goes_trans c.args.at.now c.loop-entry.at c.entry.new.at c.loop-entry.invariant.goes c.entry.ensures.goes
+
+pub entries-returns-in_err-push-clause-goes : goal.entries-returns-in_err-push-clause-goes
+entries-returns-in_err-push-clause-goes t c = goes_trans c.args.at.now c.loop-entry.at c.entry.new.at c.loop-entry.invariant.goes c.entry.ensures.goes
+
+pub entries-returns-clause-goes : goal.entries-returns-clause-goes
+entries-returns-clause-goes t c = c.loop-entry.invariant.goes
+
+pub entry-returns-in_err-share-clause-goes : goal.entry-returns-in_err-share-clause-goes
+entry-returns-in_err-share-clause-goes t c = goes_refl c.args.at.now
+
+pub entry-returns-in_err-what-clause-goes : goal.entry-returns-in_err-what-clause-goes
+entry-returns-in_err-what-clause-goes t c = c.what.ensures.goes
+
+pub entry-returns-clause-goes : goal.entry-returns-clause-goes
+entry-returns-clause-goes t c = c.what.ensures.goes
+
+pub sig-returns-in-Hole-clause-goes : goal.sig-returns-in-Hole-clause-goes
+sig-returns-in-Hole-clause-goes t c = goes_refl c.args.at.now
+
+pub template-returns-in_err-made-clause-goes : goal.template-returns-in_err-made-clause-goes
+template-returns-in_err-made-clause-goes t c = goes_refl c.args.at.now
+
+pub template-returns-in_err-inside-clause-goes : goal.template-returns-in_err-inside-clause-goes
+template-returns-in_err-inside-clause-goes t c = goes_refl c.args.at.now
+
+pub template-returns-in_err-sig-clause-goes : goal.template-returns-in_err-sig-clause-goes
+template-returns-in_err-sig-clause-goes t c = c.sig.ensures.goes
+
+pub template-returns-clause-goes : goal.template-returns-clause-goes
+template-returns-clause-goes t c = c.sig.ensures.goes
+
+pub what-returns-in_ok-ty-in-Scheme-clause-goes : goal.what-returns-in_ok-ty-in-Scheme-clause-goes
+what-returns-in_ok-ty-in-Scheme-clause-goes t c = c.ty.ensures.goes
+
+pub what-returns-in_err-ty-in-Scheme-clause-goes : goal.what-returns-in_err-ty-in-Scheme-clause-goes
+what-returns-in_err-ty-in-Scheme-clause-goes t c = c.ty.ensures.goes
+
+pub what-returns-in_err-owner-in-Constructor-clause-goes : goal.what-returns-in_err-owner-in-Constructor-clause-goes
+what-returns-in_err-owner-in-Constructor-clause-goes t c = c.owner.ensures.goes
+
+pub what-returns-in_err-exception-in-Exception-clause-goes : goal.what-returns-in_err-exception-in-Exception-clause-goes
+what-returns-in_err-exception-in-Exception-clause-goes t c = c.exception.ensures.goes
+
+pub what-returns-in_err-owner-in-Label-clause-goes : goal.what-returns-in_err-owner-in-Label-clause-goes
+what-returns-in_err-owner-in-Label-clause-goes t c = c.owner-in-Label.ensures.goes
+
+pub what-returns-in_err-latest-in-Type-clause-goes : goal.what-returns-in_err-latest-in-Type-clause-goes
+what-returns-in_err-latest-in-Type-clause-goes t c = c.latest.ensures.goes
+
+pub what-returns-in_err-sig-in-Module-clause-goes : goal.what-returns-in_err-sig-in-Module-clause-goes
+what-returns-in_err-sig-in-Module-clause-goes t c = c.sig.ensures.goes
+
+pub what-returns-in_err-template-in-ModuleType-clause-goes : goal.what-returns-in_err-template-in-ModuleType-clause-goes
+what-returns-in_err-template-in-ModuleType-clause-goes t c = c.template.ensures.goes
+
+pub sig-returns-in_err-entries-in-Structure-clause-goes : goal.sig-returns-in_err-entries-in-Structure-clause-goes
+sig-returns-in_err-entries-in-Structure-clause-goes t c = c.entries.ensures.goes
+
+pub sig-returns-in_err-body-in-Functor-clause-goes : goal.sig-returns-in_err-body-in-Functor-clause-goes
+sig-returns-in_err-body-in-Functor-clause-goes t c = goes_trans c.args.at.now c.template.new.at c.template-in-Functor.new.at c.template.ensures.goes c.template-in-Functor.ensures.goes
+
+pub what-returns-in_ok-owner-in-Constructor-clause-goes : goal.what-returns-in_ok-owner-in-Constructor-clause-goes
+what-returns-in_ok-owner-in-Constructor-clause-goes t c = c.owner.ensures.goes
+
+pub what-returns-in_ok-exception-in-Exception-clause-goes : goal.what-returns-in_ok-exception-in-Exception-clause-goes
+what-returns-in_ok-exception-in-Exception-clause-goes t c = c.exception.ensures.goes
+
+pub what-returns-in_ok-owner-in-Label-clause-goes : goal.what-returns-in_ok-owner-in-Label-clause-goes
+what-returns-in_ok-owner-in-Label-clause-goes t c = c.owner-in-Label.ensures.goes
+
+pub what-returns-in_ok-latest-in-Type-clause-goes : goal.what-returns-in_ok-latest-in-Type-clause-goes
+what-returns-in_ok-latest-in-Type-clause-goes t c = c.latest.ensures.goes
+
+pub what-returns-in_ok-sig-in-Module-clause-goes : goal.what-returns-in_ok-sig-in-Module-clause-goes
+what-returns-in_ok-sig-in-Module-clause-goes t c = c.sig.ensures.goes
+
+pub what-returns-in_ok-template-in-ModuleType-clause-goes : goal.what-returns-in_ok-template-in-ModuleType-clause-goes
+what-returns-in_ok-template-in-ModuleType-clause-goes t c = c.template.ensures.goes
+
+pub sig-returns-in_ok-entries-in-Structure-clause-goes : goal.sig-returns-in_ok-entries-in-Structure-clause-goes
+sig-returns-in_ok-entries-in-Structure-clause-goes t c = c.entries.ensures.goes
+
+pub sig-returns-in_ok-body-in-Functor-clause-goes : goal.sig-returns-in_ok-body-in-Functor-clause-goes
+sig-returns-in_ok-body-in-Functor-clause-goes t c = goes_trans c.args.at.now c.template.new.at c.template-in-Functor.new.at c.template.ensures.goes c.template-in-Functor.ensures.goes
+
+pub what-returns-in_err-inside-in-Module-clause-goes : goal.what-returns-in_err-inside-in-Module-clause-goes
+what-returns-in_err-inside-in-Module-clause-goes t c = goes_refl c.args.at.now
+
+pub what-returns-in_err-inside-in-ModuleType-clause-goes : goal.what-returns-in_err-inside-in-ModuleType-clause-goes
+what-returns-in_err-inside-in-ModuleType-clause-goes t c = goes_refl c.args.at.now
+
+pub sig-returns-in_err-inside-in-Structure-clause-goes : goal.sig-returns-in_err-inside-in-Structure-clause-goes
+sig-returns-in_err-inside-in-Structure-clause-goes t c = goes_refl c.args.at.now
+
+pub sig-returns-in_err-inside-in-Functor-clause-goes : goal.sig-returns-in_err-inside-in-Functor-clause-goes
+sig-returns-in_err-inside-in-Functor-clause-goes t c = goes_refl c.args.at.now
+
+pub sig-returns-in_err-parameter-in-Functor-clause-goes : goal.sig-returns-in_err-parameter-in-Functor-clause-goes
+sig-returns-in_err-parameter-in-Functor-clause-goes t c = c.template.ensures.goes
+
+pub sig-returns-in_err-inside-in-Functor-2-clause-goes : goal.sig-returns-in_err-inside-in-Functor-2-clause-goes
+sig-returns-in_err-inside-in-Functor-2-clause-goes t c = c.template.ensures.goes
+
+pub entry-returns-clause-changed : goal.entry-returns-clause-changed
+entry-returns-clause-changed t c =
+    let changes : Changes = c.args.self.changes.now in
+    let old : Entry = c.args.old.now in
+    let new : Entry = record { name = c.in_ok-share.field-0; kind = old.kind; place = old.place; what = c.in_ok-what.field-0 } in
+    owned_turns c.owned.result new changes (λ ns. IsLiveThrough ns old) (λ ns e. IsTurnedEntry ns (change_by changes) old e)
+    c.args.at.now.store.nodes c.what.new.at.store.nodes c.args.copies.now c.what.new.copies c.owned.ensures
+    (turns_as changes (λ ns. IsLiveWithin ns old.what) (λ ns. IsTurnedWhat ns (change_by changes) old.what new.what) (λ ns. IsLiveThrough ns old) (λ ns. IsTurnedEntry ns (change_by changes) old new)
+    c.args.at.now.store.nodes c.what.new.at.store.nodes c.args.copies.now c.what.new.copies
+    (λ ns live. live) (λ ns what. record { entry = record { name = c.in_ok-share.ensures; kind = refl; place = refl; what = what.what }; within = what.within })
+    c.in_ok-what.ensures.changed)

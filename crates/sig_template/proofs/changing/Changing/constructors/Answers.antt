@@ -17,3 +17,12 @@ pub returns-clause-changed : goal.returns-clause-changed
 returns-clause-changed c =
     turns_whole c.args.self.changes.now IsLiveConstructor (λ ns. IsChangedConstructor ns (change_by c.args.self.changes.now)) c.args.old.now c.loop-constructor.new.items c.loop-constructor.constructor-index
     c.args.at.now.store.nodes c.loop-constructor.at.store.nodes c.args.copies.now c.loop-constructor.copies c.loop-constructor-test.false (c.loop-constructor.invariant.turns)
+
+pub returns-in_err-constructor-clause-goes : goal.returns-in_err-constructor-clause-goes
+returns-in_err-constructor-clause-goes c = goes_trans c.args.at.now c.loop-constructor.at c.constructor.new.at c.loop-constructor.invariant.goes c.constructor.ensures.goes
+
+pub returns-in_err-push-clause-goes : goal.returns-in_err-push-clause-goes
+returns-in_err-push-clause-goes c = goes_trans c.args.at.now c.loop-constructor.at c.constructor.new.at c.loop-constructor.invariant.goes c.constructor.ensures.goes
+
+pub returns-clause-goes : goal.returns-clause-goes
+returns-clause-goes c = c.loop-constructor.invariant.goes

@@ -1,3 +1,4 @@
+use Rattle.typing_state.proofs.Going.{goes_trans}
 use Rattle.std.proofs.Common.{refl}
 use Rattle.type_nodes.specs.Nodes.{IsNode}
 use Rattle.env_table.specs.declared.entries.Declaration.{Declaration}
@@ -21,3 +22,18 @@ returns-clause-changed c =
     (λ ns live. live.0) (λ ns live. live.1)
     (λ ns root shape. record { arity = refl; origin = c.in_ok-origin.ensures; root = root; shape = shape })
     c.in_ok-root.ensures.changed c.in_ok-shape.ensures.changed)
+
+pub returns-in_err-root-clause-goes : goal.returns-in_err-root-clause-goes
+returns-in_err-root-clause-goes c = c.ty.ensures.goes
+
+pub returns-in_err-origin-clause-goes : goal.returns-in_err-origin-clause-goes
+returns-in_err-origin-clause-goes c = c.ty.ensures.goes
+
+pub returns-in_err-defined-clause-goes : goal.returns-in_err-defined-clause-goes
+returns-in_err-defined-clause-goes c = c.ty.ensures.goes
+
+pub returns-in_err-shape-clause-goes : goal.returns-in_err-shape-clause-goes
+returns-in_err-shape-clause-goes c = goes_trans c.args.at.now c.ty.new.at c.shape.new.at c.ty.ensures.goes c.shape.ensures.goes
+
+pub returns-clause-goes : goal.returns-clause-goes
+returns-clause-goes c = goes_trans c.args.at.now c.ty.new.at c.shape.new.at c.ty.ensures.goes c.shape.ensures.goes

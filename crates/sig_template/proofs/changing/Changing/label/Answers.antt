@@ -1,3 +1,4 @@
+use Rattle.typing_state.proofs.Going.{goes_refl}
 use Rattle.std.proofs.Common.{refl}
 use Rattle.type_nodes.specs.Nodes.{IsNode}
 use Rattle.env_table.specs.declared.entries.Label.{Label}
@@ -16,3 +17,12 @@ returns-clause-changed c =
     turns_as changes (λ ns. IsNode ns old.root.0) (λ ns. IsChanged ns (change_by changes) old.root.0 new.root.0) (λ ns. IsLiveLabel ns old) (λ ns. IsChangedLabel ns (change_by changes) old new)
     c.args.at.now.store.nodes c.ty.new.at.store.nodes c.args.copies.now c.ty.new.copies
     (λ ns live. live) (λ ns root. record { name = c.in_ok-share.ensures; is_mutable = refl; root = root }) c.in_ok-ty.ensures.changed
+
+pub returns-in_err-share-clause-goes : goal.returns-in_err-share-clause-goes
+returns-in_err-share-clause-goes c = goes_refl c.args.at.now
+
+pub returns-in_err-ty-clause-goes : goal.returns-in_err-ty-clause-goes
+returns-in_err-ty-clause-goes c = c.ty.ensures.goes
+
+pub returns-clause-goes : goal.returns-clause-goes
+returns-clause-goes c = c.ty.ensures.goes

@@ -17,3 +17,12 @@ pub returns-clause-changed : goal.returns-clause-changed
 returns-clause-changed c =
     turns_whole c.args.self.changes.now IsLiveLabel (λ ns. IsChangedLabel ns (change_by c.args.self.changes.now)) c.args.old.now c.loop-label.new.items c.loop-label.label-index
     c.args.at.now.store.nodes c.loop-label.at.store.nodes c.args.copies.now c.loop-label.copies c.loop-label-test.false (c.loop-label.invariant.turns)
+
+pub returns-in_err-label-clause-goes : goal.returns-in_err-label-clause-goes
+returns-in_err-label-clause-goes c = goes_trans c.args.at.now c.loop-label.at c.label.new.at c.loop-label.invariant.goes c.label.ensures.goes
+
+pub returns-in_err-push-clause-goes : goal.returns-in_err-push-clause-goes
+returns-in_err-push-clause-goes c = goes_trans c.args.at.now c.loop-label.at c.label.new.at c.loop-label.invariant.goes c.label.ensures.goes
+
+pub returns-clause-goes : goal.returns-clause-goes
+returns-clause-goes c = c.loop-label.invariant.goes

@@ -69,3 +69,15 @@ module-returns-in-Functor-clause-found t c = λ before is o.
 pub module-returns-in-Hole-clause-found : goal.module-returns-in-Hole-clause-found
 module-returns-in-Hole-clause-found t c = λ before is o.
     finding_hole before (paths_of c.args.asked.made.now) o (side_at c.args.actual) c.args.wanted.now c.args.self.now.changes.real.items c.in-Hole.is
+
+pub entry-returns-in-Some-clause-goes : goal.entry-returns-in-Some-clause-goes
+entry-returns-in-Some-clause-goes t c = c.origin.ensures.goes
+
+pub entry-returns-in-None-clause-goes : goal.entry-returns-in-None-clause-goes
+entry-returns-in-None-clause-goes t c = goes_refl c.args.at.now
+
+pub module-returns-in-Functor-clause-goes : goal.module-returns-in-Functor-clause-goes
+module-returns-in-Functor-clause-goes t c = goes_refl c.args.at.now
+
+pub module-returns-in-Hole-clause-goes : goal.module-returns-in-Hole-clause-goes
+module-returns-in-Hole-clause-goes t c = goes_refl c.args.at.now

@@ -12,3 +12,9 @@ loop-origin-preserved c = record {
   unknown = λ empty. unknown_more c.args.origins.now c.loop-origin.origin-index c.origin-item.result c.loop-origin.self.changes.real.items c.unknown.new.self.changes.real.items
       c.loop-origin-test.true c.origin-item.is (c.loop-origin.invariant.unknown empty) (c.in_ok-unknown.ensures.added []);
 }
+
+pub returns-in_err-unknown-clause-goes : goal.returns-in_err-unknown-clause-goes
+returns-in_err-unknown-clause-goes c = goes_trans c.args.at.now c.loop-origin.at c.unknown.new.at c.loop-origin.invariant.goes c.unknown.ensures.goes
+
+pub returns-clause-goes : goal.returns-clause-goes
+returns-clause-goes c = c.loop-origin.invariant.goes

@@ -19,3 +19,12 @@ returns-clause-made c = after_any c.push.result (c.root_for.new.self.changes.mad
 
 pub returns-clause-extends : goal.returns-clause-extends
 returns-clause-extends c = after_any c.push.result (Extends c.args.at.now.store.nodes c.root_for.new.at.store.nodes) c.in_ok-root.ensures.extends
+
+pub returns-in_err-root-clause-goes : goal.returns-in_err-root-clause-goes
+returns-in_err-root-clause-goes c = c.root_for.ensures.goes
+
+pub returns-in_err-copied_origin-clause-goes : goal.returns-in_err-copied_origin-clause-goes
+returns-in_err-copied_origin-clause-goes c = c.root_for.ensures.goes
+
+pub returns-clause-goes : goal.returns-clause-goes
+returns-clause-goes c = c.root_for.ensures.goes

@@ -1,3 +1,4 @@
+use Rattle.typing_state.proofs.Going.{goes_refl}
 use Rattle.std.proofs.Common.{Some, sym, ◌∙◌, ap}
 use Rattle.type_terms.specs.Views.{path_of}
 use Rattle.sig_template.specs.Realising.{given_for}
@@ -26,3 +27,6 @@ returns-in-Some c = record {
   extends = c.declared.ensures.extends;
   goes = c.declared.ensures.goes;
 }
+
+pub returns-in-Type-clause-goes : goal.returns-in-Type-clause-goes
+returns-in-Type-clause-goes c = goes_refl c.args.at.now

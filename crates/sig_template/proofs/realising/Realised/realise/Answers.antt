@@ -17,3 +17,12 @@ pub returns-in-Functor-clause-realises : goal.returns-in-Functor-clause-realises
 returns-in-Functor-clause-realises c =
     walk_realises c.module-in-Functor.result c.args.older c.args.at.now.store.nodes c.args.actual.now c.deref-in-Functor.result.now c.args.wanted.now (paths_of c.deref.result.now) c.args.self.now c.module-in-Functor.new.self
     (known_functor c.args.actual.now c.in-Functor.field-0 c.in-Functor.field-1 c.in-Functor.is) (ap paths_of c.deref.ensures.value) c.deref-in-Functor.ensures c.module-in-Functor.ensures.found c.module-in-Functor.ensures.made
+
+pub returns-in-Hole-clause-goes : goal.returns-in-Hole-clause-goes
+returns-in-Hole-clause-goes c = c.all_unknown.ensures.goes
+
+pub returns-in-Structure-clause-goes : goal.returns-in-Structure-clause-goes
+returns-in-Structure-clause-goes c = c.module.ensures.goes
+
+pub returns-in-Functor-clause-goes : goal.returns-in-Functor-clause-goes
+returns-in-Functor-clause-goes c = c.module-in-Functor.ensures.goes

@@ -16,3 +16,15 @@ returns-clause-added c =
 pub returns-clause-extends : goal.returns-clause-extends
 returns-clause-extends c = after_any c.push-2.result (Extends c.args.at.now.store.nodes c.var_of_scope.new.self.store.nodes)
     (makes_extends c.args.at.now.store c.var_of_scope.new.self.store c.in_ok-root.root.0 (Var (level_for c.args.at.now.level) 0) c.in_ok-root.ensures.made)
+
+pub returns-in_err-root-clause-goes : goal.returns-in_err-root-clause-goes
+returns-in_err-root-clause-goes c = c.var_of_scope.ensures.goes
+
+pub returns-in_err-push-clause-goes : goal.returns-in_err-push-clause-goes
+returns-in_err-push-clause-goes c = c.var_of_scope.ensures.goes
+
+pub returns-in_err-copied_origin-clause-goes : goal.returns-in_err-copied_origin-clause-goes
+returns-in_err-copied_origin-clause-goes c = c.var_of_scope.ensures.goes
+
+pub returns-clause-goes : goal.returns-clause-goes
+returns-clause-goes c = c.var_of_scope.ensures.goes

@@ -2,7 +2,7 @@ use Rattle.std.proofs.Common.{rules, arith, ◌≡◌, length, min, sym, subst}
 use Rattle.std.specs.Slice.Iter.{iter_rest}
 use Rattle.std.specs.Iterator.Adapters.{zip_first, zip_second}
 use Rattle.std.proofs.lemmas.Slice.Zip.{zip_turn, zip_end}
-use Rattle.typing_state.proofs.Going.{goes_trans}
+use Rattle.typing_state.proofs.Going.{goes_trans, goes_refl}
 use Rattle.signature_match.specs.Shapes.{ConstructorsFit}
 use Rattle.signature_match.specs.Comparing.{ComparesConstructor, other_length}
 use Rattle.signature_match.proofs.Zips.{zipped_at, zipped_more}
@@ -61,3 +61,15 @@ returns-clause-compared c =
     let long : length c.loop-one.yielded ≡ min (length found) (length asked) = zip_end found asked c.loop-one.yielded s c.loop-one.one-iterator c.next.new.self c.next.result first second c.loop-one.yielded_by c.in-None.is c.next.ensures.steps in
     let same : length found ≡ length asked = search rules in
     all_agree ComparesConstructor c.args.at.now.store.nodes c.loop-one.at.store.nodes found asked (length c.loop-one.yielded) same long c.loop-one.invariant.begun
+
+pub returns-clause-goes : goal.returns-clause-goes
+returns-clause-goes c = c.loop-one.invariant.goes
+
+pub returns-in_err-constructors_agree-clause-goes : goal.returns-in_err-constructors_agree-clause-goes
+returns-in_err-constructors_agree-clause-goes c = goes_trans c.args.at.now c.loop-one.at c.constructors_agree.new.at c.loop-one.invariant.goes c.constructors_agree.ensures.goes
+
+pub returns-then-found-asked-clause-goes : goal.returns-then-found-asked-clause-goes
+returns-then-found-asked-clause-goes c = goes_refl c.args.at.now
+
+pub returns-then-not-branch-clause-goes : goal.returns-then-not-branch-clause-goes
+returns-then-not-branch-clause-goes c = goes_trans c.args.at.now c.loop-one.at c.constructors_agree.new.at c.loop-one.invariant.goes c.constructors_agree.ensures.goes

@@ -1,3 +1,4 @@
+use Rattle.typing_state.proofs.Going.{goes_refl}
 use Rattle.text_terms.specs.Bytes.{str_bytes}
 use Rattle.std.proofs.Common.{rules}
 use Rattle.signature_match.specs.Shapes.{LabelsFit}
@@ -16,3 +17,9 @@ pub returns-clause-compared : goal.returns-clause-compared
 returns-clause-compared c =
     let fit : LabelsFit c.args.found.now c.args.asked.now = search rules in
     by_labels c.roots_agree.result c.args.at.now.store.nodes c.roots_agree.new.at.store.nodes c.args.found.now c.args.asked.now fit c.roots_agree.ensures.compared
+
+pub returns-clause-goes : goal.returns-clause-goes
+returns-clause-goes c = c.roots_agree.ensures.goes
+
+pub returns-then-not-is-clause-goes : goal.returns-then-not-is-clause-goes
+returns-then-not-is-clause-goes c = goes_refl c.args.at.now

@@ -1,0 +1,8 @@
+use Rattle.typing_state.proofs.Going.{goes_trans}
+use Rattle.sig_template.proofs.realising.Realised.close.Goals as goal
+
+pub returns-in_err-quantify-clause-goes : goal.returns-in_err-quantify-clause-goes
+returns-in_err-quantify-clause-goes c = goes_trans c.args.at.now c.loop-n.at c.quantify.new.self c.loop-n.invariant.0 c.quantify.ensures.goes
+
+pub returns-clause-goes : goal.returns-clause-goes
+returns-clause-goes c = c.loop-n.invariant.0
