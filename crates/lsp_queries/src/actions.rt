@@ -23,7 +23,7 @@ use json_lines::{Listed, Reply};
 use lsp_answers::Action;
 use lsp_front::{Kinds, Range};
 use lsp_positions::{Columns, asked_place};
-use session::{Query, Session};
+use session::{Query, Session, TriedText};
 use std::alloc::Global;
 use syntax_tree::{Counts, NoMemory, RcStr, Span};
 
@@ -48,12 +48,13 @@ fn terms_at<A: Analyser, C: Counts>(
     session: &Session<A>,
     offset: u32,
     by: Columns,
+    tried: &mut TriedText<A>,
     counts: &mut C,
 ) -> Result<Option<Vec<Action>>, NoMemory>
     ensures are { IfOk result (λ t. (s : said.Said) × TermsAre session.now offset s × (option_map (λ v. map puts.action_of v.items) t ≡ terms_told (columns_in by) session.now (value_of s))) }
     ensures counted { Grows (C.tallies counts.old) (C.tallies counts.new) }
 {
-    match session.ask_at(&Query::Terms, offset, counts)? {
+    match session.ask_trying(&Query::Terms, offset, tried, counts)? {
         Reply::Terms { start, end, texts } => {
             let range = range_between(session, start, end, by);
             Ok(Some(terms_of(alloc, &texts, range)?))
@@ -68,12 +69,13 @@ fn cases_at<A: Analyser, C: Counts>(
     session: &Session<A>,
     offset: u32,
     by: Columns,
+    tried: &mut TriedText<A>,
     counts: &mut C,
 ) -> Result<Option<Action>, NoMemory>
     ensures are { IfOk result (λ a. (s : said.Said) × CasesAre session.now offset s × (option_to_list (option_map puts.action_of a) ≡ cases_told (columns_in by) session.now (value_of s))) }
     ensures counted { Grows (C.tallies counts.old) (C.tallies counts.new) }
 {
-    match session.ask_at(&Query::Cases, offset, counts)? {
+    match session.ask_trying(&Query::Cases, offset, tried, counts)? {
         Reply::Split { start, end, text } => Ok(Some(Action::Cases {
             text,
             range: range_between(session, start, end, by),
@@ -138,6 +140,7 @@ fn terms_of_fault<A: Analyser, C: Counts>(
     fault: &Listed,
     missing: bool,
     by: Columns,
+    tried: &mut TriedText<A>,
     counts: &mut C,
 ) -> Result<Vec<Action>, NoMemory>
     ensures are { IfOk result (λ v. TermsAt missing (columns_in by) session.now (place_told session.now (pair_of fault.now.start)) (map puts.action_of v.items)) }
@@ -146,7 +149,14 @@ fn terms_of_fault<A: Analyser, C: Counts>(
     if !missing {
         return Ok(Vec::new(alloc));
     }
-    match terms_at(alloc, session, offset_of(session, fault.start), by, counts)? {
+    match terms_at(
+        alloc,
+        session,
+        offset_of(session, fault.start),
+        by,
+        tried,
+        counts,
+    )? {
         Some(terms) => Ok(terms),
         None => Ok(Vec::new(alloc)),
     }
@@ -160,6 +170,7 @@ fn terms_near<A: Analyser, C: Counts>(
     faults: &[Listed],
     asked: Span,
     by: Columns,
+    tried: &mut TriedText<A>,
     counts: &mut C,
 ) -> Result<Vec<Action>, NoMemory>
     requires asked { asked.start ≤ length session.now }
@@ -170,7 +181,7 @@ fn terms_near<A: Analyser, C: Counts>(
     let text = bytes_of(alloc, session)?;
     for fault in faults {
         let missing = is_missing_near(session, &text, fault, asked);
-        let terms = terms_of_fault(alloc, session, fault, missing, by, counts)?;
+        let terms = terms_of_fault(alloc, session, fault, missing, by, tried, counts)?;
         if !terms.is_empty() {
             return Ok(terms);
         }
@@ -196,6 +207,7 @@ fn terms_for<A: Analyser, C: Counts>(
     here: Vec<Action>,
     asked: Span,
     by: Columns,
+    tried: &mut TriedText<A>,
     counts: &mut C,
 ) -> Result<Vec<Action>, NoMemory>
     requires asked { asked.start ≤ length session.now }
@@ -207,7 +219,7 @@ fn terms_for<A: Analyser, C: Counts>(
         return Ok(here);
     }
     let faults = faults_of(session, counts)?;
-    terms_near(alloc, session, &faults, asked, by, counts)
+    terms_near(alloc, session, &faults, asked, by, tried, counts)
 }
 
 /// The same, where terms are asked for.
@@ -218,6 +230,7 @@ fn terms_asked<A: Analyser, C: Counts>(
     here: Option<Vec<Action>>,
     asked: Span,
     by: Columns,
+    tried: &mut TriedText<A>,
     counts: &mut C,
 ) -> Result<Vec<Action>, NoMemory>
     requires asked { asked.start ≤ length session.now }
@@ -232,6 +245,7 @@ fn terms_asked<A: Analyser, C: Counts>(
             terms_or_none(alloc, here),
             asked,
             by,
+            tried,
             counts,
         )
     } else {
@@ -246,6 +260,7 @@ fn cases_asked<A: Analyser, C: Counts>(
     here: &Option<Vec<Action>>,
     place: u32,
     by: Columns,
+    tried: &mut TriedText<A>,
     counts: &mut C,
 ) -> Result<Option<Action>, NoMemory>
     ensures are { IfOk result (λ a. CasesPart rewrite (option_map (λ v. map puts.action_of v.items) here.now) (columns_in by) session.now place (option_to_list (option_map puts.action_of a))) }
@@ -256,7 +271,7 @@ fn cases_asked<A: Analyser, C: Counts>(
     }
     match here {
         Some(_) => Ok(None),
-        None => cases_at(session, place, by, counts),
+        None => cases_at(session, place, by, tried, counts),
     }
 }
 
@@ -271,6 +286,37 @@ fn with_cases(cases: Option<Action>, terms: Vec<Action>) -> Result<Vec<Action>, 
     Ok(actions)
 }
 
+/// The changes that are proposed round a range, where `tried` keeps what is read of the texts that are tried.
+fn proposed_trying<A: Analyser, C: Counts>(
+    alloc: Global,
+    session: &Session<A>,
+    range: Range,
+    kinds: Kinds,
+    by: Columns,
+    tried: &mut TriedText<A>,
+    counts: &mut C,
+) -> Result<Vec<Action>, NoMemory>
+    ensures are { IfOk result (λ v. ProposedAre (says.kinds_of kinds) (columns_in by) session.now (says.range_of range) (map puts.action_of v.items)) }
+    ensures counted { Grows (C.tallies counts.old) (C.tallies counts.new) }
+{
+    let asked = span_asked(session, range, by);
+    let (left, right) = session.slices();
+    let place = asked_place(left, right, asked.start);
+    let here = terms_at(alloc, session, place, by, tried, counts)?;
+    let cases = cases_asked(session, kinds.rewrite, &here, place, by, tried, counts)?;
+    let terms = terms_asked(
+        alloc,
+        session,
+        kinds.quickfix,
+        here,
+        asked,
+        by,
+        tried,
+        counts,
+    )?;
+    with_cases(cases, terms)
+}
+
 /// The changes that are proposed round a range: the cases of what is at its start, unless it is a hole, and then terms.
 pub fn proposed<A: Analyser, C: Counts>(
     alloc: Global,
@@ -283,11 +329,6 @@ pub fn proposed<A: Analyser, C: Counts>(
     ensures are { IfOk result (λ v. ProposedAre (says.kinds_of kinds) (columns_in by) session.now (says.range_of range) (map puts.action_of v.items)) }
     ensures counted { Grows (C.tallies counts.old) (C.tallies counts.new) }
 {
-    let asked = span_asked(session, range, by);
-    let (left, right) = session.slices();
-    let place = asked_place(left, right, asked.start);
-    let here = terms_at(alloc, session, place, by, counts)?;
-    let cases = cases_asked(session, kinds.rewrite, &here, place, by, counts)?;
-    let terms = terms_asked(alloc, session, kinds.quickfix, here, asked, by, counts)?;
-    with_cases(cases, terms)
+    let mut tried = TriedText::new(alloc);
+    proposed_trying(alloc, session, range, kinds, by, &mut tried, counts)
 }

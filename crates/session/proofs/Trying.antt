@@ -8,7 +8,7 @@ use Rattle.std.specs.List.{Contains, list_any}
 use Rattle.std.specs.HashSet.{HashSet, contains, Updates}
 use Rattle.std.specs.Result.{OnOk, is_err}
 use Rattle.std.proofs.Math.Logic.{∥∥₁_map}
-use Rattle.std.proofs.lemmas.List.{append-nil, drop_more}
+use Rattle.std.proofs.lemmas.List.{drop_more}
 use Rattle.std.proofs.lemmas.Bool.{leb-true, leb-false}
 use Rattle.std.proofs.lemmas.List.Elements.{All-head, All-tail, All-cons, All-nil, Contains-append_left, Contains-append_right, Contains-append_cases}
 use Rattle.text_model.specs.Edits.{apply}
@@ -120,7 +120,7 @@ same_starts known others x count (m ∷ ms) same =
 
 -- the first new mark of a changed text that is parsed and typed
 pub first_added : (text bytes put : List ℕ) (x : Place) (keys made ms : List code.Mark) (p : Parsed) (pf : List SyntaxFault) (tf : List typer.Fault) (first : Option ℕ) → ∥ Knows text keys ∥₁
-    → IsParsedAs (bytes ++ []) p → bytes ≡ apply text x.start x.end put → pf ≡ p.faults.items
+    → IsParsedAs bytes p → bytes ≡ apply text x.start x.end put → pf ≡ p.faults.items
     → map mark_in made ≡ map mark_of (map fault_of pf ++ map by_typer (map typer_fault_of tf)) → ms ≡ made
     → IsLeast first (new_starts (map mark_in keys) (map (moved_mark x (length put)) (map mark_in ms))) → FirstAdded text x put first
 first_added text bytes put x keys made ms p pf tf first knows parsed changed faults are same least =
@@ -128,7 +128,7 @@ first_added text bytes put x keys made ms p pf tf first knows parsed changed fau
     let move = map (moved_mark x (length put)) in
     let all : map mark_in ms ≡ marks parsed.tokens found =
     ap (map mark_in) same ∙ are ∙ ap (λ fs. map mark_of (fs ++ map by_typer found)) (ap (map fault_of) faults ∙ parsed.faults) in
-    let lexed = subst (λ t. Lex t parsed.tokens) (append-nil bytes ∙ changed) parsed.lexed in
+    let lexed = subst (λ t. Lex t parsed.tokens) changed parsed.lexed in
     ∥∥₁_map knows (λ k. (
       k.0,
       parsed.tokens,

@@ -20,7 +20,7 @@ use json_lines::{Failure, Reply};
 use query_engine::Replacement;
 use std::alloc::{AllocError, Global};
 use syntax_tree::{Counts, NoMemory, RcStr, Span};
-use text_reading::position;
+use text_reading::{TriedText, position};
 use text_store::TextStore;
 
 /// The bytes of the store's text.
@@ -81,6 +81,7 @@ pub fn cases<A: Analyser, C: Counts>(
     parsed: &Parsed,
     analysis: &Analysis<'_>,
     offset: u32,
+    tried: &mut TriedText<A>,
     counts: &mut C,
 ) -> Result<Reply, NoMemory>
     requires parsed { IsParsedAs store.now parsed.now }
@@ -91,7 +92,7 @@ pub fn cases<A: Analyser, C: Counts>(
     match split(alloc, &asked(&parsed.tree, analysis), &text, offset) {
         Ok(candidate) => {
             let faults = &analysis.faults.list;
-            let mut trial = TextTrial::<A>::new(alloc, &text, &parsed.faults, faults)?;
+            let mut trial = TextTrial::<A>::new(alloc, &text, &parsed.faults, faults, tried)?;
             cases_tried(store, candidate, &mut trial, counts)
         }
         Err(fault) => cases_failure(store, fault),
@@ -150,6 +151,7 @@ pub fn terms_in<A: Analyser, C: Counts>(
     parsed: &Parsed,
     analysis: &Analysis<'_>,
     offset: u32,
+    tried: &mut TriedText<A>,
     counts: &mut C,
 ) -> Result<Reply, NoMemory>
     requires parsed { IsParsedAs store.now parsed.now }
@@ -160,7 +162,7 @@ pub fn terms_in<A: Analyser, C: Counts>(
     match terms(alloc, &asked(&parsed.tree, analysis), &text, offset) {
         Ok((span, candidates)) => {
             let faults = &analysis.faults.list;
-            let mut trial = TextTrial::<A>::new(alloc, &text, &parsed.faults, faults)?;
+            let mut trial = TextTrial::<A>::new(alloc, &text, &parsed.faults, faults, tried)?;
             terms_tried(alloc, store, span, candidates, &mut trial, counts)
         }
         Err(fault) => terms_failure(fault),

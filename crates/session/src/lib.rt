@@ -4,7 +4,8 @@
 //! It is built on the kept text, on `text_reading` for what is read and found of it, on the queries, the trials and `json_lines`.
 //! The layer above may use `Session::new`, and `answer`, which says which line is given and which text is left;
 //! for a text of its own `append`, `change`, `len`, `sizes`, `slices`, `offset_of` and `pos_of`; and the queries `errors`, `outline`,
-//! and by offsets `enclosing` and `ask_at`, which read the text from nothing unless `refresh` brought what is kept up to it.
+//! and by offsets `enclosing`, `ask_at` and `ask_trying`, which read the text from nothing unless `refresh` brought what is kept up to
+//! it. The last has a `TriedText` that keeps what was tried, for the next such query.
 #![tactic(auto)]
 
 mod changes;
@@ -14,3 +15,4 @@ mod trials;
 
 pub use queries::Query;
 pub use session::{Line, Session, Sizes};
+pub use text_reading::TriedText;

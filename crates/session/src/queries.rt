@@ -22,7 +22,7 @@ use query_engine::{
 };
 use std::alloc::{AllocError, Global};
 use syntax_tree::{Counts, NoMemory, Pos, RcStr, Span, Tree};
-use text_reading::position;
+use text_reading::{TriedText, position};
 use text_store::TextStore;
 
 /// A query of a position.
@@ -74,6 +74,7 @@ pub fn answer<A: Analyser, C: Counts>(
     parsed: &Parsed,
     analysis: &Analysis<'_>,
     offset: u32,
+    tried: &mut TriedText<A>,
     counts: &mut C,
 ) -> Result<Reply, NoMemory>
     requires parsed { IsParsedAs store.now parsed.now }
@@ -86,8 +87,8 @@ pub fn answer<A: Analyser, C: Counts>(
         Query::Locate => located::<A>(alloc, store, &asked, offset),
         Query::Occurrences => used(alloc, store, &asked, offset),
         Query::Complete(prefix) => completed(alloc, &asked, offset, prefix.as_str()),
-        Query::Cases => cases::<A, C>(alloc, store, parsed, analysis, offset, counts),
-        Query::Terms => terms_in::<A, C>(alloc, store, parsed, analysis, offset, counts),
+        Query::Cases => cases::<A, C>(alloc, store, parsed, analysis, offset, tried, counts),
+        Query::Terms => terms_in::<A, C>(alloc, store, parsed, analysis, offset, tried, counts),
     }
 }
 

@@ -39,8 +39,8 @@ use std::alloc::{AllocError, Global};
 use std::marker::Model;
 use syntax_tree::{Counts, NoMemory, Pos, RcStr, Tree, enclosing};
 use text_reading::{
-    Found, KeptTypes, PlainText, find_types, read_text, shown_faults, shown_outline, shown_types,
-    tree_of, typed_among,
+    Found, KeptTypes, PlainText, TriedText, find_types, read_text, shown_faults, shown_outline,
+    shown_types, tree_of, typed_among,
 };
 use text_store::{Edit, TextRefusal, TextStore};
 
@@ -361,6 +361,22 @@ impl<A: Analyser> Session<A> {
         ensures said { IfOk result (λ r. IsAnswered query.now self.now offset (said_of r)) }
         ensures counted { Grows (C.tallies counts.old) (C.tallies counts.new) }
     {
+        let mut tried = TriedText::new(self.alloc);
+        self.ask_trying(query, offset, &mut tried, counts)
+    }
+
+    /// The same. What is kept of the changed texts that it tries stays in `tried`, so that the next such query reads and types them
+    /// from where they differ; no reply depends on it.
+    pub fn ask_trying<C: Counts>(
+        &self,
+        query: &Query,
+        offset: u32,
+        tried: &mut TriedText<A>,
+        counts: &mut C,
+    ) -> Result<Reply, NoMemory>
+        ensures said { IfOk result (λ r. IsAnswered query.now self.now offset (said_of r)) }
+        ensures counted { Grows (C.tallies counts.old) (C.tallies counts.new) }
+    {
         let parsed = tree_of(self.alloc, &self.kept, counts)?;
         let found = self.typed(&parsed.tree, counts)?;
         let analysis = found.analysis();
@@ -371,6 +387,7 @@ impl<A: Analyser> Session<A> {
             &parsed,
             &analysis,
             offset,
+            tried,
             counts,
         )
     }

@@ -1,4 +1,5 @@
-//! Changes of a text that are tried: the changed text is read whole, and its faults are compared.
+//! Changes of a text that are tried: the changed text is read, from where it differs from the one tried before, and its faults are
+//! compared.
 ghost use Rattle.std.specs.Prelude.{◌≡◌, ◌≤◌, ◌<◌, ◌+◌, ◌^◌, ◌&&◌, nat_eq, [], ◌∷◌, ◌++◌, length, map, IfNone, IfOk, IfSome, OnOk};
 ghost use Rattle.std.specs.Str.{IsUtf8};
 ghost use Rattle.std.specs.HashSet.{keys};
@@ -17,9 +18,8 @@ use frame_parser::SyntaxFault;
 use query_engine::{Replacement, Trial, kind_name};
 use std::alloc::{AllocError, Global};
 use std::collections::HashSet;
-use std::marker::PhantomData;
 use syntax_tree::{Counts, NoMemory, Span};
-use text_reading::{analysed, parse_text};
+use text_reading::TriedText;
 
 /// How many bytes a text may have.
 const TEXT_LIMIT: usize = 1_048_576;
@@ -32,13 +32,14 @@ struct Mark {
     kind: &'static str,
 }
 
-/// A text, with the marks of the faults that it has, of which an `A` finds the typer's.
+/// A text, with the marks of the faults that it has, of which an `A` finds the typer's, and what is kept of the changed text that was
+/// tried last.
 #[derive(Drop)]
 pub struct TextTrial<'a, A: Analyser> {
     alloc: Global,
     text: &'a [u8],
     known: HashSet<Mark>,
-    analyser: PhantomData<A>,
+    tried: &'a mut TriedText<A>,
     ghost knows: { ∥ Knows text.now (keys known) ∥₁ },
 }
 
@@ -201,6 +202,7 @@ impl<'a, A: Analyser> TextTrial<'a, A> {
         text: &'a [u8],
         parsed: &[SyntaxFault],
         typed: &[Fault],
+        tried: &'a mut TriedText<A>,
     ) -> Result<TextTrial<'a, A>, NoMemory>
         requires parsed { IsParserOf text.now parsed.now }
         ensures { IfOk result (λ t. t.text.now ≡ text.now) }
@@ -211,7 +213,7 @@ impl<'a, A: Analyser> TextTrial<'a, A> {
             alloc,
             text,
             known,
-            analyser: PhantomData,
+            tried,
         })
     }
 
@@ -232,20 +234,22 @@ impl<'a, A: Analyser> TextTrial<'a, A> {
 
     /// The same, of a changed text within the limit.
     fn first_in<C: Counts>(
-        &self,
+        &mut self,
         replacement: &Replacement,
         changed: &str,
         counts: &mut C,
     ) -> Result<Option<u32>, NoMemory>
-        requires made { changed.now ≡ apply self.now.text.now replacement.now.span.start replacement.now.span.end (str_bytes replacement.now.text) }
+        requires made { changed.now ≡ apply self.old.text.now replacement.now.span.start replacement.now.span.end (str_bytes replacement.now.text) }
         requires short { length changed.now ≤ text_limit }
         requires put { replacement.now.span.start + length (str_bytes replacement.now.text) < 2 ^ 32 }
-        ensures first { IfOk result (FirstAdded self.now.text.now (place_of replacement.now.span) (str_bytes replacement.now.text)) }
+        ensures first { IfOk result (FirstAdded self.old.text.now (place_of replacement.now.span) (str_bytes replacement.now.text)) }
+        ensures text { self.new.text.now ≡ self.old.text.now }
         ensures grows { Grows (C.tallies counts.old) (C.tallies counts.new) }
     {
-        let parsed = parse_text(self.alloc, changed.as_bytes(), &[], counts)?;
-        let typer: A = analysed(self.alloc, &parsed.tree, counts)?;
-        let marks = marks_of(self.alloc, &parsed.faults, &typer.found().faults.list)?;
+        let alloc = self.alloc;
+        let parsed = self.tried.read(changed, counts)?;
+        let found = self.tried.typed(&parsed.tree, counts)?;
+        let marks = marks_of(alloc, &parsed.faults, &found.faults.list)?;
         Ok(self.first_new(replacement, &marks))
     }
 }

@@ -7,7 +7,7 @@ use Rattle.text_reading.specs.Types.{IsOf}
 use Rattle.text_reading.proofs.Knowing.{items_parsed}
 use Rattle.session.specs.Queries.{AnswersQuery}
 use Rattle.session.proofs.Naming.{of_items}
-use Rattle.session.proofs.session.Session.ask_at.Goals as goal
+use Rattle.session.proofs.session.Session.ask_trying.Goals as goal
 
 pub typed-requires : goal.typed-requires
 typed-requires g c = record { of_text = items_parsed c.args.self.now c.in_ok-parsed.parsed (subst (λ (t : List ℕ). IsParsedAs t c.in_ok-parsed.parsed) c.self.view_is c.in_ok-parsed.ensures.parsed) }

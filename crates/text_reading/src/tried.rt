@@ -1,0 +1,145 @@
+//! A text that is tried in place of another, with what is kept of it from one such text to the next.
+ghost use Rattle.std.specs.Prelude.{◌≡◌, ◌≤◌, [], ◌++◌, true, length, IfOk};
+ghost use Rattle.text_model.specs.Edits.{text_limit};
+ghost use Rattle.syntax_tree.specs.Tallies.{Grows};
+ghost use Rattle.syntax_tree.specs.View.{trees_of};
+ghost use Rattle.text_reading.specs.Structures.{IsParsedAs};
+ghost use Rattle.text_reading.specs.Types.{IsOf};
+
+use crate::structure::{parse_text, tree_of};
+use crate::types::KeptTypes;
+use analysis_api::{Analyser, Analysis};
+use frame_parser::Parsed;
+use kept_text::KeptText;
+use std::alloc::Global;
+use syntax_tree::{Counts, NoMemory, RcStr, Tree};
+use text_store::{Edit, TextStore};
+
+/// A text that is tried, with its tokens, its tree and its types. One that begins like the one before it is read and typed from where
+/// they differ.
+#[derive(Drop)]
+pub struct TriedText<A: Analyser> {
+    alloc: Global,
+    kept: KeptText,
+    types: KeptTypes<A>,
+}
+
+/// How many bytes at the start of two texts are the same.
+fn same_front(old: &[u8], new: &[u8]) -> usize
+    ensures old { result ≤ length old.now }
+    ensures new { result ≤ length new.now }
+{
+    let most = old.len().min(new.len());
+    for k in 0..most {
+        if old[k] != new[k] {
+            return k;
+        }
+    }
+    most
+}
+
+/// Whether a byte stands inside a character.
+fn is_inside(byte: Option<&u8>) -> bool {
+    match byte {
+        Some(byte) => *byte & 0xC0 == 0x80,
+        None => false,
+    }
+}
+
+/// One byte less, where a character that isn't whole ends there in one of them.
+fn before_character(old: &[u8], new: &[u8], front: usize) -> usize
+    requires old { front ≤ length old.now }
+    requires new { front ≤ length new.now }
+    ensures less { result ≤ front }
+{
+    if front > 0 && (is_inside(old.get(front)) || is_inside(new.get(front))) {
+        front - 1
+    } else {
+        front
+    }
+}
+
+/// The same, up to where a character begins in both; a character has at most four bytes.
+fn same_characters(old: &[u8], new: &[u8]) -> usize
+    ensures old { result ≤ length old.now }
+    ensures new { result ≤ length new.now }
+{
+    let front = same_front(old, new);
+    let front = before_character(old, new, front);
+    let front = before_character(old, new, front);
+    before_character(old, new, front)
+}
+
+/// The edit that puts what is new in a text behind what is as it was. None where this is no text by itself.
+fn edit_to(alloc: Global, store: &TextStore, text: &str) -> Result<Option<Edit>, NoMemory> {
+    let (old, _) = store.slices();
+    let new = text.as_bytes();
+    let front = same_characters(old, new);
+    let Ok(piece) = std::str::from_utf8(&new[front..]) else {
+        return Ok(None);
+    };
+    Ok(Some(Edit {
+        start: store.pos_of(front as u32),
+        end: store.pos_of(store.len()),
+        text: RcStr::from_str(alloc, piece)?,
+    }))
+}
+
+impl<A: Analyser> TriedText<A> {
+    /// Nothing is tried yet. It takes no memory.
+    pub fn new(alloc: Global) -> TriedText<A> {
+        TriedText {
+            alloc,
+            kept: KeptText::new(alloc),
+            types: KeptTypes::new(),
+        }
+    }
+
+    /// Whether the text that is kept is this one.
+    fn is_kept(&self, text: &str) -> bool
+        ensures { result ≡ true → self.now.kept.text ≡ text.now }
+    {
+        let (left, right) = self.kept.text().slices();
+        right.is_empty() && left == text.as_bytes()
+    }
+
+    /// Makes the text that is kept this one, and answers whether it is.
+    fn bring(&mut self, text: &str) -> Result<bool, NoMemory>
+        ensures { IfOk result (λ is. is ≡ true → self.new.kept.text ≡ text.now) }
+    {
+        if let Some(edit) = edit_to(self.alloc, self.kept.text(), text)? {
+            let _ = self.kept.apply(&edit);
+        }
+        Ok(self.is_kept(text))
+    }
+
+    /// The tree and the faults of a text.
+    pub fn read<C: Counts>(&mut self, text: &str, counts: &mut C) -> Result<Parsed, NoMemory>
+        requires short { length text.now ≤ text_limit }
+        ensures parsed { IfOk result (λ p. IsParsedAs text.now p) }
+        ensures grows { Grows (C.tallies counts.old) (C.tallies counts.new) }
+    {
+        if self.bring(text)? {
+            self.kept.refresh(counts)?;
+            tree_of(self.alloc, &self.kept, counts)
+        } else {
+            parse_text(self.alloc, text.as_bytes(), &[], counts)
+        }
+    }
+
+    /// What is found of the types and names of a text with this tree.
+    pub fn typed<C: Counts>(
+        &mut self,
+        tree: &Tree,
+        counts: &mut C,
+    ) -> Result<Analysis<'_>, NoMemory>
+        ensures found { IfOk result (IsOf A.items A.finds (trees_of tree.now)) }
+        ensures grows { Grows (C.tallies counts.old) (C.tallies counts.new) }
+    {
+        self.types.refresh(self.alloc, tree, counts)?;
+        match self.types.known() {
+            Some(typer) => Ok(typer.found()),
+            None => unreachable!(),
+        }
+    }
+}
