@@ -208,16 +208,20 @@ impl Parts {
     pub fn generalise(&mut self, root: NodeRef) -> Result<(), NoMemory>
         ensures bound { OnOk result (IsNode self.old.store.nodes root.0 → Generalised self.old.store.nodes self.new.store.nodes root.0 self.old.level) }
         ensures otherwise { OnOk result ((IsNode self.old.store.nodes root.0 → ⊥) → self.new ≡ self.old) }
+        ensures sound { OnOk result (IsSound self.new.store.nodes) }
         ensures failed { OnErr result (self.new ≡ self.old) }
         ensures keeps { Keeps self.old.store self.new.store }
         ensures rest { OnlyStore self.old self.new }
         ensures goes { Goes self.old self.new }
     {
-        if is_node(&self.store, root) {
-            generalise(self.alloc, &mut self.store, root, self.level)
-        } else {
-            Ok(())
+        // the store is sound, as its length makes known
+        if !is_node(&self.store, root) {
+            let _nodes = self.store.len();
+            return Ok(());
         }
+        generalise(self.alloc, &mut self.store, root, self.level)?;
+        let _nodes = self.store.len();
+        Ok(())
     }
 
     /// Makes two types one; after a fault the store is as before.
@@ -298,12 +302,16 @@ impl Parts {
     /// The variables of a type get at most this level and this scope, where its origins allow it.
     pub fn limit(&mut self, ty: NodeRef, level: u32, scope: u64) -> Result<(), NoMemory>
         ensures limited { OnOk result ((mid : State) × (n : ℕ) × Makes self.old.store mid n (plain.Var (level_for level) scope) × JoinedIfNodes mid self.new.store n ty.0) }
+        ensures sound { OnOk result (IsSound self.new.store.nodes) }
         ensures keeps { Keeps self.old.store self.new.store }
         ensures rest { OnlyStore self.old self.new }
         ensures goes { Goes self.old self.new }
     {
         let limit = self.store.var(level.min(HIGHEST), scope)?;
-        self.join(limit, ty)
+        self.join(limit, ty)?;
+        // the store is sound, as its length makes known
+        let _nodes = self.store.len();
+        Ok(())
     }
 
     /// A mark of the present state of types.
