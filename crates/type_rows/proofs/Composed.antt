@@ -41,7 +41,7 @@ use Rattle.type_rows.proofs.Ordered.{types_by_nodes}
 -- a type variable of the item, in its context
 of_item : {F : Frame} {scope : Scope} {a b : Sight} {G : Letters} {m : ℕ} (n : ℕ) (t : Tok) → scope.variables ≡ in_item F.owner → ReadAs F scope (λ c. same (type_at c n) (c.chosen.written F.owner t.name) ∷ []) a G b n m →
     ReadAs F scope (λ c. variable_asks c n t c.variables) a G b n m
-of_item n t item x = record { carried = carried_here (λ V c loose under g. sym (ap (variable_asks c n t) (under.variables ∙ item))) x.carried; means = x.means }
+of_item n t item x = record { carried = carried_here (λ V c loose under g named. sym (ap (variable_asks c n t) (under.variables ∙ item))) x.carried; means = x.means }
 
 -- 'a, which was written before
 pub variable_again : (a : Parts) (env : List Entry) (n : ℕ) (t : Tok) (m : ℕ) → (sight a).written t.name ≡ Some m → ReadsTo a a env (λ c. variable_asks c n t c.variables) n m

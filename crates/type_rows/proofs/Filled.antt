@@ -121,8 +121,8 @@ joined_means {F} {scope} {G} {type} {p} {q} {a} {b} W fits same h k j = by (j.jo
         judged = [];
         told = [];
         reports = j.rest.reports ∙ sym (append-nil a.reports);
-        sound = λ V c l. record { same = refl; holds = tt; tells = refl };
-        complete = λ V c e asked.
+        sound = λ r V c l. record { same = refl; holds = tt; tells = refl };
+        complete = λ named V c e asked.
             let loose = fits_loosely a.nodes V e.fits in
             let is : V p ≡ V q = sym (h.is V c.chosen loose e.agrees) ∙ k.is V c.chosen loose e.agrees in
             inl (record {
@@ -130,7 +130,7 @@ joined_means {F} {scope} {G} {type} {p} {q} {a} {b} W fits same h k j = by (j.jo
               types = V;
               on = record { fits = under_fits (λ v. 0) b.nodes V (one.fits (λ v. 0) V (fits_under a.nodes V e.fits) is); before = λ i lt. refl; agrees = agrees_same a b j.rest.types j.rest.written e.inside (λ i lt. refl) e.agrees };
             });
-        first = λ n V c e asked. inl (subst (λ cs. StartsWith [] (judgements c.kept cs)) (sym (take_none n)) (starts_none []));
+        first = λ named n V c e asked. inl (subst (λ cs. StartsWith [] (judgements c.kept cs)) (sym (take_none n)) (starts_none []));
       },
       under_fits (λ v. 0) b.nodes W (one.fits (λ v. 0) W (fits_under a.nodes W fits) same),
     )

@@ -39,7 +39,7 @@ use Rattle.typing_conditions.specs.Sights.{Letters, Agrees}
 use Rattle.typing_conditions.specs.Frames.{Frame}
 use Rattle.typing_conditions.specs.Judging.{judged_at, AreKept}
 use Rattle.typing_conditions.specs.Meanings.{AllMean}
-use Rattle.typing_conditions.specs.Carrying.{Scope, IsUnder}
+use Rattle.typing_conditions.specs.Carrying.{Scope, HoldsWritten, IsUnder}
 use Rattle.typing_conditions.specs.Surroundings.{Surrounds}
 use Rattle.typing_conditions.proofs.Framing.{root_on}
 use Rattle.typing_conditions.proofs.Meaning.{all_mean_on}
@@ -91,7 +91,7 @@ declared_kept a b d t x decl ms m span place here is only applies aloud F scope 
         let later = declared_after own_a.1 (stays.refines reached own_b.0 own_b.1) (λ r i. i) as_decl in
         let typed = applies F scope G n ns roots names e (stays.reaches reached) later (λ k r f. root_on stays reached (are_roots k r f)) (many ∙ sym is.0 ∙ arity_is) (all_mean_on stays all) in
         let ended = read_closed typed.letters (same_read {H = typed.letters ++ G} n typed.typed) in
-        let asked = carried_here (λ V c loose under g. ap (λ f. same (type_at c n) (used (argument (types_of (types_of_nodes c ns))) f (type_of e)) ∷ []) (sym (ap (λ v. filled_in c n v) (under.variables ∙ item)))) ended.carried in
+        let asked = carried_here (λ V c loose under g named. ap (λ f. same (type_at c n) (used (argument (types_of (types_of_nodes c ns))) f (type_of e)) ∷ []) (sym (ap (λ v. filled_in c n v) (under.variables ∙ item)))) ended.carried in
         record {
           carried = judged_if (λ c. same (type_at c n) (used (argument (types_of (types_of_nodes c ns))) (filled_at c n) (type_of e)) ∷ []) (λ c. unresolved c n) judged asked;
           means = ended.means;
@@ -140,19 +140,19 @@ module _ (a b e : Parts) (env : List Entry) (given : Option Entry) (qs : List To
   own_a = own_of a.store.nodes names.reached.sound
 
   -- nothing is known of the name
-  unknown : (actual : (c : Context) → AreKept c.kept judged.carried.judged → (V : Types) → Loose a.store.nodes V → IsUnder scope c → Agrees F.owner (sight a) G V c.chosen → after_lookup c n qs t ns ≡ unresolved c n) → NamesTo None b e t ms m →
+  unknown : (actual : (c : Context) → AreKept c.kept judged.carried.judged → (V : Types) → Loose a.store.nodes V → IsUnder scope c → Agrees F.owner (sight a) G V c.chosen → HoldsWritten scope (sight a) → after_lookup c n qs t ns ≡ unresolved c n) → NamesTo None b e t ms m →
       ReadAs F scope (λ c. constructor_asks c n (path_to qs t) ns) (sight a) G (sight e) n m
   unknown actual to =
       let x = unresolved_read b e {F = F} {scope = scope} {G = G} n (judged.carried.stays.reaches names.reached) names.item to.0 to.1 in
-      record { carried = carried_after judged.carried (λ V c loose under g h. actual c h V loose under g) x.carried; means = x.means }
+      record { carried = carried_after judged.carried (λ V c loose under g named h. actual c h V loose under g named) x.carried; means = x.means }
 
   pub by_found : (f : FoundAmong Entry) → found_at env qs kind.TypeName t ≡ f → BoundIs f given a b (lost_among env qs) t word.Type → ReadAs F scope (λ c. constructor_asks c n (path_to qs t) ns) (sight a) G (sight e) n m
-  by_found nothing finds is = unknown (λ c h V loose under g. ap (λ v. declared_type c n t ns (if v then then_by (referent_of (lookup c.env (names_of qs) type_kind t.name)) declaration_in else None)) (kept_as c false (ap is_found_here finds) h)) (subst (λ o. NamesTo o b e t ms m) is.0 names_to)
-  by_found a_hole finds is = unknown (λ c h V loose under g.
+  by_found nothing finds is = unknown (λ c h V loose under g named. ap (λ v. declared_type c n t ns (if v then then_by (referent_of (lookup c.env (names_of qs) type_kind t.name)) declaration_in else None)) (kept_as c false (ap is_found_here finds) h)) (subst (λ o. NamesTo o b e t ms m) is.0 names_to)
+  by_found a_hole finds is = unknown (λ c h V loose under g named.
       ap (λ v. declared_type c n t ns (if v then then_by (referent_of (lookup c.env (names_of qs) type_kind t.name)) declaration_in else None)) (kept_as c true (ap is_found_here finds) h) ∙
       ap (declared_type c n t ns) (ap (λ E. then_by (referent_of (lookup E (names_of qs) type_kind t.name)) declaration_in) under.env ∙ hole_none (λ f. then_by (referent_of f) declaration_in) refl finds
       (lookup_alike (λ r sc. SchemeFits a.store.nodes V r sc × IsIn names.roots r) (DeclaredAs a.store.nodes names.roots names.names) (ExceptionAs a.store.nodes names.roots names.names) (names_of qs) type_kind t.name
-      (names.fits own_a.0 V c.chosen own_a.1 loose g).names))) (subst (λ o. NamesTo o b e t ms m) is.0 names_to)
+      (names.fits own_a.0 V c.chosen own_a.1 loose g named).names))) (subst (λ o. NamesTo o b e t ms m) is.0 names_to)
   by_found (an_entry x) finds is = found
     where
       is_kind : kind_of x.kind ≡ type_kind
@@ -162,9 +162,9 @@ module _ (a b e : Parts) (env : List Entry) (given : Option Entry) (qs : List To
       here = finds_declaration (λ r sc. IsIn names.roots r) a.store.nodes names.roots names.names (names_of qs) t.name x finds is_kind names.covered.1
 
       -- in each context it is of the same arity and type
-      each : (V : Types) (c : Context) → Loose a.store.nodes V → IsUnder scope c → Agrees F.owner (sight a) G V c.chosen → AreKept c.kept judged.carried.judged → after_lookup c n qs t ns ≡ declared_type c n t ns (Some here.named)
-      each V c loose under g h =
-          let f = finds_declaration (λ r sc. SchemeFits a.store.nodes V r sc × IsIn names.roots r) a.store.nodes names.roots names.names (names_of qs) t.name x finds is_kind (names.fits own_a.0 V c.chosen own_a.1 loose g).names in
+      each : (V : Types) (c : Context) → Loose a.store.nodes V → IsUnder scope c → Agrees F.owner (sight a) G V c.chosen → HoldsWritten scope (sight a) → AreKept c.kept judged.carried.judged → after_lookup c n qs t ns ≡ declared_type c n t ns (Some here.named)
+      each V c loose under g named h =
+          let f = finds_declaration (λ r sc. SchemeFits a.store.nodes V r sc × IsIn names.roots r) a.store.nodes names.roots names.names (names_of qs) t.name x finds is_kind (names.fits own_a.0 V c.chosen own_a.1 loose g named).names in
           let s : f.declaration ≡ here.declaration = (let q : Some f.declaration ≡ Some here.declaration = sym f.here ∙ here.here in cc) in
           let alike = same_declared own_a.1 (subst (λ z. DeclaredAs a.store.nodes names.roots names.names z f.named) s f.alike) here.alike in
           ap (λ v. declared_type c n t ns (if v then then_by (referent_of (lookup c.env (names_of qs) type_kind t.name)) declaration_in else None)) (kept_as c true (ap is_found_here finds) h) ∙

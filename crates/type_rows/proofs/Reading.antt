@@ -50,7 +50,7 @@ read_closed {F} {scope} {asks} {a} {b} {G} {n} {m} more r = record {
     judged = p.judged;
     told = p.told;
     reports = p.reports;
-    sound = λ V c l. p.sound V c (record {
+    sound = λ r V c l. p.sound r V c (record {
       under = l.under;
       reads = l.reads;
       agrees = record {
@@ -60,9 +60,11 @@ read_closed {F} {scope} {asks} {a} {b} {G} {n} {m} more r = record {
         given = (l.agrees.given.0, given_both V c.chosen more G (given_right V c.chosen p.hidden more l.hidden_too) l.agrees.given.1);
       };
       hidden_too = given_left V c.chosen p.hidden more l.hidden_too;
+      named = l.named;
+      unbound = l.unbound;
       kept = l.kept;
     });
-    complete = λ V c e h. elim (p.complete V c e h) [
+    complete = λ named V c e h. elim (p.complete named V c e h) [
       | inl goes ↦ inl (record {
         same = goes.same;
         types = goes.types;
@@ -102,7 +104,7 @@ any_read a b {scope = scope} n reached made rest = var_made a b {scope = scope} 
 pub unresolved_read : (a b : Parts) {F : Frame} {scope : Scope} {G : Letters} {m : ℕ} (n : ℕ) → Reaches F (sight a) → scope.variables ≡ in_item F.owner → MakesVar a b m any_scope → OnlyStore a b → ReadAs F scope (λ c. unresolved c n) (sight a) G (sight b) n m
 unresolved_read a b {F} {scope} {G} {m} n reached item made rest =
     let x = any_read a b {scope = scope} {G = G} n reached made rest in
-    record { carried = carried_here (λ V c loose under g. sym (ap (unresolved_in c n) (under.variables ∙ item))) x.carried; means = x.means }
+    record { carried = carried_here (λ V c loose under g named. sym (ap (unresolved_in c n) (under.variables ∙ item))) x.carried; means = x.means }
 
 -- such a type expression, by its call
 pub unresolved_reads : (a b : Parts) (env : List Entry) (n m : ℕ) → MakesVar a b m any_scope → OnlyStore a b → ReadsTo a b env (λ c. unresolved c n) n m

@@ -113,9 +113,9 @@ root_used {F} {scope} {G} {a} {b} {C} {N} {arity} {root} {m} {t} key free s f na
       judged = [];
       told = [];
       reports = rest.reports ∙ sym (append-nil a.reports);
-      sound = λ V c l. record { same = refl; holds = tt; tells = refl };
-      complete = λ V c e h. inl (complete V c e);
-      first = λ k V c e h. inl (subst (λ cs. StartsWith [] (judgements c.kept cs)) (sym (take_none k)) (starts_none []));
+      sound = λ r V c l. record { same = refl; holds = tt; tells = refl };
+      complete = λ named V c e h. inl (complete V c e);
+      first = λ named k V c e h. inl (subst (λ cs. StartsWith [] (judgements c.kept cs)) (sym (take_none k)) (starts_none []));
     };
     means = record {
       open_node = opened;

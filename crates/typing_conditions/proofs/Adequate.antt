@@ -10,7 +10,7 @@ use Rattle.type_nodes.proofs.Identity.{identity, identity_determines}
 use Rattle.typing_conditions.specs.Sights.{Sight, Letters, number_in}
 use Rattle.typing_conditions.specs.Frames.{Frame}
 use Rattle.typing_conditions.specs.Judging.{Judgement, judgements, AreKept, FallsShort, judged_at}
-use Rattle.typing_conditions.specs.Carrying.{Asks, Scope, Enters, Carried}
+use Rattle.typing_conditions.specs.Carrying.{Asks, Scope, HoldsWritten, Enters, Carried}
 use Rattle.typing_conditions.proofs.Judged.{judged_kept}
 
 yes_no : true ≡ false → ⊥
@@ -46,9 +46,9 @@ not_same (x ∷ p) s l r e = not_same p s l r (tail_same x x (p ++ (judged_at s 
 -- A demand that wasn't kept, and isn't that a body closes: no types that fit meet the conditions up to it, together with the demands kept before it,
 -- whatever is kept after it.
 pub refused : {F : Frame} {scope : Scope} {asks : Asks} {a b : Sight} {G H : Letters} (p : Carried F scope asks a G b H) (before left right : List Judgement) (s : Site) → p.judged ≡ before ++ (judged_at s false false) ∷ right →
-    (k : ℕ) (V : Types) (c : Context) → Enters F scope a G V c → judgements c.kept (take k (asks c)) ≡ before ++ (judged_at s true false) ∷ left → AllHold c.kept (take k (asks c)) → ⊥
-refused p before left right s told k V c e judged h =
-    elim (p.first k V c e h) [
+    HoldsWritten scope b → (k : ℕ) (V : Types) (c : Context) → Enters F scope a G V c → judgements c.kept (take k (asks c)) ≡ before ++ (judged_at s true false) ∷ left → AllHold c.kept (take k (asks c)) → ⊥
+refused p before left right s told named k V c e judged h =
+    elim (p.first named k V c e h) [
       | inl starts ↦ not_same before s (left ++ starts.rest) right (sym (append_assoc before ((judged_at s true false) ∷ left) starts.rest) ∙ ap (λ js. js ++ starts.rest) (sym judged) ∙ sym starts.split ∙ told)
       | inr short ↦ no_both before short.before s short.site short.mine short.theirs short.closing left right short.left short.right short.why (sym judged ∙ short.short) (sym told ∙ short.full)
     ]
@@ -68,10 +68,10 @@ first_up_to s (demand t at d ∷ cs) = by (same_site s t) (first_up_to s cs)
     by false (k, e) = (suc k, ap (λ xs. demand t at d ∷ xs) e)
 
 -- So a demand that wasn't kept isn't met up to it, in the words of the definitions.
-pub refused_up_to : {F : Frame} {scope : Scope} {asks : Asks} {a b : Sight} {G H : Letters} (p : Carried F scope asks a G b H) (before left right : List Judgement) (s : Site) → p.judged ≡ before ++ judged_at s false false ∷ right → (V : Types) (c : Context) →
+pub refused_up_to : {F : Frame} {scope : Scope} {asks : Asks} {a b : Sight} {G H : Letters} (p : Carried F scope asks a G b H) (before left right : List Judgement) (s : Site) → p.judged ≡ before ++ judged_at s false false ∷ right → HoldsWritten scope b → (V : Types) (c : Context) →
     Enters F scope a G V c → judgements c.kept (conditions_up_to s (asks c)) ≡ before ++ judged_at s true false ∷ left → AllHold c.kept (conditions_up_to s (asks c)) → ⊥
-refused_up_to {asks = asks} p before left right s told V c e judged h =
-    let (k, eq) = first_up_to s (asks c) in refused p before left right s told k V c e (ap (judgements c.kept) (sym eq) ∙ judged) (subst (AllHold c.kept) eq h)
+refused_up_to {asks = asks} p before left right s told named V c e judged h =
+    let (k, eq) = first_up_to s (asks c) in refused p before left right s told named k V c e (ap (judgements c.kept) (sym eq) ∙ judged) (subst (AllHold c.kept) eq h)
 
 -- the demands that were kept, by the judgements
 abbrev pub kept_of : List Judgement → Site → Bool
@@ -89,10 +89,10 @@ never_short kept cs js k f =
     (sym (kept_there kept f.before f.site f.mine f.closing f.left (subst (AreKept kept) f.short (judged_kept kept cs))) ∙ kept_there kept f.before f.site f.theirs f.closing f.right (subst (AreKept kept) f.full k))
 
 -- The most general types: each choice that meets the conditions and keeps the same demands has, at what is recorded, types that come from them by one substitution.
-pub general : {F : Frame} {scope : Scope} {asks : Asks} {a b : Sight} {G H : Letters} (p : Carried F scope asks a G b H) (rank : ℕ → ℕ) → IsRanked b.nodes rank → (V : Types) (c : Context) → AreKept c.kept p.judged →
+pub general : {F : Frame} {scope : Scope} {asks : Asks} {a b : Sight} {G H : Letters} (p : Carried F scope asks a G b H) (rank : ℕ → ℕ) → IsRanked b.nodes rank → HoldsWritten scope b → (V : Types) (c : Context) → AreKept c.kept p.judged →
     Enters F scope a G V c → AllHold c.kept (asks c) → (W : Types) × ((i k m : ℕ) → b.types i k ≡ Some m → c.chosen.type_at (number_in i k) ≡ apply W (identity rank b.nodes m))
-general {asks = asks} {b = b} p rank ranked V c kept e h =
-    elim (p.complete V c e h) [
+general {asks = asks} {b = b} p rank ranked named V c kept e h =
+    elim (p.complete named V c e h) [
       | inl goes ↦ (goes.types, λ j k m there. goes.on.agrees.recorded j k m there ∙ identity_determines b.nodes rank goes.types goes.on.fits m)
       | inr short ↦ absurd (never_short c.kept (asks c) p.judged kept short)
     ]

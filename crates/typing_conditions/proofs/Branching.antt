@@ -10,15 +10,15 @@ use Rattle.level_unify.proofs.Unified.{fits_loosely}
 use Rattle.typing_conditions.specs.Sights.{Sight, Letters, Agrees}
 use Rattle.typing_conditions.specs.Frames.{Frame}
 use Rattle.typing_conditions.specs.Judging.{judgements, AreKept, FallsShort, Meets, judged_at}
-use Rattle.typing_conditions.specs.Carrying.{Asks, Scope, IsUnder, Enters, ReadsOff, Continues, Carried}
-use Rattle.typing_conditions.proofs.Stays.{agrees_before}
+use Rattle.typing_conditions.specs.Carrying.{Asks, Scope, HoldsWritten, IsUnder, Enters, ReadsOff, Continues, Carried}
+use Rattle.typing_conditions.proofs.Stays.{agrees_before, named_before}
 use Rattle.typing_conditions.proofs.Judged.{hold_left, judged_both, judged_kept, kept_left, short_left, short_of_more, starts_left}
 use Rattle.typing_conditions.proofs.Carried.{Decides, carried_trans, less_or_more}
 
 -- What is asked after some conditions may depend on how those are judged, and on the names in scope: `actual` is what it is under these judgements, in each context that
 -- the state before allows.
 unfoldable pub carried_after : {F : Frame} {scope : Scope} {asks further actual : Asks} {a b d : Sight} {G H K : Letters} (p : Carried F scope asks a G b H) →
-    ((V : Types) (c : Context) → Loose a.nodes V → IsUnder scope c → Agrees F.owner a G V c.chosen → AreKept c.kept p.judged → further c ≡ actual c) → Carried F scope actual b H d K → Carried F scope (λ c. asks c ++ further c) a G d K
+    ((V : Types) (c : Context) → Loose a.nodes V → IsUnder scope c → Agrees F.owner a G V c.chosen → HoldsWritten scope a → AreKept c.kept p.judged → further c ≡ actual c) → Carried F scope actual b H d K → Carried F scope (λ c. asks c ++ further c) a G d K
 unfolding carried_trans
 carried_after {F} {scope} {asks} {further} {actual} {a} {b} {d} {G} {H} {K} p by_kept q = record {
   stays = both.stays;
@@ -26,55 +26,55 @@ carried_after {F} {scope} {asks} {further} {actual} {a} {b} {d} {G} {H} {K} p by
   judged = p.judged ++ q.judged;
   told = both.told;
   reports = both.reports;
-  sound = λ V c l. subst (λ cs. Meets c.kept (asks c ++ cs) both.judged both.told) (sym (at_end V c l)) (both.sound V c l);
+  sound = λ r V c l. subst (λ cs. Meets c.kept (asks c ++ cs) both.judged both.told) (sym (at_end V c l)) (both.sound r V c l);
   complete = complete;
-  first = λ k V c e h. first_of k V c e h (less_or_more k (length (asks c)));
+  first = λ named k V c e h. first_of named k V c e h (less_or_more k (length (asks c)));
 }
   where
     both : Carried F scope (λ c. asks c ++ actual c) a G d K
     both = carried_trans p q
 
     at_end : (V : Types) (c : Context) → ReadsOff F scope d K both.hidden both.judged V c → further c ≡ actual c
-    at_end V c l = by_kept V c (both.stays.loose V (fits_loosely d.nodes V l.reads.fits)) l.under (agrees_before both.stays l.agrees) (kept_left c.kept p.judged q.judged l.kept)
+    at_end V c l = by_kept V c (both.stays.loose V (fits_loosely d.nodes V l.reads.fits)) l.under (agrees_before both.stays l.agrees) (named_before scope both.stays l.named) (kept_left c.kept p.judged q.judged l.kept)
 
     -- where the first conditions are judged as they were, what is asked after them is this
-    here : (V : Types) (c : Context) → Enters F scope a G V c → Continues F asks a b H p.judged V c → further c ≡ actual c
-    here V c e goes = by_kept V c (fits_loosely a.nodes V e.fits) e.under e.agrees (subst (AreKept c.kept) goes.same (judged_kept c.kept (asks c)))
+    here : HoldsWritten scope d → (V : Types) (c : Context) → Enters F scope a G V c → Continues F asks a b H p.judged V c → further c ≡ actual c
+    here named V c e goes = by_kept V c (fits_loosely a.nodes V e.fits) e.under e.agrees (named_before scope both.stays named) (subst (AreKept c.kept) goes.same (judged_kept c.kept (asks c)))
 
     short_in_first : (c : Context) (cs : List Condition) → FallsShort (judgements c.kept (asks c)) p.judged → FallsShort (judgements c.kept (asks c ++ cs)) both.judged
     short_in_first c cs short = subst (λ js. FallsShort js both.judged) (sym (judged_both c.kept (asks c) cs)) (short_left (judgements c.kept (asks c)) p.judged (judgements c.kept cs) q.judged short)
 
-    complete : (V : Types) (c : Context) → Enters F scope a G V c → AllHold c.kept (asks c ++ further c) → Continues F (λ x. asks x ++ further x) a d K both.judged V c ⊎ FallsShort (judgements c.kept (asks c ++ further c)) both.judged
-    complete V c e h = elim (p.complete V c e (hold_left c.kept (asks c) (further c) h)) [
+    complete : HoldsWritten scope d → (V : Types) (c : Context) → Enters F scope a G V c → AllHold c.kept (asks c ++ further c) → Continues F (λ x. asks x ++ further x) a d K both.judged V c ⊎ FallsShort (judgements c.kept (asks c ++ further c)) both.judged
+    complete named V c e h = elim (p.complete (named_before scope q.stays named) V c e (hold_left c.kept (asks c) (further c) h)) [
       | inl goes ↦
-          let eq = here V c e goes in
-          elim (both.complete V c e (subst (λ cs. AllHold c.kept (asks c ++ cs)) eq h)) [
+          let eq = here named V c e goes in
+          elim (both.complete named V c e (subst (λ cs. AllHold c.kept (asks c ++ cs)) eq h)) [
             | inl on ↦ inl (record { same = ap (λ cs. judgements c.kept (asks c ++ cs)) eq ∙ on.same; types = on.types; on = on.on })
             | inr short ↦ inr (subst (λ cs. FallsShort (judgements c.kept (asks c ++ cs)) both.judged) (sym eq) short)
           ]
       | inr short ↦ inr (short_in_first c (further c) short)
     ]
 
-    first_of : (k : ℕ) (V : Types) (c : Context) → Enters F scope a G V c → AllHold c.kept (take k (asks c ++ further c)) → (k ≤ length (asks c)) ⊎ ((n : ℕ) × (k ≡ length (asks c) + n)) → Decides c both.judged (take k (asks c ++ further c))
-    first_of k V c e h (inl le) =
+    first_of : HoldsWritten scope d → (k : ℕ) (V : Types) (c : Context) → Enters F scope a G V c → AllHold c.kept (take k (asks c ++ further c)) → (k ≤ length (asks c)) ⊎ ((n : ℕ) × (k ≡ length (asks c) + n)) → Decides c both.judged (take k (asks c ++ further c))
+    first_of named k V c e h (inl le) =
         let at = take-append-le k (asks c) (further c) le in
-        subst (Decides c both.judged) (sym at) (elim (p.first k V c e (subst (AllHold c.kept) at h)) [
+        subst (Decides c both.judged) (sym at) (elim (p.first (named_before scope q.stays named) k V c e (subst (AllHold c.kept) at h)) [
           | inl starts ↦ inl (starts_left p.judged (judgements c.kept (take k (asks c))) q.judged starts)
           | inr short ↦ inr (short_of_more (judgements c.kept (take k (asks c))) p.judged q.judged short)
         ])
-    first_of k V c e h (inr (n, more)) =
+    first_of named k V c e h (inr (n, more)) =
         let at = ap (λ i. take i (asks c ++ further c)) more ∙ take-append-add (asks c) (further c) n in
-        elim (p.complete V c e (hold_left c.kept (asks c) (take n (further c)) (subst (AllHold c.kept) at h))) [
+        elim (p.complete (named_before scope q.stays named) V c e (hold_left c.kept (asks c) (take n (further c)) (subst (AllHold c.kept) at h))) [
           | inl goes ↦
-              let eq = here V c e goes in
-              subst (λ cs. Decides c both.judged (take k (asks c ++ cs))) (sym eq) (both.first k V c e (subst (λ cs. AllHold c.kept (take k (asks c ++ cs))) eq h))
+              let eq = here named V c e goes in
+              subst (λ cs. Decides c both.judged (take k (asks c ++ cs))) (sym eq) (both.first named k V c e (subst (λ cs. AllHold c.kept (take k (asks c ++ cs))) eq h))
           | inr short ↦ subst (Decides c both.judged) (sym at) (inr (short_in_first c (take n (further c)) short))
         ]
 
 -- the same where the judgements alone decide
 unfoldable pub carried_then : {F : Frame} {scope : Scope} {asks further actual : Asks} {a b d : Sight} {G H K : Letters} (p : Carried F scope asks a G b H) → ((c : Context) → AreKept c.kept p.judged → further c ≡ actual c) →
     Carried F scope actual b H d K → Carried F scope (λ c. asks c ++ further c) a G d K
-carried_then p by_kept q = carried_after p (λ V c loose under agrees h. by_kept c h) q
+carried_then p by_kept q = carried_after p (λ V c loose under agrees named h. by_kept c h) q
 
 -- after one demand: what is asked where it is kept, or what is asked where it isn't
 pub carried_if : {F : Frame} {scope : Scope} {asks : Asks} {a b d : Sight} {G H K : Letters} (kept_so other : Asks) (s : Site) (v : Bool) (p : Carried F scope asks a G b H) → p.judged ≡ judged_at s v false ∷ [] →

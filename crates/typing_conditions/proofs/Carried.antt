@@ -1,16 +1,18 @@
 -- What is carried, through one call after another.
 use Rattle.std.proofs.Common.{◌≡◌, ◌∙◌, ◌++◌, ℕ, zero, suc, ◌+◌, ◌-◌, ◌≤◌, ◌<◌, ◌⊎◌, inl, inr, List, [], take, length, refl, sym, ap, subst, append_assoc, append-nil, arith}
+use Rattle.std.specs.Prelude.{slice_get}
 use Rattle.std.proofs.lemmas.List.{take-append-le}
 use Rattle.std.proofs.Math.Seq.{take-append-add}
+use Rattle.type_model.specs.Types.{occurs}
 use Rattle.typing_model.specs.Demands.{Condition, AllHold}
 use Rattle.typing_model.specs.Contexts.{Choice, Context}
 use Rattle.type_nodes.specs.Readings.{Types}
 use Rattle.typing_conditions.specs.Sights.{Sight, Letters, AreGiven, Agrees}
 use Rattle.typing_conditions.specs.Frames.{Frame}
 use Rattle.typing_conditions.specs.Judging.{Judgement, judgements, AreKept, StartsWith, FallsShort, Meets}
-use Rattle.typing_conditions.specs.Carrying.{Asks, Scope, IsUnder, Enters, GoesOn, Continues, Carried}
+use Rattle.typing_conditions.specs.Carrying.{Asks, Scope, HoldsWritten, IsUnder, Enters, GoesOn, Continues, Carried}
 use Rattle.typing_conditions.proofs.Judged.{hold_both, hold_left, hold_right, judged_both, kept_left, kept_right, given_left, given_right, given_both, tell_both, short_left, short_right, short_of_more, starts_all, starts_left, starts_right}
-use Rattle.typing_conditions.proofs.Stays.{stays_refl, stays_trans, stays_closed, agrees_before, enters_next, goes_further}
+use Rattle.typing_conditions.proofs.Stays.{stays_refl, stays_trans, stays_closed, agrees_before, named_before, bounds_before, enters_next, goes_further}
 
 -- what the demands of some conditions come to: they are the first of those that were judged, or they fall short of them
 abbrev pub Decides : Context → List Judgement → List Condition → Type 0
@@ -29,9 +31,9 @@ carried_refl {F} {scope} {a} {G} = record {
   judged = [];
   told = [];
   reports = sym (append-nil a.reports);
-  sound = λ V c l. record { same = refl; holds = tt; tells = refl };
-  complete = λ V c e h. inl (record { same = refl; types = V; on = record { fits = e.fits; before = λ n lt. refl; agrees = e.agrees } });
-  first = λ k V c e h. inl (subst (λ cs. StartsWith [] (judgements c.kept cs)) (sym (take_none k)) (starts_all []));
+  sound = λ r V c l. record { same = refl; holds = tt; tells = refl };
+  complete = λ named V c e h. inl (record { same = refl; types = V; on = record { fits = e.fits; before = λ n lt. refl; agrees = e.agrees } });
+  first = λ named k V c e h. inl (subst (λ cs. StartsWith [] (judgements c.kept cs)) (sym (take_none k)) (starts_all []));
 }
 
 -- a number is at most another one, or it is more
@@ -49,19 +51,23 @@ carried_trans {F} {scope} {asks} {further} {a} {b} {c} {G} {H} {K} p q = record 
   judged = p.judged ++ q.judged;
   told = p.told ++ q.told;
   reports = q.reports ∙ ap (λ rs. rs ++ q.told) p.reports ∙ append_assoc a.reports p.told q.told;
-  sound = λ V x l.
-      let one = p.sound V x (record {
+  sound = λ r V x l.
+      let one = p.sound r V x (record {
         under = l.under;
         reads = q.stays.reads V l.reads;
         agrees = agrees_before q.stays l.agrees;
         hidden_too = given_left V x.chosen p.hidden q.hidden l.hidden_too;
+        named = named_before scope q.stays l.named;
+        unbound = bounds_before scope x.chosen q.stays (p.stays.reaches r) l.unbound;
         kept = kept_left x.kept p.judged q.judged l.kept;
       }) in
-      let two = q.sound V x (record {
+      let two = q.sound (p.stays.reaches r) V x (record {
         under = l.under;
         reads = l.reads;
         agrees = l.agrees;
         hidden_too = given_right V x.chosen p.hidden q.hidden l.hidden_too;
+        named = l.named;
+        unbound = l.unbound;
         kept = kept_right x.kept p.judged q.judged l.kept;
       }) in
       record {
@@ -69,11 +75,11 @@ carried_trans {F} {scope} {asks} {further} {a} {b} {c} {G} {H} {K} p q = record 
         holds = hold_both x.kept (asks x) (further x) one.holds two.holds;
         tells = tell_both x.kept (asks x) (further x) p.told q.told one.tells two.tells;
       };
-  complete = λ V x e h. elim (p.complete V x e (hold_left x.kept (asks x) (further x) h)) [
-    | inl goes ↦ then_complete V x e goes (q.complete goes.types x (enters_next p.stays e goes.on) (hold_right x.kept (asks x) (further x) h))
+  complete = λ named V x e h. elim (p.complete (named_before scope q.stays named) V x e (hold_left x.kept (asks x) (further x) h)) [
+    | inl goes ↦ then_complete V x e goes (q.complete named goes.types x (enters_next p.stays e goes.on) (hold_right x.kept (asks x) (further x) h))
     | inr short ↦ inr (falls_first x (further x) short)
   ];
-  first = λ k V x e h. by_place k V x e h (less_or_more k (length (asks x)));
+  first = λ named k V x e h. by_place named k V x e h (less_or_more k (length (asks x)));
 }
   where
     -- the first ones fall short
@@ -100,50 +106,55 @@ carried_trans {F} {scope} {asks} {further} {a} {b} {c} {G} {H} {K} p q = record 
     then_first V x n goes (inr short) = inr (falls_then x (take n (further x)) goes.same short)
 
     -- the first k conditions end among the first ones, or among the others
-    by_place : (k : ℕ) (V : Types) (x : Context) → Enters F scope a G V x → AllHold x.kept (take k (asks x ++ further x)) → (k ≤ length (asks x)) ⊎ ((n : ℕ) × (k ≡ length (asks x) + n)) →
+    by_place : HoldsWritten scope c → (k : ℕ) (V : Types) (x : Context) → Enters F scope a G V x → AllHold x.kept (take k (asks x ++ further x)) → (k ≤ length (asks x)) ⊎ ((n : ℕ) × (k ≡ length (asks x) + n)) →
         Decides x (p.judged ++ q.judged) (take k (asks x ++ further x))
-    by_place k V x e h (inl le) =
+    by_place named k V x e h (inl le) =
         let here = take-append-le k (asks x) (further x) le in
-        subst (Decides x (p.judged ++ q.judged)) (sym here) (elim (p.first k V x e (subst (AllHold x.kept) here h)) [
+        subst (Decides x (p.judged ++ q.judged)) (sym here) (elim (p.first (named_before scope q.stays named) k V x e (subst (AllHold x.kept) here h)) [
           | inl starts ↦ inl (starts_left p.judged (judgements x.kept (take k (asks x))) q.judged starts)
           | inr short ↦ inr (short_of_more (judgements x.kept (take k (asks x))) p.judged q.judged short)
         ])
-    by_place k V x e h (inr (n, eq)) =
+    by_place named k V x e h (inr (n, eq)) =
         let here = ap (λ i. take i (asks x ++ further x)) eq ∙ take-append-add (asks x) (further x) n in
         let held = subst (AllHold x.kept) here h in
-        subst (Decides x (p.judged ++ q.judged)) (sym here) (elim (p.complete V x e (hold_left x.kept (asks x) (take n (further x)) held)) [
-          | inl goes ↦ then_first V x n goes (q.first n goes.types x (enters_next p.stays e goes.on) (hold_right x.kept (asks x) (take n (further x)) held))
+        subst (Decides x (p.judged ++ q.judged)) (sym here) (elim (p.complete (named_before scope q.stays named) V x e (hold_left x.kept (asks x) (take n (further x)) held)) [
+          | inl goes ↦ then_first V x n goes (q.first named n goes.types x (enters_next p.stays e goes.on) (hold_right x.kept (asks x) (take n (further x)) held))
           | inr short ↦ inr (falls_first x (take n (further x)) short)
         ])
 
--- what is asked in one context, by what is asked in another that the first one decides
-pub carried_under : {F : Frame} {scope inner : Scope} {asks : Asks} {a b : Sight} {G H : Letters} (into : Context → Context) → ((c : Context) → ((into c).kept ≡ c.kept) × ((into c).chosen ≡ c.chosen)) →
+-- what is asked in one context, by what is asked in another that the first one decides, of a scope that holds the same type variables
+pub carried_under : {F : Frame} {scope inner : Scope} {asks : Asks} {a b : Sight} {G H : Letters} (into : Context → Context) → inner.held ≡ scope.held → ((c : Context) → ((into c).kept ≡ c.kept) × ((into c).chosen ≡ c.chosen)) →
     ((c : Context) → IsUnder scope c → IsUnder inner (into c)) → Carried F inner asks a G b H → Carried F scope (λ c. asks (into c)) a G b H
-carried_under {F} {scope} {inner} {asks} {a} {b} {G} {H} into still has p = record {
+carried_under {F} {scope} {inner} {asks} {a} {b} {G} {H} into held still has p = record {
   stays = p.stays;
   hidden = p.hidden;
   judged = p.judged;
   told = p.told;
   reports = p.reports;
-  sound = λ V c l.
+  sound = λ r V c l.
       let kept = (still c).0 in let chosen = (still c).1 in
-      let m = p.sound V (into c) (record {
+      let m = p.sound r V (into c) (record {
         under = has c l.under;
         reads = l.reads;
         agrees = subst (Agrees F.owner b H V) (sym chosen) l.agrees;
         hidden_too = subst (AreGiven p.hidden V) (sym chosen) l.hidden_too;
+        named = named_in b l.named;
+        unbound = λ k x e v bound. ap (λ ch. occurs v (ch.written F.owner x)) chosen ∙ l.unbound k x (ap (λ xs. slice_get xs k) (sym held) ∙ e) v bound;
         kept = subst (λ k. AreKept k p.judged) (sym kept) l.kept;
       }) in
       subst (λ k. Meets k (asks (into c)) p.judged p.told) kept m;
-  complete = λ V c e h. elim (p.complete V (into c) (enters V c e) (subst (λ k. AllHold k (asks (into c))) (sym (still c).0) h)) [
+  complete = λ named V c e h. elim (p.complete (named_in b named) V (into c) (enters V c e) (subst (λ k. AllHold k (asks (into c))) (sym (still c).0) h)) [
     | inl goes ↦ inl (record { same = subst (λ k. judgements k (asks (into c)) ≡ p.judged) (still c).0 goes.same; types = goes.types; on = subst (GoesOn F a b H V goes.types) (still c).1 goes.on })
     | inr short ↦ inr (subst (λ k. FallsShort (judgements k (asks (into c))) p.judged) (still c).0 short)
   ];
-  first = λ k V c e h.
+  first = λ named k V c e h.
       subst (λ m. StartsWith p.judged (judgements m (take k (asks (into c)))) ⊎ FallsShort (judgements m (take k (asks (into c)))) p.judged) (still c).0
-      (p.first k V (into c) (enters V c e) (subst (λ m. AllHold m (take k (asks (into c)))) (sym (still c).0) h));
+      (p.first (named_in b named) k V (into c) (enters V c e) (subst (λ m. AllHold m (take k (asks (into c)))) (sym (still c).0) h));
 }
   where
+    named_in : (x : Sight) → HoldsWritten scope x → HoldsWritten inner x
+    named_in x named y m e = let (k, f) = named y m e in (k, ap (λ xs. slice_get xs k) held ∙ f)
+
     enters : (V : Types) (c : Context) → Enters F scope a G V c → Enters F inner a G V (into c)
     enters V c e = record { under = has c e.under; inside = e.inside; fits = e.fits; agrees = subst (Agrees F.owner a G V) (sym (still c).1) e.agrees }
 
@@ -163,14 +174,16 @@ carried_closed {F} {scope} {asks} {a} {b} own {G} p = record {
   judged = p.judged;
   told = p.told;
   reports = p.reports;
-  sound = λ V c l. p.sound V c (record {
+  sound = λ r V c l. p.sound r V c (record {
     under = l.under;
     reads = l.reads;
     agrees = record { recorded = l.agrees.recorded; known = l.agrees.known; written = l.agrees.written; given = given_both V c.chosen own G (given_right V c.chosen p.hidden own l.hidden_too) l.agrees.given };
     hidden_too = given_left V c.chosen p.hidden own l.hidden_too;
+    named = l.named;
+    unbound = l.unbound;
     kept = l.kept;
   });
-  complete = λ V c e h. elim (p.complete V c e h) [
+  complete = λ named V c e h. elim (p.complete named V c e h) [
     | inl goes ↦ inl (record { same = goes.same; types = goes.types; on = goes_closed own goes.on })
     | inr short ↦ inr short
   ];
@@ -185,10 +198,10 @@ carried_as {F} {scope} {asks} {others} {a} {b} {G} {H} e p = record {
   judged = p.judged;
   told = p.told;
   reports = p.reports;
-  sound = λ V c l. subst (λ cs. Meets c.kept cs p.judged p.told) (e c) (p.sound V c l);
-  complete = λ V c en h. elim (p.complete V c en (subst (AllHold c.kept) (sym (e c)) h)) [
+  sound = λ r V c l. subst (λ cs. Meets c.kept cs p.judged p.told) (e c) (p.sound r V c l);
+  complete = λ named V c en h. elim (p.complete named V c en (subst (AllHold c.kept) (sym (e c)) h)) [
     | inl goes ↦ inl (record { same = ap (judgements c.kept) (sym (e c)) ∙ goes.same; types = goes.types; on = goes.on })
     | inr short ↦ inr (subst (λ cs. FallsShort (judgements c.kept cs) p.judged) (e c) short)
   ];
-  first = λ k V c en h. subst (λ cs. Decides c p.judged (take k cs)) (e c) (p.first k V c en (subst (λ cs. AllHold c.kept (take k cs)) (sym (e c)) h));
+  first = λ named k V c en h. subst (λ cs. Decides c p.judged (take k cs)) (e c) (p.first named k V c en (subst (λ cs. AllHold c.kept (take k cs)) (sym (e c)) h));
 }

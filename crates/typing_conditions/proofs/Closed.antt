@@ -33,7 +33,7 @@ use Rattle.typing_environments.proofs.Standing.{more_in, none_free}
 use Rattle.typing_environments.proofs.Groups.{NamesStand, no_more, name_more, added, joined, stands_names}
 use Rattle.typing_conditions.specs.Sights.{Sight, Letters, Agrees}
 use Rattle.typing_conditions.specs.Frames.{Frame, IsWritten, IsHeld, IsRoot}
-use Rattle.typing_conditions.specs.Carrying.{Asks, Scope}
+use Rattle.typing_conditions.specs.Carrying.{Asks, Scope, HoldsWritten, HoldsUnbound}
 use Rattle.typing_conditions.proofs.Surrounding.{stands_declared, covers_declared}
 use Rattle.typing_conditions.specs.Surroundings.{Declared, Surrounds, IsEntry, context_of, with_closed}
 use Rattle.typing_conditions.proofs.Outward.{GroupTyped, I, inner_reached, before_closing, group_context, name_nodes, low_held, within_outer}
@@ -49,24 +49,25 @@ pub data ClosedNames (F : Frame) (d : Sight) (H : Letters) (names : List ℕ) : 
       ((V : Types) (ch : Choice) → Loose d.nodes V → Agrees F.owner d H V ch → (b.has_type (context_of ch) ≡ V n.0) × IsKnown (V n.0)) → ClosedNames F d H names es bs ns → ClosedNames F d H names (e ∷ es) (b ∷ bs) (n.0 ∷ ns)
 
 -- The names of a group are generalised over all variables but those of the environment and those that are held: after closing, in the frame around it, the names of before
--- stand for the same; each root of the frame further in is one of theirs or is held; and no bound variable is held.
+-- stand for the same; each root of the frame further in is one of theirs or is held, as is what is written, where the scope holds all that is written; and at a
+-- reading no bound variable is held.
 pub record HoldsRest (D : Declared) {F : Frame} {scope : Scope} {asks : Asks} {a b c d : Sight} {J : Types} {roots names : List ℕ} {held : ℕ → List ℕ} {G H : Letters} (l : GroupTyped F scope asks a b c d J roots names held G H) (env : List Entry)
     (types : Choice → List Typ) : Type 0 where
   pub at : Surrounds D F d H env scope
-  pub roots_held : (k r : ℕ) → slice_get roots k ≡ Some r → IsIn at.roots r ⊎ HasHeld F d H types r
+  pub roots_held : HoldsWritten scope d → (k r : ℕ) → slice_get roots k ≡ Some r → IsIn at.roots r ⊎ HasHeld F d H types r
   pub limits_held : (n : ℕ) → IsIn (held F.level) n → HasHeld F d H types n
-  pub written_held : (n : ℕ) → IsWritten d n → HasHeld F d H types n
-  pub none_bound : (V : Types) (ch : Choice) → IsReading d.nodes V → Agrees F.owner d H V ch → (v : ℕ) → is_bound d.nodes v ≡ true → occurs_in v (types ch) ≡ false
+  pub written_held : HoldsWritten scope d → (n : ℕ) → IsWritten d n → HasHeld F d H types n
+  pub none_bound : (V : Types) (ch : Choice) → IsReading d.nodes V → Agrees F.owner d H V ch → HoldsUnbound F scope d ch → (v : ℕ) → is_bound d.nodes v ≡ true → occurs_in v (types ch) ≡ false
 
 module _ {D : Declared} {F : Frame} {scope : Scope} {asks : Asks} {a b c d : Sight} {J : Types} {roots names : List ℕ} {held : ℕ → List ℕ} {G H : Letters} (l : GroupTyped F scope asks a b c d J roots names held G H) {env : List Entry}
     {types : Choice → List Typ} (rest : HoldsRest D l env types) where
   -- what a scheme isn't to bind is free in the environment or held
-  fixes : {R : List Node → Types → ℕ → Scheme → Type 0} (M V : Types) (ch : Choice) → IsOwn d.nodes M → Loose d.nodes V → Agrees F.owner d H V ch → Stands R (D.declaration d.nodes rest.at.roots rest.at.names) (D.exception d.nodes rest.at.roots rest.at.names) d.nodes M rest.at.roots V env (scope.env ch) →
+  fixes : {R : List Node → Types → ℕ → Scheme → Type 0} → HoldsWritten scope d → (M V : Types) (ch : Choice) → IsOwn d.nodes M → Loose d.nodes V → Agrees F.owner d H V ch → Stands R (D.declaration d.nodes rest.at.roots rest.at.names) (D.exception d.nodes rest.at.roots rest.at.names) d.nodes M rest.at.roots V env (scope.env ch) →
       Fixes d.nodes M V roots ((inner_reached l).held F.level) (scope.env ch) (types ch)
-  fixes M V ch own loose g s = record {
+  fixes named M V ch own loose g s = record {
     roots = λ u w free h o.
         let i = in_any u M roots h in
-        elim (rest.roots_held i.place i.node i.at) [
+        elim (rest.roots_held named i.place i.node i.at) [
           | inl (k, e) ↦ or_left (free_in w (scope.env ch)) (occurs_in w (types ch)) (s.brings u w free (any_in u M rest.at.roots k i.node e i.occurs) o)
           | inr has ↦ or_right (free_in w (scope.env ch)) (occurs_in w (types ch)) (has V ch loose g w (stands_after d.nodes M V own loose i.node u w i.occurs o))
         ];
@@ -80,41 +81,41 @@ module _ {D : Declared} {F : Frame} {scope : Scope} {asks : Asks} {a b c d : Sig
 
       held_here : (n : ℕ) → IsHeld (I l) c F.level n → HasHeld F d H types n
       held_here n (inl there) = rest.limits_held n there
-      held_here n (inr (le, (x, e))) = rest.written_held n (x, l.out.written x ∙ e)
+      held_here n (inr (le, (x, e))) = rest.written_held named n (x, l.out.written x ∙ e)
 
   -- the scheme of a name, under types that fit
-  scheme_fits : (M V : Types) (ch : Choice) → IsOwn d.nodes M → Loose d.nodes V → Agrees F.owner d H V ch → Stands SchemeFits (D.declaration d.nodes rest.at.roots rest.at.names) (D.exception d.nodes rest.at.roots rest.at.names) d.nodes M rest.at.roots V env (scope.env ch) → (k r : ℕ) → slice_get names k ≡ Some r → IsKnown (V r) →
+  scheme_fits : HoldsWritten scope d → (M V : Types) (ch : Choice) → IsOwn d.nodes M → Loose d.nodes V → Agrees F.owner d H V ch → Stands SchemeFits (D.declaration d.nodes rest.at.roots rest.at.names) (D.exception d.nodes rest.at.roots rest.at.names) d.nodes M rest.at.roots V env (scope.env ch) → (k r : ℕ) → slice_get names k ≡ Some r → IsKnown (V r) →
       SchemeFits d.nodes V r (generalised_in (scope.env ch) (types ch) (V r))
-  scheme_fits M V ch own loose g s k r e known =
+  scheme_fits named M V ch own loose g s k r e known =
       let own_c = before_closing l M own in
       name_fits a.nodes c.nodes d.nodes J M roots names (inner_reached l).held F.level l.goes_in.own own_c (group_context l) ((inner_reached l).local M own_c) (name_nodes l) (low_held l M own_c) (l.out.closes M own_c) V (scope.env ch) (types ch) loose
-      (fixes M V ch own loose g s) k r e known
+      (fixes named M V ch own loose g s) k r e known
 
   -- and at each reading
-  scheme_reads : (M V : Types) (ch : Choice) → IsOwn d.nodes M → IsReading d.nodes V → Agrees F.owner d H V ch → Stands SchemeReads (D.declaration d.nodes rest.at.roots rest.at.names) (D.exception d.nodes rest.at.roots rest.at.names) d.nodes M rest.at.roots V env (scope.env ch) → (k r : ℕ) → slice_get names k ≡ Some r → IsKnown (V r) →
+  scheme_reads : HoldsWritten scope d → (M V : Types) (ch : Choice) → HoldsUnbound F scope d ch → IsOwn d.nodes M → IsReading d.nodes V → Agrees F.owner d H V ch → Stands SchemeReads (D.declaration d.nodes rest.at.roots rest.at.names) (D.exception d.nodes rest.at.roots rest.at.names) d.nodes M rest.at.roots V env (scope.env ch) → (k r : ℕ) → slice_get names k ≡ Some r → IsKnown (V r) →
       SchemeReads d.nodes V r (generalised_in (scope.env ch) (types ch) (V r))
-  scheme_reads M V ch own reads g s k r e known =
+  scheme_reads named M V ch unbound own reads g s k r e known =
       let own_c = before_closing l M own in
       name_reads a.nodes c.nodes d.nodes J M roots names (inner_reached l).held F.level l.goes_in.own own_c (group_context l) ((inner_reached l).local M own_c) (name_nodes l) (low_held l M own_c) (l.out.closes M own_c) V (scope.env ch) (types ch) reads
-      (fixes M V ch own (fits_loosely d.nodes V reads.fits) g s)
-      (λ v h. let p = none_free (D.declaration d.nodes rest.at.roots rest.at.names) (D.exception d.nodes rest.at.roots rest.at.names) d.nodes M V rest.at.roots env (scope.env ch) s v h in let q = rest.none_bound V ch reads g v h in (λ i. p i || q i)) k r e known
+      (fixes named M V ch own (fits_loosely d.nodes V reads.fits) g s)
+      (λ v h. let p = none_free (D.declaration d.nodes rest.at.roots rest.at.names) (D.exception d.nodes rest.at.roots rest.at.names) d.nodes M V rest.at.roots env (scope.env ch) s v h in let q = rest.none_bound V ch reads g unbound v h in (λ i. p i || q i)) k r e known
 
-  names_fit : (M V : Types) (ch : Choice) → IsOwn d.nodes M → Loose d.nodes V → Agrees F.owner d H V ch → Stands SchemeFits (D.declaration d.nodes rest.at.roots rest.at.names) (D.exception d.nodes rest.at.roots rest.at.names) d.nodes M rest.at.roots V env (scope.env ch) → {es : List Entry} {bs : List Bound} {ns : List ℕ} →
+  names_fit : HoldsWritten scope d → (M V : Types) (ch : Choice) → IsOwn d.nodes M → Loose d.nodes V → Agrees F.owner d H V ch → Stands SchemeFits (D.declaration d.nodes rest.at.roots rest.at.names) (D.exception d.nodes rest.at.roots rest.at.names) d.nodes M rest.at.roots V env (scope.env ch) → {es : List Entry} {bs : List Bound} {ns : List ℕ} →
       ClosedNames F d H names es bs ns → NamesStand SchemeFits d.nodes M V (generalised_in (scope.env ch) (types ch)) (context_of ch) es bs ns
-  names_fit M V ch own loose g s no_closed = no_more
-  names_fit M V ch own loose g s (one_closed n is (k, e) typed more) =
+  names_fit named M V ch own loose g s no_closed = no_more
+  names_fit named M V ch own loose g s (one_closed n is (k, e) typed more) =
       let t = typed V ch loose g in
-      let f = subst (λ x. SchemeFits d.nodes V n.0 (generalised_in (scope.env ch) (types ch) x)) (sym t.0) (scheme_fits M V ch own loose g s k n.0 e t.1) in
-      name_more n is.named is.kind is.is f f.free (names_fit M V ch own loose g s more)
+      let f = subst (λ x. SchemeFits d.nodes V n.0 (generalised_in (scope.env ch) (types ch) x)) (sym t.0) (scheme_fits named M V ch own loose g s k n.0 e t.1) in
+      name_more n is.named is.kind is.is f f.free (names_fit named M V ch own loose g s more)
 
-  names_read : (M V : Types) (ch : Choice) → IsOwn d.nodes M → IsReading d.nodes V → Agrees F.owner d H V ch → Stands SchemeReads (D.declaration d.nodes rest.at.roots rest.at.names) (D.exception d.nodes rest.at.roots rest.at.names) d.nodes M rest.at.roots V env (scope.env ch) → {es : List Entry} {bs : List Bound} {ns : List ℕ} →
+  names_read : HoldsWritten scope d → (M V : Types) (ch : Choice) → HoldsUnbound F scope d ch → IsOwn d.nodes M → IsReading d.nodes V → Agrees F.owner d H V ch → Stands SchemeReads (D.declaration d.nodes rest.at.roots rest.at.names) (D.exception d.nodes rest.at.roots rest.at.names) d.nodes M rest.at.roots V env (scope.env ch) → {es : List Entry} {bs : List Bound} {ns : List ℕ} →
       ClosedNames F d H names es bs ns → NamesStand SchemeReads d.nodes M V (generalised_in (scope.env ch) (types ch)) (context_of ch) es bs ns
-  names_read M V ch own reads g s no_closed = no_more
-  names_read M V ch own reads g s (one_closed n is (k, e) typed more) =
+  names_read named M V ch unbound own reads g s no_closed = no_more
+  names_read named M V ch unbound own reads g s (one_closed n is (k, e) typed more) =
       let loose = fits_loosely d.nodes V reads.fits in
       let t = typed V ch loose g in
-      let f = subst (λ x. SchemeReads d.nodes V n.0 (generalised_in (scope.env ch) (types ch) x)) (sym t.0) (scheme_reads M V ch own reads g s k n.0 e t.1) in
-      name_more n is.named is.kind is.is f f.free (names_read M V ch own reads g s more)
+      let f = subst (λ x. SchemeReads d.nodes V n.0 (generalised_in (scope.env ch) (types ch) x)) (sym t.0) (scheme_reads named M V ch unbound own reads g s k n.0 e t.1) in
+      name_more n is.named is.kind is.is f f.free (names_read named M V ch unbound own reads g s more)
 
   -- a closed name is a root: its variables above the level are bound
   name_root : (n : ℕ) → IsIn names n → IsRoot F d n
@@ -164,6 +165,7 @@ module _ {D : Declared} {F : Frame} {scope : Scope} {asks : Asks} {a b c d : Sig
   pub surrounds_closed : {es : List Entry} {bs : List Bound} {ns : List ℕ} → ClosedNames F d H names es bs ns → Surrounds D F d H (added es env) (with_closed bs types scope)
   surrounds_closed {es} {bs} {ns} closed = record {
     reached = rest.at.reached;
+    inside = rest.at.inside;
     fixed = rest.at.fixed;
     written = rest.at.written;
     item = rest.at.item;
@@ -172,10 +174,10 @@ module _ {D : Declared} {F : Frame} {scope : Scope} {asks : Asks} {a b c d : Sig
     steady = rest.at.steady;
     are_roots = joined_roots closed rest.at.roots rest.at.are_roots;
     covered = let own = own_of d.nodes l.out.sound in covers_declared (joined ns rest.at.roots) (declared_more own.0 own.1 closed) (excepted_more own.0 own.1 closed) (joined_covers closed rest.at.roots env rest.at.covered);
-    reads = λ M V ch own reads g.
-        let s = rest.at.reads M V ch own reads g in
-        stands_declared (declared_more M own closed) (excepted_more M own closed) (stands_names SchemeReads (D.declaration d.nodes rest.at.roots rest.at.names) (D.exception d.nodes rest.at.roots rest.at.names) d.nodes M V (generalised_in (scope.env ch) (types ch)) (context_of ch) own (names_read M V ch own reads g s closed) rest.at.roots env (scope.env ch) s);
-    fits = λ M V ch own loose g.
-        let s = rest.at.fits M V ch own loose g in
-        stands_declared (declared_more M own closed) (excepted_more M own closed) (stands_names SchemeFits (D.declaration d.nodes rest.at.roots rest.at.names) (D.exception d.nodes rest.at.roots rest.at.names) d.nodes M V (generalised_in (scope.env ch) (types ch)) (context_of ch) own (names_fit M V ch own loose g s closed) rest.at.roots env (scope.env ch) s);
+    reads = λ M V ch own reads g named unbound.
+        let s = rest.at.reads M V ch own reads g named unbound in
+        stands_declared (declared_more M own closed) (excepted_more M own closed) (stands_names SchemeReads (D.declaration d.nodes rest.at.roots rest.at.names) (D.exception d.nodes rest.at.roots rest.at.names) d.nodes M V (generalised_in (scope.env ch) (types ch)) (context_of ch) own (names_read named M V ch unbound own reads g s closed) rest.at.roots env (scope.env ch) s);
+    fits = λ M V ch own loose g named.
+        let s = rest.at.fits M V ch own loose g named in
+        stands_declared (declared_more M own closed) (excepted_more M own closed) (stands_names SchemeFits (D.declaration d.nodes rest.at.roots rest.at.names) (D.exception d.nodes rest.at.roots rest.at.names) d.nodes M V (generalised_in (scope.env ch) (types ch)) (context_of ch) own (names_fit named M V ch own loose g s closed) rest.at.roots env (scope.env ch) s);
   }

@@ -106,7 +106,7 @@ equal_kept {F} {scope} {G} {found} {wanted} {m} {n} {a} {b} s at sound p q rest 
   judged = judged_as s true;
   told = [];
   reports = rest.reports ∙ sym (append-nil a.reports);
-  sound = λ V c l.
+  sound = λ r V c l.
       let old = one.read V l.reads in
       let g = agrees_before stays l.agrees in
       let loose = fits_loosely a.nodes V old.0.fits in
@@ -115,8 +115,8 @@ equal_kept {F} {scope} {G} {found} {wanted} {m} {n} {a} {b} s at sound p q rest 
         holds = ((λ kept. p.is V c.chosen loose g ∙ old.1 ∙ sym (q.is V c.chosen loose g)), tt);
         tells = subst (λ t. TellBy t at (equal (found c.chosen) (wanted c.chosen)) (λ later. later ≡ []) []) (sym l.kept.0) refl;
       };
-  complete = complete;
-  first = first_one (λ c. demand s at (equal (found c.chosen) (wanted c.chosen))) complete;
+  complete = λ named. complete;
+  first = λ named. first_one (λ c. demand s at (equal (found c.chosen) (wanted c.chosen))) complete;
 }
   where
     stays : Stays F a G b G
@@ -151,13 +151,13 @@ equal_told {F} {scope} {G} {found} {wanted} {m} {n} {a} {b} s at p q rest tells 
   judged = judged_as s false;
   told = tells.report ∷ [];
   reports = tells.reports;
-  sound = λ V c l. record {
+  sound = λ r V c l. record {
     same = ap (judged_as s) l.kept.0;
     holds = ((λ kept. absurd (not_both l.kept.0 kept)), tt);
     tells = subst (λ t. TellBy t at (equal (found c.chosen) (wanted c.chosen)) (λ later. later ≡ []) (tells.report ∷ [])) (sym l.kept.0) (tells.report, [], refl, record { place = tells.place; kind = tells.is_kind }, refl);
   };
-  complete = complete;
-  first = first_one (λ c. demand s at (equal (found c.chosen) (wanted c.chosen))) complete;
+  complete = λ named. complete;
+  first = λ named. first_one (λ c. demand s at (equal (found c.chosen) (wanted c.chosen))) complete;
 }
   where
     by : (V : Types) (c : Context) → Enters F scope a G V c → (c.kept s ≡ true → found c.chosen ≡ wanted c.chosen) → (t : Bool) → c.kept s ≡ t →

@@ -104,7 +104,7 @@ open_on s o = open_next s.reaches s.refines o
 
 -- the nodes of written type variables stay open where the same are written
 pub written_next : {F : Frame} {a b : Sight} → ((x : Name) → b.written x ≡ a.written x) → (Reaches F a → Reaches F b) → (Reaches F a → (K : Types) → IsOwn b.nodes K → Refines a.nodes b.nodes K) → KnowsWritten F a → KnowsWritten F b
-written_next written reaches refines k = record { each = λ x m e. open_next reaches refines (k.each x m (sym (written x) ∙ e)) }
+written_next written reaches refines k = record { each = λ x m e. open_next reaches refines (k.each x m (sym (written x) ∙ e)); names = k.names; listed = λ x m e. k.listed x m (sym (written x) ∙ e) }
 
 -- roots stay roots
 pub root_on : {F : Frame} {a b : Sight} {G H : Letters} {n : ℕ} → Stays F a G b H → Reaches F a → IsRoot F a n → IsRoot F b n

@@ -1,5 +1,5 @@
 -- A frame one level further in: what it reaches at its start, and what is open in it.
-use Rattle.std.proofs.Common.{◌≡◌, ◌∙◌, ℕ, zero, suc, ◌<◌, ◌≤◌, min, List, [], ◌∷◌, length, Some, refl, sym, ap, subst, arith}
+use Rattle.std.proofs.Common.{◌≡◌, ◌∙◌, ℕ, zero, suc, ◌<◌, ◌≤◌, min, true, List, [], ◌∷◌, length, Some, refl, sym, ap, subst, arith}
 use Rattle.std.specs.Prelude.{slice_get}
 use Rattle.type_model.specs.Types.{Typ}
 use Rattle.typing_model.specs.Contexts.{Choice}
@@ -7,6 +7,7 @@ use Rattle.typing_model.specs.BuiltIns.{int_type, char_type, string_type, float_
 use Rattle.signature_model.specs.Declarations.{Name}
 use Rattle.type_nodes.specs.Readings.{Types, IsReading}
 use Rattle.level_unify.specs.Solutions.{Loose}
+use Rattle.level_unify.specs.Instances.{is_bound}
 use Rattle.env_table.specs.declared.entries.Entry.{Entry}
 use Rattle.typing_environments.specs.Locals.{IsOwn}
 use Rattle.typing_environments.specs.Assumptions.{SchemeFits, SchemeReads}
@@ -17,7 +18,7 @@ use Rattle.typing_conditions.specs.Sights.{Sight, Fixed, Letters, Agrees}
 use Rattle.typing_conditions.specs.Frames.{Frame, Reaches, IsOpenAt, IsRoot, inner_frame, GoesIn}
 use Rattle.typing_conditions.specs.Meanings.{Means, KnowsFixed, KnowsWritten}
 use Rattle.typing_conditions.specs.Steps.{OnlyLevel}
-use Rattle.typing_conditions.specs.Carrying.{Scope}
+use Rattle.typing_conditions.specs.Carrying.{Scope, HoldsWritten, HoldsUnbound}
 use Rattle.typing_conditions.specs.Surroundings.{Declared, Surrounds}
 use Rattle.typing_conditions.proofs.Framing.{open_lower, reached_start}
 
@@ -81,7 +82,11 @@ module _ {F : Frame} {a b : Sight} {J : Types} {roots : List ℕ} {held : ℕ �
 
   -- written type variables are open further in
   pub written_inward : KnowsWritten F a → KnowsWritten (inner_frame F a J roots held) b
-  written_inward k = record { each = λ x m e. let f = sym (only.written x) ∙ e in open_lower (lower F.level) (open_inward (min F.level 1) m (g.written_in x m f) (k.each x m f)) }
+  written_inward k = record {
+    each = λ x m e. let f = sym (only.written x) ∙ e in open_lower (lower F.level) (open_inward (min F.level 1) m (g.written_in x m f) (k.each x m f));
+    names = k.names;
+    listed = λ x m e. k.listed x m (sym (only.written x) ∙ e);
+  }
     where
       lower : (l : ℕ) → min l 1 ≤ min (suc l) 1
       lower l = grind arith
@@ -103,6 +108,7 @@ module _ {F : Frame} {a b : Sight} {J : Types} {roots : List ℕ} {held : ℕ �
       ((k m : ℕ) → slice_get (fixed_nodes a.fixed) k ≡ Some m → IsIn roots m) → Surrounds D (inner_frame F a J roots held) b G env scope
   surrounds_inward {D} {G} {env} {scope} at names fixed_in = record {
     reached = reached_inward;
+    inside = below F.level;
     fixed = fixed_inward fixed_in at.fixed;
     written = written_inward at.written;
     item = at.item;
@@ -111,13 +117,22 @@ module _ {F : Frame} {a b : Sight} {J : Types} {roots : List ℕ} {held : ℕ �
     steady = at.steady;
     are_roots = λ k r e. root_inward r (names k r e) (at.are_roots k r e);
     covered = subst (λ ns. Covers (D.declaration ns at.roots at.names) (D.exception ns at.roots at.names) at.roots env) (sym only.nodes) at.covered;
-    reads = λ M V ch own reads agrees.
+    reads = λ M V ch own reads agrees named unbound.
         subst (λ ns. Stands SchemeReads (D.declaration ns at.roots at.names) (D.exception ns at.roots at.names) ns M at.roots V env (scope.env ch)) (sym only.nodes)
-        (at.reads M V ch (same_own M own) (subst (λ ns. IsReading ns V) only.nodes reads) (back V ch agrees));
-    fits = λ M V ch own loose agrees.
+        (at.reads M V ch (same_own M own) (subst (λ ns. IsReading ns V) only.nodes reads) (back V ch agrees) (named_back named) (unbound_back ch unbound));
+    fits = λ M V ch own loose agrees named.
         subst (λ ns. Stands SchemeFits (D.declaration ns at.roots at.names) (D.exception ns at.roots at.names) ns M at.roots V env (scope.env ch)) (sym only.nodes)
-        (at.fits M V ch (same_own M own) (subst (λ ns. Loose ns V) only.nodes loose) (back V ch agrees));
+        (at.fits M V ch (same_own M own) (subst (λ ns. Loose ns V) only.nodes loose) (back V ch agrees) (named_back named));
   }
     where
+      below : (l : ℕ) → 1 ≤ suc l
+      below l = omega arith
+
+      named_back : HoldsWritten scope b → HoldsWritten scope a
+      named_back named x m e = named x m (only.written x ∙ e)
+
+      unbound_back : (ch : Choice) → HoldsUnbound (inner_frame F a J roots held) scope b ch → HoldsUnbound F scope a ch
+      unbound_back ch unbound k x e v bound = unbound k x e v (subst (λ ns. is_bound ns v ≡ true) (sym only.nodes) bound)
+
       back : (V : Types) (ch : Choice) → Agrees F.owner b G V ch → Agrees F.owner a G V ch
       back V ch agrees = agrees_as b a (λ i p. sym (only.types i p)) (λ x. sym (only.written x)) agrees

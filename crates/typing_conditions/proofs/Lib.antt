@@ -20,4 +20,3 @@ pub mod Answering
 pub mod Inward
 pub mod Outward
 pub mod Closed
-pub mod Letting

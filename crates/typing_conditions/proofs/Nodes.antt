@@ -64,9 +64,9 @@ letter_made {F} {scope} {G} {a} {b} {s} {t} {n} key free r made rest = record {
     judged = [];
     told = [];
     reports = rest.reports ∙ sym (append-nil a.reports);
-    sound = λ V c l. nothing_met c.kept;
-    complete = λ V c e h. inl (record { same = refl; types = with_type V n (value_of c.chosen key); on = goes V c e });
-    first = λ k V c e h. first_none k c;
+    sound = λ r V c l. nothing_met c.kept;
+    complete = λ named V c e h. inl (record { same = refl; types = with_type V n (value_of c.chosen key); on = goes V c e });
+    first = λ named k V c e h. first_none k c;
   };
   means = record { open_node = opened; is = λ V ch loose g. g.given.0.is };
 }
@@ -96,8 +96,8 @@ node_made {F} {scope} {G} {a} {b} {s} {t} {n} {c} build r opened made rest build
   judged = [];
   told = [];
   reports = rest.reports ∙ sym (append-nil a.reports);
-  sound = λ V x l. nothing_met x.kept;
-  complete = λ V x e h. inl (record {
+  sound = λ r V x l. nothing_met x.kept;
+  complete = λ named V x e h. inl (record {
     same = refl;
     types = with_type V n (build V);
     on = record {
@@ -106,7 +106,7 @@ node_made {F} {scope} {G} {a} {b} {s} {t} {n} {c} build r opened made rest build
       agrees = agrees_same a b rest.types rest.written e.inside (older V (build V)) e.agrees;
     };
   });
-  first = λ k V x e h. first_none k x;
+  first = λ named k V x e h. first_none k x;
 }
   where
     older : (V : Types) (x : Typ) → SameAt a.nodes V (with_type V n x)
@@ -177,9 +177,9 @@ key_known {F} {scope} {G} {a} {m} key p = record {
   judged = [];
   told = [];
   reports = sym (append-nil a.reports);
-  sound = λ V c l. record { same = refl; holds = (subst IsKnown (sym l.agrees.given.0.is) l.agrees.given.0.known, tt); tells = refl };
-  complete = complete;
-  first = first_one (λ c. known (value_of c.chosen key)) complete;
+  sound = λ r V c l. record { same = refl; holds = (subst IsKnown (sym l.agrees.given.0.is) l.agrees.given.0.known, tt); tells = refl };
+  complete = λ named. complete;
+  first = λ named. first_one (λ c. known (value_of c.chosen key)) complete;
 }
   where
     complete : (V : Types) (c : Context) → Enters F scope a G V c → AllHold c.kept (known (value_of c.chosen key) ∷ []) →
@@ -202,11 +202,11 @@ same_made {F} {scope} {G} {a} {m} {type} key free p = record {
   judged = [];
   told = [];
   reports = sym (append-nil a.reports);
-  sound = λ V c l.
+  sound = λ r V c l.
       let before = agrees_before (stays_opened {F = F} key p.open_node.inside) l.agrees in
       record { same = refl; holds = (l.agrees.given.0.is ∙ sym (p.is V c.chosen (fits_loosely a.nodes V l.reads.fits) before), tt); tells = refl };
-  complete = complete;
-  first = first_one (λ c. same (value_of c.chosen key) (type c.chosen)) complete;
+  complete = λ named. complete;
+  first = λ named. first_one (λ c. same (value_of c.chosen key) (type c.chosen)) complete;
 }
   where
     complete : (V : Types) (c : Context) → Enters F scope a G V c → AllHold c.kept (same (value_of c.chosen key) (type c.chosen) ∷ []) →
@@ -228,9 +228,9 @@ told_first {F} {scope} {G} {a} n = record {
   judged = [];
   told = [];
   reports = sym (append-nil a.reports);
-  sound = λ V c l. record { same = refl; holds = (tt, tt); tells = refl };
-  complete = complete;
-  first = first_one (λ c. treated n c.env) complete;
+  sound = λ r V c l. record { same = refl; holds = (tt, tt); tells = refl };
+  complete = λ named. complete;
+  first = λ named. first_one (λ c. treated n c.env) complete;
 }
   where
     complete : (V : Types) (c : Context) → Enters F scope a G V c → AllHold c.kept (tell n c) → Continues F (tell n) a a G [] V c ⊎ FallsShort [] []

@@ -1,5 +1,5 @@
 -- Back out of a frame one level further in: the names that were typed in it are closed.
-use Rattle.std.proofs.Common.{◌≡◌, ◌≢◌, ◌∙◌, ◌⊎◌, ℕ, zero, suc, ◌<◌, ◌≤◌, min, true, List, [], ◌∷◌, ◌++◌, length, Some, sym, ap, subst, arith, inl, inr}
+use Rattle.std.proofs.Common.{◌≡◌, ◌≢◌, ◌∙◌, ◌⊎◌, ℕ, zero, suc, ◌<◌, ◌≤◌, min, true, List, [], ◌∷◌, ◌++◌, length, Some, refl, sym, ap, subst, arith, inl, inr}
 use Rattle.std.specs.Prelude.{slice_get}
 use Rattle.type_model.specs.Types.{occurs}
 use Rattle.signature_model.specs.Declarations.{Name}
@@ -7,6 +7,8 @@ use Rattle.typing_model.specs.Contexts.{Context}
 use Rattle.type_nodes.specs.Nodes.{Var, bound_level, IsSound, IsNode}
 use Rattle.type_nodes.specs.Readings.{Types, Fits, IsReading}
 use Rattle.level_unify.specs.Solutions.{Loose}
+use Rattle.level_unify.specs.Instances.{is_bound}
+use Rattle.level_unify.proofs.Variants.{bound_cell, bound_there}
 use Rattle.typing_environments.specs.Locals.{IsOwn, stands_in_any, Within, Refines, Local, IsContext, ClosesAll}
 use Rattle.typing_environments.specs.Standing.{IsIn}
 use Rattle.typing_environments.proofs.Own.{own_of}
@@ -20,7 +22,7 @@ use Rattle.typing_conditions.specs.Sights.{Sight, Letters, AreNodes, IsInside}
 use Rattle.typing_conditions.specs.Frames.{Frame, Reaches, IsHeld, IsOpenAt, IsOpen, inner_frame, GoesIn}
 use Rattle.typing_conditions.specs.Meanings.{KnowsWritten}
 use Rattle.typing_conditions.specs.Steps.{OnlyLevel}
-use Rattle.typing_conditions.specs.Carrying.{Asks, Scope, Enters, Stays, Carried}
+use Rattle.typing_conditions.specs.Carrying.{Asks, Scope, HoldsWritten, Enters, Stays, Carried}
 use Rattle.typing_conditions.proofs.Meaning.{inside_longer}
 use Rattle.typing_conditions.proofs.Inward.{agrees_as, reached_inward, written_inward}
 
@@ -162,7 +164,11 @@ module _ {F : Frame} {scope : Scope} {asks : Asks} {a b c d : Sight} {J : Types}
   }
 
   writes : KnowsWritten F a → KnowsWritten F d
-  writes k = record { each = λ x m e. open_at x m (sym (l.out.written x) ∙ e) k }
+  writes k = record {
+    each = λ x m e. open_at x m (sym (l.out.written x) ∙ e) k;
+    names = written_there.names;
+    listed = λ x m e. written_there.listed x m (sym (l.out.written x) ∙ e);
+  }
     where
       lower : (l : ℕ) → 1 ≤ l → min (suc l) 1 ≡ min l 1
       lower l le = grind arith
@@ -225,14 +231,16 @@ module _ {F : Frame} {scope : Scope} {asks : Asks} {a b c d : Sight} {J : Types}
     judged = l.part.judged;
     told = l.part.told;
     reports = l.out.reports ∙ l.part.reports ∙ ap (λ rs. rs ++ l.part.told) l.only.reports;
-    sound = λ V x at. l.part.sound V x (record {
+    sound = λ r V x at. l.part.sound (reached_inward l.goes_in l.only l.raised) V x (record {
       under = at.under;
       reads = let (K, own_k, closes) = any_closing in reads_closed c.nodes d.nodes K V names F.level closes at.reads;
       agrees = agrees_as d c (λ i k. sym (l.out.types i k)) (λ y. sym (l.out.written y)) at.agrees;
       hidden_too = at.hidden_too;
+      named = named_there at.named;
+      unbound = λ k y e v b. at.unbound k y e v (still_bound v b);
       kept = at.kept;
     });
-    complete = λ V x e h. elim (l.part.complete V x (enters V x e) h) [
+    complete = λ named V x e h. elim (l.part.complete (named_there named) V x (enters V x e) h) [
       | inl goes ↦ inl (record {
         same = goes.same;
         types = goes.types;
@@ -244,5 +252,16 @@ module _ {F : Frame} {scope : Scope} {asks : Asks} {a b c d : Sight} {J : Types}
       })
       | inr short ↦ inr short
     ];
-    first = λ k V x e h. l.part.first k V x (enters V x e) h;
+    first = λ named k V x e h. l.part.first (named_there named) k V x (enters V x e) h;
   }
+    where
+      named_there : HoldsWritten scope d → HoldsWritten scope c
+      named_there named x m e = named x m (l.out.written x ∙ e)
+
+      -- what was bound before the closing is bound after it
+      still_bound : (v : ℕ) → is_bound c.nodes v ≡ true → is_bound d.nodes v ≡ true
+      still_bound v b =
+          let (scope, at) = bound_cell c.nodes v b in
+          let (K, own_k, closes) = any_closing in
+          bound_there d.nodes v (Var bound_level scope)
+          (closes.stays v (λ l o e free above stands. absurd (free (same_node c.nodes v l o bound_level scope e at))) ∙ at) refl

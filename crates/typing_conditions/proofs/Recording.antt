@@ -19,9 +19,9 @@ use Rattle.typing_conditions.specs.Sights.{Sight, number_in, Letters, AreNodes, 
 use Rattle.typing_conditions.specs.Frames.{Frame, Reaches}
 use Rattle.typing_conditions.specs.Judging.{judgements, StartsWith, FallsShort, TellAll, Meets}
 use Rattle.typing_conditions.specs.Steps.{Records}
-use Rattle.typing_conditions.specs.Carrying.{Asks, Scope, Enters, ReadsOff, GoesOn, Stays, Continues, Carried, CarriedTo, EndsAs}
+use Rattle.typing_conditions.specs.Carrying.{Asks, Scope, HoldsWritten, Enters, ReadsOff, GoesOn, Stays, Continues, Carried, CarriedTo, EndsAs}
 use Rattle.typing_conditions.proofs.Judged.{hold_both, hold_left, hold_right, judged_both, given_left, given_right, given_both, tell_both, starts_all}
-use Rattle.typing_conditions.proofs.Stays.{stays_trans, stays_closed}
+use Rattle.typing_conditions.proofs.Stays.{stays_trans, stays_closed, named_before, bounds_before}
 use Rattle.typing_conditions.proofs.Framing.{open_on, reaches_same, written_next}
 use Rattle.typing_conditions.proofs.Carried.{Decides, take_none, less_or_more}
 use Rattle.typing_conditions.proofs.First.{starts_none}
@@ -132,15 +132,23 @@ row_recorded {F} {scope} {asks} {ends} {type} {a} {b} {d} {G} own n {p} {m} numb
     at_node : {H : Letters} (V : Types) (ch : Choice) → Agrees F.owner d H V ch → ch.type_at n ≡ V m
     at_node V ch g = ap ch.type_at (sym number) ∙ g.recorded b.item p m (here_now r)
 
-    sound : (V : Types) (c : Context) → ReadsOff F scope d G (it.hidden ++ own) it.judged V c → Meets c.kept (tell_typed n c ++ (asks c ++ ends c)) it.judged it.told
-    sound V c l =
+    sound : Reaches F a → (V : Types) (c : Context) → ReadsOff F scope d G (it.hidden ++ own) it.judged V c → Meets c.kept (tell_typed n c ++ (asks c ++ ends c)) it.judged it.told
+    sound reached V c l =
         let g : Agrees F.owner b (own ++ G) V c.chosen = record {
           recorded = λ i q x e. l.agrees.recorded i q x (still_there r i q x e);
           known = λ i q x e. l.agrees.known i q x (still_there r i q x e);
           written = λ x y e. l.agrees.written x y (r.written x ∙ e);
           given = given_both V c.chosen own G (given_right V c.chosen it.hidden own l.hidden_too) l.agrees.given;
         } in
-        let meets = it.sound V c (record { under = l.under; reads = (recorded G).reads V l.reads; agrees = g; hidden_too = given_left V c.chosen it.hidden own l.hidden_too; kept = l.kept }) in
+        let meets = it.sound reached V c (record {
+          under = l.under;
+          reads = (recorded G).reads V l.reads;
+          agrees = g;
+          hidden_too = given_left V c.chosen it.hidden own l.hidden_too;
+          named = named_before scope (recorded G) l.named;
+          unbound = bounds_before scope c.chosen (recorded G) (it.stays.reaches reached) l.unbound;
+          kept = l.kept;
+        }) in
         let here = at_node V c.chosen l.agrees in
         let typed = row.means.is V c.chosen (fits_loosely b.nodes V ((recorded G).reads V l.reads).fits) g in
         record {
@@ -171,27 +179,27 @@ row_recorded {F} {scope} {asks} {ends} {type} {a} {b} {d} {G} own n {p} {m} numb
     judged_ends : (c : Context) (cs : List Condition) → judgements c.kept cs ≡ [] → judgements c.kept (asks c ++ cs) ≡ judgements c.kept (asks c)
     judged_ends c cs e = judged_both c.kept (asks c) cs ∙ ap (λ js. judgements c.kept (asks c) ++ js) e ∙ append-nil (judgements c.kept (asks c))
 
-    complete : (V : Types) (c : Context) → Enters F scope a G V c → AllHold c.kept (tell_typed n c ++ (asks c ++ ends c)) →
+    complete : HoldsWritten scope d → (V : Types) (c : Context) → Enters F scope a G V c → AllHold c.kept (tell_typed n c ++ (asks c ++ ends c)) →
         Continues F (λ x. tell_typed n x ++ (asks x ++ ends x)) a d G it.judged V c ⊎ FallsShort (judgements c.kept (asks c ++ ends c)) it.judged
-    complete V c e h = elim (it.complete V c e (hold_left c.kept (asks c) (ends c) h.1.1)) [
+    complete named V c e h = elim (it.complete (named_before scope (recorded G) named) V c e (hold_left c.kept (asks c) (ends c) h.1.1)) [
       | inl on ↦ inl (record { same = judged_ends c (ends c) (end.silent c) ∙ on.same; types = on.types; on = goes V c h.1.0 (hold_right c.kept (asks c) (ends c) h.1.1) on })
       | inr short ↦ inr (subst (λ js. FallsShort js it.judged) (sym (judged_ends c (ends c) (end.silent c))) short)
     ]
 
     -- the first of what the row asks, and of its end
-    first_of : (k : ℕ) (V : Types) (c : Context) → Enters F scope a G V c → AllHold c.kept (take k (asks c ++ ends c)) → (k ≤ length (asks c)) ⊎ ((i : ℕ) × (k ≡ length (asks c) + i)) → Decides c it.judged (take k (asks c ++ ends c))
-    first_of k V c e h (inl le) =
+    first_of : HoldsWritten scope d → (k : ℕ) (V : Types) (c : Context) → Enters F scope a G V c → AllHold c.kept (take k (asks c ++ ends c)) → (k ≤ length (asks c)) ⊎ ((i : ℕ) × (k ≡ length (asks c) + i)) → Decides c it.judged (take k (asks c ++ ends c))
+    first_of named k V c e h (inl le) =
         let here = take-append-le k (asks c) (ends c) le in
-        subst (Decides c it.judged) (sym here) (it.first k V c e (subst (AllHold c.kept) here h))
-    first_of k V c e h (inr (i, eq)) =
+        subst (Decides c it.judged) (sym here) (it.first (named_before scope (recorded G) named) k V c e (subst (AllHold c.kept) here h))
+    first_of named k V c e h (inr (i, eq)) =
         let here = ap (λ j. take j (asks c ++ ends c)) eq ∙ take-append-add (asks c) (ends c) i in
         let judged = judged_ends c (take i (ends c)) (end.silent_first i c) in
-        subst (Decides c it.judged) (sym here) (elim (it.complete V c e (hold_left c.kept (asks c) (take i (ends c)) (subst (AllHold c.kept) here h))) [
+        subst (Decides c it.judged) (sym here) (elim (it.complete (named_before scope (recorded G) named) V c e (hold_left c.kept (asks c) (take i (ends c)) (subst (AllHold c.kept) here h))) [
           | inl on ↦ inl (subst (StartsWith it.judged) (sym (judged ∙ on.same)) (starts_all it.judged))
           | inr short ↦ inr (subst (λ js. FallsShort js it.judged) (sym judged) short)
         ])
 
-    first : (k : ℕ) (V : Types) (c : Context) → Enters F scope a G V c → AllHold c.kept (take k (tell_typed n c ++ (asks c ++ ends c))) → Decides c it.judged (take k (tell_typed n c ++ (asks c ++ ends c)))
-    first zero V c e h = inl (starts_none it.judged)
-    first (suc zero) V c e h = inl (starts_none it.judged)
-    first (suc (suc k)) V c e h = first_of k V c e h.1.1 (less_or_more k (length (asks c)))
+    first : HoldsWritten scope d → (k : ℕ) (V : Types) (c : Context) → Enters F scope a G V c → AllHold c.kept (take k (tell_typed n c ++ (asks c ++ ends c))) → Decides c it.judged (take k (tell_typed n c ++ (asks c ++ ends c)))
+    first named zero V c e h = inl (starts_none it.judged)
+    first named (suc zero) V c e h = inl (starts_none it.judged)
+    first named (suc (suc k)) V c e h = first_of named k V c e h.1.1 (less_or_more k (length (asks c)))

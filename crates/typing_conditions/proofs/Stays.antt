@@ -1,13 +1,14 @@
 -- What stays, through one call after another.
 use Rattle.std.proofs.Common.{◌∙◌, ◌∷◌, ◌++◌, refl, arith, ℕ}
 use Rattle.typing_model.specs.Contexts.{Choice, Context}
-use Rattle.type_nodes.specs.Nodes.{IsNode}
+use Rattle.type_nodes.specs.Nodes.{Var, bound_level, IsNode}
 use Rattle.type_nodes.specs.Readings.{Types}
+use Rattle.level_unify.proofs.Variants.{bound_cell, bound_there}
 use Rattle.typing_environments.proofs.Own.{own_of}
 use Rattle.typing_environments.proofs.Steps.{refines_none, refines_then}
 use Rattle.typing_conditions.specs.Sights.{Sight, Key, Letters, Agrees}
-use Rattle.typing_conditions.specs.Frames.{Frame}
-use Rattle.typing_conditions.specs.Carrying.{Scope, Stays, GoesOn, Enters}
+use Rattle.typing_conditions.specs.Frames.{Frame, Reaches}
+use Rattle.typing_conditions.specs.Carrying.{Scope, HoldsWritten, HoldsUnbound, Stays, GoesOn, Enters}
 use Rattle.typing_conditions.proofs.Judged.{nodes_right}
 
 -- where nothing is done everything stays
@@ -77,6 +78,17 @@ agrees_before s {owner} {V} {ch} h = record {
   written = λ x m e. h.written x m (s.written x m e);
   given = s.given V ch h.given;
 }
+
+-- what a scope holds of the type variables that are written now it held of those that were written before
+pub named_before : {F : Frame} {a b : Sight} {G H : Letters} (scope : Scope) → Stays F a G b H → HoldsWritten scope b → HoldsWritten scope a
+named_before scope s named x m e = named x m (s.written x m e)
+
+-- what is bound stays bound, so what isn't bound now wasn't before
+pub bounds_before : {F : Frame} {a b : Sight} {G H : Letters} (scope : Scope) (ch : Choice) → Stays F a G b H → Reaches F a → HoldsUnbound F scope b ch → HoldsUnbound F scope a ch
+bounds_before {a = a} {b = b} scope ch s r unbound k x e v bound =
+    let (scope, at) = bound_cell a.nodes v bound in
+    let own = own_of b.nodes (s.reaches r).sound in
+    unbound k x e v (bound_there b.nodes v (Var bound_level scope) ((s.refines r own.0 own.1).bounds v scope at) refl)
 
 -- types that go on enter the next state
 pub enters_next : {F : Frame} {scope : Scope} {a b : Sight} {G H : Letters} {V W : Types} {c : Context} → Stays F a G b H → Enters F scope a G V c → GoesOn F a b H V W c.chosen → Enters F scope b H W c

@@ -32,7 +32,7 @@ use Rattle.typing_conditions.specs.Frames.{Frame, Reaches, IsRoot}
 use Rattle.typing_conditions.specs.Meanings.{Means, KnowsFixed, KnowsWritten}
 use Rattle.typing_conditions.specs.Carrying.{Scope, Stays}
 use Rattle.typing_conditions.specs.Surroundings.{Declared, IsSteady, Surrounds, with_one, IsEntry}
-use Rattle.typing_conditions.proofs.Stays.{agrees_before}
+use Rattle.typing_conditions.proofs.Stays.{agrees_before, named_before, bounds_before}
 use Rattle.typing_conditions.proofs.Framing.{root_on}
 use Rattle.typing_conditions.proofs.Meaning.{fixed_on}
 
@@ -47,9 +47,10 @@ pub covers_declared : {D D' : Declaration → rules.Declaration → Type 0} {X X
 covers_declared {D} {D'} {X} {X'} C more also (E, h) = (E, env_map (λ r sc. IsIn C r) (λ r sc. IsIn C r) D D' X X' (λ r sc k. k) more also h)
 
 -- no names stand for none
-pub surrounds_none : {D : Declared} {F : Frame} {a : Sight} {G : Letters} {scope : Scope} → IsSteady D → ((ch : Choice) → scope.env ch ≡ []) → Reaches F a → KnowsFixed F a → KnowsWritten F a → scope.variables ≡ in_item F.owner → Surrounds D F a G [] scope
-surrounds_none {D} {F} {a} {G} {scope} steady none reached fixed written item = record {
+pub surrounds_none : {D : Declared} {F : Frame} {a : Sight} {G : Letters} {scope : Scope} → IsSteady D → ((ch : Choice) → scope.env ch ≡ []) → Reaches F a → 1 ≤ F.level → KnowsFixed F a → KnowsWritten F a → scope.variables ≡ in_item F.owner → Surrounds D F a G [] scope
+surrounds_none {D} {F} {a} {G} {scope} steady none reached inside fixed written item = record {
   reached = reached;
+  inside = inside;
   fixed = fixed;
   written = written;
   item = item;
@@ -58,14 +59,15 @@ surrounds_none {D} {F} {a} {G} {scope} steady none reached fixed written item = 
   steady = steady;
   are_roots = λ k r e. absurd (cc);
   covered = ([], no_names);
-  reads = λ J V ch own reads g. subst (Stands SchemeReads (D.declaration a.nodes [] type.Var) (D.exception a.nodes [] type.Var) a.nodes J [] V []) (sym (none ch)) (record { names = no_names; brings = λ u w free h o. absurd (no_yes h) });
-  fits = λ J V ch own loose g. subst (Stands SchemeFits (D.declaration a.nodes [] type.Var) (D.exception a.nodes [] type.Var) a.nodes J [] V []) (sym (none ch)) (record { names = no_names; brings = λ u w free h o. absurd (no_yes h) });
+  reads = λ J V ch own reads g named unbound. subst (Stands SchemeReads (D.declaration a.nodes [] type.Var) (D.exception a.nodes [] type.Var) a.nodes J [] V []) (sym (none ch)) (record { names = no_names; brings = λ u w free h o. absurd (no_yes h) });
+  fits = λ J V ch own loose g named. subst (Stands SchemeFits (D.declaration a.nodes [] type.Var) (D.exception a.nodes [] type.Var) a.nodes J [] V []) (sym (none ch)) (record { names = no_names; brings = λ u w free h o. absurd (no_yes h) });
 }
 
 -- the names stand for the same after a call
 unfoldable pub surrounds_on : {D : Declared} {F : Frame} {a b : Sight} {G H : Letters} {env : List Entry} {scope : Scope} → Stays F a G b H → Surrounds D F a G env scope → Surrounds D F b H env scope
 surrounds_on {D} {F} {a} {b} {G} {H} {env} {scope} s at = record {
   reached = s.reaches at.reached;
+  inside = at.inside;
   fixed = fixed_on s at.fixed;
   written = s.writes at.written;
   item = at.item;
@@ -74,14 +76,14 @@ surrounds_on {D} {F} {a} {b} {G} {H} {env} {scope} s at = record {
   steady = at.steady;
   are_roots = λ k r e. root_on s at.reached (at.are_roots k r e);
   covered = let own = own_of b.nodes (s.reaches at.reached).sound in covers_declared at.roots (declared own.0 own.1) (excepted own.0 own.1) at.covered;
-  reads = λ K V ch own reads g.
+  reads = λ K V ch own reads g named unbound.
       let before = own_of a.nodes at.reached.sound in
       stands_declared (declared K own) (excepted K own) (stands_reads_on (D.declaration a.nodes at.roots at.names) (D.exception a.nodes at.roots at.names) a.nodes b.nodes before.0 K at.roots before.1 own (s.refines at.reached K own) (λ k c e. (at.are_roots k c e).inside) V env (scope.env ch) reads
-      (at.reads before.0 V ch before.1 (s.reads V reads) (agrees_before s g)));
-  fits = λ K V ch own loose g.
+      (at.reads before.0 V ch before.1 (s.reads V reads) (agrees_before s g) (named_before scope s named) (bounds_before scope ch s at.reached unbound)));
+  fits = λ K V ch own loose g named.
       let before = own_of a.nodes at.reached.sound in
       stands_declared (declared K own) (excepted K own) (stands_fits_on (D.declaration a.nodes at.roots at.names) (D.exception a.nodes at.roots at.names) a.nodes b.nodes before.0 K at.roots before.1 own (s.refines at.reached K own) (λ k c e. (at.are_roots k c e).inside) V V env (scope.env ch) (λ n lt. refl) loose
-      (at.fits before.0 V ch before.1 (s.loose V loose) (agrees_before s g)));
+      (at.fits before.0 V ch before.1 (s.loose V loose) (agrees_before s g) (named_before scope s named)));
 }
   where
     declared : (K : Types) → IsOwn b.nodes K → (d : Declaration) (e : rules.Declaration) → D.declaration a.nodes at.roots at.names d e → D.declaration b.nodes at.roots at.names d e
@@ -95,6 +97,7 @@ pub surrounds_named : {D : Declared} {F : Frame} {a : Sight} {G : Letters} {env 
     ((V : Types) (ch : Choice) → Loose a.nodes V → Agrees F.owner a G V ch → IsKnown (V n.0)) → Surrounds D F a G env scope → Surrounds D F a G (e ∷ env) (with_one x place type scope)
 surrounds_named {D} {F} {a} {G} {env} {scope} {type} {e} {x} {n} place is p known at = record {
   reached = at.reached;
+  inside = at.inside;
   fixed = at.fixed;
   written = at.written;
   item = at.item;
@@ -108,15 +111,15 @@ surrounds_named {D} {F} {a} {G} {env} {scope} {type} {e} {x} {n} place is p know
         (env_map (λ r sc. IsIn at.roots r) (λ r sc. IsIn (n.0 ∷ at.roots) r) (D.declaration a.nodes at.roots at.names) (D.declaration a.nodes (n.0 ∷ at.roots) at.names) (D.exception a.nodes at.roots at.names) (D.exception a.nodes (n.0 ∷ at.roots) at.names)
         (λ r sc h. more_in at.roots n.0 r h) (let own = own_of a.nodes at.reached.sound in declared own.0 own.1) (let own = own_of a.nodes at.reached.sound in excepted own.0 own.1) at.covered.1),
   );
-  reads = λ J V ch own reads g.
+  reads = λ J V ch own reads g named unbound.
       let loose = fits_loosely a.nodes V reads.fits in
       let scheme = one_type_reads a.nodes J V n.0 own reads p.open_node.inside (known V ch loose g) (λ v o. free J own v o) in
       subst (λ t. Stands SchemeReads (D.declaration a.nodes (n.0 ∷ at.roots) at.names) (D.exception a.nodes (n.0 ∷ at.roots) at.names) a.nodes J (n.0 ∷ at.roots) V (e ∷ env) (entry x place (a_value (monomorphic t)) ∷ scope.env ch)) (sym (p.is V ch loose g))
-      (stands_declared (declared J own) (excepted J own) (stands_named SchemeReads (D.declaration a.nodes at.roots at.names) (D.exception a.nodes at.roots at.names) a.nodes J V at.roots env (scope.env ch) own e x place n (monomorphic (V n.0)) is.named is.kind is.is scheme scheme.free (at.reads J V ch own reads g)));
-  fits = λ J V ch own loose g.
+      (stands_declared (declared J own) (excepted J own) (stands_named SchemeReads (D.declaration a.nodes at.roots at.names) (D.exception a.nodes at.roots at.names) a.nodes J V at.roots env (scope.env ch) own e x place n (monomorphic (V n.0)) is.named is.kind is.is scheme scheme.free (at.reads J V ch own reads g named unbound)));
+  fits = λ J V ch own loose g named.
       let scheme = one_type_fits a.nodes J V n.0 own loose p.open_node.inside (known V ch loose g) in
       subst (λ t. Stands SchemeFits (D.declaration a.nodes (n.0 ∷ at.roots) at.names) (D.exception a.nodes (n.0 ∷ at.roots) at.names) a.nodes J (n.0 ∷ at.roots) V (e ∷ env) (entry x place (a_value (monomorphic t)) ∷ scope.env ch)) (sym (p.is V ch loose g))
-      (stands_declared (declared J own) (excepted J own) (stands_named SchemeFits (D.declaration a.nodes at.roots at.names) (D.exception a.nodes at.roots at.names) a.nodes J V at.roots env (scope.env ch) own e x place n (monomorphic (V n.0)) is.named is.kind is.is scheme scheme.free (at.fits J V ch own loose g)));
+      (stands_declared (declared J own) (excepted J own) (stands_named SchemeFits (D.declaration a.nodes at.roots at.names) (D.exception a.nodes at.roots at.names) a.nodes J V at.roots env (scope.env ch) own e x place n (monomorphic (V n.0)) is.named is.kind is.is scheme scheme.free (at.fits J V ch own loose g named)));
 }
   where
     declared : (J : Types) → IsOwn a.nodes J → (d : Declaration) (f : rules.Declaration) → D.declaration a.nodes at.roots at.names d f → D.declaration a.nodes (n.0 ∷ at.roots) at.names d f

@@ -31,13 +31,13 @@ test_judged {F} {scope} {G} {complaint} {holds} {at} {kind} {place} {a} {b} s tr
   judged = judged_as s true;
   told = [];
   reports = tells ∙ sym (append-nil a.reports);
-  sound = λ V c l. record {
+  sound = λ r V c l. record {
     same = ap (judged_as s) l.kept.0;
     holds = ((λ kept. is.truth c l.under), tt);
     tells = subst (λ t. TellBy t (at c) (test (complaint c) (holds c)) (λ later. later ≡ []) []) (sym l.kept.0) refl;
   };
-  complete = λ V c e h. by V c e (c.kept s) refl;
-  first = first_one (λ c. demand s (at c) (test (complaint c) (holds c))) (λ V c e h. by V c e (c.kept s) refl);
+  complete = λ named V c e h. by V c e (c.kept s) refl;
+  first = λ named. first_one (λ c. demand s (at c) (test (complaint c) (holds c))) (λ V c e h. by V c e (c.kept s) refl);
 }
   where
     by : (V : Types) (c : Context) → Enters F scope a G V c → (t : Bool) → c.kept s ≡ t →
@@ -50,14 +50,14 @@ test_judged {F} {scope} {G} {complaint} {holds} {at} {kind} {place} {a} {b} s fa
   judged = judged_as s false;
   told = tells.report ∷ [];
   reports = tells.reports;
-  sound = λ V c l. record {
+  sound = λ r V c l. record {
     same = ap (judged_as s) l.kept.0;
     holds = ((λ kept. absurd (not_both l.kept.0 kept)), tt);
     tells = subst (λ t. TellBy t (at c) (test (complaint c) (holds c)) (λ later. later ≡ []) (tells.report ∷ [])) (sym l.kept.0)
         (tells.report, [], refl, record { place = tells.place ∙ sym (is.here c l.under); kind = tells.is_kind ∙ sym (is.is_kind c l.under) }, refl);
   };
-  complete = λ V c e h. by V c e h.0 (c.kept s) refl;
-  first = first_one (λ c. demand s (at c) (test (complaint c) (holds c))) (λ V c e h. by V c e h.0 (c.kept s) refl);
+  complete = λ named V c e h. by V c e h.0 (c.kept s) refl;
+  first = λ named. first_one (λ c. demand s (at c) (test (complaint c) (holds c))) (λ V c e h. by V c e h.0 (c.kept s) refl);
 }
   where
     by : (V : Types) (c : Context) → Enters F scope a G V c → (c.kept s ≡ true → holds c ≡ true) → (t : Bool) → c.kept s ≡ t →
@@ -94,9 +94,9 @@ closing_judged {F} {scope} {G} {env} {body} {a} {b} s at v rest tells = by v tel
       judged = closing_as s true;
       told = [];
       reports = tells ∙ sym (append-nil a.reports);
-      sound = λ V c l. record { same = ap (closing_as s) l.kept.0; holds = ((λ kept. tt), tt); tells = subst (λ t. TellBy t at (closes (env c) (body c)) (λ later. later ≡ []) []) (sym l.kept.0) refl };
-      complete = complete true;
-      first = first_one (λ c. demand s at (closes (env c) (body c))) (complete true);
+      sound = λ r V c l. record { same = ap (closing_as s) l.kept.0; holds = ((λ kept. tt), tt); tells = subst (λ t. TellBy t at (closes (env c) (body c)) (λ later. later ≡ []) []) (sym l.kept.0) refl };
+      complete = λ named. complete true;
+      first = λ named. first_one (λ c. demand s at (closes (env c) (body c))) (complete true);
     }
     by false tells = record {
       stays = reports_stay rest;
@@ -104,11 +104,11 @@ closing_judged {F} {scope} {G} {env} {body} {a} {b} s at v rest tells = by v tel
       judged = closing_as s false;
       told = tells.report ∷ [];
       reports = tells.reports;
-      sound = λ V c l. record {
+      sound = λ r V c l. record {
         same = ap (closing_as s) l.kept.0;
         holds = ((λ kept. tt), tt);
         tells = subst (λ t. TellBy t at (closes (env c) (body c)) (λ later. later ≡ []) (tells.report ∷ [])) (sym l.kept.0) (tells.report, [], refl, record { place = tells.place; kind = tells.is_kind }, refl);
       };
-      complete = complete false;
-      first = first_one (λ c. demand s at (closes (env c) (body c))) (complete false);
+      complete = λ named. complete false;
+      first = λ named. first_one (λ c. demand s at (closes (env c) (body c))) (complete false);
     }

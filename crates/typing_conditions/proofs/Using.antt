@@ -27,9 +27,9 @@ use Rattle.typing_conditions.specs.Sights.{Sight, Key, value_of, Letters, IsKnow
 use Rattle.typing_conditions.specs.Frames.{Frame, Reaches, IsOpen, IsRoot}
 use Rattle.typing_conditions.specs.Judging.{judgements, StartsWith, TellAll}
 use Rattle.typing_conditions.specs.Steps.{OnlyNodes}
-use Rattle.typing_conditions.specs.Carrying.{Scope, Enters, ReadsOff, Stays, Continues, CarriedTo}
+use Rattle.typing_conditions.specs.Carrying.{Scope, HoldsWritten, Enters, ReadsOff, Stays, Continues, CarriedTo}
 use Rattle.typing_conditions.specs.Surroundings.{Declared, Surrounds}
-use Rattle.typing_conditions.proofs.Stays.{agrees_before}
+use Rattle.typing_conditions.proofs.Stays.{agrees_before, named_before, bounds_before}
 use Rattle.typing_conditions.proofs.Framing.{open_instance, written_next}
 use Rattle.typing_conditions.proofs.Carried.{take_none}
 use Rattle.typing_conditions.proofs.First.{starts_none}
@@ -83,13 +83,13 @@ name_used {D} {F} {scope} {G} {env} {a} {b} {ms} {x} {m} key free at it = record
     judged = [];
     told = [];
     reports = it.rest.reports ∙ sym (append-nil a.reports);
-    sound = λ V c l. record {
+    sound = λ r V c l. record {
       same = used_silent c.kept (scheme_found c.env ms x) (value_of c.chosen key);
       holds = sound V c l;
       tells = used_tells c.kept (scheme_found c.env ms x) (value_of c.chosen key);
     };
-    complete = λ V c e h. inl (complete V c e h);
-    first = λ k V c e h. inl (subst (StartsWith []) (sym (used_silent_first c.kept k (scheme_found c.env ms x) (value_of c.chosen key))) (starts_none []));
+    complete = λ named V c e h. inl (complete named V c e h);
+    first = λ named k V c e h. inl (subst (StartsWith []) (sym (used_silent_first c.kept k (scheme_found c.env ms x) (value_of c.chosen key))) (starts_none []));
   };
   means = record { open_node = opened; is = λ V ch loose g. g.given.0.is };
 }
@@ -126,15 +126,15 @@ name_used {D} {F} {scope} {G} {env} {a} {b} {ms} {x} {m} key free at it = record
 
     sound : (V : Types) (c : Context) → ReadsOff F scope b ((key, m) ∷ G) [] [] V c → AllHold c.kept (used_if (scheme_found c.env ms x) (value_of c.chosen key))
     sound V c l =
-        let stand = at.reads own.0 V c.chosen own.1 (stays.reads V l.reads) (agrees_before stays l.agrees) in
+        let stand = at.reads own.0 V c.chosen own.1 (stays.reads V l.reads) (agrees_before stays l.agrees) (named_before scope stays l.named) (bounds_before scope c.chosen stays at.reached l.unbound) in
         let found = finds_scheme (λ k sc. SchemeReads a.nodes V k sc × IsIn at.roots k) (D.declaration a.nodes at.roots at.names) (D.exception a.nodes at.roots at.names) it.root ms x it.entry it.finds it.is stand.names in
         let used = use_sound a.nodes b.nodes V it.root.0 F.level m found.scheme it.taken l.reads found.holds.0 in
         used_holds c.kept (scheme_found c.env ms x) found.scheme (value_of c.chosen key) (ap (λ E. scheme_found E ms x) l.under.env ∙ found.is) (subst (IsUse found.scheme) (sym l.agrees.given.0.is) used)
 
-    complete : (V : Types) (c : Context) → Enters F scope a G V c → AllHold c.kept (used_if (scheme_found c.env ms x) (value_of c.chosen key)) →
+    complete : HoldsWritten scope b → (V : Types) (c : Context) → Enters F scope a G V c → AllHold c.kept (used_if (scheme_found c.env ms x) (value_of c.chosen key)) →
         Continues F (λ y. used_if (scheme_found y.env ms x) (value_of y.chosen key)) a b ((key, m) ∷ G) [] V c
-    complete V c e h =
-        let stand = at.fits own.0 V c.chosen own.1 (fits_loosely a.nodes V e.fits) e.agrees in
+    complete named V c e h =
+        let stand = at.fits own.0 V c.chosen own.1 (fits_loosely a.nodes V e.fits) e.agrees (named_before scope stays named) in
         let found = finds_scheme (λ k sc. SchemeFits a.nodes V k sc × IsIn at.roots k) (D.declaration a.nodes at.roots at.names) (D.exception a.nodes at.roots at.names) it.root ms x it.entry it.finds it.is stand.names in
         let used = used_asks c.kept (scheme_found c.env ms x) found.scheme (value_of c.chosen key) (ap (λ E. scheme_found E ms x) e.under.env ∙ found.is) h in
         let (W, fits, same, is) = use_complete a.nodes b.nodes V it.root.0 F.level m found.scheme (value_of c.chosen key) it.taken e.fits found.holds.0 used in

@@ -112,9 +112,9 @@ module _ (F : Frame) (a b : Sight) (s t : List Change) (n : ℕ) (x : Name) (r :
       judged = [];
       told = [];
       reports = w.reports ∙ sym (append-nil a.reports);
-      sound = λ V c l. nothing_met c.kept;
-      complete = λ V c e h. inl (record { same = refl; types = with_type V n (c.chosen.written F.owner x); on = goes V c e });
-      first = λ k V c e h. first_none k c;
+      sound = λ r V c l. nothing_met c.kept;
+      complete = λ named V c e h. inl (record { same = refl; types = with_type V n (c.chosen.written F.owner x); on = goes V c e });
+      first = λ named k V c e h. first_none k c;
     };
     means = record { open_node = open_lower (min_left F.level 1) written_open; is = λ V ch loose g. g.written x n w.now };
   }
@@ -128,7 +128,11 @@ module _ (F : Frame) (a b : Sight) (s t : List Change) (n : ℕ) (x : Name) (r :
         loose = λ V h. loose_before a.nodes b.nodes V extends h;
         reads = λ V h. reading_before a.nodes b.nodes V extends h;
         reaches = λ q. reached;
-        writes = λ k. record { each = λ y m e. elim (w.others y m e) [ inl (_, same) ↦ subst (IsOpenAt F b (min F.level 1)) (sym same) written_open | inr f ↦ open_next (λ q. reached) refines (k.each y m f) ] };
+        writes = λ k. record {
+          each = λ y m e. elim (w.others y m e) [ inl (_, same) ↦ subst (IsOpenAt F b (min F.level 1)) (sym same) written_open | inr f ↦ open_next (λ q. reached) refines (k.each y m f) ];
+          names = x ∷ k.names;
+          listed = λ y m e. elim (w.others y m e) [ inl (one, _) ↦ (zero, ap (λ (z : Name). Some z) (sym one)) | inr f ↦ (let i = k.listed y m f in (suc i.0, i.1)) ];
+        };
         refines = refines;
         recorded = λ i k y e. w.types i k ∙ e;
         written = w.before;

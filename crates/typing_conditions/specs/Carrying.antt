@@ -1,12 +1,13 @@
 -- What a call carries from one state to another: the conditions of what it types.
-use Rattle.std.specs.Prelude.{◌≡◌, ◌⊎◌, ℕ, ◌≤◌, List, [], ◌++◌, length, take, Some}
-use Rattle.type_model.specs.Types.{Typ}
+use Rattle.std.specs.Prelude.{◌≡◌, ◌⊎◌, ℕ, ◌≤◌, true, false, List, [], ◌++◌, length, take, slice_get, Some}
+use Rattle.type_model.specs.Types.{Typ, occurs}
 use Rattle.signature_model.specs.Declarations.{Name}
 use Rattle.signature_model.specs.Entries.{Environment}
 use Rattle.typing_model.specs.Demands.{Condition, AllHold}
 use Rattle.typing_model.specs.Contexts.{Choice, Variables, Context}
 use Rattle.type_nodes.specs.Readings.{Types, Fits, IsReading}
 use Rattle.level_unify.specs.Solutions.{Loose}
+use Rattle.level_unify.specs.Instances.{is_bound}
 use Rattle.typing_environments.specs.Locals.{IsOwn, Refines}
 use Rattle.typing_conditions.specs.Sights.{Report, Sight, Letters, AreGiven, Agrees, IsInside, SameAt}
 use Rattle.typing_conditions.specs.Frames.{Frame, Reaches}
@@ -29,6 +30,14 @@ pub record IsUnder (scope : Scope) (c : Context) : Type 0 where
   pub variables : c.variables ≡ scope.variables
   pub held : c.held ≡ scope.held
 
+-- each type variable that is written is one of those that the scope holds, which are all of the item
+abbrev pub HoldsWritten : Scope → Sight → Type 0
+HoldsWritten scope a = (x : Name) (m : ℕ) → a.written x ≡ Some m → (k : ℕ) × (slice_get scope.held k ≡ Some x)
+
+-- no bound variable stands in the type that is chosen for a type variable of the item, be it written yet or not
+abbrev pub HoldsUnbound : Frame → Scope → Sight → Choice → Type 0
+HoldsUnbound F scope a ch = (k : ℕ) (x : Name) → slice_get scope.held k ≡ Some x → (v : ℕ) → is_bound a.nodes v ≡ true → occurs v (ch.written F.owner x) ≡ false
+
 -- types with which a choice enters a state: they fit, and the choice agrees with what there is
 pub record Enters (F : Frame) (scope : Scope) (a : Sight) (G : Letters) (V : Types) (c : Context) : Type 0 where
   pub under : IsUnder scope c
@@ -36,12 +45,14 @@ pub record Enters (F : Frame) (scope : Scope) (a : Sight) (G : Letters) (V : Typ
   pub fits : Fits a.nodes V
   pub agrees : Agrees F.owner a G V c.chosen
 
--- types with which a choice is read off a state, under the demands that were kept
+-- types with which a choice is read off a state, under the demands that were kept, where the scope holds what is written, and nothing that is bound
 pub record ReadsOff (F : Frame) (scope : Scope) (b : Sight) (G hidden : Letters) (judged : List Judgement) (V : Types) (c : Context) : Type 0 where
   pub under : IsUnder scope c
   pub reads : IsReading b.nodes V
   pub agrees : Agrees F.owner b G V c.chosen
   pub hidden_too : AreGiven hidden V c.chosen
+  pub named : HoldsWritten scope b
+  pub unbound : HoldsUnbound F scope b c.chosen
   pub kept : AreKept c.kept judged
 
 -- types go on: they fit what there is now, are as before at the nodes from before, and are those of the choice at what is recorded and given
@@ -74,19 +85,21 @@ pub record Continues (F : Frame) (asks : Asks) (a b : Sight) (G : Letters) (judg
   pub on : GoesOn F a b G V types c.chosen
 
 -- What conditions ask was done, from one state to another, where the letters G are open before and G' after.
--- `sound`: each reading of the state after meets the conditions, under the demands that were kept, and what was reported are the others, in order.
+-- `sound`: where typing in the frame reached the state before, each reading of the state after meets the conditions, under the demands that were kept, and what
+-- was reported are the others, in order.
 -- `complete`: types that fitted before and meet the conditions, under any set of kept demands, keep the same demands and go on; or they are the first not to
 -- keep one that was kept. So a demand that wasn't kept never is, together with those before it.
 -- `first`: the same of the demands alone for the first conditions, where only they are met.
+-- All three are for scopes that hold the type variables that are written after it.
 pub record Carried (F : Frame) (scope : Scope) (asks : Asks) (a : Sight) (G : Letters) (b : Sight) (G' : Letters) : Type 0 where
   pub stays : Stays F a G b G'
   pub hidden : Letters
   pub judged : List Judgement
   pub told : List Report
   pub reports : b.reports ≡ a.reports ++ told
-  pub sound : (V : Types) (c : Context) → ReadsOff F scope b G' hidden judged V c → Meets c.kept (asks c) judged told
-  pub complete : (V : Types) (c : Context) → Enters F scope a G V c → AllHold c.kept (asks c) → Continues F asks a b G' judged V c ⊎ FallsShort (judgements c.kept (asks c)) judged
-  pub first : (k : ℕ) (V : Types) (c : Context) → Enters F scope a G V c → AllHold c.kept (take k (asks c)) →
+  pub sound : Reaches F a → (V : Types) (c : Context) → ReadsOff F scope b G' hidden judged V c → Meets c.kept (asks c) judged told
+  pub complete : HoldsWritten scope b → (V : Types) (c : Context) → Enters F scope a G V c → AllHold c.kept (asks c) → Continues F asks a b G' judged V c ⊎ FallsShort (judgements c.kept (asks c)) judged
+  pub first : HoldsWritten scope b → (k : ℕ) (V : Types) (c : Context) → Enters F scope a G V c → AllHold c.kept (take k (asks c)) →
       StartsWith judged (judgements c.kept (take k (asks c))) ⊎ FallsShort (judgements c.kept (take k (asks c))) judged
 
 -- conditions are carried, and then a node has a type

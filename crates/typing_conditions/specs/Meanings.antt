@@ -1,5 +1,5 @@
 -- Nodes that have types by a choice.
-use Rattle.std.specs.Prelude.{◌≡◌, ℕ, min, List, [], ◌∷◌, map, Some}
+use Rattle.std.specs.Prelude.{◌≡◌, ℕ, min, List, [], ◌∷◌, map, slice_get, Some}
 use Rattle.type_model.specs.Types.{Typ}
 use Rattle.signature_model.specs.Declarations.{Name}
 use Rattle.typing_model.specs.Contexts.{Choice}
@@ -33,6 +33,9 @@ pub record KnowsFixed (F : Frame) (a : Sight) : Type 0 where
   pub bool : Means F a [] (λ ch. bool_type) a.fixed.bool
   pub exn : Means F a [] (λ ch. exn_type) a.fixed.exn
 
--- the row may unify the nodes of the type variables written so far, whose variables are of level 1 at most: only the item's own `let` generalises them
+-- the row may unify the nodes of the type variables written so far, whose variables are of level 1 at most: only the item's own `let` generalises them;
+-- and these type variables are among finitely many names
 pub record KnowsWritten (F : Frame) (a : Sight) : Type 0 where
   pub each : (x : Name) (m : ℕ) → a.written x ≡ Some m → IsOpenAt F a (min F.level 1) m
+  pub names : List Name
+  pub listed : (x : Name) (m : ℕ) → a.written x ≡ Some m → (k : ℕ) × (slice_get names k ≡ Some x)

@@ -1,5 +1,5 @@
 -- What a part is typed among: the names of the code's environment stand for those of the definitions; and the scopes with further names.
-use Rattle.std.specs.Prelude.{◌≡◌, ℕ, false, List, [], ◌∷◌, slice_get, Option, Some}
+use Rattle.std.specs.Prelude.{◌≡◌, ℕ, ◌≤◌, false, List, [], ◌∷◌, slice_get, Option, Some}
 use Rattle.text_terms.specs.Bytes.{str_bytes}
 use Rattle.type_model.specs.Types.{Typ}
 use Rattle.signature_model.specs.Declarations as rules
@@ -21,7 +21,7 @@ use Rattle.typing_environments.specs.Standing.{IsIn, Covers, Stands}
 use Rattle.typing_conditions.specs.Sights.{Sight, Letters, Agrees}
 use Rattle.typing_conditions.specs.Frames.{Frame, Reaches, IsRoot}
 use Rattle.typing_conditions.specs.Meanings.{KnowsFixed, KnowsWritten}
-use Rattle.typing_conditions.specs.Carrying.{Scope}
+use Rattle.typing_conditions.specs.Carrying.{Scope, HoldsWritten, HoldsUnbound}
 
 -- How the code's declarations and exceptions stand for those of the definitions, by the nodes of the store, the roots of their types, and the names of the
 -- variables in these.
@@ -36,9 +36,11 @@ pub record IsSteady (D : Declared) : Type 0 where
 
 -- A state that the frame allows, where the code's names stand for those of the scope: at each reading schemes both ways, under types that fit one way.
 -- `roots` are those of the schemes and of the declarations, and `names` what the bound variables of declarations are in the definitions. Written type variables
--- are those of the frame's item.
+-- are those of the frame's item. `inside`: only expressions and patterns inside an item are typed among such names, and the item's own level is below theirs.
+-- The names stand for those of the scope where it holds the type variables that are written; and at a reading, where nothing that it holds is bound.
 pub record Surrounds (D : Declared) (F : Frame) (a : Sight) (G : Letters) (env : List Entry) (scope : Scope) : Type 0 where
   pub reached : Reaches F a
+  pub inside : 1 ≤ F.level
   pub fixed : KnowsFixed F a
   pub written : KnowsWritten F a
   pub item : scope.variables ≡ in_item F.owner
@@ -47,8 +49,8 @@ pub record Surrounds (D : Declared) (F : Frame) (a : Sight) (G : Letters) (env :
   pub steady : IsSteady D
   pub are_roots : (k r : ℕ) → slice_get roots k ≡ Some r → IsRoot F a r
   pub covered : Covers (D.declaration a.nodes roots names) (D.exception a.nodes roots names) roots env
-  pub reads : (J V : Types) (ch : Choice) → IsOwn a.nodes J → IsReading a.nodes V → Agrees F.owner a G V ch → Stands SchemeReads (D.declaration a.nodes roots names) (D.exception a.nodes roots names) a.nodes J roots V env (scope.env ch)
-  pub fits : (J V : Types) (ch : Choice) → IsOwn a.nodes J → Loose a.nodes V → Agrees F.owner a G V ch → Stands SchemeFits (D.declaration a.nodes roots names) (D.exception a.nodes roots names) a.nodes J roots V env (scope.env ch)
+  pub reads : (J V : Types) (ch : Choice) → IsOwn a.nodes J → IsReading a.nodes V → Agrees F.owner a G V ch → HoldsWritten scope a → HoldsUnbound F scope a ch → Stands SchemeReads (D.declaration a.nodes roots names) (D.exception a.nodes roots names) a.nodes J roots V env (scope.env ch)
+  pub fits : (J V : Types) (ch : Choice) → IsOwn a.nodes J → Loose a.nodes V → Agrees F.owner a G V ch → HoldsWritten scope a → Stands SchemeFits (D.declaration a.nodes roots names) (D.exception a.nodes roots names) a.nodes J roots V env (scope.env ch)
 
 -- a scope with a further name of one type, as a pattern brings it in
 abbrev pub with_one : Name → rules.Place → (Choice → Typ) → Scope → Scope

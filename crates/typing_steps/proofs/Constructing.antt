@@ -52,7 +52,7 @@ use Rattle.typing_conditions.specs.Meanings.{Means}
 use Rattle.typing_conditions.specs.Steps.{Tells}
 use Rattle.typing_conditions.specs.Carrying.{Scope, Carried, CarriedTo}
 use Rattle.typing_conditions.specs.Surroundings.{Surrounds}
-use Rattle.typing_conditions.proofs.Stays.{agrees_before}
+use Rattle.typing_conditions.proofs.Stays.{agrees_before, named_before}
 use Rattle.typing_conditions.proofs.Framing.{root_on}
 use Rattle.typing_conditions.proofs.Judged.{kept_left}
 use Rattle.typing_conditions.proofs.Branching.{carried_after, carried_then}
@@ -139,7 +139,7 @@ module _ (a b : Parts) {F : Frame} {scope : Scope} {G : Letters} {env : List Ent
 
   -- conditions on what is found after the demand, where they are these in each context of before
   after_bound : (asks : Context → Option Built → List Condition) (actual : Context → List Condition) → InEach F scope (sight a) G (λ c. asks c (building_in c.env path) ≡ actual c) → AreSameHere F scope (sight b) G actual (λ c. asks c (building_in c.env path))
-  after_bound asks actual h V c loose under agrees = sym (h V c (judged.carried.stays.loose V loose) under (agrees_before judged.carried.stays agrees))
+  after_bound asks actual h V c loose under agrees named = sym (h V c (judged.carried.stays.loose V loose) under (agrees_before judged.carried.stays agrees) (named_before scope judged.carried.stays named))
 
   -- It finds a constructor, of which the arguments are counted, and an instance is taken.
   module _ (d e : Parts) {x : Entry} {k : Constructor} {node : ℕ} (m : ℕ) (argument : Option ℕ) (own : ℕ) (finds : found_at env qs kind.Constructor t ≡ an_entry x) (is : constructor_in x.what ≡ Some k)
@@ -167,8 +167,8 @@ module _ (a b : Parts) {F : Frame} {scope : Scope} {G : Letters} {env : List Ent
 
     -- it is the same one in each context
     finds_each : InEach F scope (sight a) G (λ c. building_in c.env path ≡ Some found)
-    finds_each V c loose under agrees =
-        let stand = names.fits own_a.0 V c.chosen own_a.1 loose agrees in
+    finds_each V c loose under agrees named =
+        let stand = names.fits own_a.0 V c.chosen own_a.1 loose agrees named in
         let f = finds_constructor (λ r sc. SchemeFits a.store.nodes V r sc × IsIn names.roots r) a.store.nodes names.roots names.names (names_of qs) t.name x finds is_kind stand.names in
         ap (λ E. building_in E path) under.env ∙ f.is ∙ ap (λ z. Some z) (same_building own_a.1 (same_one f) makes)
 
@@ -197,7 +197,7 @@ module _ (a b : Parts) {F : Frame} {scope : Scope} {G : Letters} {env : List Ent
 
     whole : Carried F scope (λ c. construction_asks c n path given) (sight a) G (sight e) (taking.own ++ G)
     whole = carried_then judged.carried (λ c h. ap (λ v. counts_if n t given (if v then building_in c.env path else None)) (kept_as c true (ap is_found_here finds) h))
-        (carried_here (after_bound (λ c. counts_if n t given) (λ c. counts_if n t given (Some found)) (λ V c loose under agrees. ap (counts_if n t given) (finds_each V c loose under agrees))) after_counts.carried)
+        (carried_here (after_bound (λ c. counts_if n t given) (λ c. counts_if n t given (Some found)) (λ V c loose under agrees named. ap (counts_if n t given) (finds_each V c loose under agrees named))) after_counts.carried)
 
     kept_whole : (c : Context) → AreKept c.kept whole.judged → is_kept c n 0 ≡ true
     unfolding whole carried_then carried_after
@@ -219,7 +219,7 @@ module _ (a b : Parts) {F : Frame} {scope : Scope} {G : Letters} {env : List Ent
 
       lost_none : InEach F scope (sight a) G (λ c. AreKept c.kept lost.judged → (if is_kept c n 0 then building_in c.env path else None) ≡ None)
       unfolding lost carried_then carried_after
-      lost_none V c loose under agrees h = ap (λ v. if v then building_in c.env path else None) (kept_as c false (ap is_found_here finds) (kept_left c.kept judged.carried.judged _ h))
+      lost_none V c loose under agrees named h = ap (λ v. if v then building_in c.env path else None) (kept_as c false (ap is_found_here finds) (kept_left c.kept judged.carried.judged _ h))
 
       -- the path finds nothing, which is reported
       pub constructor_lost : BuildsUnknown F scope (sight a) G (sight e) n given path key m
@@ -227,25 +227,25 @@ module _ (a b : Parts) {F : Frame} {scope : Scope} {G : Letters} {env : List Ent
 
     module _ (finds : found_at env qs kind.Constructor t ≡ a_hole) where
       none_each : InEach F scope (sight a) G (λ c. building_in c.env path ≡ None)
-      none_each V c loose under agrees =
+      none_each V c loose under agrees named =
           let own = own_of a.store.nodes names.reached.sound in
-          let stand = (names.fits own.0 V c.chosen own.1 loose agrees).names in
+          let stand = (names.fits own.0 V c.chosen own.1 loose agrees named).names in
           ap (λ E. building_in E path) under.env ∙ hole_none (λ f. then_by (referent_of f) (built_in exn_type)) refl finds
           (lookup_alike (λ r sc. SchemeFits a.store.nodes V r sc × IsIn names.roots r) (DeclaredAs a.store.nodes names.roots names.names) (ExceptionAs a.store.nodes names.roots names.names) (names_of qs) constructor_kind t.name stand)
 
       hidden : Carried F scope (λ c. construction_asks c n path given) (sight a) G (sight e) ((key, m) ∷ G)
       hidden = carried_then judged.carried (λ c h. ap (λ v. counts_if n t given (if v then building_in c.env path else None)) (kept_as c true (ap is_found_here finds) h))
-          (carried_here (after_bound (λ c. counts_if n t given) (λ c. []) (λ V c loose under agrees. ap (counts_if n t given) (none_each V c loose under agrees))) variable.carried)
+          (carried_here (after_bound (λ c. counts_if n t given) (λ c. []) (λ V c loose under agrees named. ap (counts_if n t given) (none_each V c loose under agrees named))) variable.carried)
 
       -- it is inside a module that isn't known, and that is no fault
       pub constructor_in_hole : BuildsUnknown F scope (sight a) G (sight e) n given path key m
-      constructor_in_hole = record { typed = record { carried = hidden; means = variable.means }; none = λ V c loose under agrees h. if_none (is_kept c n 0) (building_in c.env path) (none_each V c loose under agrees) }
+      constructor_in_hole = record { typed = record { carried = hidden; means = variable.means }; none = λ V c loose under agrees named h. if_none (is_kept c n 0) (building_in c.env path) (none_each V c loose under agrees named) }
 
 -- a constructor whose last token is missing asks nothing
 pub constructor_missing : (a e : Parts) {F : Frame} {scope : Scope} {G : Letters} {env : List Entry} {m : ℕ} (qs : List Tok) (n given : ℕ) (key : Key) → ((z : Typ) → IsKnownFor key z) → Surrounds as_declared F (sight a) G env scope → MakesVar a e m any_scope → OnlyStore a e →
     BuildsUnknown F scope (sight a) G (sight e) n given (record { qualifiers = qs; last = None }) key m
 constructor_missing a e {scope = scope} qs n given key free names made rest =
-    record { typed = var_made a e {scope = scope} key free names.reached made rest; none = λ V c loose under agrees h. if_none (is_kept c n 0) None refl }
+    record { typed = var_made a e {scope = scope} key free names.reached made rest; none = λ V c loose under agrees named h. if_none (is_kept c n 0) None refl }
 
 -- what is found as a constructor is one
 pub found_constructor : (a : Parts) {F : Frame} {scope : Scope} {G : Letters} {env : List Entry} (qs : List Tok) (t : Tok) {x : Entry} → Surrounds as_declared F (sight a) G env scope → found_at env qs kind.Constructor t ≡ an_entry x → (k : Constructor) × (constructor_in x.what ≡ Some k)

@@ -35,7 +35,7 @@ use Rattle.typing_environments.proofs.Environments.{ScopeAs, both_known, both_un
 use Rattle.typing_conditions.specs.Sights.{Letters, Agrees}
 use Rattle.typing_conditions.specs.Frames.{Frame}
 use Rattle.typing_conditions.specs.Steps.{Tells}
-use Rattle.typing_conditions.specs.Carrying.{Scope, IsUnder, Carried}
+use Rattle.typing_conditions.specs.Carrying.{Scope, HoldsWritten, IsUnder, Carried}
 use Rattle.typing_conditions.specs.Surroundings.{Declared, Surrounds}
 use Rattle.typing_steps.specs.States.{is_aloud, sight}
 use Rattle.typing_steps.specs.Demands.{JudgedAs, is_found_here, bound_asks, bound_last_asks}
@@ -49,13 +49,13 @@ module _ (R : ℕ → Scheme → Type 0) (D : Declaration → rules.Declaration 
   absent_alike both_unknown = refl
   absent_alike both_absent = refl
 
-  found_so : {x : FoundAmong Entry} {y : FoundAmong Named} → ComesTo R D X x y → is_found_here x ≡ names.is_found y
+  pub found_so : {x : FoundAmong Entry} {y : FoundAmong Named} → ComesTo R D X x y → is_found_here x ≡ names.is_found y
   found_so (to_entry h) = refl
   found_so to_hole = refl
   found_so to_nothing = refl
 
   -- the first qualifier that names no module is the same one
-  lost_so : (es : List Entry) (fs : Environment) → EnvAs R D X es fs → (all : List Tok) (path : List Name) (i : ℕ) (qs : List Tok) → ((j : ℕ) → slice_get all (i + j) ≡ slice_get qs j) →
+  pub lost_so : (es : List Entry) (fs : Environment) → EnvAs R D X es fs → (all : List Tok) (path : List Name) (i : ℕ) (qs : List Tok) → ((j : ℕ) → slice_get all (i + j) ≡ slice_get qs j) →
       token_at all (lost_behind es path i (names_of_tokens qs)) ≡ names.lost_behind fs path qs
   lost_so es fs h all path i [] there = refl
   lost_so es fs h all path i (q ∷ qs) there =
@@ -76,7 +76,7 @@ module _ (R : ℕ → Scheme → Type 0) (D : Declaration → rules.Declaration 
       at false true e later = absurd (cc)
       at false false e later = later next
 
-tells_unbound : (a b : Parts) {at : Place} (word : Called) (x : Name) → is_aloud a.telling ≡ true → TellsUnbound a b at word x → Tells (sight a) (sight b) at fault.Bound
+pub tells_unbound : (a b : Parts) {at : Place} (word : Called) (x : Name) → is_aloud a.telling ≡ true → TellsUnbound a b at word x → Tells (sight a) (sight b) at fault.Bound
 tells_unbound a b word x aloud (span, is, told) = subst (λ p. Tells (sight a) (sight b) p fault.Bound) is (tells_one a b span fault.Bound _ refl aloud told)
 
 -- what comes of the demand, whatever the names stand for
@@ -92,11 +92,11 @@ pub bound_asked : (a b : Parts) {D : Declared} {F : Frame} {scope : Scope} {G : 
     is_aloud a.telling ≡ true → BoundIs (found_at env qs kind t) given a b (lost_among env qs) t called → JudgedAs F scope (λ c. bound_asks c s (kind_of kind) w qs t) (sight a) G (sight b) G s (is_found_here (found_at env qs kind t))
 bound_asked a b {D} {F} {scope} {G} {env} given called qs t kind w s at aloud is = judged_here same (bound_so a b (found_at env qs kind t) given (lost_among env qs) t called w s aloud is)
   where
-    same : (V : Types) (c : Context) → Loose a.store.nodes V → IsUnder scope c → Agrees F.owner (sight a) G V c.chosen →
+    same : (V : Types) (c : Context) → Loose a.store.nodes V → IsUnder scope c → Agrees F.owner (sight a) G V c.chosen → HoldsWritten scope (sight a) →
         demand s (place_unbound (lost_among env qs) t) (test (complaint_unbound (lost_among env qs) w t) (is_found_here (found_at env qs kind t))) ∷ [] ≡ bound_asks c s (kind_of kind) w qs t
-    same V c loose under agrees =
+    same V c loose under agrees named =
         let own = own_of a.store.nodes at.reached.sound in
-        let stands = (at.fits own.0 V c.chosen own.1 loose agrees).names in
+        let stands = (at.fits own.0 V c.chosen own.1 loose agrees named).names in
         let R : ℕ → Scheme → Type 0 = λ r sc. SchemeFits a.store.nodes V r sc × IsIn at.roots r in
         let lost : lost_among env qs ≡ names.lost_behind c.env [] qs =
         lost_so R (D.declaration a.store.nodes at.roots at.names) (D.exception a.store.nodes at.roots at.names) env (scope.env c.chosen) stands qs [] 0 qs (λ j. ap (slice_get qs) (let e : 0 + j ≡ j = omega arith in e)) ∙ ap (λ E. names.lost_behind E [] qs) (sym under.env) in

@@ -47,13 +47,13 @@ same_joined {F} {scope} {G} {first} {second} {m} {n} {a} {b} sound p q rest tigh
   judged = [];
   told = [];
   reports = rest.reports ∙ sym (append-nil a.reports);
-  sound = λ V c l.
+  sound = λ r V c l.
       let old = one.read V l.reads in
       let g = agrees_before stays l.agrees in
       let loose = fits_loosely a.nodes V old.0.fits in
       record { same = refl; holds = (p.is V c.chosen loose g ∙ old.1 ∙ sym (q.is V c.chosen loose g), tt); tells = refl };
-  complete = complete;
-  first = first_one (λ c. same (first c.chosen) (second c.chosen)) complete;
+  complete = λ named. complete;
+  first = λ named. first_one (λ c. same (first c.chosen) (second c.chosen)) complete;
 }
   where
     stays : Stays F a G b G
@@ -106,13 +106,13 @@ scoped_letter {F} {scope} {G} {a} {b} {s} {t} {n} {o} {asks} key free limits r m
     judged = [];
     told = [];
     reports = rest.reports ∙ sym (append-nil a.reports);
-    sound = λ V c l. record {
+    sound = λ r V c l. record {
       same = limits.silent c;
       holds = limits.holds c (subst (IsInScope o) (sym l.agrees.given.0.is) (l.reads.fits.each n (Var F.level o) (made_here (state a.nodes s) (state b.nodes t) n (Var F.level o) makes) not_bound));
       tells = limits.reports_none c;
     };
-    complete = λ V c e h. inl (record { same = limits.silent c; types = with_type V n (value_of c.chosen key); on = goes V c e (limits.gives c h) });
-    first = λ k V c e h. inl (subst (StartsWith []) (sym (limits.silent_first k c)) (starts_none []));
+    complete = λ named V c e h. inl (record { same = limits.silent c; types = with_type V n (value_of c.chosen key); on = goes V c e (limits.gives c h) });
+    first = λ named k V c e h. inl (subst (StartsWith []) (sym (limits.silent_first k c)) (starts_none []));
   };
   means = record { open_node = opened; is = λ V ch loose g. g.given.0.is };
 }

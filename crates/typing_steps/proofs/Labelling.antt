@@ -57,7 +57,7 @@ use Rattle.typing_steps.proofs.Sides.{reads_arrow, from_means, to_means}
 use Rattle.typing_steps.proofs.Constructing.{hole_none, if_none}
 
 -- an instance of a root that stands for an arrow is one
-instance_splits : {old new : List Node} {I N : Types} {C : List ℕ} {arity root level m : ℕ} (x y : Typ) → IsOwn old I → RootAs old C N arity root (type.Arrow x y) → IsSound new → Instantiated old new root level m → (u : ℕ) × (v : ℕ) × (reading new m ≡ Some (Arrow u v))
+pub instance_splits : {old new : List Node} {I N : Types} {C : List ℕ} {arity root level m : ℕ} (x y : Typ) → IsOwn old I → RootAs old C N arity root (type.Arrow x y) → IsSound new → Instantiated old new root level m → (u : ℕ) × (v : ℕ) × (reading new m ≡ Some (Arrow u v))
 instance_splits {new = new} {I} {m = m} x y before as_root sound taken =
     let own = own_of new sound in
     let images = images_of before own.1 taken (λ v o. named_bound (as_root.named I before v o)) in
@@ -78,15 +78,15 @@ module _ (a b : Parts) {F : Frame} {scope : Scope} {G : Letters} {env : List Ent
 
   -- the path finds nothing, which is reported
   pub label_lost : found_at env qs kind.Label t ≡ nothing → LabelUnknown F scope (sight a) G (sight b) n path
-  label_lost finds = record { carried = judged.carried; none = λ V c loose under agrees h. ap (λ v. if v then label_in_scope c.env path else None) (kept_as c false (ap is_found_here finds) h) }
+  label_lost finds = record { carried = judged.carried; none = λ V c loose under agrees named h. ap (λ v. if v then label_in_scope c.env path else None) (kept_as c false (ap is_found_here finds) h) }
 
   -- it is inside a module that isn't known, and that is no fault
   pub label_in_hole : found_at env qs kind.Label t ≡ a_hole → LabelUnknown F scope (sight a) G (sight b) n path
   label_in_hole finds = record {
     carried = judged.carried;
-    none = λ V c loose under agrees h.
+    none = λ V c loose under agrees named h.
         let own = own_of a.store.nodes names.reached.sound in
-        let stand = (names.fits own.0 V c.chosen own.1 loose agrees).names in
+        let stand = (names.fits own.0 V c.chosen own.1 loose agrees named).names in
         if_none (is_kept c n 0) (label_in_scope c.env path) (ap (λ E. label_in_scope E path) under.env ∙ hole_none (λ f. then_by (referent_of f) label_in) refl finds
         (lookup_alike (λ r sc. SchemeFits a.store.nodes V r sc × IsIn names.roots r) (DeclaredAs a.store.nodes names.roots names.names) (ExceptionAs a.store.nodes names.roots names.names) (names_of qs) label_kind t.name stand));
   }
@@ -111,8 +111,8 @@ module _ (a b : Parts) {F : Frame} {scope : Scope} {G : Letters} {env : List Ent
 
     -- it is one of the same types in each context
     finds_each : InEach F scope (sight a) G (λ c. IsLabelOf (type_of here.owner) here.named.body l.is_mutable (label_in_scope c.env path))
-    finds_each V c loose under agrees =
-        let stand = names.fits own_a.0 V c.chosen own_a.1 loose agrees in
+    finds_each V c loose under agrees named =
+        let stand = names.fits own_a.0 V c.chosen own_a.1 loose agrees named in
         let f = finds_label (λ r sc. SchemeFits a.store.nodes V r sc × IsIn names.roots r) a.store.nodes names.roots names.names (names_of qs) t.name x finds is_kind stand.names in
         let s = same_label own_a.1 (same_one f) alike in
         record { declaration = f.owner; label = f.named; is = ap (λ E. label_in_scope E path) under.env ∙ f.is; owned = s.0; typed = s.1; settable = sym (same_one f).mutable }
@@ -159,7 +159,7 @@ module _ (a b : Parts) {F : Frame} {scope : Scope} {G : Letters} {env : List Ent
 
 -- a label whose last token is missing asks nothing
 pub label_missing : (a b : Parts) {F : Frame} {scope : Scope} {G : Letters} (qs : List Tok) (n : ℕ) → b ≡ a → LabelUnknown F scope (sight a) G (sight b) n (record { qualifiers = qs; last = None })
-label_missing a b qs n e = record { carried = state_still a b e; none = λ V c loose under agrees h. if_none (is_kept c n 0) None refl }
+label_missing a b qs n e = record { carried = state_still a b e; none = λ V c loose under agrees named h. if_none (is_kept c n 0) None refl }
 
 -- what is found as a label is one
 pub found_label : (a : Parts) {F : Frame} {scope : Scope} {G : Letters} {env : List Entry} (qs : List Tok) (t : Tok) {x : Entry} → Surrounds as_declared F (sight a) G env scope → found_at env qs kind.Label t ≡ an_entry x → (l : Label) × (code.label_in x.what ≡ Some l)

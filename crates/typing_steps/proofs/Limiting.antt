@@ -201,13 +201,13 @@ limit_asked {F} {a} {b} {mid} {v} {l} {o} {m} {scope} {G} {type} {asks} at p lim
   judged = [];
   told = [];
   reports = at.rest.reports ∙ sym (append-nil a.reports);
-  sound = λ V c r.
+  sound = λ reached V c r.
       let before = (one at p.open_node).read V r.reads in
       let here : IsInScope o (V v) = before.0.fits.each v (Var l o) (there at p.open_node) at.free in
       let is = p.is V c.chosen (stays.loose V (fits_loosely b.nodes V r.reads.fits)) (agrees_before stays r.agrees) in
       record { same = limits.silent c; holds = limits.holds c (subst (IsInScope o) (before.1 ∙ sym is) here); tells = limits.reports_none c };
-  complete = λ V c e h. inl (goes V c e (limits.gives c h));
-  first = λ k V c e h. inl (subst (StartsWith []) (sym (limits.silent_first k c)) (starts_none []));
+  complete = λ named V c e h. inl (goes V c e (limits.gives c h));
+  first = λ named k V c e h. inl (subst (StartsWith []) (sym (limits.silent_first k c)) (starts_none []));
 }
   where
     stays : Stays F a G b G

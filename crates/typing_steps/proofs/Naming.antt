@@ -100,9 +100,9 @@ module _ (a b d : Parts) {D : Declared} {F : Frame} {scope : Scope} {G : Letters
       }
     where
       same : AreSameHere F scope (sight b) G (λ c. []) (λ c. used_if (scheme_found c.env (names_of qs) t.name) (value_of c.chosen key))
-      same V c loose under agrees =
+      same V c loose under agrees named =
           let own = own_of b.store.nodes names_there.reached.sound in
-          let stands = (names_there.fits own.0 V c.chosen own.1 loose agrees).names in
+          let stands = (names_there.fits own.0 V c.chosen own.1 loose agrees named).names in
           let R : ℕ → Scheme → Type 0 = λ r sc. SchemeFits b.store.nodes V r sc × IsIn names_there.roots r in
           let none = hole_so R (D.declaration b.store.nodes names_there.roots names_there.names) (D.exception b.store.nodes names_there.roots names_there.names) (lookup_alike R (D.declaration b.store.nodes names_there.roots names_there.names) (D.exception b.store.nodes names_there.roots names_there.names) (names_of qs) value_kind t.name stands) finds ∙ refl in
           ap (λ (o : Option Scheme). used_if o (value_of c.chosen key)) (sym (ap (λ E. scheme_found E (names_of qs) t.name) under.env ∙ none))

@@ -1,5 +1,5 @@
 -- The state at an item's start, and the nodes of the built-in types.
-use Rattle.std.proofs.Common.{◌≡◌, ◌∙◌, ℕ, ◌<◌, false, List, [], Some, None, refl, sym, ap, subst, arith}
+use Rattle.std.proofs.Common.{◌≡◌, ◌≤◌, ◌∙◌, ℕ, ◌<◌, false, List, [], Some, None, refl, sym, ap, subst, arith}
 use Rattle.std.specs.Prelude.{slice_get, option_map, string_bytes}
 use Rattle.std.specs.Map.{lookup}
 use Rattle.std.specs.Str.{bytes_eq}
@@ -28,7 +28,7 @@ use Rattle.typing_environments.proofs.Later.{context_after}
 use Rattle.typing_conditions.specs.Sights.{Sight, Letters, Agrees}
 use Rattle.typing_conditions.specs.Frames.{Frame, Reaches, IsRoot}
 use Rattle.typing_conditions.specs.Meanings.{Means, KnowsFixed, KnowsWritten}
-use Rattle.typing_conditions.specs.Carrying.{Scope}
+use Rattle.typing_conditions.specs.Carrying.{Scope, HoldsWritten, HoldsUnbound}
 use Rattle.typing_declarations.proofs.Later.{declared_after, exception_after}
 use Rattle.typing_conditions.specs.Surroundings.{Declared, IsSteady, Surrounds}
 use Rattle.typing_steps.specs.Typing.{as_declared}
@@ -115,15 +115,19 @@ module _ (a : Sight) (J : Types) (roots : List ℕ) (sound : IsSound a.nodes) (o
 
   -- no type variable is written yet
   pub start_written : ((x : Name) → a.written x ≡ None) → KnowsWritten (frame_at a J roots) a
-  start_written none = record { each = λ x m e. absurd (let f : Some m ≡ None = sym e ∙ none x in cc) }
+  start_written none = record { each = λ x m e. absurd (none_there x m e); names = []; listed = λ x m e. absurd (none_there x m e) }
+    where
+      none_there : (x : Name) (m : ℕ) → a.written x ≡ Some m → ⊥
+      none_there x m e = let f : Some m ≡ None = sym e ∙ none x in cc
 
   -- the names of an environment whose roots are among the item's are those of the scope
-  pub start_surrounds : {D : Declared} {G : Letters} {env : List Entry} {scope : Scope} (names : List ℕ) (N : Types) → IsSteady D → KnowsFixed (frame_at a J roots) a → ((x : Name) → a.written x ≡ None) → ((k r : ℕ) → slice_get names k ≡ Some r → IsIn roots r) →
+  pub start_surrounds : {D : Declared} {G : Letters} {env : List Entry} {scope : Scope} (names : List ℕ) (N : Types) → IsSteady D → 1 ≤ a.level → KnowsFixed (frame_at a J roots) a → ((x : Name) → a.written x ≡ None) → ((k r : ℕ) → slice_get names k ≡ Some r → IsIn roots r) →
       Covers (D.declaration a.nodes names N) (D.exception a.nodes names N) names env →
-      ((M V : Types) (ch : Choice) → IsOwn a.nodes M → IsReading a.nodes V → Agrees a.item a G V ch → Stands SchemeReads (D.declaration a.nodes names N) (D.exception a.nodes names N) a.nodes M names V env (scope.env ch)) →
-      ((M V : Types) (ch : Choice) → IsOwn a.nodes M → Loose a.nodes V → Agrees a.item a G V ch → Stands SchemeFits (D.declaration a.nodes names N) (D.exception a.nodes names N) a.nodes M names V env (scope.env ch)) → scope.variables ≡ in_item a.item → Surrounds D (frame_at a J roots) a G env scope
-  start_surrounds names N steady fixed none among covered reads fits item = record {
+      ((M V : Types) (ch : Choice) → IsOwn a.nodes M → IsReading a.nodes V → Agrees a.item a G V ch → HoldsWritten scope a → HoldsUnbound (frame_at a J roots) scope a ch → Stands SchemeReads (D.declaration a.nodes names N) (D.exception a.nodes names N) a.nodes M names V env (scope.env ch)) →
+      ((M V : Types) (ch : Choice) → IsOwn a.nodes M → Loose a.nodes V → Agrees a.item a G V ch → HoldsWritten scope a → Stands SchemeFits (D.declaration a.nodes names N) (D.exception a.nodes names N) a.nodes M names V env (scope.env ch)) → scope.variables ≡ in_item a.item → Surrounds D (frame_at a J roots) a G env scope
+  start_surrounds names N steady inside fixed none among covered reads fits item = record {
     reached = start_reached;
+    inside = inside;
     fixed = fixed;
     written = start_written none;
     item = item;

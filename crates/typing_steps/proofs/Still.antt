@@ -31,6 +31,7 @@ use Rattle.typing_conditions.proofs.First.{starts_none}
 use Rattle.typing_conditions.proofs.Framing.{no_bound}
 use Rattle.typing_conditions.proofs.Equals.{reports_stay, goes_as, unified_stays}
 use Rattle.typing_steps.specs.States.{type_in, is_aloud, reports_of, written_in, fixed_of, sight}
+use Rattle.typing_steps.specs.Warning.{OnlyNotes}
 use Rattle.typing_steps.proofs.Seeing.{same_state, nodes_of_both, reports_of_both}
 
 -- conditions that hold in any case, of which none is a demand
@@ -48,9 +49,9 @@ carried_idle {F} {scope} {asks} {a} {b} {G} idle rest same = record {
   judged = [];
   told = [];
   reports = same ∙ sym (append-nil a.reports);
-  sound = λ V c l. record { same = idle.silent c; holds = idle.holds c; tells = idle.reports_none c };
-  complete = λ V c e h. inl (record { same = idle.silent c; types = V; on = goes_as rest e });
-  first = λ k V c e h. inl (subst (StartsWith []) (sym (idle.silent_first k c)) (starts_none []));
+  sound = λ r V c l. record { same = idle.silent c; holds = idle.holds c; tells = idle.reports_none c };
+  complete = λ named V c e h. inl (record { same = idle.silent c; types = V; on = goes_as rest e });
+  first = λ named k V c e h. inl (subst (StartsWith []) (sym (idle.silent_first k c)) (starts_none []));
 }
 
 -- where nothing is asked
@@ -101,6 +102,45 @@ pub plain_noted : (a b : Parts) {F : Frame} {scope : Scope} {G : Letters} (numbe
     Carried F scope (λ c. treated n (told c) ∷ []) (sight a) G (sight b) G
 plain_noted a b number env n told (names, none, noted) rest =
     carried_idle (treated_idle n told) (untyped_noted a b number (record { env = env; ty = None; names = names }) refl noted rest) (ap (λ f. (sight (record a { faults = f })).reports) rest.faults)
+
+-- nothing is recorded
+pub notes_none : (a : Parts) → OnlyNotes a a
+notes_none a = record { rest = record { store = refl; faults = refl; written = refl; item = refl; level = refl; telling = refl; constants = refl }; types = λ i p. refl }
+
+-- one record after another
+pub notes_more : (a b d : Parts) → OnlyNotes a b → OnlyNotes b d → OnlyNotes a d
+notes_more a b d p q = record {
+  rest = record {
+    store = q.rest.store ∙ p.rest.store;
+    faults = q.rest.faults ∙ p.rest.faults;
+    written = q.rest.written ∙ p.rest.written;
+    item = q.rest.item ∙ p.rest.item;
+    level = q.rest.level ∙ p.rest.level;
+    telling = q.rest.telling ∙ p.rest.telling;
+    constants = q.rest.constants ∙ p.rest.constants;
+  };
+  types = λ i k. q.types i k ∙ p.types i k;
+}
+
+-- what `note_plain` records
+pub plain_notes : (a b : Parts) (number : ℕ) (env : List Entry) → NotedNameless a b number env None → OnlyIndex a b → OnlyNotes a b
+plain_notes a b number env (names, none, noted) rest = record { rest = rest; types = (untyped_noted a b number (record { env = env; ty = None; names = names }) refl noted rest).types }
+
+-- no condition sees what is recorded without a type
+pub notes_unseen : (a b : Parts) → OnlyNotes a b → OnlyReports (sight a) (sight b)
+notes_unseen a b h = record {
+  nodes = ap (λ (s : State). s.nodes) h.rest.store;
+  types = h.types;
+  written = λ x. ap (λ w. written_in w x) h.rest.written;
+  aloud = ap is_aloud h.rest.telling;
+  item = h.rest.item;
+  level = h.rest.level;
+  fixed = ap fixed_of h.rest.constants;
+}
+
+-- and nothing is reported
+pub notes_untold : (a b : Parts) → OnlyNotes a b → (sight b).reports ≡ (sight a).reports
+notes_untold a b h = ap (λ f. (sight (record a { faults = f })).reports) h.rest.faults
 
 -- Where faults aren't reported, what is noted, with a type or not, is not recorded.
 pub quiet_noted : (a b : Parts) (number : ℕ) (seen : Seen) → is_aloud a.telling ≡ false → Noted a.telling a b number seen → OnlyIndex a b → OnlyReports (sight a) (sight b)

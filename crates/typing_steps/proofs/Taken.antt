@@ -129,9 +129,10 @@ arrow_inside {nodes} {I} {C} {N} {arity} {r} {t} x y e root own = by (I r) refl
     by (type.Tuple ts) f = absurd (let h : type.Arrow x y ≡ type.Tuple (apply_all N ts) = sym e ∙ root.is I own ∙ ap (apply N) f in cc)
     by (type.Con o ts) f = absurd (let h : type.Arrow x y ≡ type.Con o (apply_all N ts) = sym e ∙ root.is I own ∙ ap (apply N) f in cc)
 
--- the letters of a use, and what it carries: nothing is asked, and its node has the type of the use; where that is an arrow, so is each type of the node
+-- the letters of a use, which are nodes, and what it carries: nothing is asked, and its node has the type of the use; where that is an arrow, so is each type of the node
 pub record TakenWith (F : Frame) (scope : Scope) (a : Sight) (G : Letters) (b : Sight) (n : ℕ) (t : Typ) (m : ℕ) : Type 0 where
   pub own : Letters
+  pub nodes : AreNodes own b.nodes
   pub typed : CarriedTo F scope (λ c. []) a G b (own ++ G) (λ ch. used (ch.letter n) (ch.filled n) t) m
   pub splits : (x y : Typ) → t ≡ type.Arrow x y → (K : Types) → IsOwn b.nodes K → (p : Typ) × (q : Typ) × (K m ≡ type.Arrow p q)
 
@@ -140,6 +141,7 @@ pub root_taken : {F : Frame} {scope : Scope} {G : Letters} {a b : Sight} {C : Li
     IsSound b.nodes → Instantiated a.nodes b.nodes root F.level m → OnlyNodes a b → TakenWith F scope a G b n t m
 root_taken {F} {scope} {G} {a} {b} {C} {N} {arity} {root} {m} {t} n reached is_root as_root sound taken rest = record {
   own = letters;
+  nodes = letter_nodes;
   typed = record {
     carried = record {
       stays = stays;
@@ -147,9 +149,9 @@ root_taken {F} {scope} {G} {a} {b} {C} {N} {arity} {root} {m} {t} n reached is_r
       judged = [];
       told = [];
       reports = rest.reports ∙ sym (append-nil a.reports);
-      sound = λ V c l. record { same = refl; holds = tt; tells = refl };
-      complete = λ V c e h. inl (complete V c e);
-      first = λ k V c e h. inl (subst (λ cs. StartsWith [] (judgements c.kept cs)) (sym (take_none k)) (starts_none []));
+      sound = λ r V c l. record { same = refl; holds = tt; tells = refl };
+      complete = λ named V c e h. inl (complete V c e);
+      first = λ named k V c e h. inl (subst (λ cs. StartsWith [] (judgements c.kept cs)) (sym (take_none k)) (starts_none []));
     };
     means = record {
       open_node = opened;
@@ -170,6 +172,9 @@ root_taken {F} {scope} {G} {a} {b} {C} {N} {arity} {root} {m} {t} n reached is_r
     letters : Letters
     letters = images_in n N images.image (own.0 root)
 
+    letter_nodes : AreNodes letters b.nodes
+    letter_nodes = nodes_at n N images.image b.nodes (own.0 root) images.inside
+
     opened : IsOpen F b m
     opened = open_instance sound rest taken reached is_root
 
@@ -189,7 +194,7 @@ root_taken {F} {scope} {G} {a} {b} {C} {N} {arity} {root} {m} {t} n reached is_r
       given = λ V ch h. given_right V ch letters G h;
       inside = λ h.
           let i = inside_longer a b rest.types rest.written taken.extends.longer h in
-          record { recorded = i.recorded; written = i.written; given = nodes_both b.nodes letters G (nodes_at n N images.image b.nodes (own.0 root) images.inside) i.given };
+          record { recorded = i.recorded; written = i.written; given = nodes_both b.nodes letters G letter_nodes i.given };
       aloud = rest.aloud;
       item = rest.item;
       level = rest.level;

@@ -25,8 +25,8 @@ use Rattle.typing_conditions.specs.Sights.{Sight, Letters, Agrees}
 use Rattle.typing_conditions.specs.Frames.{Frame}
 use Rattle.typing_conditions.specs.Judging.{judgements, FallsShort, Meets, kind_of}
 use Rattle.typing_conditions.specs.Steps.{OnlyReports, Tells}
-use Rattle.typing_conditions.specs.Carrying.{Asks, Scope, IsUnder, Enters, ReadsOff, Carried}
-use Rattle.typing_conditions.proofs.Stays.{agrees_before}
+use Rattle.typing_conditions.specs.Carrying.{Asks, Scope, HoldsWritten, IsUnder, Enters, ReadsOff, Carried}
+use Rattle.typing_conditions.proofs.Stays.{agrees_before, named_before}
 use Rattle.typing_conditions.proofs.Carried.{Decides}
 use Rattle.typing_conditions.proofs.Branching.{carried_if}
 use Rattle.typing_conditions.proofs.Tests.{TestIs, test_judged}
@@ -36,7 +36,7 @@ use Rattle.typing_steps.proofs.Seeing.{only_reports, same_state, tells_one}
 
 -- conditions are the same in each context that a state allows
 abbrev pub AreSameHere : Frame → Scope → Sight → Letters → Asks → Asks → Type 0
-AreSameHere F scope a G asks others = (V : Types) (c : Context) → Loose a.nodes V → IsUnder scope c → Agrees F.owner a G V c.chosen → asks c ≡ others c
+AreSameHere F scope a G asks others = (V : Types) (c : Context) → Loose a.nodes V → IsUnder scope c → Agrees F.owner a G V c.chosen → HoldsWritten scope a → asks c ≡ others c
 
 -- Conditions may be written in another way, where they are the same in each context that the state before allows.
 unfoldable pub carried_here : {F : Frame} {scope : Scope} {asks others : Asks} {a b : Sight} {G H : Letters} → AreSameHere F scope a G asks others → Carried F scope asks a G b H → Carried F scope others a G b H
@@ -46,19 +46,19 @@ carried_here {F} {scope} {asks} {others} {a} {b} {G} {H} e p = record {
   judged = p.judged;
   told = p.told;
   reports = p.reports;
-  sound = λ V c l. subst (λ cs. Meets c.kept cs p.judged p.told) (at_end V c l) (p.sound V c l);
-  complete = λ V c en h. elim (p.complete V c en (subst (AllHold c.kept) (sym (at_start V c en)) h)) [
-    | inl goes ↦ inl (record { same = ap (judgements c.kept) (sym (at_start V c en)) ∙ goes.same; types = goes.types; on = goes.on })
-    | inr short ↦ inr (subst (λ cs. FallsShort (judgements c.kept cs) p.judged) (at_start V c en) short)
+  sound = λ r V c l. subst (λ cs. Meets c.kept cs p.judged p.told) (at_end V c l) (p.sound r V c l);
+  complete = λ named V c en h. elim (p.complete named V c en (subst (AllHold c.kept) (sym (at_start named V c en)) h)) [
+    | inl goes ↦ inl (record { same = ap (judgements c.kept) (sym (at_start named V c en)) ∙ goes.same; types = goes.types; on = goes.on })
+    | inr short ↦ inr (subst (λ cs. FallsShort (judgements c.kept cs) p.judged) (at_start named V c en) short)
   ];
-  first = λ k V c en h. subst (λ cs. Decides c p.judged (take k cs)) (at_start V c en) (p.first k V c en (subst (λ cs. AllHold c.kept (take k cs)) (sym (at_start V c en)) h));
+  first = λ named k V c en h. subst (λ cs. Decides c p.judged (take k cs)) (at_start named V c en) (p.first named k V c en (subst (λ cs. AllHold c.kept (take k cs)) (sym (at_start named V c en)) h));
 }
   where
-    at_start : (V : Types) (c : Context) → Enters F scope a G V c → asks c ≡ others c
-    at_start V c en = e V c (fits_loosely a.nodes V en.fits) en.under en.agrees
+    at_start : HoldsWritten scope b → (V : Types) (c : Context) → Enters F scope a G V c → asks c ≡ others c
+    at_start named V c en = e V c (fits_loosely a.nodes V en.fits) en.under en.agrees (named_before scope p.stays named)
 
     at_end : (V : Types) (c : Context) → ReadsOff F scope b H p.hidden p.judged V c → asks c ≡ others c
-    at_end V c l = e V c (p.stays.loose V (fits_loosely b.nodes V l.reads.fits)) l.under (agrees_before p.stays l.agrees)
+    at_end V c l = e V c (p.stays.loose V (fits_loosely b.nodes V l.reads.fits)) l.under (agrees_before p.stays l.agrees) (named_before scope p.stays l.named)
 
 -- and their demand is judged so
 pub judged_here : {F : Frame} {scope : Scope} {asks others : Asks} {a b : Sight} {G H : Letters} {s : Site} {v : Bool} → AreSameHere F scope a G asks others → JudgedAs F scope asks a G b H s v → JudgedAs F scope others a G b H s v

@@ -24,7 +24,7 @@ one_entry : {E : Type 0} (x e : E) → Some x ≡ Some e → x ≡ e
 one_entry x e h = cc
 
 -- the newest entry that a test holds of passes it
-newest_passes : {E : Type 0} (test : E → Bool) (es : List E) (e : E) → newest_by test es ≡ Some e → test e ≡ true
+pub newest_passes : {E : Type 0} (test : E → Bool) (es : List E) (e : E) → newest_by test es ≡ Some e → test e ≡ true
 newest_passes test [] e h = absurd (cc)
 newest_passes {E} test (x ∷ es) e h = at (test x) refl (newest_passes test es e)
   where
@@ -32,7 +32,7 @@ newest_passes {E} test (x ∷ es) e h = at (test x) refl (newest_passes test es 
     at true f later = ap test (sym (one_entry x e (sym (ap (λ t. if t then Some x else newest_by test es) f) ∙ h))) ∙ f
     at false f later = later (sym (ap (λ t. if t then Some x else newest_by test es) f) ∙ h)
 
-found_some : {E : Type 0} (o : Option E) (e : E) → found o ≡ an_entry e → o ≡ Some e
+pub found_some : {E : Type 0} (o : Option E) (e : E) → found o ≡ an_entry e → o ≡ Some e
 found_some None e h = absurd (cc)
 found_some (Some x) e h = let s : x ≡ e = cc in ap (λ y. Some y) s
 

@@ -19,14 +19,14 @@ use Rattle.typing_conditions.specs.Sights.{Sight, Key, value_of, Letters, IsKnow
 use Rattle.typing_conditions.specs.Frames.{Frame}
 use Rattle.typing_conditions.specs.Judging.{AreKept}
 use Rattle.typing_conditions.specs.Meanings.{Means}
-use Rattle.typing_conditions.specs.Carrying.{Scope, IsUnder, Carried, CarriedTo}
+use Rattle.typing_conditions.specs.Carrying.{Scope, HoldsWritten, IsUnder, Carried, CarriedTo}
 use Rattle.typing_conditions.specs.Surroundings.{Surrounds}
 use Rattle.typing_steps.specs.States.{is_aloud, sight}
 use Rattle.typing_steps.specs.Typing.{as_declared}
 
 -- in each context that a state allows
 abbrev pub InEach : Frame → Scope → Sight → Letters → (Context → Type 0) → Type 0
-InEach F scope a G P = (V : Types) (c : Context) → Loose a.nodes V → IsUnder scope c → Agrees F.owner a G V c.chosen → P c
+InEach F scope a G P = (V : Types) (c : Context) → Loose a.nodes V → IsUnder scope c → Agrees F.owner a G V c.chosen → HoldsWritten scope a → P c
 
 -- a type of a declaration as it is used at a node, by what is chosen
 abbrev pub used_by : ℕ → Typ → Choice → Typ
