@@ -7,3 +7,14 @@ pub mod Groups
 pub mod Terms
 pub mod Operands
 pub mod Loops
+pub mod Nodes
+pub mod Verdicts
+pub mod Valued
+pub mod Limits
+pub mod Generalising
+pub mod LetTurns
+pub mod Closing
+pub mod Held
+pub mod Lets
+pub mod LetLoops
+pub mod LetNodes

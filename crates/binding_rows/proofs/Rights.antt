@@ -31,7 +31,7 @@ use Rattle.case_rows.specs.Cases.{MeansIf}
 use Rattle.case_rows.specs.Parameters.{TypesParameters, arrows_by, MakesArrows}
 use Rattle.case_rows.proofs.Scopes.{surrounds_bound, among_names}
 use Rattle.case_rows.proofs.Cases.{means_if_on}
-use Rattle.binding_rows.specs.Rights.{written_by, right_by, has_written, ReadsAnnotation, MakesWhole, TypesRightBody, TypesRightParts, TypesRight}
+use Rattle.binding_rows.specs.Rights.{written_by, right_by, right_parts_ask, has_written, ReadsAnnotation, MakesWhole, TypesRightBody, TypesRightParts, TypesRight}
 
 -- no type is written
 pub annotation_none : (a : Parts) (env : List Entry) → ReadsAnnotation a a env None None
@@ -76,19 +76,21 @@ pub right_typed : (a b d f : Parts) (env inner : List Entry) (ps : List Pattern)
 right_typed a b d f env inner ps o e ms written right m parameters goes annotation goes' body = λ aloud F scope G n s.
     let x = parameters.typed aloud F scope G s in
     let loud : is_aloud b.telling ≡ true = ap is_aloud goes.telling ∙ aloud in
-    let y = annotation loud F scope G (surrounds_on x.carried.stays s) in
+    let y = annotation loud F scope (x.own ++ G) (surrounds_on x.carried.stays s) in
+    let H = y.own ++ (x.own ++ G) in
+    let same = sym (append_assoc y.own x.own G) in
     let here = surrounds_on y.carried.stays (surrounds_on x.carried.stays s) in
     let bound = all_bound_on y.carried.stays x.names in
-    let names = subst (λ q. Surrounds as_declared F (sight d) (y.own ++ G) q (with_bound (all_names ps) scope)) (sym parameters.scope) (surrounds_bound bound here) in
-    let z = body (ap is_aloud goes'.telling ∙ loud) F (with_bound (all_names ps) scope) (y.own ++ G) n o (types_at ps) names y.means (all_mean_on y.carried.stays x.means) in
-    let w : Carried F scope (λ c. e.typed (with_names c (all_names ps)) ++ has_written c.chosen n e o) (sight d) (y.own ++ G) (sight f) (y.own ++ G) = among_names bound z.typed.carried in
+    let names = subst (λ q. Surrounds as_declared F (sight d) H q (with_bound (all_names ps) scope)) (sym parameters.scope) (surrounds_bound bound here) in
+    let z = body (ap is_aloud goes'.telling ∙ loud) F (with_bound (all_names ps) scope) H n o (types_at ps) names y.means (all_mean_on y.carried.stays x.means) in
+    let w : Carried F scope (λ c. e.typed (with_names c (all_names ps)) ++ has_written c.chosen n e o) (sight d) H (sight f) H = among_names bound z.typed.carried in
     record {
-      own = y.own;
-      typed = record {
+      own = y.own ++ x.own;
+      typed = subst (λ K. CarriedTo F scope (λ c. right_parts_ask c n ps o e) (sight a) G (sight f) K (arrows_by (types_at ps) (right_by o e)) m) same (record {
         carried = carried_as (λ c. sym (append_assoc (matched_apart c ps ++ read_annotation c o) (e.typed (with_names c (all_names ps))) (has_written c.chosen n e o))) (carried_trans (carried_trans x.carried y.carried) w);
         means = z.typed.means;
-      };
-      right_means = z.right_means;
+      });
+      right_means = subst (λ K. Means F (sight f) K (λ ch. ch.type_at e.node) right) same z.right_means;
     }
 
 -- a body has the written type

@@ -33,14 +33,15 @@ pub open_typed : (a b d : Parts) (env : List Entry) (number : ℕ) (x : Binding)
     OpensBinding a d env seen x (record { node = found; names = added })
 open_typed a b d env number x seen added found noted rest goes matched = λ aloud F scope G s.
     let p = plain_noted a b {F = F} {scope = scope} {G = G} number env x.node (λ c. c.env) noted rest in
-    let q = matched (ap is_aloud goes.telling ∙ aloud) F scope G (surrounds_on p.stays s) in
-    record { carried = carried_trans p q.typed.carried; opened = record { means = q.typed.means; names = q.names } }
+    let q = matched.typed (ap is_aloud goes.telling ∙ aloud) F scope G (surrounds_on p.stays s) in
+    record { own = matched.opens; carried = carried_trans p q.typed.carried; opened = record { means = q.typed.means; names = q.names } }
 
 -- no pattern yet
 pub opens_none : (a : Parts) (env : List Entry) (all : List Binding) (now : List Name) (ys : List OpenedBinding) → now ≡ [] → ys ≡ [] → OpensFirst a a env all all now ys
 opens_none a env all now ys unseen none = λ aloud F scope G s. record {
   done = λ c. [];
   first = [];
+  own = [];
   carried = carried_refl;
   opened = subst (AllOpened F (sight a) G []) (sym none) none_opened;
   asks = λ c. ap (λ ns. patterns_first c ns all) (sym unseen);
@@ -52,12 +53,15 @@ pub opens_more : (a b d : Parts) (env : List Entry) (all left rest : List Bindin
     OpenAdded b d env now then ys zs x → OpensFirst a d env all rest then zs
 opens_more a b d env all left rest x now then ys zs split goes first one = λ aloud F scope G s.
     let p = first aloud F scope G s in
-    let q = one.opened (ap is_aloud goes.telling ∙ aloud) F scope G (surrounds_on p.carried.stays s) in
+    let q = one.opened (ap is_aloud goes.telling ∙ aloud) F scope (p.own ++ G) (surrounds_on p.carried.stays s) in
+    let same = sym (append_assoc q.own p.own G) in
     record {
       done = λ c. p.done c ++ (tell x.node c ++ x.pattern.matched c now);
       first = p.first ++ x ∷ [];
-      carried = carried_trans p.carried q.carried;
-      opened = subst (λ us. AllOpened F (sight d) G (p.first ++ x ∷ []) us) (sym one.adds) (all_opened_more (all_opened_on q.carried.stays p.opened) q.opened);
+      own = q.own ++ p.own;
+      carried = subst (λ H. Carried F scope (λ c. p.done c ++ (tell x.node c ++ x.pattern.matched c now)) (sight a) G (sight d) H) same (carried_trans p.carried q.carried);
+      opened = subst (λ us. AllOpened F (sight d) ((q.own ++ p.own) ++ G) (p.first ++ x ∷ []) us) (sym one.adds)
+          (subst (λ H. AllOpened F (sight d) H (p.first ++ x ∷ []) (ys ++ one.one ∷ [])) same (all_opened_more (all_opened_on q.carried.stays p.opened) q.opened));
       asks = λ c.
           p.asks c ∙ ap (λ xs. p.done c ++ patterns_first c now xs) split ∙ sym (append_assoc (p.done c) (tell x.node c ++ x.pattern.matched c now) (patterns_first c (now ++ x.pattern.mentions) rest)) ∙
           ap (λ ns. p.done c ++ (tell x.node c ++ x.pattern.matched c now) ++ patterns_first c ns rest) (sym one.sees);
@@ -82,8 +86,9 @@ pub opens_all : (a b : Parts) (env : List Entry) (all left : List Binding) (now 
 opens_all a b env all left now ys none first = λ aloud F scope G s.
     let p = first aloud F scope G s in
     record {
+      own = p.own;
       carried = carried_as (λ c. sym (append-nil (p.done c)) ∙ ap (λ xs. p.done c ++ patterns_first c now xs) (sym none) ∙ sym (p.asks c)) p.carried;
-      opened = subst (λ xs. AllOpened F (sight b) G xs ys) (sym (append-nil p.first) ∙ ap (λ xs. p.first ++ xs) (sym none) ∙ sym p.splits) p.opened;
+      opened = subst (λ xs. AllOpened F (sight b) (p.own ++ G) xs ys) (sym (append-nil p.first) ∙ ap (λ xs. p.first ++ xs) (sym none) ∙ sym p.splits) p.opened;
     }
 
 -- the names of the patterns come into scope, those of one binding after those of another
@@ -166,10 +171,16 @@ pub together_typed : (a b d : Parts) (env inner : List Entry) (xs : List Binding
 together_typed a b d env inner xs os ys opens goes brought concludes = λ aloud F scope G s.
     let p = opens aloud F scope G s in
     let bound = opened_names p.opened in
-    let names = subst (λ q. Surrounds as_declared F (sight b) G q (with_bound (names_of_group xs) scope)) (sym brought) (surrounds_bound bound (surrounds_on p.carried.stays s)) in
-    let q = concludes (ap is_aloud goes.telling ∙ aloud) F (with_bound (names_of_group xs) scope) G names p.opened in
-    let w : Carried F scope (λ c. conclusions_ask (with_names c (names_of_group xs)) xs) (sight b) G (sight d) (q.own ++ G) = among_names bound q.carried in
-    record { own = q.own; carried = carried_as (λ c. ap (λ cs. patterns_first c [] xs ++ cs) (conclusions_same c (names_of_group xs) xs)) (carried_trans p.carried w); typed = q.typed }
+    let names = subst (λ q. Surrounds as_declared F (sight b) (p.own ++ G) q (with_bound (names_of_group xs) scope)) (sym brought) (surrounds_bound bound (surrounds_on p.carried.stays s)) in
+    let q = concludes (ap is_aloud goes.telling ∙ aloud) F (with_bound (names_of_group xs) scope) (p.own ++ G) names p.opened in
+    let w : Carried F scope (λ c. conclusions_ask (with_names c (names_of_group xs)) xs) (sight b) (p.own ++ G) (sight d) (q.own ++ (p.own ++ G)) = among_names bound q.carried in
+    let same = sym (append_assoc q.own p.own G) in
+    record {
+      own = q.own ++ p.own;
+      carried = subst (λ H. Carried F scope (λ c. bound_together c xs) (sight a) G (sight d) H) same
+          (carried_as (λ c. ap (λ cs. patterns_first c [] xs ++ cs) (conclusions_same c (names_of_group xs) xs)) (carried_trans p.carried w));
+      typed = subst (λ H. AllTyped F (sight d) H xs ys) same q.typed;
+    }
 
 -- the names of the bindings that are left come into scope one binding after another
 pub scope_step : (inner further whole : List Entry) (left rest : List OpenedBinding) (y : OpenedBinding) → left ≡ y ∷ rest → further ≡ names_added y.names inner → names_added (names_opened left) inner ≡ whole → names_added (names_opened rest) further ≡ whole

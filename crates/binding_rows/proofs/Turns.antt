@@ -17,7 +17,7 @@ use Rattle.pattern_rows.specs.Bounds.{Bind}
 use Rattle.pattern_rows.specs.Contracts.{MatchesTo}
 use Rattle.pattern_rows.proofs.Naming.{all_bound_on}
 use Rattle.binding_rows.specs.Rights.{whole_by, TypesRight}
-use Rattle.binding_rows.specs.Groups.{TypedBinding, AllTyped, none_typed, AsksWhole, TypesBindings, turn_asks, TypesTurn, TurnAdded, NoneAdded, TypesTurnIf, TypesTurnsFirst}
+use Rattle.binding_rows.specs.Groups.{TypedBinding, IsTyped, AllTyped, none_typed, AsksWhole, TypesBindings, turn_asks, TypesTurn, TurnAdded, NoneAdded, TypesTurnIf, TypesTurnsFirst}
 use Rattle.binding_rows.proofs.Typed.{all_typed_on, all_typed_more, whole_same}
 
 -- a binding: its right side with its number, its pattern, and the demand on the pattern
@@ -26,12 +26,14 @@ pub turn_typed : (a b d e : Parts) (env : List Entry) (x : Binding) (seen : List
 turn_typed a b d e env x seen added right whole found typed goes matched goes' asked = λ aloud F scope G s.
     let p = typed aloud F scope G s in
     let loud : is_aloud b.telling ≡ true = ap is_aloud goes.telling ∙ aloud in
-    let q = matched loud F scope (p.own ++ G) (surrounds_on p.typed.carried.stays s) in
-    let r = asked (ap is_aloud goes'.telling ∙ loud) F scope (p.own ++ G) x.node (whole_by x) q.typed.means (means_on q.typed.carried.stays p.typed.means) in
+    let q = matched.typed loud F scope (p.own ++ G) (surrounds_on p.typed.carried.stays s) in
+    let r = asked (ap is_aloud goes'.telling ∙ loud) F scope (matched.opens ++ (p.own ++ G)) x.node (whole_by x) q.typed.means (means_on q.typed.carried.stays p.typed.means) in
+    let same = sym (append_assoc matched.opens p.own G) in
     record {
-      own = p.own;
-      carried = carried_as (λ c. ap (λ cs. tell x.node c ++ right_side c x ++ x.pattern.matched c seen ++ cs) (whole_same c x)) (carried_trans (carried_trans p.typed.carried q.typed.carried) r);
-      typed = record { names = all_bound_on r.stays q.names; right = means_on r.stays (means_on q.typed.carried.stays p.right_means) };
+      own = matched.opens ++ p.own;
+      carried = subst (λ H. Carried F scope (λ c. turn_asks c seen x) (sight a) G (sight e) H) same
+          (carried_as (λ c. ap (λ cs. tell x.node c ++ right_side c x ++ x.pattern.matched c seen ++ cs) (whole_same c x)) (carried_trans (carried_trans p.typed.carried q.typed.carried) r));
+      typed = subst (λ H. IsTyped F (sight e) H x (record { names = added; right = right })) same (record { names = all_bound_on r.stays q.names; right = means_on r.stays (means_on q.typed.carried.stays p.right_means) });
     }
 
 -- no binding yet

@@ -4,27 +4,25 @@ use Rattle.tree_model.specs.Trees.{Place}
 use Rattle.type_model.specs.Types.{Typ}
 use Rattle.type_model.specs.Types.{Typ as type}
 use Rattle.typing_model.specs.Demands.{site, equal}
-use Rattle.typing_model.specs.Contexts.{Choice, Context, Bound, ask, type_at}
+use Rattle.typing_model.specs.Contexts.{Choice, Context, ask, type_at}
 use Rattle.typing_model.specs.Parts.{Pattern, TypeExpression, Binding}
 use Rattle.typing_model.specs.Bindings.{arrows, pattern_has, names_of_group}
 use Rattle.typing_state.specs.declared.parts.Parts.{Parts}
 use Rattle.typing_conditions.specs.Sights.{Sight, Letters}
 use Rattle.typing_conditions.specs.Frames.{Frame}
-use Rattle.typing_conditions.specs.Meanings.{AllMean, none_mean, one_means}
-use Rattle.typing_conditions.specs.Carrying.{Asks, Scope, Stays, Carried}
+use Rattle.typing_conditions.specs.Carrying.{Stays, Carried}
 use Rattle.typing_conditions.proofs.Carried.{carried_trans, carried_as}
-use Rattle.typing_conditions.proofs.Meaning.{means_on, all_open}
-use Rattle.typing_conditions.proofs.Letting.{AllOpen, GroupCarried}
+use Rattle.typing_conditions.proofs.Meaning.{means_on}
 use Rattle.typing_steps.specs.States.{sight}
 use Rattle.typing_steps.specs.Typing.{AsksEqual}
 use Rattle.typing_steps.specs.Warning.{OnlyWarnings}
-use Rattle.pattern_rows.specs.Bounds.{Bind, AllBound, none_bound, one_bound}
+use Rattle.pattern_rows.specs.Bounds.{AllBound, none_bound}
 use Rattle.pattern_rows.specs.Contracts.{types_at}
 use Rattle.pattern_rows.proofs.Naming.{all_bound_on, all_bound_both}
 use Rattle.case_rows.specs.Parameters.{arrows_by}
 use Rattle.case_rows.proofs.Scopes.{only_warned}
 use Rattle.binding_rows.specs.Rights.{right_by}
-use Rattle.binding_rows.specs.Groups.{TypedBinding, IsTyped, AllTyped, none_typed, one_typed, names_typed, OpenedBinding, IsOpened, AllOpened, none_opened, one_opened, names_opened, whole_asks, AsksWhole, body_types, rights_typed, bound_types, nodes_bound, BindingsCarried}
+use Rattle.binding_rows.specs.Groups.{TypedBinding, IsTyped, AllTyped, none_typed, one_typed, names_typed, OpenedBinding, IsOpened, AllOpened, none_opened, one_opened, names_opened, whole_asks, AsksWhole}
 
 -- a typed binding stands for the same later on
 pub is_typed_on : {F : Frame} {a b : Sight} {G H : Letters} {x : Binding} {y : TypedBinding} → Stays F a G b H → IsTyped F a G x y → IsTyped F b H x y
@@ -85,25 +83,3 @@ whole_asked a b d p at found whole place asked warned = λ aloud F scope G n t i
     let x = asked aloud F scope G (site n 1) (λ ch. ch.type_at p.node) t is has in
     let y = subst (λ l. Carried F scope (λ c. ask n 1 l (equal (type_at c p.node) (t c.chosen))) (sight a) G (sight b) G) (sym place) x in
     carried_as (λ c. append-nil (ask n 1 p.at (equal (type_at c p.node) (t c.chosen)))) (carried_trans y (only_warned b d warned))
-
--- the nodes of right sides have the types of the bodies
-pub group_rights : {F : Frame} {a : Sight} {G : Letters} {xs : List Binding} {ys : List TypedBinding} → AllTyped F a G xs ys → AllMean F a G (body_types xs) (rights_typed ys)
-group_rights none_typed = none_mean
-group_rights (one_typed h hs) = one_means h.right (group_rights hs)
-
--- names have their types
-names_mean : {F : Frame} {a : Sight} {G : Letters} {bs : List Bound} {ys : List Bind} → AllBound F a G bs ys → AllMean F a G (bound_types bs) (nodes_bound ys)
-names_mean none_bound = none_mean
-names_mean (one_bound h hs) = one_means h.means (names_mean hs)
-
--- the nodes of a group's names are open
-pub names_open : {F : Frame} {a : Sight} {G : Letters} {xs : List Binding} {ys : List TypedBinding} → AllTyped F a G xs ys → AllOpen F a (nodes_bound (names_typed ys))
-names_open h = all_open (names_mean (group_names h))
-
--- so are those of its right sides
-pub rights_open : {F : Frame} {a : Sight} {G : Letters} {xs : List Binding} {ys : List TypedBinding} → AllTyped F a G xs ys → AllOpen F a (rights_typed ys)
-rights_open h = all_open (group_rights h)
-
--- a group of bindings, as the laws of `let` take it
-pub as_group : {F : Frame} {scope : Scope} {asks : Asks} {a b : Sight} {G : Letters} {xs : List Binding} {ys : List TypedBinding} → (x : BindingsCarried F scope asks a G b xs ys) → GroupCarried F scope asks a G b (x.own ++ G) (nodes_bound (names_typed ys))
-as_group x = record { carried = x.carried; are_open = names_open x.typed }

@@ -3,7 +3,7 @@ use Rattle.std.specs.Prelude.{◌≡◌, ℕ, Bool, true, List, [], ◌∷◌, �
 use Rattle.type_model.specs.Types.{Typ}
 use Rattle.signature_model.specs.Declarations.{Name}
 use Rattle.typing_model.specs.Demands.{Condition, equal}
-use Rattle.typing_model.specs.Contexts.{Choice, Context, Bound, ask, type_at, tell}
+use Rattle.typing_model.specs.Contexts.{Choice, Context, ask, type_at, tell}
 use Rattle.typing_model.specs.Parts.{Pattern, Binding}
 use Rattle.typing_model.specs.Bindings.{right_side, pattern_has, bound_in_turn, patterns_first, bindings_ask}
 use Rattle.env_table.specs.declared.entries.Entry.{Entry}
@@ -12,7 +12,7 @@ use Rattle.typing_conditions.specs.Sights.{Sight, Letters}
 use Rattle.typing_conditions.specs.Frames.{Frame}
 use Rattle.typing_conditions.specs.Meanings.{Means}
 use Rattle.typing_conditions.specs.Carrying.{Asks, Scope, Carried}
-use Rattle.typing_conditions.specs.Surroundings.{Surrounds, context_of}
+use Rattle.typing_conditions.specs.Surroundings.{Surrounds}
 use Rattle.typing_steps.specs.States.{is_aloud, sight}
 use Rattle.typing_steps.specs.Typing.{as_declared}
 use Rattle.pattern_rows.specs.Bounds.{Bind, AllBound}
@@ -123,10 +123,11 @@ pub record TurnsFirst (F : Frame) (scope : Scope) (a : Sight) (G : Letters) (b :
 abbrev pub TypesTurnsFirst : (a b : Parts) → List Entry → (all left : List Binding) → (now : List Name) → List TypedBinding → Type 0
 TypesTurnsFirst a b env all left now ys = is_aloud a.telling ≡ true → (F : Frame) (scope : Scope) (G : Letters) → Surrounds as_declared F (sight a) G env scope → TurnsFirst F scope (sight a) G (sight b) all left now ys
 
--- the pattern of a binding with `rec`, behind the names seen: what it asks is carried
+-- the pattern of a binding with `rec`, behind the names seen: what it asks is carried, with the letters that it opens
 pub record OpenedCarried (F : Frame) (scope : Scope) (a : Sight) (G : Letters) (b : Sight) (seen : List Name) (x : Binding) (y : OpenedBinding) : Type 0 where
-  pub carried : Carried F scope (λ c. tell x.node c ++ x.pattern.matched c seen) a G b G
-  pub opened : IsOpened F b G x y
+  pub own : Letters
+  pub carried : Carried F scope (λ c. tell x.node c ++ x.pattern.matched c seen) a G b (own ++ G)
+  pub opened : IsOpened F b (own ++ G) x y
 
 -- the same of a call
 abbrev pub OpensBinding : (a b : Parts) → List Entry → (seen : List Name) → Binding → OpenedBinding → Type 0
@@ -144,10 +145,11 @@ abbrev pub OpensIf : (a b : Parts) → List Entry → (seen seen' : List Name) �
 OpensIf a b env seen seen' ys ys' None = NoneAdded a b seen seen' ys ys'
 OpensIf a b env seen seen' ys ys' (Some x) = OpenAdded a b env seen seen' ys ys' x
 
--- the patterns of bindings: what they ask is carried
+-- the patterns of bindings: what they ask is carried, with the letters that they open
 pub record OpenedAll (F : Frame) (scope : Scope) (a : Sight) (G : Letters) (b : Sight) (xs : List Binding) (ys : List OpenedBinding) : Type 0 where
-  pub carried : Carried F scope (λ c. patterns_first c [] xs) a G b G
-  pub opened : AllOpened F b G xs ys
+  pub own : Letters
+  pub carried : Carried F scope (λ c. patterns_first c [] xs) a G b (own ++ G)
+  pub opened : AllOpened F b (own ++ G) xs ys
 
 -- the same of a call
 abbrev pub OpensAll : (a b : Parts) → List Entry → List Binding → List OpenedBinding → Type 0
@@ -157,8 +159,9 @@ OpensAll a b env xs ys = is_aloud a.telling ≡ true → (F : Frame) (scope : Sc
 pub record OpenedFirst (F : Frame) (scope : Scope) (a : Sight) (G : Letters) (b : Sight) (all left : List Binding) (now : List Name) (ys : List OpenedBinding) : Type 0 where
   pub done : Asks
   pub first : List Binding
-  pub carried : Carried F scope done a G b G
-  pub opened : AllOpened F b G first ys
+  pub own : Letters
+  pub carried : Carried F scope done a G b (own ++ G)
+  pub opened : AllOpened F b (own ++ G) first ys
   pub asks : (c : Context) → patterns_first c [] all ≡ done c ++ patterns_first c now left
   pub splits : all ≡ first ++ left
 
@@ -208,23 +211,3 @@ AsksNothing a b = (F : Frame) (scope : Scope) (G : Letters) → Carried F scope 
 -- a group of bindings, with or without `rec`: what it asks is carried, and these are its bindings as the code has typed them
 abbrev pub TypesGroup : (a b : Parts) → List Entry → (is_rec : Bool) → List Binding → List TypedBinding → Type 0
 TypesGroup a b env is_rec xs ys = TypesBindings a b env (λ c. bindings_ask c is_rec xs) xs ys
-
--- the types of the bodies of bindings, by the choice
-abbrev pub body_types : List Binding → List (Choice → Typ)
-body_types [] = []
-body_types (x ∷ xs) = (λ ch. ch.type_at x.body.node) ∷ body_types xs
-
--- the nodes of the right sides of typed bindings
-abbrev pub rights_typed : List TypedBinding → List ℕ
-rights_typed [] = []
-rights_typed (y ∷ ys) = y.right ∷ rights_typed ys
-
--- the types of names, by the choice
-abbrev pub bound_types : List Bound → List (Choice → Typ)
-bound_types [] = []
-bound_types (b ∷ bs) = (λ ch. b.has_type (context_of ch)) ∷ bound_types bs
-
--- the nodes of names of the code
-abbrev pub nodes_bound : List Bind → List ℕ
-nodes_bound [] = []
-nodes_bound (y ∷ ys) = y.node.0 ∷ nodes_bound ys

@@ -3,3 +3,8 @@ pub mod Rights
 pub mod Groups
 pub mod Carried
 pub mod Operands
+pub mod Decided
+pub mod Closing
+pub mod Lets
+pub mod LetGroups
+pub mod LetNodes

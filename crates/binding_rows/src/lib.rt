@@ -1,6 +1,7 @@
-//! What each function that types a group of bindings has to carry, up to the closing of the group; its laws are for `core_typing`'s clauses `carries`.
+//! What each function that types a group of bindings has to carry, what closing the group does, and the law of the row of a `let`; for `core_typing`'s clauses `carries`.
 //! It stands on `case_rows`, for parameters and the names of patterns in scope, and on `type_rows`, for the type that is written for a right side. No program calls it.
-//! `specs/Rights` says what a right side carries, `specs/Groups` what bindings in order do, `specs/Carried` of which bindings, `specs/Operands` the same by the operands of the code.
-//! The laws of `proofs/` are of a right side by its parts (`Rights`), of the demand on a pattern and of what stays (`Typed`), of bindings without `rec` (`Turns`) and with it
-//! (`Together`), of the whole group (`Groups`), of the operands that are bindings (`Terms`), of each function by its operands (`Operands`), and of its loops (`Loops`).
+//! Of a group up to its close: `specs/Rights`, `Groups`, `Carried`, `Operands`, `Decided`; its laws are of a right side (`Rights`), of what stays (`Typed`), of bindings without
+//! `rec` (`Turns`) and with it (`Together`), of the group (`Groups`), of operands and loops (`Terms`, `Operands`, `Loops`, `Nodes`), of what is generalised (`Verdicts`, `Valued`).
+//! Of the close and the row: `specs/Closing`, `Lets`, `LetGroups`, `LetNodes`; laws of limits (`Limits`), generalised types (`Generalising`, `LetTurns`, `LetLoops`), the close
+//! (`Closing`), what is held (`Held`), and the row (`Lets`, `LetNodes`).
 #![tactic(auto)]

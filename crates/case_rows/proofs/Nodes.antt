@@ -7,8 +7,8 @@ use Rattle.tree_model.specs.Trees.{Place, Tree, Part, node, taken, inner, missin
 use Rattle.row_parts.specs.Numbered.{Numbered, numbered, operands_in, first_in}
 use Rattle.operand_laws.specs.Formed.{row_of, IsFormed, IsPartFormed, IsOperandFormed}
 use Rattle.operand_laws.proofs.Going.{operands_formed, first_operand_formed, filled_formed}
-use Rattle.typing_rows.specs.CarriedRows.{an_expression, a_pattern, a_case, sort_in, IsCaseRow, IsTreeOfSort, IsOfSort, IsCarried, IsCarriedCase}
-use Rattle.typing_rows.proofs.Going.{expression_parts, case_parts, sorted_in, first_of_sort, filled_of_sort, filled_carried, cases_carried}
+use Rattle.typing_rows.specs.CarriedRows.{an_expression, a_pattern, a_case, sort_in, IsCaseRow, IsTreeOfSort, IsOfSort, IsPlaced, IsCarried, IsCarriedCase}
+use Rattle.typing_rows.proofs.Going.{expression_parts, case_parts, sorted_in, first_of_sort, filled_of_sort, filled_carried, first_placed, filled_placed, cases_carried}
 use Rattle.case_rows.specs.Carried.{IsCaseNode, IsCasePart, IsCase, IsMatchRow, IsMatchOrTry, IsFunctionNode, IsFunNode}
 
 by_case : (r : Row) → IsCaseRow r → r ≡ case_row
@@ -18,9 +18,9 @@ by_case _ h = absurd h
 case_there : (t : Tree) → IsTreeOfSort a_case t → row_of t ≡ case_row
 case_there (node r x ps) h = by_case r h.0
 
-both_some : (o : Option Numbered) → IfSome o IsOperandFormed → IfSome o (λ p. IsOfSort an_expression p.part) → IfSome o IsCarried
-both_some None f h = tt
-both_some (Some o) f h = record { formed = f; rows = h }
+both_some : (o : Option Numbered) → IfSome o IsOperandFormed → IfSome o IsPlaced → IfSome o (λ p. IsOfSort an_expression p.part) → IfSome o IsCarried
+both_some None f p h = tt
+both_some (Some o) f p h = record { formed = f; placed = p; rows = h }
 
 -- a case that is made of carried rows
 case_node : (n : ℕ) (t : Tree) → IsFormed n t → IsTreeOfSort a_case t → IsCaseNode n t
@@ -31,8 +31,8 @@ case_node n t formed h =
       formed = formed;
       row = row;
       pattern = record { formed = filled_formed n t 0 formed; rows = filled_of_sort n t 0 a_pattern (ap (λ r. sort_in r 0) row) parts };
-      guard = both_some (first_in n t 2) (first_operand_formed n t 2 formed) (first_of_sort n t 2 an_expression (ap (λ r. sort_in r 2) row) parts);
-      body = record { formed = filled_formed n t 4 formed; rows = filled_of_sort n t 4 an_expression (ap (λ r. sort_in r 4) row) parts };
+      guard = both_some (first_in n t 2) (first_operand_formed n t 2 formed) (first_placed n t 2) (first_of_sort n t 2 an_expression (ap (λ r. sort_in r 2) row) parts);
+      body = record { formed = filled_formed n t 4 formed; placed = filled_placed n t 4; rows = filled_of_sort n t 4 an_expression (ap (λ r. sort_in r 4) row) parts };
     }
 
 case_part : (n : ℕ) (p : Part) → IsPartFormed n p → IsOfSort a_case p → IsCasePart n p

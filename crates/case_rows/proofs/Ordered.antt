@@ -25,7 +25,7 @@ use Rattle.case_rows.proofs.Cases.{means_if_on}
 
 -- no case yet
 pub cases_none : (a : Parts) (env : List Entry) (all : List Case) (matched : ℕ) (known : Option ℕ) → TypesCasesFirst a a env all all matched known known
-cases_none a env all matched known = λ aloud F scope G n subject result s of_subject has. record { done = λ c. []; k = 0; now = result; carried = carried_refl; means = has; asks = λ c. refl; gives = refl }
+cases_none a env all matched known = λ aloud F scope G n subject result s of_subject has. record { done = λ c. []; k = 0; now = result; own = []; carried = carried_refl; means = has; asks = λ c. refl; gives = refl }
 
 -- what cases ask, by the first of them
 cases_step : (c : Context) (n k : ℕ) (subject : Typ) (result : Option (Choice → Typ)) (x : Case) (xs : List Case) →
@@ -43,13 +43,15 @@ pub cases_more : (a b d : Parts) (env : List Entry) (all left rest : List Case) 
     TypesCasesFirst a d env all rest matched known (Some m)
 cases_more a b d env all left rest x matched known bodies m split goes first one = λ aloud F scope G n subject result s of_subject has.
     let p = first aloud F scope G n subject result s of_subject has in
-    let q = one (ap is_aloud goes.telling ∙ aloud) F scope G n p.k subject p.now (surrounds_on p.carried.stays s) (means_on p.carried.stays of_subject) p.means in
+    let q = one (ap is_aloud goes.telling ∙ aloud) F scope (p.own ++ G) n p.k subject p.now (surrounds_on p.carried.stays s) (means_on p.carried.stays of_subject) p.means in
+    let same = sym (append_assoc q.own p.own G) in
     record {
       done = λ c. p.done c ++ case_asks c n p.k (subject c.chosen) (type_by c.chosen p.now) x;
       k = p.k + 3;
       now = Some (body_type p.now x.body);
-      carried = carried_trans p.carried q.carried;
-      means = q.means;
+      own = q.own ++ p.own;
+      carried = subst (λ H. Carried F scope (λ c. p.done c ++ case_asks c n p.k (subject c.chosen) (type_by c.chosen p.now) x) (sight a) G (sight d) H) same (carried_trans p.carried q.carried);
+      means = subst (λ H. Means F (sight d) H (body_type p.now x.body) m) same q.means;
       asks = λ c.
           p.asks c ∙ ap (λ xs. p.done c ++ cases_from c n p.k (subject c.chosen) (type_by c.chosen p.now) xs) split ∙ ap (λ ys. p.done c ++ ys) (cases_step c n p.k (subject c.chosen) p.now x rest) ∙
           sym (append_assoc (p.done c) (case_asks c n p.k (subject c.chosen) (type_by c.chosen p.now) x) (cases_from c n (p.k + 3) (subject c.chosen) (Some (body_type p.now x.body c.chosen)) rest));
@@ -61,11 +63,12 @@ pub cases_same : (a b d : Parts) (env : List Entry) (all left : List Case) (matc
     ((F : Frame) (scope : Scope) (G : Letters) → Carried F scope (λ c. []) (sight b) G (sight d) G) → TypesCasesFirst a d env all left matched known bodies
 cases_same a b d env all left matched known bodies goes first still = λ aloud F scope G n subject result s of_subject has.
     let p = first aloud F scope G n subject result s of_subject has in
-    let q = still F scope G in
+    let q = still F scope (p.own ++ G) in
     record {
       done = p.done;
       k = p.k;
       now = p.now;
+      own = p.own;
       carried = carried_as (λ c. append-nil (p.done c)) (carried_trans p.carried q);
       means = means_if_on p.now bodies q.stays p.means;
       asks = p.asks;
@@ -95,32 +98,34 @@ pub cases_all : (a b : Parts) (env : List Entry) (all left : List Case) (matched
 cases_all a b env all left matched known bodies none first = λ aloud F scope G n subject result s of_subject has.
     let p = first aloud F scope G n subject result s of_subject has in
     record {
+      own = p.own;
       carried = carried_as (λ c. sym (append-nil (p.done c)) ∙ ap (λ ys. p.done c ++ ys) (sym (asks_end c n p.k (subject c.chosen) (type_by c.chosen p.now))) ∙
           ap (λ xs. p.done c ++ cases_from c n p.k (subject c.chosen) (type_by c.chosen p.now) xs) (sym none) ∙ sym (p.asks c)) p.carried;
-      means = subst (λ t. MeansIf F (sight b) G t bodies) (sym (p.gives ∙ ap (bodies_type p.now) none ∙ bodies_end p.now)) p.means;
+      means = subst (λ t. MeansIf F (sight b) (p.own ++ G) t bodies) (sym (p.gives ∙ ap (bodies_type p.now) none ∙ bodies_end p.now)) p.means;
     }
 
 -- the type of the bodies by its node, where there is one
 known_result : {F : Frame} {scope : Scope} {a b : Sight} {G : Letters} {n : ℕ} {subject : Choice → Typ} {result : Option (Choice → Typ)} {all : List Case} (m : ℕ) → CasesCarried F scope a G b n subject result all (Some m) → CasesTo F scope a G b n subject result all m
-known_result {F} {scope} {a} {b} {G} {n} {subject} {result} {all} m x = record { own = []; typed = record { carried = x.carried; means = by (bodies_type result all) x.means } }
+known_result {F} {scope} {a} {b} {G} {n} {subject} {result} {all} m x = record { own = x.own; typed = record { carried = x.carried; means = by (bodies_type result all) x.means } }
   where
-    by : (t : Option (Choice → Typ)) → MeansIf F b G t (Some m) → Means F b G (result_type n t) m
+    by : (t : Option (Choice → Typ)) → MeansIf F b (x.own ++ G) t (Some m) → Means F b (x.own ++ G) (result_type n t) m
     by None h = absurd h
     by (Some t) h = h
 
 -- and where there is none, a new variable
-new_result : {F : Frame} {scope : Scope} {a b d : Sight} {G : Letters} {n : ℕ} {subject : Choice → Typ} {result : Option (Choice → Typ)} {all : List Case} (m : ℕ) → CasesCarried F scope a G b n subject result all None →
-    CarriedTo F scope (λ c. []) b G d ((letter n 1, m) ∷ G) (λ ch. ch.letter n 1) m → CasesTo F scope a G d n subject result all m
-new_result {F} {scope} {a} {b} {d} {G} {n} {subject} {result} {all} m x y = record { own = (letter n 1, m) ∷ []; typed = record { carried = (then_made x.carried y).carried; means = by (bodies_type result all) x.means } }
+new_result : {F : Frame} {scope : Scope} {a b d : Sight} {G : Letters} {n : ℕ} {subject : Choice → Typ} {result : Option (Choice → Typ)} {all : List Case} (m : ℕ) → (x : CasesCarried F scope a G b n subject result all None) →
+    CarriedTo F scope (λ c. []) b (x.own ++ G) d ((letter n 1, m) ∷ (x.own ++ G)) (λ ch. ch.letter n 1) m → CasesTo F scope a G d n subject result all m
+new_result {F} {scope} {a} {b} {d} {G} {n} {subject} {result} {all} m x y = record { own = (letter n 1, m) ∷ x.own; typed = record { carried = (then_made x.carried y).carried; means = by (bodies_type result all) x.means } }
   where
-    by : (t : Option (Choice → Typ)) → MeansIf F b G t None → Means F d ((letter n 1, m) ∷ G) (result_type n t) m
+    by : (t : Option (Choice → Typ)) → MeansIf F b (x.own ++ G) t None → Means F d ((letter n 1, m) ∷ (x.own ++ G)) (result_type n t) m
     by None h = y.means
     by (Some t) h = absurd h
 
 -- warnings after cases
-warned_cases : {F : Frame} {scope : Scope} {a b d : Sight} {G : Letters} {n : ℕ} {subject : Choice → Typ} {result : Option (Choice → Typ)} {all : List Case} (bodies : Option ℕ) → CasesCarried F scope a G b n subject result all bodies → Carried F scope (λ c. []) b G d G →
-    CasesCarried F scope a G d n subject result all bodies
+warned_cases : {F : Frame} {scope : Scope} {a b d : Sight} {G : Letters} {n : ℕ} {subject : Choice → Typ} {result : Option (Choice → Typ)} {all : List Case} (bodies : Option ℕ) → (x : CasesCarried F scope a G b n subject result all bodies) →
+    Carried F scope (λ c. []) b (x.own ++ G) d (x.own ++ G) → CasesCarried F scope a G d n subject result all bodies
 warned_cases {n = n} {subject = subject} {result = result} {all = all} bodies x w = record {
+  own = x.own;
   carried = carried_as (λ c. append-nil (cases_from c n 0 (subject c.chosen) (type_by c.chosen result) all)) (carried_trans x.carried w);
   means = means_if_on (bodies_type result all) bodies w.stays x.means;
 }
@@ -128,12 +133,14 @@ warned_cases {n = n} {subject = subject} {result = result} {all = all} bodies x 
 -- The cases of a row, their warnings, and the type of their bodies.
 pub cases_typed : (a b d e : Parts) (env : List Entry) (all : List Case) (matched : ℕ) (known : Option ℕ) (bodies : Option NodeRef) (ty : NodeRef) → TypesEachCase a b env all matched known (option_map (λ (w : NodeRef). w.0) bodies) → OnlyWarnings b d →
     GivenOrAny bodies d e ty → TypesCases a e env all matched known ty.0
+unfolding warned_cases
 cases_typed a b d e env all matched known None ty typed warned any = λ aloud F scope G n subject result s of_subject has.
     let x = typed aloud F scope G n subject result s of_subject has in
-    let w = only_warned b d warned in
-    let y = any F scope G (letter n 1) (λ t. tt) (surrounds_on w.stays (surrounds_on x.carried.stays s)).reached in
+    let w = only_warned b d {F = F} {scope = scope} {G = x.own ++ G} warned in
+    let y = any F scope (x.own ++ G) (letter n 1) (λ t. tt) (surrounds_on w.stays (surrounds_on x.carried.stays s)).reached in
     new_result ty.0 (warned_cases None x w) y
 cases_typed a b d e env all matched known (Some w) ty typed warned (is, same) = λ aloud F scope G n subject result s of_subject has.
     let x = typed aloud F scope G n subject result s of_subject has in
-    let y : Carried F scope (λ c. []) (sight b) G (sight e) G = subst (λ q. Carried F scope (λ c. []) (sight b) G (sight q) G) (sym same) (only_warned b d warned) in
+    let H = x.own ++ G in
+    let y : Carried F scope (λ c. []) (sight b) H (sight e) H = subst (λ q. Carried F scope (λ c. []) (sight b) H (sight q) H) (sym same) (only_warned b d warned) in
     subst (λ (m : NodeRef). CasesTo F scope (sight a) G (sight e) n subject result all m.0) (sym is) (known_result w.0 (warned_cases (Some w.0) x y))

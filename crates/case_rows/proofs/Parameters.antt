@@ -19,8 +19,9 @@ use Rattle.typing_state.specs.Goes.{Goes, OnlyStore}
 use Rattle.typing_conditions.specs.Sights.{Letters}
 use Rattle.typing_conditions.specs.Frames.{Frame}
 use Rattle.typing_conditions.specs.Meanings.{Means, AllMean, none_mean, one_means}
-use Rattle.typing_conditions.specs.Carrying.{Scope, CarriedTo}
+use Rattle.typing_conditions.specs.Carrying.{Scope, Carried, CarriedTo}
 use Rattle.typing_conditions.specs.Surroundings.{Surrounds}
+use Rattle.typing_conditions.proofs.Recording.{ends_same}
 use Rattle.typing_conditions.proofs.Carried.{carried_refl, carried_trans, carried_as}
 use Rattle.typing_conditions.proofs.Meaning.{means_on, all_mean_on, all_mean_more}
 use Rattle.typing_conditions.proofs.Surrounding.{surrounds_on}
@@ -32,7 +33,6 @@ use Rattle.operand_laws.specs.Formed.{row_of, is_needed, IsFormed}
 use Rattle.operand_laws.specs.Operands.{number_of, parts_of, expression_of}
 use Rattle.operand_laws.proofs.Sorts.{patterns_stand}
 use Rattle.typing_rows.specs.Asked.{row_expression}
-use Rattle.typing_rows.proofs.Ending.{row_of_type}
 use Rattle.typing_rows.proofs.Terms.{one, as_row}
 use Rattle.pattern_rows.specs.Bounds.{Bind, AllBound, none_bound}
 use Rattle.pattern_rows.specs.Contracts.{patterns_of, types_at, MatchesTo}
@@ -43,13 +43,16 @@ use Rattle.case_rows.proofs.Scopes.{surrounds_bound, among_names, names_both, on
 
 -- a parameter, and the warnings of its pattern
 pub parameter_typed : (a b d : Parts) (env : List Entry) (p : Pattern) (added : List Bind) (m : ℕ) → MatchesTo a b env p [] added m → OnlyWarnings b d → MatchesTo a d env p [] added m
-parameter_typed a b d env p added m matched warned = λ aloud F scope G s.
-    let x = matched aloud F scope G s in
-    let w = only_warned b d warned in
-    record {
-      typed = record { carried = carried_as (λ c. append-nil (p.matched c [])) (carried_trans x.typed.carried w); means = means_on w.stays x.typed.means };
-      names = all_bound_on w.stays x.names;
-    }
+parameter_typed a b d env p added m matched warned = record {
+  opens = matched.opens;
+  typed = λ aloud F scope G s.
+      let x = matched.typed aloud F scope G s in
+      let w = only_warned b d {F = F} {scope = scope} {G = matched.opens ++ G} warned in
+      record {
+        typed = record { carried = carried_as (λ c. append-nil (p.matched c [])) (carried_trans x.typed.carried w); means = means_on w.stays x.typed.means };
+        names = all_bound_on w.stays x.names;
+      };
+}
 
 -- no parameter yet
 pub parameters_none : (a : Parts) (env : List Entry) (ps : List Pattern) (ms : List ℕ) → ms ≡ [] → ParametersSoFar a a env env ps ps ms
@@ -60,6 +63,7 @@ parameters_none a env ps ms none = record {
     done = λ c. [];
     types = [];
     bounds = [];
+    own = [];
     carried = carried_refl;
     means = subst (AllMean F (sight a) G []) (sym none) none_mean;
     names = none_bound;
@@ -74,15 +78,18 @@ apart_more : (a b d : Parts) (env : List Entry) (all left rest : List Pattern) (
     MatchesTo b d env p [] more m → MatchesApartFirst a d env all rest (added ++ more) longer
 apart_more a b d env all left rest p added more ms longer m split grown goes first one = λ aloud F scope G s.
     let x = first aloud F scope G s in
-    let y = one (ap is_aloud goes.telling ∙ aloud) F scope G (surrounds_on x.carried.stays s) in
+    let y = one.typed (ap is_aloud goes.telling ∙ aloud) F scope (x.own ++ G) (surrounds_on x.carried.stays s) in
     let type = λ (ch : Choice). ch.type_at p.node in
+    let same = sym (append_assoc one.opens x.own G) in
     record {
       done = λ c. x.done c ++ p.matched c [];
       types = x.types ++ type ∷ [];
       bounds = x.bounds ++ p.names;
-      carried = carried_trans x.carried y.typed.carried;
-      means = subst (AllMean F (sight d) G (x.types ++ type ∷ [])) (sym grown) (all_mean_more (all_mean_on y.typed.carried.stays x.means) y.typed.means);
-      names = all_bound_both (all_bound_on y.typed.carried.stays x.names) y.names;
+      own = one.opens ++ x.own;
+      carried = subst (λ H. Carried F scope (λ c. x.done c ++ p.matched c []) (sight a) G (sight d) H) same (carried_trans x.carried y.typed.carried);
+      means = subst (AllMean F (sight d) ((one.opens ++ x.own) ++ G) (x.types ++ type ∷ [])) (sym grown)
+          (subst (λ H. AllMean F (sight d) H (x.types ++ type ∷ []) (ms ++ m ∷ [])) same (all_mean_more (all_mean_on y.typed.carried.stays x.means) y.typed.means));
+      names = subst (λ H. AllBound F (sight d) H (x.bounds ++ p.names) (added ++ more)) same (all_bound_both (all_bound_on y.typed.carried.stays x.names) y.names);
       asks = λ c. x.asks c ∙ ap (λ ps. x.done c ++ matched_apart c ps) split ∙ sym (append_assoc (x.done c) (p.matched c []) (matched_apart c rest));
       gives = x.gives ∙ ap (λ ps. x.types ++ types_at ps) split ∙ sym (append_assoc x.types (type ∷ []) (types_at rest));
       binds = x.binds ∙ ap (λ ps. x.bounds ++ all_names ps) split ∙ sym (append_assoc x.bounds p.names (all_names rest));
@@ -105,9 +112,10 @@ parameters_all a b env inner all left ms none first = record {
   typed = λ aloud F scope G s.
       let x = first.typed aloud F scope G s in
       record {
+        own = x.own;
         carried = carried_as (λ c. sym (append-nil (x.done c)) ∙ ap (λ ps. x.done c ++ matched_apart c ps) (sym none) ∙ sym (x.asks c)) x.carried;
-        means = subst (λ ts. AllMean F (sight b) G ts ms) (sym (append-nil x.types) ∙ ap (λ ps. x.types ++ types_at ps) (sym none) ∙ sym x.gives) x.means;
-        names = subst (λ bs. AllBound F (sight b) G bs first.added) (sym (append-nil x.bounds) ∙ ap (λ ps. x.bounds ++ all_names ps) (sym none) ∙ sym x.binds) x.names;
+        means = subst (λ ts. AllMean F (sight b) (x.own ++ G) ts ms) (sym (append-nil x.types) ∙ ap (λ ps. x.types ++ types_at ps) (sym none) ∙ sym x.gives) x.means;
+        names = subst (λ bs. AllBound F (sight b) (x.own ++ G) bs first.added) (sym (append-nil x.bounds) ∙ ap (λ ps. x.bounds ++ all_names ps) (sym none) ∙ sym x.binds) x.names;
       };
 }
 
@@ -140,13 +148,20 @@ pub fun_typed : (a b d f : Parts) (env inner : List Entry) (n : ℕ) (at : Place
     MakesArrows d f ms to m → TypesRow a f env (λ c. (fun_expression n at ps e).typed c) n m
 fun_typed a b d f env inner n at ps e ms to m parameters goes body made = λ aloud F scope G s.
     let x = parameters.typed aloud F scope G s in
-    let names = subst (λ q. Surrounds as_declared F (sight b) G q (with_bound (all_names ps) scope)) (sym parameters.scope) (surrounds_bound x.names (surrounds_on x.carried.stays s)) in
-    let y = body (ap is_aloud goes.telling ∙ aloud) F (with_bound (all_names ps) scope) G names in
-    let z = made F scope G (types_at ps) (λ ch. ch.type_at e.node) (all_mean_on y.carried.stays x.means) y.means in
+    let names = subst (λ q. Surrounds as_declared F (sight b) (x.own ++ G) q (with_bound (all_names ps) scope)) (sym parameters.scope) (surrounds_bound x.names (surrounds_on x.carried.stays s)) in
+    let y = body (ap is_aloud goes.telling ∙ aloud) F (with_bound (all_names ps) scope) (x.own ++ G) names in
+    let z = made F scope (x.own ++ G) (types_at ps) (λ ch. ch.type_at e.node) (all_mean_on y.carried.stays x.means) y.means in
     let front = carried_trans x.carried (among_names x.names y.carried) in
     let whole = carried_as (λ c. append-nil (matched_apart c ps ++ e.typed (with_names c (all_names ps)))) (carried_trans front z.carried) in
-    row_of_type (λ c. matched_apart c ps ++ e.typed (with_names c (all_names ps))) (arrows_by (types_at ps) (λ ch. ch.type_at e.node)) whole z.means
-    (λ c. ap (λ t. matched_apart c ps ++ e.typed (with_names c (all_names ps)) ++ is_of c n t) (arrows_same c ps (λ ch. ch.type_at e.node)))
+    record {
+      own = x.own;
+      type = arrows_by (types_at ps) (λ ch. ch.type_at e.node);
+      first = λ c. matched_apart c ps ++ e.typed (with_names c (all_names ps));
+      ends = λ c. is_of c n (arrows_by (types_at ps) (λ ch. ch.type_at e.node) c.chosen);
+      all = λ c. ap (λ t. matched_apart c ps ++ e.typed (with_names c (all_names ps)) ++ is_of c n t) (arrows_same c ps (λ ch. ch.type_at e.node));
+      typed = record { carried = whole; means = z.means };
+      end = ends_same n (arrows_by (types_at ps) (λ ch. ch.type_at e.node));
+    }
 
 -- fun p p -> e, over the operands of the code
 pub fun_term : (i n : ℕ) (at : Place) (t : Tree) → IsFormed n t → row_of t ≡ efun_row → row_expression i n at t ≡ fun_expression (number_of i n) at (patterns_of i (operands_in n t 1)) (expression_of i (filled_in n t 3))

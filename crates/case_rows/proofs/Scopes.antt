@@ -33,7 +33,7 @@ names_same (one_bound {x = x} h hs) c E E' e =
 -- what is carried among the names of patterns is carried outside, in the context with these names
 pub among_names : {F : Frame} {scope : Scope} {asks : Asks} {a b d : Sight} {G H K : Letters} {bs : List Bound} {ys : List Bind} → AllBound F d K bs ys → Carried F (with_bound bs scope) asks a G b H → Carried F scope (λ c. asks (with_names c bs)) a G b H
 among_names {scope = scope} {bs = bs} bound p =
-    carried_under (λ c. with_names c bs) (λ c. (refl, refl)) (λ c u. record { env = names_same bound c c.env (scope.env c.chosen) u.env; variables = u.variables; held = u.held }) p
+    carried_under (λ c. with_names c bs) refl (λ c. (refl, refl)) (λ c u. record { env = names_same bound c c.env (scope.env c.chosen) u.env; variables = u.variables; held = u.held }) p
 
 -- some names, and then others
 pub names_both : (ys zs : List Bind) (env : List Entry) → names_added (ys ++ zs) env ≡ names_added zs (names_added ys env)

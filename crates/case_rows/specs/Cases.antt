@@ -81,10 +81,11 @@ abbrev pub result_type : ℕ → Option (Choice → Typ) → Choice → Typ
 result_type n None = λ ch. ch.letter n 1
 result_type n (Some t) = t
 
--- A pattern with names of its own, which has a type: what both ask is carried, and these names stand for those that it binds.
+-- A pattern with names of its own, which has a type: what both ask is carried, with the letters that it opens, and these names stand for those that it binds.
 pub record MatchedAs (F : Frame) (scope : Scope) (a : Sight) (G : Letters) (b : Sight) (p : Pattern) (n k : ℕ) (t : Choice → Typ) (added : List Bind) : Type 0 where
-  pub carried : Carried F scope (λ c. p.matched c [] ++ ask n k p.at (equal (type_at c p.node) (t c.chosen))) a G b G
-  pub names : AllBound F b G p.names added
+  pub own : Letters
+  pub carried : Carried F scope (λ c. p.matched c [] ++ ask n k p.at (equal (type_at c p.node) (t c.chosen))) a G b (own ++ G)
+  pub names : AllBound F b (own ++ G) p.names added
 
 -- the same of a call, where faults are reported
 abbrev pub MatchesAs : (a b : Parts) → List Entry → Pattern → List Bind → (wanted : ℕ) → Type 0
@@ -111,10 +112,11 @@ abbrev pub TypesBody : (a b : Parts) → List Entry → Expression → (bodies :
 TypesBody a b env body bodies m = is_aloud a.telling ≡ true → (F : Frame) (scope : Scope) (G : Letters) (n k : ℕ) (result : Option (Choice → Typ)) → Surrounds as_declared F (sight a) G env scope → MeansIf F (sight a) G result bodies →
     BodyCarried F scope (sight a) G (sight b) n k result body m
 
--- a case by its parts: what they ask is carried, and then a node has the type of the bodies
+-- a case by its parts: what they ask is carried, with letters of their own, and then a node has the type of the bodies
 pub record PartsCarried (F : Frame) (scope : Scope) (a : Sight) (G : Letters) (b : Sight) (n k : ℕ) (subject : Choice → Typ) (result : Option (Choice → Typ)) (p : Pattern) (guard : Option Expression) (body : Expression) (m : ℕ) : Type 0 where
-  pub carried : Carried F scope (λ c. parts_of_case_ask c n k (subject c.chosen) (type_by c.chosen result) p guard body) a G b G
-  pub means : Means F b G (body_type result body) m
+  pub own : Letters
+  pub carried : Carried F scope (λ c. parts_of_case_ask c n k (subject c.chosen) (type_by c.chosen result) p guard body) a G b (own ++ G)
+  pub means : Means F b (own ++ G) (body_type result body) m
 
 -- the same of a call; `matched` is the node of the type of what is matched
 abbrev pub TypesCaseParts : (a b : Parts) → List Entry → Pattern → Option Expression → Expression → (matched : ℕ) → (bodies : Option ℕ) → (m : ℕ) → Type 0
@@ -125,10 +127,11 @@ TypesCaseParts a b env p guard body matched bodies m = is_aloud a.telling ≡ tr
 abbrev pub TypesCasePartsTo : (a b : Parts) → List Entry → Case → (matched : ℕ) → (bodies now : Option ℕ) → Type 0
 TypesCasePartsTo a b env x matched bodies now = (m : ℕ) × (now ≡ Some m) × TypesCaseParts a b env x.pattern x.guard x.body matched bodies m
 
--- a case: what it asks is carried, and then a node has the type of the bodies
+-- a case: what it asks is carried, with letters of its own, and then a node has the type of the bodies
 pub record CaseCarried (F : Frame) (scope : Scope) (a : Sight) (G : Letters) (b : Sight) (n k : ℕ) (subject : Choice → Typ) (result : Option (Choice → Typ)) (x : Case) (m : ℕ) : Type 0 where
-  pub carried : Carried F scope (λ c. case_asks c n k (subject c.chosen) (type_by c.chosen result) x) a G b G
-  pub means : Means F b G (body_type result x.body) m
+  pub own : Letters
+  pub carried : Carried F scope (λ c. case_asks c n k (subject c.chosen) (type_by c.chosen result) x) a G b (own ++ G)
+  pub means : Means F b (own ++ G) (body_type result x.body) m
 
 -- the same of a call
 abbrev pub TypesCase : (a b : Parts) → List Entry → Case → (matched : ℕ) → (bodies : Option ℕ) → (m : ℕ) → Type 0
@@ -140,10 +143,11 @@ abbrev pub TypesCaseIf : (a b : Parts) → List Entry → Option Case → (match
 TypesCaseIf a b env None matched bodies now = (now ≡ bodies) × ((F : Frame) (scope : Scope) (G : Letters) → Carried F scope (λ c. []) (sight a) G (sight b) G)
 TypesCaseIf a b env (Some x) matched bodies now = (m : ℕ) × (now ≡ Some m) × TypesCase a b env x matched bodies m
 
--- cases in order: what they ask is carried, and then a node has the type of the bodies, where there is one
+-- cases in order: what they ask is carried, with letters of their own, and then a node has the type of the bodies, where there is one
 pub record CasesCarried (F : Frame) (scope : Scope) (a : Sight) (G : Letters) (b : Sight) (n : ℕ) (subject : Choice → Typ) (result : Option (Choice → Typ)) (xs : List Case) (bodies : Option ℕ) : Type 0 where
-  pub carried : Carried F scope (λ c. cases_from c n 0 (subject c.chosen) (type_by c.chosen result) xs) a G b G
-  pub means : MeansIf F b G (bodies_type result xs) bodies
+  pub own : Letters
+  pub carried : Carried F scope (λ c. cases_from c n 0 (subject c.chosen) (type_by c.chosen result) xs) a G b (own ++ G)
+  pub means : MeansIf F b (own ++ G) (bodies_type result xs) bodies
 
 -- the same of a call; `known` is the node of the type of the bodies before it
 abbrev pub TypesEachCase : (a b : Parts) → List Entry → List Case → (matched : ℕ) → (known bodies : Option ℕ) → Type 0
@@ -155,8 +159,9 @@ pub record CasesFirst (F : Frame) (scope : Scope) (a : Sight) (G : Letters) (b :
   pub done : Asks
   pub k : ℕ
   pub now : Option (Choice → Typ)
-  pub carried : Carried F scope done a G b G
-  pub means : MeansIf F b G now bodies
+  pub own : Letters
+  pub carried : Carried F scope done a G b (own ++ G)
+  pub means : MeansIf F b (own ++ G) now bodies
   pub asks : (c : Context) → cases_from c n 0 (subject c.chosen) (type_by c.chosen result) all ≡ done c ++ cases_from c n k (subject c.chosen) (type_by c.chosen now) left
   pub gives : bodies_type result all ≡ bodies_type now left
 

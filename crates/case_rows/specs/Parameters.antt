@@ -18,11 +18,13 @@ use Rattle.pattern_rows.specs.Bounds.{Bind, AllBound}
 use Rattle.pattern_rows.specs.Contracts.{types_at}
 use Rattle.case_rows.specs.Scopes.{names_added}
 
--- parameters, each a pattern with names of its own: what they ask is carried, these nodes have their types, and these names stand for those that they bind
+-- Parameters, each a pattern with names of its own: what they ask is carried, with the letters that they open, these nodes have their types, and these names stand
+-- for those that they bind.
 pub record ParametersAll (F : Frame) (scope : Scope) (a : Sight) (G : Letters) (b : Sight) (ps : List Pattern) (added : List Bind) (ms : List ℕ) : Type 0 where
-  pub carried : Carried F scope (λ c. matched_apart c ps) a G b G
-  pub means : AllMean F b G (types_at ps) ms
-  pub names : AllBound F b G (all_names ps) added
+  pub own : Letters
+  pub carried : Carried F scope (λ c. matched_apart c ps) a G b (own ++ G)
+  pub means : AllMean F b (own ++ G) (types_at ps) ms
+  pub names : AllBound F b (own ++ G) (all_names ps) added
 
 -- the same of a call, where faults are reported
 abbrev pub MatchesApart : (a b : Parts) → List Entry → List Pattern → List Bind → List ℕ → Type 0
@@ -39,9 +41,10 @@ pub record ParametersFirst (F : Frame) (scope : Scope) (a : Sight) (G : Letters)
   pub done : Asks
   pub types : List (Choice → Typ)
   pub bounds : List Bound
-  pub carried : Carried F scope done a G b G
-  pub means : AllMean F b G types ms
-  pub names : AllBound F b G bounds added
+  pub own : Letters
+  pub carried : Carried F scope done a G b (own ++ G)
+  pub means : AllMean F b (own ++ G) types ms
+  pub names : AllBound F b (own ++ G) bounds added
   pub asks : (c : Context) → matched_apart c all ≡ done c ++ matched_apart c left
   pub gives : types_at all ≡ types ++ types_at left
   pub binds : all_names all ≡ bounds ++ all_names left

@@ -1,5 +1,5 @@
 -- A p: a constructor with its argument, from what its use and the argument carry.
-use Rattle.std.proofs.Common.{◌≡◌, ◌∙◌, ◌++◌, ◌==◌, ℕ, Bool, true, false, List, [], ◌∷◌, Option, Some, None, refl, sym, ap, subst, append-nil, if◌then◌else◌}
+use Rattle.std.proofs.Common.{◌≡◌, ◌∙◌, ◌++◌, ◌==◌, ℕ, Bool, true, false, List, [], ◌∷◌, Option, Some, None, refl, sym, ap, subst, append_assoc, append-nil, if◌then◌else◌}
 use Rattle.std.specs.Prelude.{All, option_map}
 use Rattle.std.proofs.lemmas.List.Elements.{All-head}
 use Rattle.token_model.specs.Kinds.{Tok}
@@ -26,7 +26,7 @@ use Rattle.typing_conditions.specs.Sights.{own, letter, number_in, Letters}
 use Rattle.typing_conditions.specs.Frames.{Frame}
 use Rattle.typing_conditions.specs.Meanings.{Means}
 use Rattle.typing_conditions.specs.Steps.{Records}
-use Rattle.typing_conditions.specs.Carrying.{Scope, Stays, Carried}
+use Rattle.typing_conditions.specs.Carrying.{Scope, Stays, Carried, CarriedTo}
 use Rattle.typing_conditions.specs.Surroundings.{Surrounds}
 use Rattle.typing_conditions.proofs.Carried.{carried_as, carried_trans}
 use Rattle.typing_conditions.proofs.Meaning.{means_on}
@@ -53,27 +53,29 @@ use Rattle.pattern_rows.specs.Contracts.{MatchesTo, Matches, MatchesRow, Matches
 use Rattle.pattern_rows.proofs.Going.{slot_patterns}
 use Rattle.pattern_rows.proofs.Matching.{row_matches, adds_as}
 use Rattle.pattern_rows.proofs.Naming.{all_bound_on}
+use Rattle.pattern_rows.proofs.Opened.{all_among, among_after, among_before}
 use Rattle.pattern_rows.proofs.Ordered.{patterns_none, patterns_more, patterns_all}
 use Rattle.pattern_rows.proofs.Terms.{applied_term}
 use Rattle.pattern_rows.proofs.Typed.{over_row}
 
 -- a pattern that has the type that may be wanted
-pub matches_as_if : (a b d : Parts) (env : List Entry) (p : Pattern) (at : Place) (seen : List Name) (added : List Bind) (found : ℕ) (wanted : Option NodeRef) → p.at ≡ at → MatchesTo a b env p seen added found → Goes a b → AsksEqualIf b d at found wanted →
-    MatchesAsIf a d env p seen added (option_map (λ (w : NodeRef). w.0) wanted)
+pub matches_as_if : (a b d : Parts) (env : List Entry) (p : Pattern) (at : Place) (seen : List Name) (added : List Bind) (found : ℕ) (wanted : Option NodeRef) → p.at ≡ at → (typed : MatchesTo a b env p seen added found) → Goes a b → AsksEqualIf b d at found wanted →
+    MatchesAsIf a d env p seen added typed.opens (option_map (λ (w : NodeRef). w.0) wanted)
 matches_as_if a b d env p at seen added found None place typed goes asked = λ aloud F scope G s.
-    subst (λ q. PatternAsked env F scope (sight a) G (sight q) p seen (λ c. []) added) (sym asked)
-    (record { carried = carried_as (λ c. sym (append-nil (p.matched c seen))) (typed aloud F scope G s).typed.carried; names = λ H r. (typed aloud F scope H r).names })
+    subst (λ q. PatternAsked env F scope (sight a) G (sight q) p seen (λ c. []) added typed.opens) (sym asked)
+    (record { carried = carried_as (λ c. sym (append-nil (p.matched c seen))) (typed.typed aloud F scope G s).typed.carried; names = λ H r. (typed.typed aloud F scope H r).names })
 matches_as_if a b d env p at seen added found (Some wanted) place typed goes asked = λ aloud F scope G n k t s has.
     let loud : is_aloud b.telling ≡ true = ap is_aloud goes.telling ∙ aloud in
-    let x = typed aloud F scope G s in
+    let x = typed.typed aloud F scope G s in
     let y = means_on x.typed.carried.stays has in
-    let z = asked loud F scope G (site n k) (λ ch. ch.type_at p.node) t x.typed.means y in
+    let z = asked loud F scope (typed.opens ++ G) (site n k) (λ ch. ch.type_at p.node) t x.typed.means y in
     record {
-      carried = carried_trans x.typed.carried (subst (λ l. Carried F scope (λ c. ask n k l (equal (type_at c p.node) (t c.chosen))) (sight b) G (sight d) G) (sym place) z);
+      carried = carried_trans x.typed.carried (subst (λ l. Carried F scope (λ c. ask n k l (equal (type_at c p.node) (t c.chosen))) (sight b) (typed.opens ++ G) (sight d) (typed.opens ++ G)) (sym place) z);
       names = λ H r.
-          let q = typed aloud F scope H r in
-          let opened : Stays F (sight b) H (sight b) ((letter n k, wanted.0) ∷ H) = stays_opened (letter n k) y.open_node.inside in
-          let e = asked loud F scope ((letter n k, wanted.0) ∷ H) (site n k) (λ ch. ch.type_at p.node) (λ ch. ch.letter n k) (means_on opened q.typed.means) (record { open_node = y.open_node; is = λ V ch loose g. g.given.0.is }) in
+          let q = typed.typed aloud F scope H r in
+          let K = typed.opens ++ H in
+          let opened : Stays F (sight b) K (sight b) ((letter n k, wanted.0) ∷ K) = stays_opened (letter n k) y.open_node.inside in
+          let e = asked loud F scope ((letter n k, wanted.0) ∷ K) (site n k) (λ ch. ch.type_at p.node) (λ ch. ch.letter n k) (means_on opened q.typed.means) (record { open_node = y.open_node; is = λ V ch loose g. g.given.0.is }) in
           all_bound_on (stays_closed ((letter n k, wanted.0) ∷ []) (stays_trans opened e.stays)) q.names;
     }
 
@@ -83,6 +85,7 @@ pub wanted_matches : (a b d : Parts) (env : List Entry) (o : Numbered) (names mo
 wanted_matches a b d env o names more seen now found wanted matched goes asked = record {
   added = matched.added;
   adds = matched.adds;
+  opens = matched.typed.opens;
   typed = matches_as_if a b d env (pattern_of a.item o) o.at seen matched.added found wanted (pattern_of_stands a.item o).where_it_is matched.typed goes asked;
 }
 
@@ -110,69 +113,79 @@ constructor_splits c n head p seen qs (Some t) = by (built_by c n (record { qual
     by (Some b) = refl
 
 -- the argument of a constructor that is known has the declared type
-argument_known : (b d : Parts) (env : List Entry) (p : Pattern) (seen : List Name) (added : List Bind) (n head : ℕ) (takes : Option Typ) (argument : Option ℕ) {F : Frame} {scope : Scope} {H : Letters} → is_aloud b.telling ≡ true → Surrounds as_declared F (sight b) H env scope →
-    TakesAs F (sight b) H head takes argument → MatchesAsIf b d env p seen added argument →
-    PatternAsked env F scope (sight b) H (sight d) p seen (λ c. argument_has n 2 p.at (type_at c p.node) (option_map (λ t. used_by head t c.chosen) takes)) added
-argument_known b d env p seen added n head None None {F} {scope} {H} aloud names has argued = argued aloud F scope H names
-argument_known b d env p seen added n head (Some t) (Some m) {F} {scope} {H} aloud names has argued = argued aloud F scope H n 2 (used_by head t) names has
-argument_known b d env p seen added n head None (Some m) aloud names has argued = absurd has
-argument_known b d env p seen added n head (Some t) None aloud names has argued = absurd has
+argument_known : (b d : Parts) (env : List Entry) (p : Pattern) (seen : List Name) (added : List Bind) (opens : Letters) (n head : ℕ) (takes : Option Typ) (argument : Option ℕ) {F : Frame} {scope : Scope} {H : Letters} → is_aloud b.telling ≡ true →
+    Surrounds as_declared F (sight b) H env scope → TakesAs F (sight b) H head takes argument → MatchesAsIf b d env p seen added opens argument →
+    PatternAsked env F scope (sight b) H (sight d) p seen (λ c. argument_has n 2 p.at (type_at c p.node) (option_map (λ t. used_by head t c.chosen) takes)) added opens
+argument_known b d env p seen added opens n head None None {F} {scope} {H} aloud names has argued = argued aloud F scope H names
+argument_known b d env p seen added opens n head (Some t) (Some m) {F} {scope} {H} aloud names has argued = argued aloud F scope H n 2 (used_by head t) names has
+argument_known b d env p seen added opens n head None (Some m) aloud names has argued = absurd has
+argument_known b d env p seen added opens n head (Some t) None aloud names has argued = absurd has
 
 -- A constructor with its argument, as a row: its use, the argument, and the record of its node. The letters of its type are those of its own node, and are open until the row's is recorded.
-pub constructor_typed : (a b d f : Parts) (env : List Entry) (n head number : ℕ) (at : Place) (qs : List Tok) (last : Option Tok) (known : Bool) (p : Pattern) (seen : List Name) (added : List Bind) (m : ℕ) (argument : Option ℕ) →
-    TypesConstructor a b env (record { qualifiers = qs; last = last }) 1 known m argument → Goes a b → MatchesAsIf b d env p seen added argument → Goes b d → number_in d.item number ≡ head → (is_aloud d.telling ≡ true → Records (sight d) (sight f) number m) →
+pub constructor_typed : (a b d f : Parts) (env : List Entry) (n head number : ℕ) (at : Place) (qs : List Tok) (last : Option Tok) (known : Bool) (p : Pattern) (seen : List Name) (added : List Bind) (opens : Letters) (m : ℕ) (argument : Option ℕ) →
+    TypesConstructor a b env (record { qualifiers = qs; last = last }) 1 known m argument → Goes a b → MatchesAsIf b d env p seen added opens argument → Goes b d → number_in d.item number ≡ head → (is_aloud d.telling ≡ true → Records (sight d) (sight f) number m) →
     MatchesRow a f env (with_constructor n at (record { qualifiers = qs; last = last }) head p) seen added n m
-constructor_typed a b d f env n head number at qs last true p seen added m argument typed goes argued goes' place records = λ aloud F scope G names.
-    let w : Written = record { qualifiers = qs; last = last } in
-    let asks = λ (c : Context). applied_constructor c n w head (n ∷ head ∷ []) (p.matched c seen) (argument_has n 2 p.at (type_at c p.node)) in
-    let k = typed aloud F scope G n head names in
-    let loud : is_aloud b.telling ≡ true = ap is_aloud goes.telling ∙ aloud in
-    let x = argument_known b d env p seen added n head k.building.argument argument loud (surrounds_on k.carried.stays names) k.takes argued in
-    let y = means_on x.carried.stays k.builds in
-    let first = same_made {scope = scope} (own n) (λ t. tt) y in
-    let z = carried_trans x.carried (carried_trans first (same_made (own head) (λ t. tt) (means_on first.stays y))) in
-    let behind = carried_after k.carried (λ V c loose under agrees kept. ap (behind_built c n head p seen) (ap (λ v. if v then building_in c.env w else None) (k.kept c kept) ∙ k.finds V c loose under agrees)) z in
-    let own_letters : Letters = (own head, m) ∷ (own n, m) ∷ (k.letters ++ G) in
-    let of_head : Means F (sight d) own_letters (λ ch. ch.type_at head) m = record { open_node = y.open_node; is = λ V ch loose g. g.given.0.is } in
-    let of_row : Means F (sight d) own_letters (λ ch. ch.type_at n) m = record { open_node = y.open_node; is = λ V ch loose g. g.given.1.0.is } in
-    let noted = records (ap is_aloud goes'.telling ∙ loud) in
-    record {
-      row = record {
-        own = (own head, m) ∷ (own n, m) ∷ k.letters;
-        type = λ ch. ch.type_at n;
-        first = asks;
-        ends = λ c. [];
-        all = λ c. append-nil (asks c);
-        typed = record { carried = carried_as (λ c. constructor_splits c n head p seen qs last) (own_recorded head place behind of_head noted); means = means_on (records_stay noted y.open_node.inside) of_row };
-        end = ends_own n;
+constructor_typed a b d f env n head number at qs last true p seen added opens m argument typed goes argued goes' place records = record {
+  opens = opens;
+  typed = λ aloud F scope G names.
+      let w : Written = record { qualifiers = qs; last = last } in
+      let asks = λ (c : Context). applied_constructor c n w head (n ∷ head ∷ []) (p.matched c seen) (argument_has n 2 p.at (type_at c p.node)) in
+      let k = typed aloud F scope G n head names in
+      let loud : is_aloud b.telling ≡ true = ap is_aloud goes.telling ∙ aloud in
+      let x = argument_known b d env p seen added opens n head k.building.argument argument loud (surrounds_on k.carried.stays names) k.takes argued in
+      let y = means_on x.carried.stays k.builds in
+      let first = same_made {scope = scope} (own n) (λ t. tt) y in
+      let z = carried_trans x.carried (carried_trans first (same_made (own head) (λ t. tt) (means_on first.stays y))) in
+      let behind = carried_after k.carried (λ V c loose under agrees named kept. ap (behind_built c n head p seen) (ap (λ v. if v then building_in c.env w else None) (k.kept c kept) ∙ k.finds V c loose under agrees named)) z in
+      let own_letters : Letters = (own head, m) ∷ (own n, m) ∷ (opens ++ (k.letters ++ G)) in
+      let of_head : Means F (sight d) own_letters (λ ch. ch.type_at head) m = record { open_node = y.open_node; is = λ V ch loose g. g.given.0.is } in
+      let of_row : Means F (sight d) own_letters (λ ch. ch.type_at n) m = record { open_node = y.open_node; is = λ V ch loose g. g.given.1.0.is } in
+      let noted = records (ap is_aloud goes'.telling ∙ loud) in
+      record {
+        row = record {
+          own = (own head, m) ∷ (own n, m) ∷ (opens ++ k.letters);
+          type = λ ch. ch.type_at n;
+          first = asks;
+          ends = λ c. [];
+          all = λ c. append-nil (asks c);
+          typed = subst (λ H. CarriedTo F scope asks (sight a) G (sight f) ((own head, m) ∷ (own n, m) ∷ H) (λ ch. ch.type_at n) m) (sym (append_assoc opens k.letters G))
+              (record { carried = carried_as (λ c. constructor_splits c n head p seen qs last) (own_recorded head place behind of_head noted); means = means_on (records_stay noted y.open_node.inside) of_row });
+          end = ends_own n;
+        };
+        among = among_after ((own head, m) ∷ (own n, m) ∷ []) (among_before k.letters (all_among opens));
+        names = λ o st h always. all_bound_on (stays_trans (records_stay noted y.open_node.inside) st) (x.names G (surrounds_on (stays_closed k.letters k.carried.stays) names));
       };
-      names = λ o st h always. all_bound_on (stays_trans (records_stay noted y.open_node.inside) st) (x.names G (surrounds_on (stays_closed k.letters k.carried.stays) names));
-    }
-constructor_typed a b d f env n head number at qs last false p seen added m argument typed goes argued goes' place records = λ aloud F scope G names.
-    let w : Written = record { qualifiers = qs; last = last } in
-    let asks = λ (c : Context). applied_constructor c n w head (n ∷ head ∷ []) (p.matched c seen) (argument_has n 2 p.at (type_at c p.node)) in
-    let k = typed.1 aloud F scope G n (own head) (λ t. tt) names in
-    let loud : is_aloud b.telling ≡ true = ap is_aloud goes.telling ∙ aloud in
-    let x = (subst (MatchesAsIf b d env p seen added) typed.0 argued) loud F scope ((own head, m) ∷ G) (surrounds_on k.typed.carried.stays names) in
-    let y : Means F (sight d) ((own head, m) ∷ G) (λ ch. ch.type_at head) m = means_on x.carried.stays k.typed.means in
-    let first = same_made {scope = scope} (own n) (λ t. tt) y in
-    let z = carried_trans (carried_as (λ c. append-nil (p.matched c seen)) x.carried) (carried_trans first (same_itself (λ ch. ch.type_at head))) in
-    let behind = carried_after k.typed.carried (λ V c loose under agrees kept. ap (behind_built c n head p seen) (k.none V c loose under agrees kept)) z in
-    let own_letters : Letters = (own n, m) ∷ (own head, m) ∷ G in
-    let of_row : Means F (sight d) own_letters (λ ch. ch.type_at n) m = record { open_node = y.open_node; is = λ V ch loose g. g.given.0.is } in
-    let noted = records (ap is_aloud goes'.telling ∙ loud) in
-    record {
-      row = record {
-        own = (own n, m) ∷ (own head, m) ∷ [];
-        type = λ ch. ch.type_at n;
-        first = asks;
-        ends = λ c. [];
-        all = λ c. append-nil (asks c);
-        typed = record { carried = carried_as (λ c. constructor_splits c n head p seen qs last) (own_recorded head place behind (means_on first.stays y) noted); means = means_on (records_stay noted y.open_node.inside) of_row };
-        end = ends_own n;
+}
+constructor_typed a b d f env n head number at qs last false p seen added opens m argument typed goes argued goes' place records = record {
+  opens = opens;
+  typed = λ aloud F scope G names.
+      let w : Written = record { qualifiers = qs; last = last } in
+      let asks = λ (c : Context). applied_constructor c n w head (n ∷ head ∷ []) (p.matched c seen) (argument_has n 2 p.at (type_at c p.node)) in
+      let k = typed.1 aloud F scope G n (own head) (λ t. tt) names in
+      let loud : is_aloud b.telling ≡ true = ap is_aloud goes.telling ∙ aloud in
+      let x = (subst (MatchesAsIf b d env p seen added opens) typed.0 argued) loud F scope ((own head, m) ∷ G) (surrounds_on k.typed.carried.stays names) in
+      let y : Means F (sight d) (opens ++ ((own head, m) ∷ G)) (λ ch. ch.type_at head) m = means_on x.carried.stays k.typed.means in
+      let first = same_made {scope = scope} (own n) (λ t. tt) y in
+      let z = carried_trans (carried_as (λ c. append-nil (p.matched c seen)) x.carried) (carried_trans first (same_itself (λ ch. ch.type_at head))) in
+      let behind = carried_after k.typed.carried (λ V c loose under agrees named kept. ap (behind_built c n head p seen) (k.none V c loose under agrees named kept)) z in
+      let own_letters : Letters = (own n, m) ∷ (opens ++ ((own head, m) ∷ G)) in
+      let of_row : Means F (sight d) own_letters (λ ch. ch.type_at n) m = record { open_node = y.open_node; is = λ V ch loose g. g.given.0.is } in
+      let noted = records (ap is_aloud goes'.telling ∙ loud) in
+      record {
+        row = record {
+          own = (own n, m) ∷ (opens ++ (own head, m) ∷ []);
+          type = λ ch. ch.type_at n;
+          first = asks;
+          ends = λ c. [];
+          all = λ c. append-nil (asks c);
+          typed = subst (λ H. CarriedTo F scope asks (sight a) G (sight f) ((own n, m) ∷ H) (λ ch. ch.type_at n) m) (sym (append_assoc opens ((own head, m) ∷ []) G))
+              (record { carried = carried_as (λ c. constructor_splits c n head p seen qs last) (own_recorded head place behind (means_on first.stays y) noted); means = means_on (records_stay noted y.open_node.inside) of_row });
+          end = ends_own n;
+        };
+        among = among_after ((own n, m) ∷ []) (among_before ((own head, m) ∷ []) (all_among opens));
+        names = λ o st h always. all_bound_on (stays_trans (records_stay noted y.open_node.inside) st) (x.names G (surrounds_on (stays_closed ((own head, m) ∷ []) k.typed.carried.stays) names));
       };
-      names = λ o st h always. all_bound_on (stays_trans (records_stay noted y.open_node.inside) st) (x.names G (surrounds_on (stays_closed ((own head, m) ∷ []) k.typed.carried.stays) names));
-    }
+}
 
 -- A p by what its head is
 applied_by : (n : ℕ) (at : Place) (h p : Pattern) (o : Option Written) → h.constructor ≡ o → papp n at h p ≡ papp n at (record h { constructor = o }) p
@@ -186,7 +199,7 @@ constructor_applied a b d f env number w q known ty argument recorded names more
   adds = argued.adds;
   typed = λ n at.
       subst (λ r. MatchesRow a f env r seen argued.added n ty.0) (sym (applied_by n at h q (Some w) is))
-      (constructor_typed a b d f env n h.node number at w.qualifiers w.last known q seen argued.added ty.0 argument built goes argued.typed goes' (ap (λ i. number_in i number) (goes'.item ∙ goes.item) ∙ sym node) (λ loud. type_noted d f number ty recorded has_type loud noted rest));
+      (constructor_typed a b d f env n h.node number at w.qualifiers w.last known q seen argued.added argued.opens ty.0 argument built goes argued.typed goes' (ap (λ i. number_in i number) (goes'.item ∙ goes.item) ∙ sym node) (λ loud. type_noted d f number ty recorded has_type loud noted rest));
 }
 
 -- one pattern alone

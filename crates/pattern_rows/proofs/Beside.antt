@@ -35,6 +35,7 @@ use Rattle.pattern_rows.specs.Bounds.{Bind, IsBound, AllBound, none_bound, one_b
 use Rattle.pattern_rows.specs.Contracts.{row_pattern, patterns_of, MatchesTo, MatchesRow}
 use Rattle.pattern_rows.specs.Sides.{Side, IsSide, AllSides, no_side, one_more, MatchesSides, MatchesSidesFirst, AllAsked, find_bind, first_apart_here, name_apart_here, name_asks, AsksSides, AsksName, AsksNames, NamesFirst, AsksNamesFirst, AsksBeside, AsksLater, LaterFirst, AsksLaterFirst}
 use Rattle.pattern_rows.proofs.Naming.{all_bound_on}
+use Rattle.pattern_rows.proofs.Opened.{all_among}
 use Rattle.pattern_rows.proofs.Terms.{or_term}
 
 -- a side still stands for its pattern
@@ -53,31 +54,39 @@ side_more (one_more p ps) h = one_more p (side_more ps h)
 
 -- no side yet
 pub sides_none : (a : Parts) (env : List Entry) (ps : List Pattern) (seen : List Name) → MatchesSidesFirst a a env ps ps seen []
-sides_none a env ps seen = λ aloud F scope G s. record { done = λ c. []; front = []; carried = carried_refl; all = no_side; asks = λ c. refl; split = refl }
+sides_none a env ps seen = record { opens = []; typed = λ aloud F scope G s. record { done = λ c. []; front = []; carried = carried_refl; all = no_side; asks = λ c. refl; split = refl } }
 
 -- one side more, behind the names seen before all of them
 pub sides_more : (a b d : Parts) (env : List Entry) (ps left rest : List Pattern) (p : Pattern) (seen : List Name) (added : List Bind) (m : ℕ) (sides longer : List Side) → left ≡ p ∷ rest → longer ≡ sides ++ record { node = m; names = added } ∷ [] → Goes a b →
     MatchesSidesFirst a b env ps left seen sides → MatchesTo b d env p seen added m → MatchesSidesFirst a d env ps rest seen longer
-sides_more a b d env ps left rest p seen added m sides longer split grown goes first one = λ aloud F scope G s.
-    let x = first aloud F scope G s in
-    let y = one (ap is_aloud goes.telling ∙ aloud) F scope G (surrounds_on x.carried.stays s) in
-    record {
-      done = λ c. x.done c ++ p.matched c seen;
-      front = x.front ++ p ∷ [];
-      carried = carried_trans x.carried y.typed.carried;
-      all = subst (AllSides F (sight d) G (x.front ++ p ∷ [])) (sym grown) (side_more (sides_on y.typed.carried.stays x.all) (record { means = y.typed.means; bound = y.names }));
-      asks = λ c. x.asks c ∙ ap (λ qs. x.done c ++ matched_each c seen qs) split ∙ sym (append_assoc (x.done c) (p.matched c seen) (matched_each c seen rest));
-      split = x.split ∙ ap (λ qs. x.front ++ qs) split ∙ sym (append_assoc x.front (p ∷ []) rest);
-    }
+sides_more a b d env ps left rest p seen added m sides longer split grown goes first one = record {
+  opens = one.opens ++ first.opens;
+  typed = λ aloud F scope G s.
+      let x = first.typed aloud F scope G s in
+      let y = one.typed (ap is_aloud goes.telling ∙ aloud) F scope (first.opens ++ G) (surrounds_on x.carried.stays s) in
+      let same = sym (append_assoc one.opens first.opens G) in
+      record {
+        done = λ c. x.done c ++ p.matched c seen;
+        front = x.front ++ p ∷ [];
+        carried = subst (λ H. Carried F scope (λ c. x.done c ++ p.matched c seen) (sight a) G (sight d) H) same (carried_trans x.carried y.typed.carried);
+        all = subst (AllSides F (sight d) ((one.opens ++ first.opens) ++ G) (x.front ++ p ∷ [])) (sym grown)
+            (subst (λ H. AllSides F (sight d) H (x.front ++ p ∷ []) (sides ++ record { node = m; names = added } ∷ [])) same (side_more (sides_on y.typed.carried.stays x.all) (record { means = y.typed.means; bound = y.names })));
+        asks = λ c. x.asks c ∙ ap (λ qs. x.done c ++ matched_each c seen qs) split ∙ sym (append_assoc (x.done c) (p.matched c seen) (matched_each c seen rest));
+        split = x.split ∙ ap (λ qs. x.front ++ qs) split ∙ sym (append_assoc x.front (p ∷ []) rest);
+      };
+}
 
 -- all sides
 pub sides_all : (a b : Parts) (env : List Entry) (ps left : List Pattern) (seen : List Name) (sides : List Side) → left ≡ [] → MatchesSidesFirst a b env ps left seen sides → MatchesSides a b env ps seen sides
-sides_all a b env ps left seen sides none first = λ aloud F scope G s.
-    let x = first aloud F scope G s in
-    record {
-      carried = carried_as (λ c. sym (append-nil (x.done c)) ∙ ap (λ qs. x.done c ++ matched_each c seen qs) (sym none) ∙ sym (x.asks c)) x.carried;
-      all = subst (λ qs. AllSides F (sight b) G qs sides) (sym (append-nil x.front) ∙ ap (λ qs. x.front ++ qs) (sym none) ∙ sym x.split) x.all;
-    }
+sides_all a b env ps left seen sides none first = record {
+  opens = first.opens;
+  typed = λ aloud F scope G s.
+      let x = first.typed aloud F scope G s in
+      record {
+        carried = carried_as (λ c. sym (append-nil (x.done c)) ∙ ap (λ qs. x.done c ++ matched_each c seen qs) (sym none) ∙ sym (x.asks c)) x.carried;
+        all = subst (λ qs. AllSides F (sight b) (first.opens ++ G) qs sides) (sym (append-nil x.front) ∙ ap (λ qs. x.front ++ qs) (sym none) ∙ sym x.split) x.all;
+      };
+}
 
 -- demands and then others have their numbers one behind another
 ask_both : (n k : ℕ) (xs ys : List (Place × Demand)) → ask_all n k (xs ++ ys) ≡ ask_all n k xs ++ ask_all n (k + length xs) ys
@@ -265,22 +274,26 @@ split_sides (one_more h hs) = record { head = h; tail = hs }
 -- p | p, over its sides: it binds the names of the first
 pub or_row : (a b d : Parts) (env : List Entry) (n : ℕ) (at : Place) (p : Pattern) (ps : List Pattern) (seen : List Name) (first : Side) (sides : List Side) → MatchesSides a b env (p ∷ ps) seen (first ∷ sides) → Goes a b → AsksLater b d first sides ps →
     MatchesRow a d env (por n at p ps) seen first.names n first.node
-or_row a b d env n at p ps seen first sides matched goes asked = λ aloud F scope G s.
-    let x = matched aloud F scope G s in
-    let h = split_sides x.all in
-    let y = asked (ap is_aloud goes.telling ∙ aloud) F scope G n 0 p h.head h.tail in
-    record {
-      row = record {
-        own = [];
-        type = λ ch. ch.type_at p.node;
-        first = λ c. matched_each c seen (p ∷ ps) ++ ask_all n 0 (sides_beside c p ps);
-        ends = λ c. same (type_at c n) (type_at c p.node) ∷ [];
-        all = λ c. refl;
-        typed = record { carried = carried_trans x.carried y.carried; means = means_on y.carried.stays h.head.means };
-        end = ends_same n (λ ch. ch.type_at p.node);
+or_row a b d env n at p ps seen first sides matched goes asked = record {
+  opens = matched.opens;
+  typed = λ aloud F scope G s.
+      let x = matched.typed aloud F scope G s in
+      let h = split_sides x.all in
+      let y = asked (ap is_aloud goes.telling ∙ aloud) F scope (matched.opens ++ G) n 0 p h.head h.tail in
+      record {
+        row = record {
+          own = matched.opens;
+          type = λ ch. ch.type_at p.node;
+          first = λ c. matched_each c seen (p ∷ ps) ++ ask_all n 0 (sides_beside c p ps);
+          ends = λ c. same (type_at c n) (type_at c p.node) ∷ [];
+          all = λ c. refl;
+          typed = record { carried = carried_trans x.carried y.carried; means = means_on y.carried.stays h.head.means };
+          end = ends_same n (λ ch. ch.type_at p.node);
+        };
+        among = all_among matched.opens;
+        names = λ o st k known. all_bound_on (stays_trans y.carried.stays st) h.head.bound;
       };
-      names = λ o st k known. all_bound_on (stays_trans y.carried.stays st) h.head.bound;
-    }
+}
 
 -- p | p, as the row of a node
 pub or_row_typed : (a d : Parts) (env : List Entry) (i n : ℕ) (at : Place) (t : Tree) (seen : List Name) (added : List Bind) (m : ℕ) → IsFormed n t → row_of t ≡ por_row →

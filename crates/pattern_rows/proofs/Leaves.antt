@@ -10,7 +10,7 @@ use Rattle.signature_model.specs.Declarations.{Name}
 use Rattle.row_parts.specs.Numbered.{token_in, path_in}
 use Rattle.typing_model.specs.Demands.{site, test, demand, twice}
 use Rattle.typing_model.specs.Parts as parts
-use Rattle.typing_model.specs.Parts.{Written, no_pattern_at}
+use Rattle.typing_model.specs.Parts.{Written, Pattern, no_pattern_at}
 use Rattle.typing_model.specs.Records.{is_among}
 use Rattle.typing_model.specs.BuiltIns.{constant}
 use Rattle.typing_model.specs.Patterns.{ask_fresh, over, pname, pconst, pneg, pcon}
@@ -34,8 +34,9 @@ use Rattle.typing_steps.proofs.Testing.{new_asked}
 use Rattle.operand_laws.specs.Formed.{row_of}
 use Rattle.operand_laws.specs.Operands.{number_of, path_of}
 use Rattle.typing_rows.proofs.Constructed.{alone_typed}
-use Rattle.pattern_rows.specs.Bounds.{Bind, none_bound, one_bound}
+use Rattle.pattern_rows.specs.Bounds.{Bind, AllBound, none_bound, one_bound}
 use Rattle.pattern_rows.specs.Contracts.{row_pattern, MatchesRow, AsksFresh}
+use Rattle.pattern_rows.proofs.Opened.{none_among}
 use Rattle.pattern_rows.proofs.Terms.{name_term, any_term, constant_term, minus_term, con_term, IsNoPattern, no_term}
 
 -- The demand that a name is new among those before: the call reports it where it isn't, and else leaves all as it was.
@@ -43,28 +44,39 @@ pub fresh_asked : (a b : Parts) (t : Tok) (at : Span) (seen : List Name) → pla
 fresh_asked a b t at seen here tested = λ aloud F scope G n k.
     subst (λ p. Carried F scope (λ c. demand (site n k) p (test (twice t.name) (not (is_among t.name seen))) ∷ []) (sight a) G (sight b) G) here (new_asked a b t.name seen (site n k) aloud tested).carried
 
+-- a row without names
+nameless : {a b : Parts} {env : List Entry} {p : Pattern} {seen : List Name} {n m : ℕ} → p.names ≡ [] → TypesRow a b env (λ c. p.matched c seen) n m → MatchesRow a b env p seen [] n m
+nameless {a} {b} {env} {p} {seen} {n} {m} none typed = record {
+  opens = [];
+  typed = λ aloud F scope G s. let r = typed aloud F scope G s in record { row = r; among = none_among r.own; names = λ o st h known. subst (λ bs. AllBound F o G bs []) (sym none) none_bound };
+}
+
 -- x
 pub named_row : (a b d : Parts) (env : List Entry) (n : ℕ) (at : Place) (t : Tok) (ty : NodeRef) (e : Entry) (seen : List Name) → TypesAny a b ty.0 → Goes a b → AsksFresh b d t seen → IsEntry e t.name ty →
     MatchesRow a d env (pname n at (Some t)) seen (record { token = t; node = ty; entry = e } ∷ []) n ty.0
-named_row a b d env n at t ty e seen any goes fresh entry = λ aloud F scope G s.
-    let x = any F scope G (own n) (λ u. tt) s.reached in
-    let y = fresh (ap is_aloud goes.telling ∙ aloud) F scope ((own n, ty.0) ∷ G) n 0 in
-    record {
-      row = record {
-        own = (own n, ty.0) ∷ [];
-        type = λ ch. ch.type_at n;
-        first = λ c. ask_fresh n 0 seen t;
-        ends = λ c. [];
-        all = λ c. append-nil (ask_fresh n 0 seen t);
-        typed = to_then x y;
-        end = ends_own n;
+named_row a b d env n at t ty e seen any goes fresh entry = record {
+  opens = [];
+  typed = λ aloud F scope G s.
+      let x = any F scope G (own n) (λ u. tt) s.reached in
+      let y = fresh (ap is_aloud goes.telling ∙ aloud) F scope ((own n, ty.0) ∷ G) n 0 in
+      record {
+        row = record {
+          own = (own n, ty.0) ∷ [];
+          type = λ ch. ch.type_at n;
+          first = λ c. ask_fresh n 0 seen t;
+          ends = λ c. [];
+          all = λ c. append-nil (ask_fresh n 0 seen t);
+          typed = to_then x y;
+          end = ends_own n;
+        };
+        among = none_among ((own n, ty.0) ∷ []);
+        names = λ o st h known. one_bound (record { named = refl; placed = refl; chosen = λ c. refl; means = h; known = known; entry = entry }) none_bound;
       };
-      names = λ o st h known. one_bound (record { named = refl; placed = refl; chosen = λ c. refl; means = h; known = known; entry = entry }) none_bound;
-    }
+}
 
 -- x, whose token is missing
 pub nameless_row : (a b : Parts) (env : List Entry) (n : ℕ) (at : Place) (m : ℕ) (seen : List Name) → TypesAny a b m → MatchesRow a b env (pname n at None) seen [] n m
-nameless_row a b env n at m seen any = λ aloud F scope G s. record { row = row_any a b {env = env} n any aloud F scope G s; names = λ o st h known. none_bound }
+nameless_row a b env n at m seen any = nameless refl (row_any a b {env = env} n any)
 
 -- x, as the row of a node
 pub name_row_typed : (a d : Parts) (env : List Entry) (i n : ℕ) (at : Place) (t : Tree) (seen : List Name) (added : List Bind) (m : ℕ) → row_of t ≡ pname_row → MatchesRow a d env (pname (number_of i n) at (token_in t 0)) seen added (number_of i n) m →
@@ -76,14 +88,14 @@ pub any_row_typed : (a b : Parts) (env : List Entry) (i n : ℕ) (at : Place) (t
 any_row_typed a b env i n at t seen m row any = subst (λ p. MatchesRow a b env p seen [] (number_of i n) m) (sym (any_term i n at t row)) here
   where
     here : MatchesRow a b env (over (number_of i n) at [] (λ c. [])) seen [] (number_of i n) m
-    here = λ aloud F scope G s. record { row = row_any a b {env = env} (number_of i n) any aloud F scope G s; names = λ o st h known. none_bound }
+    here = nameless refl (row_any a b {env = env} (number_of i n) any)
 
 -- what is no pattern
 pub no_row_typed : (a b : Parts) (env : List Entry) (i n : ℕ) (at : Place) (t : Tree) (seen : List Name) (m : ℕ) → IsNoPattern (row_of t) → TypesAny a b m → MatchesRow a b env (row_pattern i n at t) seen [] (number_of i n) m
 no_row_typed a b env i n at t seen m other any = subst (λ p. MatchesRow a b env p seen [] (number_of i n) m) (sym (no_term i n at t other)) here
   where
     here : MatchesRow a b env (no_pattern_at (number_of i n) at) seen [] (number_of i n) m
-    here = λ aloud F scope G s. record { row = row_any a b {env = env} (number_of i n) any aloud F scope G s; names = λ o st h known. none_bound }
+    here = nameless refl (row_any a b {env = env} (number_of i n) any)
 
 -- 1, "a", true
 pub constant_row_typed : (a b : Parts) (env : List Entry) (i n : ℕ) (at : Place) (t : Tree) (seen : List Name) (m : ℕ) → row_of t ≡ pconst_row → TypesRow a b env (constant false (number_of i n) (token_in t 0)) (number_of i n) m →
@@ -91,7 +103,7 @@ pub constant_row_typed : (a b : Parts) (env : List Entry) (i n : ℕ) (at : Plac
 constant_row_typed a b env i n at t seen m row typed = subst (λ p. MatchesRow a b env p seen [] (number_of i n) m) (sym (constant_term i n at t row)) here
   where
     here : MatchesRow a b env (pconst (number_of i n) at (token_in t 0)) seen [] (number_of i n) m
-    here = λ aloud F scope G s. record { row = typed aloud F scope G s; names = λ o st h known. none_bound }
+    here = nameless refl typed
 
 -- - 1
 pub minus_row_typed : (a b : Parts) (env : List Entry) (i n : ℕ) (at : Place) (t : Tree) (seen : List Name) (m : ℕ) → row_of t ≡ pneg_row → TypesRow a b env (constant true (number_of i n) (token_in t 1)) (number_of i n) m →
@@ -99,7 +111,7 @@ pub minus_row_typed : (a b : Parts) (env : List Entry) (i n : ℕ) (at : Place) 
 minus_row_typed a b env i n at t seen m row typed = subst (λ p. MatchesRow a b env p seen [] (number_of i n) m) (sym (minus_term i n at t row)) here
   where
     here : MatchesRow a b env (pneg (number_of i n) at (token_in t 1)) seen [] (number_of i n) m
-    here = λ aloud F scope G s. record { row = typed aloud F scope G s; names = λ o st h known. none_bound }
+    here = nameless refl typed
 
 -- A
 pub con_row_typed : (a b : Parts) (env : List Entry) (i n : ℕ) (at : Place) (t : Tree) (seen : List Name) (known : Bool) (m : ℕ) (argument : Option ℕ) → row_of t ≡ pcon_row → TypesConstructor a b env (path_of (path_in t 0 1)) 0 known m argument →
@@ -110,4 +122,4 @@ con_row_typed a b env i n at t seen known m argument row typed = subst (λ p. Ma
     p = path_of (path_in t 0 1)
 
     here : MatchesRow a b env (pcon (number_of i n) at p) seen [] (number_of i n) m
-    here = λ aloud F scope G s. record { row = alone_typed a b {env = env} p.qualifiers p.last known m argument (number_of i n) typed aloud F scope G s; names = λ o st h known. none_bound }
+    here = nameless refl (alone_typed a b {env = env} p.qualifiers p.last known m argument (number_of i n) typed)

@@ -1,5 +1,6 @@
 -- The laws of rows of patterns.
 pub mod Naming
+pub mod Opened
 pub mod Recorded
 pub mod Terms
 pub mod Leaves

@@ -1,5 +1,5 @@
 -- A row of patterns, once its type is recorded, is a matched pattern.
-use Rattle.std.proofs.Common.{◌≡◌, ◌∙◌, ℕ, true, List, [], Some, None, refl, sym, ap, subst}
+use Rattle.std.proofs.Common.{◌≡◌, ◌∙◌, ◌++◌, ℕ, true, List, [], ◌∷◌, Some, None, refl, sym, ap, subst}
 use denote.Ref.{Bor}
 use Rattle.tree_model.specs.Trees.{Place, Tree, inner, missing}
 use Rattle.signature_model.specs.Declarations.{Name}
@@ -7,6 +7,7 @@ use Rattle.syntax_tree.specs.View.{place_of, node_view}
 use Rattle.syntax_tree.specs.declared.tree.Node.{Node}
 use Rattle.row_parts.specs.declared.slots.Operand.{Operand}
 use Rattle.row_parts.specs.Numbered.{numbered, operand_view, part_of}
+use Rattle.typing_model.specs.Contexts.{tell_typed}
 use Rattle.typing_model.specs.Parts.{Pattern, no_pattern_at}
 use Rattle.typing_model.specs.Meanings.{recorded_pattern}
 use Rattle.type_terms.specs.declared.types.NodeRef.{NodeRef}
@@ -16,37 +17,56 @@ use Rattle.typing_state.specs.declared.parts.Parts.{Parts}
 use Rattle.typing_state.specs.Goes.{Goes, OnlyStore, OnlyIndex}
 use Rattle.typing_state.specs.Notes.{Noted, NotedNameless}
 use Rattle.typing_state.specs.Types.{MakesVar, any_scope}
-use Rattle.typing_conditions.specs.Sights.{Sight, Letters, number_in}
+use Rattle.typing_conditions.specs.Sights.{Sight, own, Letters, number_in}
 use Rattle.typing_conditions.specs.Frames.{Frame}
 use Rattle.typing_conditions.specs.Steps.{Records}
-use Rattle.typing_conditions.specs.Carrying.{Scope}
+use Rattle.typing_conditions.specs.Meanings.{Means}
+use Rattle.typing_conditions.specs.Carrying.{Scope, Carried}
+use Rattle.typing_conditions.proofs.Carried.{carried_trans, carried_as}
+use Rattle.typing_conditions.proofs.Framing.{open_on}
 use Rattle.typing_conditions.proofs.Recording.{records_stay, here_now}
 use Rattle.typing_conditions.proofs.Answering.{to_as}
 use Rattle.typing_steps.specs.States.{is_aloud, sight}
-use Rattle.typing_steps.proofs.Rows.{row_carried, row_any, var_any}
+use Rattle.typing_steps.proofs.Rows.{row_any, var_any}
 use Rattle.typing_steps.proofs.Recording.{type_noted, nameless_noted}
 use Rattle.operand_laws.specs.Operands.{number_of, pattern_of}
 use Rattle.operand_laws.proofs.Standing.{pattern_of_stands}
 use Rattle.operand_laws.proofs.Sorts.{pattern_by_row}
+use Rattle.typing_rows.proofs.Own.{ends_made, own_recorded}
 use Rattle.pattern_rows.specs.Bounds.{Bind, none_bound, Adds}
 use Rattle.pattern_rows.specs.Contracts.{row_pattern, MatchedTo, MatchesTo, Matches, RowMatched, MatchesRow}
 use Rattle.pattern_rows.proofs.Naming.{adds_none}
+use Rattle.pattern_rows.proofs.Opened.{none_among, among_after, carried_kept}
 
 -- the row of a node, once its type is recorded
-pub row_recorded : {F : Frame} {scope : Scope} {a b d : Sight} {G : Letters} {p : Pattern} {seen : List Name} {added : List Bind} {n number m : ℕ} → number_in b.item number ≡ n → p.node ≡ n → RowMatched F scope a G b p seen added n m → Records b d number m →
-    MatchedTo F scope a G d (recorded_pattern n p) seen added m
-row_recorded {b = b} {d = d} {number = number} {m = m} place node row r =
-    let whole = row_carried place row.row r in
-    record { typed = to_as (λ c. refl) (λ ch. ap ch.type_at (sym node)) whole; names = row.names d (records_stay r row.row.typed.means.open_node.inside) whole.means (λ V ch g. g.known b.item number m (here_now r)) }
+pub row_recorded : {F : Frame} {scope : Scope} {a b d : Sight} {G : Letters} {p : Pattern} {seen : List Name} {added : List Bind} {n number m : ℕ} {opens : Letters} → number_in b.item number ≡ n → p.node ≡ n → RowMatched F scope a G b p seen added n m opens →
+    Records b d number m → MatchedTo F scope a G d (recorded_pattern n p) seen added m opens
+row_recorded {F} {scope} {a} {b} {d} {G} {p} {seen} {added} {n} {number} {m} {opens} place node row r =
+    let own_letters : Letters = (own n, m) ∷ row.row.own in
+    let ends = carried_as row.row.all (carried_trans row.row.typed.carried (ends_made row.row.typed.means row.row.end)) in
+    let of_row : Means F b (own_letters ++ G) (λ ch. ch.type_at n) m = record { open_node = row.row.typed.means.open_node; is = λ V ch loose g. g.given.0.is } in
+    let whole : Carried F scope (λ c. tell_typed n c ++ p.matched c seen) a G d (opens ++ G) = carried_kept own_letters opens (among_after ((own n, m) ∷ []) row.among) (own_recorded n place ends of_row r) in
+    let means : Means F d (opens ++ G) (λ ch. ch.type_at n) m = record {
+      open_node = open_on (records_stay {G = opens ++ G} r row.row.typed.means.open_node.inside) row.row.typed.means.open_node;
+      is = λ V ch loose g. ap ch.type_at (sym place) ∙ g.recorded b.item number m (here_now r);
+    } in
+    record {
+      typed = to_as (λ c. refl) (λ ch. ap ch.type_at (sym node)) (record { carried = whole; means = means });
+      names = row.names d (records_stay r row.row.typed.means.open_node.inside) means (λ V ch g. g.known b.item number m (here_now r));
+    }
 
 -- A node that is a pattern: its row, and the record of its type.
 pub node_matched : (a b d : Parts) (env : List Entry) (number : ℕ) (at : Place) (t : Tree) (ty : NodeRef) (noted_as : Seen) (seen : List Name) (added : List Bind) → noted_as.ty ≡ Some ty → MatchesRow a b env (row_pattern a.item number at t) seen added (number_of a.item number) ty.0 →
     Goes a b → Noted b.telling b d number noted_as → OnlyIndex b d → MatchesTo a d env (pattern_of a.item (numbered number at (inner t))) seen added ty.0
-node_matched a b d env number at t ty noted_as seen added is row goes noted rest = λ aloud F scope G s.
-    let loud : is_aloud b.telling ≡ true = ap is_aloud goes.telling ∙ aloud in
-    let here = pattern_by_row a.item number at t in
-    let node : (row_pattern a.item number at t).node ≡ number_of a.item number = sym (ap (λ p. p.node) here) ∙ (pattern_of_stands a.item (numbered number at (inner t))).number in
-    subst (λ p. MatchedTo F scope (sight a) G (sight d) p seen added ty.0) (sym here) (row_recorded (ap (λ i. number_in i number) goes.item) node (row aloud F scope G s) (type_noted b d number ty noted_as is loud noted rest))
+node_matched a b d env number at t ty noted_as seen added is row goes noted rest = record {
+  opens = row.opens;
+  typed = λ aloud F scope G s.
+      let loud : is_aloud b.telling ≡ true = ap is_aloud goes.telling ∙ aloud in
+      let here = pattern_by_row a.item number at t in
+      let node : (row_pattern a.item number at t).node ≡ number_of a.item number = sym (ap (λ p. p.node) here) ∙ (pattern_of_stands a.item (numbered number at (inner t))).number in
+      subst (λ p. MatchedTo F scope (sight a) G (sight d) p seen added ty.0 row.opens) (sym here)
+      (row_recorded (ap (λ i. number_in i number) goes.item) node (row.typed aloud F scope G s) (type_noted b d number ty noted_as is loud noted rest));
+}
 
 -- the same of a node without names of its own
 pub nameless_matched : (a b d : Parts) (env : List Entry) (number : ℕ) (at : Place) (t : Tree) (ty : NodeRef) (seen : List Name) (added : List Bind) → MatchesRow a b env (row_pattern a.item number at t) seen added (number_of a.item number) ty.0 →
@@ -72,13 +92,17 @@ operand_matched a b env o nd names more seen then m there matched =
 -- A pattern that is missing: any type, once that is recorded.
 pub missing_matched : (a b d : Parts) (env : List Entry) (o : Operand) (ty : NodeRef) (seen : List Name) → o.node ≡ None → MakesVar a b ty.0 any_scope → OnlyStore a b → Goes a b → NotedNameless b d o.number env (Some ty) → OnlyIndex b d →
     MatchesTo a d env (pattern_of a.item (operand_view o)) seen [] ty.0
-missing_matched a b d env o ty seen none made rest goes noted only = λ aloud F scope G s.
-    let n = number_of a.item o.number in
-    let loud : is_aloud b.telling ≡ true = ap is_aloud goes.telling ∙ aloud in
-    let row : RowMatched F scope (sight a) G (sight b) (no_pattern_at n (place_of o.span)) seen [] n ty.0 = record { row = row_any a b {env = env} n (var_any a b made rest) aloud F scope G s; names = λ e st h known. none_bound } in
-    let same : numbered o.number (place_of o.span) (missing (place_of o.span)) ≡ operand_view o = ap (λ m. numbered o.number (place_of o.span) (part_of m o.span)) (sym none) in
-    subst (λ x. MatchedTo F scope (sight a) G (sight d) (pattern_of a.item x) seen [] ty.0) same
-    (row_recorded (ap (λ i. number_in i o.number) goes.item) refl row (nameless_noted b d o.number env ty loud noted only))
+missing_matched a b d env o ty seen none made rest goes noted only = record {
+  opens = [];
+  typed = λ aloud F scope G s.
+      let n = number_of a.item o.number in
+      let loud : is_aloud b.telling ≡ true = ap is_aloud goes.telling ∙ aloud in
+      let r = row_any a b {env = env} n (var_any a b made rest) aloud F scope G s in
+      let row : RowMatched F scope (sight a) G (sight b) (no_pattern_at n (place_of o.span)) seen [] n ty.0 [] = record { row = r; among = none_among r.own; names = λ e st h known. none_bound } in
+      let same : numbered o.number (place_of o.span) (missing (place_of o.span)) ≡ operand_view o = ap (λ m. numbered o.number (place_of o.span) (part_of m o.span)) (sym none) in
+      subst (λ x. MatchedTo F scope (sight a) G (sight d) (pattern_of a.item x) seen [] ty.0 []) same
+      (row_recorded (ap (λ i. number_in i o.number) goes.item) refl row (nameless_noted b d o.number env ty loud noted only));
+}
 
 -- The same with the names that are added: there are none.
 pub missing_matches : (a b d : Parts) (env : List Entry) (o : Operand) (ty : NodeRef) (names : List Bind) (seen : List Name) → o.node ≡ None → MakesVar a b ty.0 any_scope → OnlyStore a b → Goes a b → NotedNameless b d o.number env (Some ty) → OnlyIndex b d →

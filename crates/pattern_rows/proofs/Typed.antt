@@ -37,22 +37,27 @@ use Rattle.typing_steps.proofs.Making.{tuple_over, list_over}
 use Rattle.operand_laws.specs.Formed.{row_of, is_needed, may_repeat, IsFormed}
 use Rattle.operand_laws.specs.Operands.{number_of, pattern_of, type_of}
 use Rattle.operand_laws.proofs.SlotBySlot.{exactly_one}
-use Rattle.typing_rows.proofs.Ending.{row_of_type, row_after}
+use Rattle.typing_rows.proofs.Ending.{row_of_type}
 use Rattle.typing_rows.proofs.Terms.{two_operands}
 use Rattle.type_rows.specs.Operands.{Annotates}
 use Rattle.type_rows.proofs.Annotated.{row_written}
 use Rattle.pattern_rows.specs.Bounds.{Bind, AllBound, none_bound, one_bound}
 use Rattle.pattern_rows.specs.Contracts.{row_pattern, patterns_of, types_at, AsksFresh, MatchesRow, MatchesAll, EndsPatterns, cons_asks}
 use Rattle.pattern_rows.proofs.Naming.{all_bound_on, all_bound_both}
+use Rattle.pattern_rows.proofs.Opened.{all_among, row_behind}
 use Rattle.pattern_rows.proofs.Terms.{paren_term, written_term, cons_term, tuple_term, as_term, one_operand}
 
 -- patterns in order, and then the end of their row
 pub over_row : (a b d : Parts) (env : List Entry) (n : ℕ) (at : Place) (ps : List Pattern) (seen : List Name) (added : List Bind) (ms : List ℕ) (m : ℕ) (asks : Context → ℕ → List Condition) → MatchesAll a b env ps seen added ms → Goes a b → EndsPatterns b d env asks ps ms m →
     MatchesRow a d env (over n at ps (λ c. asks c n)) seen added n m
-over_row a b d env n at ps seen added ms m asks all goes ends = λ aloud F scope G s.
-    let x = all aloud F scope G s in
-    let y = ends (ap is_aloud goes.telling ∙ aloud) F scope G n (surrounds_on x.carried.stays s) x.means in
-    record { row = row_after x.carried y; names = λ e st h known. all_bound_on (stays_trans (stays_closed y.own y.typed.carried.stays) st) x.names }
+over_row a b d env n at ps seen added ms m asks all goes ends = record {
+  opens = all.opens;
+  typed = λ aloud F scope G s.
+      let x = all.typed aloud F scope G s in
+      let y = ends (ap is_aloud goes.telling ∙ aloud) F scope (all.opens ++ G) n (surrounds_on x.carried.stays s) x.means in
+      let r = row_behind all.opens x.carried y in
+      record { row = r.row; among = r.among; names = λ e st h known. all_bound_on (stays_trans (stays_closed y.own y.typed.carried.stays) st) x.names };
+}
 
 -- the first node is that of the first pattern
 pub first_means : {F : Frame} {a : Sight} {G : Letters} (p : Pattern) (ps : List Pattern) (ms : List ℕ) (m : ℕ) → AllMean F a G (types_at (p ∷ ps)) ms → slice_get ms 0 ≡ Some m → Means F a G (λ ch. ch.type_at p.node) m
@@ -142,24 +147,28 @@ cons_typed a b d e env i n at place t seen added left right m formed row goes al
 -- p as x
 pub as_typed : (a b d : Parts) (env : List Entry) (n : ℕ) (at : Place) (p : Pattern) (t : Tok) (ty : NodeRef) (e : Entry) (seen : List Name) (added : List Bind) (ms : List ℕ) → MatchesAll a b env (p ∷ []) seen added ms → slice_get ms 0 ≡ Some ty.0 → Goes a b →
     AsksFresh b d t (seen ++ p.mentions) → IsEntry e t.name ty → MatchesRow a d env (pas n at p (Some t)) seen (added ++ record { token = t; node = ty; entry = e } ∷ []) n ty.0
-as_typed a b d env n at p t ty e seen added ms all node goes fresh entry = λ aloud F scope G s.
-    let x = all aloud F scope G s in
-    let h = first_means p [] ms ty.0 x.means node in
-    let y = fresh (ap is_aloud goes.telling ∙ aloud) F scope G n 0 in
-    record {
-      row = record {
-        own = [];
-        type = λ ch. ch.type_at p.node;
-        first = λ c. p.matched c seen ++ ask_fresh n 0 (seen ++ p.mentions) t;
-        ends = λ c. same (type_at c n) (type_at c p.node) ∷ [];
-        all = λ c. refl;
-        typed = record { carried = carried_trans (carried_as (λ c. append-nil (p.matched c seen)) x.carried) y; means = means_on y.stays h };
-        end = ends_same n (λ ch. ch.type_at p.node);
+as_typed a b d env n at p t ty e seen added ms all node goes fresh entry = record {
+  opens = all.opens;
+  typed = λ aloud F scope G s.
+      let x = all.typed aloud F scope G s in
+      let h = first_means p [] ms ty.0 x.means node in
+      let y = fresh (ap is_aloud goes.telling ∙ aloud) F scope (all.opens ++ G) n 0 in
+      record {
+        row = record {
+          own = all.opens;
+          type = λ ch. ch.type_at p.node;
+          first = λ c. p.matched c seen ++ ask_fresh n 0 (seen ++ p.mentions) t;
+          ends = λ c. same (type_at c n) (type_at c p.node) ∷ [];
+          all = λ c. refl;
+          typed = record { carried = carried_trans (carried_as (λ c. append-nil (p.matched c seen)) x.carried) y; means = means_on y.stays h };
+          end = ends_same n (λ ch. ch.type_at p.node);
+        };
+        among = all_among all.opens;
+        names = λ o st k known.
+            all_bound_both (all_bound_on (stays_trans y.stays st) (subst (λ bs. AllBound F (sight b) (all.opens ++ G) bs added) (append-nil p.names) x.names))
+            (one_bound (record { named = refl; placed = refl; chosen = λ c. refl; means = k; known = known; entry = entry }) none_bound);
       };
-      names = λ o st k known.
-          all_bound_both (all_bound_on (stays_trans y.stays st) (subst (λ bs. AllBound F (sight b) G bs added) (append-nil p.names) x.names))
-          (one_bound (record { named = refl; placed = refl; chosen = λ c. refl; means = k; known = known; entry = entry }) none_bound);
-    }
+}
 
 -- p as x, whose name is missing
 pub as_nameless : (a b : Parts) (env : List Entry) (n : ℕ) (at : Place) (p : Pattern) (seen : List Name) (added : List Bind) (ms : List ℕ) (m : ℕ) → MatchesAll a b env (p ∷ []) seen added ms → slice_get ms 0 ≡ Some m → Goes a b → MatchesRow a b env (pas n at p None) seen added n m

@@ -19,22 +19,23 @@ use Rattle.typing_steps.specs.Typing.{as_declared}
 use Rattle.pattern_rows.specs.Bounds.{Bind, AllBound, Adds}
 use Rattle.pattern_rows.specs.Contracts.{MatchesRow}
 
--- A pattern was matched and something was asked of it. Its names stand for those that it binds, whatever letters are open.
-pub record PatternAsked (env : List Entry) (F : Frame) (scope : Scope) (a : Sight) (G : Letters) (b : Sight) (p : Pattern) (seen : List Name) (asked : Asks) (added : List Bind) : Type 0 where
-  pub carried : Carried F scope (λ c. p.matched c seen ++ asked c) a G b G
-  pub names : (H : Letters) → Surrounds as_declared F a H env scope → AllBound F b H p.names added
+-- A pattern was matched, which opens these letters, and something was asked of it. Its names stand for those that it binds, whatever other letters are open.
+pub record PatternAsked (env : List Entry) (F : Frame) (scope : Scope) (a : Sight) (G : Letters) (b : Sight) (p : Pattern) (seen : List Name) (asked : Asks) (added : List Bind) (opens : Letters) : Type 0 where
+  pub carried : Carried F scope (λ c. p.matched c seen ++ asked c) a G b (opens ++ G)
+  pub names : (H : Letters) → Surrounds as_declared F a H env scope → AllBound F b (opens ++ H) p.names added
 
--- a pattern, and the demand that it has a type, where one is wanted
-abbrev pub MatchesAsIf : (a b : Parts) → List Entry → Pattern → List Name → List Bind → (wanted : Option ℕ) → Type 0
-MatchesAsIf a b env p seen added None = is_aloud a.telling ≡ true → (F : Frame) (scope : Scope) (G : Letters) → Surrounds as_declared F (sight a) G env scope → PatternAsked env F scope (sight a) G (sight b) p seen (λ c. []) added
-MatchesAsIf a b env p seen added (Some wanted) = is_aloud a.telling ≡ true → (F : Frame) (scope : Scope) (G : Letters) (n k : ℕ) (t : Choice → Typ) → Surrounds as_declared F (sight a) G env scope → Means F (sight a) G t wanted →
-    PatternAsked env F scope (sight a) G (sight b) p seen (λ c. ask n k p.at (equal (type_at c p.node) (t c.chosen))) added
+-- a pattern, which opens these letters, and the demand that it has a type, where one is wanted
+abbrev pub MatchesAsIf : (a b : Parts) → List Entry → Pattern → List Name → List Bind → Letters → (wanted : Option ℕ) → Type 0
+MatchesAsIf a b env p seen added opens None = is_aloud a.telling ≡ true → (F : Frame) (scope : Scope) (G : Letters) → Surrounds as_declared F (sight a) G env scope → PatternAsked env F scope (sight a) G (sight b) p seen (λ c. []) added opens
+MatchesAsIf a b env p seen added opens (Some wanted) = is_aloud a.telling ≡ true → (F : Frame) (scope : Scope) (G : Letters) (n k : ℕ) (t : Choice → Typ) → Surrounds as_declared F (sight a) G env scope → Means F (sight a) G t wanted →
+    PatternAsked env F scope (sight a) G (sight b) p seen (λ c. ask n k p.at (equal (type_at c p.node) (t c.chosen))) added opens
 
 -- the same with the names that are added
 pub record MatchesWanted (a b : Parts) (env : List Entry) (p : Pattern) (names names' : List Bind) (seen seen' : List Name) (wanted : Option ℕ) : Type 0 where
   pub added : List Bind
   pub adds : Adds names names' added seen seen' p.mentions
-  pub typed : MatchesAsIf a b env p seen added wanted
+  pub opens : Letters
+  pub typed : MatchesAsIf a b env p seen added opens wanted
 
 -- A p, whose constructor has this path and this node
 abbrev pub with_constructor : ℕ → Place → Written → (head : ℕ) → Pattern → Pattern

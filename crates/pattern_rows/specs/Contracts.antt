@@ -21,7 +21,7 @@ use Rattle.typing_conditions.specs.Carrying.{Asks, Scope, Stays, Carried, Carrie
 use Rattle.typing_conditions.specs.Surroundings.{Surrounds}
 use Rattle.typing_steps.specs.States.{is_aloud, sight}
 use Rattle.typing_steps.specs.Typing.{as_declared, RowCarried}
-use Rattle.pattern_rows.specs.Bounds.{Bind, AlwaysKnown, AllBound, Adds}
+use Rattle.pattern_rows.specs.Bounds.{Bind, AlwaysKnown, AllBound, Adds, IsAmong}
 
 -- a node of an item, as a pattern at a place, without what is recorded of it
 abbrev pub row_pattern : ℕ → ℕ → Place → Tree → Pattern
@@ -35,14 +35,16 @@ patterns_of i os = map (λ o. pattern_of i o) os
 abbrev pub types_at : List Pattern → List (Choice → Typ)
 types_at ps = map (λ p ch. ch.type_at p.node) ps
 
--- a pattern behind the names seen before: what it asks is carried, a node has its type, and these names stand for those that it binds
-pub record MatchedTo (F : Frame) (scope : Scope) (a : Sight) (G : Letters) (b : Sight) (p : Pattern) (seen : List Name) (added : List Bind) (m : ℕ) : Type 0 where
-  pub typed : CarriedTo F scope (λ c. p.matched c seen) a G b G (λ ch. ch.type_at p.node) m
-  pub names : AllBound F b G p.names added
+-- A pattern behind the names seen before: what it asks is carried, with letters that stay open for the types of its names; a node has its type, and these names
+-- stand for those that it binds.
+pub record MatchedTo (F : Frame) (scope : Scope) (a : Sight) (G : Letters) (b : Sight) (p : Pattern) (seen : List Name) (added : List Bind) (m : ℕ) (opens : Letters) : Type 0 where
+  pub typed : CarriedTo F scope (λ c. p.matched c seen) a G b (opens ++ G) (λ ch. ch.type_at p.node) m
+  pub names : AllBound F b (opens ++ G) p.names added
 
--- the same of a call, where faults are reported
-abbrev pub MatchesTo : (a b : Parts) → List Entry → Pattern → List Name → List Bind → ℕ → Type 0
-MatchesTo a b env p seen added m = is_aloud a.telling ≡ true → (F : Frame) (scope : Scope) (G : Letters) → Surrounds as_declared F (sight a) G env scope → MatchedTo F scope (sight a) G (sight b) p seen added m
+-- the same of a call, where faults are reported; it opens the same letters whatever surrounds it
+pub record MatchesTo (a b : Parts) (env : List Entry) (p : Pattern) (seen : List Name) (added : List Bind) (m : ℕ) : Type 0 where
+  pub opens : Letters
+  pub typed : is_aloud a.telling ≡ true → (F : Frame) (scope : Scope) (G : Letters) → Surrounds as_declared F (sight a) G env scope → MatchedTo F scope (sight a) G (sight b) p seen added m opens
 
 -- What a function of patterns does: the names that it adds to those that are bound, and to those that are seen, and what it carries behind those seen before.
 pub record Matches (a b : Parts) (env : List Entry) (p : Pattern) (names names' : List Bind) (seen seen' : List Name) (m : ℕ) : Type 0 where
@@ -50,44 +52,48 @@ pub record Matches (a b : Parts) (env : List Entry) (p : Pattern) (names names' 
   pub adds : Adds names names' added seen seen' p.mentions
   pub typed : MatchesTo a b env p seen added m
 
--- A row of patterns whose type isn't recorded yet for its node n; its names have their types once it is.
-pub record RowMatched (F : Frame) (scope : Scope) (a : Sight) (G : Letters) (b : Sight) (p : Pattern) (seen : List Name) (added : List Bind) (n m : ℕ) : Type 0 where
+-- A row of patterns whose type isn't recorded yet for its node n: some of its letters stay open, with which its names have their types once it is recorded.
+pub record RowMatched (F : Frame) (scope : Scope) (a : Sight) (G : Letters) (b : Sight) (p : Pattern) (seen : List Name) (added : List Bind) (n m : ℕ) (opens : Letters) : Type 0 where
   pub row : RowCarried F scope (λ c. p.matched c seen) a G b n m
-  pub names : (d : Sight) → Stays F b G d G → Means F d G (λ ch. ch.type_at n) m → AlwaysKnown F d G m → AllBound F d G p.names added
+  pub among : IsAmong opens row.own
+  pub names : (d : Sight) → Stays F b (opens ++ G) d (opens ++ G) → Means F d (opens ++ G) (λ ch. ch.type_at n) m → AlwaysKnown F d (opens ++ G) m → AllBound F d (opens ++ G) p.names added
 
--- the same of a call, where faults are reported
-abbrev pub MatchesRow : (a b : Parts) → List Entry → Pattern → List Name → List Bind → (n m : ℕ) → Type 0
-MatchesRow a b env p seen added n m = is_aloud a.telling ≡ true → (F : Frame) (scope : Scope) (G : Letters) → Surrounds as_declared F (sight a) G env scope → RowMatched F scope (sight a) G (sight b) p seen added n m
+-- the same of a call, where faults are reported; it opens the same letters whatever surrounds it
+pub record MatchesRow (a b : Parts) (env : List Entry) (p : Pattern) (seen : List Name) (added : List Bind) (n m : ℕ) : Type 0 where
+  pub opens : Letters
+  pub typed : is_aloud a.telling ≡ true → (F : Frame) (scope : Scope) (G : Letters) → Surrounds as_declared F (sight a) G env scope → RowMatched F scope (sight a) G (sight b) p seen added n m opens
 
 -- the demand that a name is new among those before
 abbrev pub AsksFresh : (a b : Parts) → Tok → List Name → Type 0
 AsksFresh a b t seen = is_aloud a.telling ≡ true → (F : Frame) (scope : Scope) (G : Letters) (n k : ℕ) → Carried F scope (λ c. ask_fresh n k seen t) (sight a) G (sight b) G
 
--- patterns one after the other, each behind the names of those before
-pub record PatternsAll (F : Frame) (scope : Scope) (a : Sight) (G : Letters) (b : Sight) (ps : List Pattern) (seen : List Name) (added : List Bind) (ms : List ℕ) : Type 0 where
-  pub carried : Carried F scope (λ c. matched_all c seen ps) a G b G
-  pub means : AllMean F b G (types_at ps) ms
-  pub names : AllBound F b G (all_names ps) added
+-- patterns one after the other, each behind the names of those before, with the letters that they open
+pub record PatternsAll (F : Frame) (scope : Scope) (a : Sight) (G : Letters) (b : Sight) (ps : List Pattern) (seen : List Name) (added : List Bind) (ms : List ℕ) (opens : Letters) : Type 0 where
+  pub carried : Carried F scope (λ c. matched_all c seen ps) a G b (opens ++ G)
+  pub means : AllMean F b (opens ++ G) (types_at ps) ms
+  pub names : AllBound F b (opens ++ G) (all_names ps) added
 
 -- the same of a call
-abbrev pub MatchesAll : (a b : Parts) → List Entry → List Pattern → List Name → List Bind → List ℕ → Type 0
-MatchesAll a b env ps seen added ms = is_aloud a.telling ≡ true → (F : Frame) (scope : Scope) (G : Letters) → Surrounds as_declared F (sight a) G env scope → PatternsAll F scope (sight a) G (sight b) ps seen added ms
+pub record MatchesAll (a b : Parts) (env : List Entry) (ps : List Pattern) (seen : List Name) (added : List Bind) (ms : List ℕ) : Type 0 where
+  pub opens : Letters
+  pub typed : is_aloud a.telling ≡ true → (F : Frame) (scope : Scope) (G : Letters) → Surrounds as_declared F (sight a) G env scope → PatternsAll F scope (sight a) G (sight b) ps seen added ms opens
 
 -- the first of some patterns, and some are left; `now` are the names seen so far
-pub record PatternsFirst (F : Frame) (scope : Scope) (a : Sight) (G : Letters) (b : Sight) (all left : List Pattern) (seen now : List Name) (added : List Bind) (ms : List ℕ) : Type 0 where
+pub record PatternsFirst (F : Frame) (scope : Scope) (a : Sight) (G : Letters) (b : Sight) (all left : List Pattern) (seen now : List Name) (added : List Bind) (ms : List ℕ) (opens : Letters) : Type 0 where
   pub done : Asks
   pub types : List (Choice → Typ)
   pub bounds : List Bound
-  pub carried : Carried F scope done a G b G
-  pub means : AllMean F b G types ms
-  pub names : AllBound F b G bounds added
+  pub carried : Carried F scope done a G b (opens ++ G)
+  pub means : AllMean F b (opens ++ G) types ms
+  pub names : AllBound F b (opens ++ G) bounds added
   pub asks : (c : Context) → matched_all c seen all ≡ done c ++ matched_all c now left
   pub gives : types_at all ≡ types ++ types_at left
   pub binds : all_names all ≡ bounds ++ all_names left
 
 -- the same in a loop
-abbrev pub MatchesFirst : (a b : Parts) → List Entry → (all left : List Pattern) → (seen now : List Name) → List Bind → List ℕ → Type 0
-MatchesFirst a b env all left seen now added ms = is_aloud a.telling ≡ true → (F : Frame) (scope : Scope) (G : Letters) → Surrounds as_declared F (sight a) G env scope → PatternsFirst F scope (sight a) G (sight b) all left seen now added ms
+pub record MatchesFirst (a b : Parts) (env : List Entry) (all left : List Pattern) (seen now : List Name) (added : List Bind) (ms : List ℕ) : Type 0 where
+  pub opens : Letters
+  pub typed : is_aloud a.telling ≡ true → (F : Frame) (scope : Scope) (G : Letters) → Surrounds as_declared F (sight a) G env scope → PatternsFirst F scope (sight a) G (sight b) all left seen now added ms opens
 
 -- the same with the names that are added
 pub record MatchesInOrder (a b : Parts) (env : List Entry) (ps : List Pattern) (names names' : List Bind) (seen seen' : List Name) (ms : List ℕ) : Type 0 where

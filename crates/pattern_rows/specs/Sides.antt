@@ -33,27 +33,29 @@ pub data AllSides (F : Frame) (b : Sight) (G : Letters) : List Pattern → List 
   no_side : AllSides F b G [] []
   one_more : {p : Pattern} {ps : List Pattern} {x : Side} {xs : List Side} → IsSide F b G p x → AllSides F b G ps xs → AllSides F b G (p ∷ ps) (x ∷ xs)
 
--- patterns beside one another, each behind the names seen before all of them
-pub record SidesAll (F : Frame) (scope : Scope) (a : Sight) (G : Letters) (b : Sight) (ps : List Pattern) (seen : List Name) (sides : List Side) : Type 0 where
-  pub carried : Carried F scope (λ c. matched_each c seen ps) a G b G
-  pub all : AllSides F b G ps sides
+-- patterns beside one another, each behind the names seen before all of them, with the letters that they open
+pub record SidesAll (F : Frame) (scope : Scope) (a : Sight) (G : Letters) (b : Sight) (ps : List Pattern) (seen : List Name) (sides : List Side) (opens : Letters) : Type 0 where
+  pub carried : Carried F scope (λ c. matched_each c seen ps) a G b (opens ++ G)
+  pub all : AllSides F b (opens ++ G) ps sides
 
 -- the same of a call
-abbrev pub MatchesSides : (a b : Parts) → List Entry → List Pattern → List Name → List Side → Type 0
-MatchesSides a b env ps seen sides = is_aloud a.telling ≡ true → (F : Frame) (scope : Scope) (G : Letters) → Surrounds as_declared F (sight a) G env scope → SidesAll F scope (sight a) G (sight b) ps seen sides
+pub record MatchesSides (a b : Parts) (env : List Entry) (ps : List Pattern) (seen : List Name) (sides : List Side) : Type 0 where
+  pub opens : Letters
+  pub typed : is_aloud a.telling ≡ true → (F : Frame) (scope : Scope) (G : Letters) → Surrounds as_declared F (sight a) G env scope → SidesAll F scope (sight a) G (sight b) ps seen sides opens
 
 -- the first of them, and some are left
-pub record SidesFirst (F : Frame) (scope : Scope) (a : Sight) (G : Letters) (b : Sight) (ps left : List Pattern) (seen : List Name) (sides : List Side) : Type 0 where
+pub record SidesFirst (F : Frame) (scope : Scope) (a : Sight) (G : Letters) (b : Sight) (ps left : List Pattern) (seen : List Name) (sides : List Side) (opens : Letters) : Type 0 where
   pub done : Asks
   pub front : List Pattern
-  pub carried : Carried F scope done a G b G
-  pub all : AllSides F b G front sides
+  pub carried : Carried F scope done a G b (opens ++ G)
+  pub all : AllSides F b (opens ++ G) front sides
   pub asks : (c : Context) → matched_each c seen ps ≡ done c ++ matched_each c seen left
   pub split : ps ≡ front ++ left
 
 -- the same in a loop
-abbrev pub MatchesSidesFirst : (a b : Parts) → List Entry → (ps left : List Pattern) → List Name → List Side → Type 0
-MatchesSidesFirst a b env ps left seen sides = is_aloud a.telling ≡ true → (F : Frame) (scope : Scope) (G : Letters) → Surrounds as_declared F (sight a) G env scope → SidesFirst F scope (sight a) G (sight b) ps left seen sides
+pub record MatchesSidesFirst (a b : Parts) (env : List Entry) (ps left : List Pattern) (seen : List Name) (sides : List Side) : Type 0 where
+  pub opens : Letters
+  pub typed : is_aloud a.telling ≡ true → (F : Frame) (scope : Scope) (G : Letters) → Surrounds as_declared F (sight a) G env scope → SidesFirst F scope (sight a) G (sight b) ps left seen sides opens
 
 -- demands of a row, each at its place, from the number k on: in each context there are so many
 pub record AllAsked (F : Frame) (scope : Scope) (a : Sight) (G : Letters) (b : Sight) (n k : ℕ) (demands : Context → List (Place × Demand)) : Type 0 where

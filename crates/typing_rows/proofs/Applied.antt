@@ -98,14 +98,14 @@ head_typed a b d f env n head number qs last true e m argument typed goes argued
     let x = argument_known b d env e n head k.building.argument argument loud (surrounds_on k.carried.stays names) k.takes argued in
     let y = means_on x.stays k.builds in
     let z = carried_trans x (same_made (own head) (λ t. tt) y) in
-    let behind = carried_after k.carried (λ V c loose under agrees kept. ap (behind_head c n head e) (ap (λ v. if v then building_in c.env p else None) (k.kept c kept) ∙ k.finds V c loose under agrees)) z in
+    let behind = carried_after k.carried (λ V c loose under agrees named kept. ap (behind_head c n head e) (ap (λ v. if v then building_in c.env p else None) (k.kept c kept) ∙ k.finds V c loose under agrees named)) z in
     let means : Means F (sight d) ((own head, m) ∷ (k.letters ++ G)) (λ ch. ch.type_at head) m = record { open_node = y.open_node; is = λ V ch loose g. g.given.0.is } in
     let noted = records (ap is_aloud goes'.telling ∙ loud) in
     record {
       own = (own head, m) ∷ k.letters;
       typed = record { carried = carried_as (λ c. head_splits c n head e qs last) (own_recorded head place behind means noted); means = means_on (records_stay noted means.open_node.inside) means };
-      found = λ V c loose under agrees kept. found_as c n qs last true
-          (ap is_some (ap (λ v. if v then building_in c.env p else None) (k.kept c (kept_left c.kept k.carried.judged z.judged kept)) ∙ k.finds V c loose under agrees));
+      found = λ V c loose under agrees named kept. found_as c n qs last true
+          (ap is_some (ap (λ v. if v then building_in c.env p else None) (k.kept c (kept_left c.kept k.carried.judged z.judged kept)) ∙ k.finds V c loose under agrees named));
     }
 head_typed a b d f env n head number qs last false e m argument typed goes argued goes' place records aloud F scope G names =
     let p : Written = record { qualifiers = qs; last = last } in
@@ -114,12 +114,12 @@ head_typed a b d f env n head number qs last false e m argument typed goes argue
     let x = (subst (TypesAsIf b d env e) typed.0 argued) loud F scope ((own head, m) ∷ G) (surrounds_on k.typed.carried.stays names) in
     let means : Means F (sight d) ((own head, m) ∷ G) (λ ch. ch.type_at head) m = means_on x.stays k.typed.means in
     let z = carried_trans (carried_as (λ c. append-nil (e.typed c)) x) (same_itself (λ ch. ch.type_at head)) in
-    let behind = carried_after k.typed.carried (λ V c loose under agrees kept. ap (behind_head c n head e) (k.none V c loose under agrees kept)) z in
+    let behind = carried_after k.typed.carried (λ V c loose under agrees named kept. ap (behind_head c n head e) (k.none V c loose under agrees named kept)) z in
     let noted = records (ap is_aloud goes'.telling ∙ loud) in
     record {
       own = (own head, m) ∷ [];
       typed = record { carried = carried_as (λ c. head_splits c n head e qs last) (own_recorded head place behind means noted); means = means_on (records_stay noted means.open_node.inside) means };
-      found = λ V c loose under agrees kept. found_as c n qs last false (ap is_some (k.none V c loose under agrees (kept_left c.kept k.typed.carried.judged z.judged kept)));
+      found = λ V c loose under agrees named kept. found_as c n qs last false (ap is_some (k.none V c loose under agrees named (kept_left c.kept k.typed.carried.judged z.judged kept)));
     }
 
 -- the arguments after the first one of a constructor that is known
@@ -151,7 +151,7 @@ constructed_typed a b d env n p head e es at known ty m place typed goes later a
     let loud : is_aloud b.telling ≡ true = ap is_aloud goes.telling ∙ aloud in
     let r = (subst (λ q. TypesLater b d env known q es ty m) (sym place) later) loud F scope (h.own ++ G) n (λ ch. ch.type_at head.node) (surrounds_on h.typed.carried.stays names) h.typed.means in
     let end = carried_as r.all (carried_trans r.typed.carried (ends_made r.typed.means r.end)) in
-    let whole = carried_after h.typed.carried (λ V c loose under agrees kept. sym (behind_found c n head es (then_by p.last (built_by c n p)) known (h.found V c loose under agrees kept))) end in
+    let whole = carried_after h.typed.carried (λ V c loose under agrees named kept. sym (behind_found c n head es (then_by p.last (built_by c n p)) known (h.found V c loose under agrees named kept))) end in
     record {
       own = (own n, m) ∷ (r.own ++ h.own);
       type = λ ch. ch.type_at n;

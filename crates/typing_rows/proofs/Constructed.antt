@@ -65,7 +65,7 @@ alone_typed a b {env} qs last true m argument n typed aloud F scope G names =
       all = λ c. append-nil (constructor_alone c n (record { qualifiers = qs; last = last }));
       typed = record {
         carried = carried_as (λ c. alone_splits c n qs last) (carried_after k.carried
-            (λ V c loose under agrees kept. ap (ends_as_built c n) (ap (λ v. if v then building_in c.env (record { qualifiers = qs; last = last }) else None) (k.kept c kept) ∙ k.finds V c loose under agrees)) (same_made (own n) (λ t. tt) k.builds));
+            (λ V c loose under agrees named kept. ap (ends_as_built c n) (ap (λ v. if v then building_in c.env (record { qualifiers = qs; last = last }) else None) (k.kept c kept) ∙ k.finds V c loose under agrees named)) (same_made (own n) (λ t. tt) k.builds));
         means = record { open_node = k.builds.open_node; is = λ V ch loose g. g.given.0.is };
       };
       end = ends_own n;
@@ -79,7 +79,7 @@ alone_typed a b {env} qs last false m argument n typed aloud F scope G names =
       ends = λ c. [];
       all = λ c. append-nil (constructor_alone c n (record { qualifiers = qs; last = last }));
       typed = record {
-        carried = carried_as (λ c. alone_splits c n qs last) (carried_after k.typed.carried (λ V c loose under agrees kept. ap (ends_as_built c n) (k.none V c loose under agrees kept)) carried_refl);
+        carried = carried_as (λ c. alone_splits c n qs last) (carried_after k.typed.carried (λ V c loose under agrees named kept. ap (ends_as_built c n) (k.none V c loose under agrees named kept)) carried_refl);
         means = k.typed.means;
       };
       end = ends_own n;

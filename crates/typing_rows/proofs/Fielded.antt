@@ -36,7 +36,7 @@ pub ends_field : (a b d : Parts) (env : List Entry) (es : List Expression) (ms :
 ends_field a b d env es ms p record_node field mutable label goes asked = λ aloud F scope G n names all.
     let k = label aloud F scope G n n names in
     let q = asked (ap is_aloud goes.telling ∙ aloud) F scope (k.letters ++ G) n 1 (used_by n k.owner) (surrounds_on k.carried.stays names) (all_mean_on k.carried.stays all) k.of_record in
-    let behind = carried_after k.carried (λ V c loose under agrees kept. ap (label_ends c n es) (ap (λ v. if v then label_in_scope c.env p else None) (k.kept c kept)) ∙ found_ends c n es (label_in_scope c.env p) k.owner k.body (k.finds V c loose under agrees))
+    let behind = carried_after k.carried (λ V c loose under agrees named kept. ap (label_ends c n es) (ap (λ v. if v then label_in_scope c.env p else None) (k.kept c kept)) ∙ found_ends c n es (label_in_scope c.env p) k.owner k.body (k.finds V c loose under agrees named))
     (carried_trans q (same_made (own n) (λ t. tt) (means_on q.stays k.of_field))) in
     record {
       own = (own n, field) ∷ k.letters;
@@ -59,6 +59,6 @@ ends_field_unknown a b d env es ms p m label goes any = λ aloud F scope G n nam
       first = λ c. field_ends p es c n;
       ends = λ c. [];
       all = λ c. append-nil (field_ends p es c n);
-      typed = record { carried = carried_after k.carried (λ V c loose under agrees kept. ap (label_ends c n es) (k.none V c loose under agrees kept)) v.carried; means = v.means };
+      typed = record { carried = carried_after k.carried (λ V c loose under agrees named kept. ap (label_ends c n es) (k.none V c loose under agrees named kept)) v.carried; means = v.means };
       end = ends_own n;
     }

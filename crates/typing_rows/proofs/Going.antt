@@ -12,7 +12,7 @@ use Rattle.row_parts.specs.Numbered.{Numbered, numbered, behind, with_slot, node
 use Rattle.operand_laws.specs.Formed.{row_of}
 use Rattle.operand_laws.proofs.Going.{operands_formed, all_operands_formed, filled_formed}
 use Rattle.typing_rows.specs.Asked.{IsOrderedRow}
-use Rattle.typing_rows.specs.CarriedRows.{Sort, an_expression, a_pattern, a_case, sort_in, IsCarriedRow, IsTreeOfSort, AreOfCarriedRows, IsOfSort, IsCarried, IsCarriedCase}
+use Rattle.typing_rows.specs.CarriedRows.{Sort, an_expression, a_pattern, a_field_pattern, a_field, a_case, a_binding, sort_in, IsCarriedRow, IsTreeOfSort, AreOfCarriedRows, IsOfSort, IsPlaced, IsCarried, IsCarriedCase, IsCarriedBinding}
 
 -- an operand with its slot is of the slot's sort, and made of carried rows
 abbrev IsSlotCarried : Row → ℕ × Numbered → Type 0
@@ -34,9 +34,21 @@ expression_parts (node r x ps) h = h.1
 pub pattern_parts : (t : Tree) → IsTreeOfSort a_pattern t → HasCarriedParts t
 pattern_parts (node r x ps) h = h.1
 
--- and those of a case
+-- those of a field of a record pattern
+pub field_parts : (t : Tree) → IsTreeOfSort a_field_pattern t → HasCarriedParts t
+field_parts (node r x ps) h = h.1
+
+-- those of a field of a record expression
+pub value_parts : (t : Tree) → IsTreeOfSort a_field t → HasCarriedParts t
+value_parts (node r x ps) h = h.1
+
+-- those of a case
 pub case_parts : (t : Tree) → IsTreeOfSort a_case t → HasCarriedParts t
 case_parts (node r x ps) h = h.1
+
+-- and those of a binding
+pub binding_parts : (t : Tree) → IsTreeOfSort a_binding t → HasCarriedParts t
+binding_parts (node r x ps) h = h.1
 
 part_carried : (n : ℕ) (r : Row) (s : ℕ) (p : Part) (os : List (ℕ × Numbered)) → IsOfSort (sort_in r s) p → All (IsSlotCarried r) os → All (IsSlotCarried r) (with_slot s (operand_at n r s p) os)
 part_carried n r s (taken t) os h all = all
@@ -92,21 +104,82 @@ filled_of_sort n t s k sort h = by (first_in n t s) (first_of_sort n t s k sort 
     by None h = tt
     by (Some o) h = h
 
+-- an operand with its slot stands where its node does
+abbrev IsSlotPlaced : ℕ × Numbered → Type 0
+IsSlotPlaced o = IsPlaced o.1
+
+part_placed : (n : ℕ) (r : Row) (s : ℕ) (p : Part) (os : List (ℕ × Numbered)) → All IsSlotPlaced os → All IsSlotPlaced (with_slot s (operand_at n r s p) os)
+part_placed n r s (taken t) os all = all
+part_placed n r s (inner t) os all = All-cons IsSlotPlaced (s, node_with n t) os refl all
+part_placed n r s (missing at) os all = by (is_operand r s)
+  where
+    by : (b : Bool) → All IsSlotPlaced (with_slot s (if b then Some (missing_operand n at) else None) os)
+    by true = All-cons IsSlotPlaced (s, missing_operand n at) os tt all
+    by false = all
+
+from_placed : (n : ℕ) (r : Row) (ps : Forest) → All IsSlotPlaced (operands_from n r ps)
+unfolding operands_from
+from_placed n r no_parts = All-nil IsSlotPlaced
+from_placed n r (part s p ps) = part_placed n r s p (operands_from (behind n (told_size r s p)) r ps) (from_placed (behind n (told_size r s p)) r ps)
+
+slots_placed : (n : ℕ) (t : Tree) → All IsSlotPlaced (operands_with_slots n t)
+slots_placed n (node r x ps) = from_placed (behind n 1) r ps
+
+in_slot_placed : (s : ℕ) (os : List (ℕ × Numbered)) → All IsSlotPlaced os → All IsPlaced (in_slot s os)
+in_slot_placed s [] all = All-nil IsPlaced
+in_slot_placed s (o ∷ os) all = by (o.0 == s) (in_slot_placed s os (All-tail IsSlotPlaced o os all))
+  where
+    by : (b : Bool) → All IsPlaced (in_slot s os) → All IsPlaced (if b then o.1 ∷ in_slot s os else in_slot s os)
+    by true rest = All-cons IsPlaced o.1 (in_slot s os) (All-head IsSlotPlaced o os all) rest
+    by false rest = rest
+
+in_slots_placed : (os : List (ℕ × Numbered)) → All IsSlotPlaced os → All IsPlaced (in_slots os)
+in_slots_placed [] all = All-nil IsPlaced
+in_slots_placed (o ∷ os) all = All-cons IsPlaced o.1 (in_slots os) (All-head IsSlotPlaced o os all) (in_slots_placed os (All-tail IsSlotPlaced o os all))
+
+-- the operands in a slot stand where their nodes do
+pub operands_placed : (n : ℕ) (t : Tree) (s : ℕ) → All IsPlaced (operands_in n t s)
+operands_placed n t s = in_slot_placed s (operands_with_slots n t) (slots_placed n t)
+
+-- all operands do
+pub all_placed : (n : ℕ) (t : Tree) → All IsPlaced (all_operands n t)
+all_placed n t = in_slots_placed (operands_with_slots n t) (slots_placed n t)
+
+first_one_placed : (os : List Numbered) → All IsPlaced os → IfSome (first_of os) IsPlaced
+first_one_placed [] all = tt
+first_one_placed (o ∷ os) all = All-head IsPlaced o os all
+
+-- the first operand in a slot does, where there is one
+pub first_placed : (n : ℕ) (t : Tree) (s : ℕ) → IfSome (first_in n t s) IsPlaced
+first_placed n t s = first_one_placed (operands_in n t s) (operands_placed n t s)
+
+-- the operand that fills a slot does
+pub filled_placed : (n : ℕ) (t : Tree) (s : ℕ) → IsPlaced (filled_in n t s)
+filled_placed n t s = by (first_in n t s) (first_placed n t s)
+  where
+    by : (o : Option Numbered) → IfSome o IsPlaced → IsPlaced (elim o [ None ↦ missing_at_end n t | Some o ↦ o ])
+    by None h = tt
+    by (Some o) h = h
+
 -- the expressions in a slot
 pub operands_carried : (n : ℕ) (at : Place) (t : Tree) (s : ℕ) → sort_in (row_of t) s ≡ an_expression → IsCarried (numbered n at (inner t)) → All IsCarried (operands_in n t s)
-operands_carried n at t s sort h = λ k d lt. record { formed = operands_formed n t s h.formed k d lt; rows = sorted_in n t s an_expression sort (expression_parts t h.rows) k d lt }
+operands_carried n at t s sort h = λ k d lt. record { formed = operands_formed n t s h.formed k d lt; placed = operands_placed n t s k d lt; rows = sorted_in n t s an_expression sort (expression_parts t h.rows) k d lt }
 
 -- all operands, where all are expressions
 pub all_carried : (n : ℕ) (at : Place) (t : Tree) → ((s : ℕ) → sort_in (row_of t) s ≡ an_expression) → IsCarried (numbered n at (inner t)) → All IsCarried (all_operands n t)
-all_carried n at t sorts h = λ k d lt. record { formed = all_operands_formed n t h.formed k d lt; rows = all_sorted n t an_expression sorts (expression_parts t h.rows) k d lt }
+all_carried n at t sorts h = λ k d lt. record { formed = all_operands_formed n t h.formed k d lt; placed = all_placed n t k d lt; rows = all_sorted n t an_expression sorts (expression_parts t h.rows) k d lt }
 
 -- the expression that fills a slot
 pub filled_carried : (n : ℕ) (at : Place) (t : Tree) (s : ℕ) → sort_in (row_of t) s ≡ an_expression → IsCarried (numbered n at (inner t)) → IsCarried (filled_in n t s)
-filled_carried n at t s sort h = record { formed = filled_formed n t s h.formed; rows = filled_of_sort n t s an_expression sort (expression_parts t h.rows) }
+filled_carried n at t s sort h = record { formed = filled_formed n t s h.formed; placed = filled_placed n t s; rows = filled_of_sort n t s an_expression sort (expression_parts t h.rows) }
 
 -- the cases in a slot
 pub cases_carried : (n : ℕ) (at : Place) (t : Tree) (s : ℕ) → sort_in (row_of t) s ≡ a_case → IsCarried (numbered n at (inner t)) → All IsCarriedCase (operands_in n t s)
 cases_carried n at t s sort h = λ k d lt. record { formed = operands_formed n t s h.formed k d lt; rows = sorted_in n t s a_case sort (expression_parts t h.rows) k d lt }
+
+-- the bindings in a slot
+pub bindings_carried : (n : ℕ) (at : Place) (t : Tree) (s : ℕ) → sort_in (row_of t) s ≡ a_binding → IsCarried (numbered n at (inner t)) → All IsCarriedBinding (operands_in n t s)
+bindings_carried n at t s sort h = λ k d lt. record { formed = operands_formed n t s h.formed k d lt; rows = sorted_in n t s a_binding sort (expression_parts t h.rows) k d lt }
 
 -- all slots of a row whose parts are typed in order are those of expressions
 pub ordered_sorts : (r : Row) → IsOrderedRow r → (s : ℕ) → sort_in r s ≡ an_expression

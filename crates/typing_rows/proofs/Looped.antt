@@ -55,7 +55,7 @@ in_loop a b env inner (Some t) g m (e, split, named) typed = λ aloud F scope G 
     let here = surrounds_known {type = λ ch. int_type} place named (means_more s.fixed.int) (λ ch. known_int) s in
     let x = (subst (λ q. TypesTo a b q (λ c. g.typed c) (λ ch. ch.type_at g.node) m) split typed) aloud F (with_one t.name place (λ ch. int_type) scope) G here in
     record {
-      carried = carried_under (λ c. with_names c (loop_names (Some t))) (λ c. (refl, refl))
+      carried = carried_under (λ c. with_names c (loop_names (Some t))) refl (λ c. (refl, refl))
           (λ c u. record { env = ap (λ E. entry t.name place (a_value (monomorphic int_type)) ∷ E) u.env; variables = u.variables; held = u.held }) x.carried;
       means = x.means;
     }

@@ -14,9 +14,9 @@ use Rattle.typing_conditions.specs.Frames.{Frame}
 use Rattle.typing_conditions.specs.Meanings.{Means}
 use Rattle.typing_conditions.specs.Judging.{StartsWith, FallsShort}
 use Rattle.typing_conditions.specs.Steps.{Records}
-use Rattle.typing_conditions.specs.Carrying.{Asks, Scope, Enters, GoesOn, Stays, Continues, Carried, EndsAs}
+use Rattle.typing_conditions.specs.Carrying.{Asks, Scope, HoldsWritten, Enters, GoesOn, Stays, Continues, Carried, EndsAs}
 use Rattle.typing_conditions.proofs.Judged.{starts_all}
-use Rattle.typing_conditions.proofs.Stays.{stays_refl, stays_trans, stays_opened, agrees_before}
+use Rattle.typing_conditions.proofs.Stays.{stays_refl, stays_trans, stays_opened, agrees_before, named_before, bounds_before}
 use Rattle.typing_conditions.proofs.First.{first_one, starts_none}
 use Rattle.typing_conditions.proofs.Carried.{Decides}
 use Rattle.typing_conditions.proofs.Recording.{records_stay}
@@ -29,9 +29,9 @@ same_itself {F} {scope} {G} {a} type = record {
   judged = [];
   told = [];
   reports = sym (append-nil a.reports);
-  sound = λ V c l. record { same = refl; holds = (refl, tt); tells = refl };
-  complete = complete;
-  first = first_one (λ c. same (type c.chosen) (type c.chosen)) complete;
+  sound = λ r V c l. record { same = refl; holds = (refl, tt); tells = refl };
+  complete = λ named. complete;
+  first = λ named. first_one (λ c. same (type c.chosen) (type c.chosen)) complete;
 }
   where
     complete : (V : Types) (c : Context) → Enters F scope a G V c → AllHold c.kept (same (type c.chosen) (type c.chosen) ∷ []) →
@@ -46,10 +46,10 @@ ends_made {F} {scope} {G} {a} {n} {m} {type} {ends} p end = record {
   judged = [];
   told = [];
   reports = sym (append-nil a.reports);
-  sound = λ V c l.
+  sound = λ r V c l.
       let before = agrees_before (stays_opened {F = F} (own n) p.open_node.inside) l.agrees in
       record { same = end.silent c; holds = end.holds c (l.agrees.given.0.is ∙ sym (p.is V c.chosen (fits_loosely a.nodes V l.reads.fits) before)); tells = end.reports_none c };
-  complete = λ V c e h.
+  complete = λ named V c e h.
       let g = e.agrees in
       inl (record {
         same = end.silent c;
@@ -60,7 +60,7 @@ ends_made {F} {scope} {G} {a} {n} {m} {type} {ends} p end = record {
           agrees = record { recorded = g.recorded; known = g.known; written = g.written; given = (record { is = end.gives c (V m) h (p.is V c.chosen (fits_loosely a.nodes V e.fits) g); known = tt }, g.given) };
         };
       });
-  first = λ k V c e h. inl (subst (StartsWith []) (sym (end.silent_first k c)) (starts_all []));
+  first = λ named k V c e h. inl (subst (StartsWith []) (sym (end.silent_first k c)) (starts_all []));
 }
 
 one_some : (x y : ℕ) → Some x ≡ Some y → x ≡ y
@@ -88,16 +88,24 @@ own_recorded {F} {scope} {asks} {a} {b} {d} {G} {H} n {p} {m} number it means r 
   judged = it.judged;
   told = it.told;
   reports = r.reports ∙ it.reports;
-  sound = λ V c l.
+  sound = λ r' V c l.
       let g = agrees_before later l.agrees in
-      let meets = it.sound V c (record { under = l.under; reads = later.reads V l.reads; agrees = g; hidden_too = l.hidden_too; kept = l.kept }) in
+      let meets = it.sound r' V c (record {
+        under = l.under;
+        reads = later.reads V l.reads;
+        agrees = g;
+        hidden_too = l.hidden_too;
+        named = named_before scope later l.named;
+        unbound = bounds_before scope c.chosen later (it.stays.reaches r') l.unbound;
+        kept = l.kept;
+      }) in
       let here = means.is V c.chosen (fits_loosely b.nodes V (later.reads V l.reads).fits) g in
       record { same = meets.same; holds = (tt, (subst IsKnown (sym here) (l.agrees.known b.item p m (here_now r)), meets.holds)); tells = meets.tells };
-  complete = λ V c e h. elim (it.complete V c e h.1.1) [
+  complete = λ named V c e h. elim (it.complete (named_before scope later named) V c e h.1.1) [
     | inl on ↦ inl (record { same = on.same; types = on.types; on = goes V c h.1.0 on })
     | inr short ↦ inr short
   ];
-  first = first;
+  first = λ named. first (named_before scope later named);
 }
   where
     later : Stays F b H d H
@@ -121,7 +129,7 @@ own_recorded {F} {scope} {asks} {a} {b} {d} {G} {H} n {p} {m} number it means r 
           };
         }
 
-    first : (k : ℕ) (V : Types) (c : Context) → Enters F scope a G V c → AllHold c.kept (take k (tell_typed n c ++ asks c)) → Decides c it.judged (take k (tell_typed n c ++ asks c))
-    first zero V c e h = inl (starts_none it.judged)
-    first (suc zero) V c e h = inl (starts_none it.judged)
-    first (suc (suc k)) V c e h = it.first k V c e h.1.1
+    first : HoldsWritten scope b → (k : ℕ) (V : Types) (c : Context) → Enters F scope a G V c → AllHold c.kept (take k (tell_typed n c ++ asks c)) → Decides c it.judged (take k (tell_typed n c ++ asks c))
+    first named zero V c e h = inl (starts_none it.judged)
+    first named (suc zero) V c e h = inl (starts_none it.judged)
+    first named (suc (suc k)) V c e h = it.first named k V c e h.1.1

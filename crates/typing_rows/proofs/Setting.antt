@@ -84,8 +84,8 @@ ends_settable a b d f env es ms p record_node field mutable label goes asked goe
     let r = tested (ap is_aloud goes'.telling ∙ loud) F scope ((own m, field) ∷ (k.letters ++ G)) n in
     let made = same_made {scope = scope} (own m) (λ t. tt) have in
     let z = carried_trans (carried_trans q made) r in
-    let behind = carried_after {further = λ c. label_ends c m es (if is_kept c m 0 then label_in_scope c.env p else None) ++ mutable_asks c n m p} k.carried (λ V c loose under agrees kept.
-    (let is = k.finds V c loose under agrees in let here = k.kept c kept in
+    let behind = carried_after {further = λ c. label_ends c m es (if is_kept c m 0 then label_in_scope c.env p else None) ++ mutable_asks c n m p} k.carried (λ V c loose under agrees named kept.
+    (let is = k.finds V c loose under agrees named in let here = k.kept c kept in
     ap (λ xs. xs ++ mutable_asks c n m p) (ap (label_ends c m es) (ap (λ v. if v then label_in_scope c.env p else None) here) ∙ found_ends c m es (label_in_scope c.env p) k.owner k.body is) ∙
     ap (λ xs. (has_if c m 1 (slice_get es 0) (used_by m k.owner c.chosen) ++ is_of c m (used_by m k.body c.chosen)) ++ xs) (mutable_found c n m p k.owner k.body here is))) z in
     let have' = means_on r.stays (means_on made.stays have) in
@@ -107,8 +107,8 @@ pub ends_settable_unknown : (a b d : Parts) (env : List Entry) (es : List Expres
 ends_settable_unknown a b d env es ms p ty label goes any = λ aloud F scope G n m names all.
     let k = label aloud F scope G m names in
     let v = any F scope G (own m) (λ t. tt) (k.carried.stays.reaches names.reached) in
-    let behind = carried_after {further = λ c. label_ends c m es (if is_kept c m 0 then label_in_scope c.env p else None) ++ mutable_asks c n m p} k.carried (λ V c loose under agrees kept.
-    (let none = k.none V c loose under agrees kept in
+    let behind = carried_after {further = λ c. label_ends c m es (if is_kept c m 0 then label_in_scope c.env p else None) ++ mutable_asks c n m p} k.carried (λ V c loose under agrees named kept.
+    (let none = k.none V c loose under agrees named kept in
     ap (λ o. label_ends c m es o ++ mutable_asks c n m p) none ∙ mutable_none c n m p none)) v.carried in
     record {
       own = (own m, ty) ∷ [];

@@ -1,5 +1,5 @@
 -- Whole rows from what their functions carry.
-use Rattle.std.proofs.Common.{◌≡◌, ◌∙◌, ◌++◌, ℕ, Bool, true, false, List, [], ◌∷◌, Option, Some, None, refl, sym, ap, subst, append-nil}
+use Rattle.std.proofs.Common.{◌≡◌, ◌∙◌, ◌++◌, ℕ, Bool, true, false, List, [], ◌∷◌, Option, Some, None, refl, sym, ap, subst, append-nil, if◌then◌else◌}
 use Rattle.std.specs.Prelude.{codes}
 use Rattle.token_model.specs.Kinds.{Tok, Kind, upper}
 use Rattle.tree_model.specs.Rows.{Row, name_row, epath_row, econst_row, hole_row, eparen_row, ebegin_row, erecord_row, prefix_row, eapp_row, eneg_row, infix_row, eif_row}
@@ -10,7 +10,7 @@ use Rattle.typing_model.specs.Contexts.{Context, type_at, tell_typed}
 use Rattle.typing_model.specs.BuiltIns.{float_type, constant}
 use Rattle.typing_model.specs.Parts as parts
 use Rattle.typing_model.specs.Parts.{Expression, Form, Child, Written, path_in as child_path, types_in, expressions_in, token_in as child_token}
-use Rattle.typing_model.specs.Expressions.{expression_row, value_asks, typed_all, is_of, name_expression, path_expression, constant_expression, hole_expression, application_asks, operator_applied, name_of, under_sign, minus_asks, parenthesised, begun, if_expression}
+use Rattle.typing_model.specs.Expressions.{expression_row, value_asks, typed_all, is_of, name_expression, path_expression, constant_expression, hole_expression, application_asks, operator_applied, name_of, under_sign, minus_asks, parenthesised, begun, if_expression, update_expression, record_expression, fields_in, is_some}
 use Rattle.env_table.specs.declared.entries.Entry.{Entry}
 use Rattle.typing_state.specs.declared.parts.Parts.{Parts}
 use Rattle.typing_state.specs.Goes.{Goes}
@@ -102,7 +102,6 @@ operated_typed a b d env t es ty to n typed goes given = λ aloud F scope G s.
 -- a row that asks the same under a minus
 abbrev pub IsUsual : Row → Type 0
 IsUsual econst_row = ⊥
-IsUsual erecord_row = ⊥
 IsUsual _ = Unit {0}
 
 path_usual : (n : ℕ) (at : Place) (q : List Tok) (start end col : ℕ) (name : List ℕ) (k : Kind) (c : Context) →
@@ -129,6 +128,10 @@ if_usual : (n : ℕ) (at : Place) (e f : Expression) (o : Option Expression) (c 
 if_usual n at e f None c = refl
 if_usual n at e f (Some g) c = refl
 
+either_usual : (b : Bool) (x y : Expression) (c : Context) → x.negated c ≡ x.typed c → y.negated c ≡ y.typed c → (if b then x else y).negated c ≡ (if b then x else y).typed c
+either_usual true x y c p q = p
+either_usual false x y c p q = q
+
 row_usual : (r : Row) (n : ℕ) (at : Place) (cs : List Child) (c : Context) → IsUsual r → (expression_row r n at cs).negated c ≡ (expression_row r n at cs).typed c
 unfolding expression_row
 row_usual epath_row n at cs c h = paths_usual n at (child_path 0 1 cs) c
@@ -136,7 +139,8 @@ row_usual eparen_row n at cs c h = paren_usual n at (parts.expression_in 1 cs) (
 row_usual ebegin_row n at cs c h = begun_usual n at (parts.first_of (expressions_in 1 cs)) c
 row_usual eif_row n at cs c h = if_usual n at (parts.expression_in 1 cs) (parts.expression_in 3 cs) (parts.first_of (expressions_in 5 cs)) c
 row_usual econst_row n at cs c h = absurd h
-row_usual erecord_row n at cs c h = absurd h
+row_usual erecord_row n at cs c h =
+    either_usual (is_some (child_token 4 cs)) (update_expression n at (parts.expression_in 1 cs) (fields_in 5 cs)) (record_expression n at (parts.expression_in 1 cs) (parts.first_of (expressions_in 3 cs)) (fields_in 5 cs)) c refl refl
 row_usual _ n at cs c h = refl
 
 -- A row that asks the same under a minus, whatever is in front of it.

@@ -11,18 +11,17 @@ use Rattle.typing_state.specs.Types.{level_for}
 use Rattle.typing_environments.specs.Locals.{IsOwn, ClosesAll}
 use Rattle.typing_environments.specs.Standing.{IsIn}
 use Rattle.typing_conditions.specs.Sights.{Sight, Letters}
-use Rattle.typing_conditions.specs.Frames.{Frame, inner_frame}
+use Rattle.typing_conditions.specs.Frames.{Frame, AreOpen, inner_frame}
 use Rattle.typing_conditions.specs.Meanings.{AllMean}
 use Rattle.typing_conditions.specs.Steps.{OnlyNodes}
 use Rattle.typing_conditions.specs.Carrying.{Scope}
 use Rattle.typing_conditions.proofs.Outward.{GoesOut}
-use Rattle.typing_conditions.proofs.Letting.{AllOpen}
 use Rattle.typing_steps.specs.States.{sight}
 use Rattle.typing_steps.proofs.Seeing.{only_nodes}
 use Rattle.typing_steps.proofs.Joining.{with_level}
-use Rattle.let_rows.specs.Closing.{Limit, limit_nodes, limit_variables, ClosesGroup, AreLimited}
-use Rattle.let_rows.proofs.Limits.{LimitsCarried, limits_carried}
-use Rattle.let_rows.proofs.Generalising.{generalised_all, generalised_rest, limited_rest}
+use Rattle.binding_rows.specs.Closing.{Limit, limit_nodes, limit_variables, ClosesGroup, AreLimited}
+use Rattle.binding_rows.proofs.Limits.{LimitsCarried, limits_carried}
+use Rattle.binding_rows.proofs.Generalising.{generalised_all, generalised_rest, limited_rest}
 
 level_as : (l b : ℕ) → suc l < b → b ≡ 2 ^ 32 - 1 → min l (2 ^ 32 - 2) ≡ l
 level_as l b lt e = grind arith
@@ -73,7 +72,7 @@ limits_asked {I} {scope} {G} {types} {a} {d} {limits} {names} close outer level 
 
 -- So the group goes out of its frame, where its names are open, and what the frame holds for the outer level are the limits' variables.
 pub closed_out : {F : Frame} {a d : Parts} {limits : List Limit} {names : List ℕ} (close : ClosesGroup a d limits names) → a.level ≡ suc F.level → (x : Sight) (J : Types) (roots : List ℕ) (held : ℕ → List ℕ) → AreLimited close.limited.store.nodes F.level limits →
-    ((n : ℕ) → IsIn (held F.level) n → IsIn (limit_variables limits) n) → AllOpen (inner_frame F x J roots held) (limited_state close) names → GoesOut F x J roots held names (limited_state close) (sight d)
+    ((n : ℕ) → IsIn (held F.level) n → IsIn (limit_variables limits) n) → AreOpen (inner_frame F x J roots held) (limited_state close) names → GoesOut F x J roots held names (limited_state close) (sight d)
 closed_out {F} {a} {d} {limits} {names} close level x J roots held low only_limits opens = record {
   are_open = opens;
   held_low = λ K own n v l o h stands at unbound. limited_low close.limited.store.nodes F.level limits low K own n v l o (only_limits n h) stands at unbound;

@@ -1,14 +1,12 @@
 -- The bindings of a group as the code closes them, and what their `let` needs to be carried.
-use Rattle.std.specs.Prelude.{◌≡◌, ℕ, ◌==◌, Bool, true, false, List, [], ◌∷◌, ◌++◌, map, slice_get, Option, Some, None, if◌then◌else◌}
-use Rattle.type_model.specs.Types.{Typ, occurs}
+use Rattle.std.specs.Prelude.{◌≡◌, ℕ, ◌==◌, Bool, List, [], ◌∷◌, ◌++◌, map, Option, Some, None, if◌then◌else◌}
+use Rattle.type_model.specs.Types.{Typ}
 use Rattle.signature_model.specs.Declarations.{Name}
 use Rattle.typing_model.specs.Contexts.{Choice, Context, Bound}
 use Rattle.typing_model.specs.Parts.{Binding}
 use Rattle.typing_model.specs.Bindings.{generalises}
-use Rattle.type_nodes.specs.Readings.{Types, IsReading}
-use Rattle.level_unify.specs.Instances.{is_bound}
 use Rattle.env_table.specs.declared.entries.Entry.{Entry}
-use Rattle.typing_conditions.specs.Sights.{Sight, Letters, Agrees}
+use Rattle.typing_conditions.specs.Sights.{Sight, Letters}
 use Rattle.typing_conditions.specs.Frames.{Frame}
 use Rattle.typing_conditions.specs.Meanings.{Means}
 use Rattle.typing_conditions.specs.Carrying.{Asks, Scope, Carried}
@@ -74,12 +72,6 @@ together ms ns ks = ms ++ (ns ++ ks)
 -- what is held at each level: these nodes at one level, and at others what was held before
 abbrev pub held_from : ℕ → List ℕ → (ℕ → List ℕ) → ℕ → List ℕ
 held_from level ns before k = if k == level then ns else before k
-
--- What a `let` needs of the type variables of its item: those that are written are among the names that are held, and at no reading a bound variable stands in the
--- type that is chosen for a name that isn't written yet.
-pub record KnowsItem (F : Frame) (scope : Scope) (d : Sight) (H : Letters) : Type 0 where
-  pub named : (x : Name) (m : ℕ) → d.written x ≡ Some m → (k : ℕ) × (slice_get scope.held k ≡ Some x)
-  pub unbound : (V : Types) (ch : Choice) → IsReading d.nodes V → Agrees F.owner d H V ch → (k : ℕ) (x : Name) → slice_get scope.held k ≡ Some x → d.written x ≡ None → (v : ℕ) → is_bound d.nodes v ≡ true → occurs v (ch.written F.owner x) ≡ false
 
 -- a group is typed, with letters of its own, where this is asked
 pub record GroupToClose (I : Frame) (scope : Scope) (asks : Asks) (b : Sight) (G : Letters) (c : Sight) (xs : List Binding) (ys : List ToClose) : Type 0 where

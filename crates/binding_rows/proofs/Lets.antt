@@ -12,6 +12,7 @@ use Rattle.typing_model.specs.Contexts.{Choice, Context, Bound, occurs_in, entri
 use Rattle.typing_model.specs.Parts.{Binding, Expression}
 use Rattle.typing_model.specs.Bindings.{bindings_ask, names_of_group, held_by, types_written, within_let}
 use Rattle.typing_model.specs.Expressions.{is_of, let_expression}
+use Rattle.type_nodes.specs.Nodes.{bound_level}
 use Rattle.type_nodes.specs.Readings.{Types}
 use Rattle.level_unify.specs.Solutions.{Loose}
 use Rattle.level_unify.proofs.Unified.{fits_loosely}
@@ -27,7 +28,7 @@ use Rattle.typing_conditions.specs.Sights.{Sight, Letters, Agrees}
 use Rattle.typing_conditions.specs.Frames.{Frame, IsWritten, IsOpen, inner_frame, GoesIn}
 use Rattle.typing_conditions.specs.Meanings.{AllMean}
 use Rattle.typing_conditions.specs.Steps.{OnlyLevel}
-use Rattle.typing_conditions.specs.Carrying.{Asks, Scope, IsUnder, Carried, CarriedTo}
+use Rattle.typing_conditions.specs.Carrying.{Asks, Scope, HoldsWritten, IsUnder, Carried, CarriedTo}
 use Rattle.typing_conditions.specs.Surroundings.{Declared, Surrounds, context_of, with_closed}
 use Rattle.typing_conditions.proofs.Answering.{then_to}
 use Rattle.typing_conditions.proofs.Carried.{carried_trans, carried_as, carried_under}
@@ -38,14 +39,14 @@ use Rattle.typing_conditions.proofs.Outward.{GoesOut, GroupTyped, inner_reached,
 use Rattle.typing_conditions.proofs.Recording.{ends_same}
 use Rattle.typing_conditions.proofs.Surrounding.{surrounds_on}
 use Rattle.typing_steps.specs.States.{is_aloud, sight}
-use Rattle.typing_steps.specs.Typing.{RowCarried, TypesTo}
+use Rattle.typing_steps.specs.Typing.{RowCarried, TypesTo, TypesRow}
 use Rattle.pattern_rows.specs.Bounds.{Bind, AllBound, none_bound, one_bound}
-use Rattle.let_rows.specs.Closing.{limit_nodes, Limit, limit_variables, ClosesGroup}
-use Rattle.let_rows.specs.Lets.{ToClose, AllToClose, none_to_close, one_to_close, bind_nodes, bind_entries, names_closed, limited_nodes, held_at, held_types, written_nodes, together, held_from, GroupToClose}
-use Rattle.let_rows.specs.Groups.{LetGroup, TypesToClose, TypesLet}
-use Rattle.let_rows.proofs.Limits.{LimitsCarried}
-use Rattle.let_rows.proofs.Closing.{limited_state, limits_asked, closed_out}
-use Rattle.let_rows.proofs.Held.{limited_means, held_same, to_close_on, all_names_bound, bound_open, closed_names, limit_shares, limited_open, open_root, fixed_held, fixed_roots, named_occurs, named_none, nodes_none, item_unbound, occurs_first, occurs_second, occurs_neither, written_there, there_written}
+use Rattle.binding_rows.specs.Closing.{limit_nodes, Limit, limit_variables, ClosesGroup}
+use Rattle.binding_rows.specs.Lets.{ToClose, AllToClose, none_to_close, one_to_close, bind_nodes, bind_entries, names_closed, limited_nodes, held_at, held_types, written_nodes, together, held_from, GroupToClose}
+use Rattle.binding_rows.specs.LetGroups.{LetGroup, TypesToClose}
+use Rattle.binding_rows.proofs.Limits.{LimitsCarried}
+use Rattle.binding_rows.proofs.Closing.{limited_state, limits_asked, closed_out}
+use Rattle.binding_rows.proofs.Held.{limited_means, held_same, to_close_on, all_names_bound, bound_open, closed_names, limit_shares, limited_open, open_root, fixed_held, fixed_roots, named_occurs, named_none, nodes_none, occurs_first, occurs_second, occurs_neither, written_there, there_written}
 
 -- a node of two lists is one of the first or of the second
 in_either : (ms ns : List ℕ) (n : ℕ) → IsIn (ms ++ ns) n → IsIn ms n ⊎ IsIn ns n
@@ -112,7 +113,7 @@ module _ {D : Declared} {F : Frame} {scope : Scope} {asks : Asks} {x y : Sight} 
 
   -- the roots of the frame further in: those of the environment, the nodes of the built-in types, and those of written type variables
   abbrev pub inner_roots : List ℕ
-  inner_roots = together l.at.roots (fixed_nodes x.fixed) (written_nodes x.written scope.held)
+  inner_roots = together l.at.roots (fixed_nodes x.fixed) (written_nodes x.written l.at.written.names)
 
   -- what it holds: at the outer level the variables of the limits
   abbrev pub inner_held : ℕ → List ℕ
@@ -130,14 +131,14 @@ module _ {D : Declared} {F : Frame} {scope : Scope} {asks : Asks} {x y : Sight} 
   goes_in = record {
     reached = l.at.reached;
     own = own_start.1;
-    are_roots = λ k r e. elim (in_one l.at.roots (fixed_nodes x.fixed) (written_nodes x.written scope.held) r (k, e)) [
+    are_roots = λ k r e. elim (in_one l.at.roots (fixed_nodes x.fixed) (written_nodes x.written l.at.written.names) r (k, e)) [
       | inl i ↦ l.at.are_roots i.0 r i.1
       | inr j ↦ elim j [
         | inl i ↦ open_root (same_level F.level) (fixed_roots l.at.fixed i.0 r i.1)
-        | inr i ↦ let w = there_written x.written scope.held r i in open_root (min_left F.level 1) (l.at.written.each w.0 r w.1)
+        | inr i ↦ let w = there_written x.written l.at.written.names r i in open_root (min_left F.level 1) (l.at.written.each w.0 r w.1)
       ]
     ];
-    written_in = λ n m e. let h = l.named n m e in of_third l.at.roots (fixed_nodes x.fixed) (written_nodes x.written scope.held) m (written_there x.written scope.held h.0 n m h.1 e);
+    written_in = λ n m e. let h = l.at.written.listed n m e in of_third l.at.roots (fixed_nodes x.fixed) (written_nodes x.written l.at.written.names) m (written_there x.written l.at.written.names h.0 n m h.1 e);
     keeps_held = λ k n lt i. subst (λ ns. IsIn ns n) (held_below F.level (limit_variables limits) F.held k lt) i;
     free = l.free;
   }
@@ -149,8 +150,8 @@ module _ {D : Declared} {F : Frame} {scope : Scope} {asks : Asks} {x y : Sight} 
       min_left m n = grind arith
 
   surrounds_group : Surrounds D further y G env scope
-  surrounds_group = surrounds_inward goes_in l.only l.raised l.at (λ k r e. of_first l.at.roots (fixed_nodes x.fixed) (written_nodes x.written scope.held) r (k, e))
-      (λ k m e. of_second l.at.roots (fixed_nodes x.fixed) (written_nodes x.written scope.held) m (k, e))
+  surrounds_group = surrounds_inward goes_in l.only l.raised l.at (λ k r e. of_first l.at.roots (fixed_nodes x.fixed) (written_nodes x.written l.at.written.names) r (k, e))
+      (λ k m e. of_second l.at.roots (fixed_nodes x.fixed) (written_nodes x.written l.at.written.names) m (k, e))
 
   -- the group, typed in that frame
   pub group : GroupToClose further scope asks y G (sight a) xs ys
@@ -184,7 +185,7 @@ module _ {D : Declared} {F : Frame} {scope : Scope} {asks : Asks} {x y : Sight} 
     raised = l.raised;
     part = carried_as (λ c. append-nil (asks c)) (carried_trans group.carried limits_done.carried);
     out = out;
-    inside_item = l.inside_item;
+    inside_item = l.at.inside;
     written = l.at.written;
   }
 
@@ -214,17 +215,17 @@ module _ {D : Declared} {F : Frame} {scope : Scope} {asks : Asks} {x y : Sight} 
       let (m, j, same) = limit_shares (limited_state l.close).nodes F.level limits limits_done.limited V (loose_before V loose) n (subst (λ ns. IsIn ns n) (held_here F.level (limit_variables limits) F.held) i) in
       node_held m (subst (λ ns. IsIn ns m) l.nodes j) V ch loose g w (ap (occurs w) (sym same) ∙ h)
 
-  written_held : (n : ℕ) → IsWritten (sight d) n → HasHeld F (sight d) letters types n
-  written_held n (z, e) V ch loose g w h =
-      let (k, f) = (l.item letters).named z n e in
+  written_held : HoldsWritten scope (sight d) → (n : ℕ) → IsWritten (sight d) n → HasHeld F (sight d) letters types n
+  written_held named n (z, e) V ch loose g w h =
+      let (k, f) = named z n e in
       occurs_first w (map (ch.written F.owner) scope.held) (held_at ch xs ys) (named_occurs (ch.written F.owner) w scope.held k z f (ap (occurs w) (g.written z n e) ∙ h))
 
-  root_held : (k r : ℕ) → slice_get inner_roots k ≡ Some r → IsIn l.at.roots r ⊎ HasHeld F (sight d) letters types r
-  root_held k r e = elim (in_one l.at.roots (fixed_nodes x.fixed) (written_nodes x.written scope.held) r (k, e)) [
+  root_held : HoldsWritten scope (sight d) → (k r : ℕ) → slice_get inner_roots k ≡ Some r → IsIn l.at.roots r ⊎ HasHeld F (sight d) letters types r
+  root_held named k r e = elim (in_one l.at.roots (fixed_nodes x.fixed) (written_nodes x.written l.at.written.names) r (k, e)) [
     | inl i ↦ inl i
     | inr j ↦ elim j [
       | inl i ↦ inr (fixed_held letters types (surrounds_on group_closed.stays l.at).fixed i.0 r (subst (λ f. slice_get (fixed_nodes f) i.0 ≡ Some r) (sym group_closed.stays.fixed) i.1))
-      | inr i ↦ let w = there_written x.written scope.held r i in inr (written_held r (w.0, group_closed.stays.written w.0 r w.1))
+      | inr i ↦ let w = there_written x.written l.at.written.names r i in inr (written_held named r (w.0, group_closed.stays.written w.0 r w.1))
     ]
   ]
 
@@ -241,8 +242,8 @@ module _ {D : Declared} {F : Frame} {scope : Scope} {asks : Asks} {x y : Sight} 
     roots_held = root_held;
     limits_held = limit_held;
     written_held = written_held;
-    none_bound = λ V ch reads g v b. occurs_neither v (map (ch.written F.owner) scope.held) (held_at ch xs ys)
-        (named_none (ch.written F.owner) v scope.held (λ k n e. item_unbound (l.item letters) (group_closed.stays.writes l.at.written) V ch reads g k n e v b))
+    none_bound = λ V ch reads g unbound v b. occurs_neither v (map (ch.written F.owner) scope.held) (held_at ch xs ys)
+        (named_none (ch.written F.owner) v scope.held (λ k n e. unbound k n e v b))
         (subst (λ ts. occurs_in v ts ≡ false) (held_same typed V ch (loose_before V (fits_loosely d.store.nodes V reads.fits)) (agrees_there V ch g)) (nodes_none V v (limited_nodes ys) (λ m i. open_unbound (node_open m i) V reads v b)));
   }
 
@@ -267,7 +268,7 @@ module _ {D : Declared} {F : Frame} {scope : Scope} {asks : Asks} {x y : Sight} 
   -- The group, its close, and the body among its names.
   pub let_closed : {body_asks : Asks} {f : Sight} {type : Choice → Typ} {m : ℕ} → (Surrounds D F (sight d) letters (added (bind_entries (names_closed ys)) env) (with_closed (names_of_group xs) types scope) →
       CarriedTo F (with_closed (names_of_group xs) types scope) body_asks (sight d) letters f letters type m) → CarriedTo F scope (λ c. asks c ++ body_asks (within_let c xs)) x G f letters type m
-  let_closed body = let r = body surrounds_body in then_to group_closed (record { carried = carried_under (λ c. within_let c xs) (λ c. (refl, refl)) body_under r.carried; means = r.means })
+  let_closed body = let r = body surrounds_body in then_to group_closed (record { carried = carried_under (λ c. within_let c xs) refl (λ c. (refl, refl)) body_under r.carried; means = r.means })
 
 -- The row of a `let` with a body: what its group and its body ask is carried, and its type is that of the body.
 pub let_typed : {D : Declared} {F : Frame} {scope : Scope} {x y : Sight} {G : Letters} {a d : Parts} {f : Sight} {env : List Entry} {xs : List Binding} {ys : List ToClose} {limits : List Limit} {m : ℕ} (n : ℕ) (at : Place) (is_rec : Bool) (e : Expression)
@@ -291,23 +292,19 @@ only_raised x y e = subst (λ z. OnlyLevel (sight x) (sight z)) (sym e) (record 
 level_raised : (x y : Parts) → y ≡ record x { level = x.level + 1 } → y.level ≡ suc x.level
 level_raised x y e = ap (λ (p : Parts). p.level) e ∙ (let s : x.level + 1 ≡ suc x.level = omega arith in s)
 
--- The row of the code's `let`: the level is raised where there is one more, the group is typed and closed, and then the body is typed among its names.
-pub let_row : {x y a d : Parts} (f : Parts) {env : List Entry} {xs : List Binding} {ys : List ToClose} {limits : List Limit} {m : ℕ} (n : ℕ) (at : Place) (is_rec : Bool) (e : Expression) → (x.level + 1 < 2 ^ 32 → y ≡ record x { level = x.level + 1 }) → TypesToClose y a env (λ c. bindings_ask c is_rec xs) xs ys →
-    limit_nodes limits ≡ limited_nodes ys → ClosesGroup a d limits (bind_nodes (names_closed ys)) → d.telling ≡ x.telling → TypesTo d f (added (bind_entries (names_closed ys)) env) e.typed (λ ch. ch.type_at e.node) m → TypesLet x d f env (let_expression n at is_rec xs e).typed n m
-let_row {x} {y} f {xs = xs} {ys = ys} n at is_rec e up group_types nodes close same body = λ aloud F scope G s frame.
-    let raised : y ≡ record x { level = x.level + 1 } = up (room x.level F.level s.reached.level frame.free) in
+-- The row of the code's `let`: the level is raised, below which there is one more, the group is typed and closed, and then the body is typed among its names.
+pub let_row : {x y a d : Parts} (f : Parts) {env : List Entry} {xs : List Binding} {ys : List ToClose} {limits : List Limit} {m : ℕ} (n : ℕ) (at : Place) (is_rec : Bool) (e : Expression) → y ≡ record x { level = x.level + 1 } → x.level + 1 < bound_level → TypesToClose y a env (λ c. bindings_ask c is_rec xs) xs ys →
+    limit_nodes limits ≡ limited_nodes ys → ClosesGroup a d limits (bind_nodes (names_closed ys)) → d.telling ≡ x.telling → TypesTo d f (added (bind_entries (names_closed ys)) env) e.typed (λ ch. ch.type_at e.node) m → TypesRow x f env (let_expression n at is_rec xs e).typed n m
+let_row {x} {y} f {xs = xs} {ys = ys} n at is_rec e raised below group_types nodes close same body = λ aloud F scope G s.
     let_typed n at is_rec e (record {
       at = s;
       only = only_raised x y raised;
       raised = level_raised x y raised;
-      free = frame.free;
-      inside_item = frame.inside_item;
-      named = frame.named;
-      item = frame.item;
+      free = room x.level F.level s.reached.level below;
       nodes = nodes;
       close = close;
       group = λ I. group_types (ap (λ (p : Parts). is_aloud p.telling) raised ∙ aloud) I scope G;
     }) (λ H. body (ap is_aloud same ∙ aloud) F (with_closed (names_of_group xs) (held_types F.owner scope.held xs ys) scope) H)
   where
-    room : (l k : ℕ) → l ≡ k → suc k < 2 ^ 32 - 1 → l + 1 < 2 ^ 32
+    room : (l k : ℕ) → l ≡ k → l + 1 < 2 ^ 32 - 1 → suc k < 2 ^ 32 - 1
     room l k e lt = omega arith

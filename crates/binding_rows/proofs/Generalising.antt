@@ -9,7 +9,7 @@ use Rattle.typing_state.specs.Goes.{OnlyStore}
 use Rattle.typing_environments.specs.Locals.{IsOwn, ClosesAll}
 use Rattle.typing_environments.proofs.Closing.{closed_own}
 use Rattle.typing_environments.proofs.Bindings.{generalised_closes, closes_then}
-use Rattle.let_rows.specs.Closing.{Limit, LimitsAll, GeneralisesAll}
+use Rattle.binding_rows.specs.Closing.{Limit, LimitsAll, GeneralisesAll}
 
 closes_none : (nodes : List Node) (J : Types) (level : ℕ) → ClosesAll nodes nodes J [] level
 closes_none nodes J level = record { len = refl; binds = λ v l o e free above h. absurd (no_yes h); stays = λ n h. refl }

@@ -7,7 +7,7 @@ use Rattle.level_unify.specs.Generalising.{Generalised}
 use Rattle.typing_state.specs.declared.parts.Parts.{Parts}
 use Rattle.typing_state.specs.Goes.{OnlyStore, Goes}
 use Rattle.typing_state.specs.Types.{level_for, any_scope, JoinedIfNodes}
-use Rattle.let_rows.specs.Closing.{Limit, limit_nodes, LimitsAll, LimitsNodes, GeneralisesAll}
+use Rattle.binding_rows.specs.Closing.{Limit, limit_nodes, LimitsAll, LimitsNodes, GeneralisesAll}
 
 -- no type is limited
 pub limits_none : (a : Parts) (level : ℕ) → LimitsNodes a a level []

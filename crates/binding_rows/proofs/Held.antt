@@ -8,25 +8,23 @@ use Rattle.typing_laws.proofs.Bools.{no_yes}
 use Rattle.typing_model.specs.Contexts.{Choice, Bound, occurs_in}
 use Rattle.typing_model.specs.Parts.{Binding}
 use Rattle.type_nodes.specs.Nodes.{Node}
-use Rattle.type_nodes.specs.Readings.{Types, IsReading}
+use Rattle.type_nodes.specs.Readings.{Types}
 use Rattle.level_unify.specs.Solutions.{Loose}
-use Rattle.level_unify.specs.Instances.{is_bound}
 use Rattle.typing_environments.specs.Standing.{IsIn}
 use Rattle.typing_environments.proofs.Steps.{same_node}
 use Rattle.typing_conditions.specs.Sights.{Sight, Letters, Agrees}
-use Rattle.typing_conditions.specs.Frames.{Frame, IsOpenAt, IsOpen, IsRoot}
-use Rattle.typing_conditions.specs.Meanings.{Means, AllMean, none_mean, one_means, KnowsFixed, KnowsWritten}
-use Rattle.typing_conditions.specs.Carrying.{Scope, Stays}
+use Rattle.typing_conditions.specs.Frames.{Frame, IsOpenAt, IsOpen, AreOpen, IsRoot}
+use Rattle.typing_conditions.specs.Meanings.{Means, AllMean, none_mean, one_means, KnowsFixed}
+use Rattle.typing_conditions.specs.Carrying.{Stays}
 use Rattle.typing_conditions.specs.Surroundings.{context_of}
-use Rattle.typing_conditions.proofs.Meaning.{means_on, open_unbound}
+use Rattle.typing_conditions.proofs.Meaning.{means_on}
 use Rattle.typing_conditions.proofs.Inward.{fixed_nodes}
 use Rattle.typing_conditions.proofs.Closed.{HasHeld, ClosedNames, no_closed, one_closed}
-use Rattle.typing_conditions.proofs.Letting.{AllOpen}
 use Rattle.pattern_rows.specs.Bounds.{Bind, AllBound, none_bound, one_bound}
 use Rattle.pattern_rows.proofs.Naming.{all_bound_on, all_bound_both}
 use Rattle.typing_model.specs.Bindings.{names_of_group}
-use Rattle.let_rows.specs.Closing.{Limit, limit_nodes, limit_variables, AreLimited}
-use Rattle.let_rows.specs.Lets.{ToClose, IsToClose, AllToClose, none_to_close, one_to_close, bind_nodes, bind_entries, names_closed, limited_nodes, held_at, written_nodes, KnowsItem}
+use Rattle.binding_rows.specs.Closing.{Limit, limit_nodes, limit_variables, AreLimited}
+use Rattle.binding_rows.specs.Lets.{ToClose, IsToClose, AllToClose, none_to_close, one_to_close, bind_nodes, bind_entries, names_closed, limited_nodes, held_at, written_nodes}
 
 -- nodes that have types, and others
 means_both : {F : Frame} {a : Sight} {G : Letters} {ts us : List (Choice → Typ)} {ms ns : List ℕ} → AllMean F a G ts ms → AllMean F a G us ns → AllMean F a G (ts ++ us) (ms ++ ns)
@@ -82,7 +80,7 @@ all_names_bound none_to_close = none_bound
 all_names_bound (one_to_close h hs) = all_bound_both h.names (all_names_bound hs)
 
 -- the nodes of names are open
-pub bound_open : {F : Frame} {a : Sight} {G : Letters} {bs : List Bound} {ns : List Bind} → AllBound F a G bs ns → AllOpen F a (bind_nodes ns)
+pub bound_open : {F : Frame} {a : Sight} {G : Letters} {bs : List Bound} {ns : List Bind} → AllBound F a G bs ns → AreOpen F a (bind_nodes ns)
 bound_open none_bound k r e = absurd (cc)
 bound_open {F} {a} (one_bound {y = y} h hs) zero r e = let s : y.node.0 ≡ r = cc in subst (IsOpen F a) s h.means.open_node
 bound_open (one_bound h hs) (suc k) r e = bound_open hs k r e
@@ -211,27 +209,3 @@ there_written written (y ∷ ys) m i = by (written y) refl i (λ j. there_writte
     by None f i more = more i
     by (Some n) f (zero, e) more = (y, f ∙ e)
     by (Some n) f (suc k, e) more = more (k, e)
-
--- At a reading no bound variable stands in the type of a name of the item, be it written already or not.
-pub item_unbound : {F : Frame} {scope : Scope} {d : Sight} {H : Letters} → KnowsItem F scope d H → KnowsWritten F d → (V : Types) (ch : Choice) → IsReading d.nodes V → Agrees F.owner d H V ch → (k : ℕ) (x : Name) → slice_get scope.held k ≡ Some x →
-    (v : ℕ) → is_bound d.nodes v ≡ true → occurs v (ch.written F.owner x) ≡ false
-item_unbound {F} {d = d} item written V ch reads g k x e v bound = by (d.written x) refl
-  where
-    by : (o : Option ℕ) → d.written x ≡ o → occurs v (ch.written F.owner x) ≡ false
-    by None f = item.unbound V ch reads g k x e f v bound
-    by (Some m) f = ap (occurs v) (g.written x m f) ∙ open_unbound (written.each x m f) V reads v bound
-
--- An item in which no type variable is written needs nothing.
-pub item_none : {F : Frame} {scope : Scope} {d : Sight} {H : Letters} → scope.held ≡ [] → ((x : Name) → d.written x ≡ None) → KnowsItem F scope d H
-item_none {scope = scope} {d = d} none unwritten = record {
-  named = λ x m e. absurd (let f : Some m ≡ None = sym e ∙ unwritten x in cc);
-  unbound = λ V ch reads g k x e f v bound. absurd (no_name k x (ap (λ xs. slice_get xs k) (sym none) ∙ e));
-}
-  where
-    no_name : (k : ℕ) (x : Name) → slice_get [] k ≡ Some x → ⊥
-    no_name k x e = cc
-
--- Nor does an item all of whose type variables are written already.
-pub item_written : {F : Frame} {scope : Scope} {d : Sight} {H : Letters} → ((x : Name) (m : ℕ) → d.written x ≡ Some m → (k : ℕ) × (slice_get scope.held k ≡ Some x)) →
-    ((k : ℕ) (x : Name) → slice_get scope.held k ≡ Some x → (m : ℕ) × (d.written x ≡ Some m)) → KnowsItem F scope d H
-item_written named all = record { named = named; unbound = λ V ch reads g k x e f v bound. absurd (let h = all k x e in let r : Some h.0 ≡ None = sym h.1 ∙ f in cc) }

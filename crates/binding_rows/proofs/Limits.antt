@@ -32,7 +32,7 @@ use Rattle.typing_conditions.proofs.Meaning.{all_mean_on}
 use Rattle.typing_steps.specs.States.{sight}
 use Rattle.typing_steps.proofs.Joining.{with_level, level_limited}
 use Rattle.typing_steps.proofs.Limiting.{Limited, level_asked, limit_asked, limit_low}
-use Rattle.let_rows.specs.Closing.{Limit, limit_nodes, limit_variables, LimitsAll, IsLimited, AreLimited}
+use Rattle.binding_rows.specs.Closing.{Limit, limit_nodes, limit_variables, LimitsAll, IsLimited, AreLimited}
 
 -- no bound variable stands in a new variable or in an open node
 none_bound : {F : Frame} {a : Sight} {before : List Change} {mid : State} {v l o m : ℕ} → Makes (state a.nodes before) mid v (Var l o) → l ≢ bound_level → IsOpen F a m → HaveNoBound mid.nodes v m

@@ -1,0 +1,118 @@
+-- Letters that patterns open, and those that are closed at the end of a row.
+use Rattle.std.proofs.Common.{◌∙◌, ◌++◌, ℕ, List, [], ◌∷◌, inl, inr, sym, ap, subst, append_assoc}
+use Rattle.typing_model.specs.Contexts.{Choice}
+use Rattle.type_nodes.specs.Nodes.{Node}
+use Rattle.type_nodes.specs.Readings.{Types}
+use Rattle.typing_conditions.specs.Sights.{Sight, Letters, AreGiven, AreNodes}
+use Rattle.typing_conditions.specs.Frames.{Frame}
+use Rattle.typing_conditions.specs.Carrying.{Asks, Scope, Stays, GoesOn, Carried, CarriedTo}
+use Rattle.typing_conditions.proofs.Judged.{given_left, given_right, given_both, nodes_right, nodes_both}
+use Rattle.typing_conditions.proofs.Carried.{carried_trans}
+use Rattle.typing_steps.specs.Typing.{RowCarried}
+use Rattle.pattern_rows.specs.Bounds.{IsAmong}
+
+-- letters are nodes where others are together with them
+pub nodes_left : (xs ys : Letters) (nodes : List Node) → AreNodes (xs ++ ys) nodes → AreNodes xs nodes
+nodes_left [] ys nodes h = tt
+nodes_left (x ∷ xs) ys nodes h = (h.0, nodes_left xs ys nodes h.1)
+
+-- no letter is among any
+pub none_among : (own : Letters) → IsAmong [] own
+none_among own = record { given = λ V ch h. tt; inside = λ nodes h. tt }
+
+-- letters are among themselves
+pub all_among : (own : Letters) → IsAmong own own
+all_among own = record { given = λ V ch h. h; inside = λ nodes h. h }
+
+-- and after others
+pub among_after : (more : Letters) {opens own : Letters} → IsAmong opens own → IsAmong opens (more ++ own)
+among_after more {opens} {own} h = record { given = λ V ch g. h.given V ch (given_right V ch more own g); inside = λ nodes i. h.inside nodes (nodes_right more own nodes i) }
+
+-- and before others
+pub among_before : (more : Letters) {opens own : Letters} → IsAmong opens own → IsAmong opens (own ++ more)
+among_before more {opens} {own} h = record { given = λ V ch g. h.given V ch (given_left V ch own more g); inside = λ nodes i. h.inside nodes (nodes_left own more nodes i) }
+
+-- what stays where letters are open stays where only those are that are among them
+pub stays_kept : {F : Frame} {a b : Sight} (own opens : Letters) {G : Letters} → IsAmong opens own → Stays F a G b (own ++ G) → Stays F a G b (opens ++ G)
+stays_kept {F} {a} {b} own opens {G} among s = record {
+  longer = s.longer;
+  loose = s.loose;
+  reads = s.reads;
+  reaches = s.reaches;
+  writes = s.writes;
+  refines = s.refines;
+  recorded = s.recorded;
+  written = s.written;
+  given = λ V ch h. given_right V ch opens G h;
+  inside = λ i.
+      let j = s.inside i in
+      record { recorded = j.recorded; written = j.written; given = nodes_both opens G b.nodes (among.inside b.nodes (nodes_left own G b.nodes j.given)) (nodes_right own G b.nodes j.given) };
+  aloud = s.aloud;
+  item = s.item;
+  level = s.level;
+  fixed = s.fixed;
+}
+
+-- types that go on where letters are open go on where only those are
+goes_kept : {F : Frame} {a b : Sight} (own opens G : Letters) {V W : Types} {ch : Choice} → IsAmong opens own → GoesOn F a b (own ++ G) V W ch → GoesOn F a b (opens ++ G) V W ch
+goes_kept own opens G {V} {W} {ch} among on = record {
+  fits = on.fits;
+  before = on.before;
+  agrees = record {
+    recorded = on.agrees.recorded;
+    known = on.agrees.known;
+    written = on.agrees.written;
+    given = given_both W ch opens G (among.given W ch (given_left W ch own G on.agrees.given)) (given_right W ch own G on.agrees.given);
+  };
+}
+
+-- Of the letters that a row has opened only those are kept that are among them; the others are hidden.
+pub carried_kept : {F : Frame} {scope : Scope} {asks : Asks} {a b : Sight} (own opens : Letters) {G : Letters} → IsAmong opens own → Carried F scope asks a G b (own ++ G) → Carried F scope asks a G b (opens ++ G)
+carried_kept {F} {scope} {asks} {a} {b} own opens {G} among p = record {
+  stays = stays_kept own opens among p.stays;
+  hidden = p.hidden ++ own;
+  judged = p.judged;
+  told = p.told;
+  reports = p.reports;
+  sound = λ r V c l. p.sound r V c (record {
+    under = l.under;
+    reads = l.reads;
+    agrees = record {
+      recorded = l.agrees.recorded;
+      known = l.agrees.known;
+      written = l.agrees.written;
+      given = given_both V c.chosen own G (given_right V c.chosen p.hidden own l.hidden_too) (given_right V c.chosen opens G l.agrees.given);
+    };
+    hidden_too = given_left V c.chosen p.hidden own l.hidden_too;
+    named = l.named;
+    unbound = l.unbound;
+    kept = l.kept;
+  });
+  complete = λ named V c e h. elim (p.complete named V c e h) [
+    | inl goes ↦ inl (record { same = goes.same; types = goes.types; on = goes_kept own opens G among goes.on })
+    | inr short ↦ inr short
+  ];
+  first = p.first;
+}
+
+-- a row among whose letters are those that stay open
+pub record RowOpened (F : Frame) (scope : Scope) (asks : Asks) (a : Sight) (G : Letters) (b : Sight) (n m : ℕ) (opens : Letters) : Type 0 where
+  pub row : RowCarried F scope asks a G b n m
+  pub among : IsAmong opens row.own
+
+-- a row after other conditions, which open letters
+pub row_behind : {F : Frame} {scope : Scope} {before asks : Asks} {a b d : Sight} {G : Letters} {n m : ℕ} (opens : Letters) → Carried F scope before a G b (opens ++ G) → RowCarried F scope asks b (opens ++ G) d n m → RowOpened F scope (λ c. before c ++ asks c) a G d n m opens
+row_behind {F} {scope} {before} {asks} {a} {b} {d} {G} {n} {m} opens first row =
+    let same = sym (append_assoc row.own opens G) in
+    record {
+      row = record {
+        own = row.own ++ opens;
+        type = row.type;
+        first = λ c. before c ++ row.first c;
+        ends = row.ends;
+        all = λ c. append_assoc (before c) (row.first c) (row.ends c) ∙ ap (λ xs. before c ++ xs) (row.all c);
+        typed = subst (λ H. CarriedTo F scope (λ c. before c ++ row.first c) a G d H row.type m) same (record { carried = carried_trans first row.typed.carried; means = row.typed.means });
+        end = row.end;
+      };
+      among = among_after row.own (all_among opens);
+    }
