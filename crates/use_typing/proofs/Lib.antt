@@ -7,3 +7,4 @@ pub mod ConstantLaws
 pub mod Asked
 pub mod LostLaws
 pub mod Constructions
+pub mod Recording

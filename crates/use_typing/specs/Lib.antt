@@ -4,3 +4,4 @@ pub mod Told
 pub mod Uses
 pub mod Constants
 pub mod Labels
+pub mod Records

@@ -1,0 +1,203 @@
+-- The fields of a record pattern, each after the labels and the names of those before.
+use Rattle.std.proofs.Common.{◌≡◌, ◌∙◌, ◌++◌, ℕ, Bool, true, false, List, [], ◌∷◌, Option, Some, None, option_map, refl, sym, ap, subst, append-nil, if◌then◌else◌}
+use Rattle.std.proofs.Common.{append_assoc}
+use Rattle.token_model.specs.Kinds.{Tok}
+use Rattle.type_model.specs.Types.{Typ}
+use Rattle.signature_model.specs.Declarations as rules
+use Rattle.signature_model.specs.Declarations.{Name, type_of}
+use Rattle.typing_model.specs.Contexts.{Context, tell}
+use Rattle.typing_model.specs.Names.{used_at, then_by}
+use Rattle.typing_model.specs.Parts.{Written, Pattern, FieldPattern}
+use Rattle.typing_model.specs.Records.{ask_once, field_type, find_label, name_in, labels_in}
+use Rattle.typing_model.specs.Patterns.{match_field, match_fields, names_in_field, mentions_in_field}
+use Rattle.env_table.specs.declared.entries.Entry.{Entry}
+use Rattle.typing_state.specs.declared.parts.Parts.{Parts}
+use Rattle.typing_state.specs.Goes.{Goes}
+use Rattle.typing_conditions.specs.Sights.{Sight, Letters, AreNodes}
+use Rattle.typing_conditions.specs.Frames.{Frame}
+use Rattle.typing_conditions.specs.Carrying.{Scope, Stays, Carried}
+use Rattle.typing_conditions.specs.Surroundings.{Surrounds}
+use Rattle.typing_conditions.proofs.Carried.{carried_refl, carried_trans, carried_as}
+use Rattle.typing_conditions.proofs.Meaning.{means_on, nodes_in}
+use Rattle.typing_conditions.proofs.Nodes.{told_first}
+use Rattle.typing_conditions.proofs.Stays.{stays_closed}
+use Rattle.typing_conditions.proofs.Surrounding.{surrounds_on}
+use Rattle.typing_steps.specs.States.{is_aloud, sight}
+use Rattle.typing_steps.specs.Typing.{as_declared}
+use Rattle.typing_steps.specs.Building.{TakesAs, used_by}
+use Rattle.record_steps.specs.Alike.{SameRecord}
+use Rattle.record_steps.specs.Recording.{AsksNothing, field_in}
+use Rattle.record_steps.proofs.Fielded.{stands_on}
+use Rattle.record_steps.proofs.Named.{same_field}
+use Rattle.pattern_rows.specs.Applied.{MatchesAsIf, MatchesWanted}
+use Rattle.pattern_rows.specs.Bounds.{Bind, AllBound, none_bound, Adds}
+use Rattle.pattern_rows.proofs.Naming.{all_bound_on, all_bound_both, adds_none, adds_both}
+use Rattle.pattern_rows.proofs.Opened.{all_among, among_before, carried_kept}
+use Rattle.record_rows.specs.Fields.{RecordHere, KnownAs, BeginsField, names_of_fields, mentions_of_fields, field_rest, FieldEnded, EndsField, FieldAdds, MatchesFields, MatchesFieldsFirst, FieldsInOrder, FieldsInOrderFirst}
+use Rattle.record_rows.proofs.Opened.{stays_more, stays_without}
+
+-- what is known of a record type stays known
+pub known_on : {F : Frame} {a b : Sight} {G H : Letters} (n : ℕ) (here : RecordHere) (found : Option rules.Declaration) → Stays F a G b H → KnownAs F a G n here found → KnownAs F b H n here found
+known_on n None None s h = tt
+known_on n None (Some e) s h = h
+known_on n (Some r) None s h = h
+known_on n (Some r) (Some e) s h = (stands_on s h.1.open_node.reached h.0, means_on s h.1)
+
+-- whether there is one
+abbrev pub is_there : Option rules.Declaration → Bool
+is_there found = elim found [ None ↦ false | Some d ↦ true ]
+
+-- the type of a written label, by the declaration that is found
+abbrev pub type_in : Option rules.Declaration → Written → Option Typ
+type_in None p = None
+type_in (Some d) p = field_in (labels_in d.shape) p
+
+-- it is what the definitions take at the record's node
+pub field_is : (c : Context) (n : ℕ) (found : Option rules.Declaration) (p : Written) → option_map (used_at c n) (type_in found p) ≡ field_type c n found p
+field_is c n None p = refl
+field_is c n (Some d) p = by p.last
+  where
+    inside : (x : Option rules.Label) → option_map (used_at c n) (option_map (λ (l : rules.Label). l.body) x) ≡ option_map (λ (l : rules.Label). used_at c n l.body) x
+    inside None = refl
+    inside (Some l) = refl
+
+    by : (o : Option Tok) → option_map (used_at c n) (then_by o (λ t. option_map (λ (l : rules.Label). l.body) (find_label t.name (labels_in d.shape)))) ≡ then_by o (λ t. option_map (λ (l : rules.Label). used_at c n l.body) (find_label t.name (labels_in d.shape)))
+    by None = refl
+    by (Some t) = inside (find_label t.name (labels_in d.shape))
+
+-- a field with a pattern of its own, which has the type of the field
+pub pattern_ends : (b d : Parts) (env : List Entry) (k : ℕ) (l : Written) (p : Pattern) (names names' : List Bind) (seen seen' : List Name) (ty : Option ℕ) → MatchesWanted b d env p names names' seen seen' ty →
+    FieldAdds b d env (record { node = k; label = l; pattern = Some p }) names names' seen seen' ty
+pattern_ends b d env k l p names names' seen seen' ty matched = record { added = matched.added; adds = matched.adds; typed = record { opens = matched.opens; typed = λ aloud F scope G n t s has. by aloud F scope G n t ty s has matched.typed } }
+  where
+    by : is_aloud b.telling ≡ true → (F : Frame) (scope : Scope) (G : Letters) (n : ℕ) (t : Option Typ) (ty : Option ℕ) → Surrounds as_declared F (sight b) G env scope → TakesAs F (sight b) G n t ty → MatchesAsIf b d env p seen matched.added matched.opens ty →
+        FieldEnded env F scope (sight b) G (sight d) n (record { node = k; label = l; pattern = Some p }) seen t matched.added matched.opens
+    by aloud F scope G n None None s has typed = let x = typed aloud F scope G s in record { carried = x.carried; names = x.names }
+    by aloud F scope G n (Some t) (Some m) s has typed = let x = typed aloud F scope G k 1 (used_by n t) s has in record { carried = x.carried; names = x.names }
+    by aloud F scope G n None (Some m) s has typed = absurd has
+    by aloud F scope G n (Some t) None s has typed = absurd has
+
+-- the beginning of a field, whatever is known of its record
+pub record FieldBegun (F : Frame) (scope : Scope) (a : Sight) (G : Letters) (b : Sight) (n k : ℕ) (found : Option rules.Declaration) (labels : List Name) (p : Written) (ty : Option ℕ) : Type 0 where
+  pub letters : Letters
+  pub inside : AreNodes letters b.nodes
+  pub carried : Carried F scope (λ c. if is_there found then ask_once k 0 labels p else []) a G b (letters ++ G)
+  pub has_type : TakesAs F b (letters ++ G) n (type_in found p) ty
+
+pub field_begun : (a b : Parts) {F : Frame} {scope : Scope} {G : Letters} (n k : ℕ) (here : RecordHere) (found : Option rules.Declaration) (labels : List Name) (p : Written) (ty : Option ℕ) → is_aloud a.telling ≡ true → KnownAs F (sight a) G n here found → BeginsField here a b labels p ty →
+    FieldBegun F scope (sight a) G (sight b) n k found labels p ty
+field_begun a b {F} {scope} {G} n k None None labels p ty aloud known (none, same) = record {
+  letters = [];
+  inside = tt;
+  carried = subst (λ z. Carried F scope (λ c. []) (sight a) G (sight z) G) (sym same) carried_refl;
+  has_type = subst (TakesAs F (sight b) G n None) (sym none) tt;
+}
+field_begun a b n k None (Some e) labels p ty aloud known begins = absurd known
+field_begun a b n k (Some r) None labels p ty aloud known begins = absurd known
+field_begun a b {F} {scope} {G} n k (Some r) (Some e) labels p ty aloud known begins =
+    let x = begins aloud F scope G n k e known.0 known.1 in
+    record { letters = x.letters; inside = x.inside; carried = x.carried; has_type = x.has_type }
+
+-- the type of a field stays
+pub takes_on : {F : Frame} {a b : Sight} {G H : Letters} (n : ℕ) (t : Option Typ) (ty : Option ℕ) → Stays F a G b H → TakesAs F a G n t ty → TakesAs F b H n t ty
+takes_on n None None s h = tt
+takes_on n None (Some m) s h = h
+takes_on n (Some t) None s h = h
+takes_on n (Some t) (Some m) s h = means_on s h
+
+-- what the calls of a field ask is what the definitions do
+field_asked : (c : Context) (n : ℕ) (found : Option rules.Declaration) (f : FieldPattern) (labels now : List Name) →
+    ((tell f.node c ++ (if is_there found then ask_once f.node 0 labels f.label else [])) ++ []) ++ field_rest c f now (option_map (used_at c n) (type_in found f.label)) ≡ match_field c n (is_there found) f labels now (field_type c n found f.label)
+field_asked c n found f labels now =
+    let e = append-nil (tell f.node c ++ (if is_there found then ask_once f.node 0 labels f.label else [])) in
+    let t = field_is c n found f.label in
+    (λ i. e i ++ field_rest c f now (t i))
+
+-- no field yet
+pub fields_none : (a : Parts) (env : List Entry) (here : RecordHere) (fs : List FieldPattern) (seen : List Name) → MatchesFieldsFirst a a env here fs fs seen [] seen []
+fields_none a env here fs seen = record {
+  opens = [];
+  typed = λ aloud F scope K G n found s nodes known. record { done = λ c. []; bounds = []; carried = carried_refl; names = none_bound; asks = λ c. refl; binds = refl };
+}
+
+-- One field more: its beginning, the record of its node, and its rest.
+pub fields_more : (a b mid told d : Parts) (env : List Entry) (here : RecordHere) (all left rest : List FieldPattern) (f : FieldPattern) (seen labels now after : List Name) (added more : List Bind) (ty : Option ℕ) →
+    left ≡ f ∷ rest → after ≡ now ++ mentions_in_field f → Goes a b → Goes b mid → Goes mid told → MatchesFieldsFirst a b env here all left seen labels now added → BeginsField here b mid labels f.label ty → AsksNothing mid told →
+    EndsField told d env f now more ty → MatchesFieldsFirst a d env here all rest seen (labels ++ name_in f.label) after (added ++ more)
+fields_more a b mid told d env here all left rest f seen labels now after added more ty split later goes goes' goes'' first begins noted ends = record {
+  opens = ends.opens ++ first.opens;
+  typed = λ aloud F scope K G n found s nodes known.
+      let x = first.typed aloud F scope K G n found s nodes known in
+      let loud : is_aloud b.telling ≡ true = ap is_aloud goes.telling ∙ aloud in
+      let louder : is_aloud told.telling ≡ true = ap is_aloud goes''.telling ∙ ap is_aloud goes'.telling ∙ loud in
+      let H : Letters = first.opens ++ (K ++ G) in
+      let y = field_begun b mid {scope = scope} n f.node here found labels f.label ty loud (known_on n here found x.carried.stays known) begins in
+      let z = noted F scope (y.letters ++ H) in
+      let has = takes_on n (type_in found f.label) ty z.stays y.has_type in
+      let outer : Surrounds as_declared F (sight a) (K ++ G) env scope = surrounds_on (stays_more K nodes) s in
+      let begun = carried_trans (carried_trans (told_first {F = F} {scope = scope} {G = H} {a = sight b} f.node) y.carried) z in
+      let w = ends.typed louder F scope (y.letters ++ H) n (type_in found f.label) (surrounds_on begun.stays (surrounds_on x.carried.stays outer)) has in
+      let one = λ (c : Context). match_field c n (is_there found) f labels now (field_type c n found f.label) in
+      let whole = carried_as (λ c. field_asked c n found f labels now) (carried_trans begun w.carried) in
+      let step : Carried F scope one (sight b) H (sight d) (ends.opens ++ H) =
+      carried_kept (ends.opens ++ y.letters) ends.opens (among_before y.letters (all_among ends.opens)) (subst (λ J. Carried F scope one (sight b) H (sight d) J) (sym (append_assoc ends.opens y.letters H)) whole) in
+      let here_now : AreNodes K b.store.nodes = nodes_in K a.store.nodes b.store.nodes x.carried.stays.longer nodes in
+      let closed : Stays F (sight b) (first.opens ++ G) (sight d) (ends.opens ++ (first.opens ++ G)) = stays_without first.opens K ends.opens G here_now step.stays in
+      let told_closed : Stays F (sight b) (first.opens ++ G) (sight told) (first.opens ++ G) = stays_without first.opens K [] G here_now (stays_closed y.letters begun.stays) in
+      let before : Stays F (sight a) G (sight b) (first.opens ++ G) = stays_without [] K first.opens G nodes x.carried.stays in
+      let added_names = all_bound_both (all_bound_on closed x.names) (w.names (first.opens ++ G) (surrounds_on told_closed (surrounds_on before s))) in
+      record {
+        done = λ c. x.done c ++ one c;
+        bounds = x.bounds ++ names_in_field n f;
+        carried = subst (λ J. Carried F scope (λ c. x.done c ++ one c) (sight a) (K ++ G) (sight d) J) (sym (append_assoc ends.opens first.opens (K ++ G))) (carried_trans x.carried step);
+        names = subst (λ J. AllBound F (sight d) J (x.bounds ++ names_in_field n f) (added ++ more)) (sym (append_assoc ends.opens first.opens G)) added_names;
+        asks = λ c.
+            x.asks c ∙ ap (λ fs. x.done c ++ match_fields c n found fs labels now) split ∙ sym (append_assoc (x.done c) (one c) (match_fields c n found rest (labels ++ name_in f.label) (now ++ mentions_in_field f))) ∙
+            ap (λ ns. (x.done c ++ one c) ++ match_fields c n found rest (labels ++ name_in f.label) ns) (sym later);
+        binds = x.binds ∙ ap (λ fs. x.bounds ++ names_of_fields n fs) split ∙ sym (append_assoc x.bounds (names_in_field n f) (names_of_fields n rest));
+      };
+}
+
+-- all fields
+pub fields_all : (a b : Parts) (env : List Entry) (here : RecordHere) (all left : List FieldPattern) (seen labels now : List Name) (added : List Bind) → left ≡ [] → MatchesFieldsFirst a b env here all left seen labels now added → MatchesFields a b env here all seen added
+fields_all a b env here all left seen labels now added none first = record {
+  opens = first.opens;
+  typed = λ aloud F scope K G n found s nodes known.
+      let x = first.typed aloud F scope K G n found s nodes known in
+      record {
+        carried = carried_as (λ c. sym (append-nil (x.done c)) ∙ ap (λ fs. x.done c ++ match_fields c n found fs labels now) (sym none) ∙ sym (x.asks c)) x.carried;
+        names = subst (λ bs. AllBound F (sight b) (first.opens ++ G) bs added) (sym (append-nil x.bounds) ∙ ap (λ fs. x.bounds ++ names_of_fields n fs) (sym none) ∙ sym x.binds) x.names;
+      };
+}
+
+-- with the names that are added: no field yet
+pub in_order_none : (a : Parts) (env : List Entry) (here : RecordHere) (fs : List FieldPattern) (names : List Bind) (seen : List Name) → FieldsInOrderFirst a a env here fs fs names names seen [] seen
+in_order_none a env here fs names seen = record { added = []; mentions = []; adds = adds_none names seen; mentioned = refl; typed = fields_none a env here fs seen }
+
+-- one field more
+pub in_order_more : (a b mid told d : Parts) (env : List Entry) (here : RecordHere) (all left rest : List FieldPattern) (f : FieldPattern) (names some more : List Bind) (seen labels now after : List Name) (ty : Option ℕ) →
+    left ≡ f ∷ rest → Goes a b → Goes b mid → Goes mid told → FieldsInOrderFirst a b env here all left names some seen labels now → BeginsField here b mid labels f.label ty → AsksNothing mid told → FieldAdds told d env f some more now after ty →
+    FieldsInOrderFirst a d env here all rest names more seen (labels ++ name_in f.label) after
+in_order_more a b mid told d env here all left rest f names some more seen labels now after ty split goes goes' goes'' first begins noted one = record {
+  added = first.added ++ one.added;
+  mentions = first.mentions ++ mentions_in_field f;
+  adds = adds_both first.adds one.adds;
+  mentioned = first.mentioned ∙ ap (λ fs. first.mentions ++ mentions_of_fields fs) split ∙ sym (append_assoc first.mentions (mentions_in_field f) (mentions_of_fields rest));
+  typed = fields_more a b mid told d env here all left rest f seen labels now after first.added one.added ty split one.adds.sees goes goes' goes'' first.typed begins noted one.typed;
+}
+
+-- all fields
+pub in_order_all : (a b : Parts) (env : List Entry) (here : RecordHere) (all left : List FieldPattern) (names more : List Bind) (seen labels after : List Name) → left ≡ [] → FieldsInOrderFirst a b env here all left names more seen labels after → FieldsInOrder a b env here all names more seen after
+in_order_all a b env here all left names more seen labels after none first = record {
+  added = first.added;
+  adds = subst (λ ns. Adds names more first.added seen after ns) (sym (append-nil first.mentions) ∙ ap (λ fs. first.mentions ++ mentions_of_fields fs) (sym none) ∙ sym first.mentioned) first.adds;
+  typed = fields_all a b env here all left seen labels after first.added none first.typed;
+}
+
+-- declarations that are one as records ask the same of fields
+pub fields_same : (c : Context) (n : ℕ) (d e : rules.Declaration) → SameRecord d e → (fs : List FieldPattern) (labels seen : List Name) → match_fields c n (Some d) fs labels seen ≡ match_fields c n (Some e) fs labels seen
+fields_same c n d e s [] labels seen = refl
+fields_same c n d e s (f ∷ fs) labels seen =
+    let t : field_type c n (Some d) f.label ≡ field_type c n (Some e) f.label = sym (field_is c n (Some d) f.label) ∙ ap (option_map (used_at c n)) (same_field s f.label) ∙ field_is c n (Some e) f.label in
+    let later = fields_same c n d e s fs (labels ++ name_in f.label) (seen ++ mentions_in_field f) in
+    (λ i. match_field c n true f labels seen (t i) ++ later i)

@@ -1,0 +1,130 @@
+-- A field without a pattern of its own binds the name of its label, whose type is a letter of the field that stays open.
+use Rattle.std.proofs.Common.{◌≡◌, ◌∙◌, ◌++◌, ℕ, zero, suc, true, List, [], ◌∷◌, take, inl, Option, Some, None, refl, sym, ap, subst, append-nil}
+use Rattle.token_model.specs.Kinds.{Tok}
+use Rattle.type_model.specs.Types.{Typ}
+use Rattle.signature_model.specs.Declarations.{Name}
+use Rattle.signature_model.specs.Matching.{IsKnown}
+use Rattle.typing_model.specs.Demands.{same, known}
+use Rattle.typing_model.specs.Contexts as contexts
+use Rattle.typing_model.specs.Contexts.{Choice, Context}
+use Rattle.typing_model.specs.Names.{used_at}
+use Rattle.typing_model.specs.Parts.{place_of}
+use Rattle.typing_model.specs.Patterns.{ask_fresh}
+use Rattle.type_terms.specs.declared.types.NodeRef.{NodeRef}
+use Rattle.env_table.specs.declared.entries.Entry.{Entry}
+use Rattle.typing_state.specs.declared.parts.Parts.{Parts}
+use Rattle.level_unify.proofs.Unified.{fits_loosely}
+use Rattle.typing_conditions.specs.Sights.{Sight, Key, letter, without_unknown, value_of, Letters, IsKnownFor}
+use Rattle.typing_conditions.specs.Frames.{Frame, IsOpen}
+use Rattle.typing_conditions.specs.Meanings.{Means}
+use Rattle.typing_conditions.specs.Judging.{judgements, StartsWith}
+use Rattle.typing_conditions.specs.Carrying.{Scope, Carried}
+use Rattle.typing_conditions.specs.Surroundings.{Surrounds, IsEntry}
+use Rattle.typing_conditions.proofs.Carried.{carried_trans, carried_as, take_none}
+use Rattle.typing_conditions.proofs.Framing.{open_on}
+use Rattle.typing_conditions.proofs.Judged.{starts_all}
+use Rattle.typing_conditions.proofs.Meaning.{means_on}
+use Rattle.typing_conditions.proofs.Nodes.{key_known}
+use Rattle.typing_conditions.proofs.Stays.{stays_trans, stays_opened, agrees_before}
+use Rattle.typing_steps.specs.States.{is_aloud, sight}
+use Rattle.typing_steps.specs.Typing.{as_declared}
+use Rattle.typing_steps.specs.Building.{TakesAs, used_by}
+use Rattle.pattern_rows.specs.Bounds.{Bind, AllBound, none_bound, one_bound}
+use Rattle.record_rows.specs.Fields.{GivesType, FieldEnded, PunsName, Puns, FieldAdds}
+
+-- What a key stands for is asked to be of no unknown type, and then to be the type of a node.
+pub known_made : {F : Frame} {scope : Scope} {G : Letters} {a : Sight} {m : ℕ} {type : Choice → Typ} (key : Key) → ((x : Typ) → IsKnownFor key x) → Means F a G type m →
+    Carried F scope (λ c. known (value_of c.chosen key) ∷ same (value_of c.chosen key) (type c.chosen) ∷ []) a G a ((without_unknown key, m) ∷ (key, m) ∷ G)
+known_made {F} {scope} {G} {a} {m} {type} key free p = record {
+  stays = stays_trans (stays_opened key p.open_node.inside) (stays_opened (without_unknown key) p.open_node.inside);
+  hidden = [];
+  judged = [];
+  told = [];
+  reports = sym (append-nil a.reports);
+  sound = λ r V c l.
+      let g = l.agrees.given in
+      let before = agrees_before (stays_trans (stays_opened {F = F} key p.open_node.inside) (stays_opened {F = F} (without_unknown key) p.open_node.inside)) l.agrees in
+      record { same = refl; holds = (subst IsKnown (sym g.0.is) g.0.known, (g.1.0.is ∙ sym (p.is V c.chosen (fits_loosely a.nodes V l.reads.fits) before), tt)); tells = refl };
+  complete = λ named V c e h.
+      let is = h.1.0 ∙ p.is V c.chosen (fits_loosely a.nodes V e.fits) e.agrees in
+      let g = e.agrees in
+      inl (record {
+        same = refl;
+        types = V;
+        on = record {
+          fits = e.fits;
+          before = λ i lt. refl;
+          agrees = record { recorded = g.recorded; known = g.known; written = g.written; given = (record { is = is; known = subst IsKnown is h.0 }, (record { is = is; known = free (V m) }, g.given)) };
+        };
+      });
+  first = λ named k V c e h. inl (subst (StartsWith []) (sym (silent k c)) (starts_all []));
+}
+  where
+    silent : (k : ℕ) (c : Context) → judgements c.kept (take k (known (value_of c.chosen key) ∷ same (value_of c.chosen key) (type c.chosen) ∷ [])) ≡ []
+    silent zero c = refl
+    silent (suc zero) c = refl
+    silent (suc (suc k)) c = ap (judgements c.kept) (take_none k)
+
+-- the name of a label, once its type is a letter of the field in which no unknown type stands
+name_bound : {F : Frame} {d : Sight} {K : Letters} {e : Entry} (k : ℕ) (t : Tok) (ty : NodeRef) → IsEntry e t.name ty → IsOpen F d ty.0 →
+    AllBound F d ((without_unknown (letter k 0), ty.0) ∷ (letter k 0, ty.0) ∷ K) (record { name = t.name; place = place_of t; has_type = λ c. contexts.letter c k 0 } ∷ []) (record { token = t; node = ty; entry = e } ∷ [])
+name_bound k t ty entry here = one_bound (record {
+  named = refl;
+  placed = refl;
+  chosen = λ c. refl;
+  means = record { open_node = here; is = λ V ch loose g. g.given.1.0.is };
+  known = λ V ch g. g.given.0.known;
+  entry = entry;
+}) none_bound
+
+-- A field whose label is there: its name is new, its type is the field's, or any type where that isn't known.
+module _ (a d : Parts) (env : List Entry) (k : ℕ) (qs : List Tok) (t : Tok) (names names' : List Bind) (seen seen' : List Name) where
+  -- its name, and the letters
+  pun_named : (wanted : Option ℕ) (x : PunsName a d t wanted names names' seen seen') → is_aloud a.telling ≡ true → (F : Frame) (scope : Scope) (G : Letters) (n : ℕ) (o : Option Typ) → Surrounds as_declared F (sight a) G env scope → TakesAs F (sight a) G n o wanted →
+      GivesType wanted a x.mid x.ty.0 → FieldEnded env F scope (sight a) G (sight d) n (record { node = k; label = record { qualifiers = qs; last = Some t }; pattern = None }) seen o (record { token = t; node = x.ty; entry = x.binds.entry } ∷ [])
+      ((without_unknown (letter k 0), x.ty.0) ∷ (letter k 0, x.ty.0) ∷ [])
+  pun_named None x aloud F scope G n None s has given =
+      let key = letter k 0 in
+      let m = x.ty.0 in
+      let v = given F scope G key (λ u. tt) s.reached in
+      let y = x.binds.fresh (ap is_aloud x.goes.telling ∙ aloud) F scope ((key, m) ∷ G) k 1 in
+      let z = key_known {scope = scope} key (means_on y.stays v.means) in
+      let w = x.binds.noted F scope ((without_unknown key, m) ∷ (key, m) ∷ G) in
+      let here = open_on (stays_trans y.stays (stays_trans z.stays w.stays)) v.means.open_node in
+      record {
+        carried = carried_as (λ c. append-nil (ask_fresh k 1 seen t ++ known (contexts.letter c k 0) ∷ [])) (carried_trans (carried_trans (carried_trans v.carried y) z) w);
+        names = λ H r. name_bound k t x.ty x.binds.is_entry here;
+      }
+  pun_named (Some f) x aloud F scope G n (Some o) s has (is, same_state) =
+      let key = letter k 0 in
+      let m = x.ty.0 in
+      let there : Means F (sight x.mid) G (used_by n o) m = subst (λ q. Means F (sight q) G (used_by n o) m) (sym same_state) (subst (Means F (sight a) G (used_by n o)) (sym is) has) in
+      let y : Carried F scope (λ c. ask_fresh k 1 seen t) (sight a) G (sight x.binds.between) G =
+      subst (λ q. Carried F scope (λ c. ask_fresh k 1 seen t) (sight q) G (sight x.binds.between) G) same_state (x.binds.fresh (ap is_aloud x.goes.telling ∙ aloud) F scope G k 1) in
+      let has_it : Means F (sight a) G (used_by n o) m = subst (Means F (sight a) G (used_by n o)) (sym is) has in
+      let z = known_made {scope = scope} key (λ u. tt) (means_on y.stays has_it) in
+      let w = x.binds.noted F scope ((without_unknown key, m) ∷ (key, m) ∷ G) in
+      let here = open_on (stays_trans y.stays (stays_trans z.stays w.stays)) has_it.open_node in
+      record {
+        carried = carried_as (λ c. append-nil (ask_fresh k 1 seen t ++ known (contexts.letter c k 0) ∷ same (contexts.letter c k 0) (used_at c n o) ∷ [])) (carried_trans (carried_trans y z) w);
+        names = λ H r. name_bound k t x.ty x.binds.is_entry here;
+      }
+  pun_named None x aloud F scope G n (Some o) s has given = absurd has
+  pun_named (Some f) x aloud F scope G n None s has given = absurd has
+
+-- a field without a pattern of its own
+pub pun_ends : (a d : Parts) (env : List Entry) (k : ℕ) (qs : List Tok) (last : Option Tok) (names names' : List Bind) (seen seen' : List Name) (wanted : Option ℕ) → Puns last a d wanted names names' seen seen' →
+    FieldAdds a d env (record { node = k; label = record { qualifiers = qs; last = last }; pattern = None }) names names' seen seen' wanted
+pun_ends a d env k qs None names names' seen seen' wanted (noted, same_names, same_seen) = record {
+  added = [];
+  adds = record { binds = same_names ∙ sym (append-nil names); sees = same_seen ∙ sym (append-nil seen) };
+  typed = record { opens = []; typed = λ aloud F scope G n o s has. record { carried = noted F scope G; names = λ H r. none_bound } };
+}
+pun_ends a d env k qs (Some t) names names' seen seen' wanted x = record {
+  added = record { token = t; node = x.ty; entry = x.binds.entry } ∷ [];
+  adds = x.binds.adds;
+  typed = record {
+    opens = (without_unknown (letter k 0), x.ty.0) ∷ (letter k 0, x.ty.0) ∷ [];
+    typed = λ aloud F scope G n o s has. pun_named a d env k qs t names names' seen seen' wanted x aloud F scope G n o s has x.given;
+  };
+}

@@ -1,0 +1,135 @@
+-- A field of a record: its label is new, and an instance of the label's root has the type of the field where its record is the record.
+use Rattle.std.proofs.Common.{◌≡◌, ◌∙◌, inl, inr, ◌++◌, ℕ, true, not, List, [], ◌∷◌, Option, Some, None, option_map, refl, sym, ap, subst, append-nil}
+use Rattle.std.specs.Prelude.{slice_get}
+use Rattle.token_model.specs.Kinds.{Tok}
+use Rattle.type_model.specs.Types.{Typ}
+use Rattle.type_model.specs.Types.{Typ as type}
+use Rattle.signature_model.specs.Declarations as rules
+use Rattle.signature_model.specs.Declarations.{Name, type_of}
+use Rattle.typing_model.specs.Demands.{site, demand, test, twice}
+use Rattle.typing_model.specs.Contexts.{ask}
+use Rattle.typing_model.specs.Parts as parts
+use Rattle.typing_model.specs.Names.{then_by}
+use Rattle.typing_model.specs.Records.{is_among, ask_once, find_label, labels_in}
+use Rattle.type_nodes.specs.Nodes.{Arrow}
+use Rattle.type_nodes.specs.Links.{reading}
+use Rattle.type_nodes.specs.Readings.{Types}
+use Rattle.level_unify.specs.Instances.{Instantiated}
+use Rattle.env_table.specs.declared.entries.Declaration.{Declaration}
+use Rattle.env_table.specs.declared.entries.Label.{Label}
+use Rattle.typing_environments.proofs.Own.{own_of}
+use Rattle.typing_declarations.specs.Declared.{LabelAs}
+use Rattle.typing_declarations.proofs.Later.{declared_after}
+use Rattle.typing_state.specs.declared.parts.Parts.{Parts}
+use Rattle.typing_state.specs.Goes.{OnlyStore}
+use Rattle.typing_conditions.specs.Sights.{Sight, Letters, AreNodes}
+use Rattle.typing_conditions.specs.Frames.{Frame, Reaches, IsRoot}
+use Rattle.typing_conditions.specs.Meanings.{Means}
+use Rattle.typing_conditions.specs.Carrying.{Scope, Stays, Carried}
+use Rattle.typing_conditions.proofs.Framing.{root_on}
+use Rattle.typing_conditions.proofs.Carried.{carried_trans, carried_as}
+use Rattle.typing_conditions.proofs.Meaning.{means_on, nodes_in}
+use Rattle.typing_steps.specs.States.{is_aloud, sight}
+use Rattle.typing_steps.specs.Building.{TakesAs, used_by}
+use Rattle.typing_steps.proofs.Seeing.{only_nodes, level_here}
+use Rattle.typing_steps.proofs.Still.{state_still}
+use Rattle.typing_steps.proofs.Testing.{new_asked}
+use Rattle.typing_steps.proofs.Taken.{TakenWith, root_taken}
+use Rattle.typing_steps.proofs.Labelling.{instance_splits}
+use Rattle.typing_steps.proofs.Sides.{from_means, to_means}
+use Rattle.record_steps.specs.Named.{labels_here, label_here}
+use Rattle.record_steps.specs.Recording.{AsksOnce, label_written, GivesField, TakesField, StandsFor, FieldTyped, TypesField}
+use Rattle.record_steps.proofs.Joined.{join_carried}
+use Rattle.record_steps.proofs.Named.{shape_none, shape_some}
+use Rattle.record_steps.proofs.Typed.{UsedAs}
+
+-- what stands for a declaration does so after a call
+pub stands_on : {F : Frame} {a b : Sight} {G H : Letters} {d : Declaration} {e : rules.Declaration} → Stays F a G b H → Reaches F a → StandsFor F a d e → StandsFor F b d e
+stands_on {a = a} {b = b} stays reached s =
+    let own_a = own_of a.nodes reached.sound in
+    let own_b = own_of b.nodes (stays.reaches reached).sound in
+    record {
+      roots = s.roots;
+      names = s.names;
+      are_roots = λ k r e. root_on stays reached (s.are_roots k r e);
+      is = declared_after own_a.1 (stays.refines reached own_b.0 own_b.1) (λ r i. i) s.is;
+    }
+
+-- An instance of a label's root, whose record is joined with the record's type, has the type of the field as it is used at the record's node; nothing is asked.
+module _ (a b : Parts) {F : Frame} {l : Label} {k : rules.Label} {owner : Typ} {C : List ℕ} {N : Types} {arity m field : ℕ} (reached : Reaches F (sight a)) (are_roots : (i r : ℕ) → slice_get C i ≡ Some r → IsRoot F (sight a) r)
+    (alike : LabelAs a.store.nodes C N arity owner l k) (takes : TakesField l a b m field) where
+  label_root : IsRoot F (sight a) l.root.0
+  label_root = let (i, at) = alike.root.among in are_roots i l.root.0 at
+
+  instance : Instantiated a.store.nodes takes.made.store.nodes l.root.0 F.level takes.node
+  instance = subst (λ j. Instantiated a.store.nodes takes.made.store.nodes l.root.0 j takes.node) (level_here a reached) (takes.instance label_root.inside)
+
+  module _ {scope : Scope} {G : Letters} (n : ℕ) (q : Means F (sight a) G (used_by n owner) m) where
+    joined_so : takes.joining ≡ takes.made → reading takes.made.store.nodes takes.node ≡ Some (Arrow takes.from field) → UsedAs F scope G a b n field k.body
+    joined_so same reads =
+        let taking : TakenWith F scope (sight a) G (sight takes.made) n (type.Arrow owner k.body) takes.node =
+        root_taken n reached label_root alike.root (takes.sound label_root.inside) instance (only_nodes a takes.made (subst (OnlyStore a) same takes.rest)) in
+        let here : Carried F scope (λ c. []) (sight a) G (sight takes.joining) (taking.own ++ G) = subst (λ z. Carried F scope (λ c. []) (sight a) G (sight z) (taking.own ++ G)) (sym same) taking.typed.carried in
+        let p : Means F (sight takes.joining) (taking.own ++ G) (λ ch. type.Arrow (used_by n owner ch) (used_by n k.body ch)) takes.node =
+        subst (λ z. Means F (sight z) (taking.own ++ G) (λ ch. type.Arrow (used_by n owner ch) (used_by n k.body ch)) takes.node) (sym same) taking.typed.means in
+        let there : reading takes.joining.store.nodes takes.node ≡ Some (Arrow takes.from field) = ap (λ z. reading z.store.nodes takes.node) same ∙ reads in
+        let from_here = from_means {from = used_by n owner} {to = used_by n k.body} p there in
+        let record_here = means_on here.stays q in
+        let join = join_carried takes.joining b {scope = scope} takes.sound_after from_here record_here (takes.joined.0 from_here.open_node.inside record_here.open_node.inside) takes.rest_after takes.goes_after in
+        record { own = taking.own; inside = nodes_in taking.own takes.joining.store.nodes b.store.nodes join.stays.longer (subst (λ (z : Parts). AreNodes taking.own z.store.nodes) (sym same) taking.nodes); typed = record { carried = carried_trans here join; means = means_on join.stays (to_means {from = used_by n owner} {to = used_by n k.body} p there) } }
+
+    pub field_used : UsedAs F scope G a b n field k.body
+    field_used = elim takes.sides [
+      | inl (reads, same) ↦ joined_so same reads
+      | inr none ↦ absurd (
+          let own = own_of a.store.nodes reached.sound in
+          let (x, y, reads) = instance_splits owner k.body own.1 alike.root (takes.sound label_root.inside) instance in
+          none x y instance.inside reads)
+    ]
+
+-- the demand that a label is new is carried
+once_asked : (a b : Parts) {F : Frame} {scope : Scope} {G : Letters} (field : ℕ) (seen : List Name) (p : parts.Written) → is_aloud a.telling ≡ true → AsksOnce seen p.last a b → Carried F scope (λ c. ask_once field 0 seen p) (sight a) G (sight b) G
+once_asked a b {F} {scope} {G} field seen p aloud asks = by p.last asks
+  where
+    by : (o : Option Tok) → AsksOnce seen o a b → Carried F scope (λ c. elim o [ None ↦ [] | Some t ↦ ask field 0 (parts.place_of t) (test (twice t.name) (not (is_among t.name seen))) ]) (sight a) G (sight b) G
+    by None same = state_still a b same
+    by (Some t) (span, is, tested) = subst (λ x. Carried F scope (λ c. demand (site field 0) x (test (twice t.name) (not (is_among t.name seen))) ∷ []) (sight a) G (sight b) G) is (new_asked a b t.name seen (site field 0) aloud tested).carried
+
+-- The beginning of a field: its label is new, and its type is that of the label.
+pub field_typed : (a mid b : Parts) (d : Declaration) (m : ℕ) (seen : List Name) (p : parts.Written) (ty : Option ℕ) → AsksOnce seen p.last a mid → GivesField (label_written d p.last) mid b m ty → TypesField a b d m seen p ty
+field_typed a mid b d m seen p ty asks gives aloud F scope G n field e stands means = by (label_written d p.last) refl gives
+  where
+    asked : Carried F scope (λ c. ask_once field 0 seen p) (sight a) G (sight mid) G
+    asked = once_asked a mid field seen p aloud asks
+
+    reached : Reaches F (sight mid)
+    reached = asked.stays.reaches means.open_node.reached
+
+    there : StandsFor F (sight mid) d e
+    there = stands_on asked.stays means.open_node.reached stands
+
+    none_in : (o : Option Tok) → then_by o (λ t. label_here t.name (labels_here d.shape)) ≡ None → then_by o (λ t. option_map (λ (l : rules.Label). l.body) (find_label t.name (labels_in e.shape))) ≡ None
+    none_in None h = refl
+    none_in (Some t) h = ap (option_map (λ (l : rules.Label). l.body)) (shape_none t.name stands.is.shape h)
+
+    one_in : (l : Label) (o : Option Tok) → then_by o (λ t. label_here t.name (labels_here d.shape)) ≡ Some l →
+        (k : rules.Label) × (then_by o (λ t. option_map (λ (l : rules.Label). l.body) (find_label t.name (labels_in e.shape))) ≡ Some k.body) × LabelAs mid.store.nodes there.roots there.names e.arity (type_of e) l k
+    one_in l None h = absurd (cc)
+    one_in l (Some t) h = let (k, is, alike) = shape_some t.name l there.is.shape h in (k, ap (option_map (λ (z : rules.Label). z.body)) is, alike)
+
+    by : (o : Option Label) → label_written d p.last ≡ o → GivesField o mid b m ty → FieldTyped F scope (sight a) G (sight b) n field seen p e ty
+    by None none (nothing, same) = record {
+      letters = [];
+      inside = tt;
+      carried = carried_as (λ c. append-nil (ask_once field 0 seen p)) (carried_trans asked (state_still mid b same));
+      has_type = subst (λ x. TakesAs F (sight b) G n x ty) (sym (none_in p.last none)) (subst (TakesAs F (sight b) G n None) (sym nothing) tt);
+    }
+    by (Some l) some (f, is, takes) =
+        let (k, found, alike) = one_in l p.last some in
+        let used = field_used mid b reached there.are_roots alike takes {scope = scope} n (means_on asked.stays means) in
+        record {
+          letters = used.own;
+          inside = used.inside;
+          carried = carried_as (λ c. append-nil (ask_once field 0 seen p)) (carried_trans asked used.typed.carried);
+          has_type = subst (λ x. TakesAs F (sight b) (used.own ++ G) n x ty) (sym found) (subst (TakesAs F (sight b) (used.own ++ G) n (Some k.body)) (sym is) used.typed.means);
+        }

@@ -1,0 +1,10 @@
+-- The laws of records.
+pub mod Finding
+pub mod Declared
+pub mod Tuples
+pub mod Demanded
+pub mod Typed
+pub mod Joined
+pub mod Named
+pub mod Fielded
+pub mod Noted
