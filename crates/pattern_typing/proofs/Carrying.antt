@@ -130,35 +130,32 @@ none_of f (Some x) e = absurd (cc)
 pub tree_row : (nd : Node) (q : RowName) (r : Row) → (out-Node nd).row ≡ q → row_of q ≡ r → formed.row_of (node_view nd) ≡ r
 tree_row nd q r e k = ap formed.row_of (node_view_parts nd) ∙ ap row_of e ∙ k
 
--- a node with such a row isn't made of carried ones
-pub refused_row : (t : Tree) (r : Row) → ((ps : Forest) → IsCarriedPatternRow r ps → ⊥) → formed.row_of t ≡ r → IsTreeOfCarriedPatterns t → ⊥
-refused_row t r none row h = let there = row_there t h in none there.0 (subst (λ q. IsCarriedPatternRow q there.0) row there.1)
-
 -- a carried row that is none of the others is _
-pub any_name : (r : RowName) (ps : Forest) → IsCarriedPatternRow (row_of r) ps → (r ≡ name.Papp → ⊥) → (r ≡ name.Pcon → ⊥) → (r ≡ name.Por → ⊥) → (r ≡ name.Pparen → ⊥) → (r ≡ name.Plist → ⊥) → (r ≡ name.Pcons → ⊥) → (r ≡ name.Ptuple → ⊥) → (r ≡ name.Pas → ⊥) → (r ≡ name.Pname → ⊥) → (r ≡ name.Pconst → ⊥) → (r ≡ name.Pneg → ⊥) →
+pub any_name : (r : RowName) (ps : Forest) → IsCarriedPatternRow (row_of r) ps → (r ≡ name.Papp → ⊥) → (r ≡ name.Pcon → ⊥) → (r ≡ name.Por → ⊥) → (r ≡ name.Pparen → ⊥) → (r ≡ name.Plist → ⊥) → (r ≡ name.Pcons → ⊥) → (r ≡ name.Ptuple → ⊥) → (r ≡ name.Pas → ⊥) → (r ≡ name.Pname → ⊥) → (r ≡ name.Pconst → ⊥) → (r ≡ name.Pneg → ⊥) → (r ≡ name.Precord → ⊥) →
     row_of r ≡ pany_row
 unfolding row_of
-any_name name.Pany ps h o o0 o1 o2 o3 o4 o5 o6 o7 o8 o9 = refl
-any_name name.Papp ps h o o0 o1 o2 o3 o4 o5 o6 o7 o8 o9 = absurd (o refl)
-any_name name.Pcon ps h o o0 o1 o2 o3 o4 o5 o6 o7 o8 o9 = absurd (o0 refl)
-any_name name.Por ps h o o0 o1 o2 o3 o4 o5 o6 o7 o8 o9 = absurd (o1 refl)
-any_name name.Pparen ps h o o0 o1 o2 o3 o4 o5 o6 o7 o8 o9 = absurd (o2 refl)
-any_name name.Plist ps h o o0 o1 o2 o3 o4 o5 o6 o7 o8 o9 = absurd (o3 refl)
-any_name name.Pcons ps h o o0 o1 o2 o3 o4 o5 o6 o7 o8 o9 = absurd (o4 refl)
-any_name name.Ptuple ps h o o0 o1 o2 o3 o4 o5 o6 o7 o8 o9 = absurd (o5 refl)
-any_name name.Pas ps h o o0 o1 o2 o3 o4 o5 o6 o7 o8 o9 = absurd (o6 refl)
-any_name name.Pname ps h o o0 o1 o2 o3 o4 o5 o6 o7 o8 o9 = absurd (o7 refl)
-any_name name.Pconst ps h o o0 o1 o2 o3 o4 o5 o6 o7 o8 o9 = absurd (o8 refl)
-any_name name.Pneg ps h o o0 o1 o2 o3 o4 o5 o6 o7 o8 o9 = absurd (o9 refl)
-any_name _ ps h o o0 o1 o2 o3 o4 o5 o6 o7 o8 o9 = absurd h
+any_name name.Pany ps h o o0 o1 o2 o3 o4 o5 o6 o7 o8 o9 o10 = refl
+any_name name.Papp ps h o o0 o1 o2 o3 o4 o5 o6 o7 o8 o9 o10 = absurd (o refl)
+any_name name.Pcon ps h o o0 o1 o2 o3 o4 o5 o6 o7 o8 o9 o10 = absurd (o0 refl)
+any_name name.Por ps h o o0 o1 o2 o3 o4 o5 o6 o7 o8 o9 o10 = absurd (o1 refl)
+any_name name.Pparen ps h o o0 o1 o2 o3 o4 o5 o6 o7 o8 o9 o10 = absurd (o2 refl)
+any_name name.Plist ps h o o0 o1 o2 o3 o4 o5 o6 o7 o8 o9 o10 = absurd (o3 refl)
+any_name name.Pcons ps h o o0 o1 o2 o3 o4 o5 o6 o7 o8 o9 o10 = absurd (o4 refl)
+any_name name.Ptuple ps h o o0 o1 o2 o3 o4 o5 o6 o7 o8 o9 o10 = absurd (o5 refl)
+any_name name.Pas ps h o o0 o1 o2 o3 o4 o5 o6 o7 o8 o9 o10 = absurd (o6 refl)
+any_name name.Pname ps h o o0 o1 o2 o3 o4 o5 o6 o7 o8 o9 o10 = absurd (o7 refl)
+any_name name.Pconst ps h o o0 o1 o2 o3 o4 o5 o6 o7 o8 o9 o10 = absurd (o8 refl)
+any_name name.Pneg ps h o o0 o1 o2 o3 o4 o5 o6 o7 o8 o9 o10 = absurd (o9 refl)
+any_name name.Precord ps h o o0 o1 o2 o3 o4 o5 o6 o7 o8 o9 o10 = absurd (o10 refl)
+any_name _ ps h o o0 o1 o2 o3 o4 o5 o6 o7 o8 o9 o10 = absurd h
 
 -- the same of a node
 pub any_row : (nd : Node) → IsTreeOfCarriedPatterns (node_view nd) → ((out-Node nd).row ≡ name.Papp → ⊥) → ((out-Node nd).row ≡ name.Pcon → ⊥) → ((out-Node nd).row ≡ name.Por → ⊥) → ((out-Node nd).row ≡ name.Pparen → ⊥) → ((out-Node nd).row ≡ name.Plist → ⊥) → ((out-Node nd).row ≡ name.Pcons → ⊥) → ((out-Node nd).row ≡ name.Ptuple → ⊥) → ((out-Node nd).row ≡ name.Pas → ⊥) →
-    ((out-Node nd).row ≡ name.Pname → ⊥) → ((out-Node nd).row ≡ name.Pconst → ⊥) → ((out-Node nd).row ≡ name.Pneg → ⊥) → formed.row_of (node_view nd) ≡ pany_row
-any_row nd h o o0 o1 o2 o3 o4 o5 o6 o7 o8 o9 =
+    ((out-Node nd).row ≡ name.Pname → ⊥) → ((out-Node nd).row ≡ name.Pconst → ⊥) → ((out-Node nd).row ≡ name.Pneg → ⊥) → ((out-Node nd).row ≡ name.Precord → ⊥) → formed.row_of (node_view nd) ≡ pany_row
+any_row nd h o o0 o1 o2 o3 o4 o5 o6 o7 o8 o9 o10 =
     let there = row_there (node_view nd) h in
     let row = ap formed.row_of (node_view_parts nd) in
-    row ∙ any_name (out-Node nd).row there.0 (subst (λ q. IsCarriedPatternRow q there.0) row there.1) o o0 o1 o2 o3 o4 o5 o6 o7 o8 o9
+    row ∙ any_name (out-Node nd).row there.0 (subst (λ q. IsCarriedPatternRow q there.0) row there.1) o o0 o1 o2 o3 o4 o5 o6 o7 o8 o9 o10
 
 -- What comes of a name that is asked to be new: the call tells whether it is named again, and then it is reported.
 pub fresh_told : (a b : Parts) (again : Bool) (t : Token) (seen : List (Bor Token)) → again ≡ is_named_in (tok_of t).name (toks_of seen) → TestedAs (not again) a b t.span fault.Unique (twice_text (tok_of t).name) → AsksFresh a b (tok_of t) (names_seen seen)

@@ -6,3 +6,4 @@ pub mod PatternLaws
 pub mod Carrying
 pub mod Constructors
 pub mod Stepping
+pub mod Recording

@@ -1,7 +1,7 @@
 //! Patterns.
 #![tactic(auto, using(typing_state::proofs::Going::goes_trans, typing_state::proofs::Going::goes_refl, typing_state::proofs::Following::follows_both, typing_state::proofs::Following::follows_then, typing_state::proofs::Following::follows_before, typing_state::proofs::Following::follows_behind, typing_state::proofs::Following::follows_silent, typing_state::proofs::Following::store_silent, typing_state::proofs::Following::ends_both, typing_state::proofs::Following::ends_behind, typing_state::proofs::Following::ends_before, typing_state::proofs::Following::ends_silent, typing_state::proofs::Following::gets_start, typing_state::proofs::Following::gets_more, typing_state::proofs::Following::gets_before, typing_state::proofs::Following::gets_done, crate::proofs::Binding::binds_none, crate::proofs::Binding::binds_both, crate::proofs::Binding::binds_ends, crate::proofs::Binding::binds_one, crate::proofs::PatternLaws::slot_follows, crate::proofs::PatternLaws::slot_binds, crate::proofs::PatternLaws::slots_follow, crate::proofs::PatternLaws::slots_bind))]
 
-ghost use Rattle.std.specs.Prelude.{◌≡◌, ℕ, [], ◌∷◌, ◌++◌, List, map, option_map, slice_get, take, drop, None, Some, IfOk, OnOk};
+ghost use Rattle.std.specs.Prelude.{◌≡◌, ℕ, [], ◌∷◌, ◌++◌, List, map, option_map, slice_get, take, drop, None, Some, All, IfOk, OnOk};
 ghost use Rattle.tree_model.specs.Rows.{pname_row, pany_row, pconst_row, pneg_row, pcon_row, pparen_row, plist_row, precord_row, papp_row, pcons_row, ptuple_row, por_row, pas_row};
 ghost use Rattle.syntax_tree.specs.View.{place_of, tok_of, node_view};
 ghost use Rattle.row_parts.specs.Numbered.{all_operands, first_in, first_of, in_slot, in_slots, operand_view, operands_in, path_in, path_view, token_in};
@@ -31,6 +31,9 @@ ghost use Rattle.pattern_rows.specs.Bounds.{Bind};
 ghost use Rattle.pattern_rows.specs.CarriedPatterns.{IsCarriedPattern, MatchesBeside, MatchesNode, MatchesNodeOf, MatchesOperand, MatchesOperands};
 ghost use Rattle.pattern_rows.specs.Contracts.{AsksEach, AsksFresh, EndsPatterns, Matches, cons_asks, list_asks, patterns_of};
 ghost use Rattle.pattern_rows.specs.Named.{BindsName, BindsNameIf, NotesAny, NotesRow};
+ghost use Rattle.record_rows.specs.Fields.{BindsLabel, FieldsInOrder, Puns};
+ghost use Rattle.record_rows.specs.Operands.{IsCarriedField, MatchesFieldPart, MatchesRecord, MatchesWritten, PunsWritten, fields_of};
+ghost use Rattle.pattern_typing.specs.Records.{here_of};
 ghost use Rattle.pattern_rows.specs.Sides.{AsksBeside, AsksLater, AsksName, AsksNames, AsksSides, Side, find_bind, first_apart_here, name_apart_here};
 
 use env_table::{Entry, Kind, What};
@@ -968,6 +971,7 @@ fn record<'a>(
     seen: &mut Mentioned<'a>,
     depth: Depth,
 ) -> Result<NodeRef, NoMemory>
+    ensures carries { IfOk result (λ m. MatchesNodeOf precord_row at.old at.new env.now number (node_view node.now) (binds_of names.old.items) (binds_of names.new.items) (names_seen seen.old.items) (names_seen seen.new.items) m.0) }
     ensures follows { OnOk result (Follows (matched_as precord_row number (node_view node.now)) at.old at.new) }
     ensures names { OnOk result (Binds names.old.items names.new.items (bound_as precord_row number (node_view node.now))) }
     ensures recorded { OnOk result (IsRecorded at.new number) }
@@ -989,6 +993,7 @@ fn match_record<'a>(
     seen: &mut Mentioned<'a>,
     depth: Depth,
 ) -> Result<NodeRef, NoMemory>
+    ensures carries { IfOk result (λ m. All IsCarriedField (map operand_view fields.now) → MatchesRecord at.old at.new env.now (fields_of at.old.item (map operand_view fields.now)) (binds_of names.old.items) (binds_of names.new.items) (names_seen seen.old.items) (names_seen seen.new.items) m.0) }
     ensures follows { OnOk result (Follows (each lost_steps (map operand_view fields.now) ++ asks_labels (labels_of (map operand_view fields.now)) ++ each field_pattern_steps (map operand_view fields.now)) at.old at.new) }
     ensures names { OnOk result (Binds names.old.items names.new.items (names_in field_pattern_names (map operand_view fields.now))) }
     ensures goes { Goes at.old at.new }
@@ -1011,16 +1016,17 @@ fn match_fields<'a>(
     seen: &mut Mentioned<'a>,
     depth: Depth,
 ) -> Result<(), NoMemory>
+    ensures carries { OnOk result (All IsCarriedField (map operand_view fields.now) → FieldsInOrder at.old at.new env.now (here_of found) (fields_of at.old.item (map operand_view fields.now)) (binds_of names.old.items) (binds_of names.new.items) (names_seen seen.old.items) (names_seen seen.new.items)) }
     ensures follows { OnOk result (Follows (each field_pattern_steps (map operand_view fields.now)) at.old at.new) }
     ensures names { OnOk result (Binds names.old.items names.new.items (names_in field_pattern_names (map operand_view fields.now))) }
     ensures goes { Goes at.old at.new }
 {
-    let mut record = Fields {
+    let mut begun = Fields {
         found,
         labels: Vec::new(at.alloc()),
     };
     for field in fields {
-        match_field(at, env, &mut record, *field, names, seen, depth)?;
+        match_field(at, env, &mut begun, *field, names, seen, depth)?;
     }
     Ok(())
 }
@@ -1030,12 +1036,14 @@ fn match_fields<'a>(
 fn match_field<'a>(
     at: &mut Parts,
     env: &Env,
-    record: &mut Fields<'a>,
+    begun: &mut Fields<'a>,
     field: Operand<'a>,
     names: &mut Vec<BoundName<'a>>,
     seen: &mut Mentioned<'a>,
     depth: Depth,
 ) -> Result<(), NoMemory>
+    ensures carries { OnOk result (MatchesFieldPart at.old at.new env.now (here_of begun.old.found) field.entry.number (operand_view field.entry).part (binds_of names.old.items) (binds_of names.new.items) (names_seen seen.old.items) (names_seen seen.new.items) (names_seen begun.old.labels.items) (names_seen begun.new.labels.items)) }
+    ensures found { OnOk result (here_of begun.new.found ≡ here_of begun.old.found) }
     ensures follows { OnOk result (Follows (field_pattern_steps (operand_view field.entry)) at.old at.new) }
     ensures names { OnOk result (Binds names.old.items names.new.items (field_pattern_names (operand_view field.entry))) }
     ensures goes { Goes at.old at.new }
@@ -1044,8 +1052,8 @@ fn match_field<'a>(
         return Ok(());
     };
     match first_operand(node, field.number, 3) {
-        Some(part) => match_written(at, env, record, field, part, names, seen, depth),
-        None => pun(at, env, record, field, names, seen),
+        Some(part) => match_written(at, env, begun, field, part, names, seen, depth),
+        None => pun(at, env, begun, field, names, seen),
     }
 }
 
@@ -1054,20 +1062,22 @@ fn match_field<'a>(
 fn match_written<'a>(
     at: &mut Parts,
     env: &Env,
-    record: &mut Fields<'a>,
+    begun: &mut Fields<'a>,
     field: Operand<'a>,
     part: Operand<'a>,
     names: &mut Vec<BoundName<'a>>,
     seen: &mut Mentioned<'a>,
     depth: Depth,
 ) -> Result<(), NoMemory>
+    ensures carries { OnOk result (MatchesWritten at.old at.new env.now (here_of begun.old.found) (path_as (path_at (operand_view field.entry).part)) (operand_view part.entry) (binds_of names.old.items) (binds_of names.new.items) (names_seen seen.old.items) (names_seen seen.new.items) (names_seen begun.old.labels.items) (names_seen begun.new.labels.items)) }
+    ensures found { OnOk result (here_of begun.new.found ≡ here_of begun.old.found) }
     ensures follows { OnOk result (Follows (asks_token FaultKind.Unique (path_at (operand_view field.entry).part).last ++ records field.entry.number ∷ pattern_steps (operand_view part.entry) ++ asks_equal (operand_view part.entry)) at.old at.new) }
     ensures names { OnOk result (Binds names.old.items names.new.items (pattern_names (operand_view part.entry))) }
     ensures goes { Goes at.old at.new }
 {
     let label = written_at(at, field)?;
-    let wanted = begin_field(at, record, &label)?;
-    note_label(at, field.number, env, &record.found, &label)?;
+    let wanted = begin_field(at, begun, &label)?;
+    note_label(at, field.number, env, &begun.found, &label)?;
     match_wanted(at, part, wanted, env, names, seen, depth.inside()?)
 }
 
@@ -1075,21 +1085,23 @@ fn match_written<'a>(
 fn pun<'a>(
     at: &mut Parts,
     env: &Env,
-    record: &mut Fields<'a>,
+    begun: &mut Fields<'a>,
     field: Operand<'a>,
     names: &mut Vec<BoundName<'a>>,
     seen: &mut Mentioned<'a>,
 ) -> Result<(), NoMemory>
+    ensures carries { OnOk result (PunsWritten at.old at.new (here_of begun.old.found) (path_as (path_at (operand_view field.entry).part)) (binds_of names.old.items) (binds_of names.new.items) (names_seen seen.old.items) (names_seen seen.new.items) (names_seen begun.old.labels.items) (names_seen begun.new.labels.items)) }
+    ensures found { OnOk result (here_of begun.new.found ≡ here_of begun.old.found) }
     ensures follows { OnOk result (Follows (asks_token FaultKind.Unique (path_at (operand_view field.entry).part).last ++ asks_token FaultKind.Unique (path_at (operand_view field.entry).part).last ++ records field.entry.number ∷ []) at.old at.new) }
     ensures names { OnOk result (Binds names.old.items names.new.items (name_of (path_at (operand_view field.entry).part).last)) }
     ensures goes { Goes at.old at.new }
 {
     let label = written_at(at, field)?;
-    let wanted = begin_field(at, record, &label)?;
+    let wanted = begin_field(at, begun, &label)?;
     pun_of(
         at,
         env,
-        &record.found,
+        &begun.found,
         &label,
         wanted,
         field.number,
@@ -1109,6 +1121,7 @@ fn pun_of<'a>(
     names: &mut Vec<BoundName<'a>>,
     seen: &mut Mentioned<'a>,
 ) -> Result<(), NoMemory>
+    ensures puns { OnOk result (Puns (path_view label.now).last at.old at.new (option_map (λ n. n.0) wanted) (binds_of names.old.items) (binds_of names.new.items) (names_seen seen.old.items) (names_seen seen.new.items)) }
     ensures follows { OnOk result (Follows (asks_token FaultKind.Unique (path_view label.now).last ++ records number ∷ []) at.old at.new) }
     ensures names { OnOk result (Binds names.old.items names.new.items (name_of (path_view label.now).last)) }
     ensures goes { Goes at.old at.new }
@@ -1133,6 +1146,7 @@ fn bind_label<'a>(
     names: &mut Vec<BoundName<'a>>,
     seen: &mut Mentioned<'a>,
 ) -> Result<(), NoMemory>
+    ensures binds { OnOk result (BindsLabel at.old at.new (tok_of token.now) ty (binds_of names.old.items) (binds_of names.new.items) (names_seen seen.old.items) (names_seen seen.new.items)) }
     ensures tells { OnOk result (TellsName (toks_of seen.old.items) (tok_of token.now) at.old at.new) }
     ensures seen { OnOk result (toks_of seen.new.items ≡ toks_of seen.old.items ++ tok_of token.now ∷ []) }
     ensures follows { OnOk result (Follows (asks FaultKind.Unique (place_of token.now.span ∷ []) ∷ records number ∷ []) at.old at.new) }

@@ -36,8 +36,16 @@ use Rattle.pattern_rows.proofs.Applied.{wanted_matches, constructor_applied, not
 use Rattle.pattern_rows.proofs.Matching.{operand_matches, nothing_matches, any_matches, constant_matches, minus_matches, tuple_matches, list_matches, cons_matches, as_matches, or_matches}
 use Rattle.pattern_rows.proofs.Ordered.{in_order_none, in_order_all}
 use Rattle.pattern_typing.proofs.Constructors.{head_constructor, constructed_follows, alone_follows}
-use Rattle.pattern_typing.proofs.Carrying.{if_ok, if_any, on_ok, none_of, tree_row, refused_row, any_row}
+use Rattle.pattern_typing.proofs.Carrying.{if_ok, if_any, on_ok, none_of, tree_row, any_row}
 use Rattle.pattern_typing.proofs.Stepping.{paren_row, as_patterns, order_step, beside_none, beside_step, beside_done, sides_compared}
+use Rattle.use_typing.specs.Uses.{GivenOrNew}
+use Rattle.record_rows.specs.Fields.{FieldsInOrderFirst}
+use Rattle.record_rows.specs.Operands.{IsCarriedField, MatchesRecord, fields_of}
+use Rattle.record_rows.proofs.Fields as fields
+use Rattle.record_rows.proofs.Nodes.{record_matches}
+use Rattle.pattern_typing.specs.Records.{here_of}
+use Rattle.pattern_typing.proofs.Recording as recording
+use Rattle.pattern_typing.proofs.Recording.{as_fields, field_by, field_step, written_done, punned_done, record_done}
 use Rattle.pattern_typing.specs.declared.patterns.TypedPart.{TypedPart}
 use Rattle.pattern_typing.proofs.Binding.{binds_both, binds_none}
 use Rattle.use_typing.proofs.Reading.{drop_read, map_push, list_done, follows_three}
@@ -127,6 +135,21 @@ match_fields-loop-field-preserved t c =
           c.match_field.ensures.goes c.in_ok-match_field.ensures.follows;
       names = binds_more c.loop-field.names.items c.match_field.new.names.items (field_pattern_names (operand_view x)) (names_in field_pattern_names (map operand_view (drop (i + 1) all))) (tokens_of c.args.names.now.items ++ names_in field_pattern_names (map operand_view all)) c.in_ok-match_field.ensures.names
           (subst (λ os. tokens_of c.loop-field.names.items ++ names_in field_pattern_names (map operand_view os) ≡ tokens_of c.args.names.now.items ++ names_in field_pattern_names (map operand_view all)) cut c.loop-field.invariant.names);
+      found = c.in_ok-match_field.ensures.found ∙ c.loop-field.invariant.found;
+      carries = field_step c.args.at.now c.loop-field.at c.match_field.new.at c.args.env.now c.args.found c.loop-field.begun.found all i x (binds_of c.args.names.now.items) (binds_of c.loop-field.names.items) (binds_of c.match_field.new.names.items) (names_seen c.args.seen.now.items) (names_seen c.loop-field.seen.items) (names_seen c.match_field.new.seen.items) (names_seen c.loop-field.begun.labels.items) (names_seen c.match_field.new.begun.labels.items)
+          lt c.field-item.is c.loop-field.invariant.goes c.loop-field.invariant.found c.loop-field.invariant.carries c.in_ok-match_field.ensures.carries;
+    }
+
+pub match_fields-loop-field-init : goal.match_fields-loop-field-init
+match_fields-loop-field-init t c =
+    let all = c.args.fields.now in
+    record {
+      goes = goes_refl c.args.at.now;
+      gets = gets_start (each field_pattern_steps (map operand_view all)) c.args.at.now;
+      names = refl;
+      found = refl;
+      carries = λ carried. subst (λ ls. FieldsInOrderFirst c.args.at.now c.args.at.now c.args.env.now (here_of c.args.found) (as_fields c.args.at.now.item all) (as_fields c.args.at.now.item all) (binds_of c.args.names.now.items) (binds_of c.args.names.now.items) (names_seen c.args.seen.now.items) (names_seen ls) (names_seen c.args.seen.now.items)) (sym c.new.ensures.items)
+          (fields.in_order_none c.args.at.now c.args.env.now (here_of c.args.found) (as_fields c.args.at.now.item all) (binds_of c.args.names.now.items) (names_seen c.args.seen.now.items));
     }
 
 pub match_fields-returns : goal.match_fields-returns
@@ -139,6 +162,8 @@ match_fields-returns t c =
           (subst (λ os. GetsOn c.args.at.now c.loop-field.at (each field_pattern_steps (map operand_view all)) (each field_pattern_steps (map operand_view os))) none c.loop-field.invariant.gets);
       names = binds_done c.args.names.now.items c.loop-field.names.items (names_in field_pattern_names (map operand_view all)) (names_in field_pattern_names (map operand_view (drop i all))) (ap (λ os. names_in field_pattern_names (map operand_view os)) none) c.loop-field.invariant.names;
       goes = c.loop-field.invariant.goes;
+      carries = λ carried. fields.in_order_all c.args.at.now c.loop-field.at c.args.env.now (here_of c.args.found) (as_fields c.args.at.now.item all) (as_fields c.args.at.now.item (drop i all)) (binds_of c.args.names.now.items) (binds_of c.loop-field.names.items) (names_seen c.args.seen.now.items) (names_seen c.loop-field.begun.labels.items) (names_seen c.loop-field.seen.items)
+          (ap (as_fields c.args.at.now.item) none) (c.loop-field.invariant.carries carried);
     }
 
 pub match_pattern-returns-in-Some : goal.match_pattern-returns-in-Some
@@ -176,7 +201,7 @@ match_node-returns-in-Precord t c = record {
   names = row_names c.«record».result c.args.number c.args.node.now row_name.Precord precord_row c.args.names.now.items c.«record».new.names.items c.in-Precord.is refl c.«record».ensures.names;
   recorded = c.«record».ensures.recorded;
   goes = c.«record».ensures.goes;
-  carries = if_any c.«record».result _ (λ m place carried. absurd (refused_row (node_view c.args.node.now) precord_row (λ ps h. h) (tree_row c.args.node.now row_name.Precord precord_row c.in-Precord.is refl) carried.rows));
+  carries = if_ok c.«record».result _ _ (λ m h. h (tree_row c.args.node.now row_name.Precord precord_row c.in-Precord.is refl)) c.«record».ensures.carries;
 }
 
 pub match_node-returns-in-Por : goal.match_node-returns-in-Por
@@ -294,7 +319,7 @@ match_node-returns-in_default t c =
       recorded = c.anything.ensures.recorded;
       goes = c.anything.ensures.goes;
       carries = if_ok c.anything.result _ _ (λ m h place carried. any_matches c.args.at.now c.anything.new.at c.args.env.now n (node_view nd) m (binds_of c.args.names.now.items) (names_seen c.args.seen.now.items) h
-          (any_row nd carried.rows c.in_default.not-Papp c.in_default.not-Pcon c.in_default.not-Por c.in_default.not-Pparen c.in_default.not-Plist c.in_default.not-Pcons c.in_default.not-Ptuple c.in_default.not-Pas c.in_default.not-Pname c.in_default.not-Pconst c.in_default.not-Pneg) place carried) c.anything.ensures.carries;
+          (any_row nd carried.rows c.in_default.not-Papp c.in_default.not-Pcon c.in_default.not-Por c.in_default.not-Pparen c.in_default.not-Plist c.in_default.not-Pcons c.in_default.not-Ptuple c.in_default.not-Pas c.in_default.not-Pname c.in_default.not-Pconst c.in_default.not-Pneg c.in_default.not-Precord) place carried) c.anything.ensures.carries;
     }
 
 pub match_field-returns-in_default : goal.match_field-returns-in_default
@@ -302,6 +327,8 @@ match_field-returns-in_default t c = record {
   follows = subst (λ ss. Follows ss c.args.at.now c.args.at.now) (sym (field_missing c.args.field c.in_default.is)) (follows_none c.args.at.now c.args.at.now refl);
   names = subst (λ ts. Binds c.args.names.now.items c.args.names.now.items ts) (sym (field_names_missing c.args.field c.in_default.is)) (binds_none c.args.names.now.items);
   goes = goes_refl c.args.at.now;
+  carries = recording.field_missing c.args.at.now c.args.env.now c.args.begun.now.found c.args.field (binds_of c.args.names.now.items) (names_seen c.args.seen.now.items) (names_seen c.args.begun.now.labels.items) c.in_default.is;
+  found = refl;
 }
 
 pub match_field-returns-in-Some-first_operand : goal.match_field-returns-in-Some-first_operand
@@ -311,6 +338,9 @@ match_field-returns-in-Some-first_operand t c =
       follows = subst (λ ss. OnOk c.match_written.result (Follows ss c.args.at.now c.match_written.new.at)) (sym (field_written c.args.field c.in-Some.node (operand_view c.in-Some-first_operand.part) c.in-Some.is first)) c.match_written.ensures.follows;
       names = subst (λ ts. OnOk c.match_written.result (Binds c.args.names.now.items c.match_written.new.names.items ts)) (sym (field_names_written c.args.field c.in-Some.node (operand_view c.in-Some-first_operand.part) c.in-Some.is first)) c.match_written.ensures.names;
       goes = c.match_written.ensures.goes;
+      carries = field_by c.match_written.result c.args.at.now c.match_written.new.at c.args.env.now c.args.begun.now.found c.args.field c.in-Some.node (Some (operand_view c.in-Some-first_operand.part)) (binds_of c.args.names.now.items) (binds_of c.match_written.new.names.items) (names_seen c.args.seen.now.items) (names_seen c.match_written.new.seen.items) (names_seen c.args.begun.now.labels.items) (names_seen c.match_written.new.begun.labels.items)
+          c.in-Some.is first c.match_written.ensures.carries;
+      found = c.match_written.ensures.found;
     }
 
 pub match_field-returns-in-None : goal.match_field-returns-in-None
@@ -320,6 +350,9 @@ match_field-returns-in-None t c =
       follows = subst (λ ss. OnOk c.pun.result (Follows ss c.args.at.now c.pun.new.at)) (sym (field_alone c.args.field c.in-Some.node c.in-Some.is first)) c.pun.ensures.follows;
       names = subst (λ ts. OnOk c.pun.result (Binds c.args.names.now.items c.pun.new.names.items ts)) (sym (field_names_alone c.args.field c.in-Some.node c.in-Some.is first)) c.pun.ensures.names;
       goes = c.pun.ensures.goes;
+      carries = field_by c.pun.result c.args.at.now c.pun.new.at c.args.env.now c.args.begun.now.found c.args.field c.in-Some.node None (binds_of c.args.names.now.items) (binds_of c.pun.new.names.items) (names_seen c.args.seen.now.items) (names_seen c.pun.new.seen.items) (names_seen c.args.begun.now.labels.items) (names_seen c.pun.new.begun.labels.items)
+          c.in-Some.is first c.pun.ensures.carries;
+      found = c.pun.ensures.found;
     }
 
 pub in_brackets-returns : goal.in_brackets-returns
@@ -563,6 +596,13 @@ record-returns t c =
       names = record_binds n tree os c.args.names.now.items c.match_record.new.names.items same c.in_ok-ty.ensures.names;
       recorded = c.in_ok-note_type.ensures.recorded;
       goes = goes_trans c.args.at.now c.match_record.new.at c.note_type.new.self c.match_record.ensures.goes c.note_type.ensures.goes;
+      carries =
+          let xs = binds_of c.args.names.now.items in
+          let ys = binds_of c.match_record.new.names.items in
+          let before = names_seen c.args.seen.now.items in
+          let after = names_seen c.match_record.new.seen.items in
+          record_matches c.args.at.now c.match_record.new.at c.note_type.new.self c.args.env.now n tree c.in_ok-ty.ty xs ys before after
+          (subst (λ qs. All IsCarriedField qs → MatchesRecord c.args.at.now c.match_record.new.at c.args.env.now (fields_of c.args.at.now.item qs) xs ys before after c.in_ok-ty.ty.0) same c.in_ok-ty.ensures.carries) c.match_record.ensures.goes c.in_ok-note_type.ensures.noted c.note_type.ensures.rest;
     }
 
 pub match_wanted-returns : goal.match_wanted-returns
@@ -588,6 +628,9 @@ match_written-returns t c =
           (goes_trans c.begin_field.new.at c.note_label.new.at c.match_wanted.new.at c.note_label.ensures.goes c.match_wanted.ensures.goes)
           (ends_both c.match_wanted.result (r ∷ []) (y ++ z) c.begin_field.new.at c.note_label.new.at c.match_wanted.new.at c.in_ok-note_label.ensures.follows c.match_wanted.ensures.goes c.match_wanted.ensures.follows));
       names = c.match_wanted.ensures.names;
+      found = on_any c.match_wanted.result _ (ap here_of c.begin_field.ensures.found);
+      carries = written_done c.match_wanted.result c.args.at.now c.begin_field.new.at c.note_label.new.at c.match_wanted.new.at c.args.env.now c.args.begun.now.found (path_view c.in_ok-label.label) (path_at (operand_view c.args.field).part) (operand_view c.args.part) c.in_ok-wanted.wanted (binds_of c.args.names.now.items) (binds_of c.match_wanted.new.names.items) (names_seen c.args.seen.now.items) (names_seen c.match_wanted.new.seen.items) c.args.begun.now.labels.items c.begin_field.new.fields.labels.items
+          c.in_ok-label.ensures c.in_ok-wanted.ensures.carries c.begin_field.ensures.goes c.in_ok-note_label.ensures.carries c.note_label.ensures.goes c.in_ok-wanted.ensures.seen c.match_wanted.ensures.carries;
       goes = goes_trans c.args.at.now c.begin_field.new.at c.match_wanted.new.at c.begin_field.ensures.goes (goes_trans c.begin_field.new.at c.note_label.new.at c.match_wanted.new.at c.note_label.ensures.goes c.match_wanted.ensures.goes);
     }
 
@@ -602,7 +645,18 @@ match_record-returns t c =
           c.match_fields.ensures.goes c.in_ok-match_fields.ensures.follows;
       names = c.in_ok-match_fields.ensures.names;
       goes = goes_trans c.args.at.now c.note_missing.new.at c.match_fields.new.at c.note_missing.ensures.goes (goes_trans c.note_missing.new.at c.type_or_var.new.at c.match_fields.new.at read c.match_fields.ensures.goes);
+      carries =
+          let e = c.record_of_fields.new.at in
+          let v = c.type_or_var.new.at in
+          record_done c.args.at.now c.note_missing.new.at e v c.match_fields.new.at c.args.env.now os c.in_ok-found.found c.in_ok-ty.ty (binds_of c.args.names.now.items) (binds_of c.match_fields.new.names.items) (names_seen c.args.seen.now.items) (names_seen c.match_fields.new.seen.items)
+          c.in_ok-note_missing.ensures.notes c.note_missing.ensures.goes c.in_ok-found.ensures.carries c.record_of_fields.ensures.goes (subst (λ o. GivenOrNew o e v c.in_ok-ty.ty) c.ty.ensures c.in_ok-ty.ensures.ty) (λ same. c.in_ok-ty.ensures.carries (c.ty.ensures ∙ same)) c.type_or_var.ensures.goes
+          c.in_ok-match_fields.ensures.carries;
     }
+
+pub match_record-returns-in_err-match_fields-clause-goes : goal.match_record-returns-in_err-match_fields-clause-goes
+match_record-returns-in_err-match_fields-clause-goes t c =
+    let read = goes_trans c.note_missing.new.at c.record_of_fields.new.at c.type_or_var.new.at c.record_of_fields.ensures.goes c.type_or_var.ensures.goes in
+    goes_trans c.args.at.now c.note_missing.new.at c.match_fields.new.at c.note_missing.ensures.goes (goes_trans c.note_missing.new.at c.type_or_var.new.at c.match_fields.new.at read c.match_fields.ensures.goes)
 
 pub match_side-returns-clause-side : goal.match_side-returns-clause-side
 match_side-returns-clause-side t c =

@@ -8,6 +8,9 @@ use Rattle.pattern_rows.specs.CarriedPatterns.{IsCarriedPattern}
 use Rattle.pattern_rows.specs.Contracts.{patterns_of, InOrderFirst}
 use Rattle.pattern_typing.proofs.Stepping.{BesideFirst}
 use Rattle.std.specs.Prelude.{All}
+use Rattle.record_rows.specs.Fields.{FieldsInOrderFirst}
+use Rattle.record_rows.specs.Operands.{IsCarriedField, fields_of}
+use Rattle.pattern_typing.specs.Records.{here_of}
 use Rattle.pattern_typing.proofs.patterns.+patterns.Given as goal
 
 abbrev pub decreases-match_pattern : goal.decreases-match_pattern
@@ -102,4 +105,6 @@ invariant-match_fields-loop-field l = record {
   goes : Goes l.fn.at l.at;
   gets : GetsOn l.fn.at l.at (each field_pattern_steps (map operand_view l.fields)) (each field_pattern_steps (map operand_view (drop l.field-index l.fields)));
   names : tokens_of l.names.items ++ names_in field_pattern_names (map operand_view (drop l.field-index l.fields)) ≡ tokens_of l.fn.names.items ++ names_in field_pattern_names (map operand_view l.fields);
+  found : here_of l.begun.found ≡ here_of l.fn.found;
+  carries : All IsCarriedField (map operand_view l.fields) → FieldsInOrderFirst l.fn.at l.at l.env (here_of l.fn.found) (fields_of l.fn.at.item (map operand_view l.fields)) (fields_of l.fn.at.item (map operand_view (drop l.field-index l.fields))) (binds_of l.fn.names.items) (binds_of l.names.items) (names_seen l.fn.seen.items) (names_seen l.begun.labels.items) (names_seen l.seen.items);
 }
