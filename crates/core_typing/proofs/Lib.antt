@@ -3,3 +3,7 @@ pub mod GroupLaws
 pub mod BindingLaws
 pub mod RecordLaws
 pub mod CaseLaws
+pub mod ClosingLaws
+pub mod LetLaws
+pub mod LabelLaws
+pub mod RecordCarrying

@@ -1,15 +1,33 @@
 //! Bindings: their demands in order, and their names with generalised types.
 #![tactic(auto, using(typing_state::proofs::Going::goes_trans, typing_state::proofs::Going::goes_refl, typing_state::proofs::Following::follows_both, typing_state::proofs::Following::follows_then, typing_state::proofs::Following::follows_before, typing_state::proofs::Following::follows_behind, typing_state::proofs::Following::follows_none, typing_state::proofs::Following::follows_silent, typing_state::proofs::Following::store_silent, typing_state::proofs::Following::silent_refl, typing_state::proofs::Following::silent_trans, typing_state::proofs::Following::ends_both, typing_state::proofs::Following::ends_behind, typing_state::proofs::Following::ends_before, typing_state::proofs::Following::ends_silent, typing_state::proofs::Following::gets_start, typing_state::proofs::Following::gets_more, typing_state::proofs::Following::gets_before, typing_state::proofs::Following::gets_done))]
 
-ghost use Rattle.std.specs.Prelude.{◌≡◌, [], ◌∷◌, ◌++◌, map, option_map, is_some, IfOk, OnOk};
+ghost use Rattle.std.specs.Prelude.{◌≡◌, ◌+◌, ◌-◌, ◌^◌, ◌<◌, ℕ, [], ◌∷◌, ◌++◌, map, option_map, is_some, None, IfOk, OnOk, OnErr};
+ghost use Rattle.tree_model.specs.Trees.{Place};
 ghost use Rattle.syntax_tree.specs.View.{node_view, place_of};
 ghost use Rattle.row_parts.specs.Numbered.{operand_view, filled_in};
+ghost use Rattle.type_nodes.specs.Views.{numbers};
+ghost use Rattle.operand_laws.specs.Operands.{number_of, pattern_of};
 ghost use Rattle.env_table.specs.declared.faults.FaultKind.{FaultKind};
 ghost use Rattle.typing_state.specs.Goes.{Goes};
 ghost use Rattle.typing_state.specs.Steps.{asks, each, records, Follows, Silent};
+ghost use Rattle.typing_steps.specs.Typing.{TypesRow};
+ghost use Rattle.typing_steps.specs.Warning.{OnlyWarnings};
+ghost use Rattle.typing_rows.specs.Asked.{row_expression};
+ghost use Rattle.pattern_typing.specs.Matching.{binds_of, names_seen};
+ghost use Rattle.pattern_rows.specs.CarriedPatterns.{IsCarriedPattern};
+ghost use Rattle.pattern_rows.specs.Contracts.{Matches};
+ghost use Rattle.case_rows.specs.Scopes.{names_added};
+ghost use Rattle.binding_rows.specs.Groups.{names_opened};
+ghost use Rattle.binding_rows.specs.Carried.{node_there, nodes_there};
+ghost use Rattle.binding_rows.specs.Decided.{IsLetNode, JudgesGroup, JudgesNode, JudgesNodes, JudgesOperand, JudgesOperands};
+ghost use Rattle.binding_rows.specs.Operands.{AsksWholeOf, ConcludesNode, ConcludesNodes, MakesWholeOf, OpensOperand, OpensOperands, ReadsAnnotationOf, RecordsRightNode, TypesGroupNode, TypesInTurn, TypesRightBodyOf, TypesRightNode, TypesRightOf, TypesTogether, TypesTurnNode, TypesTurnOperand};
+ghost use Rattle.binding_rows.specs.Closing.{GeneralisesAll, LimitsNodes};
+ghost use Rattle.binding_rows.specs.Lets.{limited_nodes, names_closed};
+ghost use Rattle.binding_rows.specs.LetNodes.{ClosesBindings};
 ghost use Rattle.expression_steps.specs.declared.forms.RowForm.{RowForm};
 ghost use Rattle.pattern_steps.specs.PatternSteps.{pattern_steps};
 ghost use Rattle.expression_steps.specs.ExpressionSteps.{bindings_at, bound_pattern, concluded_steps, expression_at, opened_steps, right_at, right_steps, steps_as, turn_steps, type_steps_if, typed_as_written, asks_equal_written, whole_steps};
+ghost use Rattle.core_typing.specs.Bindings.{Concludes, TypesItemGroup, closing_of, generals, name_nodes, node_of, opened_of, typed_of};
 ghost use Rattle.core_typing.specs.Concluding.{conclusion};
 
 use crate::exprs::type_under;
@@ -19,11 +37,15 @@ use match_warnings::report_pattern;
 use owned_lists::push;
 use pattern_typing::{BoundName, Matched, Mentioned, type_pattern};
 use row_parts::{Operand, first_operand, operand_in, operands, token};
+use std::alloc::AllocError;
 use std::rc::Rc;
 use syntax_tree::Node;
 use type_expressions::{Variables, read_type};
 use typing_state::{Depth, Entry, Env, NO_SCOPE, NoMemory, NodeRef, Parts, Verdict, share_entry};
 use use_typing::{Sign, Used, note_missing, unnamed};
+
+/// The highest level of a variable; the one above it is that of bound variables.
+const HIGHEST: u32 = 4_294_967_294;
 
 /// A binding that is there, with its number.
 #[derive(Clone, Copy)]
@@ -88,11 +110,13 @@ pub fn let_in(
     env: &Env,
     depth: Depth,
 ) -> Result<Used, NoMemory>
+    ensures carries { IfOk result (λ u. (place : Place) → IsLetNode number (node_view node.now) → TypesRow at.old at.new env.now (λ c. (row_expression at.old.item number place (node_view node.now)).typed c) (number_of at.old.item number) u.ty.0) }
     ensures follows { OnOk result (Follows (steps_as RowForm.Let number (node_view node.now)) at.old at.new) }
     ensures goes { Goes at.old at.new }
 {
+    raise(at)?;
     let bound = type_group(at, node, number, env, depth)?;
-    let behind = close(at, &bound, env, NO_SCOPE)?;
+    let behind = close(at, &bound, env, None)?;
     let body = operand_in(node, number, 5);
     let ty = type_under(at, body, Sign::None, &behind.env, depth.inside()?)?;
     Ok(unnamed(at, ty))
@@ -106,14 +130,32 @@ pub fn type_bindings(
     env: &Env,
     depth: Depth,
 ) -> Result<Behind, NoMemory>
+    ensures carries { IfOk result (λ e. TypesItemGroup at.old at.new env.now e.env number (node_view item.now)) }
     ensures follows { OnOk result (Follows (bindings_at number (node_view item.now)) at.old at.new) }
     ensures goes { Goes at.old at.new }
 {
+    raise(at)?;
     let bound = type_group(at, item, number, env, depth)?;
-    close(at, &bound, env, at.node_number(number))
+    let scope = at.node_number(number);
+    close(at, &bound, env, Some(scope))
 }
 
-/// The group of a `let`; its bindings stand in slot 2. Those that are missing come first. It is left open, one level further in.
+/// Begins a group of bindings: what is typed until `close` is one level further in. It fails where no level is left, which the limit of 512
+/// on the height of trees rules out; then nothing has changed.
+fn raise(at: &mut Parts) -> Result<(), NoMemory>
+    ensures raised { OnOk result ((at.new ≡ record at.old { level = at.old.level + 1 }) × (at.old.level + 1 < 2 ^ 32 - 1)) }
+    ensures failed { OnErr result (at.new ≡ at.old) }
+    ensures silent { Silent at.old at.new }
+    ensures goes { Goes at.old at.new }
+{
+    if at.level >= HIGHEST {
+        return Err(AllocError);
+    }
+    at.level += 1;
+    Ok(())
+}
+
+/// The group of a `let`, at the level that `raise` has raised; its bindings are in slot 2. Those that are missing come first. `close` ends it.
 #[cycle(exprs)]
 fn type_group<'a>(
     at: &mut Parts,
@@ -122,10 +164,11 @@ fn type_group<'a>(
     env: &Env,
     depth: Depth,
 ) -> Result<Vec<Bound<'a>>, NoMemory>
+    ensures carries { IfOk result (λ bs. TypesGroupNode at.old at.new env.now number (node_view node.now) (map typed_of bs.items)) }
+    ensures general { IfOk result (λ bs. JudgesGroup number (node_view node.now) (generals bs.items)) }
     ensures follows { OnOk result (Follows (bindings_at number (node_view node.now)) at.old at.new) }
     ensures goes { Goes at.old at.new }
 {
-    at.level = at.level.saturating_add(1);
     let bindings = operands(at.alloc(), node, number, 2)?;
     note_missing(at, &bindings, env)?;
     match token(node, 1) {
@@ -142,6 +185,8 @@ fn in_turn<'a>(
     env: &Env,
     depth: Depth,
 ) -> Result<Vec<Bound<'a>>, NoMemory>
+    ensures carries { IfOk result (λ bs. TypesInTurn at.old at.new env.now (map operand_view bindings.now) (map typed_of bs.items)) }
+    ensures general { IfOk result (λ bs. JudgesOperands (map operand_view bindings.now) (generals bs.items)) }
     ensures follows { OnOk result (Follows (each (λ b. turn_steps (expression_at b)) (map operand_view bindings.now)) at.old at.new) }
     ensures goes { Goes at.old at.new }
 {
@@ -163,6 +208,8 @@ fn take_turn<'a>(
     env: &Env,
     depth: Depth,
 ) -> Result<(), NoMemory>
+    ensures carries { OnOk result (TypesTurnOperand at.old at.new env.now (operand_view binding.entry) (names_seen seen.old.items) (names_seen seen.new.items) (map typed_of bound.old.items) (map typed_of bound.new.items)) }
+    ensures general { OnOk result (JudgesOperand (operand_view binding.entry) (generals bound.old.items) (generals bound.new.items)) }
     ensures follows { OnOk result (Follows (turn_steps (expression_at (operand_view binding.entry))) at.old at.new) }
     ensures goes { Goes at.old at.new }
 {
@@ -186,6 +233,8 @@ fn turn<'a>(
     env: &Env,
     depth: Depth,
 ) -> Result<Bound<'a>, NoMemory>
+    ensures carries { IfOk result (λ b. TypesTurnNode at.old at.new env.now binding.entry.number (node_view binding.entry.node.now) (names_seen seen.old.items) (names_seen seen.new.items) (typed_of b)) }
+    ensures general { IfOk result (λ b. JudgesNode binding.entry.number (node_view binding.entry.node.now) b.generalises) }
     ensures follows { OnOk result (Follows ((records binding.entry.number ∷ right_at binding.entry.number (node_view binding.entry.node.now)) ++ pattern_steps (bound_pattern binding.entry.number (node_view binding.entry.node.now)) ++ whole_steps (bound_pattern binding.entry.number (node_view binding.entry.node.now))) at.old at.new) }
     ensures goes { Goes at.old at.new }
 {
@@ -202,6 +251,7 @@ fn recorded_right(
     env: &Env,
     depth: Depth,
 ) -> Result<RightSide, NoMemory>
+    ensures carries { IfOk result (λ s. RecordsRightNode at.old at.new env.now binding.entry.number (node_view binding.entry.node.now) s.right.0 s.whole.0) }
     ensures follows { OnOk result (Follows (records binding.entry.number ∷ right_at binding.entry.number (node_view binding.entry.node.now)) at.old at.new) }
     ensures goes { Goes at.old at.new }
 {
@@ -217,6 +267,8 @@ fn together<'a>(
     env: &Env,
     depth: Depth,
 ) -> Result<Vec<Bound<'a>>, NoMemory>
+    ensures carries { IfOk result (λ bs. TypesTogether at.old at.new env.now (map operand_view bindings.now) (map typed_of bs.items)) }
+    ensures general { IfOk result (λ bs. JudgesOperands (map operand_view bindings.now) (generals bs.items)) }
     ensures follows { OnOk result (Follows (each opened_steps (map operand_view bindings.now) ++ each (λ b. concluded_steps (expression_at b)) (map operand_view bindings.now)) at.old at.new) }
     ensures goes { Goes at.old at.new }
 {
@@ -234,6 +286,8 @@ fn conclude_all<'a>(
     env: &Env,
     depth: Depth,
 ) -> Result<Vec<Bound<'a>>, NoMemory>
+    ensures carries { IfOk result (λ bs. ConcludesNodes at.old at.new within.now (map node_of opened.entry.items) (map opened_of opened.entry.items) (map typed_of bs.items)) }
+    ensures general { IfOk result (λ bs. JudgesNodes (map node_of opened.entry.items) (generals bs.items)) }
     ensures follows { OnOk result (Follows (each conclusion opened.entry.items) at.old at.new) }
     ensures goes { Goes at.old at.new }
 {
@@ -256,6 +310,8 @@ fn conclude_one<'a>(
     env: &Env,
     depth: Depth,
 ) -> Result<Bound<'a>, NoMemory>
+    ensures carries { IfOk result (λ b. ConcludesNode at.old at.new within.now (node_of opened.entry).number (node_of opened.entry).tree (opened_of opened.entry) (typed_of b)) }
+    ensures general { IfOk result (λ b. JudgesNode (node_of opened.entry).number (node_of opened.entry).tree b.generalises) }
     ensures follows { OnOk result (Follows (conclusion opened.entry) at.old at.new) }
     ensures goes { Goes at.old at.new }
 {
@@ -273,6 +329,7 @@ fn type_right(
     env: &Env,
     depth: Depth,
 ) -> Result<RightSide, NoMemory>
+    ensures carries { IfOk result (λ s. TypesRightNode at.old at.new within.now binding.entry.number (node_view binding.entry.node.now) s.right.0 s.whole.0) }
     ensures follows { OnOk result (Follows (right_at binding.entry.number (node_view binding.entry.node.now)) at.old at.new) }
     ensures goes { Goes at.old at.new }
 {
@@ -292,6 +349,7 @@ fn right_of(
     env: &Env,
     depth: Depth,
 ) -> Result<RightSide, NoMemory>
+    ensures carries { IfOk result (λ s. TypesRightOf at.old at.new within.now (map operand_view given.now) (option_map operand_view written.entry) (operand_view body.entry) s.right.0 s.whole.0) }
     ensures follows { OnOk result (Follows (right_steps (map operand_view given.now) (option_map operand_view written.entry) (expression_at (operand_view body.entry))) at.old at.new) }
     ensures goes { Goes at.old at.new }
 {
@@ -311,6 +369,7 @@ fn typed_body(
     env: &Env,
     depth: Depth,
 ) -> Result<RightSide, NoMemory>
+    ensures carries { IfOk result (λ s. TypesRightBodyOf at.old at.new inner.now (operand_view body.entry) (option_map (λ n. n.0) annotation) (numbers parameters.now) s.right.0 s.whole.0) }
     ensures follows { OnOk result (Follows (typed_as_written annotation (expression_at (operand_view body.entry))) at.old at.new) }
     ensures goes { Goes at.old at.new }
 {
@@ -326,6 +385,7 @@ fn annotation_of(
     within: &Env,
     depth: Depth,
 ) -> Result<Option<NodeRef>, NoMemory>
+    ensures carries { IfOk result (λ ty. ReadsAnnotationOf at.old at.new within.now (option_map operand_view written.entry) (option_map (λ n. n.0) ty)) }
     ensures follows { OnOk result (Follows (type_steps_if (option_map operand_view written.entry)) at.old at.new) }
     ensures there { IfOk result (λ ty. is_some ty ≡ is_some written.entry) }
     ensures goes { Goes at.old at.new }
@@ -348,6 +408,7 @@ fn whole(
     parameters: &[NodeRef],
     env: &Env,
 ) -> Result<NodeRef, NoMemory>
+    ensures carries { IfOk result (λ m. MakesWholeOf at.old at.new (operand_view body.entry) (option_map (λ n. n.0) annotation) (numbers parameters.now) right.0 m.0) }
     ensures follows { OnOk result (Follows (asks_equal_written annotation (operand_view body.entry)) at.old at.new) }
     ensures goes { Goes at.old at.new }
 {
@@ -367,6 +428,8 @@ fn open_all<'a>(
     env: &Env,
     depth: Depth,
 ) -> Result<Vec<Opened<'a>>, NoMemory>
+    ensures carries { IfOk result (λ all. OpensOperands at.old at.new env.now (map operand_view bindings.now) (map opened_of all.items)) }
+    ensures nodes { IfOk result (λ all. map node_of all.items ≡ nodes_there (map operand_view bindings.now)) }
     ensures follows { OnOk result (Follows (each opened_steps (map operand_view bindings.now)) at.old at.new) }
     ensures left { IfOk result (λ os. each conclusion os.items ≡ each (λ b. concluded_steps (expression_at b)) (map operand_view bindings.now)) }
     ensures goes { Goes at.old at.new }
@@ -388,6 +451,8 @@ fn open_if<'a>(
     env: &Env,
     depth: Depth,
 ) -> Result<(), NoMemory>
+    ensures carries { OnOk result (OpensOperand at.old at.new env.now (operand_view binding.entry) (names_seen seen.old.items) (names_seen seen.new.items) (map opened_of all.old.items) (map opened_of all.new.items)) }
+    ensures nodes { OnOk result (map node_of all.new.items ≡ map node_of all.old.items ++ node_there (operand_view binding.entry).number (operand_view binding.entry).part) }
     ensures follows { OnOk result (Follows (opened_steps (operand_view binding.entry)) at.old at.new) }
     ensures left { OnOk result (each conclusion all.new.items ≡ each conclusion all.old.items ++ concluded_steps (expression_at (operand_view binding.entry))) }
     ensures goes { Goes at.old at.new }
@@ -412,6 +477,7 @@ fn open_pattern<'a>(
     env: &Env,
     depth: Depth,
 ) -> Result<Opened<'a>, NoMemory>
+    ensures carries { IfOk result (λ o. IsCarriedPattern (bound_pattern binding.entry.number (node_view binding.entry.node.now)) → Matches at.old at.new env.now (pattern_of at.old.item (bound_pattern binding.entry.number (node_view binding.entry.node.now))) [] (binds_of o.matched.names.items) (names_seen seen.old.items) (names_seen seen.new.items) o.matched.ty.0) }
     ensures follows { OnOk result (Follows (pattern_steps (bound_pattern binding.entry.number (node_view binding.entry.node.now))) at.old at.new) }
     ensures binding { IfOk result (λ o. o.binding ≡ binding.entry) }
     ensures goes { Goes at.old at.new }
@@ -426,7 +492,9 @@ fn open_pattern<'a>(
 }
 
 /// The environment outside with the names of the group's patterns.
-fn with_group(at: &Parts, opened: &[Opened<'_>], env: &Env) -> Result<Env, NoMemory> {
+fn with_group(at: &Parts, opened: &[Opened<'_>], env: &Env) -> Result<Env, NoMemory>
+    ensures scope { IfOk result (λ within. within ≡ names_added (names_opened (map opened_of opened.now)) env.now) }
+{
     let mut within = env.share()?;
     for one in opened {
         within = with_names(at.alloc(), &one.matched.names, &within)?;
@@ -442,6 +510,7 @@ fn conclude<'a>(
     env: &Env,
     depth: Depth,
 ) -> Result<Bound<'a>, NoMemory>
+    ensures carries { IfOk result (λ b. Concludes at.old at.new opened.entry side b) }
     ensures follows { OnOk result (Follows (whole_steps (bound_pattern opened.entry.binding.number (node_view opened.entry.binding.node.now))) at.old at.new) }
     ensures goes { Goes at.old at.new }
 {
@@ -455,7 +524,9 @@ fn conclude<'a>(
 }
 
 /// Whether a right side is non-expansive.
-fn is_general(at: &Parts, binding: Binding<'_>, env: &Env, depth: Depth) -> Result<bool, NoMemory> {
+fn is_general(at: &Parts, binding: Binding<'_>, env: &Env, depth: Depth) -> Result<bool, NoMemory>
+    ensures general { IfOk result (λ b. JudgesNode binding.entry.number (node_view binding.entry.node.now) b) }
+{
     if has_parameters(binding.node, binding.number) {
         return Ok(true);
     }
@@ -470,6 +541,7 @@ fn pattern_has(
     env: &Env,
     depth: Depth,
 ) -> Result<(), NoMemory>
+    ensures carries { OnOk result (AsksWholeOf at.old at.new (bound_pattern opened.now.binding.number (node_view opened.now.binding.node.now)) opened.now.matched.ty.0 whole.0) }
     ensures follows { OnOk result (Follows (whole_steps (bound_pattern opened.now.binding.number (node_view opened.now.binding.node.now))) at.old at.new) }
     ensures goes { Goes at.old at.new }
 {
@@ -487,6 +559,7 @@ fn warn_pattern(
     env: &Env,
     depth: Depth,
 ) -> Result<(), NoMemory>
+    ensures warns { OnOk result (OnlyWarnings at.old at.new) }
     ensures follows { OnOk result (Follows (asks FaultKind.Missed (place_of pattern.entry.span ∷ []) ∷ []) at.old at.new) }
     ensures goes { Goes at.old at.new }
 {
@@ -497,8 +570,15 @@ fn warn_pattern(
 }
 
 /// Closes a group. What stands in the types of right sides that are expansive, and of their names, is held; the types of names get
-/// this scope at most, and their variables are generalised.
-fn close(at: &mut Parts, bound: &[Bound<'_>], env: &Env, scope: u64) -> Result<Behind, NoMemory>
+/// this scope at most, where one is given, and their variables are generalised.
+fn close(
+    at: &mut Parts,
+    bound: &[Bound<'_>],
+    env: &Env,
+    scope: Option<u64>,
+) -> Result<Behind, NoMemory>
+    ensures carries { OnOk result (scope ≡ None → ClosesBindings at.old at.new (map closing_of bound.now)) }
+    ensures names { IfOk result (λ e. e.env ≡ names_added (names_closed (map closing_of bound.now)) env.now) }
     ensures silent { Silent at.old at.new }
     ensures goes { Goes at.old at.new }
 {
@@ -511,6 +591,8 @@ fn close(at: &mut Parts, bound: &[Bound<'_>], env: &Env, scope: u64) -> Result<B
         close_names(at, &one.matched.names, scope, &mut entries)?;
         behind = with_names(at.alloc(), &one.matched.names, &behind)?;
     }
+    // the store is sound, as its length makes known
+    let _nodes = at.store.len();
     Ok(Behind {
         env: behind,
         entries,
@@ -519,20 +601,32 @@ fn close(at: &mut Parts, bound: &[Bound<'_>], env: &Env, scope: u64) -> Result<B
 
 /// The variables in expansive right sides, and in the types of their names, aren't generalised.
 fn hold_all(at: &mut Parts, bound: &[Bound<'_>], level: u32) -> Result<(), NoMemory>
+    ensures limits { OnOk result (LimitsNodes at.old at.new level (limited_nodes (map closing_of bound.now))) }
     ensures silent { Silent at.old at.new }
     ensures goes { Goes at.old at.new }
 {
     for one in bound {
-        if !one.generalises {
-            at.limit(one.right, level, NO_SCOPE)?;
-            hold(at, &one.matched.names, level)?;
-        }
+        hold_one(at, one, level)?;
     }
     Ok(())
 }
 
+/// The same for one right side and its names.
+fn hold_one(at: &mut Parts, one: &Bound<'_>, level: u32) -> Result<(), NoMemory>
+    ensures limits { OnOk result (LimitsNodes at.old at.new level (limited_nodes (closing_of one.now ∷ []))) }
+    ensures silent { Silent at.old at.new }
+    ensures goes { Goes at.old at.new }
+{
+    if one.generalises {
+        return Ok(());
+    }
+    at.limit(one.right, level, NO_SCOPE)?;
+    hold(at, &one.matched.names, level)
+}
+
 /// The variables in the types of names aren't generalised.
 fn hold(at: &mut Parts, names: &[BoundName<'_>], level: u32) -> Result<(), NoMemory>
+    ensures limits { OnOk result (LimitsNodes at.old at.new level (name_nodes names.now)) }
     ensures silent { Silent at.old at.new }
     ensures goes { Goes at.old at.new }
 {
@@ -546,18 +640,29 @@ fn hold(at: &mut Parts, names: &[BoundName<'_>], level: u32) -> Result<(), NoMem
 fn close_names(
     at: &mut Parts,
     names: &[BoundName<'_>],
-    scope: u64,
+    scope: Option<u64>,
     entries: &mut Vec<Rc<Entry>>,
 ) -> Result<(), NoMemory>
+    ensures generalises { OnOk result (scope ≡ None → GeneralisesAll at.old at.new (name_nodes names.now)) }
     ensures silent { Silent at.old at.new }
     ensures goes { Goes at.old at.new }
 {
     for name in names {
-        if scope != NO_SCOPE {
-            at.limit(name.node, u32::MAX, scope)?;
-        }
-        at.generalise(name.node)?;
+        close_type(at, name.node, scope)?;
         push(entries, share_entry(&name.entry)?)?;
     }
     Ok(())
+}
+
+/// Generalises a type, which gets this scope at most.
+fn close_type(at: &mut Parts, ty: NodeRef, scope: Option<u64>) -> Result<(), NoMemory>
+    ensures generalises { OnOk result (scope ≡ None → GeneralisesAll at.old at.new (ty.0 ∷ [])) }
+    ensures silent { Silent at.old at.new }
+    ensures goes { Goes at.old at.new }
+{
+    if let Some(scope) = scope {
+        at.limit(ty, u32::MAX, scope)?;
+        return at.generalise(ty);
+    }
+    at.generalise(ty)
 }

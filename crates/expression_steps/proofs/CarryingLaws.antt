@@ -5,7 +5,7 @@ use Rattle.std.proofs.lemmas.List.Elements.{All-head, All-tail}
 use Rattle.std.specs.Str.{bytes_eq}
 use Rattle.std.proofs.lemmas.Slice.Eq.{bytes_eq-Decides}
 use Rattle.token_model.specs.Kinds.{Tok, Kind, upper, lower, float, false_word}
-use Rattle.tree_model.specs.Rows.{Row, erecord_row, econ_row, epath_row, econst_row, eparen_row, prefix_row, field_row, eapp_row, eneg_row, infix_row, eassert_row, ewhile_row, efor_row, ebegin_row, elist_row, econs_row, etuple_row, eset_row, eif_row, eseq_row, ematch_row, etry_row, efun_row, efunction_row, name_row, hole_row}
+use Rattle.tree_model.specs.Rows.{Row, elet_row, erecord_row, econ_row, epath_row, econst_row, eparen_row, prefix_row, field_row, eapp_row, eneg_row, infix_row, eassert_row, ewhile_row, efor_row, ebegin_row, elist_row, econs_row, etuple_row, eset_row, eif_row, eseq_row, ematch_row, etry_row, efun_row, efunction_row, name_row, hole_row}
 use Rattle.tree_model.specs.Trees.{Place, Tree, Forest, Part, taken, inner, missing, node}
 use Rattle.row_parts.specs.Numbered.{Numbered, Written, numbered, operand_view, token_in, filled_in, all_operands, operands_in, first_in}
 use Rattle.typing_model.specs.Contexts.{Context, tell_typed}
@@ -110,50 +110,9 @@ ordered_form ematch_row t ps h e = absurd (cc)
 ordered_form etry_row t ps h e = absurd (cc)
 ordered_form efun_row t ps h e = absurd (cc)
 ordered_form efunction_row t ps h e = absurd (cc)
+ordered_form elet_row t ps h e = absurd (cc)
+ordered_form erecord_row t ps h e = absurd (cc)
 ordered_form _ t ps h e = absurd h
-
--- a carried row isn't one with bindings, nor a record
-abbrev pub IsCarriedForm : RowForm → Type 0
-IsCarriedForm form.Leaf = Unit {0}
-IsCarriedForm form.Application = Unit {0}
-IsCarriedForm form.Operation = Unit {0}
-IsCarriedForm form.Minus = Unit {0}
-IsCarriedForm form.Parenthesised = Unit {0}
-IsCarriedForm form.Set = Unit {0}
-IsCarriedForm form.Loop = Unit {0}
-IsCarriedForm form.Match = Unit {0}
-IsCarriedForm form.Cases = Unit {0}
-IsCarriedForm form.Function = Unit {0}
-IsCarriedForm form.Plain = Unit {0}
-IsCarriedForm _ = ⊥
-
-carried_form : (r : Row) (t : Tree) (ps : Forest) → IsCarriedRow r t ps → IsCarriedForm (form_of r)
-carried_form name_row t ps h = tt
-carried_form econ_row t ps h = tt
-carried_form epath_row t ps h = tt
-carried_form econst_row t ps h = tt
-carried_form hole_row t ps h = tt
-carried_form eparen_row t ps h = tt
-carried_form prefix_row t ps h = tt
-carried_form eapp_row t ps h = tt
-carried_form eneg_row t ps h = tt
-carried_form infix_row t ps h = tt
-carried_form eset_row t ps h = tt
-carried_form efor_row t ps h = tt
-carried_form field_row t ps h = tt
-carried_form ebegin_row t ps h = tt
-carried_form elist_row t ps h = tt
-carried_form eassert_row t ps h = tt
-carried_form ewhile_row t ps h = tt
-carried_form econs_row t ps h = tt
-carried_form etuple_row t ps h = tt
-carried_form eif_row t ps h = tt
-carried_form eseq_row t ps h = tt
-carried_form ematch_row t ps h = tt
-carried_form etry_row t ps h = tt
-carried_form efun_row t ps h = tt
-carried_form efunction_row t ps h = tt
-carried_form _ t ps h = absurd h
 
 -- the row of an application, a minus, parentheses, a field that is set, a loop, an operation, and a plain row
 pub is_application : (t : Tree) (f : RowForm) → f ≡ form.Application → f ≡ form_of (row_at t) → row_of t ≡ eapp_row
@@ -186,10 +145,6 @@ by_operation t b e = operation_form (row_at t) b e
 
 pub by_ordered : (n : ℕ) (at : Place) (t : Tree) → IsCarried (numbered n at (inner t)) → form_of (row_at t) ≡ form.Plain → IsOrderedRow (row_at t)
 by_ordered n at t h e = let (ps, c) = row_there t h.rows in ordered_form (row_at t) t ps c e
-
--- no other form is that of a carried row
-pub form_there : (n : ℕ) (at : Place) (t : Tree) (f : RowForm) → IsCarried (numbered n at (inner t)) → f ≡ form_of (row_at t) → IsCarriedForm f
-form_there n at t f h e = let (ps, c) = row_there t h.rows in subst IsCarriedForm (sym e) (carried_form (row_at t) t ps c)
 
 sign_carried : (r : Row) (t : Tree) (ps : Forest) → r ≡ eneg_row → IsCarriedRow r t ps → is_sign (token_in t 0) ≡ true
 sign_carried eneg_row t ps e h = h
@@ -347,6 +302,10 @@ if_no_float : (n : ℕ) (at : Place) (e f : Expression) (o : Option Expression) 
 if_no_float n at e f None = tt
 if_no_float n at e f (Some g) = tt
 
+either_no_float : (b : Bool) (x y : Expression) → IsNoFloat x.form → IsNoFloat y.form → IsNoFloat (if b then x else y).form
+either_no_float true x y p q = p
+either_no_float false x y p q = q
+
 row_no_float : (r : Row) (n : ℕ) (at : Place) (cs : List Child) (t : Tree) (ps : Forest) → IsCarriedRow r t ps → parts.token_in 0 cs ≡ token_in t 0 → is_float_in r t ≡ false → IsNoFloat (expression_row r n at cs).form
 unfolding expression_row
 row_no_float name_row n at cs t ps c e h = names_no_float (parts.path_in 9 0 cs)
@@ -355,7 +314,8 @@ row_no_float econst_row n at cs t ps c e h = no_float_literal (parts.token_in 0 
 row_no_float eparen_row n at cs t ps c e h = paren_no_float n at (parts.expression_in 1 cs) (parts.first_of (parts.types_in 3 cs))
 row_no_float ebegin_row n at cs t ps c e h = begun_no_float n at (parts.first_of (parts.expressions_in 1 cs))
 row_no_float eif_row n at cs t ps c e h = if_no_float n at (parts.expression_in 1 cs) (parts.expression_in 3 cs) (parts.first_of (parts.expressions_in 5 cs))
-row_no_float erecord_row n at cs t ps c e h = absurd c
+row_no_float erecord_row n at cs t ps c e h =
+    either_no_float (is_some (parts.token_in 4 cs)) (update_expression n at (parts.expression_in 1 cs) (fields_in 5 cs)) (record_expression n at (parts.expression_in 1 cs) (parts.first_of (parts.expressions_in 3 cs)) (fields_in 5 cs)) tt tt
 row_no_float _ n at cs t ps c e h = tt
 
 -- an operand that is none
@@ -470,7 +430,6 @@ if_ok (Err e) P Q f h = tt
 
 usual_row : (r : Row) (t : Tree) (ps : Forest) → IsCarriedRow r t ps → (form_of r ≡ form.Leaf → ⊥) → IsUsual r
 usual_row econst_row t ps c h = absurd (h refl)
-usual_row erecord_row t ps c h = absurd c
 usual_row _ t ps c h = tt
 
 -- a row that is no leaf asks the same under a minus

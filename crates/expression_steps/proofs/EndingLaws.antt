@@ -174,6 +174,8 @@ hole_by name.Ematch t ps h is none a b c = absurd (cc)
 hole_by name.Etry t ps h is none a b c = absurd (cc)
 hole_by name.Efun t ps h is none a b c = absurd (cc)
 hole_by name.Efunction t ps h is none a b c = absurd (cc)
+hole_by name.Elet t ps h is none a b c = absurd (cc)
+hole_by name.Erecord t ps h is none a b c = absurd (cc)
 hole_by _ t ps h is none a b c = absurd h
 
 carried_there : (t : Tree) → IsTreeOfCarriedRows t → (ps : Forest) × IsCarriedRow (row_at t) t ps

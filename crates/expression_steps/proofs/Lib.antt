@@ -6,3 +6,4 @@ pub mod CarryingLaws
 pub mod EndingLaws
 pub mod ValueLaws
 pub mod SettingLaws
+pub mod RecordLaws

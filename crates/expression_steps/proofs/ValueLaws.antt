@@ -1,5 +1,7 @@
 -- Whether an expression is non-expansive, as the code reads it.
-use Rattle.std.proofs.Common.{◌≡◌, ◌∙◌, ◌&&◌, ◌==◌, ◌+◌, ◌<◌, ℕ, Bool, true, false, zero, suc, List, [], ◌∷◌, length, map, drop, arith, Option, Some, None, option_map, refl, sym, ap, subst}
+use Rattle.std.proofs.Common.{◌≡◌, ◌∙◌, ◌++◌, ◌&&◌, ◌==◌, ◌+◌, ◌<◌, ℕ, Bool, true, false, zero, suc, List, [], ◌∷◌, length, map, drop, arith, Option, Some, None, option_map, option_to_list, append_assoc, append-nil, ◌≤◌, refl, sym, ap, subst}
+use Rattle.std.specs.List.{cons_option}
+use Rattle.std.proofs.lemmas.List.{drop_all}
 use Rattle.std.specs.Prelude.{All, slice_index_or}
 use Rattle.std.proofs.lemmas.List.Elements.{All-head, All-tail}
 use denote.Ref.{Bor}
@@ -18,8 +20,9 @@ use Rattle.use_typing.proofs.Reading.{drop_read}
 use Rattle.operand_laws.specs.Operands.{path_of, expression_of}
 use Rattle.operand_laws.proofs.Sorts.{expression_by_row}
 use Rattle.typing_rows.specs.Asked.{row_expression, expressions_of}
-use Rattle.typing_rows.specs.Valued.{value_operands, are_values, decides, IsValueRow, IsDecided}
+use Rattle.typing_rows.specs.Valued.{body_in, bodies_of, is_unguarded, are_unguarded, right_in, rights_of, value_operands, are_values, decides, IsValueRow, IsDecided}
 use Rattle.typing_rows.proofs.Valued.{value_term, operands_decided, decided_row, value_decided, assert_value, application_value, built_by_none, built_of_more, built_of_one}
+use Rattle.binding_rows.proofs.Valued.{match_value, match_never, match_decided, let_value, let_decided}
 use Rattle.expression_steps.specs.ExpressionSteps.{row_at, constructor_at}
 use Rattle.expression_steps.specs.Operators.{is_false_at}
 use Rattle.expression_steps.proofs.ExpressionLaws.{row_of_node}
@@ -62,6 +65,24 @@ unfolding row_of
 not_app name.Eapp apart e = apart refl
 not_app _ apart e = cc
 
+pub row_match : (nd : Node) → (out-Node nd).row ≡ name.Ematch → row_at (node_view nd) ≡ ematch_row
+unfolding row_of
+row_match nd e = row_named nd name.Ematch e
+
+pub row_let : (nd : Node) → (out-Node nd).row ≡ name.Elet → row_at (node_view nd) ≡ elet_row
+unfolding row_of
+row_let nd e = row_named nd name.Elet e
+
+not_match : (r : RowName) → (r ≡ name.Ematch → ⊥) → row_of r ≡ ematch_row → ⊥
+unfolding row_of
+not_match name.Ematch apart e = apart refl
+not_match _ apart e = cc
+
+not_let : (r : RowName) → (r ≡ name.Elet → ⊥) → row_of r ≡ elet_row → ⊥
+unfolding row_of
+not_let name.Elet apart e = apart refl
+not_let _ apart e = cc
+
 not_assert : (r : RowName) → (r ≡ name.Eassert → ⊥) → row_of r ≡ eassert_row → ⊥
 unfolding row_of
 not_assert name.Eassert apart e = apart refl
@@ -75,34 +96,35 @@ pub value_record : (nd : Node) (n : ℕ) (v : Bool) → (out-Node nd).row ≡ na
 unfolding row_of
 value_record nd n v e = λ place h i c. absurd (no_row (node_view nd) erecord_row n place (row_named nd name.Erecord e) (λ k. k) h)
 
-pub value_match : (nd : Node) (n : ℕ) (v : Bool) → (out-Node nd).row ≡ name.Ematch → IsValueOf nd n v
-unfolding row_of
-value_match nd n v e = λ place h i c. absurd (no_row (node_view nd) ematch_row n place (row_named nd name.Ematch e) (λ k. k) h)
-
-pub value_let : (nd : Node) (n : ℕ) (v : Bool) → (out-Node nd).row ≡ name.Elet → IsValueOf nd n v
-unfolding row_of
-value_let nd n v e = λ place h i c. absurd (no_row (node_view nd) elet_row n place (row_named nd name.Elet e) (λ k. k) h)
-
 -- `assert`
 pub value_assert : (nd : Node) (n : ℕ) (o : Operand) → (out-Node nd).row ≡ name.Eassert → operand_view o ≡ filled_in n (node_view nd) 1 → IsValueOf nd n (is_false_at (operand_view o).part)
 value_assert nd n o e here = λ place h i c.
     assert_value i n place (node_view nd) h.formed (rows_same (node_view nd) ∙ row_assert nd e) c ∙ false_at i (filled_in n (node_view nd) 1) ∙ ap (λ x. is_false_at x.part) (sym here)
 
+-- a row that isn't one of those of which more decides
+pub record IsOther (r : RowName) : Type 0 where
+  pub application : r ≡ name.Eapp → ⊥
+  pub assertion : r ≡ name.Eassert → ⊥
+  pub matching : r ≡ name.Ematch → ⊥
+  pub binding : r ≡ name.Elet → ⊥
+
 -- a row by its operands
-value_by : (nd : Node) (n : ℕ) (o : Option (List Numbered)) → ((out-Node nd).row ≡ name.Eapp → ⊥) → ((out-Node nd).row ≡ name.Eassert → ⊥) → o ≡ value_operands (row_at (node_view nd)) n (node_view nd) → (place : Place) → IsDecided (numbered n place (inner (node_view nd))) →
+value_by : (nd : Node) (n : ℕ) (o : Option (List Numbered)) → IsOther (out-Node nd).row → o ≡ value_operands (row_at (node_view nd)) n (node_view nd) → (place : Place) → IsDecided (numbered n place (inner (node_view nd))) →
     (i : ℕ) (c : Context) → (row_expression i n place (node_view nd)).is_value c ≡ are_values c i o
-value_by nd n o apart apart' is place h i c =
-    value_term i n place (node_view nd) (row_at (node_view nd)) h.formed (rows_same (node_view nd)) (subst IsValueRow (rows_same (node_view nd)) (decided_row (node_view nd) h.rows)) (λ e. not_app (out-Node nd).row apart (sym (row_of_node nd) ∙ e)) (λ e. not_assert (out-Node nd).row apart' (sym (row_of_node nd) ∙ e)) c ∙ ap (are_values c i) (sym is)
+value_by nd n o other is place h i c =
+    value_term i n place (node_view nd) (row_at (node_view nd)) h.formed (rows_same (node_view nd)) (subst IsValueRow (rows_same (node_view nd)) (decided_row (node_view nd) h.rows))
+    (λ e. not_app (out-Node nd).row other.application (sym (row_of_node nd) ∙ e)) (λ e. not_assert (out-Node nd).row other.assertion (sym (row_of_node nd) ∙ e))
+    (λ e. not_match (out-Node nd).row other.matching (sym (row_of_node nd) ∙ e)) (λ e. not_let (out-Node nd).row other.binding (sym (row_of_node nd) ∙ e)) c ∙ ap (are_values c i) (sym is)
 
 -- one that never is
-pub value_never : (nd : Node) (n : ℕ) → ((out-Node nd).row ≡ name.Eapp → ⊥) → ((out-Node nd).row ≡ name.Eassert → ⊥) → None ≡ value_operands (row_at (node_view nd)) n (node_view nd) → IsValueOf nd n false
-value_never nd n apart apart' is = λ place h i c. value_by nd n None apart apart' is place h i c
+pub value_never : (nd : Node) (n : ℕ) → IsOther (out-Node nd).row → None ≡ value_operands (row_at (node_view nd)) n (node_view nd) → IsValueOf nd n false
+value_never nd n other is = λ place h i c. value_by nd n None other is place h i c
 
 -- one whose operands decide
-pub value_parts : (nd : Node) (n : ℕ) (os : List Operand) (v : Bool) → ((out-Node nd).row ≡ name.Eapp → ⊥) → ((out-Node nd).row ≡ name.Eassert → ⊥) → Some (map operand_view os) ≡ value_operands (row_at (node_view nd)) n (node_view nd) →
+pub value_parts : (nd : Node) (n : ℕ) (os : List Operand) (v : Bool) → IsOther (out-Node nd).row → Some (map operand_view os) ≡ value_operands (row_at (node_view nd)) n (node_view nd) →
     (All IsDecided (map operand_view os) → (i : ℕ) (c : Context) → all_values c (expressions_of i (map operand_view os)) ≡ v) → IsValueOf nd n v
-value_parts nd n os v apart apart' is values = λ place h i c.
-    value_by nd n (Some (map operand_view os)) apart apart' is place h i c ∙ values (value_decided n place (node_view nd) (map operand_view os) h (ap (λ r. value_operands r n (node_view nd)) (rows_same (node_view nd)) ∙ sym is)) i c
+value_parts nd n os v other is values = λ place h i c.
+    value_by nd n (Some (map operand_view os)) other is place h i c ∙ values (value_decided n place (node_view nd) (map operand_view os) h (ap (λ r. value_operands r n (node_view nd)) (rows_same (node_view nd)) ∙ sym is)) i c
 
 -- an application whose head is no constructor
 pub built_not : (nd : Node) (n : ℕ) (head : Operand) (os : List Operand) → operand_view head ≡ filled_in n (node_view nd) 0 → map operand_view os ≡ operands_in n (node_view nd) 1 → is_some (constructor_at (operand_view head).part) ≡ false →
@@ -150,3 +172,66 @@ pub values_one : (os : List Operand) (k : ℕ) (x : Operand) (v : Bool) → k < 
     All IsDecided (map operand_view os) → (i : ℕ) (c : Context) → all_values c (expressions_of i (map operand_view os)) ≡ (v && all_values c (expressions_of i (map operand_view (drop (k + 1) os))))
 values_one os k x v lt e left value all i c =
     left all i c ∙ ap (λ ys. all_values c (expressions_of i (map operand_view ys))) (drop_read os k x lt e) ∙ ap (λ b. b && all_values c (expressions_of i (map operand_view (drop (k + 1) os)))) (value (read_decided os k x lt e all) i c)
+
+-- a list that is one, and then further ones
+more_listed : {A : Type 0} (now before one rest all : List A) → now ≡ before ++ one → all ≡ one ++ rest → now ++ rest ≡ before ++ all
+more_listed now before one rest all is split = ap (λ xs. xs ++ rest) is ∙ append_assoc before one rest ∙ ap (λ xs. before ++ xs) (sym split)
+
+-- the operands to add to those of before, where some are left
+abbrev pub LeftToAdd : (add : List Numbered → List Numbered) → (all left : List Operand) → (before now : List Operand) → Type 0
+LeftToAdd add all left before now = map operand_view now ++ add (map operand_view left) ≡ map operand_view before ++ add (map operand_view all)
+
+-- one more is added
+added_one : (add : List Numbered → List Numbered) (one : Numbered → Option Numbered) (all : List Operand) (k : ℕ) (x : Operand) (before old now : List Operand) → ((o : Numbered) (os : List Numbered) → add (o ∷ os) ≡ option_to_list (one o) ++ add os) →
+    k < length all → x ≡ slice_index_or all k x → LeftToAdd add all (drop k all) before old → map operand_view now ≡ map operand_view old ++ option_to_list (one (operand_view x)) → LeftToAdd add all (drop (k + 1) all) before now
+added_one add one all k x before old now more lt e left is =
+    more_listed (map operand_view now) (map operand_view old) (option_to_list (one (operand_view x))) (add (map operand_view (drop (k + 1) all))) (add (map operand_view (drop k all))) is
+    (ap add (ap (map operand_view) (drop_read all k x lt e)) ∙ more (operand_view x) (map operand_view (drop (k + 1) all))) ∙ left
+
+option_front : {A : Type 0} (o : Option A) (xs : List A) → cons_option o xs ≡ option_to_list o ++ xs
+option_front None xs = refl
+option_front (Some x) xs = refl
+
+-- a right side more
+pub right_added : (all : List Operand) (k : ℕ) (x : Operand) (before old now : List Operand) → k < length all → x ≡ slice_index_or all k x → LeftToAdd rights_of all (drop k all) before old →
+    map operand_view now ≡ map operand_view old ++ option_to_list (right_in x.number (operand_view x).part) → LeftToAdd rights_of all (drop (k + 1) all) before now
+right_added all k x before old now lt e left is = added_one rights_of (λ o. right_in o.number o.part) all k x before old now (λ o os. option_front (right_in o.number o.part) (rights_of os)) lt e left is
+
+-- a body more
+pub body_added : (all : List Operand) (k : ℕ) (x : Operand) (before old now : List Operand) → k < length all → x ≡ slice_index_or all k x → LeftToAdd bodies_of all (drop k all) before old →
+    map operand_view now ≡ map operand_view old ++ option_to_list (body_in x.number (operand_view x).part) → LeftToAdd bodies_of all (drop (k + 1) all) before now
+body_added all k x before old now lt e left is = added_one bodies_of (λ o. body_in o.number o.part) all k x before old now (λ o os. option_front (body_in o.number o.part) (bodies_of os)) lt e left is
+
+-- whether the cases from a place on are unguarded
+pub guard_read : (all : List Operand) (k : ℕ) (x : Operand) (v : Bool) → k < length all → x ≡ slice_index_or all k x → is_unguarded x.number (operand_view x).part ≡ v → are_unguarded (map operand_view all) ≡ are_unguarded (map operand_view (drop k all)) →
+    are_unguarded (map operand_view all) ≡ (v && are_unguarded (map operand_view (drop (k + 1) all)))
+guard_read all k x v lt e one left = left ∙ ap (λ os. are_unguarded (map operand_view os)) (drop_read all k x lt e) ∙ ap (λ b. b && are_unguarded (map operand_view (drop (k + 1) all))) one
+
+-- no case is left
+pub guards_end : (all : List Operand) (k : ℕ) → length all ≤ k → are_unguarded (map operand_view all) ≡ are_unguarded (map operand_view (drop k all)) → are_unguarded (map operand_view all) ≡ true
+guards_end all k le left = left ∙ ap (λ os. are_unguarded (map operand_view os)) (drop_all k all le)
+
+-- all are added
+pub added_all : (add : List Numbered → List Numbered) → (let none : List Numbered = [] in add none ≡ none) → (all : List Operand) (k : ℕ) (before now : List Operand) → length all ≤ k → LeftToAdd add all (drop k all) before now → map operand_view now ≡ map operand_view before ++ add (map operand_view all)
+added_all add none all k before now le left = sym (append-nil (map operand_view now)) ∙ ap (λ xs. map operand_view now ++ xs) (sym none) ∙ ap (λ os. map operand_view now ++ add (map operand_view os)) (sym (drop_all k all le)) ∙ left
+
+-- a match by the operands that were gathered
+pub match_gathered : (nd : Node) (n : ℕ) (parts subject cases : List Operand) (v : Bool) → map operand_view subject ≡ operands_in n (node_view nd) 1 → map operand_view cases ≡ operands_in n (node_view nd) 4 → are_unguarded (map operand_view cases) ≡ true →
+    map operand_view parts ≡ map operand_view subject ++ bodies_of (map operand_view cases) → (All IsDecided (map operand_view parts) → (i : ℕ) (c : Context) → all_values c (expressions_of i (map operand_view parts)) ≡ v) → row_at (node_view nd) ≡ ematch_row → IsValueOf nd n v
+match_gathered nd n parts subject cases v first given free is values row = λ place h i c.
+    let here = rows_same (node_view nd) ∙ row in
+    let same : map operand_view parts ≡ operands_in n (node_view nd) 1 ++ bodies_of (operands_in n (node_view nd) 4) = is ∙ (λ k. first k ++ bodies_of (given k)) in
+    match_value i n place (node_view nd) here h (ap are_unguarded (sym given) ∙ free) c ∙ ap (λ xs. all_values c (expressions_of i xs)) (sym same) ∙
+    values (subst (All IsDecided) (sym same) (match_decided n place (node_view nd) here h)) i c
+
+-- a match with a guard
+pub match_guarded : (nd : Node) (n : ℕ) (cases : List Operand) → map operand_view cases ≡ operands_in n (node_view nd) 4 → are_unguarded (map operand_view cases) ≡ false → row_at (node_view nd) ≡ ematch_row → IsValueOf nd n false
+match_guarded nd n cases given held row = λ place h i c. match_never i n place (node_view nd) (rows_same (node_view nd) ∙ row) h (ap are_unguarded (sym given) ∙ held) c
+
+-- a `let` by the operands that were gathered
+pub let_gathered : (nd : Node) (n : ℕ) (parts body bindings : List Operand) (v : Bool) → map operand_view body ≡ operands_in n (node_view nd) 5 → map operand_view bindings ≡ operands_in n (node_view nd) 2 → map operand_view parts ≡ map operand_view body ++ rights_of (map operand_view bindings) →
+    (All IsDecided (map operand_view parts) → (i : ℕ) (c : Context) → all_values c (expressions_of i (map operand_view parts)) ≡ v) → row_at (node_view nd) ≡ elet_row → IsValueOf nd n v
+let_gathered nd n parts body bindings v last given is values row = λ place h i c.
+    let here = rows_same (node_view nd) ∙ row in
+    let same : map operand_view parts ≡ operands_in n (node_view nd) 5 ++ rights_of (operands_in n (node_view nd) 2) = is ∙ (λ k. last k ++ rights_of (given k)) in
+    let_value i n place (node_view nd) here h c ∙ ap (λ xs. all_values c (expressions_of i xs)) (sym same) ∙ values (subst (All IsDecided) (sym same) (let_decided n place (node_view nd) here h)) i c

@@ -3,3 +3,4 @@ pub mod ExpressionSteps
 pub mod Leaves
 pub mod Operators
 pub mod RecordView
+pub mod Records

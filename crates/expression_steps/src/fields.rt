@@ -1,14 +1,22 @@
 //! Records: their type by their labels, fields without a value, and whether all labels are written.
 #![tactic(auto, using(typing_state::proofs::Going::goes_trans, typing_state::proofs::Going::goes_refl, typing_state::proofs::Following::follows_both, typing_state::proofs::Following::follows_then, typing_state::proofs::Following::follows_before, typing_state::proofs::Following::follows_behind, typing_state::proofs::Following::follows_none, typing_state::proofs::Following::follows_silent, typing_state::proofs::Following::store_silent, typing_state::proofs::Following::silent_refl, typing_state::proofs::Following::silent_trans, typing_state::proofs::Following::ends_both, typing_state::proofs::Following::ends_behind, typing_state::proofs::Following::ends_before, typing_state::proofs::Following::ends_silent, typing_state::proofs::Following::gets_start, typing_state::proofs::Following::gets_more, typing_state::proofs::Following::gets_before, typing_state::proofs::Following::gets_done))]
 
-ghost use Rattle.std.specs.Prelude.{[], ◌∷◌, ◌++◌, map, OnOk};
-ghost use Rattle.syntax_tree.specs.View.{place_of};
+ghost use Rattle.std.specs.Prelude.{◌≡◌, [], ◌∷◌, ◌++◌, map, IfOk, OnOk};
+ghost use Rattle.syntax_tree.specs.View.{place_of, tok_of};
 ghost use Rattle.row_parts.specs.Numbered.{operand_view, path_view};
 ghost use Rattle.env_table.specs.declared.faults.FaultKind.{FaultKind};
 ghost use Rattle.typing_state.specs.Goes.{Goes};
 ghost use Rattle.typing_state.specs.Steps.{asks, each, records, Follows, Silent};
 ghost use Rattle.use_typing.specs.UseSteps.{asks_labels, labels_of, lost_steps};
 ghost use Rattle.expression_steps.specs.ExpressionSteps.{pun_steps};
+ghost use Rattle.typing_steps.specs.Typing.{path_as};
+ghost use Rattle.operand_laws.specs.Operands.{number_of};
+ghost use Rattle.use_typing.specs.Labels.{is_named_in, toks_of};
+ghost use Rattle.record_rows.specs.Operands.{labels_at};
+ghost use Rattle.record_rows.specs.Completing.{AsksComplete};
+ghost use Rattle.record_rows.specs.ValueOperands.{PunsLabel, PunsValue};
+ghost use Rattle.record_rows.specs.RecordExpressions.{EndsRecord, FindsRecord, GivesRecord};
+ghost use Rattle.expression_steps.specs.Records.{here_of, names_written, RefusesIf, TakesName};
 
 use row_parts::{Operand, WrittenPath};
 use std::rc::Rc;
@@ -35,6 +43,7 @@ pub fn record_of_made<'a>(
     label: &WrittenPath<'a>,
     env: &Env,
 ) -> Result<RecordType, NoMemory>
+    ensures carries { IfOk result (λ r. FindsRecord at.old at.new env.now (here_of r) (λ n c. []) (path_as (path_view label.now) ∷ labels_at (map operand_view pieces.now.fields.items))) }
     ensures follows { OnOk result (Follows (each lost_steps (map operand_view pieces.now.fields.items) ++ asks_labels (path_view label.now ∷ labels_of (map operand_view pieces.now.fields.items))) at.old at.new) }
     ensures goes { Goes at.old at.new }
 {
@@ -44,7 +53,10 @@ pub fn record_of_made<'a>(
 }
 
 /// No fields so far of a record.
-pub fn fields_in<'a>(at: &Parts, found: RecordType) -> Fields<'a> {
+pub fn fields_in<'a>(at: &Parts, found: RecordType) -> Fields<'a>
+    ensures found { here_of result.found ≡ here_of found }
+    ensures labels { result.labels.items ≡ [] }
+{
     Fields {
         found,
         labels: Vec::new(at.alloc()),
@@ -53,6 +65,7 @@ pub fn fields_in<'a>(at: &Parts, found: RecordType) -> Fields<'a> {
 
 /// The demand that the first part of a record that is made is a label, and the fields that are missing.
 pub fn begin_loose(at: &mut Parts, pieces: &Pieces<'_>, env: &Env) -> Result<(), NoMemory>
+    ensures carries { OnOk result (RefusesIf (operand_view pieces.now.first).part at.old at.new (place_of pieces.now.first.span)) }
     ensures follows { OnOk result (Follows (asks FaultKind.Label (place_of pieces.now.first.span ∷ []) ∷ each lost_steps (map operand_view pieces.now.fields.items)) at.old at.new) }
     ensures goes { Goes at.old at.new }
 {
@@ -62,6 +75,7 @@ pub fn begin_loose(at: &mut Parts, pieces: &Pieces<'_>, env: &Env) -> Result<(),
 
 /// The demand that the first part of a record that is made is a label, where it is there.
 fn ask_label(at: &mut Parts, first: Operand<'_>) -> Result<(), NoMemory>
+    ensures carries { OnOk result (RefusesIf (operand_view first.entry).part at.old at.new (place_of first.entry.span)) }
     ensures follows { OnOk result (Follows (asks FaultKind.Label (place_of first.entry.span ∷ []) ∷ []) at.old at.new) }
     ensures goes { Goes at.old at.new }
 {
@@ -79,6 +93,7 @@ pub fn pun(
     wanted: Option<NodeRef>,
     env: &Env,
 ) -> Result<(), NoMemory>
+    ensures carries { OnOk result (PunsValue (path_view label.now).last at.old at.new env.now (number_of at.old.item number) wanted) }
     ensures follows { OnOk result (Follows (pun_steps number (path_view label.now).last) at.old at.new) }
     ensures goes { Goes at.old at.new }
 {
@@ -97,6 +112,7 @@ fn pun_of(
     wanted: Option<NodeRef>,
     env: &Env,
 ) -> Result<(), NoMemory>
+    ensures carries { OnOk result (PunsLabel at.old at.new env.now (number_of at.old.item number) (tok_of last.now) wanted) }
     ensures follows { OnOk result (Follows (asks FaultKind.Bound (place_of last.now.span ∷ []) ∷ asks FaultKind.Equal (place_of last.now.span ∷ []) ∷ records number ∷ []) at.old at.new) }
     ensures goes { Goes at.old at.new }
 {
@@ -120,6 +136,7 @@ fn value_of_name(
     wanted: Option<NodeRef>,
     env: &Env,
 ) -> Result<Used, NoMemory>
+    ensures carries { OnOk result (TakesName at.old at.new env.now (tok_of name.now) wanted) }
     ensures follows { OnOk result (Follows (asks FaultKind.Bound (place_of name.now.span ∷ []) ∷ asks FaultKind.Equal (place_of name.now.span ∷ []) ∷ []) at.old at.new) }
     ensures goes { Goes at.old at.new }
 {
@@ -134,6 +151,7 @@ fn value_of_name(
 
 /// `complete` of a record that is made at a place: the first label of the declaration that isn't written. The type of the record.
 pub fn complete(at: &mut Parts, fields: &Fields<'_>, span: Span) -> Result<Used, NoMemory>
+    ensures carries { IfOk result (λ u. EndsRecord at.old at.new (here_of fields.now.found) (names_written fields.now.labels.items) (place_of span) u.ty.0) }
     ensures follows { OnOk result (Follows (asks FaultKind.Complete (place_of span ∷ []) ∷ []) at.old at.new) }
     ensures goes { Goes at.old at.new }
 {
@@ -148,6 +166,7 @@ fn ask_complete(
     written: &[&Token],
     span: Span,
 ) -> Result<(), NoMemory>
+    ensures carries { OnOk result (AsksComplete (here_of found.now) (names_written written.now) at.old at.new span) }
     ensures follows { OnOk result (Follows (asks FaultKind.Complete (place_of span ∷ []) ∷ []) at.old at.new) }
     ensures goes { Goes at.old at.new }
 {
@@ -162,12 +181,21 @@ fn ask_complete(
     Ok(())
 }
 
-fn is_written(written: &[&Token], label: &str) -> bool {
-    written.iter().any(|other| other.name.is(label))
+/// Whether a label is one of those that are written.
+fn is_written(written: &[&Token], label: &str) -> bool
+    ensures { result ≡ is_named_in label.now (toks_of written.now) }
+{
+    for other in written {
+        if other.name.is(label) {
+            return true;
+        }
+    }
+    false
 }
 
 /// The type of a record; any type where it isn't known.
 pub fn type_of_record(at: &mut Parts, found: &RecordType) -> Result<Used, NoMemory>
+    ensures carries { IfOk result (λ u. GivesRecord (here_of found.now) at.old at.new u.ty.0) }
     ensures silent { Silent at.old at.new }
     ensures goes { Goes at.old at.new }
 {

@@ -1,7 +1,7 @@
 //! Which expressions are non-expansive, so that the names of their bindings are generalised (the value restriction).
-ghost use Rattle.std.specs.Prelude.{◌≡◌, ◌++◌, ℕ, map, option_map, All, IfOk};
+ghost use Rattle.std.specs.Prelude.{◌≡◌, ◌++◌, ℕ, true, map, option_map, All, IfOk, OnOk};
 ghost use Rattle.std.specs.Option.{option_to_list};
-ghost use Rattle.tree_model.specs.Rows.{eapp_row};
+ghost use Rattle.tree_model.specs.Rows.{eapp_row, elet_row, ematch_row};
 ghost use Rattle.tree_model.specs.Trees.{Place, inner};
 ghost use Rattle.syntax_tree.specs.View.{tok_of, node_view};
 ghost use Rattle.row_parts.specs.Numbered.{numbered, operand_view, operands_in, first_in, path_view};
@@ -9,7 +9,7 @@ ghost use Rattle.typing_model.specs.Contexts.{Context};
 ghost use Rattle.typing_model.specs.Expressions.{all_values, is_some};
 ghost use Rattle.operand_laws.specs.Operands.{expression_of};
 ghost use Rattle.typing_rows.specs.Asked.{row_expression, expressions_of};
-ghost use Rattle.typing_rows.specs.Valued.{value_operands, IsDecided};
+ghost use Rattle.typing_rows.specs.Valued.{are_unguarded, bodies_of, body_in, is_unguarded, right_in, rights_of, value_operands, IsDecided};
 ghost use Rattle.expression_steps.specs.Operators.{is_false_at, is_false_token};
 ghost use Rattle.expression_steps.specs.ExpressionSteps.{constructor_at, label_at, lower_path, row_at};
 
@@ -161,25 +161,53 @@ fn is_match_value(
     number: u32,
     env: &Env,
     depth: Depth,
-) -> Result<bool, NoMemory> {
+) -> Result<bool, NoMemory>
+    ensures value { IfOk result (λ b. (place : Place) → IsDecided (numbered number place (inner (node_view node.now))) → row_at (node_view node.now) ≡ ematch_row → (i : ℕ) (c : Context) → (row_expression i number place (node_view node.now)).is_value c ≡ b) }
+{
     let mut parts = operands(at.alloc(), node, number, 1)?;
-    for case in operands(at.alloc(), node, number, 4)? {
-        if let Some(inner) = case.node {
-            if first_operand(inner, case.number, 2).is_some() {
-                return Ok(false);
-            }
-            push(&mut parts, operand_in(inner, case.number, 4))?;
-        }
+    let cases = operands(at.alloc(), node, number, 4)?;
+    if !push_bodies(&cases, &mut parts)? {
+        return Ok(false);
     }
     are_values(at, &parts, env, depth)
 }
 
+/// Adds the bodies of cases; false where a case has a guard.
+fn push_bodies<'a>(cases: &[Operand<'a>], parts: &mut Vec<Operand<'a>>) -> Result<bool, NoMemory>
+    ensures guards { IfOk result (λ b. are_unguarded (map operand_view cases.now) ≡ b) }
+    ensures bodies { IfOk result (λ b. b ≡ true → map operand_view parts.new.items ≡ map operand_view parts.old.items ++ bodies_of (map operand_view cases.now)) }
+{
+    for case in cases {
+        if !push_body(*case, parts)? {
+            return Ok(false);
+        }
+    }
+    Ok(true)
+}
+
+/// Adds the body of a case that is there; false where it has a guard.
+fn push_body<'a>(case: Operand<'a>, parts: &mut Vec<Operand<'a>>) -> Result<bool, NoMemory>
+    ensures guard { IfOk result (λ b. is_unguarded case.entry.number (operand_view case.entry).part ≡ b) }
+    ensures body { IfOk result (λ b. b ≡ true → map operand_view parts.new.items ≡ map operand_view parts.old.items ++ option_to_list (body_in case.entry.number (operand_view case.entry).part)) }
+{
+    let Some(node) = case.node else {
+        return Ok(true);
+    };
+    if first_operand(node, case.number, 2).is_some() {
+        return Ok(false);
+    }
+    push(parts, operand_in(node, case.number, 4))?;
+    Ok(true)
+}
+
 /// Whether a binding has parameters.
-pub fn has_parameters(node: &Node, number: u32) -> bool {
+pub fn has_parameters(node: &Node, number: u32) -> bool
+    ensures { result ≡ is_some (first_in number (node_view node.now) 1) }
+{
     first_operand(node, number, 1).is_some()
 }
 
-/// A `let .. in` whose right sides and body are non-expansive.
+/// A `let .. in` whose body is non-expansive, and so are the right sides of its bindings without parameters.
 #[cycle(values)]
 fn is_let_value(
     at: &Parts,
@@ -187,16 +215,36 @@ fn is_let_value(
     number: u32,
     env: &Env,
     depth: Depth,
-) -> Result<bool, NoMemory> {
+) -> Result<bool, NoMemory>
+    ensures value { IfOk result (λ b. (place : Place) → IsDecided (numbered number place (inner (node_view node.now))) → row_at (node_view node.now) ≡ elet_row → (i : ℕ) (c : Context) → (row_expression i number place (node_view node.now)).is_value c ≡ b) }
+{
     let mut parts = operands(at.alloc(), node, number, 5)?;
-    for binding in operands(at.alloc(), node, number, 2)? {
-        if let Some(inner) = binding.node {
-            if !has_parameters(inner, binding.number) {
-                push(&mut parts, operand_in(inner, binding.number, 5))?;
-            }
-        }
-    }
+    let bindings = operands(at.alloc(), node, number, 2)?;
+    push_rights(&bindings, &mut parts)?;
     are_values(at, &parts, env, depth)
+}
+
+/// Adds the right sides of bindings that are there and have no parameters.
+fn push_rights<'a>(bindings: &[Operand<'a>], parts: &mut Vec<Operand<'a>>) -> Result<(), NoMemory>
+    ensures { OnOk result (map operand_view parts.new.items ≡ map operand_view parts.old.items ++ rights_of (map operand_view bindings.now)) }
+{
+    for binding in bindings {
+        push_right(*binding, parts)?;
+    }
+    Ok(())
+}
+
+/// Adds the right side of a binding that is there and has no parameters.
+fn push_right<'a>(binding: Operand<'a>, parts: &mut Vec<Operand<'a>>) -> Result<(), NoMemory>
+    ensures { OnOk result (map operand_view parts.new.items ≡ map operand_view parts.old.items ++ option_to_list (right_in binding.entry.number (operand_view binding.entry).part)) }
+{
+    let Some(node) = binding.node else {
+        return Ok(());
+    };
+    if has_parameters(node, binding.number) {
+        return Ok(());
+    }
+    push(parts, operand_in(node, binding.number, 5))
 }
 
 /// The path of a first part of a record that is read as a label: one to a lower-case name.

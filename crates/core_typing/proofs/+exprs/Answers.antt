@@ -6,18 +6,17 @@ use Rattle.syntax_tree.specs.declared.tree.Node.{out-Node}
 use Rattle.row_parts.specs.Numbered.{operand_view, path_view, filled_in, operands_in}
 use Rattle.typing_state.specs.Steps.{records, each, Follows, GetsOn, asks}
 use Rattle.typing_state.proofs.Going.{goes_trans, goes_refl}
-use Rattle.typing_state.proofs.Following.{ends_both, ends_before, follows_both, follows_behind, gets_start, gets_more, store_silent, follows_before, follows_none, ends_behind}
-use Rattle.expression_steps.specs.ExpressionSteps.{argued_constructor, argument_steps, arguments_steps, behind_parts, constructed_steps, expression_at, expression_steps, part_steps, parts_from, row_at, steps_as, typed_as, unrecorded_steps, cases_at, expression_case, parameter_steps, typed_as_if, typed_pattern, unused_case, expression_field, field_steps, fields_steps, typed_if, turn_steps, bindings_at, bound_pattern, right_at, whole_steps, form_of}
+use Rattle.typing_state.proofs.Following.{ends_both, ends_before, follows_both, follows_behind, gets_start, gets_more, store_silent, follows_before, follows_none}
+use Rattle.expression_steps.specs.ExpressionSteps.{argued_constructor, argument_steps, arguments_steps, behind_parts, constructed_steps, expression_at, expression_steps, part_steps, parts_from, row_at, steps_as, typed_as, unrecorded_steps, cases_at, expression_case, parameter_steps, typed_as_if, typed_pattern, unused_case, expression_field, field_steps, fields_steps, typed_if, turn_steps, bound_pattern, right_at, whole_steps, form_of}
 use Rattle.expression_steps.proofs.ExpressionLaws.{each_typed, follows_more, operand_missing, operand_there, operation_as, plain_as, skips_arguments, row_of_node}
 use Rattle.match_warnings.specs.Warnings.{spans_of, unused_steps}
 use Rattle.core_typing.proofs.GroupLaws.{case_lost, case_parts_are, case_there, cases_follow, steps_read, unused_follow, unused_same, done_follows, together_follow, turn_of, turns_follow}
-use Rattle.use_typing.proofs.Reading.{drop_read, gets_read, same_follows, follows_three}
+use Rattle.use_typing.proofs.Reading.{drop_read, gets_read, same_follows, follows_three, on_ok}
 use Rattle.use_typing.specs.UseSteps.{asks_equal, asks_labels, labels_of, lost_steps}
 use Rattle.pattern_steps.specs.PatternSteps.{pattern_steps}
 use Rattle.expression_steps.specs.declared.fields.Pieces.{Pieces}
 use Rattle.expression_steps.specs.RecordView.{record_parts}
 use Rattle.core_typing.proofs.RecordLaws.{field_is, field_lost, record_is}
-use Rattle.typing_state.specs.declared.parts.Parts.{Parts}
 use Rattle.core_typing.specs.Concluding.{conclusion}
 use Rattle.core_typing.proofs.BindingLaws.{first_gets, let_follow, no_token, right_follow, some_token}
 use Rattle.use_typing.specs.Constants.{is_negated}
@@ -28,7 +27,7 @@ use Rattle.typing_model.specs.Parts.{Expression}
 use Rattle.row_parts.specs.declared.slots.Operand.{Operand}
 use Rattle.operand_laws.specs.Operands.{expression_of}
 use Rattle.operand_laws.proofs.Standing.{expression_of_stands}
-use Rattle.typing_steps.specs.Typing.{TypesTo, TypesRow, path_as}
+use Rattle.typing_steps.specs.Typing.{TypesRow, path_as}
 use Rattle.type_expressions.specs.TypeSteps.{constructor_steps}
 use Rattle.typing_rows.specs.CarriedRows.{IsCarried}
 use Rattle.typing_rows.specs.Asked.{under_minus, expressions_of, signed_expressions, applied_asks, IsOrderedRow, ordered_end}
@@ -48,12 +47,11 @@ use Rattle.typing_steps.proofs.Recording.{type_noted}
 use Rattle.typing_rows.specs.Fields.{EndsSettable}
 use Rattle.use_typing.specs.UseSteps.{asks_token}
 use Rattle.expression_steps.specs.ExpressionSteps.{all_expressions, label_steps, set_part_steps}
-use Rattle.expression_steps.proofs.CarryingLaws.{if_ok, if_any, both_ok, usual_by, by_operation, form_there, paren_row, plain_row, operation_row, operation_missing, minus_float, minus_operation, application_row, construction_row, first_carried, later_carried, head_row, known_later, unknown_later, typed_as_if as typed_where_wanted, constructed_row, argument_typed, each_step, given_step, parts_step}
+use Rattle.expression_steps.proofs.CarryingLaws.{if_ok, both_ok, usual_by, by_operation, paren_row, plain_row, operation_row, operation_missing, minus_float, minus_operation, application_row, construction_row, first_carried, later_carried, head_row, known_later, unknown_later, typed_as_if as typed_where_wanted, constructed_row, argument_typed, each_step, given_step, parts_step}
 use Rattle.std.specs.Option.{IfSome}
 use Rattle.expression_steps.specs.Operators.{sign_in, IsSignOf}
 use Rattle.expression_steps.specs.declared.forms.RowForm.TheVariants as form
 use Rattle.env_table.specs.declared.faults.FaultKind.TheVariants as fault
-use Rattle.std.specs.Prelude.{Option}
 use Rattle.type_terms.specs.declared.types.NodeRef.{NodeRef}
 use Rattle.typing_model.specs.Parts.{Case}
 use Rattle.operand_laws.specs.Operands.{number_of}
@@ -67,6 +65,29 @@ use Rattle.case_rows.proofs.Cases.{guard_none}
 use Rattle.expression_steps.proofs.CarryingLaws.{rows_same}
 use Rattle.core_typing.specs.Sides.{sides_by}
 use Rattle.core_typing.proofs.CaseLaws.{node_if, by_match, by_function, by_fun, case_step, match_row, function_row, fun_row, cases_row, case_node, body_by, typed_unasked}
+use Rattle.pattern_typing.specs.Matching.{names_seen}
+use Rattle.case_rows.specs.Scopes.{names_added}
+use Rattle.binding_rows.specs.Groups.{names_opened}
+use Rattle.binding_rows.specs.Operands.{TypesRightBodyOf}
+use Rattle.binding_rows.proofs.Nodes.{let_node}
+use Rattle.binding_rows.proofs.Loops.{turns_start, turns_step, turns_end}
+use Rattle.binding_rows.proofs.Operands.{body_of_operand, right_of_operands, right_of_node, right_node_recorded, turn_missing, turn_there as turn_found, concludes_start, concludes_step, concludes_end, together_of_operands, group_of_turns, group_with_rec}
+use Rattle.binding_rows.proofs.Verdicts.{judged_missing, judged_there, judges_start, judges_step, judges_end, nodes_judged_start, nodes_judged_step, nodes_judged_end, judged_by_nodes, judged_group}
+use Rattle.binding_rows.specs.Lets.{names_closed}
+use Rattle.binding_rows.specs.LetNodes.{ClosesBindings}
+use Rattle.core_typing.specs.Bindings.{typed_of, closing_of, opened_of, node_of, generals}
+use Rattle.core_typing.proofs.ClosingLaws.{mapped_more}
+use Rattle.core_typing.proofs.LetLaws.{by_let, let_done, missing_asks, turn_concluded, turn_judged, conclusion_done, taken_first, none_left}
+use Rattle.typing_model.specs.Parts.{Field}
+use Rattle.typing_rows.specs.Contracts.{TypesEach}
+use Rattle.use_typing.specs.Records.{TypesRecordType}
+use Rattle.record_rows.specs.Values.{FieldsWritten}
+use Rattle.record_rows.specs.ValueOperands.{value_fields_of, IsCarriedValue}
+use Rattle.record_rows.specs.RecordExpressions.{values_of}
+use Rattle.record_rows.proofs.Values.{written_none, written_all}
+use Rattle.expression_steps.specs.Records.{here_of, names_written}
+use Rattle.core_typing.specs.Records.{TypesMadeOr, TypesPieces}
+use Rattle.core_typing.proofs.RecordCarrying.{by_record, record_there, field_given, field_punned, field_absent, field_by, value_step, made_done, loose_done, updated_done, behind_done, part_done, value_typed, value_absent, record_done, on_any}
 use Rattle.core_typing.proofs.+exprs.Goals as goal
 
 pub exprs::type_each-loop-e-preserved : goal.exprs::type_each-loop-e-preserved
@@ -402,10 +423,13 @@ records::type_fields-loop-field-preserved t c =
     let lt : i < length all = let n = c.loop-field-test.true in omega arith in
     let cut = drop_read all i x lt c.field-item.is in
     record {
+      found = c.in_ok-type_if_there.ensures.found ∙ c.loop-field.invariant.found;
       goes = goes_trans c.args.at.now c.loop-field.at c.type_if_there.new.at c.loop-field.invariant.goes c.type_if_there.ensures.goes;
       gets = gets_more (fields_steps (map expression_at (map operand_view all))) (expression_field (operand_view x)) (fields_steps (map expression_at (map operand_view (drop (i + 1) all)))) c.args.at.now c.loop-field.at c.type_if_there.new.at
           (subst (λ os. GetsOn c.args.at.now c.loop-field.at (fields_steps (map expression_at (map operand_view all))) (fields_steps (map expression_at (map operand_view os)))) cut c.loop-field.invariant.gets)
           c.type_if_there.ensures.goes c.in_ok-type_if_there.ensures.follows;
+      carries = value_step c.args.at.now c.loop-field.at c.type_if_there.new.at c.args.env.now (here_of c.args.fields.now.found) (here_of c.loop-field.fields.found) all i x (names_written c.args.fields.now.labels.items) (names_written c.loop-field.fields.labels.items) (names_written c.type_if_there.new.fields.labels.items)
+          lt c.field-item.is c.loop-field.invariant.goes c.loop-field.invariant.found c.loop-field.invariant.carries c.in_ok-type_if_there.ensures.carries;
     }
 
 pub records::record_of_part-returns-clause-follows : goal.records::record_of_part-returns-clause-follows
@@ -429,6 +453,28 @@ records::type_if_there-returns-clause-follows t c =
     subst (λ ss. OnOk c.type_field.result (Follows ss c.args.at.now c.type_field.new.at))
     (field_is c.args.field c.in-Some.node (path_view c.in_ok-label.label) c.first_operand-value.result c.in-Some.is c.in_ok-label.ensures c.first_operand-value.ensures) c.type_field.ensures.follows
 
+pub bindings::in_turn-loop-binding-init : goal.bindings::in_turn-loop-binding-init
+bindings::in_turn-loop-binding-init t c =
+    let os = c.args.bindings.now in
+    record {
+      goes = goes_refl c.args.at.now;
+      carries = turns_start c.args.at.now c.args.env.now os (names_seen c.new-seen.result.items) (map typed_of c.new-bound.result.items) (ap names_seen c.new-seen.ensures.items) (ap (map typed_of) c.new-bound.ensures.items);
+      general = judges_start os (generals c.new-bound.result.items) (ap generals c.new-bound.ensures.items);
+      gets = gets_start (each (λ b. turn_steps (expression_at b)) (map operand_view os)) c.args.at.now;
+    }
+
+pub bindings::in_turn-returns-clause-carries : goal.bindings::in_turn-returns-clause-carries
+bindings::in_turn-returns-clause-carries t c =
+    let os = c.args.bindings.now in
+    let i = c.loop-binding.binding-index in
+    turns_end c.args.at.now c.loop-binding.at c.args.env.now os (drop i os) (names_seen c.loop-binding.seen.items) (map typed_of c.loop-binding.bound.items) (drop_all i os c.loop-binding-test.false) c.loop-binding.invariant.carries
+
+pub bindings::in_turn-returns-clause-general : goal.bindings::in_turn-returns-clause-general
+bindings::in_turn-returns-clause-general t c =
+    let os = c.args.bindings.now in
+    let i = c.loop-binding.binding-index in
+    judges_end os (drop i os) (generals c.loop-binding.bound.items) (drop_all i os c.loop-binding-test.false) c.loop-binding.invariant.general
+
 pub bindings::in_turn-loop-binding-preserved : goal.bindings::in_turn-loop-binding-preserved
 bindings::in_turn-loop-binding-preserved t c =
     let all = c.args.bindings.now in
@@ -437,12 +483,35 @@ bindings::in_turn-loop-binding-preserved t c =
     let lt : i < length all = let n = c.loop-binding-test.true in omega arith in
     record {
       goes = goes_trans c.args.at.now c.loop-binding.at c.take_turn.new.at c.loop-binding.invariant.goes c.take_turn.ensures.goes;
+      carries = turns_step c.args.at.now c.loop-binding.at c.take_turn.new.at c.args.env.now all i x (names_seen c.loop-binding.seen.items) (names_seen c.take_turn.new.seen.items) (map typed_of c.loop-binding.bound.items) (map typed_of c.take_turn.new.bound.items) lt c.binding-item.is
+          c.loop-binding.invariant.goes c.loop-binding.invariant.carries c.in_ok-take_turn.ensures.carries;
+      general = judges_step all i x (generals c.loop-binding.bound.items) (generals c.take_turn.new.bound.items) lt c.binding-item.is c.loop-binding.invariant.general c.in_ok-take_turn.ensures.general;
       gets = gets_read (λ b. turn_steps (expression_at b)) operand_view _ all i x _ _ _ lt c.binding-item.is c.loop-binding.invariant.gets c.take_turn.ensures.goes c.in_ok-take_turn.ensures.follows;
     }
 
+pub bindings::let_in-returns-clause-carries : goal.bindings::let_in-returns-clause-carries
+bindings::let_in-returns-clause-carries t c = λ place node.
+    let bs = c.in_ok-bound.bound.items in
+    let d = c.close.new.at in
+    let_done c.args.at.now c.raise.new.at c.type_group.new.at d c.type_under.new.at c.args.env.now c.in_ok-behind.behind.env c.args.number place (node_view c.args.node.now) bs c.operand_in-body.result c.in_ok-ty.ty c.unnamed.result.ty node c.in_ok-raise.ensures.raised c.in_ok-bound.ensures.carries
+    c.in_ok-bound.ensures.general c.type_group.ensures.goes (subst (λ xs. ClosesBindings c.type_group.new.at d (map closing_of xs)) c.deref.ensures.value (c.in_ok-behind.ensures.carries refl)) c.close.ensures.goes
+    (c.in_ok-behind.ensures.names ∙ ap (λ xs. names_added (names_closed (map closing_of xs)) c.args.env.now) c.deref.ensures.value) c.operand_in-body.ensures c.in_ok-ty.ensures.carries c.unnamed.ensures.ty
+
+pub bindings::let_in-returns-clause-goes : goal.bindings::let_in-returns-clause-goes
+bindings::let_in-returns-clause-goes t c =
+    let closed = goes_trans c.raise.new.at c.type_group.new.at c.close.new.at c.type_group.ensures.goes c.close.ensures.goes in
+    goes_trans c.args.at.now c.raise.new.at c.type_under.new.at c.raise.ensures.goes (goes_trans c.raise.new.at c.close.new.at c.type_under.new.at closed c.type_under.ensures.goes)
+
+pub bindings::let_in-returns-in_err-ty-clause-goes : goal.bindings::let_in-returns-in_err-ty-clause-goes
+bindings::let_in-returns-in_err-ty-clause-goes t c =
+    let closed = goes_trans c.raise.new.at c.type_group.new.at c.close.new.at c.type_group.ensures.goes c.close.ensures.goes in
+    goes_trans c.args.at.now c.raise.new.at c.type_under.new.at c.raise.ensures.goes (goes_trans c.raise.new.at c.close.new.at c.type_under.new.at closed c.type_under.ensures.goes)
+
 pub bindings::let_in-returns-clause-follows : goal.bindings::let_in-returns-clause-follows
 bindings::let_in-returns-clause-follows t c =
-    let_follow c.args.number (node_view c.args.node.now) (operand_view c.operand_in-body.result) c.args.at.now c.type_group.new.at c.close.new.at c.type_under.new.at c.operand_in-body.ensures c.in_ok-bound.ensures.follows c.close.ensures.goes c.close.ensures.silent c.type_under.ensures.goes c.in_ok-ty.ensures.follows
+    let tree = node_view c.args.node.now in
+    follows_behind (steps_as form.Let c.args.number tree) c.args.at.now c.raise.new.at c.type_under.new.at c.raise.ensures.silent
+    (let_follow c.args.number tree (operand_view c.operand_in-body.result) c.raise.new.at c.type_group.new.at c.close.new.at c.type_under.new.at c.operand_in-body.ensures c.in_ok-bound.ensures.follows c.close.ensures.goes c.close.ensures.silent c.type_under.ensures.goes c.in_ok-ty.ensures.follows)
 
 pub bindings::turn-returns-clause-follows : goal.bindings::turn-returns-clause-follows
 bindings::turn-returns-clause-follows t c =
@@ -456,6 +525,109 @@ bindings::turn-returns-clause-follows t c =
     c.conclude.ensures.goes
     (subst (λ o. OnOk c.conclude.result (Follows (whole_steps (bound_pattern o.number (node_view o.node.now))) c.open_pattern.new.at c.conclude.new.at)) c.in_ok-opened.ensures.binding c.conclude.ensures.follows)
 
+pub bindings::turn-returns-clause-carries : goal.bindings::turn-returns-clause-carries
+bindings::turn-returns-clause-carries t c =
+    if_ok c.conclude.result _ _ (λ b h.
+    turn_concluded c.args.at.now c.recorded_right.new.at c.open_pattern.new.at c.conclude.new.at c.args.env.now c.args.binding c.in_ok-opened.opened c.in_ok-side.side b (names_seen c.args.seen.now.items) (names_seen c.open_pattern.new.seen.items)
+    c.in_ok-side.ensures.carries c.recorded_right.ensures.goes c.in_ok-opened.ensures.carries c.open_pattern.ensures.goes c.in_ok-opened.ensures.binding h) c.conclude.ensures.carries
+
+pub bindings::turn-returns-clause-general : goal.bindings::turn-returns-clause-general
+bindings::turn-returns-clause-general t c =
+    if_ok c.conclude.result _ _ (λ b h. turn_judged c.open_pattern.new.at c.conclude.new.at c.args.binding c.in_ok-opened.opened c.in_ok-side.side b c.in_ok-opened.ensures.binding h) c.conclude.ensures.carries
+
+pub bindings::take_turn-returns-in_default-clause-carries : goal.bindings::take_turn-returns-in_default-clause-carries
+bindings::take_turn-returns-in_default-clause-carries t c = turn_missing c.args.at.now c.args.env.now c.args.binding (names_seen c.args.seen.now.items) (map typed_of c.args.bound.now.items) c.in_default.is
+
+pub bindings::take_turn-returns-in_default-clause-general : goal.bindings::take_turn-returns-in_default-clause-general
+bindings::take_turn-returns-in_default-clause-general t c = judged_missing c.args.binding (generals c.args.bound.now.items) c.in_default.is
+
+pub bindings::take_turn-returns-clause-carries : goal.bindings::take_turn-returns-clause-carries
+bindings::take_turn-returns-clause-carries t c =
+    let old = c.args.bound.now.items in
+    let new = c.push.new.list.items in
+    on_ok c.push.result (λ pushed.
+    turn_found c.args.at.now c.turn.new.at c.args.env.now c.args.binding c.in-Some.node (names_seen c.args.seen.now.items) (names_seen c.turn.new.seen.items) (map typed_of old) (map typed_of new) (typed_of c.in_ok-one.one) c.in-Some.is
+    (mapped_more typed_of old new c.in_ok-one.one pushed) c.in_ok-one.ensures.carries) c.push.ensures.pushed
+
+pub bindings::take_turn-returns-clause-general : goal.bindings::take_turn-returns-clause-general
+bindings::take_turn-returns-clause-general t c =
+    let old = c.args.bound.now.items in
+    let new = c.push.new.list.items in
+    on_ok c.push.result (λ pushed.
+    judged_there c.args.binding c.in-Some.node (generals old) (generals new) c.in_ok-one.one.generalises c.in-Some.is (mapped_more (λ b. b.generalises) old new c.in_ok-one.one pushed) c.in_ok-one.ensures.general) c.push.ensures.pushed
+
+pub bindings::recorded_right-returns-clause-carries : goal.bindings::recorded_right-returns-clause-carries
+bindings::recorded_right-returns-clause-carries t c =
+    if_ok c.type_right.result _ _ (λ s h.
+    right_node_recorded c.args.at.now c.note_plain.new.self c.type_right.new.at c.args.env.now c.args.binding.number (node_view c.args.binding.node.now) s.right.0 s.whole.0 c.in_ok-note_plain.ensures.noted c.note_plain.ensures.rest c.note_plain.ensures.goes h)
+    c.type_right.ensures.carries
+
+pub bindings::together-returns-clause-carries : goal.bindings::together-returns-clause-carries
+bindings::together-returns-clause-carries t c =
+    let os = c.in_ok-opened.opened.items in
+    if_ok c.conclude_all.result _ _ (λ bs h.
+    together_of_operands c.args.at.now c.open_all.new.at c.conclude_all.new.at c.args.env.now c.in_ok-within.within (map operand_view c.args.bindings.now) (map node_of os) (map opened_of os) (map typed_of bs.items) c.in_ok-opened.ensures.carries c.open_all.ensures.goes
+    (c.in_ok-within.ensures.scope ∙ ap (λ xs. names_added (names_opened (map opened_of xs)) c.args.env.now) c.deref.ensures.value) c.in_ok-opened.ensures.nodes h) c.conclude_all.ensures.carries
+
+pub bindings::together-returns-clause-general : goal.bindings::together-returns-clause-general
+bindings::together-returns-clause-general t c =
+    if_ok c.conclude_all.result _ _ (λ bs h. judged_by_nodes (map operand_view c.args.bindings.now) (map node_of c.in_ok-opened.opened.items) (generals bs.items) c.in_ok-opened.ensures.nodes h) c.conclude_all.ensures.general
+
+pub bindings::conclude_one-returns-clause-carries : goal.bindings::conclude_one-returns-clause-carries
+bindings::conclude_one-returns-clause-carries t c =
+    if_ok c.conclude.result _ _ (λ b h.
+    conclusion_done c.args.at.now c.type_right.new.at c.conclude.new.at c.args.within.now c.args.opened c.in_ok-side.side b c.in_ok-side.ensures.carries c.type_right.ensures.goes h) c.conclude.ensures.carries
+
+pub bindings::conclude_one-returns-clause-general : goal.bindings::conclude_one-returns-clause-general
+bindings::conclude_one-returns-clause-general t c = if_ok c.conclude.result _ _ (λ b h. h.judged) c.conclude.ensures.carries
+
+pub bindings::type_right-returns-clause-carries : goal.bindings::type_right-returns-clause-carries
+bindings::type_right-returns-clause-carries t c =
+    let b = c.args.binding in
+    if_ok c.right_of.result _ _ (λ s h.
+    right_of_node c.args.at.now c.right_of.new.at c.args.within.now b.number (node_view b.node.now) (map operand_view c.deref.result.now) (option_map operand_view c.first_operand-written.result) (operand_view c.body_in.result) s.right.0 s.whole.0
+    (ap (map operand_view) c.deref.ensures.value ∙ c.in_ok-given.ensures) c.first_operand-written.ensures c.body_in.ensures h) c.right_of.ensures.carries
+
+pub bindings::right_of-returns-clause-carries : goal.bindings::right_of-returns-clause-carries
+bindings::right_of-returns-clause-carries t c =
+    let ms = numbers c.in_ok-parameters.parameters.items in
+    let o = operand_view c.args.body in
+    let written = node_if c.in_ok-annotation.annotation in
+    if_ok c.typed_body.result _ _ (λ s h.
+    right_of_operands c.args.at.now c.type_parameters.new.at c.annotation_of.new.at c.typed_body.new.at c.args.within.now c.in_ok-parameters.inner (map operand_view c.args.given.now) (option_map operand_view c.args.written) o ms written s.right.0 s.whole.0
+    c.in_ok-parameters.ensures.carries c.type_parameters.ensures.goes c.in_ok-annotation.ensures.carries c.annotation_of.ensures.goes
+    (subst (λ ns. TypesRightBodyOf c.annotation_of.new.at c.typed_body.new.at c.in_ok-parameters.inner o written (numbers ns) s.right.0 s.whole.0) c.deref.ensures.value h)) c.typed_body.ensures.carries
+
+pub bindings::typed_body-returns-clause-carries : goal.bindings::typed_body-returns-clause-carries
+bindings::typed_body-returns-clause-carries t c =
+    body_of_operand c.args.at.now c.type_under.new.at c.whole.new.at c.args.inner.now (operand_view c.args.body) (node_if c.args.annotation) (numbers c.args.parameters.now) c.in_ok-right.right.0 c.in_ok-whole.whole.0 c.in_ok-right.ensures.carries c.type_under.ensures.goes
+    c.in_ok-whole.ensures.carries
+
+pub bindings::conclude_all-loop-depth-init : goal.bindings::conclude_all-loop-depth-init
+bindings::conclude_all-loop-depth-init t c =
+    let os = c.args.opened.items in
+    record {
+      goes = goes_refl c.args.at.now;
+      carries = λ are. concludes_start c.args.at.now c.args.within.now (map node_of os) (map opened_of os) (map typed_of c.new-bound.result.items) (ap (map typed_of) c.new-bound.ensures.items) are;
+      general = λ are. nodes_judged_start (map node_of os) (generals c.new-bound.result.items) (ap generals c.new-bound.ensures.items) are;
+      gets = gets_start (each conclusion os) c.args.at.now;
+    }
+
+pub bindings::conclude_all-returns-clause-carries : goal.bindings::conclude_all-returns-clause-carries
+bindings::conclude_all-returns-clause-carries t c =
+    let os = c.args.opened.items in
+    let left = c.loop-depth.left in
+    let len : length left.items ≡ left.len = search rules in
+    let none = none_left left.items (ap (λ n. n == 0) len ∙ (sym c.is_empty.ensures ∙ c.loop-depth-test.false)) in
+    concludes_end c.args.at.now c.loop-depth.at c.args.within.now (map node_of os) (map node_of left.items) (map opened_of os) (map opened_of left.items) (map typed_of c.loop-depth.bound.items) (ap (map node_of) none) c.loop-depth.invariant.carries
+
+pub bindings::conclude_all-returns-clause-general : goal.bindings::conclude_all-returns-clause-general
+bindings::conclude_all-returns-clause-general t c =
+    let left = c.loop-depth.left in
+    let len : length left.items ≡ left.len = search rules in
+    let none = none_left left.items (ap (λ n. n == 0) len ∙ (sym c.is_empty.ensures ∙ c.loop-depth-test.false)) in
+    nodes_judged_end (map node_of c.args.opened.items) (map node_of left.items) (generals c.loop-depth.bound.items) (ap (map node_of) none) c.loop-depth.invariant.general
+
 pub bindings::take_turn-returns-clause-follows : goal.bindings::take_turn-returns-clause-follows
 bindings::take_turn-returns-clause-follows t c = done_follows c.push.result _ _ _ _ (sym (turn_of c.args.binding c.in-Some.node c.in-Some.is)) c.in_ok-one.ensures.follows
 
@@ -468,35 +640,67 @@ pub bindings::conclude_all-loop-depth-preserved : goal.bindings::conclude_all-lo
 bindings::conclude_all-loop-depth-preserved t c =
     let left = c.loop-depth.left in
     let len : length left.items ≡ left.len = search rules in
+    let some = ap (λ n. n == 0) len ∙ (sym c.is_empty.ensures ∙ c.loop-depth-test.true) in
+    let os = c.args.opened.items in
+    let rest = c.remove-one.new.self.items in
+    let one = c.remove-one.result in
+    let cut = taken_first left.items rest one some c.remove-one.ensures.value c.remove-one.ensures.items in
+    let before = c.loop-depth.bound.items in
+    let now = c.push.new.list.items in
     record {
       goes = goes_trans c.args.at.now c.loop-depth.at c.conclude_one.new.at c.loop-depth.invariant.goes c.conclude_one.ensures.goes;
+      carries = λ are. concludes_step c.args.at.now c.loop-depth.at c.conclude_one.new.at c.args.within.now (map node_of os) (map node_of left.items) (map node_of rest) (node_of one) (map opened_of os) (map opened_of left.items) (map opened_of rest) (opened_of one)
+          (map typed_of before) (map typed_of now) (typed_of c.in_ok-done.done) (ap (map node_of) cut) (ap (map opened_of) cut) (mapped_more typed_of before now c.in_ok-done.done c.in_ok-push.ensures.pushed) c.loop-depth.invariant.goes (c.loop-depth.invariant.carries are)
+          c.in_ok-done.ensures.carries;
+      general = λ are. nodes_judged_step (map node_of os) (map node_of left.items) (map node_of rest) (node_of one) (generals before) (generals now) c.in_ok-done.done.generalises (ap (map node_of) cut) (mapped_more (λ b. b.generalises) before now c.in_ok-done.done c.in_ok-push.ensures.pushed)
+          (c.loop-depth.invariant.general are) c.in_ok-done.ensures.general;
       gets = first_gets conclusion left.items c.remove-one.new.self.items c.remove-one.result (each conclusion c.args.opened.items) c.args.at.now c.loop-depth.at c.conclude_one.new.at
-          (ap (λ n. n == 0) len ∙ (sym c.is_empty.ensures ∙ c.loop-depth-test.true)) c.remove-one.ensures.value c.remove-one.ensures.items c.loop-depth.invariant.gets c.conclude_one.ensures.goes c.in_ok-done.ensures.follows;
+          some c.remove-one.ensures.value c.remove-one.ensures.items c.loop-depth.invariant.gets c.conclude_one.ensures.goes c.in_ok-done.ensures.follows;
     }
 
 pub bindings::type_group-returns-in-None-clause-follows : goal.bindings::type_group-returns-in-None-clause-follows
 bindings::type_group-returns-in-None-clause-follows t c =
     let n = c.args.number in
     let tree = node_view c.args.node.now in
-    let begun : Parts = record (c.args.at.now) { level = c.saturating_add-at.result } in
     let os = map operand_view c.deref-in-None.result.now in
-    ends_behind c.in_turn.result (bindings_at n tree) c.args.at.now begun c.in_turn.new.at refl
-    (turns_follow c.in_turn.result n tree os begun c.note_missing.new.at c.in_turn.new.at (ap (map operand_view) c.deref-in-None.ensures.value ∙ c.in_ok-bindings.ensures)
+    turns_follow c.in_turn.result n tree os c.args.at.now c.note_missing.new.at c.in_turn.new.at (ap (map operand_view) c.deref-in-None.ensures.value ∙ c.in_ok-bindings.ensures)
     (no_token tree c.token.result c.token.ensures c.in-None.is)
-    (subst (λ xs. Follows (each lost_steps (map operand_view xs)) begun c.note_missing.new.at) (c.deref.ensures.value ∙ sym c.deref-in-None.ensures.value) c.in_ok-note_missing.ensures.follows)
-    c.in_turn.ensures.goes c.in_turn.ensures.follows)
+    (subst (λ xs. Follows (each lost_steps (map operand_view xs)) c.args.at.now c.note_missing.new.at) (c.deref.ensures.value ∙ sym c.deref-in-None.ensures.value) c.in_ok-note_missing.ensures.follows)
+    c.in_turn.ensures.goes c.in_turn.ensures.follows
+
+pub bindings::type_group-returns-in-None-clause-carries : goal.bindings::type_group-returns-in-None-clause-carries
+bindings::type_group-returns-in-None-clause-carries t c =
+    let tree = node_view c.args.node.now in
+    if_ok c.in_turn.result _ _ (λ bs h.
+    group_of_turns c.args.at.now c.note_missing.new.at c.in_turn.new.at c.args.env.now c.args.number tree (map operand_view c.deref-in-None.result.now) (map typed_of bs.items) (ap (map operand_view) c.deref-in-None.ensures.value ∙ c.in_ok-bindings.ensures)
+    (no_token tree c.token.result c.token.ensures c.in-None.is) (missing_asks c.args.at.now c.note_missing.new.at c.in_ok-note_missing.ensures.notes) c.note_missing.ensures.goes h) c.in_turn.ensures.carries
+
+pub bindings::type_group-returns-in-None-clause-general : goal.bindings::type_group-returns-in-None-clause-general
+bindings::type_group-returns-in-None-clause-general t c =
+    if_ok c.in_turn.result _ _ (λ bs h.
+    judged_group c.args.number (node_view c.args.node.now) (map operand_view c.deref-in-None.result.now) (generals bs.items) (ap (map operand_view) c.deref-in-None.ensures.value ∙ c.in_ok-bindings.ensures) h) c.in_turn.ensures.general
 
 pub bindings::type_group-returns-clause-follows : goal.bindings::type_group-returns-clause-follows
 bindings::type_group-returns-clause-follows t c =
     let n = c.args.number in
     let tree = node_view c.args.node.now in
-    let begun : Parts = record (c.args.at.now) { level = c.saturating_add-at.result } in
     let os = map operand_view c.deref-in-Some.result.now in
-    ends_behind c.together.result (bindings_at n tree) c.args.at.now begun c.together.new.at refl
-    (together_follow c.together.result n tree os (tok_of c.in-Some.field-0.now) begun c.note_missing.new.at c.together.new.at (ap (map operand_view) c.deref-in-Some.ensures.value ∙ c.in_ok-bindings.ensures)
+    together_follow c.together.result n tree os (tok_of c.in-Some.field-0.now) c.args.at.now c.note_missing.new.at c.together.new.at (ap (map operand_view) c.deref-in-Some.ensures.value ∙ c.in_ok-bindings.ensures)
     (some_token tree c.token.result c.in-Some.field-0 c.token.ensures c.in-Some.is)
-    (subst (λ xs. Follows (each lost_steps (map operand_view xs)) begun c.note_missing.new.at) (c.deref.ensures.value ∙ sym c.deref-in-Some.ensures.value) c.in_ok-note_missing.ensures.follows)
-    c.together.ensures.goes c.together.ensures.follows)
+    (subst (λ xs. Follows (each lost_steps (map operand_view xs)) c.args.at.now c.note_missing.new.at) (c.deref.ensures.value ∙ sym c.deref-in-Some.ensures.value) c.in_ok-note_missing.ensures.follows)
+    c.together.ensures.goes c.together.ensures.follows
+
+pub bindings::type_group-returns-clause-carries : goal.bindings::type_group-returns-clause-carries
+bindings::type_group-returns-clause-carries t c =
+    let tree = node_view c.args.node.now in
+    if_ok c.together.result _ _ (λ bs h.
+    group_with_rec c.args.at.now c.note_missing.new.at c.together.new.at c.args.env.now c.args.number tree (tok_of c.in-Some.field-0.now) (map operand_view c.deref-in-Some.result.now) (map typed_of bs.items) (ap (map operand_view) c.deref-in-Some.ensures.value ∙ c.in_ok-bindings.ensures)
+    (some_token tree c.token.result c.in-Some.field-0 c.token.ensures c.in-Some.is) (missing_asks c.args.at.now c.note_missing.new.at c.in_ok-note_missing.ensures.notes) c.note_missing.ensures.goes h) c.together.ensures.carries
+
+pub bindings::type_group-returns-clause-general : goal.bindings::type_group-returns-clause-general
+bindings::type_group-returns-clause-general t c =
+    if_ok c.together.result _ _ (λ bs h.
+    judged_group c.args.number (node_view c.args.node.now) (map operand_view c.deref-in-Some.result.now) (generals bs.items) (ap (map operand_view) c.deref-in-Some.ensures.value ∙ c.in_ok-bindings.ensures) h) c.together.ensures.general
 
 pub exprs::type_each-loop-e-init : goal.exprs::type_each-loop-e-init
 exprs::type_each-loop-e-init t c = record {
@@ -797,13 +1001,17 @@ pub exprs::typed_row-returns-in-Record-clause-carries : goal.exprs::typed_row-re
 exprs::typed_row-returns-in-Record-clause-carries t c =
     let tree = node_view c.args.node.now in
     let is : form_of (row_at tree) ≡ form.Record = ap form_of (row_of_node c.args.node.now) ∙ sym c.form_of.ensures ∙ c.in-Record.is in
-    if_any c.record.result _ (λ u place carried. absurd (form_there c.args.number place tree form.Record carried (sym is)))
+    if_ok c.record.result _ _ (λ u h place carried.
+    signed_row c.args.at.now c.record.new.at c.args.env.now c.args.at.now.item c.args.number place tree (is_negated c.args.sign) u.ty.0 (usual_by c.args.number place tree form.Record carried is tt)
+    (subst (λ q. TypesRow c.args.at.now c.record.new.at c.args.env.now (λ x. (row_expression c.args.at.now.item c.args.number q tree).typed x) (number_of c.args.at.now.item c.args.number) u.ty.0) (sym carried.placed)
+    (h (record_there c.args.number place tree (by_record tree is) carried)))) c.record.ensures.carries
 
 pub exprs::typed_row-returns-in-Let-clause-carries : goal.exprs::typed_row-returns-in-Let-clause-carries
 exprs::typed_row-returns-in-Let-clause-carries t c =
     let tree = node_view c.args.node.now in
     let is : form_of (row_at tree) ≡ form.Let = ap form_of (row_of_node c.args.node.now) ∙ sym c.form_of.ensures ∙ c.in-Let.is in
-    if_any c.let_in.result _ (λ u place carried. absurd (form_there c.args.number place tree form.Let carried (sym is)))
+    if_ok c.let_in.result _ _ (λ u h place carried.
+    signed_row c.args.at.now c.let_in.new.at c.args.env.now c.args.at.now.item c.args.number place tree (is_negated c.args.sign) u.ty.0 (usual_by c.args.number place tree form.Let carried is tt) (h place (let_node c.args.number place tree (by_let tree is) carried))) c.let_in.ensures.carries
 
 pub exprs::typed_row-returns-in-Match-clause-carries : goal.exprs::typed_row-returns-in-Match-clause-carries
 exprs::typed_row-returns-in-Match-clause-carries t c =
@@ -825,3 +1033,140 @@ exprs::typed_row-returns-in-Function-clause-carries t c =
     let is : form_of (row_at tree) ≡ form.Function = ap form_of (row_of_node c.args.node.now) ∙ sym c.form_of.ensures ∙ c.in-Function.is in
     if_ok c.function.result _ _ (λ u h place carried.
     signed_row c.args.at.now c.function.new.at c.args.env.now c.args.at.now.item c.args.number place tree (is_negated c.args.sign) u.ty.0 (usual_by c.args.number place tree form.Function carried is tt) (h place (fun_node c.args.number place tree (by_fun tree is) carried))) c.function.ensures.carries
+
+pub records::record-returns-clause-carries : goal.records::record-returns-clause-carries
+records::record-returns-clause-carries t c =
+    let p : Pieces = record { span = (out-Node c.args.node.now).span; first = c.operand_in.result; value = c.first_operand.result; fields = c.in_ok-operands.field-0 } in
+    if_ok c.record_of.result _ _ (λ u h there.
+    record_done c.args.at.now c.record_of.new.at c.args.env.now c.args.number c.args.node.now p _ u.ty.0 refl c.operand_in.ensures c.first_operand.ensures c.in_ok-operands.ensures c.token.ensures h there) c.record_of.ensures.carries
+
+pub records::record_of-returns-in-Some-clause-carries : goal.records::record_of-returns-in-Some-clause-carries
+records::record_of-returns-in-Some-clause-carries t c =
+    if_ok c.updated.result _ _ (λ u h carried. subst (λ o. TypesPieces (option_map (λ x. tok_of x.now) o) c.args.at.now c.updated.new.at c.args.env.now c.args.pieces.now u.ty.0) (sym c.in-Some.is) (h carried)) c.updated.ensures.carries
+
+pub records::record_of-returns-in-None-clause-carries : goal.records::record_of-returns-in-None-clause-carries
+records::record_of-returns-in-None-clause-carries t c =
+    if_ok c.made_or_loose.result _ _ (λ u h carried. subst (λ o. TypesPieces (option_map (λ x. tok_of x.now) o) c.args.at.now c.made_or_loose.new.at c.args.env.now c.args.pieces.now u.ty.0) (sym c.in-None.is) (h carried)) c.made_or_loose.ensures.carries
+
+pub records::made_or_loose-returns-in-Some-clause-carries : goal.records::made_or_loose-returns-in-Some-clause-carries
+records::made_or_loose-returns-in-Some-clause-carries t c =
+    if_ok c.made.result _ _ (λ u h carried. subst (λ o. TypesMadeOr o c.args.at.now c.made.new.at c.args.env.now c.args.pieces.now u.ty.0) (ap (option_map path_view) (sym c.in-Some.is) ∙ c.in_ok-label.ensures) (h carried)) c.made.ensures.carries
+
+pub records::made_or_loose-returns-in-None-clause-carries : goal.records::made_or_loose-returns-in-None-clause-carries
+records::made_or_loose-returns-in-None-clause-carries t c =
+    if_ok c.loose.result _ _ (λ u h carried. subst (λ o. TypesMadeOr o c.args.at.now c.loose.new.at c.args.env.now c.args.pieces.now u.ty.0) (ap (option_map path_view) (sym c.in-None.is) ∙ c.in_ok-label.ensures) (h carried)) c.loose.ensures.carries
+
+pub records::made-returns-clause-carries : goal.records::made-returns-clause-carries
+records::made-returns-clause-carries t c =
+    let p = c.args.pieces.now in
+    let b = c.type_field.new.at in
+    let d = c.type_fields.new.at in
+    let env = c.args.env.now in
+    let before = c.type_field.new.fields in
+    let after = c.type_fields.new.fields in
+    if_ok c.complete.result _ _ (λ u ends carried.
+    made_done c.args.at.now c.record_of_made.new.at b d c.complete.new.at env (here_of c.in_ok-found.found) (here_of c.fields_in-fields.result.found) (here_of before.found) (here_of after.found) (place_of p.span) p.first.number (path_as (path_view c.args.label.now)) (option_map operand_view p.value) (map operand_view p.fields.items)
+    (names_written c.fields_in-fields.result.labels.items) (names_written before.labels.items) (names_written after.labels.items) u.ty.0 c.fields_in-fields.ensures.found c.in_ok-type_field.ensures.found c.in_ok-type_fields.ensures.found (ap names_written c.fields_in-fields.ensures.labels)
+    c.in_ok-found.ensures.carries c.in_ok-type_field.ensures.carries c.type_field.ensures.goes
+    (subst (λ os. All IsCarriedValue (map operand_view os) → FieldsWritten b d env (here_of before.found) (value_fields_of b.item (map operand_view os)) (names_written before.labels.items) (names_written after.labels.items)) c.deref.ensures.value c.in_ok-type_fields.ensures.carries) c.type_fields.ensures.goes
+    ends carried.value carried.fields) c.complete.ensures.carries
+
+pub records::loose-returns-clause-carries : goal.records::loose-returns-clause-carries
+records::loose-returns-clause-carries t c =
+    let p = c.args.pieces.now in
+    let b = c.type_if.new.at in
+    let d = c.type_fields.new.at in
+    let env = c.args.env.now in
+    let before = c.fields_in-fields.result in
+    let after = c.type_fields.new.fields in
+    if_ok c.complete.result _ _ (λ u ends carried there.
+    loose_done c.args.at.now c.record_behind.new.at b d c.complete.new.at env (here_of c.in_ok-found.found) (here_of before.found) (here_of after.found) (place_of p.span) (operand_view p.first) (option_map operand_view p.value) (map operand_view p.fields.items)
+    (names_written before.labels.items) (names_written after.labels.items) u.ty.0 c.fields_in-fields.ensures.found c.in_ok-type_fields.ensures.found (ap names_written c.fields_in-fields.ensures.labels)
+    (c.in_ok-found.ensures.carries there carried.first) (c.in_ok-type_if.ensures.carries carried.value) c.type_if.ensures.goes
+    (subst (λ os. All IsCarriedValue (map operand_view os) → FieldsWritten b d env (here_of before.found) (value_fields_of b.item (map operand_view os)) (names_written before.labels.items) (names_written after.labels.items)) c.deref.ensures.value c.in_ok-type_fields.ensures.carries) c.type_fields.ensures.goes
+    ends carried.fields) c.complete.ensures.carries
+
+pub records::record_behind-returns-clause-carries : goal.records::record_behind-returns-clause-carries
+records::record_behind-returns-clause-carries t c =
+    let p = c.args.pieces.now in
+    if_ok c.record_of_fields.result _ _ (λ r labels there carried.
+    behind_done c.args.at.now c.begin_loose.new.at c.type_under.new.at c.record_of_fields.new.at c.args.env.now r p.first c.in_ok-type_under.field-0.0 (map operand_view p.fields.items) there c.in_ok-begin_loose.ensures.carries c.begin_loose.ensures.goes
+    (c.in_ok-type_under.ensures.carries carried) c.type_under.ensures.goes
+    (subst (λ os. TypesRecordType r c.type_under.new.at c.record_of_fields.new.at c.args.env.now (map path_as (labels_of (map operand_view os)))) c.deref.ensures.value labels) c.record_of_fields.ensures.goes) c.record_of_fields.ensures.carries
+
+pub records::type_if-returns-in_default-clause-carries : goal.records::type_if-returns-in_default-clause-carries
+records::type_if-returns-in_default-clause-carries t c = λ carried.
+    subst (λ o. TypesEach c.args.at.now c.args.at.now c.args.env.now (values_of (option_map (expression_of c.args.at.now.item) (option_map operand_view o)))) (sym c.in_default.is) (value_absent c.args.at.now c.args.env.now)
+
+pub records::type_if-returns-in_ok-type_under-clause-carries : goal.records::type_if-returns-in_ok-type_under-clause-carries
+records::type_if-returns-in_ok-type_under-clause-carries t c =
+    subst (λ o. IfSome (option_map operand_view o) IsCarried → TypesEach c.args.at.now c.type_under.new.at c.args.env.now (values_of (option_map (expression_of c.args.at.now.item) (option_map operand_view o)))) (sym c.in-Some.is)
+    (value_typed c.args.at.now c.type_under.new.at c.args.env.now c.in-Some.e c.in_ok-type_under.field-0.0 c.in_ok-type_under.ensures.carries)
+
+pub records::updated-returns-clause-carries : goal.records::updated-returns-clause-carries
+records::updated-returns-clause-carries t c =
+    let p = c.args.pieces.now in
+    let b = c.record_of_part.new.at in
+    let d = c.type_fields.new.at in
+    let env = c.args.env.now in
+    let before = c.fields_in-fields.result in
+    let after = c.type_fields.new.fields in
+    if_ok c.type_of_record.result _ _ (λ u gives carried.
+    updated_done c.args.at.now b d c.type_of_record.new.at env (here_of c.in_ok-found.found) (here_of before.found) (here_of after.found) (operand_view p.first) (map operand_view p.fields.items) (names_written before.labels.items) (names_written after.labels.items) u.ty.0
+    c.fields_in-fields.ensures.found c.in_ok-type_fields.ensures.found (ap names_written c.fields_in-fields.ensures.labels) (c.in_ok-found.ensures.carries carried.first)
+    (subst (λ os. All IsCarriedValue (map operand_view os) → FieldsWritten b d env (here_of before.found) (value_fields_of b.item (map operand_view os)) (names_written before.labels.items) (names_written after.labels.items)) c.deref.ensures.value c.in_ok-type_fields.ensures.carries)
+    gives carried.fields) c.type_of_record.ensures.carries
+
+pub records::record_of_part-returns-clause-carries : goal.records::record_of_part-returns-clause-carries
+records::record_of_part-returns-clause-carries t c = λ carried.
+    let p = c.args.pieces.now in
+    part_done c.args.at.now c.note_missing.new.at c.type_under.new.at c.record_of_fields.new.at c.equal_if.new.at c.args.env.now c.in_ok-found.found c.ty.result p.first c.in_ok-ty.ty.0 (map operand_view p.fields.items) c.in_ok-note_missing.ensures.notes c.note_missing.ensures.goes
+    (c.in_ok-ty.ensures.carries carried) c.type_under.ensures.goes
+    (subst (λ os. TypesRecordType c.in_ok-found.found c.type_under.new.at c.record_of_fields.new.at c.args.env.now (map path_as (labels_of (map operand_view os)))) c.deref-2.ensures.value c.in_ok-found.ensures.carries) c.record_of_fields.ensures.goes
+    c.ty.ensures c.in_ok-equal_if.ensures.carries c.equal_if.ensures.goes
+
+pub records::type_fields-loop-field-init : goal.records::type_fields-loop-field-init
+records::type_fields-loop-field-init t c =
+    let all = c.args.given.now in
+    record {
+      goes = goes_refl c.args.at.now;
+      found = refl;
+      gets = gets_start (fields_steps (map expression_at (map operand_view all))) c.args.at.now;
+      carries = λ carried. written_none c.args.at.now c.args.env.now (here_of c.args.fields.now.found) (names_written c.args.fields.now.labels.items) (value_fields_of c.args.at.now.item (map operand_view all));
+    }
+
+pub records::type_fields-returns-clause-carries : goal.records::type_fields-returns-clause-carries
+records::type_fields-returns-clause-carries t c = λ carried.
+    let view : List Operand → List Field = λ os. value_fields_of c.args.at.now.item (map operand_view os) in
+    written_all c.args.at.now c.loop-field.at c.args.env.now (here_of c.args.fields.now.found) (view c.args.given.now) (view (drop c.loop-field.field-index c.args.given.now)) (names_written c.args.fields.now.labels.items) (names_written c.loop-field.fields.labels.items)
+    (ap view (drop_all c.loop-field.field-index c.args.given.now c.loop-field-test.false)) (c.loop-field.invariant.carries carried)
+
+pub records::type_fields-returns-clause-found : goal.records::type_fields-returns-clause-found
+records::type_fields-returns-clause-found t c = c.loop-field.invariant.found
+
+pub records::type_if_there-returns-in_default-clause-carries : goal.records::type_if_there-returns-in_default-clause-carries
+records::type_if_there-returns-in_default-clause-carries t c = field_absent c.args.at.now c.args.env.now (here_of c.args.fields.now.found) c.args.field (names_written c.args.fields.now.labels.items) c.in_default.is
+
+pub records::type_if_there-returns-clause-carries : goal.records::type_if_there-returns-clause-carries
+records::type_if_there-returns-clause-carries t c =
+    field_by c.type_field.result c.args.at.now c.type_field.new.at c.args.env.now (here_of c.args.fields.now.found) c.args.field c.in-Some.node (path_view c.in_ok-label.label) c.first_operand-value.result (names_written c.args.fields.now.labels.items) (names_written c.type_field.new.fields.labels.items)
+    c.in-Some.is c.in_ok-label.ensures c.first_operand-value.ensures c.type_field.ensures.carries
+
+pub records::type_field-returns-in-Some-clause-carries : goal.records::type_field-returns-in-Some-clause-carries
+records::type_field-returns-in-Some-clause-carries t c =
+    field_given c.type_value.result c.args.at.now c.begin_field.new.at c.type_value.new.at c.args.env.now c.args.fields.now.found c.args.number (path_view c.args.label.now) c.args.value c.in-Some.value c.in_ok-wanted.wanted c.args.fields.now.labels.items c.begin_field.new.fields.labels.items
+    c.in-Some.is c.in_ok-wanted.ensures.carries c.begin_field.ensures.goes c.in_ok-wanted.ensures.seen c.type_value.ensures.carries
+
+pub records::type_field-returns-in-Some-clause-found : goal.records::type_field-returns-in-Some-clause-found
+records::type_field-returns-in-Some-clause-found t c = on_any c.type_value.result _ (ap here_of c.begin_field.ensures.found)
+
+pub records::type_field-returns-in-None-clause-carries : goal.records::type_field-returns-in-None-clause-carries
+records::type_field-returns-in-None-clause-carries t c =
+    field_punned c.pun.result c.args.at.now c.begin_field.new.at c.pun.new.at c.args.env.now c.args.fields.now.found c.args.number (path_view c.args.label.now) c.args.value c.in_ok-wanted.wanted c.args.fields.now.labels.items c.begin_field.new.fields.labels.items
+    c.in-None.is c.in_ok-wanted.ensures.carries c.begin_field.ensures.goes c.in_ok-wanted.ensures.seen c.pun.ensures.carries
+
+pub records::type_field-returns-in-None-clause-found : goal.records::type_field-returns-in-None-clause-found
+records::type_field-returns-in-None-clause-found t c = on_any c.pun.result _ (ap here_of c.begin_field.ensures.found)
+
+pub records::type_value-returns-clause-carries : goal.records::type_value-returns-clause-carries
+records::type_value-returns-clause-carries t c = record { told = c.note_label.new.at; noted = c.in_ok-note_label.ensures.carries; goes = c.note_label.ensures.goes; value = c.in_ok-typed_as.ensures.carries }

@@ -16,6 +16,14 @@ use Rattle.use_typing.specs.Constants.{is_negated}
 use Rattle.typing_rows.specs.CarriedRows.{IsCarried}
 use Rattle.typing_rows.specs.Asked.{expressions_of, signed_expressions}
 use Rattle.typing_rows.specs.Contracts.{TypesFirst, TypesGivenFirst, TypesPartsFirst}
+use Rattle.pattern_typing.specs.Matching.{names_seen}
+use Rattle.binding_rows.specs.Carried.{IsNumberedBinding}
+use Rattle.binding_rows.specs.Operands.{TypesInTurnFirst, ConcludesNodesFirst}
+use Rattle.binding_rows.specs.Decided.{IsDecidedNumbered, JudgesOperandsFirst, JudgesNodesFirst}
+use Rattle.core_typing.specs.Bindings.{typed_of, opened_of, node_of, generals}
+use Rattle.record_rows.specs.Values.{FieldsWrittenFirst}
+use Rattle.record_rows.specs.ValueOperands.{value_fields_of, IsCarriedValue}
+use Rattle.expression_steps.specs.Records.{here_of, names_written}
 use Rattle.core_typing.proofs.+exprs.Given as goal
 
 abbrev pub decreases-exprs::type_under : goal.decreases-exprs::type_under
@@ -186,12 +194,17 @@ invariant-cases::type_each_case-loop-case l = record {
 abbrev pub invariant-bindings::in_turn-loop-binding : goal.invariant-bindings::in_turn-loop-binding
 invariant-bindings::in_turn-loop-binding l = record {
   goes : Goes l.fn.at l.at;
+  carries : TypesInTurnFirst l.fn.at l.at l.env l.bindings (drop l.binding-index l.bindings) (names_seen l.seen.items) (map typed_of l.bound.items);
+  general : JudgesOperandsFirst l.bindings (drop l.binding-index l.bindings) (generals l.bound.items);
   gets : GetsOn l.fn.at l.at (each (λ b. turn_steps (expression_at b)) (map operand_view l.bindings)) (each (λ b. turn_steps (expression_at b)) (map operand_view (drop l.binding-index l.bindings)));
 }
 
 abbrev pub invariant-bindings::conclude_all-loop-depth : goal.invariant-bindings::conclude_all-loop-depth
 invariant-bindings::conclude_all-loop-depth l = record {
   goes : Goes l.fn.at l.at;
+  carries : All IsNumberedBinding (map node_of l.fn.opened.items) →
+      ConcludesNodesFirst l.fn.at l.at l.within (map node_of l.fn.opened.items) (map node_of l.left.items) (map opened_of l.fn.opened.items) (map opened_of l.left.items) (map typed_of l.bound.items);
+  general : All IsDecidedNumbered (map node_of l.fn.opened.items) → JudgesNodesFirst (map node_of l.fn.opened.items) (map node_of l.left.items) (generals l.bound.items);
   gets : GetsOn l.fn.at l.at (each conclusion l.fn.opened.items) (each conclusion l.left.items);
 }
 
@@ -237,5 +250,8 @@ decreases-records::type_field l = 16 * l.depth.0 + 3
 abbrev pub invariant-records::type_fields-loop-field : goal.invariant-records::type_fields-loop-field
 invariant-records::type_fields-loop-field l = record {
   goes : Goes l.fn.at l.at;
+  found : here_of l.fields.found ≡ here_of l.fn.fields.found;
   gets : GetsOn l.fn.at l.at (fields_steps (map expression_at (map operand_view l.given))) (fields_steps (map expression_at (map operand_view (drop l.field-index l.given))));
+  carries : All IsCarriedValue (map operand_view l.given) →
+      FieldsWrittenFirst l.fn.at l.at l.env (here_of l.fn.fields.found) (value_fields_of l.fn.at.item (map operand_view l.given)) (value_fields_of l.fn.at.item (map operand_view (drop l.field-index l.given))) (names_written l.fn.fields.labels.items) (names_written l.fields.labels.items);
 }

@@ -1,6 +1,14 @@
+use Rattle.std.proofs.Common.{◌≡◌, drop}
+use Rattle.std.specs.Prelude.{None}
 use Rattle.typing_state.specs.Goes.{Goes}
 use Rattle.typing_state.specs.Steps.{Silent}
+use Rattle.core_typing.specs.Bindings.{name_nodes}
+use Rattle.core_typing.proofs.ClosingLaws.{NamesGeneralised}
 use Rattle.core_typing.proofs.bindings.close_names.Given as goal
 
 abbrev pub invariant-loop-name : goal.invariant-loop-name
-invariant-loop-name l = Goes l.fn.at l.at × Silent l.fn.at l.at
+invariant-loop-name l = record {
+  goes : Goes l.fn.at l.at;
+  silent : Silent l.fn.at l.at;
+  generalises : l.scope ≡ None → NamesGeneralised l.fn.at l.at (name_nodes (drop l.name-index l.names)) (name_nodes l.names);
+}

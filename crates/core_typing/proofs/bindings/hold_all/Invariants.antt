@@ -1,6 +1,13 @@
+use Rattle.std.proofs.Common.{map, drop}
 use Rattle.typing_state.specs.Goes.{Goes}
 use Rattle.typing_state.specs.Steps.{Silent}
+use Rattle.core_typing.specs.Bindings.{closing_of}
+use Rattle.core_typing.proofs.ClosingLaws.{HoldsFirst}
 use Rattle.core_typing.proofs.bindings.hold_all.Given as goal
 
 abbrev pub invariant-loop-one : goal.invariant-loop-one
-invariant-loop-one l = Goes l.fn.at l.at × Silent l.fn.at l.at
+invariant-loop-one l = record {
+  goes : Goes l.fn.at l.at;
+  silent : Silent l.fn.at l.at;
+  limits : HoldsFirst l.fn.at l.at l.level (map closing_of l.bound) (map closing_of (drop l.one-index l.bound));
+}

@@ -1,0 +1,11 @@
+use Rattle.std.proofs.Common.{◌∙◌, ◌∷◌, map, ap}
+use Rattle.row_parts.specs.Numbered.{operand_view, path_view}
+use Rattle.use_typing.specs.UseSteps.{labels_of}
+use Rattle.expression_steps.proofs.RecordLaws.{made_found}
+use Rattle.expression_steps.proofs.fields.record_of_made.Goals as goal
+
+pub returns-clause-carries : goal.returns-clause-carries
+returns-clause-carries c =
+    made_found c.record_of_labels.result c.args.at.now c.note_missing.new.at c.record_of_labels.new.at c.args.env.now (path_view c.args.label.now) (map operand_view c.args.pieces.now.fields.items) (map path_view c.deref-3.result.now)
+    (ap (map path_view) c.deref-3.ensures.value ∙ c.in_ok-labels.ensures ∙ ap (λ os. path_view c.args.label.now ∷ labels_of (map operand_view os)) c.deref-2.ensures.value)
+    c.in_ok-note_missing.ensures.notes c.note_missing.ensures.goes c.record_of_labels.ensures.carries c.record_of_labels.ensures.goes
