@@ -108,6 +108,26 @@ const CASES: &[Case] = &[
         Asked::Unused(&[2]),
     ),
     (
+        "unused after a name",
+        (&["1", "_", "2"], 1),
+        Asked::Unused(&[2]),
+    ),
+    (
+        "unused pair",
+        (&["(,)/true/_", "(,)/false/true", "(,)/true/false"], 1),
+        Asked::Unused(&[2]),
+    ),
+    (
+        "unused by the second part",
+        (&["(,)/1/_", "(,)/_/1", "(,)/2/1", "(,)/2/2"], 1),
+        Asked::Unused(&[2]),
+    ),
+    (
+        "unused list",
+        (&["::/1/_", "::/2/[]", "[]", "::/1/[]"], 1),
+        Asked::Unused(&[3]),
+    ),
+    (
         "unused wildcard",
         (&["None", "Some/true", "Some/false", "_"], 1),
         Asked::Unused(&[3]),

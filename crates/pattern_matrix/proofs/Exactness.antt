@@ -1,18 +1,18 @@
 -- From what the search finds to what a match tells.
-use Rattle.std.proofs.Common.{◌≡◌, ℕ, zero, suc, max, ◌≤◌, ◌<◌, Bool, true, false, not, ◌&&◌, ◌||◌, List, [], ◌∷◌, ◌++◌, length, map, take, Option, Some, None, refl, sym, ap, ◌∙◌, subst, arith}
+use Rattle.std.proofs.Common.{◌≡◌, ℕ, zero, suc, max, ◌≤◌, Bool, true, false, not, ◌&&◌, ◌||◌, List, [], ◌∷◌, ◌++◌, length, take, Option, Some, None, refl, sym, ap, ◌∙◌, subst, arith}
 use Rattle.std.specs.Prelude.{slice_get, option_map}
 use Rattle.std.proofs.lemmas.List.{take-map}
 use Rattle.std.proofs.Math.Nat.{max-le}
 use Rattle.std.proofs.lemmas.Option.{slice_get-map}
 use Rattle.type_model.specs.Types.{Typ}
 use Rattle.match_model.specs.Values.{Value, Values, no_values, also_value, match_all, Shape, is_in, all_in, Pattern}
-use Rattle.match_model.specs.Forms.{World, IsOf, AreOf}
-use Rattle.match_model.specs.Rows.{Row, depth_in, deepest, is_matched, IsUnused, Missed, IsExhaustive}
+use Rattle.match_model.specs.Forms.{World, AreOf}
+use Rattle.match_model.specs.Rows.{Row, depth_in, deepest, is_matched, IsUnused}
 use Rattle.match_model.specs.Shown.{list_of}
-use Rattle.pattern_matrix.specs.Lines.{Typed, Typeds, items_of, listed, Line, opened, shapes_in}
+use Rattle.pattern_matrix.specs.Lines.{listed, Line, opened, shapes_in}
 use Rattle.pattern_matrix.specs.Search.{Finds, row_in}
 use Rattle.pattern_matrix.specs.Typing.{plain, plains, AreTyped, IsSound}
-use Rattle.pattern_matrix.specs.Rows.{line_of, lines_of, unless_guarded, together, FindsShape, IsTold, AreUnused, covered_one, useful_one}
+use Rattle.pattern_matrix.specs.Rows.{line_of, lines_of, mark_of, near_lines, unless_guarded, together, FindsShape, IsTold, AreUnused, covered_one, useful_one}
 use Rattle.pattern_matrix.specs.Rows as told
 use Rattle.pattern_matrix.specs.Exact.{row_of, rows_of, IsRowTyped, AreRowsTyped, IsCovered, AddsTo, Tells, TellsMissed, unless, open_lines, AreThose, at_start, such, other}
 use Rattle.pattern_matrix.specs.declared.patterns.PatRow.{PatRow}
@@ -20,6 +20,7 @@ use Rattle.pattern_matrix.proofs.Listing.{items_of-listed}
 use Rattle.pattern_matrix.proofs.Matching.{Column, columns_at, match_line, match_some, LineFits, LinesFit, AreIn, values_list, items-match}
 use Rattle.pattern_matrix.proofs.Fitting.{max-first, max-second, parts-fit, opened-fit}
 use Rattle.pattern_matrix.proofs.Covers.{covers}
+use Rattle.pattern_matrix.proofs.Nearness.{near-match, near-fit}
 use Rattle.pattern_matrix.proofs.Misses.{in_shapes, gives}
 use Rattle.pattern_matrix.proofs.Showing.{erased, all_erased, bodies, Told, shows, alike}
 
@@ -98,6 +99,36 @@ pub tells : (rs : List PatRow) (r : PatRow) (o : Option Shape) → FindsShape (l
 tells rs r None f w ts d s hs h deep = found-none rs r f w ts d s hs h deep
 tells rs r (Some s') f w ts d s hs h deep = (f.0, f.2, found-some rs r f.0 f.1 w ts d s hs h deep)
 
+-- the same where the row is searched for in the lines near it alone
+pub near-none : (rs : List PatRow) (at : ℕ) (r : PatRow) → Finds (row_in (near_lines at (mark_of at r) rs) (line_of r)) None → (w : World) (ts : List Typ) (d : ℕ) → IsSound w → AreRowsTyped w ts rs →
+    IsRowTyped w ts r → deepest (row_of r ∷ rows_of rs) ≤ d → IsCovered w ts d (rows_of rs) (row_of r)
+near-none rs at r f w ts d s hs h deep = λ vs are m.
+    let a = max-first (depth_in (plains (listed (line_of r)))) (deepest (rows_of rs)) d deep in
+    let b = max-second (depth_in (plains (listed (line_of r)))) (deepest (rows_of rs)) d deep in
+    let cs = columns_at d ts in
+    let fit = line-fits w ts d (line_of r) h a in
+    let own = line-matches (line_of r) vs ∙ m in
+    rows-match rs vs ∙ sym (near-match w cs at (line_of r) rs (values_list vs) fit (are-in are) own)
+    ∙ covers w s f refl cs (near-fit w cs at (mark_of at r) rs (rows-fit w ts d rs hs b)) fit (values_list vs) (are-in are) own
+
+-- the same where shapes are found
+pub near-some : (rs : List PatRow) (at : ℕ) (r : PatRow) (ss : List Shape) → Finds (row_in (near_lines at (mark_of at r) rs) (line_of r)) (Some ss) → (w : World) (ts : List Typ) (d : ℕ) → IsSound w →
+    AreRowsTyped w ts rs → IsRowTyped w ts r → deepest (row_of r ∷ rows_of rs) ≤ d → AddsTo w ts d (rows_of rs) (row_of r) ss
+near-some rs at r ss f w ts d s hs h deep =
+    let a = max-first (depth_in (plains (listed (line_of r)))) (deepest (rows_of rs)) d deep in
+    let b = max-second (depth_in (plains (listed (line_of r)))) (deepest (rows_of rs)) d deep in
+    let cs = columns_at d ts in
+    let fit = line-fits w ts d (line_of r) h a in
+    let m = gives w s f ss refl cs (near-fit w cs at (mark_of at r) rs (rows-fit w ts d rs hs b)) fit in
+    let v = as-values w d ts m.0 m.1 in
+    record {
+      values = v.0;
+      typed = v.1;
+      shaped = shapes-on-values ss v.0 ∙ ap (in_shapes ss) v.2 ∙ m.3;
+      matched = sym (line-matches (line_of r) v.0) ∙ ap (match_line (line_of r)) v.2 ∙ m.2;
+      missed = rows-match rs v.0 ∙ ap (match_some (lines_of rs)) v.2 ∙ sym (near-match w cs at (line_of r) rs m.0 fit m.1 m.2) ∙ m.4;
+    }
+
 -- the rows before one
 typed-before : (w : World) (ts : List Typ) (k : ℕ) (rs : List PatRow) → AreRowsTyped w ts rs → AreRowsTyped w ts (take k rs)
 typed-before w ts zero rs h = tt
@@ -139,18 +170,18 @@ row-at rs k r e = slice_get-map row_of rs k ∙ ap (option_map row_of) e
 
 pub unused-told : (rs : List PatRow) (k : ℕ) → IsTold rs k true → (w : World) (ts : List Typ) → IsSound w → AreRowsTyped w ts rs → IsUnused w ts (rows_of rs) k
 unused-told rs k f w ts s hs =
-    let r = f.0 in
-    let cover = found-none (take k rs) r f.2 w ts (deepest (rows_of rs)) s (typed-before w ts k rs hs) (typed-at w ts k rs r hs f.1) (deep-of rs k r f.1) in
-    record { row = row_of r; stands = row-at rs k r f.1; each = λ vs are m. ap (λ q. is_matched q vs) (take-map row_of k rs) ∙ cover vs are m }
+    let r = f.1 in
+    let cover = near-none (take k rs) f.0 r f.3 w ts (deepest (rows_of rs)) s (typed-before w ts k rs hs) (typed-at w ts k rs r hs f.2) (deep-of rs k r f.2) in
+    record { row = row_of r; stands = row-at rs k r f.2; each = λ vs are m. ap (λ q. is_matched q vs) (take-map row_of k rs) ∙ cover vs are m }
 
 same-row : (a b : Row) → Some a ≡ Some b → a ≡ b
 same-row a b e = cc
 
 pub useful-told : (rs : List PatRow) (k : ℕ) → IsTold rs k false → (w : World) (ts : List Typ) → IsSound w → AreRowsTyped w ts rs → IsUnused w ts (rows_of rs) k → ⊥
 useful-told rs k f w ts s hs u =
-    let r = f.0 in
-    let m = found-some (take k rs) r f.2.0 f.2.1 w ts (deepest (rows_of rs)) s (typed-before w ts k rs hs) (typed-at w ts k rs r hs f.1) (deep-of rs k r f.1) in
-    let same : row_of r ≡ u.row = same-row (row_of r) u.row (sym (row-at rs k r f.1) ∙ u.stands) in
+    let r = f.1 in
+    let m = near-some (take k rs) f.0 r f.3.0 f.3.1 w ts (deepest (rows_of rs)) s (typed-before w ts k rs hs) (typed-at w ts k rs r hs f.2) (deep-of rs k r f.2) in
+    let same : row_of r ≡ u.row = same-row (row_of r) u.row (sym (row-at rs k r f.2) ∙ u.stands) in
     let yes : is_matched (take k (rows_of rs)) m.values ≡ true = u.each m.values m.typed (ap (λ q. match_all q.patterns m.values) (sym same) ∙ m.matched) in
     let x : true ≡ false = sym yes ∙ ap (λ q. is_matched q m.values) (take-map row_of k rs) ∙ m.missed in cc
 

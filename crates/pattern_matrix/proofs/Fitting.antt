@@ -1,5 +1,5 @@
 -- Lines that fit their columns, and what the steps of the search leave of them.
-use Rattle.std.proofs.Common.{◌≡◌, ℕ, zero, suc, pred, ◌≤◌, max, Bool, true, false, List, [], ◌∷◌, ◌++◌, length, ◌⊎◌, inl, inr, Option, Some, None, refl, sym, ap, ◌∙◌, subst, arith, cond}
+use Rattle.std.proofs.Common.{◌≡◌, ℕ, zero, suc, pred, ◌≤◌, max, Bool, true, false, List, [], ◌∷◌, ◌++◌, length, ◌⊎◌, inl, inr, Option, Some, None, refl, sym, ◌∙◌, subst, arith, cond}
 use Rattle.std.proofs.Math.Nat.{le-max_left, le-max_right}
 use Rattle.std.specs.Prelude.{unwrap_or}
 use Rattle.std.specs.Option.{option_or}
@@ -7,12 +7,12 @@ use Rattle.type_model.specs.Types.{Typ}
 use Rattle.signature_model.specs.Declarations.{Name}
 use Rattle.signature_model.specs.Components.{same_name}
 use Rattle.match_model.specs.Values.{Value, Values, no_values, also_value}
-use Rattle.match_model.specs.Forms.{Built, World, form_of, constructors_of, IsOne, IsOf, AreOf}
+use Rattle.match_model.specs.Forms.{Built, World, form_of, constructors_of, IsOne, AreOf}
 use Rattle.match_model.specs.Rows.{depth_of, depth_in}
-use Rattle.pattern_matrix.specs.Lines.{Member, Typed, Typeds, any, con, lit, either, none, also, items_of, Line, opened, Head, built_head, literal_head, under, under_each, line_under, lines_under, without_head, each_without_head, line_without_head, headless, family_in, family_in_some, family_of_line, family}
+use Rattle.pattern_matrix.specs.Lines.{Member, Typed, Typeds, any, con, lit, either, none, also, items_of, Line, opened, built_head, literal_head, under, under_each, lines_under, without_head, each_without_head, headless, family_in, family_in_some, family}
 use Rattle.pattern_matrix.specs.Search.{IsIn, here, there}
 use Rattle.pattern_matrix.specs.Typing.{plain, plains, members, IsTyped, AreTyped, AreAllTyped, IsSound}
-use Rattle.pattern_matrix.proofs.Matching.{Column, column_at, columns_at, match_line, match_some, LineFits, LinesFit, AreIn, values_list, name-is, or-first, or-second, or-cases}
+use Rattle.pattern_matrix.proofs.Matching.{Column, columns_at, match_line, match_some, LineFits, LinesFit, AreIn, values_list, name-is, or-first, or-second, or-cases}
 
 pub max-first : (a b d : ℕ) → max a b ≤ d → a ≤ d
 max-first a b d h = omega (arith, le-max_left a b)

@@ -1,5 +1,5 @@
 -- Each type has a value, and one that no line's first pattern is a head of.
-use Rattle.std.proofs.Common.{◌≡◌, ℕ, zero, suc, pred, ◌+◌, ◌≤◌, ◌<◌, Bool, true, false, ◌&&◌, ◌||◌, List, [], ◌∷◌, ◌++◌, length, map, ◌⊎◌, inl, inr, Option, Some, None, refl, sym, ap, ◌∙◌, subst, arith, cond}
+use Rattle.std.proofs.Common.{◌≡◌, ℕ, zero, suc, pred, ◌+◌, ◌≤◌, Bool, true, false, ◌&&◌, ◌||◌, List, [], ◌∷◌, length, map, ◌⊎◌, inl, inr, Option, Some, None, refl, sym, ap, ◌∙◌, subst, arith, cond}
 use Rattle.std.specs.Prelude.{option_map, unwrap_or}
 use Rattle.std.specs.Option.{option_or}
 use Rattle.type_model.specs.Types.{Typ}
@@ -7,9 +7,9 @@ use Rattle.signature_model.specs.Declarations.{Name}
 use Rattle.signature_model.specs.Components.{same_name}
 use Rattle.match_model.specs.Values.{Value, Values, built, literal, opaque, cut_off, no_values, also_value, matches, match_all, matches_some, is_in, all_in, Shape, open_shape}
 use Rattle.match_model.specs.Forms.{Built, Form, closed_form, open_form, literals, no_form, World, form_of, constructors_of, IsOne, first, later, IsOf, AreOf, below as cut}
-use Rattle.pattern_matrix.specs.Lines.{Member, Typed, Typeds, any, con, lit, either, none, also, Line, without_head, each_without_head, line_without_head, headless, is_head, some_is_head, heads_line, heads_some, family_in, family_in_some, family_of_line, family, first_absent, shapes_in, open_shapes, open_built, column, column_by}
-use Rattle.pattern_matrix.specs.Typing.{plain, plains, member, members, IsTyped, AreTyped, AreAllTyped, IsSound}
-use Rattle.pattern_matrix.proofs.Matching.{Column, match_line, match_some, LineFits, LinesFit, or-none, or-and, match_some-append, name-is, name-same, name-turned}
+use Rattle.pattern_matrix.specs.Lines.{Member, Typed, Typeds, any, con, lit, either, none, also, Line, without_head, each_without_head, headless, is_head, some_is_head, heads_some, family_in, family_in_some, family, first_absent, shapes_in, open_shapes, open_built, column, column_by}
+use Rattle.pattern_matrix.specs.Typing.{plain, plains, member, members, IsSound}
+use Rattle.pattern_matrix.proofs.Matching.{Column, match_line, match_some, LinesFit, or-none, or-and, match_some-append, name-is, name-same, name-turned}
 use Rattle.pattern_matrix.proofs.Fitting.{family-typed, family-typed-in}
 
 abbrev pub Some_of : World → ℕ → Typ → Type 0

@@ -9,5 +9,7 @@ pub mod Fitting
 pub mod Covers
 pub mod Inhabited
 pub mod Misses
+pub mod Marking
+pub mod Nearness
 pub mod Exactness
 pub mod Showing

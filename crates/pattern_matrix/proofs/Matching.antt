@@ -1,13 +1,13 @@
 -- Lines and the values that they match.
-use Rattle.std.proofs.Common.{◌≡◌, ℕ, zero, suc, ◌+◌, ◌≤◌, ◌<◌, Bool, true, false, not, ◌&&◌, ◌||◌, List, [], ◌∷◌, ◌++◌, length, map, ◌⊎◌, inl, inr, refl, sym, ap, ◌∙◌, subst, arith, cond}
+use Rattle.std.proofs.Common.{◌≡◌, ℕ, zero, suc, ◌≤◌, Bool, true, false, ◌&&◌, ◌||◌, List, [], ◌∷◌, ◌++◌, length, ◌⊎◌, inl, inr, refl, sym, ap, ◌∙◌, arith, cond}
 use Rattle.std.proofs.lemmas.Slice.Eq.{bytes_eq-Decides}
 use Rattle.type_model.specs.Types.{Typ}
 use Rattle.signature_model.specs.Declarations.{Name}
 use Rattle.signature_model.specs.Components.{same_name}
-use Rattle.match_model.specs.Values.{Value, Values, built, literal, opaque, cut_off, no_values, also_value, matches, match_all, matches_some, if_built, if_literal}
+use Rattle.match_model.specs.Values.{Value, Values, built, literal, no_values, also_value, matches, match_all, matches_some}
 use Rattle.match_model.specs.Forms.{Built, World, form_of, constructors_of, IsOne, IsOf, AreOf}
-use Rattle.match_model.specs.Rows.{depth_of, depth_in}
-use Rattle.pattern_matrix.specs.Lines.{Member, Typed, Typeds, any, con, lit, either, none, also, items_of, Line, opened, Head, built_head, literal_head, under, under_each, line_under, lines_under, without_head, each_without_head, line_without_head, headless}
+use Rattle.match_model.specs.Rows.{depth_of}
+use Rattle.pattern_matrix.specs.Lines.{Typed, Typeds, any, con, lit, either, none, also, items_of, Line, opened, built_head, literal_head, under, under_each, lines_under, without_head, each_without_head, headless}
 use Rattle.pattern_matrix.specs.Typing.{plain, plains, IsTyped, AreTyped, AreAllTyped, IsSound}
 
 -- tests

@@ -1,16 +1,16 @@
 -- Where shapes are found, they have values that the row matches and no line does.
-use Rattle.std.proofs.Common.{◌≡◌, ℕ, zero, suc, pred, ◌≤◌, ◌<◌, Bool, true, false, ◌&&◌, ◌||◌, List, [], ◌∷◌, ◌++◌, length, map, take, drop, ◌⊎◌, inl, inr, Option, Some, None, refl, sym, ap, ◌∙◌, subst, arith}
+use Rattle.std.proofs.Common.{◌≡◌, ℕ, pred, ◌≤◌, Bool, true, false, ◌&&◌, List, [], ◌∷◌, ◌++◌, length, map, take, drop, inl, inr, Option, Some, None, refl, sym, ap, ◌∙◌, subst}
 use Rattle.std.specs.Prelude.{option_map}
 use Rattle.type_model.specs.Types.{Typ}
 use Rattle.signature_model.specs.Declarations.{Name}
 use Rattle.signature_model.specs.Components.{same_name}
-use Rattle.match_model.specs.Values.{Value, Values, built, literal, no_values, also_value, matches, match_all, matches_some, Shape, open_shape, of_built, of_spelling, is_in, all_in}
+use Rattle.match_model.specs.Values.{Value, Values, built, literal, no_values, also_value, matches, match_all, matches_some, Shape, is_in, all_in}
 use Rattle.match_model.specs.Forms.{Built, World, form_of, constructors_of, IsOne, first, later, IsOf, AreOf}
 use Rattle.match_model.specs.Rows.{depth_of, depth_in}
-use Rattle.pattern_matrix.specs.Lines.{Member, Typed, Typeds, any, con, lit, either, none, also, items_of, Line, opened, built_head, literal_head, head_of, lines_under, headless, family, column, column_by, shapes_in}
-use Rattle.pattern_matrix.specs.Search.{Task, row_in, some_in, members_in, Finds, missed, covered, by_con, by_lit, by_either, by_members, by_default, squeezed, no_pattern, this_pattern, next_pattern, no_member, this_member, next_member, under_head, with_head, behind, IsSqueezed}
-use Rattle.pattern_matrix.specs.Typing.{plain, plains, member, members, IsTyped, AreTyped, AreAllTyped, IsSound}
-use Rattle.pattern_matrix.proofs.Matching.{Column, column_at, columns_at, match_line, match_some, LineFits, LinesFit, AreIn, values_list, name-is, name-same, and-left, and-right, and-both, or-first, or-second, match_line-append, items-match, opened-match, typed-length, values-length, lines_under-match, lines_under-match-literal, headless-match}
+use Rattle.pattern_matrix.specs.Lines.{Member, Typed, Typeds, any, con, lit, either, also, items_of, Line, opened, built_head, literal_head, head_of, lines_under, headless, family, column, shapes_in}
+use Rattle.pattern_matrix.specs.Search.{Task, row_in, some_in, members_in, Finds, missed, covered, by_con, by_lit, by_either, by_members, by_default, squeezed, no_pattern, this_pattern, next_pattern, no_member, this_member, next_member, with_head, IsSqueezed}
+use Rattle.pattern_matrix.specs.Typing.{plain, plains, member, members, AreAllTyped, IsSound}
+use Rattle.pattern_matrix.proofs.Matching.{Column, columns_at, match_line, match_some, LineFits, LinesFit, AreIn, values_list, name-same, and-left, and-right, and-both, or-first, or-second, match_line-append, items-match, typed-length, values-length, lines_under-match, lines_under-match-literal}
 use Rattle.pattern_matrix.proofs.Fitting.{below, max-first, max-second, parts-fit, fits-append, opened-fit, lines_under-fit, lines_under-fit-literal, headless-fit, among-fit, among-match, family-typed}
 use Rattle.pattern_matrix.proofs.Covers.{all-members, column-some}
 use Rattle.pattern_matrix.proofs.Weighing.{length-opened}

@@ -1,5 +1,5 @@
 -- What is found for a row that matches anything is the shape that is shown.
-use Rattle.std.proofs.Common.{◌≡◌, ℕ, zero, suc, pred, ◌≤◌, ◌<◌, Bool, true, false, ◌&&◌, ◌||◌, List, [], ◌∷◌, ◌++◌, length, map, take, drop, ◌⊎◌, inl, inr, Option, Some, None, refl, sym, ap, ◌∙◌, subst, arith, cond, append_assoc}
+use Rattle.std.proofs.Common.{◌≡◌, ℕ, zero, suc, pred, Bool, true, false, ◌&&◌, ◌||◌, List, [], ◌∷◌, ◌++◌, length, map, take, drop, ◌⊎◌, inl, inr, Option, Some, None, refl, sym, ap, ◌∙◌, subst, cond, append_assoc}
 use Rattle.std.specs.Prelude.{option_map, unwrap_or}
 use Rattle.std.proofs.lemmas.List.{map-append}
 use Rattle.type_model.specs.Types.{Typ}
@@ -10,10 +10,10 @@ use Rattle.match_model.specs.Values as model
 use Rattle.match_model.specs.Forms.{Built, Form, closed_form, open_form, literals, no_form, World, form_of, constructors_of, IsOne, first, later}
 use Rattle.match_model.specs.Shown as shown
 use Rattle.match_model.specs.Shown.{Shows, FirstShown, ShowsNone, NoneShown, is_complete, column_shape, all_head, some_head}
-use Rattle.pattern_matrix.specs.Lines.{Member, Typed, Typeds, any, con, lit, either, none, also, items_of, Line, opened, Head, built_head, literal_head, head_of, is_built, under, under_each, line_under, lines_under, without_head, each_without_head, headless, is_head, some_is_head, heads_line, heads_some, family_in, family_in_some, family_of_line, family, first_absent, open_built, open_shapes, column, column_by, shapes_in}
-use Rattle.pattern_matrix.specs.Search.{Task, row_in, some_in, members_in, Finds, missed, covered, by_con, by_lit, by_either, by_members, by_default, squeezed, no_pattern, this_pattern, next_pattern, no_member, this_member, next_member, under_head, with_head, behind, IsIn, here, there, IsSqueezed}
-use Rattle.pattern_matrix.specs.Typing.{plain, plains, member, members, IsTyped, AreTyped, AreAllTyped, IsSound}
-use Rattle.pattern_matrix.proofs.Matching.{Column, columns_at, LineFits, LinesFit, or_assoc, or-first, or-second, or-cases, or-none, both-ways, name-same}
+use Rattle.pattern_matrix.specs.Lines.{Member, Typed, Typeds, any, con, lit, either, none, also, items_of, Line, opened, built_head, head_of, under, under_each, lines_under, without_head, each_without_head, headless, is_head, some_is_head, heads_some, family_in, family_in_some, family, first_absent, open_built, open_shapes, column, column_by, shapes_in}
+use Rattle.pattern_matrix.specs.Search.{Task, row_in, some_in, members_in, Finds, missed, covered, by_con, by_lit, by_either, by_members, by_default, squeezed, no_pattern, this_pattern, next_pattern, no_member, this_member, next_member, with_head, behind, IsIn, here, there, IsSqueezed}
+use Rattle.pattern_matrix.specs.Typing.{plain, plains, member, members, IsTyped, AreAllTyped, IsSound}
+use Rattle.pattern_matrix.proofs.Matching.{Column, columns_at, LinesFit, or_assoc, or-first, or-second, or-cases, or-none, both-ways, name-same}
 use Rattle.pattern_matrix.proofs.Fitting.{lines_under-fit, headless-fit, among-fit, family-typed, first-or}
 use Rattle.pattern_matrix.proofs.Covers.{column-some}
 use Rattle.pattern_matrix.proofs.Inhabited.{all-headless, column-open, none-known}

@@ -1,9 +1,9 @@
 -- What a match tells: which rows are covered, which values are missed and which rows are unused, in a world in which its patterns are typed.
-use Rattle.std.specs.Prelude.{◌≡◌, ℕ, zero, suc, ◌≤◌, Bool, true, false, List, [], ◌∷◌, ◌++◌, map, length, Option, Some, None}
+use Rattle.std.specs.Prelude.{◌≡◌, ℕ, zero, suc, Bool, true, false, List, [], ◌∷◌, ◌++◌, map, Option, Some, None}
 use Rattle.type_model.specs.Types.{Typ}
 use Rattle.match_model.specs.Values.{Values, match_all, Shape, all_in}
 use Rattle.match_model.specs.Forms.{World, AreOf}
-use Rattle.match_model.specs.Rows.{Row, deepest, is_matched, Missed, IsExhaustive}
+use Rattle.match_model.specs.Rows.{Row, is_matched, Missed, IsExhaustive}
 use Rattle.match_model.specs.Shown.{Line, list_of, Shows, ShowsNone}
 use Rattle.pattern_matrix.specs.Lines.{listed, shapes_in}
 use Rattle.pattern_matrix.specs.Typing.{plains, AreTyped}

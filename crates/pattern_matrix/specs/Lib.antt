@@ -5,5 +5,6 @@ pub mod Search
 pub mod Views
 pub mod Known
 pub mod Rows
+pub mod Marks
 pub mod Typing
 pub mod Exact

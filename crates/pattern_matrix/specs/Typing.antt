@@ -1,10 +1,10 @@
 -- Patterns that are of a type, with the constructors that the type has, in a world without oddities.
-use Rattle.std.specs.Prelude.{◌≡◌, ℕ, List, [], ◌∷◌, length, map}
+use Rattle.std.specs.Prelude.{◌≡◌, List, [], ◌∷◌, length, map}
 use Rattle.type_model.specs.Types.{Typ}
 use Rattle.match_model.specs.Values.{Pattern, Patterns, of_constructor, of_literal, no_patterns, also_pattern}
 use Rattle.match_model.specs.Values as model
 use Rattle.match_model.specs.Forms.{Built, Form, closed_form, open_form, literals, no_form, World, form_of, constructors_of, IsOne}
-use Rattle.pattern_matrix.specs.Lines.{Member, Typed, Typeds, any, con, lit, either, none, also, Line}
+use Rattle.pattern_matrix.specs.Lines.{Member, Typed, Typeds, any, con, lit, either, none, also}
 
 -- a pattern as it matches values
 abbrev mutual

@@ -5,6 +5,7 @@
 
 mod columns;
 mod known;
+mod marks;
 mod patterns;
 mod printing;
 mod rows;

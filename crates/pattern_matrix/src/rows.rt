@@ -4,13 +4,14 @@ ghost use Rattle.type_model.specs.Types.{Typ};
 ghost use Rattle.match_model.specs.Forms.{World};
 ghost use Rattle.match_model.specs.Rows.{deepest, IsUnused};
 ghost use Rattle.pattern_matrix.specs.Search.{Finds, row_in};
-ghost use Rattle.pattern_matrix.specs.Views.{cells_view, lines_view, shape_of, shapes_view};
-ghost use Rattle.pattern_matrix.specs.Rows.{line_of, lines_of, together, FindsShape, IsTold};
+ghost use Rattle.pattern_matrix.specs.Views.{cells_view, line_view, lines_view, shape_of, shapes_view};
+ghost use Rattle.pattern_matrix.specs.Rows.{line_of, lines_of, mark_of, near_lines, together, FindsShape, IsTold};
 ghost use Rattle.pattern_matrix.specs.Typing.{IsSound};
 ghost use Rattle.pattern_matrix.specs.Exact.{row_of, rows_of, IsRowTyped, AreRowsTyped, Tells, TellsMissed, AreThose};
 
 use crate::columns::{Cell, Line, Stem, opened};
 use crate::known::Known;
+use crate::marks::{best_place, can_meet, mark_of, marks_of};
 use crate::patterns::{Matrix, PatRow, Shape};
 use crate::search::search;
 use std::alloc::{AllocError, Global};
@@ -48,7 +49,7 @@ fn find_shape<'a>(
 ) -> Result<Option<Shape>, NoMemory>
     ensures { IfOk result (λ r. FindsShape (lines_of rows.now) (cells_view row.entry.items) (option_map shape_of r)) }
 {
-    match find(alloc, rows, row)? {
+    match find(alloc, lines_of(alloc, rows)?, row)? {
         Some(shapes) => Ok(Some(together(shapes))),
         None => Ok(None),
     }
@@ -72,9 +73,11 @@ pub fn unused_rows(alloc: Global, matrix: &Matrix) -> Result<Vec<usize>, NoMemor
     ensures { IfOk result (λ us. (w : World) (ts : List Typ) → IsSound w → AreRowsTyped w ts matrix.now.rows.items →
         AreThose (λ k. IsUnused w ts (rows_of matrix.now.rows.items) k) (length matrix.now.rows.items) us.items) }
 {
+    let place = best_place(&matrix.rows);
+    let marks = marks_of(alloc, place, &matrix.rows)?;
     let mut unused = Vec::new(alloc);
     for i in 0..matrix.rows.len() {
-        if is_covered(alloc, &matrix.rows, i)? {
+        if is_covered(alloc, &matrix.rows, place, &marks, i)? {
             put(&mut unused, i)?;
         }
     }
@@ -82,12 +85,42 @@ pub fn unused_rows(alloc: Global, matrix: &Matrix) -> Result<Vec<usize>, NoMemor
 }
 
 /// Whether each value of a row is matched by an earlier row without a guard.
-fn is_covered(alloc: Global, rows: &[PatRow], at: usize) -> Result<bool, NoMemory>
-    requires { at < length rows.now }
+fn is_covered(
+    alloc: Global,
+    rows: &[PatRow],
+    place: usize,
+    marks: &[Option<u64>],
+    at: usize,
+) -> Result<bool, NoMemory>
+    requires within { at < length rows.now }
+    requires marks { marks.now ≡ map (mark_of place) rows.now }
     ensures { IfOk result (λ covered. IsTold rows.now at covered) }
 {
-    let found = find(alloc, &rows[..at], cells_of(alloc, &rows[at])?)?;
+    let row = &rows[at];
+    let near = near_lines(alloc, place, row, &rows[..at], &marks[..at])?;
+    let found = find(alloc, near, cells_of(alloc, row)?)?;
     Ok(found.is_none())
+}
+
+/// The lines of the rows without a guard whose marks can meet that of a row.
+fn near_lines<'a>(
+    alloc: Global,
+    place: usize,
+    row: &PatRow,
+    rows: &'a [PatRow],
+    marks: &[Option<u64>],
+) -> Result<Vec<Line<'a>>, NoMemory>
+    requires { marks.now ≡ map (mark_of place) rows.now }
+    ensures { IfOk result (λ ls. lines_view ls.items ≡ near_lines place (mark_of place row.now) rows.now) }
+{
+    let mark = mark_of(place, row);
+    let mut lines = Vec::new(alloc);
+    for (i, other) in rows.iter().enumerate() {
+        if can_meet(mark, marks[i]) && !other.guarded {
+            lines.push(line_of(alloc, other)?)?;
+        }
+    }
+    Ok(lines)
 }
 
 fn put(numbers: &mut Vec<usize>, number: usize) -> Result<(), NoMemory>
@@ -98,13 +131,13 @@ fn put(numbers: &mut Vec<usize>, number: usize) -> Result<(), NoMemory>
 
 fn find<'a>(
     alloc: Global,
-    rows: &'a [PatRow],
+    lines: Vec<Line<'a>>,
     row: Vec<Cell<'a>>,
 ) -> Result<Option<Vec<Shape>>, NoMemory>
-    ensures { IfOk result (λ r. Finds (row_in (lines_of rows.now) (cells_view row.entry.items)) (shapes_view r)) }
+    ensures { IfOk result (λ r. Finds (row_in (lines_view lines.entry.items) (cells_view row.entry.items)) (shapes_view r)) }
 {
     let mut known = Known::new(alloc);
-    search(alloc, &mut known, DEEPEST, lines_of(alloc, rows)?, row)
+    search(alloc, &mut known, DEEPEST, lines, row)
 }
 
 fn lines_of(alloc: Global, rows: &[PatRow]) -> Result<Vec<Line<'_>>, NoMemory>
@@ -113,14 +146,19 @@ fn lines_of(alloc: Global, rows: &[PatRow]) -> Result<Vec<Line<'_>>, NoMemory>
     let mut lines = Vec::new(alloc);
     for row in rows {
         if !row.guarded {
-            let line = Line {
-                cells: cells_of(alloc, row)?,
-                stem: Stem::Row,
-            };
-            lines.push(line)?;
+            lines.push(line_of(alloc, row)?)?;
         }
     }
     Ok(lines)
+}
+
+fn line_of(alloc: Global, row: &PatRow) -> Result<Line<'_>, NoMemory>
+    ensures { IfOk result (λ l. line_view l ≡ line_of row.now) }
+{
+    Ok(Line {
+        cells: cells_of(alloc, row)?,
+        stem: Stem::Row,
+    })
 }
 
 fn cells_of(alloc: Global, row: &PatRow) -> Result<Vec<Cell<'_>>, NoMemory>

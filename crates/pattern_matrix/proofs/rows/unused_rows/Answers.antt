@@ -12,7 +12,7 @@ pub loop-i-preserved : goal.loop-i-preserved
 loop-i-preserved c =
     let rs = c.args.matrix.now.rows.items in
     let i = c.loop-i.i in
-    let told = subst (λ xs. IsTold xs i c.in_ok-is_covered.field-0) c.deref.ensures.value c.in_ok-is_covered.ensures in
+    let told = subst (λ xs. IsTold xs i c.in_ok-is_covered.field-0) c.deref-in-loop-i.ensures.value c.in_ok-is_covered.ensures in
     elim c.if-branch.branch [
       | then-branch+in_ok-put w ↦ one-covered rs i c.loop-i.unused.items c.if-branch.unused.items (subst (λ b. IsTold rs i b) w.if-branch.true told) c.loop-i.invariant
           (ap (λ v. v.items) w.unused-is ∙ w.in_ok-put.ensures)

@@ -1,4 +1,4 @@
-use Rattle.std.proofs.Common.{◌≡◌, ℕ, ◌≤◌, ◌∷◌, List, subst}
+use Rattle.std.proofs.Common.{ℕ, ◌≤◌, ◌∷◌, List, subst}
 use Rattle.std.specs.Prelude.{option_map}
 use Rattle.std.proofs.lemmas.Result.{IfOk-weaker}
 use Rattle.type_model.specs.Types.{Typ}
