@@ -121,6 +121,13 @@ fn edit<A: Analyser>(
     }
 }
 
+/// Lets the text of a session go, with all that is kept of it.
+fn let_go<A: Analyser>(session: &mut Session<A>, alloc: Global)
+    ensures { session.new ≡ [] }
+{
+    *session = Session::<A>::new(alloc);
+}
+
 /// Why a document isn't read, where there may be no room for one more.
 fn with_room(why: Option<Unread>, room: Room) -> Option<Unread>
     ensures { (text : List ℕ) → content_of result text ≡ with_room_spec (is_free room) (content_of why text) }
@@ -263,7 +270,7 @@ impl<A: Analyser> Document<A> {
             _ => {
                 self.fresh = None;
                 self.why = Some(Unread::PassedOver);
-                self.session = Session::<A>::new(alloc);
+                let_go(&mut self.session, alloc);
             }
         }
     }

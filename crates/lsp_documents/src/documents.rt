@@ -29,9 +29,10 @@ use lsp_front::{
 };
 use lsp_positions::Columns;
 use lsp_queries::{answer_at, offset_in, outlined, proposed};
-use session::Session;
+use session::{Session, TriedText};
 use std::alloc::Global;
 use std::marker::Model;
+use std::mem;
 use syntax_tree::{Counts, NoMemory, RcStr};
 
 /// How many documents are read at once.
@@ -91,6 +92,8 @@ pub struct Documents<A: Analyser> {
     choices: Choices,
     ending: Ending,
     documents: Vec<Document<A>>,
+    /// What is kept of the texts that were tried, for the next request that tries some. No answer depends on it.
+    tried: TriedText<A>,
 }
 
 /// They are seen as what is kept of an editor.
@@ -118,6 +121,7 @@ impl<A: Analyser> Documents<A> {
             },
             ending: Ending::NotShut,
             documents: Vec::new(alloc),
+            tried: TriedText::new(alloc),
         }
     }
 
@@ -170,7 +174,7 @@ impl<A: Analyser> Documents<A> {
     {
         let spare = shared(&id)?;
         let settled = settled_by(&call);
-        match self.reply(id, call, counts) {
+        match self.asked(id, call, counts) {
             Ok(bytes) => {
                 self.settle(settled);
                 self.one(bytes)
@@ -180,11 +184,29 @@ impl<A: Analyser> Documents<A> {
     }
 
     /// The bytes of the answer to a request.
-    fn reply<C: Counts>(&self, id: Id, call: Call, counts: &mut C) -> Result<Vec<u8>, NoMemory>
+    fn asked<C: Counts>(&mut self, id: Id, call: Call, counts: &mut C) -> Result<Vec<u8>, NoMemory>
+        ensures is { IfOk result (λ v. (a : model.Answered) × Answers self.old (says.call_of call) a × (v.items ≡ bytes_put (model.result (says.id_of id) a))) }
+        ensures stays { self.new ≡ self.old }
+        ensures counted { Grows (C.tallies counts.old) (C.tallies counts.new) }
+    {
+        let mut tried = mem::replace(&mut self.tried, TriedText::new(self.alloc));
+        let bytes = self.reply(id, call, &mut tried, counts);
+        self.tried = tried;
+        bytes
+    }
+
+    /// The same. What is kept of the texts that are tried stays in `tried`.
+    fn reply<C: Counts>(
+        &self,
+        id: Id,
+        call: Call,
+        tried: &mut TriedText<A>,
+        counts: &mut C,
+    ) -> Result<Vec<u8>, NoMemory>
         ensures is { IfOk result (λ v. (a : model.Answered) × Answers self.now (says.call_of call) a × (v.items ≡ bytes_put (model.result (says.id_of id) a))) }
         ensures counted { Grows (C.tallies counts.old) (C.tallies counts.new) }
     {
-        let answered = self.answer(call, counts)?;
+        let answered = self.answer(call, tried, counts)?;
         response(self.alloc, id, answered)
     }
 
@@ -201,7 +223,12 @@ impl<A: Analyser> Documents<A> {
     }
 
     /// The result of a request.
-    fn answer<C: Counts>(&self, call: Call, counts: &mut C) -> Result<Answered, NoMemory>
+    fn answer<C: Counts>(
+        &self,
+        call: Call,
+        tried: &mut TriedText<A>,
+        counts: &mut C,
+    ) -> Result<Answered, NoMemory>
         ensures is { IfOk result (λ a. Answers self.now (says.call_of call) (puts.answered_of a)) }
         ensures counted { Grows (C.tallies counts.old) (C.tallies counts.new) }
     {
@@ -213,7 +240,7 @@ impl<A: Analyser> Documents<A> {
                 DocumentCall::Symbols => self.symbols(&uri, counts),
                 DocumentCall::Diagnostics => self.reported(&uri, counts),
             },
-            Call::Actions { uri, range, kinds } => self.actions(uri, range, kinds, counts),
+            Call::Actions { uri, range, kinds } => self.actions(uri, range, kinds, tried, counts),
         }
     }
 
@@ -278,6 +305,7 @@ impl<A: Analyser> Documents<A> {
         uri: RcStr,
         range: Range,
         kinds: Kinds,
+        tried: &mut TriedText<A>,
         counts: &mut C,
     ) -> Result<Answered, NoMemory>
         ensures is { IfOk result (λ a. Answers self.now (actions (str_bytes uri) (says.range_of range) (says.kinds_of kinds)) (puts.answered_of a)) }
@@ -286,7 +314,7 @@ impl<A: Analyser> Documents<A> {
         match self.text_of(&uri) {
             Some(text) => {
                 let by = self.choices.columns;
-                let actions = proposed(self.alloc, text, range, kinds, by, counts)?;
+                let actions = proposed(self.alloc, text, range, kinds, by, tried, counts)?;
                 Ok(Answered::Proposed { uri, actions })
             }
             None => Ok(Answered::Null),

@@ -286,8 +286,9 @@ fn with_cases(cases: Option<Action>, terms: Vec<Action>) -> Result<Vec<Action>, 
     Ok(actions)
 }
 
-/// The changes that are proposed round a range, where `tried` keeps what is read of the texts that are tried.
-fn proposed_trying<A: Analyser, C: Counts>(
+/// The changes that are proposed round a range: the cases of what is at its start, unless it is a hole, and then terms. What is kept
+/// of the texts that are tried stays in `tried`, for the next call; no answer depends on it.
+pub fn proposed<A: Analyser, C: Counts>(
     alloc: Global,
     session: &Session<A>,
     range: Range,
@@ -315,20 +316,4 @@ fn proposed_trying<A: Analyser, C: Counts>(
         counts,
     )?;
     with_cases(cases, terms)
-}
-
-/// The changes that are proposed round a range: the cases of what is at its start, unless it is a hole, and then terms.
-pub fn proposed<A: Analyser, C: Counts>(
-    alloc: Global,
-    session: &Session<A>,
-    range: Range,
-    kinds: Kinds,
-    by: Columns,
-    counts: &mut C,
-) -> Result<Vec<Action>, NoMemory>
-    ensures are { IfOk result (λ v. ProposedAre (says.kinds_of kinds) (columns_in by) session.now (says.range_of range) (map puts.action_of v.items)) }
-    ensures counted { Grows (C.tallies counts.old) (C.tallies counts.new) }
-{
-    let mut tried = TriedText::new(alloc);
-    proposed_trying(alloc, session, range, kinds, by, &mut tried, counts)
 }

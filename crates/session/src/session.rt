@@ -37,6 +37,7 @@ use kept_text::KeptText;
 use query_engine::{Asked, enclosing_types};
 use std::alloc::{AllocError, Global};
 use std::marker::Model;
+use std::mem;
 use syntax_tree::{Counts, NoMemory, Pos, RcStr, Tree, enclosing};
 use text_reading::{
     Found, KeptTypes, PlainText, TriedText, find_types, read_text, shown_faults, shown_outline,
@@ -158,6 +159,8 @@ pub struct Session<A: Analyser> {
     alloc: Global,
     kept: KeptText,
     types: KeptTypes<A>,
+    /// What is kept of the changed texts that were tried, for the next query that tries some. No reply depends on it.
+    tried: TriedText<A>,
 }
 
 /// A session is seen as the bytes of its text. Where the typer's items are known as those of the text, they are.
@@ -182,6 +185,7 @@ impl<A: Analyser> Session<A> {
             alloc,
             kept: KeptText::new(alloc),
             types: KeptTypes::new(),
+            tried: TriedText::new(alloc),
         }
     }
 
@@ -392,6 +396,23 @@ impl<A: Analyser> Session<A> {
         )
     }
 
+    /// The same, with what the session keeps of the texts that were tried.
+    fn ask_again<C: Counts>(
+        &mut self,
+        query: &Query,
+        offset: u32,
+        counts: &mut C,
+    ) -> Result<Reply, NoMemory>
+        ensures said { IfOk result (λ r. IsAnswered query.now self.old offset (said_of r)) }
+        ensures text { self.new ≡ self.old }
+        ensures counted { Grows (C.tallies counts.old) (C.tallies counts.new) }
+    {
+        let mut tried = mem::replace(&mut self.tried, TriedText::new(self.alloc));
+        let reply = self.ask_trying(query, offset, &mut tried, counts);
+        self.tried = tried;
+        reply
+    }
+
     /// A typer that holds the items of the present text, whose tree this is: the one that is kept, where it knows them, and else a
     /// new one.
     fn typed<C: Counts>(&self, tree: &Tree, counts: &mut C) -> Result<Found<'_, A>, NoMemory>
@@ -459,7 +480,7 @@ impl<A: Analyser> Session<A> {
         let Ok(()) = self.refresh(counts) else {
             return Line::Memory;
         };
-        match self.ask_at(query, offset, counts) {
+        match self.ask_again(query, offset, counts) {
             Ok(reply) => written(self.alloc, &reply),
             Err(_) => Line::Memory,
         }
