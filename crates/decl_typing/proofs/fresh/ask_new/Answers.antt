@@ -1,3 +1,4 @@
+use Rattle.typing_state.proofs.Going.{goes_refl}
 use Rattle.std.proofs.Common.{◌≡◌, subst}
 use Rattle.std.specs.Prelude.{if◌then◌else◌, true}
 use Rattle.std.specs.Str.{bytes_eq}
@@ -6,3 +7,12 @@ use Rattle.decl_typing.proofs.fresh.ask_new.Goals as goal
 
 pub returns-in-Ok-clause-added : goal.returns-in-Ok-clause-added
 returns-in-Ok-clause-added c q = subst (λ t. has c.insert.new.self q ≡ (if bytes_eq t q then true else has c.args.names.now q)) c.as_str-text.ensures (c.in-Ok.ensures.updates.0 (record { ref_ptr = (0, 0); now = q }))
+
+pub returns-in-Err-clause-goes : goal.returns-in-Err-clause-goes
+returns-in-Err-clause-goes c = goes_refl c.args.at.now
+
+pub returns-in-Ok-clause-goes : goal.returns-in-Ok-clause-goes
+returns-in-Ok-clause-goes c = goes_refl c.args.at.now
+
+pub returns-then-contains-clause-goes : goal.returns-then-contains-clause-goes
+returns-then-contains-clause-goes c = c.twice.ensures.goes

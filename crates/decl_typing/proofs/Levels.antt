@@ -1,0 +1,17 @@
+-- Calls at another level.
+use Rattle.std.proofs.Common.{ℕ, refl}
+use Rattle.typing_state.specs.declared.parts.Parts.{Parts}
+use Rattle.typing_state.specs.Goes.{Goes, SameWork}
+use Rattle.typing_state.proofs.Going.{inner_goes}
+
+-- the same at another level
+abbrev pub with_level : Parts → ℕ → Parts
+with_level at l = record { alloc = at.alloc; store = at.store; index = at.index; faults = at.faults; written = at.written; item = at.item; level = l; telling = at.telling; constants = at.constants }
+
+-- a level is no part of the work
+same_work : (at : Parts) (l : ℕ) → SameWork at (with_level at l)
+same_work at l = record { store = refl; index = refl; faults = refl; item = refl; constants = refl }
+
+-- what was there stays through a call at another level, and the level after it
+pub deeper_goes : (at after : Parts) (l m : ℕ) → Goes (with_level at l) after → Goes at (with_level after m)
+deeper_goes at after l m g = inner_goes at (with_level at l) after (with_level after m) (same_work at l) g (same_work after m) g.telling

@@ -1,0 +1,20 @@
+use Rattle.typing_state.proofs.Going.{goes_trans}
+use Rattle.decl_typing.proofs.decls.read_label.Goals as goal
+
+pub returns-in_err-field : goal.returns-in_err-field
+returns-in_err-field c = record { goes = c.read_type.ensures.goes }
+
+pub returns-in_err-note_plain-in-None : goal.returns-in_err-note_plain-in-None
+returns-in_err-note_plain-in-None c = record { goes = goes_trans c.args.at.now c.arrow.new.self c.note_plain.new.self (goes_trans c.args.at.now c.read_type.new.at c.arrow.new.self c.read_type.ensures.goes c.arrow.ensures.goes) c.note_plain.ensures.goes }
+
+pub returns-in_err-root : goal.returns-in_err-root
+returns-in_err-root c = record { goes = goes_trans c.args.at.now c.read_type.new.at c.arrow.new.self c.read_type.ensures.goes c.arrow.ensures.goes }
+
+pub returns-in_err-share-in-Some : goal.returns-in_err-share-in-Some
+returns-in_err-share-in-Some c = record { goes = goes_trans c.args.at.now c.read_type.new.at c.arrow.new.self c.read_type.ensures.goes c.arrow.ensures.goes }
+
+pub returns-in_ok-note_plain-in-None : goal.returns-in_ok-note_plain-in-None
+returns-in_ok-note_plain-in-None c = record { goes = goes_trans c.args.at.now c.arrow.new.self c.note_plain.new.self (goes_trans c.args.at.now c.read_type.new.at c.arrow.new.self c.read_type.ensures.goes c.arrow.ensures.goes) c.note_plain.ensures.goes }
+
+pub returns-in_ok-share-in-Some : goal.returns-in_ok-share-in-Some
+returns-in_ok-share-in-Some c = record { goes = goes_trans c.args.at.now c.read_type.new.at c.arrow.new.self c.read_type.ensures.goes c.arrow.ensures.goes }
