@@ -35,24 +35,23 @@ use Rattle.operand_laws.specs.Formed as formed
 use Rattle.operand_laws.specs.Operands.{number_of, expression_of}
 use Rattle.operand_laws.proofs.Standing.{expression_of_stands}
 use Rattle.typing_rows.specs.Asked.{row_expression}
-use Rattle.typing_rows.specs.CarriedRows.{is_named, IsCarried}
+use Rattle.typing_rows.specs.CarriedRows.{IsCarried}
 use Rattle.typing_rows.specs.Contracts.{TypesEach}
 use Rattle.record_rows.specs.Fields.{RecordHere, BeginsField}
 use Rattle.record_rows.specs.Operands.{labels_at}
 use Rattle.record_rows.specs.Values.{FieldsWritten, FieldsWrittenFirst}
 use Rattle.record_rows.specs.ValueOperands.{value_fields_of, IsCarriedValue, PunsValue, TypesFieldBy, TypesFieldPart}
-use Rattle.record_rows.specs.RecordExpressions.{TypesHere, HasRecord, GivesRecord, RefusesPart, values_of, loose_part, FindsRecord, FindsUpdated, EndsRecord, TypesMade, TypesLoose, TypesUpdated, IsLoose}
-use Rattle.record_rows.proofs.Going.{record_node, record_named}
+use Rattle.record_rows.specs.RecordExpressions.{TypesHere, HasRecord, GivesRecord, RefusesIf, values_of, loose_part, FindsRecord, FindsUpdated, EndsRecord, TypesMade, TypesLoose, TypesUpdated, IsLooseAt, IsRecordNode}
 use Rattle.record_rows.proofs.Nodes.{notes_ask}
 use Rattle.record_rows.proofs.RecordNodes.{made_fields, made_record, loose_finds, value_none, value_some, loose_record, updated_record, node_made, node_loose, node_updated}
 use Rattle.record_rows.proofs.ValueOperands.{value_operand_more}
 use Rattle.expression_steps.specs.declared.forms.RowForm.TheVariants as form
 use Rattle.expression_steps.specs.declared.fields.Pieces.{Pieces}
 use Rattle.expression_steps.specs.ExpressionSteps.{form_of, label_at, row_at}
-use Rattle.expression_steps.specs.Records.{here_of, names_written, RefusesIf}
+use Rattle.expression_steps.specs.Records.{here_of, names_written}
 use Rattle.expression_steps.proofs.CarryingLaws.{rows_same}
 use Rattle.expression_steps.proofs.ExpressionLaws.{place_of_node}
-use Rattle.core_typing.specs.Records.{AreCarriedPieces, IsRecordThere, RecordsValue, TypesMadeOr, TypesPieces}
+use Rattle.core_typing.specs.Records.{AreCarriedPieces, RecordsValue, TypesMadeOr, TypesPieces}
 use Rattle.core_typing.proofs.CaseLaws.{read_one}
 use Rattle.core_typing.proofs.LabelLaws.{operand_label, operand_loose}
 
@@ -63,10 +62,6 @@ record_form _ e = absurd (cc)
 -- a record by the form of its row
 pub by_record : (t : Tree) → form_of (row_at t) ≡ form.Record → formed.row_of t ≡ erecord_row
 by_record t e = rows_same t ∙ record_form (row_at t) e
-
--- a record that is made of carried rows
-pub record_there : (n : ℕ) (at : Place) (t : Tree) → formed.row_of t ≡ erecord_row → IsCarried (numbered n at (inner t)) → IsRecordThere n t
-record_there n at t row h = record { node = record_node n at t row h; named = record_named n t row h.rows }
 
 -- the beginning of a field, by what is known of its record
 begins_here : (found : RecordType) (a b : Parts) (labels : List Name) (p : Written) (ty : Option ℕ) → of_code.BeginsField found a b labels p ty → BeginsField (here_of found) a b labels p ty
@@ -144,7 +139,7 @@ made_done a e f d v env h h0 h1 h2 at number l value os ls0 ls1 ls2 m is0 is1 is
 
 -- the same with a first part that is no label
 pub loose_done : (a e f d v : Parts) (env : List Entry) (h h0 h1 : RecordHere) (at : Place) (first : Numbered) (value : Option Numbered) (os : List Numbered) (ls0 ls1 : List Name) (m : ℕ) → h0 ≡ h → h1 ≡ h0 → ls0 ≡ [] →
-    FindsRecord a e env h (λ n c. loose_part n (expression_of a.item first) c) (labels_at os) → TypesEach e f env (values_of (option_map (expression_of e.item) value)) → Goes e f → (All IsCarriedValue os → FieldsWritten f d env h0 (value_fields_of f.item os) ls0 ls1) → Goes f d →
+    FindsRecord a e env h (λ n c. loose_part first.part n (expression_of a.item first) c) (labels_at os) → TypesEach e f env (values_of (option_map (expression_of e.item) value)) → Goes e f → (All IsCarriedValue os → FieldsWritten f d env h0 (value_fields_of f.item os) ls0 ls1) → Goes f d →
     EndsRecord d v h1 ls1 at m → All IsCarriedValue os → TypesLoose a v env at first value os m
 loose_done a e f d v env h h0 h1 at first value os ls0 ls1 m is0 is1 none finds typed goes fields goes' ends carried =
     loose_record a e f d v env h at first value os ls1 m carried finds typed goes
@@ -164,18 +159,12 @@ types_here : (found : RecordType) (a b : Parts) (env : List Entry) (os : List Nu
 types_here (record_type.Known d m) a b env os h = h
 types_here record_type.Open a b env os h = h
 
--- a first part that is there is refused
-refused_there : (p : Part) (a b : Parts) (at : Place) → is_named p ≡ true → RefusesIf p a b at → RefusesPart a b at
-refused_there (taken t) a b at there h = absurd (cc)
-refused_there (inner t) a b at there h = h
-refused_there (missing q) a b at there h = absurd (cc)
-
 -- a first part that is no label, and the record type of the labels behind it
-pub behind_done : (a b f e : Parts) (env : List Entry) (found : RecordType) (first : Operand) (w : ℕ) (os : List Numbered) → is_named (operand_view first).part ≡ true → RefusesIf (operand_view first).part a b (place_of first.span) → Goes a b →
+pub behind_done : (a b f e : Parts) (env : List Entry) (found : RecordType) (first : Operand) (w : ℕ) (os : List Numbered) → RefusesIf (operand_view first).part a b (place_of first.span) → Goes a b →
     TypesTo b f env (λ c. (expression_of b.item (operand_view first)).typed c) (λ ch. ch.type_at (expression_of b.item (operand_view first)).node) w → Goes b f → TypesRecordType found f e env (map path_as (labels_of os)) → Goes f e →
-    FindsRecord a e env (here_of found) (λ n c. loose_part n (expression_of a.item (operand_view first)) c) (labels_at os)
-behind_done a b f e env found first w os there refused goes typed goes' labels goes'' =
-    loose_finds a b f e env (here_of found) (operand_view first) w (labels_at os) (refused_there (operand_view first).part a b (place_of first.span) there refused) goes typed goes' (types_here found f e env os labels) goes''
+    FindsRecord a e env (here_of found) (λ n c. loose_part (operand_view first).part n (expression_of a.item (operand_view first)) c) (labels_at os)
+behind_done a b f e env found first w os refused goes typed goes' labels goes'' =
+    loose_finds a b f e env (here_of found) (operand_view first) w (labels_at os) refused goes typed goes' (types_here found f e env os labels) goes''
 
 -- the part of a record that is updated has its type, where that is known
 has_record : (found : RecordType) (a b : Parts) (at : Place) (w : ℕ) → AsksEqualIf a b at w (node_of found) → HasRecord (here_of found) a b at w
@@ -212,7 +201,7 @@ value_absent a env = value_none a env
 
 -- a record by the code's pieces
 pub record_done : (a d : Parts) (env : List Entry) (n : ℕ) (nd : Node) (p : Pieces) (w : Option Tok) (m : ℕ) → place_of p.span ≡ place_of (out-Node nd).span → operand_view p.first ≡ filled_in n (node_view nd) 1 → option_map operand_view p.value ≡ first_in n (node_view nd) 3 →
-    map operand_view p.fields.items ≡ operands_in n (node_view nd) 5 → w ≡ token_in (node_view nd) 4 → (AreCarriedPieces p → TypesPieces w a d env p m) → IsRecordThere n (node_view nd) →
+    map operand_view p.fields.items ≡ operands_in n (node_view nd) 5 → w ≡ token_in (node_view nd) 4 → (AreCarriedPieces p → TypesPieces w a d env p m) → IsRecordNode n (node_view nd) →
     TypesRow a d env (λ c. (row_expression a.item n (extent_of (node_view nd)).span (node_view nd)).typed c) (number_of a.item n) m
 record_done a d env n nd p w m span first value fields word typed h = by w refl (typed pieces)
   where
@@ -226,27 +215,26 @@ record_done a d env n nd p w m span first value fields word typed h = by w refl 
     here = span ∙ sym (place_of_node nd)
 
     pieces : AreCarriedPieces p
-    pieces = record { first = subst IsCarried (sym first) h.node.first; value = subst (λ o. IfSome o IsCarried) (sym value) h.node.value; fields = subst (All IsCarriedValue) (sym fields) h.node.fields }
+    pieces = record { first = subst IsCarried (sym first) h.first; value = subst (λ o. IfSome o IsCarried) (sym value) h.value; fields = subst (All IsCarriedValue) (sym fields) h.fields }
 
     made : (l : Option operands.Written) → label_at (operand_view p.first).part ≡ l → w ≡ None → TypesMadeOr l a d env p m → TypesRow a d env (λ c. (row_expression a.item n at t).typed c) (number_of a.item n) m
     made (Some l) is none x =
-        node_made a d env n at t (path_as l) m h.node (sym word ∙ none) (subst (λ o. (expression_of a.item o).form ≡ a_path (path_as l)) first (operand_label a.item (operand_view p.first) l is))
+        node_made a d env n at t (path_as l) m h (sym word ∙ none) (subst (λ o. (expression_of a.item o).form ≡ a_path (path_as l)) first (operand_label a.item (operand_view p.first) l is))
         (λ k. subst (λ q. TypesMade a d env q (filled_in n t 1).number (path_as l) (first_in n t 3) (operands_in n t 5) m) here
         (subst (λ os. TypesMade a d env (place_of p.span) (filled_in n t 1).number (path_as l) (first_in n t 3) os m) fields
         (subst (λ v. TypesMade a d env (place_of p.span) (filled_in n t 1).number (path_as l) v (map operand_view p.fields.items) m) value
         (subst (λ o. TypesMade a d env (place_of p.span) o.number (path_as l) (option_map operand_view p.value) (map operand_view p.fields.items) m) first x))) k)
     made None is none x =
-        let there : is_named (operand_view p.first).part ≡ true = ap (λ o. is_named o.part) first ∙ h.named (sym word ∙ none) in
-        node_loose a d env n at t m h.node (sym word ∙ none) (subst (λ o. IsLoose (expression_of a.item o).form) first (operand_loose a.item (operand_view p.first) is there pieces.first.rows))
+        node_loose a d env n at t m h (sym word ∙ none) (subst (λ o. IsLooseAt o.part (expression_of a.item o).form) first (operand_loose a.item (operand_view p.first) is pieces.first.rows))
         (λ k. subst (λ q. TypesLoose a d env q (filled_in n t 1) (first_in n t 3) (operands_in n t 5) m) here
         (subst (λ os. TypesLoose a d env (place_of p.span) (filled_in n t 1) (first_in n t 3) os m) fields
         (subst (λ v. TypesLoose a d env (place_of p.span) (filled_in n t 1) v (map operand_view p.fields.items) m) value
-        (subst (λ o. TypesLoose a d env (place_of p.span) o (option_map operand_view p.value) (map operand_view p.fields.items) m) first (x there)))) k)
+        (subst (λ o. TypesLoose a d env (place_of p.span) o (option_map operand_view p.value) (map operand_view p.fields.items) m) first x))) k)
 
     by : (o : Option Tok) → w ≡ o → TypesPieces w a d env p m → TypesRow a d env (λ c. (row_expression a.item n at t).typed c) (number_of a.item n) m
     by None is x = made (label_at (operand_view p.first).part) refl is (subst (λ o. TypesPieces o a d env p m) is x)
     by (Some s) is x =
-        node_updated a d env n at t s m h.node (sym word ∙ is)
+        node_updated a d env n at t s m h (sym word ∙ is)
         (λ k. subst (λ os. TypesUpdated a d env (filled_in n t 1) os m) fields (subst (λ o. TypesUpdated a d env o (map operand_view p.fields.items) m) first (subst (λ o. TypesPieces o a d env p m) is x)) k)
 
 -- what holds anyway holds of a result

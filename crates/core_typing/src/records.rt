@@ -1,7 +1,7 @@
 //! Records: { l = e }, { e with l = e }
 #![tactic(auto, using(typing_state::proofs::Going::goes_trans, typing_state::proofs::Going::goes_refl, typing_state::proofs::Following::follows_both, typing_state::proofs::Following::follows_then, typing_state::proofs::Following::follows_before, typing_state::proofs::Following::follows_behind, typing_state::proofs::Following::follows_none, typing_state::proofs::Following::follows_silent, typing_state::proofs::Following::store_silent, typing_state::proofs::Following::silent_refl, typing_state::proofs::Following::silent_trans, typing_state::proofs::Following::ends_both, typing_state::proofs::Following::ends_behind, typing_state::proofs::Following::ends_before, typing_state::proofs::Following::ends_silent, typing_state::proofs::Following::gets_start, typing_state::proofs::Following::gets_more, typing_state::proofs::Following::gets_before, typing_state::proofs::Following::gets_done))]
 
-ghost use Rattle.std.specs.Prelude.{◌≡◌, true, [], ◌∷◌, ◌++◌, map, option_map, All, IfOk, OnOk};
+ghost use Rattle.std.specs.Prelude.{◌≡◌, [], ◌∷◌, ◌++◌, map, option_map, All, IfOk, OnOk};
 ghost use Rattle.std.specs.Option.{IfSome};
 ghost use Rattle.tree_model.specs.Extents.{extent_of};
 ghost use Rattle.syntax_tree.specs.View.{node_view, place_of, tok_of};
@@ -9,15 +9,15 @@ ghost use Rattle.row_parts.specs.Numbered.{operand_view, path_view};
 ghost use Rattle.env_table.specs.declared.faults.FaultKind.{FaultKind};
 ghost use Rattle.operand_laws.specs.Operands.{number_of, expression_of};
 ghost use Rattle.typing_steps.specs.Typing.{TypesRow, path_as};
-ghost use Rattle.typing_rows.specs.CarriedRows.{is_named, IsCarried};
+ghost use Rattle.typing_rows.specs.CarriedRows.{IsCarried};
 ghost use Rattle.typing_rows.specs.Asked.{row_expression};
 ghost use Rattle.typing_rows.specs.Contracts.{TypesEach};
 ghost use Rattle.record_rows.specs.Operands.{labels_at};
 ghost use Rattle.record_rows.specs.Values.{FieldsWritten};
 ghost use Rattle.record_rows.specs.ValueOperands.{value_fields_of, IsCarriedValue, TypesFieldBy, TypesFieldPart};
-ghost use Rattle.record_rows.specs.RecordExpressions.{FindsRecord, FindsUpdated, TypesLoose, TypesMade, TypesUpdated, loose_part, values_of};
+ghost use Rattle.record_rows.specs.RecordExpressions.{FindsRecord, FindsUpdated, IsRecordNode, TypesLoose, TypesMade, TypesUpdated, loose_part, values_of};
 ghost use Rattle.expression_steps.specs.Records.{here_of, names_written};
-ghost use Rattle.core_typing.specs.Records.{AreCarriedPieces, IsRecordThere, RecordsValue, TypesMadeOr, TypesPieces};
+ghost use Rattle.core_typing.specs.Records.{AreCarriedPieces, RecordsValue, TypesMadeOr, TypesPieces};
 ghost use Rattle.typing_state.specs.Goes.{Goes};
 ghost use Rattle.typing_state.specs.Steps.{asks, each, records, Follows};
 ghost use Rattle.use_typing.specs.UseSteps.{asks_equal, asks_labels, labels_of, lost_steps};
@@ -46,7 +46,7 @@ pub fn record(
     env: &Env,
     depth: Depth,
 ) -> Result<Used, NoMemory>
-    ensures carries { IfOk result (λ u. IsRecordThere number (node_view node.now) → TypesRow at.old at.new env.now (λ c. (row_expression at.old.item number (extent_of (node_view node.now)).span (node_view node.now)).typed c) (number_of at.old.item number) u.ty.0) }
+    ensures carries { IfOk result (λ u. IsRecordNode number (node_view node.now) → TypesRow at.old at.new env.now (λ c. (row_expression at.old.item number (extent_of (node_view node.now)).span (node_view node.now)).typed c) (number_of at.old.item number) u.ty.0) }
     ensures follows { OnOk result (Follows (steps_as RowForm.Record number (node_view node.now)) at.old at.new) }
     ensures goes { Goes at.old at.new }
 {
@@ -124,10 +124,10 @@ fn made<'a>(
     complete(at, &fields, pieces.span)
 }
 
-/// The same where the first part is no label: it is told, and typed before the type is looked for, and the value behind it is typed.
+/// The same where the first part is no label: it is reported, if it is there, and typed before the type is looked for; the value after it is typed.
 #[cycle(exprs)]
 fn loose(at: &mut Parts, pieces: &Pieces<'_>, env: &Env, depth: Depth) -> Result<Used, NoMemory>
-    ensures carries { IfOk result (λ u. AreCarriedPieces pieces.now → is_named (operand_view pieces.now.first).part ≡ true → TypesLoose at.old at.new env.now (place_of pieces.now.span) (operand_view pieces.now.first) (option_map operand_view pieces.now.value) (map operand_view pieces.now.fields.items) u.ty.0) }
+    ensures carries { IfOk result (λ u. AreCarriedPieces pieces.now → TypesLoose at.old at.new env.now (place_of pieces.now.span) (operand_view pieces.now.first) (option_map operand_view pieces.now.value) (map operand_view pieces.now.fields.items) u.ty.0) }
     ensures follows { OnOk result (Follows (loose_steps (record_parts pieces.now)) at.old at.new) }
     ensures goes { Goes at.old at.new }
 {
@@ -138,7 +138,7 @@ fn loose(at: &mut Parts, pieces: &Pieces<'_>, env: &Env, depth: Depth) -> Result
     complete(at, &fields, pieces.span)
 }
 
-/// A first part that is no label, which is told, and the type by the labels of the fields behind it.
+/// A first part that is no label, which is reported where it is there, and the type by the labels of the fields after it.
 #[cycle(exprs)]
 fn record_behind(
     at: &mut Parts,
@@ -146,7 +146,7 @@ fn record_behind(
     env: &Env,
     depth: Depth,
 ) -> Result<RecordType, NoMemory>
-    ensures carries { IfOk result (λ r. is_named (operand_view pieces.now.first).part ≡ true → IsCarried (operand_view pieces.now.first) → FindsRecord at.old at.new env.now (here_of r) (λ n c. loose_part n (expression_of at.old.item (operand_view pieces.now.first)) c) (labels_at (map operand_view pieces.now.fields.items))) }
+    ensures carries { IfOk result (λ r. IsCarried (operand_view pieces.now.first) → FindsRecord at.old at.new env.now (here_of r) (λ n c. loose_part (operand_view pieces.now.first).part n (expression_of at.old.item (operand_view pieces.now.first)) c) (labels_at (map operand_view pieces.now.fields.items))) }
     ensures follows { OnOk result (Follows ((asks FaultKind.Label (place_of pieces.now.first.span ∷ []) ∷ each lost_steps (map operand_view pieces.now.fields.items)) ++ expression_steps (operand_view pieces.now.first) ++ asks_labels (labels_of (map operand_view pieces.now.fields.items))) at.old at.new) }
     ensures goes { Goes at.old at.new }
 {

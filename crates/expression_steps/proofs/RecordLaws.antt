@@ -46,11 +46,11 @@ use Rattle.record_rows.specs.Fields.{RecordHere}
 use Rattle.record_rows.specs.Operands.{labels_at}
 use Rattle.record_rows.specs.Completing.{absent_here, AsksAbsent, AsksComplete, Completes}
 use Rattle.record_rows.specs.ValueOperands.{PunsLabel, PunsValue}
-use Rattle.record_rows.specs.RecordExpressions.{TypesHere, GivesRecord, FindsRecord, EndsRecord}
+use Rattle.record_rows.specs.RecordExpressions.{TypesHere, GivesRecord, RefusesIf, FindsRecord, EndsRecord}
 use Rattle.record_rows.proofs.Completing.{complete_asked}
 use Rattle.record_rows.proofs.Nodes.{notes_ask}
 use Rattle.record_rows.proofs.RecordNodes.{made_finds, part_refused, refused_then}
-use Rattle.expression_steps.specs.Records.{here_of, names_written, RefusesIf, TakesName}
+use Rattle.expression_steps.specs.Records.{here_of, names_written, TakesName}
 
 -- the record type of labels, by what is known of it
 pub typed_here : (r : RecordType) (a b : Parts) (env : List Entry) (ps : List Written) → TypesRecordType r a b env ps → TypesHere (here_of r) a b env ps

@@ -2,7 +2,6 @@
 use Rattle.std.specs.Prelude.{ℕ, List, [], Option, Some, None}
 use denote.Ref.{Bor}
 use Rattle.token_model.specs.Kinds.{Tok}
-use Rattle.tree_model.specs.Trees.{Place, Part, taken, inner, missing}
 use Rattle.signature_model.specs.Declarations.{Name}
 use Rattle.syntax_tree.specs.declared.tree.Token.{Token}
 use Rattle.typing_model.specs.Parts.{place_of}
@@ -16,9 +15,7 @@ use Rattle.typing_steps.specs.Typing.{TypesOwn, AsksEqualIf}
 use Rattle.use_typing.specs.declared.record_types.RecordType.{RecordType}
 use Rattle.use_typing.specs.declared.record_types.RecordType.TheVariants as record_type
 use Rattle.use_typing.specs.Labels.{toks_of}
-use Rattle.record_steps.specs.Recording.{AsksNothing}
 use Rattle.record_rows.specs.Fields.{RecordHere}
-use Rattle.record_rows.specs.RecordExpressions.{RefusesPart}
 
 -- the declaration of a record type and the node of its type, where it is known
 abbrev pub here_of : RecordType → RecordHere
@@ -28,12 +25,6 @@ here_of record_type.Open = None
 -- the names of labels that are written
 abbrev pub names_written : List (Bor Token) → List Name
 names_written ts = names_of_tokens (toks_of ts)
-
--- that a first part is no label is reported; where it is missing nothing is asked
-abbrev pub RefusesIf : Part → (a b : Parts) → Place → Type 0
-RefusesIf (taken t) a b at = AsksNothing a b
-RefusesIf (inner t) a b at = RefusesPart a b at
-RefusesIf (missing p) a b at = AsksNothing a b
 
 -- The value of a name is taken, for a demand of any number, and has the wanted type, where one is wanted.
 pub record TakesName (a b : Parts) (env : List Entry) (t : Tok) (wanted : Option NodeRef) : Type 0 where

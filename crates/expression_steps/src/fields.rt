@@ -15,8 +15,8 @@ ghost use Rattle.use_typing.specs.Labels.{is_named_in, toks_of};
 ghost use Rattle.record_rows.specs.Operands.{labels_at};
 ghost use Rattle.record_rows.specs.Completing.{AsksComplete};
 ghost use Rattle.record_rows.specs.ValueOperands.{PunsLabel, PunsValue};
-ghost use Rattle.record_rows.specs.RecordExpressions.{EndsRecord, FindsRecord, GivesRecord};
-ghost use Rattle.expression_steps.specs.Records.{here_of, names_written, RefusesIf, TakesName};
+ghost use Rattle.record_rows.specs.RecordExpressions.{EndsRecord, FindsRecord, GivesRecord, RefusesIf};
+ghost use Rattle.expression_steps.specs.Records.{here_of, names_written, TakesName};
 
 use row_parts::{Operand, WrittenPath};
 use std::rc::Rc;

@@ -1,13 +1,13 @@
 -- The fields of a record, and of a record pattern, that is well formed and made of carried rows are fields of carried expressions, and of carried patterns.
-use Rattle.std.proofs.Common.{◌≡◌, ℕ, true, Option, Some, None, refl, ap, subst}
+use Rattle.std.proofs.Common.{◌≡◌, ℕ, Option, Some, None, refl, ap}
 use Rattle.std.specs.Prelude.{All}
 use Rattle.std.specs.Option.{IfSome}
 use Rattle.tree_model.specs.Rows.{Row, precord_row, qfield_row, erecord_row, ffield_row}
 use Rattle.tree_model.specs.Trees.{Place, Part, Tree, node, taken, inner, missing}
-use Rattle.row_parts.specs.Numbered.{Numbered, numbered, first_in, filled_in, operands_in, token_in}
+use Rattle.row_parts.specs.Numbered.{Numbered, numbered, first_in, filled_in, operands_in}
 use Rattle.operand_laws.specs.Formed.{row_of, IsFormed, IsPartFormed, IsOperandFormed}
 use Rattle.operand_laws.proofs.Going.{operands_formed, first_operand_formed}
-use Rattle.typing_rows.specs.CarriedRows.{sort_in, an_expression, a_pattern, a_field_pattern, a_field, is_named, IsCarriedRow, IsFieldPatternRow, IsFieldRow, IsTreeOfSort, IsOfSort, IsPlaced, IsCarried}
+use Rattle.typing_rows.specs.CarriedRows.{sort_in, an_expression, a_pattern, a_field_pattern, a_field, IsFieldPatternRow, IsFieldRow, IsTreeOfSort, IsOfSort, IsPlaced, IsCarried}
 use Rattle.typing_rows.proofs.Going.{expression_parts, pattern_parts, field_parts, value_parts, sorted_in, first_of_sort, first_placed, filled_carried}
 use Rattle.pattern_rows.specs.CarriedPatterns.{IsCarriedPattern}
 use Rattle.record_rows.specs.Operands.{IsFieldNode, IsCarriedFieldPart, IsCarriedField}
@@ -71,7 +71,3 @@ record_node n at t row h = record {
   value = all_some (first_in n t 3) (first_operand_formed n t 3 h.formed) (first_placed n t 3) (first_of_sort n t 3 an_expression (ap (λ r. sort_in r 3) row) (expression_parts t h.rows));
   fields = λ k d lt. value_part _ _ (operands_formed n t 5 h.formed k d lt) (sorted_in n t 5 a_field (ap (λ r. sort_in r 5) row) (expression_parts t h.rows) k d lt);
 }
-
--- without the word `with` its first part is there, and no path whose last name is missing
-pub record_named : (n : ℕ) (t : Tree) → row_of t ≡ erecord_row → IsTreeOfSort an_expression t → token_in t 4 ≡ None → is_named (filled_in n t 1).part ≡ true
-record_named n (node r x ps) row h = subst (λ q. IsCarriedRow q (node r x ps) ps) row h.0 n

@@ -6,7 +6,7 @@ use Rattle.syntax_tree.specs.View as view
 use Rattle.token_model.specs.Kinds.{Tok}
 use Rattle.tree_model.specs.Rows.{erecord_row}
 use Rattle.tree_model.specs.Slots.{is_operand}
-use Rattle.tree_model.specs.Trees.{Place, Tree}
+use Rattle.tree_model.specs.Trees.{Place, Tree, Part, taken, inner, missing}
 use Rattle.signature_model.specs.Declarations.{Name}
 use Rattle.row_parts.specs.Numbered.{Numbered, first_in, filled_in, operands_in, token_in}
 use Rattle.typing_model.specs.Demands.{site, test, no_label}
@@ -43,7 +43,7 @@ use Rattle.record_rows.specs.Operands.{labels_at}
 use Rattle.record_rows.specs.Values.{TypesFields, FieldsWritten, Carries}
 use Rattle.record_rows.specs.Completing.{Completes}
 use Rattle.record_rows.specs.ValueOperands.{labelled_field, value_fields_of, IsCarriedValue, TypesFieldBy}
-use Rattle.record_rows.specs.RecordExpressions.{TypesHere, GivesRecord, RefusesPart, values_of, loose_part, FindsRecord, FindsUpdated, EndsRecord, TypesMade, TypesLoose, TypesUpdated, IsLoose, IsRecordNode}
+use Rattle.record_rows.specs.RecordExpressions.{TypesHere, GivesRecord, RefusesPart, RefusesIf, values_of, loose_part, FindsRecord, FindsUpdated, EndsRecord, TypesMade, TypesLoose, TypesUpdated, IsLooseAt, IsRecordNode}
 use Rattle.record_rows.proofs.Nodes.{notes_ask}
 use Rattle.record_rows.proofs.Rows.{AskAlike}
 use Rattle.record_rows.proofs.RecordExpressions.{known_made_row, unknown_made_row, known_updated_row, unknown_updated_row, row_behind}
@@ -88,21 +88,30 @@ part_refused a b span told rest = λ aloud F scope G n. (complaint_told a b {F =
 pub refused_then : (a b d : Parts) (at : Place) → RefusesPart a b at → OnlyNotes b d → RefusesPart a d at
 refused_then a b d at refused notes = λ aloud F scope G n. carried_as (λ c. append-nil (ask n 0 at (test no_label false))) (carried_trans (refused aloud F scope G n) (notes_ask b d notes F scope G))
 
+-- what a first part asks, which is reported where it is there and asks nothing where it is missing, and what it asks as an expression
+part_asked : (p : Part) (a b f : Parts) (env : List Entry) (e : Expression) (n : ℕ) → RefusesIf p a b e.at → Carries b f env (λ c. e.typed c) → is_aloud a.telling ≡ is_aloud b.telling → Carries a f env (loose_part p n e)
+part_asked (taken t) a b f env e n asked typed same aloud F scope G names =
+    let first = asked F scope G in carried_trans first (typed (sym same ∙ aloud) F scope G (surrounds_on first.stays names))
+part_asked (inner t) a b f env e n asked typed same aloud F scope G names =
+    let first = asked aloud F scope G n in carried_trans first (typed (sym same ∙ aloud) F scope G (surrounds_on first.stays names))
+part_asked (missing q) a b f env e n asked typed same aloud F scope G names =
+    let first = asked F scope G in carried_trans first (typed (sym same ∙ aloud) F scope G (surrounds_on first.stays names))
+
 -- the record type of a record with a first part that is no label
-pub loose_finds : (a b f e : Parts) (env : List Entry) (here : RecordHere) (o : Numbered) (w : ℕ) (ps : List Written) → RefusesPart a b o.at → Goes a b → TypesTo b f env (λ c. (expression_of b.item o).typed c) (λ ch. ch.type_at (expression_of b.item o).node) w → Goes b f → TypesHere here f e env ps →
-    Goes f e → FindsRecord a e env here (λ n c. loose_part n (expression_of a.item o) c) ps
+pub loose_finds : (a b f e : Parts) (env : List Entry) (here : RecordHere) (o : Numbered) (w : ℕ) (ps : List Written) → RefusesIf o.part a b o.at → Goes a b → TypesTo b f env (λ c. (expression_of b.item o).typed c) (λ ch. ch.type_at (expression_of b.item o).node) w → Goes b f → TypesHere here f e env ps →
+    Goes f e → FindsRecord a e env here (λ n c. loose_part o.part n (expression_of a.item o) c) ps
 loose_finds a b f e env here o w ps refused goes typed goes_b found goes_f = record {
   mid = f;
-  first = λ n. subst (λ i. Carries a f env (loose_part n (expression_of i o))) goes.item (before n);
+  first = λ n. subst (λ i. Carries a f env (loose_part o.part n (expression_of i o))) goes.item (before n);
   goes = goes_trans a b f goes goes_b;
   typed = found;
   goes_typed = goes_f;
 }
   where
-    before : (n : ℕ) → Carries a f env (loose_part n (expression_of b.item o))
-    before n aloud F scope G names =
-        let first = subst (λ at. Carried F scope (λ c. ask n 0 at (test no_label false)) (sight a) G (sight b) G) (sym (expression_of_stands b.item o).where_it_is) (refused aloud F scope G n) in
-        carried_trans first (typed (ap is_aloud goes.telling ∙ aloud) F scope G (surrounds_on first.stays names)).carried
+    before : (n : ℕ) → Carries a f env (loose_part o.part n (expression_of b.item o))
+    before n =
+        part_asked o.part a b f env (expression_of b.item o) n (subst (RefusesIf o.part a b) (sym (expression_of_stands b.item o).where_it_is) refused)
+        (λ aloud F scope G names. (typed aloud F scope G names).carried) (sym (ap is_aloud goes.telling))
 
 -- a value that isn't there
 pub value_none : (a : Parts) (env : List Entry) → TypesEach a a env (values_of None)
@@ -114,13 +123,13 @@ value_some a b env o w typed = λ aloud F scope G names. carried_as (λ c. sym (
 
 -- A record with a first part that is no label, over operands.
 pub loose_record : (a e f d v : Parts) (env : List Entry) (here : RecordHere) (at : Place) (first : Numbered) (value : Option Numbered) (os : List Numbered) (labels : List Name) (m : ℕ) → All IsCarriedValue os →
-    FindsRecord a e env here (λ n c. loose_part n (expression_of a.item first) c) (labels_at os) → TypesEach e f env (values_of (option_map (expression_of e.item) value)) → Goes e f → FieldsWritten f d env here (value_fields_of f.item os) [] labels → Goes f d →
+    FindsRecord a e env here (λ n c. loose_part first.part n (expression_of a.item first) c) (labels_at os) → TypesEach e f env (values_of (option_map (expression_of e.item) value)) → Goes e f → FieldsWritten f d env here (value_fields_of f.item os) [] labels → Goes f d →
     EndsRecord d v here labels at m → TypesLoose a v env at first value os m
 loose_record a e f d v env here at first value os labels m carried finds typed goes fields goes_f ends n =
     let item : e.item ≡ a.item = finds.goes_typed.item ∙ finds.goes.item in
     let item_f : f.item ≡ a.item = goes.item ∙ item in
     let here_fields : FieldsWritten f d env here (value_fields_of a.item os) [] labels = subst (λ i. FieldsWritten f d env here (value_fields_of i os) [] labels) item_f fields in
-    made_row here a e f d ends.mid v env n at (value_fields_of a.item os) (labels_at os) (λ n c. loose_part n (expression_of a.item first) c) (λ c. typed_all c (values_of (option_map (expression_of a.item) value))) m (value_labels_ask a.item os carried) finds
+    made_row here a e f d ends.mid v env n at (value_fields_of a.item os) (labels_at os) (λ n c. loose_part first.part n (expression_of a.item first) c) (λ c. typed_all c (values_of (option_map (expression_of a.item) value))) m (value_labels_ask a.item os carried) finds
     (subst (λ i. TypesEach e f env (values_of (option_map (expression_of i) value))) item typed) goes here_fields.typed goes_f (subst (λ ls. Completes d ends.mid here ls at) here_fields.written ends.complete) ends.type
 
 -- A record that is updated, over operands.
@@ -179,19 +188,26 @@ node_made a d env number at t l m h none form typed =
     ap (λ k. record_asks c n at [] [] (record { node = k; label = l; value = value } ∷ fs)) node) in
     subst (λ asks. TypesRow a d env asks n m) (λ k c. asked c k) (typed n)
 
--- what a first part that is neither a label nor missing asks
-loose_asks : (c : Context) (n k : ℕ) (at : Place) (e : Expression) (value : Option Expression) (fs : List Field) (f : Form) → IsLoose f →
-    record_asks c n at (before_labels c n e f) (loose_value c f value) (first_field f k value ++ fs) ≡ record_asks c n at (loose_part n e c) (typed_all c (values_of value)) fs
-loose_asks c n k at e value fs (a_constructor p) h = refl
-loose_asks c n k at e value fs (a_path p) h = absurd h
-loose_asks c n k at e value fs a_float h = refl
-loose_asks c n k at e value fs a_false h = refl
-loose_asks c n k at e value fs (a_field p l) h = refl
-loose_asks c n k at e value fs no_expression h = absurd h
-loose_asks c n k at e value fs other h = refl
+-- what a first part that is there and no label asks
+there_asks : (c : Context) (t : Tree) (n k : ℕ) (at : Place) (e : Expression) (value : Option Expression) (fs : List Field) (f : Form) → IsLooseAt (inner t) f →
+    record_asks c n at (before_labels c n e f) (loose_value c f value) (first_field f k value ++ fs) ≡ record_asks c n at (loose_part (inner t) n e c) (typed_all c (values_of value)) fs
+there_asks c t n k at e value fs (a_constructor p) h = refl
+there_asks c t n k at e value fs (a_path p) h = absurd h
+there_asks c t n k at e value fs a_float h = refl
+there_asks c t n k at e value fs a_false h = refl
+there_asks c t n k at e value fs (a_field p l) h = refl
+there_asks c t n k at e value fs no_expression h = absurd h
+there_asks c t n k at e value fs other h = refl
 
--- A record expression whose first part is neither a label nor missing.
-pub node_loose : (a d : Parts) (env : List Entry) (number : ℕ) (at : Place) (t : Tree) (m : ℕ) → IsRecordNode number t → token_in t 4 ≡ None → IsLoose (expression_of a.item (filled_in number t 1)).form →
+-- what a first part asks that is no label, or missing
+loose_asks : (p : Part) (c : Context) (n k : ℕ) (at : Place) (e : Expression) (value : Option Expression) (fs : List Field) (f : Form) → IsLooseAt p f →
+    record_asks c n at (before_labels c n e f) (loose_value c f value) (first_field f k value ++ fs) ≡ record_asks c n at (loose_part p n e c) (typed_all c (values_of value)) fs
+loose_asks (taken t) c n k at e value fs f h = ap (λ f. record_asks c n at (before_labels c n e f) (loose_value c f value) (first_field f k value ++ fs)) h
+loose_asks (inner t) c n k at e value fs f h = there_asks c t n k at e value fs f h
+loose_asks (missing q) c n k at e value fs f h = ap (λ f. record_asks c n at (before_labels c n e f) (loose_value c f value) (first_field f k value ++ fs)) h
+
+-- A record expression whose first part is no label, or missing.
+pub node_loose : (a d : Parts) (env : List Entry) (number : ℕ) (at : Place) (t : Tree) (m : ℕ) → IsRecordNode number t → token_in t 4 ≡ None → IsLooseAt (filled_in number t 1).part (expression_of a.item (filled_in number t 1)).form →
     TypesLoose a d env at (filled_in number t 1) (first_in number t 3) (operands_in number t 5) m → TypesRow a d env (λ c. (row_expression a.item number at t).typed c) (number_of a.item number) m
 node_loose a d env number at t m h none form typed =
     let i = a.item in
@@ -199,8 +215,8 @@ node_loose a d env number at t m h none form typed =
     let e = expression_of i (filled_in number t 1) in
     let value = option_map (expression_of i) (first_in number t 3) in
     let fs = value_fields_of i (operands_in number t 5) in
-    let asked : (c : Context) → record_asks c n at (loose_part n e c) (typed_all c (values_of value)) fs ≡ (row_expression i number at t).typed c =
-    λ c. sym (ap (λ (x : Expression). x.typed c) (record_term i number at t h.formed h.row none) ∙ loose_asks c n e.node at e value fs e.form form) in
+    let asked : (c : Context) → record_asks c n at (loose_part (filled_in number t 1).part n e c) (typed_all c (values_of value)) fs ≡ (row_expression i number at t).typed c =
+    λ c. sym (ap (λ (x : Expression). x.typed c) (record_term i number at t h.formed h.row none) ∙ loose_asks (filled_in number t 1).part c n e.node at e value fs e.form form) in
     subst (λ asks. TypesRow a d env asks n m) (λ k c. asked c k) (typed n)
 
 -- A record expression with the word `with`.

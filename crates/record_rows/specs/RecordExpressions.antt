@@ -1,7 +1,7 @@
 -- What the functions of a record expression carry: { l = e; l = e }, the same with a first part that is no label, and { e with l = e }.
 use Rattle.std.specs.Prelude.{◌≡◌, ℕ, true, false, List, [], ◌∷◌, ◌++◌, Option, Some, None, option_map, All, IfSome}
 use Rattle.tree_model.specs.Rows.{erecord_row}
-use Rattle.tree_model.specs.Trees.{Place, Tree}
+use Rattle.tree_model.specs.Trees.{Place, Tree, Part, taken, inner, missing}
 use Rattle.signature_model.specs.Declarations.{Name}
 use Rattle.row_parts.specs.Numbered.{Numbered, first_in, filled_in, operands_in}
 use Rattle.typing_model.specs.Demands.{test, no_label, Condition}
@@ -48,9 +48,17 @@ RefusesPart a b at = is_aloud a.telling ≡ true → (F : Frame) (scope : Scope)
 abbrev pub values_of : Option Expression → List Expression
 values_of value = elim value [ None ↦ [] | Some e ↦ e ∷ [] ]
 
--- what a first part that is no label asks
-abbrev pub loose_part : ℕ → Expression → Context → List Condition
-loose_part n e c = ask n 0 e.at (test no_label false) ++ e.typed c
+-- that a first part is no label is reported; where it is missing nothing is asked
+abbrev pub RefusesIf : Part → (a b : Parts) → Place → Type 0
+RefusesIf (taken t) a b at = AsksNothing a b
+RefusesIf (inner t) a b at = RefusesPart a b at
+RefusesIf (missing p) a b at = AsksNothing a b
+
+-- what a first part that is no label asks, by whether it is there
+abbrev pub loose_part : Part → ℕ → Expression → Context → List Condition
+loose_part (taken t) n e c = e.typed c
+loose_part (inner t) n e c = ask n 0 e.at (test no_label false) ++ e.typed c
+loose_part (missing p) n e c = e.typed c
 
 -- The record type of labels, after what is asked before they are looked for.
 pub record FindsRecord (a d : Parts) (env : List Entry) (here : RecordHere) (before : ℕ → Asks) (ps : List Written) : Type 0 where
@@ -88,7 +96,7 @@ TypesMade a d env at number l value os m = (n : ℕ) → TypesRow a d env (λ c.
 -- the same with a first part that is no label
 abbrev pub TypesLoose : (a d : Parts) → List Entry → Place → (first : Numbered) → Option Numbered → List Numbered → ℕ → Type 0
 TypesLoose a d env at first value os m =
-    (n : ℕ) → TypesRow a d env (λ c. record_asks c n at (loose_part n (expression_of a.item first) c) (typed_all c (values_of (option_map (expression_of a.item) value))) (value_fields_of a.item os)) n m
+    (n : ℕ) → TypesRow a d env (λ c. record_asks c n at (loose_part first.part n (expression_of a.item first) c) (typed_all c (values_of (option_map (expression_of a.item) value))) (value_fields_of a.item os)) n m
 
 -- a record that is updated
 abbrev pub TypesUpdated : (a d : Parts) → List Entry → (first : Numbered) → List Numbered → ℕ → Type 0
@@ -99,6 +107,12 @@ abbrev pub IsLoose : Form → Type 0
 IsLoose (a_path p) = ⊥
 IsLoose no_expression = ⊥
 IsLoose _ = Unit {0}
+
+-- the form of a part that is there is such a one, and that of a missing one is a missing part's
+abbrev pub IsLooseAt : Part → Form → Type 0
+IsLooseAt (taken t) f = f ≡ no_expression
+IsLooseAt (inner t) f = IsLoose f
+IsLooseAt (missing p) f = f ≡ no_expression
 
 -- a record expression whose parts have conditions that are carried
 pub record IsRecordNode (number : ℕ) (t : Tree) : Type 0 where

@@ -213,7 +213,7 @@ first_quiet other n value s = no_one
 
 before_quiet : (c : Context) (n : ℕ) (e : Expression) (f : Form) → QuietExpression e → Quiet (before_labels c n e f)
 before_quiet c n e (a_path p) s = silence
-before_quiet c n e no_expression s = silence
+before_quiet c n e no_expression s = s.types c
 before_quiet c n e (a_constructor p) s = q_demand refl (s.types c)
 before_quiet c n e a_float s = q_demand refl (s.types c)
 before_quiet c n e a_false s = q_demand refl (s.types c)

@@ -85,7 +85,7 @@ path_steady {k} {m} n q p = by p.last refl
     of_kind t e _ f = rw (e, f, path_expression) (name_steady n q p)
 
     by : (o : Option Tok) → p.last ≡ o → SteadyExpression k m (path_expression n q p)
-    by None e = rw (e, path_expression) (no_expression_steady n q)
+    by None e = rw (e, path_expression) (usual n q other _ _ tt (λ c. at_end) (λ c. refl))
     by (Some t) e = of_kind t e t.kind refl
 
 literal_form_steady : (k m : Kept) (typed : Context → List Condition) (t : Option Tok) → IsFormSteady k m typed (literal_form t)
@@ -325,7 +325,7 @@ first_steady other n value s = no_one
 
 before_alike : {k m : Kept} (c : Context) (n : ℕ) (e : Expression) (f : Form) → SteadyExpression k m e → Together k m (before_labels (keeping k c) n e f) (before_labels (keeping m c) n e f)
 before_alike c n e (a_path p) s = at_end
-before_alike c n e no_expression s = at_end
+before_alike c n e no_expression s = s.types c
 before_alike c n e (a_constructor p) s = at_demand refl (λ a. s.types c)
 before_alike c n e a_float s = at_demand refl (λ a. s.types c)
 before_alike c n e a_false s = at_demand refl (λ a. s.types c)

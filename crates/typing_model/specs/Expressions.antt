@@ -70,9 +70,13 @@ name_expression n at p = expression n at (name_form p) (λ c. value_asks c n 0 p
 abbrev pub constructor_expression : ℕ → Place → Written → Expression
 constructor_expression n at p = expression n at (a_constructor p) (λ c. constructor_alone c n p) (always true)
 
--- a path to a value or a constructor, by its last token; one whose last token is missing asks nothing
+-- M. , a path whose last token is missing: it asks nothing, and is no expression that is missing
+abbrev pub unnamed_path : ℕ → Place → Expression
+unnamed_path n at = expression n at other (λ c. []) (always true)
+
+-- a path to a value or a constructor, by its last token
 abbrev pub path_expression : ℕ → Place → Written → Expression
-path_expression n at p = elim p.last [ None ↦ no_expression_at n at | Some t ↦ by t.kind ]
+path_expression n at p = elim p.last [ None ↦ unnamed_path n at | Some t ↦ by t.kind ]
   where
     by : Kind → Expression
     by upper = constructor_expression n at p
@@ -317,10 +321,10 @@ first_field (a_field p l) n value = []
 first_field no_expression n value = []
 first_field other n value = []
 
--- what a first part asks that isn't read as a label: `label`, unless it is missing, and then as an expression
+-- what a first part asks that isn't read as a label: `label`, and then as an expression; one that is missing makes no demand `label`
 abbrev pub before_labels : Context → ℕ → Expression → Form → List Condition
 before_labels c n e (a_path p) = []
-before_labels c n e no_expression = []
+before_labels c n e no_expression = e.typed c
 before_labels c n e (a_constructor p) = ask n 0 e.at (test no_label false) ++ e.typed c
 before_labels c n e a_float = ask n 0 e.at (test no_label false) ++ e.typed c
 before_labels c n e a_false = ask n 0 e.at (test no_label false) ++ e.typed c

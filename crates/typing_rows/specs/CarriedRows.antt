@@ -25,18 +25,7 @@ abbrev pub is_sign : Option Tok → Bool
 is_sign None = true
 is_sign (Some t) = bytes_eq t.name (codes "-") || bytes_eq t.name (codes "-.")
 
--- a row that is no path whose last name is missing
-abbrev pub is_named_row : Row → Tree → Bool
-is_named_row epath_row t = elim (token_in t 1) [ None ↦ false | Some w ↦ true ]
-is_named_row _ t = true
-
--- a part that is there, and is no such path
-abbrev pub is_named : Part → Bool
-is_named (taken t) = false
-is_named (inner (node r x ps)) = is_named_row r (node r x ps)
-is_named (missing at) = false
-
--- the rows of expressions; a record that is made begins with a part that is there, and is no path whose last name is missing
+-- the rows of expressions
 abbrev pub IsCarriedRow : Row → Tree → Forest → Type 0
 IsCarriedRow name_row t ps = Unit {0}  -- x
 IsCarriedRow econ_row t ps = Unit {0}  -- A
@@ -64,7 +53,7 @@ IsCarriedRow etry_row t ps = Unit {0}  -- try e with p -> e
 IsCarriedRow efun_row t ps = Unit {0}  -- fun p p -> e
 IsCarriedRow efunction_row t ps = Unit {0}  -- function p -> e
 IsCarriedRow elet_row t ps = Unit {0}  -- let p = e in e
-IsCarriedRow erecord_row t ps = (n : ℕ) → token_in t 4 ≡ None → is_named (filled_in n t 1).part ≡ true  -- { l = e }, { e with l = e }
+IsCarriedRow erecord_row t ps = Unit {0}  -- { l = e }, { e with l = e }
 IsCarriedRow _ t ps = ⊥
 
 -- what parts of trees are

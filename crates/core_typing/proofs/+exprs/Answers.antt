@@ -84,10 +84,11 @@ use Rattle.use_typing.specs.Records.{TypesRecordType}
 use Rattle.record_rows.specs.Values.{FieldsWritten}
 use Rattle.record_rows.specs.ValueOperands.{value_fields_of, IsCarriedValue}
 use Rattle.record_rows.specs.RecordExpressions.{values_of}
+use Rattle.record_rows.proofs.Going.{record_node}
 use Rattle.record_rows.proofs.Values.{written_none, written_all}
 use Rattle.expression_steps.specs.Records.{here_of, names_written}
 use Rattle.core_typing.specs.Records.{TypesMadeOr, TypesPieces}
-use Rattle.core_typing.proofs.RecordCarrying.{by_record, record_there, field_given, field_punned, field_absent, field_by, value_step, made_done, loose_done, updated_done, behind_done, part_done, value_typed, value_absent, record_done, on_any}
+use Rattle.core_typing.proofs.RecordCarrying.{by_record, field_given, field_punned, field_absent, field_by, value_step, made_done, loose_done, updated_done, behind_done, part_done, value_typed, value_absent, record_done, on_any}
 use Rattle.core_typing.proofs.+exprs.Goals as goal
 
 pub exprs::type_each-loop-e-preserved : goal.exprs::type_each-loop-e-preserved
@@ -1004,7 +1005,7 @@ exprs::typed_row-returns-in-Record-clause-carries t c =
     if_ok c.record.result _ _ (λ u h place carried.
     signed_row c.args.at.now c.record.new.at c.args.env.now c.args.at.now.item c.args.number place tree (is_negated c.args.sign) u.ty.0 (usual_by c.args.number place tree form.Record carried is tt)
     (subst (λ q. TypesRow c.args.at.now c.record.new.at c.args.env.now (λ x. (row_expression c.args.at.now.item c.args.number q tree).typed x) (number_of c.args.at.now.item c.args.number) u.ty.0) (sym carried.placed)
-    (h (record_there c.args.number place tree (by_record tree is) carried)))) c.record.ensures.carries
+    (h (record_node c.args.number place tree (by_record tree is) carried)))) c.record.ensures.carries
 
 pub exprs::typed_row-returns-in-Let-clause-carries : goal.exprs::typed_row-returns-in-Let-clause-carries
 exprs::typed_row-returns-in-Let-clause-carries t c =
@@ -1079,18 +1080,18 @@ records::loose-returns-clause-carries t c =
     let env = c.args.env.now in
     let before = c.fields_in-fields.result in
     let after = c.type_fields.new.fields in
-    if_ok c.complete.result _ _ (λ u ends carried there.
+    if_ok c.complete.result _ _ (λ u ends carried.
     loose_done c.args.at.now c.record_behind.new.at b d c.complete.new.at env (here_of c.in_ok-found.found) (here_of before.found) (here_of after.found) (place_of p.span) (operand_view p.first) (option_map operand_view p.value) (map operand_view p.fields.items)
     (names_written before.labels.items) (names_written after.labels.items) u.ty.0 c.fields_in-fields.ensures.found c.in_ok-type_fields.ensures.found (ap names_written c.fields_in-fields.ensures.labels)
-    (c.in_ok-found.ensures.carries there carried.first) (c.in_ok-type_if.ensures.carries carried.value) c.type_if.ensures.goes
+    (c.in_ok-found.ensures.carries carried.first) (c.in_ok-type_if.ensures.carries carried.value) c.type_if.ensures.goes
     (subst (λ os. All IsCarriedValue (map operand_view os) → FieldsWritten b d env (here_of before.found) (value_fields_of b.item (map operand_view os)) (names_written before.labels.items) (names_written after.labels.items)) c.deref.ensures.value c.in_ok-type_fields.ensures.carries) c.type_fields.ensures.goes
     ends carried.fields) c.complete.ensures.carries
 
 pub records::record_behind-returns-clause-carries : goal.records::record_behind-returns-clause-carries
 records::record_behind-returns-clause-carries t c =
     let p = c.args.pieces.now in
-    if_ok c.record_of_fields.result _ _ (λ r labels there carried.
-    behind_done c.args.at.now c.begin_loose.new.at c.type_under.new.at c.record_of_fields.new.at c.args.env.now r p.first c.in_ok-type_under.field-0.0 (map operand_view p.fields.items) there c.in_ok-begin_loose.ensures.carries c.begin_loose.ensures.goes
+    if_ok c.record_of_fields.result _ _ (λ r labels carried.
+    behind_done c.args.at.now c.begin_loose.new.at c.type_under.new.at c.record_of_fields.new.at c.args.env.now r p.first c.in_ok-type_under.field-0.0 (map operand_view p.fields.items) c.in_ok-begin_loose.ensures.carries c.begin_loose.ensures.goes
     (c.in_ok-type_under.ensures.carries carried) c.type_under.ensures.goes
     (subst (λ os. TypesRecordType r c.type_under.new.at c.record_of_fields.new.at c.args.env.now (map path_as (labels_of (map operand_view os)))) c.deref.ensures.value labels) c.record_of_fields.ensures.goes) c.record_of_fields.ensures.carries
 
