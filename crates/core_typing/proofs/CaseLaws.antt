@@ -1,5 +1,5 @@
 -- Cases, functions and parameters as the code types them.
-use Rattle.std.proofs.Common.{◌≡◌, ◌∙◌, ◌++◌, ◌+◌, ◌-◌, ◌<◌, ◌≤◌, ℕ, zero, suc, List, [], ◌∷◌, length, map, drop, filter_map, arith, Option, Some, None, option_map, refl, sym, ap, subst}
+use Rattle.std.proofs.Common.{◌≡◌, ◌∙◌, ◌++◌, ◌+◌, ◌-◌, ◌<◌, ◌≤◌, ℕ, zero, suc, List, [], ◌∷◌, length, map, drop, arith, Option, Some, None, option_map, refl, sym, ap, subst}
 use Rattle.std.specs.Prelude.{All, slice_index_or, unwrap_or}
 use Rattle.std.specs.Option.{IfSome}
 use Rattle.std.proofs.lemmas.List.{drop_more}
@@ -34,7 +34,7 @@ use Rattle.typing_rows.proofs.Ordered.{numbers_more}
 use Rattle.pattern_rows.specs.CarriedPatterns.{IsCarriedPattern}
 use Rattle.pattern_rows.specs.Contracts.{patterns_of, MatchesTo}
 use Rattle.pattern_typing.specs.declared.patterns.BoundName.{BoundName}
-use Rattle.pattern_typing.specs.Matching.{bind_of, binds_of}
+use Rattle.pattern_typing.specs.Matching.{binds_of}
 use Rattle.case_rows.specs.Scopes.{names_added}
 use Rattle.case_rows.specs.Cases.{case_of, case_by, case_over, cases_of, TypesCaseIf, TypesCasePartsTo, TypesBody, TypesEachCase, TypesCases, TypesCasesFirst, GivenOrAny}
 use Rattle.case_rows.specs.Parameters.{MakesArrows, ParametersSoFar, TypesParameters}
@@ -44,7 +44,7 @@ use Rattle.case_rows.proofs.Ordered.{cases_further, cases_typed}
 use Rattle.case_rows.proofs.Matches.{match_typed, try_typed, function_typed, match_term, try_term, function_term}
 use Rattle.case_rows.proofs.Parameters.{parameters_more, arrows_none, arrows_more, fun_typed, fun_term}
 use Rattle.expression_steps.specs.declared.forms.RowForm.TheVariants as form
-use Rattle.expression_steps.specs.ExpressionSteps.{form_of, row_at}
+use Rattle.expression_steps.specs.Forms.{form_of, row_at}
 use Rattle.expression_steps.proofs.CarryingLaws.{rows_same}
 use Rattle.core_typing.specs.Sides.{sides_by}
 

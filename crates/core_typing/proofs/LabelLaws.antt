@@ -11,7 +11,7 @@ use Rattle.operand_laws.specs.Operands.{number_of, parts_of, path_of, expression
 use Rattle.operand_laws.proofs.Tokens.{path_stands}
 use Rattle.typing_rows.specs.CarriedRows.{IsCarriedRow, IsOfCarriedRows}
 use Rattle.record_rows.specs.RecordExpressions.{IsLoose, IsLooseAt}
-use Rattle.expression_steps.specs.ExpressionSteps.{label_at, label_in, lower_path, if_lower}
+use Rattle.expression_steps.specs.Heads.{label_at, label_in, lower_path, if_lower}
 
 one_written : (w p : Written) → Some w ≡ Some p → w ≡ p
 one_written w p e = cc

@@ -30,7 +30,7 @@ use Rattle.pattern_rows.specs.CarriedPatterns.{IsCarriedPattern}
 use Rattle.pattern_rows.specs.Contracts.{Matches}
 use Rattle.pattern_typing.specs.Matching.{binds_of}
 use Rattle.expression_steps.specs.declared.forms.RowForm.TheVariants as form
-use Rattle.expression_steps.specs.ExpressionSteps.{form_of, row_at, bound_pattern}
+use Rattle.expression_steps.specs.Forms.{form_of, row_at, bound_pattern}
 use Rattle.expression_steps.proofs.CarryingLaws.{rows_same}
 use Rattle.binding_rows.specs.Groups.{TypedBinding, AsksNothing}
 use Rattle.binding_rows.specs.Carried.{NumberedNode, node_there}

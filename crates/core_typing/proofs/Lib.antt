@@ -1,7 +1,6 @@
 -- The laws of bindings, cases and records.
-pub mod GroupLaws
-pub mod BindingLaws
-pub mod RecordLaws
+pub mod CasePlaces
+pub mod Tokens
 pub mod CaseLaws
 pub mod ClosingLaws
 pub mod LetLaws

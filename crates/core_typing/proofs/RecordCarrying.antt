@@ -1,5 +1,5 @@
 -- Record expressions as the code types them, field by field.
-use Rattle.std.proofs.Common.{◌≡◌, ◌∙◌, ◌++◌, ◌+◌, ◌<◌, ℕ, true, List, [], ◌∷◌, length, map, drop, Option, Some, None, option_map, refl, sym, ap, subst}
+use Rattle.std.proofs.Common.{◌≡◌, ◌∙◌, ◌++◌, ◌+◌, ◌<◌, ℕ, List, [], ◌∷◌, length, map, drop, Option, Some, None, option_map, refl, sym, ap, subst}
 use Rattle.std.specs.Prelude.{All, Result, Ok, Err, OnOk, slice_index_or}
 use Rattle.std.specs.Option.{IfSome}
 use Rattle.std.proofs.lemmas.List.{map-append}
@@ -7,14 +7,14 @@ use denote.Ref.{Bor}
 use Rattle.token_model.specs.Kinds.{Tok}
 use Rattle.tree_model.specs.Extents.{extent_of}
 use Rattle.tree_model.specs.Rows.{Row, erecord_row}
-use Rattle.tree_model.specs.Trees.{Place, Tree, Part, taken, inner, missing}
+use Rattle.tree_model.specs.Trees.{Place, Tree}
 use Rattle.signature_model.specs.Declarations.{Name}
 use Rattle.syntax_tree.specs.View.{node_view, place_of}
 use Rattle.syntax_tree.specs.declared.tree.Node.{Node, out-Node}
 use Rattle.syntax_tree.specs.declared.tree.Token.{Token}
 use Rattle.row_parts.specs.declared.slots.Operand.{Operand}
 use Rattle.row_parts.specs.Numbered as operands
-use Rattle.row_parts.specs.Numbered.{Numbered, numbered, operand_view, part_of, token_in, path_in, first_in, filled_in, operands_in}
+use Rattle.row_parts.specs.Numbered.{Numbered, operand_view, part_of, token_in, path_in, first_in, filled_in, operands_in}
 use Rattle.typing_model.specs.Parts.{Written, a_path}
 use Rattle.typing_model.specs.Records.{name_in}
 use Rattle.type_terms.specs.declared.types.NodeRef.{NodeRef}
@@ -29,7 +29,7 @@ use Rattle.use_typing.specs.declared.record_types.RecordType.TheVariants as reco
 use Rattle.use_typing.specs.Labels.{label_if, toks_of}
 use Rattle.use_typing.specs.Records as of_code
 use Rattle.use_typing.specs.Records.{TypesRecordType, node_of}
-use Rattle.use_typing.specs.UseSteps.{labels_of}
+use Rattle.use_typing.specs.Paths.{labels_of}
 use Rattle.use_typing.proofs.Reading.{drop_read}
 use Rattle.operand_laws.specs.Formed as formed
 use Rattle.operand_laws.specs.Operands.{number_of, expression_of}
@@ -47,10 +47,11 @@ use Rattle.record_rows.proofs.RecordNodes.{made_fields, made_record, loose_finds
 use Rattle.record_rows.proofs.ValueOperands.{value_operand_more}
 use Rattle.expression_steps.specs.declared.forms.RowForm.TheVariants as form
 use Rattle.expression_steps.specs.declared.fields.Pieces.{Pieces}
-use Rattle.expression_steps.specs.ExpressionSteps.{form_of, label_at, row_at}
+use Rattle.expression_steps.specs.Forms.{form_of, row_at}
+use Rattle.expression_steps.specs.Heads.{label_at}
 use Rattle.expression_steps.specs.Records.{here_of, names_written}
 use Rattle.expression_steps.proofs.CarryingLaws.{rows_same}
-use Rattle.expression_steps.proofs.ExpressionLaws.{place_of_node}
+use Rattle.expression_steps.proofs.Nodes.{place_of_node}
 use Rattle.core_typing.specs.Records.{AreCarriedPieces, RecordsValue, TypesMadeOr, TypesPieces}
 use Rattle.core_typing.proofs.CaseLaws.{read_one}
 use Rattle.core_typing.proofs.LabelLaws.{operand_label, operand_loose}

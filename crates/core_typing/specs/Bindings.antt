@@ -5,7 +5,7 @@ use Rattle.tree_model.specs.Trees.{Tree}
 use Rattle.env_table.specs.declared.entries.Entry.{Entry}
 use Rattle.typing_state.specs.declared.parts.Parts.{Parts}
 use Rattle.typing_state.specs.Goes.{Goes}
-use Rattle.expression_steps.specs.ExpressionSteps.{bound_pattern}
+use Rattle.expression_steps.specs.Forms.{bound_pattern}
 use Rattle.pattern_typing.specs.declared.patterns.BoundName.{BoundName}
 use Rattle.pattern_typing.specs.Matching.{binds_of}
 use Rattle.case_rows.specs.Scopes.{names_added}

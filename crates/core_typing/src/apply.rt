@@ -1,7 +1,7 @@
 //! Applications: of an expression, of an operator and of a constructor.
-#![tactic(auto, using(typing_state::proofs::Going::goes_trans, typing_state::proofs::Going::goes_refl, typing_state::proofs::Following::follows_both, typing_state::proofs::Following::follows_then, typing_state::proofs::Following::follows_before, typing_state::proofs::Following::follows_behind, typing_state::proofs::Following::follows_none, typing_state::proofs::Following::follows_silent, typing_state::proofs::Following::store_silent, typing_state::proofs::Following::silent_refl, typing_state::proofs::Following::silent_trans, typing_state::proofs::Following::ends_both, typing_state::proofs::Following::ends_behind, typing_state::proofs::Following::ends_before, typing_state::proofs::Following::ends_silent, typing_state::proofs::Following::gets_start, typing_state::proofs::Following::gets_more, typing_state::proofs::Following::gets_before, typing_state::proofs::Following::gets_done, expression_steps::proofs::ExpressionLaws::ends_then), unfolding(syntax_tree::specs::Names::row_of))]
+#![tactic(auto, using(typing_state::proofs::Going::goes_trans, typing_state::proofs::Going::goes_refl), unfolding(syntax_tree::specs::Names::row_of))]
 
-ghost use Rattle.std.specs.Prelude.{◌≡◌, ℕ, [], ◌∷◌, ◌++◌, map, All, IfOk, OnOk};
+ghost use Rattle.std.specs.Prelude.{◌≡◌, ℕ, map, All, IfOk, OnOk};
 ghost use Rattle.tree_model.specs.Trees.{Place, inner};
 ghost use Rattle.operand_laws.specs.Operands.{number_of, expression_of};
 ghost use Rattle.typing_steps.specs.Typing.{TypesRow, path_as};
@@ -12,11 +12,10 @@ ghost use Rattle.use_typing.specs.Constants.{is_negated};
 ghost use Rattle.expression_steps.specs.Operators.{IsOperation};
 ghost use Rattle.syntax_tree.specs.View.{place_of, tok_of, node_view};
 ghost use Rattle.row_parts.specs.Numbered.{numbered, filled_in, operand_view, path_view};
-ghost use Rattle.env_table.specs.declared.faults.FaultKind.{FaultKind};
 ghost use Rattle.typing_state.specs.Goes.{Goes};
-ghost use Rattle.typing_state.specs.Steps.{asks, Follows};
 ghost use Rattle.expression_steps.specs.declared.forms.RowForm.{RowForm};
-ghost use Rattle.expression_steps.specs.ExpressionSteps.{expression_at, expression_steps, form_of, argued_constructor, argument_steps, arguments_steps, constructed_steps, is_float_at, row_at, steps_as};
+ghost use Rattle.expression_steps.specs.Forms.{form_of, row_at};
+ghost use Rattle.expression_steps.specs.Heads.{is_float_at};
 
 use crate::exprs::{type_each, type_under, typed_as};
 use expression_steps::{
@@ -38,7 +37,6 @@ pub fn application(
     depth: Depth,
 ) -> Result<Used, NoMemory>
     ensures carries { IfOk result (λ u. (place : Place) → IsCarried (numbered number place (inner (node_view node.now))) → form_of (row_at (node_view node.now)) ≡ RowForm.Application → TypesRow at.old at.new env.now (λ c. (row_expression at.old.item number place (node_view node.now)).typed c) (number_of at.old.item number) u.ty.0) }
-    ensures follows { OnOk result (Follows (steps_as RowForm.Application number (node_view node.now)) at.old at.new) }
     ensures goes { Goes at.old at.new }
 {
     let head = operand_in(node, number, 0);
@@ -59,7 +57,6 @@ fn applied(
     depth: Depth,
 ) -> Result<Used, NoMemory>
     ensures carries { IfOk result (λ u. IsCarried (operand_view head.entry) → All IsCarried (map operand_view given.now) → (n : ℕ) → TypesRow at.old at.new env.now (applied_asks n (expression_of at.old.item (operand_view head.entry)) (expressions_of at.old.item (map operand_view given.now))) n u.ty.0) }
-    ensures follows { OnOk result (Follows (expression_steps (operand_view head.entry) ++ arguments_steps (place_of head.entry.span) (map expression_at (map operand_view given.now))) at.old at.new) }
     ensures goes { Goes at.old at.new }
 {
     let ty = type_under(at, head, Sign::None, env, depth.inside()?)?;
@@ -79,7 +76,6 @@ fn constructed(
     depth: Depth,
 ) -> Result<Used, NoMemory>
     ensures carries { IfOk result (λ u. All IsCarried (map operand_view given.now) → (n : ℕ) → TypesConstructed at.old at.new env.now n (path_as (path_view path.now)) (expression_of at.old.item (operand_view head.entry)) (expressions_of at.old.item (map operand_view given.now)) u.ty.0) }
-    ensures follows { OnOk result (Follows (constructed_steps (expression_at (operand_view head.entry)) (path_view path.now) (map expression_at (map operand_view given.now))) at.old at.new) }
     ensures goes { Goes at.old at.new }
 {
     let Some((first, later)) = given.split_first() else {
@@ -101,7 +97,6 @@ fn with_argument(
     depth: Depth,
 ) -> Result<Head, NoMemory>
     ensures carries { IfOk result (λ h. IsCarried (operand_view first.entry) → (n : ℕ) → TypesHead at.old at.new env.now n (number_of at.old.item number) (path_as (path_view path.now)) h.known (expression_of at.old.item (operand_view first.entry)) h.ty.0) }
-    ensures follows { OnOk result (Follows (argued_constructor number (path_view path.now) (expression_at (operand_view first.entry))) at.old at.new) }
     ensures goes { Goes at.old at.new }
 {
     let found = constructor(at, env, path, 1)?;
@@ -120,7 +115,6 @@ fn later_arguments(
     depth: Depth,
 ) -> Result<Used, NoMemory>
     ensures carries { IfOk result (λ u. All IsCarried (map operand_view later.now) → TypesLater at.old at.new env.now head.known (place_of place) (expressions_of at.old.item (map operand_view later.now)) head.ty.0 u.ty.0) }
-    ensures follows { OnOk result (Follows (arguments_steps (place_of place) (map expression_at (map operand_view later.now))) at.old at.new) }
     ensures goes { Goes at.old at.new }
 {
     if !head.known {
@@ -143,7 +137,6 @@ fn arguments(
     depth: Depth,
 ) -> Result<NodeRef, NoMemory>
     ensures carries { IfOk result (λ m. All IsCarried (map operand_view given.now) → TypesGiven at.old at.new env.now (place_of place) (signed_expressions (is_negated sign) at.old.item (map operand_view given.now)) head.0 m.0) }
-    ensures follows { OnOk result (Follows (arguments_steps (place_of place) (map expression_at (map operand_view given.now))) at.old at.new) }
     ensures goes { Goes at.old at.new }
 {
     let mut ty = head;
@@ -165,7 +158,6 @@ fn argument(
     depth: Depth,
 ) -> Result<NodeRef, NoMemory>
     ensures carries { IfOk result (λ m. IsCarried (operand_view one.entry) → TypesArgument at.old at.new env.now (place_of place) (under_minus (is_negated sign) (expression_of at.old.item (operand_view one.entry))) head.0 m.0) }
-    ensures follows { OnOk result (Follows (argument_steps (place_of place) (expression_at (operand_view one.entry))) at.old at.new) }
     ensures goes { Goes at.old at.new }
 {
     let (from, to) = ask_arrow(at, place, head, env)?;
@@ -184,7 +176,6 @@ fn typed_argument(
     depth: Depth,
 ) -> Result<(), NoMemory>
     ensures carries { OnOk result (IsCarried (operand_view one.entry) → TypesAs at.old at.new env.now (under_minus (is_negated sign) (expression_of at.old.item (operand_view one.entry))) from.0) }
-    ensures follows { OnOk result (Follows (expression_steps (operand_view one.entry) ++ asks FaultKind.Equal (place_of one.entry.span ∷ []) ∷ []) at.old at.new) }
     ensures goes { Goes at.old at.new }
 {
     let found = type_under(at, one, sign, env, depth.inside()?)?;
@@ -202,7 +193,6 @@ pub fn operation(
     depth: Depth,
 ) -> Result<Used, NoMemory>
     ensures carries { IfOk result (λ u. (place : Place) → IsCarried (numbered number place (inner (node_view node.now))) → IsOperation (row_at (node_view node.now)) (is_float_at (filled_in number (node_view node.now) 1).part) → TypesRow at.old at.new env.now (λ c. (row_expression at.old.item number place (node_view node.now)).typed c) (number_of at.old.item number) u.ty.0) }
-    ensures follows { OnOk result (Follows (steps_as RowForm.Operation number (node_view node.now)) at.old at.new) }
     ensures goes { Goes at.old at.new }
 {
     let given = operands_of(at.alloc(), node, number)?;
@@ -225,7 +215,6 @@ fn operated(
     depth: Depth,
 ) -> Result<Used, NoMemory>
     ensures carries { IfOk result (λ u. All IsCarried (map operand_view given.now) → (n : ℕ) → TypesRow at.old at.new env.now (operated_asks n (tok_of operator.now.named) (signed_expressions (is_negated operator.now.sign) at.old.item (map operand_view given.now))) n u.ty.0) }
-    ensures follows { OnOk result (Follows (asks FaultKind.Bound (place_of operator.now.named.span ∷ []) ∷ arguments_steps (place_of operator.now.named.span) (map expression_at (map operand_view given.now))) at.old at.new) }
     ensures goes { Goes at.old at.new }
 {
     let found = operator_value(at, &operator.named, env)?;
@@ -245,7 +234,6 @@ pub fn minus(
     depth: Depth,
 ) -> Result<Used, NoMemory>
     ensures carries { IfOk result (λ u. (place : Place) → IsCarried (numbered number place (inner (node_view node.now))) → form_of (row_at (node_view node.now)) ≡ RowForm.Minus → TypesRow at.old at.new env.now (λ c. (row_expression at.old.item number place (node_view node.now)).typed c) (number_of at.old.item number) u.ty.0) }
-    ensures follows { OnOk result (Follows (steps_as RowForm.Minus number (node_view node.now)) at.old at.new) }
     ensures goes { Goes at.old at.new }
 {
     let part = operand_in(node, number, 1);

@@ -1,15 +1,13 @@
 //! Bindings: their demands in order, and their names with generalised types.
-#![tactic(auto, using(typing_state::proofs::Going::goes_trans, typing_state::proofs::Going::goes_refl, typing_state::proofs::Following::follows_both, typing_state::proofs::Following::follows_then, typing_state::proofs::Following::follows_before, typing_state::proofs::Following::follows_behind, typing_state::proofs::Following::follows_none, typing_state::proofs::Following::follows_silent, typing_state::proofs::Following::store_silent, typing_state::proofs::Following::silent_refl, typing_state::proofs::Following::silent_trans, typing_state::proofs::Following::ends_both, typing_state::proofs::Following::ends_behind, typing_state::proofs::Following::ends_before, typing_state::proofs::Following::ends_silent, typing_state::proofs::Following::gets_start, typing_state::proofs::Following::gets_more, typing_state::proofs::Following::gets_before, typing_state::proofs::Following::gets_done))]
+#![tactic(auto, using(typing_state::proofs::Going::goes_trans, typing_state::proofs::Going::goes_refl, typing_state::proofs::Silence::store_silent, typing_state::proofs::Silence::silent_refl, typing_state::proofs::Silence::silent_trans))]
 
-ghost use Rattle.std.specs.Prelude.{◌≡◌, ◌+◌, ◌-◌, ◌^◌, ◌<◌, ℕ, [], ◌∷◌, ◌++◌, map, option_map, is_some, None, IfOk, OnOk, OnErr};
+ghost use Rattle.std.specs.Prelude.{◌≡◌, ◌+◌, ◌-◌, ◌^◌, ◌<◌, [], ◌∷◌, ◌++◌, map, option_map, is_some, None, IfOk, OnOk, OnErr};
 ghost use Rattle.tree_model.specs.Trees.{Place};
 ghost use Rattle.syntax_tree.specs.View.{node_view, place_of};
 ghost use Rattle.row_parts.specs.Numbered.{operand_view, filled_in};
 ghost use Rattle.type_nodes.specs.Views.{numbers};
 ghost use Rattle.operand_laws.specs.Operands.{number_of, pattern_of};
-ghost use Rattle.env_table.specs.declared.faults.FaultKind.{FaultKind};
-ghost use Rattle.typing_state.specs.Goes.{Goes};
-ghost use Rattle.typing_state.specs.Steps.{asks, each, records, Follows, Silent};
+ghost use Rattle.typing_state.specs.Goes.{Goes, Silent};
 ghost use Rattle.typing_steps.specs.Typing.{TypesRow};
 ghost use Rattle.typing_steps.specs.Warning.{OnlyWarnings};
 ghost use Rattle.typing_rows.specs.Asked.{row_expression};
@@ -24,11 +22,10 @@ ghost use Rattle.binding_rows.specs.Operands.{AsksWholeOf, ConcludesNode, Conclu
 ghost use Rattle.binding_rows.specs.Closing.{GeneralisesAll, LimitsNodes};
 ghost use Rattle.binding_rows.specs.Lets.{limited_nodes, names_closed};
 ghost use Rattle.binding_rows.specs.LetNodes.{ClosesBindings};
-ghost use Rattle.expression_steps.specs.declared.forms.RowForm.{RowForm};
-ghost use Rattle.pattern_steps.specs.PatternSteps.{pattern_steps};
-ghost use Rattle.expression_steps.specs.ExpressionSteps.{bindings_at, bound_pattern, concluded_steps, expression_at, opened_steps, right_at, right_steps, steps_as, turn_steps, type_steps_if, typed_as_written, asks_equal_written, whole_steps};
+ghost use Rattle.expression_steps.specs.Forms.{bound_pattern};
 ghost use Rattle.core_typing.specs.Bindings.{Concludes, TypesItemGroup, closing_of, generals, name_nodes, node_of, opened_of, typed_of};
-ghost use Rattle.core_typing.specs.Concluding.{conclusion};
+ghost use Rattle.typing_state.specs.Notes.{IsRecorded, IsRecordedThere};
+ghost use Rattle.match_warnings.specs.Warnings.{missed_at, WarnsOf};
 
 use crate::exprs::type_under;
 use crate::functions::{arrows, type_parameters, with_names};
@@ -111,7 +108,6 @@ pub fn let_in(
     depth: Depth,
 ) -> Result<Used, NoMemory>
     ensures carries { IfOk result (λ u. (place : Place) → IsLetNode number (node_view node.now) → TypesRow at.old at.new env.now (λ c. (row_expression at.old.item number place (node_view node.now)).typed c) (number_of at.old.item number) u.ty.0) }
-    ensures follows { OnOk result (Follows (steps_as RowForm.Let number (node_view node.now)) at.old at.new) }
     ensures goes { Goes at.old at.new }
 {
     raise(at)?;
@@ -131,7 +127,6 @@ pub fn type_bindings(
     depth: Depth,
 ) -> Result<Behind, NoMemory>
     ensures carries { IfOk result (λ e. TypesItemGroup at.old at.new env.now e.env number (node_view item.now)) }
-    ensures follows { OnOk result (Follows (bindings_at number (node_view item.now)) at.old at.new) }
     ensures goes { Goes at.old at.new }
 {
     raise(at)?;
@@ -166,7 +161,6 @@ fn type_group<'a>(
 ) -> Result<Vec<Bound<'a>>, NoMemory>
     ensures carries { IfOk result (λ bs. TypesGroupNode at.old at.new env.now number (node_view node.now) (map typed_of bs.items)) }
     ensures general { IfOk result (λ bs. JudgesGroup number (node_view node.now) (generals bs.items)) }
-    ensures follows { OnOk result (Follows (bindings_at number (node_view node.now)) at.old at.new) }
     ensures goes { Goes at.old at.new }
 {
     let bindings = operands(at.alloc(), node, number, 2)?;
@@ -187,7 +181,6 @@ fn in_turn<'a>(
 ) -> Result<Vec<Bound<'a>>, NoMemory>
     ensures carries { IfOk result (λ bs. TypesInTurn at.old at.new env.now (map operand_view bindings.now) (map typed_of bs.items)) }
     ensures general { IfOk result (λ bs. JudgesOperands (map operand_view bindings.now) (generals bs.items)) }
-    ensures follows { OnOk result (Follows (each (λ b. turn_steps (expression_at b)) (map operand_view bindings.now)) at.old at.new) }
     ensures goes { Goes at.old at.new }
 {
     let mut seen = Vec::new(at.alloc());
@@ -210,7 +203,6 @@ fn take_turn<'a>(
 ) -> Result<(), NoMemory>
     ensures carries { OnOk result (TypesTurnOperand at.old at.new env.now (operand_view binding.entry) (names_seen seen.old.items) (names_seen seen.new.items) (map typed_of bound.old.items) (map typed_of bound.new.items)) }
     ensures general { OnOk result (JudgesOperand (operand_view binding.entry) (generals bound.old.items) (generals bound.new.items)) }
-    ensures follows { OnOk result (Follows (turn_steps (expression_at (operand_view binding.entry))) at.old at.new) }
     ensures goes { Goes at.old at.new }
 {
     let Some(node) = binding.node else {
@@ -235,7 +227,6 @@ fn turn<'a>(
 ) -> Result<Bound<'a>, NoMemory>
     ensures carries { IfOk result (λ b. TypesTurnNode at.old at.new env.now binding.entry.number (node_view binding.entry.node.now) (names_seen seen.old.items) (names_seen seen.new.items) (typed_of b)) }
     ensures general { IfOk result (λ b. JudgesNode binding.entry.number (node_view binding.entry.node.now) b.generalises) }
-    ensures follows { OnOk result (Follows ((records binding.entry.number ∷ right_at binding.entry.number (node_view binding.entry.node.now)) ++ pattern_steps (bound_pattern binding.entry.number (node_view binding.entry.node.now)) ++ whole_steps (bound_pattern binding.entry.number (node_view binding.entry.node.now))) at.old at.new) }
     ensures goes { Goes at.old at.new }
 {
     let side = recorded_right(at, binding, env, depth)?;
@@ -252,7 +243,7 @@ fn recorded_right(
     depth: Depth,
 ) -> Result<RightSide, NoMemory>
     ensures carries { IfOk result (λ s. RecordsRightNode at.old at.new env.now binding.entry.number (node_view binding.entry.node.now) s.right.0 s.whole.0) }
-    ensures follows { OnOk result (Follows (records binding.entry.number ∷ right_at binding.entry.number (node_view binding.entry.node.now)) at.old at.new) }
+    ensures recorded { OnOk result (IsRecorded at.new binding.entry.number) }
     ensures goes { Goes at.old at.new }
 {
     at.note_plain(binding.number, env)?;
@@ -269,7 +260,6 @@ fn together<'a>(
 ) -> Result<Vec<Bound<'a>>, NoMemory>
     ensures carries { IfOk result (λ bs. TypesTogether at.old at.new env.now (map operand_view bindings.now) (map typed_of bs.items)) }
     ensures general { IfOk result (λ bs. JudgesOperands (map operand_view bindings.now) (generals bs.items)) }
-    ensures follows { OnOk result (Follows (each opened_steps (map operand_view bindings.now) ++ each (λ b. concluded_steps (expression_at b)) (map operand_view bindings.now)) at.old at.new) }
     ensures goes { Goes at.old at.new }
 {
     let opened = open_all(at, bindings, env, depth)?;
@@ -288,7 +278,6 @@ fn conclude_all<'a>(
 ) -> Result<Vec<Bound<'a>>, NoMemory>
     ensures carries { IfOk result (λ bs. ConcludesNodes at.old at.new within.now (map node_of opened.entry.items) (map opened_of opened.entry.items) (map typed_of bs.items)) }
     ensures general { IfOk result (λ bs. JudgesNodes (map node_of opened.entry.items) (generals bs.items)) }
-    ensures follows { OnOk result (Follows (each conclusion opened.entry.items) at.old at.new) }
     ensures goes { Goes at.old at.new }
 {
     let mut left = opened;
@@ -312,7 +301,6 @@ fn conclude_one<'a>(
 ) -> Result<Bound<'a>, NoMemory>
     ensures carries { IfOk result (λ b. ConcludesNode at.old at.new within.now (node_of opened.entry).number (node_of opened.entry).tree (opened_of opened.entry) (typed_of b)) }
     ensures general { IfOk result (λ b. JudgesNode (node_of opened.entry).number (node_of opened.entry).tree b.generalises) }
-    ensures follows { OnOk result (Follows (conclusion opened.entry) at.old at.new) }
     ensures goes { Goes at.old at.new }
 {
     let side = type_right(at, opened.binding, within, env, depth)?;
@@ -330,7 +318,6 @@ fn type_right(
     depth: Depth,
 ) -> Result<RightSide, NoMemory>
     ensures carries { IfOk result (λ s. TypesRightNode at.old at.new within.now binding.entry.number (node_view binding.entry.node.now) s.right.0 s.whole.0) }
-    ensures follows { OnOk result (Follows (right_at binding.entry.number (node_view binding.entry.node.now)) at.old at.new) }
     ensures goes { Goes at.old at.new }
 {
     let given = operands(at.alloc(), binding.node, binding.number, 1)?;
@@ -350,7 +337,6 @@ fn right_of(
     depth: Depth,
 ) -> Result<RightSide, NoMemory>
     ensures carries { IfOk result (λ s. TypesRightOf at.old at.new within.now (map operand_view given.now) (option_map operand_view written.entry) (operand_view body.entry) s.right.0 s.whole.0) }
-    ensures follows { OnOk result (Follows (right_steps (map operand_view given.now) (option_map operand_view written.entry) (expression_at (operand_view body.entry))) at.old at.new) }
     ensures goes { Goes at.old at.new }
 {
     let (parameters, inner) = type_parameters(at, given, within, depth)?;
@@ -370,7 +356,6 @@ fn typed_body(
     depth: Depth,
 ) -> Result<RightSide, NoMemory>
     ensures carries { IfOk result (λ s. TypesRightBodyOf at.old at.new inner.now (operand_view body.entry) (option_map (λ n. n.0) annotation) (numbers parameters.now) s.right.0 s.whole.0) }
-    ensures follows { OnOk result (Follows (typed_as_written annotation (expression_at (operand_view body.entry))) at.old at.new) }
     ensures goes { Goes at.old at.new }
 {
     let right = type_under(at, body, Sign::None, inner, depth.inside()?)?;
@@ -386,7 +371,6 @@ fn annotation_of(
     depth: Depth,
 ) -> Result<Option<NodeRef>, NoMemory>
     ensures carries { IfOk result (λ ty. ReadsAnnotationOf at.old at.new within.now (option_map operand_view written.entry) (option_map (λ n. n.0) ty)) }
-    ensures follows { OnOk result (Follows (type_steps_if (option_map operand_view written.entry)) at.old at.new) }
     ensures there { IfOk result (λ ty. is_some ty ≡ is_some written.entry) }
     ensures goes { Goes at.old at.new }
 {
@@ -409,7 +393,6 @@ fn whole(
     env: &Env,
 ) -> Result<NodeRef, NoMemory>
     ensures carries { IfOk result (λ m. MakesWholeOf at.old at.new (operand_view body.entry) (option_map (λ n. n.0) annotation) (numbers parameters.now) right.0 m.0) }
-    ensures follows { OnOk result (Follows (asks_equal_written annotation (operand_view body.entry)) at.old at.new) }
     ensures goes { Goes at.old at.new }
 {
     match annotation {
@@ -430,8 +413,6 @@ fn open_all<'a>(
 ) -> Result<Vec<Opened<'a>>, NoMemory>
     ensures carries { IfOk result (λ all. OpensOperands at.old at.new env.now (map operand_view bindings.now) (map opened_of all.items)) }
     ensures nodes { IfOk result (λ all. map node_of all.items ≡ nodes_there (map operand_view bindings.now)) }
-    ensures follows { OnOk result (Follows (each opened_steps (map operand_view bindings.now)) at.old at.new) }
-    ensures left { IfOk result (λ os. each conclusion os.items ≡ each (λ b. concluded_steps (expression_at b)) (map operand_view bindings.now)) }
     ensures goes { Goes at.old at.new }
 {
     let mut seen = Vec::new(at.alloc());
@@ -453,8 +434,7 @@ fn open_if<'a>(
 ) -> Result<(), NoMemory>
     ensures carries { OnOk result (OpensOperand at.old at.new env.now (operand_view binding.entry) (names_seen seen.old.items) (names_seen seen.new.items) (map opened_of all.old.items) (map opened_of all.new.items)) }
     ensures nodes { OnOk result (map node_of all.new.items ≡ map node_of all.old.items ++ node_there (operand_view binding.entry).number (operand_view binding.entry).part) }
-    ensures follows { OnOk result (Follows (opened_steps (operand_view binding.entry)) at.old at.new) }
-    ensures left { OnOk result (each conclusion all.new.items ≡ each conclusion all.old.items ++ concluded_steps (expression_at (operand_view binding.entry))) }
+    ensures recorded { OnOk result (IsRecordedThere (operand_view binding.entry).part at.new binding.entry.number) }
     ensures goes { Goes at.old at.new }
 {
     let Some(node) = binding.node else {
@@ -478,7 +458,6 @@ fn open_pattern<'a>(
     depth: Depth,
 ) -> Result<Opened<'a>, NoMemory>
     ensures carries { IfOk result (λ o. IsCarriedPattern (bound_pattern binding.entry.number (node_view binding.entry.node.now)) → Matches at.old at.new env.now (pattern_of at.old.item (bound_pattern binding.entry.number (node_view binding.entry.node.now))) [] (binds_of o.matched.names.items) (names_seen seen.old.items) (names_seen seen.new.items) o.matched.ty.0) }
-    ensures follows { OnOk result (Follows (pattern_steps (bound_pattern binding.entry.number (node_view binding.entry.node.now))) at.old at.new) }
     ensures binding { IfOk result (λ o. o.binding ≡ binding.entry) }
     ensures goes { Goes at.old at.new }
 {
@@ -511,7 +490,6 @@ fn conclude<'a>(
     depth: Depth,
 ) -> Result<Bound<'a>, NoMemory>
     ensures carries { IfOk result (λ b. Concludes at.old at.new opened.entry side b) }
-    ensures follows { OnOk result (Follows (whole_steps (bound_pattern opened.entry.binding.number (node_view opened.entry.binding.node.now))) at.old at.new) }
     ensures goes { Goes at.old at.new }
 {
     let generalises = is_general(at, opened.binding, env, depth)?;
@@ -542,7 +520,6 @@ fn pattern_has(
     depth: Depth,
 ) -> Result<(), NoMemory>
     ensures carries { OnOk result (AsksWholeOf at.old at.new (bound_pattern opened.now.binding.number (node_view opened.now.binding.node.now)) opened.now.matched.ty.0 whole.0) }
-    ensures follows { OnOk result (Follows (whole_steps (bound_pattern opened.now.binding.number (node_view opened.now.binding.node.now))) at.old at.new) }
     ensures goes { Goes at.old at.new }
 {
     let pattern = pattern_in(opened.binding);
@@ -560,7 +537,7 @@ fn warn_pattern(
     depth: Depth,
 ) -> Result<(), NoMemory>
     ensures warns { OnOk result (OnlyWarnings at.old at.new) }
-    ensures follows { OnOk result (Follows (asks FaultKind.Missed (place_of pattern.entry.span ∷ []) ∷ []) at.old at.new) }
+    ensures places { OnOk result (WarnsOf (missed_at (place_of pattern.entry.span)) at.old at.new) }
     ensures goes { Goes at.old at.new }
 {
     if !faultless {

@@ -1,13 +1,14 @@
 //! Matches: `match`, `try` and `function`.
-#![tactic(auto, using(typing_state::proofs::Going::goes_trans, typing_state::proofs::Going::goes_refl, typing_state::proofs::Following::follows_both, typing_state::proofs::Following::follows_then, typing_state::proofs::Following::follows_before, typing_state::proofs::Following::follows_behind, typing_state::proofs::Following::follows_none, typing_state::proofs::Following::follows_silent, typing_state::proofs::Following::store_silent, typing_state::proofs::Following::silent_refl, typing_state::proofs::Following::silent_trans, typing_state::proofs::Following::ends_both, typing_state::proofs::Following::ends_behind, typing_state::proofs::Following::ends_before, typing_state::proofs::Following::ends_silent, typing_state::proofs::Following::gets_start, typing_state::proofs::Following::gets_more, typing_state::proofs::Following::gets_before, typing_state::proofs::Following::gets_done))]
+#![tactic(auto, using(typing_state::proofs::Going::goes_trans, typing_state::proofs::Going::goes_refl))]
 
-ghost use Rattle.std.specs.Prelude.{◌≡◌, ℕ, [], ◌∷◌, ◌++◌, map, option_map, Some, All, IfOk, OnOk};
+ghost use Rattle.std.specs.Prelude.{◌≡◌, ℕ, [], ◌∷◌, ◌++◌, map, option_map, All, IfOk, OnOk};
 ghost use Rattle.std.specs.Option.{IfSome};
 ghost use Rattle.tree_model.specs.Trees.{Place};
+ghost use Rattle.tree_model.specs.Extents.{extent_of};
 ghost use Rattle.syntax_tree.specs.Names.{row_of};
 ghost use Rattle.core_typing.specs.Sides.{sides_by};
 ghost use Rattle.syntax_tree.specs.View.{node_view, place_of};
-ghost use Rattle.row_parts.specs.Numbered.{filled_in, first_of, operand_view, operands_in};
+ghost use Rattle.row_parts.specs.Numbered.{operand_view, operands_in};
 ghost use Rattle.operand_laws.specs.Operands.{number_of, expression_of, pattern_of};
 ghost use Rattle.typing_steps.specs.Typing.{TypesRow};
 ghost use Rattle.typing_rows.specs.CarriedRows.{IsCarried};
@@ -17,10 +18,10 @@ ghost use Rattle.pattern_rows.specs.CarriedPatterns.{IsCarriedPattern};
 ghost use Rattle.case_rows.specs.Cases.{MatchesAs, MatchesWithin, TypesCaseIf, TypesCasePartsTo, TypesCases, TypesEachCase, TypesGuard, case_by, case_of, case_over, cases_of};
 ghost use Rattle.case_rows.specs.Carried.{IsCase, IsCaseNode, IsFunctionNode, IsMatchOrTry};
 ghost use Rattle.typing_state.specs.Goes.{Goes};
-ghost use Rattle.typing_state.specs.Steps.{each, Follows};
-ghost use Rattle.expression_steps.specs.declared.forms.RowForm.{RowForm};
-ghost use Rattle.match_warnings.specs.Warnings.{spans_of, unused_steps};
-ghost use Rattle.expression_steps.specs.ExpressionSteps.{case_parts, cases_at, expression_at, expression_case, expressions_in, filled_expression, steps_as, typed_as_if, typed_pattern, unused_case};
+ghost use Rattle.match_warnings.specs.Warnings.{spans_of, warnings_of, WarnsAtLast};
+ghost use Rattle.core_typing.specs.Cases.{place_there, places_there};
+ghost use Rattle.expression_steps.specs.Forms.{row_at};
+ghost use Rattle.typing_state.specs.Notes.{IsRecorded};
 
 use crate::exprs::{type_under, typed_as};
 use crate::functions::with_names;
@@ -50,7 +51,6 @@ pub fn match_of(
     depth: Depth,
 ) -> Result<Used, NoMemory>
     ensures carries { IfOk result (λ u. (place : Place) → IsMatchOrTry number (node_view node.now) → TypesRow at.old at.new env.now (λ c. (row_expression at.old.item number place (node_view node.now)).typed c) (number_of at.old.item number) u.ty.0) }
-    ensures follows { OnOk result (Follows (steps_as RowForm.Match number (node_view node.now)) at.old at.new) }
     ensures goes { Goes at.old at.new }
 {
     let subject = operand_in(node, number, 1);
@@ -81,7 +81,6 @@ pub fn function_of_cases(
     depth: Depth,
 ) -> Result<Used, NoMemory>
     ensures carries { IfOk result (λ u. (place : Place) → IsFunctionNode number (node_view node.now) → TypesRow at.old at.new env.now (λ c. (row_expression at.old.item number place (node_view node.now)).typed c) (number_of at.old.item number) u.ty.0) }
-    ensures follows { OnOk result (Follows (steps_as RowForm.Cases number (node_view node.now)) at.old at.new) }
     ensures goes { Goes at.old at.new }
 {
     let from = at.var()?;
@@ -102,7 +101,7 @@ fn type_cases(
     depth: Depth,
 ) -> Result<NodeRef, NoMemory>
     ensures carries { IfOk result (λ m. All IsCase (operands_in number (node_view node.now) 4) → TypesCases at.old at.new env.now (cases_of at.old.item (operands_in number (node_view node.now) 4)) matched.0 (option_map (λ w. w.0) known) m.0) }
-    ensures follows { OnOk result (Follows (cases_at number (node_view node.now)) at.old at.new) }
+    ensures warns { OnOk result (WarnsAtLast (warnings_of (row_at (node_view node.now)) (extent_of (node_view node.now)).span (places_there (operands_in number (node_view node.now) 4))) at.old at.new) }
     ensures goes { Goes at.old at.new }
 {
     let cases = operands(at.alloc(), node, number, 4)?;
@@ -124,8 +123,7 @@ fn type_each_case(
     depth: Depth,
 ) -> Result<Option<NodeRef>, NoMemory>
     ensures carries { IfOk result (λ bodies. All IsCase (map operand_view cases.now) → TypesEachCase at.old at.new env.now (cases_of at.old.item (map operand_view cases.now)) matched.0 (option_map (λ w. w.0) known) (option_map (λ w. w.0) bodies)) }
-    ensures follows { OnOk result (Follows (each expression_case (map operand_view cases.now)) at.old at.new) }
-    ensures spans { OnOk result (unused_steps (spans_of rows.new) ≡ unused_steps (spans_of rows.old) ++ each unused_case (map operand_view cases.now)) }
+    ensures spans { OnOk result (spans_of rows.new ≡ spans_of rows.old ++ places_there (map operand_view cases.now)) }
     ensures goes { Goes at.old at.new }
 {
     let mut bodies = known;
@@ -147,8 +145,8 @@ fn type_case(
     depth: Depth,
 ) -> Result<Option<NodeRef>, NoMemory>
     ensures carries { IfOk result (λ now. IsCase (operand_view case.entry) → TypesCaseIf at.old at.new env.now (case_of at.old.item (operand_view case.entry)) matched.0 (option_map (λ w. w.0) bodies) (option_map (λ w. w.0) now)) }
-    ensures follows { OnOk result (Follows (expression_case (operand_view case.entry)) at.old at.new) }
-    ensures spans { OnOk result (unused_steps (spans_of rows.new) ≡ unused_steps (spans_of rows.old) ++ unused_case (operand_view case.entry)) }
+    ensures spans { OnOk result (spans_of rows.new ≡ spans_of rows.old ++ place_there (place_of case.entry.span) (operand_view case.entry).part) }
+    ensures recorded { OnOk result (IsRecorded at.new case.entry.number) }
     ensures goes { Goes at.old at.new }
 {
     at.note_plain(case.number, env)?;
@@ -183,7 +181,6 @@ fn typed_case(
     depth: Depth,
 ) -> Result<Option<NodeRef>, NoMemory>
     ensures carries { IfOk result (λ now. IsCaseNode number (node_view node.now) → TypesCasePartsTo at.old at.new env.now (case_over at.old.item number (node_view node.now)) matched.0 (option_map (λ w. w.0) bodies) (option_map (λ w. w.0) now)) }
-    ensures follows { OnOk result (Follows (case_parts (filled_in number (node_view node.now) 0) (first_of (expressions_in number (node_view node.now) 2)) (filled_expression number (node_view node.now) 4)) at.old at.new) }
     ensures spans { OnOk result (spans_of rows.new ≡ spans_of rows.old ++ place_of span ∷ []) }
     ensures goes { Goes at.old at.new }
 {
@@ -208,7 +205,6 @@ fn case_of(
     depth: Depth,
 ) -> Result<Option<NodeRef>, NoMemory>
     ensures carries { IfOk result (λ now. (n : ℕ) → IsCarriedPattern (operand_view case.entry.pattern) → IfSome (option_map operand_view case.entry.guard) IsCarried → IsCarried (operand_view case.entry.body) → TypesCasePartsTo at.old at.new env.now (case_by at.old.item n (operand_view case.entry.pattern) (option_map operand_view case.entry.guard) (operand_view case.entry.body)) matched.0 (option_map (λ w. w.0) bodies) (option_map (λ w. w.0) now)) }
-    ensures follows { OnOk result (Follows (case_parts (operand_view case.entry.pattern) (option_map (λ o. expression_at (operand_view o)) case.entry.guard) (expression_at (operand_view case.entry.body))) at.old at.new) }
     ensures spans { OnOk result (spans_of rows.new ≡ spans_of rows.old ++ place_of case.entry.span ∷ []) }
     ensures goes { Goes at.old at.new }
 {
@@ -228,7 +224,6 @@ fn type_guard(
     depth: Depth,
 ) -> Result<(), NoMemory>
     ensures carries { OnOk result (IfSome (option_map operand_view guard.entry) IsCarried → TypesGuard at.old at.new inner.now (option_map (λ o. expression_of at.old.item o) (option_map operand_view guard.entry))) }
-    ensures follows { OnOk result (Follows (typed_as_if (option_map (λ o. expression_at (operand_view o)) guard.entry)) at.old at.new) }
     ensures goes { Goes at.old at.new }
 {
     let bool = at.constants.bool;
@@ -248,7 +243,6 @@ fn within_case(
     depth: Depth,
 ) -> Result<Env, NoMemory>
     ensures carries { IfOk result (λ inner. IsCarriedPattern (operand_view case.entry.pattern) → MatchesWithin at.old at.new env.now inner (pattern_of at.old.item (operand_view case.entry.pattern)) matched.0) }
-    ensures follows { OnOk result (Follows (typed_pattern (operand_view case.entry.pattern)) at.old at.new) }
     ensures spans { OnOk result (spans_of rows.new ≡ spans_of rows.old ++ place_of case.entry.span ∷ []) }
     ensures goes { Goes at.old at.new }
 {
@@ -275,7 +269,6 @@ fn type_matched<'a>(
     depth: Depth,
 ) -> Result<Matched<'a>, NoMemory>
     ensures carries { IfOk result (λ m. IsCarriedPattern (operand_view pattern.entry) → MatchesAs at.old at.new env.now (pattern_of at.old.item (operand_view pattern.entry)) (binds_of m.names.items) matched.0) }
-    ensures follows { OnOk result (Follows (typed_pattern (operand_view pattern.entry)) at.old at.new) }
     ensures goes { Goes at.old at.new }
 {
     let mut seen = Vec::new(at.alloc());

@@ -1,22 +1,19 @@
 //! The walk over expressions: each row types its parts in order, with its demands between and behind them.
-#![tactic(auto, using(typing_state::proofs::Going::goes_trans, typing_state::proofs::Going::goes_refl, typing_state::proofs::Following::follows_both, typing_state::proofs::Following::follows_then, typing_state::proofs::Following::follows_before, typing_state::proofs::Following::follows_behind, typing_state::proofs::Following::follows_none, typing_state::proofs::Following::follows_silent, typing_state::proofs::Following::store_silent, typing_state::proofs::Following::silent_refl, typing_state::proofs::Following::silent_trans, typing_state::proofs::Following::ends_both, typing_state::proofs::Following::ends_behind, typing_state::proofs::Following::ends_before, typing_state::proofs::Following::ends_silent, typing_state::proofs::Following::gets_start, typing_state::proofs::Following::gets_more, typing_state::proofs::Following::gets_before, typing_state::proofs::Following::gets_done, expression_steps::proofs::ExpressionLaws::value_no_record, expression_steps::proofs::ExpressionLaws::form_follows), unfolding(syntax_tree::specs::Names::row_of))]
+#![tactic(auto, using(typing_state::proofs::Going::goes_trans, typing_state::proofs::Going::goes_refl), unfolding(syntax_tree::specs::Names::row_of))]
 
-ghost use Rattle.std.specs.Prelude.{◌≡◌, None, false, [], ◌∷◌, ◌++◌, map, option_map, All, IfOk, OnOk};
+ghost use Rattle.std.specs.Prelude.{◌≡◌, None, false, map, option_map, All, IfOk, OnOk};
 ghost use Rattle.tree_model.specs.Trees.{Place, inner};
 ghost use Rattle.operand_laws.specs.Operands.{number_of, expression_of};
 ghost use Rattle.typing_steps.specs.Typing.{TypesTo, TypesRow};
 ghost use Rattle.typing_rows.specs.CarriedRows.{IsCarried};
 ghost use Rattle.typing_rows.specs.Asked.{under_minus, row_expression, expressions_of};
 ghost use Rattle.typing_rows.specs.Contracts.{TypesEach, TypesAsIf};
-ghost use Rattle.syntax_tree.specs.View.{place_of, node_view};
+ghost use Rattle.syntax_tree.specs.View.{node_view};
 ghost use Rattle.row_parts.specs.Numbered.{numbered, operand_view};
-ghost use Rattle.env_table.specs.declared.faults.FaultKind.{FaultKind};
 ghost use Rattle.typing_state.specs.Goes.{Goes};
-ghost use Rattle.typing_state.specs.Steps.{asks, each, Follows};
-ghost use Rattle.typing_state.specs.Notes.{IsRecorded};
 ghost use Rattle.use_typing.specs.Constants.{is_negated};
 ghost use Rattle.expression_steps.specs.Leaves.{TellsAlone, TellsAs};
-ghost use Rattle.expression_steps.specs.ExpressionSteps.{expression_steps, form_of, row_at, unrecorded_steps};
+ghost use Rattle.expression_steps.specs.Forms.{form_of, row_at};
 
 use crate::apply::{application, minus, operation};
 use crate::bindings::let_in;
@@ -41,8 +38,6 @@ pub fn type_expr(
 ) -> Result<NodeRef, NoMemory>
     ensures carries { IfOk result (λ m. IsCarried (operand_view e.entry) → TypesTo at.old at.new env.now (λ c. (expression_of at.old.item (operand_view e.entry)).typed c) (λ ch. ch.type_at (expression_of at.old.item (operand_view e.entry)).node) m.0) }
     ensures alone { OnOk result (TellsAlone (operand_view e.entry).part false at.old at.new env.now) }
-    ensures follows { OnOk result (Follows (expression_steps (operand_view e.entry)) at.old at.new) }
-    ensures recorded { OnOk result (IsRecorded at.new e.entry.number) }
     ensures goes { Goes at.old at.new }
 {
     type_under(at, e, Sign::None, env, depth)
@@ -59,8 +54,6 @@ pub fn type_under(
 ) -> Result<NodeRef, NoMemory>
     ensures carries { IfOk result (λ m. IsCarried (operand_view e.entry) → TypesTo at.old at.new env.now (λ c. (under_minus (is_negated sign) (expression_of at.old.item (operand_view e.entry))).typed c) (λ ch. ch.type_at (expression_of at.old.item (operand_view e.entry)).node) m.0) }
     ensures alone { OnOk result (TellsAlone (operand_view e.entry).part (is_negated sign) at.old at.new env.now) }
-    ensures follows { OnOk result (Follows (expression_steps (operand_view e.entry)) at.old at.new) }
-    ensures recorded { OnOk result (IsRecorded at.new e.entry.number) }
     ensures goes { Goes at.old at.new }
 {
     let Some(node) = e.node else {
@@ -85,7 +78,6 @@ fn typed_row(
 ) -> Result<Used, NoMemory>
     ensures carries { IfOk result (λ u. (place : Place) → IsCarried (numbered number place (inner (node_view node.now))) → TypesRow at.old at.new env.now (λ c. (under_minus (is_negated sign) (row_expression at.old.item number place (node_view node.now))).typed c) (number_of at.old.item number) u.ty.0) }
     ensures alone { OnOk result (TellsAs (form_of (row_at (node_view node.now))) (node_view node.now) (is_negated sign) at.old at.new env.now) }
-    ensures follows { OnOk result (Follows (unrecorded_steps number (node_view node.now)) at.old at.new) }
     ensures goes { Goes at.old at.new }
 {
     match form_of(node.row) {
@@ -114,7 +106,6 @@ pub fn type_each(
     depth: Depth,
 ) -> Result<(), NoMemory>
     ensures carries { OnOk result (All IsCarried (map operand_view es.now) → TypesEach at.old at.new env.now (expressions_of at.old.item (map operand_view es.now))) }
-    ensures follows { OnOk result (Follows (each (λ o. expression_steps (operand_view o)) es.now) at.old at.new) }
     ensures goes { Goes at.old at.new }
 {
     for e in es {
@@ -135,7 +126,6 @@ pub fn typed_as(
 ) -> Result<NodeRef, NoMemory>
     ensures carries { OnOk result (IsCarried (operand_view e.entry) → TypesAsIf at.old at.new scope.now (expression_of at.old.item (operand_view e.entry)) (option_map (λ w. w.0) wanted)) }
     ensures typed { IfOk result (λ m. wanted ≡ None → IsCarried (operand_view e.entry) → TypesTo at.old at.new scope.now (λ c. (expression_of at.old.item (operand_view e.entry)).typed c) (λ ch. ch.type_at (expression_of at.old.item (operand_view e.entry)).node) m.0) }
-    ensures follows { OnOk result (Follows (expression_steps (operand_view e.entry) ++ asks FaultKind.Equal (place_of e.entry.span ∷ []) ∷ []) at.old at.new) }
     ensures goes { Goes at.old at.new }
 {
     let ty = type_under(at, e, Sign::None, scope, depth.inside()?)?;

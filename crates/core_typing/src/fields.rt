@@ -1,7 +1,7 @@
 //! Fields that are set: the field, which is recorded, and the right part, which is the field.
 #![tactic(auto, using(typing_state::proofs::Going::goes_trans, typing_state::proofs::Going::goes_refl), unfolding(syntax_tree::specs::Names::row_of))]
 
-ghost use Rattle.std.specs.Prelude.{◌≡◌, IfOk, OnOk};
+ghost use Rattle.std.specs.Prelude.{◌≡◌, IfOk};
 ghost use Rattle.tree_model.specs.Rows.{field_row};
 ghost use Rattle.tree_model.specs.Trees.{Place, inner};
 ghost use Rattle.operand_laws.specs.Operands.{number_of, expression_of};
@@ -12,9 +12,8 @@ ghost use Rattle.typing_rows.specs.Fields.{TypesSettable};
 ghost use Rattle.syntax_tree.specs.View.{node_view};
 ghost use Rattle.row_parts.specs.Numbered.{numbered, operand_view};
 ghost use Rattle.typing_state.specs.Goes.{Goes};
-ghost use Rattle.typing_state.specs.Steps.{Follows};
 ghost use Rattle.expression_steps.specs.declared.forms.RowForm.{RowForm};
-ghost use Rattle.expression_steps.specs.ExpressionSteps.{expression_at, form_of, row_at, set_field_steps, set_part_steps, steps_as};
+ghost use Rattle.expression_steps.specs.Forms.{form_of, row_at};
 
 use crate::exprs::{type_under, typed_as};
 use crate::plain::type_parts;
@@ -34,7 +33,6 @@ pub fn set(
     depth: Depth,
 ) -> Result<Used, NoMemory>
     ensures carries { IfOk result (λ u. (place : Place) → IsCarried (numbered number place (inner (node_view node.now))) → form_of (row_at (node_view node.now)) ≡ RowForm.Set → TypesRow at.old at.new env.now (λ c. (row_expression at.old.item number place (node_view node.now)).typed c) (number_of at.old.item number) u.ty.0) }
-    ensures follows { OnOk result (Follows (steps_as RowForm.Set number (node_view node.now)) at.old at.new) }
     ensures goes { Goes at.old at.new }
 {
     let left = operand_in(node, number, 0);
@@ -49,7 +47,6 @@ pub fn set(
 #[cycle(exprs)]
 fn set_part(at: &mut Parts, part: Operand<'_>, env: &Env, depth: Depth) -> Result<NodeRef, NoMemory>
     ensures carries { IfOk result (λ m. IsCarried (operand_view part.entry) → TypesSettable at.old at.new env.now (expression_of at.old.item (operand_view part.entry)) m.0) }
-    ensures follows { OnOk result (Follows (set_part_steps (expression_at (operand_view part.entry))) at.old at.new) }
     ensures goes { Goes at.old at.new }
 {
     match field_node(part) {
@@ -68,7 +65,6 @@ fn set_field(
     depth: Depth,
 ) -> Result<NodeRef, NoMemory>
     ensures carries { IfOk result (λ m. (place : Place) → IsCarried (numbered number place (inner (node_view node.now))) → row_at (node_view node.now) ≡ field_row → TypesSettable at.old at.new env.now (expression_of at.old.item (numbered number place (inner (node_view node.now)))) m.0) }
-    ensures follows { OnOk result (Follows (set_field_steps number (node_view node.now)) at.old at.new) }
     ensures goes { Goes at.old at.new }
 {
     let parts = operands_of(at.alloc(), node, number)?;

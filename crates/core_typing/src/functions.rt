@@ -1,15 +1,13 @@
 //! fun p p -> e
-#![tactic(auto, using(typing_state::proofs::Going::goes_trans, typing_state::proofs::Going::goes_refl, typing_state::proofs::Following::follows_both, typing_state::proofs::Following::follows_then, typing_state::proofs::Following::follows_before, typing_state::proofs::Following::follows_behind, typing_state::proofs::Following::follows_none, typing_state::proofs::Following::follows_silent, typing_state::proofs::Following::store_silent, typing_state::proofs::Following::silent_refl, typing_state::proofs::Following::silent_trans, typing_state::proofs::Following::ends_both, typing_state::proofs::Following::ends_behind, typing_state::proofs::Following::ends_before, typing_state::proofs::Following::ends_silent, typing_state::proofs::Following::gets_start, typing_state::proofs::Following::gets_more, typing_state::proofs::Following::gets_before, typing_state::proofs::Following::gets_done))]
+#![tactic(auto, using(typing_state::proofs::Going::goes_trans, typing_state::proofs::Going::goes_refl, typing_state::proofs::Silence::store_silent, typing_state::proofs::Silence::silent_refl, typing_state::proofs::Silence::silent_trans))]
 
-ghost use Rattle.std.specs.Prelude.{◌≡◌, [], ◌∷◌, map, All, IfOk, OnOk};
+ghost use Rattle.std.specs.Prelude.{◌≡◌, [], map, All, IfOk, OnOk};
 ghost use Rattle.tree_model.specs.Trees.{Place};
-ghost use Rattle.syntax_tree.specs.View.{node_view};
+ghost use Rattle.syntax_tree.specs.View.{node_view, place_of};
 ghost use Rattle.row_parts.specs.Numbered.{operand_view};
 ghost use Rattle.type_nodes.specs.Views.{numbers};
 ghost use Rattle.operand_laws.specs.Operands.{number_of, pattern_of};
-ghost use Rattle.env_table.specs.declared.faults.FaultKind.{FaultKind};
-ghost use Rattle.typing_state.specs.Goes.{Goes};
-ghost use Rattle.typing_state.specs.Steps.{asks, each, Follows, Silent};
+ghost use Rattle.typing_state.specs.Goes.{Goes, Silent};
 ghost use Rattle.typing_steps.specs.Typing.{TypesRow};
 ghost use Rattle.typing_steps.specs.Warning.{OnlyWarnings};
 ghost use Rattle.typing_rows.specs.Asked.{row_expression};
@@ -19,8 +17,7 @@ ghost use Rattle.pattern_rows.specs.Contracts.{MatchesTo, patterns_of};
 ghost use Rattle.case_rows.specs.Scopes.{names_added};
 ghost use Rattle.case_rows.specs.Parameters.{MakesArrows, TypesParameters};
 ghost use Rattle.case_rows.specs.Carried.{IsFunNode};
-ghost use Rattle.expression_steps.specs.declared.forms.RowForm.{RowForm};
-ghost use Rattle.expression_steps.specs.ExpressionSteps.{parameter_steps, steps_as};
+ghost use Rattle.match_warnings.specs.Warnings.{missed_at, WarnsOf};
 
 use crate::exprs::type_under;
 use match_warnings::report_pattern;
@@ -42,7 +39,6 @@ pub fn function(
     depth: Depth,
 ) -> Result<Used, NoMemory>
     ensures carries { IfOk result (λ u. (place : Place) → IsFunNode number (node_view node.now) → TypesRow at.old at.new env.now (λ c. (row_expression at.old.item number place (node_view node.now)).typed c) (number_of at.old.item number) u.ty.0) }
-    ensures follows { OnOk result (Follows (steps_as RowForm.Function number (node_view node.now)) at.old at.new) }
     ensures goes { Goes at.old at.new }
 {
     let parameters = operands(at.alloc(), node, number, 1)?;
@@ -61,7 +57,6 @@ pub fn type_parameters(
     depth: Depth,
 ) -> Result<(Vec<NodeRef>, Env), NoMemory>
     ensures carries { IfOk result (λ r. All IsCarriedPattern (map operand_view parameters.now) → TypesParameters at.old at.new env.now r.1 (patterns_of at.old.item (map operand_view parameters.now)) (numbers r.0.items)) }
-    ensures follows { OnOk result (Follows (each parameter_steps (map operand_view parameters.now)) at.old at.new) }
     ensures goes { Goes at.old at.new }
 {
     let mut types = Vec::new(at.alloc());
@@ -82,7 +77,6 @@ fn type_parameter<'a>(
     depth: Depth,
 ) -> Result<Matched<'a>, NoMemory>
     ensures carries { IfOk result (λ m. IsCarriedPattern (operand_view parameter.entry) → MatchesTo at.old at.new env.now (pattern_of at.old.item (operand_view parameter.entry)) [] (binds_of m.names.items) m.ty.0) }
-    ensures follows { OnOk result (Follows (parameter_steps (operand_view parameter.entry)) at.old at.new) }
     ensures goes { Goes at.old at.new }
 {
     let faults_before = at.faults.list.len();
@@ -101,7 +95,7 @@ fn warn_parameter(
     depth: Depth,
 ) -> Result<(), NoMemory>
     ensures warns { OnOk result (OnlyWarnings at.old at.new) }
-    ensures follows { OnOk result (Follows (asks FaultKind.Missed ((operand_view parameter.entry).at ∷ []) ∷ []) at.old at.new) }
+    ensures places { OnOk result (WarnsOf (missed_at (place_of parameter.entry.span)) at.old at.new) }
     ensures goes { Goes at.old at.new }
 {
     if at.faults.list.len() != faults_before {

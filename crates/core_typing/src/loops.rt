@@ -1,7 +1,7 @@
 //! for x = e to e do e done
 #![tactic(auto, using(typing_state::proofs::Going::goes_trans, typing_state::proofs::Going::goes_refl), unfolding(syntax_tree::specs::Names::row_of))]
 
-ghost use Rattle.std.specs.Prelude.{◌≡◌, IfOk, OnOk};
+ghost use Rattle.std.specs.Prelude.{◌≡◌, IfOk};
 ghost use Rattle.tree_model.specs.Trees.{Place, inner};
 ghost use Rattle.operand_laws.specs.Operands.{number_of};
 ghost use Rattle.typing_steps.specs.Typing.{TypesRow};
@@ -10,9 +10,8 @@ ghost use Rattle.typing_rows.specs.Asked.{row_expression};
 ghost use Rattle.syntax_tree.specs.View.{node_view};
 ghost use Rattle.row_parts.specs.Numbered.{numbered};
 ghost use Rattle.typing_state.specs.Goes.{Goes};
-ghost use Rattle.typing_state.specs.Steps.{Follows};
 ghost use Rattle.expression_steps.specs.declared.forms.RowForm.{RowForm};
-ghost use Rattle.expression_steps.specs.ExpressionSteps.{form_of, row_at, steps_as};
+ghost use Rattle.expression_steps.specs.Forms.{form_of, row_at};
 
 use crate::exprs::{type_under, typed_as};
 use expression_steps::loop_scope;
@@ -31,7 +30,6 @@ pub fn for_loop(
     depth: Depth,
 ) -> Result<Used, NoMemory>
     ensures carries { IfOk result (λ u. (place : Place) → IsCarried (numbered number place (inner (node_view node.now))) → form_of (row_at (node_view node.now)) ≡ RowForm.Loop → TypesRow at.old at.new env.now (λ c. (row_expression at.old.item number place (node_view node.now)).typed c) (number_of at.old.item number) u.ty.0) }
-    ensures follows { OnOk result (Follows (steps_as RowForm.Loop number (node_view node.now)) at.old at.new) }
     ensures goes { Goes at.old at.new }
 {
     let int = at.constants.int;

@@ -1,7 +1,7 @@
 //! Rows whose parts are typed one after the other, with demands between and behind them.
-#![tactic(auto, using(typing_state::proofs::Going::goes_trans, typing_state::proofs::Going::goes_refl, typing_state::proofs::Following::follows_both, typing_state::proofs::Following::follows_before, typing_state::proofs::Following::follows_behind, typing_state::proofs::Following::follows_none, typing_state::proofs::Following::follows_silent, typing_state::proofs::Following::store_silent, typing_state::proofs::Following::silent_refl, typing_state::proofs::Following::silent_trans, typing_state::proofs::Following::ends_both, typing_state::proofs::Following::ends_behind, typing_state::proofs::Following::ends_before, typing_state::proofs::Following::ends_silent, typing_state::proofs::Following::gets_start, typing_state::proofs::Following::gets_more, typing_state::proofs::Following::gets_before, typing_state::proofs::Following::gets_done, expression_steps::proofs::ExpressionLaws::types_no_record, expression_steps::proofs::ExpressionLaws::token_no_record), unfolding(syntax_tree::specs::Names::row_of))]
+#![tactic(auto, using(typing_state::proofs::Going::goes_trans, typing_state::proofs::Going::goes_refl), unfolding(syntax_tree::specs::Names::row_of))]
 
-ghost use Rattle.std.specs.Prelude.{◌≡◌, map, All, IfOk, OnOk};
+ghost use Rattle.std.specs.Prelude.{◌≡◌, map, All, IfOk};
 ghost use Rattle.tree_model.specs.Trees.{Place, inner};
 ghost use Rattle.type_nodes.specs.Views.{numbers};
 ghost use Rattle.operand_laws.specs.Operands.{number_of, expression_of};
@@ -13,9 +13,8 @@ ghost use Rattle.syntax_tree.specs.Names.{row_of};
 ghost use Rattle.syntax_tree.specs.View.{node_view};
 ghost use Rattle.row_parts.specs.Numbered.{numbered, operand_view};
 ghost use Rattle.typing_state.specs.Goes.{Goes};
-ghost use Rattle.typing_state.specs.Steps.{Follows};
 ghost use Rattle.expression_steps.specs.declared.forms.RowForm.{RowForm};
-ghost use Rattle.expression_steps.specs.ExpressionSteps.{expression_at, form_of, part_steps, parts_from, row_at, steps_as};
+ghost use Rattle.expression_steps.specs.Forms.{form_of, row_at};
 
 use crate::exprs::type_under;
 use expression_steps::{behind_part, behind_parts};
@@ -36,7 +35,6 @@ pub fn plain(
     depth: Depth,
 ) -> Result<Used, NoMemory>
     ensures carries { IfOk result (λ u. (place : Place) → IsCarried (numbered number place (inner (node_view node.now))) → form_of (row_at (node_view node.now)) ≡ RowForm.Plain → TypesRow at.old at.new env.now (λ c. (row_expression at.old.item number place (node_view node.now)).typed c) (number_of at.old.item number) u.ty.0) }
-    ensures follows { OnOk result (Follows (steps_as RowForm.Plain number (node_view node.now)) at.old at.new) }
     ensures goes { Goes at.old at.new }
 {
     let parts = operands_of(at.alloc(), node, number)?;
@@ -54,7 +52,6 @@ pub fn type_parts(
     depth: Depth,
 ) -> Result<Vec<NodeRef>, NoMemory>
     ensures carries { IfOk result (λ ts. All IsCarried (map operand_view parts.now) → TypesParts at.old at.new env.now (row_of row) (expressions_of at.old.item (map operand_view parts.now)) (numbers ts.items)) }
-    ensures follows { OnOk result (Follows (parts_from (row_of row) 0 (map expression_at (map operand_view parts.now))) at.old at.new) }
     ensures goes { Goes at.old at.new }
 {
     let mut types = Vec::new(at.alloc());
@@ -77,7 +74,6 @@ fn type_part(
     depth: Depth,
 ) -> Result<NodeRef, NoMemory>
     ensures carries { IfOk result (λ m. IsCarried (operand_view part.entry) → TypesPart at.old at.new env.now (row_of row) place (expression_of at.old.item (operand_view part.entry)) m.0) }
-    ensures follows { OnOk result (Follows (part_steps (row_of row) place (expression_at (operand_view part.entry))) at.old at.new) }
     ensures goes { Goes at.old at.new }
 {
     let ty = type_under(at, part, Sign::None, env, depth.inside()?)?;
@@ -95,7 +91,6 @@ pub fn parenthesised(
     depth: Depth,
 ) -> Result<Used, NoMemory>
     ensures carries { IfOk result (λ u. (place : Place) → IsCarried (numbered number place (inner (node_view node.now))) → form_of (row_at (node_view node.now)) ≡ RowForm.Parenthesised → TypesRow at.old at.new env.now (λ c. (row_expression at.old.item number place (node_view node.now)).typed c) (number_of at.old.item number) u.ty.0) }
-    ensures follows { OnOk result (Follows (steps_as RowForm.Parenthesised number (node_view node.now)) at.old at.new) }
     ensures goes { Goes at.old at.new }
 {
     let part = operand_in(node, number, 1);

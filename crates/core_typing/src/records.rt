@@ -1,12 +1,11 @@
 //! Records: { l = e }, { e with l = e }
-#![tactic(auto, using(typing_state::proofs::Going::goes_trans, typing_state::proofs::Going::goes_refl, typing_state::proofs::Following::follows_both, typing_state::proofs::Following::follows_then, typing_state::proofs::Following::follows_before, typing_state::proofs::Following::follows_behind, typing_state::proofs::Following::follows_none, typing_state::proofs::Following::follows_silent, typing_state::proofs::Following::store_silent, typing_state::proofs::Following::silent_refl, typing_state::proofs::Following::silent_trans, typing_state::proofs::Following::ends_both, typing_state::proofs::Following::ends_behind, typing_state::proofs::Following::ends_before, typing_state::proofs::Following::ends_silent, typing_state::proofs::Following::gets_start, typing_state::proofs::Following::gets_more, typing_state::proofs::Following::gets_before, typing_state::proofs::Following::gets_done))]
+#![tactic(auto, using(typing_state::proofs::Going::goes_trans, typing_state::proofs::Going::goes_refl))]
 
-ghost use Rattle.std.specs.Prelude.{◌≡◌, [], ◌∷◌, ◌++◌, map, option_map, All, IfOk, OnOk};
+ghost use Rattle.std.specs.Prelude.{◌≡◌, map, option_map, All, IfOk, OnOk};
 ghost use Rattle.std.specs.Option.{IfSome};
 ghost use Rattle.tree_model.specs.Extents.{extent_of};
 ghost use Rattle.syntax_tree.specs.View.{node_view, place_of, tok_of};
 ghost use Rattle.row_parts.specs.Numbered.{operand_view, path_view};
-ghost use Rattle.env_table.specs.declared.faults.FaultKind.{FaultKind};
 ghost use Rattle.operand_laws.specs.Operands.{number_of, expression_of};
 ghost use Rattle.typing_steps.specs.Typing.{TypesRow, path_as};
 ghost use Rattle.typing_rows.specs.CarriedRows.{IsCarried};
@@ -19,11 +18,7 @@ ghost use Rattle.record_rows.specs.RecordExpressions.{FindsRecord, FindsUpdated,
 ghost use Rattle.expression_steps.specs.Records.{here_of, names_written};
 ghost use Rattle.core_typing.specs.Records.{AreCarriedPieces, RecordsValue, TypesMadeOr, TypesPieces};
 ghost use Rattle.typing_state.specs.Goes.{Goes};
-ghost use Rattle.typing_state.specs.Steps.{asks, each, records, Follows};
-ghost use Rattle.use_typing.specs.UseSteps.{asks_equal, asks_labels, labels_of, lost_steps};
-ghost use Rattle.expression_steps.specs.declared.forms.RowForm.{RowForm};
-ghost use Rattle.expression_steps.specs.ExpressionSteps.{expression_at, expression_field, expression_steps, field_steps, fields_steps, label_at, loose_steps, made_or_loose, made_steps, record_steps, steps_as, typed_as, typed_if, updated_steps};
-ghost use Rattle.expression_steps.specs.RecordView.{record_parts};
+ghost use Rattle.expression_steps.specs.Heads.{label_at};
 
 use crate::exprs::{type_under, typed_as};
 use expression_steps::{
@@ -47,7 +42,6 @@ pub fn record(
     depth: Depth,
 ) -> Result<Used, NoMemory>
     ensures carries { IfOk result (λ u. IsRecordNode number (node_view node.now) → TypesRow at.old at.new env.now (λ c. (row_expression at.old.item number (extent_of (node_view node.now)).span (node_view node.now)).typed c) (number_of at.old.item number) u.ty.0) }
-    ensures follows { OnOk result (Follows (steps_as RowForm.Record number (node_view node.now)) at.old at.new) }
     ensures goes { Goes at.old at.new }
 {
     let pieces = Pieces {
@@ -69,7 +63,6 @@ fn record_of(
     depth: Depth,
 ) -> Result<Used, NoMemory>
     ensures carries { IfOk result (λ u. AreCarriedPieces pieces.now → TypesPieces (option_map (λ t. tok_of t.now) with_word.entry) at.old at.new env.now pieces.now u.ty.0) }
-    ensures follows { OnOk result (Follows (record_steps (option_map (λ t. tok_of t.now) with_word.entry) (record_parts pieces.now)) at.old at.new) }
     ensures goes { Goes at.old at.new }
 {
     match with_word {
@@ -87,7 +80,6 @@ fn made_or_loose(
     depth: Depth,
 ) -> Result<Used, NoMemory>
     ensures carries { IfOk result (λ u. AreCarriedPieces pieces.now → TypesMadeOr (label_at (operand_view pieces.now.first).part) at.old at.new env.now pieces.now u.ty.0) }
-    ensures follows { OnOk result (Follows (made_or_loose (label_at (operand_view pieces.now.first).part) (record_parts pieces.now)) at.old at.new) }
     ensures goes { Goes at.old at.new }
 {
     match label_path(at, pieces.first)? {
@@ -106,7 +98,6 @@ fn made<'a>(
     depth: Depth,
 ) -> Result<Used, NoMemory>
     ensures carries { IfOk result (λ u. AreCarriedPieces pieces.now → TypesMade at.old at.new env.now (place_of pieces.now.span) pieces.now.first.number (path_as (path_view label.now)) (option_map operand_view pieces.now.value) (map operand_view pieces.now.fields.items) u.ty.0) }
-    ensures follows { OnOk result (Follows (made_steps (path_view label.now) (record_parts pieces.now)) at.old at.new) }
     ensures goes { Goes at.old at.new }
 {
     let found = record_of_made(at, pieces, label, env)?;
@@ -128,7 +119,6 @@ fn made<'a>(
 #[cycle(exprs)]
 fn loose(at: &mut Parts, pieces: &Pieces<'_>, env: &Env, depth: Depth) -> Result<Used, NoMemory>
     ensures carries { IfOk result (λ u. AreCarriedPieces pieces.now → TypesLoose at.old at.new env.now (place_of pieces.now.span) (operand_view pieces.now.first) (option_map operand_view pieces.now.value) (map operand_view pieces.now.fields.items) u.ty.0) }
-    ensures follows { OnOk result (Follows (loose_steps (record_parts pieces.now)) at.old at.new) }
     ensures goes { Goes at.old at.new }
 {
     let found = record_behind(at, pieces, env, depth)?;
@@ -147,7 +137,6 @@ fn record_behind(
     depth: Depth,
 ) -> Result<RecordType, NoMemory>
     ensures carries { IfOk result (λ r. IsCarried (operand_view pieces.now.first) → FindsRecord at.old at.new env.now (here_of r) (λ n c. loose_part (operand_view pieces.now.first).part n (expression_of at.old.item (operand_view pieces.now.first)) c) (labels_at (map operand_view pieces.now.fields.items))) }
-    ensures follows { OnOk result (Follows ((asks FaultKind.Label (place_of pieces.now.first.span ∷ []) ∷ each lost_steps (map operand_view pieces.now.fields.items)) ++ expression_steps (operand_view pieces.now.first) ++ asks_labels (labels_of (map operand_view pieces.now.fields.items))) at.old at.new) }
     ensures goes { Goes at.old at.new }
 {
     begin_loose(at, pieces, env)?;
@@ -159,7 +148,6 @@ fn record_behind(
 #[cycle(exprs)]
 fn type_if(at: &mut Parts, e: Option<Operand<'_>>, env: &Env, depth: Depth) -> Result<(), NoMemory>
     ensures carries { OnOk result (IfSome (option_map operand_view e.entry) IsCarried → TypesEach at.old at.new env.now (values_of (option_map (expression_of at.old.item) (option_map operand_view e.entry)))) }
-    ensures follows { OnOk result (Follows (typed_if (option_map expression_at (option_map operand_view e.entry))) at.old at.new) }
     ensures goes { Goes at.old at.new }
 {
     if let Some(e) = e {
@@ -172,7 +160,6 @@ fn type_if(at: &mut Parts, e: Option<Operand<'_>>, env: &Env, depth: Depth) -> R
 #[cycle(exprs)]
 fn updated(at: &mut Parts, pieces: &Pieces<'_>, env: &Env, depth: Depth) -> Result<Used, NoMemory>
     ensures carries { IfOk result (λ u. AreCarriedPieces pieces.now → TypesUpdated at.old at.new env.now (operand_view pieces.now.first) (map operand_view pieces.now.fields.items) u.ty.0) }
-    ensures follows { OnOk result (Follows (updated_steps (record_parts pieces.now)) at.old at.new) }
     ensures goes { Goes at.old at.new }
 {
     let found = record_of_part(at, pieces, env, depth)?;
@@ -190,7 +177,6 @@ fn record_of_part(
     depth: Depth,
 ) -> Result<RecordType, NoMemory>
     ensures carries { IfOk result (λ r. IsCarried (operand_view pieces.now.first) → FindsUpdated at.old at.new env.now (here_of r) (expression_of at.old.item (operand_view pieces.now.first)) (labels_at (map operand_view pieces.now.fields.items))) }
-    ensures follows { OnOk result (Follows (each lost_steps (map operand_view pieces.now.fields.items) ++ expression_steps (operand_view pieces.now.first) ++ asks_labels (labels_of (map operand_view pieces.now.fields.items)) ++ asks_equal (operand_view pieces.now.first)) at.old at.new) }
     ensures goes { Goes at.old at.new }
 {
     note_missing(at, &pieces.fields, env)?;
@@ -211,7 +197,6 @@ fn type_fields<'a>(
 ) -> Result<(), NoMemory>
     ensures carries { OnOk result (All IsCarriedValue (map operand_view given.now) → FieldsWritten at.old at.new env.now (here_of fields.old.found) (value_fields_of at.old.item (map operand_view given.now)) (names_written fields.old.labels.items) (names_written fields.new.labels.items)) }
     ensures found { OnOk result (here_of fields.new.found ≡ here_of fields.old.found) }
-    ensures follows { OnOk result (Follows (fields_steps (map expression_at (map operand_view given.now))) at.old at.new) }
     ensures goes { Goes at.old at.new }
 {
     for field in given {
@@ -231,7 +216,6 @@ fn type_if_there<'a>(
 ) -> Result<(), NoMemory>
     ensures carries { OnOk result (TypesFieldPart at.old at.new env.now (here_of fields.old.found) field.entry.number (operand_view field.entry).part (names_written fields.old.labels.items) (names_written fields.new.labels.items)) }
     ensures found { OnOk result (here_of fields.new.found ≡ here_of fields.old.found) }
-    ensures follows { OnOk result (Follows (expression_field (operand_view field.entry)) at.old at.new) }
     ensures goes { Goes at.old at.new }
 {
     let Some(node) = field.node else {
@@ -256,7 +240,6 @@ fn type_field<'a>(
 ) -> Result<(), NoMemory>
     ensures carries { OnOk result (TypesFieldBy (option_map operand_view value.entry) at.old at.new env.now (here_of fields.old.found) number (path_as (path_view label.now)) (names_written fields.old.labels.items) (names_written fields.new.labels.items)) }
     ensures found { OnOk result (here_of fields.new.found ≡ here_of fields.old.found) }
-    ensures follows { OnOk result (Follows (field_steps number (path_view label.now).last (option_map expression_at (option_map operand_view value.entry))) at.old at.new) }
     ensures goes { Goes at.old at.new }
 {
     let wanted = begin_field(at, fields, label)?;
@@ -279,7 +262,6 @@ fn type_value(
     depth: Depth,
 ) -> Result<(), NoMemory>
     ensures carries { OnOk result (RecordsValue at.old at.new env.now (operand_view value.entry) (option_map (λ w. w.0) wanted)) }
-    ensures follows { OnOk result (Follows (records number ∷ typed_as (expression_at (operand_view value.entry))) at.old at.new) }
     ensures goes { Goes at.old at.new }
 {
     note_label(at, number, env, found, label)?;

@@ -11,7 +11,7 @@ use Rattle.row_parts.specs.Numbered.{Numbered, Written, numbered, operand_view, 
 use Rattle.typing_model.specs.Contexts.{Context, tell_typed}
 use Rattle.typing_model.specs.BuiltIns.{float_type, constant_by}
 use Rattle.typing_model.specs.Parts as parts
-use Rattle.typing_model.specs.Parts.{Form, Expression, Child}
+use Rattle.typing_model.specs.Parts.{Expression, Child}
 use Rattle.typing_model.specs.Expressions.{expression_row, is_false, is_of, literal_form, under_sign, name_of, operator_applied, constant_expression, typed_all, path_expression, name_form, parenthesised, begun, if_expression, update_expression, record_expression, fields_in, is_some}
 use Rattle.type_terms.specs.declared.types.NodeRef.{NodeRef}
 use Rattle.type_nodes.specs.Views.{numbers}
@@ -47,7 +47,8 @@ use Rattle.type_expressions.specs.Written.{IsAsWritten, AsksWritten}
 use Rattle.expression_steps.specs.declared.operators.Operator.{Operator}
 use Rattle.expression_steps.specs.declared.forms.RowForm.{RowForm}
 use Rattle.expression_steps.specs.declared.forms.RowForm.TheVariants as form
-use Rattle.expression_steps.specs.ExpressionSteps.{form_of, row_at, constructor_at, is_float_kind, is_float_token, is_float_in, is_float_at}
+use Rattle.expression_steps.specs.Forms.{form_of, row_at}
+use Rattle.expression_steps.specs.Heads.{constructor_at, is_float_kind, is_float_token, is_float_in, is_float_at}
 use Rattle.expression_steps.proofs.ConstructorLaws.{operand_no, operand_is}
 use Rattle.expression_steps.specs.Operators.{IsSignOf, sign_in, is_false_kind, is_false_token, is_false_in, is_false_at, IsOperation, operator_name, operator_negates, IsOperator}
 

@@ -17,7 +17,8 @@ use Rattle.operand_laws.proofs.Tokens.{token_stands, path_stands}
 use Rattle.typing_rows.specs.CarriedRows.{is_upper, names_constructor}
 use Rattle.typing_rows.specs.Asked.{under_minus, row_expression}
 use Rattle.typing_rows.proofs.Constructed.{constructor_row, constructor_path_row}
-use Rattle.expression_steps.specs.ExpressionSteps.{row_at, constructor_at, constructor_in, upper_path, if_upper}
+use Rattle.expression_steps.specs.Forms.{row_at}
+use Rattle.expression_steps.specs.Heads.{constructor_at, constructor_in, upper_path, if_upper}
 
 one_written : (w p : Written) → Some w ≡ Some p → w ≡ p
 one_written w p e = cc

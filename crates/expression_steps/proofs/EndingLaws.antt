@@ -32,10 +32,9 @@ use Rattle.typing_model.specs.Parts.{Expression, last_of}
 use Rattle.typing_model.specs.Patterns.{behind_first}
 use Rattle.env_table.specs.declared.entries.Entry.{Entry}
 use Rattle.typing_state.specs.declared.parts.Parts.{Parts}
-use Rattle.typing_state.specs.Goes.{Goes, OnlyStore, OnlyFaults, Told, faults_of}
-use Rattle.typing_state.specs.Steps.{each, Silent}
+use Rattle.typing_state.specs.Goes.{Goes, OnlyStore, OnlyFaults, Told, faults_of, Silent}
 use Rattle.typing_state.specs.Types.{list_path}
-use Rattle.pattern_steps.specs.PatternSteps.{later}
+use Rattle.pattern_names.specs.PatternNames.{later}
 use Rattle.typing_conditions.specs.Sights.{Sight, Letters}
 use Rattle.typing_conditions.specs.Frames.{Frame}
 use Rattle.typing_conditions.specs.Meanings.{Means, AllMean, none_mean, one_means}
@@ -59,10 +58,11 @@ use denote.Ref.{Bor}
 use Rattle.row_parts.specs.declared.paths.WrittenPath.{WrittenPath}
 use Rattle.typing_rows.proofs.Ending.{reads_at, none_at, later_none, later_more, later_all, ends_still, ends_unit, ends_any, row_of_type, ends_cons, ends_then, ends_else, ends_list, ends_list_none}
 use Rattle.expression_steps.specs.declared.forms.RowForm.TheVariants as form
-use Rattle.expression_steps.specs.ExpressionSteps.{ExpressionSteps, Value, anything, asked_behind, behind_parts, constructor_in, form_of, has_type, row_at, value_in}
+use Rattle.expression_steps.specs.Forms.{Value, anything, form_of, row_at, value_in}
+use Rattle.expression_steps.specs.Heads.{constructor_in}
 use Rattle.expression_steps.specs.Leaves.{TellsValue}
 use Rattle.expression_steps.specs.Operators.{is_false_at}
-use Rattle.expression_steps.proofs.ExpressionLaws.{row_of_node}
+use Rattle.expression_steps.proofs.Nodes.{row_of_node}
 use Rattle.expression_steps.proofs.CarryingLaws.{rows_same, number_here, number_missing, false_at}
 
 -- the row of a node of the code
@@ -474,11 +474,6 @@ last_at (x ∷ xs) =
     let before : length (x ∷ xs) - 1 ≡ length xs = omega arith in
     ap (λ k. slice_get (x ∷ xs) k) before ∙ at_end x xs
 
--- all but the first, as the loop over the places begins
-pub later_dropped : {A : Type 0} (xs : List A) → later xs ≡ drop 1 xs
-later_dropped [] = refl
-later_dropped (x ∷ xs) = refl
-
 -- a leaf that is no name and no constant is anything
 value_by : (r : RowName) (t : Tree) → (r ≡ name.Name → ⊥) → (r ≡ name.Epath → ⊥) → (r ≡ name.Econst → ⊥) → value_in (row_of r) t ≡ anything
 unfolding row_of
@@ -494,15 +489,6 @@ any_value nd a b c = ap (λ r. value_in r (node_view nd)) (row_of_node nd) ∙ v
 pub value_tells : {A E : Type 0} (r : Result A E) (v : Value) (negated : Bool) (a b : Parts) (env : List Entry) → v ≡ anything → Silent a b → OnOk r (TellsValue v negated a b env)
 value_tells (Ok x) v negated a b env e h = subst (λ w. TellsValue w negated a b env) (sym e) h
 value_tells (Err x) v negated a b env e h = tt
-
--- what is asked behind the parts of a row without a label of its own
-behind_by : (r : RowName) (t : Tree) (es : List ExpressionSteps) → (r ≡ name.Field → ⊥) → each has_type (asked_behind (row_of r) es) ≡ behind_parts (row_of r) t es
-unfolding row_of
-behind_by name.Field t es h = absurd (h refl)
-behind_by _ t es h = refl
-
-pub no_label_behind : (nd : Node) (es : List ExpressionSteps) → ((out-Node nd).row ≡ name.Field → ⊥) → each has_type (asked_behind (row_of (out-Node nd).row) es) ≡ behind_parts (row_at (node_view nd)) (node_view nd) es
-no_label_behind nd es h = behind_by (out-Node nd).row (node_view nd) es h ∙ ap (λ r. behind_parts r (node_view nd) es) (sym (row_of_node nd))
 
 -- a constructor that isn't known, with its one argument
 pub unknown_alone : (a : Parts) (i : ℕ) (os : List Operand) (head : ℕ) → (length os == 0) ≡ true → EndsUnknown a a (expressions_of i (map operand_view os)) head head

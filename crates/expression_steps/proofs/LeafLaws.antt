@@ -1,5 +1,5 @@
 -- What is told of expressions without parts stays where nothing is told behind it.
-use Rattle.std.proofs.Common.{◌≡◌, ◌∙◌, ◌++◌, ℕ, List, [], ◌∷◌, sym, ap, subst, append-nil}
+use Rattle.std.proofs.Common.{◌≡◌, ◌∙◌, List, sym, subst}
 use Rattle.std.specs.Prelude.{Bool, Option, Some, None}
 use Rattle.tree_model.specs.Trees.{Tree}
 use denote.Ref.{Bor}
@@ -10,17 +10,14 @@ use Rattle.row_parts.specs.Numbered.{Written, operand_view, part_of}
 use Rattle.env_table.specs.declared.entries.Entry.{Entry}
 use Rattle.env_table.specs.declared.entries.Kind.TheVariants as kind
 use Rattle.typing_state.specs.declared.parts.Parts.{Parts}
-use Rattle.typing_state.specs.Goes.{faults_of}
-use Rattle.typing_state.specs.Steps.{Follows, Silent, records}
+use Rattle.typing_state.specs.Goes.{OnlyIndex, Silent}
+use Rattle.typing_state.proofs.Silence.{index_silent}
 use Rattle.use_typing.proofs.Telling.{bound_stays, range_stays, use_stays}
 use Rattle.expression_steps.specs.declared.forms.RowForm.{RowForm}
 use Rattle.expression_steps.specs.declared.forms.RowForm.TheVariants as form
-use Rattle.expression_steps.specs.ExpressionSteps.{Value, named, constant, anything, value_in, constructor_in, form_of, row_at}
+use Rattle.expression_steps.specs.Forms.{Value, named, constant, anything, value_in, form_of, row_at}
+use Rattle.expression_steps.specs.Heads.{constructor_in}
 use Rattle.expression_steps.specs.Leaves.{TellsAlone, TellsAs, TellsEither, TellsValue}
-
--- where a node is recorded, nothing is told
-pub records_silent : (n : ℕ) (a b : Parts) → Follows (records n ∷ []) a b → Silent a b
-records_silent n a b p = p.faults ∙ ap (λ fs. faults_of a ++ fs) p.told ∙ append-nil (faults_of a)
 
 value_stays : (v : Value) (negated : Bool) (env : List Entry) (a b c : Parts) → TellsValue v negated a b env → Silent b c → TellsValue v negated a c env
 value_stays (named p) negated env a b c told q = bound_stays p kind.Value env a b c told q
@@ -53,7 +50,7 @@ alone_missing o negated env a b e q = subst (λ m. TellsAlone (part_of m o.span)
 
 -- one that is there, once it is recorded
 pub alone_there : (o : Operand) (nd : Bor Node) (negated : Bool) (env : List Entry) (a b c : Parts) → o.node ≡ Some nd →
-    TellsAs (form_of (row_at (node_view nd.now))) (node_view nd.now) negated a b env → Follows (records o.number ∷ []) b c → TellsAlone (operand_view o).part negated a c env
+    TellsAs (form_of (row_at (node_view nd.now))) (node_view nd.now) negated a b env → OnlyIndex b c → TellsAlone (operand_view o).part negated a c env
 alone_there o nd negated env a b c e told p =
     subst (λ m. TellsAlone (part_of m o.span) negated a c env) (sym e)
-    (form_stays (form_of (row_at (node_view nd.now))) (node_view nd.now) negated env a b c told (records_silent o.number b c p))
+    (form_stays (form_of (row_at (node_view nd.now))) (node_view nd.now) negated env a b c told (index_silent b c p))

@@ -1,5 +1,5 @@
--- The laws of the steps of expressions, and of the ends of rows.
-pub mod ExpressionLaws
+-- The laws of expressions, and of the ends of rows.
+pub mod Nodes
 pub mod LeafLaws
 pub mod ConstructorLaws
 pub mod CarryingLaws

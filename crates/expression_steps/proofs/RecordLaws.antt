@@ -38,7 +38,7 @@ use Rattle.use_typing.specs.declared.uses.Used.{Used}
 use Rattle.use_typing.specs.Labels.{is_named_in}
 use Rattle.use_typing.specs.Records.{TypesRecordType, node_of}
 use Rattle.use_typing.specs.Uses.{GivenOrNew}
-use Rattle.use_typing.specs.UseSteps.{labels_of}
+use Rattle.use_typing.specs.Paths.{labels_of}
 use Rattle.use_typing.proofs.Recording.{named_among}
 use Rattle.record_steps.specs.Named.{labels_here}
 use Rattle.record_steps.proofs.Noted.{untyped_told}

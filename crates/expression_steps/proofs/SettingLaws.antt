@@ -1,5 +1,5 @@
 -- A field that is set, and a `for`, as the code types them.
-use Rattle.std.proofs.Common.{◌≡◌, ◌∙◌, ◌++◌, ℕ, Bool, true, false, List, [], ◌∷◌, map, Option, Some, None, refl, sym, ap, subst, append_assoc, append-nil, if◌then◌else◌}
+use Rattle.std.proofs.Common.{◌≡◌, ◌∙◌, ℕ, Bool, true, false, List, [], map, Option, Some, None, refl, sym, ap, subst, if◌then◌else◌}
 use Rattle.std.specs.Prelude.{All}
 use denote.Ref.{Bor}
 use Rattle.token_model.specs.Kinds.{Tok, Kind, upper, lower, float, false_word}
@@ -15,16 +15,11 @@ use Rattle.typing_model.specs.Parts as parts
 use Rattle.typing_model.specs.Parts.{Expression, Child}
 use Rattle.typing_model.specs.Expressions.{expression_row, ask_mutable, path_expression, name_form, literal_form, parenthesised, begun, if_expression, update_expression, record_expression, fields_in, is_some}
 use Rattle.env_table.specs.declared.entries.Entry.{Entry}
-use Rattle.env_table.specs.declared.faults.FaultKind.{FaultKind}
-use Rattle.env_table.specs.declared.faults.FaultKind.TheVariants as fault
 use Rattle.typing_state.specs.declared.parts.Parts.{Parts}
 use Rattle.typing_state.specs.Goes.{Goes}
-use Rattle.typing_state.specs.Steps.{Steps, records, Follows}
-use Rattle.typing_state.proofs.Following.{follows_both}
 use Rattle.typing_conditions.specs.Steps.{Records}
 use Rattle.typing_steps.specs.States.{is_aloud, sight}
 use Rattle.typing_steps.specs.Typing.{TypesTo, TypesRow}
-use Rattle.use_typing.specs.UseSteps.{asks_token}
 use Rattle.operand_laws.specs.Operands.{number_of, parts_of, path_of, expression_of}
 use Rattle.typing_rows.specs.CarriedRows.{sort_in, IsCarried}
 use Rattle.typing_rows.specs.Asked.{row_expression, expressions_of}
@@ -35,8 +30,8 @@ use Rattle.typing_rows.proofs.Going.{all_carried, filled_carried}
 use Rattle.typing_rows.proofs.Setting.{field_settable, part_settable, set_typed}
 use Rattle.typing_rows.proofs.Looped.{for_typed}
 use Rattle.expression_steps.specs.declared.forms.RowForm.TheVariants as form
-use Rattle.expression_steps.specs.ExpressionSteps.{expression_at, expression_steps, form_of, is_field_row, is_field_at, pieces_at, place_at, row_at, set_field_steps, set_label_at, set_label_in, set_part_steps, steps_of_form}
-use Rattle.expression_steps.proofs.ExpressionLaws.{Skips, follows_more, skips_behind, operand_there}
+use Rattle.expression_steps.specs.Forms.{form_of, row_at}
+use Rattle.expression_steps.specs.Heads.{is_field_row, is_field_at}
 use Rattle.expression_steps.proofs.CarryingLaws.{rows_same, by_set, by_loop}
 
 -- forms that aren't that of a field ask nothing of a label
@@ -110,43 +105,6 @@ module _ (c : Context) (k : ℕ) where
       by n at (taken t) h = refl
       by n at (missing q) h = refl
       by n at (inner (node r x ps)) h = row_unset r (number_of i n) at (parts_of i n (node r x ps)) h
-
--- the record of a field stands after the demand on its label where it is made so, and is told before it
-skips_recorded : (kind : FaultKind) (n : ℕ) (t : Option Tok) → Skips (asks_token kind t ++ records n ∷ []) ((records n ∷ []) ++ asks_token kind t)
-skips_recorded kind n None = record { told = λ fs x. x; recorded = λ at r. r }
-skips_recorded kind n (Some t) = record { told = λ fs x. x; recorded = λ at r. r }
-
--- the parts of a field that is set, its end, and its record
-pub set_field_follows : (ss ls : Steps) (kind : FaultKind) (last : Option Tok) (n : ℕ) (a b d f : Parts) → Follows ss a b → Goes b d → Follows (ls ++ asks_token kind last) b d → Goes d f → Follows (records n ∷ []) d f → Follows (((ss ++ ls) ++ records n ∷ []) ++ asks_token kind last) a f
-set_field_follows ss ls kind last n a b d f p g q g' k =
-    let m = asks_token kind last in
-    let r : Steps = records n ∷ [] in
-    let front = follows_both (ss ++ (ls ++ m)) r a d f (follows_both ss (ls ++ m) a b d p g q) g' k in
-    subst (λ xs. Follows xs a f) (sym (append_assoc (ss ++ ls) r m))
-    (follows_more ((ss ++ ls) ++ (m ++ r)) ((ss ++ ls) ++ (r ++ m)) a f (skips_behind (ss ++ ls) (m ++ r) (r ++ m) (skips_recorded kind n last))
-    (subst (λ xs. Follows xs a f) (ap (λ xs. xs ++ r) (sym (append_assoc ss ls m)) ∙ append_assoc (ss ++ ls) m r) front))
-
--- the left part of `e . l <- e` where it is a field
-pub set_part_there : (o : Operand) (nd : Bor Node) → o.node ≡ Some nd → row_at (node_view nd.now) ≡ field_row → set_field_steps o.number (node_view nd.now) ≡ set_part_steps (expression_at (operand_view o))
-set_part_there o nd there row =
-    let n = o.number in
-    let t = node_view nd.now in
-    ap (λ r. (steps_of_form (form_of r) r n (place_at t) t (pieces_at n t) ++ records n ∷ []) ++ asks_token fault.Mutable (set_label_in r t)) (sym row) ∙
-    ap (λ xs. xs ++ asks_token fault.Mutable (set_label_in (row_at t) t)) (sym (operand_there o nd there)) ∙
-    ap (λ m. expression_steps (operand_view o) ++ asks_token fault.Mutable (set_label_at (part_of m o.span))) (sym there)
-
-no_label : (r : Row) (t : Tree) → is_field_row r ≡ false → set_label_in r t ≡ None
-no_label field_row t h = absurd (cc)
-no_label _ t h = refl
-
-part_unlabelled : (p : Part) → is_field_at p ≡ false → set_label_at p ≡ None
-part_unlabelled (taken t) h = refl
-part_unlabelled (missing at) h = refl
-part_unlabelled (inner t) h = no_label (row_at t) t h
-
--- where it is none
-pub set_part_else : (o : Numbered) → is_field_at o.part ≡ false → expression_steps o ≡ set_part_steps (expression_at o)
-set_part_else o h = sym (append-nil (expression_steps o)) ∙ ap (λ t. expression_steps o ++ asks_token fault.Mutable t) (sym (part_unlabelled o.part h))
 
 -- a field that is set, as the code types it
 pub field_set : (a b d f : Parts) (env : List Entry) (n : ℕ) (at : Place) (t : Tree) (os : List Operand) (ms : List ℕ) (ty : ℕ) → IsCarried (numbered n at (inner t)) → row_at t ≡ field_row → map operand_view os ≡ all_operands n t →

@@ -23,9 +23,10 @@ use Rattle.typing_rows.specs.Asked.{row_expression, expressions_of}
 use Rattle.typing_rows.specs.Valued.{body_in, bodies_of, is_unguarded, are_unguarded, right_in, rights_of, value_operands, are_values, decides, IsValueRow, IsDecided}
 use Rattle.typing_rows.proofs.Valued.{value_term, operands_decided, decided_row, value_decided, assert_value, application_value, built_by_none, built_of_more, built_of_one}
 use Rattle.binding_rows.proofs.Valued.{match_value, match_never, match_decided, let_value, let_decided}
-use Rattle.expression_steps.specs.ExpressionSteps.{row_at, constructor_at}
+use Rattle.expression_steps.specs.Forms.{row_at}
+use Rattle.expression_steps.specs.Heads.{constructor_at}
 use Rattle.expression_steps.specs.Operators.{is_false_at}
-use Rattle.expression_steps.proofs.ExpressionLaws.{row_of_node}
+use Rattle.expression_steps.proofs.Nodes.{row_of_node}
 use Rattle.expression_steps.proofs.CarryingLaws.{rows_same, false_at}
 use Rattle.expression_steps.proofs.ConstructorLaws.{operand_no, operand_is}
 use Rattle.expression_steps.proofs.EndingLaws.{row_named, parts_count}

@@ -5,12 +5,13 @@ use Rattle.row_parts.specs.Numbered.{Written}
 use Rattle.env_table.specs.declared.entries.Entry.{Entry}
 use Rattle.env_table.specs.declared.entries.Kind.TheVariants as kind
 use Rattle.typing_state.specs.declared.parts.Parts.{Parts}
-use Rattle.typing_state.specs.Steps.{Silent}
+use Rattle.typing_state.specs.Goes.{Silent}
 use Rattle.use_typing.specs.Constants.{TellsRange}
 use Rattle.use_typing.specs.Uses.{TellsBound, TellsUse}
 use Rattle.expression_steps.specs.declared.forms.RowForm.{RowForm}
 use Rattle.expression_steps.specs.declared.forms.RowForm.TheVariants as form
-use Rattle.expression_steps.specs.ExpressionSteps.{Value, named, constant, anything, value_in, constructor_in, form_of, row_at}
+use Rattle.expression_steps.specs.Forms.{Value, named, constant, anything, value_in, form_of, row_at}
+use Rattle.expression_steps.specs.Heads.{constructor_in}
 
 -- a value: `bound` of a name, `range` of a constant
 abbrev pub TellsValue : Value → (negated : Bool) → (old new : Parts) → List Entry → Type 0

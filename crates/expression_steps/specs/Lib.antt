@@ -1,6 +1,6 @@
--- The steps of expressions and bindings, and what leaves and operators are.
-pub mod ExpressionSteps
+-- What the rows and parts of expressions are, and what leaves, operators and records carry.
+pub mod Forms
+pub mod Heads
 pub mod Leaves
 pub mod Operators
-pub mod RecordView
 pub mod Records

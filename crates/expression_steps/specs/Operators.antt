@@ -9,7 +9,7 @@ use Rattle.syntax_tree.specs.View.{tok_of}
 use Rattle.row_parts.specs.Numbered.{token_in}
 use Rattle.use_typing.specs.Constants.{is_negated}
 use Rattle.expression_steps.specs.declared.operators.Operator.{Operator}
-use Rattle.expression_steps.specs.ExpressionSteps.{row_at}
+use Rattle.expression_steps.specs.Forms.{row_at}
 
 -- the operator of a row
 abbrev pub sign_in : Row → Tree → Option Tok

@@ -1,7 +1,7 @@
 //! What is asked behind all parts of a row whose parts are typed in order: its type, with the demands between its parts.
-#![tactic(auto, using(typing_state::proofs::Going::goes_trans, typing_state::proofs::Going::goes_refl, typing_state::proofs::Following::follows_both, typing_state::proofs::Following::follows_before, typing_state::proofs::Following::follows_behind, typing_state::proofs::Following::follows_none, typing_state::proofs::Following::follows_silent, typing_state::proofs::Following::store_silent, typing_state::proofs::Following::silent_refl, typing_state::proofs::Following::silent_trans, typing_state::proofs::Following::ends_both, typing_state::proofs::Following::ends_behind, typing_state::proofs::Following::ends_before, typing_state::proofs::Following::ends_silent, typing_state::proofs::Following::gets_start, typing_state::proofs::Following::gets_more, typing_state::proofs::Following::gets_before, typing_state::proofs::Following::gets_done, crate::proofs::ExpressionLaws::types_no_record, crate::proofs::ExpressionLaws::token_no_record), unfolding(syntax_tree::specs::Names::row_of))]
+#![tactic(auto, using(typing_state::proofs::Going::goes_trans, typing_state::proofs::Going::goes_refl), unfolding(syntax_tree::specs::Names::row_of))]
 
-ghost use Rattle.std.specs.Prelude.{◌≡◌, ◌++◌, Some, None, false, map, IfOk, OnOk};
+ghost use Rattle.std.specs.Prelude.{◌≡◌, Some, None, false, map, IfOk, OnOk};
 ghost use Rattle.std.specs.Option.{IfSome};
 ghost use Rattle.tree_model.specs.Rows.{field_row, elist_row, econs_row, eif_row};
 ghost use Rattle.type_nodes.specs.Views.{numbers};
@@ -13,12 +13,9 @@ ghost use Rattle.typing_steps.specs.Typing.{path_as};
 ghost use Rattle.syntax_tree.specs.Names.{row_of};
 ghost use Rattle.syntax_tree.specs.View.{node_view};
 ghost use Rattle.row_parts.specs.Numbered.{operand_view, path_in, path_view};
-ghost use Rattle.env_table.specs.declared.faults.FaultKind.{FaultKind};
 ghost use Rattle.typing_state.specs.Goes.{Goes};
-ghost use Rattle.typing_state.specs.Steps.{each, Follows};
-ghost use Rattle.use_typing.specs.UseSteps.{asks_token};
-ghost use Rattle.pattern_steps.specs.PatternSteps.{later};
-ghost use Rattle.expression_steps.specs.ExpressionSteps.{asked_behind, asked_branch, behind_parts, expression_at, has_type, is_field_at, label_steps, part_at, row_at};
+ghost use Rattle.expression_steps.specs.Heads.{is_field_at};
+ghost use Rattle.expression_steps.specs.Forms.{row_at};
 
 use crate::values::is_false;
 use row_parts::{Operand, WrittenPath, written_path};
@@ -35,7 +32,6 @@ pub fn behind_parts(
     env: &Env,
 ) -> Result<Used, NoMemory>
     ensures carries { IfOk result (λ u. IsOrderedRow (row_at (node_view node.now)) → EndsRow at.old at.new env.now (ordered_end (row_at (node_view node.now)) (node_view node.now) (expressions_of at.old.item (map operand_view parts.now))) (expressions_of at.old.item (map operand_view parts.now)) (numbers types.now) u.ty.0) }
-    ensures follows { OnOk result (Follows (behind_parts (row_at (node_view node.now)) (node_view node.now) (map expression_at (map operand_view parts.now))) at.old at.new) }
     ensures goes { Goes at.old at.new }
 {
     match node.row {
@@ -56,7 +52,6 @@ fn type_of(
     env: &Env,
 ) -> Result<NodeRef, NoMemory>
     ensures carries { IfOk result (λ m. IsPlainRow (row_of row) → EndsRow at.old at.new env.now (end_of (row_of row) (expressions_of at.old.item (map operand_view parts.now))) (expressions_of at.old.item (map operand_view parts.now)) (numbers types.now) m.0) }
-    ensures follows { OnOk result (Follows (each has_type (asked_behind (row_of row) (map expression_at (map operand_view parts.now)))) at.old at.new) }
     ensures goes { Goes at.old at.new }
 {
     match row {
@@ -88,7 +83,6 @@ fn has(
     env: &Env,
 ) -> Result<(), NoMemory>
     ensures carries { OnOk result (AsksAt at.old at.new env.now (expressions_of at.old.item (map operand_view parts.now)) (numbers types.now) place wanted.0) }
-    ensures follows { OnOk result (Follows (each has_type (part_at place (map expression_at (map operand_view parts.now)))) at.old at.new) }
     ensures goes { Goes at.old at.new }
 {
     if let Some(part) = parts.get(place) {
@@ -107,7 +101,6 @@ fn list(
     env: &Env,
 ) -> Result<NodeRef, NoMemory>
     ensures carries { IfOk result (λ m. EndsRow at.old at.new env.now (end_of elist_row (expressions_of at.old.item (map operand_view parts.now))) (expressions_of at.old.item (map operand_view parts.now)) (numbers types.now) m.0) }
-    ensures follows { OnOk result (Follows (each has_type (later (map expression_at (map operand_view parts.now)))) at.old at.new) }
     ensures goes { Goes at.old at.new }
 {
     let element = type_or_var(at, types.first().copied())?;
@@ -124,7 +117,6 @@ fn later_have(
     env: &Env,
 ) -> Result<(), NoMemory>
     ensures carries { OnOk result (AsksLater at.old at.new env.now (expressions_of at.old.item (map operand_view parts.now)) (numbers types.now) wanted.0) }
-    ensures follows { OnOk result (Follows (each has_type (later (map expression_at (map operand_view parts.now)))) at.old at.new) }
     ensures goes { Goes at.old at.new }
 {
     for place in 1..parts.len() {
@@ -141,7 +133,6 @@ fn cons(
     env: &Env,
 ) -> Result<NodeRef, NoMemory>
     ensures carries { IfOk result (λ m. EndsRow at.old at.new env.now (end_of econs_row (expressions_of at.old.item (map operand_view parts.now))) (expressions_of at.old.item (map operand_view parts.now)) (numbers types.now) m.0) }
-    ensures follows { OnOk result (Follows (each has_type (part_at 1 (map expression_at (map operand_view parts.now)))) at.old at.new) }
     ensures goes { Goes at.old at.new }
 {
     match types.first() {
@@ -162,7 +153,6 @@ fn branches(
     env: &Env,
 ) -> Result<NodeRef, NoMemory>
     ensures carries { IfOk result (λ m. EndsRow at.old at.new env.now (end_of eif_row (expressions_of at.old.item (map operand_view parts.now))) (expressions_of at.old.item (map operand_view parts.now)) (numbers types.now) m.0) }
-    ensures follows { OnOk result (Follows (each has_type (asked_branch (map expression_at (map operand_view parts.now)))) at.old at.new) }
     ensures goes { Goes at.old at.new }
 {
     let Some(yes) = types.get(1) else {
@@ -187,7 +177,6 @@ fn field(
     env: &Env,
 ) -> Result<Used, NoMemory>
     ensures carries { IfOk result (λ u. EndsRow at.old at.new env.now (field_ends (path_of (path_in (node_view node.now) 2 3)) (expressions_of at.old.item (map operand_view parts.now))) (expressions_of at.old.item (map operand_view parts.now)) (numbers types.now) u.ty.0) }
-    ensures follows { OnOk result (Follows (label_steps (path_in (node_view node.now) 2 3) (map expression_at (map operand_view parts.now))) at.old at.new) }
     ensures goes { Goes at.old at.new }
 {
     let path = written_path(at.alloc(), node, 2, 3)?;
@@ -216,7 +205,6 @@ pub fn settable(
     env: &Env,
 ) -> Result<Used, NoMemory>
     ensures carries { IfOk result (λ u. EndsSettable at.old at.new env.now (path_of (path_in (node_view node.now) 2 3)) (expressions_of at.old.item (map operand_view parts.now)) (numbers types.now) u.ty.0) }
-    ensures follows { OnOk result (Follows (label_steps (path_in (node_view node.now) 2 3) (map expression_at (map operand_view parts.now)) ++ asks_token FaultKind.Mutable (path_in (node_view node.now) 2 3).last) at.old at.new) }
     ensures goes { Goes at.old at.new }
 {
     let path = written_path(at.alloc(), node, 2, 3)?;
@@ -240,7 +228,6 @@ pub fn settable(
 /// The demand that a label is mutable.
 fn ask_settable(at: &mut Parts, path: &WrittenPath<'_>, is_mutable: bool) -> Result<(), NoMemory>
     ensures carries { OnOk result (AsksSettable at.old at.new (path_as (path_view path.now)) is_mutable) }
-    ensures follows { OnOk result (Follows (asks_token FaultKind.Mutable (path_view path.now).last) at.old at.new) }
     ensures goes { Goes at.old at.new }
 {
     let Some(last) = path.last else {

@@ -1,14 +1,10 @@
 //! Records: their type by their labels, fields without a value, and whether all labels are written.
-#![tactic(auto, using(typing_state::proofs::Going::goes_trans, typing_state::proofs::Going::goes_refl, typing_state::proofs::Following::follows_both, typing_state::proofs::Following::follows_then, typing_state::proofs::Following::follows_before, typing_state::proofs::Following::follows_behind, typing_state::proofs::Following::follows_none, typing_state::proofs::Following::follows_silent, typing_state::proofs::Following::store_silent, typing_state::proofs::Following::silent_refl, typing_state::proofs::Following::silent_trans, typing_state::proofs::Following::ends_both, typing_state::proofs::Following::ends_behind, typing_state::proofs::Following::ends_before, typing_state::proofs::Following::ends_silent, typing_state::proofs::Following::gets_start, typing_state::proofs::Following::gets_more, typing_state::proofs::Following::gets_before, typing_state::proofs::Following::gets_done))]
+#![tactic(auto, using(typing_state::proofs::Going::goes_trans, typing_state::proofs::Going::goes_refl, typing_state::proofs::Silence::store_silent, typing_state::proofs::Silence::silent_refl, typing_state::proofs::Silence::silent_trans))]
 
-ghost use Rattle.std.specs.Prelude.{◌≡◌, [], ◌∷◌, ◌++◌, map, IfOk, OnOk};
+ghost use Rattle.std.specs.Prelude.{◌≡◌, [], ◌∷◌, map, IfOk, OnOk};
 ghost use Rattle.syntax_tree.specs.View.{place_of, tok_of};
 ghost use Rattle.row_parts.specs.Numbered.{operand_view, path_view};
-ghost use Rattle.env_table.specs.declared.faults.FaultKind.{FaultKind};
-ghost use Rattle.typing_state.specs.Goes.{Goes};
-ghost use Rattle.typing_state.specs.Steps.{asks, each, records, Follows, Silent};
-ghost use Rattle.use_typing.specs.UseSteps.{asks_labels, labels_of, lost_steps};
-ghost use Rattle.expression_steps.specs.ExpressionSteps.{pun_steps};
+ghost use Rattle.typing_state.specs.Goes.{Goes, Silent};
 ghost use Rattle.typing_steps.specs.Typing.{path_as};
 ghost use Rattle.operand_laws.specs.Operands.{number_of};
 ghost use Rattle.use_typing.specs.Labels.{is_named_in, toks_of};
@@ -17,6 +13,7 @@ ghost use Rattle.record_rows.specs.Completing.{AsksComplete};
 ghost use Rattle.record_rows.specs.ValueOperands.{PunsLabel, PunsValue};
 ghost use Rattle.record_rows.specs.RecordExpressions.{EndsRecord, FindsRecord, GivesRecord, RefusesIf};
 ghost use Rattle.expression_steps.specs.Records.{here_of, names_written, TakesName};
+ghost use Rattle.typing_state.specs.Notes.{IsRecorded};
 
 use row_parts::{Operand, WrittenPath};
 use std::rc::Rc;
@@ -44,7 +41,6 @@ pub fn record_of_made<'a>(
     env: &Env,
 ) -> Result<RecordType, NoMemory>
     ensures carries { IfOk result (λ r. FindsRecord at.old at.new env.now (here_of r) (λ n c. []) (path_as (path_view label.now) ∷ labels_at (map operand_view pieces.now.fields.items))) }
-    ensures follows { OnOk result (Follows (each lost_steps (map operand_view pieces.now.fields.items) ++ asks_labels (path_view label.now ∷ labels_of (map operand_view pieces.now.fields.items))) at.old at.new) }
     ensures goes { Goes at.old at.new }
 {
     note_missing(at, &pieces.fields, env)?;
@@ -66,7 +62,6 @@ pub fn fields_in<'a>(at: &Parts, found: RecordType) -> Fields<'a>
 /// The demand that the first part of a record that is made is a label, and the fields that are missing.
 pub fn begin_loose(at: &mut Parts, pieces: &Pieces<'_>, env: &Env) -> Result<(), NoMemory>
     ensures carries { OnOk result (RefusesIf (operand_view pieces.now.first).part at.old at.new (place_of pieces.now.first.span)) }
-    ensures follows { OnOk result (Follows (asks FaultKind.Label (place_of pieces.now.first.span ∷ []) ∷ each lost_steps (map operand_view pieces.now.fields.items)) at.old at.new) }
     ensures goes { Goes at.old at.new }
 {
     ask_label(at, pieces.first)?;
@@ -76,7 +71,6 @@ pub fn begin_loose(at: &mut Parts, pieces: &Pieces<'_>, env: &Env) -> Result<(),
 /// The demand that the first part of a record that is made is a label, where it is there.
 fn ask_label(at: &mut Parts, first: Operand<'_>) -> Result<(), NoMemory>
     ensures carries { OnOk result (RefusesIf (operand_view first.entry).part at.old at.new (place_of first.entry.span)) }
-    ensures follows { OnOk result (Follows (asks FaultKind.Label (place_of first.entry.span ∷ []) ∷ []) at.old at.new) }
     ensures goes { Goes at.old at.new }
 {
     match first.node {
@@ -94,7 +88,7 @@ pub fn pun(
     env: &Env,
 ) -> Result<(), NoMemory>
     ensures carries { OnOk result (PunsValue (path_view label.now).last at.old at.new env.now (number_of at.old.item number) wanted) }
-    ensures follows { OnOk result (Follows (pun_steps number (path_view label.now).last) at.old at.new) }
+    ensures recorded { OnOk result (IsRecorded at.new number) }
     ensures goes { Goes at.old at.new }
 {
     match label.last {
@@ -113,7 +107,7 @@ fn pun_of(
     env: &Env,
 ) -> Result<(), NoMemory>
     ensures carries { OnOk result (PunsLabel at.old at.new env.now (number_of at.old.item number) (tok_of last.now) wanted) }
-    ensures follows { OnOk result (Follows (asks FaultKind.Bound (place_of last.now.span ∷ []) ∷ asks FaultKind.Equal (place_of last.now.span ∷ []) ∷ records number ∷ []) at.old at.new) }
+    ensures recorded { OnOk result (IsRecorded at.new number) }
     ensures goes { Goes at.old at.new }
 {
     let used = value_of_name(at, last, wanted, env)?;
@@ -137,7 +131,6 @@ fn value_of_name(
     env: &Env,
 ) -> Result<Used, NoMemory>
     ensures carries { OnOk result (TakesName at.old at.new env.now (tok_of name.now) wanted) }
-    ensures follows { OnOk result (Follows (asks FaultKind.Bound (place_of name.now.span ∷ []) ∷ asks FaultKind.Equal (place_of name.now.span ∷ []) ∷ []) at.old at.new) }
     ensures goes { Goes at.old at.new }
 {
     let path = WrittenPath {
@@ -152,7 +145,6 @@ fn value_of_name(
 /// `complete` of a record that is made at a place: the first label of the declaration that isn't written. The type of the record.
 pub fn complete(at: &mut Parts, fields: &Fields<'_>, span: Span) -> Result<Used, NoMemory>
     ensures carries { IfOk result (λ u. EndsRecord at.old at.new (here_of fields.now.found) (names_written fields.now.labels.items) (place_of span) u.ty.0) }
-    ensures follows { OnOk result (Follows (asks FaultKind.Complete (place_of span ∷ []) ∷ []) at.old at.new) }
     ensures goes { Goes at.old at.new }
 {
     ask_complete(at, &fields.found, &fields.labels, span)?;
@@ -167,7 +159,6 @@ fn ask_complete(
     span: Span,
 ) -> Result<(), NoMemory>
     ensures carries { OnOk result (AsksComplete (here_of found.now) (names_written written.now) at.old at.new span) }
-    ensures follows { OnOk result (Follows (asks FaultKind.Complete (place_of span ∷ []) ∷ []) at.old at.new) }
     ensures goes { Goes at.old at.new }
 {
     let RecordType::Known(declaration, _) = found else {

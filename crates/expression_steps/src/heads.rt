@@ -1,16 +1,14 @@
 //! Heads in front of arguments: the demand that one is an arrow, and a constructor that is recorded with its arguments.
-#![tactic(auto, using(typing_state::proofs::Going::goes_trans, typing_state::proofs::Going::goes_refl, typing_state::proofs::Following::follows_both, typing_state::proofs::Following::follows_then, typing_state::proofs::Following::follows_before, typing_state::proofs::Following::follows_behind, typing_state::proofs::Following::follows_none, typing_state::proofs::Following::follows_silent, typing_state::proofs::Following::store_silent, typing_state::proofs::Following::silent_refl, typing_state::proofs::Following::silent_trans, typing_state::proofs::Following::ends_both, typing_state::proofs::Following::ends_behind, typing_state::proofs::Following::ends_before, typing_state::proofs::Following::ends_silent, typing_state::proofs::Following::gets_start, typing_state::proofs::Following::gets_more, typing_state::proofs::Following::gets_before, typing_state::proofs::Following::gets_done, crate::proofs::ExpressionLaws::ends_then), unfolding(syntax_tree::specs::Names::row_of))]
+#![tactic(auto, using(typing_state::proofs::Going::goes_trans, typing_state::proofs::Going::goes_refl, typing_state::proofs::Silence::store_silent, typing_state::proofs::Silence::silent_refl, typing_state::proofs::Silence::silent_trans), unfolding(syntax_tree::specs::Names::row_of))]
 
-ghost use Rattle.std.specs.Prelude.{◌≡◌, true, [], ◌∷◌, map, IfOk, OnOk};
+ghost use Rattle.std.specs.Prelude.{◌≡◌, true, map, IfOk};
 ghost use Rattle.typing_conditions.specs.Steps.{Records};
 ghost use Rattle.typing_steps.specs.States.{is_aloud, sight};
 ghost use Rattle.typing_rows.specs.Asked.{expressions_of};
 ghost use Rattle.typing_rows.specs.Contracts.{MakesBoth, HeadIsArrow, EndsUnknown};
 ghost use Rattle.syntax_tree.specs.View.{place_of};
 ghost use Rattle.row_parts.specs.Numbered.{operand_view};
-ghost use Rattle.env_table.specs.declared.faults.FaultKind.{FaultKind};
-ghost use Rattle.typing_state.specs.Goes.{Goes};
-ghost use Rattle.typing_state.specs.Steps.{asks, records, Follows, Silent};
+ghost use Rattle.typing_state.specs.Goes.{Goes, Silent};
 
 use row_parts::Operand;
 use syntax_tree::Span;
@@ -34,7 +32,6 @@ pub fn note_head(
 ) -> Result<Head, NoMemory>
     ensures carries { IfOk result (λ h. is_aloud at.old.telling ≡ true → Records (sight at.old) (sight at.new) number h.ty.0) }
     ensures head { IfOk result (λ h. (h.ty ≡ found.built) × (h.known ≡ found.known)) }
-    ensures follows { OnOk result (Follows (records number ∷ []) at.old at.new) }
     ensures goes { Goes at.old at.new }
 {
     at.note(number, env, Some(found.built), found.names)?;
@@ -68,7 +65,6 @@ pub fn ask_arrow(
     env: &Env,
 ) -> Result<(NodeRef, NodeRef), NoMemory>
     ensures carries { IfOk result (λ p. HeadIsArrow at.old at.new env.now (place_of place) head.0 p.0.0 p.1.0) }
-    ensures follows { OnOk result (Follows (asks FaultKind.Equal (place_of place ∷ []) ∷ []) at.old at.new) }
     ensures goes { Goes at.old at.new }
 {
     let (from, to) = two_types(at)?;

@@ -1,5 +1,5 @@
 //! Rows without parts: names, constants, holes, and constructors alone.
-#![tactic(auto, using(typing_state::proofs::Going::goes_trans, typing_state::proofs::Going::goes_refl, typing_state::proofs::Following::follows_both, typing_state::proofs::Following::follows_then, typing_state::proofs::Following::follows_before, typing_state::proofs::Following::follows_behind, typing_state::proofs::Following::follows_none, typing_state::proofs::Following::follows_silent, typing_state::proofs::Following::store_silent, typing_state::proofs::Following::silent_refl, typing_state::proofs::Following::silent_trans, typing_state::proofs::Following::ends_both, typing_state::proofs::Following::ends_behind, typing_state::proofs::Following::ends_before, typing_state::proofs::Following::ends_silent, typing_state::proofs::Following::gets_start, typing_state::proofs::Following::gets_more, typing_state::proofs::Following::gets_before, typing_state::proofs::Following::gets_done, crate::proofs::ExpressionLaws::value_no_record, crate::proofs::ExpressionLaws::form_follows), unfolding(syntax_tree::specs::Names::row_of))]
+#![tactic(auto, using(typing_state::proofs::Going::goes_trans, typing_state::proofs::Going::goes_refl), unfolding(syntax_tree::specs::Names::row_of))]
 
 ghost use Rattle.std.specs.Prelude.{◌≡◌, ℕ, None, IfOk, OnOk, option_map};
 ghost use Rattle.typing_model.specs.Patterns.{constructor_alone};
@@ -11,13 +11,12 @@ ghost use Rattle.typing_rows.specs.Asked.{under_minus, row_expression};
 ghost use Rattle.syntax_tree.specs.View.{node_view};
 ghost use Rattle.row_parts.specs.Numbered.{numbered, operand_view, path_view};
 ghost use Rattle.typing_state.specs.Goes.{Goes};
-ghost use Rattle.typing_state.specs.Steps.{Follows};
-ghost use Rattle.type_expressions.specs.TypeSteps.{constructor_steps};
 ghost use Rattle.use_typing.specs.Constants.{is_negated};
 ghost use Rattle.use_typing.specs.Uses.{TellsUse};
 ghost use Rattle.expression_steps.specs.declared.forms.RowForm.{RowForm};
 ghost use Rattle.expression_steps.specs.Leaves.{TellsLeaf, TellsValue};
-ghost use Rattle.expression_steps.specs.ExpressionSteps.{form_of, row_at, steps_as, value_in, value_steps, constructor_at, constructor_in, upper_path};
+ghost use Rattle.expression_steps.specs.Forms.{form_of, row_at, value_in};
+ghost use Rattle.expression_steps.specs.Heads.{constructor_at, constructor_in, upper_path};
 
 use row_parts::{Operand, WrittenPath, token, written_path};
 use syntax_tree::{Node, RowName, TokenKind};
@@ -34,7 +33,6 @@ pub fn leaf(
 ) -> Result<Used, NoMemory>
     ensures carries { IfOk result (λ u. (place : Place) → IsCarried (numbered number place (inner (node_view node.now))) → form_of (row_at (node_view node.now)) ≡ RowForm.Leaf → TypesRow at.old at.new env.now (λ c. (under_minus (is_negated sign) (row_expression at.old.item number place (node_view node.now))).typed c) (number_of at.old.item number) u.ty.0) }
     ensures tells { OnOk result (TellsLeaf (node_view node.now) (is_negated sign) at.old at.new env.now) }
-    ensures follows { OnOk result (Follows (steps_as RowForm.Leaf number (node_view node.now)) at.old at.new) }
     ensures goes { Goes at.old at.new }
 {
     match constructor_path(at, Operand::of(node, number))? {
@@ -47,7 +45,6 @@ pub fn leaf(
 fn constructor_alone(at: &mut Parts, env: &Env, path: &WrittenPath<'_>) -> Result<Used, NoMemory>
     ensures carries { IfOk result (λ u. (n : ℕ) → TypesRow at.old at.new env.now (λ c. constructor_alone c n (path_as (path_view path.now))) n u.ty.0) }
     ensures tells { OnOk result (TellsUse (path_view path.now) 0 at.old at.new env.now) }
-    ensures follows { OnOk result (Follows (constructor_steps (path_view path.now)) at.old at.new) }
     ensures goes { Goes at.old at.new }
 {
     let found = constructor(at, env, path, 0)?;
@@ -61,7 +58,6 @@ fn constructor_alone(at: &mut Parts, env: &Env, path: &WrittenPath<'_>) -> Resul
 fn leaf_value(at: &mut Parts, node: &Node, sign: Sign, env: &Env) -> Result<Used, NoMemory>
     ensures carries { IfOk result (λ u. (number : ℕ) (place : Place) → IsCarried (numbered number place (inner (node_view node.now))) → form_of (row_at (node_view node.now)) ≡ RowForm.Leaf → constructor_in (row_at (node_view node.now)) (node_view node.now) ≡ None → TypesRow at.old at.new env.now (λ c. (under_minus (is_negated sign) (row_expression at.old.item number place (node_view node.now))).typed c) (number_of at.old.item number) u.ty.0) }
     ensures tells { OnOk result (TellsValue (value_in (row_at (node_view node.now)) (node_view node.now)) (is_negated sign) at.old at.new env.now) }
-    ensures follows { OnOk result (Follows (value_steps (value_in (row_at (node_view node.now)) (node_view node.now))) at.old at.new) }
     ensures goes { Goes at.old at.new }
 {
     match node.row {

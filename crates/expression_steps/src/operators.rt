@@ -1,21 +1,20 @@
 //! Operators as the values that they name, and a minus over a numeral.
-#![tactic(auto, using(typing_state::proofs::Going::goes_trans, typing_state::proofs::Going::goes_refl, typing_state::proofs::Following::follows_both, typing_state::proofs::Following::follows_then, typing_state::proofs::Following::follows_before, typing_state::proofs::Following::follows_behind, typing_state::proofs::Following::follows_none, typing_state::proofs::Following::follows_silent, typing_state::proofs::Following::store_silent, typing_state::proofs::Following::silent_refl, typing_state::proofs::Following::silent_trans, typing_state::proofs::Following::ends_both, typing_state::proofs::Following::ends_behind, typing_state::proofs::Following::ends_before, typing_state::proofs::Following::ends_silent, typing_state::proofs::Following::gets_start, typing_state::proofs::Following::gets_more, typing_state::proofs::Following::gets_before, typing_state::proofs::Following::gets_done, crate::proofs::ExpressionLaws::ends_then), unfolding(syntax_tree::specs::Names::row_of))]
+#![tactic(auto, using(typing_state::proofs::Going::goes_trans, typing_state::proofs::Going::goes_refl), unfolding(syntax_tree::specs::Names::row_of))]
 
-ghost use Rattle.std.specs.Prelude.{◌≡◌, ℕ, true, [], ◌∷◌, option_map, Some, None, IfOk, IfSome, OnOk};
+ghost use Rattle.std.specs.Prelude.{◌≡◌, ℕ, true, [], option_map, Some, None, IfOk, IfSome, OnOk};
 ghost use Rattle.typing_model.specs.Expressions.{value_asks};
 ghost use Rattle.typing_conditions.specs.Steps.{Records};
 ghost use Rattle.typing_steps.specs.States.{is_aloud, sight};
 ghost use Rattle.typing_steps.specs.Typing.{TypesOwn};
 ghost use Rattle.expression_steps.specs.Operators.{sign_in, IsOperator, IsSignOf};
 ghost use Rattle.syntax_tree.specs.Names.{row_of};
-ghost use Rattle.syntax_tree.specs.View.{place_of, tok_of, node_view};
+ghost use Rattle.syntax_tree.specs.View.{tok_of, node_view};
 ghost use Rattle.row_parts.specs.Numbered.{operand_view};
-ghost use Rattle.env_table.specs.declared.faults.FaultKind.{FaultKind};
 ghost use Rattle.typing_state.specs.Goes.{Goes};
-ghost use Rattle.typing_state.specs.Steps.{asks, records, Follows};
 ghost use Rattle.env_table.specs.declared.entries.Kind.{Kind};
 ghost use Rattle.use_typing.specs.Uses.{TellsBound};
-ghost use Rattle.expression_steps.specs.ExpressionSteps.{is_float_at, is_float_token, operator_in, row_at};
+ghost use Rattle.expression_steps.specs.Heads.{is_float_at, is_float_token};
+ghost use Rattle.expression_steps.specs.Forms.{row_at};
 
 use row_parts::{Operand, WrittenPath, token};
 use syntax_tree::{Node, RcStr, RowName, Token, TokenKind};
@@ -32,7 +31,6 @@ pub struct Operator {
 /// The token of the operator of a row.
 fn sign_of(node: &Node) -> Option<&Token>
     ensures token { option_map (λ t. tok_of t.now) result ≡ sign_in (row_at (node_view node.now)) (node_view node.now) }
-    ensures place { option_map (λ t. place_of t.now.span) result ≡ operator_in (row_at (node_view node.now)) (node_view node.now) }
 {
     match node.row {
         RowName::Infix => token(node, 1),
@@ -44,7 +42,6 @@ fn sign_of(node: &Node) -> Option<&Token>
 pub fn operator_of(at: &Parts, node: &Node) -> Result<Option<Operator>, NoMemory>
     ensures none { IfOk result (λ o. o ≡ None → sign_in (row_at (node_view node.now)) (node_view node.now) ≡ None) }
     ensures some { IfOk result (λ o. IfSome o (λ x. IsSignOf (row_at (node_view node.now)) (sign_in (row_at (node_view node.now)) (node_view node.now)) x)) }
-    ensures place { IfOk result (λ o. option_map (λ o. place_of o.named.span) o ≡ operator_in (row_at (node_view node.now)) (node_view node.now)) }
 {
     match sign_of(node) {
         Some(token) => Ok(Some(operator_by(at, node.row, token)?)),
@@ -55,7 +52,6 @@ pub fn operator_of(at: &Parts, node: &Node) -> Result<Option<Operator>, NoMemory
 /// The operator by its token. Over an argument alone - is ~-, and -. is ~-.
 fn operator_by(at: &Parts, row: RowName, token: &Token) -> Result<Operator, NoMemory>
     ensures operator { IfOk result (λ o. IsOperator (row_of row) (tok_of token.now) o) }
-    ensures place { IfOk result (λ o. place_of o.named.span ≡ place_of token.now.span) }
 {
     let (name, sign) = match row {
         RowName::Eneg if token.name.is("-.") => (RcStr::from_str(at.alloc(), "~-.")?, Sign::None),
@@ -76,7 +72,6 @@ fn operator_by(at: &Parts, row: RowName, token: &Token) -> Result<Operator, NoMe
 pub fn operator_value(at: &mut Parts, operator: &Token, env: &Env) -> Result<Used, NoMemory>
     ensures carries { IfOk result (λ u. (n k : ℕ) → TypesOwn at.old at.new env.now (λ c t. value_asks c n k (record { qualifiers = []; last = Some (tok_of operator.now) }) t) u.ty.0) }
     ensures tells { OnOk result (TellsBound (record { qualifiers = []; last = Some (tok_of operator.now) }) Kind.Value at.old at.new env.now) }
-    ensures follows { OnOk result (Follows (asks FaultKind.Bound (place_of operator.now.span ∷ []) ∷ []) at.old at.new) }
     ensures goes { Goes at.old at.new }
 {
     let path = WrittenPath {
@@ -114,7 +109,6 @@ fn is_point(token: Option<&Token>) -> bool
 pub fn negative_float(at: &mut Parts, number: u32, env: &Env) -> Result<Used, NoMemory>
     ensures carries { IfOk result (λ u. is_aloud at.old.telling ≡ true → Records (sight at.old) (sight at.new) number at.old.constants.float.0) }
     ensures ty { IfOk result (λ u. u.ty ≡ at.old.constants.float) }
-    ensures follows { OnOk result (Follows (records number ∷ []) at.old at.new) }
     ensures goes { Goes at.old at.new }
 {
     let float = at.constants.float;

@@ -1,7 +1,7 @@
 //! What is asked of a part of a row as soon as it is typed, and the environment of the body of a loop.
-#![tactic(auto, using(typing_state::proofs::Going::goes_trans, typing_state::proofs::Going::goes_refl, typing_state::proofs::Following::follows_both, typing_state::proofs::Following::follows_before, typing_state::proofs::Following::follows_behind, typing_state::proofs::Following::follows_none, typing_state::proofs::Following::follows_silent, typing_state::proofs::Following::store_silent, typing_state::proofs::Following::silent_refl, typing_state::proofs::Following::silent_trans, typing_state::proofs::Following::ends_both, typing_state::proofs::Following::ends_behind, typing_state::proofs::Following::ends_before, typing_state::proofs::Following::ends_silent, typing_state::proofs::Following::gets_start, typing_state::proofs::Following::gets_more, typing_state::proofs::Following::gets_before, typing_state::proofs::Following::gets_done, crate::proofs::ExpressionLaws::types_no_record, crate::proofs::ExpressionLaws::token_no_record), unfolding(syntax_tree::specs::Names::row_of))]
+#![tactic(auto, using(typing_state::proofs::Going::goes_trans, typing_state::proofs::Going::goes_refl), unfolding(syntax_tree::specs::Names::row_of))]
 
-ghost use Rattle.std.specs.Prelude.{◌≡◌, ◌==◌, ◌&&◌, option_map, Some, IfOk, OnOk};
+ghost use Rattle.std.specs.Prelude.{◌≡◌, ◌==◌, ◌&&◌, Some, IfOk, OnOk};
 ghost use Rattle.operand_laws.specs.Operands.{expression_of};
 ghost use Rattle.typing_conditions.specs.Surroundings.{IsEntry};
 ghost use Rattle.typing_rows.specs.Asked.{wants_bool};
@@ -12,9 +12,6 @@ ghost use Rattle.syntax_tree.specs.Names.{row_of};
 ghost use Rattle.syntax_tree.specs.View.{node_view, tok_of};
 ghost use Rattle.row_parts.specs.Numbered.{operand_view, token_in};
 ghost use Rattle.typing_state.specs.Goes.{Goes};
-ghost use Rattle.typing_state.specs.Steps.{Follows};
-ghost use Rattle.use_typing.specs.UseSteps.{asks_equal};
-ghost use Rattle.expression_steps.specs.ExpressionSteps.{behind_part_steps, expression_at};
 
 use crate::values::is_false;
 use env_table::{Entry, Kind, What};
@@ -80,7 +77,6 @@ pub fn behind_part(
     env: &Env,
 ) -> Result<(), NoMemory>
     ensures carries { OnOk result (AsksBehind at.old at.new env.now (row_of row) place (expression_of at.old.item (operand_view part.entry)) ty.0) }
-    ensures follows { OnOk result (Follows (behind_part_steps (row_of row) place (expression_at (operand_view part.entry))) at.old at.new) }
     ensures goes { Goes at.old at.new }
 {
     if is_condition(row, place, part) {
@@ -111,7 +107,6 @@ fn wants_bool(row: RowName, is_false: bool) -> bool
 /// The demand that a part is a bool.
 fn ask_bool(at: &mut Parts, part: Operand<'_>, ty: NodeRef, env: &Env) -> Result<(), NoMemory>
     ensures carries { OnOk result (AsksBool at.old at.new env.now (expression_of at.old.item (operand_view part.entry)) ty.0) }
-    ensures follows { OnOk result (Follows (asks_equal (operand_view part.entry)) at.old at.new) }
     ensures goes { Goes at.old at.new }
 {
     let bool = at.constants.bool;

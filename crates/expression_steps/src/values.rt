@@ -11,7 +11,8 @@ ghost use Rattle.operand_laws.specs.Operands.{expression_of};
 ghost use Rattle.typing_rows.specs.Asked.{row_expression, expressions_of};
 ghost use Rattle.typing_rows.specs.Valued.{are_unguarded, bodies_of, body_in, is_unguarded, right_in, rights_of, value_operands, IsDecided};
 ghost use Rattle.expression_steps.specs.Operators.{is_false_at, is_false_token};
-ghost use Rattle.expression_steps.specs.ExpressionSteps.{constructor_at, label_at, lower_path, row_at};
+ghost use Rattle.expression_steps.specs.Heads.{constructor_at, label_at, lower_path};
+ghost use Rattle.expression_steps.specs.Forms.{row_at};
 
 use env_table::{Found, Path, What};
 use owned_lists::push;

@@ -1,15 +1,12 @@
 //! Match warnings: values that are missed, and cases that no value reaches.
-#![tactic(auto, using(typing_state::proofs::Going::goes_trans, typing_state::proofs::Going::goes_refl, typing_state::proofs::Following::follows_both, typing_state::proofs::Following::follows_before, typing_state::proofs::Following::follows_behind, typing_state::proofs::Following::follows_silent, typing_state::proofs::Following::store_silent, typing_state::proofs::Following::silent_refl, typing_state::proofs::Following::silent_trans, typing_state::proofs::Following::ends_both, typing_state::proofs::Following::ends_behind, typing_state::proofs::Following::ends_before, typing_state::proofs::Following::ends_silent, typing_state::proofs::Following::gets_start, typing_state::proofs::Following::gets_more, typing_state::proofs::Following::gets_before, typing_state::proofs::Following::gets_done), unfolding(syntax_tree::specs::Names::row_of))]
+#![tactic(auto, using(typing_state::proofs::Going::goes_trans, typing_state::proofs::Going::goes_refl), unfolding(syntax_tree::specs::Names::row_of))]
 
 ghost use Rattle.std.specs.Prelude.{◌≡◌, [], ◌∷◌, ◌++◌, map, OnOk};
 ghost use Rattle.syntax_tree.specs.Names.{row_of};
 ghost use Rattle.syntax_tree.specs.View.{place_of};
-ghost use Rattle.env_table.specs.declared.faults.FaultKind.{FaultKind};
 ghost use Rattle.typing_state.specs.Goes.{Goes};
-ghost use Rattle.typing_state.specs.Steps.{Follows, asks};
 ghost use Rattle.typing_steps.specs.Warning.{OnlyWarnings};
-ghost use Rattle.match_warnings.specs.Warnings.{spans_of, unused_steps, warning_steps};
-ghost use Rattle.pattern_steps.specs.PatternSteps.{missed_steps};
+ghost use Rattle.match_warnings.specs.Warnings.{missed_at, missed_in, spans_of, unused_at, unused_cases, warnings_of, WarnsOf};
 
 use crate::pats::row_pat;
 use env_table::FaultKind;
@@ -66,7 +63,7 @@ fn row(alloc: Global, pat: Pat, guarded: bool) -> Result<PatRow, NoMemory> {
 
 /// Reports the first shape that rows miss, if they miss one.
 fn report_missed(at: &mut Parts, matrix: &Matrix, span: Span) -> Result<(), NoMemory>
-    ensures follows { OnOk result (Follows (asks FaultKind.Missed (place_of span ∷ []) ∷ []) at.old at.new) }
+    ensures places { OnOk result (WarnsOf (missed_at (place_of span)) at.old at.new) }
     ensures warns { OnOk result (OnlyWarnings at.old at.new) }
     ensures goes { Goes at.old at.new }
 {
@@ -124,7 +121,7 @@ impl Rows {
 
     /// The warnings of a match at this place: the first missed shape, but not of a `try`, and the cases that no value reaches.
     pub fn report(self, at: &mut Parts, match_row: RowName, span: Span) -> Result<(), NoMemory>
-        ensures follows { OnOk result (Follows (warning_steps (row_of match_row) (place_of span) (spans_of self)) at.old at.new) }
+        ensures places { OnOk result (WarnsOf (warnings_of (row_of match_row) (place_of span) (spans_of self)) at.old at.new) }
         ensures warns { OnOk result (OnlyWarnings at.old at.new) }
         ensures goes { Goes at.old at.new }
     {
@@ -140,7 +137,7 @@ impl Rows {
 
 /// The warnings of cases that no value reaches, by their places among all.
 fn report_unused(at: &mut Parts, cases: &[Span], unused: &[usize]) -> Result<(), NoMemory>
-    ensures follows { OnOk result (Follows (unused_steps (map place_of cases.now)) at.old at.new) }
+    ensures places { OnOk result (WarnsOf (unused_cases (map place_of cases.now)) at.old at.new) }
     ensures warns { OnOk result (OnlyWarnings at.old at.new) }
     ensures goes { Goes at.old at.new }
 {
@@ -157,7 +154,7 @@ fn report_if_unused(
     place: usize,
     unused: &[usize],
 ) -> Result<(), NoMemory>
-    ensures follows { OnOk result (Follows (asks FaultKind.Unused (place_of case ∷ []) ∷ []) at.old at.new) }
+    ensures places { OnOk result (WarnsOf (unused_at (place_of case)) at.old at.new) }
     ensures warns { OnOk result (OnlyWarnings at.old at.new) }
     ensures goes { Goes at.old at.new }
 {
@@ -175,7 +172,7 @@ fn report_missed_in(
     matrix: &Matrix,
     span: Span,
 ) -> Result<(), NoMemory>
-    ensures follows { OnOk result (Follows (missed_steps (row_of match_row) (place_of span)) at.old at.new) }
+    ensures places { OnOk result (WarnsOf (missed_in (row_of match_row) (place_of span)) at.old at.new) }
     ensures warns { OnOk result (OnlyWarnings at.old at.new) }
     ensures goes { Goes at.old at.new }
 {
@@ -192,7 +189,7 @@ pub fn report_pattern(
     env: &Env,
     depth: Depth,
 ) -> Result<(), NoMemory>
-    ensures follows { OnOk result (Follows (asks FaultKind.Missed (place_of pattern.entry.span ∷ []) ∷ []) at.old at.new) }
+    ensures places { OnOk result (WarnsOf (missed_at (place_of pattern.entry.span)) at.old at.new) }
     ensures warns { OnOk result (OnlyWarnings at.old at.new) }
     ensures goes { Goes at.old at.new }
 {

@@ -7,7 +7,7 @@ use denote.Ref.{Bor}
 use Rattle.token_model.specs.Kinds.{Tok}
 use Rattle.signature_model.specs.Declarations.{Name}
 use Rattle.tree_model.specs.Rows.{Row, pany_row}
-use Rattle.tree_model.specs.Trees.{Tree, Forest}
+use Rattle.tree_model.specs.Trees.{Forest}
 use Rattle.syntax_tree.specs.Names.{row_of}
 use Rattle.syntax_tree.specs.View.{tok_of, node_view}
 use Rattle.syntax_tree.specs.declared.tree.Node.{Node, out-Node}
@@ -27,7 +27,7 @@ use Rattle.typing_rows.specs.CarriedRows.{IsTreeOfCarriedPatterns}
 use Rattle.pattern_rows.specs.Contracts.{AsksFresh}
 use Rattle.pattern_rows.proofs.Going.{row_there}
 use Rattle.pattern_rows.proofs.Leaves.{fresh_asked}
-use Rattle.pattern_steps.specs.PatternSteps.{find_name}
+use Rattle.pattern_names.specs.PatternNames.{find_name}
 use Rattle.pattern_rows.specs.Bounds.{Bind}
 use Rattle.pattern_rows.specs.Sides.{find_bind, first_apart_here}
 use Rattle.row_parts.specs.Numbered.{Numbered}

@@ -1,18 +1,15 @@
--- Heads of patterns: one that is a constructor in the code is that one in the definitions, and the steps of it with its argument.
-use Rattle.std.proofs.Common.{◌≡◌, ℕ, List, Option, Some, None, option_map, refl, sym, ap, subst}
-use Rattle.std.specs.Prelude.{OnOk, Result}
+-- Heads of patterns: one that is a constructor in the code is that one in the definitions.
+use Rattle.std.proofs.Common.{◌≡◌, ℕ, List, Option, Some, None, option_map, refl, ap}
 use Rattle.token_model.specs.Kinds.{Tok}
 use Rattle.tree_model.specs.Rows.{Row, pname_row, pcon_row, pparen_row, papp_row, pas_row}
 use Rattle.tree_model.specs.Trees.{Place, Tree, Part, node, taken, inner, missing}
-use Rattle.row_parts.specs.Numbered.{Numbered, Written, numbered, path_in}
+use Rattle.row_parts.specs.Numbered.{Numbered, numbered, path_in}
 use Rattle.typing_model.specs.Parts as parts
 use Rattle.typing_model.specs.Parts.{Child, Pattern, TypeExpression}
 use Rattle.typing_model.specs.Patterns.{pattern_row, pname, pparen, papp, pas}
-use Rattle.typing_state.specs.declared.parts.Parts.{Parts}
-use Rattle.typing_state.specs.Steps.{Steps, Follows}
 use Rattle.operand_laws.specs.Operands.{number_of, parts_of, pattern_of, path_of}
 use Rattle.operand_laws.proofs.Tokens.{path_stands}
-use Rattle.pattern_steps.specs.PatternSteps.{constructor_in, constructor_at, constructed_steps, construction_steps}
+use Rattle.pattern_names.specs.PatternNames.{constructor_in, constructor_at}
 
 name_none : (n : ℕ) (at : Place) (o : Option Tok) → (pname n at o).constructor ≡ None
 name_none n at None = refl
@@ -50,12 +47,3 @@ head_constructor i o = by o.number o.at o.part
     by n at (taken t) = refl
     by n at (missing q) = refl
     by n at (inner (node r x ps)) = row_constructor r (number_of i n) at (parts_of i n (node r x ps)) (node r x ps) (path_stands i n (node r x ps) 0 1)
-
--- the steps of a constructor with its argument are those of a head that is one
-pub constructed_follows : {A E : Type 0} (r : Result A E) (h o : Numbered) (p : Written) (matched : Steps) (a b : Parts) → constructor_at h.part ≡ Some p →
-    OnOk r (Follows (constructed_steps h.number p o matched) a b) → OnOk r (Follows (construction_steps h o matched) a b)
-constructed_follows r h o p matched a b named steps = subst (λ (x : Option Written). OnOk r (Follows (elim x [ None ↦ matched | Some q ↦ constructed_steps h.number q o matched ]) a b)) (sym named) steps
-
--- those of the argument alone are those of a head that is none
-pub alone_follows : {A E : Type 0} (r : Result A E) (h o : Numbered) (matched : Steps) (a b : Parts) → constructor_at h.part ≡ None → OnOk r (Follows matched a b) → OnOk r (Follows (construction_steps h o matched) a b)
-alone_follows r h o matched a b none steps = subst (λ (x : Option Written). OnOk r (Follows (elim x [ None ↦ matched | Some q ↦ constructed_steps h.number q o matched ]) a b)) (sym none) steps

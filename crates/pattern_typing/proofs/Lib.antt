@@ -1,4 +1,4 @@
--- The laws of the steps of patterns and of the names that they bind.
+-- The laws of patterns and of the names that they bind.
 pub mod Binding
 pub mod MatchedRows
 pub mod OtherRows

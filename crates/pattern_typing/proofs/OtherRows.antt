@@ -1,94 +1,12 @@
--- A row that is no pattern of its own asks nothing and binds nothing.
+-- A row that is no pattern of its own binds nothing.
 use Rattle.std.proofs.Common.{◌≡◌, ℕ, List, [], refl}
 use Rattle.tree_model.specs.Trees.{Tree}
 use Rattle.syntax_tree.specs.declared.rows.RowName.{RowName}
 use Rattle.syntax_tree.specs.declared.rows.RowName.TheVariants as name
 use Rattle.syntax_tree.specs.Names.{row_of}
-use Rattle.pattern_steps.specs.PatternSteps.{PatternSteps, steps_of_row, names_of_row}
+use Rattle.pattern_names.specs.PatternNames.{PatternNames, names_of_row}
 
-pub other_steps : (r : RowName) (n : ℕ) (t : Tree) (ps : List (ℕ × PatternSteps)) → (r ≡ name.Papp → ⊥) → (r ≡ name.Precord → ⊥) → (r ≡ name.Por → ⊥) → (r ≡ name.Pparen → ⊥) → (r ≡ name.Plist → ⊥) → (r ≡ name.Pcons → ⊥) → (r ≡ name.Ptuple → ⊥) → (r ≡ name.Pas → ⊥) → (r ≡ name.Pname → ⊥) → (r ≡ name.Pcon → ⊥) → (r ≡ name.Pconst → ⊥) → (r ≡ name.Pneg → ⊥) → steps_of_row (row_of r) n t ps ≡ []
-unfolding row_of
-other_steps name.Program n t ps o0 o1 o2 o3 o4 o5 o6 o7 o8 o9 o10 o11 = refl
-other_steps name.Let n t ps o0 o1 o2 o3 o4 o5 o6 o7 o8 o9 o10 o11 = refl
-other_steps name.TypeRow n t ps o0 o1 o2 o3 o4 o5 o6 o7 o8 o9 o10 o11 = refl
-other_steps name.Exception n t ps o0 o1 o2 o3 o4 o5 o6 o7 o8 o9 o10 o11 = refl
-other_steps name.Module n t ps o0 o1 o2 o3 o4 o5 o6 o7 o8 o9 o10 o11 = refl
-other_steps name.Modtype n t ps o0 o1 o2 o3 o4 o5 o6 o7 o8 o9 o10 o11 = refl
-other_steps name.Open n t ps o0 o1 o2 o3 o4 o5 o6 o7 o8 o9 o10 o11 = refl
-other_steps name.Include n t ps o0 o1 o2 o3 o4 o5 o6 o7 o8 o9 o10 o11 = refl
-other_steps name.Break n t ps o0 o1 o2 o3 o4 o5 o6 o7 o8 o9 o10 o11 = refl
-other_steps name.Val n t ps o0 o1 o2 o3 o4 o5 o6 o7 o8 o9 o10 o11 = refl
-other_steps name.Gmodule n t ps o0 o1 o2 o3 o4 o5 o6 o7 o8 o9 o10 o11 = refl
-other_steps name.Decl n t ps o0 o1 o2 o3 o4 o5 o6 o7 o8 o9 o10 o11 = refl
-other_steps name.Head n t ps o0 o1 o2 o3 o4 o5 o6 o7 o8 o9 o10 o11 = refl
-other_steps name.Alias n t ps o0 o1 o2 o3 o4 o5 o6 o7 o8 o9 o10 o11 = refl
-other_steps name.Variant n t ps o0 o1 o2 o3 o4 o5 o6 o7 o8 o9 o10 o11 = refl
-other_steps name.Record n t ps o0 o1 o2 o3 o4 o5 o6 o7 o8 o9 o10 o11 = refl
-other_steps name.Con n t ps o0 o1 o2 o3 o4 o5 o6 o7 o8 o9 o10 o11 = refl
-other_steps name.LabelRow n t ps o0 o1 o2 o3 o4 o5 o6 o7 o8 o9 o10 o11 = refl
-other_steps name.WithRow n t ps o0 o1 o2 o3 o4 o5 o6 o7 o8 o9 o10 o11 = refl
-other_steps name.Tvar n t ps o0 o1 o2 o3 o4 o5 o6 o7 o8 o9 o10 o11 = refl
-other_steps name.Tcon n t ps o0 o1 o2 o3 o4 o5 o6 o7 o8 o9 o10 o11 = refl
-other_steps name.Tparen n t ps o0 o1 o2 o3 o4 o5 o6 o7 o8 o9 o10 o11 = refl
-other_steps name.Tapp n t ps o0 o1 o2 o3 o4 o5 o6 o7 o8 o9 o10 o11 = refl
-other_steps name.Ttuple n t ps o0 o1 o2 o3 o4 o5 o6 o7 o8 o9 o10 o11 = refl
-other_steps name.Tarrow n t ps o0 o1 o2 o3 o4 o5 o6 o7 o8 o9 o10 o11 = refl
-other_steps name.Pname n t ps o0 o1 o2 o3 o4 o5 o6 o7 o8 o9 o10 o11 = absurd (o8 refl)
-other_steps name.Pany n t ps o0 o1 o2 o3 o4 o5 o6 o7 o8 o9 o10 o11 = refl
-other_steps name.Pconst n t ps o0 o1 o2 o3 o4 o5 o6 o7 o8 o9 o10 o11 = absurd (o10 refl)
-other_steps name.Pneg n t ps o0 o1 o2 o3 o4 o5 o6 o7 o8 o9 o10 o11 = absurd (o11 refl)
-other_steps name.Pcon n t ps o0 o1 o2 o3 o4 o5 o6 o7 o8 o9 o10 o11 = absurd (o9 refl)
-other_steps name.Pparen n t ps o0 o1 o2 o3 o4 o5 o6 o7 o8 o9 o10 o11 = absurd (o3 refl)
-other_steps name.Plist n t ps o0 o1 o2 o3 o4 o5 o6 o7 o8 o9 o10 o11 = absurd (o4 refl)
-other_steps name.Precord n t ps o0 o1 o2 o3 o4 o5 o6 o7 o8 o9 o10 o11 = absurd (o1 refl)
-other_steps name.Papp n t ps o0 o1 o2 o3 o4 o5 o6 o7 o8 o9 o10 o11 = absurd (o0 refl)
-other_steps name.Pcons n t ps o0 o1 o2 o3 o4 o5 o6 o7 o8 o9 o10 o11 = absurd (o5 refl)
-other_steps name.Ptuple n t ps o0 o1 o2 o3 o4 o5 o6 o7 o8 o9 o10 o11 = absurd (o6 refl)
-other_steps name.Por n t ps o0 o1 o2 o3 o4 o5 o6 o7 o8 o9 o10 o11 = absurd (o2 refl)
-other_steps name.Pas n t ps o0 o1 o2 o3 o4 o5 o6 o7 o8 o9 o10 o11 = absurd (o7 refl)
-other_steps name.Qfield n t ps o0 o1 o2 o3 o4 o5 o6 o7 o8 o9 o10 o11 = refl
-other_steps name.Binding n t ps o0 o1 o2 o3 o4 o5 o6 o7 o8 o9 o10 o11 = refl
-other_steps name.Case n t ps o0 o1 o2 o3 o4 o5 o6 o7 o8 o9 o10 o11 = refl
-other_steps name.Ffield n t ps o0 o1 o2 o3 o4 o5 o6 o7 o8 o9 o10 o11 = refl
-other_steps name.Name n t ps o0 o1 o2 o3 o4 o5 o6 o7 o8 o9 o10 o11 = refl
-other_steps name.Econ n t ps o0 o1 o2 o3 o4 o5 o6 o7 o8 o9 o10 o11 = refl
-other_steps name.Epath n t ps o0 o1 o2 o3 o4 o5 o6 o7 o8 o9 o10 o11 = refl
-other_steps name.Econst n t ps o0 o1 o2 o3 o4 o5 o6 o7 o8 o9 o10 o11 = refl
-other_steps name.Hole n t ps o0 o1 o2 o3 o4 o5 o6 o7 o8 o9 o10 o11 = refl
-other_steps name.Eparen n t ps o0 o1 o2 o3 o4 o5 o6 o7 o8 o9 o10 o11 = refl
-other_steps name.Ebegin n t ps o0 o1 o2 o3 o4 o5 o6 o7 o8 o9 o10 o11 = refl
-other_steps name.Elist n t ps o0 o1 o2 o3 o4 o5 o6 o7 o8 o9 o10 o11 = refl
-other_steps name.Erecord n t ps o0 o1 o2 o3 o4 o5 o6 o7 o8 o9 o10 o11 = refl
-other_steps name.Prefix n t ps o0 o1 o2 o3 o4 o5 o6 o7 o8 o9 o10 o11 = refl
-other_steps name.Field n t ps o0 o1 o2 o3 o4 o5 o6 o7 o8 o9 o10 o11 = refl
-other_steps name.Eapp n t ps o0 o1 o2 o3 o4 o5 o6 o7 o8 o9 o10 o11 = refl
-other_steps name.Eassert n t ps o0 o1 o2 o3 o4 o5 o6 o7 o8 o9 o10 o11 = refl
-other_steps name.Ewhile n t ps o0 o1 o2 o3 o4 o5 o6 o7 o8 o9 o10 o11 = refl
-other_steps name.Efor n t ps o0 o1 o2 o3 o4 o5 o6 o7 o8 o9 o10 o11 = refl
-other_steps name.Eneg n t ps o0 o1 o2 o3 o4 o5 o6 o7 o8 o9 o10 o11 = refl
-other_steps name.Infix n t ps o0 o1 o2 o3 o4 o5 o6 o7 o8 o9 o10 o11 = refl
-other_steps name.Econs n t ps o0 o1 o2 o3 o4 o5 o6 o7 o8 o9 o10 o11 = refl
-other_steps name.Etuple n t ps o0 o1 o2 o3 o4 o5 o6 o7 o8 o9 o10 o11 = refl
-other_steps name.Eset n t ps o0 o1 o2 o3 o4 o5 o6 o7 o8 o9 o10 o11 = refl
-other_steps name.Eif n t ps o0 o1 o2 o3 o4 o5 o6 o7 o8 o9 o10 o11 = refl
-other_steps name.Eseq n t ps o0 o1 o2 o3 o4 o5 o6 o7 o8 o9 o10 o11 = refl
-other_steps name.Elet n t ps o0 o1 o2 o3 o4 o5 o6 o7 o8 o9 o10 o11 = refl
-other_steps name.Ematch n t ps o0 o1 o2 o3 o4 o5 o6 o7 o8 o9 o10 o11 = refl
-other_steps name.Etry n t ps o0 o1 o2 o3 o4 o5 o6 o7 o8 o9 o10 o11 = refl
-other_steps name.Efun n t ps o0 o1 o2 o3 o4 o5 o6 o7 o8 o9 o10 o11 = refl
-other_steps name.Efunction n t ps o0 o1 o2 o3 o4 o5 o6 o7 o8 o9 o10 o11 = refl
-other_steps name.Mpath n t ps o0 o1 o2 o3 o4 o5 o6 o7 o8 o9 o10 o11 = refl
-other_steps name.Mstruct n t ps o0 o1 o2 o3 o4 o5 o6 o7 o8 o9 o10 o11 = refl
-other_steps name.Mparen n t ps o0 o1 o2 o3 o4 o5 o6 o7 o8 o9 o10 o11 = refl
-other_steps name.Mapp n t ps o0 o1 o2 o3 o4 o5 o6 o7 o8 o9 o10 o11 = refl
-other_steps name.Mfunctor n t ps o0 o1 o2 o3 o4 o5 o6 o7 o8 o9 o10 o11 = refl
-other_steps name.Ypath n t ps o0 o1 o2 o3 o4 o5 o6 o7 o8 o9 o10 o11 = refl
-other_steps name.Ysig n t ps o0 o1 o2 o3 o4 o5 o6 o7 o8 o9 o10 o11 = refl
-other_steps name.Yparen n t ps o0 o1 o2 o3 o4 o5 o6 o7 o8 o9 o10 o11 = refl
-other_steps name.Ywith n t ps o0 o1 o2 o3 o4 o5 o6 o7 o8 o9 o10 o11 = refl
-other_steps name.Yfunctor n t ps o0 o1 o2 o3 o4 o5 o6 o7 o8 o9 o10 o11 = refl
-
-pub other_names : (r : RowName) (n : ℕ) (t : Tree) (ps : List (ℕ × PatternSteps)) → (r ≡ name.Papp → ⊥) → (r ≡ name.Precord → ⊥) → (r ≡ name.Por → ⊥) → (r ≡ name.Pparen → ⊥) → (r ≡ name.Plist → ⊥) → (r ≡ name.Pcons → ⊥) → (r ≡ name.Ptuple → ⊥) → (r ≡ name.Pas → ⊥) → (r ≡ name.Pname → ⊥) → (r ≡ name.Pcon → ⊥) → (r ≡ name.Pconst → ⊥) → (r ≡ name.Pneg → ⊥) → names_of_row (row_of r) n t ps ≡ []
+pub other_names : (r : RowName) (n : ℕ) (t : Tree) (ps : List (ℕ × PatternNames)) → (r ≡ name.Papp → ⊥) → (r ≡ name.Precord → ⊥) → (r ≡ name.Por → ⊥) → (r ≡ name.Pparen → ⊥) → (r ≡ name.Plist → ⊥) → (r ≡ name.Pcons → ⊥) → (r ≡ name.Ptuple → ⊥) → (r ≡ name.Pas → ⊥) → (r ≡ name.Pname → ⊥) → (r ≡ name.Pcon → ⊥) → (r ≡ name.Pconst → ⊥) → (r ≡ name.Pneg → ⊥) → names_of_row (row_of r) n t ps ≡ []
 unfolding row_of
 other_names name.Program n t ps o0 o1 o2 o3 o4 o5 o6 o7 o8 o9 o10 o11 = refl
 other_names name.Let n t ps o0 o1 o2 o3 o4 o5 o6 o7 o8 o9 o10 o11 = refl

@@ -1,4 +1,4 @@
--- The steps of patterns, by their operands.
+-- The names that patterns bind, by their operands.
 use Rattle.std.proofs.Common.{◌≡◌, ◌∙◌, ◌++◌, ℕ, List, [], ◌∷◌, map, refl, sym, ap, subst}
 use Rattle.std.specs.Prelude.{Some, None, OnOk, Result}
 use Rattle.tree_model.specs.Rows.{Row}
@@ -10,13 +10,9 @@ use Rattle.syntax_tree.proofs.Views.{node_view_parts}
 use Rattle.row_parts.specs.Numbered.{Numbered, behind, operands_with_slots, operands_in, all_operands, in_slot, in_slots, first_of, filled_in, missing_at_end}
 use Rattle.row_parts.specs.Folds.{operand_by}
 use Rattle.row_parts.proofs.Folding.{comes_to, folds_from, slot_comes, slots_come}
-use Rattle.typing_state.specs.declared.parts.Parts.{Parts}
-use Rattle.typing_state.specs.Steps.{each, Follows}
-use Rattle.type_expressions.proofs.TypeLaws.{each_map}
 use Rattle.pattern_typing.specs.declared.patterns.BoundName.{BoundName}
-use Rattle.use_typing.proofs.Reading.{same_follows}
 use Rattle.pattern_typing.specs.Matching.{Binds}
-use Rattle.pattern_steps.specs.PatternSteps.{pattern_rule, parts_of_pattern, construction_steps, matched_as, bound_as, matched_tree, names_of_tree, pattern_steps, pattern_names, field_pattern_steps, field_pattern_names, match_each, names_of, names_of_fields, names_in, pattern_or_missing, side_at, sides_of}
+use Rattle.pattern_names.specs.PatternNames.{pattern_rule, parts_of_pattern, bound_as, names_of_tree, pattern_names, field_pattern_names, names_of, names_of_fields, names_in, pattern_or_missing, side_at, sides_of}
 
 pub parts_are : (n : ℕ) (t : Tree) → parts_of_pattern n t ≡ map (comes_to pattern_rule) (operands_with_slots n t)
 unfolding parts_of_pattern
@@ -29,36 +25,16 @@ in_slot_are n t s = ap (in_slot s) (parts_are n t) ∙ slot_comes pattern_rule s
 pub in_slots_are : (n : ℕ) (t : Tree) → in_slots (parts_of_pattern n t) ≡ map (operand_by pattern_rule) (all_operands n t)
 in_slots_are n t = ap in_slots (parts_are n t) ∙ slots_come pattern_rule (operands_with_slots n t)
 
-pub match_map : (os : List Numbered) → match_each (map (operand_by pattern_rule) os) ≡ each pattern_steps os
-unfolding pattern_steps
-match_map os = each_map (λ p. p.matched) (operand_by pattern_rule) os
-
 pub names_map : (os : List Numbered) → names_of (map (operand_by pattern_rule) os) ≡ names_in pattern_names os
 unfolding pattern_names
 names_map [] = refl
 names_map (o ∷ os) = ap (λ ts. (operand_by pattern_rule o).names ++ ts) (names_map os)
-
--- the patterns in a slot are matched in order
-pub slot_steps : (n : ℕ) (t : Tree) (s : ℕ) → match_each (in_slot s (parts_of_pattern n t)) ≡ each pattern_steps (operands_in n t s)
-slot_steps n t s = ap match_each (in_slot_are n t s) ∙ match_map (operands_in n t s)
-
-pub slots_steps : (n : ℕ) (t : Tree) → match_each (in_slots (parts_of_pattern n t)) ≡ each pattern_steps (all_operands n t)
-slots_steps n t = ap match_each (in_slots_are n t) ∙ match_map (all_operands n t)
 
 pub slot_names : (n : ℕ) (t : Tree) (s : ℕ) → names_of (in_slot s (parts_of_pattern n t)) ≡ names_in pattern_names (operands_in n t s)
 slot_names n t s = ap names_of (in_slot_are n t s) ∙ names_map (operands_in n t s)
 
 pub slots_names : (n : ℕ) (t : Tree) → names_of (in_slots (parts_of_pattern n t)) ≡ names_in pattern_names (all_operands n t)
 slots_names n t = ap names_of (in_slots_are n t) ∙ names_map (all_operands n t)
-
--- the pattern in a slot that must be filled
-pub filled_steps : (n : ℕ) (t : Tree) → (pattern_or_missing n t (in_slot 1 (parts_of_pattern n t))).matched ≡ pattern_steps (filled_in n t 1)
-unfolding pattern_steps
-filled_steps n t = ap (λ ps. (pattern_or_missing n t ps).matched) (in_slot_are n t 1) ∙ by (operands_in n t 1)
-  where
-    by : (os : List Numbered) → (pattern_or_missing n t (map (operand_by pattern_rule) os)).matched ≡ pattern_steps (elim (first_of os) [ None ↦ missing_at_end n t | Some o ↦ o ])
-    by [] = refl
-    by (o ∷ os) = refl
 
 pub filled_names : (n : ℕ) (t : Tree) → (pattern_or_missing n t (in_slot 1 (parts_of_pattern n t))).names ≡ pattern_names (filled_in n t 1)
 unfolding pattern_names
@@ -77,11 +53,6 @@ sides_are n t = ap (sides_of (all_operands n t)) (in_slots_are n t) ∙ by (all_
     by [] = refl
     by (o ∷ os) = ap (λ ss. side_at o ∷ ss) (by os)
 
--- the fields of a record pattern
-pub fields_steps : (n : ℕ) (t : Tree) → each (λ p. p.field) (in_slot 1 (parts_of_pattern n t)) ≡ each field_pattern_steps (operands_in n t 1)
-unfolding field_pattern_steps
-fields_steps n t = ap (each (λ p. p.field)) (in_slot_are n t 1) ∙ each_map (λ p. p.field) (operand_by pattern_rule) (operands_in n t 1)
-
 pub fields_map : (os : List Numbered) → names_of_fields (map (operand_by pattern_rule) os) ≡ names_in field_pattern_names os
 unfolding field_pattern_names
 fields_map [] = refl
@@ -90,30 +61,13 @@ fields_map (o ∷ os) = ap (λ ts. (operand_by pattern_rule o).field_names ++ ts
 pub fields_names : (n : ℕ) (t : Tree) → names_of_fields (in_slot 1 (parts_of_pattern n t)) ≡ names_in field_pattern_names (operands_in n t 1)
 fields_names n t = ap names_of_fields (in_slot_are n t 1) ∙ fields_map (operands_in n t 1)
 
--- the patterns between brackets, once they are matched in order
-pub slot_follows : {A E : Type 0} (r : Result A E) (n : ℕ) (t : Tree) (s : ℕ) (os : List Numbered) (a b : Parts) → os ≡ operands_in n t s →
-    OnOk r (Follows (each pattern_steps os) a b) → OnOk r (Follows (match_each (in_slot s (parts_of_pattern n t))) a b)
-slot_follows r n t s os a b e p = same_follows r (each pattern_steps os) (match_each (in_slot s (parts_of_pattern n t))) a b (ap (each pattern_steps) e ∙ sym (slot_steps n t s)) p
-
 pub slot_binds : {A E : Type 0} (r : Result A E) (n : ℕ) (t : Tree) (s : ℕ) (os : List Numbered) (old new : List BoundName) → os ≡ operands_in n t s →
     OnOk r (Binds old new (names_in pattern_names os)) → OnOk r (Binds old new (names_of (in_slot s (parts_of_pattern n t))))
 slot_binds r n t s os old new e p = subst (λ x. OnOk r (Binds old new x)) (ap (names_in pattern_names) e ∙ sym (slot_names n t s)) p
 
--- all patterns of a row
-pub slots_follow : {A E : Type 0} (r : Result A E) (n : ℕ) (t : Tree) (os : List Numbered) (a b : Parts) → os ≡ all_operands n t →
-    OnOk r (Follows (each pattern_steps os) a b) → OnOk r (Follows (match_each (in_slots (parts_of_pattern n t))) a b)
-slots_follow r n t os a b e p = same_follows r (each pattern_steps os) (match_each (in_slots (parts_of_pattern n t))) a b (ap (each pattern_steps) e ∙ sym (slots_steps n t)) p
-
 pub slots_bind : {A E : Type 0} (r : Result A E) (n : ℕ) (t : Tree) (os : List Numbered) (old new : List BoundName) → os ≡ all_operands n t →
     OnOk r (Binds old new (names_in pattern_names os)) → OnOk r (Binds old new (names_of (in_slots (parts_of_pattern n t))))
 slots_bind r n t os old new e p = subst (λ x. OnOk r (Binds old new x)) (ap (names_in pattern_names) e ∙ sym (slots_names n t)) p
-
--- a head with its argument
-pub filled_follows : (n : ℕ) (t : Tree) (h o : Numbered) (a b : Parts) → h ≡ filled_in n t 0 → o ≡ filled_in n t 1 →
-    Follows (construction_steps h o (pattern_steps o)) a b → Follows (construction_steps (filled_in n t 0) (filled_in n t 1) (pattern_or_missing n t (in_slot 1 (parts_of_pattern n t))).matched) a b
-filled_follows n t h o a b first second p =
-    subst (λ ss. Follows (construction_steps (filled_in n t 0) (filled_in n t 1) ss) a b) (sym (filled_steps n t))
-    (subst (λ x. Follows (construction_steps x (filled_in n t 1) (pattern_steps (filled_in n t 1))) a b) first (subst (λ x. Follows (construction_steps h x (pattern_steps x)) a b) second p))
 
 pub filled_binds : (n : ℕ) (t : Tree) (o : Numbered) (old new : List BoundName) → o ≡ filled_in n t 1 →
     Binds old new (pattern_names o) → Binds old new ((pattern_or_missing n t (in_slot 1 (parts_of_pattern n t))).names)
@@ -122,15 +76,6 @@ filled_binds n t o old new e p = subst (λ x. Binds old new x) (ap pattern_names
 -- the sides of an or-pattern
 pub sides_come : (n : ℕ) (t : Tree) (os : List Numbered) → os ≡ all_operands n t → map side_at os ≡ sides_of (all_operands n t) (in_slots (parts_of_pattern n t))
 sides_come n t os e = ap (map side_at) e ∙ sym (sides_are n t)
-
--- the steps of a node are those of its row
-pub matched_row : (n : ℕ) (nd : Node) (r : Row) → row_of (out-Node nd).row ≡ r → matched_tree n (node_view nd) ≡ matched_as r n (node_view nd)
-unfolding matched_tree parts_of_pattern
-matched_row n nd r e = subst (λ q. matched_tree n (node_view nd) ≡ matched_as q n (node_view nd)) e
-    (subst (λ t. matched_tree n t ≡ matched_as (row_of (out-Node nd).row) n t) (sym (node_view_parts nd)) (by n (row_of (out-Node nd).row) _ _))
-  where
-    by : (n : ℕ) (r : Row) (x : Extent) (ps : Forest) → matched_tree n (node r x ps) ≡ matched_as r n (node r x ps)
-    by n r x ps = refl
 
 pub bound_row : (n : ℕ) (nd : Node) (r : Row) → row_of (out-Node nd).row ≡ r → names_of_tree n (node_view nd) ≡ bound_as r n (node_view nd)
 unfolding names_of_tree parts_of_pattern

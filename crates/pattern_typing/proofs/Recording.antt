@@ -1,15 +1,15 @@
 -- Record patterns by the calls of their functions.
 use Rattle.std.proofs.Common.{◌≡◌, ◌∙◌, ◌++◌, ℕ, ◌+◌, ◌<◌, zero, suc, arith, List, [], ◌∷◌, map, length, drop, Option, Some, None, option_map, refl, sym, ap, subst}
-use Rattle.std.specs.Prelude.{All, Result, Ok, Err, IfOk, OnOk}
+use Rattle.std.specs.Prelude.{All, Result, Ok, Err, OnOk}
 use Rattle.std.specs.declared.alloc.AllocError.{AllocError}
 use denote.Ref.{Bor}
 use Rattle.std.specs.List.{slice_index_or}
 use Rattle.std.proofs.lemmas.List.{map-append}
 use Rattle.std.proofs.lemmas.List.Elements.{All-head, All-tail}
 use Rattle.token_model.specs.Kinds.{Tok}
-use Rattle.tree_model.specs.Trees.{Part, Tree, inner, missing}
+use Rattle.tree_model.specs.Trees.{inner}
 use Rattle.signature_model.specs.Declarations.{Name}
-use Rattle.syntax_tree.specs.View.{node_view, place_of}
+use Rattle.syntax_tree.specs.View.{node_view}
 use Rattle.syntax_tree.specs.declared.tree.Node.{Node}
 use Rattle.syntax_tree.specs.declared.tree.Token.{Token}
 use Rattle.row_parts.specs.declared.slots.Operand.{Operand}
@@ -30,13 +30,13 @@ use Rattle.use_typing.specs.Labels.{label_if, toks_of}
 use Rattle.use_typing.specs.Records as of_code
 use Rattle.use_typing.specs.Records.{TypesRecordType, node_of}
 use Rattle.use_typing.specs.Uses.{GivenOrNew}
-use Rattle.use_typing.specs.UseSteps.{labels_of, path_at}
+use Rattle.use_typing.specs.Paths.{labels_of, path_at}
 use Rattle.pattern_rows.specs.Applied.{MatchesWanted}
 use Rattle.pattern_rows.specs.Bounds.{Bind}
 use Rattle.pattern_rows.specs.CarriedPatterns.{IsCarriedPattern}
 use Rattle.record_steps.specs.Recording.{AsksNothing}
 use Rattle.record_rows.specs.Fields.{BeginsField, FieldsInOrder, FieldsInOrderFirst, GivesType, Puns}
-use Rattle.record_rows.specs.Operands.{fields_of, labels_at, IsCarriedField, MatchesFieldBy, MatchesWritten, MatchesFieldPart, MatchesRecord, PunsWritten}
+use Rattle.record_rows.specs.Operands.{fields_of, IsCarriedField, MatchesFieldBy, MatchesWritten, MatchesFieldPart, MatchesRecord, PunsWritten}
 use Rattle.record_rows.proofs.Nodes.{known_record, unknown_record}
 use Rattle.record_rows.proofs.Operands.{operand_more}
 use Rattle.use_typing.proofs.Reading.{drop_read}

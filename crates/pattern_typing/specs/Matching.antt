@@ -11,7 +11,7 @@ use Rattle.env_table.specs.declared.entries.Entry.{Entry}
 use Rattle.typing_state.specs.declared.parts.Parts.{Parts}
 use Rattle.type_expressions.specs.Written.{AsksWritten}
 use Rattle.use_typing.specs.Labels.{toks_of}
-use Rattle.pattern_steps.specs.PatternSteps.{Side}
+use Rattle.pattern_names.specs.PatternNames.{Side}
 use Rattle.pattern_rows.specs.Bounds.{Bind}
 use Rattle.pattern_rows.specs.Sides as rules
 use Rattle.pattern_typing.specs.declared.patterns.BoundName.{BoundName}

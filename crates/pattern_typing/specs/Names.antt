@@ -2,7 +2,7 @@
 use Rattle.std.specs.Prelude.{List, Option, Some, None}
 use Rattle.token_model.specs.Kinds.{Tok}
 use Rattle.typing_state.specs.declared.parts.Parts.{Parts}
-use Rattle.typing_state.specs.Steps.{Silent}
+use Rattle.typing_state.specs.Goes.{Silent}
 use Rattle.use_typing.specs.Labels.{TellsTwice, is_named_in}
 
 -- a name is told where it stands among those before it, and else nothing is

@@ -1,23 +1,17 @@
 //! Patterns.
-#![tactic(auto, using(typing_state::proofs::Going::goes_trans, typing_state::proofs::Going::goes_refl, typing_state::proofs::Following::follows_both, typing_state::proofs::Following::follows_then, typing_state::proofs::Following::follows_before, typing_state::proofs::Following::follows_behind, typing_state::proofs::Following::follows_silent, typing_state::proofs::Following::store_silent, typing_state::proofs::Following::ends_both, typing_state::proofs::Following::ends_behind, typing_state::proofs::Following::ends_before, typing_state::proofs::Following::ends_silent, typing_state::proofs::Following::gets_start, typing_state::proofs::Following::gets_more, typing_state::proofs::Following::gets_before, typing_state::proofs::Following::gets_done, crate::proofs::Binding::binds_none, crate::proofs::Binding::binds_both, crate::proofs::Binding::binds_ends, crate::proofs::Binding::binds_one, crate::proofs::PatternLaws::slot_follows, crate::proofs::PatternLaws::slot_binds, crate::proofs::PatternLaws::slots_follow, crate::proofs::PatternLaws::slots_bind))]
+#![tactic(auto, using(typing_state::proofs::Going::goes_trans, typing_state::proofs::Going::goes_refl, typing_state::proofs::Silence::store_silent, crate::proofs::Binding::binds_none, crate::proofs::Binding::binds_both, crate::proofs::Binding::binds_ends, crate::proofs::Binding::binds_one, crate::proofs::PatternLaws::slot_binds, crate::proofs::PatternLaws::slots_bind))]
 
 ghost use Rattle.std.specs.Prelude.{◌≡◌, ℕ, [], ◌∷◌, ◌++◌, List, map, option_map, slice_get, take, drop, None, Some, All, IfOk, OnOk};
-ghost use Rattle.tree_model.specs.Rows.{pname_row, pany_row, pconst_row, pneg_row, pcon_row, pparen_row, plist_row, precord_row, papp_row, pcons_row, ptuple_row, por_row, pas_row};
+ghost use Rattle.tree_model.specs.Rows.{pname_row, pcon_row, pparen_row, plist_row, precord_row, papp_row, pcons_row, ptuple_row, por_row, pas_row};
 ghost use Rattle.syntax_tree.specs.View.{place_of, tok_of, node_view};
-ghost use Rattle.row_parts.specs.Numbered.{all_operands, first_in, first_of, in_slot, in_slots, operand_view, operands_in, path_in, path_view, token_in};
-ghost use Rattle.env_table.specs.declared.faults.FaultKind.{FaultKind};
-ghost use Rattle.typing_state.specs.Goes.{Goes};
-ghost use Rattle.typing_state.specs.Notes.{IsRecorded};
-ghost use Rattle.typing_state.specs.Steps.{asks, each, records, Follows, Silent};
-ghost use Rattle.type_expressions.specs.TypeSteps.{constructor_steps};
-ghost use Rattle.pattern_typing.specs.declared.patterns.BoundName.{BoundName};
+ghost use Rattle.row_parts.specs.Numbered.{all_operands, in_slot, in_slots, operand_view, operands_in, path_in, path_view, token_in};
+ghost use Rattle.typing_state.specs.Goes.{Goes, Silent};
 ghost use Rattle.use_typing.specs.Constants.{TellsRange, is_negated};
 ghost use Rattle.use_typing.specs.Labels.{toks_of};
 ghost use Rattle.use_typing.specs.Uses.{TellsUse};
 ghost use Rattle.pattern_typing.specs.Names.{TellsName, TellsNameIf};
-ghost use Rattle.type_expressions.specs.Written.{annotation_steps};
-ghost use Rattle.use_typing.specs.UseSteps.{asks_equal, asks_equal_if, asks_labels, labels_of, asks_token, lost_steps, path_at, range_steps};
-ghost use Rattle.pattern_steps.specs.PatternSteps.{beside, bound_as, common_names, constructed_steps, construction_steps, constructor_at, field_pattern_names, field_pattern_steps, find_name, last_of, later, match_each, matched_as, matched_tree, name_of, names_in, names_of, names_of_first, names_of_tree, parts_of_pattern, pattern_names, pattern_steps, side_at, sides_beside, sides_of};
+ghost use Rattle.use_typing.specs.Paths.{path_at};
+ghost use Rattle.pattern_names.specs.PatternNames.{bound_as, constructor_at, field_pattern_names, find_name, later, name_of, names_in, names_of, names_of_first, names_of_tree, parts_of_pattern, pattern_names, side_at, sides_of};
 ghost use Rattle.pattern_typing.specs.Matching.{AsksFirst, Binds, bind_of, binds_of, names_seen, nodes_of, parts_of_sides, side_of, side_view, tokens_of, typed_view};
 ghost use Rattle.row_parts.specs.Numbered.{Numbered};
 ghost use Rattle.type_nodes.specs.Views.{numbers};
@@ -35,6 +29,7 @@ ghost use Rattle.record_rows.specs.Fields.{BindsLabel, FieldsInOrder, Puns};
 ghost use Rattle.record_rows.specs.Operands.{IsCarriedField, MatchesFieldPart, MatchesRecord, MatchesWritten, PunsWritten, fields_of};
 ghost use Rattle.pattern_typing.specs.Records.{here_of};
 ghost use Rattle.pattern_rows.specs.Sides.{AsksBeside, AsksLater, AsksName, AsksNames, AsksSides, Side, find_bind, first_apart_here, name_apart_here};
+ghost use Rattle.typing_state.specs.Notes.{IsRecorded};
 
 use env_table::{Entry, Kind, What};
 use owned_lists::{owned, push};
@@ -105,7 +100,6 @@ fn is_new<'a>(at: &mut Parts, seen: &mut Mentioned<'a>, token: &'a Token) -> Res
     ensures fresh { OnOk result (AsksFresh at.old at.new (tok_of token.now) (names_seen seen.old.items)) }
     ensures tells { OnOk result (TellsName (toks_of seen.old.items) (tok_of token.now) at.old at.new) }
     ensures seen { OnOk result (toks_of seen.new.items ≡ toks_of seen.old.items ++ tok_of token.now ∷ []) }
-    ensures follows { OnOk result (Follows (asks FaultKind.Unique (place_of token.now.span ∷ []) ∷ []) at.old at.new) }
     ensures goes { Goes at.old at.new }
 {
     if is_again(seen, token)? {
@@ -123,9 +117,7 @@ pub fn type_pattern<'a>(
     depth: Depth,
 ) -> Result<Matched<'a>, NoMemory>
     ensures carries { IfOk result (λ m. IsCarriedPattern (operand_view p.entry) → Matches at.old at.new env.now (pattern_of at.old.item (operand_view p.entry)) [] (binds_of m.names.items) (names_seen seen.old.items) (names_seen seen.new.items) m.ty.0) }
-    ensures follows { OnOk result (Follows (pattern_steps (operand_view p.entry)) at.old at.new) }
     ensures names { IfOk result (λ m. Binds [] m.names.items (pattern_names (operand_view p.entry))) }
-    ensures recorded { OnOk result (IsRecorded at.new p.entry.number) }
     ensures goes { Goes at.old at.new }
 {
     let mut names = Vec::new(at.alloc());
@@ -144,9 +136,7 @@ fn match_pattern<'a>(
     depth: Depth,
 ) -> Result<NodeRef, NoMemory>
     ensures carries { IfOk result (λ m. MatchesOperand at.old at.new env.now (operand_view p.entry) (binds_of names.old.items) (binds_of names.new.items) (names_seen seen.old.items) (names_seen seen.new.items) m.0) }
-    ensures follows { OnOk result (Follows (pattern_steps (operand_view p.entry)) at.old at.new) }
     ensures names { OnOk result (Binds names.old.items names.new.items (pattern_names (operand_view p.entry))) }
-    ensures recorded { OnOk result (IsRecorded at.new p.entry.number) }
     ensures goes { Goes at.old at.new }
 {
     match p.node {
@@ -167,9 +157,7 @@ fn match_node<'a>(
     depth: Depth,
 ) -> Result<NodeRef, NoMemory>
     ensures carries { IfOk result (λ m. MatchesNode at.old at.new env.now number (node_view node.now) (binds_of names.old.items) (binds_of names.new.items) (names_seen seen.old.items) (names_seen seen.new.items) m.0) }
-    ensures follows { OnOk result (Follows (matched_tree number (node_view node.now)) at.old at.new) }
     ensures names { OnOk result (Binds names.old.items names.new.items (names_of_tree number (node_view node.now))) }
-    ensures recorded { OnOk result (IsRecorded at.new number) }
     ensures goes { Goes at.old at.new }
 {
     match node.row {
@@ -201,7 +189,6 @@ fn in_brackets<'a>(
     depth: Depth,
 ) -> Result<Vec<TypedPart<'a>>, NoMemory>
     ensures carries { IfOk result (λ ts. MatchesOperands at.old at.new env.now (operands_in number (node_view node.now) 1) (binds_of names.old.items) (binds_of names.new.items) (names_seen seen.old.items) (names_seen seen.new.items) (nodes_of ts.items)) }
-    ensures follows { OnOk result (Follows (match_each (in_slot 1 (parts_of_pattern number (node_view node.now)))) at.old at.new) }
     ensures names { OnOk result (Binds names.old.items names.new.items (names_of (in_slot 1 (parts_of_pattern number (node_view node.now))))) }
     ensures typed { IfOk result (λ ts. typed_view ts.items ≡ operands_in number (node_view node.now) 1) }
     ensures goes { Goes at.old at.new }
@@ -222,7 +209,6 @@ fn in_row<'a>(
     depth: Depth,
 ) -> Result<Vec<TypedPart<'a>>, NoMemory>
     ensures carries { IfOk result (λ ts. MatchesOperands at.old at.new env.now (all_operands number (node_view node.now)) (binds_of names.old.items) (binds_of names.new.items) (names_seen seen.old.items) (names_seen seen.new.items) (nodes_of ts.items)) }
-    ensures follows { OnOk result (Follows (match_each (in_slots (parts_of_pattern number (node_view node.now)))) at.old at.new) }
     ensures names { OnOk result (Binds names.old.items names.new.items (names_of (in_slots (parts_of_pattern number (node_view node.now))))) }
     ensures typed { IfOk result (λ ts. typed_view ts.items ≡ all_operands number (node_view node.now)) }
     ensures goes { Goes at.old at.new }
@@ -242,7 +228,6 @@ fn in_order<'a>(
     depth: Depth,
 ) -> Result<Vec<TypedPart<'a>>, NoMemory>
     ensures carries { IfOk result (λ ts. MatchesOperands at.old at.new env.now (map operand_view parts.now) (binds_of names.old.items) (binds_of names.new.items) (names_seen seen.old.items) (names_seen seen.new.items) (nodes_of ts.items)) }
-    ensures follows { OnOk result (Follows (each pattern_steps (map operand_view parts.now)) at.old at.new) }
     ensures names { OnOk result (Binds names.old.items names.new.items (names_in pattern_names (map operand_view parts.now))) }
     ensures typed { IfOk result (λ ts. typed_view ts.items ≡ map operand_view parts.now) }
     ensures goes { Goes at.old at.new }
@@ -265,8 +250,6 @@ fn number_row(
 ) -> Result<NodeRef, NoMemory>
     ensures carries { IfOk result (λ m. NotesRow at.old at.new env.now number (λ n. constant (is_negated sign) n (option_map (λ t. tok_of t.now) token.entry)) m) }
     ensures tells { OnOk result (TellsRange (option_map (λ t. tok_of t.now) token.entry) (is_negated sign) at.old at.new) }
-    ensures follows { OnOk result (Follows (range_steps (option_map (λ t. tok_of t.now) token.entry) ++ records number ∷ []) at.old at.new) }
-    ensures recorded { OnOk result (IsRecorded at.new number) }
     ensures goes { Goes at.old at.new }
 {
     let ty = constant(at, token, sign)?;
@@ -277,8 +260,6 @@ fn number_row(
 /// _, what is no pattern, and a missing one: any type
 fn anything(at: &mut Parts, number: u32, env: &Env) -> Result<NodeRef, NoMemory>
     ensures carries { IfOk result (λ m. NotesAny at.old at.new env.now number m) }
-    ensures follows { OnOk result (Follows (records number ∷ []) at.old at.new) }
-    ensures recorded { OnOk result (IsRecorded at.new number) }
     ensures goes { Goes at.old at.new }
 {
     let ty = at.var()?;
@@ -295,8 +276,6 @@ fn constant_constructor(
 ) -> Result<NodeRef, NoMemory>
     ensures carries { IfOk result (λ m. (names : List Bind) (seen : List Name) → MatchesNodeOf pcon_row at.old at.new env.now number (node_view node.now) names names seen seen m.0) }
     ensures tells { OnOk result (TellsUse (path_in (node_view node.now) 0 1) 0 at.old at.new env.now) }
-    ensures follows { OnOk result (Follows (constructor_steps (path_in (node_view node.now) 0 1) ++ records number ∷ []) at.old at.new) }
-    ensures recorded { OnOk result (IsRecorded at.new number) }
     ensures goes { Goes at.old at.new }
 {
     let path = written_path(at.alloc(), node, 0, 1)?;
@@ -317,9 +296,7 @@ fn name<'a>(
     ensures carries { IfOk result (λ m. MatchesNodeOf pname_row at.old at.new env.now number (node_view node.now) (binds_of names.old.items) (binds_of names.new.items) (names_seen seen.old.items) (names_seen seen.new.items) m.0) }
     ensures tells { OnOk result (TellsNameIf (toks_of seen.old.items) (token_in (node_view node.now) 0) at.old at.new) }
     ensures seen { OnOk result (toks_of seen.new.items ≡ toks_of seen.old.items ++ name_of (token_in (node_view node.now) 0)) }
-    ensures follows { OnOk result (Follows (asks_token FaultKind.Unique (token_in (node_view node.now) 0) ++ records number ∷ []) at.old at.new) }
     ensures names { OnOk result (Binds names.old.items names.new.items (name_of (token_in (node_view node.now) 0))) }
-    ensures recorded { OnOk result (IsRecorded at.new number) }
     ensures goes { Goes at.old at.new }
 {
     let ty = at.var()?;
@@ -340,9 +317,7 @@ fn bind_if<'a>(
     ensures binds { OnOk result (BindsNameIf (option_map (λ t. tok_of t.now) token.entry) at.old at.new env.now number ty (binds_of names.old.items) (binds_of names.new.items) (names_seen seen.old.items) (names_seen seen.new.items)) }
     ensures tells { OnOk result (TellsNameIf (toks_of seen.old.items) (option_map (λ t. tok_of t.now) token.entry) at.old at.new) }
     ensures seen { OnOk result (toks_of seen.new.items ≡ toks_of seen.old.items ++ name_of (option_map (λ t. tok_of t.now) token.entry)) }
-    ensures follows { OnOk result (Follows (asks_token FaultKind.Unique (option_map (λ t. tok_of t.now) token.entry) ++ records number ∷ []) at.old at.new) }
     ensures names { OnOk result (Binds names.old.items names.new.items (name_of (option_map (λ t. tok_of t.now) token.entry))) }
-    ensures recorded { OnOk result (IsRecorded at.new number) }
     ensures goes { Goes at.old at.new }
 {
     match token {
@@ -364,9 +339,7 @@ fn bind<'a>(
     ensures binds { OnOk result (BindsName at.old at.new number (tok_of token.now) ty (binds_of names.old.items) (binds_of names.new.items) (names_seen seen.old.items) (names_seen seen.new.items)) }
     ensures tells { OnOk result (TellsName (toks_of seen.old.items) (tok_of token.now) at.old at.new) }
     ensures seen { OnOk result (toks_of seen.new.items ≡ toks_of seen.old.items ++ tok_of token.now ∷ []) }
-    ensures follows { OnOk result (Follows (asks FaultKind.Unique (place_of token.now.span ∷ []) ∷ records number ∷ []) at.old at.new) }
     ensures names { OnOk result (Binds names.old.items names.new.items (tok_of token.now ∷ [])) }
-    ensures recorded { OnOk result (IsRecorded at.new number) }
     ensures goes { Goes at.old at.new }
 {
     is_new(at, seen, token)?;
@@ -388,9 +361,7 @@ fn named<'a>(
     depth: Depth,
 ) -> Result<NodeRef, NoMemory>
     ensures carries { IfOk result (λ m. MatchesNodeOf pas_row at.old at.new env.now number (node_view node.now) (binds_of names.old.items) (binds_of names.new.items) (names_seen seen.old.items) (names_seen seen.new.items) m.0) }
-    ensures follows { OnOk result (Follows (matched_as pas_row number (node_view node.now)) at.old at.new) }
     ensures names { OnOk result (Binds names.old.items names.new.items (bound_as pas_row number (node_view node.now))) }
-    ensures recorded { OnOk result (IsRecorded at.new number) }
     ensures goes { Goes at.old at.new }
 {
     let typed = in_row(at, node, number, env, names, seen, depth)?;
@@ -423,9 +394,7 @@ fn parenthesised<'a>(
     depth: Depth,
 ) -> Result<NodeRef, NoMemory>
     ensures carries { IfOk result (λ m. MatchesNodeOf pparen_row at.old at.new env.now number (node_view node.now) (binds_of names.old.items) (binds_of names.new.items) (names_seen seen.old.items) (names_seen seen.new.items) m.0) }
-    ensures follows { OnOk result (Follows (matched_as pparen_row number (node_view node.now)) at.old at.new) }
     ensures names { OnOk result (Binds names.old.items names.new.items (bound_as pparen_row number (node_view node.now))) }
-    ensures recorded { OnOk result (IsRecorded at.new number) }
     ensures goes { Goes at.old at.new }
 {
     let typed = in_brackets(at, node, number, env, names, seen, depth)?;
@@ -444,7 +413,6 @@ fn annotated(
 ) -> Result<NodeRef, NoMemory>
     ensures first { IfOk result (λ m. written.entry ≡ None → (o : Numbered) (os : List Numbered) → typed_view typed.now ≡ o ∷ os → (slice_get (nodes_of typed.now) 0 ≡ Some m.0) × (at.new ≡ at.old)) }
     ensures carries { IfOk result (λ m. (o : Numbered) (os : List Numbered) → typed_view typed.now ≡ o ∷ os → AsksFirst at.old at.new env.now (option_map operand_view written.entry) o.at (nodes_of typed.now) m.0) }
-    ensures follows { OnOk result (Follows (annotation_steps (first_of (typed_view typed.now)) (option_map operand_view written.entry)) at.old at.new) }
     ensures goes { Goes at.old at.new }
 {
     match typed.split_first() {
@@ -465,9 +433,7 @@ fn list<'a>(
     depth: Depth,
 ) -> Result<NodeRef, NoMemory>
     ensures carries { IfOk result (λ m. MatchesNodeOf plist_row at.old at.new env.now number (node_view node.now) (binds_of names.old.items) (binds_of names.new.items) (names_seen seen.old.items) (names_seen seen.new.items) m.0) }
-    ensures follows { OnOk result (Follows (matched_as plist_row number (node_view node.now)) at.old at.new) }
     ensures names { OnOk result (Binds names.old.items names.new.items (bound_as plist_row number (node_view node.now))) }
-    ensures recorded { OnOk result (IsRecorded at.new number) }
     ensures goes { Goes at.old at.new }
 {
     let typed = in_brackets(at, node, number, env, names, seen, depth)?;
@@ -479,7 +445,6 @@ fn list<'a>(
 /// The list of some parts, which all have the type of the first.
 fn list_of(at: &mut Parts, typed: &[TypedPart<'_>], env: &Env) -> Result<NodeRef, NoMemory>
     ensures carries { IfOk result (λ m. EndsPatterns at.old at.new env.now (list_asks (patterns_of at.old.item (typed_view typed.now))) (patterns_of at.old.item (typed_view typed.now)) (nodes_of typed.now) m.0) }
-    ensures follows { OnOk result (Follows (each asks_equal (later (typed_view typed.now))) at.old at.new) }
     ensures goes { Goes at.old at.new }
 {
     match typed.split_first() {
@@ -502,7 +467,6 @@ fn all_equal(
     env: &Env,
 ) -> Result<(), NoMemory>
     ensures carries { OnOk result (AsksEach at.old at.new env.now (patterns_of at.old.item (typed_view typed.now)) (nodes_of typed.now) wanted.0) }
-    ensures follows { OnOk result (Follows (each asks_equal (typed_view typed.now)) at.old at.new) }
     ensures goes { Goes at.old at.new }
 {
     for one in typed {
@@ -523,9 +487,7 @@ fn cons<'a>(
     depth: Depth,
 ) -> Result<NodeRef, NoMemory>
     ensures carries { IfOk result (λ m. MatchesNodeOf pcons_row at.old at.new env.now number (node_view node.now) (binds_of names.old.items) (binds_of names.new.items) (names_seen seen.old.items) (names_seen seen.new.items) m.0) }
-    ensures follows { OnOk result (Follows (matched_as pcons_row number (node_view node.now)) at.old at.new) }
     ensures names { OnOk result (Binds names.old.items names.new.items (bound_as pcons_row number (node_view node.now))) }
-    ensures recorded { OnOk result (IsRecorded at.new number) }
     ensures goes { Goes at.old at.new }
 {
     let typed = in_row(at, node, number, env, names, seen, depth)?;
@@ -537,7 +499,6 @@ fn cons<'a>(
 /// The list of two parts.
 fn cons_of(at: &mut Parts, typed: &[TypedPart<'_>], env: &Env) -> Result<NodeRef, NoMemory>
     ensures carries { IfOk result (λ m. (o p : Numbered) → typed_view typed.now ≡ o ∷ p ∷ [] → EndsPatterns at.old at.new env.now (cons_asks (pattern_of at.old.item o) (pattern_of at.old.item p)) (pattern_of at.old.item o ∷ pattern_of at.old.item p ∷ []) (nodes_of typed.now) m.0) }
-    ensures follows { OnOk result (Follows (asks_equal_if (last_of (typed_view typed.now))) at.old at.new) }
     ensures goes { Goes at.old at.new }
 {
     let [left, right] = typed else {
@@ -560,9 +521,7 @@ fn tuple<'a>(
     depth: Depth,
 ) -> Result<NodeRef, NoMemory>
     ensures carries { IfOk result (λ m. MatchesNodeOf ptuple_row at.old at.new env.now number (node_view node.now) (binds_of names.old.items) (binds_of names.new.items) (names_seen seen.old.items) (names_seen seen.new.items) m.0) }
-    ensures follows { OnOk result (Follows (matched_as ptuple_row number (node_view node.now)) at.old at.new) }
     ensures names { OnOk result (Binds names.old.items names.new.items (bound_as ptuple_row number (node_view node.now))) }
-    ensures recorded { OnOk result (IsRecorded at.new number) }
     ensures goes { Goes at.old at.new }
 {
     let typed = in_row(at, node, number, env, names, seen, depth)?;
@@ -594,9 +553,7 @@ fn applied<'a>(
     depth: Depth,
 ) -> Result<NodeRef, NoMemory>
     ensures carries { IfOk result (λ m. MatchesNodeOf papp_row at.old at.new env.now number (node_view node.now) (binds_of names.old.items) (binds_of names.new.items) (names_seen seen.old.items) (names_seen seen.new.items) m.0) }
-    ensures follows { OnOk result (Follows (matched_as papp_row number (node_view node.now)) at.old at.new) }
     ensures names { OnOk result (Binds names.old.items names.new.items (bound_as papp_row number (node_view node.now))) }
-    ensures recorded { OnOk result (IsRecorded at.new number) }
     ensures goes { Goes at.old at.new }
 {
     let head = operand_in(node, number, 0);
@@ -619,7 +576,6 @@ fn construction<'a>(
     depth: Depth,
 ) -> Result<NodeRef, NoMemory>
     ensures carries { IfOk result (λ m. IsCarriedPattern (operand_view argument.entry) → MatchesApplied at.old at.new env.now (pattern_of at.old.item (operand_view head.entry)) (pattern_of at.old.item (operand_view argument.entry)) (binds_of names.old.items) (binds_of names.new.items) (names_seen seen.old.items) (names_seen seen.new.items) m.0) }
-    ensures follows { OnOk result (Follows (construction_steps (operand_view head.entry) (operand_view argument.entry) (pattern_steps (operand_view argument.entry))) at.old at.new) }
     ensures names { OnOk result (Binds names.old.items names.new.items (pattern_names (operand_view argument.entry))) }
     ensures goes { Goes at.old at.new }
 {
@@ -645,7 +601,6 @@ fn with_argument<'a>(
     depth: Depth,
 ) -> Result<NodeRef, NoMemory>
     ensures carries { IfOk result (λ m. IsCarriedPattern (operand_view argument.entry) → AppliesConstructor at.old at.new env.now (number_of at.old.item number) (path_as (path_view path.now)) (pattern_of at.old.item (operand_view argument.entry)) (binds_of names.old.items) (binds_of names.new.items) (names_seen seen.old.items) (names_seen seen.new.items) m.0) }
-    ensures follows { OnOk result (Follows (constructed_steps number (path_view path.now) (operand_view argument.entry) (pattern_steps (operand_view argument.entry))) at.old at.new) }
     ensures names { OnOk result (Binds names.old.items names.new.items (pattern_names (operand_view argument.entry))) }
     ensures goes { Goes at.old at.new }
 {
@@ -675,7 +630,6 @@ fn match_wanted<'a>(
     depth: Depth,
 ) -> Result<(), NoMemory>
     ensures carries { OnOk result (IsCarriedPattern (operand_view p.entry) → MatchesWanted at.old at.new env.now (pattern_of at.old.item (operand_view p.entry)) (binds_of names.old.items) (binds_of names.new.items) (names_seen seen.old.items) (names_seen seen.new.items) (option_map (λ w. w.0) wanted)) }
-    ensures follows { OnOk result (Follows (pattern_steps (operand_view p.entry) ++ asks_equal (operand_view p.entry)) at.old at.new) }
     ensures names { OnOk result (Binds names.old.items names.new.items (pattern_names (operand_view p.entry))) }
     ensures goes { Goes at.old at.new }
 {
@@ -709,9 +663,7 @@ fn alternatives<'a>(
     depth: Depth,
 ) -> Result<NodeRef, NoMemory>
     ensures carries { IfOk result (λ m. MatchesNodeOf por_row at.old at.new env.now number (node_view node.now) (binds_of names.old.items) (binds_of names.new.items) (names_seen seen.old.items) (names_seen seen.new.items) m.0) }
-    ensures follows { OnOk result (Follows (matched_as por_row number (node_view node.now)) at.old at.new) }
     ensures names { OnOk result (Binds names.old.items names.new.items (bound_as por_row number (node_view node.now))) }
-    ensures recorded { OnOk result (IsRecorded at.new number) }
     ensures goes { Goes at.old at.new }
 {
     let sides = sides_in(at, node, number, env, seen, depth)?;
@@ -733,7 +685,6 @@ fn sides_in<'a>(
 ) -> Result<Vec<SideMatch<'a>>, NoMemory>
     ensures carries { IfOk result (λ ss. MatchesBeside at.old at.new env.now (all_operands number (node_view node.now)) (names_seen seen.old.items) (names_seen seen.new.items) (map side_of ss.items)) }
     ensures parts { IfOk result (λ ss. parts_of_sides ss.items ≡ all_operands number (node_view node.now)) }
-    ensures follows { OnOk result (Follows (match_each (in_slots (parts_of_pattern number (node_view node.now)))) at.old at.new) }
     ensures sides { IfOk result (λ ss. map side_view ss.items ≡ sides_of (all_operands number (node_view node.now)) (in_slots (parts_of_pattern number (node_view node.now)))) }
     ensures goes { Goes at.old at.new }
 {
@@ -752,7 +703,6 @@ fn match_sides<'a>(
 ) -> Result<Vec<SideMatch<'a>>, NoMemory>
     ensures carries { IfOk result (λ ss. MatchesBeside at.old at.new env.now (map operand_view parts.now) (names_seen seen.old.items) (names_seen seen.new.items) (map side_of ss.items)) }
     ensures parts { IfOk result (λ ss. parts_of_sides ss.items ≡ map operand_view parts.now) }
-    ensures follows { OnOk result (Follows (each pattern_steps (map operand_view parts.now)) at.old at.new) }
     ensures sides { IfOk result (λ ss. map side_view ss.items ≡ map side_at (map operand_view parts.now)) }
     ensures goes { Goes at.old at.new }
 {
@@ -779,7 +729,6 @@ fn match_side<'a>(
 ) -> Result<SideMatch<'a>, NoMemory>
     ensures carries { IfOk result (λ s. MatchesOperand at.old at.new env.now (operand_view part.entry) [] (binds_of s.names.items) (names_seen seen.old.items) (names_seen seen.new.items) s.ty.0) }
     ensures part { IfOk result (λ s. s.part ≡ part.entry) }
-    ensures follows { OnOk result (Follows (pattern_steps (operand_view part.entry)) at.old at.new) }
     ensures side { IfOk result (λ s. side_view s ≡ side_at (operand_view part.entry)) }
     ensures goes { Goes at.old at.new }
 {
@@ -837,7 +786,6 @@ fn keep_apart<'a>(
 /// The demands of each later side beside the first.
 fn compare_sides(at: &mut Parts, sides: &[SideMatch<'_>], env: &Env) -> Result<(), NoMemory>
     ensures carries { OnOk result ((i : ℕ) (x : Side) (xs : List Side) (o : Numbered) (os : List Numbered) → map side_of sides.now ≡ x ∷ xs → parts_of_sides sides.now ≡ o ∷ os → AsksLater at.old at.new x xs (patterns_of i os)) }
-    ensures follows { OnOk result (Follows (sides_beside (map side_view sides.now)) at.old at.new) }
     ensures goes { Goes at.old at.new }
 {
     match sides.split_first() {
@@ -854,7 +802,6 @@ fn compare_later(
     env: &Env,
 ) -> Result<(), NoMemory>
     ensures carries { OnOk result ((i : ℕ) → AsksLater at.old at.new (side_of first.now) (map side_of sides.now) (patterns_of i (parts_of_sides sides.now))) }
-    ensures follows { OnOk result (Follows (each (beside (side_view first.now)) (map side_view sides.now)) at.old at.new) }
     ensures goes { Goes at.old at.new }
 {
     for side in sides {
@@ -871,7 +818,6 @@ fn compare_side(
     env: &Env,
 ) -> Result<(), NoMemory>
     ensures carries { OnOk result (AsksBeside at.old at.new (side_of first.now) (side_of side.now) (place_of side.now.part.span)) }
-    ensures follows { OnOk result (Follows (beside (side_view first.now) (side_view side.now)) at.old at.new) }
     ensures goes { Goes at.old at.new }
 {
     ask_sides(at, first, side)?;
@@ -883,7 +829,6 @@ fn compare_side(
 /// The demand that no name stands on one of two sides alone.
 fn ask_sides(at: &mut Parts, first: &SideMatch<'_>, side: &SideMatch<'_>) -> Result<(), NoMemory>
     ensures carries { OnOk result (AsksSides at.old at.new (place_of side.now.part.span) (binds_of first.now.names.items) (binds_of side.now.names.items)) }
-    ensures follows { OnOk result (Follows (asks FaultKind.Sides (place_of side.now.part.span ∷ []) ∷ []) at.old at.new) }
     ensures goes { Goes at.old at.new }
 {
     match name_apart(&first.names, &side.names) {
@@ -934,7 +879,6 @@ fn compare_names(
     env: &Env,
 ) -> Result<(), NoMemory>
     ensures carries { OnOk result (AsksNames at.old at.new (binds_of first.now) (binds_of later.now)) }
-    ensures follows { OnOk result (Follows (common_names (tokens_of first.now) (tokens_of later.now)) at.old at.new) }
     ensures goes { Goes at.old at.new }
 {
     for name in first {
@@ -951,7 +895,6 @@ fn compare_name(
     env: &Env,
 ) -> Result<(), NoMemory>
     ensures carries { OnOk result (AsksName at.old at.new (bind_of name.now) (binds_of later.now)) }
-    ensures follows { OnOk result (Follows (asks_token FaultKind.Equal (find_name (tok_of name.now.token.now).name (tokens_of later.now))) at.old at.new) }
     ensures goes { Goes at.old at.new }
 {
     if let Some(other) = find(name.token, later) {
@@ -972,9 +915,7 @@ fn record<'a>(
     depth: Depth,
 ) -> Result<NodeRef, NoMemory>
     ensures carries { IfOk result (λ m. MatchesNodeOf precord_row at.old at.new env.now number (node_view node.now) (binds_of names.old.items) (binds_of names.new.items) (names_seen seen.old.items) (names_seen seen.new.items) m.0) }
-    ensures follows { OnOk result (Follows (matched_as precord_row number (node_view node.now)) at.old at.new) }
     ensures names { OnOk result (Binds names.old.items names.new.items (bound_as precord_row number (node_view node.now))) }
-    ensures recorded { OnOk result (IsRecorded at.new number) }
     ensures goes { Goes at.old at.new }
 {
     let fields = operands(at.alloc(), node, number, 1)?;
@@ -994,7 +935,6 @@ fn match_record<'a>(
     depth: Depth,
 ) -> Result<NodeRef, NoMemory>
     ensures carries { IfOk result (λ m. All IsCarriedField (map operand_view fields.now) → MatchesRecord at.old at.new env.now (fields_of at.old.item (map operand_view fields.now)) (binds_of names.old.items) (binds_of names.new.items) (names_seen seen.old.items) (names_seen seen.new.items) m.0) }
-    ensures follows { OnOk result (Follows (each lost_steps (map operand_view fields.now) ++ asks_labels (labels_of (map operand_view fields.now)) ++ each field_pattern_steps (map operand_view fields.now)) at.old at.new) }
     ensures names { OnOk result (Binds names.old.items names.new.items (names_in field_pattern_names (map operand_view fields.now))) }
     ensures goes { Goes at.old at.new }
 {
@@ -1017,7 +957,6 @@ fn match_fields<'a>(
     depth: Depth,
 ) -> Result<(), NoMemory>
     ensures carries { OnOk result (All IsCarriedField (map operand_view fields.now) → FieldsInOrder at.old at.new env.now (here_of found) (fields_of at.old.item (map operand_view fields.now)) (binds_of names.old.items) (binds_of names.new.items) (names_seen seen.old.items) (names_seen seen.new.items)) }
-    ensures follows { OnOk result (Follows (each field_pattern_steps (map operand_view fields.now)) at.old at.new) }
     ensures names { OnOk result (Binds names.old.items names.new.items (names_in field_pattern_names (map operand_view fields.now))) }
     ensures goes { Goes at.old at.new }
 {
@@ -1044,7 +983,6 @@ fn match_field<'a>(
 ) -> Result<(), NoMemory>
     ensures carries { OnOk result (MatchesFieldPart at.old at.new env.now (here_of begun.old.found) field.entry.number (operand_view field.entry).part (binds_of names.old.items) (binds_of names.new.items) (names_seen seen.old.items) (names_seen seen.new.items) (names_seen begun.old.labels.items) (names_seen begun.new.labels.items)) }
     ensures found { OnOk result (here_of begun.new.found ≡ here_of begun.old.found) }
-    ensures follows { OnOk result (Follows (field_pattern_steps (operand_view field.entry)) at.old at.new) }
     ensures names { OnOk result (Binds names.old.items names.new.items (field_pattern_names (operand_view field.entry))) }
     ensures goes { Goes at.old at.new }
 {
@@ -1071,7 +1009,6 @@ fn match_written<'a>(
 ) -> Result<(), NoMemory>
     ensures carries { OnOk result (MatchesWritten at.old at.new env.now (here_of begun.old.found) (path_as (path_at (operand_view field.entry).part)) (operand_view part.entry) (binds_of names.old.items) (binds_of names.new.items) (names_seen seen.old.items) (names_seen seen.new.items) (names_seen begun.old.labels.items) (names_seen begun.new.labels.items)) }
     ensures found { OnOk result (here_of begun.new.found ≡ here_of begun.old.found) }
-    ensures follows { OnOk result (Follows (asks_token FaultKind.Unique (path_at (operand_view field.entry).part).last ++ records field.entry.number ∷ pattern_steps (operand_view part.entry) ++ asks_equal (operand_view part.entry)) at.old at.new) }
     ensures names { OnOk result (Binds names.old.items names.new.items (pattern_names (operand_view part.entry))) }
     ensures goes { Goes at.old at.new }
 {
@@ -1092,7 +1029,6 @@ fn pun<'a>(
 ) -> Result<(), NoMemory>
     ensures carries { OnOk result (PunsWritten at.old at.new (here_of begun.old.found) (path_as (path_at (operand_view field.entry).part)) (binds_of names.old.items) (binds_of names.new.items) (names_seen seen.old.items) (names_seen seen.new.items) (names_seen begun.old.labels.items) (names_seen begun.new.labels.items)) }
     ensures found { OnOk result (here_of begun.new.found ≡ here_of begun.old.found) }
-    ensures follows { OnOk result (Follows (asks_token FaultKind.Unique (path_at (operand_view field.entry).part).last ++ asks_token FaultKind.Unique (path_at (operand_view field.entry).part).last ++ records field.entry.number ∷ []) at.old at.new) }
     ensures names { OnOk result (Binds names.old.items names.new.items (name_of (path_at (operand_view field.entry).part).last)) }
     ensures goes { Goes at.old at.new }
 {
@@ -1122,7 +1058,6 @@ fn pun_of<'a>(
     seen: &mut Mentioned<'a>,
 ) -> Result<(), NoMemory>
     ensures puns { OnOk result (Puns (path_view label.now).last at.old at.new (option_map (λ n. n.0) wanted) (binds_of names.old.items) (binds_of names.new.items) (names_seen seen.old.items) (names_seen seen.new.items)) }
-    ensures follows { OnOk result (Follows (asks_token FaultKind.Unique (path_view label.now).last ++ records number ∷ []) at.old at.new) }
     ensures names { OnOk result (Binds names.old.items names.new.items (name_of (path_view label.now).last)) }
     ensures goes { Goes at.old at.new }
 {
@@ -1149,8 +1084,8 @@ fn bind_label<'a>(
     ensures binds { OnOk result (BindsLabel at.old at.new (tok_of token.now) ty (binds_of names.old.items) (binds_of names.new.items) (names_seen seen.old.items) (names_seen seen.new.items)) }
     ensures tells { OnOk result (TellsName (toks_of seen.old.items) (tok_of token.now) at.old at.new) }
     ensures seen { OnOk result (toks_of seen.new.items ≡ toks_of seen.old.items ++ tok_of token.now ∷ []) }
-    ensures follows { OnOk result (Follows (asks FaultKind.Unique (place_of token.now.span ∷ []) ∷ records number ∷ []) at.old at.new) }
     ensures names { OnOk result (Binds names.old.items names.new.items (tok_of token.now ∷ [])) }
+    ensures recorded { OnOk result (IsRecorded at.new number) }
     ensures goes { Goes at.old at.new }
 {
     is_new(at, seen, token)?;

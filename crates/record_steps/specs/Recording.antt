@@ -27,7 +27,7 @@ use Rattle.typing_state.specs.declared.messages.Word.TheVariants as word
 use Rattle.typing_state.specs.Bound.{lost_among, TellsLost}
 use Rattle.typing_state.specs.Goes.{faults_of, Goes, OnlyStore}
 use Rattle.typing_state.specs.Messages.{twice_text}
-use Rattle.typing_state.specs.Steps.{place_of_tok}
+use Rattle.typing_state.specs.Places.{place_of_tok}
 use Rattle.typing_state.specs.Types.{level_for, JoinedIfNodes}
 use Rattle.typing_conditions.specs.Sights.{Sight, Letters, AreNodes}
 use Rattle.typing_conditions.specs.Frames.{Frame, IsRoot}

@@ -33,7 +33,7 @@ use Rattle.typing_conditions.proofs.Carried.{carried_trans, carried_as}
 use Rattle.typing_conditions.specs.Sights.{own}
 use Rattle.typing_conditions.proofs.Meaning.{means_on}
 use Rattle.typing_conditions.proofs.Surrounding.{surrounds_on}
-use Rattle.typing_steps.specs.States.{is_aloud, sight}
+use Rattle.typing_steps.specs.States.{is_aloud}
 use Rattle.typing_steps.specs.Typing.{AsksEqual}
 use Rattle.typing_steps.proofs.Still.{plain_noted}
 use Rattle.operand_laws.specs.Formed.{row_of, IsPartFormed, IsFormed}
@@ -41,7 +41,7 @@ use Rattle.operand_laws.specs.Operands.{number_of, type_of}
 use Rattle.operand_laws.proofs.Standing.{type_of_stands}
 use Rattle.type_rows.specs.Contracts.{ReadsTo, ReadsAll, ReadsFirst, EndsRead}
 use Rattle.type_rows.specs.Rows.{row_type, types_read, front_nodes, front_asks, end_asks}
-use Rattle.type_rows.specs.Operands.{IsPartPlaced, IsTypeOperand, part_asks, ReadsOperand, ReadsPart, ReadsOperands, ReadsGiven, ReadsFront, EndsRow, ReadsVariable, EndsParentheses, MakesArrowOver, Annotates}
+use Rattle.type_rows.specs.Operands.{IsTypeOperand, part_asks, ReadsOperand, ReadsPart, ReadsOperands, ReadsGiven, ReadsFront, EndsRow, ReadsVariable, EndsParentheses, MakesArrowOver, Annotates}
 use Rattle.type_rows.proofs.Reading.{unresolved_reads, noted_reads, row_reads, reads_as}
 use Rattle.type_rows.proofs.Ordered.{one_read, alone_read}
 use Rattle.type_rows.proofs.Composed.{ends_empty, ends_single, ends_several}
@@ -50,7 +50,7 @@ use Rattle.type_rows.proofs.Ended.{view_row}
 use Rattle.type_rows.proofs.Placed.{slot_operands, row_operands, filled_operand}
 use Rattle.type_rows.proofs.Given.{IsAlone, node_alone, few_alone, alone_given, several_given}
 use Rattle.type_expressions.proofs.Answering.{many_numbers}
-use Rattle.type_expressions.specs.TypeSteps.{parts_by_row, parts_read, several, several_in_part, several_in_row, at_least_two}
+use Rattle.type_expressions.specs.Operands.{parts_by_row, parts_read, several, several_in_part, several_in_row, at_least_two}
 
 -- what a part asks is what it asks as an operand
 part_read : (i n : ℕ) (at : Place) (p : Part) (c : Context) → IsPartFormed n p → tell (number_of i n) c ++ part_asks i n at p c ≡ (type_of i (numbered n at p)).read c

@@ -1,6 +1,4 @@
--- The laws of the steps of type expressions.
-pub mod TypeLaws
-pub mod RowSteps
+-- The laws of type expressions.
 pub mod Carrying
 pub mod Filled
 pub mod Answering

@@ -1,4 +1,4 @@
--- The steps of type expressions, and of what has a written type.
-pub mod TypeSteps
+-- The parts of type expressions, and what has a written type.
+pub mod Operands
 pub mod Written
 pub mod Items

@@ -1,30 +1,21 @@
 -- Types that are written behind patterns and expressions.
-use Rattle.std.specs.Prelude.{◌≡◌, ℕ, List, [], ◌∷◌, ◌++◌, Option, Some, None}
+use Rattle.std.specs.Prelude.{◌≡◌, ℕ, List, Option, Some, None}
 use Rattle.text_terms.specs.declared.Span.{Span}
 use Rattle.type_terms.specs.declared.types.NodeRef.{NodeRef}
 use Rattle.row_parts.specs.Numbered.{Numbered}
 use Rattle.env_table.specs.declared.entries.Entry.{Entry}
-use Rattle.env_table.specs.declared.faults.FaultKind.TheVariants as fault
 use Rattle.typing_state.specs.declared.parts.Parts.{Parts}
 use Rattle.typing_state.specs.declared.demands.Verdict.{Verdict}
 use Rattle.typing_state.specs.Demands.{EqualIs}
 use Rattle.typing_state.specs.Goes.{Goes}
-use Rattle.typing_state.specs.Steps.{Steps, Follows, asks}
 use Rattle.tree_model.specs.Trees.{Place}
 use Rattle.operand_laws.specs.Operands.{type_of}
 use Rattle.type_rows.specs.Operands.{IsTypeOperand, Annotates}
-use Rattle.type_expressions.specs.TypeSteps.{type_steps}
-
--- a written type behind a pattern in parentheses, which has it
-abbrev pub annotation_steps : Option Numbered → Option Numbered → Steps
-annotation_steps None t = []
-annotation_steps (Some p) None = []
-annotation_steps (Some p) (Some t) = type_steps t ++ asks fault.Equal (p.at ∷ []) ∷ []
 
 -- the type that is written behind a part, which is read and which the part has; without one the part's own
 abbrev pub IsAsWritten : Option Numbered → Span → NodeRef → (old new : Parts) → List Entry → NodeRef → Type 0
 IsAsWritten None at ty old new env n = (n ≡ ty) × (new ≡ old)
-IsAsWritten (Some t) at ty old new env n = (read : Parts) × Goes old read × Follows (type_steps t) old read × (v : Verdict) × EqualIs v read new at ty n env
+IsAsWritten (Some t) at ty old new env n = (read : Parts) × Goes old read × (v : Verdict) × EqualIs v read new at ty n env
 
 -- what is carried of a part that may have a type written behind it
 abbrev pub AsksWritten : (a b : Parts) → List Entry → Option Numbered → Place → (found m : ℕ) → Type 0

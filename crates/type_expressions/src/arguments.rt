@@ -1,5 +1,5 @@
 //! A declaration over arguments.
-#![tactic(auto, using(typing_state::proofs::Going::goes_trans, typing_state::proofs::Going::goes_refl, typing_state::proofs::Following::follows_both, typing_state::proofs::Following::follows_before, typing_state::proofs::Following::follows_behind, typing_state::proofs::Following::follows_silent, typing_state::proofs::Following::store_silent, typing_state::proofs::Following::ends_both, typing_state::proofs::Following::ends_behind, typing_state::proofs::Following::ends_before, typing_state::proofs::Following::ends_silent, typing_state::proofs::Following::gets_start, typing_state::proofs::Following::gets_more, typing_state::proofs::Following::gets_before, typing_state::proofs::Following::gets_done))]
+#![tactic(auto, using(typing_state::proofs::Going::goes_trans, typing_state::proofs::Going::goes_refl, typing_state::proofs::Silence::store_silent))]
 
 ghost use Rattle.std.specs.Prelude.{◌≡◌, All, false, IfOk};
 ghost use Rattle.text_terms.specs.Bytes.{str_bytes};
@@ -8,8 +8,7 @@ ghost use Rattle.type_nodes.specs.Changes.{Makes};
 ghost use Rattle.type_nodes.specs.Nodes.{Node as plain, IsNode};
 ghost use Rattle.type_nodes.specs.Views.{numbers};
 ghost use Rattle.type_rows.specs.Declaring.{AppliesTo};
-ghost use Rattle.typing_state.specs.Goes.{Goes, OnlyStore};
-ghost use Rattle.typing_state.specs.Steps.{Silent};
+ghost use Rattle.typing_state.specs.Goes.{Goes, OnlyStore, Silent};
 
 use env_table::{Declaration, Origin};
 use type_nodes::{NoMemory, NodeRef};

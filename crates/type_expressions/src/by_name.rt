@@ -1,5 +1,5 @@
 //! The type variables that are written in an item.
-#![tactic(auto, using(typing_state::proofs::Going::goes_trans, typing_state::proofs::Going::goes_refl, typing_state::proofs::Following::follows_both, typing_state::proofs::Following::follows_before, typing_state::proofs::Following::follows_behind, typing_state::proofs::Following::follows_silent, typing_state::proofs::Following::store_silent, typing_state::proofs::Following::silent_refl, typing_state::proofs::Following::silent_trans, typing_state::proofs::Following::ends_both, typing_state::proofs::Following::ends_behind, typing_state::proofs::Following::ends_before, typing_state::proofs::Following::ends_silent))]
+#![tactic(auto, using(typing_state::proofs::Going::goes_trans, typing_state::proofs::Going::goes_refl, typing_state::proofs::Silence::store_silent, typing_state::proofs::Silence::silent_refl, typing_state::proofs::Silence::silent_trans))]
 
 ghost use Rattle.std.specs.Prelude.{◌≡◌, min, None, Some, IfOk, OnOk};
 ghost use Rattle.std.specs.String.{string_bytes};
@@ -8,8 +8,7 @@ ghost use Rattle.text_terms.specs.Bytes.{str_bytes};
 ghost use Rattle.syntax_tree.specs.View.{tok_of};
 ghost use Rattle.type_nodes.specs.Changes.{Makes};
 ghost use Rattle.type_nodes.specs.Nodes.{Node as plain};
-ghost use Rattle.typing_state.specs.Goes.{Goes, OnlyStore};
-ghost use Rattle.typing_state.specs.Steps.{Silent};
+ghost use Rattle.typing_state.specs.Goes.{Goes, OnlyStore, Silent};
 ghost use Rattle.typing_state.specs.Types.{any_scope, level_for};
 ghost use Rattle.typing_steps.specs.Writing.{PutsVariable};
 ghost use Rattle.type_rows.specs.Operands.{ReadsVariable};

@@ -1,5 +1,5 @@
 //! Type expressions.
-#![tactic(auto, using(typing_state::proofs::Going::goes_trans, typing_state::proofs::Going::goes_refl, typing_state::proofs::Following::follows_both, typing_state::proofs::Following::follows_before, typing_state::proofs::Following::follows_behind, typing_state::proofs::Following::follows_silent, typing_state::proofs::Following::store_silent, typing_state::proofs::Following::ends_both, typing_state::proofs::Following::ends_behind, typing_state::proofs::Following::ends_before, typing_state::proofs::Following::ends_silent, typing_state::proofs::Following::gets_start, typing_state::proofs::Following::gets_more, typing_state::proofs::Following::gets_before, typing_state::proofs::Following::gets_done), unfolding(syntax_tree::specs::Names::row_of))]
+#![tactic(auto, using(typing_state::proofs::Going::goes_trans, typing_state::proofs::Going::goes_refl, typing_state::proofs::Silence::store_silent), unfolding(syntax_tree::specs::Names::row_of))]
 
 ghost use Rattle.std.specs.Prelude.{◌≡◌, ◌==◌, [], ◌∷◌, length, map, option_map, IfOk, OnOk};
 ghost use Rattle.std.specs.Option.{option_copied};
@@ -7,10 +7,7 @@ ghost use Rattle.syntax_tree.specs.Names.{row_of};
 ghost use Rattle.syntax_tree.specs.declared.tree.Node.{out-Node};
 ghost use Rattle.syntax_tree.specs.View.{place_of, tok_of, node_view};
 ghost use Rattle.row_parts.specs.Numbered.{operand_view, path_view, part_of};
-ghost use Rattle.env_table.specs.declared.faults.FaultKind.{FaultKind};
-ghost use Rattle.typing_state.specs.Goes.{Goes};
-ghost use Rattle.typing_state.specs.Notes.{IsRecorded};
-ghost use Rattle.typing_state.specs.Steps.{asks, each, Follows, Silent};
+ghost use Rattle.typing_state.specs.Goes.{Goes, Silent};
 ghost use Rattle.type_nodes.specs.Views.{numbers};
 ghost use Rattle.typing_state.specs.Goes.{OnlyStore};
 ghost use Rattle.typing_state.specs.Types.{MakesVar, any_scope};
@@ -18,7 +15,8 @@ ghost use Rattle.typing_steps.specs.Typing.{path_as};
 ghost use Rattle.type_rows.specs.Declaring.{declared_in, DeclaresTo, NamesTo};
 ghost use Rattle.type_rows.specs.Operands.{EndsName, EndsParentheses, EndsPlainRow, EndsRow, MakesArrowOver, ReadsFront, ReadsGiven, ReadsOperand, ReadsOperands, ReadsPart, ReadsVariable};
 ghost use Rattle.type_expressions.specs.Items.{IsOfItem};
-ghost use Rattle.type_expressions.specs.TypeSteps.{several, parts_read, type_steps, steps_given, type_parts, type_demands, type_unrecorded, variable_steps, constructor_steps};
+ghost use Rattle.type_expressions.specs.Operands.{several, parts_read};
+ghost use Rattle.typing_state.specs.Notes.{IsRecorded};
 
 use crate::arguments::{applied, applied_with_unknowns};
 use crate::by_name::written_variable;
@@ -75,9 +73,8 @@ pub fn read_type(
     variables: &Variables,
     depth: Depth,
 ) -> Result<NodeRef, NoMemory>
-    ensures recorded { OnOk result (IsRecorded at.new ty.entry.number) }
     ensures carries { IfOk result (λ m. IsOfItem variables.now → ReadsOperand at.old at.new env.now (operand_view ty.entry) m.0) }
-    ensures follows { OnOk result (Follows (type_steps (operand_view ty.entry)) at.old at.new) }
+    ensures recorded { OnOk result (IsRecorded at.new ty.entry.number) }
     ensures goes { Goes at.old at.new }
 {
     let read = read_row(at, ty, env, variables, depth)?;
@@ -95,7 +92,6 @@ fn read_row(
     depth: Depth,
 ) -> Result<Read, NoMemory>
     ensures carries { IfOk result (λ r. IsOfItem variables.now → ReadsPart at.old at.new env.now ty.entry.number (place_of ty.entry.span) (part_of ty.entry.node ty.entry.span) r.ty.0) }
-    ensures follows { OnOk result (Follows (type_unrecorded ty.entry.number (part_of ty.entry.node ty.entry.span)) at.old at.new) }
     ensures goes { Goes at.old at.new }
 {
     match ty.node {
@@ -131,7 +127,6 @@ fn read_parts(
     depth: Depth,
 ) -> Result<Vec<NodeRef>, NoMemory>
     ensures carries { IfOk result (λ ms. IsOfItem variables.now → ReadsFront at.old at.new env.now number (node_view node.now) (numbers ms.items)) }
-    ensures follows { OnOk result (Follows (type_parts number (node_view node.now)) at.old at.new) }
     ensures goes { Goes at.old at.new }
 {
     match node.row {
@@ -153,7 +148,7 @@ fn read_given(
     depth: Depth,
 ) -> Result<Vec<NodeRef>, NoMemory>
     ensures carries { IfOk result (λ ms. IsOfItem variables.now → ReadsGiven at.old at.new env.now (operand_view left.entry) (numbers ms.items)) }
-    ensures follows { OnOk result (Follows (steps_given (operand_view left.entry)) at.old at.new) }
+    ensures recorded { OnOk result (IsRecorded at.new left.entry.number) }
     ensures goes { Goes at.old at.new }
 {
     match several_in(at.alloc(), left)? {
@@ -178,7 +173,6 @@ fn read_each(
     depth: Depth,
 ) -> Result<Vec<NodeRef>, NoMemory>
     ensures carries { IfOk result (λ ms. IsOfItem variables.now → ReadsOperands at.old at.new env.now (map operand_view parts.now) (numbers ms.items)) }
-    ensures follows { OnOk result (Follows (each (λ o. type_steps (operand_view o)) parts.now) at.old at.new) }
     ensures goes { Goes at.old at.new }
 {
     let mut types = Vec::new(at.alloc());
@@ -211,7 +205,6 @@ fn formed(
     variables: &Variables,
 ) -> Result<Read, NoMemory>
     ensures carries { IfOk result (λ r. IsOfItem variables.now → EndsRow at.old at.new env.now (node_view node.now) (numbers types.now) r.ty.0) }
-    ensures follows { OnOk result (Follows (type_demands (node_view node.now)) at.old at.new) }
     ensures goes { Goes at.old at.new }
 {
     match node.row {
@@ -231,7 +224,7 @@ fn formed(
 }
 
 /// The same of a row in which no constructor stands.
-#[tactic(auto, using(typing_state::proofs::Going::goes_trans, typing_state::proofs::Going::goes_refl, typing_state::proofs::Following::ends_silent, typing_state::proofs::Following::store_silent, crate::proofs::RowSteps::no_record), unfolding(syntax_tree::specs::Names::row_of))]
+#[tactic(auto, using(typing_state::proofs::Going::goes_trans, typing_state::proofs::Going::goes_refl, typing_state::proofs::Silence::store_silent), unfolding(syntax_tree::specs::Names::row_of))]
 fn composed(
     at: &mut Parts,
     node: &Node,
@@ -239,7 +232,6 @@ fn composed(
     variables: &Variables,
 ) -> Result<NodeRef, NoMemory>
     ensures carries { IfOk result (λ m. IsOfItem variables.now → EndsPlainRow at.old at.new (node_view node.now) (numbers types.now) m.0) }
-    ensures follows { OnOk result (Follows (type_demands (node_view node.now)) at.old at.new) }
     ensures goes { Goes at.old at.new }
 {
     match node.row {
@@ -282,7 +274,6 @@ fn in_parentheses(
     variables: &Variables,
 ) -> Result<NodeRef, NoMemory>
     ensures carries { IfOk result (λ m. IsOfItem variables.now → EndsParentheses at.old at.new (place_of (out-Node node.now).span) (numbers types.now) m.0) }
-    ensures follows { OnOk result (Follows (asks FaultKind.Arity (place_of (out-Node node.now).span ∷ []) ∷ []) at.old at.new) }
     ensures goes { Goes at.old at.new }
 {
     match types {
@@ -302,7 +293,6 @@ fn variable(
     variables: &Variables,
 ) -> Result<NodeRef, NoMemory>
     ensures carries { IfOk result (λ m. IsOfItem variables.now → ReadsVariable at.old at.new (option_map (λ t. tok_of t.now) name.entry) m.0) }
-    ensures follows { OnOk result (Follows (variable_steps (option_map (λ t. tok_of t.now) name.entry)) at.old at.new) }
     ensures goes { Goes at.old at.new }
 {
     let Some(name) = name else {
@@ -331,7 +321,6 @@ fn constructed(
     variables: &Variables,
 ) -> Result<Read, NoMemory>
     ensures carries { IfOk result (λ r. IsOfItem variables.now → EndsName at.old at.new env.now (path_as (path_view path.now)) (numbers types.now) r.ty.0) }
-    ensures follows { OnOk result (Follows (constructor_steps (path_view path.now)) at.old at.new) }
     ensures goes { Goes at.old at.new }
 {
     let Some(last) = path.last else {
@@ -354,7 +343,6 @@ fn named_type(
     variables: &Variables,
 ) -> Result<NodeRef, NoMemory>
     ensures carries { IfOk result (λ m. IsOfItem variables.now → NamesTo (option_map (λ r. r.value) (option_copied entry.entry)) at.old at.new (tok_of last.now) (numbers types.now) m.0) }
-    ensures follows { OnOk result (Follows (asks FaultKind.Arity (place_of last.now.span ∷ []) ∷ []) at.old at.new) }
     ensures goes { Goes at.old at.new }
 {
     match entry {
@@ -382,7 +370,6 @@ fn declared(
     variables: &Variables,
 ) -> Result<NodeRef, NoMemory>
     ensures carries { IfOk result (λ m. IsOfItem variables.now → DeclaresTo at.old at.new (tok_of last.now) entry.now (numbers types.now) m.0) }
-    ensures follows { OnOk result (Follows (asks FaultKind.Arity (place_of last.now.span ∷ []) ∷ []) at.old at.new) }
     ensures goes { Goes at.old at.new }
 {
     let Some(declaration) = declaration_behind(entry) else {
@@ -399,7 +386,7 @@ fn declared(
 }
 
 /// The parts of a type expression as they are read; those of an application stand in front of its constructor.
-#[tactic(auto, unfolding(crate::specs::TypeSteps::parts_by_row, syntax_tree::specs::Names::row_of))]
+#[tactic(auto, unfolding(crate::specs::Operands::parts_by_row, syntax_tree::specs::Names::row_of))]
 fn parts_in<'a>(alloc: Global, node: &'a Node, number: u32) -> Result<Vec<Operand<'a>>, NoMemory>
     ensures { IfOk result (λ os. map operand_view os.items ≡ parts_read number (node_view node.now)) }
 {

@@ -1,12 +1,11 @@
 //! Types that are written behind patterns and expressions.
-#![tactic(auto, using(typing_state::proofs::Going::goes_trans, typing_state::proofs::Going::goes_refl, typing_state::proofs::Following::follows_both, typing_state::proofs::Following::follows_before, typing_state::proofs::Following::follows_behind, typing_state::proofs::Following::follows_silent, typing_state::proofs::Following::store_silent, typing_state::proofs::Following::silent_refl, typing_state::proofs::Following::silent_trans, typing_state::proofs::Following::ends_both, typing_state::proofs::Following::ends_behind, typing_state::proofs::Following::ends_before, typing_state::proofs::Following::ends_silent))]
+#![tactic(auto, using(typing_state::proofs::Going::goes_trans, typing_state::proofs::Going::goes_refl))]
 
-ghost use Rattle.std.specs.Prelude.{option_map, Some, IfOk, OnOk};
+ghost use Rattle.std.specs.Prelude.{option_map, IfOk};
 ghost use Rattle.row_parts.specs.Numbered.{operand_view};
 ghost use Rattle.syntax_tree.specs.View.{place_of};
 ghost use Rattle.typing_state.specs.Goes.{Goes};
-ghost use Rattle.typing_state.specs.Steps.{Follows};
-ghost use Rattle.type_expressions.specs.Written.{annotation_steps, AsksWritten, IsAsWritten};
+ghost use Rattle.type_expressions.specs.Written.{AsksWritten, IsAsWritten};
 
 use crate::types::{Variables, read_type};
 use row_parts::Operand;
@@ -23,7 +22,6 @@ pub fn as_written(
 ) -> Result<NodeRef, NoMemory>
     ensures written { IfOk result (λ n. IsAsWritten (option_map operand_view written.entry) part.entry.span ty at.old at.new env.now n) }
     ensures carries { IfOk result (λ n. AsksWritten at.old at.new env.now (option_map operand_view written.entry) (place_of part.entry.span) ty.0 n.0) }
-    ensures follows { OnOk result (Follows (annotation_steps (Some (operand_view part.entry)) (option_map operand_view written.entry)) at.old at.new) }
     ensures goes { Goes at.old at.new }
 {
     match written {

@@ -1,13 +1,12 @@
 //! Copies of types with something else in place of bound variables, unknown types and origins.
-ghost use Rattle.std.specs.Prelude.{◌≡◌, ◌∷◌, ◌++◌, [], ℕ, List, All, Some, false, true, map, IfOk, OnOk};
+ghost use Rattle.std.specs.Prelude.{◌≡◌, ◌∷◌, ◌++◌, [], ℕ, List, All, Some, false, map, IfOk, OnOk};
 ghost use Rattle.text_terms.specs.Bytes.{str_bytes};
 ghost use Rattle.type_nodes.specs.Nodes.{Node as plain, IsNode, IsSound, parts};
 ghost use Rattle.type_nodes.specs.Links.{root as root_of, reading, IsComposite};
 ghost use Rattle.type_nodes.specs.Views.{numbers};
 ghost use Rattle.level_unify.specs.Copies.{Extends, table_of, image as image_in};
 ghost use Rattle.type_substitution.specs.Substituting.{IsSubstituted};
-ghost use Rattle.typing_state.specs.Steps.{Silent};
-ghost use Rattle.typing_state.specs.Goes.{Goes};
+ghost use Rattle.typing_state.specs.Goes.{Goes, Silent};
 ghost use Rattle.type_reading.specs.declared.changes.Changes.{Changes as PlainChanges};
 ghost use Rattle.type_reading.specs.Copying.{change_by, AreDeclared, IsDeclared, IsDeclaredOver, LeavesVariables, IsChanged, AreCopied, Stands, SetsCopy, KeepsCopies, seen_node};
 

@@ -1,12 +1,11 @@
 //! The parameters of a declaration that are given, in a tuple of them and what is declared.
-#![tactic(auto, using(typing_state::proofs::Going::goes_trans, typing_state::proofs::Going::goes_refl, typing_state::proofs::Following::follows_both, typing_state::proofs::Following::follows_before, typing_state::proofs::Following::follows_behind, typing_state::proofs::Following::follows_silent, typing_state::proofs::Following::store_silent, typing_state::proofs::Following::ends_both, typing_state::proofs::Following::ends_behind, typing_state::proofs::Following::ends_before, typing_state::proofs::Following::ends_silent, typing_state::proofs::Following::gets_start, typing_state::proofs::Following::gets_more, typing_state::proofs::Following::gets_before, typing_state::proofs::Following::gets_done))]
+#![tactic(auto, using(typing_state::proofs::Going::goes_trans, typing_state::proofs::Going::goes_refl, typing_state::proofs::Silence::store_silent))]
 
 ghost use Rattle.std.specs.Prelude.{◌≡◌, ℕ, List, Some, IfOk, OnOk};
 ghost use Rattle.type_nodes.specs.Nodes.{Node as plain, IsNode};
 ghost use Rattle.type_nodes.specs.Links.{reading};
 ghost use Rattle.type_nodes.specs.Views.{numbers};
-ghost use Rattle.typing_state.specs.Goes.{Goes};
-ghost use Rattle.typing_state.specs.Steps.{Silent};
+ghost use Rattle.typing_state.specs.Goes.{Goes, Silent};
 ghost use Rattle.type_reading.specs.Filling.{Fills, JoinsOne};
 
 use crate::copies::copied_list;

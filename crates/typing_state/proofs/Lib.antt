@@ -5,4 +5,4 @@ pub mod Recording
 pub mod Joining
 pub mod Differing
 pub mod Binding
-pub mod Following
+pub mod Silence

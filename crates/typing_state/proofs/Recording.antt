@@ -1,5 +1,5 @@
 -- What is recorded for nodes.
-use Rattle.std.proofs.Common.{◌≡◌, ◌≢◌, ℕ, ap, inl, inr, false, List, [], Option, Some, None, option_map, Result, Ok, Err, refl, sym, ◌∙◌, rules}
+use Rattle.std.proofs.Common.{◌≡◌, ◌≢◌, ℕ, ap, inl, inr, false, List, [], Option, Some, None, option_map, Result, Ok, Err, refl, sym, subst, ◌∙◌, rules}
 use Rattle.std.specs.Prelude.{◌==◌, OnOk, OnErr, is_some}
 use Rattle.std.proofs.lemmas.Bool.{ne_eqb}
 use Rattle.std.proofs.lemmas.Bool.Decides.{eqb_tells}
@@ -15,7 +15,7 @@ use Rattle.typing_state.specs.declared.parts.Parts.{Parts}
 use Rattle.typing_state.specs.declared.parts.Telling.{Telling}
 use Rattle.typing_state.specs.declared.parts.Telling.TheVariants.{Aloud, Quiet}
 use Rattle.typing_state.specs.Goes.{Goes, OnlyIndex}
-use Rattle.typing_state.specs.Notes.{Noted, NotedNameless}
+use Rattle.typing_state.specs.Notes.{Noted, NotedNameless, IsRecorded}
 use Rattle.typing_state.proofs.Going.{index_goes}
 
 -- what is recorded with no name is recorded
@@ -74,3 +74,18 @@ note_goes (Ok a) at x number seen none noted failed =
     index_goes at (with_index at x) (λ i p other. noted i p ∙ noted_other at.item number seen (seen_at at.index) i p other)
     (λ i p y is. noted i p ∙ noted_stays at.item number seen (seen_at at.index) i p y none is) (only_index at x)
 note_goes (Err e) at x number seen none noted failed = index_goes at (with_index at x) (λ i p other. failed i p) (λ i p y is. failed i p ∙ is) (only_index at x)
+
+-- a record stays
+pub record_stays : (n : ℕ) (a b : Parts) → Goes a b → IsRecorded a n → IsRecorded b n
+record_stays n a b g r = λ aloud. let there : (seen : Seen) × (seen_at a.index a.item n ≡ Some seen) = r (sym g.telling ∙ aloud) in
+    (there.0, subst (λ i. seen_at b.index i n ≡ Some there.0) (sym g.item) (g.recorded a.item n there.0 there.1))
+
+-- the same after a last call, whose result is the result
+pub record_stays_in : {A E : Type 0} (r : Result A E) (n : ℕ) (a b : Parts) → Goes a b → IsRecorded a n → OnOk r (IsRecorded b n)
+record_stays_in (Ok x) n a b g h = record_stays n a b g h
+record_stays_in (Err e) n a b g h = tt
+
+-- the same after a call that changes nothing
+pub record_still : {A E : Type 0} (r : Result A E) (n : ℕ) (a : Parts) → IsRecorded a n → OnOk r (IsRecorded a n)
+record_still (Ok x) n a h = h
+record_still (Err e) n a h = tt

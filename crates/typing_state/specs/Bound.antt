@@ -17,7 +17,7 @@ use Rattle.typing_state.specs.declared.messages.Word.TheVariants as word
 use Rattle.typing_state.specs.declared.parts.Parts.{Parts}
 use Rattle.typing_state.specs.Goes.{faults_of, OnlyFaults, Told}
 use Rattle.typing_state.specs.Messages.{unbound_text}
-use Rattle.typing_state.specs.Steps.{place_of_tok, place_without_point}
+use Rattle.typing_state.specs.Places.{place_of_tok, place_without_point}
 
 -- the names of tokens
 abbrev pub names_of_tokens : List Tok → List Name

@@ -85,3 +85,7 @@ pub record SameWork (old new : Parts) : Type 0 where
   pub faults : new.faults ≡ old.faults
   pub item : new.item ≡ old.item
   pub constants : new.constants ≡ old.constants
+
+-- no fault is reported
+abbrev pub Silent : (old new : Parts) → Type 0
+Silent old new = faults_of new ≡ faults_of old

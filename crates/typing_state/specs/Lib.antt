@@ -5,5 +5,5 @@ pub mod BuiltIns
 pub mod Messages
 pub mod Types
 pub mod Demands
-pub mod Steps
+pub mod Places
 pub mod Bound

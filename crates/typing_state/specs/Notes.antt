@@ -4,6 +4,7 @@ use Rattle.std.specs.declared.vec.Vec.{Vec}
 use Rattle.std.specs.declared.rc.Rc.{Rc}
 use Rattle.std.specs.declared.alloc.Global.{Global}
 use Rattle.type_terms.specs.declared.types.NodeRef.{NodeRef}
+use Rattle.tree_model.specs.Trees.{Part, taken, inner, missing}
 use Rattle.env_table.specs.declared.entries.Entry.{Entry}
 use Rattle.env_table.specs.declared.seen.Seen.{Seen}
 use Rattle.typed_index.specs.Seen.{seen_at, with_note}
@@ -28,3 +29,15 @@ NotedNameless old new number env ty = (names : Vec (Option (Rc Entry Global)) Gl
 -- something is recorded for a node of the present item, where faults are told
 abbrev pub IsRecorded : Parts → (number : ℕ) → Type 0
 IsRecorded at number = at.telling ≡ Aloud → (seen : Seen) × (seen_at at.index at.item number ≡ Some seen)
+
+-- where a part is there, something is recorded for its node
+abbrev pub IsRecordedThere : Part → Parts → (number : ℕ) → Type 0
+IsRecordedThere (taken t) at number = Unit {0}
+IsRecordedThere (inner t) at number = IsRecorded at number
+IsRecordedThere (missing q) at number = Unit {0}
+
+-- where a part is missing, something is recorded for it
+abbrev pub IsRecordedMissing : Part → Parts → (number : ℕ) → Type 0
+IsRecordedMissing (taken t) at number = IsRecorded at number
+IsRecordedMissing (inner t) at number = Unit {0}
+IsRecordedMissing (missing q) at number = IsRecorded at number

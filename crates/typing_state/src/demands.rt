@@ -1,5 +1,5 @@
 //! Demands: each is kept, or reported with its one fault.
-ghost use Rattle.std.specs.Prelude.{◌≡◌, [], ◌∷◌, IfOk, OnOk, OnErr};
+ghost use Rattle.std.specs.Prelude.{◌≡◌, IfOk, OnOk, OnErr};
 ghost use Rattle.text_terms.specs.Bytes.{str_bytes};
 ghost use Rattle.type_nodes.specs.Nodes.{IsNode};
 ghost use Rattle.type_nodes.specs.States.{Keeps};
@@ -7,8 +7,6 @@ ghost use Rattle.env_table.specs.declared.faults.FaultKind.{FaultKind};
 ghost use Rattle.typing_state.specs.Goes.{Goes, faults_of, OnlyFaults, OnlyStoreAndFaults, Told};
 ghost use Rattle.typing_state.specs.Messages.{ending_text, equal_text, unbound_text, twice_text, one_side_text, incomplete_text, not_mutable_text, cyclic_text, differs_text, no_label_text, too_large_text};
 ghost use Rattle.typing_state.specs.Demands.{ShowTwo, DiffersBy, EqualIs, ArityIs};
-ghost use Rattle.typing_state.specs.Steps.{asks, Follows};
-ghost use Rattle.syntax_tree.specs.View.{place_of};
 
 use crate::messages::{Word, message};
 use crate::nodes::is_node;
@@ -50,7 +48,6 @@ impl Parts {
         env: &Env,
     ) -> Result<Verdict, NoMemory>
         ensures verdict { IfOk result (λ v. EqualIs v self.old self.new at found wanted env.now) }
-        ensures follows { OnOk result (Follows (asks FaultKind.Equal (place_of at ∷ []) ∷ []) self.old self.new) }
         ensures store { OnErr result (self.new.store ≡ self.old.store) }
         ensures faults { OnErr result (faults_of self.new ≡ faults_of self.old) }
         ensures keeps { Keeps self.old.store self.new.store }
@@ -98,7 +95,6 @@ impl Parts {
         env: &Env,
     ) -> Result<(), NoMemory>
         ensures told { OnOk result (IsNode self.old.store.nodes found.0 → IsNode self.old.store.nodes wanted.0 → DiffersBy self.old self.new at found wanted kind env.now) }
-        ensures follows { OnOk result (Follows (asks FaultKind.Equal (place_of at ∷ []) ∷ []) self.old self.new) }
         ensures failed { OnErr result (faults_of self.new ≡ faults_of self.old) }
         ensures rest { OnlyFaults self.old self.new }
         ensures goes { Goes self.old self.new }
@@ -117,7 +113,6 @@ impl Parts {
         kind: ClashKind,
     ) -> Result<(), NoMemory>
         ensures told { OnOk result (Told self.old.telling (faults_of self.old) (faults_of self.new) at FaultKind.Equal (equal_text found.now wanted.now kind)) }
-        ensures follows { OnOk result (Follows (asks FaultKind.Equal (place_of at ∷ []) ∷ []) self.old self.new) }
         ensures failed { OnErr result (faults_of self.new ≡ faults_of self.old) }
         ensures rest { OnlyFaults self.old self.new }
         ensures goes { Goes self.old self.new }
@@ -131,7 +126,6 @@ impl Parts {
     /// A name isn't bound.
     pub fn unbound(&mut self, at: Span, word: Word, name: &str) -> Result<(), NoMemory>
         ensures told { OnOk result (Told self.old.telling (faults_of self.old) (faults_of self.new) at FaultKind.Bound (unbound_text word name.now)) }
-        ensures follows { OnOk result (Follows (asks FaultKind.Bound (place_of at ∷ []) ∷ []) self.old self.new) }
         ensures failed { OnErr result (faults_of self.new ≡ faults_of self.old) }
         ensures rest { OnlyFaults self.old self.new }
         ensures goes { Goes self.old self.new }
@@ -150,7 +144,6 @@ impl Parts {
         given: usize,
     ) -> Result<Verdict, NoMemory>
         ensures verdict { IfOk result (λ v. ArityIs v self.old self.new at name.now taken given) }
-        ensures follows { OnOk result (Follows (asks FaultKind.Arity (place_of at ∷ []) ∷ []) self.old self.new) }
         ensures failed { OnErr result (faults_of self.new ≡ faults_of self.old) }
         ensures rest { OnlyFaults self.old self.new }
         ensures goes { Goes self.old self.new }
@@ -167,7 +160,6 @@ impl Parts {
     /// A name is defined twice.
     pub fn twice(&mut self, at: Span, name: &str) -> Result<(), NoMemory>
         ensures told { OnOk result (Told self.old.telling (faults_of self.old) (faults_of self.new) at FaultKind.Unique (twice_text name.now)) }
-        ensures follows { OnOk result (Follows (asks FaultKind.Unique (place_of at ∷ []) ∷ []) self.old self.new) }
         ensures failed { OnErr result (faults_of self.new ≡ faults_of self.old) }
         ensures rest { OnlyFaults self.old self.new }
         ensures goes { Goes self.old self.new }
@@ -182,7 +174,6 @@ impl Parts {
     /// A name of an or-pattern is bound on one side only.
     pub fn one_side(&mut self, at: Span, name: &str) -> Result<(), NoMemory>
         ensures told { OnOk result (Told self.old.telling (faults_of self.old) (faults_of self.new) at FaultKind.Sides (one_side_text name.now)) }
-        ensures follows { OnOk result (Follows (asks FaultKind.Sides (place_of at ∷ []) ∷ []) self.old self.new) }
         ensures failed { OnErr result (faults_of self.new ≡ faults_of self.old) }
         ensures rest { OnlyFaults self.old self.new }
         ensures goes { Goes self.old self.new }
@@ -197,7 +188,6 @@ impl Parts {
     /// The field of a record isn't written.
     pub fn incomplete(&mut self, at: Span, name: &str) -> Result<(), NoMemory>
         ensures told { OnOk result (Told self.old.telling (faults_of self.old) (faults_of self.new) at FaultKind.Complete (incomplete_text name.now)) }
-        ensures follows { OnOk result (Follows (asks FaultKind.Complete (place_of at ∷ []) ∷ []) self.old self.new) }
         ensures failed { OnErr result (faults_of self.new ≡ faults_of self.old) }
         ensures rest { OnlyFaults self.old self.new }
         ensures goes { Goes self.old self.new }
@@ -212,7 +202,6 @@ impl Parts {
     /// A field that is set isn't mutable.
     pub fn not_mutable(&mut self, at: Span, name: &str) -> Result<(), NoMemory>
         ensures told { OnOk result (Told self.old.telling (faults_of self.old) (faults_of self.new) at FaultKind.Mutable (not_mutable_text name.now)) }
-        ensures follows { OnOk result (Follows (asks FaultKind.Mutable (place_of at ∷ []) ∷ []) self.old self.new) }
         ensures failed { OnErr result (faults_of self.new ≡ faults_of self.old) }
         ensures rest { OnlyFaults self.old self.new }
         ensures goes { Goes self.old self.new }
@@ -227,7 +216,6 @@ impl Parts {
     /// An abbreviation contains itself.
     pub fn cyclic(&mut self, at: Span, name: &str) -> Result<(), NoMemory>
         ensures told { OnOk result (Told self.old.telling (faults_of self.old) (faults_of self.new) at FaultKind.Cycle (cyclic_text name.now)) }
-        ensures follows { OnOk result (Follows (asks FaultKind.Cycle (place_of at ∷ []) ∷ []) self.old self.new) }
         ensures failed { OnErr result (faults_of self.new ≡ faults_of self.old) }
         ensures rest { OnlyFaults self.old self.new }
         ensures goes { Goes self.old self.new }
@@ -242,7 +230,6 @@ impl Parts {
     /// A re-export doesn't tell the same as the type that it names.
     pub fn differs_from(&mut self, at: Span, name: &str) -> Result<(), NoMemory>
         ensures told { OnOk result (Told self.old.telling (faults_of self.old) (faults_of self.new) at FaultKind.Reexport (differs_text name.now)) }
-        ensures follows { OnOk result (Follows (asks FaultKind.Reexport (place_of at ∷ []) ∷ []) self.old self.new) }
         ensures failed { OnErr result (faults_of self.new ≡ faults_of self.old) }
         ensures rest { OnlyFaults self.old self.new }
         ensures goes { Goes self.old self.new }
@@ -257,7 +244,6 @@ impl Parts {
     /// The first part of a record is no label.
     pub fn no_label(&mut self, at: Span) -> Result<(), NoMemory>
         ensures told { OnOk result (Told self.old.telling (faults_of self.old) (faults_of self.new) at FaultKind.Label (no_label_text)) }
-        ensures follows { OnOk result (Follows (asks FaultKind.Label (place_of at ∷ []) ∷ []) self.old self.new) }
         ensures failed { OnErr result (faults_of self.new ≡ faults_of self.old) }
         ensures rest { OnlyFaults self.old self.new }
         ensures goes { Goes self.old self.new }
@@ -269,7 +255,6 @@ impl Parts {
     /// An integer is out of range.
     pub fn too_large(&mut self, at: Span) -> Result<(), NoMemory>
         ensures told { OnOk result (Told self.old.telling (faults_of self.old) (faults_of self.new) at FaultKind.Range (too_large_text)) }
-        ensures follows { OnOk result (Follows (asks FaultKind.Range (place_of at ∷ []) ∷ []) self.old self.new) }
         ensures failed { OnErr result (faults_of self.new ≡ faults_of self.old) }
         ensures rest { OnlyFaults self.old self.new }
         ensures goes { Goes self.old self.new }

@@ -1,5 +1,5 @@
 //! What names stand for.
-ghost use Rattle.std.specs.Prelude.{◌≡◌, ◌-◌, [], map, option_map, Some, IfOk, IfSome, OnOk};
+ghost use Rattle.std.specs.Prelude.{◌≡◌, ◌-◌, [], map, option_map, IfOk, OnOk};
 ghost use Rattle.text_terms.specs.Bytes.{str_bytes};
 ghost use Rattle.tree_model.specs.Trees.{place};
 ghost use Rattle.syntax_tree.specs.View.{place_of, tok_of};
@@ -7,7 +7,6 @@ ghost use Rattle.row_parts.specs.Numbered.{path_view};
 ghost use Rattle.env_table.specs.Scopes.{lost_behind};
 ghost use Rattle.typing_state.specs.Bound.{BoundIs, BoundLastIs, TellsLost, found_at, lost_among, names_of_tokens, token_at, word_of};
 ghost use Rattle.typing_state.specs.Goes.{Goes, OnlyFaults};
-ghost use Rattle.typing_state.specs.Steps.{Follows, IsAmong, asks_bound, place_without_point};
 
 use crate::entries::share_entry;
 use crate::messages::Word;
@@ -55,7 +54,6 @@ fn without_point(span: Span) -> Span
 
 /// The first qualifier of a path that leads to no module.
 fn lost_qualifier<'a>(env: &Env, path: &Path, written: &WrittenPath<'a>) -> Option<&'a Token>
-    ensures among { IfSome result (λ t. IsAmong (place_without_point (tok_of t.now)) (map place_without_point (path_view written.now).qualifiers)) }
     ensures first { option_map (λ t. tok_of t.now) result ≡ token_at (path_view written.now).qualifiers (lost_behind env.now [] 0 (map str_bytes path.now.modules.items)) }
 {
     match env.lost_module(&path.modules) {
@@ -89,7 +87,6 @@ impl Parts {
         kind: Kind,
     ) -> Result<Option<Rc<Entry>>, NoMemory>
         ensures verdict { IfOk result (λ r. BoundIs (found_at env.now (path_view written.now).qualifiers kind (tok_of last.now)) (option_map (λ e. e.value) r) self.old self.new (lost_among env.now (path_view written.now).qualifiers) (tok_of last.now) (word_of kind)) }
-        ensures follows { OnOk result (Follows (asks_bound (record (path_view written.now) { last = Some (tok_of last.now) })) self.old self.new) }
         ensures goes { Goes self.old self.new }
     {
         let path = path_of(self.alloc, written, last)?;
@@ -111,7 +108,6 @@ impl Parts {
         kind: Kind,
     ) -> Result<Option<Rc<Entry>>, NoMemory>
         ensures verdict { IfOk result (λ r. BoundLastIs (path_view written.now).last kind (option_map (λ e. e.value) r) self.old self.new env.now (path_view written.now).qualifiers) }
-        ensures follows { OnOk result (Follows (asks_bound (path_view written.now)) self.old self.new) }
         ensures goes { Goes self.old self.new }
     {
         match written.last {
@@ -130,7 +126,6 @@ impl Parts {
         word: Word,
     ) -> Result<(), NoMemory>
         ensures told { OnOk result (TellsLost (token_at (path_view written.now).qualifiers (lost_behind env.now [] 0 (map str_bytes path.now.modules.items))) self.old self.new (tok_of last.now) word) }
-        ensures follows { OnOk result (Follows (asks_bound (record (path_view written.now) { last = Some (tok_of last.now) })) self.old self.new) }
         ensures rest { OnlyFaults self.old self.new }
         ensures goes { Goes self.old self.new }
     {

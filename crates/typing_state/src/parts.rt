@@ -1,11 +1,9 @@
 //! What the typing of a text works on.
-ghost use Rattle.std.specs.Prelude.{◌≡◌, ℕ, ◌+◌, ◌*◌, ◌^◌, [], ◌∷◌, None, Some, OnOk, OnErr};
+ghost use Rattle.std.specs.Prelude.{◌≡◌, ℕ, ◌+◌, ◌*◌, ◌^◌, None, Some, OnOk, OnErr};
 ghost use Rattle.text_terms.specs.Bytes.{str_bytes};
 ghost use Rattle.typed_index.specs.Seen.{seen_at};
 ghost use Rattle.typing_state.specs.Goes.{Goes, faults_of, OnlyFaults, OnlyIndex, Told};
 ghost use Rattle.typing_state.specs.Notes.{Noted, NotedNameless, IsRecorded};
-ghost use Rattle.typing_state.specs.Steps.{asks, records, Follows};
-ghost use Rattle.syntax_tree.specs.View.{place_of};
 
 use crate::built_ins::Constants;
 use env_table::{Entry, Env, Fault, FaultKind, Faults, Place, Seen};
@@ -102,7 +100,6 @@ impl Parts {
     ) -> Result<(), NoMemory>
         ensures noted { OnOk result (Noted self.old.telling self.old self.new number (record { env = env.now; ty = ty; names = names })) }
         ensures recorded { OnOk result (IsRecorded self.new number) }
-        ensures follows { OnOk result (Follows (records number ∷ []) self.old self.new) }
         ensures failed { OnErr result ((i p : ℕ) → seen_at self.new.index i p ≡ seen_at self.old.index i p) }
         ensures rest { OnlyIndex self.old self.new }
         ensures goes { Goes self.old self.new }
@@ -125,7 +122,6 @@ impl Parts {
     pub fn note_plain(&mut self, number: u32, env: &Env) -> Result<(), NoMemory>
         ensures noted { OnOk result (NotedNameless self.old self.new number env.now None) }
         ensures recorded { OnOk result (IsRecorded self.new number) }
-        ensures follows { OnOk result (Follows (records number ∷ []) self.old self.new) }
         ensures failed { OnErr result ((i p : ℕ) → seen_at self.new.index i p ≡ seen_at self.old.index i p) }
         ensures rest { OnlyIndex self.old self.new }
         ensures goes { Goes self.old self.new }
@@ -137,7 +133,6 @@ impl Parts {
     pub fn note_type(&mut self, number: u32, env: &Env, ty: NodeRef) -> Result<(), NoMemory>
         ensures noted { OnOk result (NotedNameless self.old self.new number env.now (Some ty)) }
         ensures recorded { OnOk result (IsRecorded self.new number) }
-        ensures follows { OnOk result (Follows (records number ∷ []) self.old self.new) }
         ensures failed { OnErr result ((i p : ℕ) → seen_at self.new.index i p ≡ seen_at self.old.index i p) }
         ensures rest { OnlyIndex self.old self.new }
         ensures goes { Goes self.old self.new }
@@ -148,7 +143,6 @@ impl Parts {
     /// Reports a fault.
     pub fn report(&mut self, span: Span, kind: FaultKind, message: RcStr) -> Result<(), NoMemory>
         ensures told { OnOk result (Told self.old.telling (faults_of self.old) (faults_of self.new) span kind (str_bytes message)) }
-        ensures follows { OnOk result (Follows (asks kind (place_of span ∷ []) ∷ []) self.old self.new) }
         ensures failed { OnErr result (faults_of self.new ≡ faults_of self.old) }
         ensures rest { OnlyFaults self.old self.new }
         ensures goes { Goes self.old self.new }

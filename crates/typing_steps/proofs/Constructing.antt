@@ -34,7 +34,7 @@ use Rattle.typing_state.specs.declared.parts.Parts.{Parts}
 use Rattle.typing_state.specs.declared.messages.Word.TheVariants as word
 use Rattle.typing_state.specs.Goes.{faults_of, OnlyFaults, OnlyStore, Told}
 use Rattle.typing_state.specs.Messages.{arity_text}
-use Rattle.typing_state.specs.Steps.{place_of_tok}
+use Rattle.typing_state.specs.Places.{place_of_tok}
 use Rattle.typing_state.specs.Types.{MakesVar, any_scope, level_for}
 use Rattle.typing_state.specs.Bound.{lost_among, found_at, BoundIs}
 use Rattle.typing_environments.specs.Locals.{IsOwn}

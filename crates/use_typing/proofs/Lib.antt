@@ -1,6 +1,5 @@
 -- The laws of names, labels and constants, and of what is read on the way.
 pub mod Reading
-pub mod LabelLaws
 pub mod Telling
 pub mod Carrying
 pub mod ConstantLaws

@@ -1,16 +1,14 @@
 //! Uses of values, constructors and labels by their paths.
-#![tactic(auto, using(typing_state::proofs::Going::goes_trans, typing_state::proofs::Going::goes_refl, typing_state::proofs::Following::follows_both, typing_state::proofs::Following::follows_before, typing_state::proofs::Following::follows_behind, typing_state::proofs::Following::follows_silent, typing_state::proofs::Following::store_silent, typing_state::proofs::Following::silent_refl, typing_state::proofs::Following::silent_trans, typing_state::proofs::Following::ends_both, typing_state::proofs::Following::ends_behind, typing_state::proofs::Following::ends_before, typing_state::proofs::Following::ends_silent))]
+#![tactic(auto, using(typing_state::proofs::Going::goes_trans, typing_state::proofs::Going::goes_refl, typing_state::proofs::Silence::store_silent, typing_state::proofs::Silence::silent_refl, typing_state::proofs::Silence::silent_trans))]
 
-ghost use Rattle.std.specs.Prelude.{◌≡◌, ◌++◌, ℕ, true, None, Some, IfNone, IfOk, IfSome, OnOk, option_map, option_and_then};
+ghost use Rattle.std.specs.Prelude.{◌≡◌, ℕ, true, None, Some, IfNone, IfOk, IfSome, OnOk, option_map, option_and_then};
 ghost use Rattle.type_nodes.specs.Nodes.{Node as plain};
 ghost use Rattle.type_nodes.specs.Links.{reading};
 ghost use Rattle.std.specs.Option.{option_copied};
 ghost use Rattle.row_parts.specs.Numbered.{path_view};
-ghost use Rattle.env_table.specs.declared.faults.FaultKind.{FaultKind};
-ghost use Rattle.typing_state.specs.Goes.{Goes, OnlyFaults, OnlyStore};
+ghost use Rattle.typing_state.specs.Goes.{Goes, OnlyFaults, OnlyStore, Silent};
 ghost use Rattle.typing_model.specs.Expressions.{value_asks};
 ghost use Rattle.typing_steps.specs.Typing.{TypesOwn, path_as};
-ghost use Rattle.typing_state.specs.Steps.{Follows, Silent, asks_at_last, asks_bound};
 ghost use Rattle.env_table.specs.declared.entries.Kind.{Kind};
 ghost use Rattle.use_typing.specs.Uses.{BuildsBy, BuildsIf, BuildsNew, IsNoArrow, TellsCountsLast, taken_by, LastHas, TellsBound, TellsUse, UsesScheme, SidesOf, UsesLabel, UsesLabelIf, label_named, constructor_named, scheme_in, TypesLabelIf};
 ghost use Rattle.typing_declarations.specs.Declared.{constructor_in, label_in};
@@ -48,7 +46,6 @@ pub fn value(at: &mut Parts, env: &Env, path: &WrittenPath<'_>) -> Result<Used, 
     ensures tells { OnOk result (TellsBound (path_view path.now) Kind.Value at.old at.new env.now) }
     ensures ty { IfOk result (λ u. LastHas (path_view path.now).last Kind.Value at.old at.new env.now (path_view path.now).qualifiers u.ty) }
     ensures carries { IfOk result (λ u. (n k : ℕ) → TypesOwn at.old at.new env.now (λ c t. value_asks c n k (path_as (path_view path.now)) t) u.ty.0) }
-    ensures follows { OnOk result (Follows (asks_bound (path_view path.now)) at.old at.new) }
     ensures goes { Goes at.old at.new }
 {
     let Some(last) = path.last else {
@@ -104,7 +101,6 @@ pub fn constructor(
     ensures tells { OnOk result (TellsUse (path_view path.now) given at.old at.new env.now) }
     ensures builds { IfOk result (λ r. BuildsIf (constructor_named (path_view path.now).last env.now (path_view path.now).qualifiers) at.old at.new r) }
     ensures carries { IfOk result (λ r. TypesConstructor at.old at.new env.now (path_as (path_view path.now)) given r.known r.built.0 (option_map (λ m. m.0) r.argument)) }
-    ensures follows { OnOk result (Follows (asks_bound (path_view path.now) ++ asks_at_last FaultKind.Arity (path_view path.now)) at.old at.new) }
     ensures goes { Goes at.old at.new }
 {
     let entry = at.bound_last(env, path, Kind::Constructor)?;
@@ -134,7 +130,6 @@ fn ask_count(
     given: usize,
 ) -> Result<(), NoMemory>
     ensures tells { OnOk result (TellsCountsLast (path_view path.now).last (taken_by constructor.now) given at.old at.new) }
-    ensures follows { OnOk result (Follows (asks_at_last FaultKind.Arity (path_view path.now)) at.old at.new) }
     ensures rest { OnlyFaults at.old at.new }
     ensures goes { Goes at.old at.new }
 {
@@ -260,7 +255,6 @@ pub fn field_label(
     ensures tells { OnOk result (TellsBound (path_view path.now) Kind.Label at.old at.new env.now) }
     ensures label { IfOk result (λ r. UsesLabelIf (label_named (path_view path.now).last env.now (path_view path.now).qualifiers) at.old at.new r.0) }
     ensures carries { IfOk result (λ r. TypesLabelIf r.0 at.old at.new env.now (path_as (path_view path.now))) }
-    ensures follows { OnOk result (Follows (asks_bound (path_view path.now)) at.old at.new) }
     ensures goes { Goes at.old at.new }
 {
     let entry = at.bound_last(env, path, Kind::Label)?;

@@ -1,26 +1,23 @@
-use Rattle.std.proofs.Common.{◌≡◌, ◌∙◌, ◌++◌, ◌+◌, ◌<◌, [], ◌∷◌, length, map, drop, sym, ap, subst, arith, length-append, refl, rules, ◌==◌, ℕ, List, Bool, true, false}
-use Rattle.std.specs.Prelude.{OnOk, None, option_map, All, Some, not}
+use Rattle.typing_state.proofs.Recording.{record_stays_in}
+use Rattle.std.proofs.Common.{◌≡◌, ◌∙◌, ◌<◌, length, map, drop, sym, ap, subst, arith, length-append, refl, rules, ◌==◌, ℕ, List, Bool, true, false}
+use Rattle.std.specs.Prelude.{option_map, All, Some, not}
 use Rattle.syntax_tree.specs.Names.{row_of}
 use Rattle.syntax_tree.specs.View.{node_view, place_of, tok_of}
 use Rattle.syntax_tree.specs.declared.tree.Node.{out-Node}
-use Rattle.row_parts.specs.Numbered.{operand_view, path_view, filled_in, operands_in}
-use Rattle.typing_state.specs.Steps.{records, each, Follows, GetsOn, asks}
+use Rattle.row_parts.specs.Numbered.{operand_view, path_view, operands_in}
 use Rattle.typing_state.proofs.Going.{goes_trans, goes_refl}
-use Rattle.typing_state.proofs.Following.{ends_both, ends_before, follows_both, follows_behind, gets_start, gets_more, store_silent, follows_before, follows_none}
-use Rattle.expression_steps.specs.ExpressionSteps.{argued_constructor, argument_steps, arguments_steps, behind_parts, constructed_steps, expression_at, expression_steps, part_steps, parts_from, row_at, steps_as, typed_as, unrecorded_steps, cases_at, expression_case, parameter_steps, typed_as_if, typed_pattern, unused_case, expression_field, field_steps, fields_steps, typed_if, turn_steps, bound_pattern, right_at, whole_steps, form_of}
-use Rattle.expression_steps.proofs.ExpressionLaws.{each_typed, follows_more, operand_missing, operand_there, operation_as, plain_as, skips_arguments, row_of_node}
-use Rattle.match_warnings.specs.Warnings.{spans_of, unused_steps}
-use Rattle.core_typing.proofs.GroupLaws.{case_lost, case_parts_are, case_there, cases_follow, steps_read, unused_follow, unused_same, done_follows, together_follow, turn_of, turns_follow}
-use Rattle.use_typing.proofs.Reading.{drop_read, gets_read, same_follows, follows_three, on_ok}
-use Rattle.use_typing.specs.UseSteps.{asks_equal, asks_labels, labels_of, lost_steps}
-use Rattle.pattern_steps.specs.PatternSteps.{pattern_steps}
+use Rattle.typing_state.proofs.Silence.{store_silent, index_silent}
+use Rattle.expression_steps.specs.Forms.{row_at, form_of}
+use Rattle.expression_steps.proofs.Nodes.{row_of_node}
+use Rattle.match_warnings.specs.Warnings.{spans_of}
+use Rattle.core_typing.specs.Cases.{places_there}
+use Rattle.core_typing.proofs.CasePlaces.{places_read, places_done, place_added, place_same, cases_warned}
+use Rattle.use_typing.proofs.Reading.{on_ok}
+use Rattle.use_typing.specs.Paths.{labels_of}
 use Rattle.expression_steps.specs.declared.fields.Pieces.{Pieces}
-use Rattle.expression_steps.specs.RecordView.{record_parts}
-use Rattle.core_typing.proofs.RecordLaws.{field_is, field_lost, record_is}
-use Rattle.core_typing.specs.Concluding.{conclusion}
-use Rattle.core_typing.proofs.BindingLaws.{first_gets, let_follow, no_token, right_follow, some_token}
+use Rattle.core_typing.proofs.Tokens.{no_token, some_token}
 use Rattle.use_typing.specs.Constants.{is_negated}
-use Rattle.expression_steps.proofs.LeafLaws.{alone_missing, alone_there, records_silent}
+use Rattle.expression_steps.proofs.LeafLaws.{alone_missing, alone_there}
 use Rattle.std.proofs.lemmas.List.{drop_all}
 use Rattle.type_nodes.specs.Views.{numbers}
 use Rattle.typing_model.specs.Parts.{Expression}
@@ -28,7 +25,6 @@ use Rattle.row_parts.specs.declared.slots.Operand.{Operand}
 use Rattle.operand_laws.specs.Operands.{expression_of}
 use Rattle.operand_laws.proofs.Standing.{expression_of_stands}
 use Rattle.typing_steps.specs.Typing.{TypesRow, path_as}
-use Rattle.type_expressions.specs.TypeSteps.{constructor_steps}
 use Rattle.typing_rows.specs.CarriedRows.{IsCarried}
 use Rattle.typing_rows.specs.Asked.{under_minus, expressions_of, signed_expressions, applied_asks, IsOrderedRow, ordered_end}
 use Rattle.typing_rows.specs.Contracts.{TypesAs, TypesParts, EndsRow, AsksBehind}
@@ -37,21 +33,18 @@ use Rattle.typing_rows.proofs.Given.{types_argument, given_none, given_all, each
 use Rattle.typing_rows.proofs.Ordered.{part_typed, parts_none, parts_all}
 use Rattle.typing_rows.proofs.Typed.{applied_typed, operated_typed, signed_row}
 use Rattle.typing_steps.proofs.Rows.{equal_asks}
-use Rattle.expression_steps.proofs.SettingLaws.{set_row, for_row, part_set, part_unset, set_part_there, set_part_else, field_set, set_field_follows}
+use Rattle.expression_steps.proofs.SettingLaws.{set_row, for_row, part_set, part_unset, field_set}
 use Rattle.tree_model.specs.Rows.{field_row}
 use Rattle.syntax_tree.specs.declared.rows.RowName.TheVariants as name
 use Rattle.expression_steps.proofs.EndingLaws.{is_field}
 use Rattle.operand_laws.specs.Operands.{path_of}
-use Rattle.row_parts.specs.Numbered.{path_in, token_in}
+use Rattle.row_parts.specs.Numbered.{path_in}
 use Rattle.typing_steps.proofs.Recording.{type_noted}
 use Rattle.typing_rows.specs.Fields.{EndsSettable}
-use Rattle.use_typing.specs.UseSteps.{asks_token}
-use Rattle.expression_steps.specs.ExpressionSteps.{all_expressions, label_steps, set_part_steps}
 use Rattle.expression_steps.proofs.CarryingLaws.{if_ok, both_ok, usual_by, by_operation, paren_row, plain_row, operation_row, operation_missing, minus_float, minus_operation, application_row, construction_row, first_carried, later_carried, head_row, known_later, unknown_later, typed_as_if as typed_where_wanted, constructed_row, argument_typed, each_step, given_step, parts_step}
 use Rattle.std.specs.Option.{IfSome}
 use Rattle.expression_steps.specs.Operators.{sign_in, IsSignOf}
 use Rattle.expression_steps.specs.declared.forms.RowForm.TheVariants as form
-use Rattle.env_table.specs.declared.faults.FaultKind.TheVariants as fault
 use Rattle.type_terms.specs.declared.types.NodeRef.{NodeRef}
 use Rattle.typing_model.specs.Parts.{Case}
 use Rattle.operand_laws.specs.Operands.{number_of}
@@ -95,13 +88,9 @@ pub exprs::type_each-loop-e-preserved : goal.exprs::type_each-loop-e-preserved
 exprs::type_each-loop-e-preserved t c =
     let all = c.args.es.now in
     let i = c.loop-e.e-index in
-    let x = c.e-item.result in
     let lt : i < length all = let n = c.loop-e-test.true in omega arith in
     record {
       goes = goes_trans c.args.at.now c.loop-e.at c.type_under.new.at c.loop-e.invariant.goes c.type_under.ensures.goes;
-      gets = gets_more (each (λ o. expression_steps (operand_view o)) all) (expression_steps (operand_view x)) (each (λ o. expression_steps (operand_view o)) (drop (i + 1) all)) c.args.at.now c.loop-e.at c.type_under.new.at
-          (subst (λ os. GetsOn c.args.at.now c.loop-e.at (each (λ o. expression_steps (operand_view o)) all) (each (λ o. expression_steps (operand_view o)) os)) (drop_read all i x lt c.e-item.is) c.loop-e.invariant.gets)
-          c.type_under.ensures.goes c.in_ok-type_under.ensures.follows;
       carries = each_step c.args.at.now c.loop-e.at c.type_under.new.at c.args.env.now all i c.e-item.result _ lt c.e-item.is c.loop-e.invariant.goes c.loop-e.invariant.carries c.in_ok-type_under.ensures.carries;
     }
 
@@ -109,26 +98,11 @@ pub apply::arguments-loop-one-preserved : goal.apply::arguments-loop-one-preserv
 apply::arguments-loop-one-preserved t c =
     let all = c.args.given.now in
     let i = c.loop-one.one-index in
-    let x = c.one-item.result in
     let lt : i < length all = let n = c.loop-one-test.true in omega arith in
-    let at = place_of c.args.place in
     record {
       goes = goes_trans c.args.at.now c.loop-one.at c.argument.new.at c.loop-one.invariant.goes c.argument.ensures.goes;
-      gets = gets_more (arguments_steps at (map expression_at (map operand_view all))) (argument_steps at (expression_at (operand_view x))) (arguments_steps at (map expression_at (map operand_view (drop (i + 1) all)))) c.args.at.now c.loop-one.at c.argument.new.at
-          (subst (λ os. GetsOn c.args.at.now c.loop-one.at (arguments_steps at (map expression_at (map operand_view all))) (arguments_steps at (map expression_at (map operand_view os)))) (drop_read all i x lt c.one-item.is) c.loop-one.invariant.gets)
-          c.argument.ensures.goes c.in_ok-ty.ensures.follows;
       carries = given_step c.args.at.now c.loop-one.at c.argument.new.at c.args.env.now (place_of c.args.place) (is_negated c.args.sign) all i c.one-item.result c.args.head.0 c.loop-one.ty.0 c.in_ok-ty.ty.0 lt c.one-item.is c.loop-one.invariant.goes c.loop-one.invariant.carries c.in_ok-ty.ensures.carries;
     }
-
-pub apply::constructed-returns-clause-follows : goal.apply::constructed-returns-clause-follows
-apply::constructed-returns-clause-follows t c =
-    let h = expression_at (operand_view c.args.head) in
-    let p = path_view c.args.path.now in
-    let x = c.in-Some.first.now in
-    let ys = c.in-Some.later.now in
-    subst (λ os. OnOk c.later_arguments.result (Follows (constructed_steps h p (map expression_at (map operand_view os))) c.args.at.now c.later_arguments.new.at)) (sym c.in-Some.ensures.cases.0)
-    (ends_both c.later_arguments.result (argued_constructor c.args.head.number p (expression_at (operand_view x))) (arguments_steps (place_of c.args.head.span) (map expression_at (map operand_view ys))) c.args.at.now c.with_argument.new.at c.later_arguments.new.at
-    c.in_ok-built.ensures.follows c.later_arguments.ensures.goes c.later_arguments.ensures.follows)
 
 pub apply::constructed-returns-clause-carries : goal.apply::constructed-returns-clause-carries
 apply::constructed-returns-clause-carries t c =
@@ -140,82 +114,24 @@ apply::constructed-returns-clause-carries t c =
     constructed_row c.args.at.now c.with_argument.new.at c.later_arguments.new.at c.args.env.now n (path_as (path_view c.args.path.now)) head x ys c.args.given.now c.in_ok-built.built.known c.in_ok-built.built.ty.0 u.ty.0 split
     (c.in_ok-built.ensures.carries (first_carried x ys c.args.given.now split carried) n) c.with_argument.ensures.goes (h (later_carried x ys c.args.given.now split carried))) c.later_arguments.ensures.carries
 
-pub apply::with_argument-returns-clause-follows : goal.apply::with_argument-returns-clause-follows
-apply::with_argument-returns-clause-follows t c =
-    let p = path_view c.args.path.now in
-    let front = constructor_steps p in
-    let first = typed_as (expression_at (operand_view c.args.first)) in
-    ends_both c.note_head.result (front ++ first) (records c.args.number ∷ []) c.args.at.now c.typed_as.new.at c.note_head.new.at
-    (follows_both front first c.args.at.now c.constructor.new.at c.typed_as.new.at c.in_ok-found.ensures.follows c.typed_as.ensures.goes c.in_ok-typed_as.ensures.follows)
-    c.note_head.ensures.goes c.note_head.ensures.follows
-
-pub apply::later_arguments-returns-then-not-head-clause-follows : goal.apply::later_arguments-returns-then-not-head-clause-follows
-apply::later_arguments-returns-then-not-head-clause-follows t c =
-    let os = c.args.later.now in
-    let some = each (λ o. expression_steps (operand_view o)) os in
-    let all = arguments_steps (place_of c.args.place) (map expression_at (map operand_view os)) in
-    ends_before c.built_by_unknown.result all c.args.at.now c.type_each.new.at c.built_by_unknown.new.at
-    (follows_more some all c.args.at.now c.type_each.new.at (skips_arguments (place_of c.args.place) os) c.in_ok-type_each.ensures.follows)
-    c.built_by_unknown.ensures.goes c.built_by_unknown.ensures.silent
-
-pub exprs::type_under-returns-in_default-clause-follows : goal.exprs::type_under-returns-in_default-clause-follows
-exprs::type_under-returns-in_default-clause-follows t c =
-    let n = c.args.e.number in
-    subst (λ ss. Follows ss c.args.at.now c.note_type.new.self) (sym (operand_missing c.args.e c.in_default.is))
-    (follows_behind (records n ∷ []) c.args.at.now c.var.new.self c.note_type.new.self (store_silent c.args.at.now c.var.new.self c.var.ensures.rest) c.in_ok-note_type.ensures.follows)
-
-pub exprs::type_under-returns-clause-follows : goal.exprs::type_under-returns-clause-follows
-exprs::type_under-returns-clause-follows t c =
-    let o = c.args.e in
-    let nd = c.in-Some.node.now in
-    subst (λ ss. Follows ss c.args.at.now c.note.new.self) (sym (operand_there o c.in-Some.node c.in-Some.is))
-    (follows_both (unrecorded_steps o.number (node_view nd)) (records o.number ∷ []) c.args.at.now c.typed_row.new.at c.note.new.self c.in_ok-used.ensures.follows c.note.ensures.goes c.in_ok-note.ensures.follows)
-
 pub exprs::type_under-returns-in_default-clause-alone : goal.exprs::type_under-returns-in_default-clause-alone
 exprs::type_under-returns-in_default-clause-alone t c =
     alone_missing c.args.e (is_negated c.args.sign) c.args.env.now c.args.at.now c.note_type.new.self c.in_default.is
-    (records_silent c.args.e.number c.var.new.self c.note_type.new.self c.in_ok-note_type.ensures.follows ∙ store_silent c.args.at.now c.var.new.self c.var.ensures.rest)
+    (index_silent c.var.new.self c.note_type.new.self c.note_type.ensures.rest ∙ store_silent c.args.at.now c.var.new.self c.var.ensures.rest)
 
 pub exprs::type_under-returns-clause-alone : goal.exprs::type_under-returns-clause-alone
 exprs::type_under-returns-clause-alone t c =
-    alone_there c.args.e c.in-Some.node (is_negated c.args.sign) c.args.env.now c.args.at.now c.typed_row.new.at c.note.new.self c.in-Some.is c.in_ok-used.ensures.alone c.in_ok-note.ensures.follows
-
-pub apply::operation-returns-clause-follows : goal.apply::operation-returns-clause-follows
-apply::operation-returns-clause-follows t c =
-    let items = c.in_ok-given.given.items in
-    let tree = node_view c.args.node.now in
-    let none = sym (ap (λ o. option_map (λ x. place_of x.named.span) o) c.in-None.is) ∙ c.in_ok-operator.ensures.place in
-    let typed = subst (λ os. Follows (each (λ o. expression_steps (operand_view o)) os) c.args.at.now c.type_each.new.at) c.deref-in-None.ensures.value c.in_ok-type_each-in-None.ensures.follows in
-    let same = sym (each_typed items) ∙ operation_as c.args.number tree None (map operand_view items) none c.in_ok-given.ensures in
-    ends_before c.any_type.result (steps_as form.Operation c.args.number tree) c.args.at.now c.type_each.new.at c.any_type.new.at
-    (subst (λ ss. Follows ss c.args.at.now c.type_each.new.at) same typed) c.any_type.ensures.goes c.any_type.ensures.silent
-
-pub plain::plain-returns-clause-follows : goal.plain::plain-returns-clause-follows
-plain::plain-returns-clause-follows t c =
-    let items = c.in_ok-parts.parts.items in
-    let nd = c.args.node.now in
-    let tree = node_view nd in
-    let front = subst (λ os. Follows (parts_from (row_of (out-Node nd).row) 0 (map expression_at (map operand_view os))) c.args.at.now c.type_parts.new.at) c.deref.ensures.value c.in_ok-types.ensures.follows in
-    let back = subst (λ os. OnOk c.behind_parts.result (Follows (behind_parts (row_at tree) tree (map expression_at (map operand_view os))) c.type_parts.new.at c.behind_parts.new.at)) c.deref-2.ensures.value c.behind_parts.ensures.follows in
-    subst (λ ss. OnOk c.behind_parts.result (Follows ss c.args.at.now c.behind_parts.new.at)) (plain_as c.args.number nd (map operand_view items) c.in_ok-parts.ensures)
-    (ends_both c.behind_parts.result (parts_from (row_of (out-Node nd).row) 0 (map expression_at (map operand_view items))) (behind_parts (row_at tree) tree (map expression_at (map operand_view items)))
-    c.args.at.now c.type_parts.new.at c.behind_parts.new.at front c.behind_parts.ensures.goes back)
+    alone_there c.args.e c.in-Some.node (is_negated c.args.sign) c.args.env.now c.args.at.now c.typed_row.new.at c.note.new.self c.in-Some.is c.in_ok-used.ensures.alone c.note.ensures.rest
 
 pub plain::type_parts-loop-part-preserved : goal.plain::type_parts-loop-part-preserved
 plain::type_parts-loop-part-preserved t c =
     let all = c.args.parts.now in
     let i = c.loop-part.part-index in
-    let x = c.part-item.result in
-    let r = row_of c.args.row in
     let lt : i < length all = let n = c.loop-part-test.true in omega arith in
     let place : c.len-place.result ≡ i = let got = c.len-place.ensures in let listed = c.loop-part.types.ok in let before = c.loop-part.invariant.places in omega arith in
-    let one = subst (λ k. Follows (part_steps r k (expression_at (operand_view x))) c.loop-part.at c.type_part.new.at) place c.in_ok-ty.ensures.follows in
     record {
       goes = goes_trans c.args.at.now c.loop-part.at c.type_part.new.at c.loop-part.invariant.goes c.type_part.ensures.goes;
       places = let pushed = ap length c.in_ok-push.ensures.pushed in let before = c.loop-part.invariant.places in grind (arith, length-append);
-      gets = gets_more (parts_from r 0 (map expression_at (map operand_view all))) (part_steps r i (expression_at (operand_view x))) (parts_from r (i + 1) (map expression_at (map operand_view (drop (i + 1) all)))) c.args.at.now c.loop-part.at c.type_part.new.at
-          (subst (λ os. GetsOn c.args.at.now c.loop-part.at (parts_from r 0 (map expression_at (map operand_view all))) (parts_from r i (map expression_at (map operand_view os)))) (drop_read all i x lt c.part-item.is) c.loop-part.invariant.gets)
-          c.type_part.ensures.goes one;
       carries = parts_step c.args.at.now c.loop-part.at c.type_part.new.at c.args.env.now (row_of c.args.row) all i c.len-place.result c.part-item.result c.loop-part.types.items c.push.new.list.items c.in_ok-ty.ty lt c.part-item.is place c.in_ok-push.ensures.pushed c.loop-part.invariant.goes c.loop-part.invariant.carries c.in_ok-ty.ensures.carries;
     }
 
@@ -227,15 +143,13 @@ cases::type_each_case-loop-case-preserved t c =
     let lt : i < length all = let n = c.loop-case-test.true in omega arith in
     record {
       goes = goes_trans c.args.at.now c.loop-case.at c.type_case.new.at c.loop-case.invariant.goes c.type_case.ensures.goes;
-      gets = gets_read expression_case operand_view _ all i x _ _ _ lt c.case-item.is c.loop-case.invariant.gets c.type_case.ensures.goes c.in_ok-bodies.ensures.follows;
-      spans = steps_read unused_case operand_view all i x (unused_steps (spans_of c.loop-case.rows)) (unused_steps (spans_of c.type_case.new.rows)) _ lt c.case-item.is c.in_ok-bodies.ensures.spans c.loop-case.invariant.spans;
+      spans = places_read all i x (spans_of c.loop-case.rows) (spans_of c.type_case.new.rows) _ lt c.case-item.is c.in_ok-bodies.ensures.spans c.loop-case.invariant.spans;
       carries = case_step c.args.at.now c.loop-case.at c.type_case.new.at c.args.env.now all i x c.args.matched.0 (node_if c.args.known) (node_if c.loop-case.bodies) (node_if c.in_ok-bodies.bodies) lt c.case-item.is c.loop-case.invariant.goes c.loop-case.invariant.carries c.in_ok-bodies.ensures.carries;
     }
 
 pub cases::type_each_case-loop-case-init : goal.cases::type_each_case-loop-case-init
 cases::type_each_case-loop-case-init t c = record {
   goes = goes_refl c.args.at.now;
-  gets = gets_start (each expression_case (map operand_view c.args.cases.now)) c.args.at.now;
   spans = refl;
   carries = λ all. cases_none c.args.at.now c.args.env.now (cases_of c.args.at.now.item (map operand_view c.args.cases.now)) c.args.matched.0 (node_if c.args.known);
 }
@@ -245,6 +159,10 @@ cases::type_each_case-returns-clause-carries t c = λ all.
     let view : List Operand → List Case = λ os. cases_of c.args.at.now.item (map operand_view os) in
     cases_all c.args.at.now c.loop-case.at c.args.env.now (view c.args.cases.now) (view (drop c.loop-case.case-index c.args.cases.now)) c.args.matched.0 (node_if c.args.known) (node_if c.loop-case.bodies)
     (ap view (drop_all c.loop-case.case-index c.args.cases.now c.loop-case-test.false)) (c.loop-case.invariant.carries all)
+
+pub cases::type_each_case-returns-clause-spans : goal.cases::type_each_case-returns-clause-spans
+cases::type_each_case-returns-clause-spans t c =
+    places_done (drop c.loop-case.case-index c.args.cases.now) (spans_of c.loop-case.rows) _ (drop_all c.loop-case.case-index c.args.cases.now c.loop-case-test.false) c.loop-case.invariant.spans
 
 pub cases::match_of-returns-clause-carries : goal.cases::match_of-returns-clause-carries
 cases::match_of-returns-clause-carries t c = λ place node.
@@ -265,6 +183,12 @@ cases::type_cases-returns-clause-carries t c =
     if_ok c.type_or_var.result _ _ (λ m both all.
     cases_row c.args.at.now c.type_each_case.new.at c.report.new.at c.type_or_var.new.at c.args.env.now (map operand_view c.deref.result.now) (operands_in c.args.number (node_view c.args.node.now) 4) c.args.matched.0 (node_if c.args.known) c.in_ok-bodies.bodies m same
     c.in_ok-bodies.ensures.carries c.in_ok-report.ensures.warns both.0 both.1 all) (both_ok c.type_or_var.result _ _ c.type_or_var.ensures.ty c.type_or_var.ensures.carries)
+
+pub cases::type_cases-returns-clause-warns : goal.cases::type_cases-returns-clause-warns
+cases::type_cases-returns-clause-warns t c =
+    let items = c.deref.result.now in
+    cases_warned c.type_or_var.result c.args.number c.args.node.now items (spans_of c.type_each_case.new.rows) c.args.at.now c.type_each_case.new.at c.report.new.at c.type_or_var.new.at (ap (map operand_view) c.deref.ensures.value ∙ c.in_ok-cases.ensures)
+    (c.in_ok-bodies.ensures.spans ∙ ap (λ ps. ps ++ places_there (map operand_view items)) c.new-rows.ensures.spans) c.type_each_case.ensures.goes c.in_ok-report.ensures.places c.type_or_var.ensures.silent
 
 pub cases::type_case-returns-in_default-clause-carries : goal.cases::type_case-returns-in_default-clause-carries
 cases::type_case-returns-in_default-clause-carries t c = λ carried.
@@ -313,108 +237,11 @@ pub exprs::typed_as-returns-clause-typed : goal.exprs::typed_as-returns-clause-t
 exprs::typed_as-returns-clause-typed t c = λ none carried.
     typed_unasked c.args.at.now c.type_under.new.at c.equal_if.new.at c.args.scope.now (expression_of c.args.at.now.item (operand_view c.args.e)) (place_of c.args.e.span) c.in_ok-ty.ty.0 c.args.wanted none (c.in_ok-ty.ensures.carries carried) c.in_ok-equal_if.ensures.carries
 
-pub cases::match_of-returns-clause-follows : goal.cases::match_of-returns-clause-follows
-cases::match_of-returns-clause-follows t c =
-    let n = c.args.number in
-    let tree = node_view c.args.node.now in
-    follows_both (expression_steps (filled_in n tree 1)) (cases_at n tree) c.args.at.now c.type_under.new.at c.type_cases.new.at
-    (subst (λ o. Follows (expression_steps o) c.args.at.now c.type_under.new.at) c.operand_in-subject.ensures c.in_ok-ty.ensures.follows)
-    c.type_cases.ensures.goes c.in_ok-ty-2.ensures.follows
-
-pub cases::function_of_cases-returns-clause-follows : goal.cases::function_of_cases-returns-clause-follows
-cases::function_of_cases-returns-clause-follows t c =
-    let x = cases_at c.args.number (node_view c.args.node.now) in
-    follows_before x c.args.at.now c.type_cases.new.at c.arrow.new.self
-    (follows_behind x c.args.at.now c.var.new.self c.type_cases.new.at (store_silent c.args.at.now c.var.new.self c.var.ensures.rest) c.in_ok-to.ensures.follows)
-    c.arrow.ensures.goes (store_silent c.type_cases.new.at c.arrow.new.self c.arrow.ensures.rest)
-
-pub functions::function-returns-clause-follows : goal.functions::function-returns-clause-follows
-functions::function-returns-clause-follows t c =
-    let n = c.args.number in
-    let tree = node_view c.args.node.now in
-    let x = each parameter_steps (operands_in n tree 1) in
-    let y = expression_steps (filled_in n tree 3) in
-    let same : map operand_view c.deref.result.now ≡ operands_in c.args.number (node_view c.args.node.now) 1 = ap (map operand_view) c.deref.ensures.value ∙ c.in_ok-parameters.ensures in
-    follows_before (x ++ y) c.args.at.now c.type_under.new.at c.arrows.new.at
-    (follows_both x y c.args.at.now c.type_parameters.new.at c.type_under.new.at
-    (subst (λ os. Follows (each parameter_steps os) c.args.at.now c.type_parameters.new.at) same c.in_ok-types.ensures.follows)
-    c.type_under.ensures.goes
-    (subst (λ o. Follows (expression_steps o) c.type_parameters.new.at c.type_under.new.at) c.operand_in-body.ensures c.in_ok-to.ensures.follows))
-    c.arrows.ensures.goes c.arrows.ensures.silent
-
-pub cases::case_of-returns-clause-follows : goal.cases::case_of-returns-clause-follows
-cases::case_of-returns-clause-follows t c =
-    let k = c.args.case in
-    let x = typed_pattern (operand_view k.pattern) in
-    let y = typed_as_if (option_map (λ o. expression_at (operand_view o)) k.guard) in
-    let z = typed_as (expression_at (operand_view k.body)) in
-    follows_both (x ++ y) z c.args.at.now c.type_guard.new.at c.typed_as.new.at
-    (follows_both x y c.args.at.now c.within_case.new.at c.type_guard.new.at c.in_ok-inner.ensures.follows c.type_guard.ensures.goes c.in_ok-type_guard.ensures.follows)
-    c.typed_as.ensures.goes c.in_ok-ty.ensures.follows
-
-pub cases::type_case-returns-in_default-clause-follows : goal.cases::type_case-returns-in_default-clause-follows
-cases::type_case-returns-in_default-clause-follows t c =
-    subst (λ ss. Follows ss c.args.at.now c.note_plain.new.self) (sym (case_lost c.args.case c.in_default.is)) c.in_ok-note_plain.ensures.follows
-
 pub cases::type_case-returns-in_default-clause-spans : goal.cases::type_case-returns-in_default-clause-spans
-cases::type_case-returns-in_default-clause-spans t c = unused_same (spans_of c.args.rows.now) c.args.case c.in_default.is
-
-pub cases::type_case-returns-clause-follows : goal.cases::type_case-returns-clause-follows
-cases::type_case-returns-clause-follows t c =
-    same_follows c.typed_case.result _ _ _ _ (sym (case_there c.args.case c.in-Some.node c.in-Some.is))
-    (ends_both c.typed_case.result (records c.args.case.number ∷ []) _ _ _ _ c.in_ok-note_plain.ensures.follows c.typed_case.ensures.goes c.typed_case.ensures.follows)
+cases::type_case-returns-in_default-clause-spans t c = place_same (spans_of c.args.rows.now) c.args.case c.in_default.is
 
 pub cases::type_case-returns-clause-spans : goal.cases::type_case-returns-clause-spans
-cases::type_case-returns-clause-spans t c = unused_follow c.typed_case.result _ _ c.args.case c.in-Some.node c.in-Some.is c.typed_case.ensures.spans
-
-pub cases::typed_case-returns-clause-follows : goal.cases::typed_case-returns-clause-follows
-cases::typed_case-returns-clause-follows t c =
-    let tree = node_view c.args.node.now in
-    same_follows c.case_of.result _ _ _ _ (case_parts_are _ _ c.first_operand.result (operands_in c.args.number tree 2) _ _ c.operand_in.ensures c.first_operand.ensures c.operand_in-2.ensures) c.case_of.ensures.follows
-
-pub cases::type_cases-returns-clause-follows : goal.cases::type_cases-returns-clause-follows
-cases::type_cases-returns-clause-follows t c =
-    let items = c.deref.result.now in
-    cases_follow c.type_or_var.result c.args.number c.args.node.now items (spans_of c.type_each_case.new.rows) _ _ _ _ (ap (map operand_view) c.deref.ensures.value ∙ c.in_ok-cases.ensures)
-    (c.in_ok-bodies.ensures.spans ∙ ap (λ ps. unused_steps ps ++ each unused_case (map operand_view items)) c.new-rows.ensures.spans)
-    c.in_ok-bodies.ensures.follows c.report.ensures.goes c.in_ok-report.ensures.follows c.type_or_var.ensures.goes c.type_or_var.ensures.silent
-
-pub records::record-returns-clause-follows : goal.records::record-returns-clause-follows
-records::record-returns-clause-follows t c =
-    let p : Pieces = record { span = (out-Node c.args.node.now).span; first = c.operand_in.result; value = c.first_operand.result; fields = c.in_ok-operands.field-0 } in
-    subst (λ ss. OnOk c.record_of.result (Follows ss c.args.at.now c.record_of.new.at)) (record_is c.args.number c.args.node.now p _ refl c.operand_in.ensures c.first_operand.ensures c.in_ok-operands.ensures c.token.ensures)
-    c.record_of.ensures.follows
-
-pub records::made-returns-clause-follows : goal.records::made-returns-clause-follows
-records::made-returns-clause-follows t c =
-    let p = record_parts c.args.pieces.now in
-    let label = path_view c.args.label.now in
-    let begun = each lost_steps p.operands ++ asks_labels (label ∷ labels_of p.operands) in
-    let first = field_steps c.args.pieces.now.first.number label.last p.value in
-    ends_both c.complete.result ((begun ++ first) ++ fields_steps p.fields) (asks fault.Complete (p.at ∷ []) ∷ []) c.args.at.now c.type_fields.new.at c.complete.new.at
-    (follows_three begun first (fields_steps p.fields) c.args.at.now c.record_of_made.new.at c.type_field.new.at c.type_fields.new.at c.in_ok-found.ensures.follows
-    c.type_field.ensures.goes c.in_ok-type_field.ensures.follows c.type_fields.ensures.goes
-    (subst (λ os. Follows (fields_steps (map expression_at (map operand_view os))) c.type_field.new.at c.type_fields.new.at) c.deref.ensures.value c.in_ok-type_fields.ensures.follows))
-    c.complete.ensures.goes c.complete.ensures.follows
-
-pub records::loose-returns-clause-follows : goal.records::loose-returns-clause-follows
-records::loose-returns-clause-follows t c =
-    let p = record_parts c.args.pieces.now in
-    let begun = ((asks fault.Label (p.first.self.at ∷ []) ∷ each lost_steps p.operands) ++ p.first.typed) ++ asks_labels (labels_of p.operands) in
-    ends_both c.complete.result ((begun ++ typed_if p.value) ++ fields_steps p.fields) (asks fault.Complete (p.at ∷ []) ∷ []) c.args.at.now c.type_fields.new.at c.complete.new.at
-    (follows_three begun (typed_if p.value) (fields_steps p.fields) c.args.at.now c.record_behind.new.at c.type_if.new.at c.type_fields.new.at c.in_ok-found.ensures.follows
-    c.type_if.ensures.goes c.in_ok-type_if.ensures.follows c.type_fields.ensures.goes
-    (subst (λ os. Follows (fields_steps (map expression_at (map operand_view os))) c.type_if.new.at c.type_fields.new.at) c.deref.ensures.value c.in_ok-type_fields.ensures.follows))
-    c.complete.ensures.goes c.complete.ensures.follows
-
-pub records::record_behind-returns-clause-follows : goal.records::record_behind-returns-clause-follows
-records::record_behind-returns-clause-follows t c =
-    let p = record_parts c.args.pieces.now in
-    let begun = asks fault.Label (p.first.self.at ∷ []) ∷ each lost_steps p.operands in
-    ends_both c.record_of_fields.result (begun ++ p.first.typed) (asks_labels (labels_of p.operands)) c.args.at.now c.type_under.new.at c.record_of_fields.new.at
-    (follows_both begun p.first.typed c.args.at.now c.begin_loose.new.at c.type_under.new.at c.in_ok-begin_loose.ensures.follows c.type_under.ensures.goes c.in_ok-type_under.ensures.follows)
-    c.record_of_fields.ensures.goes
-    (subst (λ os. OnOk c.record_of_fields.result (Follows (asks_labels (labels_of (map operand_view os))) c.type_under.new.at c.record_of_fields.new.at)) c.deref.ensures.value c.record_of_fields.ensures.follows)
+cases::type_case-returns-clause-spans t c = place_added c.typed_case.result _ _ c.args.case c.in-Some.node c.in-Some.is c.typed_case.ensures.spans
 
 pub records::type_fields-loop-field-preserved : goal.records::type_fields-loop-field-preserved
 records::type_fields-loop-field-preserved t c =
@@ -422,37 +249,12 @@ records::type_fields-loop-field-preserved t c =
     let i = c.loop-field.field-index in
     let x = c.field-item.result in
     let lt : i < length all = let n = c.loop-field-test.true in omega arith in
-    let cut = drop_read all i x lt c.field-item.is in
     record {
       found = c.in_ok-type_if_there.ensures.found ∙ c.loop-field.invariant.found;
       goes = goes_trans c.args.at.now c.loop-field.at c.type_if_there.new.at c.loop-field.invariant.goes c.type_if_there.ensures.goes;
-      gets = gets_more (fields_steps (map expression_at (map operand_view all))) (expression_field (operand_view x)) (fields_steps (map expression_at (map operand_view (drop (i + 1) all)))) c.args.at.now c.loop-field.at c.type_if_there.new.at
-          (subst (λ os. GetsOn c.args.at.now c.loop-field.at (fields_steps (map expression_at (map operand_view all))) (fields_steps (map expression_at (map operand_view os)))) cut c.loop-field.invariant.gets)
-          c.type_if_there.ensures.goes c.in_ok-type_if_there.ensures.follows;
       carries = value_step c.args.at.now c.loop-field.at c.type_if_there.new.at c.args.env.now (here_of c.args.fields.now.found) (here_of c.loop-field.fields.found) all i x (names_written c.args.fields.now.labels.items) (names_written c.loop-field.fields.labels.items) (names_written c.type_if_there.new.fields.labels.items)
           lt c.field-item.is c.loop-field.invariant.goes c.loop-field.invariant.found c.loop-field.invariant.carries c.in_ok-type_if_there.ensures.carries;
     }
-
-pub records::record_of_part-returns-clause-follows : goal.records::record_of_part-returns-clause-follows
-records::record_of_part-returns-clause-follows t c =
-    let p = record_parts c.args.pieces.now in
-    let lost = each lost_steps p.operands in
-    let labels = asks_labels (labels_of p.operands) in
-    follows_both ((lost ++ p.first.typed) ++ labels) (asks_equal p.first.self) c.args.at.now c.record_of_fields.new.at c.equal_if.new.at
-    (follows_three lost p.first.typed labels c.args.at.now c.note_missing.new.at c.type_under.new.at c.record_of_fields.new.at
-    (subst (λ os. Follows (each lost_steps (map operand_view os)) c.args.at.now c.note_missing.new.at) c.deref.ensures.value c.in_ok-note_missing.ensures.follows)
-    c.type_under.ensures.goes c.in_ok-ty.ensures.follows c.record_of_fields.ensures.goes
-    (subst (λ os. Follows (asks_labels (labels_of (map operand_view os))) c.type_under.new.at c.record_of_fields.new.at) c.deref-2.ensures.value c.in_ok-found.ensures.follows))
-    c.equal_if.ensures.goes c.in_ok-equal_if.ensures.follows
-
-pub records::type_if_there-returns-in_default-clause-follows : goal.records::type_if_there-returns-in_default-clause-follows
-records::type_if_there-returns-in_default-clause-follows t c =
-    subst (λ ss. Follows ss c.args.at.now c.args.at.now) (sym (field_lost c.args.field c.in_default.is)) (follows_none c.args.at.now c.args.at.now refl)
-
-pub records::type_if_there-returns-clause-follows : goal.records::type_if_there-returns-clause-follows
-records::type_if_there-returns-clause-follows t c =
-    subst (λ ss. OnOk c.type_field.result (Follows ss c.args.at.now c.type_field.new.at))
-    (field_is c.args.field c.in-Some.node (path_view c.in_ok-label.label) c.first_operand-value.result c.in-Some.is c.in_ok-label.ensures c.first_operand-value.ensures) c.type_field.ensures.follows
 
 pub bindings::in_turn-loop-binding-init : goal.bindings::in_turn-loop-binding-init
 bindings::in_turn-loop-binding-init t c =
@@ -461,7 +263,6 @@ bindings::in_turn-loop-binding-init t c =
       goes = goes_refl c.args.at.now;
       carries = turns_start c.args.at.now c.args.env.now os (names_seen c.new-seen.result.items) (map typed_of c.new-bound.result.items) (ap names_seen c.new-seen.ensures.items) (ap (map typed_of) c.new-bound.ensures.items);
       general = judges_start os (generals c.new-bound.result.items) (ap generals c.new-bound.ensures.items);
-      gets = gets_start (each (λ b. turn_steps (expression_at b)) (map operand_view os)) c.args.at.now;
     }
 
 pub bindings::in_turn-returns-clause-carries : goal.bindings::in_turn-returns-clause-carries
@@ -487,7 +288,6 @@ bindings::in_turn-loop-binding-preserved t c =
       carries = turns_step c.args.at.now c.loop-binding.at c.take_turn.new.at c.args.env.now all i x (names_seen c.loop-binding.seen.items) (names_seen c.take_turn.new.seen.items) (map typed_of c.loop-binding.bound.items) (map typed_of c.take_turn.new.bound.items) lt c.binding-item.is
           c.loop-binding.invariant.goes c.loop-binding.invariant.carries c.in_ok-take_turn.ensures.carries;
       general = judges_step all i x (generals c.loop-binding.bound.items) (generals c.take_turn.new.bound.items) lt c.binding-item.is c.loop-binding.invariant.general c.in_ok-take_turn.ensures.general;
-      gets = gets_read (λ b. turn_steps (expression_at b)) operand_view _ all i x _ _ _ lt c.binding-item.is c.loop-binding.invariant.gets c.take_turn.ensures.goes c.in_ok-take_turn.ensures.follows;
     }
 
 pub bindings::let_in-returns-clause-carries : goal.bindings::let_in-returns-clause-carries
@@ -507,24 +307,6 @@ pub bindings::let_in-returns-in_err-ty-clause-goes : goal.bindings::let_in-retur
 bindings::let_in-returns-in_err-ty-clause-goes t c =
     let closed = goes_trans c.raise.new.at c.type_group.new.at c.close.new.at c.type_group.ensures.goes c.close.ensures.goes in
     goes_trans c.args.at.now c.raise.new.at c.type_under.new.at c.raise.ensures.goes (goes_trans c.raise.new.at c.close.new.at c.type_under.new.at closed c.type_under.ensures.goes)
-
-pub bindings::let_in-returns-clause-follows : goal.bindings::let_in-returns-clause-follows
-bindings::let_in-returns-clause-follows t c =
-    let tree = node_view c.args.node.now in
-    follows_behind (steps_as form.Let c.args.number tree) c.args.at.now c.raise.new.at c.type_under.new.at c.raise.ensures.silent
-    (let_follow c.args.number tree (operand_view c.operand_in-body.result) c.raise.new.at c.type_group.new.at c.close.new.at c.type_under.new.at c.operand_in-body.ensures c.in_ok-bound.ensures.follows c.close.ensures.goes c.close.ensures.silent c.type_under.ensures.goes c.in_ok-ty.ensures.follows)
-
-pub bindings::turn-returns-clause-follows : goal.bindings::turn-returns-clause-follows
-bindings::turn-returns-clause-follows t c =
-    let b = c.args.binding in
-    let tree = node_view b.node.now in
-    let r = records b.number ∷ right_at b.number tree in
-    let p = pattern_steps (bound_pattern b.number tree) in
-    let w = whole_steps (bound_pattern b.number tree) in
-    ends_both c.conclude.result (r ++ p) w c.args.at.now c.open_pattern.new.at c.conclude.new.at
-    (follows_both r p c.args.at.now c.recorded_right.new.at c.open_pattern.new.at c.in_ok-side.ensures.follows c.open_pattern.ensures.goes c.in_ok-opened.ensures.follows)
-    c.conclude.ensures.goes
-    (subst (λ o. OnOk c.conclude.result (Follows (whole_steps (bound_pattern o.number (node_view o.node.now))) c.open_pattern.new.at c.conclude.new.at)) c.in_ok-opened.ensures.binding c.conclude.ensures.follows)
 
 pub bindings::turn-returns-clause-carries : goal.bindings::turn-returns-clause-carries
 bindings::turn-returns-clause-carries t c =
@@ -611,7 +393,6 @@ bindings::conclude_all-loop-depth-init t c =
       goes = goes_refl c.args.at.now;
       carries = λ are. concludes_start c.args.at.now c.args.within.now (map node_of os) (map opened_of os) (map typed_of c.new-bound.result.items) (ap (map typed_of) c.new-bound.ensures.items) are;
       general = λ are. nodes_judged_start (map node_of os) (generals c.new-bound.result.items) (ap generals c.new-bound.ensures.items) are;
-      gets = gets_start (each conclusion os) c.args.at.now;
     }
 
 pub bindings::conclude_all-returns-clause-carries : goal.bindings::conclude_all-returns-clause-carries
@@ -628,14 +409,6 @@ bindings::conclude_all-returns-clause-general t c =
     let len : length left.items ≡ left.len = search rules in
     let none = none_left left.items (ap (λ n. n == 0) len ∙ (sym c.is_empty.ensures ∙ c.loop-depth-test.false)) in
     nodes_judged_end (map node_of c.args.opened.items) (map node_of left.items) (generals c.loop-depth.bound.items) (ap (map node_of) none) c.loop-depth.invariant.general
-
-pub bindings::take_turn-returns-clause-follows : goal.bindings::take_turn-returns-clause-follows
-bindings::take_turn-returns-clause-follows t c = done_follows c.push.result _ _ _ _ (sym (turn_of c.args.binding c.in-Some.node c.in-Some.is)) c.in_ok-one.ensures.follows
-
-pub bindings::right_of-returns-clause-follows : goal.bindings::right_of-returns-clause-follows
-bindings::right_of-returns-clause-follows t c =
-    right_follow c.typed_body.result (map operand_view c.args.given.now) c.args.written c.in_ok-annotation.annotation (expression_at (operand_view c.args.body)) c.args.at.now c.type_parameters.new.at c.annotation_of.new.at c.typed_body.new.at c.in_ok-annotation.ensures.there
-    c.in_ok-parameters.ensures.follows c.annotation_of.ensures.goes c.in_ok-annotation.ensures.follows c.typed_body.ensures.goes c.typed_body.ensures.follows
 
 pub bindings::conclude_all-loop-depth-preserved : goal.bindings::conclude_all-loop-depth-preserved
 bindings::conclude_all-loop-depth-preserved t c =
@@ -655,19 +428,7 @@ bindings::conclude_all-loop-depth-preserved t c =
           c.in_ok-done.ensures.carries;
       general = λ are. nodes_judged_step (map node_of os) (map node_of left.items) (map node_of rest) (node_of one) (generals before) (generals now) c.in_ok-done.done.generalises (ap (map node_of) cut) (mapped_more (λ b. b.generalises) before now c.in_ok-done.done c.in_ok-push.ensures.pushed)
           (c.loop-depth.invariant.general are) c.in_ok-done.ensures.general;
-      gets = first_gets conclusion left.items c.remove-one.new.self.items c.remove-one.result (each conclusion c.args.opened.items) c.args.at.now c.loop-depth.at c.conclude_one.new.at
-          some c.remove-one.ensures.value c.remove-one.ensures.items c.loop-depth.invariant.gets c.conclude_one.ensures.goes c.in_ok-done.ensures.follows;
     }
-
-pub bindings::type_group-returns-in-None-clause-follows : goal.bindings::type_group-returns-in-None-clause-follows
-bindings::type_group-returns-in-None-clause-follows t c =
-    let n = c.args.number in
-    let tree = node_view c.args.node.now in
-    let os = map operand_view c.deref-in-None.result.now in
-    turns_follow c.in_turn.result n tree os c.args.at.now c.note_missing.new.at c.in_turn.new.at (ap (map operand_view) c.deref-in-None.ensures.value ∙ c.in_ok-bindings.ensures)
-    (no_token tree c.token.result c.token.ensures c.in-None.is)
-    (subst (λ xs. Follows (each lost_steps (map operand_view xs)) c.args.at.now c.note_missing.new.at) (c.deref.ensures.value ∙ sym c.deref-in-None.ensures.value) c.in_ok-note_missing.ensures.follows)
-    c.in_turn.ensures.goes c.in_turn.ensures.follows
 
 pub bindings::type_group-returns-in-None-clause-carries : goal.bindings::type_group-returns-in-None-clause-carries
 bindings::type_group-returns-in-None-clause-carries t c =
@@ -680,16 +441,6 @@ pub bindings::type_group-returns-in-None-clause-general : goal.bindings::type_gr
 bindings::type_group-returns-in-None-clause-general t c =
     if_ok c.in_turn.result _ _ (λ bs h.
     judged_group c.args.number (node_view c.args.node.now) (map operand_view c.deref-in-None.result.now) (generals bs.items) (ap (map operand_view) c.deref-in-None.ensures.value ∙ c.in_ok-bindings.ensures) h) c.in_turn.ensures.general
-
-pub bindings::type_group-returns-clause-follows : goal.bindings::type_group-returns-clause-follows
-bindings::type_group-returns-clause-follows t c =
-    let n = c.args.number in
-    let tree = node_view c.args.node.now in
-    let os = map operand_view c.deref-in-Some.result.now in
-    together_follow c.together.result n tree os (tok_of c.in-Some.field-0.now) c.args.at.now c.note_missing.new.at c.together.new.at (ap (map operand_view) c.deref-in-Some.ensures.value ∙ c.in_ok-bindings.ensures)
-    (some_token tree c.token.result c.in-Some.field-0 c.token.ensures c.in-Some.is)
-    (subst (λ xs. Follows (each lost_steps (map operand_view xs)) c.args.at.now c.note_missing.new.at) (c.deref.ensures.value ∙ sym c.deref-in-Some.ensures.value) c.in_ok-note_missing.ensures.follows)
-    c.together.ensures.goes c.together.ensures.follows
 
 pub bindings::type_group-returns-clause-carries : goal.bindings::type_group-returns-clause-carries
 bindings::type_group-returns-clause-carries t c =
@@ -707,7 +458,6 @@ pub exprs::type_each-loop-e-init : goal.exprs::type_each-loop-e-init
 exprs::type_each-loop-e-init t c = record {
   goes = goes_refl c.args.at.now;
   carries = λ all. each_none c.args.at.now c.args.env.now (expressions_of c.args.at.now.item (map operand_view c.args.es.now));
-  gets = gets_start (each (λ o. expression_steps (operand_view o)) c.args.es.now) c.args.at.now;
 }
 
 pub exprs::type_each-returns-clause-carries : goal.exprs::type_each-returns-clause-carries
@@ -719,7 +469,6 @@ pub apply::arguments-loop-one-init : goal.apply::arguments-loop-one-init
 apply::arguments-loop-one-init t c = record {
   goes = goes_refl c.args.at.now;
   carries = λ all. given_none c.args.at.now c.args.env.now (place_of c.args.place) (signed_expressions (is_negated c.args.sign) c.args.at.now.item (map operand_view c.args.given.now)) c.args.head.0;
-  gets = gets_start (arguments_steps (place_of c.args.place) (map expression_at (map operand_view c.args.given.now))) c.args.at.now;
 }
 
 pub apply::arguments-returns-clause-carries : goal.apply::arguments-returns-clause-carries
@@ -733,7 +482,6 @@ plain::type_parts-loop-part-init t c = record {
   goes = goes_refl c.args.at.now;
   places = ap length c.new-types.ensures.items;
   carries = λ all. parts_none c.args.at.now c.args.env.now (row_of c.args.row) (expressions_of c.args.at.now.item (map operand_view c.args.parts.now)) (numbers c.new-types.result.items) (ap numbers c.new-types.ensures.items);
-  gets = gets_start (parts_from (row_of c.args.row) 0 (map expression_at (map operand_view c.args.parts.now))) c.args.at.now;
 }
 
 pub plain::type_parts-returns-clause-carries : goal.plain::type_parts-returns-clause-carries
@@ -918,33 +666,15 @@ fields::set-returns-clause-carries t c = λ place carried is.
     set_row c.args.at.now c.set_part.new.at c.typed_as.new.at c.args.env.now c.args.number place (node_view c.args.node.now) c.operand_in-left.result c.operand_in-right.result c.in_ok-ty.ty.0 c.unnamed.result.ty carried is c.operand_in-left.ensures c.operand_in-right.ensures
     c.in_ok-ty.ensures.carries c.set_part.ensures.goes c.in_ok-typed_as.ensures.carries c.unnamed.ensures.ty
 
-pub fields::set-returns-clause-follows : goal.fields::set-returns-clause-follows
-fields::set-returns-clause-follows t c =
-    let n = c.args.number in
-    let tree = node_view c.args.node.now in
-    follows_both (set_part_steps (expression_at (filled_in n tree 0))) (typed_as (expression_at (filled_in n tree 2))) c.args.at.now c.set_part.new.at c.typed_as.new.at
-    (subst (λ o. Follows (set_part_steps (expression_at o)) c.args.at.now c.set_part.new.at) c.operand_in-left.ensures c.in_ok-ty.ensures.follows) c.typed_as.ensures.goes
-    (subst (λ o. Follows (typed_as (expression_at o)) c.set_part.new.at c.typed_as.new.at) c.operand_in-right.ensures c.in_ok-typed_as.ensures.follows)
-
 pub fields::set_part-returns-in_ok-inside-in-Some-clause-carries : goal.fields::set_part-returns-in_ok-inside-in-Some-clause-carries
 fields::set_part-returns-in_ok-inside-in-Some-clause-carries t c =
     let there = c.in-Some.node in
     let some = subst (λ o. IfSome o (λ nd. (c.args.part.node ≡ Some nd) × (row_at (node_view nd.now) ≡ field_row))) c.in-Some.is c.field_node.ensures.some in
     if_ok c.set_field.result _ _ (λ m h. part_set c.args.at.now c.set_field.new.at c.args.env.now c.args.part there m.0 some.0 some.1 h) c.set_field.ensures.carries
 
-pub fields::set_part-returns-in_ok-inside-in-Some-clause-follows : goal.fields::set_part-returns-in_ok-inside-in-Some-clause-follows
-fields::set_part-returns-in_ok-inside-in-Some-clause-follows t c =
-    let there = c.in-Some.node in
-    let some = subst (λ o. IfSome o (λ nd. (c.args.part.node ≡ Some nd) × (row_at (node_view nd.now) ≡ field_row))) c.in-Some.is c.field_node.ensures.some in
-    same_follows c.set_field.result _ _ _ _ (set_part_there c.args.part there some.0 some.1) c.set_field.ensures.follows
-
 pub fields::set_part-returns-in_ok-inside-in-None-clause-carries : goal.fields::set_part-returns-in_ok-inside-in-None-clause-carries
 fields::set_part-returns-in_ok-inside-in-None-clause-carries t c =
     if_ok c.type_under.result _ _ (λ m h carried. part_unset c.args.at.now c.type_under.new.at c.args.env.now (operand_view c.args.part) m.0 (c.field_node.ensures.none c.in-None.is) (h carried)) c.type_under.ensures.carries
-
-pub fields::set_part-returns-in_ok-inside-in-None-clause-follows : goal.fields::set_part-returns-in_ok-inside-in-None-clause-follows
-fields::set_part-returns-in_ok-inside-in-None-clause-follows t c =
-    same_follows c.type_under.result _ _ _ _ (set_part_else (operand_view c.args.part) (c.field_node.ensures.none c.in-None.is)) c.type_under.ensures.follows
 
 pub fields::set_field-returns-clause-carries : goal.fields::set_field-returns-clause-carries
 fields::set_field-returns-clause-carries t c = λ place carried row.
@@ -962,34 +692,10 @@ fields::set_field-returns-clause-carries t c = λ place carried row.
     (subst (λ ms. EndsSettable b d env (path_of (path_in tree 2 3)) (expressions_of b.item (map operand_view c.deref-2.result.now)) (numbers ms) ty.0) c.deref-3.ensures.value c.in_ok-used.ensures.carries)) c.settable.ensures.goes
     (λ loud. type_noted d c.note.new.self c.args.number ty (record { env = env; ty = Some ty; names = c.in_ok-used.used.names }) refl loud c.in_ok-note.ensures.noted c.note.ensures.rest)
 
-pub fields::set_field-returns-clause-follows : goal.fields::set_field-returns-clause-follows
-fields::set_field-returns-clause-follows t c =
-    let n = c.args.number in
-    let tree = node_view c.args.node.now in
-    let es = all_expressions n tree in
-    let parts = subst (λ r. Follows (parts_from r 0 (map expression_at (map operand_view c.in_ok-parts.parts.items))) c.args.at.now c.type_parts.new.at) is_field
-    (subst (λ os. Follows (parts_from (row_of name.Field) 0 (map expression_at (map operand_view os))) c.args.at.now c.type_parts.new.at) c.deref.ensures.value c.in_ok-types.ensures.follows) in
-    let end = subst (λ os. Follows (label_steps (path_in tree 2 3) (map expression_at (map operand_view os)) ++ asks_token fault.Mutable (token_in tree 3)) c.type_parts.new.at c.settable.new.at) c.deref-2.ensures.value c.in_ok-used.ensures.follows in
-    set_field_follows (parts_from field_row 0 es) (label_steps (path_in tree 2 3) es) fault.Mutable (token_in tree 3) n c.args.at.now c.type_parts.new.at c.settable.new.at c.note.new.self
-    (subst (λ os. Follows (parts_from field_row 0 (map expression_at os)) c.args.at.now c.type_parts.new.at) c.in_ok-parts.ensures parts) c.settable.ensures.goes
-    (subst (λ os. Follows (label_steps (path_in tree 2 3) (map expression_at os) ++ asks_token fault.Mutable (token_in tree 3)) c.type_parts.new.at c.settable.new.at) c.in_ok-parts.ensures end) c.note.ensures.goes c.in_ok-note.ensures.follows
-
 pub loops::for_loop-returns-clause-carries : goal.loops::for_loop-returns-clause-carries
 loops::for_loop-returns-clause-carries t c = λ place carried is.
     for_row c.args.at.now c.typed_as.new.at c.typed_as-2.new.at c.type_under.new.at c.args.env.now c.in_ok-scope.scope.env c.args.number place (node_view c.args.node.now) c.operand_in-first.result c.operand_in-last.result c.operand_in-body.result c.in_ok-type_under.field-0.0 carried is
     c.operand_in-first.ensures c.operand_in-last.ensures c.operand_in-body.ensures c.in_ok-typed_as.ensures.carries c.typed_as.ensures.goes c.in_ok-typed_as-2.ensures.carries c.typed_as-2.ensures.goes c.in_ok-scope.ensures c.in_ok-type_under.ensures.carries
-
-pub loops::for_loop-returns-clause-follows : goal.loops::for_loop-returns-clause-follows
-loops::for_loop-returns-clause-follows t c =
-    let n = c.args.number in
-    let tree = node_view c.args.node.now in
-    let first = typed_as (expression_at (filled_in n tree 3)) in
-    let last = typed_as (expression_at (filled_in n tree 5)) in
-    follows_both (first ++ last) (expression_steps (filled_in n tree 7)) c.args.at.now c.typed_as-2.new.at c.type_under.new.at
-    (follows_both first last c.args.at.now c.typed_as.new.at c.typed_as-2.new.at
-    (subst (λ o. Follows (typed_as (expression_at o)) c.args.at.now c.typed_as.new.at) c.operand_in-first.ensures c.in_ok-typed_as.ensures.follows) c.typed_as-2.ensures.goes
-    (subst (λ o. Follows (typed_as (expression_at o)) c.typed_as.new.at c.typed_as-2.new.at) c.operand_in-last.ensures c.in_ok-typed_as-2.ensures.follows)) c.type_under.ensures.goes
-    (subst (λ o. Follows (expression_steps o) c.typed_as-2.new.at c.type_under.new.at) c.operand_in-body.ensures c.in_ok-type_under.ensures.follows)
 
 pub exprs::typed_row-returns-in-Plain-clause-carries : goal.exprs::typed_row-returns-in-Plain-clause-carries
 exprs::typed_row-returns-in-Plain-clause-carries t c =
@@ -1132,7 +838,6 @@ records::type_fields-loop-field-init t c =
     record {
       goes = goes_refl c.args.at.now;
       found = refl;
-      gets = gets_start (fields_steps (map expression_at (map operand_view all))) c.args.at.now;
       carries = λ carried. written_none c.args.at.now c.args.env.now (here_of c.args.fields.now.found) (names_written c.args.fields.now.labels.items) (value_fields_of c.args.at.now.item (map operand_view all));
     }
 
@@ -1171,3 +876,12 @@ records::type_field-returns-in-None-clause-found t c = on_any c.pun.result _ (ap
 
 pub records::type_value-returns-clause-carries : goal.records::type_value-returns-clause-carries
 records::type_value-returns-clause-carries t c = record { told = c.note_label.new.at; noted = c.in_ok-note_label.ensures.carries; goes = c.note_label.ensures.goes; value = c.in_ok-typed_as.ensures.carries }
+
+pub bindings::recorded_right-returns-clause-recorded : goal.bindings::recorded_right-returns-clause-recorded
+bindings::recorded_right-returns-clause-recorded t c = record_stays_in c.type_right.result c.args.binding.number c.note_plain.new.self c.type_right.new.at c.type_right.ensures.goes c.in_ok-note_plain.ensures.recorded
+
+pub cases::type_case-returns-in_default-clause-recorded : goal.cases::type_case-returns-in_default-clause-recorded
+cases::type_case-returns-in_default-clause-recorded t c = c.in_ok-note_plain.ensures.recorded
+
+pub cases::type_case-returns-clause-recorded : goal.cases::type_case-returns-clause-recorded
+cases::type_case-returns-clause-recorded t c = record_stays_in c.typed_case.result c.args.case.number c.note_plain.new.self c.typed_case.new.at c.typed_case.ensures.goes c.in_ok-note_plain.ensures.recorded

@@ -3,10 +3,8 @@ use Rattle.syntax_tree.specs.Names.{row_of}
 use Rattle.syntax_tree.specs.View.{place_of}
 use Rattle.row_parts.specs.Numbered.{operand_view}
 use Rattle.typing_state.specs.Goes.{Goes}
-use Rattle.typing_state.specs.Steps.{each, GetsOn}
-use Rattle.match_warnings.specs.Warnings.{spans_of, unused_steps}
-use Rattle.expression_steps.specs.ExpressionSteps.{arguments_steps, expression_at, expression_case, expression_steps, fields_steps, parts_from, turn_steps, unused_case}
-use Rattle.core_typing.specs.Concluding.{conclusion}
+use Rattle.match_warnings.specs.Warnings.{spans_of}
+use Rattle.core_typing.specs.Cases.{places_there}
 use Rattle.std.specs.Prelude.{All, option_map}
 use Rattle.type_terms.specs.declared.types.NodeRef.{NodeRef}
 use Rattle.case_rows.specs.Carried.{IsCase}
@@ -98,14 +96,12 @@ decreases-plain::type_part l = 16 * l.depth.0 + 1
 abbrev pub invariant-exprs::type_each-loop-e : goal.invariant-exprs::type_each-loop-e
 invariant-exprs::type_each-loop-e l = record {
   goes : Goes l.fn.at l.at;
-  gets : GetsOn l.fn.at l.at (each (λ o. expression_steps (operand_view o)) l.es) (each (λ o. expression_steps (operand_view o)) (drop l.e-index l.es));
   carries : All IsCarried (map operand_view l.es) → TypesFirst l.fn.at l.at l.env (expressions_of l.fn.at.item (map operand_view l.es)) (expressions_of l.fn.at.item (map operand_view (drop l.e-index l.es)));
 }
 
 abbrev pub invariant-apply::arguments-loop-one : goal.invariant-apply::arguments-loop-one
 invariant-apply::arguments-loop-one l = record {
   goes : Goes l.fn.at l.at;
-  gets : GetsOn l.fn.at l.at (arguments_steps (place_of l.place) (map expression_at (map operand_view l.given))) (arguments_steps (place_of l.place) (map expression_at (map operand_view (drop l.one-index l.given))));
   carries : All IsCarried (map operand_view l.given) → TypesGivenFirst l.fn.at l.at l.env (place_of l.place) (signed_expressions (is_negated l.sign) l.fn.at.item (map operand_view l.given)) (signed_expressions (is_negated l.sign) l.fn.at.item (map operand_view (drop l.one-index l.given))) l.fn.head.0 l.ty.0;
 }
 
@@ -113,7 +109,6 @@ abbrev pub invariant-plain::type_parts-loop-part : goal.invariant-plain::type_pa
 invariant-plain::type_parts-loop-part l = record {
   goes : Goes l.fn.at l.at;
   places : length l.types.items ≡ l.part-index;
-  gets : GetsOn l.fn.at l.at (parts_from (row_of l.row) 0 (map expression_at (map operand_view l.parts))) (parts_from (row_of l.row) l.part-index (map expression_at (map operand_view (drop l.part-index l.parts))));
   carries : All IsCarried (map operand_view l.parts) → TypesPartsFirst l.fn.at l.at l.env (row_of l.row) l.part-index (expressions_of l.fn.at.item (map operand_view l.parts)) (expressions_of l.fn.at.item (map operand_view (drop l.part-index l.parts))) (numbers l.types.items);
 }
 
@@ -186,8 +181,7 @@ decreases-bindings::conclude_all-loop-depth l = length l.left.items
 abbrev pub invariant-cases::type_each_case-loop-case : goal.invariant-cases::type_each_case-loop-case
 invariant-cases::type_each_case-loop-case l = record {
   goes : Goes l.fn.at l.at;
-  gets : GetsOn l.fn.at l.at (each expression_case (map operand_view l.cases)) (each expression_case (map operand_view (drop l.case-index l.cases)));
-  spans : unused_steps (spans_of l.rows) ++ each unused_case (map operand_view (drop l.case-index l.cases)) ≡ unused_steps (spans_of l.fn.rows) ++ each unused_case (map operand_view l.cases);
+  spans : spans_of l.rows ++ places_there (map operand_view (drop l.case-index l.cases)) ≡ spans_of l.fn.rows ++ places_there (map operand_view l.cases);
   carries : All IsCase (map operand_view l.cases) → TypesCasesFirst l.fn.at l.at l.env (cases_of l.fn.at.item (map operand_view l.cases)) (cases_of l.fn.at.item (map operand_view (drop l.case-index l.cases))) l.fn.matched.0 (option_map (λ (w : NodeRef). w.0) l.fn.known) (option_map (λ (w : NodeRef). w.0) l.bodies);
 }
 
@@ -196,7 +190,6 @@ invariant-bindings::in_turn-loop-binding l = record {
   goes : Goes l.fn.at l.at;
   carries : TypesInTurnFirst l.fn.at l.at l.env l.bindings (drop l.binding-index l.bindings) (names_seen l.seen.items) (map typed_of l.bound.items);
   general : JudgesOperandsFirst l.bindings (drop l.binding-index l.bindings) (generals l.bound.items);
-  gets : GetsOn l.fn.at l.at (each (λ b. turn_steps (expression_at b)) (map operand_view l.bindings)) (each (λ b. turn_steps (expression_at b)) (map operand_view (drop l.binding-index l.bindings)));
 }
 
 abbrev pub invariant-bindings::conclude_all-loop-depth : goal.invariant-bindings::conclude_all-loop-depth
@@ -205,7 +198,6 @@ invariant-bindings::conclude_all-loop-depth l = record {
   carries : All IsNumberedBinding (map node_of l.fn.opened.items) →
       ConcludesNodesFirst l.fn.at l.at l.within (map node_of l.fn.opened.items) (map node_of l.left.items) (map opened_of l.fn.opened.items) (map opened_of l.left.items) (map typed_of l.bound.items);
   general : All IsDecidedNumbered (map node_of l.fn.opened.items) → JudgesNodesFirst (map node_of l.fn.opened.items) (map node_of l.left.items) (generals l.bound.items);
-  gets : GetsOn l.fn.at l.at (each conclusion l.fn.opened.items) (each conclusion l.left.items);
 }
 
 abbrev pub decreases-records::record : goal.decreases-records::record
@@ -251,7 +243,6 @@ abbrev pub invariant-records::type_fields-loop-field : goal.invariant-records::t
 invariant-records::type_fields-loop-field l = record {
   goes : Goes l.fn.at l.at;
   found : here_of l.fields.found ≡ here_of l.fn.fields.found;
-  gets : GetsOn l.fn.at l.at (fields_steps (map expression_at (map operand_view l.given))) (fields_steps (map expression_at (map operand_view (drop l.field-index l.given))));
   carries : All IsCarriedValue (map operand_view l.given) →
       FieldsWrittenFirst l.fn.at l.at l.env (here_of l.fn.fields.found) (value_fields_of l.fn.at.item (map operand_view l.given)) (value_fields_of l.fn.at.item (map operand_view (drop l.field-index l.given))) (names_written l.fn.fields.labels.items) (names_written l.fields.labels.items);
 }

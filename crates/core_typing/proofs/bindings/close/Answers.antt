@@ -2,7 +2,7 @@ use Rattle.std.proofs.Common.{◌∙◌, ◌<◌, length, map, drop, sym, ap, su
 use Rattle.std.proofs.lemmas.List.{drop_all}
 use Rattle.typing_state.specs.declared.parts.Parts.{Parts}
 use Rattle.typing_state.proofs.Going.{goes_trans}
-use Rattle.typing_state.proofs.Following.{silent_trans}
+use Rattle.typing_state.proofs.Silence.{silent_trans}
 use Rattle.pattern_typing.specs.Matching.{binds_of}
 use Rattle.case_rows.specs.Scopes.{names_added}
 use Rattle.binding_rows.specs.Closing.{GeneralisesAll}

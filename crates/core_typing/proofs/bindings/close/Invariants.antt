@@ -1,7 +1,6 @@
 use Rattle.std.proofs.Common.{◌≡◌, map, drop}
 use Rattle.std.specs.Prelude.{None}
-use Rattle.typing_state.specs.Goes.{Goes}
-use Rattle.typing_state.specs.Steps.{Silent}
+use Rattle.typing_state.specs.Goes.{Goes, Silent}
 use Rattle.case_rows.specs.Scopes.{names_added}
 use Rattle.binding_rows.specs.Lets.{names_closed}
 use Rattle.core_typing.specs.Bindings.{closing_of}

@@ -1,7 +1,7 @@
 use Rattle.std.proofs.Common.{◌+◌, ◌<◌, length, drop, ap, arith}
 use Rattle.std.proofs.lemmas.List.{drop_all}
 use Rattle.typing_state.proofs.Going.{goes_trans, goes_refl}
-use Rattle.typing_state.proofs.Following.{silent_refl, silent_trans}
+use Rattle.typing_state.proofs.Silence.{silent_refl, silent_trans}
 use Rattle.core_typing.specs.Bindings.{name_nodes}
 use Rattle.core_typing.proofs.ClosingLaws.{names_monomorphic, name_generalised, names_generalised, names_cut}
 use Rattle.core_typing.proofs.bindings.close_names.Goals as goal

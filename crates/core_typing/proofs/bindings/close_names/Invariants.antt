@@ -1,7 +1,6 @@
 use Rattle.std.proofs.Common.{◌≡◌, drop}
 use Rattle.std.specs.Prelude.{None}
-use Rattle.typing_state.specs.Goes.{Goes}
-use Rattle.typing_state.specs.Steps.{Silent}
+use Rattle.typing_state.specs.Goes.{Goes, Silent}
 use Rattle.core_typing.specs.Bindings.{name_nodes}
 use Rattle.core_typing.proofs.ClosingLaws.{NamesGeneralised}
 use Rattle.core_typing.proofs.bindings.close_names.Given as goal

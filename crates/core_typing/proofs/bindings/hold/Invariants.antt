@@ -1,6 +1,5 @@
 use Rattle.std.proofs.Common.{drop}
-use Rattle.typing_state.specs.Goes.{Goes}
-use Rattle.typing_state.specs.Steps.{Silent}
+use Rattle.typing_state.specs.Goes.{Goes, Silent}
 use Rattle.core_typing.specs.Bindings.{name_nodes}
 use Rattle.core_typing.proofs.ClosingLaws.{NamesLimited}
 use Rattle.core_typing.proofs.bindings.hold.Given as goal

@@ -1,7 +1,7 @@
 use Rattle.std.proofs.Common.{◌+◌, ◌<◌, length, map, drop, ap, arith}
 use Rattle.std.proofs.lemmas.List.{drop_all}
 use Rattle.typing_state.proofs.Going.{goes_trans, goes_refl}
-use Rattle.typing_state.proofs.Following.{silent_refl, silent_trans}
+use Rattle.typing_state.proofs.Silence.{silent_refl, silent_trans}
 use Rattle.use_typing.proofs.Reading.{rest_read}
 use Rattle.core_typing.specs.Bindings.{closing_of}
 use Rattle.core_typing.proofs.ClosingLaws.{holds_start, holds_step, holds_end}

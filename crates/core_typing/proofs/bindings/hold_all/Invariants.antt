@@ -1,6 +1,5 @@
 use Rattle.std.proofs.Common.{map, drop}
-use Rattle.typing_state.specs.Goes.{Goes}
-use Rattle.typing_state.specs.Steps.{Silent}
+use Rattle.typing_state.specs.Goes.{Goes, Silent}
 use Rattle.core_typing.specs.Bindings.{closing_of}
 use Rattle.core_typing.proofs.ClosingLaws.{HoldsFirst}
 use Rattle.core_typing.proofs.bindings.hold_all.Given as goal

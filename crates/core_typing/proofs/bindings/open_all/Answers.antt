@@ -1,13 +1,7 @@
 use Rattle.std.proofs.Common.{◌<◌, ◌++◌, length, map, drop, ap, arith}
 use Rattle.std.proofs.lemmas.List.{drop_all}
 use Rattle.row_parts.specs.Numbered.{operand_view}
-use Rattle.typing_state.specs.Steps.{each}
 use Rattle.typing_state.proofs.Going.{goes_trans, goes_refl}
-use Rattle.typing_state.proofs.Following.{gets_start}
-use Rattle.core_typing.specs.Concluding.{conclusion}
-use Rattle.expression_steps.specs.ExpressionSteps.{concluded_steps, expression_at, opened_steps}
-use Rattle.core_typing.proofs.GroupLaws.{steps_read}
-use Rattle.use_typing.proofs.Reading.{gets_read}
 use Rattle.pattern_typing.specs.Matching.{names_seen}
 use Rattle.binding_rows.specs.Carried.{nodes_there}
 use Rattle.binding_rows.proofs.Loops.{opens_start, opens_step, opens_end, nodes_step, nodes_end}
@@ -21,8 +15,6 @@ loop-binding-init c =
       goes = goes_refl c.args.at.now;
       carries = opens_start c.args.at.now c.args.env.now os (names_seen c.new-seen.result.items) (map opened_of c.new-all.result.items) (ap names_seen c.new-seen.ensures.items) (ap (map opened_of) c.new-all.ensures.items);
       nodes = ap (λ xs. map node_of xs ++ nodes_there (map operand_view os)) c.new-all.ensures.items;
-      gets = gets_start (each opened_steps (map operand_view os)) c.args.at.now;
-      left = ap (λ xs. each conclusion xs ++ each (λ b. concluded_steps (expression_at b)) (map operand_view os)) c.new-all.ensures.items;
     }
 
 pub loop-binding-preserved : goal.loop-binding-preserved
@@ -36,8 +28,6 @@ loop-binding-preserved c =
       carries = opens_step c.args.at.now c.loop-binding.at c.open_if.new.at c.args.env.now all i x (names_seen c.loop-binding.seen.items) (names_seen c.open_if.new.seen.items) (map opened_of c.loop-binding.all.items) (map opened_of c.open_if.new.all.items) lt c.binding-item.is
           c.loop-binding.invariant.goes c.loop-binding.invariant.carries c.in_ok-open_if.ensures.carries;
       nodes = nodes_step all i x (map node_of c.loop-binding.all.items) (map node_of c.open_if.new.all.items) lt c.binding-item.is c.in_ok-open_if.ensures.nodes c.loop-binding.invariant.nodes;
-      gets = gets_read opened_steps operand_view _ all i x _ _ _ lt c.binding-item.is c.loop-binding.invariant.gets c.open_if.ensures.goes c.in_ok-open_if.ensures.follows;
-      left = steps_read (λ b. concluded_steps (expression_at b)) operand_view all i x (each conclusion c.loop-binding.all.items) (each conclusion c.open_if.new.all.items) _ lt c.binding-item.is c.in_ok-open_if.ensures.left c.loop-binding.invariant.left;
     }
 
 pub returns-clause-carries : goal.returns-clause-carries

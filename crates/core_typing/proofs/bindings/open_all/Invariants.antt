@@ -1,13 +1,10 @@
 use Rattle.std.proofs.Common.{◌≡◌, ◌++◌, map, drop}
 use Rattle.row_parts.specs.Numbered.{operand_view}
 use Rattle.typing_state.specs.Goes.{Goes}
-use Rattle.typing_state.specs.Steps.{each, GetsOn}
-use Rattle.expression_steps.specs.ExpressionSteps.{concluded_steps, expression_at, opened_steps}
 use Rattle.pattern_typing.specs.Matching.{names_seen}
 use Rattle.binding_rows.specs.Carried.{nodes_there}
 use Rattle.binding_rows.specs.Operands.{OpensOperandsFirst}
 use Rattle.core_typing.specs.Bindings.{opened_of, node_of}
-use Rattle.core_typing.specs.Concluding.{conclusion}
 use Rattle.core_typing.proofs.bindings.open_all.Given as goal
 
 abbrev pub invariant-loop-binding : goal.invariant-loop-binding
@@ -15,6 +12,4 @@ invariant-loop-binding l = record {
   goes : Goes l.fn.at l.at;
   carries : OpensOperandsFirst l.fn.at l.at l.env l.bindings (drop l.binding-index l.bindings) (names_seen l.seen.items) (map opened_of l.all.items);
   nodes : map node_of l.all.items ++ nodes_there (map operand_view (drop l.binding-index l.bindings)) ≡ nodes_there (map operand_view l.bindings);
-  gets : GetsOn l.fn.at l.at (each opened_steps (map operand_view l.bindings)) (each opened_steps (map operand_view (drop l.binding-index l.bindings)));
-  left : each conclusion l.all.items ++ each (λ b. concluded_steps (expression_at b)) (map operand_view (drop l.binding-index l.bindings)) ≡ each (λ b. concluded_steps (expression_at b)) (map operand_view l.bindings);
 }

@@ -1,7 +1,8 @@
-use Rattle.std.proofs.Common.{map, ap, refl}
-use Rattle.syntax_tree.specs.View.{node_view}
-use Rattle.expression_steps.specs.ExpressionSteps.{concluded_at}
-use Rattle.core_typing.proofs.GroupLaws.{one_left}
+use Rattle.typing_state.proofs.Recording.{record_stays, record_still}
+use Rattle.typing_state.specs.Notes.{IsRecordedThere}
+use Rattle.row_parts.specs.Numbered.{part_of}
+use Rattle.std.specs.Prelude.{OnOk}
+use Rattle.std.proofs.Common.{map, refl, sym, subst}
 use Rattle.use_typing.proofs.Reading.{on_ok}
 use Rattle.pattern_typing.specs.Matching.{binds_of, names_seen}
 use Rattle.binding_rows.proofs.Operands.{open_missing, open_there}
@@ -9,9 +10,6 @@ use Rattle.core_typing.specs.Bindings.{opened_of}
 use Rattle.core_typing.proofs.ClosingLaws.{mapped_more}
 use Rattle.core_typing.proofs.LetLaws.{node_more, node_lost}
 use Rattle.core_typing.proofs.bindings.open_if.Goals as goal
-
-pub returns-clause-left : goal.returns-clause-left
-returns-clause-left c = one_left c.push.result c.push.new.list.items c.args.all.now.items c.in_ok-one.one c.args.binding c.in-Some.node c.in-Some.is (ap (λ b. concluded_at b.number (node_view b.node.now)) c.in_ok-one.ensures.binding) c.push.ensures.pushed
 
 pub returns-in_default-clause-carries : goal.returns-in_default-clause-carries
 returns-in_default-clause-carries c = open_missing c.args.at.now c.args.env.now c.args.binding (names_seen c.args.seen.now.items) (map opened_of c.args.all.now.items) c.in_default.is
@@ -30,3 +28,12 @@ returns-clause-carries c =
 pub returns-clause-nodes : goal.returns-clause-nodes
 returns-clause-nodes c =
     on_ok c.push.result (λ pushed. node_more c.args.binding c.in-Some.node _ c.in_ok-one.one c.args.all.now.items c.push.new.list.items c.in-Some.is refl refl c.in_ok-one.ensures.binding pushed) c.push.ensures.pushed
+
+pub returns-in_default-clause-recorded : goal.returns-in_default-clause-recorded
+returns-in_default-clause-recorded c = subst (λ m. IsRecordedThere (part_of m c.args.binding.span) c.args.at.now c.args.binding.number) (sym c.in_default.is) tt
+
+pub returns-clause-recorded : goal.returns-clause-recorded
+returns-clause-recorded c =
+    let n = c.args.binding.number in
+    subst (λ m. OnOk c.push.result (IsRecordedThere (part_of m c.args.binding.span) c.open_pattern.new.at n)) (sym c.in-Some.is)
+    (record_still c.push.result n c.open_pattern.new.at (record_stays n c.note_plain.new.self c.open_pattern.new.at c.open_pattern.ensures.goes c.in_ok-note_plain.ensures.recorded))

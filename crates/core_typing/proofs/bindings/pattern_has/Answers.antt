@@ -1,22 +1,10 @@
-use Rattle.std.proofs.Common.{[], ◌∷◌, subst}
-use Rattle.std.specs.Prelude.{OnOk}
+use Rattle.std.proofs.Common.{subst}
 use Rattle.row_parts.specs.Numbered.{operand_view}
-use Rattle.env_table.specs.declared.faults.FaultKind.TheVariants as fault
-use Rattle.typing_state.specs.Steps.{asks, Follows}
-use Rattle.typing_state.proofs.Following.{ends_both}
-use Rattle.use_typing.specs.UseSteps.{asks_equal}
-use Rattle.expression_steps.specs.ExpressionSteps.{whole_steps}
 use Rattle.typing_steps.proofs.Rows.{equal_asks}
 use Rattle.use_typing.proofs.Reading.{on_ok}
 use Rattle.binding_rows.specs.Operands.{AsksWholeOf}
 use Rattle.binding_rows.proofs.Operands.{whole_of_pattern}
 use Rattle.core_typing.proofs.bindings.pattern_has.Goals as goal
-
-pub returns-clause-follows : goal.returns-clause-follows
-returns-clause-follows c =
-    let o = operand_view c.pattern_in-pattern.result in
-    subst (λ p. OnOk c.warn_pattern.result (Follows (whole_steps p) c.args.at.now c.warn_pattern.new.at)) c.pattern_in-pattern.ensures
-    (ends_both c.warn_pattern.result (asks_equal o) (asks fault.Missed (o.at ∷ []) ∷ []) c.args.at.now c.equal.new.self c.warn_pattern.new.at c.in_ok-verdict.ensures.follows c.warn_pattern.ensures.goes c.warn_pattern.ensures.follows)
 
 pub returns-clause-carries : goal.returns-clause-carries
 returns-clause-carries c =

@@ -1,7 +1,7 @@
-use Rattle.std.proofs.Common.{◌≡◌, ◌<◌, ◌≤◌, ℕ, length, drop, subst, arith}
+use Rattle.std.proofs.Common.{◌≡◌, ◌<◌, ◌≤◌, length, drop, subst, arith}
 use Rattle.type_nodes.specs.Views.{numbers}
 use Rattle.typing_state.proofs.Going.{goes_trans, goes_refl}
-use Rattle.typing_state.proofs.Following.{silent_refl, silent_trans, store_silent}
+use Rattle.typing_state.proofs.Silence.{silent_refl, silent_trans, store_silent}
 use Rattle.case_rows.specs.Parameters.{MakesArrows}
 use Rattle.core_typing.proofs.CaseLaws.{arrow_start, arrow_step}
 use Rattle.core_typing.proofs.functions.arrows.Goals as goal

@@ -1,7 +1,6 @@
 use Rattle.std.proofs.Common.{drop}
 use Rattle.type_nodes.specs.Views.{numbers}
-use Rattle.typing_state.specs.Goes.{Goes}
-use Rattle.typing_state.specs.Steps.{Silent}
+use Rattle.typing_state.specs.Goes.{Goes, Silent}
 use Rattle.case_rows.specs.Parameters.{MakesArrows}
 use Rattle.core_typing.proofs.functions.arrows.Given as goal
 

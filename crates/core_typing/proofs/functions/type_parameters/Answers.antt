@@ -1,14 +1,10 @@
-use Rattle.std.proofs.Common.{◌∙◌, ◌+◌, ◌<◌, length, map, drop, sym, ap, subst, arith, List}
+use Rattle.std.proofs.Common.{◌∙◌, ◌<◌, length, map, drop, sym, ap, subst, arith, List}
 use Rattle.std.proofs.lemmas.List.{drop_all}
 use Rattle.row_parts.specs.declared.slots.Operand.{Operand}
 use Rattle.row_parts.specs.Numbered.{operand_view}
 use Rattle.type_nodes.specs.Views.{numbers}
 use Rattle.typing_model.specs.Parts.{Pattern}
-use Rattle.typing_state.specs.Steps.{each, GetsOn}
 use Rattle.typing_state.proofs.Going.{goes_trans, goes_refl}
-use Rattle.typing_state.proofs.Following.{gets_more, gets_start}
-use Rattle.use_typing.proofs.Reading.{drop_read}
-use Rattle.expression_steps.specs.ExpressionSteps.{parameter_steps}
 use Rattle.pattern_typing.specs.Matching.{binds_of}
 use Rattle.pattern_rows.specs.Contracts.{patterns_of}
 use Rattle.case_rows.specs.Scopes.{names_added}
@@ -22,7 +18,6 @@ loop-parameter-init c =
     let ps = patterns_of c.args.at.now.item (map operand_view c.args.parameters.now) in
     record {
       goes = goes_refl c.args.at.now;
-      gets = gets_start (each parameter_steps (map operand_view c.args.parameters.now)) c.args.at.now;
       carries = λ all. subst (λ q. ParametersSoFar c.args.at.now c.args.at.now c.args.env.now q ps ps (numbers c.new-types.result.items)) (sym c.in_ok-inner.ensures)
           (parameters_none c.args.at.now c.args.env.now ps (numbers c.new-types.result.items) (ap numbers c.new-types.ensures.items));
     }
@@ -33,12 +28,8 @@ loop-parameter-preserved c =
     let i = c.loop-parameter.parameter-index in
     let x = c.parameter-item.result in
     let lt : i < length all = let n = c.loop-parameter-test.true in omega arith in
-    let cut = drop_read all i x lt c.parameter-item.is in
     record {
       goes = goes_trans c.args.at.now c.loop-parameter.at c.type_parameter.new.at c.loop-parameter.invariant.goes c.type_parameter.ensures.goes;
-      gets = gets_more (each parameter_steps (map operand_view all)) (parameter_steps (operand_view x)) (each parameter_steps (map operand_view (drop (i + 1) all))) c.args.at.now c.loop-parameter.at c.type_parameter.new.at
-          (subst (λ os. GetsOn c.args.at.now c.loop-parameter.at (each parameter_steps (map operand_view all)) (each parameter_steps (map operand_view os))) cut c.loop-parameter.invariant.gets)
-          c.type_parameter.ensures.goes c.in_ok-matched.ensures.follows;
       carries = parameter_step c.args.at.now c.loop-parameter.at c.type_parameter.new.at c.args.env.now c.loop-parameter.inner c.in_ok-inner-2.inner all i x c.in_ok-matched.matched.names.items c.loop-parameter.types.items c.push.new.list.items c.in_ok-matched.matched.ty lt c.parameter-item.is c.in_ok-push.ensures.pushed
           (c.in_ok-inner-2.ensures.scope ∙ ap (λ ns. names_added (binds_of ns) c.loop-parameter.inner) c.deref.ensures.value) c.loop-parameter.invariant.goes c.loop-parameter.invariant.carries c.in_ok-matched.ensures.carries;
     }

@@ -2,8 +2,6 @@ use Rattle.std.proofs.Common.{map, drop}
 use Rattle.std.specs.Prelude.{All}
 use Rattle.row_parts.specs.Numbered.{operand_view}
 use Rattle.typing_state.specs.Goes.{Goes}
-use Rattle.typing_state.specs.Steps.{each, GetsOn}
-use Rattle.expression_steps.specs.ExpressionSteps.{parameter_steps}
 use Rattle.type_nodes.specs.Views.{numbers}
 use Rattle.pattern_rows.specs.CarriedPatterns.{IsCarriedPattern}
 use Rattle.pattern_rows.specs.Contracts.{patterns_of}
@@ -13,6 +11,5 @@ use Rattle.core_typing.proofs.functions.type_parameters.Given as goal
 abbrev pub invariant-loop-parameter : goal.invariant-loop-parameter
 invariant-loop-parameter l = record {
   goes : Goes l.fn.at l.at;
-  gets : GetsOn l.fn.at l.at (each parameter_steps (map operand_view l.parameters)) (each parameter_steps (map operand_view (drop l.parameter-index l.parameters)));
   carries : All IsCarriedPattern (map operand_view l.parameters) → ParametersSoFar l.fn.at l.at l.env l.inner (patterns_of l.fn.at.item (map operand_view l.parameters)) (patterns_of l.fn.at.item (map operand_view (drop l.parameter-index l.parameters))) (numbers l.types.items);
 }

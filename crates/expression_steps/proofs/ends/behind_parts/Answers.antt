@@ -2,12 +2,11 @@ use Rattle.std.proofs.Common.{map, sym, subst}
 use Rattle.syntax_tree.specs.View.{node_view}
 use Rattle.type_nodes.specs.Views.{numbers}
 use Rattle.row_parts.specs.Numbered.{operand_view}
-use Rattle.typing_state.specs.Steps.{Follows}
 use Rattle.typing_rows.specs.Asked.{expressions_of, ordered_end}
 use Rattle.typing_rows.specs.Contracts.{EndsRow}
 use Rattle.expression_steps.proofs.CarryingLaws.{if_ok}
-use Rattle.expression_steps.specs.ExpressionSteps.{expression_at, row_at}
-use Rattle.expression_steps.proofs.EndingLaws.{field_end, plain_end, no_label_behind}
+use Rattle.expression_steps.specs.Forms.{row_at}
+use Rattle.expression_steps.proofs.EndingLaws.{field_end, plain_end}
 use Rattle.expression_steps.proofs.ends.behind_parts.Goals as goal
 
 pub returns-in-Field-clause-carries : goal.returns-in-Field-clause-carries
@@ -21,6 +20,5 @@ returns-in_ok-ty-in_default c = record {
       let es = expressions_of c.args.at.now.item (map operand_view c.args.parts.now) in
       subst (λ x. EndsRow c.args.at.now c.type_of.new.at c.args.env.now (ordered_end (row_at (node_view c.args.node.now)) (node_view c.args.node.now) es) es (numbers c.args.types.now) x.0) (sym c.unnamed.ensures.ty)
       (plain_end c.args.node.now c.args.at.now c.type_of.new.at c.args.env.now es (numbers c.args.types.now) c.in_ok-ty-in_default.ty.0 c.in_default.not-Field ordered c.in_ok-ty-in_default.ensures.carries);
-  follows = subst (λ ss. Follows ss c.args.at.now c.type_of.new.at) (no_label_behind c.args.node.now (map expression_at (map operand_view c.args.parts.now)) c.in_default.not-Field) c.in_ok-ty-in_default.ensures.follows;
   goes = c.type_of.ensures.goes;
 }

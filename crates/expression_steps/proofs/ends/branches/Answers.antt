@@ -1,7 +1,4 @@
 use Rattle.std.proofs.Common.{sym, subst, ◌<◌, ◌≤◌, length, map, refl, arith}
-use Rattle.typing_state.specs.Steps.{Follows, each}
-use Rattle.expression_steps.specs.ExpressionSteps.{has_type}
-use Rattle.expression_steps.proofs.ExpressionLaws.{asked_third, asked_second}
 use Rattle.std.proofs.lemmas.Option.{slice_get_read}
 use Rattle.type_nodes.specs.Views.{numbers}
 use Rattle.row_parts.specs.Numbered.{operand_view}
@@ -10,14 +7,6 @@ use Rattle.typing_steps.proofs.Rows.{var_any}
 use Rattle.expression_steps.proofs.CarryingLaws.{if_ok, number_here, number_missing, past_end}
 use Rattle.expression_steps.proofs.EndingLaws.{parts_count, else_ends, then_ends, if_empty}
 use Rattle.expression_steps.proofs.ends.branches.Goals as goal
-
-pub returns-in_ok-has-clause-follows : goal.returns-in_ok-has-clause-follows
-returns-in_ok-has-clause-follows c =
-    subst (λ es. Follows (each has_type es) c.args.at.now c.has.new.at) (sym (asked_third c.args.parts.now c.if-parts-gt2.true)) c.in_ok-has.ensures.follows
-
-pub returns-in_ok-has-2-clause-follows : goal.returns-in_ok-has-2-clause-follows
-returns-in_ok-has-2-clause-follows c =
-    subst (λ es. Follows (each has_type es) c.args.at.now c.has-else-parts-gt2.new.at) (sym (asked_second c.args.parts.now c.if-parts-gt2.false)) c.in_ok-has-2.ensures.follows
 
 pub returns-in_ok-has-clause-carries : goal.returns-in_ok-has-clause-carries
 returns-in_ok-has-clause-carries c =

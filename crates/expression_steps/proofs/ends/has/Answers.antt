@@ -1,8 +1,5 @@
-use Rattle.std.proofs.Common.{◌<◌, length, sym, subst, refl, arith, ◌≤◌, map}
+use Rattle.std.proofs.Common.{◌<◌, length, refl, arith, ◌≤◌, map}
 use Rattle.std.proofs.lemmas.Option.{slice_get_read}
-use Rattle.typing_state.specs.Steps.{Follows, each}
-use Rattle.expression_steps.specs.ExpressionSteps.{has_type}
-use Rattle.expression_steps.proofs.ExpressionLaws.{part_read}
 use Rattle.syntax_tree.specs.View.{place_of}
 use Rattle.type_nodes.specs.Views.{numbers}
 use Rattle.row_parts.specs.Numbered.{operand_view}
@@ -13,15 +10,6 @@ use Rattle.typing_rows.specs.Asked.{expressions_of}
 use Rattle.typing_rows.proofs.Ending.{asks_at, asks_none, asks_no_node}
 use Rattle.expression_steps.proofs.CarryingLaws.{part_here, number_here, part_missing, number_missing, past_end}
 use Rattle.expression_steps.proofs.ends.has.Goals as goal
-
-pub returns-in_ok-equal-clause-follows : goal.returns-in_ok-equal-clause-follows
-returns-in_ok-equal-clause-follows c =
-    let all = c.args.parts.now in
-    let x = c.in-Some.part.now in
-    let h = c.in-Some.ensures.lookup in
-    let lt : c.args.place < length all = let n = h.0 in grind (arith) in
-    subst (λ e. Follows (each has_type e) c.args.at.now c.equal.new.self)
-    (sym (part_read all c.args.place x (slice_get_read all (length all) c.args.place x refl lt h.1))) c.in_ok-equal.ensures.follows
 
 pub returns-in_ok-equal-clause-carries : goal.returns-in_ok-equal-clause-carries
 returns-in_ok-equal-clause-carries c =

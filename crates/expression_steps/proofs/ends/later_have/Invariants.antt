@@ -1,9 +1,6 @@
 use Rattle.std.proofs.Common.{map, drop}
 use Rattle.row_parts.specs.Numbered.{operand_view}
 use Rattle.typing_state.specs.Goes.{Goes}
-use Rattle.typing_state.specs.Steps.{each, GetsOn}
-use Rattle.pattern_steps.specs.PatternSteps.{later}
-use Rattle.expression_steps.specs.ExpressionSteps.{expression_at, has_type}
 use Rattle.type_nodes.specs.Views.{numbers}
 use Rattle.typing_model.specs.Patterns.{behind_first}
 use Rattle.typing_rows.specs.Asked.{expressions_of}
@@ -13,6 +10,5 @@ use Rattle.expression_steps.proofs.ends.later_have.Given as goal
 abbrev pub invariant-loop-place : goal.invariant-loop-place
 invariant-loop-place l = record {
   goes : Goes l.fn.at l.at;
-  gets : GetsOn l.fn.at l.at (each has_type (later (map expression_at (map operand_view l.parts)))) (each has_type (drop l.place (map expression_at (map operand_view l.parts))));
   carries : AsksLaterFirst l.fn.at l.at l.env (expressions_of l.fn.at.item (map operand_view l.parts)) (numbers l.types) l.wanted.0 (behind_first (expressions_of l.fn.at.item (map operand_view l.parts))) (drop l.place (expressions_of l.fn.at.item (map operand_view l.parts)));
 }

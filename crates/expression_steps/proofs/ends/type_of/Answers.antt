@@ -4,11 +4,6 @@ use Rattle.type_nodes.specs.Views.{numbers}
 use Rattle.row_parts.specs.Numbered.{operand_view}
 use Rattle.typing_rows.specs.Asked.{expressions_of}
 use Rattle.typing_rows.proofs.Ending.{ends_tuple}
-use Rattle.syntax_tree.specs.Names.{row_of}
-use Rattle.typing_state.specs.Steps.{each}
-use Rattle.typing_state.proofs.Following.{ends_silent, store_silent}
-use Rattle.expression_steps.specs.ExpressionSteps.{asked_behind, expression_at, has_type}
-use Rattle.expression_steps.proofs.ExpressionLaws.{types_no_record}
 use Rattle.expression_steps.proofs.CarryingLaws.{if_ok, if_any, both_ok, number_here, number_missing}
 use Rattle.expression_steps.proofs.EndingLaws.{as_named, is_begin, is_list, is_cons, is_tuple, is_seq, is_if, is_assert, begin_ends, begin_empty, seq_ends, others_apart, false_ends, assert_ends_unit, one_apart, none_apart, while_ends, last_at}
 use Rattle.typing_steps.proofs.Rows.{var_any}
@@ -79,6 +74,5 @@ returns-in-Ewhile-clause-carries c = λ plain. while_ends c.args.row c.args.at.n
 pub returns-in_default : goal.returns-in_default
 returns-in_default c = record {
   carries = if_any c.var-in_default.result _ (λ m plain. absurd (others_apart c.args.row plain c.in_default.not-Ebegin c.in_default.not-Elist c.in_default.not-Econs c.in_default.not-Etuple c.in_default.not-Eseq c.in_default.not-Eif c.in_default.not-Eassert c.in_default.not-Ewhile));
-  follows = ends_silent c.var-in_default.result (each has_type (asked_behind (row_of c.args.row) (map expression_at (map operand_view c.args.parts.now)))) c.args.at.now c.var-in_default.new.self (types_no_record (asked_behind (row_of c.args.row) (map expression_at (map operand_view c.args.parts.now)))) (store_silent c.args.at.now c.var-in_default.new.self c.var-in_default.ensures.rest);
   goes = c.var-in_default.ensures.goes;
 }

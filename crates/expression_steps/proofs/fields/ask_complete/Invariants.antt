@@ -1,6 +1,5 @@
 use Rattle.std.proofs.Common.{◌≡◌, drop}
-use Rattle.typing_state.specs.Goes.{Goes}
-use Rattle.typing_state.specs.Steps.{Silent}
+use Rattle.typing_state.specs.Goes.{Goes, Silent}
 use Rattle.record_rows.specs.Completing.{absent_here}
 use Rattle.expression_steps.specs.Records.{names_written}
 use Rattle.expression_steps.proofs.fields.ask_complete.Given as goal

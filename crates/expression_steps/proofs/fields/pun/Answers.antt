@@ -8,3 +8,9 @@ returns-in-None-clause-carries c =
 
 pub returns-in-Some-clause-carries : goal.returns-in-Some-clause-carries
 returns-in-Some-clause-carries c = pun_there c.pun_of.result c.args.label.now.last c.in-Some.last c.args.at.now c.pun_of.new.at c.args.env.now (number_of c.args.at.now.item c.args.number) c.args.wanted c.in-Some.is c.pun_of.ensures.carries
+
+pub returns-in-None-clause-recorded : goal.returns-in-None-clause-recorded
+returns-in-None-clause-recorded c = c.note_plain.ensures.recorded
+
+pub returns-in-Some-clause-recorded : goal.returns-in-Some-clause-recorded
+returns-in-Some-clause-recorded c = c.pun_of.ensures.recorded

@@ -1,18 +1,12 @@
-use Rattle.std.proofs.Common.{[], ◌∷◌, None, refl}
-use Rattle.env_table.specs.declared.faults.FaultKind.TheVariants as fault
-use Rattle.syntax_tree.specs.View.{place_of, tok_of}
-use Rattle.typing_state.specs.Steps.{asks, records}
-use Rattle.typing_state.proofs.Following.{ends_both}
+use Rattle.std.proofs.Common.{[], None, refl}
+use Rattle.syntax_tree.specs.View.{tok_of}
 use Rattle.operand_laws.specs.Operands.{number_of}
 use Rattle.expression_steps.proofs.RecordLaws.{pun_noted}
 use Rattle.expression_steps.proofs.fields.pun_of.Goals as goal
 
-pub returns-clause-follows : goal.returns-clause-follows
-returns-clause-follows c =
-    let at = place_of c.args.last.now.span in
-    ends_both c.note.result (asks fault.Bound (at ∷ []) ∷ asks fault.Equal (at ∷ []) ∷ []) (records c.args.number ∷ []) c.args.at.now c.value_of_name.new.at c.note.new.self
-    c.in_ok-used.ensures.follows c.note.ensures.goes c.note.ensures.follows
-
 pub returns-clause-carries : goal.returns-clause-carries
 returns-clause-carries c =
     pun_noted c.note.result c.args.at.now c.value_of_name.new.at c.note.new.self c.args.env.now c.args.number (number_of c.args.at.now.item c.args.number) (tok_of c.args.last.now) c.args.wanted (record { env = c.args.env.now; ty = None; names = c.in_ok-names.names }) refl c.in_ok-used.ensures.carries c.note.ensures.noted c.note.ensures.rest
+
+pub returns-clause-recorded : goal.returns-clause-recorded
+returns-clause-recorded c = c.note.ensures.recorded

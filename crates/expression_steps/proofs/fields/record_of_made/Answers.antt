@@ -1,6 +1,6 @@
 use Rattle.std.proofs.Common.{◌∙◌, ◌∷◌, map, ap}
 use Rattle.row_parts.specs.Numbered.{operand_view, path_view}
-use Rattle.use_typing.specs.UseSteps.{labels_of}
+use Rattle.use_typing.specs.Paths.{labels_of}
 use Rattle.expression_steps.proofs.RecordLaws.{made_found}
 use Rattle.expression_steps.proofs.fields.record_of_made.Goals as goal
 

@@ -7,9 +7,7 @@ use Rattle.typing_steps.specs.Typing.{TypesOwn, TypesRow, path_as}
 use Rattle.use_typing.specs.Constants.{is_negated}
 use Rattle.typing_rows.specs.Asked.{under_minus, row_expression}
 use Rattle.typing_rows.proofs.Typed.{named_row, path_row, constant_row, hole_any}
-use Rattle.typing_state.proofs.Following.{ends_silent}
-use Rattle.expression_steps.specs.ExpressionSteps.{row_at, value_in, value_steps}
-use Rattle.expression_steps.proofs.ExpressionLaws.{value_no_record}
+use Rattle.expression_steps.specs.Forms.{row_at, value_in}
 use Rattle.expression_steps.proofs.CarryingLaws.{if_ok, rows_same}
 use Rattle.expression_steps.proofs.ConstructorLaws.{no_upper}
 use Rattle.expression_steps.proofs.EndingLaws.{any_value, value_tells, leaf_name, leaf_path, leaf_constant, leaf_hole}
@@ -47,6 +45,5 @@ returns-in_default c = record {
       if_ok c.any_type.result _ _ (λ u h number place carried is none.
       hole_any c.args.at.now c.any_type.new.at c.args.env.now c.args.at.now.item number place (node_view nd) (is_negated c.args.sign) u.ty.0 (leaf_hole nd number place carried is none c.in_default.not-Name c.in_default.not-Epath c.in_default.not-Econst) h) c.any_type.ensures.carries;
   tells = value_tells c.any_type.result (value_in (row_at (node_view c.args.node.now)) (node_view c.args.node.now)) (is_negated c.args.sign) c.args.at.now c.any_type.new.at c.args.env.now (any_value c.args.node.now c.in_default.not-Name c.in_default.not-Epath c.in_default.not-Econst) c.any_type.ensures.silent;
-  follows = ends_silent c.any_type.result (value_steps (value_in (row_at (node_view c.args.node.now)) (node_view c.args.node.now))) c.args.at.now c.any_type.new.at (value_no_record (value_in (row_at (node_view c.args.node.now)) (node_view c.args.node.now))) c.any_type.ensures.silent;
   goes = c.any_type.ensures.goes;
 }

@@ -1,4 +1,4 @@
-use Rattle.std.proofs.Common.{◌∙◌, refl, sym, true, false}
+use Rattle.std.proofs.Common.{◌∙◌, sym, true, false}
 use Rattle.text_terms.specs.Bytes.{str_bytes}
 use Rattle.expression_steps.proofs.EndingLaws.{operator_is, minus_name, minus_negates, other_name, other_negates}
 use Rattle.expression_steps.proofs.operators.operator_by.Goals.{in-Eneg+in_ok-from_str-in-Eneg, in-Eneg-2+in_ok-from_str-in-Eneg-2, in_default+in_ok-share-in_default}
@@ -16,5 +16,4 @@ returns c =
         | in-Eneg-2+in_ok-from_str-in-Eneg-2 w ↦ let point = sym w.is.ensures ∙ w.if-is.false in operator_is r t c.match-row.name w.in_ok-from_str-in-Eneg-2.field-0 sign.Minus w.name-is (w.in_ok-from_str-in-Eneg-2.ensures ∙ sym (minus_name r x false w.in-Eneg-2.is point)) (sym (minus_negates r x false w.in-Eneg-2.is point))
         | in_default+in_ok-share-in_default w ↦ operator_is r t c.match-row.name w.in_ok-share-in_default.field-0 sign.None w.name-is (w.in_ok-share-in_default.ensures ∙ sym (other_name r x w.in_default.not-Eneg)) (sym (other_negates r x w.in_default.not-Eneg))
       ];
-      place = refl;
     }

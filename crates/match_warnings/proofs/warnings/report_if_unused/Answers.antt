@@ -1,7 +1,9 @@
 use Rattle.std.proofs.Common.{refl}
+use Rattle.syntax_tree.specs.View.{place_of}
+use Rattle.match_warnings.specs.Warnings.{unused_at}
 use Rattle.env_table.specs.declared.faults.FaultKind.TheVariants as fault
 use Rattle.typing_state.proofs.Going.{goes_refl}
-use Rattle.match_warnings.proofs.Warned.{warns_none, report_warns}
+use Rattle.match_warnings.proofs.Warned.{warns_none, report_warns, none_at, report_of_one}
 use Rattle.match_warnings.proofs.warnings.report_if_unused.Goals as goal
 
 pub returns-then-not-contains-clause-warns : goal.returns-then-not-contains-clause-warns
@@ -18,3 +20,9 @@ returns-clause-warns c = report_warns c.report.result c.args.at.now.telling c.ar
 
 pub returns-clause-goes : goal.returns-clause-goes
 returns-clause-goes c = c.report.ensures.goes
+
+pub returns-then-not-contains-clause-places : goal.returns-then-not-contains-clause-places
+returns-then-not-contains-clause-places c = none_at (unused_at (place_of c.args.case)) c.args.at.now
+
+pub returns-clause-places : goal.returns-clause-places
+returns-clause-places c = report_of_one c.report.result c.args.at.now.telling c.args.at.now c.report.new.self c.args.case fault.Unused _ c.report.ensures.told

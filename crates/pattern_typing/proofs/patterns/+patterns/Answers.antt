@@ -1,4 +1,4 @@
-use Rattle.std.proofs.Common.{◌≡◌, ◌∙◌, ◌++◌, ◌∷◌, ◌+◌, ◌<◌, ℕ, true, false, List, [], length, map, drop, refl, sym, ap, subst, arith, append_assoc}
+use Rattle.std.proofs.Common.{◌≡◌, ◌∙◌, ◌++◌, ◌∷◌, ◌+◌, ◌<◌, ℕ, true, false, List, [], length, map, drop, refl, sym, ap, subst, arith}
 use Rattle.std.specs.Prelude.{OnOk, IfOk, All, slice_get, Option, Some, None, option_map}
 use Rattle.std.proofs.lemmas.List.{drop_all}
 use Rattle.tree_model.specs.Rows.{pname_row, pconst_row, pneg_row, pcon_row, pparen_row, plist_row, precord_row, papp_row, pcons_row, ptuple_row, por_row, pas_row}
@@ -6,15 +6,10 @@ use Rattle.syntax_tree.specs.Names.{row_of}
 use Rattle.syntax_tree.specs.View.{node_view}
 use Rattle.syntax_tree.specs.declared.tree.Node.{out-Node}
 use Rattle.syntax_tree.specs.declared.rows.RowName.TheVariants as row_name
-use Rattle.row_parts.specs.Numbered.{Numbered, all_operands, filled_in, first_in, first_of, in_slot, in_slots, operand_view, operands_in, path_view, token_in}
-use Rattle.env_table.specs.declared.faults.FaultKind.TheVariants as fault
-use Rattle.typing_state.specs.Steps.{each, records, Follows, GetsOn}
+use Rattle.row_parts.specs.Numbered.{Numbered, all_operands, first_in, in_slots, operand_view, operands_in, path_view, token_in}
 use Rattle.typing_state.proofs.Going.{goes_refl, goes_trans}
-use Rattle.typing_state.proofs.Following.{gets_start, ends_both, ends_before, follows_before, follows_both, follows_none, gets_more, gets_done, store_silent}
-use Rattle.type_expressions.specs.TypeSteps.{constructor_steps}
-use Rattle.type_expressions.specs.Written.{annotation_steps}
-use Rattle.use_typing.specs.UseSteps.{asks_equal, asks_equal_if, asks_labels, asks_token, labels_of, lost_steps, path_at, range_steps}
-use Rattle.pattern_steps.specs.PatternSteps.{construction_steps, constructor_at, field_pattern_steps, field_pattern_names, last_of, later, match_each, name_of, names_in, names_of, names_of_first, names_of_tree, parts_of_pattern, pattern_names, pattern_or_missing, pattern_steps, side_at, sides_beside, sides_of}
+use Rattle.use_typing.specs.Paths.{path_at}
+use Rattle.pattern_names.specs.PatternNames.{constructor_at, field_pattern_names, name_of, names_in, names_of, names_of_first, names_of_tree, parts_of_pattern, pattern_names, side_at}
 use Rattle.pattern_typing.specs.Matching.{AsksFirst, Binds, binds_of, names_seen, nodes_of, parts_of_sides, side_of, side_view, tokens_of, typed_view}
 use Rattle.pattern_typing.specs.declared.patterns.SideMatch.{SideMatch}
 use Rattle.typing_model.specs.BuiltIns.{constant}
@@ -35,8 +30,8 @@ use Rattle.pattern_rows.specs.Sides.{Side, AsksLater}
 use Rattle.pattern_rows.proofs.Applied.{wanted_matches, constructor_applied, nothing_applied, applied_matches}
 use Rattle.pattern_rows.proofs.Matching.{operand_matches, nothing_matches, any_matches, constant_matches, minus_matches, tuple_matches, list_matches, cons_matches, as_matches, or_matches}
 use Rattle.pattern_rows.proofs.Ordered.{in_order_none, in_order_all}
-use Rattle.pattern_typing.proofs.Constructors.{head_constructor, constructed_follows, alone_follows}
-use Rattle.pattern_typing.proofs.Carrying.{if_ok, if_any, on_ok, none_of, tree_row, any_row}
+use Rattle.pattern_typing.proofs.Constructors.{head_constructor}
+use Rattle.pattern_typing.proofs.Carrying.{if_ok, on_ok, none_of, tree_row, any_row}
 use Rattle.pattern_typing.proofs.Stepping.{paren_row, as_patterns, order_step, beside_none, beside_step, beside_done, sides_compared}
 use Rattle.use_typing.specs.Uses.{GivenOrNew}
 use Rattle.record_rows.specs.Fields.{FieldsInOrderFirst}
@@ -45,13 +40,13 @@ use Rattle.record_rows.proofs.Fields as fields
 use Rattle.record_rows.proofs.Nodes.{record_matches}
 use Rattle.pattern_typing.specs.Records.{here_of}
 use Rattle.pattern_typing.proofs.Recording as recording
-use Rattle.pattern_typing.proofs.Recording.{as_fields, field_by, field_step, written_done, punned_done, record_done}
+use Rattle.pattern_typing.proofs.Recording.{as_fields, field_by, field_step, written_done, record_done}
 use Rattle.pattern_typing.specs.declared.patterns.TypedPart.{TypedPart}
 use Rattle.pattern_typing.proofs.Binding.{binds_both, binds_none}
-use Rattle.use_typing.proofs.Reading.{drop_read, map_push, list_done, follows_three}
-use Rattle.pattern_typing.proofs.MatchedRows.{binds_more, binds_done, side_is, row_steps, row_names, steps_there, names_there, steps_missing, names_missing, field_missing, field_names_missing, field_written, field_names_written, field_alone, field_names_alone, on_any, other_matched, other_bound, record_follows, record_binds}
-use Rattle.pattern_typing.proofs.OtherRows.{other_steps, other_names}
-use Rattle.pattern_typing.proofs.PatternLaws.{filled_binds, filled_follows, sides_come, slot_binds, slot_follows, slots_bind, slots_follow}
+use Rattle.use_typing.proofs.Reading.{drop_read, map_push, list_done}
+use Rattle.pattern_typing.proofs.MatchedRows.{binds_more, binds_done, side_is, row_names, names_there, names_missing, field_names_missing, field_names_written, field_names_alone, on_any, other_bound, record_binds}
+use Rattle.pattern_typing.proofs.OtherRows.{other_names}
+use Rattle.pattern_typing.proofs.PatternLaws.{filled_binds, sides_come, slot_binds, slots_bind}
 use Rattle.pattern_typing.proofs.patterns.+patterns.Goals as goal
 
 pub in_order-loop-part-preserved : goal.in_order-loop-part-preserved
@@ -63,9 +58,6 @@ in_order-loop-part-preserved t c =
     let cut = drop_read all i x lt c.part-item.is in
     record {
       goes = goes_trans c.args.at.now c.loop-part.at c.match_pattern.new.at c.loop-part.invariant.goes c.match_pattern.ensures.goes;
-      gets = gets_more (each pattern_steps (map operand_view all)) (pattern_steps (operand_view x)) (each pattern_steps (map operand_view (drop (i + 1) all))) c.args.at.now c.loop-part.at c.match_pattern.new.at
-          (subst (λ os. GetsOn c.args.at.now c.loop-part.at (each pattern_steps (map operand_view all)) (each pattern_steps (map operand_view os))) cut c.loop-part.invariant.gets)
-          c.match_pattern.ensures.goes c.in_ok-ty.ensures.follows;
       names = binds_more c.loop-part.names.items c.match_pattern.new.names.items (pattern_names (operand_view x)) (names_in pattern_names (map operand_view (drop (i + 1) all))) (tokens_of c.args.names.now.items ++ names_in pattern_names (map operand_view all)) c.in_ok-ty.ensures.names
           (subst (λ os. tokens_of c.loop-part.names.items ++ names_in pattern_names (map operand_view os) ≡ tokens_of c.args.names.now.items ++ names_in pattern_names (map operand_view all)) cut c.loop-part.invariant.names);
       typed = map_push (λ (p : TypedPart). operand_view p.part) c.loop-part.typed.items c.push.new.list.items (record { part = x; ty = c.in_ok-ty.ty }) (operand_view x) (map operand_view (drop (i + 1) all)) (map operand_view all) c.in_ok-push.ensures.pushed refl
@@ -79,8 +71,6 @@ in_order-returns t c =
     let i = c.loop-part.part-index in
     let none : drop i all ≡ [] = drop_all i all (let n = c.loop-part-test.false in omega arith) in
     record {
-      follows = gets_done (each pattern_steps (map operand_view all)) c.args.at.now c.loop-part.at
-          (subst (λ os. GetsOn c.args.at.now c.loop-part.at (each pattern_steps (map operand_view all)) (each pattern_steps (map operand_view os))) none c.loop-part.invariant.gets);
       names = binds_done c.args.names.now.items c.loop-part.names.items (names_in pattern_names (map operand_view all)) (names_in pattern_names (map operand_view (drop i all))) (ap (λ os. names_in pattern_names (map operand_view os)) none) c.loop-part.invariant.names;
       typed = list_done (typed_view c.loop-part.typed.items) (map operand_view all) (map operand_view (drop i all)) (ap (map operand_view) none) c.loop-part.invariant.typed;
       goes = c.loop-part.invariant.goes;
@@ -96,9 +86,6 @@ match_sides-loop-part-preserved t c =
     let cut = drop_read all i x lt c.part-item.is in
     record {
       goes = goes_trans c.args.at.now c.loop-part.at c.match_side.new.at c.loop-part.invariant.goes c.match_side.ensures.goes;
-      gets = gets_more (each pattern_steps (map operand_view all)) (pattern_steps (operand_view x)) (each pattern_steps (map operand_view (drop (i + 1) all))) c.args.at.now c.loop-part.at c.match_side.new.at
-          (subst (λ os. GetsOn c.args.at.now c.loop-part.at (each pattern_steps (map operand_view all)) (each pattern_steps (map operand_view os))) cut c.loop-part.invariant.gets)
-          c.match_side.ensures.goes c.in_ok-side.ensures.follows;
       sides = map_push side_view c.loop-part.sides.items c.push.new.list.items c.in_ok-side.side (side_at (operand_view x)) (map side_at (map operand_view (drop (i + 1) all))) (map side_at (map operand_view all)) c.in_ok-push.ensures.pushed c.in_ok-side.ensures.side
           (subst (λ os. map side_view c.loop-part.sides.items ++ map side_at (map operand_view os) ≡ map side_at (map operand_view all)) cut c.loop-part.invariant.sides);
       carries = beside_step c.args.at.now c.loop-part.at c.match_side.new.at c.args.env.now all i x c.args.seen.now.items c.loop-part.seen.items c.match_side.new.seen.items c.keep_apart.new.seen.items c.loop-part.all.items c.keep_apart.new.all.items c.loop-part.sides.items c.push.new.list.items c.in_ok-side.side c.len-before.result lt c.part-item.is c.in_ok-push.ensures.pushed c.loop-part.invariant.goes
@@ -113,8 +100,6 @@ match_sides-returns t c =
     let i = c.loop-part.part-index in
     let none : drop i all ≡ [] = drop_all i all (let n = c.loop-part-test.false in omega arith) in
     record {
-      follows = gets_done (each pattern_steps (map operand_view all)) c.args.at.now c.loop-part.at
-          (subst (λ os. GetsOn c.args.at.now c.loop-part.at (each pattern_steps (map operand_view all)) (each pattern_steps (map operand_view os))) none c.loop-part.invariant.gets);
       sides = list_done (map side_view c.loop-part.sides.items) (map side_at (map operand_view all)) (map side_at (map operand_view (drop i all))) (ap (λ os. map side_at (map operand_view os)) none) c.loop-part.invariant.sides;
       goes = c.loop-part.invariant.goes;
       carries = λ carried. beside_done c.args.at.now c.loop-part.at c.args.env.now (as_patterns c.args.at.now.item all) (as_patterns c.args.at.now.item (drop i all)) c.args.seen.now.items c.loop-part.seen.items c.loop-part.all.items c.append.new.list.items (map side_of c.loop-part.sides.items) (ap (as_patterns c.args.at.now.item) none) c.in_ok-append.ensures (c.loop-part.invariant.carries carried);
@@ -130,9 +115,6 @@ match_fields-loop-field-preserved t c =
     let cut = drop_read all i x lt c.field-item.is in
     record {
       goes = goes_trans c.args.at.now c.loop-field.at c.match_field.new.at c.loop-field.invariant.goes c.match_field.ensures.goes;
-      gets = gets_more (each field_pattern_steps (map operand_view all)) (field_pattern_steps (operand_view x)) (each field_pattern_steps (map operand_view (drop (i + 1) all))) c.args.at.now c.loop-field.at c.match_field.new.at
-          (subst (λ os. GetsOn c.args.at.now c.loop-field.at (each field_pattern_steps (map operand_view all)) (each field_pattern_steps (map operand_view os))) cut c.loop-field.invariant.gets)
-          c.match_field.ensures.goes c.in_ok-match_field.ensures.follows;
       names = binds_more c.loop-field.names.items c.match_field.new.names.items (field_pattern_names (operand_view x)) (names_in field_pattern_names (map operand_view (drop (i + 1) all))) (tokens_of c.args.names.now.items ++ names_in field_pattern_names (map operand_view all)) c.in_ok-match_field.ensures.names
           (subst (λ os. tokens_of c.loop-field.names.items ++ names_in field_pattern_names (map operand_view os) ≡ tokens_of c.args.names.now.items ++ names_in field_pattern_names (map operand_view all)) cut c.loop-field.invariant.names);
       found = c.in_ok-match_field.ensures.found ∙ c.loop-field.invariant.found;
@@ -145,7 +127,6 @@ match_fields-loop-field-init t c =
     let all = c.args.fields.now in
     record {
       goes = goes_refl c.args.at.now;
-      gets = gets_start (each field_pattern_steps (map operand_view all)) c.args.at.now;
       names = refl;
       found = refl;
       carries = λ carried. subst (λ ls. FieldsInOrderFirst c.args.at.now c.args.at.now c.args.env.now (here_of c.args.found) (as_fields c.args.at.now.item all) (as_fields c.args.at.now.item all) (binds_of c.args.names.now.items) (binds_of c.args.names.now.items) (names_seen c.args.seen.now.items) (names_seen ls) (names_seen c.args.seen.now.items)) (sym c.new.ensures.items)
@@ -158,8 +139,6 @@ match_fields-returns t c =
     let i = c.loop-field.field-index in
     let none : drop i all ≡ [] = drop_all i all (let n = c.loop-field-test.false in omega arith) in
     record {
-      follows = gets_done (each field_pattern_steps (map operand_view all)) c.args.at.now c.loop-field.at
-          (subst (λ os. GetsOn c.args.at.now c.loop-field.at (each field_pattern_steps (map operand_view all)) (each field_pattern_steps (map operand_view os))) none c.loop-field.invariant.gets);
       names = binds_done c.args.names.now.items c.loop-field.names.items (names_in field_pattern_names (map operand_view all)) (names_in field_pattern_names (map operand_view (drop i all))) (ap (λ os. names_in field_pattern_names (map operand_view os)) none) c.loop-field.invariant.names;
       goes = c.loop-field.invariant.goes;
       carries = λ carried. fields.in_order_all c.args.at.now c.loop-field.at c.args.env.now (here_of c.args.found) (as_fields c.args.at.now.item all) (as_fields c.args.at.now.item (drop i all)) (binds_of c.args.names.now.items) (binds_of c.loop-field.names.items) (names_seen c.args.seen.now.items) (names_seen c.loop-field.begun.labels.items) (names_seen c.loop-field.seen.items)
@@ -168,18 +147,14 @@ match_fields-returns t c =
 
 pub match_pattern-returns-in-Some : goal.match_pattern-returns-in-Some
 match_pattern-returns-in-Some t c = record {
-  follows = subst (λ ss. OnOk c.match_node.result (Follows ss c.args.at.now c.match_node.new.at)) (sym (steps_there c.args.p c.in-Some.node c.in-Some.is)) c.match_node.ensures.follows;
   names = subst (λ ts. OnOk c.match_node.result (Binds c.args.names.now.items c.match_node.new.names.items ts)) (sym (names_there c.args.p c.in-Some.node c.in-Some.is)) c.match_node.ensures.names;
-  recorded = c.match_node.ensures.recorded;
   goes = c.match_node.ensures.goes;
   carries = if_ok c.match_node.result _ _ (λ m h. operand_matches c.args.at.now c.match_node.new.at c.args.env.now c.args.p c.in-Some.node (binds_of c.args.names.now.items) (binds_of c.match_node.new.names.items) (names_seen c.args.seen.now.items) (names_seen c.match_node.new.seen.items) m.0 c.in-Some.is h) c.match_node.ensures.carries;
 }
 
 pub match_pattern-returns-in-None : goal.match_pattern-returns-in-None
 match_pattern-returns-in-None t c = record {
-  follows = subst (λ ss. OnOk c.anything.result (Follows ss c.args.at.now c.anything.new.at)) (sym (steps_missing c.args.p c.in-None.is)) c.anything.ensures.follows;
   names = on_any c.anything.result (Binds c.args.names.now.items c.args.names.now.items (pattern_names (operand_view c.args.p))) (subst (λ ts. Binds c.args.names.now.items c.args.names.now.items ts) (sym (names_missing c.args.p c.in-None.is)) (binds_none c.args.names.now.items));
-  recorded = c.anything.ensures.recorded;
   goes = c.anything.ensures.goes;
   carries = if_ok c.anything.result _ _ (λ m h. nothing_matches c.args.at.now c.anything.new.at c.args.env.now c.args.p m (binds_of c.args.names.now.items) (names_seen c.args.seen.now.items) c.in-None.is h) c.anything.ensures.carries;
 }
@@ -187,9 +162,7 @@ match_pattern-returns-in-None t c = record {
 pub match_node-returns-in-Papp : goal.match_node-returns-in-Papp
 unfolding row_of
 match_node-returns-in-Papp t c = record {
-  follows = row_steps c.applied.result c.args.number c.args.node.now row_name.Papp papp_row c.args.at.now c.applied.new.at c.in-Papp.is refl c.applied.ensures.follows;
   names = row_names c.applied.result c.args.number c.args.node.now row_name.Papp papp_row c.args.names.now.items c.applied.new.names.items c.in-Papp.is refl c.applied.ensures.names;
-  recorded = c.applied.ensures.recorded;
   goes = c.applied.ensures.goes;
   carries = if_ok c.applied.result _ _ (λ m h. h (tree_row c.args.node.now row_name.Papp papp_row c.in-Papp.is refl)) c.applied.ensures.carries;
 }
@@ -197,9 +170,7 @@ match_node-returns-in-Papp t c = record {
 pub match_node-returns-in-Precord : goal.match_node-returns-in-Precord
 unfolding row_of
 match_node-returns-in-Precord t c = record {
-  follows = row_steps c.«record».result c.args.number c.args.node.now row_name.Precord precord_row c.args.at.now c.«record».new.at c.in-Precord.is refl c.«record».ensures.follows;
   names = row_names c.«record».result c.args.number c.args.node.now row_name.Precord precord_row c.args.names.now.items c.«record».new.names.items c.in-Precord.is refl c.«record».ensures.names;
-  recorded = c.«record».ensures.recorded;
   goes = c.«record».ensures.goes;
   carries = if_ok c.«record».result _ _ (λ m h. h (tree_row c.args.node.now row_name.Precord precord_row c.in-Precord.is refl)) c.«record».ensures.carries;
 }
@@ -207,9 +178,7 @@ match_node-returns-in-Precord t c = record {
 pub match_node-returns-in-Por : goal.match_node-returns-in-Por
 unfolding row_of
 match_node-returns-in-Por t c = record {
-  follows = row_steps c.alternatives.result c.args.number c.args.node.now row_name.Por por_row c.args.at.now c.alternatives.new.at c.in-Por.is refl c.alternatives.ensures.follows;
   names = row_names c.alternatives.result c.args.number c.args.node.now row_name.Por por_row c.args.names.now.items c.alternatives.new.names.items c.in-Por.is refl c.alternatives.ensures.names;
-  recorded = c.alternatives.ensures.recorded;
   goes = c.alternatives.ensures.goes;
   carries = if_ok c.alternatives.result _ _ (λ m h. h (tree_row c.args.node.now row_name.Por por_row c.in-Por.is refl)) c.alternatives.ensures.carries;
 }
@@ -217,9 +186,7 @@ match_node-returns-in-Por t c = record {
 pub match_node-returns-in-Pparen : goal.match_node-returns-in-Pparen
 unfolding row_of
 match_node-returns-in-Pparen t c = record {
-  follows = row_steps c.parenthesised.result c.args.number c.args.node.now row_name.Pparen pparen_row c.args.at.now c.parenthesised.new.at c.in-Pparen.is refl c.parenthesised.ensures.follows;
   names = row_names c.parenthesised.result c.args.number c.args.node.now row_name.Pparen pparen_row c.args.names.now.items c.parenthesised.new.names.items c.in-Pparen.is refl c.parenthesised.ensures.names;
-  recorded = c.parenthesised.ensures.recorded;
   goes = c.parenthesised.ensures.goes;
   carries = if_ok c.parenthesised.result _ _ (λ m h. h (tree_row c.args.node.now row_name.Pparen pparen_row c.in-Pparen.is refl)) c.parenthesised.ensures.carries;
 }
@@ -227,9 +194,7 @@ match_node-returns-in-Pparen t c = record {
 pub match_node-returns-in-Plist : goal.match_node-returns-in-Plist
 unfolding row_of
 match_node-returns-in-Plist t c = record {
-  follows = row_steps c.list.result c.args.number c.args.node.now row_name.Plist plist_row c.args.at.now c.list.new.at c.in-Plist.is refl c.list.ensures.follows;
   names = row_names c.list.result c.args.number c.args.node.now row_name.Plist plist_row c.args.names.now.items c.list.new.names.items c.in-Plist.is refl c.list.ensures.names;
-  recorded = c.list.ensures.recorded;
   goes = c.list.ensures.goes;
   carries = if_ok c.list.result _ _ (λ m h. h (tree_row c.args.node.now row_name.Plist plist_row c.in-Plist.is refl)) c.list.ensures.carries;
 }
@@ -237,9 +202,7 @@ match_node-returns-in-Plist t c = record {
 pub match_node-returns-in-Pcons : goal.match_node-returns-in-Pcons
 unfolding row_of
 match_node-returns-in-Pcons t c = record {
-  follows = row_steps c.cons.result c.args.number c.args.node.now row_name.Pcons pcons_row c.args.at.now c.cons.new.at c.in-Pcons.is refl c.cons.ensures.follows;
   names = row_names c.cons.result c.args.number c.args.node.now row_name.Pcons pcons_row c.args.names.now.items c.cons.new.names.items c.in-Pcons.is refl c.cons.ensures.names;
-  recorded = c.cons.ensures.recorded;
   goes = c.cons.ensures.goes;
   carries = if_ok c.cons.result _ _ (λ m h. h (tree_row c.args.node.now row_name.Pcons pcons_row c.in-Pcons.is refl)) c.cons.ensures.carries;
 }
@@ -247,9 +210,7 @@ match_node-returns-in-Pcons t c = record {
 pub match_node-returns-in-Ptuple : goal.match_node-returns-in-Ptuple
 unfolding row_of
 match_node-returns-in-Ptuple t c = record {
-  follows = row_steps c.tuple.result c.args.number c.args.node.now row_name.Ptuple ptuple_row c.args.at.now c.tuple.new.at c.in-Ptuple.is refl c.tuple.ensures.follows;
   names = row_names c.tuple.result c.args.number c.args.node.now row_name.Ptuple ptuple_row c.args.names.now.items c.tuple.new.names.items c.in-Ptuple.is refl c.tuple.ensures.names;
-  recorded = c.tuple.ensures.recorded;
   goes = c.tuple.ensures.goes;
   carries = if_ok c.tuple.result _ _ (λ m h. h (tree_row c.args.node.now row_name.Ptuple ptuple_row c.in-Ptuple.is refl)) c.tuple.ensures.carries;
 }
@@ -257,9 +218,7 @@ match_node-returns-in-Ptuple t c = record {
 pub match_node-returns-in-Pas : goal.match_node-returns-in-Pas
 unfolding row_of
 match_node-returns-in-Pas t c = record {
-  follows = row_steps c.named.result c.args.number c.args.node.now row_name.Pas pas_row c.args.at.now c.named.new.at c.in-Pas.is refl c.named.ensures.follows;
   names = row_names c.named.result c.args.number c.args.node.now row_name.Pas pas_row c.args.names.now.items c.named.new.names.items c.in-Pas.is refl c.named.ensures.names;
-  recorded = c.named.ensures.recorded;
   goes = c.named.ensures.goes;
   carries = if_ok c.named.result _ _ (λ m h. h (tree_row c.args.node.now row_name.Pas pas_row c.in-Pas.is refl)) c.named.ensures.carries;
 }
@@ -267,9 +226,7 @@ match_node-returns-in-Pas t c = record {
 pub match_node-returns-in-Pname : goal.match_node-returns-in-Pname
 unfolding row_of
 match_node-returns-in-Pname t c = record {
-  follows = row_steps c.name.result c.args.number c.args.node.now row_name.Pname pname_row c.args.at.now c.name.new.at c.in-Pname.is refl c.name.ensures.follows;
   names = row_names c.name.result c.args.number c.args.node.now row_name.Pname pname_row c.args.names.now.items c.name.new.names.items c.in-Pname.is refl c.name.ensures.names;
-  recorded = c.name.ensures.recorded;
   goes = c.name.ensures.goes;
   carries = if_ok c.name.result _ _ (λ m h. h (tree_row c.args.node.now row_name.Pname pname_row c.in-Pname.is refl)) c.name.ensures.carries;
 }
@@ -277,9 +234,7 @@ match_node-returns-in-Pname t c = record {
 pub match_node-returns-in-Pcon : goal.match_node-returns-in-Pcon
 unfolding row_of
 match_node-returns-in-Pcon t c = record {
-  follows = row_steps c.constant_constructor.result c.args.number c.args.node.now row_name.Pcon pcon_row c.args.at.now c.constant_constructor.new.at c.in-Pcon.is refl c.constant_constructor.ensures.follows;
   names = row_names c.constant_constructor.result c.args.number c.args.node.now row_name.Pcon pcon_row c.args.names.now.items c.args.names.now.items c.in-Pcon.is refl (on_any c.constant_constructor.result (Binds c.args.names.now.items c.args.names.now.items []) (binds_none c.args.names.now.items));
-  recorded = c.constant_constructor.ensures.recorded;
   goes = c.constant_constructor.ensures.goes;
   carries = if_ok c.constant_constructor.result _ _ (λ m h. h (binds_of c.args.names.now.items) (names_seen c.args.seen.now.items) (tree_row c.args.node.now row_name.Pcon pcon_row c.in-Pcon.is refl)) c.constant_constructor.ensures.carries;
 }
@@ -287,10 +242,7 @@ match_node-returns-in-Pcon t c = record {
 pub match_node-returns-in-Pconst : goal.match_node-returns-in-Pconst
 unfolding row_of
 match_node-returns-in-Pconst t c = record {
-  follows = row_steps c.number_row.result c.args.number c.args.node.now row_name.Pconst pconst_row c.args.at.now c.number_row.new.at c.in-Pconst.is refl
-      (subst (λ q. OnOk c.number_row.result (Follows (range_steps q ++ records c.args.number ∷ []) c.args.at.now c.number_row.new.at)) c.token.ensures c.number_row.ensures.follows);
   names = row_names c.number_row.result c.args.number c.args.node.now row_name.Pconst pconst_row c.args.names.now.items c.args.names.now.items c.in-Pconst.is refl (on_any c.number_row.result (Binds c.args.names.now.items c.args.names.now.items []) (binds_none c.args.names.now.items));
-  recorded = c.number_row.ensures.recorded;
   goes = c.number_row.ensures.goes;
   carries = if_ok c.number_row.result _ _ (λ m h. constant_matches c.args.at.now c.number_row.new.at c.args.env.now c.args.number (node_view c.args.node.now) m (binds_of c.args.names.now.items) (names_seen c.args.seen.now.items)
       (subst (λ o. NotesRow c.args.at.now c.number_row.new.at c.args.env.now c.args.number (λ n. constant false n o) m) c.token.ensures h) (tree_row c.args.node.now row_name.Pconst pconst_row c.in-Pconst.is refl)) c.number_row.ensures.carries;
@@ -299,10 +251,7 @@ match_node-returns-in-Pconst t c = record {
 pub match_node-returns-in-Pneg : goal.match_node-returns-in-Pneg
 unfolding row_of
 match_node-returns-in-Pneg t c = record {
-  follows = row_steps c.number_row-in-Pneg.result c.args.number c.args.node.now row_name.Pneg pneg_row c.args.at.now c.number_row-in-Pneg.new.at c.in-Pneg.is refl
-      (subst (λ q. OnOk c.number_row-in-Pneg.result (Follows (range_steps q ++ records c.args.number ∷ []) c.args.at.now c.number_row-in-Pneg.new.at)) c.token-in-Pneg.ensures c.number_row-in-Pneg.ensures.follows);
   names = row_names c.number_row-in-Pneg.result c.args.number c.args.node.now row_name.Pneg pneg_row c.args.names.now.items c.args.names.now.items c.in-Pneg.is refl (on_any c.number_row-in-Pneg.result (Binds c.args.names.now.items c.args.names.now.items []) (binds_none c.args.names.now.items));
-  recorded = c.number_row-in-Pneg.ensures.recorded;
   goes = c.number_row-in-Pneg.ensures.goes;
   carries = if_ok c.number_row-in-Pneg.result _ _ (λ m h. minus_matches c.args.at.now c.number_row-in-Pneg.new.at c.args.env.now c.args.number (node_view c.args.node.now) m (binds_of c.args.names.now.items) (names_seen c.args.seen.now.items)
       (subst (λ o. NotesRow c.args.at.now c.number_row-in-Pneg.new.at c.args.env.now c.args.number (λ n. constant true n o) m) c.token-in-Pneg.ensures h) (tree_row c.args.node.now row_name.Pneg pneg_row c.in-Pneg.is refl)) c.number_row-in-Pneg.ensures.carries;
@@ -314,9 +263,7 @@ match_node-returns-in_default t c =
     let n = c.args.number in
     let parts = parts_of_pattern n (node_view nd) in
     record {
-      follows = subst (λ ss. OnOk c.anything.result (Follows ss c.args.at.now c.anything.new.at)) (sym (other_matched n nd (other_steps (out-Node nd).row n (node_view nd) parts c.in_default.not-Papp c.in_default.not-Precord c.in_default.not-Por c.in_default.not-Pparen c.in_default.not-Plist c.in_default.not-Pcons c.in_default.not-Ptuple c.in_default.not-Pas c.in_default.not-Pname c.in_default.not-Pcon c.in_default.not-Pconst c.in_default.not-Pneg))) c.anything.ensures.follows;
       names = on_any c.anything.result (Binds c.args.names.now.items c.args.names.now.items (names_of_tree n (node_view nd))) (subst (λ ts. Binds c.args.names.now.items c.args.names.now.items ts) (sym (other_bound n nd (other_names (out-Node nd).row n (node_view nd) parts c.in_default.not-Papp c.in_default.not-Precord c.in_default.not-Por c.in_default.not-Pparen c.in_default.not-Plist c.in_default.not-Pcons c.in_default.not-Ptuple c.in_default.not-Pas c.in_default.not-Pname c.in_default.not-Pcon c.in_default.not-Pconst c.in_default.not-Pneg))) (binds_none c.args.names.now.items));
-      recorded = c.anything.ensures.recorded;
       goes = c.anything.ensures.goes;
       carries = if_ok c.anything.result _ _ (λ m h place carried. any_matches c.args.at.now c.anything.new.at c.args.env.now n (node_view nd) m (binds_of c.args.names.now.items) (names_seen c.args.seen.now.items) h
           (any_row nd carried.rows c.in_default.not-Papp c.in_default.not-Pcon c.in_default.not-Por c.in_default.not-Pparen c.in_default.not-Plist c.in_default.not-Pcons c.in_default.not-Ptuple c.in_default.not-Pas c.in_default.not-Pname c.in_default.not-Pconst c.in_default.not-Pneg c.in_default.not-Precord) place carried) c.anything.ensures.carries;
@@ -324,7 +271,6 @@ match_node-returns-in_default t c =
 
 pub match_field-returns-in_default : goal.match_field-returns-in_default
 match_field-returns-in_default t c = record {
-  follows = subst (λ ss. Follows ss c.args.at.now c.args.at.now) (sym (field_missing c.args.field c.in_default.is)) (follows_none c.args.at.now c.args.at.now refl);
   names = subst (λ ts. Binds c.args.names.now.items c.args.names.now.items ts) (sym (field_names_missing c.args.field c.in_default.is)) (binds_none c.args.names.now.items);
   goes = goes_refl c.args.at.now;
   carries = recording.field_missing c.args.at.now c.args.env.now c.args.begun.now.found c.args.field (binds_of c.args.names.now.items) (names_seen c.args.seen.now.items) (names_seen c.args.begun.now.labels.items) c.in_default.is;
@@ -335,7 +281,6 @@ pub match_field-returns-in-Some-first_operand : goal.match_field-returns-in-Some
 match_field-returns-in-Some-first_operand t c =
     let first : first_in c.args.field.number (node_view c.in-Some.node.now) 3 ≡ Some (operand_view c.in-Some-first_operand.part) = sym c.first_operand.ensures ∙ ap (option_map operand_view) c.in-Some-first_operand.is in
     record {
-      follows = subst (λ ss. OnOk c.match_written.result (Follows ss c.args.at.now c.match_written.new.at)) (sym (field_written c.args.field c.in-Some.node (operand_view c.in-Some-first_operand.part) c.in-Some.is first)) c.match_written.ensures.follows;
       names = subst (λ ts. OnOk c.match_written.result (Binds c.args.names.now.items c.match_written.new.names.items ts)) (sym (field_names_written c.args.field c.in-Some.node (operand_view c.in-Some-first_operand.part) c.in-Some.is first)) c.match_written.ensures.names;
       goes = c.match_written.ensures.goes;
       carries = field_by c.match_written.result c.args.at.now c.match_written.new.at c.args.env.now c.args.begun.now.found c.args.field c.in-Some.node (Some (operand_view c.in-Some-first_operand.part)) (binds_of c.args.names.now.items) (binds_of c.match_written.new.names.items) (names_seen c.args.seen.now.items) (names_seen c.match_written.new.seen.items) (names_seen c.args.begun.now.labels.items) (names_seen c.match_written.new.begun.labels.items)
@@ -347,7 +292,6 @@ pub match_field-returns-in-None : goal.match_field-returns-in-None
 match_field-returns-in-None t c =
     let first : first_in c.args.field.number (node_view c.in-Some.node.now) 3 ≡ None = sym c.first_operand.ensures ∙ ap (option_map operand_view) c.in-None.is in
     record {
-      follows = subst (λ ss. OnOk c.pun.result (Follows ss c.args.at.now c.pun.new.at)) (sym (field_alone c.args.field c.in-Some.node c.in-Some.is first)) c.pun.ensures.follows;
       names = subst (λ ts. OnOk c.pun.result (Binds c.args.names.now.items c.pun.new.names.items ts)) (sym (field_names_alone c.args.field c.in-Some.node c.in-Some.is first)) c.pun.ensures.names;
       goes = c.pun.ensures.goes;
       carries = field_by c.pun.result c.args.at.now c.pun.new.at c.args.env.now c.args.begun.now.found c.args.field c.in-Some.node None (binds_of c.args.names.now.items) (binds_of c.pun.new.names.items) (names_seen c.args.seen.now.items) (names_seen c.pun.new.seen.items) (names_seen c.args.begun.now.labels.items) (names_seen c.pun.new.begun.labels.items)
@@ -362,7 +306,6 @@ in_brackets-returns t c =
     let os = map operand_view c.deref.result.now in
     let same : map operand_view c.deref.result.now ≡ operands_in c.args.number (node_view c.args.node.now) 1 = ap (map operand_view) c.deref.ensures.value ∙ c.in_ok-parts.ensures in
     record {
-      follows = slot_follows c.in_order.result n tree 1 os c.args.at.now c.in_order.new.at same c.in_order.ensures.follows;
       names = slot_binds c.in_order.result n tree 1 os c.args.names.now.items c.in_order.new.names.items same c.in_order.ensures.names;
       typed = subst (λ xs. IfOk c.in_order.result (λ ts. typed_view ts.items ≡ xs)) same c.in_order.ensures.typed;
       goes = c.in_order.ensures.goes;
@@ -376,7 +319,6 @@ in_row-returns t c =
     let os = map operand_view c.deref.result.now in
     let same : map operand_view c.deref.result.now ≡ all_operands c.args.number (node_view c.args.node.now) = ap (map operand_view) c.deref.ensures.value ∙ c.in_ok-parts.ensures in
     record {
-      follows = slots_follow c.in_order.result n tree os c.args.at.now c.in_order.new.at same c.in_order.ensures.follows;
       names = slots_bind c.in_order.result n tree os c.args.names.now.items c.in_order.new.names.items same c.in_order.ensures.names;
       typed = subst (λ xs. IfOk c.in_order.result (λ ts. typed_view ts.items ≡ xs)) same c.in_order.ensures.typed;
       goes = c.in_order.ensures.goes;
@@ -390,7 +332,6 @@ sides_in-returns t c =
     let os = map operand_view c.deref.result.now in
     let same : map operand_view c.deref.result.now ≡ all_operands c.args.number (node_view c.args.node.now) = ap (map operand_view) c.deref.ensures.value ∙ c.in_ok-parts.ensures in
     record {
-      follows = slots_follow c.match_sides.result n tree os c.args.at.now c.match_sides.new.at same c.match_sides.ensures.follows;
       sides = subst (λ xs. IfOk c.match_sides.result (λ ss. map side_view ss.items ≡ xs)) (sides_come n tree os same) c.match_sides.ensures.sides;
       goes = c.match_sides.ensures.goes;
       carries = subst (λ xs. IfOk c.match_sides.result (λ ss. MatchesBeside c.args.at.now c.match_sides.new.at c.args.env.now xs (names_seen c.args.seen.now.items) (names_seen c.match_sides.new.seen.items) (map side_of ss.items))) same c.match_sides.ensures.carries;
@@ -401,16 +342,8 @@ pub parenthesised-returns : goal.parenthesised-returns
 parenthesised-returns t c =
     let n = c.args.number in
     let tree = node_view c.args.node.now in
-    let ps = parts_of_pattern n tree in
-    let first : first_of (typed_view c.deref.result.now) ≡ first_in c.args.number (node_view c.args.node.now) 1 = ap first_of (ap typed_view c.deref.ensures.value ∙ c.in_ok-typed.ensures.typed) in
-    let asked : Follows (annotation_steps (first_in c.args.number (node_view c.args.node.now) 1) (first_in c.args.number (node_view c.args.node.now) 3)) c.in_brackets.new.at c.annotated.new.at =
-    subst (λ w. Follows (annotation_steps (first_in c.args.number (node_view c.args.node.now) 1) w) c.in_brackets.new.at c.annotated.new.at) c.first_operand.ensures
-    (subst (λ o. Follows (annotation_steps o (option_map operand_view c.first_operand.result)) c.in_brackets.new.at c.annotated.new.at) first c.in_ok-ty.ensures.follows) in
     record {
-      follows = follows_three (match_each (in_slot 1 ps)) (annotation_steps (first_in n tree 1) (first_in n tree 3)) (records n ∷ []) c.args.at.now c.in_brackets.new.at c.annotated.new.at c.note_type.new.self
-          c.in_ok-typed.ensures.follows c.annotated.ensures.goes asked c.note_type.ensures.goes c.in_ok-note_type.ensures.follows;
       names = c.in_ok-typed.ensures.names;
-      recorded = c.in_ok-note_type.ensures.recorded;
       goes = goes_trans c.args.at.now c.in_brackets.new.at c.note_type.new.self c.in_brackets.ensures.goes (goes_trans c.in_brackets.new.at c.annotated.new.at c.note_type.new.self c.annotated.ensures.goes c.note_type.ensures.goes);
       carries = paren_row c.args.at.now c.in_brackets.new.at c.annotated.new.at c.note_type.new.self c.args.env.now n tree (option_map operand_view c.first_operand.result) c.in_ok-ty.ty (binds_of c.args.names.now.items) (binds_of c.in_brackets.new.names.items) (names_seen c.args.seen.now.items) (names_seen c.in_brackets.new.seen.items) (nodes_of c.in_ok-typed.typed.items) (sym c.first_operand.ensures) c.in_ok-typed.ensures.carries c.in_brackets.ensures.goes
           (λ none o os is. subst (λ ts. (slice_get (nodes_of ts) 0 ≡ Some c.in_ok-ty.ty.0) × (c.annotated.new.at ≡ c.in_brackets.new.at)) c.deref.ensures.value (c.in_ok-ty.ensures.first (none_of operand_view c.first_operand.result none) o os (ap typed_view c.deref.ensures.value ∙ c.in_ok-typed.ensures.typed ∙ is)))
@@ -422,14 +355,9 @@ pub list-returns : goal.list-returns
 list-returns t c =
     let n = c.args.number in
     let tree = node_view c.args.node.now in
-    let ps = parts_of_pattern n tree in
     let same : typed_view c.deref.result.now ≡ operands_in c.args.number (node_view c.args.node.now) 1 = ap typed_view c.deref.ensures.value ∙ c.in_ok-typed.ensures.typed in
-    let asked = subst (λ os. Follows (each asks_equal (later os)) c.in_brackets.new.at c.list_of.new.at) same c.in_ok-ty.ensures.follows in
     record {
-      follows = follows_three (match_each (in_slot 1 ps)) (each asks_equal (later (operands_in n tree 1))) (records n ∷ []) c.args.at.now c.in_brackets.new.at c.list_of.new.at c.note_type.new.self
-          c.in_ok-typed.ensures.follows c.list_of.ensures.goes asked c.note_type.ensures.goes c.in_ok-note_type.ensures.follows;
       names = c.in_ok-typed.ensures.names;
-      recorded = c.in_ok-note_type.ensures.recorded;
       goes = goes_trans c.args.at.now c.in_brackets.new.at c.note_type.new.self c.in_brackets.ensures.goes (goes_trans c.in_brackets.new.at c.list_of.new.at c.note_type.new.self c.list_of.ensures.goes c.note_type.ensures.goes);
       carries = list_matches c.args.at.now c.in_brackets.new.at c.list_of.new.at c.note_type.new.self c.args.env.now n tree c.in_ok-ty.ty (binds_of c.args.names.now.items) (binds_of c.in_brackets.new.names.items) (names_seen c.args.seen.now.items) (names_seen c.in_brackets.new.seen.items) (nodes_of c.in_ok-typed.typed.items) c.in_ok-typed.ensures.carries c.in_brackets.ensures.goes
           (subst (λ os. EndsPatterns c.in_brackets.new.at c.list_of.new.at c.args.env.now (list_asks (patterns_of c.in_brackets.new.at.item os)) (patterns_of c.in_brackets.new.at.item os) (nodes_of c.in_ok-typed.typed.items) c.in_ok-ty.ty.0) same
@@ -441,14 +369,9 @@ pub cons-returns : goal.cons-returns
 cons-returns t c =
     let n = c.args.number in
     let tree = node_view c.args.node.now in
-    let ps = parts_of_pattern n tree in
     let same : typed_view c.deref.result.now ≡ all_operands c.args.number (node_view c.args.node.now) = ap typed_view c.deref.ensures.value ∙ c.in_ok-typed.ensures.typed in
-    let asked = subst (λ os. Follows (asks_equal_if (last_of os)) c.in_row.new.at c.cons_of.new.at) same c.in_ok-ty.ensures.follows in
     record {
-      follows = follows_three (match_each (in_slots ps)) (asks_equal_if (last_of (all_operands n tree))) (records n ∷ []) c.args.at.now c.in_row.new.at c.cons_of.new.at c.note_type.new.self
-          c.in_ok-typed.ensures.follows c.cons_of.ensures.goes asked c.note_type.ensures.goes c.in_ok-note_type.ensures.follows;
       names = c.in_ok-typed.ensures.names;
-      recorded = c.in_ok-note_type.ensures.recorded;
       goes = goes_trans c.args.at.now c.in_row.new.at c.note_type.new.self c.in_row.ensures.goes (goes_trans c.in_row.new.at c.cons_of.new.at c.note_type.new.self c.cons_of.ensures.goes c.note_type.ensures.goes);
       carries = cons_matches c.args.at.now c.in_row.new.at c.cons_of.new.at c.note_type.new.self c.args.env.now n tree c.in_ok-ty.ty (binds_of c.args.names.now.items) (binds_of c.in_row.new.names.items) (names_seen c.args.seen.now.items) (names_seen c.in_row.new.seen.items) (nodes_of c.in_ok-typed.typed.items) c.in_ok-typed.ensures.carries c.in_row.ensures.goes
           (λ o p is. subst (λ ts. EndsPatterns c.in_row.new.at c.cons_of.new.at c.args.env.now (cons_asks (pattern_of c.in_row.new.at.item o) (pattern_of c.in_row.new.at.item p)) (pattern_of c.in_row.new.at.item o ∷ pattern_of c.in_row.new.at.item p ∷ []) (nodes_of ts) c.in_ok-ty.ty.0) c.deref.ensures.value (c.in_ok-ty.ensures.carries o p (same ∙ is)))
@@ -458,14 +381,8 @@ cons-returns t c =
 pub tuple-returns : goal.tuple-returns
 tuple-returns t c =
     let n = c.args.number in
-    let ps = parts_of_pattern n (node_view c.args.node.now) in
-    let x = match_each (in_slots ps) in
     record {
-      follows = follows_both x (records n ∷ []) c.args.at.now c.tuple.new.self c.note_type.new.self
-          (follows_before x c.args.at.now c.in_row.new.at c.tuple.new.self c.in_ok-typed.ensures.follows c.tuple.ensures.goes (store_silent c.in_row.new.at c.tuple.new.self c.tuple.ensures.rest))
-          c.note_type.ensures.goes c.in_ok-note_type.ensures.follows;
       names = c.in_ok-typed.ensures.names;
-      recorded = c.in_ok-note_type.ensures.recorded;
       goes = goes_trans c.args.at.now c.in_row.new.at c.note_type.new.self c.in_row.ensures.goes (goes_trans c.in_row.new.at c.tuple.new.self c.note_type.new.self c.tuple.ensures.goes c.note_type.ensures.goes);
       carries = tuple_matches c.args.at.now c.in_row.new.at c.tuple.new.self c.note_type.new.self c.args.env.now n (node_view c.args.node.now) c.in_ok-ty.ty (binds_of c.args.names.now.items) (binds_of c.in_row.new.names.items) (names_seen c.args.seen.now.items) (names_seen c.in_row.new.seen.items) (nodes_of c.in_ok-typed.typed.items) c.in_ok-typed.ensures.carries c.in_row.ensures.goes
           (subst (λ ms. All (IsNode c.in_row.new.at.store.nodes) ms → Makes c.in_row.new.at.store c.tuple.new.self.store c.in_ok-ty.ty.0 (node.Tuple ms)) (ap numbers c.deref-2.ensures.value ∙ c.in_ok-types.ensures ∙ ap nodes_of c.deref.ensures.value) c.in_ok-ty.ensures.made)
@@ -477,17 +394,9 @@ named-returns t c =
     let n = c.args.number in
     let tree = node_view c.args.node.now in
     let ps = parts_of_pattern n tree in
-    let x = match_each (in_slots ps) in
-    let y = asks_token fault.Unique (token_in tree 2) in
-    let bound = subst (λ q. Follows (asks_token fault.Unique q ++ records c.args.number ∷ []) c.first_type.new.at c.bind_if.new.at) c.token.ensures c.in_ok-bind_if.ensures.follows in
     let names = subst (λ q. Binds c.in_row.new.names.items c.bind_if.new.names.items (name_of q)) c.token.ensures c.in_ok-bind_if.ensures.names in
     record {
-      follows = subst (λ ss. Follows ss c.args.at.now c.bind_if.new.at) (sym (append_assoc x y (records n ∷ [])))
-          (follows_both x (y ++ records n ∷ []) c.args.at.now c.first_type.new.at c.bind_if.new.at
-          (follows_before x c.args.at.now c.in_row.new.at c.first_type.new.at c.in_ok-typed.ensures.follows c.first_type.ensures.goes c.first_type.ensures.silent)
-          c.bind_if.ensures.goes bound);
       names = binds_both c.args.names.now.items c.in_row.new.names.items c.bind_if.new.names.items (names_of (in_slots ps)) (name_of (token_in tree 2)) c.in_ok-typed.ensures.names names;
-      recorded = c.in_ok-bind_if.ensures.recorded;
       goes = goes_trans c.args.at.now c.in_row.new.at c.bind_if.new.at c.in_row.ensures.goes (goes_trans c.in_row.new.at c.first_type.new.at c.bind_if.new.at c.first_type.ensures.goes c.bind_if.ensures.goes);
       carries = as_matches c.args.at.now c.in_row.new.at c.first_type.new.at c.bind_if.new.at c.args.env.now n tree c.in_ok-ty.ty (binds_of c.args.names.now.items) (binds_of c.in_row.new.names.items) (binds_of c.bind_if.new.names.items) (names_seen c.args.seen.now.items) (names_seen c.in_row.new.seen.items) (names_seen c.bind_if.new.seen.items) (nodes_of c.in_ok-typed.typed.items) c.in_ok-typed.ensures.carries c.in_row.ensures.goes
           (λ o os is. subst (λ ts. (slice_get (nodes_of ts) 0 ≡ Some c.in_ok-ty.ty.0) × (c.first_type.new.at ≡ c.in_row.new.at)) c.deref.ensures.value (c.in_ok-ty.ensures.first o os (ap typed_view c.deref.ensures.value ∙ c.in_ok-typed.ensures.typed ∙ is)))
@@ -501,10 +410,7 @@ applied-returns t c =
     let head = operand_view c.operand_in-head.result in
     let argument = operand_view c.operand_in-argument.result in
     record {
-      follows = follows_both (construction_steps (filled_in n tree 0) (filled_in n tree 1) (pattern_or_missing n tree (in_slot 1 (parts_of_pattern n tree))).matched) (records n ∷ []) c.args.at.now c.construction.new.at c.note_type.new.self
-          (filled_follows n tree head argument c.args.at.now c.construction.new.at c.operand_in-head.ensures c.operand_in-argument.ensures c.in_ok-ty.ensures.follows) c.note_type.ensures.goes c.in_ok-note_type.ensures.follows;
       names = filled_binds n tree argument c.args.names.now.items c.construction.new.names.items c.operand_in-argument.ensures c.in_ok-ty.ensures.names;
-      recorded = c.in_ok-note_type.ensures.recorded;
       goes = goes_trans c.args.at.now c.construction.new.at c.note_type.new.self c.construction.ensures.goes c.note_type.ensures.goes;
       carries = applied_matches c.args.at.now c.construction.new.at c.note_type.new.self c.args.env.now n tree head argument c.in_ok-ty.ty (binds_of c.args.names.now.items) (binds_of c.construction.new.names.items) (names_seen c.args.seen.now.items) (names_seen c.construction.new.seen.items) c.operand_in-head.ensures c.operand_in-argument.ensures
           c.in_ok-ty.ensures.carries c.construction.ensures.goes c.in_ok-note_type.ensures.noted c.note_type.ensures.rest;
@@ -514,10 +420,8 @@ pub construction-returns-in-Some : goal.construction-returns-in-Some
 construction-returns-in-Some t c =
     let i = c.args.at.now.item in
     let head = operand_view c.args.head in
-    let argument = operand_view c.args.argument in
     let named : constructor_at head.part ≡ Some (path_view c.in-Some.path) = sym (ap (option_map path_view) (sym c.in-Some.is) ∙ c.in_ok-path.ensures) in
     record {
-      follows = constructed_follows c.with_argument.result head argument (path_view c.in-Some.path) (pattern_steps argument) c.args.at.now c.with_argument.new.at named c.with_argument.ensures.follows;
       names = c.with_argument.ensures.names;
       goes = c.with_argument.ensures.goes;
       carries = if_ok c.with_argument.result _ _ (λ m h carried. h carried (pattern_of i head) (pattern_of_stands i head).number (head_constructor i head ∙ ap (option_map path_of) named)) c.with_argument.ensures.carries;
@@ -530,8 +434,6 @@ construction-returns-in_ok-match_pattern-in-None t c =
     let argument = operand_view c.args.argument in
     let none : constructor_at head.part ≡ None = sym (ap (option_map path_view) (sym c.in-None.is) ∙ c.in_ok-path.ensures) in
     record {
-      follows = alone_follows c.var.result head argument (pattern_steps argument) c.args.at.now c.var.new.self none
-          (ends_before c.var.result (pattern_steps argument) c.args.at.now c.match_pattern.new.at c.var.new.self c.in_ok-match_pattern-in-None.ensures.follows c.var.ensures.goes (store_silent c.match_pattern.new.at c.var.new.self c.var.ensures.rest));
       names = on_any c.var.result (Binds c.args.names.now.items c.match_pattern.new.names.items (pattern_names argument)) c.in_ok-match_pattern-in-None.ensures.names;
       goes = goes_trans c.args.at.now c.match_pattern.new.at c.var.new.self c.match_pattern.ensures.goes c.var.ensures.goes;
       carries = if_ok c.var.result _ _ (λ m made carried.
@@ -546,8 +448,6 @@ with_argument-returns t c =
     let found = c.in_ok-found.found in
     let wanted : Option ℕ = option_map (λ (m : NodeRef). m.0) found.argument in
     record {
-      follows = follows_three (constructor_steps p) (pattern_steps o ++ asks_equal o) (records c.args.number ∷ []) c.args.at.now c.constructor.new.at c.match_wanted.new.at c.note.new.self
-          c.in_ok-found.ensures.follows c.match_wanted.ensures.goes c.in_ok-match_wanted.ensures.follows c.note.ensures.goes c.in_ok-note.ensures.follows;
       names = c.in_ok-match_wanted.ensures.names;
       goes = goes_trans c.args.at.now c.constructor.new.at c.note.new.self c.constructor.ensures.goes (goes_trans c.constructor.new.at c.match_wanted.new.at c.note.new.self c.match_wanted.ensures.goes c.note.ensures.goes);
       carries = λ carried. constructor_applied c.args.at.now c.constructor.new.at c.match_wanted.new.at c.note.new.self c.args.env.now c.args.number (path_as p) (pattern_of c.args.at.now.item o) found.known found.built wanted (record { env = c.args.env.now; ty = Some found.built; names = found.names })
@@ -565,18 +465,8 @@ pub alternatives-returns : goal.alternatives-returns
 alternatives-returns t c =
     let n = c.args.number in
     let tree = node_view c.args.node.now in
-    let ps = parts_of_pattern n tree in
-    let x = match_each (in_slots ps) in
-    let y = sides_beside (sides_of (all_operands n tree) (in_slots ps)) in
-    let same : map side_view c.deref.result.now ≡ sides_of (all_operands c.args.number (node_view c.args.node.now)) (in_slots (parts_of_pattern c.args.number (node_view c.args.node.now))) = ap (map side_view) c.deref.ensures.value ∙ c.in_ok-sides.ensures.sides in
-    let asked = subst (λ ss. Follows (sides_beside ss) c.sides_in.new.at c.compare_sides.new.at) same c.in_ok-compare_sides.ensures.follows in
     record {
-      follows = follows_three x y (records n ∷ []) c.args.at.now c.sides_in.new.at c.first_side.new.at c.note_type.new.self c.in_ok-sides.ensures.follows
-          (goes_trans c.sides_in.new.at c.compare_sides.new.at c.first_side.new.at c.compare_sides.ensures.goes c.first_side.ensures.goes)
-          (follows_before y c.sides_in.new.at c.compare_sides.new.at c.first_side.new.at asked c.first_side.ensures.goes c.first_side.ensures.silent)
-          c.note_type.ensures.goes c.in_ok-note_type.ensures.follows;
       names = subst (λ ss. Binds c.args.names.now.items c.first_side.new.names.items (names_of_first ss)) c.in_ok-sides.ensures.sides c.in_ok-first.ensures.names;
-      recorded = c.in_ok-note_type.ensures.recorded;
       goes = goes_trans c.args.at.now c.sides_in.new.at c.note_type.new.self c.sides_in.ensures.goes (goes_trans c.sides_in.new.at c.compare_sides.new.at c.note_type.new.self c.compare_sides.ensures.goes (goes_trans c.compare_sides.new.at c.first_side.new.at c.note_type.new.self c.first_side.ensures.goes c.note_type.ensures.goes));
       carries = or_matches c.args.at.now c.sides_in.new.at c.first_side.new.at c.note_type.new.self c.args.env.now n tree c.in_ok-first.first (binds_of c.args.names.now.items) (binds_of c.first_side.new.names.items) (names_seen c.args.seen.now.items) (names_seen c.sides_in.new.seen.items) (map side_of c.in_ok-sides.sides.items) c.in_ok-sides.ensures.carries c.sides_in.ensures.goes
           (sides_compared c.sides_in.new.at c.compare_sides.new.at c.first_side.new.at (all_operands n tree) c.in_ok-sides.sides.items c.in_ok-first.first.0 c.args.names.now.items c.first_side.new.names.items c.in_ok-sides.ensures.parts
@@ -592,9 +482,7 @@ record-returns t c =
     let os = map operand_view c.deref.result.now in
     let same : map operand_view c.deref.result.now ≡ operands_in c.args.number (node_view c.args.node.now) 1 = ap (map operand_view) c.deref.ensures.value ∙ c.in_ok-fields.ensures in
     record {
-      follows = record_follows n tree os c.args.at.now c.match_record.new.at c.note_type.new.self same c.in_ok-ty.ensures.follows c.note_type.ensures.goes c.in_ok-note_type.ensures.follows;
       names = record_binds n tree os c.args.names.now.items c.match_record.new.names.items same c.in_ok-ty.ensures.names;
-      recorded = c.in_ok-note_type.ensures.recorded;
       goes = goes_trans c.args.at.now c.match_record.new.at c.note_type.new.self c.match_record.ensures.goes c.note_type.ensures.goes;
       carries =
           let xs = binds_of c.args.names.now.items in
@@ -607,7 +495,6 @@ record-returns t c =
 
 pub match_wanted-returns : goal.match_wanted-returns
 match_wanted-returns t c = record {
-  follows = ends_both c.equal_if.result (pattern_steps (operand_view c.args.p)) (asks_equal (operand_view c.args.p)) c.args.at.now c.match_pattern.new.at c.equal_if.new.at c.in_ok-found.ensures.follows c.equal_if.ensures.goes c.equal_if.ensures.follows;
   names = on_any c.equal_if.result (Binds c.args.names.now.items c.match_pattern.new.names.items (pattern_names (operand_view c.args.p))) c.in_ok-found.ensures.names;
   goes = goes_trans c.args.at.now c.match_pattern.new.at c.equal_if.new.at c.match_pattern.ensures.goes c.equal_if.ensures.goes;
   carries = on_ok c.equal_if.result _ _ (λ asked carried.
@@ -617,16 +504,7 @@ match_wanted-returns t c = record {
 
 pub match_written-returns : goal.match_written-returns
 match_written-returns t c =
-    let x = asks_token fault.Unique (path_at (operand_view c.args.field).part).last in
-    let y = pattern_steps (operand_view c.args.part) in
-    let z = asks_equal (operand_view c.args.part) in
-    let r = records c.args.field.number in
-    let asked = subst (λ p. Follows (asks_token fault.Unique p.last) c.args.at.now c.begin_field.new.at) c.in_ok-label.ensures c.in_ok-wanted.ensures.follows in
     record {
-      follows = subst (λ ss. OnOk c.match_wanted.result (Follows ss c.args.at.now c.match_wanted.new.at)) (sym (append_assoc x (r ∷ y) z))
-          (ends_both c.match_wanted.result x (r ∷ y ++ z) c.args.at.now c.begin_field.new.at c.match_wanted.new.at asked
-          (goes_trans c.begin_field.new.at c.note_label.new.at c.match_wanted.new.at c.note_label.ensures.goes c.match_wanted.ensures.goes)
-          (ends_both c.match_wanted.result (r ∷ []) (y ++ z) c.begin_field.new.at c.note_label.new.at c.match_wanted.new.at c.in_ok-note_label.ensures.follows c.match_wanted.ensures.goes c.match_wanted.ensures.follows));
       names = c.match_wanted.ensures.names;
       found = on_any c.match_wanted.result _ (ap here_of c.begin_field.ensures.found);
       carries = written_done c.match_wanted.result c.args.at.now c.begin_field.new.at c.note_label.new.at c.match_wanted.new.at c.args.env.now c.args.begun.now.found (path_view c.in_ok-label.label) (path_at (operand_view c.args.field).part) (operand_view c.args.part) c.in_ok-wanted.wanted (binds_of c.args.names.now.items) (binds_of c.match_wanted.new.names.items) (names_seen c.args.seen.now.items) (names_seen c.match_wanted.new.seen.items) c.args.begun.now.labels.items c.begin_field.new.fields.labels.items
@@ -637,12 +515,8 @@ match_written-returns t c =
 pub match_record-returns : goal.match_record-returns
 match_record-returns t c =
     let os = map operand_view c.args.fields.now in
-    let y = asks_labels (labels_of os) in
     let read = goes_trans c.note_missing.new.at c.record_of_fields.new.at c.type_or_var.new.at c.record_of_fields.ensures.goes c.type_or_var.ensures.goes in
     record {
-      follows = follows_three (each lost_steps os) y (each field_pattern_steps os) c.args.at.now c.note_missing.new.at c.type_or_var.new.at c.match_fields.new.at c.in_ok-note_missing.ensures.follows read
-          (follows_before y c.note_missing.new.at c.record_of_fields.new.at c.type_or_var.new.at c.in_ok-found.ensures.follows c.type_or_var.ensures.goes c.type_or_var.ensures.silent)
-          c.match_fields.ensures.goes c.in_ok-match_fields.ensures.follows;
       names = c.in_ok-match_fields.ensures.names;
       goes = goes_trans c.args.at.now c.note_missing.new.at c.match_fields.new.at c.note_missing.ensures.goes (goes_trans c.note_missing.new.at c.type_or_var.new.at c.match_fields.new.at read c.match_fields.ensures.goes);
       carries =
@@ -671,7 +545,6 @@ in_order-loop-part-init t c =
     let all = c.args.parts.now in
     record {
       goes = goes_refl c.args.at.now;
-      gets = gets_start (each pattern_steps (map operand_view all)) c.args.at.now;
       names = refl;
       typed = ap (λ ts. typed_view ts ++ map operand_view all) c.new-typed.ensures.items;
       carries = λ carried. in_order_none c.args.at.now c.args.env.now (as_patterns c.args.at.now.item all) (binds_of c.args.names.now.items) (names_seen c.args.seen.now.items) (nodes_of c.new-typed.result.items) (ap nodes_of c.new-typed.ensures.items);
@@ -682,7 +555,6 @@ match_sides-loop-part-init t c =
     let all = c.args.parts.now in
     record {
       goes = goes_refl c.args.at.now;
-      gets = gets_start (each pattern_steps (map operand_view all)) c.args.at.now;
       sides = ap (λ ss. map side_view ss ++ map side_at (map operand_view all)) c.new-sides.ensures.items;
       carries = λ carried. beside_none c.args.at.now c.args.env.now (as_patterns c.args.at.now.item all) c.args.seen.now.items c.new-all.result.items c.new-sides.result.items c.new-all.ensures.items c.new-sides.ensures.items;
       parts = ap (λ ss. parts_of_sides ss ++ map operand_view all) c.new-sides.ensures.items;

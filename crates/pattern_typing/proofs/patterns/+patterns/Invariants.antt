@@ -1,8 +1,7 @@
 use Rattle.std.proofs.Common.{map, drop, ◌+◌, ◌*◌, ◌≡◌, ◌++◌}
 use Rattle.row_parts.specs.Numbered.{operand_view}
 use Rattle.typing_state.specs.Goes.{Goes}
-use Rattle.typing_state.specs.Steps.{each, GetsOn}
-use Rattle.pattern_steps.specs.PatternSteps.{pattern_steps, pattern_names, field_pattern_steps, field_pattern_names, names_in, side_at}
+use Rattle.pattern_names.specs.PatternNames.{pattern_names, field_pattern_names, names_in, side_at}
 use Rattle.pattern_typing.specs.Matching.{binds_of, names_seen, nodes_of, parts_of_sides, side_of, tokens_of, side_view, typed_view}
 use Rattle.pattern_rows.specs.CarriedPatterns.{IsCarriedPattern}
 use Rattle.pattern_rows.specs.Contracts.{patterns_of, InOrderFirst}
@@ -85,7 +84,6 @@ decreases-match_wanted l = 9 * l.depth.0 + 8
 abbrev pub invariant-in_order-loop-part : goal.invariant-in_order-loop-part
 invariant-in_order-loop-part l = record {
   goes : Goes l.fn.at l.at;
-  gets : GetsOn l.fn.at l.at (each pattern_steps (map operand_view l.parts)) (each pattern_steps (map operand_view (drop l.part-index l.parts)));
   names : tokens_of l.names.items ++ names_in pattern_names (map operand_view (drop l.part-index l.parts)) ≡ tokens_of l.fn.names.items ++ names_in pattern_names (map operand_view l.parts);
   typed : typed_view l.typed.items ++ map operand_view (drop l.part-index l.parts) ≡ map operand_view l.parts;
   carries : All IsCarriedPattern (map operand_view l.parts) → InOrderFirst l.fn.at l.at l.env (patterns_of l.fn.at.item (map operand_view l.parts)) (patterns_of l.fn.at.item (map operand_view (drop l.part-index l.parts))) (binds_of l.fn.names.items) (binds_of l.names.items) (names_seen l.fn.seen.items) (names_seen l.seen.items) (nodes_of l.typed.items);
@@ -94,7 +92,6 @@ invariant-in_order-loop-part l = record {
 abbrev pub invariant-match_sides-loop-part : goal.invariant-match_sides-loop-part
 invariant-match_sides-loop-part l = record {
   goes : Goes l.fn.at l.at;
-  gets : GetsOn l.fn.at l.at (each pattern_steps (map operand_view l.parts)) (each pattern_steps (map operand_view (drop l.part-index l.parts)));
   sides : map side_view l.sides.items ++ map side_at (map operand_view (drop l.part-index l.parts)) ≡ map side_at (map operand_view l.parts);
   carries : All IsCarriedPattern (map operand_view l.parts) → BesideFirst l.fn.at l.at l.env (patterns_of l.fn.at.item (map operand_view l.parts)) (patterns_of l.fn.at.item (map operand_view (drop l.part-index l.parts))) (names_seen l.fn.seen.items) (names_seen l.seen.items) (names_seen l.all.items) (map side_of l.sides.items);
   parts : parts_of_sides l.sides.items ++ map operand_view (drop l.part-index l.parts) ≡ map operand_view l.parts;
@@ -103,7 +100,6 @@ invariant-match_sides-loop-part l = record {
 abbrev pub invariant-match_fields-loop-field : goal.invariant-match_fields-loop-field
 invariant-match_fields-loop-field l = record {
   goes : Goes l.fn.at l.at;
-  gets : GetsOn l.fn.at l.at (each field_pattern_steps (map operand_view l.fields)) (each field_pattern_steps (map operand_view (drop l.field-index l.fields)));
   names : tokens_of l.names.items ++ names_in field_pattern_names (map operand_view (drop l.field-index l.fields)) ≡ tokens_of l.fn.names.items ++ names_in field_pattern_names (map operand_view l.fields);
   found : here_of l.begun.found ≡ here_of l.fn.found;
   carries : All IsCarriedField (map operand_view l.fields) → FieldsInOrderFirst l.fn.at l.at l.env (here_of l.fn.found) (fields_of l.fn.at.item (map operand_view l.fields)) (fields_of l.fn.at.item (map operand_view (drop l.field-index l.fields))) (binds_of l.fn.names.items) (binds_of l.names.items) (names_seen l.fn.seen.items) (names_seen l.begun.labels.items) (names_seen l.seen.items);

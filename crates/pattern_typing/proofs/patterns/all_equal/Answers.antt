@@ -1,12 +1,7 @@
-use Rattle.std.proofs.Common.{◌+◌, ◌<◌, ◌≡◌, List, [], length, drop, ap, subst, arith}
+use Rattle.std.proofs.Common.{◌<◌, ◌≡◌, List, [], length, drop, ap, arith}
 use Rattle.std.proofs.lemmas.List.{drop_all}
 use Rattle.typing_model.specs.Parts.{Pattern}
-use Rattle.row_parts.specs.Numbered.{operand_view}
-use Rattle.typing_state.specs.Steps.{each, GetsOn}
 use Rattle.typing_state.proofs.Going.{goes_refl, goes_trans}
-use Rattle.typing_state.proofs.Following.{gets_start, gets_more}
-use Rattle.use_typing.proofs.Reading.{drop_read}
-use Rattle.use_typing.specs.UseSteps.{asks_equal}
 use Rattle.typing_steps.proofs.Rows.{equal_asks}
 use Rattle.pattern_rows.specs.Contracts.{patterns_of}
 use Rattle.pattern_rows.proofs.Listed.{equal_none, equal_all}
@@ -21,13 +16,9 @@ loop-one-preserved c =
     let i = c.loop-one.one-index in
     let x = c.one-item.result in
     let lt : i < length all = let n = c.loop-one-test.true in omega arith in
-    let cut = drop_read all i x lt c.one-item.is in
     record {
       goes = goes_trans c.args.at.now c.loop-one.at c.equal.new.self c.loop-one.invariant.goes c.equal.ensures.goes;
       carries = equal_step c.args.at.now c.loop-one.at c.equal.new.self c.args.env.now all i x c.args.wanted.0 lt c.one-item.is c.loop-one.invariant.goes c.loop-one.invariant.carries (equal_asks c.loop-one.at c.equal.new.self c.args.env.now _ c.in_ok-equal.ensures.verdict c.equal.ensures.rest c.equal.ensures.goes);
-      gets = gets_more (each asks_equal (typed_view all)) (asks_equal (operand_view x.part)) (each asks_equal (typed_view (drop (i + 1) all))) c.args.at.now c.loop-one.at c.equal.new.self
-          (subst (λ os. GetsOn c.args.at.now c.loop-one.at (each asks_equal (typed_view all)) (each asks_equal (typed_view os))) cut c.loop-one.invariant.gets)
-          c.equal.ensures.goes c.in_ok-equal.ensures.follows;
     }
 
 pub loop-one-init : goal.loop-one-init
@@ -36,7 +27,6 @@ loop-one-init c =
     record {
       goes = goes_refl c.args.at.now;
       carries = equal_none c.args.at.now c.args.env.now (patterns_of c.args.at.now.item (typed_view all)) (nodes_of all) c.args.wanted.0;
-      gets = gets_start (each asks_equal (typed_view all)) c.args.at.now;
     }
 
 pub returns-clause-carries : goal.returns-clause-carries

@@ -1,7 +1,5 @@
 use Rattle.std.proofs.Common.{drop}
 use Rattle.typing_state.specs.Goes.{Goes}
-use Rattle.typing_state.specs.Steps.{each, GetsOn}
-use Rattle.use_typing.specs.UseSteps.{asks_equal}
 use Rattle.pattern_rows.specs.Contracts.{patterns_of, AsksEachFirst}
 use Rattle.pattern_typing.specs.Matching.{nodes_of, typed_view}
 use Rattle.pattern_typing.proofs.patterns.all_equal.Given as goal
@@ -10,5 +8,4 @@ abbrev pub invariant-loop-one : goal.invariant-loop-one
 invariant-loop-one l = record {
   goes : Goes l.fn.at l.at;
   carries : AsksEachFirst l.fn.at l.at l.env (patterns_of l.fn.at.item (typed_view l.typed)) (patterns_of l.fn.at.item (typed_view (drop l.one-index l.typed))) (nodes_of l.typed) (nodes_of (drop l.one-index l.typed)) l.wanted.0;
-  gets : GetsOn l.fn.at l.at (each asks_equal (typed_view l.typed)) (each asks_equal (typed_view (drop l.one-index l.typed)));
 }

@@ -1,3 +1,4 @@
+use Rattle.typing_state.proofs.Recording.{record_still}
 use Rattle.std.proofs.Common.{◌∙◌, ◌++◌, [], ◌∷◌, refl}
 use Rattle.std.specs.Prelude.{None}
 use Rattle.syntax_tree.specs.View.{tok_of}
@@ -22,3 +23,6 @@ returns-clause-binds c =
         sees = seen_more c.args.seen.now.items c.is_new.new.seen.items (tok_of c.args.token.now) c.in_ok-is_new.ensures.seen;
       };
     }) c.push.ensures.pushed
+
+pub returns-clause-recorded : goal.returns-clause-recorded
+returns-clause-recorded c = record_still c.push.result c.args.number c.note.new.self c.in_ok-note.ensures.recorded

@@ -1,13 +1,9 @@
-use Rattle.std.proofs.Common.{◌+◌, ◌<◌, ◌≡◌, [], length, map, drop, ap, subst, arith}
+use Rattle.std.proofs.Common.{◌<◌, ◌≡◌, [], length, map, drop, ap, arith}
 use Rattle.std.proofs.lemmas.List.{drop_all}
-use Rattle.typing_state.specs.Steps.{each, GetsOn}
 use Rattle.typing_state.proofs.Going.{goes_refl, goes_trans}
-use Rattle.typing_state.proofs.Following.{gets_start, gets_more}
-use Rattle.use_typing.proofs.Reading.{drop_read}
-use Rattle.pattern_steps.specs.PatternSteps.{beside}
 use Rattle.pattern_rows.specs.Contracts.{patterns_of}
 use Rattle.pattern_rows.proofs.Beside.{later_none, later_all}
-use Rattle.pattern_typing.specs.Matching.{parts_of_sides, side_of, side_view}
+use Rattle.pattern_typing.specs.Matching.{parts_of_sides, side_of}
 use Rattle.pattern_typing.proofs.Stepping.{later_step}
 use Rattle.pattern_typing.proofs.patterns.compare_later.Goals as goal
 
@@ -17,13 +13,9 @@ loop-side-preserved c =
     let i = c.loop-side.side-index in
     let x = c.side-item.result in
     let lt : i < length all = let n = c.loop-side-test.true in omega arith in
-    let cut = drop_read all i x lt c.side-item.is in
     record {
       goes = goes_trans c.args.at.now c.loop-side.at c.compare_side.new.at c.loop-side.invariant.goes c.compare_side.ensures.goes;
       carries = λ k. later_step c.args.at.now c.loop-side.at c.compare_side.new.at (side_of c.args.first.now) all i x k lt c.side-item.is c.loop-side.invariant.goes (c.loop-side.invariant.carries k) c.in_ok-compare_side.ensures.carries;
-      gets = gets_more (each (beside (side_view c.args.first.now)) (map side_view all)) (beside (side_view c.args.first.now) (side_view x)) (each (beside (side_view c.args.first.now)) (map side_view (drop (i + 1) all))) c.args.at.now c.loop-side.at c.compare_side.new.at
-          (subst (λ os. GetsOn c.args.at.now c.loop-side.at (each (beside (side_view c.args.first.now)) (map side_view all)) (each (beside (side_view c.args.first.now)) (map side_view os))) cut c.loop-side.invariant.gets)
-          c.compare_side.ensures.goes c.in_ok-compare_side.ensures.follows;
     }
 
 pub loop-side-init : goal.loop-side-init
@@ -32,7 +24,6 @@ loop-side-init c =
     record {
       goes = goes_refl c.args.at.now;
       carries = λ k. later_none c.args.at.now (side_of c.args.first.now) (map side_of all) (patterns_of k (parts_of_sides all));
-      gets = gets_start (each (beside (side_view c.args.first.now)) (map side_view all)) c.args.at.now;
     }
 
 pub returns-clause-carries : goal.returns-clause-carries

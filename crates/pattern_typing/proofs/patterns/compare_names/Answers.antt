@@ -1,15 +1,8 @@
-use Rattle.std.proofs.Common.{◌+◌, ◌<◌, ◌≡◌, [], length, drop, ap, subst, arith}
+use Rattle.std.proofs.Common.{◌<◌, ◌≡◌, [], length, drop, ap, arith}
 use Rattle.std.proofs.lemmas.List.{drop_all}
-use Rattle.typing_state.specs.Steps.{GetsOn}
 use Rattle.typing_state.proofs.Going.{goes_refl, goes_trans}
-use Rattle.typing_state.proofs.Following.{gets_start, gets_more}
-use Rattle.use_typing.proofs.Reading.{drop_read}
-use Rattle.syntax_tree.specs.View.{tok_of}
-use Rattle.env_table.specs.declared.faults.FaultKind.TheVariants as fault
-use Rattle.use_typing.specs.UseSteps.{asks_token}
-use Rattle.pattern_steps.specs.PatternSteps.{common_names, find_name}
 use Rattle.pattern_rows.proofs.Beside.{names_none, names_all}
-use Rattle.pattern_typing.specs.Matching.{binds_of, tokens_of}
+use Rattle.pattern_typing.specs.Matching.{binds_of}
 use Rattle.pattern_typing.proofs.Stepping.{name_step}
 use Rattle.pattern_typing.proofs.patterns.compare_names.Goals as goal
 
@@ -19,20 +12,15 @@ loop-name-preserved c =
     let i = c.loop-name.name-index in
     let x = c.name-item.result in
     let lt : i < length all = let n = c.loop-name-test.true in omega arith in
-    let cut = drop_read all i x lt c.name-item.is in
     record {
       goes = goes_trans c.args.at.now c.loop-name.at c.compare_name.new.at c.loop-name.invariant.goes c.compare_name.ensures.goes;
       carries = name_step c.args.at.now c.loop-name.at c.compare_name.new.at all i x (binds_of c.args.later.now) lt c.name-item.is c.loop-name.invariant.goes c.loop-name.invariant.carries c.in_ok-compare_name.ensures.carries;
-      gets = gets_more (common_names (tokens_of all) (tokens_of c.args.later.now)) (asks_token fault.Equal (find_name (tok_of x.token.now).name (tokens_of c.args.later.now))) (common_names (tokens_of (drop (i + 1) all)) (tokens_of c.args.later.now)) c.args.at.now c.loop-name.at c.compare_name.new.at
-          (subst (λ os. GetsOn c.args.at.now c.loop-name.at (common_names (tokens_of all) (tokens_of c.args.later.now)) (common_names (tokens_of os) (tokens_of c.args.later.now))) cut c.loop-name.invariant.gets)
-          c.compare_name.ensures.goes c.in_ok-compare_name.ensures.follows;
     }
 
 pub loop-name-init : goal.loop-name-init
 loop-name-init c = record {
   goes = goes_refl c.args.at.now;
   carries = names_none c.args.at.now (binds_of c.args.first.now) (binds_of c.args.later.now);
-  gets = gets_start (common_names (tokens_of c.args.first.now) (tokens_of c.args.later.now)) c.args.at.now;
 }
 
 pub returns-clause-carries : goal.returns-clause-carries

@@ -1,14 +1,11 @@
 use Rattle.std.proofs.Common.{drop}
 use Rattle.typing_state.specs.Goes.{Goes}
-use Rattle.typing_state.specs.Steps.{GetsOn}
-use Rattle.pattern_steps.specs.PatternSteps.{common_names}
 use Rattle.pattern_rows.specs.Sides.{AsksNamesFirst}
-use Rattle.pattern_typing.specs.Matching.{binds_of, tokens_of}
+use Rattle.pattern_typing.specs.Matching.{binds_of}
 use Rattle.pattern_typing.proofs.patterns.compare_names.Given as goal
 
 abbrev pub invariant-loop-name : goal.invariant-loop-name
 invariant-loop-name l = record {
   goes : Goes l.fn.at l.at;
   carries : AsksNamesFirst l.fn.at l.at (binds_of l.first) (binds_of (drop l.name-index l.first)) (binds_of l.later);
-  gets : GetsOn l.fn.at l.at (common_names (tokens_of l.first) (tokens_of l.later)) (common_names (tokens_of (drop l.name-index l.first)) (tokens_of l.later));
 }

@@ -4,7 +4,7 @@ use Rattle.std.specs.Str.{bytes_eq}
 use Rattle.std.proofs.lemmas.List.{drop_all}
 use Rattle.syntax_tree.specs.View.{tok_of}
 use Rattle.use_typing.proofs.Reading.{drop_read}
-use Rattle.pattern_steps.specs.PatternSteps.{find_name}
+use Rattle.pattern_names.specs.PatternNames.{find_name}
 use Rattle.pattern_rows.specs.Sides.{find_bind}
 use Rattle.pattern_typing.specs.Matching.{binds_of, tokens_of}
 use Rattle.pattern_typing.proofs.Carrying.{found_first, found_behind, named_first, named_behind}

@@ -1,6 +1,6 @@
 use Rattle.std.proofs.Common.{◌≡◌, drop}
 use Rattle.syntax_tree.specs.View.{tok_of}
-use Rattle.pattern_steps.specs.PatternSteps.{find_name}
+use Rattle.pattern_names.specs.PatternNames.{find_name}
 use Rattle.pattern_rows.specs.Sides.{find_bind}
 use Rattle.pattern_typing.specs.Matching.{binds_of, tokens_of}
 use Rattle.pattern_typing.proofs.patterns.find.Given as goal

@@ -1,5 +1,5 @@
 use Rattle.std.proofs.Common.{◌≡◌, ◌∙◌, ◌++◌, ◌∷◌, map, refl, sym, ap, subst}
-use Rattle.pattern_steps.specs.PatternSteps.{names_of_first}
+use Rattle.pattern_names.specs.PatternNames.{names_of_first}
 use Rattle.pattern_typing.specs.Matching.{Binds, binds_of, side_of, side_view, tokens_of}
 use Rattle.pattern_typing.proofs.Binding.{tokens_both}
 use Rattle.pattern_typing.proofs.Carrying.{binds_both}

@@ -1,16 +1,10 @@
-use Rattle.std.proofs.Common.{◌∙◌, [], ◌∷◌, refl, sym, subst}
+use Rattle.std.proofs.Common.{◌∙◌, [], refl, sym, subst}
 use Rattle.std.specs.Prelude.{true, false}
-use Rattle.syntax_tree.specs.View.{place_of}
 use Rattle.env_table.specs.declared.faults.FaultKind.TheVariants as fault
-use Rattle.typing_state.specs.Steps.{asks}
-use Rattle.typing_state.proofs.Following.{follows_silent}
 use Rattle.typing_state.specs.Goes.{Told, faults_of}
 use Rattle.typing_state.specs.Messages.{twice_text}
 use Rattle.pattern_typing.proofs.Carrying.{fresh_told}
 use Rattle.pattern_typing.proofs.patterns.is_new.Goals as goal
-
-pub returns-else-branch-clause-follows : goal.returns-else-branch-clause-follows
-returns-else-branch-clause-follows c = follows_silent (asks fault.Unique (place_of c.args.token.now.span ∷ []) ∷ []) c.args.at.now c.args.at.now tt refl
 
 pub returns-else-branch-clause-fresh : goal.returns-else-branch-clause-fresh
 returns-else-branch-clause-fresh c = fresh_told c.args.at.now c.args.at.now false c.args.token.now c.args.seen.now.items (sym c.if-branch.false ∙ c.in_ok-is_again.ensures.again) refl

@@ -1,6 +1,6 @@
 use Rattle.std.proofs.Common.{ap}
 use Rattle.row_parts.specs.Numbered.{operand_view, path_view}
-use Rattle.use_typing.specs.UseSteps.{path_at}
+use Rattle.use_typing.specs.Paths.{path_at}
 use Rattle.pattern_typing.specs.Matching.{binds_of, names_seen}
 use Rattle.pattern_typing.specs.Records.{here_of}
 use Rattle.pattern_typing.proofs.MatchedRows.{on_any}

@@ -1,6 +1,6 @@
 use Rattle.std.proofs.Common.{subst}
 use Rattle.row_parts.specs.Numbered.{operand_view}
-use Rattle.pattern_steps.specs.PatternSteps.{pattern_names}
+use Rattle.pattern_names.specs.PatternNames.{pattern_names}
 use Rattle.pattern_rows.specs.CarriedPatterns.{MatchesOperand}
 use Rattle.pattern_typing.specs.Matching.{Binds, binds_of, names_seen}
 use Rattle.pattern_typing.proofs.patterns.type_pattern.Goals as goal

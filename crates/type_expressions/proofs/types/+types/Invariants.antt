@@ -1,14 +1,12 @@
-use Rattle.std.proofs.Common.{◌+◌, ◌*◌, ◌≡◌, ◌++◌, map, drop}
+use Rattle.std.proofs.Common.{◌+◌, ◌*◌, map, drop}
 use Rattle.std.specs.Prelude.{All}
 use Rattle.type_nodes.specs.Views.{numbers}
 use Rattle.row_parts.specs.Numbered.{operand_view}
 use Rattle.typing_state.specs.Goes.{Goes}
-use Rattle.typing_state.specs.Steps.{each, GetsOn}
 use Rattle.type_rows.specs.Contracts.{ReadsFirst}
 use Rattle.type_rows.specs.Rows.{types_read}
 use Rattle.type_rows.specs.Operands.{IsTypeOperand}
 use Rattle.type_expressions.specs.Items.{IsOfItem}
-use Rattle.type_expressions.specs.TypeSteps.{type_steps}
 use Rattle.type_expressions.proofs.types.+types.Given as goal
 
 abbrev pub decreases-read_type : goal.decreases-read_type
@@ -29,7 +27,6 @@ decreases-read_each l = 5 * l.depth.0
 abbrev pub invariant-read_each-loop-part : goal.invariant-read_each-loop-part
 invariant-read_each-loop-part l = record {
   goes : Goes l.fn.at l.at;
-  gets : GetsOn l.fn.at l.at (each (λ o. type_steps (operand_view o)) l.parts) (each (λ o. type_steps (operand_view o)) (drop l.part-index l.parts));
   reads : IsOfItem l.variables → All IsTypeOperand (map operand_view l.parts) →
       ReadsFirst l.fn.at l.at l.env (types_read l.fn.at.item (map operand_view l.parts)) (types_read l.fn.at.item (map operand_view (drop l.part-index l.parts))) (numbers l.types.items);
 }

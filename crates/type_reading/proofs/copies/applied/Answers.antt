@@ -1,7 +1,7 @@
 use Rattle.type_substitution.specs.Substituting.{IsSubstituted}
 use Rattle.type_terms.specs.declared.types.NodeRef.{NodeRef}
 use Rattle.std.proofs.lemmas.Result.{IfOk-weaker}
-use Rattle.typing_state.proofs.Following.{store_silent}
+use Rattle.typing_state.proofs.Silence.{store_silent}
 use Rattle.std.proofs.Common.{sym, subst, refl, Result, Ok, Err, ◌≡◌, ◌∙◌, ◌++◌, ◌∷◌, [], List, ℕ, ap}
 use Rattle.std.specs.Prelude.{All, OnOk}
 use Rattle.type_nodes.specs.Nodes.{IsNode}

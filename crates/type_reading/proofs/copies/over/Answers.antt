@@ -1,6 +1,6 @@
 use Rattle.std.specs.Prelude.{IfOk}
 use Rattle.typing_state.proofs.Going.{goes_refl}
-use Rattle.typing_state.proofs.Following.{store_silent}
+use Rattle.typing_state.proofs.Silence.{store_silent}
 use Rattle.std.proofs.Common.{Some, ◌∙◌, ap, arith, refl, Result, Ok, Err}
 use Rattle.type_nodes.specs.Nodes.{Tuple, IsNode}
 use Rattle.type_nodes.specs.Links.{root}

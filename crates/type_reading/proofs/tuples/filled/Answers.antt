@@ -2,10 +2,9 @@ use Rattle.std.proofs.Common.{◌≡◌, ◌∙◌, ◌++◌, ◌+◌, ◌<◌, 
 use Rattle.std.specs.Option.{IfSome}
 use Rattle.std.proofs.lemmas.Bool.{lt-ltb}
 use Rattle.type_nodes.specs.Views.{numbers}
-use Rattle.typing_state.specs.Goes.{Goes}
-use Rattle.typing_state.specs.Steps.{Silent}
+use Rattle.typing_state.specs.Goes.{Goes, Silent}
 use Rattle.typing_state.proofs.Going.{goes_trans}
-use Rattle.typing_state.proofs.Following.{silent_trans}
+use Rattle.typing_state.proofs.Silence.{silent_trans}
 use Rattle.type_reading.specs.Filling.{JoinsAll}
 use Rattle.type_reading.proofs.Filling.{more_joined, part_there, all_joined, last_part}
 use Rattle.type_reading.proofs.tuples.filled.Goals.{in-Some+in_ok-joined, in_default}

@@ -1,8 +1,7 @@
 use Rattle.std.proofs.Common.{◌≡◌, ℕ, List, [], ◌∷◌, ◌++◌, length, drop}
 use Rattle.type_nodes.specs.Views.{numbers}
 use Rattle.typing_state.specs.declared.parts.Parts.{Parts}
-use Rattle.typing_state.specs.Goes.{Goes}
-use Rattle.typing_state.specs.Steps.{Silent}
+use Rattle.typing_state.specs.Goes.{Goes, Silent}
 use Rattle.type_reading.specs.Filling.{JoinsAll}
 use Rattle.type_reading.proofs.tuples.filled.Given as goal
 

@@ -11,3 +11,6 @@ returns-in_err-names-clause-goes c = goes_refl c.args.at.now
 
 pub returns-clause-carries : goal.returns-clause-carries
 returns-clause-carries c = field_noted c.note.result c.args.at.now c.note.new.self c.args.number (record { env = c.args.env.now; ty = None; names = c.in_ok-names.names }) refl c.note.ensures.noted c.note.ensures.rest
+
+pub returns-clause-recorded : goal.returns-clause-recorded
+returns-clause-recorded c = c.note.ensures.recorded

@@ -1,5 +1,3 @@
-use Rattle.typing_state.proofs.Following.{follows_before}
-use Rattle.typing_state.specs.Steps.{asks_bound}
 use Rattle.typing_state.proofs.Going.{goes_trans}
 use Rattle.std.proofs.Common.{◌∙◌, option_map, ap, subst, ℕ, Ok}
 use Rattle.row_parts.specs.Numbered.{path_view}
@@ -42,7 +40,3 @@ returns-clause-label c =
     let same = c.label_behind.ensures ∙ ap (λ o. behind label_in (option_map (λ r. r.value) o)) c.as_ref-2.ensures.value in
     label_used {E = ℕ} (Ok c.in_ok-used.used) p.last given c.args.at.now c.bound_last.new.self c.used_label.new.at c.args.env.now p.qualifiers c.in_ok-entry.ensures.verdict
     (subst (λ o. UsesLabelIf o c.bound_last.new.self c.used_label.new.at c.in_ok-used.used) same c.in_ok-used.ensures.label)
-
-pub returns-clause-follows : goal.returns-clause-follows
-returns-clause-follows c =
-    follows_before (asks_bound (path_view c.args.path.now)) c.args.at.now c.bound_last.new.self c.used_label.new.at c.in_ok-entry.ensures.follows c.used_label.ensures.goes c.used_label.ensures.silent

@@ -1,7 +1,6 @@
-use Rattle.typing_state.proofs.Following.{follows_before, follows_none, store_silent}
-use Rattle.typing_state.specs.Steps.{Follows, asks_bound}
+use Rattle.typing_state.proofs.Silence.{store_silent}
 use Rattle.typing_state.proofs.Going.{goes_trans, goes_refl}
-use Rattle.std.proofs.Common.{option_map, sym, subst, option_and_then, Some}
+use Rattle.std.proofs.Common.{option_map, sym, subst, option_and_then}
 use Rattle.row_parts.specs.Numbered.{path_view, token_view}
 use Rattle.syntax_tree.specs.View.{tok_of}
 use Rattle.env_table.specs.declared.entries.Kind.TheVariants as kind
@@ -61,19 +60,7 @@ returns-clause-tells c =
     subst (λ o. TellsLast (token_view o) kind.Value c.args.at.now c.instance_of.new.at c.args.env.now p.qualifiers) (sym c.in-Some.is)
     (bound_tells (found_at c.args.env.now p.qualifiers kind.Value last) (option_map (λ e. e.value) c.in_ok-entry.entry) (lost_among c.args.env.now p.qualifiers) last (word_of kind.Value) c.args.at.now c.bound.new.self c.instance_of.new.at c.in_ok-entry.ensures.verdict c.instance_of.ensures.silent)
 
-pub returns-clause-follows : goal.returns-clause-follows
-returns-clause-follows c =
-    let p = path_view c.args.path.now in
-    subst (λ o. Follows (asks_bound (record { qualifiers = p.qualifiers; last = token_view o })) c.args.at.now c.instance_of.new.at) (sym c.in-Some.is)
-    (follows_before (asks_bound (record { qualifiers = p.qualifiers; last = Some (tok_of c.in-Some.last.now) })) c.args.at.now c.bound.new.self c.instance_of.new.at c.in_ok-entry.ensures.follows c.instance_of.ensures.goes c.instance_of.ensures.silent)
-
 pub returns-in_default-clause-tells : goal.returns-in_default-clause-tells
 returns-in_default-clause-tells c =
     let p = path_view c.args.path.now in
     subst (λ o. TellsLast (token_view o) kind.Value c.args.at.now c.var.new.self c.args.env.now p.qualifiers) (sym c.in_default.is) (store_silent c.args.at.now c.var.new.self c.var.ensures.rest)
-
-pub returns-in_default-clause-follows : goal.returns-in_default-clause-follows
-returns-in_default-clause-follows c =
-    let p = path_view c.args.path.now in
-    subst (λ o. Follows (asks_bound (record { qualifiers = p.qualifiers; last = token_view o })) c.args.at.now c.var.new.self) (sym c.in_default.is)
-    (follows_none c.args.at.now c.var.new.self (store_silent c.args.at.now c.var.new.self c.var.ensures.rest))

@@ -1,28 +1,13 @@
-use Rattle.std.proofs.Common.{List, [], ◌∷◌, refl}
-use Rattle.tree_model.specs.Trees.{Place}
-use Rattle.tree_model.specs.Rows.{Row, etry_row}
+use Rattle.std.proofs.Common.{List, map, subst}
+use Rattle.std.specs.Prelude.{OnOk}
+use Rattle.text_terms.specs.declared.Span.{Span}
+use Rattle.std.proofs.Common.{[]}
 use Rattle.syntax_tree.specs.Names.{row_of}
 use Rattle.syntax_tree.specs.View.{place_of}
-use Rattle.typing_state.specs.Steps.{HasNoRecord}
-use Rattle.typing_state.proofs.Following.{follows_silent}
-use Rattle.match_warnings.specs.Warnings.{spans_of, unused_steps, warning_steps}
+use Rattle.match_warnings.specs.Warnings.{WarnsOf, missed_in, spans_of, unused_cases, warnings_of}
 use Rattle.typing_state.proofs.Going.{goes_refl, goes_trans}
-use Rattle.match_warnings.proofs.Warned.{warns_none, ends_warned}
+use Rattle.match_warnings.proofs.Warned.{warns_none, ends_warned, none_at, ends_both}
 use Rattle.match_warnings.proofs.warnings.Rows.report.Goals as goal
-
--- warnings of cases record nothing
-no_record_unused : (cases : List Place) → HasNoRecord (unused_steps cases)
-no_record_unused [] = tt
-no_record_unused (case ∷ cases) = no_record_unused cases
-
--- the warnings of a match record nothing
-no_record : (r : Row) (at : Place) (cases : List Place) → HasNoRecord (warning_steps r at cases)
-no_record etry_row at cases = no_record_unused cases
-no_record _ at cases = no_record_unused cases
-
-pub returns-then-self-clause-follows : goal.returns-then-self-clause-follows
-returns-then-self-clause-follows c =
-    follows_silent (warning_steps (row_of c.args.match_row) (place_of c.args.span) (spans_of c.args.self)) c.args.at.now c.args.at.now (no_record (row_of c.args.match_row) (place_of c.args.span) (spans_of c.args.self)) refl
 
 pub returns-then-self-clause-warns : goal.returns-then-self-clause-warns
 returns-then-self-clause-warns c = warns_none c.args.at.now
@@ -41,3 +26,11 @@ returns-clause-warns c = ends_warned c.report_unused.result c.args.at.now c.repo
 
 pub returns-clause-goes : goal.returns-clause-goes
 returns-clause-goes c = goes_trans c.args.at.now c.report_missed_in.new.at c.report_unused.new.at c.report_missed_in.ensures.goes c.report_unused.ensures.goes
+
+pub returns-then-self-clause-places : goal.returns-then-self-clause-places
+returns-then-self-clause-places c = none_at (warnings_of (row_of c.args.match_row) (place_of c.args.span) (spans_of c.args.self)) c.args.at.now
+
+pub returns-clause-places : goal.returns-clause-places
+returns-clause-places c =
+    ends_both c.report_unused.result (missed_in (row_of c.args.match_row) (place_of c.args.span)) (unused_cases (spans_of c.args.self)) c.args.at.now c.report_missed_in.new.at c.report_unused.new.at c.in_ok-report_missed_in.ensures.places
+    (subst (λ (ss : List Span). OnOk c.report_unused.result (WarnsOf (unused_cases (map place_of ss)) c.report_missed_in.new.at c.report_unused.new.at)) c.deref.ensures.value c.report_unused.ensures.places)

@@ -1,4 +1,4 @@
-use Rattle.typing_state.proofs.Following.{store_silent}
+use Rattle.typing_state.proofs.Silence.{store_silent}
 use Rattle.std.proofs.Common.{◌∙◌}
 use Rattle.typing_state.proofs.Going.{goes_trans}
 use Rattle.type_reading.proofs.copies.Copies.close.Goals as goal

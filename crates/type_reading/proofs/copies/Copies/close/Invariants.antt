@@ -1,5 +1,4 @@
-use Rattle.typing_state.specs.Goes.{Goes}
-use Rattle.typing_state.specs.Steps.{Silent}
+use Rattle.typing_state.specs.Goes.{Goes, Silent}
 use Rattle.type_reading.proofs.copies.Copies.close.Given as goal
 
 abbrev pub invariant-loop : goal.invariant-loop

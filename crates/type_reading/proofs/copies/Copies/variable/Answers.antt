@@ -1,5 +1,5 @@
 use Rattle.type_reading.proofs.Extending.{extends_refl, makes_extends, node_extends}
-use Rattle.typing_state.proofs.Following.{store_silent}
+use Rattle.typing_state.proofs.Silence.{store_silent}
 use Rattle.std.specs.Prelude.{IfOk}
 use Rattle.std.proofs.Common.{refl, Result, Ok, Err}
 use Rattle.typing_state.proofs.Going.{goes_refl}

@@ -2,7 +2,7 @@ use Rattle.std.proofs.Common.{◌≡◌, ◌∷◌, ◌++◌, [], subst}
 use Rattle.level_unify.specs.Copies.{table_of}
 use Rattle.type_reading.specs.Copying.{Stands}
 use Rattle.typing_state.proofs.Going.{goes_refl, goes_trans}
-use Rattle.typing_state.proofs.Following.{silent_refl, silent_trans}
+use Rattle.typing_state.proofs.Silence.{silent_refl, silent_trans}
 use Rattle.type_reading.proofs.Extending.{extends_refl, extends_trans}
 use Rattle.type_reading.proofs.copies.Copies.work.Goals as goal
 

@@ -1,7 +1,6 @@
 use Rattle.std.proofs.Common.{ℕ}
 use Rattle.level_unify.specs.Copies.{Extends, table_of}
-use Rattle.typing_state.specs.Goes.{Goes}
-use Rattle.typing_state.specs.Steps.{Silent}
+use Rattle.typing_state.specs.Goes.{Goes, Silent}
 use Rattle.type_reading.specs.Copying.{LeavesVariables, Stands}
 use Rattle.type_reading.proofs.copies.Copies.work.Given as goal
 

@@ -1,6 +1,6 @@
 use Rattle.typing_state.proofs.Going.{goes_refl}
 use Rattle.typed_index.specs.Seen.{seen_at}
-use Rattle.std.proofs.Common.{◌≡◌, ◌≢◌, ◌∙◌, false, refl, sym, subst}
+use Rattle.std.proofs.Common.{◌≡◌, ◌≢◌, ◌∙◌, false, sym, subst}
 use Rattle.std.proofs.lemmas.Bool.{false≢true}
 use denote.Enum.Bare.{sameb}
 use Rattle.typing_state.specs.contracts.parts.Telling.{the_type}
@@ -8,7 +8,6 @@ use Rattle.typing_state.specs.declared.parts.Telling.TheVariants.{Quiet}
 use Rattle.std.specs.Prelude.{OnOk}
 use Rattle.typing_state.specs.Notes.{Noted}
 use Rattle.typing_state.proofs.Recording.{none_there, noted_first, note_goes, recorded_there, with_index}
-use Rattle.typing_state.proofs.Following.{follows_noted}
 use Rattle.typing_state.proofs.parts.Parts.note.Goals as goal
 
 pub returns-clause-noted : goal.returns-clause-noted
@@ -21,9 +20,6 @@ returns-clause-noted c =
 
 pub returns-clause-recorded : goal.returns-clause-recorded
 returns-clause-recorded c = recorded_there c.note.result c.note.new.self (seen_at c.args.self.now.index) c.args.self.now.item c.args.number _ _ c.note.ensures.noted
-
-pub returns-clause-follows : goal.returns-clause-follows
-returns-clause-follows c = follows_noted c.note.result c.args.number c.args.self.now _ refl (recorded_there c.note.result c.note.new.self (seen_at c.args.self.now.index) c.args.self.now.item c.args.number _ _ c.note.ensures.noted)
 
 pub returns-clause-goes : goal.returns-clause-goes
 returns-clause-goes c = note_goes c.note.result c.args.self.now c.note.new.self c.args.number _ (none_there _ c.get.result _ c.get.ensures (sym c.is_some.ensures ∙ c.if-is_some.false)) c.note.ensures.noted c.note.ensures.failed

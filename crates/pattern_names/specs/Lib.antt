@@ -1,0 +1,2 @@
+-- The names that patterns bind.
+pub mod PatternNames

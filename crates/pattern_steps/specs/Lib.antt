@@ -1,2 +1,0 @@
--- The steps of patterns, and the names that they bind.
-pub mod PatternSteps
