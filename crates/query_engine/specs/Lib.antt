@@ -1,11 +1,4 @@
--- What the answers of queries mean in the definitions of `query_model`.
+-- What the engine's own types are in the definitions, and what typed nodes and texts of types mean.
 pub mod View
-pub mod Completions
-pub mod Environments
-pub mod Faults
-pub mod NameTokens
-pub mod NewestNames
-pub mod Places
-pub mod Prefixes
 pub mod Texts
 pub mod Typed

@@ -1,16 +1,12 @@
 -- What the engine's own types are in the definitions.
-use Rattle.std.specs.Prelude.{ℕ, List, map, Option, Some}
+use Rattle.std.specs.Prelude.{ℕ, List, map}
 use Rattle.text_terms.specs.Bytes.{str_bytes}
 use Rattle.text_terms.specs.declared.RcStr.{RcStr}
-use Rattle.tree_model.specs.Trees.{Tree, node}
 use Rattle.query_model.specs.Outlines as model
-use Rattle.query_model.specs.Outlines.{Kind, Member, member, members_of, bound_as, bound_inside, inner_slot}
-use Rattle.syntax_tree.specs.View.{place_of}
+use Rattle.query_model.specs.Outlines.{Kind}
 use Rattle.query_engine.specs.declared.slots.OutlineKind.{OutlineKind}
 use Rattle.query_engine.specs.declared.slots.OutlineKind.TheVariants as code
 use Rattle.query_engine.specs.declared.slots.Binder.{Binder}
-use Rattle.query_engine.specs.declared.outlines.Outlined.{Outlined, fold-Outlined}
-use Rattle.query_engine.specs.declared.outlines.Outlined.TheOpen.{Outlined-F}
 
 -- what a name stands for
 abbrev pub kind_of : OutlineKind → Kind
@@ -27,23 +23,3 @@ binder_of b = (kind_of b.kind, b.way.now)
 -- the names, as bytes
 abbrev pub names_of : List RcStr → List (List ℕ)
 names_of names = map str_bytes names
-
--- one level, with what stands inside already seen
-abbrev pub outlined_step : Outlined-F Member → Member
-outlined_step o = member (kind_of o.kind) (str_bytes o.name) (place_of o.span) (members_of o.children.items)
-
--- a bound name, with what is bound inside
-abbrev pub member_of : Outlined → Member
-member_of = fold-Outlined Member outlined_step
-
--- what is bound inside a node
-abbrev pub inside : Tree → List Member
-inside (node r x ps) = bound_inside (inner_slot r) ps
-
--- what is bound by the parts in a slot of a node
-abbrev pub inside_by : Option ℕ → Tree → List Member
-inside_by s (node r x ps) = bound_inside s ps
-
--- a member for each name of an item
-abbrev pub named_as : Binder → Tree → List Member
-named_as b (node r x ps) = bound_as (Some (binder_of b)) x.span (node r x ps) (bound_inside (inner_slot r) ps)

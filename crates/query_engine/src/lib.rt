@@ -1,42 +1,22 @@
-//! The answers of queries, over the tree of a text and what is recorded of its types and names.
-//! It stands on the trees of `syntax_tree`, the faults of `frame_parser`, the environments of `env_table` and the texts of
+//! What all queries ask: the nodes of a text that have a type, with their types as text, and the slots and names of its items.
+//! It is built on the trees of `syntax_tree`, the environments of `env_table`, what `typed_index` has recorded, and the texts of
 //! `type_print`, and keeps nothing.
-//! Above, `outline` gives the members that `query_model` tells of the text's items, and `errors` the page of its faults;
-//! `enclosing_types` shows the types that are recorded round an offset, and `complete_prefix` tells the newest names of the scope
-//! behind a prefix's modules.
+//! Above, `enclosing_types` shows the types that are recorded round an offset, and `innermost` the node that has one; `text_queries` and
+//! `name_queries` take the names of items and the texts of types; `Trial` is what tries a changed text.
 #![tactic(auto)]
 
 mod asked;
-mod completions;
-mod faults;
 mod inner_nodes;
-mod locations;
-mod name_tokens;
 mod names;
-mod newest_names;
-mod order;
-mod outlines;
-mod prefixes;
-mod scopes;
-mod shown_entries;
 mod slots;
-mod tellers;
-mod touching;
 mod trials;
 mod typed_nodes;
 mod types;
 
 pub use asked::{Asked, QueryFault};
-pub use completions::{Completions, complete_prefix};
-pub use faults::{FaultPage, Listed, errors};
-pub use frame_parser::SyntaxFault;
 pub use inner_nodes::{innermost, node_with};
-pub use locations::{locate, occurrences};
-pub use newest_names::CompletionKind;
-pub use outlines::{Outlined, outline};
-pub use shown_entries::Completion;
-pub use slots::OutlineKind;
-pub use tellers::kind_name;
+pub use names::{is_slot, names_under};
+pub use slots::{Binder, OutlineKind, binder_for, inner_slot};
 pub use trials::{Replacement, Trial};
-pub use typed_nodes::{TypedNode, typed_around};
-pub use types::{Typed, enclosing_types};
+pub use typed_nodes::{TypedNode, holds_offset, number_behind, typed_around};
+pub use types::{Typed, enclosing_types, type_text};

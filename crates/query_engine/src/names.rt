@@ -21,7 +21,7 @@ pub(crate) fn has_slot(children: &[Child], slot: u8) -> bool
     false
 }
 
-pub(crate) fn is_slot(wanted: Option<u8>, slot: u8) -> bool
+pub fn is_slot(wanted: Option<u8>, slot: u8) -> bool
     ensures { result ≡ is_slot wanted slot }
 {
     match wanted {
@@ -130,7 +130,7 @@ fn add_names_at(way: &[u8], part: &Part, names: &mut Vec<RcStr>) -> Result<(), N
 }
 
 /// The names at the end of a way of slots through a node, in text order.
-pub(crate) fn names_under(alloc: Global, way: &[u8], node: &Node) -> Result<Vec<RcStr>, NoMemory>
+pub fn names_under(alloc: Global, way: &[u8], node: &Node) -> Result<Vec<RcStr>, NoMemory>
     ensures { IfOk result (λ v. names_of v.items ≡ names_under way.now (node_view node.now)) }
 {
     let mut names = Vec::new(alloc);

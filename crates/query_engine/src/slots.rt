@@ -23,14 +23,14 @@ pub enum OutlineKind {
 
 /// What an item binds, and the way of slots that leads to the names.
 #[derive(Clone, Copy)]
-pub(crate) struct Binder {
-    pub(crate) kind: OutlineKind,
-    pub(crate) way: &'static [u8],
+pub struct Binder {
+    pub kind: OutlineKind,
+    pub way: &'static [u8],
 }
 
 /// What an item of a row binds. None where it binds nothing.
 #[tactic(auto, unfolding(query_model::specs::Outlines::binder, syntax_tree::specs::Names::row_of))]
-pub(crate) fn binder_for(row: RowName) -> Option<Binder>
+pub fn binder_for(row: RowName) -> Option<Binder>
     ensures { option_map binder_of result ≡ model.binder (row_of row) }
 {
     let (kind, way): (OutlineKind, &'static [u8]) = match row {
@@ -46,7 +46,7 @@ pub(crate) fn binder_for(row: RowName) -> Option<Binder>
 
 /// The slot of the part in which members inside are looked for. None where there are none inside.
 #[tactic(auto, unfolding(query_model::specs::Outlines::inner_slot, syntax_tree::specs::Names::row_of))]
-pub(crate) fn inner_slot(row: RowName) -> Option<u8>
+pub fn inner_slot(row: RowName) -> Option<u8>
     ensures { result ≡ model.inner_slot (row_of row) }
 {
     match row {

@@ -211,14 +211,14 @@ fn is_label(role: Role, row: RowName, children: &[Child]) -> bool
     }
 }
 
-pub(crate) fn holds_offset(span: Span, offset: u32) -> bool
+pub fn holds_offset(span: Span, offset: u32) -> bool
     ensures { result ≡ holds offset (place_of span) }
 {
     span.start <= offset && (offset < span.end || span.start == offset && span.end == offset)
 }
 
 /// The number behind another. More nodes than numbers there are want memory.
-pub(crate) fn number_behind(number: u32) -> Result<u32, NoMemory>
+pub fn number_behind(number: u32) -> Result<u32, NoMemory>
     ensures { IfOk result (λ n. n ≡ number + 1) }
 {
     match number.checked_add(1) {

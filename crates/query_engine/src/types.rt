@@ -55,7 +55,7 @@ fn weak_in<'a>(asked: &Asked<'a>) -> &'a [NodeRef]
 }
 
 /// A type as it is printed with the names in scope; any type where it is none of the store.
-pub(crate) fn type_text(
+pub fn type_text(
     alloc: Global,
     asked: &Asked<'_>,
     ty: NodeRef,

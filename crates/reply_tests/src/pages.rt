@@ -1,6 +1,6 @@
 //! The page of the faults of a text.
 use crate::verdict::{none_wrong, wrong_unless};
-use query_engine::{Listed, SyntaxFault, errors};
+use text_queries::{Listed, SyntaxFault, errors};
 use std::alloc::Global;
 use std::test::Fail;
 use syntax_tree::{NoMemory, Span};

@@ -21,16 +21,16 @@ use Rattle.env_table.specs.declared.entries.Entry.{Entry}
 use Rattle.env_table.specs.declared.entries.Kind.{Kind}
 use Rattle.env_table.specs.declared.entries.Kind.TheVariants as kind
 use Rattle.env_table.specs.Views.{is_named, kind_of}
-use Rattle.query_engine.specs.NewestNames.{printed, entry_cmp, begins_with, SameNewest}
-use Rattle.query_engine.specs.Environments.{env_at, names_behind}
-use Rattle.query_engine.specs.Completions.{IsTold, Completes, MeetsPrefix}
+use Rattle.name_queries.specs.NewestNames.{printed, entry_cmp, begins_with, SameNewest}
+use Rattle.name_queries.specs.Environments.{env_at, names_behind}
+use Rattle.name_queries.specs.Completions.{IsTold, Completes, MeetsPrefix}
 use Rattle.query_engine.specs.declared.asked.Asked.{Asked}
 use Rattle.query_engine.specs.declared.asked.QueryFault.{QueryFault}
 use Rattle.query_engine.specs.declared.asked.QueryFault.TheVariants as fault
-use Rattle.query_engine.specs.declared.completions.Completions.{Completions}
-use Rattle.query_engine.specs.declared.newest_names.CompletionKind.{CompletionKind}
-use Rattle.query_engine.specs.declared.newest_names.CompletionKind.TheVariants as told
-use Rattle.query_engine.specs.declared.shown_entries.Completion.{Completion}
+use Rattle.name_queries.specs.declared.completions.Completions.{Completions}
+use Rattle.name_queries.specs.declared.newest_names.CompletionKind.{CompletionKind}
+use Rattle.name_queries.specs.declared.newest_names.CompletionKind.TheVariants as told
+use Rattle.name_queries.specs.declared.shown_entries.Completion.{Completion}
 use Rattle.session.specs.Lines.{failure_in}
 use Rattle.session.specs.Queries.{said_entry}
 

@@ -15,7 +15,7 @@ use Rattle.syntax_tree.specs.View.{place_of, trees_of}
 use Rattle.env_table.specs.declared.entries.Place.{Place}
 use Rattle.env_table.specs.declared.entries.Place.TheVariants.{Buffer, Prelude, BuiltIn}
 use Rattle.frame_parser.specs.declared.whole.Parsed.{Parsed}
-use Rattle.query_engine.specs.Places.{MeetsName, is_defined_at, same_place, same_span}
+use Rattle.name_queries.specs.Places.{MeetsName, is_defined_at, same_place, same_span}
 use Rattle.query_engine.specs.declared.asked.QueryFault.{QueryFault}
 use Rattle.query_engine.specs.declared.asked.QueryFault.TheVariants as fault
 use Rattle.json_lines.specs.Means.{said_of}

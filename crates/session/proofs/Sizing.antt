@@ -9,7 +9,7 @@ use Rattle.text_model.proofs.Whole.{made_of}
 use Rattle.query_model.specs.Faults.{TyperFault}
 use Rattle.service_model.specs.Made.{HasFaultsBy, SizesAre}
 use Rattle.syntax_tree.specs.View.{trees_of}
-use Rattle.query_engine.specs.Faults.{fault_of}
+use Rattle.text_queries.specs.Faults.{fault_of}
 use Rattle.text_reading.specs.PlainTexts.{IsReadAs}
 use Rattle.text_reading.specs.declared.reading.ReadText.{ReadText}
 use Rattle.session.specs.declared.session.Sizes.{Sizes}

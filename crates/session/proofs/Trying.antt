@@ -19,7 +19,7 @@ use Rattle.service_model.specs.Trials.{FirstAdded, IsLeast, Mark, is_among, mark
 use Rattle.env_table.specs.declared.faults.Fault as typer
 use Rattle.frame_steps.specs.declared.stack.SyntaxFault.{SyntaxFault}
 use Rattle.frame_parser.specs.declared.whole.Parsed.{Parsed}
-use Rattle.query_engine.specs.Faults.{fault_of, typer_fault_of}
+use Rattle.text_queries.specs.Faults.{fault_of, typer_fault_of}
 use Rattle.text_reading.specs.Structures.{IsParsedAs}
 use Rattle.session.specs.Trials.{IsParserOf, Knows, lesser, mark_in, same_code}
 use Rattle.session.specs.declared.trials.Mark as code

@@ -12,7 +12,7 @@ use Rattle.service_model.specs.Answers.{EnclosingBy, EnclosingIs, TypesAre, type
 use Rattle.service_model.specs.WellTyped.{is_well_typed}
 use Rattle.syntax_tree.specs.View.{trees_of}
 use Rattle.plain_typing.specs.View.{seen_of}
-use Rattle.query_engine.specs.Faults.{fault_of}
+use Rattle.text_queries.specs.Faults.{fault_of}
 use Rattle.query_engine.specs.Typed.{IsNoNode}
 use Rattle.query_engine.specs.declared.asked.QueryFault.{QueryFault}
 use Rattle.query_engine.specs.declared.asked.QueryFault.TheVariants as fault

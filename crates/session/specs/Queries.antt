@@ -8,8 +8,8 @@ use Rattle.query_model.specs.TypedNodes.{innermost_at}
 use Rattle.service_model.specs.Replies as said
 use Rattle.service_model.specs.Completions.{CompletedBy}
 use Rattle.service_model.specs.Answers.{CasesBy, ItemsAre, LocatedBy, TermsBy, UsedBy}
-use Rattle.query_engine.specs.declared.shown_entries.Completion.{Completion}
-use Rattle.query_engine.specs.NewestNames.{printed}
+use Rattle.name_queries.specs.declared.shown_entries.Completion.{Completion}
+use Rattle.name_queries.specs.NewestNames.{printed}
 use Rattle.session.specs.declared.queries.Query.{Query}
 use Rattle.session.specs.declared.queries.Query.TheVariants.{Locate, Occurrences, Complete, Cases, Terms}
 

@@ -8,7 +8,7 @@ use Rattle.query_model.specs.Faults.{TyperFault}
 use Rattle.service_model.specs.Structure.{faults_in}
 use Rattle.service_model.specs.Trials.{Mark, is_among, marks, same_mark}
 use Rattle.frame_steps.specs.declared.stack.SyntaxFault.{SyntaxFault}
-use Rattle.query_engine.specs.Faults.{fault_of}
+use Rattle.text_queries.specs.Faults.{fault_of}
 use Rattle.session.specs.declared.trials.Mark as code
 
 -- a mark of a trial

@@ -7,7 +7,7 @@ ghost use Rattle.syntax_tree.specs.Tallies.{Grows};
 ghost use Rattle.syntax_tree.specs.View.{place_of, trees_of};
 ghost use Rattle.json_lines.specs.Means.{entry_kind_text, entry_of, failure_said, said_of, span_of};
 ghost use Rattle.session.specs.Lines.{failure_in};
-ghost use Rattle.query_engine.specs.NewestNames.{printed};
+ghost use Rattle.name_queries.specs.NewestNames.{printed};
 ghost use Rattle.session.specs.Queries.{AnswersQuery, IsSaidOfPlace, said_entry};
 ghost use Rattle.text_reading.specs.Structures.{IsParsedAs};
 ghost use Rattle.text_reading.specs.Types.{IsOf};
@@ -17,9 +17,8 @@ use analysis_api::{Analyser, Analysis};
 use env_table::Place;
 use frame_parser::Parsed;
 use json_lines::{Entry, EntryKind, Failure, File, PosSpan, Reply};
-use query_engine::{
-    Asked, Completion, CompletionKind, QueryFault, complete_prefix, locate, occurrences,
-};
+use name_queries::{Completion, CompletionKind, complete_prefix, locate, occurrences};
+use query_engine::{Asked, QueryFault};
 use std::alloc::{AllocError, Global};
 use syntax_tree::{Counts, NoMemory, Pos, RcStr, Span, Tree};
 use text_reading::{TriedText, position};

@@ -13,7 +13,7 @@ ghost use Rattle.service_model.specs.Answers.{Answers, PlacedIs, EnclosingIs, Ty
 ghost use Rattle.syntax_tree.specs.Tallies.{Grows};
 ghost use Rattle.syntax_tree.specs.View.{trees_of};
 ghost use Rattle.plain_typing.specs.View.{seen_of};
-ghost use Rattle.query_engine.specs.Faults.{fault_of, typer_fault_of};
+ghost use Rattle.text_queries.specs.Faults.{fault_of, typer_fault_of};
 ghost use Rattle.text_store.specs.Edits.{edit_of, IsRefusal};
 ghost use Rattle.json_lines.specs.Meets.{asked_of, key_text, range_of, refusal_of};
 ghost use Rattle.service_model.specs.Replies.{outline};

@@ -9,16 +9,17 @@ ghost use Rattle.query_model.specs.Faults.{by_typer};
 ghost use Rattle.service_model.specs.Trials.{FirstAdded, Fits, IsLeast, mark_of, moved, moved_mark, new_starts};
 ghost use Rattle.syntax_tree.specs.Tallies.{Grows};
 ghost use Rattle.syntax_tree.specs.View.{place_of};
-ghost use Rattle.query_engine.specs.Faults.{fault_of, typer_fault_of};
+ghost use Rattle.text_queries.specs.Faults.{fault_of, typer_fault_of};
 ghost use Rattle.session.specs.Trials.{HasMarks, IsParserOf, Knows, lesser, mark_in};
 
 use analysis_api::Analyser;
 use env_table::Fault;
 use frame_parser::SyntaxFault;
-use query_engine::{Replacement, Trial, kind_name};
+use query_engine::{Replacement, Trial};
 use std::alloc::{AllocError, Global};
 use std::collections::HashSet;
 use syntax_tree::{Counts, NoMemory, Span};
+use text_queries::kind_name;
 use text_reading::TriedText;
 
 /// How many bytes a text may have.

@@ -16,10 +16,10 @@ use Rattle.syntax_tree.specs.declared.tree.Token.{Token}
 use Rattle.frame_steps.specs.Told.{told}
 use Rattle.frame_steps.specs.View as parser
 use Rattle.frame_parser.specs.declared.whole.Parsed.{Parsed}
-use Rattle.query_engine.specs.View.{member_of}
-use Rattle.query_engine.specs.declared.outlines.Outlined.{Outlined, out-Outlined}
-use Rattle.query_engine.proofs.Told.{told_faults}
-use Rattle.query_engine.proofs.Views.{member_of_parts}
+use Rattle.text_queries.specs.Outlines.{member_of}
+use Rattle.text_queries.specs.declared.outlines.Outlined.{Outlined, out-Outlined}
+use Rattle.text_queries.proofs.Told.{told_faults}
+use Rattle.text_queries.proofs.Views.{member_of_parts}
 use Rattle.json_lines.specs.Means.{outline_kind_text, outline_of}
 use Rattle.text_reading.specs.Structures.{IsParsedAs}
 

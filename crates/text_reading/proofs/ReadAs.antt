@@ -16,7 +16,7 @@ use Rattle.syntax_tree.specs.declared.tree.Token.{Token}
 use Rattle.frame_parser.specs.declared.whole.Parsed.{Parsed}
 use Rattle.frame_steps.specs.Told.{told}
 use Rattle.frame_steps.specs.View as parser
-use Rattle.query_engine.proofs.Told.{told_faults}
+use Rattle.text_queries.proofs.Told.{told_faults}
 use Rattle.text_reading.specs.PlainTexts.{IsReadAs, plain_of}
 use Rattle.text_reading.specs.declared.reading.ReadText.{ReadText}
 

@@ -9,7 +9,7 @@ use Rattle.service_model.specs.Structure.{items_in, faults_in}
 use Rattle.service_model.specs.WellTyped.{is_short}
 use Rattle.syntax_tree.specs.View.{trees_of}
 use Rattle.plain_typing.specs.View.{seen_of}
-use Rattle.query_engine.specs.Faults.{fault_of}
+use Rattle.text_queries.specs.Faults.{fault_of}
 use Rattle.text_reading.specs.declared.plain.PlainText.{PlainText}
 use Rattle.text_reading.specs.declared.reading.ReadText.{ReadText}
 

@@ -6,7 +6,7 @@ use Rattle.tree_model.specs.Trees as plain
 use Rattle.service_model.specs.Structure.{items_in, faults_in}
 use Rattle.syntax_tree.specs.View.{trees_of}
 use Rattle.frame_parser.specs.declared.whole.Parsed.{Parsed}
-use Rattle.query_engine.specs.Faults.{fault_of}
+use Rattle.text_queries.specs.Faults.{fault_of}
 
 -- the text's tokens, with the items and the faults of these
 pub record IsParsedAs (text : List ℕ) (parsed : Parsed) : Type 0 where

@@ -1,6 +1,6 @@
 use Rattle.std.proofs.Common.{◌≡◌, ◌++◌, map, drop}
 use Rattle.service_model.specs.Trials.{mark_of}
-use Rattle.query_engine.specs.Faults.{fault_of}
+use Rattle.text_queries.specs.Faults.{fault_of}
 use Rattle.session.specs.Trials.{mark_in}
 use Rattle.session.proofs.trials.marks_of_parsed.Given as goal
 

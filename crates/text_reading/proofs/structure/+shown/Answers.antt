@@ -3,8 +3,8 @@ use Rattle.std.proofs.lemmas.List.{drop_all}
 use Rattle.text_terms.specs.Bytes.{str_bytes}
 use Rattle.query_model.specs.Outlines.{members_of}
 use Rattle.service_model.specs.Structure.{shown_member, shown_members}
-use Rattle.query_engine.specs.View.{member_of}
-use Rattle.query_engine.specs.declared.outlines.Outlined.{Outlined, out-Outlined}
+use Rattle.text_queries.specs.Outlines.{member_of}
+use Rattle.text_queries.specs.declared.outlines.Outlined.{Outlined, out-Outlined}
 use Rattle.json_lines.specs.Meets.{pair_of}
 use Rattle.json_lines.proofs.Views.{made_is_said}
 use Rattle.json_lines.specs.Means.{outline_of, outlined_of}

@@ -1,6 +1,6 @@
 use Rattle.std.proofs.Common.{◌≡◌, ◌++◌, map, drop}
 use Rattle.service_model.specs.Structure.{shown_member}
-use Rattle.query_engine.specs.View.{member_of}
+use Rattle.text_queries.specs.Outlines.{member_of}
 use Rattle.json_lines.specs.Means.{outlined_of}
 use Rattle.text_reading.proofs.structure.+shown.Given as goal
 

@@ -1,6 +1,6 @@
 use Rattle.std.proofs.Common.{◌≡◌, ◌++◌, map, drop}
 use Rattle.service_model.specs.Structure.{shown_fault}
-use Rattle.query_engine.specs.Faults.{listed_of}
+use Rattle.text_queries.specs.Faults.{listed_of}
 use Rattle.json_lines.specs.Means.{fault_of}
 use Rattle.text_reading.proofs.structure.shown_faults.Given as goal
 

@@ -1,6 +1,6 @@
 use Rattle.std.proofs.Common.{rules, ◌≡◌, ◌∙◌, length, map, sym}
 use Rattle.std.proofs.lemmas.List.{length-map}
-use Rattle.query_engine.specs.Faults.{typer_fault_of}
+use Rattle.text_queries.specs.Faults.{typer_fault_of}
 use Rattle.session.proofs.session.Session.count_typed.Goals as goal
 
 pub returns-clause-faults : goal.returns-clause-faults

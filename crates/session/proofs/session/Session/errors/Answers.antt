@@ -1,7 +1,7 @@
 use Rattle.std.proofs.Common.{◌++◌, [], ◌≡◌, IfOk, subst, List, ℕ, map}
 use Rattle.service_model.specs.Structure.{faults_said}
 use Rattle.frame_steps.specs.declared.stack.SyntaxFault.{SyntaxFault}
-use Rattle.query_engine.specs.Faults.{fault_of}
+use Rattle.text_queries.specs.Faults.{fault_of}
 use Rattle.json_lines.specs.Means.{said_of}
 use Rattle.text_reading.specs.PlainTexts.{IsReadAs}
 use Rattle.session.proofs.Typing.{errors_plain, errors_typed}

@@ -1,8 +1,0 @@
-use Rattle.std.proofs.Common.{◌≡◌, ◌++◌, map, drop}
-use Rattle.query_model.specs.Outlines.{outline}
-use Rattle.syntax_tree.specs.View.{node_view, trees_of}
-use Rattle.query_engine.specs.View.{member_of}
-use Rattle.query_engine.proofs.outlines.outline.Given as goal
-
-abbrev pub invariant-loop-item : goal.invariant-loop-item
-invariant-loop-item l = map member_of l.out.items ++ outline (map (λ n. node_view n.value) (drop l.item-index l.tree.items.items)) ≡ outline (trees_of l.tree)

@@ -1,7 +1,0 @@
-use Rattle.std.proofs.Common.{◌≡◌, drop}
-use Rattle.query_model.specs.Prefixes.{at_start, read_all}
-use Rattle.query_engine.specs.Prefixes.{read_of}
-use Rattle.query_engine.proofs.prefixes.read_all.Given as goal
-
-abbrev pub invariant-loop-byte : goal.invariant-loop-byte
-invariant-loop-byte l = read_all (read_of l.read) (drop l.byte-index l.bytes) ≡ read_all at_start l.bytes

@@ -1,0 +1,4 @@
+pub mod Empty
+pub mod Orders
+pub mod Told
+pub mod Views
