@@ -8,7 +8,7 @@ use Rattle.grammar_model.specs.Ocaml.{Text}
 use Rattle.frame_steps.specs.Told.{told}
 use Rattle.frame_steps.specs.View.{fault_of}
 use Rattle.frame_parser.specs.Behind.{Behind}
-use Rattle.syntax_tree.specs.Tallies.{Tallies}
+use Rattle.syntax_tree.specs.Tallies.{Tallies, shifted_more}
 use Rattle.syntax_tree.specs.View.{tok_of}
 use Rattle.syntax_tree.specs.declared.tree.Token.{Token}
 use Rattle.frame_parser.specs.Run.{all_shifts, next_shifts, next_step, shifted_by}
@@ -97,6 +97,11 @@ steps_same text old new ss n are same = subst (λ (l : List Tok). AreSteps text 
 -- the first tokens are as many as they are said to be
 pub first_many : (tokens : List Token) (n : ℕ) → n ≤ length tokens → length (map tok_of (take n tokens)) ≡ n
 first_many tokens n le = omega (arith, length-map (take n tokens) tok_of, length-take n tokens)
+
+-- a token that is shifted isn't lexed
+pub lexed_stays : (n : ℕ) (c : Tallies) → (shifted_by n c).lexed ≡ c.lexed
+lexed_stays zero c = refl
+lexed_stays (suc n) c = lexed_stays n (shifted_more c)
 
 -- nothing is counted yet
 pub counted_none : (text : Text) (tokens : List Token) (n : ℕ) (c : Tallies) → n ≤ length tokens → IsCounted text n (map tok_of (take n tokens)) c c

@@ -102,6 +102,7 @@ impl KeptParse {
         ensures parsed { OnOk result (HasParsed (map tok_of tokens.now) self.new) }
         ensures refused { OnErr result ((n : ℕ) × (same ≤ n) × (n ≤ length tokens.now) × HasParsed (map tok_of (take n tokens.now)) self.new) }
         ensures counted { OnOk result (IsCounted (text_in self.old) same (map tok_of tokens.now) (C.tallies counts.old) (C.tallies counts.new)) }
+        ensures unlexed { (C.tallies counts.new).lexed ≡ (C.tallies counts.old).lexed }
         ensures grows { Grows (C.tallies counts.old) (C.tallies counts.new) }
     {
         self.cut(same);

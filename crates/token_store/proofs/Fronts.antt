@@ -14,7 +14,7 @@ use Rattle.syntax_tree.specs.declared.tree.Token.{Token}
 use Rattle.syntax_tree.specs.View.{tok_of}
 use Rattle.ml_lexer.specs.Reaches.{reach_at}
 use Rattle.ml_lexer.specs.Reached.{Reached, FirstReached, end_of, reach_of, reached_of}
-use Rattle.ml_lexer.specs.Steady.{steady, AllTokens}
+use Rattle.ml_lexer.specs.Steady.{ends_at, steady, AllTokens}
 use Rattle.ml_lexer.proofs.Agree.{agree_less}
 use Rattle.ml_lexer.proofs.Forward.{forward}
 use Rattle.ml_lexer.proofs.SteadyGaps.{gap_by}
@@ -147,10 +147,54 @@ one_more text before now at t front place first reach is =
       count = ap length is ∙ length-append before (t ∷ []);
     }
 
--- all tokens of a text are no fewer than its first ones
-pub few_first : (text : List ℕ) (xs ts : List Reached) → IsFront FirstReached end_of text 0 xs → AllTokens FirstReached end_of text 0 ts → length xs ≤ length ts
-few_first text xs ts front all = front_few FirstReached end_of reached_steady.one text 0 xs ts front all
+-- a text has no more tokens than bytes
+pub all_few : (text : List ℕ) (at : ℕ) (ts : List Reached) → at ≤ length text → AllTokens FirstReached end_of text at ts → at + length ts ≤ length text
+all_few text at [] inside all = omega (arith, inside)
+all_few text at (t ∷ ts) inside all =
+    let on = forward text at t.token inside all.0.0 in
+    let rest = all_few text t.token.end ts on.2 all.1 in omega (arith, on.0, on.1, rest)
+
+-- the tokens of a text, with their reaches
+pub with_reaches : List ℕ → List Tok → List Reached
+with_reaches text [] = []
+with_reaches text (t ∷ ts) = record { token = t; reach = reach_at text t.start } ∷ with_reaches text ts
+
+reached_from : (text : List ℕ) (at : ℕ) (ts : List Tok) → LexFrom text at ts → AllTokens FirstReached end_of text at (with_reaches text ts)
+unfolding with_reaches
+reached_from text at [] lex = lex
+reached_from text at (t ∷ ts) lex = ((lex.0, refl), reached_from text t.end ts lex.1)
+
+pub all_reached : (text : List ℕ) (ts : List Tok) → Lex text ts → AllTokens FirstReached end_of text 0 (with_reaches text ts)
+unfolding Lex
+all_reached text ts lex = reached_from text 0 ts lex
+
+pub reached_many : (text : List ℕ) (ts : List Tok) → length (with_reaches text ts) ≡ length ts
+unfolding with_reaches
+reached_many text [] = refl
+reached_many text (t ∷ ts) = ap suc (reached_many text ts)
+
+-- as many of them end at a place or behind
+pub reached_ends : (text : List ℕ) (place : ℕ) (ts : List Tok) → ends_at end_of place (with_reaches text ts) ≡ ends_at (λ (t : Tok). t.end) place ts
+unfolding with_reaches
+reached_ends text place [] = refl
+reached_ends text place (t ∷ ts) = ap (λ n. (if nat_lt t.end place then 0 else 1) + n) (reached_ends text place ts)
+
+-- the tokens of a text are no fewer than its first ones
+pub few_first : (text : List ℕ) (xs : List Reached) (ts : List Tok) → IsFront FirstReached end_of text 0 xs → Lex text ts → length xs ≤ length ts
+few_first text xs ts front lex =
+    omega (arith, front_few FirstReached end_of reached_steady.one text 0 xs (with_reaches text ts) front (all_reached text ts lex), reached_many text ts)
 
 -- a list whose front is another is no shorter
 pub shorter : {T : Type 0} (xs ys : List T) → take (length xs) ys ≡ xs → length xs ≤ length ys
 shorter xs ys is = omega (arith, ap length is, length-take (length xs) ys)
+
+-- a counter grows by no more than are lexed
+pub lexed_most : (a b : Tallies) (n : ℕ) → b ≡ lexed_by n a → b.lexed ≤ a.lexed + n
+lexed_most a b n is = omega (arith, ap (λ (t : Tallies). t.lexed) is, most_by a n)
+  where
+    one : (t : Tallies) → (lexed_more t).lexed ≤ t.lexed + 1
+    one t = omega arith
+
+    most_by : (t : Tallies) (m : ℕ) → (lexed_by m t).lexed ≤ t.lexed + m
+    most_by t zero = omega arith
+    most_by t (suc m) = omega (arith, one (lexed_by m t), most_by t m)

@@ -2,9 +2,10 @@
 ghost use Rattle.std.specs.Prelude.{◌≡◌, ℕ, ◌+◌, ◌-◌, ◌<◌, ◌≤◌, ◌^◌, List, [], ◌∷◌, ◌++◌, length, map, take, OnOk, OnErr};
 ghost use Rattle.std.specs.Str.{IsUtf8, IsCharBoundary};
 ghost use Rattle.std.specs.Vec.{vec_capacity};
+ghost use Rattle.token_model.specs.Kinds.{Tok};
 ghost use Rattle.token_model.specs.Tokens.{column, Lex};
 ghost use Rattle.syntax_tree.specs.View.{tok_of};
-ghost use Rattle.ml_lexer.specs.Reached.{end_of, reach_of, reached_of, FirstReached, Reached};
+ghost use Rattle.ml_lexer.specs.Reached.{end_of, reach_of, reached_of, FirstReached};
 ghost use Rattle.ml_lexer.specs.Steady.{steady, AllTokens};
 ghost use Rattle.token_store.specs.Stored.{last_end, lexed_by, toks_of, IsFront, Stored};
 
@@ -143,7 +144,7 @@ impl TokenStore {
         ensures refused { OnErr result (self.new.tokens ≡ steady reach_of from self.old.tokens) }
         ensures unchanged { self.new.unchanged ≡ length (steady reach_of from self.old.tokens) }
         ensures counted { OnOk result (C.tallies counts.new ≡ lexed_by (length self.new.tokens - length (steady reach_of from self.old.tokens)) (C.tallies counts.old)) }
-        ensures work { (n : ℕ) × (C.tallies counts.new ≡ lexed_by n (C.tallies counts.old)) × ((ts : List Reached) → AllTokens FirstReached end_of (left.now ++ right.now) 0 ts → n + length (steady reach_of from self.old.tokens) ≤ length ts) }
+        ensures work { (n : ℕ) × (C.tallies counts.new ≡ lexed_by n (C.tallies counts.old)) × ((ts : List Tok) → Lex (left.now ++ right.now) ts → n + length (steady reach_of from self.old.tokens) ≤ length ts) }
     {
         let kept = steady_count(self.tokens.as_slice(), from);
         self.tokens.truncate(kept);

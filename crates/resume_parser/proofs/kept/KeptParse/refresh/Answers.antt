@@ -1,11 +1,12 @@
-use Rattle.std.proofs.Common.{◌+◌, ◌<◌, List, length, map, take, sym, subst, ◌∙◌, ap, arith}
+use Rattle.std.proofs.Common.{◌+◌, ◌<◌, List, length, map, take, refl, sym, subst, ◌∙◌, ap, arith}
 use Rattle.token_model.specs.Kinds.{Tok}
 use Rattle.grammar_model.specs.Ocaml.{Text}
+use Rattle.syntax_tree.specs.Tallies.{Tallies}
 use Rattle.syntax_tree.specs.View.{tok_of}
 use Rattle.frame_parser.specs.Run.{next_shifts, shifted_by}
 use Rattle.frame_parser.proofs.Lists.{tokens_next, grows_more}
 use Rattle.resume_parser.specs.Kept.{HasParsed, text_in}
-use Rattle.resume_parser.proofs.Steps.{first_many, counted_none, counted_on, mapped_first}
+use Rattle.resume_parser.proofs.Steps.{first_many, counted_none, counted_on, lexed_stays, mapped_first}
 use Rattle.resume_parser.proofs.kept.KeptParse.refresh.Goals as goal
 
 pub loop-k-init : goal.loop-k-init
@@ -14,6 +15,7 @@ loop-k-init g c = let (old, parsed, le, same) = c.requires.kept in record {
   least = omega arith;
   parsed = subst (λ (l : List Tok). HasParsed l c.cut.new.self) (same ∙ mapped_first c.args.tokens.now c.args.same) (c.cut.ensures.parsed old parsed);
   counted = counted_none (text_in c.args.self.now) c.args.tokens.now c.args.same (g.C.Counts.tallies c.args.counts.now) c.requires.within;
+  unlexed = refl;
   grows = record { lexed = omega arith; shifted = omega arith; typed = omega arith };
 }
 
@@ -37,5 +39,6 @@ loop-k-preserved g c =
       least = omega (arith, inv.least);
       parsed = subst (λ (l : List Tok). HasParsed l c.take.new.self) (sym next) (c.in_ok-take.ensures.parsed ts inv.parsed few);
       counted = counted_on (text_in c.args.self.now) c.args.same ts (map tok_of (take (k + 1) c.args.tokens.now)) t _ _ _ (omega (arith, many, inv.least)) next inv.counted counted;
+      unlexed = ap (λ (a : Tallies). a.lexed) counted ∙ lexed_stays (next_shifts (text_in c.args.self.now) ts t) (g.C.Counts.tallies c.loop-k.counts) ∙ inv.unlexed;
       grows = grows_more (g.C.Counts.tallies c.args.counts.now) (g.C.Counts.tallies c.loop-k.counts) (g.C.Counts.tallies c.take.new.counts) (next_shifts (text_in c.args.self.now) ts t) inv.grows counted;
     }

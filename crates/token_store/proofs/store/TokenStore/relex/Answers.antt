@@ -18,7 +18,7 @@ returns-in-Ok-clause-work g c =
     let kept : map reached_of before ≡ steady reach_of c.args.from (map reached_of c.self.inside.tokens.items) = ap (map reached_of) c.truncate.ensures.items ∙ ap (λ (l : List Token). map reached_of (take c.steady_count-kept.result l)) (sym c.as_slice.ensures.value) ∙ c.steady_count-kept.ensures.steady ∙ ap (λ (l : List Token). steady reach_of c.args.from (map reached_of l)) c.as_slice.ensures.value in
     let fewer : length before ≤ length now = shorter before now c.read_on.ensures.kept in
     let many : length before ≡ length (steady reach_of c.args.from c.args.self.now.tokens) = sym (length-map before reached_of) ∙ ap length kept ∙ ap (λ (s : Stored). length (steady reach_of c.args.from s.tokens)) c.self.view_is in
-    (length now - length before, c.read_on.ensures.counted, λ ts all. omega (arith, few_first text (map reached_of now) ts c.read_on.ensures.front all, length-map now reached_of, many, fewer))
+    (length now - length before, c.read_on.ensures.counted, λ ts lex. omega (arith, few_first text (map reached_of now) ts c.read_on.ensures.front lex, length-map now reached_of, many, fewer))
 
 pub returns-in-Err-clause-work : goal.returns-in-Err-clause-work
 returns-in-Err-clause-work g c =
@@ -28,4 +28,4 @@ returns-in-Err-clause-work g c =
     let kept : map reached_of before ≡ steady reach_of c.args.from (map reached_of c.self.inside.tokens.items) = ap (map reached_of) c.truncate.ensures.items ∙ ap (λ (l : List Token). map reached_of (take c.steady_count-kept.result l)) (sym c.as_slice.ensures.value) ∙ c.steady_count-kept.ensures.steady ∙ ap (λ (l : List Token). steady reach_of c.args.from (map reached_of l)) c.as_slice.ensures.value in
     let fewer : length before ≤ length now = shorter before now c.read_on.ensures.kept in
     let many : length before ≡ length (steady reach_of c.args.from c.args.self.now.tokens) = sym (length-map before reached_of) ∙ ap length kept ∙ ap (λ (s : Stored). length (steady reach_of c.args.from s.tokens)) c.self.view_is in
-    (length now - length before, c.read_on.ensures.counted, λ ts all. omega (arith, few_first text (map reached_of now) ts c.read_on.ensures.front all, length-map now reached_of, many, fewer))
+    (length now - length before, c.read_on.ensures.counted, λ ts lex. omega (arith, few_first text (map reached_of now) ts c.read_on.ensures.front lex, length-map now reached_of, many, fewer))
