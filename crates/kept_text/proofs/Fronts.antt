@@ -1,5 +1,5 @@
 -- The first tokens of a text: those that a change leaves, those of all, and how many all are.
-use Rattle.std.proofs.Common.{◌≡◌, ℕ, zero, suc, ◌+◌, ◌≤◌, ◌<◌, List, [], ◌∷◌, length, take, Some, None, Bool, true, false, nat_lt, refl, sym, ap, ◌∙◌, subst, arith}
+use Rattle.std.proofs.Common.{◌≡◌, ℕ, zero, suc, ◌≤◌, ◌<◌, List, [], ◌∷◌, length, take, Some, None, Bool, true, false, nat_lt, refl, sym, ap, ◌∙◌, subst, arith}
 use Rattle.std.specs.Prelude.{if◌then◌else◌}
 use Rattle.std.proofs.lemmas.Bool.{ltb-true, ltb-false}
 use Rattle.std.proofs.lemmas.Bool.Decides.{nat_tests}
@@ -60,14 +60,7 @@ steady_first place (t ∷ ts) = go (nat_lt place t.reach) (steady_first place ts
     go true rest = refl
     go false rest = ap (λ (l : List Reached). t ∷ l) rest
 
--- a text has no more tokens than bytes
-pub all_few : (text : List ℕ) (at : ℕ) (ts : List Reached) → at ≤ length text → AllTokens FirstReached end_of text at ts → at + length ts ≤ length text
-all_few text at [] inside all = omega (arith, inside)
-all_few text at (t ∷ ts) inside all =
-    let on = forward text at t.token inside all.0.0 in
-    let rest = all_few text t.token.end ts on.2 all.1 in omega (arith, on.0, on.1, rest)
-
--- they are within it
+-- all tokens of a text are within it
 pub all_within : (text : List ℕ) (at : ℕ) (ts : List Reached) → at ≤ length text → AllTokens FirstReached end_of text at ts → AllWithin (length text) (toks_of ts)
 all_within text at [] inside all = tt
 all_within text at (t ∷ ts) inside all =

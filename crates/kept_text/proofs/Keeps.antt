@@ -1,5 +1,5 @@
 -- What is kept of a text still holds of it after an edit, after it is read again, and after it is parsed again.
-use Rattle.std.proofs.Common.{◌≡◌, ℕ, zero, suc, ◌≤◌, List, [], ◌∷◌, ◌++◌, length, length-append, map, take, drop, min, Option, Some, None, Bool, true, false, nat_lt, refl, sym, ap, ◌∙◌, subst, arith, Ok, Err}
+use Rattle.std.proofs.Common.{◌≡◌, ℕ, zero, suc, ◌+◌, ◌≤◌, List, [], ◌∷◌, ◌++◌, length, length-append, map, take, drop, min, Option, Some, None, Bool, true, false, nat_lt, refl, sym, ap, ◌∙◌, subst, arith, Ok, Err}
 use Rattle.std.specs.Prelude.{if◌then◌else◌, is_some}
 use Rattle.std.specs.Result.{OnOk, OnErr}
 use Rattle.std.specs.declared.result.Result.{Result}
@@ -10,19 +10,23 @@ use Rattle.text_model.specs.Edits as edit
 use Rattle.text_model.specs.Positions.{offset}
 use Rattle.text_model.proofs.Positions.{offset-le}
 use Rattle.token_model.specs.Kinds.{Tok}
+use Rattle.token_model.specs.Tokens.{no_gap, FirstToken, Lex}
 use Rattle.syntax_tree.specs.Tallies.{Tallies, Grows, lexed_more}
 use Rattle.syntax_tree.specs.View.{tok_of}
 use Rattle.syntax_tree.specs.declared.tree.Token.{Token}
 use Rattle.ml_lexer.specs.Reached.{Reached, FirstReached, end_of, reach_of, reached_of}
-use Rattle.ml_lexer.specs.Steady.{steady, AllTokens}
+use Rattle.ml_lexer.specs.Steady.{ends_at, steady, AllTokens}
 use Rattle.ml_lexer.proofs.Agree.{agree_less}
+use Rattle.ml_lexer.proofs.SameTokens.{read_again, same_steady}
+use Rattle.token_laws.proofs.Steadies.{reached_steady}
 use Rattle.token_store.specs.Stored.{lexed_by, toks_of, IsFront}
+use Rattle.token_store.proofs.Fronts.{all_few, all_reached, lexed_most, reached_ends, reached_many, with_reaches}
 use Rattle.grammar_model.specs.Ocaml.{program_text}
 use Rattle.resume_parser.specs.Kept.{text_in, HasParsed}
 use Rattle.resume_parser.specs.declared.kept.KeptParse.{KeptParse}
 use Rattle.resume_parser.proofs.Steps.{mapped_first}
-use Rattle.kept_text.specs.Keeping.{sooner, IsKept, IsParsedUpTo, IsParsedWhole, IsUpToDate}
-use Rattle.kept_text.proofs.Fronts.{steady_less, front_on, all_front, front_of_all, steady_first, all_few, toks_first}
+use Rattle.kept_text.specs.Keeping.{sooner, tok_end, AreLeft, IsKept, IsParsedUpTo, IsParsedWhole, IsUpToDate, Kept}
+use Rattle.kept_text.proofs.Fronts.{steady_less, front_on, all_front, front_of_all, steady_first, toks_first}
 
 -- the code's tokens, with their reaches and then without
 pub toks_mapped : (ts : List Token) → toks_of (map reached_of ts) ≡ map tok_of ts
@@ -31,12 +35,42 @@ toks_mapped (t ∷ ts) = ap (λ (l : List Tok). tok_of t ∷ l) (toks_mapped ts)
 
 -- ---- reading again
 
--- what was read again, or could not be, begins with the steady tokens
-pub read_front : {T E : Type 0} (r : Result T E) (text : List ℕ) (from : ℕ) (old new : List Reached) → IsFront FirstReached end_of text 0 (steady reach_of from old)
-    → OnOk r (AllTokens FirstReached end_of text 0 new) → OnErr r (new ≡ steady reach_of from old) → IsFront FirstReached end_of text 0 (steady reach_of from new)
-read_front (Ok x) text from old new front all refused = front_on from text text 0 new refl (all_front text 0 new all)
-read_front (Err e) text from old new front all refused =
-    subst (λ (l : List Reached). IsFront FirstReached end_of text 0 l) (sym (ap (steady reach_of from) refused ∙ steady_less from from old (omega arith))) front
+-- all tokens of a text are there, whatever changes
+pub left_all : (text : List ℕ) (from : ℕ) (ts : List Reached) → AllTokens FirstReached end_of text 0 ts → AreLeft text from ts
+left_all text from ts all = record { read = text; all = ts; lexed = all; same = refl; left = refl }
+
+-- those that a change leaves, alone
+pub left_steady : (text : List ℕ) (from : ℕ) (ts : List Reached) → AreLeft text from ts → AreLeft text from (steady reach_of from ts)
+left_steady text from ts h = record { read = h.read; all = h.all; lexed = h.lexed; same = h.same; left = steady_less from from ts (omega arith) ∙ h.left }
+
+-- those that a change at an earlier place leaves, of another text with the same bytes before that
+pub left_less : (text new : List ℕ) (first from : ℕ) (ts : List Reached) → first ≤ from → take first text ≡ take first new → AreLeft text from ts → AreLeft new first ts
+left_less text new first from ts le same h = record {
+  read = h.read;
+  all = h.all;
+  lexed = h.lexed;
+  same = agree_less from first h.read text le h.same ∙ same;
+  left = sym (steady_less first from ts le) ∙ ap (steady reach_of first) h.left ∙ steady_less first from h.all le;
+}
+
+-- they are the first tokens of the text
+pub left_front : (text : List ℕ) (from : ℕ) (ts : List Reached) → AreLeft text from ts → IsFront FirstReached end_of text 0 (steady reach_of from ts)
+left_front text from ts h = subst (λ (l : List Reached). IsFront FirstReached end_of text 0 l) (sym h.left) (front_on from h.read text 0 h.all h.same (all_front h.read 0 h.all h.lexed))
+
+-- what was read again, or could not be, has all tokens that the change leaves
+pub read_left : {T E : Type 0} (r : Result T E) (text : List ℕ) (from : ℕ) (old new : List Reached) → AreLeft text from old → OnOk r (AllTokens FirstReached end_of text 0 new)
+    → OnErr r (new ≡ steady reach_of from old) → AreLeft text from new
+read_left (Ok x) text from old new left all refused = left_all text from new all
+read_left (Err e) text from old new left all refused = subst (AreLeft text from) (sym refused) (left_steady text from old left)
+
+-- what isn't left by a change is at most 32 more than the tokens that end at its place or behind
+pub few_read : (text : List ℕ) (from n : ℕ) (old : List Reached) → AreLeft text from old → ((ts : List Tok) → Lex text ts → n + length (steady reach_of from old) ≤ length ts)
+    → (ts : List Tok) → Lex text ts → n ≤ 32 + ends_at tok_end from ts
+few_read text from n old h few ts lex =
+    let us = with_reaches text ts in
+    let all = all_reached text ts lex in
+    let same : steady reach_of from h.all ≡ steady reach_of from us = same_steady FirstReached end_of reach_of reached_steady from h.read text h.same 0 h.all us h.lexed all in
+    omega (arith, few ts lex, ap length (h.left ∙ same), read_again FirstReached end_of reach_of reached_steady from text 0 us all, reached_ends text from ts, reached_many text ts)
 
 -- so both lists have these in front
 pub read_first : {T E : Type 0} (r : Result T E) (text : List ℕ) (from : ℕ) (old new : List Reached) → IsFront FirstReached end_of text 0 (steady reach_of from old)
@@ -85,6 +119,18 @@ grows_lexed a b n is = subst (Grows a) (sym is) (counted_by a n)
 pub grows_on : (a b c : Tallies) → Grows a b → Grows b c → Grows a c
 grows_on a b c g h = record { lexed = omega (arith, g.lexed, h.lexed); shifted = omega (arith, g.shifted, h.shifted); typed = omega (arith, g.typed, h.typed) }
 
+same_place : (from place : ℕ) (noted other : Option ℕ) → noted ≡ Some from → noted ≡ other → other ≡ Some place → from ≡ place
+same_place from place noted other is same there = cc
+
+-- A refresh counts the tokens that are read, and no more: by what is kept as it is inside and as it is seen, the text as it is read, and the counter before, once the tokens are read, and behind.
+pub work_done : (inside outside : Kept) (text : List ℕ) (from n : ℕ) (a b c : Tallies) → inside ≡ outside → inside.changed ≡ Some from → text ≡ inside.text → b ≡ lexed_by n a
+    → ((ts : List Tok) → Lex text ts → n ≤ 32 + ends_at tok_end from ts) → c.lexed ≡ b.lexed
+    → (place : ℕ) (ts : List Tok) → outside.changed ≡ Some place → Lex outside.text ts → c.lexed ≤ a.lexed + (32 + ends_at tok_end place ts)
+work_done inside outside text from n a b c view noted is counted few stays place ts there lex =
+    let own : Lex text ts = subst (λ (l : List ℕ). Lex l ts) (sym (is ∙ ap (λ (k : Kept). k.text) view)) lex in
+    let same : from ≡ place = same_place from place inside.changed outside.changed noted (ap (λ (k : Kept). k.changed) view) there in
+    omega (arith, few ts own, ap (λ m. ends_at tok_end m ts) same, lexed_most a b n counted, stays)
+
 -- ---- an edit
 
 -- what isn't refused goes on
@@ -119,7 +165,7 @@ same_before text e first new is =
 pub kept_edited : (text new : List ℕ) (e : Edit) (first same : ℕ) (tokens : List Reached) (parse : Option KeptParse) (noted : Option ℕ) → outcome_of text e ≡ changed first new
     → IsKept text tokens parse noted same → IsKept new tokens parse (Some (sooner first noted)) same
 kept_edited text new e first same tokens parse None is h = record {
-  lexed = front_on first text new 0 tokens (same_before text e first new is) (all_front text 0 tokens h.lexed);
+  lexed = record { read = text; all = tokens; lexed = h.lexed; same = same_before text e first new is; left = refl };
   parsed = h.parsed;
   whole = tt;
 }
@@ -128,7 +174,7 @@ kept_edited text new e first same tokens parse (Some before) is h =
     let le : (s ≤ first) × (s ≤ before) = go (nat_lt first before) refl in
     let bytes : take s text ≡ take s new = agree_less first s text new le.0 (same_before text e first new is) in
     record {
-      lexed = subst (λ (l : List Reached). IsFront FirstReached end_of new 0 l) (steady_less s before tokens le.1) (front_on s text new 0 (steady reach_of before tokens) bytes h.lexed);
+      lexed = left_less text new s before tokens le.1 bytes h.lexed;
       parsed = h.parsed;
       whole = tt;
     }
@@ -140,8 +186,8 @@ kept_edited text new e first same tokens parse (Some before) is h =
 -- ---- reading and parsing the text again
 
 -- what is kept once the tokens are read again, or could not be
-pub kept_read : (text : List ℕ) (tokens : List Reached) (parse : Option KeptParse) (from same : ℕ) → IsFront FirstReached end_of text 0 (steady reach_of from tokens) → IsParsedUpTo same (toks_of tokens) parse → IsKept text tokens parse (Some from) same
-kept_read text tokens parse from same front parsed = record { lexed = front; parsed = parsed; whole = tt }
+pub kept_read : (text : List ℕ) (tokens : List Reached) (parse : Option KeptParse) (from same : ℕ) → AreLeft text from tokens → IsParsedUpTo same (toks_of tokens) parse → IsKept text tokens parse (Some from) same
+kept_read text tokens parse from same left parsed = record { lexed = left; parsed = parsed; whole = tt }
 
 -- all tokens of a text are few enough for the parser
 pub few_tokens : (text : List ℕ) (tokens : List Token) (ts : List Reached) → length text ≤ text_limit → AllTokens FirstReached end_of text 0 ts → map reached_of tokens ≡ ts → length tokens ≤ 1048576
@@ -199,9 +245,17 @@ pub resumed_whole : {T E : Type 0} (r : Result T E) (ts : List Tok) (k : KeptPar
 resumed_whole (Ok x) ts k all text = (all, text)
 resumed_whole (Err e) ts k all text = tt
 
--- what is kept of a text of which nothing was read yet
-pub kept_new : (text : List ℕ) (tokens : List Reached) → tokens ≡ [] → IsKept text tokens None (Some 0) 0
-kept_new text tokens none = subst (λ (ts : List Reached). IsKept text ts None (Some 0) 0) (sym none) (record { lexed = tt; parsed = record { old = []; parsed = refl; known = omega arith; within = omega arith; first = refl }; whole = tt })
+-- what is kept of the empty text, of which nothing was read yet
+no_tokens : AllTokens FirstReached end_of [] 0 []
+unfolding FirstToken
+no_tokens = (no_gap, tt)
+
+pub kept_new : (text : List ℕ) (tokens : List Reached) → text ≡ [] → tokens ≡ [] → IsKept text tokens None (Some 0) 0
+kept_new text tokens empty none = subst (λ (l : List ℕ). IsKept l tokens None (Some 0) 0) (sym empty) (subst (λ (ts : List Reached). IsKept [] ts None (Some 0) 0) (sym none) (record {
+  lexed = record { read = []; all = []; lexed = no_tokens; same = refl; left = refl };
+  parsed = record { old = []; parsed = refl; known = omega arith; within = omega arith; first = refl };
+  whole = tt;
+}))
 
 -- where no change is noted
 pub none_noted : (b : Bool) (o : Option ℕ) → b ≡ is_some o → b ≡ false → o ≡ None

@@ -4,7 +4,7 @@ use Rattle.token_model.specs.Kinds.{Tok}
 use Rattle.grammar_model.specs.Ocaml.{program_text}
 use Rattle.ml_lexer.specs.Reached.{end_of, reach_of, FirstReached, Reached}
 use Rattle.ml_lexer.specs.Steady.{steady, AllTokens}
-use Rattle.token_store.specs.Stored.{toks_of, IsFront}
+use Rattle.token_store.specs.Stored.{toks_of}
 use Rattle.resume_parser.specs.Kept.{text_in, HasParsed}
 use Rattle.resume_parser.specs.declared.kept.KeptParse.{KeptParse}
 
@@ -19,10 +19,22 @@ abbrev pub sooner : ℕ → Option ℕ → ℕ
 sooner first None = first
 sooner first (Some before) = if nat_lt first before then first else before
 
--- the tokens are those of the text, or those among them are which the first changed byte leaves as they are
+-- where a token ends
+abbrev pub tok_end : Tok → ℕ
+tok_end t = t.end
+
+-- All tokens are there that a change at a place leaves as they are: those of a text that was read whole, with the same bytes before the place.
+pub record AreLeft (text : List ℕ) (from : ℕ) (tokens : List Reached) : Type 0 where
+  pub read : List ℕ
+  pub all : List Reached
+  pub lexed : AllTokens FirstReached end_of read 0 all
+  pub same : take from read ≡ take from text
+  pub left : steady reach_of from tokens ≡ steady reach_of from all
+
+-- the tokens are those of the text, or all those are among them which the first changed byte leaves as they are
 abbrev pub AreTokens : List ℕ → Option ℕ → List Reached → Type 0
 AreTokens text None ts = AllTokens FirstReached end_of text 0 ts
-AreTokens text (Some from) ts = IsFront FirstReached end_of text 0 (steady reach_of from ts)
+AreTokens text (Some from) ts = AreLeft text from ts
 
 -- the parser has taken these tokens, as those of a program; none, where it hasn't begun
 abbrev pub IsParserOf : List Tok → Option KeptParse → Type 0

@@ -1,13 +1,15 @@
 // What is read and parsed anew behind a change.
 ghost use Rattle.std.specs.Prelude.{◌≡◌, ℕ, ◌+◌, ◌-◌, ◌<◌, ◌≤◌, ◌^◌, List, ◌++◌, length, map, Option, OnOk};
 ghost use Rattle.std.specs.Str.{IsUtf8};
-ghost use Rattle.ml_lexer.specs.Reached.{end_of, reach_of, FirstReached, Reached};
-ghost use Rattle.ml_lexer.specs.Steady.{steady, AllTokens};
+ghost use Rattle.token_model.specs.Kinds.{Tok};
+ghost use Rattle.token_model.specs.Tokens.{Lex};
+ghost use Rattle.ml_lexer.specs.Reached.{end_of, FirstReached};
+ghost use Rattle.ml_lexer.specs.Steady.{ends_at, AllTokens};
 ghost use Rattle.syntax_tree.specs.Tallies.{Grows};
 ghost use Rattle.syntax_tree.specs.View.{tok_of};
-ghost use Rattle.token_store.specs.Stored.{lexed_by, toks_of, IsFront};
+ghost use Rattle.token_store.specs.Stored.{lexed_by, toks_of};
 ghost use Rattle.resume_parser.specs.declared.kept.KeptParse.{KeptParse as parser};
-ghost use Rattle.kept_text.specs.Keeping.{IsParsedUpTo, IsParsedWhole};
+ghost use Rattle.kept_text.specs.Keeping.{tok_end, AreLeft, IsParsedUpTo, IsParsedWhole};
 
 use resume_parser::{KeptParse, Text};
 use std::alloc::Global;
@@ -15,7 +17,7 @@ use syntax_tree::{Counts, NoMemory, Token};
 use token_store::TokenStore;
 
 /// Makes the tokens those of a text whose first changed byte is known. `same` tells how many of the first tokens the parser knows,
-/// before and after.
+/// before and after. Of the text's tokens at most 32 are read that end before that byte.
 pub fn read_again<C: Counts>(
     tokens: &mut TokenStore,
     same: &mut usize,
@@ -26,11 +28,11 @@ pub fn read_again<C: Counts>(
 ) -> Result<(), NoMemory>
     requires short { length (left.now ++ right.now) < 2 ^ 32 - 1 }
     requires text { IsUtf8 (left.now ++ right.now) }
-    requires front { IsFront FirstReached end_of (left.now ++ right.now) 0 (steady reach_of from tokens.old.tokens) }
+    requires left { AreLeft (left.now ++ right.now) from tokens.old.tokens }
     ensures all { OnOk result (AllTokens FirstReached end_of (left.now ++ right.now) 0 tokens.new.tokens) }
-    ensures front { IsFront FirstReached end_of (left.now ++ right.now) 0 (steady reach_of from tokens.new.tokens) }
+    ensures left { AreLeft (left.now ++ right.now) from tokens.new.tokens }
     ensures same { (parse : Option parser) → IsParsedUpTo same.old (toks_of tokens.old.tokens) parse → IsParsedUpTo same.new (toks_of tokens.new.tokens) parse }
-    ensures work { (n : ℕ) × (C.tallies counts.new ≡ lexed_by n (C.tallies counts.old)) × ((ts : List Reached) → AllTokens FirstReached end_of (left.now ++ right.now) 0 ts → n + length (steady reach_of from tokens.old.tokens) ≤ length ts) }
+    ensures work { (n : ℕ) × (C.tallies counts.new ≡ lexed_by n (C.tallies counts.old)) × ((ts : List Tok) → Lex (left.now ++ right.now) ts → n ≤ 32 + ends_at tok_end from ts) }
 {
     let answer = tokens.relex(left, right, from, counts);
     *same = (*same).min(tokens.unchanged());
@@ -49,6 +51,7 @@ pub fn parse_again<C: Counts>(
     requires parsed { IsParsedUpTo same (map tok_of tokens.now) parse.old }
     ensures whole { OnOk result (IsParsedWhole (map tok_of tokens.now) parse.new) }
     ensures parsed { IsParsedUpTo same (map tok_of tokens.now) parse.new }
+    ensures unlexed { (C.tallies counts.new).lexed ≡ (C.tallies counts.old).lexed }
     ensures grows { Grows (C.tallies counts.old) (C.tallies counts.new) }
 {
     match parse {

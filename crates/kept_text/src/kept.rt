@@ -1,18 +1,19 @@
 // A text, what is kept of it, and what ties both.
-ghost use Rattle.std.specs.Prelude.{◌≡◌, ℕ, ◌≤◌, [], length, map, option_map, is_none, is_some, Some, None, IfErr, IfOk, IfSome, OnOk};
+ghost use Rattle.std.specs.Prelude.{◌≡◌, ℕ, ◌+◌, ◌≤◌, List, [], length, map, option_map, is_none, is_some, Some, None, IfErr, IfOk, IfSome, OnErr, OnOk};
 ghost use Rattle.grammar_model.specs.Named.{named, items_of};
 ghost use Rattle.grammar_model.specs.Ocaml as ocaml;
 ghost use Rattle.recovery_model.specs.Recovery.{recover};
 ghost use Rattle.text_model.specs.Edits.{changed, outcome_of};
-ghost use Rattle.token_model.specs.Kinds.{AllWithin};
+ghost use Rattle.token_model.specs.Kinds.{AllWithin, Tok};
 ghost use Rattle.token_model.specs.Tokens.{Lex};
+ghost use Rattle.ml_lexer.specs.Steady.{ends_at};
 ghost use Rattle.syntax_tree.specs.Tallies.{Grows};
 ghost use Rattle.syntax_tree.specs.View.{tok_of, trees_of};
 ghost use Rattle.frame_steps.specs.Told.{told};
 ghost use Rattle.frame_steps.specs.View.{fault_of};
 ghost use Rattle.text_store.specs.Edits.{edit_of, IsRefusal};
 ghost use Rattle.token_store.specs.Stored.{toks_of};
-ghost use Rattle.kept_text.specs.Keeping.{sooner};
+ghost use Rattle.kept_text.specs.Keeping.{sooner, tok_end};
 
 use crate::again::{parse_again, read_again};
 use resume_parser::{KeptParse, Parsed};
@@ -91,11 +92,13 @@ impl KeptText {
         Ok(first)
     }
 
-    /// Brings the tokens and the tree up to the text: those from the first changed byte on are read and parsed.
-    /// After `NoMemory` the next call does what is left.
+    /// Brings the tokens and the tree up to the text: those from the first changed byte on are read and parsed, and at most 32 tokens
+    /// that end before it are read once more. After `NoMemory` the next call does what is left.
     pub fn refresh<C: Counts>(&mut self, counts: &mut C) -> Result<(), NoMemory>
         ensures text { self.new.text ≡ self.old.text }
         ensures current { OnOk result (self.new.changed ≡ None) }
+        ensures refused { OnErr result (self.new.changed ≡ self.old.changed) }
+        ensures work { (from : ℕ) (ts : List Tok) → self.old.changed ≡ Some from → Lex self.old.text ts → (C.tallies counts.new).lexed ≤ (C.tallies counts.old).lexed + (32 + ends_at tok_end from ts) }
         ensures idle { self.old.changed ≡ None → C.tallies counts.new ≡ C.tallies counts.old }
         ensures grows { Grows (C.tallies counts.old) (C.tallies counts.new) }
     {

@@ -1,23 +1,22 @@
-use Rattle.std.proofs.Common.{List, ℕ, length, refl, sym, ap, subst, arith}
+use Rattle.std.proofs.Common.{List, ℕ, ◌++◌, length, refl, sym, ap, subst, arith}
 use Rattle.std.specs.Prelude.{Option}
 use Rattle.std.specs.Str.{IsUtf8}
 use Rattle.token_model.specs.Kinds.{Tok}
-use Rattle.ml_lexer.specs.Reached.{end_of, reach_of, FirstReached}
-use Rattle.ml_lexer.specs.Steady.{steady, AllTokens}
-use Rattle.token_store.specs.Stored.{IsFront}
-use Rattle.kept_text.specs.Keeping.{AreTokens, IsKept, IsParsedUpTo}
-use Rattle.kept_text.proofs.Keeps.{few_tokens, grows_lexed, grows_on, kept_read, kept_whole, toks_are}
+use Rattle.ml_lexer.specs.Reached.{end_of, FirstReached}
+use Rattle.ml_lexer.specs.Steady.{AllTokens}
+use Rattle.kept_text.specs.Keeping.{AreLeft, AreTokens, IsKept, IsParsedUpTo}
+use Rattle.kept_text.proofs.Keeps.{few_tokens, grows_lexed, grows_on, kept_read, kept_whole, toks_are, work_done}
 use Rattle.kept_text.proofs.kept.KeptText.refresh.Goals as goal
 
 pub read_again-requires : goal.read_again-requires
 read_again-requires g c =
     let was = c.self.inside in
     let text = c.slices.ensures.text in
-    let front = subst (λ (o : Option ℕ). AreTokens was.text o was.tokens.tokens) c.in-Some.is c.self.invariant.lexed in
+    let left = subst (λ (o : Option ℕ). AreTokens was.text o was.tokens.tokens) c.in-Some.is c.self.invariant.lexed in
     record {
       short = omega (arith, ap (λ (l : List ℕ). length l) text, c.slices.ensures.short);
       text = subst (λ (l : List ℕ). IsUtf8 l) (sym text) c.slices.ensures.utf8;
-      front = subst (λ (l : List ℕ). IsFront FirstReached end_of l 0 (steady reach_of c.in-Some.from was.tokens.tokens)) (sym text) front;
+      left = subst (λ (l : List ℕ). AreLeft l c.in-Some.from was.tokens.tokens) (sym text) left;
     }
 
 pub parse_again-requires : goal.parse_again-requires
@@ -34,18 +33,18 @@ pub invariant_of-self : goal.invariant_of-self
 invariant_of-self g c =
     let was = c.self.inside in
     let ts = c.read_again.new.tokens.tokens in
-    let front = subst (λ (l : List ℕ). IsFront FirstReached end_of l 0 (steady reach_of c.in-Some.from ts)) c.slices.ensures.text c.read_again.ensures.front in
+    let left = subst (λ (l : List ℕ). AreLeft l c.in-Some.from ts) c.slices.ensures.text c.read_again.ensures.left in
     subst (λ (o : Option ℕ). IsKept was.text ts was.parse o c.read_again.new.same) (sym c.in-Some.is)
-    (kept_read was.text ts was.parse c.in-Some.from c.read_again.new.same front (c.read_again.ensures.same was.parse c.self.invariant.parsed))
+    (kept_read was.text ts was.parse c.in-Some.from c.read_again.new.same left (c.read_again.ensures.same was.parse c.self.invariant.parsed))
 
 pub invariant_of-self-in_err-parse_again : goal.invariant_of-self-in_err-parse_again
 invariant_of-self-in_err-parse_again g c =
     let was = c.self.inside in
     let ts = c.read_again.new.tokens.tokens in
     let parse = c.parse_again.new.parse in
-    let front = subst (λ (l : List ℕ). IsFront FirstReached end_of l 0 (steady reach_of c.in-Some.from ts)) c.slices.ensures.text c.read_again.ensures.front in
+    let left = subst (λ (l : List ℕ). AreLeft l c.in-Some.from ts) c.slices.ensures.text c.read_again.ensures.left in
     let known = subst (λ (l : List Tok). IsParsedUpTo c.read_again.new.same l parse) (toks_are c.tokens-tokens.result.now ts c.tokens-tokens.ensures) c.parse_again.ensures.parsed in
-    subst (λ (o : Option ℕ). IsKept was.text ts parse o c.read_again.new.same) (sym c.in-Some.is) (kept_read was.text ts parse c.in-Some.from c.read_again.new.same front known)
+    subst (λ (o : Option ℕ). IsKept was.text ts parse o c.read_again.new.same) (sym c.in-Some.is) (kept_read was.text ts parse c.in-Some.from c.read_again.new.same left known)
 
 pub invariant_of-self-2 : goal.invariant_of-self-2
 invariant_of-self-2 g c =
@@ -67,3 +66,18 @@ pub returns-clause-grows : goal.returns-clause-grows
 returns-clause-grows g c =
     grows_on (g.C.Counts.tallies c.args.counts.now) (g.C.Counts.tallies c.read_again.new.counts) (g.C.Counts.tallies c.parse_again.new.counts)
     (grows_lexed (g.C.Counts.tallies c.args.counts.now) (g.C.Counts.tallies c.read_again.new.counts) c.read_again.ensures.work.0 c.read_again.ensures.work.1) c.parse_again.ensures.grows
+
+pub returns-in_err-read_again-clause-work : goal.returns-in_err-read_again-clause-work
+returns-in_err-read_again-clause-work g c =
+    let (n, counted, few) = c.read_again.ensures.work in
+    work_done _ c.args.self.now (c.slices.result.0.now ++ c.slices.result.1.now) c.in-Some.from n (g.C.Counts.tallies c.args.counts.now) (g.C.Counts.tallies c.read_again.new.counts) (g.C.Counts.tallies c.read_again.new.counts) c.self.view_is c.in-Some.is c.slices.ensures.text counted few refl
+
+pub returns-in_err-parse_again-clause-work : goal.returns-in_err-parse_again-clause-work
+returns-in_err-parse_again-clause-work g c =
+    let (n, counted, few) = c.read_again.ensures.work in
+    work_done _ c.args.self.now (c.slices.result.0.now ++ c.slices.result.1.now) c.in-Some.from n (g.C.Counts.tallies c.args.counts.now) (g.C.Counts.tallies c.read_again.new.counts) (g.C.Counts.tallies c.parse_again.new.counts) c.self.view_is c.in-Some.is c.slices.ensures.text counted few c.parse_again.ensures.unlexed
+
+pub returns-clause-work : goal.returns-clause-work
+returns-clause-work g c =
+    let (n, counted, few) = c.read_again.ensures.work in
+    work_done _ c.args.self.now (c.slices.result.0.now ++ c.slices.result.1.now) c.in-Some.from n (g.C.Counts.tallies c.args.counts.now) (g.C.Counts.tallies c.read_again.new.counts) (g.C.Counts.tallies c.parse_again.new.counts) c.self.view_is c.in-Some.is c.slices.ensures.text counted few c.parse_again.ensures.unlexed
