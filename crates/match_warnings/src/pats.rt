@@ -1,6 +1,6 @@
 //! Patterns of the tree as rows of a match see them.
 use env_table::{Constructor, Declaration, Entry, Found, Kind, Label, Path, Place, Shape, What};
-use owned_lists::{owned, push};
+use owned_lists::{owned, push, shared};
 use pattern_matrix::{Built, Pat};
 use row_parts::{
     Operand, WrittenPath, first_operand, operand_in, operands, operands_of, token, written_path,
@@ -57,11 +57,38 @@ fn cell(alloc: Global, head: Pat, tail: Pat) -> Result<Pat, NoMemory> {
     built_in(alloc, &[("[]", 0), ("::", 2)], "::", parts)
 }
 
-/// All constructors of a declaration, by which a match is told to be whole.
+/// A type that patterns of a match were of: the path of its origin, and all its constructors.
+#[derive(Drop)]
+pub struct SeenType {
+    path: Vec<u64>,
+    all: Rc<Vec<Built>>,
+}
+
+/// All constructors of a declaration, by which a match is known to be whole. Where the declaration makes an origin, patterns of the
+/// same origin share one list.
 fn constructors_of(
     alloc: Global,
+    declaration: &Declaration,
     constructors: &[Constructor],
+    seen: &mut Vec<SeenType>,
 ) -> Result<Rc<Vec<Built>>, NoMemory> {
+    let Some(origin) = &declaration.origin else {
+        return listed(alloc, constructors);
+    };
+    if let Some(known) = seen.iter().find(|known| known.path == origin.path) {
+        return shared(&known.all);
+    }
+    let all = listed(alloc, constructors)?;
+    let one = SeenType {
+        path: origin.path.clone()?,
+        all: shared(&all)?,
+    };
+    push(seen, one)?;
+    Ok(all)
+}
+
+/// The constructors, each with how many parts it has.
+fn listed(alloc: Global, constructors: &[Constructor]) -> Result<Rc<Vec<Built>>, NoMemory> {
     let mut all = Vec::new(alloc);
     for constructor in constructors {
         let parts = if constructor.has_argument { 1 } else { 0 };
@@ -99,6 +126,7 @@ fn constructor(
     path: &WrittenPath<'_>,
     last: &Token,
     parts: Vec<Pat>,
+    seen: &mut Vec<SeenType>,
 ) -> Result<Option<Pat>, NoMemory> {
     let alloc = at.alloc();
     let named = path_of(alloc, path, last)?;
@@ -114,7 +142,7 @@ fn constructor(
     };
     match &declaration.shape {
         Shape::Variant(constructors) if !is_of_unknown_type(declaration) => Ok(Some(Pat::Con {
-            all: constructors_of(alloc, constructors)?,
+            all: constructors_of(alloc, declaration, constructors, seen)?,
             name: last.name.share()?,
             parts,
         })),
@@ -159,22 +187,40 @@ const MOST_NODES: u32 = 10_000;
 
 /// The pattern of a row, as rows of a match see it. None where no warning may be given of its match: where a part is missing, and
 /// where a constructor, a label or a record is of a module or re-exports a type that isn't known. Want of memory where it has over
-/// 10,000 nodes.
+/// 10,000 nodes. `seen` has the types of the rows before, and then those of this one too.
 pub fn row_pat(
     at: &Parts,
     p: Operand<'_>,
     env: &Env,
     depth: Depth,
+    seen: &mut Vec<SeenType>,
 ) -> Result<Option<Pat>, NoMemory> {
     match p.node {
         Some(node) if node.size > MOST_NODES => Err(AllocError),
-        _ => pat_of(at, p, env, depth),
+        _ => pat_of(at, p, env, depth, seen),
     }
+}
+
+/// The same of a pattern by itself.
+pub fn lone_pat(
+    at: &Parts,
+    p: Operand<'_>,
+    env: &Env,
+    depth: Depth,
+) -> Result<Option<Pat>, NoMemory> {
+    let mut seen = Vec::new(at.alloc());
+    row_pat(at, p, env, depth, &mut seen)
 }
 
 /// The same of a pattern or a part of one.
 #[cycle(pats)]
-fn pat_of(at: &Parts, p: Operand<'_>, env: &Env, depth: Depth) -> Result<Option<Pat>, NoMemory> {
+fn pat_of(
+    at: &Parts,
+    p: Operand<'_>,
+    env: &Env,
+    depth: Depth,
+    seen: &mut Vec<SeenType>,
+) -> Result<Option<Pat>, NoMemory> {
     let Some(node) = p.node else {
         return Ok(None);
     };
@@ -186,14 +232,14 @@ fn pat_of(at: &Parts, p: Operand<'_>, env: &Env, depth: Depth) -> Result<Option<
             None => Ok(None),
         },
         RowName::Pneg => negative(at.alloc(), node),
-        RowName::Precord => record(at, node, p.number, env, depth),
+        RowName::Precord => record(at, node, p.number, env, depth, seen),
         RowName::Pcon => {
             let path = written_path(at.alloc(), node, 0, 1)?;
-            named(at, env, &path, Vec::new(at.alloc()))
+            named(at, env, &path, Vec::new(at.alloc()), seen)
         }
-        _ => match pats_of(at, node, p.number, env, depth)? {
+        _ => match pats_of(at, node, p.number, env, depth, seen)? {
             None => Ok(None),
-            Some(parts) => over(at, node, p.number, env, parts),
+            Some(parts) => over(at, node, p.number, env, parts, seen),
         },
     }
 }
@@ -204,9 +250,10 @@ fn named(
     env: &Env,
     path: &WrittenPath<'_>,
     parts: Vec<Pat>,
+    seen: &mut Vec<SeenType>,
 ) -> Result<Option<Pat>, NoMemory> {
     match path.last {
-        Some(last) => constructor(at, env, path, last, parts),
+        Some(last) => constructor(at, env, path, last, parts, seen),
         None => Ok(None),
     }
 }
@@ -231,6 +278,7 @@ fn pats_of(
     number: u32,
     env: &Env,
     depth: Depth,
+    seen: &mut Vec<SeenType>,
 ) -> Result<Option<Vec<Pat>>, NoMemory> {
     let operands = match node.row {
         RowName::Pparen | RowName::Plist | RowName::Papp => {
@@ -240,7 +288,7 @@ fn pats_of(
     };
     let mut pats = Vec::new(at.alloc());
     for operand in operands {
-        match pat_of(at, operand, env, depth.inside()?)? {
+        match pat_of(at, operand, env, depth.inside()?, seen)? {
             Some(pat) => push(&mut pats, pat)?,
             None => return Ok(None),
         }
@@ -255,6 +303,7 @@ fn over(
     number: u32,
     env: &Env,
     parts: Vec<Pat>,
+    seen: &mut Vec<SeenType>,
 ) -> Result<Option<Pat>, NoMemory> {
     match node.row {
         RowName::Plist => Ok(Some(list(at.alloc(), parts)?)),
@@ -263,7 +312,7 @@ fn over(
         RowName::Papp => match operand_in(node, number, 0).node {
             Some(head) => {
                 let path = written_path(at.alloc(), head, 0, 1)?;
-                named(at, env, &path, parts)
+                named(at, env, &path, parts, seen)
             }
             None => Ok(None),
         },
@@ -326,6 +375,7 @@ fn record(
     number: u32,
     env: &Env,
     depth: Depth,
+    seen: &mut Vec<SeenType>,
 ) -> Result<Option<Pat>, NoMemory> {
     let mut paths = Vec::new(at.alloc());
     let Some(fields) = fields_of(at, node, number, &mut paths)? else {
@@ -345,7 +395,7 @@ fn record(
         };
         let part = match pattern {
             None => Pat::Any,
-            Some(pattern) => match pat_of(at, pattern, env, depth.inside()?)? {
+            Some(pattern) => match pat_of(at, pattern, env, depth.inside()?, seen)? {
                 Some(pat) => pat,
                 None => return Ok(None),
             },

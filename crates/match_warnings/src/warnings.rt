@@ -8,7 +8,7 @@ ghost use Rattle.typing_state.specs.Goes.{Goes};
 ghost use Rattle.typing_steps.specs.Warning.{OnlyWarnings};
 ghost use Rattle.match_warnings.specs.Warnings.{missed_at, missed_in, spans_of, unused_at, unused_cases, warnings_of, WarnsOf};
 
-use crate::pats::row_pat;
+use crate::pats::{SeenType, lone_pat, row_pat};
 use env_table::FaultKind;
 use owned_lists::push;
 use pattern_matrix::{Matrix, Pat, PatRow, missed, print_shape, unused_rows};
@@ -23,6 +23,8 @@ pub struct Rows {
     rows: Vec<PatRow>,
     /// Where each case stands; it has a row at the same place, unless the match is open.
     spans: Vec<Span>,
+    /// The types of the rows' constructors.
+    types: Vec<SeenType>,
     /// Whether a pattern has a missing part, a fault, or a type that isn't known, so that no warning is given. It stays open.
     is_open: bool,
 }
@@ -87,6 +89,7 @@ impl Rows {
         Rows {
             rows: Vec::new(alloc),
             spans: Vec::new(alloc),
+            types: Vec::new(alloc),
             is_open: false,
         }
     }
@@ -109,7 +112,7 @@ impl Rows {
             self.is_open = true;
             return Ok(());
         }
-        match row_pat(at, pattern, env, depth)? {
+        match row_pat(at, pattern, env, depth, &mut self.types)? {
             None => self.is_open = true,
             Some(pat) => {
                 let row = row(at.alloc(), pat, guard.is_some())?;
@@ -196,7 +199,7 @@ pub fn report_pattern(
     if is_plain(pattern) || is_unfinished(pattern) {
         return Ok(());
     }
-    if let Some(pat) = row_pat(at, pattern, env, depth)? {
+    if let Some(pat) = lone_pat(at, pattern, env, depth)? {
         let alloc = at.alloc();
         let mut rows = Vec::new(alloc);
         push(&mut rows, row(alloc, pat, false)?)?;
