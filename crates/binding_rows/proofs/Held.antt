@@ -10,13 +10,14 @@ use Rattle.typing_model.specs.Parts.{Binding}
 use Rattle.type_nodes.specs.Nodes.{Node}
 use Rattle.type_nodes.specs.Readings.{Types}
 use Rattle.level_unify.specs.Solutions.{Loose}
+use Rattle.env_table.specs.declared.entries.Entry.{Entry}
 use Rattle.typing_environments.specs.Standing.{IsIn}
 use Rattle.typing_environments.proofs.Steps.{same_node}
 use Rattle.typing_conditions.specs.Sights.{Sight, Letters, Agrees}
 use Rattle.typing_conditions.specs.Frames.{Frame, IsOpenAt, IsOpen, AreOpen, IsRoot}
 use Rattle.typing_conditions.specs.Meanings.{Means, AllMean, none_mean, one_means, KnowsFixed}
 use Rattle.typing_conditions.specs.Carrying.{Stays}
-use Rattle.typing_conditions.specs.Surroundings.{context_of}
+use Rattle.typing_conditions.specs.Surroundings.{Declared, context_of}
 use Rattle.typing_conditions.proofs.Meaning.{means_on}
 use Rattle.typing_conditions.proofs.Inward.{fixed_nodes}
 use Rattle.typing_conditions.proofs.Closed.{HasHeld, ClosedNames, no_closed, one_closed}
@@ -41,12 +42,12 @@ bound_means : {F : Frame} {a : Sight} {G : Letters} {bs : List Bound} {ns : List
 bound_means none_bound = record { types = []; mean = none_mean }
 bound_means (one_bound {x = x} h hs) = let more = bound_means hs in record { types = (λ ch. x.has_type (context_of ch)) ∷ more.types; mean = one_means h.means more.mean }
 
-limited_more : {F : Frame} {a : Sight} {G : Letters} {x : Binding} {y : ToClose} {ms : List ℕ} (v : Bool) → IsToClose F a G x y → HaveTypes F a G ms → HaveTypes F a G (if v then ms else y.right ∷ bind_nodes y.names ++ ms)
+limited_more : {D : Declared} {env : List Entry} {F : Frame} {a : Sight} {G : Letters} {x : Binding} {y : ToClose} {ms : List ℕ} (v : Bool) → IsToClose D env F a G x y → HaveTypes F a G ms → HaveTypes F a G (if v then ms else y.right ∷ bind_nodes y.names ++ ms)
 limited_more true h more = more
 limited_more {x = x} false h more = let names = bound_means h.names in record { types = (λ ch. ch.type_at x.body.node) ∷ names.types ++ more.types; mean = one_means h.right (means_both names.mean more.mean) }
 
 -- the nodes that are limited have types
-pub limited_means : {F : Frame} {a : Sight} {G : Letters} {xs : List Binding} {ys : List ToClose} → AllToClose F a G xs ys → HaveTypes F a G (limited_nodes ys)
+pub limited_means : {D : Declared} {env : List Entry} {F : Frame} {a : Sight} {G : Letters} {xs : List Binding} {ys : List ToClose} → AllToClose D env F a G xs ys → HaveTypes F a G (limited_nodes ys)
 limited_means none_to_close = record { types = []; mean = none_mean }
 limited_means (one_to_close {y = y} h hs) = limited_more y.general h (limited_means hs)
 
@@ -59,23 +60,23 @@ bound_types : {F : Frame} {a : Sight} {G : Letters} {bs : List Bound} {ns : List
 bound_types none_bound V ch loose g = refl
 bound_types (one_bound h hs) V ch loose g = (λ i. sym (h.means.is V ch loose g) i ∷ bound_types hs V ch loose g i)
 
-held_more : {F : Frame} {a : Sight} {G : Letters} {x : Binding} {y : ToClose} (ms : List ℕ) (ts : List Typ) (v : Bool) → IsToClose F a G x y → (V : Types) (ch : Choice) → Loose a.nodes V → Agrees F.owner a G V ch → map V ms ≡ ts →
+held_more : {D : Declared} {env : List Entry} {F : Frame} {a : Sight} {G : Letters} {x : Binding} {y : ToClose} (ms : List ℕ) (ts : List Typ) (v : Bool) → IsToClose D env F a G x y → (V : Types) (ch : Choice) → Loose a.nodes V → Agrees F.owner a G V ch → map V ms ≡ ts →
     map V (if v then ms else y.right ∷ bind_nodes y.names ++ ms) ≡ (if v then ts else ch.type_at x.body.node ∷ map (λ (n : Bound). n.has_type (context_of ch)) x.pattern.names ++ ts)
 held_more ms ts true h V ch loose g e = e
 held_more {y = y} ms ts false h V ch loose g e = (λ i. sym (h.right.is V ch loose g) i ∷ (map_both V (bind_nodes y.names) ms ∙ (λ j. bound_types h.names V ch loose g j ++ e j)) i)
 
 -- the nodes that are limited have the types that the definitions hold
-pub held_same : {F : Frame} {a : Sight} {G : Letters} {xs : List Binding} {ys : List ToClose} → AllToClose F a G xs ys → (V : Types) (ch : Choice) → Loose a.nodes V → Agrees F.owner a G V ch → map V (limited_nodes ys) ≡ held_at ch xs ys
+pub held_same : {D : Declared} {env : List Entry} {F : Frame} {a : Sight} {G : Letters} {xs : List Binding} {ys : List ToClose} → AllToClose D env F a G xs ys → (V : Types) (ch : Choice) → Loose a.nodes V → Agrees F.owner a G V ch → map V (limited_nodes ys) ≡ held_at ch xs ys
 held_same none_to_close V ch loose g = refl
 held_same (one_to_close {xs = xs} {y = y} {ys = ys} h hs) V ch loose g = held_more (limited_nodes ys) (held_at ch xs ys) y.general h V ch loose g (held_same hs V ch loose g)
 
 -- bindings that are to be closed still are after a call
-pub to_close_on : {F : Frame} {a b : Sight} {G H : Letters} {xs : List Binding} {ys : List ToClose} → Stays F a G b H → AllToClose F a G xs ys → AllToClose F b H xs ys
+pub to_close_on : {D : Declared} {env : List Entry} {F : Frame} {a b : Sight} {G H : Letters} {xs : List Binding} {ys : List ToClose} → Stays F a G b H → AllToClose D env F a G xs ys → AllToClose D env F b H xs ys
 to_close_on s none_to_close = none_to_close
 to_close_on s (one_to_close h hs) = one_to_close (record { names = all_bound_on s h.names; right = means_on s h.right; decides = h.decides }) (to_close_on s hs)
 
 -- all names of the bindings are bound
-pub all_names_bound : {F : Frame} {a : Sight} {G : Letters} {xs : List Binding} {ys : List ToClose} → AllToClose F a G xs ys → AllBound F a G (names_of_group xs) (names_closed ys)
+pub all_names_bound : {D : Declared} {env : List Entry} {F : Frame} {a : Sight} {G : Letters} {xs : List Binding} {ys : List ToClose} → AllToClose D env F a G xs ys → AllBound F a G (names_of_group xs) (names_closed ys)
 all_names_bound none_to_close = none_bound
 all_names_bound (one_to_close h hs) = all_bound_both h.names (all_names_bound hs)
 

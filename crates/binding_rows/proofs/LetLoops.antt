@@ -1,7 +1,6 @@
 -- The loops that close a group, binding by binding.
 use Rattle.std.proofs.Common.{◌≡◌, ◌∙◌, ◌-◌, ℕ, true, false, if◌then◌else◌, List, [], ◌∷◌, ◌++◌, refl, sym, ap, subst, append_assoc, append-nil}
 use Rattle.env_table.specs.declared.entries.Entry.{Entry}
-use Rattle.typing_model.specs.Parts.{Binding}
 use Rattle.type_nodes.specs.Nodes.{IsSound}
 use Rattle.typing_state.specs.declared.parts.Parts.{Parts}
 use Rattle.pattern_rows.specs.Bounds.{Bind}
@@ -9,7 +8,7 @@ use Rattle.case_rows.specs.Scopes.{names_added}
 use Rattle.case_rows.proofs.Scopes.{names_both}
 use Rattle.binding_rows.specs.Closing.{LimitsNodes, GeneralisesAll}
 use Rattle.binding_rows.specs.Lets.{ToClose, bind_nodes, names_closed, limited_nodes}
-use Rattle.binding_rows.specs.LetNodes.{Decides, AllDecide, none_decide, one_decides, ClosesBindings, LimitsFirst, GeneralisesFirst}
+use Rattle.binding_rows.specs.LetNodes.{ClosesBindings, LimitsFirst, GeneralisesFirst}
 use Rattle.binding_rows.proofs.LetTurns.{limits_none, limits_then, generalises_none, generalises_then}
 
 -- no binding is held yet
@@ -72,8 +71,3 @@ closes_bindings a b c d ys lowered limits names sound = record {
   nodes = limits.nodes;
   close = record { lowered = b; lowers = lowered; limited = c; limits_all = limits.all; generalises_all = names; sound = sound };
 }
-
--- bindings whose verdicts are those of the definitions, and then one more
-pub all_decide_more : {xs : List Binding} {ys : List ToClose} (x : Binding) (y : ToClose) → AllDecide xs ys → Decides x y.general → AllDecide (xs ++ x ∷ []) (ys ++ y ∷ [])
-all_decide_more x y none_decide h = one_decides h none_decide
-all_decide_more x y (one_decides p ps) h = one_decides p (all_decide_more x y ps h)

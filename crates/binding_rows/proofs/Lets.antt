@@ -37,13 +37,16 @@ use Rattle.typing_conditions.proofs.Inward.{fixed_nodes, agrees_as, surrounds_in
 use Rattle.typing_conditions.proofs.Meaning.{all_open, open_unbound}
 use Rattle.typing_conditions.proofs.Outward.{GoesOut, GroupTyped, inner_reached, open_outward, carried_out}
 use Rattle.typing_conditions.proofs.Recording.{ends_same}
+use Rattle.typing_conditions.proofs.Stays.{agrees_before, named_before}
 use Rattle.typing_conditions.proofs.Surrounding.{surrounds_on}
 use Rattle.typing_steps.specs.States.{is_aloud, sight}
 use Rattle.typing_steps.specs.Typing.{RowCarried, TypesTo, TypesRow}
 use Rattle.pattern_rows.specs.Bounds.{Bind, AllBound, none_bound, one_bound}
 use Rattle.binding_rows.specs.Closing.{limit_nodes, Limit, limit_variables, ClosesGroup}
+use Rattle.binding_rows.specs.Decided.{IsAmong}
 use Rattle.binding_rows.specs.Lets.{ToClose, AllToClose, none_to_close, one_to_close, bind_nodes, bind_entries, names_closed, limited_nodes, held_at, held_types, written_nodes, together, held_from, GroupToClose}
 use Rattle.binding_rows.specs.LetGroups.{LetGroup, TypesToClose}
+use Rattle.binding_rows.proofs.Alike.{carried_alike}
 use Rattle.binding_rows.proofs.Limits.{LimitsCarried}
 use Rattle.binding_rows.proofs.Closing.{limited_state, limits_asked, closed_out}
 use Rattle.binding_rows.proofs.Held.{limited_means, held_same, to_close_on, all_names_bound, bound_open, closed_names, limit_shares, limited_open, open_root, fixed_held, fixed_roots, named_occurs, named_none, nodes_none, occurs_first, occurs_second, occurs_neither, written_there, there_written}
@@ -95,9 +98,9 @@ names_chosen none_bound c = refl
 names_chosen (one_bound h hs) c = (λ i. h.chosen c i ∷ names_chosen hs c i)
 
 -- the definitions hold the types of the nodes that are limited
-held_chosen : {F : Frame} {a : Sight} {G : Letters} {xs : List Binding} {ys : List ToClose} → AllToClose F a G xs ys → (c : Context) → held_by c xs ≡ held_at c.chosen xs ys
-held_chosen none_to_close c = refl
-held_chosen (one_to_close {x = x} h hs) c = (λ i. if h.decides c i then held_chosen hs c i else c.chosen.type_at x.body.node ∷ names_chosen h.names c i ++ held_chosen hs c i)
+held_chosen : {D : Declared} {env : List Entry} {F : Frame} {a : Sight} {G : Letters} {xs : List Binding} {ys : List ToClose} → AllToClose D env F a G xs ys → (c : Context) → IsAmong D env c → held_by c xs ≡ held_at c.chosen xs ys
+held_chosen none_to_close c among = refl
+held_chosen (one_to_close {x = x} h hs) c among = (λ i. if h.decides c among i then held_chosen hs c among i else c.chosen.type_at x.body.node ∷ names_chosen h.names c i ++ held_chosen hs c among i)
 
 -- the entries of names are the same for the same schemes
 entries_same : {F : Frame} {a : Sight} {G : Letters} {bs : List Bound} {ns : List Bind} → AllBound F a G bs ns → (c : Context) (s s' : Typ → Scheme) (E E' : Environment) → s ≡ s' → E ≡ E' → entries_with s c bs E ≡ entries_with s' (context_of c.chosen) bs E'
@@ -154,7 +157,7 @@ module _ {D : Declared} {F : Frame} {scope : Scope} {asks : Asks} {x y : Sight} 
       (λ k m e. of_second l.at.roots (fixed_nodes x.fixed) (written_nodes x.written l.at.written.names) m (k, e))
 
   -- the group, typed in that frame
-  pub group : GroupToClose further scope asks y G (sight a) xs ys
+  pub group : GroupToClose D env further scope asks y G (sight a) xs ys
   group = l.group further surrounds_group
 
   -- the letters after the group
@@ -169,7 +172,7 @@ module _ {D : Declared} {F : Frame} {scope : Scope} {asks : Asks} {x y : Sight} 
       let h = limited_means group.typed in
       limits_asked l.close F.level level l.free refl (λ v i. subst (λ ns. IsIn ns v) (sym (held_here F.level (limit_variables limits) F.held)) i) (subst (AllMean further (sight a) letters h.types) (sym l.nodes) h.mean)
 
-  typed : AllToClose further (limited_state l.close) letters xs ys
+  typed : AllToClose D env further (limited_state l.close) letters xs ys
   typed = to_close_on limits_done.carried.stays group.typed
 
   bound : AllBound further (limited_state l.close) letters (names_of_group xs) (names_closed ys)
@@ -251,9 +254,24 @@ module _ {D : Declared} {F : Frame} {scope : Scope} {asks : Asks} {x y : Sight} 
   pub surrounds_body : Surrounds D F (sight d) letters (added (bind_entries (names_closed ys)) env) (with_closed (names_of_group xs) types scope)
   surrounds_body = surrounds_closed group_typed rest (closed_names names refl loose_before agrees_there bound (λ m i. i))
 
-  -- the context of the body is one of theirs
-  body_under : (c : Context) → IsUnder scope c → IsUnder (with_closed (names_of_group xs) types scope) (within_let c xs)
-  body_under c u = record {
+  -- a context of the scope after the close is one among the names around the group
+  among : (V : Types) (c : Context) → Loose d.store.nodes V → IsUnder scope c → Agrees F.owner (sight d) letters V c.chosen → HoldsWritten scope (sight d) → IsAmong D env c
+  among V c loose u g named = record {
+    state = x;
+    frame = F;
+    scope = scope;
+    letters = G;
+    types = V;
+    at = l.at;
+    loose = group_closed.stays.loose V loose;
+    under = u;
+    agrees = agrees_before group_closed.stays g;
+    named = named_before scope group_closed.stays named;
+  }
+
+  -- so that of the body is one of the scope with the names
+  body_under : (V : Types) (c : Context) → Loose d.store.nodes V → IsUnder scope c → Agrees F.owner (sight d) letters V c.chosen → HoldsWritten scope (sight d) → IsUnder (with_closed (names_of_group xs) types scope) (within_let c xs)
+  body_under V c loose u g named = record {
     env = entries_same bound c (generalised_in c.env (types_written c c.variables ++ held_by c xs)) (generalised_in (scope.env c.chosen) (types c.chosen)) c.env (scope.env c.chosen) (λ i. generalised_in (u.env i) (held i)) u.env;
     variables = u.variables;
     held = u.held;
@@ -263,12 +281,22 @@ module _ {D : Declared} {F : Frame} {scope : Scope} {asks : Asks} {x y : Sight} 
       written = ap (types_written c) (u.variables ∙ l.at.item) ∙ ap (map (c.chosen.written F.owner)) u.held
 
       held : types_written c c.variables ++ held_by c xs ≡ types c.chosen
-      held = (λ i. written i ++ held_chosen typed c i)
+      held = (λ i. written i ++ held_chosen typed c (among V c loose u g named) i)
+
+  -- the context of the body, by what is chosen
+  abbrev body_context : Context → Context
+  body_context c = record c { env = (with_closed (names_of_group xs) types scope).env c.chosen; variables = scope.variables; held = scope.held }
 
   -- The group, its close, and the body among its names.
   pub let_closed : {body_asks : Asks} {f : Sight} {type : Choice → Typ} {m : ℕ} → (Surrounds D F (sight d) letters (added (bind_entries (names_closed ys)) env) (with_closed (names_of_group xs) types scope) →
       CarriedTo F (with_closed (names_of_group xs) types scope) body_asks (sight d) letters f letters type m) → CarriedTo F scope (λ c. asks c ++ body_asks (within_let c xs)) x G f letters type m
-  let_closed body = let r = body surrounds_body in then_to group_closed (record { carried = carried_under (λ c. within_let c xs) refl (λ c. (refl, refl)) body_under r.carried; means = r.means })
+  let_closed {body_asks} body =
+      let r = body surrounds_body in
+      then_to group_closed (record {
+        carried = carried_alike (λ V c loose u g named. let h = body_under V c loose u g named in ap body_asks (λ i. record c { env = sym h.env i; variables = sym h.variables i; held = sym h.held i }))
+            (carried_under body_context refl (λ c. (refl, refl)) (λ c u. record { env = refl; variables = refl; held = refl }) r.carried);
+        means = r.means;
+      })
 
 -- The row of a `let` with a body: what its group and its body ask is carried, and its type is that of the body.
 pub let_typed : {D : Declared} {F : Frame} {scope : Scope} {x y : Sight} {G : Letters} {a d : Parts} {f : Sight} {env : List Entry} {xs : List Binding} {ys : List ToClose} {limits : List Limit} {m : ℕ} (n : ℕ) (at : Place) (is_rec : Bool) (e : Expression)

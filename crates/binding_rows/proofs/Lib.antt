@@ -11,6 +11,7 @@ pub mod Nodes
 pub mod Verdicts
 pub mod Valued
 pub mod Limits
+pub mod Alike
 pub mod Generalising
 pub mod LetTurns
 pub mod Closing

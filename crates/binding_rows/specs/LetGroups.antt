@@ -23,8 +23,8 @@ pub record LetGroup (D : Declared) (F : Frame) (scope : Scope) (asks : Asks) (x 
   pub free : suc F.level < bound_level
   pub nodes : limit_nodes limits ≡ limited_nodes ys
   pub close : ClosesGroup a d limits (bind_nodes (names_closed ys))
-  pub group : (I : Frame) → Surrounds D I y G env scope → GroupToClose I scope asks y G (sight a) xs ys
+  pub group : (I : Frame) → Surrounds D I y G env scope → GroupToClose D env I scope asks y G (sight a) xs ys
 
 -- Where faults are reported, a call types a group, whatever the frame, the names in scope and the letters around it.
 abbrev pub TypesToClose : (a b : Parts) → List Entry → Asks → List Binding → List ToClose → Type 0
-TypesToClose a b env asks xs ys = is_aloud a.telling ≡ true → (F : Frame) (scope : Scope) (G : Letters) → Surrounds as_declared F (sight a) G env scope → GroupToClose F scope asks (sight a) G (sight b) xs ys
+TypesToClose a b env asks xs ys = is_aloud a.telling ≡ true → (F : Frame) (scope : Scope) (G : Letters) → Surrounds as_declared F (sight a) G env scope → GroupToClose as_declared env F scope asks (sight a) G (sight b) xs ys

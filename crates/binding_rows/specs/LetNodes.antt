@@ -1,8 +1,5 @@
 -- The row of a `let` by its node, in the words of the calls that type and close its group.
-use Rattle.std.specs.Prelude.{◌≡◌, ◌++◌, ℕ, Bool, List, [], ◌∷◌}
-use Rattle.typing_model.specs.Contexts.{Context}
-use Rattle.typing_model.specs.Parts.{Binding}
-use Rattle.typing_model.specs.Bindings.{generalises}
+use Rattle.std.specs.Prelude.{◌≡◌, ◌++◌, ℕ, List}
 use Rattle.env_table.specs.declared.entries.Entry.{Entry}
 use Rattle.typing_state.specs.declared.parts.Parts.{Parts}
 use Rattle.case_rows.specs.Scopes.{names_added}
@@ -13,15 +10,6 @@ use Rattle.binding_rows.specs.Lets.{ToClose, bind_nodes, names_closed, limited_n
 -- a binding that is to be closed, as it was typed
 abbrev pub typed_as : ToClose → TypedBinding
 typed_as y = record { names = y.names; right = y.right }
-
--- the names of a binding are generalised where the definitions generalise them, in each context
-abbrev pub Decides : Binding → Bool → Type 0
-Decides x v = (c : Context) → generalises c x ≡ v
-
--- so are those of bindings, one by one and in order
-pub data AllDecide : List Binding → List ToClose → Type 0 where
-  none_decide : AllDecide [] []
-  one_decides : {x : Binding} {xs : List Binding} {y : ToClose} {ys : List ToClose} → Decides x y.general → AllDecide xs ys → AllDecide (x ∷ xs) (y ∷ ys)
 
 -- a group of bindings is closed
 pub record ClosesBindings (a d : Parts) (ys : List ToClose) : Type 0 where

@@ -10,8 +10,9 @@ use Rattle.typing_conditions.specs.Sights.{Sight, Letters}
 use Rattle.typing_conditions.specs.Frames.{Frame}
 use Rattle.typing_conditions.specs.Meanings.{Means}
 use Rattle.typing_conditions.specs.Carrying.{Asks, Scope, Carried}
-use Rattle.typing_conditions.specs.Surroundings.{context_of}
+use Rattle.typing_conditions.specs.Surroundings.{Declared, context_of}
 use Rattle.pattern_rows.specs.Bounds.{Bind, AllBound}
+use Rattle.binding_rows.specs.Decided.{IsAmong}
 
 -- a binding as the code closes it: its names, the node of its right side, and whether its names are generalised
 pub record ToClose : Type 0 where
@@ -19,16 +20,16 @@ pub record ToClose : Type 0 where
   pub right : ℕ
   pub general : Bool
 
--- it stands for one of the definitions, which generalise its names in the same case
-pub record IsToClose (F : Frame) (b : Sight) (G : Letters) (x : Binding) (y : ToClose) : Type 0 where
+-- it stands for one of the definitions, which generalise its names in the same case in each context among the names around the group
+pub record IsToClose (D : Declared) (env : List Entry) (F : Frame) (b : Sight) (G : Letters) (x : Binding) (y : ToClose) : Type 0 where
   pub names : AllBound F b G x.pattern.names y.names
   pub right : Means F b G (λ ch. ch.type_at x.body.node) y.right
-  pub decides : (c : Context) → generalises c x ≡ y.general
+  pub decides : (c : Context) → IsAmong D env c → generalises c x ≡ y.general
 
 -- bindings stand for others, one by one and in order
-pub data AllToClose (F : Frame) (b : Sight) (G : Letters) : List Binding → List ToClose → Type 0 where
-  none_to_close : AllToClose F b G [] []
-  one_to_close : {x : Binding} {xs : List Binding} {y : ToClose} {ys : List ToClose} → IsToClose F b G x y → AllToClose F b G xs ys → AllToClose F b G (x ∷ xs) (y ∷ ys)
+pub data AllToClose (D : Declared) (env : List Entry) (F : Frame) (b : Sight) (G : Letters) : List Binding → List ToClose → Type 0 where
+  none_to_close : AllToClose D env F b G [] []
+  one_to_close : {x : Binding} {xs : List Binding} {y : ToClose} {ys : List ToClose} → IsToClose D env F b G x y → AllToClose D env F b G xs ys → AllToClose D env F b G (x ∷ xs) (y ∷ ys)
 
 -- the nodes of names
 abbrev pub bind_nodes : List Bind → List ℕ
@@ -74,7 +75,7 @@ abbrev pub held_from : ℕ → List ℕ → (ℕ → List ℕ) → ℕ → List 
 held_from level ns before k = if k == level then ns else before k
 
 -- a group is typed, with letters of its own, where this is asked
-pub record GroupToClose (I : Frame) (scope : Scope) (asks : Asks) (b : Sight) (G : Letters) (c : Sight) (xs : List Binding) (ys : List ToClose) : Type 0 where
+pub record GroupToClose (D : Declared) (env : List Entry) (I : Frame) (scope : Scope) (asks : Asks) (b : Sight) (G : Letters) (c : Sight) (xs : List Binding) (ys : List ToClose) : Type 0 where
   pub own : Letters
   pub carried : Carried I scope asks b G c (own ++ G)
-  pub typed : AllToClose I c (own ++ G) xs ys
+  pub typed : AllToClose D env I c (own ++ G) xs ys

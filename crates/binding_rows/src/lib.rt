@@ -3,5 +3,5 @@
 //! Of a group up to its close: `specs/Rights`, `Groups`, `Carried`, `Operands`, `Decided`; its laws are of a right side (`Rights`), of what stays (`Typed`), of bindings without
 //! `rec` (`Turns`) and with it (`Together`), of the group (`Groups`), of operands and loops (`Terms`, `Operands`, `Loops`, `Nodes`), of what is generalised (`Verdicts`, `Valued`).
 //! Of the close and the row: `specs/Closing`, `Lets`, `LetGroups`, `LetNodes`; laws of limits (`Limits`), generalised types (`Generalising`, `LetTurns`, `LetLoops`), the close
-//! (`Closing`), what is held (`Held`), and the row (`Lets`, `LetNodes`).
+//! (`Closing`), what is held (`Held`), conditions that are the same in each context of a state (`Alike`), and the row (`Lets`, `LetNodes`).
 #![tactic(auto)]

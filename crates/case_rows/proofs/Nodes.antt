@@ -41,7 +41,7 @@ case_part n (inner t) f h = case_node n t f h
 case_part n (missing at) f h = tt
 
 -- cases that are
-all_cases : (os : List Numbered) → All IsCarriedCase os → All IsCase os
+pub all_cases : (os : List Numbered) → All IsCarriedCase os → All IsCase os
 all_cases os all k d lt = let h = all k d lt in case_part _ _ h.formed h.rows
 
 expression_first : (r : Row) → IsMatchRow r → sort_in r 1 ≡ an_expression

@@ -1,21 +1,27 @@
 -- Closing a group of bindings, name by name and binding by binding.
-use Rattle.std.proofs.Common.{◌≡◌, ◌∙◌, ◌++◌, ◌+◌, ◌-◌, ◌<◌, ℕ, Bool, true, false, if◌then◌else◌, List, [], ◌∷◌, length, map, drop, Option, Some, None, refl, sym, ap, subst, append_assoc, append-nil}
+use Rattle.std.proofs.Common.{◌≡◌, ◌∙◌, ◌++◌, ◌+◌, ◌-◌, ◌<◌, ℕ, Bool, true, false, if◌then◌else◌, List, [], ◌∷◌, length, map, drop, refl, sym, ap, subst, append_assoc, append-nil, length-append, arith}
 use Rattle.std.specs.Prelude.{slice_index_or}
-use Rattle.type_nodes.specs.Nodes.{IsSound}
+use Rattle.type_nodes.specs.Nodes.{Node, Var, IsNode, IsSound, bound_level}
+use Rattle.type_nodes.specs.States.{State}
+use Rattle.type_nodes.specs.Changes.{Makes}
 use Rattle.env_table.specs.declared.entries.Entry.{Entry}
 use Rattle.typing_state.specs.declared.parts.Parts.{Parts}
-use Rattle.typing_state.specs.Goes.{Goes}
-use Rattle.typing_state.proofs.Going.{goes_refl}
+use Rattle.typing_state.specs.Goes.{Goes, OnlyStore}
+use Rattle.typing_state.specs.Types.{level_for, MadeOne}
+use Rattle.typing_state.proofs.Going.{goes_refl, with_store}
 use Rattle.use_typing.proofs.Reading.{drop_read, rest_read}
 use Rattle.pattern_typing.specs.declared.patterns.BoundName.{BoundName}
 use Rattle.pattern_typing.specs.Matching.{binds_of}
 use Rattle.case_rows.specs.Scopes.{names_added}
 use Rattle.case_rows.proofs.Scopes.{names_both}
-use Rattle.binding_rows.specs.Closing.{LimitsNodes, GeneralisesAll}
+use Rattle.binding_rows.specs.Closing.{Limit, LimitsNodes, GeneralisesAll}
 use Rattle.binding_rows.specs.Lets.{ToClose, bind_nodes, names_closed, limited_nodes}
 use Rattle.binding_rows.specs.LetNodes.{ClosesBindings, GeneralisesFirst}
-use Rattle.binding_rows.proofs.LetTurns.{limits_none, limits_then, generalises_none, generalises_then}
+use Rattle.binding_rows.proofs.Generalising.{generalised_rest, limited_rest}
+use Rattle.binding_rows.proofs.LetTurns.{limits_none, limits_then}
 use Rattle.binding_rows.proofs.LetLoops.{generalises_start, generalises_more, generalises_end, closes_bindings}
+use Rattle.item_rows.specs.Scopes.{InsideAll, InsideNodes}
+use Rattle.item_rows.proofs.Turns.{inside_one}
 use Rattle.core_typing.specs.declared.bindings.Bound.{Bound}
 use Rattle.core_typing.specs.Bindings.{closing_of, name_nodes}
 
@@ -31,58 +37,31 @@ mapped_more {A} f xs new x grown = ap (map f) grown ∙ by xs
     by [] = refl
     by (y ∷ ys) = ap (λ zs. f y ∷ zs) (by ys)
 
--- the types of the first of some names are limited, and those of others are left
-pub record NamesLimited (a b : Parts) (level : ℕ) (left all : List ℕ) : Type 0 where
+-- something was done with the types of the first of some names, and those of others are left
+pub record NamesDone (R : List ℕ → Type 0) (left all : List ℕ) : Type 0 where
   pub done : List ℕ
-  pub limits : LimitsNodes a b level done
+  pub does : R done
   pub splits : done ++ left ≡ all
 
--- none is limited yet
-pub names_unlimited : (a : Parts) (level : ℕ) (all : List ℕ) → NamesLimited a a level all all
-names_unlimited a level all = record { done = []; limits = limits_none a level; splits = refl }
+-- nothing was done yet
+pub names_begun : {R : List ℕ → Type 0} (all : List ℕ) → R [] → NamesDone R all all
+names_begun all none = record { done = []; does = none; splits = refl }
 
 -- one name more
-pub name_limited : (a b d : Parts) (level : ℕ) (left rest all : List ℕ) (m : ℕ) → left ≡ m ∷ rest → NamesLimited a b level left all → LimitsNodes b d level (m ∷ []) → NamesLimited a d level rest all
-name_limited a b d level left rest all m split first next = record {
+pub name_done : {R R' : List ℕ → Type 0} (left rest all : List ℕ) (m : ℕ) → left ≡ m ∷ rest → NamesDone R left all → ((ms : List ℕ) → R ms → R' (ms ++ m ∷ [])) → NamesDone R' rest all
+name_done left rest all m split first more = record {
   done = first.done ++ m ∷ [];
-  limits = limits_then first.limits next;
+  does = more first.done first.does;
   splits = append_assoc first.done (m ∷ []) rest ∙ ap (λ ns. first.done ++ ns) (sym split) ∙ first.splits;
 }
 
 -- all names
-pub names_limited : (a b : Parts) (level : ℕ) (left all : List ℕ) → left ≡ [] → NamesLimited a b level left all → LimitsNodes a b level all
-names_limited a b level left all none first = subst (LimitsNodes a b level) (sym (append-nil first.done) ∙ ap (λ ns. first.done ++ ns) (sym none) ∙ first.splits) first.limits
-
--- the types of the first of some names are generalised, and those of others are left
-pub record NamesGeneralised (a b : Parts) (left all : List ℕ) : Type 0 where
-  pub done : List ℕ
-  pub generalises : GeneralisesAll a b done
-  pub splits : done ++ left ≡ all
-
--- none is generalised yet
-pub names_monomorphic : (a : Parts) (all : List ℕ) → NamesGeneralised a a all all
-names_monomorphic a all = record { done = []; generalises = generalises_none a; splits = refl }
-
--- one name more
-pub name_generalised : (a b d : Parts) (left rest all : List ℕ) (m : ℕ) → left ≡ m ∷ rest → NamesGeneralised a b left all → GeneralisesAll b d (m ∷ []) → NamesGeneralised a d rest all
-name_generalised a b d left rest all m split first next = record {
-  done = first.done ++ m ∷ [];
-  generalises = generalises_then a b d first.done (m ∷ []) first.generalises next;
-  splits = append_assoc first.done (m ∷ []) rest ∙ ap (λ ns. first.done ++ ns) (sym split) ∙ first.splits;
-}
-
--- all names
-pub names_generalised : (a b : Parts) (left all : List ℕ) → left ≡ [] → NamesGeneralised a b left all → GeneralisesAll a b all
-names_generalised a b left all none first = subst (GeneralisesAll a b) (sym (append-nil first.done) ∙ ap (λ ns. first.done ++ ns) (sym none) ∙ first.splits) first.generalises
+pub names_done : {R : List ℕ → Type 0} (left all : List ℕ) → left ≡ [] → NamesDone R left all → R all
+names_done {R} left all none first = subst R (sym (append-nil first.done) ∙ ap (λ ns. first.done ++ ns) (sym none) ∙ first.splits) first.does
 
 -- the nodes of names that are left
 pub names_cut : (names : List BoundName) (k : ℕ) (x : BoundName) → k < length names → x ≡ slice_index_or names k x → name_nodes (drop k names) ≡ x.node.0 ∷ name_nodes (drop (k + 1) names)
 names_cut names k x lt is = ap name_nodes (drop_read names k x lt is)
-
--- what is given is there
-pub is_given : {A : Type 0} (o : Option A) (x : A) → o ≡ Some x → o ≡ None → ⊥
-is_given None x some none = absurd (cc)
-is_given (Some y) x some none = absurd (cc)
 
 -- a binding that is generalised holds nothing
 pub general_one : (a : Parts) (level : ℕ) (x : Bound) → x.generalises ≡ true → LimitsNodes a a level (limited_nodes (closing_of x ∷ []))
@@ -162,3 +141,25 @@ pub names_step : (bs : List Bound) (k : ℕ) (x : Bound) (env further whole : Li
 names_step bs k x env further whole lt is brought so =
     let rest = names_closed (map closing_of (drop (k + 1) bs)) in
     ap (names_added rest) brought ∙ sym (names_both (binds_of x.matched.names.items) rest env) ∙ ap (λ ys. names_added (names_closed ys) env) (sym (rest_read closing_of bs k x lt is)) ∙ so
+
+inside_written : (a b : Parts) (level scope : ℕ) (ls : List Limit) → InsideAll a b level scope ls → b.written ≡ a.written
+inside_written a b level scope [] same = ap (λ (p : Parts). p.written) same
+inside_written a b level scope (l ∷ ls) (c, one, here, rest) = inside_written c b level scope ls rest ∙ one.rest.written
+
+-- Limits and the close of a group leave what is written.
+pub written_kept : (a b d : Parts) (level scope : ℕ) (ms : List ℕ) (ys : List ToClose) → InsideNodes a b level scope ms → ClosesBindings b d ys → d.written ≡ a.written
+written_kept a b d level scope ms ys inside closes =
+    let close = closes.close in
+    (generalised_rest close.limited d (bind_nodes (names_closed ys)) close.generalises_all).written ∙ (limited_rest close.lowered close.limited close.lowered.level closes.limits close.limits_all).written
+    ∙ ap (λ (p : Parts). p.written) close.lowers ∙ inside_written a b level scope inside.limits inside.all
+
+made_node : (old new : State) (n : ℕ) (c : Node) → Makes old new n c → n < length new.nodes
+made_node old new n c makes = let e : length new.nodes ≡ length old.nodes + 1 = ap length makes.added.nodes ∙ length-append old.nodes (c ∷ []) in let k = makes.added.number in omega arith
+
+-- A type is limited where a new variable of the level and the scope is made one with it.
+pub inside_made : (a b : Parts) (mid : State) (n m level scope : ℕ) → level ≡ level_for bound_level → Makes a.store mid n (Var level scope) → IsNode mid.nodes m → (IsNode mid.nodes n → IsNode mid.nodes m → MadeOne mid.nodes b.store.nodes n m) → OnlyStore (with_store a mid) b → Goes a b → IsSound b.store.nodes →
+    InsideNodes a b bound_level scope (m ∷ [])
+inside_made a b mid n m level scope highest makes node one rest goes sound =
+    let same : Makes a.store mid n (Var (level_for bound_level) scope) = subst (λ k. Makes a.store mid n (Var k scope)) highest makes in
+    inside_one (mid, n, same, one (made_node a.store mid n (Var level scope) makes) node)
+    (record { index = rest.index; faults = rest.faults; written = rest.written; item = rest.item; level = rest.level; telling = rest.telling; constants = rest.constants }) goes sound

@@ -1,65 +1,17 @@
--- Which first parts of records are labels, in the code and in the definitions.
-use Rattle.std.proofs.Common.{◌≡◌, ◌∙◌, ℕ, Bool, true, false, List, Option, Some, None, refl, sym, ap, subst, if◌then◌else◌}
+-- Which first parts of records are no labels, in the code and in the definitions.
+use Rattle.std.proofs.Common.{◌≡◌, ℕ, Bool, true, false, List, Option, Some, None, refl, sym, subst, if◌then◌else◌}
 use Rattle.token_model.specs.Kinds.{Tok, Kind, upper, lower, float, false_word}
 use Rattle.tree_model.specs.Rows.{Row, name_row, econ_row, epath_row, econst_row, hole_row, eparen_row, ebegin_row, elist_row, erecord_row, prefix_row, field_row, eapp_row, eassert_row, ewhile_row, efor_row, eneg_row, infix_row, econs_row, etuple_row, eset_row, eif_row, eseq_row, elet_row, ematch_row, etry_row, efun_row, efunction_row}
 use Rattle.tree_model.specs.Trees.{Place, Tree, Forest, Part, taken, inner, missing, node}
 use Rattle.row_parts.specs.Numbered.{Numbered, Written, numbered, path_in}
 use Rattle.typing_model.specs.Parts as parts
-use Rattle.typing_model.specs.Parts.{Expression, Child, a_path, path_in as child_path, token_in as child_token, types_in, expressions_in}
+use Rattle.typing_model.specs.Parts.{Expression, Child, path_in as child_path, token_in as child_token, types_in, expressions_in}
 use Rattle.typing_model.specs.Expressions.{expression_row, path_expression, name_form, literal_form, parenthesised, begun, if_expression, update_expression, record_expression, fields_in, is_some}
 use Rattle.operand_laws.specs.Operands.{number_of, parts_of, path_of, expression_of}
 use Rattle.operand_laws.proofs.Tokens.{path_stands}
 use Rattle.typing_rows.specs.CarriedRows.{IsCarriedRow, IsOfCarriedRows}
 use Rattle.record_rows.specs.RecordExpressions.{IsLoose, IsLooseAt}
 use Rattle.expression_steps.specs.Heads.{label_at, label_in, lower_path, if_lower}
-
-one_written : (w p : Written) → Some w ≡ Some p → w ≡ p
-one_written w p e = cc
-
-name_by : (q : List Tok) (start end col : ℕ) (name : List ℕ) (k : Kind) (p : Written) →
-    let w : Written = record { qualifiers = q; last = Some (record { kind = k; start = start; end = end; col = col; name = name }) } in if_lower w k ≡ Some p → name_form (path_of w) ≡ a_path (path_of p)
-name_by q start end col name lower p e =
-    let w : Written = record { qualifiers = q; last = Some (record { kind = lower; start = start; end = end; col = col; name = name }) } in
-    ap (λ x. a_path (path_of x)) (one_written w p e)
-name_by q start end col name _ p e = absurd (cc)
-
--- a name that is a label
-name_is : (w p : Written) → lower_path w ≡ Some p → name_form (path_of w) ≡ a_path (path_of p)
-name_is w p e = by w.last e
-  where
-    by : (o : Option Tok) → let x : Written = record { qualifiers = w.qualifiers; last = o } in lower_path x ≡ Some p → name_form (path_of x) ≡ a_path (path_of p)
-    by None e = absurd (cc)
-    by (Some t) e = name_by w.qualifiers t.start t.end t.col t.name t.kind p e
-
-path_by : (n : ℕ) (at : Place) (q : List Tok) (start end col : ℕ) (name : List ℕ) (k : Kind) (p : Written) →
-    let w : Written = record { qualifiers = q; last = Some (record { kind = k; start = start; end = end; col = col; name = name }) } in if_lower w k ≡ Some p → (path_expression n at (path_of w)).form ≡ a_path (path_of p)
-path_by n at q start end col name lower p e =
-    let w : Written = record { qualifiers = q; last = Some (record { kind = lower; start = start; end = end; col = col; name = name }) } in
-    ap (λ x. a_path (path_of x)) (one_written w p e)
-path_by n at q start end col name _ p e = absurd (cc)
-
--- a path that is one
-path_is : (n : ℕ) (at : Place) (w p : Written) → lower_path w ≡ Some p → (path_expression n at (path_of w)).form ≡ a_path (path_of p)
-path_is n at w p e = by w.last e
-  where
-    by : (o : Option Tok) → let x : Written = record { qualifiers = w.qualifiers; last = o } in lower_path x ≡ Some p → (path_expression n at (path_of x)).form ≡ a_path (path_of p)
-    by None e = absurd (cc)
-    by (Some t) e = path_by n at w.qualifiers t.start t.end t.col t.name t.kind p e
-
-row_is : (r : Row) (n : ℕ) (at : Place) (cs : List Child) (t : Tree) (p : Written) → child_path 9 0 cs ≡ path_of (path_in t 9 0) → child_path 0 1 cs ≡ path_of (path_in t 0 1) → label_in r t ≡ Some p → (expression_row r n at cs).form ≡ a_path (path_of p)
-unfolding expression_row
-row_is name_row n at cs t p own path e = ap name_form own ∙ name_is (path_in t 9 0) p e
-row_is epath_row n at cs t p own path e = ap (λ w. (path_expression n at w).form) path ∙ path_is n at (path_in t 0 1) p e
-row_is _ n at cs t p own path e = absurd (cc)
-
--- an operand that is a label is that one in the definitions
-pub operand_label : (i : ℕ) (o : Numbered) (p : Written) → label_at o.part ≡ Some p → (expression_of i o).form ≡ a_path (path_of p)
-operand_label i o p h = by o.number o.at o.part h
-  where
-    by : (n : ℕ) (at : Place) (q : Part) → label_at q ≡ Some p → (expression_of i (numbered n at q)).form ≡ a_path (path_of p)
-    by n at (taken t) h = absurd (cc)
-    by n at (missing x) h = absurd (cc)
-    by n at (inner (node r x ps)) h = row_is r (number_of i n) at (parts_of i n (node r x ps)) (node r x ps) p (path_stands i n (node r x ps) 9 0) (path_stands i n (node r x ps) 0 1) h
 
 name_loose : (q : List Tok) (start end col : ℕ) (name : List ℕ) (k : Kind) → let w : Written = record { qualifiers = q; last = Some (record { kind = k; start = start; end = end; col = col; name = name }) } in if_lower w k ≡ None → IsLoose (name_form (path_of w))
 name_loose q start end col name lower e = absurd (cc)

@@ -1,24 +1,22 @@
 -- Groups of bindings as the code types them, binding by binding.
-use Rattle.std.proofs.Common.{◌≡◌, ◌∙◌, ◌++◌, ◌==◌, ◌+◌, ◌-◌, ◌^◌, ◌<◌, arith, ℕ, Bool, true, false, List, [], ◌∷◌, length, map, Some, None, refl, sym, ap, subst, append-nil}
-use Rattle.std.specs.Prelude.{slice_index_or}
+use Rattle.std.proofs.Common.{inl, ◌≡◌, ◌∙◌, ◌++◌, ◌==◌, ◌+◌, ◌-◌, ◌^◌, ◌<◌, arith, ℕ, Bool, true, false, List, [], ◌∷◌, length, map, Some, None, refl, sym, ap, subst, append-nil}
+use Rattle.std.specs.Prelude.{slice_index_or, Result, Ok, Err, OnOk, IfOk}
 use Rattle.std.specs.List.{remove}
 use Rattle.std.proofs.lemmas.Bool.{eqb-true}
 use denote.Ref.{Bor}
 use Rattle.tree_model.specs.Rows.{Row, elet_row}
 use Rattle.tree_model.specs.Trees.{Place, Tree}
-use Rattle.type_model.specs.Types.{Var}
 use Rattle.signature_model.specs.Declarations.{Name}
-use Rattle.typing_model.specs.Contexts.{Context, in_item}
-use Rattle.typing_model.specs.Parts.{Binding as rule}
-use Rattle.typing_model.specs.Bindings.{generalises}
 use Rattle.syntax_tree.specs.View.{node_view}
 use Rattle.syntax_tree.specs.declared.tree.Node.{Node}
 use Rattle.row_parts.specs.declared.slots.Operand.{Operand}
-use Rattle.row_parts.specs.Numbered.{operand_view, part_of, operands_in, filled_in}
+use Rattle.row_parts.specs.Numbered.{operand_view, part_of, filled_in}
 use Rattle.type_terms.specs.declared.types.NodeRef.{NodeRef}
+use Rattle.type_nodes.specs.Nodes.{bound_level}
 use Rattle.env_table.specs.declared.entries.Entry.{Entry}
 use Rattle.typing_state.specs.declared.parts.Parts.{Parts}
 use Rattle.typing_state.specs.Goes.{Goes}
+use Rattle.typing_state.proofs.Going.{goes_trans}
 use Rattle.typing_steps.specs.Warning.{OnlyNotes}
 use Rattle.typing_steps.proofs.Still.{notes_unseen, notes_untold}
 use Rattle.operand_laws.specs.Formed as formed
@@ -35,18 +33,20 @@ use Rattle.expression_steps.proofs.CarryingLaws.{rows_same}
 use Rattle.binding_rows.specs.Groups.{TypedBinding, AsksNothing}
 use Rattle.binding_rows.specs.Carried.{NumberedNode, node_there}
 use Rattle.case_rows.specs.Scopes.{names_added}
-use Rattle.binding_rows.specs.Operands.{bindings_of, AsksWholeOf, RecordsRightNode, TypesRightNode, TypesTurnNode, ConcludesNode, TypesGroupNode}
-use Rattle.binding_rows.specs.Decided.{IsLetNode, verdicts, JudgesNode, JudgesGroup}
+use Rattle.binding_rows.specs.Operands.{AsksWholeOf, RecordsRightNode, TypesRightNode, TypesTurnNode, ConcludesNode, TypesGroupNode}
+use Rattle.binding_rows.specs.Decided.{IsLetNode, JudgesNode, JudgesGroup}
 use Rattle.binding_rows.proofs.Groups.{nothing_reported}
 use Rattle.binding_rows.proofs.Operands.{turn_of_node, conclusion_of_node}
-use Rattle.binding_rows.specs.Lets.{ToClose, names_closed}
-use Rattle.binding_rows.specs.LetNodes.{AllDecide, none_decide, one_decides, ClosesBindings}
+use Rattle.binding_rows.specs.Lets.{ToClose, bind_nodes, names_closed}
+use Rattle.binding_rows.specs.LetNodes.{ClosesBindings}
 use Rattle.binding_rows.proofs.LetNodes.{same_typed, let_row_of_node}
 use Rattle.core_typing.specs.declared.bindings.Binding.{Binding}
 use Rattle.core_typing.specs.declared.bindings.Opened.{Opened}
 use Rattle.core_typing.specs.declared.bindings.RightSide.{RightSide}
 use Rattle.core_typing.specs.declared.bindings.Bound.{Bound}
-use Rattle.core_typing.specs.Bindings.{Concludes, TypesItemGroup, typed_of, closing_of, generals, opened_of, node_of}
+use Rattle.item_rows.specs.Scopes.{InsideNodes}
+use Rattle.item_rows.specs.Rows.{TypesItem}
+use Rattle.core_typing.specs.Bindings.{Concludes, typed_of, closing_of, generals, opened_of, node_of}
 use Rattle.core_typing.proofs.ClosingLaws.{mapped_more}
 
 let_form : (r : Row) → form_of r ≡ form.Let → r ≡ elet_row
@@ -62,27 +62,27 @@ pub missing_asks : (a b : Parts) → OnlyNotes a b → AsksNothing a b
 missing_asks a b h = nothing_reported a b (notes_unseen a b h) (notes_untold a b h)
 
 -- a binding as it is typed once it is concluded
-concluded_as : (a b : Parts) (o : Opened) (side : RightSide) (bound : Bound) → Concludes a b o side bound → (let y : TypedBinding = record { names = binds_of o.matched.names.items; right = side.right.0 } in y) ≡ typed_of bound
-concluded_as a b o side bound h = (λ i. record { names = binds_of (sym h.matched i).names.items; right = (sym h.right i).0 })
+concluded_as : (a b : Parts) (env : List Entry) (o : Opened) (side : RightSide) (bound : Bound) → Concludes a b env o side bound → (let y : TypedBinding = record { names = binds_of o.matched.names.items; right = side.right.0 } in y) ≡ typed_of bound
+concluded_as a b env o side bound h = (λ i. record { names = binds_of (sym h.matched i).names.items; right = (sym h.right i).0 })
 
 -- a binding without `rec`
 pub turn_concluded : (a b d e : Parts) (env : List Entry) (x : Binding) (o : Opened) (side : RightSide) (bound : Bound) (seen then : List Name) → RecordsRightNode a b env x.number (node_view x.node.now) side.right.0 side.whole.0 → Goes a b →
     (IsCarriedPattern (bound_pattern x.number (node_view x.node.now)) → Matches b d env (pattern_of b.item (bound_pattern x.number (node_view x.node.now))) [] (binds_of o.matched.names.items) seen then o.matched.ty.0) → Goes b d → o.binding ≡ x →
-    Concludes d e o side bound → TypesTurnNode a e env x.number (node_view x.node.now) seen then (typed_of bound)
+    Concludes d e env o side bound → TypesTurnNode a e env x.number (node_view x.node.now) seen then (typed_of bound)
 turn_concluded a b d e env x o side bound seen then typed goes matched goes' same h =
-    subst (TypesTurnNode a e env x.number (node_view x.node.now) seen then) (concluded_as d e o side bound h)
+    subst (TypesTurnNode a e env x.number (node_view x.node.now) seen then) (concluded_as d e env o side bound h)
     (turn_of_node a b d e env x.number (node_view x.node.now) seen then (binds_of o.matched.names.items) side.right.0 side.whole.0 o.matched.ty.0 typed goes matched goes'
     (subst (λ (y : Binding). AsksWholeOf d e (bound_pattern y.number (node_view y.node.now)) o.matched.ty.0 side.whole.0) same h.asked))
 
 -- its verdict
-pub turn_judged : (d e : Parts) (x : Binding) (o : Opened) (side : RightSide) (bound : Bound) → o.binding ≡ x → Concludes d e o side bound → JudgesNode x.number (node_view x.node.now) bound.generalises
-turn_judged d e x o side bound same h = subst (λ (y : Binding). JudgesNode y.number (node_view y.node.now) bound.generalises) same h.judged
+pub turn_judged : (d e : Parts) (env : List Entry) (x : Binding) (o : Opened) (side : RightSide) (bound : Bound) → o.binding ≡ x → Concludes d e env o side bound → JudgesNode env x.number (node_view x.node.now) bound.generalises
+turn_judged d e env x o side bound same h = subst (λ (y : Binding). JudgesNode env y.number (node_view y.node.now) bound.generalises) same h.judged
 
 -- a binding with `rec`, whose pattern is typed
-pub conclusion_done : (a b d : Parts) (env : List Entry) (o : Opened) (side : RightSide) (bound : Bound) → TypesRightNode a b env o.binding.number (node_view o.binding.node.now) side.right.0 side.whole.0 → Goes a b → Concludes b d o side bound →
+pub conclusion_done : (a b d : Parts) (env outside : List Entry) (o : Opened) (side : RightSide) (bound : Bound) → TypesRightNode a b env o.binding.number (node_view o.binding.node.now) side.right.0 side.whole.0 → Goes a b → Concludes b d outside o side bound →
     ConcludesNode a d env o.binding.number (node_view o.binding.node.now) (opened_of o) (typed_of bound)
-conclusion_done a b d env o side bound typed goes h =
-    subst (ConcludesNode a d env o.binding.number (node_view o.binding.node.now) (opened_of o)) (concluded_as b d o side bound h)
+conclusion_done a b d env outside o side bound typed goes h =
+    subst (ConcludesNode a d env o.binding.number (node_view o.binding.node.now) (opened_of o)) (concluded_as b d outside o side bound h)
     (conclusion_of_node a b d env o.binding.number (node_view o.binding.node.now) (opened_of o) side.right.0 side.whole.0 typed goes h.asked)
 
 -- the node of an opened binding more
@@ -108,54 +108,39 @@ pub none_left : {A : Type 0} (xs : List A) → (length xs == 0) ≡ true → xs 
 none_left [] e = refl
 none_left (x ∷ xs) e = absurd (let n : length (x ∷ xs) ≡ 0 = eqb-true (length (x ∷ xs)) 0 e in omega arith)
 
--- a context, by which lists of verdicts are seen to be of one length
-any_context : Context
-any_context = record { env = []; variables = in_item 0; held = []; kept = λ s. true; chosen = record { type_at = λ n. Var 0; letter = λ n k. Var 0; written = λ n x. Var 0; filled = λ n o. Var 0 } }
-
-same_head : (x y : Bool) (xs ys : List Bool) → x ∷ xs ≡ y ∷ ys → x ≡ y
-same_head x y xs ys e = cc
-
-same_tail : (x y : Bool) (xs ys : List Bool) → x ∷ xs ≡ y ∷ ys → xs ≡ ys
-same_tail x y xs ys e = cc
-
-some_none : (x : Bool) (xs : List Bool) → x ∷ xs ≡ [] → ⊥
-some_none x xs e = cc
-
-none_some : (x : Bool) (xs : List Bool) → [] ≡ x ∷ xs → ⊥
-none_some x xs e = cc
-
--- bindings are closed by the verdicts of the definitions
-pub all_decide : (xs : List rule) (bs : List Bound) → ((c : Context) → generals bs ≡ verdicts c xs) → AllDecide xs (map closing_of bs)
-all_decide [] [] same = none_decide
-all_decide (x ∷ xs) (b ∷ bs) same = one_decides (λ c. sym (same_head b.generalises (generalises c x) (generals bs) (verdicts c xs) (same c))) (all_decide xs bs (λ c. same_tail b.generalises (generalises c x) (generals bs) (verdicts c xs) (same c)))
-all_decide [] (b ∷ bs) same = absurd (some_none b.generalises (generals bs) (same any_context))
-all_decide (x ∷ xs) [] same = absurd (none_some (generalises any_context x) (verdicts any_context xs) (same any_context))
+same_general : (bs : List Bound) → generals bs ≡ map (λ (y : ToClose). y.general) (map closing_of bs)
+same_general [] = refl
+same_general (b ∷ bs) = ap (λ vs. b.generalises ∷ vs) (same_general bs)
 
 -- The row of a `let`: its group is typed one level further in and closed, and its body is typed among the names.
 pub let_done : (x y a d f : Parts) (env within : List Entry) (n : ℕ) (at : Place) (t : Tree) (bs : List Bound) (body : Operand) (ty u : NodeRef) → IsLetNode n t → (y ≡ record x { level = x.level + 1 }) × (x.level + 1 < 2 ^ 32 - 1) →
-    TypesGroupNode y a env n t (map typed_of bs) → JudgesGroup n t (generals bs) → Goes y a → ClosesBindings a d (map closing_of bs) → Goes a d → within ≡ names_added (names_closed (map closing_of bs)) env → operand_view body ≡ filled_in n t 5 →
+    TypesGroupNode y a env n t (map typed_of bs) → JudgesGroup env n t (generals bs) → Goes y a → ClosesBindings a d (map closing_of bs) → Goes a d → within ≡ names_added (names_closed (map closing_of bs)) env → operand_view body ≡ filled_in n t 5 →
     (IsCarried (operand_view body) → TypesTo d f within (λ c. (expression_of d.item (operand_view body)).typed c) (λ ch. ch.type_at (expression_of d.item (operand_view body)).node) ty.0) → u ≡ ty →
     TypesRow x f env (λ c. (row_expression x.item n at t).typed c) (number_of x.item n) u.0
 let_done x y a d f env within n at t bs body ty u node raised typed judged goes closes goes' brought here inside same =
     subst (λ (k : NodeRef). TypesRow x f env (λ c. (row_expression x.item n at t).typed c) (number_of x.item n) k.0) (sym same)
     (let_row_of_node x y a d f env within n at t (map closing_of bs) ty.0 node.formed node.row node.bindings node.body raised.0 raised.1
-    (subst (TypesGroupNode y a env n t) (same_typed typed_of closing_of (λ b. refl) bs) typed) (all_decide (bindings_of x.item (operands_in n t 2)) bs (judged node.bindings node.decided x.item)) goes closes goes' brought
+    (subst (TypesGroupNode y a env n t) (same_typed typed_of closing_of (λ b. refl) bs) typed) (subst (JudgesGroup env n t) (same_general bs) judged) goes closes goes' brought
     (subst (λ o. IsCarried o → TypesTo d f within (λ c. (expression_of d.item o).typed c) (λ ch. ch.type_at (expression_of d.item o).node) ty.0) here inside))
 
-same_general : (bs : List Bound) → generals bs ≡ map (λ (y : ToClose). y.general) (map closing_of bs)
-same_general [] = refl
-same_general (b ∷ bs) = ap (λ vs. b.generalises ∷ vs) (same_general bs)
+-- what holds after a call and what holds of its answer together
+pub held_both : {A E P : Type 0} (r : Result A E) (Q R : A → Type 0) → (P → (x : A) → Q x → R x) → OnOk r P → IfOk r Q → IfOk r R
+held_both (Ok x) Q R f p q = f p x q
+held_both (Err e) Q R f p q = tt
 
--- The group of an item, up to where it is closed.
-pub item_group : (x y a d : Parts) (env after : List Entry) (n : ℕ) (t : Tree) (bs : List Bound) → y ≡ record x { level = x.level + 1 } → TypesGroupNode y a env n t (map typed_of bs) → JudgesGroup n t (generals bs) → Goes a d →
-    after ≡ names_added (names_closed (map closing_of bs)) env → TypesItemGroup x d env after n t
-item_group x y a d env after n t bs raised typed judged goes scope = record {
+-- The `let` of an item: its group is typed one level further in, its names' types are limited, and it is closed.
+pub item_let : (x y a m d : Parts) (env after : List Entry) (n : ℕ) (t : Tree) (bs : List Bound) → y ≡ record x { level = x.level + 1 } → Goes x y → TypesGroupNode y a env n t (map typed_of bs) → JudgesGroup env n t (generals bs) → Goes y a →
+    InsideNodes a m bound_level (number_of x.item n) (bind_nodes (names_closed (map closing_of bs))) → Goes a m → ClosesBindings m d (map closing_of bs) → Goes m d → after ≡ names_added (names_closed (map closing_of bs)) env → TypesItem x d env after n t
+item_let x y a m d env after n t bs raised goes typed judged goes' inside goes'' closes goes''' scope = record {
   begun = y;
   raised = raised;
   done = a;
+  scoped = m;
   bindings = map closing_of bs;
   typed = subst (TypesGroupNode y a env n t) (same_typed typed_of closing_of (λ b. refl) bs) typed;
-  judged = subst (JudgesGroup n t) (same_general bs) judged;
+  judged = subst (JudgesGroup env n t) (same_general bs) judged;
+  scopes = inl inside;
+  closes = closes;
   scope = scope;
-  goes = goes;
+  goes = goes_trans x m d (goes_trans x a m (goes_trans x y a goes goes') goes'') goes''';
 }

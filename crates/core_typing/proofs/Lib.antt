@@ -1,4 +1,4 @@
--- The laws of bindings, cases and records.
+-- The laws of bindings, cases, records, written type variables and items.
 pub mod CasePlaces
 pub mod Tokens
 pub mod CaseLaws
@@ -6,3 +6,5 @@ pub mod ClosingLaws
 pub mod LetLaws
 pub mod LabelLaws
 pub mod RecordCarrying
+pub mod VariableLaws
+pub mod ItemLaws

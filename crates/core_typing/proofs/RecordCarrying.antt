@@ -54,7 +54,8 @@ use Rattle.expression_steps.proofs.CarryingLaws.{rows_same}
 use Rattle.expression_steps.proofs.Nodes.{place_of_node}
 use Rattle.core_typing.specs.Records.{AreCarriedPieces, RecordsValue, TypesMadeOr, TypesPieces}
 use Rattle.core_typing.proofs.CaseLaws.{read_one}
-use Rattle.core_typing.proofs.LabelLaws.{operand_label, operand_loose}
+use Rattle.core_typing.proofs.LabelLaws.{operand_loose}
+use Rattle.expression_steps.proofs.LabelForms.{label_is}
 
 record_form : (r : Row) → form_of r ≡ form.Record → r ≡ erecord_row
 record_form erecord_row e = refl
@@ -220,7 +221,7 @@ record_done a d env n nd p w m span first value fields word typed h = by w refl 
 
     made : (l : Option operands.Written) → label_at (operand_view p.first).part ≡ l → w ≡ None → TypesMadeOr l a d env p m → TypesRow a d env (λ c. (row_expression a.item n at t).typed c) (number_of a.item n) m
     made (Some l) is none x =
-        node_made a d env n at t (path_as l) m h (sym word ∙ none) (subst (λ o. (expression_of a.item o).form ≡ a_path (path_as l)) first (operand_label a.item (operand_view p.first) l is))
+        node_made a d env n at t (path_as l) m h (sym word ∙ none) (subst (λ o. (expression_of a.item o).form ≡ a_path (path_as l)) first (label_is a.item (operand_view p.first) l is))
         (λ k. subst (λ q. TypesMade a d env q (filled_in n t 1).number (path_as l) (first_in n t 3) (operands_in n t 5) m) here
         (subst (λ os. TypesMade a d env (place_of p.span) (filled_in n t 1).number (path_as l) (first_in n t 3) os m) fields
         (subst (λ v. TypesMade a d env (place_of p.span) (filled_in n t 1).number (path_as l) v (map operand_view p.fields.items) m) value

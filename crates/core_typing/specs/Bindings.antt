@@ -43,20 +43,9 @@ node_of o = record { number = o.binding.number; tree = node_view o.binding.node.
 abbrev pub name_nodes : List BoundName → List ℕ
 name_nodes names = bind_nodes (binds_of names)
 
--- A binding whose right side and pattern are typed is concluded: its pattern has the type of the whole, and it is found whether it is generalised.
-pub record Concludes (a b : Parts) (o : Opened) (side : RightSide) (bound : Bound) : Type 0 where
+-- A binding whose right side and pattern are typed is concluded: its pattern has the type of the whole, and it is found whether it is generalised among these names.
+pub record Concludes (a b : Parts) (env : List Entry) (o : Opened) (side : RightSide) (bound : Bound) : Type 0 where
   pub asked : AsksWholeOf a b (bound_pattern o.binding.number (node_view o.binding.node.now)) o.matched.ty.0 side.whole.0
   pub matched : bound.matched ≡ o.matched
   pub right : bound.right ≡ side.right
-  pub judged : JudgesNode o.binding.number (node_view o.binding.node.now) bound.generalises
-
--- The group of an item is typed one level further in, up to a state from which it is closed; its names are in scope after it.
-pub record TypesItemGroup (a b : Parts) (env after : List Entry) (n : ℕ) (t : Tree) : Type 0 where
-  pub begun : Parts
-  pub raised : begun ≡ record a { level = a.level + 1 }
-  pub done : Parts
-  pub bindings : List ToClose
-  pub typed : TypesGroupNode begun done env n t (map typed_as bindings)
-  pub judged : JudgesGroup n t (map (λ (y : ToClose). y.general) bindings)
-  pub scope : after ≡ names_added (names_closed bindings) env
-  pub goes : Goes done b
+  pub judged : JudgesNode env o.binding.number (node_view o.binding.node.now) bound.generalises

@@ -1,13 +1,16 @@
 //! Bindings: their demands in order, and their names with generalised types.
 #![tactic(auto, using(typing_state::proofs::Going::goes_trans, typing_state::proofs::Going::goes_refl, typing_state::proofs::Silence::store_silent, typing_state::proofs::Silence::silent_refl, typing_state::proofs::Silence::silent_trans))]
 
-ghost use Rattle.std.specs.Prelude.{◌≡◌, ◌+◌, ◌-◌, ◌^◌, ◌<◌, [], ◌∷◌, ◌++◌, map, option_map, is_some, None, IfOk, OnOk, OnErr};
-ghost use Rattle.tree_model.specs.Trees.{Place};
+ghost use Rattle.std.specs.Prelude.{◌≡◌, ◌⊎◌, ◌+◌, ◌-◌, ◌^◌, ◌<◌, ℕ, [], ◌∷◌, ◌++◌, map, option_map, is_some, None, IfOk, OnOk, OnErr};
+ghost use Rattle.tree_model.specs.Trees.{Place, yield_of};
 ghost use Rattle.syntax_tree.specs.View.{node_view, place_of};
 ghost use Rattle.row_parts.specs.Numbered.{operand_view, filled_in};
+ghost use Rattle.type_nodes.specs.Nodes.{Var, bound_level};
+ghost use Rattle.type_nodes.specs.Changes.{Makes};
 ghost use Rattle.type_nodes.specs.Views.{numbers};
 ghost use Rattle.operand_laws.specs.Operands.{number_of, pattern_of};
 ghost use Rattle.typing_state.specs.Goes.{Goes, Silent};
+ghost use Rattle.typing_state.specs.Types.{level_for};
 ghost use Rattle.typing_steps.specs.Typing.{TypesRow};
 ghost use Rattle.typing_steps.specs.Warning.{OnlyWarnings};
 ghost use Rattle.typing_rows.specs.Asked.{row_expression};
@@ -20,15 +23,18 @@ ghost use Rattle.binding_rows.specs.Carried.{node_there, nodes_there};
 ghost use Rattle.binding_rows.specs.Decided.{IsLetNode, JudgesGroup, JudgesNode, JudgesNodes, JudgesOperand, JudgesOperands};
 ghost use Rattle.binding_rows.specs.Operands.{AsksWholeOf, ConcludesNode, ConcludesNodes, MakesWholeOf, OpensOperand, OpensOperands, ReadsAnnotationOf, RecordsRightNode, TypesGroupNode, TypesInTurn, TypesRightBodyOf, TypesRightNode, TypesRightOf, TypesTogether, TypesTurnNode, TypesTurnOperand};
 ghost use Rattle.binding_rows.specs.Closing.{GeneralisesAll, LimitsNodes};
-ghost use Rattle.binding_rows.specs.Lets.{limited_nodes, names_closed};
+ghost use Rattle.binding_rows.specs.Lets.{bind_nodes, limited_nodes, names_closed};
 ghost use Rattle.binding_rows.specs.LetNodes.{ClosesBindings};
+ghost use Rattle.item_rows.specs.Scopes.{InsideNodes};
+ghost use Rattle.item_rows.specs.Rows.{AreWrittenIn, TypesItem};
 ghost use Rattle.expression_steps.specs.Forms.{bound_pattern};
-ghost use Rattle.core_typing.specs.Bindings.{Concludes, TypesItemGroup, closing_of, generals, name_nodes, node_of, opened_of, typed_of};
+ghost use Rattle.core_typing.specs.Bindings.{Concludes, closing_of, generals, name_nodes, node_of, opened_of, typed_of};
 ghost use Rattle.typing_state.specs.Notes.{IsRecorded, IsRecordedThere};
 ghost use Rattle.match_warnings.specs.Warnings.{missed_at, WarnsOf};
 
 use crate::exprs::type_under;
 use crate::functions::{arrows, type_parameters, with_names};
+use crate::variables::has_own_variables;
 use expression_steps::{has_parameters, is_value};
 use match_warnings::report_pattern;
 use owned_lists::push;
@@ -38,7 +44,9 @@ use std::alloc::AllocError;
 use std::rc::Rc;
 use syntax_tree::Node;
 use type_expressions::{Variables, read_type};
-use typing_state::{Depth, Entry, Env, NO_SCOPE, NoMemory, NodeRef, Parts, Verdict, share_entry};
+use typing_state::{
+    Depth, Entry, Env, NO_SCOPE, NoMemory, NodeRef, Parts, Verdict, is_node, share_entry,
+};
 use use_typing::{Sign, Used, note_missing, unnamed};
 
 /// The highest level of a variable; the one above it is that of bound variables.
@@ -112,13 +120,14 @@ pub fn let_in(
 {
     raise(at)?;
     let bound = type_group(at, node, number, env, depth)?;
-    let behind = close(at, &bound, env, None)?;
+    let behind = close(at, &bound, env)?;
     let body = operand_in(node, number, 5);
     let ty = type_under(at, body, Sign::None, &behind.env, depth.inside()?)?;
     Ok(unnamed(at, ty))
 }
 
-/// Types the bindings of an item of the row `let` with this number. The types of its names have origins made before the item alone.
+/// Types the bindings of an item of the row `let` with this number. The types of its names have origins made before the item alone, and the type
+/// variables that are written afterwards are among the item's tokens, if none is written before.
 pub fn type_bindings(
     at: &mut Parts,
     item: &Node,
@@ -126,13 +135,16 @@ pub fn type_bindings(
     env: &Env,
     depth: Depth,
 ) -> Result<Behind, NoMemory>
-    ensures carries { IfOk result (λ e. TypesItemGroup at.old at.new env.now e.env number (node_view item.now)) }
+    ensures carries { IfOk result (λ e. TypesItem at.old at.new env.now e.env number (node_view item.now)) }
+    ensures named { OnOk result (AreWrittenIn (yield_of (node_view item.now)) at.new.written) }
     ensures goes { Goes at.old at.new }
 {
     raise(at)?;
     let bound = type_group(at, item, number, env, depth)?;
+    has_own_variables(at, item)?;
     let scope = at.node_number(number);
-    close(at, &bound, env, Some(scope))
+    limit_names(at, &bound, scope)?;
+    close(at, &bound, env)
 }
 
 /// Begins a group of bindings: what is typed until `close` is one level further in. It fails where no level is left, which the limit of 512
@@ -160,7 +172,7 @@ fn type_group<'a>(
     depth: Depth,
 ) -> Result<Vec<Bound<'a>>, NoMemory>
     ensures carries { IfOk result (λ bs. TypesGroupNode at.old at.new env.now number (node_view node.now) (map typed_of bs.items)) }
-    ensures general { IfOk result (λ bs. JudgesGroup number (node_view node.now) (generals bs.items)) }
+    ensures general { IfOk result (λ bs. JudgesGroup env.now number (node_view node.now) (generals bs.items)) }
     ensures goes { Goes at.old at.new }
 {
     let bindings = operands(at.alloc(), node, number, 2)?;
@@ -180,7 +192,7 @@ fn in_turn<'a>(
     depth: Depth,
 ) -> Result<Vec<Bound<'a>>, NoMemory>
     ensures carries { IfOk result (λ bs. TypesInTurn at.old at.new env.now (map operand_view bindings.now) (map typed_of bs.items)) }
-    ensures general { IfOk result (λ bs. JudgesOperands (map operand_view bindings.now) (generals bs.items)) }
+    ensures general { IfOk result (λ bs. JudgesOperands env.now (map operand_view bindings.now) (generals bs.items)) }
     ensures goes { Goes at.old at.new }
 {
     let mut seen = Vec::new(at.alloc());
@@ -202,7 +214,7 @@ fn take_turn<'a>(
     depth: Depth,
 ) -> Result<(), NoMemory>
     ensures carries { OnOk result (TypesTurnOperand at.old at.new env.now (operand_view binding.entry) (names_seen seen.old.items) (names_seen seen.new.items) (map typed_of bound.old.items) (map typed_of bound.new.items)) }
-    ensures general { OnOk result (JudgesOperand (operand_view binding.entry) (generals bound.old.items) (generals bound.new.items)) }
+    ensures general { OnOk result (JudgesOperand env.now (operand_view binding.entry) (generals bound.old.items) (generals bound.new.items)) }
     ensures goes { Goes at.old at.new }
 {
     let Some(node) = binding.node else {
@@ -226,7 +238,7 @@ fn turn<'a>(
     depth: Depth,
 ) -> Result<Bound<'a>, NoMemory>
     ensures carries { IfOk result (λ b. TypesTurnNode at.old at.new env.now binding.entry.number (node_view binding.entry.node.now) (names_seen seen.old.items) (names_seen seen.new.items) (typed_of b)) }
-    ensures general { IfOk result (λ b. JudgesNode binding.entry.number (node_view binding.entry.node.now) b.generalises) }
+    ensures general { IfOk result (λ b. JudgesNode env.now binding.entry.number (node_view binding.entry.node.now) b.generalises) }
     ensures goes { Goes at.old at.new }
 {
     let side = recorded_right(at, binding, env, depth)?;
@@ -259,7 +271,7 @@ fn together<'a>(
     depth: Depth,
 ) -> Result<Vec<Bound<'a>>, NoMemory>
     ensures carries { IfOk result (λ bs. TypesTogether at.old at.new env.now (map operand_view bindings.now) (map typed_of bs.items)) }
-    ensures general { IfOk result (λ bs. JudgesOperands (map operand_view bindings.now) (generals bs.items)) }
+    ensures general { IfOk result (λ bs. JudgesOperands env.now (map operand_view bindings.now) (generals bs.items)) }
     ensures goes { Goes at.old at.new }
 {
     let opened = open_all(at, bindings, env, depth)?;
@@ -277,7 +289,7 @@ fn conclude_all<'a>(
     depth: Depth,
 ) -> Result<Vec<Bound<'a>>, NoMemory>
     ensures carries { IfOk result (λ bs. ConcludesNodes at.old at.new within.now (map node_of opened.entry.items) (map opened_of opened.entry.items) (map typed_of bs.items)) }
-    ensures general { IfOk result (λ bs. JudgesNodes (map node_of opened.entry.items) (generals bs.items)) }
+    ensures general { IfOk result (λ bs. JudgesNodes env.now (map node_of opened.entry.items) (generals bs.items)) }
     ensures goes { Goes at.old at.new }
 {
     let mut left = opened;
@@ -300,7 +312,7 @@ fn conclude_one<'a>(
     depth: Depth,
 ) -> Result<Bound<'a>, NoMemory>
     ensures carries { IfOk result (λ b. ConcludesNode at.old at.new within.now (node_of opened.entry).number (node_of opened.entry).tree (opened_of opened.entry) (typed_of b)) }
-    ensures general { IfOk result (λ b. JudgesNode (node_of opened.entry).number (node_of opened.entry).tree b.generalises) }
+    ensures general { IfOk result (λ b. JudgesNode env.now (node_of opened.entry).number (node_of opened.entry).tree b.generalises) }
     ensures goes { Goes at.old at.new }
 {
     let side = type_right(at, opened.binding, within, env, depth)?;
@@ -489,7 +501,7 @@ fn conclude<'a>(
     env: &Env,
     depth: Depth,
 ) -> Result<Bound<'a>, NoMemory>
-    ensures carries { IfOk result (λ b. Concludes at.old at.new opened.entry side b) }
+    ensures carries { IfOk result (λ b. Concludes at.old at.new env.now opened.entry side b) }
     ensures goes { Goes at.old at.new }
 {
     let generalises = is_general(at, opened.binding, env, depth)?;
@@ -501,9 +513,9 @@ fn conclude<'a>(
     })
 }
 
-/// Whether a right side is non-expansive.
+/// Whether the names of a binding are generalised: it has parameters, or its right side is non-expansive among the names of `env`.
 fn is_general(at: &Parts, binding: Binding<'_>, env: &Env, depth: Depth) -> Result<bool, NoMemory>
-    ensures general { IfOk result (λ b. JudgesNode binding.entry.number (node_view binding.entry.node.now) b) }
+    ensures general { IfOk result (λ b. JudgesNode env.now binding.entry.number (node_view binding.entry.node.now) b) }
 {
     if has_parameters(binding.node, binding.number) {
         return Ok(true);
@@ -546,15 +558,55 @@ fn warn_pattern(
     report_pattern(at, pattern, env, depth)
 }
 
-/// Closes a group. What stands in the types of right sides that are expansive, and of their names, is held; the types of names get
-/// this scope at most, where one is given, and their variables are generalised.
-fn close(
-    at: &mut Parts,
-    bound: &[Bound<'_>],
-    env: &Env,
-    scope: Option<u64>,
-) -> Result<Behind, NoMemory>
-    ensures carries { OnOk result (scope ≡ None → ClosesBindings at.old at.new (map closing_of bound.now)) }
+/// Limits the types of all names of a group to the origins that were made before this node, and so are the types that their variables get later. A group
+/// is limited as a whole before it is closed, since its names may share variables.
+fn limit_names(at: &mut Parts, bound: &[Bound<'_>], scope: u64) -> Result<(), NoMemory>
+    ensures inside { OnOk result (InsideNodes at.old at.new bound_level scope (bind_nodes (names_closed (map closing_of bound.now)))) }
+    ensures silent { Silent at.old at.new }
+    ensures goes { Goes at.old at.new }
+{
+    for one in bound {
+        limit_each(at, &one.matched.names, scope)?;
+    }
+    Ok(())
+}
+
+/// The same for the names of one binding.
+fn limit_each(at: &mut Parts, names: &[BoundName<'_>], scope: u64) -> Result<(), NoMemory>
+    ensures inside { OnOk result (InsideNodes at.old at.new bound_level scope (name_nodes names.now)) }
+    ensures silent { Silent at.old at.new }
+    ensures goes { Goes at.old at.new }
+{
+    for name in names {
+        limit_to(at, name.node, scope)?;
+    }
+    Ok(())
+}
+
+/// Limits a type, at any level, to the origins that were made before a node. Where an origin was made later, or the number is no node, the call gives
+/// up with `NoMemory`: no text shows this, since an item makes no origin before its names are typed. The store has at most a variable more then.
+fn limit_to(at: &mut Parts, ty: NodeRef, scope: u64) -> Result<(), NoMemory>
+    ensures inside { OnOk result (InsideNodes at.old at.new bound_level scope (ty.0 ∷ [])) }
+    ensures failed { OnErr result ((at.new ≡ at.old) ⊎ ((n : ℕ) × Makes at.old.store at.new.store n (Var (level_for bound_level) scope))) }
+    ensures silent { Silent at.old at.new }
+    ensures goes { Goes at.old at.new }
+{
+    let limit = at.store.var(HIGHEST, scope)?;
+    if !is_node(&at.store, ty) {
+        return Err(AllocError);
+    }
+    let Ok(()) = at.unify(limit, ty) else {
+        return Err(AllocError);
+    };
+    // the store is sound, as its length makes known
+    let _nodes = at.store.len();
+    Ok(())
+}
+
+/// Closes a group. What stands in the types of right sides that are expansive, and of their names, is held; the variables in the
+/// types of names are generalised.
+fn close(at: &mut Parts, bound: &[Bound<'_>], env: &Env) -> Result<Behind, NoMemory>
+    ensures carries { OnOk result (ClosesBindings at.old at.new (map closing_of bound.now)) }
     ensures names { IfOk result (λ e. e.env ≡ names_added (names_closed (map closing_of bound.now)) env.now) }
     ensures silent { Silent at.old at.new }
     ensures goes { Goes at.old at.new }
@@ -565,7 +617,7 @@ fn close(
     let mut entries = Vec::new(at.alloc());
     let mut behind = env.share()?;
     for one in bound {
-        close_names(at, &one.matched.names, scope, &mut entries)?;
+        close_names(at, &one.matched.names, &mut entries)?;
         behind = with_names(at.alloc(), &one.matched.names, &behind)?;
     }
     // the store is sound, as its length makes known
@@ -617,29 +669,15 @@ fn hold(at: &mut Parts, names: &[BoundName<'_>], level: u32) -> Result<(), NoMem
 fn close_names(
     at: &mut Parts,
     names: &[BoundName<'_>],
-    scope: Option<u64>,
     entries: &mut Vec<Rc<Entry>>,
 ) -> Result<(), NoMemory>
-    ensures generalises { OnOk result (scope ≡ None → GeneralisesAll at.old at.new (name_nodes names.now)) }
+    ensures generalises { OnOk result (GeneralisesAll at.old at.new (name_nodes names.now)) }
     ensures silent { Silent at.old at.new }
     ensures goes { Goes at.old at.new }
 {
     for name in names {
-        close_type(at, name.node, scope)?;
+        at.generalise(name.node)?;
         push(entries, share_entry(&name.entry)?)?;
     }
     Ok(())
-}
-
-/// Generalises a type, which gets this scope at most.
-fn close_type(at: &mut Parts, ty: NodeRef, scope: Option<u64>) -> Result<(), NoMemory>
-    ensures generalises { OnOk result (scope ≡ None → GeneralisesAll at.old at.new (ty.0 ∷ [])) }
-    ensures silent { Silent at.old at.new }
-    ensures goes { Goes at.old at.new }
-{
-    if let Some(scope) = scope {
-        at.limit(ty, u32::MAX, scope)?;
-        return at.generalise(ty);
-    }
-    at.generalise(ty)
 }

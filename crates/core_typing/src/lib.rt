@@ -14,6 +14,7 @@ mod functions;
 mod loops;
 mod plain;
 mod records;
+mod variables;
 
 pub use bindings::{Behind, type_bindings};
 pub use exprs::type_expr;

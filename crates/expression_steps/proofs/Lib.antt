@@ -7,3 +7,5 @@ pub mod EndingLaws
 pub mod ValueLaws
 pub mod SettingLaws
 pub mod RecordLaws
+pub mod LabelForms
+pub mod RecordValueLaws

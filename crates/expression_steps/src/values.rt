@@ -1,32 +1,35 @@
 //! Which expressions are non-expansive, so that the names of their bindings are generalised (the value restriction).
-ghost use Rattle.std.specs.Prelude.{◌≡◌, ◌++◌, ℕ, true, map, option_map, All, IfOk, OnOk};
+ghost use Rattle.std.specs.Prelude.{◌≡◌, ◌++◌, true, not, map, option_map, IfOk, OnOk};
 ghost use Rattle.std.specs.Option.{option_to_list};
-ghost use Rattle.tree_model.specs.Rows.{eapp_row, elet_row, ematch_row};
-ghost use Rattle.tree_model.specs.Trees.{Place, inner};
+ghost use Rattle.tree_model.specs.Rows.{eapp_row, elet_row, ematch_row, erecord_row};
+ghost use Rattle.signature_model.specs.Records.{record_by};
 ghost use Rattle.syntax_tree.specs.View.{tok_of, node_view};
-ghost use Rattle.row_parts.specs.Numbered.{numbered, operand_view, operands_in, first_in, path_view};
-ghost use Rattle.typing_model.specs.Contexts.{Context};
-ghost use Rattle.typing_model.specs.Expressions.{all_values, is_some};
-ghost use Rattle.operand_laws.specs.Operands.{expression_of};
-ghost use Rattle.typing_rows.specs.Asked.{row_expression, expressions_of};
-ghost use Rattle.typing_rows.specs.Valued.{are_unguarded, bodies_of, body_in, is_unguarded, right_in, rights_of, value_operands, IsDecided};
+ghost use Rattle.row_parts.specs.Numbered.{operand_view, operands_in, filled_in, first_in, token_in, path_view};
+ghost use Rattle.typing_model.specs.Expressions.{is_some};
+ghost use Rattle.env_table.specs.Labels.{labelled, scope_for, written_of};
+ghost use Rattle.use_typing.specs.Labels.{label_paths};
+ghost use Rattle.use_typing.specs.Paths.{labels_of};
+ghost use Rattle.typing_rows.specs.Valued.{are_unguarded, bodies_of, body_in, is_unguarded, right_in, rights_of, value_operands};
+ghost use Rattle.binding_rows.specs.Decided.{FindsRowValue, FindsValue, FindsValues};
+ghost use Rattle.record_rows.specs.NonExpansive.{field_value_in, field_values, found_unset, none_set};
 ghost use Rattle.expression_steps.specs.Operators.{is_false_at, is_false_token};
 ghost use Rattle.expression_steps.specs.Heads.{constructor_at, label_at, lower_path};
 ghost use Rattle.expression_steps.specs.Forms.{row_at};
+ghost use Rattle.expression_steps.specs.RecordValues.{first_values, label_before};
 
-use env_table::{Found, Path, What};
+use env_table::{Found, Label, Path, What};
 use owned_lists::push;
 use row_parts::{
     Operand, WrittenPath, first_operand, operand_in, operands, operands_of, token, written_path,
 };
 use syntax_tree::{Node, RowName, Token, TokenKind};
-use typing_state::{Depth, Env, NoMemory, Parts, path_of};
-use use_typing::labels_in;
+use typing_state::{Depth, Env, NoMemory, Parts};
+use use_typing::{labels_behind, labels_in, paths_of, written_labels};
 
-/// Whether an expression is non-expansive in an environment. A missing one is.
+/// Whether an expression is non-expansive among the names of an environment. A missing one is.
 #[cycle(values)]
 pub fn is_value(at: &Parts, e: Operand<'_>, env: &Env, depth: Depth) -> Result<bool, NoMemory>
-    ensures value { IfOk result (λ b. IsDecided (operand_view e.entry) → (i : ℕ) (c : Context) → (expression_of i (operand_view e.entry)).is_value c ≡ b) }
+    ensures value { IfOk result (λ b. FindsValue env.now (operand_view e.entry) b) }
 {
     let Some(node) = e.node else {
         return Ok(true);
@@ -47,7 +50,7 @@ pub fn is_value(at: &Parts, e: Operand<'_>, env: &Env, depth: Depth) -> Result<b
 /// Whether all of these are non-expansive.
 #[cycle(values)]
 fn are_values(at: &Parts, parts: &[Operand<'_>], env: &Env, depth: Depth) -> Result<bool, NoMemory>
-    ensures value { IfOk result (λ b. All IsDecided (map operand_view parts.now) → (i : ℕ) (c : Context) → all_values c (expressions_of i (map operand_view parts.now)) ≡ b) }
+    ensures value { IfOk result (λ b. FindsValues env.now (map operand_view parts.now) b) }
 {
     for part in parts {
         if !is_value(at, *part, env, depth.inside()?)? {
@@ -142,7 +145,7 @@ pub fn is_constructor(e: Operand<'_>) -> bool
 /// A constructor with a non-expansive argument.
 #[cycle(values)]
 fn is_built(at: &Parts, node: &Node, number: u32, env: &Env, depth: Depth) -> Result<bool, NoMemory>
-    ensures value { IfOk result (λ b. (place : Place) → IsDecided (numbered number place (inner (node_view node.now))) → row_at (node_view node.now) ≡ eapp_row → (i : ℕ) (c : Context) → (row_expression i number place (node_view node.now)).is_value c ≡ b) }
+    ensures value { IfOk result (λ b. FindsRowValue env.now eapp_row number (node_view node.now) b) }
 {
     let arguments = operands(at.alloc(), node, number, 1)?;
     if arguments.len() != 1 {
@@ -163,7 +166,7 @@ fn is_match_value(
     env: &Env,
     depth: Depth,
 ) -> Result<bool, NoMemory>
-    ensures value { IfOk result (λ b. (place : Place) → IsDecided (numbered number place (inner (node_view node.now))) → row_at (node_view node.now) ≡ ematch_row → (i : ℕ) (c : Context) → (row_expression i number place (node_view node.now)).is_value c ≡ b) }
+    ensures value { IfOk result (λ b. FindsRowValue env.now ematch_row number (node_view node.now) b) }
 {
     let mut parts = operands(at.alloc(), node, number, 1)?;
     let cases = operands(at.alloc(), node, number, 4)?;
@@ -217,7 +220,7 @@ fn is_let_value(
     env: &Env,
     depth: Depth,
 ) -> Result<bool, NoMemory>
-    ensures value { IfOk result (λ b. (place : Place) → IsDecided (numbered number place (inner (node_view node.now))) → row_at (node_view node.now) ≡ elet_row → (i : ℕ) (c : Context) → (row_expression i number place (node_view node.now)).is_value c ≡ b) }
+    ensures value { IfOk result (λ b. FindsRowValue env.now elet_row number (node_view node.now) b) }
 {
     let mut parts = operands(at.alloc(), node, number, 5)?;
     let bindings = operands(at.alloc(), node, number, 2)?;
@@ -275,7 +278,7 @@ fn if_lower(path: WrittenPath<'_>) -> Option<WrittenPath<'_>>
     if lower { Some(path) } else { None }
 }
 
-/// A record of non-expansive values without a mutable field; with `with` its first part is one as well.
+/// A record of non-expansive values whose record type has no mutable field; with `with` its first part is one of these values.
 #[cycle(values)]
 fn is_record_value(
     at: &Parts,
@@ -283,57 +286,131 @@ fn is_record_value(
     number: u32,
     env: &Env,
     depth: Depth,
-) -> Result<bool, NoMemory> {
-    let mut labels = Vec::new(at.alloc());
-    let mut parts = Vec::new(at.alloc());
-    let first = operand_in(node, number, 1);
-    match label_path(at, first)? {
-        Some(label) if token(node, 4).is_none() => {
-            push_label(at, &mut labels, &label)?;
-            push_part(&mut parts, first_operand(node, number, 3))?;
-        }
-        _ => {
-            if token(node, 4).is_some() {
-                push_part(&mut parts, Some(first))?;
-            }
-        }
-    }
-    for field in operands(at.alloc(), node, number, 5)? {
-        if let Some(inner) = field.node {
-            push_label(at, &mut labels, &written_path(at.alloc(), inner, 0, 1)?)?;
-            push_part(&mut parts, first_operand(inner, field.number, 3))?;
-        }
-    }
-    if has_mutable_label(env, &labels) {
+) -> Result<bool, NoMemory>
+    ensures value { IfOk result (λ b. FindsRowValue env.now erecord_row number (node_view node.now) b) }
+{
+    let first = first_label(at, node, number)?;
+    let fields = operands(at.alloc(), node, number, 5)?;
+    if has_mutable_label(env, &paths_from(at, &first, &fields)?) {
         return Ok(false);
     }
-    are_values(at, &parts, env, depth)
+    let values = values_from(at, node, number, &first, &fields)?;
+    are_values(at, &values, env, depth)
 }
 
-fn push_label(at: &Parts, labels: &mut Vec<Path>, label: &WrittenPath<'_>) -> Result<(), NoMemory> {
-    if let Some(last) = label.last {
-        let path = path_of(at.alloc(), label, last)?;
-        push(labels, path)?;
+/// The label that the first part of a record is. None where it is none, and before `with`.
+fn first_label<'a>(
+    at: &Parts,
+    node: &'a Node,
+    number: u32,
+) -> Result<Option<WrittenPath<'a>>, NoMemory>
+    ensures { IfOk result (λ r. option_map path_view r ≡ label_before (token_in (node_view node.now) 4) (filled_in number (node_view node.now) 1)) }
+{
+    match token(node, 4) {
+        Some(_) => Ok(None),
+        None => label_path(at, operand_in(node, number, 1)),
+    }
+}
+
+/// The paths of the labels of a record whose last token is there: its first one, and those of its fields.
+fn paths_from<'a>(
+    at: &Parts,
+    first: &Option<WrittenPath<'a>>,
+    fields: &[Operand<'a>],
+) -> Result<Vec<Path>, NoMemory>
+    ensures { IfOk result (λ ps. map written_of ps.items ≡ label_paths (option_to_list (option_map path_view first.now) ++ labels_of (map operand_view fields.now))) }
+{
+    match first {
+        Some(first) => paths_of(at, &labels_behind(at, first, fields)?),
+        None => paths_of(at, &written_labels(at, fields)?),
+    }
+}
+
+/// The values of a record: its first part before `with`, or else that of its first label; and those of its fields.
+fn values_from<'a>(
+    at: &Parts,
+    node: &'a Node,
+    number: u32,
+    first: &Option<WrittenPath<'a>>,
+    fields: &[Operand<'a>],
+) -> Result<Vec<Operand<'a>>, NoMemory>
+    ensures { IfOk result (λ v. map operand_view v.items ≡ first_values number (node_view node.now) (token_in (node_view node.now) 4) (option_map path_view first.now) ++ field_values (map operand_view fields.now)) }
+{
+    let mut values = Vec::new(at.alloc());
+    push_first(node, number, first, &mut values)?;
+    push_values(fields, &mut values)?;
+    Ok(values)
+}
+
+/// Adds the first part of a record before `with`, or else the value of its first label.
+fn push_first<'a>(
+    node: &'a Node,
+    number: u32,
+    first: &Option<WrittenPath<'a>>,
+    values: &mut Vec<Operand<'a>>,
+) -> Result<(), NoMemory>
+    ensures { OnOk result (map operand_view values.new.items ≡ map operand_view values.old.items ++ first_values number (node_view node.now) (token_in (node_view node.now) 4) (option_map path_view first.now)) }
+{
+    if token(node, 4).is_some() {
+        return push(values, operand_in(node, number, 1));
+    }
+    if first.is_some() {
+        return push_part(values, first_operand(node, number, 3));
     }
     Ok(())
 }
 
-fn push_part<'a>(parts: &mut Vec<Operand<'a>>, part: Option<Operand<'a>>) -> Result<(), NoMemory> {
-    if let Some(part) = part {
-        push(parts, part)?;
+/// Adds the values of fields that have one of their own.
+fn push_values<'a>(fields: &[Operand<'a>], values: &mut Vec<Operand<'a>>) -> Result<(), NoMemory>
+    ensures { OnOk result (map operand_view values.new.items ≡ map operand_view values.old.items ++ field_values (map operand_view fields.now)) }
+{
+    for field in fields {
+        push_value(*field, values)?;
     }
     Ok(())
 }
 
-/// Whether the record type of labels has a mutable one.
-fn has_mutable_label(env: &Env, labels: &[Path]) -> bool {
+/// Adds the value of a field that is there and has one of its own.
+fn push_value<'a>(field: Operand<'a>, values: &mut Vec<Operand<'a>>) -> Result<(), NoMemory>
+    ensures { OnOk result (map operand_view values.new.items ≡ map operand_view values.old.items ++ option_to_list (field_value_in field.entry.number (operand_view field.entry).part)) }
+{
+    let Some(node) = field.node else {
+        return Ok(());
+    };
+    push_part(values, first_operand(node, field.number, 3))
+}
+
+/// Adds a part that is there.
+fn push_part<'a>(parts: &mut Vec<Operand<'a>>, part: Option<Operand<'a>>) -> Result<(), NoMemory>
+    ensures { OnOk result (map operand_view parts.new.items ≡ map operand_view parts.old.items ++ option_to_list (option_map operand_view part.entry)) }
+{
+    match part {
+        Some(part) => push(parts, part),
+        None => Ok(()),
+    }
+}
+
+/// Whether the record type that labels find has a mutable label; what isn't found has none.
+fn has_mutable_label(env: &Env, labels: &[Path]) -> bool
+    ensures { result ≡ not (found_unset (record_by labelled (env.now) (scope_for (env.now) (map written_of labels.now)) (map written_of labels.now))) }
+{
     match env.record_type(labels) {
         Found::Entry(entry) => match &entry.what {
-            What::Label(declaration, _) => {
-                labels_in(declaration).iter().any(|label| label.is_mutable)
-            }
+            What::Label(declaration, _) => any_mutable(labels_in(declaration)),
             _ => false,
         },
         _ => false,
     }
+}
+
+/// Whether one of some labels is mutable.
+fn any_mutable(labels: &[Label]) -> bool
+    ensures { result ≡ not (none_set labels.now) }
+{
+    for label in labels {
+        if label.is_mutable {
+            return true;
+        }
+    }
+    false
 }

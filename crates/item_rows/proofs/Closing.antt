@@ -63,7 +63,7 @@ module _ {D : Declared} {n : ℕ} {ts : List Tok} {E : Choice → Environment} {
   closed_nodes = bind_nodes (names_closed ys)
 
   -- the group, typed in its frame
-  pub item_group : GroupToClose I (item_scope n ts E) asks y G (sight s) xs ys
+  pub item_group : GroupToClose D env I (item_scope n ts E) asks y G (sight s) xs ys
   item_group = l.group I (surrounds_item l)
 
   -- the letters after the group
@@ -89,7 +89,7 @@ module _ {D : Declared} {n : ℕ} {ts : List Tok} {E : Choice → Environment} {
       limits_asked l.close x.level level one_level refl (λ v i. subst (λ ns. IsIn ns v) (sym (held_here x.level (limit_variables limits) (λ k. []))) i) (subst (AllMean I (sight s) item_letters h.types) (sym l.nodes) h.mean)
 
   -- the bindings, once all is limited
-  pub item_typed : AllToClose I item_limited item_letters xs ys
+  pub item_typed : AllToClose D env I item_limited item_letters xs ys
   item_typed = to_close_on limits_done.carried.stays item_group.typed
 
   -- and their names

@@ -22,10 +22,11 @@ use Rattle.typing_conditions.proofs.Inward.{reached_inward}
 use Rattle.typing_conditions.proofs.Meaning.{open_unbound, nodes_in}
 use Rattle.typing_steps.specs.States.{sight}
 use Rattle.binding_rows.specs.Closing.{Limit}
+use Rattle.binding_rows.specs.Decided.{IsAmong}
 use Rattle.binding_rows.specs.Lets.{ToClose}
-use Rattle.item_rows.specs.Outside.{AreInside, Left, IsLeft, EntersItems, ReadsItems, StaysOutside, ItemsCarried}
+use Rattle.item_rows.specs.Outside.{AgreesOutside, AreInside, Left, IsLeft, EntersItems, ReadsItems, StaysOutside, ItemsCarried}
 use Rattle.item_rows.specs.Groups.{item_scope, ItemGroup}
-use Rattle.item_rows.proofs.Starting.{group_frame, goes_in}
+use Rattle.item_rows.proofs.Starting.{group_frame, goes_in, surrounds_item}
 use Rattle.item_rows.proofs.Closing.{closed_nodes, item_limited, item_letters, item_part, item_written, item_closes, item_out, item_refines, after_reached, loose_before_close, still_bound}
 
 module _ {D : Declared} {n : ℕ} {ts : List Tok} {E : Choice → Environment} {asks : Asks} {x : Parts} {y : Sight} {G : Letters} {s d : Parts} {env : List Entry} {xs : List Binding} {ys : List ToClose} {limits : List Limit} (l : ItemGroup D n ts E asks x y G s d env xs ys limits) where
@@ -111,6 +112,26 @@ module _ {D : Declared} {n : ℕ} {ts : List Tok} {E : Choice → Environment} {
       written = λ z m f. absurd (none_yet z m f);
       given = e.agrees.given;
     };
+  }
+
+  -- A context that the state before allows is one among the names before, inside the item.
+  pub among_group : (V : Types) (c : Context) → c.env ≡ E c.chosen → Loose x.store.nodes V → AgreesOutside (sight x) G V c.chosen → IsAmong D env (inside_item n ts c)
+  among_group V c e loose agrees = record {
+    state = y;
+    frame = group_frame l;
+    scope = item_scope n ts E;
+    letters = G;
+    types = V;
+    at = surrounds_item l;
+    loose = subst (λ ns. Loose ns V) (sym l.only.nodes) loose;
+    under = under_item c e;
+    agrees = record {
+      recorded = λ i p m f. agrees.recorded i p m (sym (l.only.types i p) ∙ f);
+      known = λ i p m f. agrees.known i p m (sym (l.only.types i p) ∙ f);
+      written = λ z m f. absurd (none_yet z m f);
+      given = agrees.given;
+    };
+    named = λ z m f. absurd (none_yet z m f);
   }
 
   -- What is asked inside the item is carried from the state where it starts to the one after it.

@@ -11,6 +11,7 @@ use Rattle.type_nodes.specs.Nodes.{Node, IsNode, IsSound}
 use Rattle.type_nodes.specs.Readings.{Types, Fits, IsReading}
 use Rattle.level_unify.specs.Solutions.{Loose}
 use Rattle.level_unify.specs.Instances.{is_bound}
+use Rattle.level_unify.proofs.Unified.{fits_loosely}
 use Rattle.env_table.specs.declared.entries.Entry.{Entry}
 use Rattle.typing_environments.specs.Locals.{IsOwn, Refines, IsContext}
 use Rattle.typing_environments.specs.Assumptions.{SchemeFits, SchemeReads}
@@ -30,7 +31,7 @@ use Rattle.typing_model.specs.Items.{items_ask}
 use Rattle.typing_state.specs.declared.parts.Parts.{Parts}
 use Rattle.typing_steps.specs.States.{sight}
 use Rattle.item_rows.specs.Rows.{ItemDone}
-use Rattle.item_rows.specs.Outside.{AgreesOutside, Outside, Left, AreLeft, EntersItems, ContinuesItems, StaysOutside, OnlyBetween, ItemsCarried}
+use Rattle.item_rows.specs.Outside.{AgreesOutside, InEachOutside, Outside, Left, AreLeft, EntersItems, ContinuesItems, StaysOutside, OnlyBetween, ItemsCarried}
 
 -- what agrees with a state agreed before
 agrees_earlier : {a b : Sight} {G H : Letters} {V : Types} {ch : Choice} → StaysOutside a G b H → AgreesOutside b H V ch → AgreesOutside a G V ch
@@ -69,7 +70,7 @@ stays_both {a} {b} {c} sound p q = record {
 }
 
 -- Items after others: those after are asked in the context with the environment after those before.
-pub items_trans : {E E' : Choice → Environment} {asks further : Asks} {a b c : Sight} {G H K : Letters} (after : Context → Environment) → ((x : Context) → x.env ≡ E x.chosen → after x ≡ E' x.chosen) → IsSound a.nodes → ItemsCarried E asks a G b H → ItemsCarried E' further b H c K →
+pub items_trans : {E E' : Choice → Environment} {asks further : Asks} {a b c : Sight} {G H K : Letters} (after : Context → Environment) → InEachOutside E a G (λ x. after x ≡ E' x.chosen) → IsSound a.nodes → ItemsCarried E asks a G b H → ItemsCarried E' further b H c K →
     ItemsCarried E (λ x. asks x ++ further (under (after x) x)) a G c K
 items_trans {E} {E'} {asks} {further} {a} {b} {c} {G} {H} {K} after same_env sound p q = record {
   stays = stays_both sound p.stays q.stays;
@@ -86,7 +87,7 @@ items_trans {E} {E'} {asks} {further} {a} {b} {c} {G} {H} {K} after same_env sou
         kept = kept_left x.kept p.judged q.judged l.kept;
       }) in
       let two = q.sound V (into x) (record {
-        env = same_env x l.env;
+        env = same_env V x l.env ((stays_both sound p.stays q.stays).loose V (fits_loosely c.nodes V l.reads.fits)) (agrees_earlier (stays_both sound p.stays q.stays) l.agrees);
         reads = l.reads;
         agrees = l.agrees;
         left_too = left_second c.nodes p.left q.left V x.chosen l.left_too;
@@ -108,7 +109,7 @@ items_trans {E} {E'} {asks} {further} {a} {b} {c} {G} {H} {K} after same_env sou
     into x = under (after x) x
 
     enters_next : (V : Types) (x : Context) → EntersItems E a G V x → (goes : ContinuesItems asks a b H p.judged V x) → EntersItems E' b H goes.types (into x)
-    enters_next V x e goes = record { env = same_env x e.env; inside = p.stays.inside e.inside; fits = goes.fits; agrees = goes.agrees }
+    enters_next V x e goes = record { env = same_env V x e.env (fits_loosely a.nodes V e.fits) e.agrees; inside = p.stays.inside e.inside; fits = goes.fits; agrees = goes.agrees }
 
     -- the first ones fall short
     falls_first : (x : Context) (cs : List Condition) → FallsShort (judgements x.kept (asks x)) p.judged → FallsShort (judgements x.kept (asks x ++ cs)) (p.judged ++ q.judged)
@@ -299,3 +300,16 @@ pub items_more : {D : Declared} {E : Choice → Environment} {m : Item} {a b : P
 items_more {m = m} ms seen sound done only more = items_as
     (λ x. ap (λ names. m.asks x seen ++ items_ask (under (m.adds x ++ x.env) x) (seen_too seen names) ms) (sym (done.named x)))
     (items_trans (λ x. m.adds x ++ x.env) done.adds sound (done.carried seen) (items_then only more))
+
+-- an item is done where it was done from a state that differs only as between items
+pub done_between : {D : Declared} {E : Choice → Environment} {m : Item} {a b d : Parts} {G : Letters} {after : List Entry} → OnlyBetween (sight a) (sight b) → ItemDone D E m b d G after → ItemDone D E m a d G after
+done_between only done = record {
+  letters = done.letters;
+  env = done.env;
+  carried = λ seen. items_then only (done.carried seen);
+  outside = done.outside;
+  adds = λ V c env loose agrees. done.adds V c env (subst (λ ns. Loose ns V) (sym only.nodes) loose)
+      (record { recorded = λ i k m f. agrees.recorded i k m (sym (only.types i k) ∙ f); known = λ i k m f. agrees.known i k m (sym (only.types i k) ∙ f); given = agrees.given });
+  named = done.named;
+  constants = done.constants;
+}

@@ -2,13 +2,13 @@
 use Rattle.std.proofs.Common.{inl, inr, ◌≡◌, ◌≢◌, ◌∙◌, ℕ, suc, ◌+◌, ◌-◌, ◌^◌, ◌<◌, ◌≤◌, min, Bool, true, List, [], ◌∷◌, ◌++◌, map, None, Some, refl, sym, ap, subst, arith, if◌then◌else◌}
 use Rattle.token_model.specs.Kinds.{Tok}
 use Rattle.tree_model.specs.Slots.{is_operand}
-use Rattle.tree_model.specs.Trees.{Place, Tree}
+use Rattle.tree_model.specs.Trees.{Place, Tree, yield_of}
 use Rattle.type_model.specs.Types.{Typ, Var}
 use Rattle.type_model.specs.Schemes.{Scheme}
 use Rattle.signature_model.specs.Declarations.{Name, in_text}
 use Rattle.signature_model.specs.Entries.{Environment, entry, a_value}
 use Rattle.typing_model.specs.Demands.{made}
-use Rattle.typing_model.specs.Contexts.{Choice, Context, Bound, in_item, entries_with, generalised_in}
+use Rattle.typing_model.specs.Contexts.{Choice, Context, Bound, entries_with, generalised_in}
 use Rattle.typing_model.specs.Parts.{Binding}
 use Rattle.typing_model.specs.Bindings.{bindings_ask, names_of_group, held_by}
 use Rattle.typing_model.specs.Expressions.{is_some}
@@ -18,7 +18,9 @@ use Rattle.typing_model.specs.Meanings.{recorded_item}
 use Rattle.row_parts.specs.Numbered.{operands_in, token_in}
 use Rattle.type_nodes.specs.Nodes.{bound_level}
 use Rattle.env_table.specs.declared.entries.Entry.{Entry}
+use Rattle.typing_state.specs.declared.parts.Written.{Written}
 use Rattle.typing_state.specs.declared.parts.Parts.{Parts}
+use Rattle.typing_state.specs.Goes.{Goes}
 use Rattle.typing_state.specs.Types.{level_for}
 use Rattle.operand_laws.specs.Formed.{row_of}
 use Rattle.operand_laws.specs.Operands.{number_of, parts_of}
@@ -30,32 +32,34 @@ use Rattle.typing_conditions.specs.Steps.{OnlyLevel}
 use Rattle.typing_conditions.specs.Carrying.{Asks, Scope, HoldsWritten, Carried}
 use Rattle.typing_conditions.specs.Surroundings.{Declared, context_of}
 use Rattle.typing_conditions.proofs.Carried.{carried_trans, carried_as}
-use Rattle.typing_steps.specs.States.{is_aloud, sight}
+use Rattle.typing_steps.specs.States.{is_aloud, written_in, sight}
 use Rattle.typing_steps.specs.Typing.{as_declared}
 use Rattle.typing_steps.specs.Constants.{HasConstants}
+use Rattle.typing_steps.specs.Warning.{OnlyNotes}
 use Rattle.typing_steps.proofs.Joining.{with_level}
 use Rattle.typing_steps.proofs.Starting.{constants_kept}
 use Rattle.pattern_rows.specs.Bounds.{Bind, AllBound, none_bound, one_bound}
 use Rattle.binding_rows.specs.Operands.{bindings_of}
-use Rattle.binding_rows.specs.Decided.{verdicts}
+use Rattle.binding_rows.specs.Decided.{IsAmong}
 use Rattle.binding_rows.specs.Groups.{TypesGroup}
 use Rattle.binding_rows.proofs.Terms.{bindings_stand, rec_stands}
 use Rattle.case_rows.specs.Scopes.{names_added}
 use Rattle.binding_rows.specs.Closing.{Limit}
 use Rattle.binding_rows.specs.Lets.{ToClose, AllToClose, none_to_close, one_to_close, bind_nodes, bind_entries, names_closed, held_at, GroupToClose}
 use Rattle.binding_rows.specs.LetGroups.{TypesToClose}
-use Rattle.binding_rows.specs.LetNodes.{typed_as, AllDecide, none_decide, one_decides}
+use Rattle.binding_rows.specs.LetNodes.{typed_as}
 use Rattle.binding_rows.proofs.Held.{to_close_on, all_names_bound}
 use Rattle.binding_rows.proofs.LetNodes.{types_to_close}
 use Rattle.item_rows.specs.Scopes.{CanBeMade, AreMade, all_made}
-use Rattle.item_rows.specs.Outside.{Outside}
+use Rattle.item_rows.specs.Outside.{InEachOutside, Outside}
 use Rattle.item_rows.specs.Groups.{item_scope, group_asks, env_after, ItemGroup}
-use Rattle.item_rows.specs.Rows.{IsItemNode, TypesItem, recorded_let, ItemDone}
+use Rattle.item_rows.specs.Rows.{IsItemNode, TypesItem, recorded_let, ItemDone, AreWrittenIn, GivesLet}
 use Rattle.item_rows.proofs.Scoped.{scopes_carried, inside_carried, scoped_level, inside_level}
 use Rattle.item_rows.proofs.Closing.{item_letters, item_typed, item_bound}
-use Rattle.item_rows.proofs.Items.{item_carried}
+use Rattle.item_rows.proofs.Items.{among_group, item_carried}
 use Rattle.item_rows.proofs.After.{outside_after}
-use Rattle.item_rows.proofs.Orders.{items_treated}
+use Rattle.item_rows.proofs.Orders.{items_treated, outside_between, done_between}
+use Rattle.item_rows.proofs.Turns.{item_begins}
 use Rattle.item_rows.proofs.Unwritten.{names_unwritten}
 
 -- the types of names, by what is chosen
@@ -94,32 +98,15 @@ names_scoped {I} {scope} {G} {bs} a s n below bound (inr (scopes, can)) =
     (scopes_carried a s a.level bound_level n scopes.limits (subst (AllMean I (sight a) G (types_of_names bs)) (sym scopes.nodes) (names_mean bound)) scopes.all (highest I.level bound_level below refl) highest_free (subst (CanBeMade a.store.nodes n) (sym scopes.nodes) can))
 
 -- A group whose names' types are limited to what was made before an item is typed as that of the item.
-pub group_made : {I : Frame} {scope : Scope} {y : Sight} {G : Letters} {xs : List Binding} {ys : List ToClose} (a s : Parts) (n : ℕ) (is_rec : Bool) → I.level < bound_level → GroupToClose I scope (λ c. bindings_ask c is_rec xs) y G (sight a) xs ys → AreMade a s bound_level n (bind_nodes (names_closed ys)) →
-    GroupToClose I scope (group_asks n is_rec xs) y G (sight s) xs ys
-group_made {I} {scope} {y} {G} {xs} {ys} a s n is_rec below group are_made =
+pub group_made : {D : Declared} {env : List Entry} {I : Frame} {scope : Scope} {y : Sight} {G : Letters} {xs : List Binding} {ys : List ToClose} (a s : Parts) (n : ℕ) (is_rec : Bool) → I.level < bound_level → GroupToClose D env I scope (λ c. bindings_ask c is_rec xs) y G (sight a) xs ys → AreMade a s bound_level n (bind_nodes (names_closed ys)) →
+    GroupToClose D env I scope (group_asks n is_rec xs) y G (sight s) xs ys
+group_made {I = I} {scope = scope} {y = y} {G = G} {xs = xs} {ys = ys} a s n is_rec below group are_made =
     let scoped : Carried I scope (λ c. all_made n c.chosen (types_of_names (names_of_group xs))) (sight a) (group.own ++ G) (sight s) (group.own ++ G) = names_scoped a s n below (all_names_bound group.typed) are_made in
     record {
       own = group.own;
       carried = carried_as (λ c. ap (λ cs. bindings_ask c is_rec xs ++ cs) (made_names (all_names_bound group.typed) n c)) (carried_trans group.carried scoped);
       typed = to_close_on scoped.stays group.typed;
     }
-
--- a context, by which lists of verdicts are seen to be of one length
-any_context : Context
-any_context = record { env = []; variables = in_item 0; held = []; kept = λ s. true; chosen = record { type_at = λ n. Var 0; letter = λ n k. Var 0; written = λ n x. Var 0; filled = λ n o. Var 0 } }
-
--- bindings are closed by the verdicts of the definitions
-pub verdicts_decide : (xs : List Binding) (ys : List ToClose) → ((c : Context) → map (λ (y : ToClose). y.general) ys ≡ verdicts c xs) → AllDecide xs ys
-verdicts_decide [] [] same = none_decide
-verdicts_decide (x ∷ xs) (y ∷ ys) same = one_decides (λ c. sym (same_head _ _ _ _ (same c))) (verdicts_decide xs ys (λ c. same_tail _ _ _ _ (same c)))
-  where
-    same_head : (p q : Bool) (ps qs : List Bool) → p ∷ ps ≡ q ∷ qs → p ≡ q
-    same_head p q ps qs e = cc
-
-    same_tail : (p q : Bool) (ps qs : List Bool) → p ∷ ps ≡ q ∷ qs → ps ≡ qs
-    same_tail p q ps qs e = cc
-verdicts_decide [] (y ∷ ys) same = absurd (let e = same any_context in cc)
-verdicts_decide (x ∷ xs) [] same = absurd (let e = same any_context in cc)
 
 -- the entries that a group adds, before others
 entries_before : (s : Typ → Scheme) (c : Context) (bs : List Bound) (E W : Environment) → entries_with s c bs E ++ W ≡ entries_with s c bs (E ++ W)
@@ -132,9 +119,9 @@ names_chosen none_bound c = refl
 names_chosen (one_bound h hs) c = (λ i. h.chosen c i ∷ names_chosen hs c i)
 
 -- the definitions hold the types of the nodes that are limited
-held_chosen : {F : Frame} {a : Sight} {G : Letters} {xs : List Binding} {ys : List ToClose} → AllToClose F a G xs ys → (c : Context) → held_by c xs ≡ held_at c.chosen xs ys
-held_chosen none_to_close c = refl
-held_chosen (one_to_close {x = x} h hs) c = (λ i. if h.decides c i then held_chosen hs c i else c.chosen.type_at x.body.node ∷ names_chosen h.names c i ++ held_chosen hs c i)
+held_chosen : {D : Declared} {env : List Entry} {F : Frame} {a : Sight} {G : Letters} {xs : List Binding} {ys : List ToClose} → AllToClose D env F a G xs ys → (c : Context) → IsAmong D env c → held_by c xs ≡ held_at c.chosen xs ys
+held_chosen none_to_close c among = refl
+held_chosen (one_to_close {x = x} h hs) c among = (λ i. if h.decides c among i then held_chosen hs c among i else c.chosen.type_at x.body.node ∷ names_chosen h.names c i ++ held_chosen hs c among i)
 
 -- the entries of names are the same for the same schemes
 entries_same : {F : Frame} {a : Sight} {G : Letters} {bs : List Bound} {ns : List Bind} → AllBound F a G bs ns → (c : Context) (s s' : Typ → Scheme) (E E' : Environment) → s ≡ s' → E ≡ E' → entries_with s c bs E ≡ entries_with s' (context_of c.chosen) bs E'
@@ -144,11 +131,12 @@ entries_same (one_bound {x = x} h hs) c s s' E E' p e =
     (λ k. entry x.name (in_text x.place) (a_value (p k (h.chosen c k))) ∷ e k)
 
 -- The environment after an item is that of the definitions.
-pub item_adds : {D : Declared} {n : ℕ} {ts : List Tok} {E : Choice → Environment} {asks : Asks} {x : Parts} {y : Sight} {G : Letters} {s d : Parts} {env : List Entry} {xs : List Binding} {ys : List ToClose} {limits : List Limit} (l : ItemGroup D n ts E asks x y G s d env xs ys limits) (is_rec : Bool) (c : Context) →
-    c.env ≡ E c.chosen → (let_item n ts is_rec xs).adds c ++ c.env ≡ env_after E xs ys c.chosen
-item_adds {n = n} {ts = ts} {E = E} {xs = xs} {ys = ys} l is_rec c same =
+pub item_adds : {D : Declared} {n : ℕ} {ts : List Tok} {E : Choice → Environment} {asks : Asks} {x : Parts} {y : Sight} {G : Letters} {s d : Parts} {env : List Entry} {xs : List Binding} {ys : List ToClose} {limits : List Limit} (l : ItemGroup D n ts E asks x y G s d env xs ys limits) (is_rec : Bool) →
+    InEachOutside E (sight x) G (λ c. (let_item n ts is_rec xs).adds c ++ c.env ≡ env_after E xs ys c.chosen)
+item_adds {n = n} {ts = ts} {E = E} {xs = xs} {ys = ys} l is_rec V c same loose agrees =
     entries_before (generalised_in c.env (held_by (inside_item n ts c) xs)) (inside_item n ts c) (names_of_group xs) [] c.env
-    ∙ entries_same (item_bound l) (inside_item n ts c) (generalised_in c.env (held_by (inside_item n ts c) xs)) (generalised_in (E c.chosen) (held_at c.chosen xs ys)) c.env (E c.chosen) (λ i. generalised_in (same i) (held_chosen (item_typed l) (inside_item n ts c) i)) same
+    ∙ entries_same (item_bound l) (inside_item n ts c) (generalised_in c.env (held_by (inside_item n ts c) xs)) (generalised_in (E c.chosen) (held_at c.chosen xs ys)) c.env (E c.chosen)
+    (λ i. generalised_in (same i) (held_chosen (item_typed l) (inside_item n ts c) (among_group l V c same loose agrees) i)) same
 
 -- names come into scope as their entries do
 entries_added : (ns : List Bind) (env : List Entry) → names_added ns env ≡ added (bind_entries ns) env
@@ -177,7 +165,7 @@ item_row_of_node x d env after n t ts G E node h aloud at constants cleared name
   env = env_after E (bindings_of x.item (operands_in n t 2)) h.bindings;
   carried = λ seen. items_treated (number_of x.item n) (item_carried group);
   outside = subst (λ es. Outside as_declared (sight d) (item_letters group) es (env_after E (bindings_of x.item (operands_in n t 2)) h.bindings)) (sym (h.scope ∙ entries_added (names_closed h.bindings) env)) (outside_after group (names_unwritten x.item (operands_in n t 2)));
-  adds = λ c same. item_adds group (is_some (token_in t 1)) c same;
+  adds = item_adds group (is_some (token_in t 1));
   named = λ c. refl;
   constants = constants_kept x d h.goes constants;
 }
@@ -189,7 +177,7 @@ item_row_of_node x d env after n t ts G E node h aloud at constants cleared name
     typed = subst (λ i. TypesGroup h.begun h.done env (is_some (token_in t 1)) (bindings_of i (operands_in n t 2)) (map typed_as h.bindings)) here (h.typed node.bindings)
 
     to_close : TypesToClose h.begun h.done env (λ c. bindings_ask c (is_some (token_in t 1)) (bindings_of x.item (operands_in n t 2))) (bindings_of x.item (operands_in n t 2)) h.bindings
-    to_close = types_to_close h.begun h.done env (is_some (token_in t 1)) (bindings_of x.item (operands_in n t 2)) h.bindings (verdicts_decide (bindings_of x.item (operands_in n t 2)) h.bindings (λ c. h.judged node.bindings node.decided x.item c)) typed
+    to_close = types_to_close h.begun h.done env (is_some (token_in t 1)) (bindings_of x.item (operands_in n t 2)) h.bindings (h.judged node.bindings x.item) typed
 
     group : ItemGroup as_declared (number_of x.item n) ts E (group_asks (number_of x.item n) (is_some (token_in t 1)) (bindings_of x.item (operands_in n t 2))) x (sight h.begun) G h.scoped d env (bindings_of x.item (operands_in n t 2)) h.bindings h.closes.limits
     group = record {
@@ -203,3 +191,16 @@ item_row_of_node x d env after n t ts G E node h aloud at constants cleared name
       group = λ I s. group_made h.done h.scoped (number_of x.item n) (is_some (token_in t 1)) s.reached.frame.free (to_close (ap (λ (p : Parts). is_aloud p.telling) h.raised ∙ aloud) I (item_scope (number_of x.item n) ts E) G s) h.scopes;
       named = named;
     }
+
+-- what is written may be forgotten
+written_goes : (a b : Parts) (w : Written) → Goes a b → Goes a (record b { written = w })
+written_goes a b w g = record { store = g.store; types = g.types; faults = g.faults; index = g.index; recorded = g.recorded; item = g.item; telling = g.telling; constants = g.constants }
+
+-- The call for an item's `let`: its node is noted, the type variables that were written are forgotten, and its `let` is typed, in which only its own type variables are written.
+pub let_given : (a b c d : Parts) (w : Written) (env after : List Entry) (n : ℕ) (t : Tree) → OnlyNotes a b → Goes a b → c ≡ record b { written = w } → ((z : Name) → written_in w z ≡ None) → TypesItem c d env after n t → AreWrittenIn (yield_of t) d.written → GivesLet a d env after n t
+let_given a b c d w env after n t notes goes same none typed own G E node aloud at constants =
+    let only = item_begins a b c w notes same in
+    let here : c.item ≡ a.item = ap (λ (p : Parts). p.item) same ∙ notes.rest.item in
+    let goes' : Goes a c = subst (Goes a) (sym same) (written_goes a b w goes) in
+    done_between only (subst (λ i. ItemDone as_declared E (recorded_let i (yield_of t) n t) c d G after) here
+    (item_row_of_node c d env after n t (yield_of t) G E node typed (only.aloud ∙ aloud) (outside_between only at) (constants_kept a c goes' constants) (λ z. ap (λ (p : Parts). written_in p.written z) same ∙ none z) own))

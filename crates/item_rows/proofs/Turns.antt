@@ -1,5 +1,11 @@
 -- What the calls for an item do, one after the other: its number is noted and the written type variables are forgotten, and types are limited to a scope.
-use Rattle.std.proofs.Common.{inl, ◌≡◌, ◌∙◌, ℕ, List, [], ◌∷◌, ◌++◌, refl, sym, ap, subst, append-nil}
+use Rattle.std.proofs.Common.{inl, ◌≡◌, ◌∙◌, ℕ, List, [], ◌∷◌, ◌++◌, None, refl, sym, ap, subst, append-nil}
+use Rattle.std.specs.Prelude.{option_map}
+use Rattle.std.specs.Map.{lookup}
+use Rattle.std.specs.Str.{bytes_eq}
+use Rattle.std.specs.String.{string_bytes}
+use Rattle.signature_model.specs.Declarations.{Name}
+use Rattle.type_terms.specs.declared.types.NodeRef.{NodeRef}
 use Rattle.type_nodes.specs.Nodes.{Var, IsSound}
 use Rattle.type_nodes.specs.States.{State}
 use Rattle.type_nodes.specs.Changes.{Makes}
@@ -7,7 +13,7 @@ use Rattle.typing_state.specs.declared.parts.Written.{Written}
 use Rattle.typing_state.specs.declared.parts.Parts.{Parts}
 use Rattle.typing_state.specs.Goes.{OnlyStore, Goes}
 use Rattle.typing_state.specs.Types.{level_for, MadeOne, JoinedIfNodes}
-use Rattle.typing_steps.specs.States.{sight}
+use Rattle.typing_steps.specs.States.{written_in, sight}
 use Rattle.typing_steps.specs.Warning.{OnlyNotes}
 use Rattle.typing_steps.proofs.Still.{notes_unseen, notes_untold}
 use Rattle.pattern_rows.specs.Bounds.{Bind}
@@ -89,3 +95,7 @@ pub item_begins : (a b c : Parts) (w : Written) → OnlyNotes a b → c ≡ reco
 item_begins a b c w notes same =
     let only = notes_unseen a b notes in
     subst (λ x. OnlyBetween (sight a) (sight x)) (sym same) (record { nodes = only.nodes; types = only.types; reports = notes_untold a b notes; aloud = only.aloud; level = only.level; fixed = only.fixed })
+
+-- no type variable is written once they are forgotten
+pub none_written : (w : Written) → w.variables.entries ≡ [] → (z : Name) → written_in w z ≡ None
+none_written w empty z = ap (λ es. option_map (λ (m : NodeRef). m.0) (lookup (λ k. bytes_eq z (string_bytes k)) es)) empty

@@ -52,5 +52,5 @@ pub record ItemGroup (D : Declared) (n : ℕ) (ts : List Tok) (E : Choice → En
   pub raised : y.level ≡ suc x.level
   pub nodes : limit_nodes limits ≡ limited_nodes ys
   pub close : ClosesGroup s d limits (bind_nodes (names_closed ys))
-  pub group : (I : Frame) → Surrounds D I y G env (item_scope n ts E) → GroupToClose I (item_scope n ts E) asks y G (sight s) xs ys
+  pub group : (I : Frame) → Surrounds D I y G env (item_scope n ts E) → GroupToClose D env I (item_scope n ts E) asks y G (sight s) xs ys
   pub named : HoldsWritten (item_scope n ts E) (sight d)

@@ -27,6 +27,10 @@ pub record AgreesOutside (a : Sight) (G : Letters) (V : Types) (ch : Choice) : T
   pub known : (i p m : ℕ) → a.types i p ≡ Some m → IsKnown (V m)
   pub given : AreGiven G V ch
 
+-- in each context that a state between items allows
+abbrev pub InEachOutside : (Choice → Environment) → Sight → Letters → (Context → Type 0) → Type 0
+InEachOutside E a G P = (V : Types) (c : Context) → c.env ≡ E c.chosen → Loose a.nodes V → AgreesOutside a G V c.chosen → P c
+
 -- what is recorded is a node of the store, and so are the nodes of letters
 pub record AreInside (a : Sight) (G : Letters) : Type 0 where
   pub recorded : (i p m : ℕ) → a.types i p ≡ Some m → IsNode a.nodes m

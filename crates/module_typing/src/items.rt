@@ -1,12 +1,15 @@
 //! let b and b
+ghost use Rattle.std.specs.Prelude.{OnOk};
+ghost use Rattle.syntax_tree.specs.View.{node_view};
 ghost use Rattle.typing_state.specs.Goes.{Goes};
+ghost use Rattle.core_typing.specs.Items.{GivesLet};
 
 use core_typing::type_bindings;
 use module_steps::Scene;
 use syntax_tree::Node;
 use typing_state::{Depth, NoMemory, Parts};
 
-/// let b and b
+/// let b and b: the type variables that were written in the items before are forgotten, and its names are in scope after it.
 pub fn let_item(
     at: &mut Parts,
     node: &Node,
@@ -14,6 +17,7 @@ pub fn let_item(
     scene: &mut Scene,
     depth: Depth,
 ) -> Result<(), NoMemory>
+    ensures carries { OnOk result (GivesLet at.old at.new scene.old.env scene.new.env number (node_view node.now)) }
     ensures goes { Goes at.old at.new }
 {
     at.note_plain(number, &scene.env)?;

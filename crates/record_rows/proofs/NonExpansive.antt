@@ -30,12 +30,10 @@ use Rattle.typing_environments.specs.Environments.{WhatAs, of_value, of_construc
 use Rattle.typing_environments.proofs.Environments.{ComesTo, to_entry, to_hole, to_nothing}
 use Rattle.typing_environments.proofs.Own.{own_of}
 use Rattle.typing_declarations.specs.Declared.{LabelAs, OneByOne, no_more, one_more, ShapeAs, tell_nothing, tell_constructors, tell_labels, DeclaredAs, ExceptionAs}
-use Rattle.typing_state.specs.declared.parts.Parts.{Parts}
-use Rattle.typing_conditions.specs.Sights.{Letters}
+use Rattle.typing_conditions.specs.Sights.{Sight, Letters}
 use Rattle.typing_conditions.specs.Frames.{Frame}
 use Rattle.typing_conditions.specs.Carrying.{Scope}
 use Rattle.typing_conditions.specs.Surroundings.{Surrounds}
-use Rattle.typing_steps.specs.States.{sight}
 use Rattle.typing_steps.specs.Typing.{as_declared, path_as}
 use Rattle.typing_steps.specs.Building.{InEach}
 use Rattle.operand_laws.specs.Formed.{row_of, IsFormed}
@@ -81,12 +79,12 @@ module _ {nodes : List Node} {C : List ℕ} {N : Types} where
     found_so to_nothing = refl
 
 -- Whether no label of the record type may be set is the same by the names of the code and by those of the definitions, in each context that a state allows.
-pub unset_alike : {F : Frame} {scope : Scope} {G : Letters} {env : List Entry} (a : Parts) (ps : List Written) → Surrounds as_declared F (sight a) G env scope → InEach F scope (sight a) G (λ c. unset_in c ps ≡ unset_here env ps)
+pub unset_alike : {F : Frame} {scope : Scope} {G : Letters} {env : List Entry} (a : Sight) (ps : List Written) → Surrounds as_declared F a G env scope → InEach F scope a G (λ c. unset_in c ps ≡ unset_here env ps)
 unset_alike {F} {scope} {G} {env} a ps at V c loose under agrees named =
-    let own = own_of a.store.nodes at.reached.sound in
+    let own = own_of a.nodes at.reached.sound in
     let stands = (at.fits own.0 V c.chosen own.1 loose agrees named).names in
-    let R : ℕ → Scheme → Type 0 = λ r sc. SchemeFits a.store.nodes V r sc × IsIn at.roots r in
-    ap (λ E. unset_in (record c { env = E }) ps) under.env ∙ sym (found_so {R = R} (labels_alike R a.store.nodes at.roots at.names (labels_of ps) stands))
+    let R : ℕ → Scheme → Type 0 = λ r sc. SchemeFits a.nodes V r sc × IsIn at.roots r in
+    ap (λ E. unset_in (record c { env = E }) ps) under.env ∙ sym (found_so {R = R} (labels_alike R a.nodes at.roots at.names (labels_of ps) stands))
 
 -- the values of fields are non-expansive where their operands are
 values_so : (c : Context) (i : ℕ) (os : List Numbered) → AreFormedFields os → all_field_values c (value_fields_of i os) ≡ all_values c (expressions_of i (field_values os))
@@ -120,10 +118,10 @@ no_first no_expression n value h = refl
 no_first other n value h = refl
 
 -- a record that is made, by its first label and its values, in each context that a state allows
-module _ {F : Frame} {scope : Scope} {G : Letters} {env : List Entry} (a : Parts) (at : Surrounds as_declared F (sight a) G env scope) (i number : ℕ) (place : Place) (t : Tree) (formed : IsFormed number t) (row : row_of t ≡ erecord_row) (fields : AreFormedFields (operands_in number t 5)) where
+module _ {F : Frame} {scope : Scope} {G : Letters} {env : List Entry} (a : Sight) (at : Surrounds as_declared F a G env scope) (i number : ℕ) (place : Place) (t : Tree) (formed : IsFormed number t) (row : row_of t ≡ erecord_row) (fields : AreFormedFields (operands_in number t 5)) where
   -- where its first part is a label
   pub made_constant : (l : Written) → token_in t 4 ≡ None → (expression_of i (filled_in number t 1)).form ≡ a_path l →
-      InEach F scope (sight a) G (λ c. (row_expression i number place t).is_value c ≡ is_constant_here env c i (l ∷ labels_at (operands_in number t 5)) (option_to_list (first_in number t 3) ++ field_values (operands_in number t 5)))
+      InEach F scope a G (λ c. (row_expression i number place t).is_value c ≡ is_constant_here env c i (l ∷ labels_at (operands_in number t 5)) (option_to_list (first_in number t 3) ++ field_values (operands_in number t 5)))
   made_constant l none form V c loose under agrees named =
       let os = operands_in number t 5 in
       let e = expression_of i (filled_in number t 1) in
@@ -141,7 +139,7 @@ module _ {F : Frame} {scope : Scope} {G : Letters} {env : List Entry} (a : Parts
 
   -- the same where its first part is no label: neither that nor the value after it counts
   pub loose_constant : token_in t 4 ≡ None → IsNoLabel (expression_of i (filled_in number t 1)).form →
-      InEach F scope (sight a) G (λ c. (row_expression i number place t).is_value c ≡ is_constant_here env c i (labels_at (operands_in number t 5)) (field_values (operands_in number t 5)))
+      InEach F scope a G (λ c. (row_expression i number place t).is_value c ≡ is_constant_here env c i (labels_at (operands_in number t 5)) (field_values (operands_in number t 5)))
   loose_constant none form V c loose under agrees named =
       let os = operands_in number t 5 in
       let e = expression_of i (filled_in number t 1) in
@@ -153,7 +151,7 @@ module _ {F : Frame} {scope : Scope} {G : Letters} {env : List Entry} (a : Parts
       (λ k. p k && q k))
 
   -- one that is updated: its first part counts
-  pub updated_constant : (w : Tok) → token_in t 4 ≡ Some w → InEach F scope (sight a) G (λ c. (row_expression i number place t).is_value c ≡ is_constant_here env c i (labels_at (operands_in number t 5)) (filled_in number t 1 ∷ field_values (operands_in number t 5)))
+  pub updated_constant : (w : Tok) → token_in t 4 ≡ Some w → InEach F scope a G (λ c. (row_expression i number place t).is_value c ≡ is_constant_here env c i (labels_at (operands_in number t 5)) (filled_in number t 1 ∷ field_values (operands_in number t 5)))
   updated_constant w some V c loose under agrees named =
       let os = operands_in number t 5 in
       let e = expression_of i (filled_in number t 1) in

@@ -1,9 +1,9 @@
 //! The page of the faults of a text.
 use crate::verdict::{none_wrong, wrong_unless};
-use text_queries::{Listed, SyntaxFault, errors};
 use std::alloc::Global;
 use std::test::Fail;
 use syntax_tree::{NoMemory, Span};
+use text_queries::{Listed, SyntaxFault, errors};
 
 const SKIPPED: SyntaxFault = SyntaxFault::Skipped {
     span: Span { start: 5, end: 6 },

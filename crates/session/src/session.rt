@@ -507,7 +507,7 @@ impl<A: Analyser> Session<A> {
         ensures counted { Grows (C.tallies counts.old) (C.tallies counts.new) }
     {
         let parsed = tree_of(self.alloc, &self.kept, counts)?;
-        let members = query_engine::outline(self.alloc, &parsed.tree)?;
+        let members = text_queries::outline(self.alloc, &parsed.tree)?;
         shown_outline(self.alloc, self.text(), &members)
     }
 
@@ -552,7 +552,7 @@ impl<A: Analyser> Session<A> {
     fn page_of(&self, parsed: &[SyntaxFault], typed: &[Fault]) -> Result<Reply, NoMemory>
         ensures { IfOk result (λ r. said_of r ≡ faults_said self.now (map fault_of parsed.now ++ map by_typer (map typer_fault_of typed.now))) }
     {
-        let page = query_engine::errors(self.alloc, parsed, typed)?;
+        let page = text_queries::errors(self.alloc, parsed, typed)?;
         Ok(Reply::Faults {
             list: shown_faults(self.alloc, self.text(), &page.list)?,
             more: page.more,

@@ -79,7 +79,7 @@ pub fn position(store: &TextStore, offset: u32) -> Pos
 fn shown_member(
     alloc: Global,
     store: &TextStore,
-    member: &engine::Outlined,
+    member: &text_queries::Outlined,
 ) -> Result<json_lines::Outlined, NoMemory>
     ensures { IfOk result (λ o. outlined_of o ≡ shown_member store.now (member_of member.now)) }
 {
@@ -97,7 +97,7 @@ fn shown_member(
 pub fn shown_outline(
     alloc: Global,
     store: &TextStore,
-    members: &[engine::Outlined],
+    members: &[text_queries::Outlined],
 ) -> Result<Vec<json_lines::Outlined>, NoMemory>
     ensures { IfOk result (λ v. outline_of (map outlined_of v.items) ≡ shown_members store.now (members_of (map member_of members.now))) }
 {
@@ -112,7 +112,10 @@ pub fn shown_outline(
 }
 
 /// A fault with the positions of the store's text.
-fn shown_fault(store: &TextStore, fault: &engine::Listed) -> Result<json_lines::Listed, NoMemory>
+fn shown_fault(
+    store: &TextStore,
+    fault: &text_queries::Listed,
+) -> Result<json_lines::Listed, NoMemory>
     ensures { IfOk result (λ f. fault_of f ≡ shown_fault store.now (listed_of fault.now)) }
 {
     Ok(json_lines::Listed {
@@ -128,7 +131,7 @@ fn shown_fault(store: &TextStore, fault: &engine::Listed) -> Result<json_lines::
 pub fn shown_faults(
     alloc: Global,
     store: &TextStore,
-    faults: &[engine::Listed],
+    faults: &[text_queries::Listed],
 ) -> Result<Vec<json_lines::Listed>, NoMemory>
     ensures { IfOk result (λ v. map fault_of v.items ≡ map (shown_fault store.now) (map listed_of faults.now)) }
 {

@@ -5,10 +5,9 @@ use Rattle.token_model.specs.Kinds.{Tok, Kind, upper}
 use Rattle.tree_model.specs.Rows.{Row, pparen_row, plist_row, precord_row, qfield_row, papp_row, pcons_row, ptuple_row, por_row, pas_row, case_row, binding_row, ematch_row, etry_row, efun_row, efunction_row, name_row, econ_row, epath_row, econst_row, hole_row, eparen_row, ebegin_row, elist_row, prefix_row, field_row, eapp_row, eassert_row, ewhile_row, efor_row, eneg_row, infix_row, econs_row, etuple_row, eset_row, eif_row, eseq_row, elet_row, erecord_row, ffield_row}
 use Rattle.tree_model.specs.Trees.{Place, Tree, Forest, Part, node, no_parts, part, taken, inner, missing}
 use Rattle.tree_model.specs.Extents.{extent_of}
-use Rattle.row_parts.specs.Numbered.{Numbered, token_in, first_in, filled_in}
+use Rattle.row_parts.specs.Numbered.{Numbered, token_in, filled_in}
 use Rattle.operand_laws.specs.Formed.{IsOperandFormed}
 use Rattle.typing_rows.specs.CarriedPatternRows.{IsCarriedPatternRow}
-use Rattle.typing_rows.specs.Valued.{IsDecidedPart}
 
 -- a kind that isn't that of a constructor's name
 abbrev pub is_upper : Kind → Bool
@@ -103,10 +102,10 @@ abbrev pub IsCaseRow : Row → Type 0
 IsCaseRow case_row = Unit {0}
 IsCaseRow _ = ⊥
 
--- the row of a binding, of whose right side, where it has no parameters, no record, no `match` and no `let` decides whether it is non-expansive
-abbrev pub IsBindingRow : Row → Tree → Type 0
-IsBindingRow binding_row t = (n : ℕ) → first_in n t 1 ≡ None → IsDecidedPart (filled_in n t 5).part
-IsBindingRow _ t = ⊥
+-- the row of a binding
+abbrev pub IsBindingRow : Row → Type 0
+IsBindingRow binding_row = Unit {0}
+IsBindingRow _ = ⊥
 
 abbrev mutual
   -- a node of a sort, and all nodes in it, are of such rows; of a type expression nothing is asked
@@ -116,7 +115,7 @@ abbrev mutual
   IsTreeOfSort a_field_pattern (node r x ps) = IsFieldPatternRow r × AreOfCarriedRows r ps
   IsTreeOfSort a_field (node r x ps) = IsFieldRow r × AreOfCarriedRows r ps
   IsTreeOfSort a_case (node r x ps) = IsCaseRow r × AreOfCarriedRows r ps
-  IsTreeOfSort a_binding (node r x ps) = IsBindingRow r (node r x ps) × AreOfCarriedRows r ps
+  IsTreeOfSort a_binding (node r x ps) = IsBindingRow r × AreOfCarriedRows r ps
   IsTreeOfSort a_type (node r x ps) = Unit {0}
 
   -- so are all parts of a row, each of the sort of its slot

@@ -48,7 +48,7 @@ use Rattle.use_typing.specs.Uses.{UsesLabel}
 use Rattle.use_typing.specs.Records.{AsksNew, GivesFieldOf, BeginsField, TakesBehind, TakesFound, TypesRecordType}
 
 -- labels as the definitions take them
-paths_alike : (ls : List Written) → label_paths ls ≡ labels_of (map path_as ls)
+pub paths_alike : (ls : List Written) → label_paths ls ≡ labels_of (map path_as ls)
 paths_alike [] = refl
 paths_alike (p ∷ ps) = by p.last (paths_alike ps)
   where
@@ -79,7 +79,7 @@ first_alike (p ∷ ps) = by p.last (first_alike ps)
     by (Some t) later = refl
 
 -- what they find
-found_alike : (env : List Entry) (ls : List Written) → found_by env (label_paths ls) ≡ found_here env (map path_as ls)
+pub found_alike : (env : List Entry) (ls : List Written) → found_by env (label_paths ls) ≡ found_here env (map path_as ls)
 found_alike env ls = ap (found_by env) (paths_alike ls)
 
 -- labels that find nothing are reported as the definitions ask

@@ -1,5 +1,5 @@
 use Rattle.typing_state.proofs.Recording.{record_stays_in}
-use Rattle.std.proofs.Common.{◌≡◌, ◌∙◌, ◌<◌, length, map, drop, sym, ap, subst, arith, length-append, refl, rules, ◌==◌, ℕ, List, Bool, true, false}
+use Rattle.std.proofs.Common.{◌≡◌, ◌∙◌, ◌++◌, ◌<◌, length, map, drop, sym, ap, subst, arith, length-append, refl, rules, ◌==◌, ℕ, List, Bool, true, false}
 use Rattle.std.specs.Prelude.{option_map, All, Some, not}
 use Rattle.syntax_tree.specs.Names.{row_of}
 use Rattle.syntax_tree.specs.View.{node_view, place_of, tok_of}
@@ -262,7 +262,7 @@ bindings::in_turn-loop-binding-init t c =
     record {
       goes = goes_refl c.args.at.now;
       carries = turns_start c.args.at.now c.args.env.now os (names_seen c.new-seen.result.items) (map typed_of c.new-bound.result.items) (ap names_seen c.new-seen.ensures.items) (ap (map typed_of) c.new-bound.ensures.items);
-      general = judges_start os (generals c.new-bound.result.items) (ap generals c.new-bound.ensures.items);
+      general = judges_start c.args.env.now os (generals c.new-bound.result.items) (ap generals c.new-bound.ensures.items);
     }
 
 pub bindings::in_turn-returns-clause-carries : goal.bindings::in_turn-returns-clause-carries
@@ -275,7 +275,7 @@ pub bindings::in_turn-returns-clause-general : goal.bindings::in_turn-returns-cl
 bindings::in_turn-returns-clause-general t c =
     let os = c.args.bindings.now in
     let i = c.loop-binding.binding-index in
-    judges_end os (drop i os) (generals c.loop-binding.bound.items) (drop_all i os c.loop-binding-test.false) c.loop-binding.invariant.general
+    judges_end c.args.env.now os (drop i os) (generals c.loop-binding.bound.items) (drop_all i os c.loop-binding-test.false) c.loop-binding.invariant.general
 
 pub bindings::in_turn-loop-binding-preserved : goal.bindings::in_turn-loop-binding-preserved
 bindings::in_turn-loop-binding-preserved t c =
@@ -287,7 +287,7 @@ bindings::in_turn-loop-binding-preserved t c =
       goes = goes_trans c.args.at.now c.loop-binding.at c.take_turn.new.at c.loop-binding.invariant.goes c.take_turn.ensures.goes;
       carries = turns_step c.args.at.now c.loop-binding.at c.take_turn.new.at c.args.env.now all i x (names_seen c.loop-binding.seen.items) (names_seen c.take_turn.new.seen.items) (map typed_of c.loop-binding.bound.items) (map typed_of c.take_turn.new.bound.items) lt c.binding-item.is
           c.loop-binding.invariant.goes c.loop-binding.invariant.carries c.in_ok-take_turn.ensures.carries;
-      general = judges_step all i x (generals c.loop-binding.bound.items) (generals c.take_turn.new.bound.items) lt c.binding-item.is c.loop-binding.invariant.general c.in_ok-take_turn.ensures.general;
+      general = judges_step c.args.env.now all i x (generals c.loop-binding.bound.items) (generals c.take_turn.new.bound.items) lt c.binding-item.is c.loop-binding.invariant.general c.in_ok-take_turn.ensures.general;
     }
 
 pub bindings::let_in-returns-clause-carries : goal.bindings::let_in-returns-clause-carries
@@ -295,7 +295,7 @@ bindings::let_in-returns-clause-carries t c = λ place node.
     let bs = c.in_ok-bound.bound.items in
     let d = c.close.new.at in
     let_done c.args.at.now c.raise.new.at c.type_group.new.at d c.type_under.new.at c.args.env.now c.in_ok-behind.behind.env c.args.number place (node_view c.args.node.now) bs c.operand_in-body.result c.in_ok-ty.ty c.unnamed.result.ty node c.in_ok-raise.ensures.raised c.in_ok-bound.ensures.carries
-    c.in_ok-bound.ensures.general c.type_group.ensures.goes (subst (λ xs. ClosesBindings c.type_group.new.at d (map closing_of xs)) c.deref.ensures.value (c.in_ok-behind.ensures.carries refl)) c.close.ensures.goes
+    c.in_ok-bound.ensures.general c.type_group.ensures.goes (subst (λ xs. ClosesBindings c.type_group.new.at d (map closing_of xs)) c.deref.ensures.value c.in_ok-behind.ensures.carries) c.close.ensures.goes
     (c.in_ok-behind.ensures.names ∙ ap (λ xs. names_added (names_closed (map closing_of xs)) c.args.env.now) c.deref.ensures.value) c.operand_in-body.ensures c.in_ok-ty.ensures.carries c.unnamed.ensures.ty
 
 pub bindings::let_in-returns-clause-goes : goal.bindings::let_in-returns-clause-goes
@@ -316,13 +316,13 @@ bindings::turn-returns-clause-carries t c =
 
 pub bindings::turn-returns-clause-general : goal.bindings::turn-returns-clause-general
 bindings::turn-returns-clause-general t c =
-    if_ok c.conclude.result _ _ (λ b h. turn_judged c.open_pattern.new.at c.conclude.new.at c.args.binding c.in_ok-opened.opened c.in_ok-side.side b c.in_ok-opened.ensures.binding h) c.conclude.ensures.carries
+    if_ok c.conclude.result _ _ (λ b h. turn_judged c.open_pattern.new.at c.conclude.new.at c.args.env.now c.args.binding c.in_ok-opened.opened c.in_ok-side.side b c.in_ok-opened.ensures.binding h) c.conclude.ensures.carries
 
 pub bindings::take_turn-returns-in_default-clause-carries : goal.bindings::take_turn-returns-in_default-clause-carries
 bindings::take_turn-returns-in_default-clause-carries t c = turn_missing c.args.at.now c.args.env.now c.args.binding (names_seen c.args.seen.now.items) (map typed_of c.args.bound.now.items) c.in_default.is
 
 pub bindings::take_turn-returns-in_default-clause-general : goal.bindings::take_turn-returns-in_default-clause-general
-bindings::take_turn-returns-in_default-clause-general t c = judged_missing c.args.binding (generals c.args.bound.now.items) c.in_default.is
+bindings::take_turn-returns-in_default-clause-general t c = judged_missing c.args.env.now c.args.binding (generals c.args.bound.now.items) c.in_default.is
 
 pub bindings::take_turn-returns-clause-carries : goal.bindings::take_turn-returns-clause-carries
 bindings::take_turn-returns-clause-carries t c =
@@ -337,7 +337,7 @@ bindings::take_turn-returns-clause-general t c =
     let old = c.args.bound.now.items in
     let new = c.push.new.list.items in
     on_ok c.push.result (λ pushed.
-    judged_there c.args.binding c.in-Some.node (generals old) (generals new) c.in_ok-one.one.generalises c.in-Some.is (mapped_more (λ b. b.generalises) old new c.in_ok-one.one pushed) c.in_ok-one.ensures.general) c.push.ensures.pushed
+    judged_there c.args.env.now c.args.binding c.in-Some.node (generals old) (generals new) c.in_ok-one.one.generalises c.in-Some.is (mapped_more (λ b. b.generalises) old new c.in_ok-one.one pushed) c.in_ok-one.ensures.general) c.push.ensures.pushed
 
 pub bindings::recorded_right-returns-clause-carries : goal.bindings::recorded_right-returns-clause-carries
 bindings::recorded_right-returns-clause-carries t c =
@@ -354,12 +354,12 @@ bindings::together-returns-clause-carries t c =
 
 pub bindings::together-returns-clause-general : goal.bindings::together-returns-clause-general
 bindings::together-returns-clause-general t c =
-    if_ok c.conclude_all.result _ _ (λ bs h. judged_by_nodes (map operand_view c.args.bindings.now) (map node_of c.in_ok-opened.opened.items) (generals bs.items) c.in_ok-opened.ensures.nodes h) c.conclude_all.ensures.general
+    if_ok c.conclude_all.result _ _ (λ bs h. judged_by_nodes c.args.env.now (map operand_view c.args.bindings.now) (map node_of c.in_ok-opened.opened.items) (generals bs.items) c.in_ok-opened.ensures.nodes h) c.conclude_all.ensures.general
 
 pub bindings::conclude_one-returns-clause-carries : goal.bindings::conclude_one-returns-clause-carries
 bindings::conclude_one-returns-clause-carries t c =
     if_ok c.conclude.result _ _ (λ b h.
-    conclusion_done c.args.at.now c.type_right.new.at c.conclude.new.at c.args.within.now c.args.opened c.in_ok-side.side b c.in_ok-side.ensures.carries c.type_right.ensures.goes h) c.conclude.ensures.carries
+    conclusion_done c.args.at.now c.type_right.new.at c.conclude.new.at c.args.within.now c.args.env.now c.args.opened c.in_ok-side.side b c.in_ok-side.ensures.carries c.type_right.ensures.goes h) c.conclude.ensures.carries
 
 pub bindings::conclude_one-returns-clause-general : goal.bindings::conclude_one-returns-clause-general
 bindings::conclude_one-returns-clause-general t c = if_ok c.conclude.result _ _ (λ b h. h.judged) c.conclude.ensures.carries
@@ -392,7 +392,7 @@ bindings::conclude_all-loop-depth-init t c =
     record {
       goes = goes_refl c.args.at.now;
       carries = λ are. concludes_start c.args.at.now c.args.within.now (map node_of os) (map opened_of os) (map typed_of c.new-bound.result.items) (ap (map typed_of) c.new-bound.ensures.items) are;
-      general = λ are. nodes_judged_start (map node_of os) (generals c.new-bound.result.items) (ap generals c.new-bound.ensures.items) are;
+      general = λ are. nodes_judged_start c.args.env.now (map node_of os) (generals c.new-bound.result.items) (ap generals c.new-bound.ensures.items) are;
     }
 
 pub bindings::conclude_all-returns-clause-carries : goal.bindings::conclude_all-returns-clause-carries
@@ -408,7 +408,7 @@ bindings::conclude_all-returns-clause-general t c =
     let left = c.loop-depth.left in
     let len : length left.items ≡ left.len = search rules in
     let none = none_left left.items (ap (λ n. n == 0) len ∙ (sym c.is_empty.ensures ∙ c.loop-depth-test.false)) in
-    nodes_judged_end (map node_of c.args.opened.items) (map node_of left.items) (generals c.loop-depth.bound.items) (ap (map node_of) none) c.loop-depth.invariant.general
+    nodes_judged_end c.args.env.now (map node_of c.args.opened.items) (map node_of left.items) (generals c.loop-depth.bound.items) (ap (map node_of) none) c.loop-depth.invariant.general
 
 pub bindings::conclude_all-loop-depth-preserved : goal.bindings::conclude_all-loop-depth-preserved
 bindings::conclude_all-loop-depth-preserved t c =
@@ -426,7 +426,7 @@ bindings::conclude_all-loop-depth-preserved t c =
       carries = λ are. concludes_step c.args.at.now c.loop-depth.at c.conclude_one.new.at c.args.within.now (map node_of os) (map node_of left.items) (map node_of rest) (node_of one) (map opened_of os) (map opened_of left.items) (map opened_of rest) (opened_of one)
           (map typed_of before) (map typed_of now) (typed_of c.in_ok-done.done) (ap (map node_of) cut) (ap (map opened_of) cut) (mapped_more typed_of before now c.in_ok-done.done c.in_ok-push.ensures.pushed) c.loop-depth.invariant.goes (c.loop-depth.invariant.carries are)
           c.in_ok-done.ensures.carries;
-      general = λ are. nodes_judged_step (map node_of os) (map node_of left.items) (map node_of rest) (node_of one) (generals before) (generals now) c.in_ok-done.done.generalises (ap (map node_of) cut) (mapped_more (λ b. b.generalises) before now c.in_ok-done.done c.in_ok-push.ensures.pushed)
+      general = λ are. nodes_judged_step c.args.env.now (map node_of os) (map node_of left.items) (map node_of rest) (node_of one) (generals before) (generals now) c.in_ok-done.done.generalises (ap (map node_of) cut) (mapped_more (λ b. b.generalises) before now c.in_ok-done.done c.in_ok-push.ensures.pushed)
           (c.loop-depth.invariant.general are) c.in_ok-done.ensures.general;
     }
 
@@ -440,7 +440,7 @@ bindings::type_group-returns-in-None-clause-carries t c =
 pub bindings::type_group-returns-in-None-clause-general : goal.bindings::type_group-returns-in-None-clause-general
 bindings::type_group-returns-in-None-clause-general t c =
     if_ok c.in_turn.result _ _ (λ bs h.
-    judged_group c.args.number (node_view c.args.node.now) (map operand_view c.deref-in-None.result.now) (generals bs.items) (ap (map operand_view) c.deref-in-None.ensures.value ∙ c.in_ok-bindings.ensures) h) c.in_turn.ensures.general
+    judged_group c.args.env.now c.args.number (node_view c.args.node.now) (map operand_view c.deref-in-None.result.now) (generals bs.items) (ap (map operand_view) c.deref-in-None.ensures.value ∙ c.in_ok-bindings.ensures) h) c.in_turn.ensures.general
 
 pub bindings::type_group-returns-clause-carries : goal.bindings::type_group-returns-clause-carries
 bindings::type_group-returns-clause-carries t c =
@@ -452,7 +452,7 @@ bindings::type_group-returns-clause-carries t c =
 pub bindings::type_group-returns-clause-general : goal.bindings::type_group-returns-clause-general
 bindings::type_group-returns-clause-general t c =
     if_ok c.together.result _ _ (λ bs h.
-    judged_group c.args.number (node_view c.args.node.now) (map operand_view c.deref-in-Some.result.now) (generals bs.items) (ap (map operand_view) c.deref-in-Some.ensures.value ∙ c.in_ok-bindings.ensures) h) c.together.ensures.general
+    judged_group c.args.env.now c.args.number (node_view c.args.node.now) (map operand_view c.deref-in-Some.result.now) (generals bs.items) (ap (map operand_view) c.deref-in-Some.ensures.value ∙ c.in_ok-bindings.ensures) h) c.together.ensures.general
 
 pub exprs::type_each-loop-e-init : goal.exprs::type_each-loop-e-init
 exprs::type_each-loop-e-init t c = record {

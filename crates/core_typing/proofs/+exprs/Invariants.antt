@@ -17,7 +17,7 @@ use Rattle.typing_rows.specs.Contracts.{TypesFirst, TypesGivenFirst, TypesPartsF
 use Rattle.pattern_typing.specs.Matching.{names_seen}
 use Rattle.binding_rows.specs.Carried.{IsNumberedBinding}
 use Rattle.binding_rows.specs.Operands.{TypesInTurnFirst, ConcludesNodesFirst}
-use Rattle.binding_rows.specs.Decided.{IsDecidedNumbered, JudgesOperandsFirst, JudgesNodesFirst}
+use Rattle.binding_rows.specs.Decided.{JudgesOperandsFirst, JudgesNodesFirst}
 use Rattle.core_typing.specs.Bindings.{typed_of, opened_of, node_of, generals}
 use Rattle.record_rows.specs.Values.{FieldsWrittenFirst}
 use Rattle.record_rows.specs.ValueOperands.{value_fields_of, IsCarriedValue}
@@ -189,7 +189,7 @@ abbrev pub invariant-bindings::in_turn-loop-binding : goal.invariant-bindings::i
 invariant-bindings::in_turn-loop-binding l = record {
   goes : Goes l.fn.at l.at;
   carries : TypesInTurnFirst l.fn.at l.at l.env l.bindings (drop l.binding-index l.bindings) (names_seen l.seen.items) (map typed_of l.bound.items);
-  general : JudgesOperandsFirst l.bindings (drop l.binding-index l.bindings) (generals l.bound.items);
+  general : JudgesOperandsFirst l.env l.bindings (drop l.binding-index l.bindings) (generals l.bound.items);
 }
 
 abbrev pub invariant-bindings::conclude_all-loop-depth : goal.invariant-bindings::conclude_all-loop-depth
@@ -197,7 +197,7 @@ invariant-bindings::conclude_all-loop-depth l = record {
   goes : Goes l.fn.at l.at;
   carries : All IsNumberedBinding (map node_of l.fn.opened.items) →
       ConcludesNodesFirst l.fn.at l.at l.within (map node_of l.fn.opened.items) (map node_of l.left.items) (map opened_of l.fn.opened.items) (map opened_of l.left.items) (map typed_of l.bound.items);
-  general : All IsDecidedNumbered (map node_of l.fn.opened.items) → JudgesNodesFirst (map node_of l.fn.opened.items) (map node_of l.left.items) (generals l.bound.items);
+  general : All IsNumberedBinding (map node_of l.fn.opened.items) → JudgesNodesFirst l.env (map node_of l.fn.opened.items) (map node_of l.left.items) (generals l.bound.items);
 }
 
 abbrev pub decreases-records::record : goal.decreases-records::record

@@ -19,7 +19,7 @@ loop-one-init c =
     record {
       goes = goes_trans c.args.at.now lowered c.hold_all.new.at (level_goes c.args.at.now low) c.hold_all.ensures.goes;
       silent = c.hold_all.ensures.silent;
-      closes = λ free. closes_start c.args.at.now c.hold_all.new.at c.args.env.now c.in_ok-behind.behind low ys c.saturating_sub-at.ensures c.in_ok-behind.ensures c.in_ok-hold_all.ensures.limits;
+      closes = closes_start c.args.at.now c.hold_all.new.at c.args.env.now c.in_ok-behind.behind low ys c.saturating_sub-at.ensures c.in_ok-behind.ensures c.in_ok-hold_all.ensures.limits;
       names = ap (names_added (names_closed ys)) c.in_ok-behind.ensures;
     }
 
@@ -34,16 +34,16 @@ loop-one-preserved c =
     record {
       goes = goes_trans c.args.at.now c.loop-one.at c.close_names.new.at c.loop-one.invariant.goes c.close_names.ensures.goes;
       silent = silent_trans c.args.at.now c.loop-one.at c.close_names.new.at c.loop-one.invariant.silent c.close_names.ensures.silent;
-      closes = λ free. closes_step c.args.at.now c.loop-one.at c.close_names.new.at c.args.env.now before c.in_ok-behind-2.behind all i x lt c.one-item.is (c.loop-one.invariant.closes free)
-          (subst (λ ns. GeneralisesAll c.loop-one.at c.close_names.new.at (name_nodes ns)) c.deref.ensures.value (c.in_ok-close_names.ensures.generalises free)) brought;
+      closes = closes_step c.args.at.now c.loop-one.at c.close_names.new.at c.args.env.now before c.in_ok-behind-2.behind all i x lt c.one-item.is c.loop-one.invariant.closes
+          (subst (λ ns. GeneralisesAll c.loop-one.at c.close_names.new.at (name_nodes ns)) c.deref.ensures.value c.in_ok-close_names.ensures.generalises) brought;
       names = names_step all i x before c.in_ok-behind-2.behind (names_added (names_closed (map closing_of all)) c.args.env.now) lt c.one-item.is brought c.loop-one.invariant.names;
     }
 
 pub returns-clause-carries : goal.returns-clause-carries
-returns-clause-carries c = λ free.
+returns-clause-carries c =
     let all = c.args.bound.now in
     let i = c.loop-one.one-index in
-    closes_end c.args.at.now c.loop-one.at c.args.env.now c.loop-one.behind (map closing_of all) (map closing_of (drop i all)) (ap (map closing_of) (drop_all i all c.loop-one-test.false)) (c.loop-one.invariant.closes free) c.len-nodes.ensures.sound
+    closes_end c.args.at.now c.loop-one.at c.args.env.now c.loop-one.behind (map closing_of all) (map closing_of (drop i all)) (ap (map closing_of) (drop_all i all c.loop-one-test.false)) c.loop-one.invariant.closes c.len-nodes.ensures.sound
 
 pub returns-clause-names : goal.returns-clause-names
 returns-clause-names c =

@@ -1,5 +1,4 @@
 use Rattle.std.proofs.Common.{◌≡◌, map, drop}
-use Rattle.std.specs.Prelude.{None}
 use Rattle.typing_state.specs.Goes.{Goes, Silent}
 use Rattle.case_rows.specs.Scopes.{names_added}
 use Rattle.binding_rows.specs.Lets.{names_closed}
@@ -11,6 +10,6 @@ abbrev pub invariant-loop-one : goal.invariant-loop-one
 invariant-loop-one l = record {
   goes : Goes l.fn.at l.at;
   silent : Silent l.fn.at l.at;
-  closes : l.scope ≡ None → ClosesFirst l.fn.at l.at l.env l.behind (map closing_of l.bound) (map closing_of (drop l.one-index l.bound));
+  closes : ClosesFirst l.fn.at l.at l.env l.behind (map closing_of l.bound) (map closing_of (drop l.one-index l.bound));
   names : names_added (names_closed (map closing_of (drop l.one-index l.bound))) l.behind ≡ names_added (names_closed (map closing_of l.bound)) l.env;
 }

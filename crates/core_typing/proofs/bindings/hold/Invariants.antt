@@ -1,12 +1,13 @@
 use Rattle.std.proofs.Common.{drop}
 use Rattle.typing_state.specs.Goes.{Goes, Silent}
 use Rattle.core_typing.specs.Bindings.{name_nodes}
-use Rattle.core_typing.proofs.ClosingLaws.{NamesLimited}
+use Rattle.binding_rows.specs.Closing.{LimitsNodes}
+use Rattle.core_typing.proofs.ClosingLaws.{NamesDone}
 use Rattle.core_typing.proofs.bindings.hold.Given as goal
 
 abbrev pub invariant-loop-name : goal.invariant-loop-name
 invariant-loop-name l = record {
   goes : Goes l.fn.at l.at;
   silent : Silent l.fn.at l.at;
-  limits : NamesLimited l.fn.at l.at l.level (name_nodes (drop l.name-index l.names)) (name_nodes l.names);
+  limits : NamesDone (LimitsNodes l.fn.at l.at l.level) (name_nodes (drop l.name-index l.names)) (name_nodes l.names);
 }

@@ -21,4 +21,4 @@ abbrev pub decreases-is_record_value : goal.decreases-is_record_value
 decreases-is_record_value l = 3 * l.depth.0 + 1
 
 abbrev pub invariant-are_values-loop-part : goal.invariant-are_values-loop-part
-invariant-are_values-loop-part l = ValuesLeft l.parts (drop l.part-index l.parts)
+invariant-are_values-loop-part l = ValuesLeft l.env l.parts (drop l.part-index l.parts)
