@@ -5,7 +5,9 @@
 //! is counted as typed but for those at the front that are as they were, and no others.
 #![tactic(auto)]
 
-ghost use Rattle.std.specs.Prelude.{◌≡◌, ℕ, [], ◌-◌, length, IfOk, OnOk, OnErr};
+ghost use Rattle.std.specs.Prelude.{◌≡◌, ℕ, List, [], ◌+◌, ◌-◌, ◌≤◌, length, IfOk, OnOk, OnErr};
+ghost use Rattle.token_model.specs.Kinds.{Tok};
+ghost use Rattle.token_model.specs.Tokens.{Lex};
 ghost use Rattle.syntax_tree.specs.Tallies.{Grows};
 ghost use Rattle.syntax_tree.specs.View.{trees_of};
 ghost use Rattle.analysis_api.specs.Typed.{more_typed, GoesOn, LongestFront};
@@ -33,7 +35,7 @@ pub struct Analysis<'a> {
 
 /// What finds the types and names of a text, and keeps them from one tree of the text to the next.
 pub trait Analyser: Drop {
-    ghost use Rattle.std.specs.Prelude.{List};
+    ghost use Rattle.std.specs.Prelude.{List, ℕ};
     ghost use Rattle.tree_model.specs.Trees as plain;
     ghost use Rattle.analysis_api.specs.declared.Analysis.{Analysis};
 
@@ -43,19 +45,24 @@ pub trait Analyser: Drop {
     /// Whether an analysis is what it found of these items.
     ghost finds: { Self → Analysis → Type 0 };
 
+    /// The bytes of the prelude.
+    ghost opens: { List ℕ };
+
     /// What every text has at hand, and no item. The prelude's tokens are counted, and no item.
     fn new<C: Counts>(alloc: Global, counts: &mut C) -> Result<Self, NoMemory>
         ensures items { IfOk result (λ a. items a ≡ []) }
+        ensures lexed { (ts : List Tok) → Lex opens ts → (C.tallies counts.new).lexed ≤ (C.tallies counts.old).lexed + length ts }
         ensures grows { Grows (C.tallies counts.old) (C.tallies counts.new) }
         ensures untyped { OnOk result ((C.tallies counts.new).typed ≡ (C.tallies counts.old).typed) };
 
     /// Finds the types and names of a text with this tree. The items at the front that it holds already stay as they are, all of them;
     /// each item after them is typed, and counted once. After `NoMemory` it holds those that stay and some after them, which were
-    /// typed, and can be asked again.
+    /// typed, and can be asked again. It lexes nothing.
     fn refresh<C: Counts>(&mut self, tree: &Tree, counts: &mut C) -> Result<(), NoMemory>
         ensures items { OnOk result (items self.new ≡ trees_of tree.now) }
         ensures typed { OnOk result ((n : ℕ) × LongestFront (items self.old) (trees_of tree.now) n × ((C.tallies counts.new).typed ≡ more_typed (length tree.now.items.items - n) (C.tallies counts.old).typed)) }
         ensures failed { OnErr result (GoesOn (items self.old) (trees_of tree.now) (items self.new) (C.tallies counts.old).typed (C.tallies counts.new).typed) }
+        ensures unlexed { (C.tallies counts.new).lexed ≡ (C.tallies counts.old).lexed }
         ensures grows { Grows (C.tallies counts.old) (C.tallies counts.new) };
 
     /// What is found of the items that it holds, after a `refresh` that succeeded.
@@ -63,5 +70,6 @@ pub trait Analyser: Drop {
         ensures { finds self.now result };
 
     /// The text of the prelude, whose names every text has at hand; its lines are counted from 1.
-    fn prelude() -> &'static str;
+    fn prelude() -> &'static str
+        ensures { result.now ≡ opens };
 }

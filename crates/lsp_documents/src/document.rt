@@ -84,7 +84,7 @@ fn unread_list(alloc: Global, why: Unread) -> Result<Vec<Diagnostic>, NoMemory>
 
 /// The positions of the session for the ends of an editor's range.
 fn ends_of<A: Analyser>(session: &Session<A>, range: Range, by: Columns) -> (Pos, Pos)
-    ensures { range_told result ≡ ends_of_spec (columns_in by) session.now (says.range_of range) }
+    ensures { range_told result ≡ ends_of_spec (columns_in by) session.now.text (says.range_of range) }
 {
     let span = span_asked(session, range, by);
     (session.pos_of(span.start), session.pos_of(span.end))
@@ -96,7 +96,7 @@ fn ends_in<A: Analyser>(
     range: Option<Range>,
     by: Columns,
 ) -> Option<(Pos, Pos)>
-    ensures { option_map range_told result ≡ option_map (ends_of_spec (columns_in by) session.now) (option_map says.range_of range) }
+    ensures { option_map range_told result ≡ option_map (ends_of_spec (columns_in by) session.now.text) (option_map says.range_of range) }
 {
     match range {
         Some(range) => Some(ends_of(session, range, by)),
@@ -111,7 +111,7 @@ fn edit<A: Analyser>(
     range: Option<(Pos, Pos)>,
     text: RcStr,
 ) -> Result<Option<Unread>, NoMemory>
-    ensures { IfOk result (λ why. content_of why session.new ≡ edited (state.read session.old) (tell_outcome session.old (option_map range_told range) (str_bytes text))) }
+    ensures { IfOk result (λ why. content_of why session.new.text ≡ edited (state.read session.old.text) (tell_outcome session.old.text (option_map range_told range) (str_bytes text))) }
 {
     match session.change(range, text) {
         Ok(()) => Ok(None),
@@ -123,7 +123,7 @@ fn edit<A: Analyser>(
 
 /// Lets the text of a session go, with all that is kept of it.
 fn let_go<A: Analyser>(session: &mut Session<A>, alloc: Global)
-    ensures { session.new ≡ [] }
+    ensures { session.new.text ≡ [] }
 {
     *session = Session::<A>::new(alloc);
 }
@@ -161,9 +161,9 @@ impl<A: Analyser> Model for Document<A> {
 
     ghost Value = { state.Document };
 
-    ghost view = { λ d. record { uri = str_bytes d.uri; version = d.version; content = content_of d.why d.session; shown = d.sent.items } };
+    ghost view = { λ d. record { uri = str_bytes d.uri; version = d.version; content = content_of d.why d.session.text; shown = d.sent.items } };
 
-    ghost invariant = { λ d. IsFresh d.fresh (record { uri = str_bytes d.uri; version = d.version; content = content_of d.why d.session; shown = d.sent.items }) };
+    ghost invariant = { λ d. IsFresh d.fresh (record { uri = str_bytes d.uri; version = d.version; content = content_of d.why d.session.text; shown = d.sent.items }) };
 }
 
 impl<A: Analyser> Document<A> {
@@ -198,7 +198,7 @@ impl<A: Analyser> Document<A> {
 
     /// Its text, where it is read.
     pub fn text(&self) -> Option<&Session<A>>
-        ensures { option_map (λ s. s.now) result ≡ text_of self.now.content }
+        ensures { option_map (λ s. s.now.text) result ≡ text_of self.now.content }
     {
         match self.why {
             Some(_) => None,

@@ -246,7 +246,7 @@ impl<A: Analyser> Documents<A> {
 
     /// The text of the open document of a name, where that is read.
     fn text_of(&self, uri: &RcStr) -> Option<&Session<A>>
-        ensures { option_map (λ s. s.now) result ≡ text_in self.now.documents (str_bytes uri.now) }
+        ensures { option_map (λ s. s.now.text) result ≡ text_in self.now.documents (str_bytes uri.now) }
     {
         let at = place_of(&self.documents, uri.as_str())?;
         self.documents[at].text()

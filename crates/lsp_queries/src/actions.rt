@@ -51,7 +51,7 @@ fn terms_at<A: Analyser, C: Counts>(
     tried: &mut TriedText<A>,
     counts: &mut C,
 ) -> Result<Option<Vec<Action>>, NoMemory>
-    ensures are { IfOk result (λ t. (s : said.Said) × TermsAre session.now offset s × (option_map (λ v. map puts.action_of v.items) t ≡ terms_told (columns_in by) session.now (value_of s))) }
+    ensures are { IfOk result (λ t. (s : said.Said) × TermsAre session.now.text offset s × (option_map (λ v. map puts.action_of v.items) t ≡ terms_told (columns_in by) session.now.text (value_of s))) }
     ensures counted { Grows (C.tallies counts.old) (C.tallies counts.new) }
 {
     match session.ask_trying(&Query::Terms, offset, tried, counts)? {
@@ -72,7 +72,7 @@ fn cases_at<A: Analyser, C: Counts>(
     tried: &mut TriedText<A>,
     counts: &mut C,
 ) -> Result<Option<Action>, NoMemory>
-    ensures are { IfOk result (λ a. (s : said.Said) × CasesAre session.now offset s × (option_to_list (option_map puts.action_of a) ≡ cases_told (columns_in by) session.now (value_of s))) }
+    ensures are { IfOk result (λ a. (s : said.Said) × CasesAre session.now.text offset s × (option_to_list (option_map puts.action_of a) ≡ cases_told (columns_in by) session.now.text (value_of s))) }
     ensures counted { Grows (C.tallies counts.old) (C.tallies counts.new) }
 {
     match session.ask_trying(&Query::Cases, offset, tried, counts)? {
@@ -125,10 +125,10 @@ fn is_missing_near<A: Analyser>(
     fault: &Listed,
     asked: Span,
 ) -> bool
-    requires same { text.now ≡ session.now }
-    requires asked { asked.start ≤ length session.now }
+    requires same { text.now ≡ session.now.text }
+    requires asked { asked.start ≤ length session.now.text }
     requires order { asked.start ≤ asked.end }
-    ensures { result ≡ is_missing_near_spec session.now (asked.start, asked.end) (fault_of fault.now) }
+    ensures { result ≡ is_missing_near_spec session.now.text (asked.start, asked.end) (fault_of fault.now) }
 {
     fault.kind.is("added") && is_near(text, shown_between(session, fault.start, fault.end), asked)
 }
@@ -143,7 +143,7 @@ fn terms_of_fault<A: Analyser, C: Counts>(
     tried: &mut TriedText<A>,
     counts: &mut C,
 ) -> Result<Vec<Action>, NoMemory>
-    ensures are { IfOk result (λ v. TermsAt missing (columns_in by) session.now (place_told session.now (pair_of fault.now.start)) (map puts.action_of v.items)) }
+    ensures are { IfOk result (λ v. TermsAt missing (columns_in by) session.now.text (place_told session.now.text (pair_of fault.now.start)) (map puts.action_of v.items)) }
     ensures counted { Grows (C.tallies counts.old) (C.tallies counts.new) }
 {
     if !missing {
@@ -173,9 +173,9 @@ fn terms_near<A: Analyser, C: Counts>(
     tried: &mut TriedText<A>,
     counts: &mut C,
 ) -> Result<Vec<Action>, NoMemory>
-    requires asked { asked.start ≤ length session.now }
+    requires asked { asked.start ≤ length session.now.text }
     requires order { asked.start ≤ asked.end }
-    ensures are { IfOk result (λ v. TermsNear (columns_in by) session.now (asked.start, asked.end) (map fault_of faults.now) (map puts.action_of v.items)) }
+    ensures are { IfOk result (λ v. TermsNear (columns_in by) session.now.text (asked.start, asked.end) (map fault_of faults.now) (map puts.action_of v.items)) }
     ensures counted { Grows (C.tallies counts.old) (C.tallies counts.new) }
 {
     let text = bytes_of(alloc, session)?;
@@ -210,9 +210,9 @@ fn terms_for<A: Analyser, C: Counts>(
     tried: &mut TriedText<A>,
     counts: &mut C,
 ) -> Result<Vec<Action>, NoMemory>
-    requires asked { asked.start ≤ length session.now }
+    requires asked { asked.start ≤ length session.now.text }
     requires order { asked.start ≤ asked.end }
-    ensures are { IfOk result (λ v. TermsPart true (map puts.action_of here.items) (columns_in by) session.now (asked.start, asked.end) (map puts.action_of v.items)) }
+    ensures are { IfOk result (λ v. TermsPart true (map puts.action_of here.items) (columns_in by) session.now.text (asked.start, asked.end) (map puts.action_of v.items)) }
     ensures counted { Grows (C.tallies counts.old) (C.tallies counts.new) }
 {
     if !here.is_empty() {
@@ -233,9 +233,9 @@ fn terms_asked<A: Analyser, C: Counts>(
     tried: &mut TriedText<A>,
     counts: &mut C,
 ) -> Result<Vec<Action>, NoMemory>
-    requires asked { asked.start ≤ length session.now }
+    requires asked { asked.start ≤ length session.now.text }
     requires order { asked.start ≤ asked.end }
-    ensures are { IfOk result (λ v. TermsPart quickfix (terms_in (option_map (λ v. map puts.action_of v.items) here)) (columns_in by) session.now (asked.start, asked.end) (map puts.action_of v.items)) }
+    ensures are { IfOk result (λ v. TermsPart quickfix (terms_in (option_map (λ v. map puts.action_of v.items) here)) (columns_in by) session.now.text (asked.start, asked.end) (map puts.action_of v.items)) }
     ensures counted { Grows (C.tallies counts.old) (C.tallies counts.new) }
 {
     if quickfix {
@@ -263,7 +263,7 @@ fn cases_asked<A: Analyser, C: Counts>(
     tried: &mut TriedText<A>,
     counts: &mut C,
 ) -> Result<Option<Action>, NoMemory>
-    ensures are { IfOk result (λ a. CasesPart rewrite (option_map (λ v. map puts.action_of v.items) here.now) (columns_in by) session.now place (option_to_list (option_map puts.action_of a))) }
+    ensures are { IfOk result (λ a. CasesPart rewrite (option_map (λ v. map puts.action_of v.items) here.now) (columns_in by) session.now.text place (option_to_list (option_map puts.action_of a))) }
     ensures counted { Grows (C.tallies counts.old) (C.tallies counts.new) }
 {
     if !rewrite {
@@ -297,7 +297,7 @@ pub fn proposed<A: Analyser, C: Counts>(
     tried: &mut TriedText<A>,
     counts: &mut C,
 ) -> Result<Vec<Action>, NoMemory>
-    ensures are { IfOk result (λ v. ProposedAre (says.kinds_of kinds) (columns_in by) session.now (says.range_of range) (map puts.action_of v.items)) }
+    ensures are { IfOk result (λ v. ProposedAre (says.kinds_of kinds) (columns_in by) session.now.text (says.range_of range) (map puts.action_of v.items)) }
     ensures counted { Grows (C.tallies counts.old) (C.tallies counts.new) }
 {
     let asked = span_asked(session, range, by);

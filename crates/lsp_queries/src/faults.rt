@@ -37,7 +37,7 @@ fn diagnostic<A: Analyser>(
     fault: &Listed,
     by: Columns,
 ) -> Result<Diagnostic, NoMemory>
-    ensures { IfOk result (λ d. puts.diagnostic_of d ≡ diagnostic_told (columns_in by) session.now (fault_of fault.now)) }
+    ensures { IfOk result (λ d. puts.diagnostic_of d ≡ diagnostic_told (columns_in by) session.now.text (fault_of fault.now)) }
 {
     let span = shown_between(session, fault.start, fault.end);
     Ok(Diagnostic {
@@ -55,7 +55,7 @@ fn diagnostics<A: Analyser>(
     faults: &[Listed],
     by: Columns,
 ) -> Result<Vec<Diagnostic>, NoMemory>
-    ensures { IfOk result (λ v. map puts.diagnostic_of v.items ≡ map (diagnostic_told (columns_in by) session.now) (map fault_of faults.now)) }
+    ensures { IfOk result (λ v. map puts.diagnostic_of v.items ≡ map (diagnostic_told (columns_in by) session.now.text) (map fault_of faults.now)) }
 {
     let mut list = Vec::new(alloc);
     for fault in faults {
@@ -69,7 +69,7 @@ pub fn faults_of<A: Analyser, C: Counts>(
     session: &Session<A>,
     counts: &mut C,
 ) -> Result<Vec<Listed>, NoMemory>
-    ensures faults { IfOk result (λ v. (more : Bool) × ErrorsAre session.now (said.faults (map fault_of v.items) more)) }
+    ensures faults { IfOk result (λ v. (more : Bool) × ErrorsAre session.now.text (said.faults (map fault_of v.items) more)) }
     ensures counted { Grows (C.tallies counts.old) (C.tallies counts.new) }
 {
     match session.errors(counts)? {
@@ -85,7 +85,7 @@ pub fn diagnostics_in<A: Analyser, C: Counts>(
     by: Columns,
     counts: &mut C,
 ) -> Result<Vec<Diagnostic>, NoMemory>
-    ensures are { IfOk result (λ v. DiagnosticsAre (columns_in by) session.now (map puts.diagnostic_of v.items)) }
+    ensures are { IfOk result (λ v. DiagnosticsAre (columns_in by) session.now.text (map puts.diagnostic_of v.items)) }
     ensures counted { Grows (C.tallies counts.old) (C.tallies counts.new) }
 {
     let faults = faults_of(session, counts)?;

@@ -15,8 +15,8 @@ use syntax_tree::{NoMemory, Pos, Span};
 
 /// The offset of an editor's position.
 pub fn offset_in<A: Analyser>(session: &Session<A>, at: Position, by: Columns) -> u32
-    ensures value { result ≡ place_asked (columns_in by) session.now (says.pair_of at) }
-    ensures within { result ≤ length session.now }
+    ensures value { result ≡ place_asked (columns_in by) session.now.text (says.pair_of at) }
+    ensures within { result ≤ length session.now.text }
 {
     let (left, right) = session.slices();
     offset_at(left, right, at.line, at.character, by)
@@ -24,9 +24,9 @@ pub fn offset_in<A: Analyser>(session: &Session<A>, at: Position, by: Columns) -
 
 /// The offsets of an editor's range; one that ends before its start is empty there.
 pub fn span_asked<A: Analyser>(session: &Session<A>, range: Range, by: Columns) -> Span
-    ensures value { (result.start, result.end) ≡ span_asked_spec (columns_in by) session.now (says.range_of range) }
-    ensures start { result.start ≤ length session.now }
-    ensures end { result.end ≤ length session.now }
+    ensures value { (result.start, result.end) ≡ span_asked_spec (columns_in by) session.now.text (says.range_of range) }
+    ensures start { result.start ≤ length session.now.text }
+    ensures end { result.end ≤ length session.now.text }
     ensures order { result.start ≤ result.end }
 {
     let start = offset_in(session, range.start, by);
@@ -39,8 +39,8 @@ pub fn span_asked<A: Analyser>(session: &Session<A>, range: Range, by: Columns) 
 
 /// The offset of a position that the session gives; the text's end where the text has no such position.
 pub fn offset_of<A: Analyser>(session: &Session<A>, at: Pos) -> u32
-    ensures value { result ≡ place_told session.now (pair_of at) }
-    ensures within { result ≤ length session.now }
+    ensures value { result ≡ place_told session.now.text (pair_of at) }
+    ensures within { result ≤ length session.now.text }
 {
     match session.offset_of(at) {
         Some(offset) => offset,
@@ -50,7 +50,7 @@ pub fn offset_of<A: Analyser>(session: &Session<A>, at: Pos) -> u32
 
 /// Where the text ends.
 fn end_of<A: Analyser>(session: &Session<A>) -> u32
-    ensures { result ≡ length session.now }
+    ensures { result ≡ length session.now.text }
 {
     let (left, right) = session.slices();
     (left.len() + right.len()) as u32
@@ -59,8 +59,8 @@ fn end_of<A: Analyser>(session: &Session<A>) -> u32
 /// An offset as an editor counts it.
 #[tactic(auto, unfolding(crate::specs::Shown::place_shown))]
 pub fn position_of<A: Analyser>(session: &Session<A>, offset: u32, by: Columns) -> Position
-    requires { offset ≤ length session.now }
-    ensures { says.pair_of result ≡ place_shown (columns_in by) session.now offset }
+    requires { offset ≤ length session.now.text }
+    ensures { says.pair_of result ≡ place_shown (columns_in by) session.now.text offset }
 {
     let pos = session.pos_of(offset);
     let start = offset.saturating_sub(pos.col);
@@ -73,9 +73,9 @@ pub fn position_of<A: Analyser>(session: &Session<A>, offset: u32, by: Columns) 
 
 /// A span as an editor counts it.
 pub fn range_of<A: Analyser>(session: &Session<A>, span: Span, by: Columns) -> Range
-    requires start { span.start ≤ length session.now }
-    requires end { span.end ≤ length session.now }
-    ensures { says.range_of result ≡ range_shown (columns_in by) session.now (span.start, span.end) }
+    requires start { span.start ≤ length session.now.text }
+    requires end { span.end ≤ length session.now.text }
+    ensures { says.range_of result ≡ range_shown (columns_in by) session.now.text (span.start, span.end) }
 {
     Range {
         start: position_of(session, span.start, by),
@@ -85,9 +85,9 @@ pub fn range_of<A: Analyser>(session: &Session<A>, span: Span, by: Columns) -> R
 
 /// The span between two positions that the session gives.
 pub fn span_between<A: Analyser>(session: &Session<A>, start: Pos, end: Pos) -> Span
-    ensures value { (result.start, result.end) ≡ span_told session.now (pair_of start) (pair_of end) }
-    ensures start { result.start ≤ length session.now }
-    ensures end { result.end ≤ length session.now }
+    ensures value { (result.start, result.end) ≡ span_told session.now.text (pair_of start) (pair_of end) }
+    ensures start { result.start ≤ length session.now.text }
+    ensures end { result.end ≤ length session.now.text }
 {
     Span {
         start: offset_of(session, start),
@@ -97,16 +97,16 @@ pub fn span_between<A: Analyser>(session: &Session<A>, start: Pos, end: Pos) -> 
 
 /// What is between two positions that the session gives, as an editor counts it.
 pub fn range_between<A: Analyser>(session: &Session<A>, start: Pos, end: Pos, by: Columns) -> Range
-    ensures { says.range_of result ≡ range_told (columns_in by) session.now (pair_of start) (pair_of end) }
+    ensures { says.range_of result ≡ range_told (columns_in by) session.now.text (pair_of start) (pair_of end) }
 {
     range_of(session, span_between(session, start, end), by)
 }
 
 /// The span that is shown for what is between two positions that the session gives.
 pub fn shown_between<A: Analyser>(session: &Session<A>, start: Pos, end: Pos) -> Span
-    ensures value { (result.start, result.end) ≡ span_drawn session.now (pair_of start) (pair_of end) }
-    ensures start { result.start ≤ length session.now }
-    ensures end { result.end ≤ length session.now }
+    ensures value { (result.start, result.end) ≡ span_drawn session.now.text (pair_of start) (pair_of end) }
+    ensures start { result.start ≤ length session.now.text }
+    ensures end { result.end ≤ length session.now.text }
 {
     let span = span_between(session, start, end);
     let (left, right) = session.slices();
@@ -125,7 +125,7 @@ pub fn range_within<A: Analyser>(session: &Session<A>, span: Span, by: Columns) 
 
 /// The bytes of a session's text.
 pub fn bytes_of<A: Analyser>(alloc: Global, session: &Session<A>) -> Result<Vec<u8>, NoMemory>
-    ensures text { IfOk result (λ v. v.items ≡ session.now) }
+    ensures text { IfOk result (λ v. v.items ≡ session.now.text) }
     ensures short { IfOk result (λ v. length v.items ≤ text_limit) }
 {
     let (left, right) = session.slices();

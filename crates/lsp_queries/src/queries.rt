@@ -34,8 +34,8 @@ fn hover<A: Analyser, C: Counts>(
     choices: Choices,
     counts: &mut C,
 ) -> Result<Answered, NoMemory>
-    requires { offset ≤ length session.now }
-    ensures is { IfOk result (λ a. HoverIs (says.choices_of choices) session.now offset (puts.answered_of a)) }
+    requires { offset ≤ length session.now.text }
+    ensures is { IfOk result (λ a. HoverIs (says.choices_of choices) session.now.text offset (puts.answered_of a)) }
     ensures counted { Grows (C.tallies counts.old) (C.tallies counts.new) }
 {
     let (left, right) = session.slices();
@@ -124,8 +124,8 @@ fn completion<A: Analyser, C: Counts>(
     by: Columns,
     counts: &mut C,
 ) -> Result<Answered, NoMemory>
-    requires { offset ≤ length session.now }
-    ensures is { IfOk result (λ a. CompletionIs (columns_in by) session.now offset (puts.answered_of a)) }
+    requires { offset ≤ length session.now.text }
+    ensures is { IfOk result (λ a. CompletionIs (columns_in by) session.now.text offset (puts.answered_of a)) }
     ensures counted { Grows (C.tallies counts.old) (C.tallies counts.new) }
 {
     let text = bytes_of(alloc, session)?;
@@ -153,9 +153,9 @@ fn completed<A: Analyser, C: Counts>(
     by: Columns,
     counts: &mut C,
 ) -> Result<Answered, NoMemory>
-    requires start { word.start ≤ length session.now }
-    requires end { word.end ≤ length session.now }
-    ensures is { IfOk result (λ a. (s : said.Said) × IsAnswered query.now session.now word.end s × (puts.answered_of a ≡ completed_told (columns_in by) session.now labels (word.start, word.end) (value_of s))) }
+    requires start { word.start ≤ length session.now.text }
+    requires end { word.end ≤ length session.now.text }
+    ensures is { IfOk result (λ a. (s : said.Said) × IsAnswered query.now session.now.text word.end s × (puts.answered_of a ≡ completed_told (columns_in by) session.now.text labels (word.start, word.end) (value_of s))) }
     ensures counted { Grows (C.tallies counts.old) (C.tallies counts.new) }
 {
     match session.ask_at(query, word.end, counts)? {
@@ -175,7 +175,7 @@ fn defined_at<A: Analyser, C: Counts>(
     offset: u32,
     counts: &mut C,
 ) -> Result<Option<Pos>, NoMemory>
-    ensures is { IfOk result (λ p. (s : said.Said) × LocateIs session.now offset s × (option_map pair_of p ≡ place_in_text (value_of s))) }
+    ensures is { IfOk result (λ p. (s : said.Said) × LocateIs session.now.text offset s × (option_map pair_of p ≡ place_in_text (value_of s))) }
     ensures counted { Grows (C.tallies counts.old) (C.tallies counts.new) }
 {
     match session.ask_at(&Query::Locate, offset, counts)? {
@@ -194,7 +194,7 @@ fn definition<A: Analyser, C: Counts>(
     by: Columns,
     counts: &mut C,
 ) -> Result<Answered, NoMemory>
-    ensures is { IfOk result (λ a. DefinitionIs (columns_in by) session.now (str_bytes uri.now) offset (puts.answered_of a)) }
+    ensures is { IfOk result (λ a. DefinitionIs (columns_in by) session.now.text (str_bytes uri.now) offset (puts.answered_of a)) }
     ensures counted { Grows (C.tallies counts.old) (C.tallies counts.new) }
 {
     match defined_at(session, offset, counts)? {
@@ -214,7 +214,7 @@ fn spans_at<A: Analyser, C: Counts>(
     offset: u32,
     counts: &mut C,
 ) -> Result<Vec<PosSpan>, NoMemory>
-    ensures are { IfOk result (λ v. (s : said.Said) × OccurrencesAre session.now offset s × (map span_of v.items ≡ spans_in (value_of s))) }
+    ensures are { IfOk result (λ v. (s : said.Said) × OccurrencesAre session.now.text offset s × (map span_of v.items ≡ spans_in (value_of s))) }
     ensures counted { Grows (C.tallies counts.old) (C.tallies counts.new) }
 {
     match session.ask_at(&Query::Occurrences, offset, counts)? {
@@ -241,7 +241,7 @@ fn ranges_without<A: Analyser>(
     left_out: Option<Pos>,
     by: Columns,
 ) -> Result<Vec<Range>, NoMemory>
-    ensures { IfOk result (λ v. map says.range_of v.items ≡ ranges_of (columns_in by) session.now (option_map pair_of left_out) (map span_of spans.now)) }
+    ensures { IfOk result (λ v. map says.range_of v.items ≡ ranges_of (columns_in by) session.now.text (option_map pair_of left_out) (map span_of spans.now)) }
 {
     let mut ranges = Vec::new(alloc);
     for span in spans {
@@ -259,7 +259,7 @@ fn left_out<A: Analyser, C: Counts>(
     declaration: Declaration,
     counts: &mut C,
 ) -> Result<Option<Pos>, NoMemory>
-    ensures is { IfOk result (λ p. LeftOut (says.declaration_in declaration) session.now offset (option_map pair_of p)) }
+    ensures is { IfOk result (λ p. LeftOut (says.declaration_in declaration) session.now.text offset (option_map pair_of p)) }
     ensures counted { Grows (C.tallies counts.old) (C.tallies counts.new) }
 {
     match declaration {
@@ -277,7 +277,7 @@ fn references<A: Analyser, C: Counts>(
     by: Columns,
     counts: &mut C,
 ) -> Result<Answered, NoMemory>
-    ensures are { IfOk result (λ a. ReferencesAre (columns_in by) session.now (str_bytes uri.now) (says.declaration_in declaration) offset (puts.answered_of a)) }
+    ensures are { IfOk result (λ a. ReferencesAre (columns_in by) session.now.text (str_bytes uri.now) (says.declaration_in declaration) offset (puts.answered_of a)) }
     ensures counted { Grows (C.tallies counts.old) (C.tallies counts.new) }
 {
     let out = left_out(session, offset, declaration, counts)?;
@@ -295,7 +295,7 @@ fn highlights<A: Analyser, C: Counts>(
     by: Columns,
     counts: &mut C,
 ) -> Result<Answered, NoMemory>
-    ensures are { IfOk result (λ a. HighlightsAre (columns_in by) session.now offset (puts.answered_of a)) }
+    ensures are { IfOk result (λ a. HighlightsAre (columns_in by) session.now.text offset (puts.answered_of a)) }
     ensures counted { Grows (C.tallies counts.old) (C.tallies counts.new) }
 {
     let spans = spans_at(alloc, session, offset, counts)?;
@@ -312,8 +312,8 @@ pub fn answer_at<A: Analyser, C: Counts>(
     choices: Choices,
     counts: &mut C,
 ) -> Result<Answered, NoMemory>
-    requires { offset ≤ length session.now }
-    ensures is { IfOk result (λ a. AtPlace (says.choices_of choices) session.now (str_bytes uri.now) what offset (puts.answered_of a)) }
+    requires { offset ≤ length session.now.text }
+    ensures is { IfOk result (λ a. AtPlace (says.choices_of choices) session.now.text (str_bytes uri.now) what offset (puts.answered_of a)) }
     ensures counted { Grows (C.tallies counts.old) (C.tallies counts.new) }
 {
     let by = choices.columns;

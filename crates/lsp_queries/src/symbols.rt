@@ -53,7 +53,7 @@ fn symbol_of<A: Analyser>(
     by: Columns,
 ) -> Result<Symbol, NoMemory>
     requires { length text.now ≤ text_limit }
-    ensures { IfOk result (λ s. SymbolIs (columns_in by) session.now (outlined_of member.now) (puts.symbol_of s)) }
+    ensures { IfOk result (λ s. SymbolIs (columns_in by) session.now.text (outlined_of member.now) (puts.symbol_of s)) }
 {
     let item = span_between(session, member.start, member.end);
     let token = selection(text, item, member.name.as_str().as_bytes());
@@ -77,7 +77,7 @@ fn symbols_of<A: Analyser>(
     by: Columns,
 ) -> Result<Vec<Symbol>, NoMemory>
     requires { length text.now ≤ text_limit }
-    ensures { IfOk result (λ v. SymbolsAre (columns_in by) session.now (outline_of (map outlined_of members.now)) (puts.symbols_of (map puts.symbol_of v.items))) }
+    ensures { IfOk result (λ v. SymbolsAre (columns_in by) session.now.text (outline_of (map outlined_of members.now)) (puts.symbols_of (map puts.symbol_of v.items))) }
 {
     let mut symbols = Vec::new(alloc);
     for member in members {
@@ -93,7 +93,7 @@ pub fn outlined<A: Analyser, C: Counts>(
     by: Columns,
     counts: &mut C,
 ) -> Result<Vec<Symbol>, NoMemory>
-    ensures are { IfOk result (λ v. OutlinedAs (columns_in by) session.now (puts.symbols_of (map puts.symbol_of v.items))) }
+    ensures are { IfOk result (λ v. OutlinedAs (columns_in by) session.now.text (puts.symbols_of (map puts.symbol_of v.items))) }
     ensures counted { Grows (C.tallies counts.old) (C.tallies counts.new) }
 {
     let members = session.outline(counts)?;

@@ -1,6 +1,7 @@
 -- The answer to a line, by what the line asks and what was written.
-use Rattle.std.proofs.Common.{◌≡◌, inl, inr, ℕ, List, length, refl, sym, ◌∙◌, ap, subst}
-use Rattle.std.specs.Prelude.{Option, Some, None}
+use Rattle.std.proofs.Common.{◌≡◌, inl, inr, ℕ, List, length, refl, sym, ◌∙◌, ap, subst, Result, Ok, Err, IfOk}
+use Rattle.std.specs.Prelude.{Option, Some, None, OnErr}
+use Rattle.std.specs.declared.alloc.AllocError.{AllocError}
 use Rattle.text_model.specs.Edits as edit
 use Rattle.text_store.specs.Edits.{IsRefusal}
 use Rattle.text_store.specs.declared.edits.TextRefusal.{TextRefusal}
@@ -8,7 +9,9 @@ use Rattle.text_store.specs.declared.edits.TextRefusal.TheVariants as code
 use Rattle.service_model.specs.Requests.{Asked, tell, Refusal, asks, refused, reading}
 use Rattle.service_model.specs.Replies as said
 use Rattle.service_model.specs.Answers.{Answers, Answered, Replies, ToldIs, tell_outcome, edit_refusal}
+use Rattle.json_lines.specs.Means.{said_of}
 use Rattle.json_lines.specs.Meets.{IsToldOf}
+use Rattle.json_lines.specs.declared.reply.Reply.{Reply}
 use Rattle.session.specs.Lines.{line_bytes, IsWritten, Says, RepliesBy, RefusesBy, RefusesEditBy, refusal_in}
 use Rattle.session.specs.declared.session.Line.{Line}
 use Rattle.session.specs.declared.session.Line.TheVariants.{Written, Memory}
@@ -74,3 +77,8 @@ says P s Memory holds written = tt
 pub says_so : (P Q : said.Said → Type 0) (l : Line) → ((s : said.Said) → P s → Q s) → Says P l → Says Q l
 says_so P Q (Written v) so said = (said.0, so said.0 said.1, said.2)
 says_so P Q Memory so said = tt
+
+-- what is said in a reply is said in its line, unless memory was short before
+pub says_line : (P : said.Said → Type 0) (r : Result Reply AllocError) (l : Line) → IfOk r (λ x. P (said_of x)) → IfOk r (λ x. IsWritten (said_of x) l) → OnErr r (l ≡ Memory) → Says P l
+says_line P (Ok x) l holds written memory = says P (said_of x) l holds written
+says_line P (Err e) l holds written memory = subst (Says P) (sym memory) tt

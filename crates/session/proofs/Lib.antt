@@ -6,3 +6,4 @@ pub mod Sizing
 pub mod Terms
 pub mod Trying
 pub mod Typing
+pub mod Works

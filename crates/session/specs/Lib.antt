@@ -3,3 +3,4 @@ pub mod Changes
 pub mod Lines
 pub mod Queries
 pub mod Trials
+pub mod Working

@@ -1,5 +1,5 @@
 //! Queries of a position on the names of a text.
-ghost use Rattle.std.specs.Prelude.{◌≡◌, Some, map, IfOk};
+ghost use Rattle.std.specs.Prelude.{◌≡◌, false, Some, map, IfOk};
 ghost use Rattle.query_model.specs.Prefixes.{is_name_prefix};
 ghost use Rattle.service_model.specs.Answers.{LocatedBy, UsedBy, shown_place};
 ghost use Rattle.service_model.specs.Completions.{CompletedBy};
@@ -9,6 +9,7 @@ ghost use Rattle.json_lines.specs.Means.{entry_kind_text, entry_of, failure_said
 ghost use Rattle.session.specs.Lines.{failure_in};
 ghost use Rattle.name_queries.specs.NewestNames.{printed};
 ghost use Rattle.session.specs.Queries.{AnswersQuery, IsSaidOfPlace, said_entry};
+ghost use Rattle.session.specs.Working.{tries_texts};
 ghost use Rattle.text_reading.specs.Structures.{IsParsedAs};
 ghost use Rattle.text_reading.specs.Types.{IsOf};
 
@@ -79,6 +80,7 @@ pub fn answer<A: Analyser, C: Counts>(
     requires parsed { IsParsedAs store.now parsed.now }
     requires found { IsOf A.items A.finds (trees_of parsed.now.tree) analysis.now }
     ensures said { IfOk result (λ r. AnswersQuery query.now store.now offset (trees_of parsed.now.tree) (said_of r)) }
+    ensures idle { tries_texts query.now ≡ false → C.tallies counts.new ≡ C.tallies counts.old }
     ensures grows { Grows (C.tallies counts.old) (C.tallies counts.new) }
 {
     let asked = asked(&parsed.tree, analysis);

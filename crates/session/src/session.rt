@@ -1,15 +1,18 @@
 //! One text, and the answers to request lines on it.
-ghost use Rattle.std.specs.Prelude.{◌≡◌, ◌≤◌, ◌<◌, ◌+◌, ◌-◌, ◌^◌, ◌++◌, [], List, ℕ, length, map, option_map, reverse, IfErr, IfOk, IfSome, OnOk, Some};
+ghost use Rattle.std.specs.Prelude.{◌≡◌, ◌≤◌, ◌<◌, ◌+◌, ◌-◌, ◌^◌, ◌++◌, [], List, ℕ, false, true, is_some, length, map, option_map, reverse, IfErr, IfOk, IfSome, None, OnErr, OnOk, Some};
 ghost use Rattle.text_terms.specs.Bytes.{str_bytes};
 ghost use Rattle.text_model.specs.Edits.{changed, outcome_of, text_limit};
 ghost use Rattle.std.specs.Str.{IsUtf8};
 ghost use Rattle.text_model.specs.Positions.{offset, position_of};
+ghost use Rattle.token_model.specs.Kinds.{Tok};
+ghost use Rattle.token_model.specs.Tokens.{Lex};
 ghost use Rattle.tree_model.specs.Nodes.{nodes_at};
 ghost use Rattle.tree_model.specs.Trees.{AreItemsSized};
 ghost use Rattle.plain_model.specs.Plain.{AllSeenWithin};
 ghost use Rattle.query_model.specs.Faults.{TyperFault, by_typer};
-ghost use Rattle.service_model.specs.Requests.{tell as tell_spec};
+ghost use Rattle.service_model.specs.Requests.{asks, reading, tell as tell_spec};
 ghost use Rattle.service_model.specs.Answers.{Answers, PlacedIs, EnclosingIs, TypesAre, tell_outcome, end_key, typed_among as typed_among_spec, typed_round, types_or_none};
+ghost use Rattle.work_model.specs.Work.{Owed, WorksAt};
 ghost use Rattle.syntax_tree.specs.Tallies.{Grows};
 ghost use Rattle.syntax_tree.specs.View.{trees_of};
 ghost use Rattle.plain_typing.specs.View.{seen_of};
@@ -20,10 +23,12 @@ ghost use Rattle.service_model.specs.Replies.{outline};
 ghost use Rattle.service_model.specs.Made.{SizesAre};
 ghost use Rattle.service_model.specs.Structure.{ErrorsAre, FaultsAre, OutlineIs, faults_said};
 ghost use Rattle.json_lines.specs.Means.{outline_of, outlined_of, said_of, typed_of};
+ghost use Rattle.kept_text.specs.Keeping.{sooner};
 ghost use Rattle.text_reading.specs.Structures.{AreItemsOf};
 ghost use Rattle.text_reading.specs.Types.{items_in};
 ghost use Rattle.session.specs.Queries.{IsAnswered};
 ghost use Rattle.session.specs.Lines.{line_bytes, refusal_in, IsWritten, RefusesBy, RefusesEditBy, RepliesBy, Says};
+ghost use Rattle.session.specs.Working.{tries_texts, Lexes, Owes, QueryWorks, Reads, RequestWorks, Settles};
 
 use crate::queries::{Query, answer, asked, failure_of};
 use analysis_api::Analyser;
@@ -72,6 +77,17 @@ fn written(alloc: Global, reply: &Reply) -> Line
 {
     match write_reply(alloc, reply) {
         Ok(bytes) => Line::Written(bytes),
+        Err(_) => Line::Memory,
+    }
+}
+
+/// The line of a reply, or want of memory, which may have come before.
+fn line_of(alloc: Global, reply: Result<Reply, NoMemory>) -> Line
+    ensures written { IfOk reply (λ r. IsWritten (said_of r) result) }
+    ensures memory { OnErr reply (result ≡ Line.Memory) }
+{
+    match reply {
+        Ok(reply) => written(alloc, &reply),
         Err(_) => Line::Memory,
     }
 }
@@ -163,15 +179,16 @@ pub struct Session<A: Analyser> {
     tried: TriedText<A>,
 }
 
-/// A session is seen as the bytes of its text. Where the typer's items are known as those of the text, they are.
+/// A session is seen as its text and how far it is read. Where the typer's items are known as those of the text, they are.
 impl<A: Analyser> Model for Session<A> {
-    ghost use Rattle.std.specs.Prelude.{IfSome, List, ℕ};
+    ghost use Rattle.std.specs.Prelude.{IfSome, is_some};
     ghost use Rattle.text_reading.specs.Structures.{AreItemsOf};
-    ghost use Rattle.text_reading.specs.Types.{known};
+    ghost use Rattle.text_reading.specs.Types.{has_begun, known};
+    ghost use Rattle.session.specs.Working.{Held};
 
-    ghost Value = { List ℕ };
+    ghost Value = { Held };
 
-    ghost view = { λ s. s.kept.text };
+    ghost view = { λ s. record { text = s.kept.text; changed = s.kept.changed; begun = has_begun s.types; known = is_some (known A.items s.types) } };
 
     ghost invariant = { λ s. IfSome (known A.items s.types) (AreItemsOf s.kept.text) };
 }
@@ -179,7 +196,8 @@ impl<A: Analyser> Model for Session<A> {
 impl<A: Analyser> Session<A> {
     /// A session with the empty text.
     pub fn new(alloc: Global) -> Session<A>
-        ensures { result ≡ [] }
+        ensures text { result.text ≡ [] }
+        ensures begun { result.begun ≡ false }
     {
         Session {
             alloc,
@@ -191,14 +209,15 @@ impl<A: Analyser> Session<A> {
 
     /// The present text.
     fn text(&self) -> &TextStore
-        ensures { result.now ≡ self.now }
+        ensures { result.now ≡ self.now.text }
     {
         self.kept.text()
     }
 
     /// Answers one line that isn't blank. Only a `tell` that is accepted changes the text.
     pub fn answer<C: Counts>(&mut self, line: &[u8], counts: &mut C) -> Line
-        ensures answers { Answers self.old line.now (line_bytes result) self.new }
+        ensures answers { Answers self.old.text line.now (line_bytes result) self.new.text }
+        ensures works { (w : Owed) (ps : List Tok) → Owes w self.old → Lex A.opens ps → (v : Owed) × (n : ℕ) × WorksAt (length ps) w (reading line.now) (line_bytes result) v n × Owes v self.new × Lexes (length ps) n self.old self.new (C.tallies counts.old) (C.tallies counts.new) }
         ensures counted { Grows (C.tallies counts.old) (C.tallies counts.new) }
     {
         match read_request(self.alloc, line) {
@@ -209,7 +228,8 @@ impl<A: Analyser> Session<A> {
 
     /// Answers a request.
     fn reply_to<C: Counts>(&mut self, request: Request, counts: &mut C) -> Line
-        ensures replies { RepliesBy self.old (asked_of request) result self.new }
+        ensures replies { RepliesBy self.old.text (asked_of request) result self.new.text }
+        ensures works { RequestWorks A.opens (asked_of request) result self.old self.new (C.tallies counts.old) (C.tallies counts.new) }
         ensures counted { Grows (C.tallies counts.old) (C.tallies counts.new) }
     {
         match request {
@@ -231,7 +251,9 @@ impl<A: Analyser> Session<A> {
 
     /// Makes an edit, or replaces the whole text. The reply is made before the text is changed.
     fn tell(&mut self, range: Option<(Pos, Pos)>, text: RcStr) -> Line
-        ensures { RepliesBy self.old (tell_spec (option_map range_of range) (str_bytes text)) result self.new }
+        ensures replies { RepliesBy self.old.text (tell_spec (option_map range_of range) (str_bytes text)) result self.new.text }
+        ensures owed { (w : Owed) (p : ℕ) → Owes w self.old → (v : Owed) × WorksAt p w (asks (tell_spec (option_map range_of range) (str_bytes text))) (line_bytes result) v 0 × Owes v self.new }
+        ensures begun { self.new.begun ≡ self.old.begun }
     {
         let edit = self.edit_for(range, text);
         match written(self.alloc, &Reply::Size(self.len_after(&edit))) {
@@ -246,8 +268,10 @@ impl<A: Analyser> Session<A> {
     /// Makes an edit, and answers the first changed byte: what is found of types is then that of an earlier text. A refused edit changes
     /// nothing.
     fn apply(&mut self, edit: &Edit) -> Result<u32, TextRefusal>
-        ensures done { IfOk result (λ first. outcome_of self.old (edit_of edit.now) ≡ changed first self.new) }
-        ensures refused { IfErr result (λ refusal. (self.new ≡ self.old) × IsRefusal (outcome_of self.old (edit_of edit.now)) refusal) }
+        ensures done { IfOk result (λ first. outcome_of self.old.text (edit_of edit.now) ≡ changed first self.new.text) }
+        ensures noted { IfOk result (λ first. self.new.changed ≡ Some (sooner first self.old.changed)) }
+        ensures begun { self.new.begun ≡ self.old.begun }
+        ensures refused { IfErr result (λ refusal. (self.new ≡ self.old) × IsRefusal (outcome_of self.old.text (edit_of edit.now)) refusal) }
     {
         match self.kept.apply(edit) {
             Ok(first) => {
@@ -260,7 +284,7 @@ impl<A: Analyser> Session<A> {
 
     /// The edit that a `tell` makes: without a range, one from the first place to the last.
     fn edit_for(&self, range: Option<(Pos, Pos)>, text: RcStr) -> Edit
-        ensures { outcome_of self.now (edit_of result) ≡ tell_outcome self.now (option_map range_of range) (str_bytes text) }
+        ensures { outcome_of self.now.text (edit_of result) ≡ tell_outcome self.now.text (option_map range_of range) (str_bytes text) }
     {
         match range {
             Some((start, end)) => Edit { start, end, text },
@@ -274,8 +298,8 @@ impl<A: Analyser> Session<A> {
 
     /// The position behind the last byte.
     fn last_place(&self) -> Pos
-        ensures place { (result.line, result.col) ≡ position_of self.now (length self.now) }
-        ensures utf8 { IsUtf8 self.now }
+        ensures place { (result.line, result.col) ≡ position_of self.now.text (length self.now.text) }
+        ensures utf8 { IsUtf8 self.now.text }
     {
         let (left, right) = self.text().slices();
         self.text().pos_of((left.len() + right.len()) as u32)
@@ -283,7 +307,7 @@ impl<A: Analyser> Session<A> {
 
     /// How many bytes the text has once the edit is made; of an edit that is refused it tells nothing.
     fn len_after(&self, edit: &Edit) -> u64
-        ensures { (first : ℕ) (new : List ℕ) → outcome_of self.now (edit_of edit.now) ≡ changed first new → result ≡ length new }
+        ensures { (first : ℕ) (new : List ℕ) → outcome_of self.now.text (edit_of edit.now) ≡ changed first new → result ≡ length new }
     {
         let Ok(start) = self.text().offset_of(edit.start) else {
             return 0;
@@ -298,14 +322,14 @@ impl<A: Analyser> Session<A> {
 
     /// How many bytes the text has.
     pub fn len(&self) -> u64
-        ensures { result ≡ length self.now }
+        ensures { result ≡ length self.now.text }
     {
         self.text().len() as u64
     }
 
     /// Puts bytes behind the text, by the edit of a `tell`. Where the text would be too long, memory counts as short.
     pub fn append(&mut self, text: RcStr) -> Result<(), NoMemory>
-        ensures { OnOk result (self.new ≡ self.old ++ str_bytes text) }
+        ensures { OnOk result (self.new.text ≡ self.old.text ++ str_bytes text) }
     {
         let end = self.last_place();
         let edit = Edit {
@@ -321,32 +345,32 @@ impl<A: Analyser> Session<A> {
 
     /// The text in two parts, the second of which may be empty.
     pub fn slices(&self) -> (&[u8], &[u8])
-        ensures text { result.0.now ++ result.1.now ≡ self.now }
-        ensures short { length self.now ≤ text_limit }
+        ensures text { result.0.now ++ result.1.now ≡ self.now.text }
+        ensures short { length self.now.text ≤ text_limit }
     {
         self.text().slices()
     }
 
     /// The offset of a position, or None where the text has no such position.
     pub fn offset_of(&self, at: Pos) -> Option<u32>
-        ensures value { result ≡ offset self.now at.line at.col }
-        ensures within { IfSome result (λ n. n ≤ length self.now) }
+        ensures value { result ≡ offset self.now.text at.line at.col }
+        ensures within { IfSome result (λ n. n ≤ length self.now.text) }
     {
         self.text().offset_of(at).ok()
     }
 
     /// The position of an offset in bytes.
     pub fn pos_of(&self, place: u32) -> Pos
-        requires { place ≤ length self.now }
-        ensures { (result.line, result.col) ≡ position_of self.now place }
+        requires { place ≤ length self.now.text }
+        ensures { (result.line, result.col) ≡ position_of self.now.text place }
     {
         self.text().pos_of(place)
     }
 
     /// Makes the edit of a `tell`. The text stays where it is refused.
     pub fn change(&mut self, range: Option<(Pos, Pos)>, text: RcStr) -> Result<(), TextRefusal>
-        ensures done { OnOk result ((first : ℕ) × (tell_outcome self.old (option_map range_of range) (str_bytes text) ≡ changed first self.new)) }
-        ensures refused { IfErr result (λ refusal. (self.new ≡ self.old) × IsRefusal (tell_outcome self.old (option_map range_of range) (str_bytes text)) refusal) }
+        ensures done { OnOk result ((first : ℕ) × (tell_outcome self.old.text (option_map range_of range) (str_bytes text) ≡ changed first self.new.text)) }
+        ensures refused { IfErr result (λ refusal. (self.new ≡ self.old) × IsRefusal (tell_outcome self.old.text (option_map range_of range) (str_bytes text)) refusal) }
     {
         let edit = self.edit_for(range, text);
         match self.apply(&edit) {
@@ -362,7 +386,8 @@ impl<A: Analyser> Session<A> {
         offset: u32,
         counts: &mut C,
     ) -> Result<Reply, NoMemory>
-        ensures said { IfOk result (λ r. IsAnswered query.now self.now offset (said_of r)) }
+        ensures said { IfOk result (λ r. IsAnswered query.now self.now.text offset (said_of r)) }
+        ensures idle { self.now.changed ≡ None → self.now.known ≡ true → tries_texts query.now ≡ false → (C.tallies counts.new).lexed ≡ (C.tallies counts.old).lexed }
         ensures counted { Grows (C.tallies counts.old) (C.tallies counts.new) }
     {
         let mut tried = TriedText::new(self.alloc);
@@ -378,7 +403,8 @@ impl<A: Analyser> Session<A> {
         tried: &mut TriedText<A>,
         counts: &mut C,
     ) -> Result<Reply, NoMemory>
-        ensures said { IfOk result (λ r. IsAnswered query.now self.now offset (said_of r)) }
+        ensures said { IfOk result (λ r. IsAnswered query.now self.now.text offset (said_of r)) }
+        ensures idle { self.now.changed ≡ None → self.now.known ≡ true → tries_texts query.now ≡ false → (C.tallies counts.new).lexed ≡ (C.tallies counts.old).lexed }
         ensures counted { Grows (C.tallies counts.old) (C.tallies counts.new) }
     {
         let parsed = tree_of(self.alloc, &self.kept, counts)?;
@@ -403,8 +429,9 @@ impl<A: Analyser> Session<A> {
         offset: u32,
         counts: &mut C,
     ) -> Result<Reply, NoMemory>
-        ensures said { IfOk result (λ r. IsAnswered query.now self.old offset (said_of r)) }
-        ensures text { self.new ≡ self.old }
+        ensures said { IfOk result (λ r. IsAnswered query.now self.old.text offset (said_of r)) }
+        ensures stays { self.new ≡ self.old }
+        ensures idle { self.old.changed ≡ None → self.old.known ≡ true → tries_texts query.now ≡ false → (C.tallies counts.new).lexed ≡ (C.tallies counts.old).lexed }
         ensures counted { Grows (C.tallies counts.old) (C.tallies counts.new) }
     {
         let mut tried = mem::replace(&mut self.tried, TriedText::new(self.alloc));
@@ -416,8 +443,9 @@ impl<A: Analyser> Session<A> {
     /// A typer that holds the items of the present text, whose tree this is: the one that is kept, where it knows them, and else a
     /// new one.
     fn typed<C: Counts>(&self, tree: &Tree, counts: &mut C) -> Result<Found<'_, A>, NoMemory>
-        requires of_text { AreItemsOf self.now (trees_of tree.now) }
+        requires of_text { AreItemsOf self.now.text (trees_of tree.now) }
         ensures items { IfOk result (λ f. items_in A.items f ≡ trees_of tree.now) }
+        ensures idle { self.now.known ≡ true → C.tallies counts.new ≡ C.tallies counts.old }
         ensures counted { Grows (C.tallies counts.old) (C.tallies counts.new) }
     {
         find_types(self.alloc, self.types.known(), tree, counts)
@@ -425,85 +453,112 @@ impl<A: Analyser> Session<A> {
 
     /// Brings the kept tokens and the kept tree up to the text. The text stays.
     fn read_again<C: Counts>(&mut self, counts: &mut C) -> Result<(), NoMemory>
-        ensures text { self.new ≡ self.old }
+        ensures rest { (self.new.text ≡ self.old.text) × (self.new.begun ≡ self.old.begun) × (self.new.known ≡ self.old.known) }
+        ensures current { OnOk result (self.new.changed ≡ None) }
+        ensures refused { OnErr result (self.new.changed ≡ self.old.changed) }
+        ensures reads { Reads A.opens false self.old self.new (C.tallies counts.old) (C.tallies counts.new) }
         ensures counted { Grows (C.tallies counts.old) (C.tallies counts.new) }
     {
         self.kept.refresh(counts)
     }
 
-    /// Brings what is kept of the text up to it, its types and names among that, so that the queries after it find nothing anew.
-    /// The text stays; after `NoMemory` the next call does what is left.
-    pub fn refresh<C: Counts>(&mut self, counts: &mut C) -> Result<(), NoMemory>
-        ensures text { self.new ≡ self.old }
+    /// Finds the types and names of the text, whose tokens and tree were brought up to it, unless they are known.
+    fn type_again<C: Counts>(&mut self, counts: &mut C) -> Result<(), NoMemory>
+        requires current { self.old.changed ≡ None }
+        ensures rest { (self.new.text ≡ self.old.text) × (self.new.changed ≡ None) }
+        ensures known { OnOk result (self.new.known ≡ true) }
+        ensures lexes { (ps : List Tok) → Lex A.opens ps → OnOk result (Lexes (length ps) 0 self.old self.new (C.tallies counts.old) (C.tallies counts.new)) }
+        ensures fails { (ps : List Tok) → Lex A.opens ps → Lexes (length ps) (length ps) self.old self.new (C.tallies counts.old) (C.tallies counts.new) }
         ensures counted { Grows (C.tallies counts.old) (C.tallies counts.new) }
     {
-        self.read_again(counts)?;
         if self.types.known().is_some() {
             return Ok(());
         }
         match self.kept.parsed()? {
             Some(parsed) => self.types.refresh(self.alloc, &parsed.tree, counts),
-            None => Ok(()),
+            None => unreachable!(),
         }
     }
 
-    /// The same before a query that a plain text answers without a typer: the types of such a text aren't found.
-    fn refresh_unless_plain<C: Counts>(&mut self, counts: &mut C) -> Result<(), NoMemory>
-        ensures text { self.new ≡ self.old }
+    /// Brings what is kept of the text up to it, its types and names among that, so that the queries after it find nothing anew.
+    /// The text stays; after `NoMemory` the next call does what is left.
+    pub fn refresh<C: Counts>(&mut self, counts: &mut C) -> Result<(), NoMemory>
+        ensures text { self.new.text ≡ self.old.text }
+        ensures current { OnOk result (self.new.changed ≡ None) }
+        ensures settles { Settles self.old self.new }
+        ensures reads { OnOk result (Reads A.opens false self.old self.new (C.tallies counts.old) (C.tallies counts.new)) }
+        ensures fails { Reads A.opens true self.old self.new (C.tallies counts.old) (C.tallies counts.new) }
+        ensures known { OnOk result (self.new.known ≡ true) }
         ensures counted { Grows (C.tallies counts.old) (C.tallies counts.new) }
     {
         self.read_again(counts)?;
-        let read = read_text(self.alloc, &self.kept, counts)?;
-        if read.plain.is_some() {
-            return Ok(());
-        }
-        self.refresh(counts)
+        self.type_again(counts)
     }
 
     /// A query of a position.
     fn query_at<C: Counts>(&mut self, query: &Query, at: Pos, counts: &mut C) -> Line
-        ensures says { Says (PlacedIs (offset self.old at.line at.col) (IsAnswered query.now self.old)) result }
-        ensures text { self.new ≡ self.old }
+        ensures says { Says (PlacedIs (offset self.old.text at.line at.col) (IsAnswered query.now self.old.text)) result }
+        ensures text { self.new.text ≡ self.old.text }
+        ensures works { QueryWorks A.opens (is_some (offset self.old.text at.line at.col)) (tries_texts query.now) result self.old self.new (C.tallies counts.old) (C.tallies counts.new) }
         ensures counted { Grows (C.tallies counts.old) (C.tallies counts.new) }
     {
         match self.text().offset_of(at) {
-            Ok(offset) => self.query_line(query, offset, counts),
+            Ok(offset) => {
+                let reply = self.ask_now(query, offset, counts);
+                line_of(self.alloc, reply)
+            }
             Err(_) => error_line(self.alloc, RequestError::BadPosition { key: Key::At }),
         }
     }
 
-    fn query_line<C: Counts>(&mut self, query: &Query, offset: u32, counts: &mut C) -> Line
-        ensures says { Says (IsAnswered query.now self.old offset) result }
-        ensures text { self.new ≡ self.old }
+    /// Answers a query of an offset, what is kept of the text brought up to it.
+    fn ask_now<C: Counts>(
+        &mut self,
+        query: &Query,
+        offset: u32,
+        counts: &mut C,
+    ) -> Result<Reply, NoMemory>
+        ensures said { IfOk result (λ r. IsAnswered query.now self.old.text offset (said_of r)) }
+        ensures text { self.new.text ≡ self.old.text }
+        ensures current { OnOk result (self.new.changed ≡ None) }
+        ensures settles { Settles self.old self.new }
+        ensures reads { OnOk result (tries_texts query.now ≡ false → Reads A.opens false self.old self.new (C.tallies counts.old) (C.tallies counts.new)) }
+        ensures fails { tries_texts query.now ≡ false → Reads A.opens true self.old self.new (C.tallies counts.old) (C.tallies counts.new) }
         ensures counted { Grows (C.tallies counts.old) (C.tallies counts.new) }
     {
-        let Ok(()) = self.refresh(counts) else {
-            return Line::Memory;
-        };
-        match self.ask_again(query, offset, counts) {
-            Ok(reply) => written(self.alloc, &reply),
-            Err(_) => Line::Memory,
-        }
+        self.refresh(counts)?;
+        self.ask_again(query, offset, counts)
     }
 
     /// The outline of the text.
     fn outline_line<C: Counts>(&mut self, counts: &mut C) -> Line
-        ensures says { Says (OutlineIs self.old) result }
-        ensures text { self.new ≡ self.old }
+        ensures says { Says (OutlineIs self.old.text) result }
+        ensures text { self.new.text ≡ self.old.text }
+        ensures works { QueryWorks A.opens true false result self.old self.new (C.tallies counts.old) (C.tallies counts.new) }
         ensures counted { Grows (C.tallies counts.old) (C.tallies counts.new) }
     {
-        let Ok(()) = self.read_again(counts) else {
-            return Line::Memory;
-        };
-        match self.outline(counts) {
-            Ok(members) => written(self.alloc, &Reply::Outline(members)),
-            Err(_) => Line::Memory,
-        }
+        let reply = self.outline_now(counts);
+        line_of(self.alloc, reply)
+    }
+
+    /// The outline, the tree brought up to the text.
+    fn outline_now<C: Counts>(&mut self, counts: &mut C) -> Result<Reply, NoMemory>
+        ensures said { IfOk result (λ r. OutlineIs self.old.text (said_of r)) }
+        ensures text { self.new.text ≡ self.old.text }
+        ensures current { OnOk result (self.new.changed ≡ None) }
+        ensures settles { Settles self.old self.new }
+        ensures reads { OnOk result (Reads A.opens false self.old self.new (C.tallies counts.old) (C.tallies counts.new)) }
+        ensures fails { Reads A.opens true self.old self.new (C.tallies counts.old) (C.tallies counts.new) }
+        ensures counted { Grows (C.tallies counts.old) (C.tallies counts.new) }
+    {
+        self.read_again(counts)?;
+        Ok(Reply::Outline(self.outline(counts)?))
     }
 
     /// What the text binds.
     pub fn outline<C: Counts>(&self, counts: &mut C) -> Result<Vec<Outlined>, NoMemory>
-        ensures said { IfOk result (λ v. OutlineIs self.now (outline (outline_of (map outlined_of v.items)))) }
+        ensures said { IfOk result (λ v. OutlineIs self.now.text (outline (outline_of (map outlined_of v.items)))) }
+        ensures idle { self.now.changed ≡ None → C.tallies counts.new ≡ C.tallies counts.old }
         ensures counted { Grows (C.tallies counts.old) (C.tallies counts.new) }
     {
         let parsed = tree_of(self.alloc, &self.kept, counts)?;
@@ -513,22 +568,37 @@ impl<A: Analyser> Session<A> {
 
     /// The faults of the text.
     fn errors_line<C: Counts>(&mut self, counts: &mut C) -> Line
-        ensures says { Says (ErrorsAre self.old) result }
-        ensures text { self.new ≡ self.old }
+        ensures says { Says (ErrorsAre self.old.text) result }
+        ensures text { self.new.text ≡ self.old.text }
+        ensures works { QueryWorks A.opens true false result self.old self.new (C.tallies counts.old) (C.tallies counts.new) }
         ensures counted { Grows (C.tallies counts.old) (C.tallies counts.new) }
     {
-        let Ok(()) = self.refresh_unless_plain(counts) else {
-            return Line::Memory;
-        };
-        match self.errors(counts) {
-            Ok(reply) => written(self.alloc, &reply),
-            Err(_) => Line::Memory,
+        let reply = self.errors_now(counts);
+        line_of(self.alloc, reply)
+    }
+
+    /// The faults of the text, what is kept of it brought up to it; the types of a text that is well typed as a plain one aren't found.
+    fn errors_now<C: Counts>(&mut self, counts: &mut C) -> Result<Reply, NoMemory>
+        ensures said { IfOk result (λ r. ErrorsAre self.old.text (said_of r)) }
+        ensures text { self.new.text ≡ self.old.text }
+        ensures current { OnOk result (self.new.changed ≡ None) }
+        ensures settles { Settles self.old self.new }
+        ensures reads { OnOk result (Reads A.opens false self.old self.new (C.tallies counts.old) (C.tallies counts.new)) }
+        ensures fails { Reads A.opens true self.old self.new (C.tallies counts.old) (C.tallies counts.new) }
+        ensures counted { Grows (C.tallies counts.old) (C.tallies counts.new) }
+    {
+        self.read_again(counts)?;
+        let read = read_text(self.alloc, &self.kept, counts)?;
+        if read.is_well_typed() {
+            return self.page_of(&read.parsed.faults, &[]);
         }
+        self.type_again(counts)?;
+        self.typed_errors(&read.parsed, counts)
     }
 
     /// The faults of the text, as the page of them that `errors` tells.
     pub fn errors<C: Counts>(&self, counts: &mut C) -> Result<Reply, NoMemory>
-        ensures said { IfOk result (λ r. ErrorsAre self.now (said_of r)) }
+        ensures said { IfOk result (λ r. ErrorsAre self.now.text (said_of r)) }
         ensures counted { Grows (C.tallies counts.old) (C.tallies counts.new) }
     {
         let read = read_text(self.alloc, &self.kept, counts)?;
@@ -540,8 +610,9 @@ impl<A: Analyser> Session<A> {
 
     /// The faults of a parsed text, whose types may be wrong.
     fn typed_errors<C: Counts>(&self, parsed: &Parsed, counts: &mut C) -> Result<Reply, NoMemory>
-        requires of_text { AreItemsOf self.now (trees_of parsed.now.tree) }
-        ensures said { IfOk result (λ r. FaultsAre self.now (map fault_of parsed.now.faults.items) (said_of r)) }
+        requires of_text { AreItemsOf self.now.text (trees_of parsed.now.tree) }
+        ensures said { IfOk result (λ r. FaultsAre self.now.text (map fault_of parsed.now.faults.items) (said_of r)) }
+        ensures idle { self.now.known ≡ true → C.tallies counts.new ≡ C.tallies counts.old }
         ensures counted { Grows (C.tallies counts.old) (C.tallies counts.new) }
     {
         let found = self.typed(&parsed.tree, counts)?;
@@ -550,7 +621,7 @@ impl<A: Analyser> Session<A> {
 
     /// The page of the parser's faults and of the typer's.
     fn page_of(&self, parsed: &[SyntaxFault], typed: &[Fault]) -> Result<Reply, NoMemory>
-        ensures { IfOk result (λ r. said_of r ≡ faults_said self.now (map fault_of parsed.now ++ map by_typer (map typer_fault_of typed.now))) }
+        ensures { IfOk result (λ r. said_of r ≡ faults_said self.now.text (map fault_of parsed.now ++ map by_typer (map typer_fault_of typed.now))) }
     {
         let page = text_queries::errors(self.alloc, parsed, typed)?;
         Ok(Reply::Faults {
@@ -561,7 +632,7 @@ impl<A: Analyser> Session<A> {
 
     /// How many items and faults the text has, by the query that `errors` makes.
     pub fn sizes<C: Counts>(&self, counts: &mut C) -> Result<Sizes, NoMemory>
-        ensures sizes { IfOk result (λ s. SizesAre self.now s.items s.faults) }
+        ensures sizes { IfOk result (λ s. SizesAre self.now.text s.items s.faults) }
         ensures counted { Grows (C.tallies counts.old) (C.tallies counts.new) }
     {
         let read = read_text(self.alloc, &self.kept, counts)?;
@@ -574,7 +645,7 @@ impl<A: Analyser> Session<A> {
 
     /// How many faults of the typer a parsed text has, its warnings among them.
     fn count_typed<C: Counts>(&self, parsed: &Parsed, counts: &mut C) -> Result<usize, NoMemory>
-        requires of_text { AreItemsOf self.now (trees_of parsed.now.tree) }
+        requires of_text { AreItemsOf self.now.text (trees_of parsed.now.tree) }
         ensures faults { IfOk result (λ n. (typed : List TyperFault) × (n ≡ length typed)) }
         ensures fits { IfOk result (λ n. n < 2 ^ 63) }
         ensures counted { Grows (C.tallies counts.old) (C.tallies counts.new) }
@@ -585,33 +656,42 @@ impl<A: Analyser> Session<A> {
 
     /// The types round a position, innermost first.
     fn type_enclosing<C: Counts>(&mut self, at: Pos, counts: &mut C) -> Line
-        ensures says { Says (PlacedIs (offset self.old at.line at.col) (EnclosingIs self.old)) result }
-        ensures text { self.new ≡ self.old }
+        ensures says { Says (PlacedIs (offset self.old.text at.line at.col) (EnclosingIs self.old.text)) result }
+        ensures text { self.new.text ≡ self.old.text }
+        ensures works { QueryWorks A.opens (is_some (offset self.old.text at.line at.col)) false result self.old self.new (C.tallies counts.old) (C.tallies counts.new) }
         ensures counted { Grows (C.tallies counts.old) (C.tallies counts.new) }
     {
         match self.text().offset_of(at) {
-            Ok(offset) => self.enclosing_line(offset, counts),
+            Ok(offset) => {
+                let reply = self.enclosing_now(offset, counts);
+                line_of(self.alloc, reply)
+            }
             Err(_) => error_line(self.alloc, RequestError::BadPosition { key: Key::At }),
         }
     }
 
-    fn enclosing_line<C: Counts>(&mut self, offset: u32, counts: &mut C) -> Line
-        ensures says { Says (EnclosingIs self.old offset) result }
-        ensures text { self.new ≡ self.old }
+    /// The types round an offset, innermost first, what is kept of the text brought up to it; those of a plain text aren't found anew.
+    fn enclosing_now<C: Counts>(&mut self, offset: u32, counts: &mut C) -> Result<Reply, NoMemory>
+        ensures said { IfOk result (λ r. EnclosingIs self.old.text offset (said_of r)) }
+        ensures text { self.new.text ≡ self.old.text }
+        ensures current { OnOk result (self.new.changed ≡ None) }
+        ensures settles { Settles self.old self.new }
+        ensures reads { OnOk result (Reads A.opens false self.old self.new (C.tallies counts.old) (C.tallies counts.new)) }
+        ensures fails { Reads A.opens true self.old self.new (C.tallies counts.old) (C.tallies counts.new) }
         ensures counted { Grows (C.tallies counts.old) (C.tallies counts.new) }
     {
-        let Ok(()) = self.refresh_unless_plain(counts) else {
-            return Line::Memory;
-        };
-        match self.enclosing(offset, counts) {
-            Ok(reply) => written(self.alloc, &reply),
-            Err(_) => Line::Memory,
+        self.read_again(counts)?;
+        let read = read_text(self.alloc, &self.kept, counts)?;
+        if let Some(plain) = &read.plain {
+            return self.plain_types(plain, offset);
         }
+        self.type_again(counts)?;
+        self.types_in(&read.parsed.tree, offset, counts)
     }
 
     /// The types round an offset, innermost first.
     pub fn enclosing<C: Counts>(&self, offset: u32, counts: &mut C) -> Result<Reply, NoMemory>
-        ensures said { IfOk result (λ r. EnclosingIs self.now offset (said_of r)) }
+        ensures said { IfOk result (λ r. EnclosingIs self.now.text offset (said_of r)) }
         ensures counted { Grows (C.tallies counts.old) (C.tallies counts.new) }
     {
         let read = read_text(self.alloc, &self.kept, counts)?;
@@ -625,8 +705,8 @@ impl<A: Analyser> Session<A> {
     fn plain_types(&self, plain: &PlainText, offset: u32) -> Result<Reply, NoMemory>
         requires sized { AreItemsSized (trees_of plain.now.tree) }
         requires items { length (trees_of plain.now.tree) < 2 ^ 32 - 1 }
-        requires within { AllSeenWithin (length self.now) (map seen_of plain.now.seen.items) }
-        ensures { IfOk result (λ r. said_of r ≡ types_or_none (typed_among_spec self.now (map seen_of plain.now.seen.items) (reverse (nodes_at offset (trees_of plain.now.tree))))) }
+        requires within { AllSeenWithin (length self.now.text) (map seen_of plain.now.seen.items) }
+        ensures { IfOk result (λ r. said_of r ≡ types_or_none (typed_among_spec self.now.text (map seen_of plain.now.seen.items) (reverse (nodes_at offset (trees_of plain.now.tree))))) }
     {
         let ids = enclosing(self.alloc, &plain.tree, offset)?;
         Ok(types_reply(typed_among(self.alloc, self.text(), &plain.seen, &ids)?))
@@ -639,8 +719,9 @@ impl<A: Analyser> Session<A> {
         offset: u32,
         counts: &mut C,
     ) -> Result<Reply, NoMemory>
-        requires of_text { AreItemsOf self.now (trees_of tree.now) }
-        ensures said { IfOk result (λ r. TypesAre self.now (typed_round offset (trees_of tree.now)) (said_of r)) }
+        requires of_text { AreItemsOf self.now.text (trees_of tree.now) }
+        ensures said { IfOk result (λ r. TypesAre self.now.text (typed_round offset (trees_of tree.now)) (said_of r)) }
+        ensures idle { self.now.known ≡ true → C.tallies counts.new ≡ C.tallies counts.old }
         ensures counted { Grows (C.tallies counts.old) (C.tallies counts.new) }
     {
         let found = self.typed(tree, counts)?;
@@ -648,7 +729,7 @@ impl<A: Analyser> Session<A> {
     }
 
     fn types_of(&self, asked: &Asked<'_>, offset: u32) -> Result<Reply, NoMemory>
-        ensures { IfOk result (λ r. TypesAre self.now (typed_round offset (trees_of asked.now.tree.now)) (said_of r)) }
+        ensures { IfOk result (λ r. TypesAre self.now.text (typed_round offset (trees_of asked.now.tree.now)) (said_of r)) }
     {
         match enclosing_types(self.alloc, asked, offset) {
             Ok(types) => Ok(types_reply(shown_types(self.alloc, self.text(), &types)?)),

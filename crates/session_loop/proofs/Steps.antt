@@ -1,6 +1,6 @@
 -- A line is answered as its kept front is, and a run goes on by a byte.
 use Rattle.std.proofs.Common.{◌≡◌, ◌⊎◌, inl, inr, ℕ, suc, List, [], ◌∷◌, ◌++◌, length, take, true, false, refl, sym, ◌∙◌, ap, subst, arith, append_assoc}
-use Rattle.std.specs.Prelude.{if◌then◌else◌, ◌==◌, Option, Result, Ok, Err, OnErr}
+use Rattle.std.specs.Prelude.{if◌then◌else◌, ◌==◌, Option, Some, Result, Ok, Err, OnErr}
 use Rattle.std.specs.Io.KnownBytes.{Appends}
 use Rattle.std.proofs.KnownBytes.{Appends-nil, Appends-trans}
 use Rattle.std.proofs.lemmas.List.{append-nil, take_all, length-take}
@@ -13,9 +13,16 @@ use Rattle.service_model.specs.Answers.{Answers, Answered}
 use Rattle.service_model.specs.Runs.{is_blank_line, StepBy, Step, RunsTo, Run, last_line, request_lines}
 use Rattle.session_loop.specs.Begun.{Holds, kept_limit}
 use Rattle.session_loop.specs.Outcomes.{RanOver}
-use Rattle.session_loop.specs.Progress.{SoFar, CutShort}
+use Rattle.token_model.specs.Kinds.{Tok}
+use Rattle.token_model.specs.Tokens.{Lex}
+use Rattle.work_model.specs.Work.{Owed, WorksAt, WorksBy}
+use Rattle.syntax_tree.specs.Tallies.{Tallies}
+use Rattle.session.specs.Working.{Held, Lexes, Owes}
+use Rattle.session_loop.specs.Progress.{Cut, CutShort, SoFar}
+use Rattle.session_loop.specs.Spending.{LineSpends, SpendsOn, SpentOver}
 use Rattle.session_loop.specs.declared.begun.Begun.{Begun}
 use Rattle.session_loop.proofs.Runs.{runs_more, ended_feed, rest_feed, ended_byte, rest_byte, ended_front}
+use Rattle.session_loop.proofs.Spendings.{spends_end, spends_more, spends_none, spent_cut, spent_last, spent_whole}
 
 -- a line reads as its kept front does
 same_reading : (line : List ℕ) → reading (take kept_limit line) ≡ reading line
@@ -38,43 +45,62 @@ step_answered text line piece after b holds none answers =
 pub step_blank : (text line : List ℕ) (b : Begun) → Holds b line → b.blank ≡ true → Step text line [] text
 step_blank text line b holds blank = subst (λ t. StepBy t text line [] text) (sym blank ∙ holds.blank) (refl, refl)
 
+-- nothing is read for a blank line
+pub blank_spends : (opens line : List ℕ) (b : Begun) (s : Held) (x : Tallies) → Holds b line → b.blank ≡ true → LineSpends opens line [] s s x x
+blank_spends opens line b s x holds blank = λ w ps owes lex.
+    (w, 0, subst (λ t. WorksBy t (length ps) w line [] w 0) (sym blank ∙ holds.blank) (refl, refl, refl), owes, omega arith)
+
+-- what the kept front of a line that isn't blank may read, the line may
+pub answered_spends : (opens front line piece : List ℕ) (b : Begun) (s t : Held) (x y : Tallies) → Holds b line → b.blank ≡ false → front ≡ b.bytes.items
+    → ((w : Owed) (ps : List Tok) → Owes w s → Lex opens ps → (v : Owed) × (n : ℕ) × WorksAt (length ps) w (reading front) piece v n × Owes v t × Lexes (length ps) n s t x y) → LineSpends opens line piece s t x y
+answered_spends opens front line piece b s t x y holds none is works = λ w ps owes lex.
+    let same : reading front ≡ reading line = ap reading (is ∙ holds.bytes) ∙ same_reading line in
+    let (v, n, work, owed, lexes) = works w ps owes lex in
+    (v, n, subst (λ k. WorksBy k (length ps) w line piece v n) (sym none ∙ holds.blank) (subst (λ r. WorksAt (length ps) w r piece v n) same work), owed, lexes)
+
 -- a line feed, after the line before it was answered
-pub so_far_feed : (before held now : Option (List ℕ)) (taken text after piece : List ℕ) (b c : Begun) (byte : ℕ) → byte ≡ line_feed → SoFar before held taken text b
-    → Step text (rest_from [] taken) piece after → Appends held now piece → Holds c [] → SoFar before now (taken ++ byte ∷ []) after c
-so_far_feed before held now taken text after piece b c byte is so_far step puts holds =
-    subst (λ x. SoFar before now (taken ++ x ∷ []) after c) (sym is) (record {
+pub so_far_feed : (opens : List ℕ) (start x y : Tallies) (before held now : Option (List ℕ)) (taken piece : List ℕ) (s t : Held) (b c : Begun) (byte : ℕ) → byte ≡ line_feed → SoFar opens start x before held taken s b
+    → Step s.text (rest_from [] taken) piece t.text → Appends held now piece → LineSpends opens (rest_from [] taken) piece s t x y → Holds c [] → SoFar opens start y before now (taken ++ byte ∷ []) t c
+so_far_feed opens start x y before held now taken piece s t b c byte is so_far step puts spends holds =
+    subst (λ k. SoFar opens start y before now (taken ++ k ∷ []) t c) (sym is) (record {
       out = so_far.out ++ piece;
       put = Appends-trans before held now so_far.out piece so_far.put puts;
-      ran = subst (λ (ls : List (List ℕ)). RunsTo [] ls (so_far.out ++ piece) after) (sym (ended_feed [] taken)) (runs_more [] (ended_from [] taken) so_far.out text (rest_from [] taken) piece after so_far.ran step);
+      ran = subst (λ (ls : List (List ℕ)). RunsTo [] ls (so_far.out ++ piece) t.text) (sym (ended_feed [] taken)) (runs_more [] (ended_from [] taken) so_far.out s.text (rest_from [] taken) piece t.text so_far.ran step);
+      spends = subst (λ (ls : List (List ℕ)). SpendsOn opens start y t ls (so_far.out ++ piece)) (sym (ended_feed [] taken)) (spends_more opens start x y s t (ended_from [] taken) (rest_from [] taken) so_far.out piece so_far.spends spends);
       line = subst (Holds c) (sym (rest_feed [] taken)) holds;
     })
 
 -- the put of the answer to the line before a line feed was cut short
-pub cut_feed : (before held now : Option (List ℕ)) (taken text after piece : List ℕ) (b : Begun) (byte n : ℕ) → byte ≡ line_feed → SoFar before held taken text b
-    → Step text (rest_from [] taken) piece after → Appends held now (take n piece) → CutShort before now (ended_from [] (taken ++ byte ∷ []))
-cut_feed before held now taken text after piece b byte n is so_far step puts =
-    subst (λ x. CutShort before now (ended_from [] (taken ++ x ∷ []))) (sym is) (record {
-      answered = ended_from [] taken;
-      line = rest_from [] taken;
-      later = [];
-      front = ended_feed [] taken;
-      out = so_far.out;
-      text = text;
-      ran = so_far.ran;
-      piece = piece;
-      after = after;
-      step = step;
-      count = n;
-      put = Appends-trans before held now so_far.out (take n piece) so_far.put puts;
-    })
+pub cut_feed : (opens : List ℕ) (start x y : Tallies) (before held now : Option (List ℕ)) (taken piece : List ℕ) (s t : Held) (b : Begun) (byte n : ℕ) → byte ≡ line_feed → SoFar opens start x before held taken s b
+    → Step s.text (rest_from [] taken) piece t.text → Appends held now (take n piece) → LineSpends opens (rest_from [] taken) piece s t x y → Cut opens start y before now (ended_from [] (taken ++ byte ∷ []))
+cut_feed opens start x y before held now taken piece s t b byte n is so_far step puts spends =
+    subst (λ k. Cut opens start y before now (ended_from [] (taken ++ k ∷ []))) (sym is) (
+      record {
+        answered = ended_from [] taken;
+        line = rest_from [] taken;
+        later = [];
+        front = ended_feed [] taken;
+        out = so_far.out;
+        text = s.text;
+        ran = so_far.ran;
+        piece = piece;
+        after = t.text;
+        step = step;
+        count = n;
+        put = Appends-trans before held now so_far.out (take n piece) so_far.put puts;
+      },
+      spent_cut opens start y before held now (ended_from [] taken) (rest_from [] taken) [] (ended_from [] (taken ++ line_feed ∷ [])) so_far.out piece n (ended_feed [] taken) so_far.put puts
+          (spends_end opens start y t _ _ (spends_more opens start x y s t (ended_from [] taken) (rest_from [] taken) so_far.out piece so_far.spends spends)),
+    )
 
 -- a byte that goes on with the line
-pub so_far_byte : (before held : Option (List ℕ)) (taken text : List ℕ) (b c : Begun) (byte : ℕ) → (byte == line_feed) ≡ false → SoFar before held taken text b
-    → ((line : List ℕ) → Holds b line → Holds c (line ++ byte ∷ [])) → SoFar before held (taken ++ byte ∷ []) text c
-so_far_byte before held taken text b c byte is so_far goes_on = record {
+pub so_far_byte : (opens : List ℕ) (start x : Tallies) (before held : Option (List ℕ)) (taken : List ℕ) (s : Held) (b c : Begun) (byte : ℕ) → (byte == line_feed) ≡ false → SoFar opens start x before held taken s b
+    → ((line : List ℕ) → Holds b line → Holds c (line ++ byte ∷ [])) → SoFar opens start x before held (taken ++ byte ∷ []) s c
+so_far_byte opens start x before held taken s b c byte is so_far goes_on = record {
   out = so_far.out;
   put = so_far.put;
-  ran = subst (λ (ls : List (List ℕ)). RunsTo [] ls so_far.out text) (sym (ended_byte [] taken byte is)) so_far.ran;
+  ran = subst (λ (ls : List (List ℕ)). RunsTo [] ls so_far.out s.text) (sym (ended_byte [] taken byte is)) so_far.ran;
+  spends = subst (λ (ls : List (List ℕ)). SpendsOn opens start x s ls so_far.out) (sym (ended_byte [] taken byte is)) so_far.spends;
   line = subst (Holds c) (sym (rest_byte [] taken byte is)) (goes_on (rest_from [] taken) so_far.line);
 }
 
@@ -86,36 +112,43 @@ last_run lines [] out text piece after ran step =
 last_run lines (b ∷ bs) out text piece after ran step = runs_more [] lines out text (b ∷ bs) piece after ran step
 
 -- at the end of the input the last line was answered
-pub finished : (before held now : Option (List ℕ)) (taken text after piece : List ℕ) (b : Begun) → SoFar before held taken text b
-    → Step text (rest_from [] taken) piece after → Appends held now piece → (out : List ℕ) × Run (request_lines taken) out × Appends before now out
-finished before held now taken text after piece b so_far step puts = (
+pub finished : (opens : List ℕ) (start x y : Tallies) (before held now : Option (List ℕ)) (taken piece : List ℕ) (s t : Held) (b : Begun) → SoFar opens start x before held taken s b
+    → Step s.text (rest_from [] taken) piece t.text → Appends held now piece → LineSpends opens (rest_from [] taken) piece s t x y
+    → (out : List ℕ) × Run (request_lines taken) out × Appends before now out × SpentOver opens start y before now (request_lines taken)
+finished opens start x y before held now taken piece s t b so_far step puts spends = (
   so_far.out ++ piece,
-  (after, last_run (ended_from [] taken) (rest_from [] taken) so_far.out text piece after so_far.ran step),
+  (t.text, last_run (ended_from [] taken) (rest_from [] taken) so_far.out s.text piece t.text so_far.ran step),
   Appends-trans before held now so_far.out piece so_far.put puts,
+  spent_last opens start x y before held now (ended_from [] taken) (rest_from [] taken) so_far.out piece s t step so_far.put puts so_far.spends spends,
 )
 
 -- the put of the answer to the last line, which isn't blank, was cut short
-pub cut_last : (before held now : Option (List ℕ)) (taken text after piece : List ℕ) (b : Begun) (n : ℕ) → SoFar before held taken text b → is_blank_line (rest_from [] taken) ≡ false
-    → Step text (rest_from [] taken) piece after → Appends held now (take n piece) → CutShort before now (request_lines taken)
-cut_last before held now taken text after piece b n so_far some step puts =
-    cut (rest_from [] taken) some step
+pub cut_last : (opens : List ℕ) (start x y : Tallies) (before held now : Option (List ℕ)) (taken piece : List ℕ) (s t : Held) (b : Begun) (n : ℕ) → SoFar opens start x before held taken s b
+    → is_blank_line (rest_from [] taken) ≡ false → Step s.text (rest_from [] taken) piece t.text → Appends held now (take n piece) → LineSpends opens (rest_from [] taken) piece s t x y
+    → Cut opens start y before now (request_lines taken)
+cut_last opens start x y before held now taken piece s t b n so_far some step puts spends =
+    cut (rest_from [] taken) some step spends
   where
-    cut : (rest : List ℕ) → is_blank_line rest ≡ false → Step text rest piece after → CutShort before now (ended_from [] taken ++ last_line rest)
-    cut [] some step = cc
-    cut (x ∷ xs) some step = record {
-      answered = ended_from [] taken;
-      line = x ∷ xs;
-      later = [];
-      front = refl;
-      out = so_far.out;
-      text = text;
-      ran = so_far.ran;
-      piece = piece;
-      after = after;
-      step = step;
-      count = n;
-      put = Appends-trans before held now so_far.out (take n piece) so_far.put puts;
-    }
+    cut : (rest : List ℕ) → is_blank_line rest ≡ false → Step s.text rest piece t.text → LineSpends opens rest piece s t x y → Cut opens start y before now (ended_from [] taken ++ last_line rest)
+    cut [] some step spends = cc
+    cut (k ∷ ks) some step spends = (
+      record {
+        answered = ended_from [] taken;
+        line = k ∷ ks;
+        later = [];
+        front = refl;
+        out = so_far.out;
+        text = s.text;
+        ran = so_far.ran;
+        piece = piece;
+        after = t.text;
+        step = step;
+        count = n;
+        put = Appends-trans before held now so_far.out (take n piece) so_far.put puts;
+      },
+      spent_cut opens start y before held now (ended_from [] taken) (k ∷ ks) [] (ended_from [] taken ++ (k ∷ ks) ∷ []) so_far.out piece n refl so_far.put puts
+          (spends_end opens start y t _ _ (spends_more opens start x y s t (ended_from [] taken) (k ∷ ks) so_far.out piece so_far.spends spends)),
+    )
 
 -- more lines behind those that begin with others
 lines_behind : (answered later ended last : List (List ℕ)) (line : List ℕ) → ((answered ++ line ∷ later) ++ ended) ++ last ≡ answered ++ line ∷ (later ++ (ended ++ last))
@@ -143,9 +176,31 @@ cut_within before now front back cut =
       put = cut.put;
     }
 
+-- what was answered of the lines of a front of the input was of the lines of the whole
+pub spent_within : (opens : List ℕ) (start y : Tallies) (before now : Option (List ℕ)) (front back : List ℕ) → SpentOver opens start y before now (ended_from [] front) → SpentOver opens start y before now (request_lines (front ++ back))
+spent_within opens start y before now front back spent =
+    let last = last_line (rest_from [] (front ++ back)) in
+    let ended = ended_from (rest_from [] front) back in
+    record {
+      answered = spent.answered;
+      later = (spent.later ++ ended) ++ last;
+      front = ap (λ (ls : List (List ℕ)). ls ++ last) (ended_front [] front back ∙ ap (λ (ls : List (List ℕ)). ls ++ ended) spent.front ∙ append_assoc spent.answered spent.later ended)
+          ∙ append_assoc spent.answered (spent.later ++ ended) last;
+      out = spent.out;
+      count = spent.count;
+      put = spent.put;
+      spends = spent.spends;
+    }
+
 -- before the first byte
-pub started : (held : Option (List ℕ)) (b : Begun) → Holds b [] → SoFar held held [] [] b
-started held b holds = record { out = []; put = Appends-nil held; ran = (refl, refl); line = holds }
+pub started : (opens : List ℕ) (x : Tallies) (held : Option (List ℕ)) (s : Held) (b : Begun) → Holds b [] → s.text ≡ [] → s.begun ≡ false → SoFar opens x x held held [] s b
+started opens x held s b holds text begun = record {
+  out = [];
+  put = Appends-nil held;
+  ran = (refl, text);
+  spends = spends_none opens x s text begun;
+  line = holds;
+}
 
 -- what holds anyway holds at an error
 pub on_err : {T E P : Type 0} (r : Result T E) → P → OnErr r P
@@ -153,5 +208,10 @@ on_err (Ok x) p = tt
 on_err (Err e) p = p
 
 -- so far the bytes put are those of a run over the ended lines
-pub ran_over : (before now : Option (List ℕ)) (taken text : List ℕ) (b : Begun) → SoFar before now taken text b → RanOver before now (ended_from [] taken)
-ran_over before now taken text b so_far = (so_far.out, (text, so_far.ran), so_far.put)
+pub ran_over : (opens : List ℕ) (start x : Tallies) (before now : Option (List ℕ)) (taken : List ℕ) (s : Held) (b : Begun) → SoFar opens start x before now taken s b → RanOver before now (ended_from [] taken)
+ran_over opens start x before now taken s b so_far = (so_far.out, (s.text, so_far.ran), so_far.put)
+
+-- and so far these were answered
+pub spent_so_far : (opens : List ℕ) (start x : Tallies) (before now : Option (List ℕ)) (taken : List ℕ) (s : Held) (b : Begun) → SoFar opens start x before now taken s b → SpentOver opens start x before now (ended_from [] taken)
+spent_so_far opens start x before now taken s b so_far =
+    spent_whole opens start x before now (ended_from [] taken) (ended_from [] taken) [] so_far.out (sym (append-nil (ended_from [] taken))) so_far.put (spends_end opens start x s (ended_from [] taken) so_far.out so_far.spends)

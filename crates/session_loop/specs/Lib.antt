@@ -5,6 +5,7 @@ pub mod ListEnds
 pub mod MadeRuns
 pub mod Outcomes
 pub mod Progress
+pub mod Spending
 pub mod SureEnds
 pub mod Turns
 pub mod Words

@@ -2,11 +2,12 @@
 ghost use Rattle.std.specs.Prelude.{◌≡◌, ◌++◌, ◌∷◌, [], false, List, ℕ, take, OnOk, OnErr, Option};
 ghost use Rattle.std.specs.Io.KnownBytes.{Appends};
 ghost use Rattle.text_model.specs.Lines.{ended_from};
-ghost use Rattle.syntax_tree.specs.Tallies.{Grows};
+ghost use Rattle.syntax_tree.specs.Tallies.{Grows, Tallies};
 ghost use Rattle.service_model.specs.Runs.{Step, is_blank_line};
 ghost use Rattle.session_loop.specs.Begun.{Holds};
 ghost use Rattle.session_loop.specs.Causes.{HasCause};
-ghost use Rattle.session_loop.specs.Progress.{SoFar, CutShort};
+ghost use Rattle.session_loop.specs.Progress.{Cut, SoFar};
+ghost use Rattle.session_loop.specs.Spending.{LineSpends};
 
 use crate::begun::Begun;
 use crate::{Failed, Sink};
@@ -22,11 +23,13 @@ pub fn answer_line<A: Analyser, K: Sink, C: Counts>(
     counts: &mut C,
 ) -> Result<(), Failed>
     ensures done { OnOk result ((line : List ℕ) → Holds begun.now line
-        → (piece : List ℕ) × Step session.old line piece session.new
-        × Appends (K.held sink.old) (K.held sink.new) piece) }
+        → (piece : List ℕ) × Step session.old.text line piece session.new.text
+        × Appends (K.held sink.old) (K.held sink.new) piece
+        × LineSpends A.opens line piece session.old session.new (C.tallies counts.old) (C.tallies counts.new)) }
     ensures cut { OnErr result ((line : List ℕ) → Holds begun.now line
-        → (is_blank_line line ≡ false) × (piece : List ℕ) × Step session.old line piece session.new
-        × (n : ℕ) × Appends (K.held sink.old) (K.held sink.new) (take n piece)) }
+        → (is_blank_line line ≡ false) × (piece : List ℕ) × Step session.old.text line piece session.new.text
+        × (n : ℕ) × Appends (K.held sink.old) (K.held sink.new) (take n piece)
+        × LineSpends A.opens line piece session.old session.new (C.tallies counts.old) (C.tallies counts.new)) }
     ensures cause { HasCause (K.faults sink.old) (K.faults sink.new) result }
     ensures counted { Grows (C.tallies counts.old) (C.tallies counts.new) }
 {
@@ -44,12 +47,12 @@ fn take_byte<A: Analyser, K: Sink, C: Counts>(
     sink: &mut K,
     counts: &mut C,
 ) -> Result<(), Failed>
-    ensures done { OnOk result ((before : Option (List ℕ)) (taken : List ℕ)
-        → SoFar before (K.held sink.old) taken session.old begun.old
-        → SoFar before (K.held sink.new) (taken ++ byte ∷ []) session.new begun.new) }
-    ensures cut { OnErr result ((before : Option (List ℕ)) (taken : List ℕ)
-        → SoFar before (K.held sink.old) taken session.old begun.old
-        → CutShort before (K.held sink.new) (ended_from [] (taken ++ byte ∷ []))) }
+    ensures done { OnOk result ((start : Tallies) (before : Option (List ℕ)) (taken : List ℕ)
+        → SoFar A.opens start (C.tallies counts.old) before (K.held sink.old) taken session.old begun.old
+        → SoFar A.opens start (C.tallies counts.new) before (K.held sink.new) (taken ++ byte ∷ []) session.new begun.new) }
+    ensures cut { OnErr result ((start : Tallies) (before : Option (List ℕ)) (taken : List ℕ)
+        → SoFar A.opens start (C.tallies counts.old) before (K.held sink.old) taken session.old begun.old
+        → Cut A.opens start (C.tallies counts.new) before (K.held sink.new) (ended_from [] (taken ++ byte ∷ []))) }
     ensures cause { HasCause (K.faults sink.old) (K.faults sink.new) result }
     ensures counted { Grows (C.tallies counts.old) (C.tallies counts.new) }
 {
@@ -70,12 +73,12 @@ pub fn take_chunk<A: Analyser, K: Sink, C: Counts>(
     sink: &mut K,
     counts: &mut C,
 ) -> Result<(), Failed>
-    ensures done { OnOk result ((before : Option (List ℕ)) (taken : List ℕ)
-        → SoFar before (K.held sink.old) taken session.old begun.old
-        → SoFar before (K.held sink.new) (taken ++ chunk.now) session.new begun.new) }
-    ensures cut { OnErr result ((before : Option (List ℕ)) (taken : List ℕ)
-        → SoFar before (K.held sink.old) taken session.old begun.old
-        → (n : ℕ) × CutShort before (K.held sink.new) (ended_from [] (taken ++ take n chunk.now))) }
+    ensures done { OnOk result ((start : Tallies) (before : Option (List ℕ)) (taken : List ℕ)
+        → SoFar A.opens start (C.tallies counts.old) before (K.held sink.old) taken session.old begun.old
+        → SoFar A.opens start (C.tallies counts.new) before (K.held sink.new) (taken ++ chunk.now) session.new begun.new) }
+    ensures cut { OnErr result ((start : Tallies) (before : Option (List ℕ)) (taken : List ℕ)
+        → SoFar A.opens start (C.tallies counts.old) before (K.held sink.old) taken session.old begun.old
+        → (n : ℕ) × Cut A.opens start (C.tallies counts.new) before (K.held sink.new) (ended_from [] (taken ++ take n chunk.now))) }
     ensures cause { HasCause (K.faults sink.old) (K.faults sink.new) result }
     ensures counted { Grows (C.tallies counts.old) (C.tallies counts.new) }
 {

@@ -116,8 +116,8 @@ fn asked<A: Analyser, C: Counts>(
     session: &mut Session<A>,
     counts: &mut C,
 ) -> Result<(Sizes, u64), NoMemory>
-    ensures sizes { IfOk result (λ r. SizesAre session.old r.0.items r.0.faults) }
-    ensures text { session.new ≡ session.old }
+    ensures sizes { IfOk result (λ r. SizesAre session.old.text r.0.items r.0.faults) }
+    ensures text { session.new.text ≡ session.old.text }
     ensures typed { IfOk result (λ r. (C.tallies counts.new).typed ≡ (C.tallies counts.old).typed + r.1) }
     ensures grows { Grows (C.tallies counts.old) (C.tallies counts.new) }
 {

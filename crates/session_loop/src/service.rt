@@ -1,9 +1,11 @@
 //! The top call: lines in, reply lines out.
-ghost use Rattle.std.specs.Prelude.{◌≡◌, ◌≢◌, ◌⊎◌, ◌≤◌, ◌+◌, ◌^◌, [], ℕ, true, is_some, length};
+ghost use Rattle.std.specs.Prelude.{◌≡◌, ◌≢◌, ◌⊎◌, ◌≤◌, ◌+◌, ◌^◌, [], ℕ, None, true, is_some, length, IfSome};
+ghost use Rattle.service_model.specs.Runs.{request_lines};
 ghost use Rattle.syntax_tree.specs.Tallies.{Grows};
 ghost use Rattle.session_loop.specs.Causes.{Rose};
 ghost use Rattle.session_loop.specs.Outcomes.{Outcome, RunOutcome};
 ghost use Rattle.session_loop.specs.Progress.{SoFar};
+ghost use Rattle.session_loop.specs.Spending.{SpentOver};
 ghost use Rattle.session_loop.specs.Words.{are_refused, items_asked, texts, AlwaysAccepted};
 
 use crate::begun::Begun;
@@ -57,8 +59,9 @@ fn read_lines<A: Analyser, S: Source, K: Sink, C: Counts>(
     counts: &mut C,
 ) -> Status
     requires room { length buf.old ≡ 65536 }
-    requires starts { SoFar (K.held sink.old) (K.held sink.old) [] session.old begun.old }
+    requires starts { SoFar A.opens (C.tallies counts.old) (C.tallies counts.old) (K.held sink.old) (K.held sink.old) [] session.old begun.old }
     ensures outcome { Outcome result (S.left src.old) (S.left src.new) (K.held sink.old) (K.held sink.new) }
+    ensures spent { IfSome (S.left src.old) (λ input. SpentOver A.opens (C.tallies counts.old) (C.tallies counts.new) (K.held sink.old) (K.held sink.new) (request_lines input)) }
     ensures read { result ≡ Status.ReadFault → Rose (S.faults src.old) (S.faults src.new) }
     ensures write { result ≡ Status.WriteFault → Rose (K.faults sink.old) (K.faults sink.new) }
     ensures no_words { result ≢ Status.BadWords }
@@ -91,6 +94,7 @@ fn run<A: Analyser, S: Source, K: Sink, C: Counts>(
     counts: &mut C,
 ) -> Status
     ensures outcome { Outcome result (S.left src.old) (S.left src.new) (K.held sink.old) (K.held sink.new) }
+    ensures spent { IfSome (S.left src.old) (λ input. SpentOver A.opens (C.tallies counts.old) (C.tallies counts.new) (K.held sink.old) (K.held sink.new) (request_lines input)) }
     ensures read { result ≡ Status.ReadFault → Rose (S.faults src.old) (S.faults src.new) }
     ensures write { result ≡ Status.WriteFault → Rose (K.faults sink.old) (K.faults sink.new) }
     ensures no_words { result ≢ Status.BadWords }
@@ -117,6 +121,7 @@ fn run_by<A: Analyser, S: Source, K: Sink, C: Counts>(
     counts: &mut C,
 ) -> Status
     ensures outcome { RunOutcome (items_asked (texts words.now)) result (S.left src.old) (S.left src.new) (K.held sink.old) (K.held sink.new) (C.tallies counts.old) (C.tallies counts.new) }
+    ensures spent { items_asked (texts words.now) ≡ None → IfSome (S.left src.old) (λ input. SpentOver A.opens (C.tallies counts.old) (C.tallies counts.new) (K.held sink.old) (K.held sink.new) (request_lines input)) }
     ensures made { is_some (items_asked (texts words.now)) ≡ true → src.new ≡ src.old }
     ensures bad_words { result ≡ Status.BadWords → are_refused (texts words.now) ≡ true }
     ensures refused { are_refused (texts words.now) ≡ true → (result ≡ Status.BadWords) ⊎ (result ≡ Status.NoMemory) }
@@ -159,6 +164,8 @@ pub fn serve<A: Analyser, S: Source, K: Sink, C: Counts>(
     ensures lexed { (C.tallies counts.new).lexed ≡ (C.tallies counts.old).lexed + result.lexed }
     ensures shifted { (C.tallies counts.new).shifted ≡ (C.tallies counts.old).shifted + result.shifted }
     ensures typed { (C.tallies counts.new).typed ≡ (C.tallies counts.old).typed + result.typed }
+    // In a session no more tokens are lexed than the lines may read that were answered, and those of the prelude.
+    ensures work { items_asked (texts words.now) ≡ None → IfSome (S.left src.old) (λ input. SpentOver A.opens (C.tallies counts.old) (C.tallies counts.new) (K.held sink.old) (K.held sink.new) (request_lines input)) }
 {
     let lexed = counts.lexed();
     let shifted = counts.shifted();

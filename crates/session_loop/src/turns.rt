@@ -2,10 +2,11 @@
 ghost use Rattle.std.specs.Prelude.{◌≡◌, ◌≤◌, ◌<◌, ◌++◌, ◌∷◌, [], List, ℕ, length, take, OnOk, OnErr, Option};
 ghost use Rattle.std.specs.Io.KnownBytes.{Appends};
 ghost use Rattle.text_model.specs.Lines.{ended_from};
-ghost use Rattle.syntax_tree.specs.Tallies.{Grows};
+ghost use Rattle.syntax_tree.specs.Tallies.{Grows, Tallies};
 ghost use Rattle.service_model.specs.Runs.{Run, request_lines};
 ghost use Rattle.session_loop.specs.Causes.{HasCause, Rose};
-ghost use Rattle.session_loop.specs.Progress.{SoFar, CutShort};
+ghost use Rattle.session_loop.specs.Progress.{Cut, SoFar};
+ghost use Rattle.session_loop.specs.Spending.{SpentOver};
 ghost use Rattle.session_loop.specs.Turns.{Goes};
 
 use crate::begun::Begun;
@@ -38,11 +39,11 @@ pub fn take_turn<A: Analyser, S: Source, K: Sink, C: Counts>(
 ) -> Turn
     requires some { 0 < most }
     requires fits { most ≤ length buf.old }
-    ensures goes { (before : Option (List ℕ)) (taken : List ℕ)
-        → SoFar before (K.held sink.old) taken session.old begun.old
+    ensures goes { (start : Tallies) (before : Option (List ℕ)) (taken : List ℕ)
+        → SoFar A.opens start (C.tallies counts.old) before (K.held sink.old) taken session.old begun.old
         → Goes result (S.left src.old) (S.left src.new)
-        (λ bytes. SoFar before (K.held sink.new) (taken ++ bytes) session.new begun.new)
-        (λ front. CutShort before (K.held sink.new) (ended_from [] (taken ++ front))) }
+        (λ bytes. SoFar A.opens start (C.tallies counts.new) before (K.held sink.new) (taken ++ bytes) session.new begun.new)
+        (λ front. Cut A.opens start (C.tallies counts.new) before (K.held sink.new) (ended_from [] (taken ++ front))) }
     ensures progress { (n : ℕ) → result ≡ Turn.Took n → (0 < n) × (n ≤ most) }
     ensures reads { S.faults src.old ≤ S.faults src.new }
     ensures writes { K.faults sink.old ≤ K.faults sink.new }
@@ -67,12 +68,13 @@ pub fn finish<A: Analyser, K: Sink, C: Counts>(
     sink: &mut K,
     counts: &mut C,
 ) -> Result<(), Failed>
-    ensures done { OnOk result ((before : Option (List ℕ)) (taken : List ℕ)
-        → SoFar before (K.held sink.old) taken session.old begun.now
-        → (out : List ℕ) × Run (request_lines taken) out × Appends before (K.held sink.new) out) }
-    ensures cut { OnErr result ((before : Option (List ℕ)) (taken : List ℕ)
-        → SoFar before (K.held sink.old) taken session.old begun.now
-        → CutShort before (K.held sink.new) (request_lines taken)) }
+    ensures done { OnOk result ((start : Tallies) (before : Option (List ℕ)) (taken : List ℕ)
+        → SoFar A.opens start (C.tallies counts.old) before (K.held sink.old) taken session.old begun.now
+        → (out : List ℕ) × Run (request_lines taken) out × Appends before (K.held sink.new) out
+        × SpentOver A.opens start (C.tallies counts.new) before (K.held sink.new) (request_lines taken)) }
+    ensures cut { OnErr result ((start : Tallies) (before : Option (List ℕ)) (taken : List ℕ)
+        → SoFar A.opens start (C.tallies counts.old) before (K.held sink.old) taken session.old begun.now
+        → Cut A.opens start (C.tallies counts.new) before (K.held sink.new) (request_lines taken)) }
     ensures cause { HasCause (K.faults sink.old) (K.faults sink.new) result }
     ensures counted { Grows (C.tallies counts.old) (C.tallies counts.new) }
 {

@@ -1,5 +1,5 @@
--- Facts on counters.
-pub mod Counting
+-- What reading the prelude counts.
+mod Counting
 -- Trees that are alike.
 mod Likeness
 -- Names that are one.

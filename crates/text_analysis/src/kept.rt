@@ -2,7 +2,6 @@
 ghost use Rattle.std.specs.Prelude.{◌≡◌, ◌≤◌, ◌+◌, ◌-◌, ◌++◌, ◌∷◌, [], ℕ, length, take, IfOk, OnOk, OnErr};
 ghost use Rattle.syntax_tree.specs.Tallies.{Grows};
 ghost use Rattle.syntax_tree.specs.View.{trees_of};
-ghost use Rattle.typing_model.specs.PreludeText.{prelude_text};
 ghost use Rattle.analysis_api.specs.Typed.{more_typed, GoesOn, LongestFront};
 ghost use Rattle.text_analysis.specs.Items.{views_of};
 
@@ -115,6 +114,7 @@ impl Typer {
         ensures done { OnOk result (views_of self.new.items.items ≡ views_of items.now) }
         ensures failed { OnErr result ((n : ℕ) × (place + n ≤ length items.now) × (views_of self.new.items.items ≡ take (place + n) (views_of items.now)) × ((C.tallies counts.new).typed ≡ more_typed n (C.tallies counts.old).typed)) }
         ensures typed { OnOk result ((C.tallies counts.new).typed ≡ more_typed (length items.now - place) (C.tallies counts.old).typed) }
+        ensures unlexed { (C.tallies counts.new).lexed ≡ (C.tallies counts.old).lexed }
         ensures grows { Grows (C.tallies counts.old) (C.tallies counts.new) }
     {
         for k in place..items.len() {
@@ -126,12 +126,15 @@ impl Typer {
 }
 
 impl Analyser for Typer {
+    ghost use Rattle.typing_model.specs.PreludeText.{prelude_text};
     ghost use Rattle.text_analysis.specs.Items.{views_of};
     ghost use Rattle.text_analysis.specs.Shown.{Shows};
 
     ghost items = { λ t. views_of t.items.items };
 
     ghost finds = { Shows };
+
+    ghost opens = { prelude_text };
 
     fn new<C: Counts>(alloc: Global, counts: &mut C) -> Result<Typer, NoMemory> {
         let mut parts = Parts::new(alloc)?;
@@ -163,9 +166,7 @@ impl Analyser for Typer {
         }
     }
 
-    fn prelude() -> &'static str
-        ensures { result.now ≡ prelude_text }
-    {
+    fn prelude() -> &'static str {
         text()
     }
 }

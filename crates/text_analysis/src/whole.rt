@@ -1,35 +1,41 @@
 //! The prelude, typed.
-ghost use Rattle.std.specs.Prelude.{◌≡◌, OnOk};
+ghost use Rattle.std.specs.Prelude.{◌≡◌, ◌+◌, ◌≤◌, List, length, OnOk};
+ghost use Rattle.token_model.specs.Kinds.{Tok};
+ghost use Rattle.token_model.specs.Tokens.{Lex};
+ghost use Rattle.typing_model.specs.PreludeText.{prelude_text};
 ghost use Rattle.typing_state.specs.Goes.{Goes};
 ghost use Rattle.syntax_tree.specs.Tallies.{Grows};
 
-use crate::prelude::PRELUDE;
-use frame_parser::{Text, parse};
-use ml_lexer::lex_all;
+use crate::prelude::text;
 use module_typing::{Scene, built_ins, type_item};
+use resume_parser::{KeptParse, Text};
 use row_parts::Operand;
 use std::alloc::{AllocError, Global};
 use syntax_tree::{Counts, Tree};
+use token_store::TokenStore;
 use typing_state::{Depth, Env, NoMemory, Parts};
 
-/// The tree of the prelude.
-#[tactic(auto, using(crate::proofs::Counting::shifted_untyped))]
+/// The tree of the prelude. No more than its own tokens are lexed, also where memory runs out.
 fn prelude_tree<C: Counts>(alloc: Global, counts: &mut C) -> Result<Tree, NoMemory>
     ensures grows { Grows (C.tallies counts.old) (C.tallies counts.new) }
+    ensures lexed { (ts : List Tok) → Lex prelude_text ts → (C.tallies counts.new).lexed ≤ (C.tallies counts.old).lexed + length ts }
     ensures untyped { OnOk result ((C.tallies counts.new).typed ≡ (C.tallies counts.old).typed) }
 {
-    let bytes = PRELUDE.as_bytes();
+    let bytes = text().as_bytes();
     if bytes.len() > 1_048_576 {
         return Err(AllocError);
     }
-    let tokens = lex_all(alloc, bytes, &[], counts)?;
-    let parsed = parse(alloc, Text::Signature, &tokens, counts)?;
-    Ok(parsed.tree)
+    let mut tokens = TokenStore::new(alloc);
+    tokens.relex(bytes, &[], 0, counts)?;
+    let mut parse = KeptParse::new(alloc, Text::Signature)?;
+    parse.refresh(tokens.tokens(), 0, counts)?;
+    Ok(parse.parsed()?.tree)
 }
 
 /// The environment behind the prelude, whose items are the item 0.
 pub fn with_prelude<C: Counts>(at: &mut Parts, counts: &mut C) -> Result<Env, NoMemory>
     ensures grows { Grows (C.tallies counts.old) (C.tallies counts.new) }
+    ensures lexed { (ts : List Tok) → Lex prelude_text ts → (C.tallies counts.new).lexed ≤ (C.tallies counts.old).lexed + length ts }
     ensures untyped { OnOk result ((C.tallies counts.new).typed ≡ (C.tallies counts.old).typed) }
     ensures goes { Goes at.old at.new }
 {

@@ -1,5 +1,5 @@
 -- What is known of the types and names of a text while it is edited, and who found it.
-use Rattle.std.specs.Prelude.{◌≡◌, List, [], Option, Some, None, option_map, if◌then◌else◌}
+use Rattle.std.specs.Prelude.{◌≡◌, ℕ, Bool, List, [], Option, Some, None, is_some, option_map, if◌then◌else◌}
 use Rattle.tree_model.specs.Trees.{Tree}
 use Rattle.analysis_api.specs.declared.Analysis.{Analysis}
 use Rattle.text_reading.specs.declared.types.Found.{Found}
@@ -18,6 +18,14 @@ held items k = items_or_none (option_map items k.typer)
 -- the items whose types are known, where these are those of the present text
 abbrev pub known : {A : Type 0} → (A → List Tree) → KeptTypes A → Option (List Tree)
 known items k = if k.is_current then option_map items k.typer else None
+
+-- whether a typer has begun
+abbrev pub has_begun : {A : Type 0} → KeptTypes A → Bool
+has_begun k = is_some k.typer
+
+-- how many of the prelude's tokens, of which there are n, are still to be read: all, until a typer has begun
+abbrev pub opening : ℕ → Bool → ℕ
+opening n begun = if begun then 0 else n
 
 -- the items that a typer holds which is kept or new
 abbrev pub items_in : {A : Type 0} → (A → List Tree) → Found A → List Tree

@@ -1,9 +1,11 @@
 //! What is found of the types and names of a text, kept from one query to the next.
-ghost use Rattle.std.specs.Prelude.{◌≡◌, ◌-◌, ℕ, [], None, Some, true, is_some, length, take, option_map, IfOk, IfSome, OnErr, OnOk};
+ghost use Rattle.std.specs.Prelude.{◌≡◌, ◌+◌, ◌-◌, ◌≤◌, ℕ, List, [], None, Some, false, true, is_some, length, take, option_map, IfOk, IfSome, OnErr, OnOk};
+ghost use Rattle.token_model.specs.Kinds.{Tok};
+ghost use Rattle.token_model.specs.Tokens.{Lex};
 ghost use Rattle.syntax_tree.specs.Tallies.{Grows};
 ghost use Rattle.syntax_tree.specs.View.{trees_of};
 ghost use Rattle.analysis_api.specs.Typed.{more_typed, LongestFront};
-ghost use Rattle.text_reading.specs.Types.{held, items_in, known, IsOf};
+ghost use Rattle.text_reading.specs.Types.{has_begun, held, items_in, known, opening, IsOf};
 
 use analysis_api::{Analyser, Analysis};
 use std::alloc::Global;
@@ -72,6 +74,7 @@ impl<A: Analyser> KeptTypes<A> {
     pub fn new() -> KeptTypes<A>
         ensures none { held A.items result ≡ [] }
         ensures unknown { known A.items result ≡ None }
+        ensures begun { has_begun result ≡ false }
     {
         KeptTypes {
             typer: None,
@@ -83,6 +86,7 @@ impl<A: Analyser> KeptTypes<A> {
     pub fn outdate(&mut self)
         ensures unknown { known A.items self.new ≡ None }
         ensures stays { held A.items self.new ≡ held A.items self.old }
+        ensures begun { has_begun self.new ≡ has_begun self.old }
     {
         self.is_current = false;
     }
@@ -104,6 +108,8 @@ impl<A: Analyser> KeptTypes<A> {
         ensures failed { OnErr result (held A.items self.new ≡ []) }
         ensures untyped { OnOk result ((C.tallies counts.new).typed ≡ (C.tallies counts.old).typed) }
         ensures unknown { known A.items self.new ≡ None }
+        ensures lexed { (ts : List Tok) → Lex A.opens ts → (C.tallies counts.new).lexed ≤ (C.tallies counts.old).lexed + opening (length ts) (has_begun self.old) }
+        ensures fails { OnErr result (has_begun self.old ≡ false) }
         ensures grows { Grows (C.tallies counts.old) (C.tallies counts.new) }
     {
         self.outdate();
@@ -114,7 +120,7 @@ impl<A: Analyser> KeptTypes<A> {
     }
 
     /// Brings what is found up to a text with this tree: the items at the front that are as they were stay, and the others are
-    /// typed. After `NoMemory` the next call does what is left.
+    /// typed. After `NoMemory` the next call does what is left. It lexes nothing but the prelude, until a typer has begun.
     pub fn refresh<C: Counts>(
         &mut self,
         alloc: Global,
@@ -125,6 +131,9 @@ impl<A: Analyser> KeptTypes<A> {
         ensures typed { OnOk result ((n : ℕ) × LongestFront (held A.items self.old) (trees_of tree.now) n × ((C.tallies counts.new).typed ≡ more_typed (length tree.now.items.items - n) (C.tallies counts.old).typed)) }
         ensures unknown { OnErr result (known A.items self.new ≡ None) }
         ensures failed { OnErr result ((n : ℕ) × (held A.items self.new ≡ take n (trees_of tree.now))) }
+        ensures lexed { (ts : List Tok) → Lex A.opens ts → (C.tallies counts.new).lexed ≤ (C.tallies counts.old).lexed + opening (length ts) (has_begun self.old) }
+        ensures begun { OnOk result (has_begun self.new ≡ true) }
+        ensures stays_begun { has_begun self.old ≡ true → has_begun self.new ≡ true }
         ensures grows { Grows (C.tallies counts.old) (C.tallies counts.new) }
     {
         let mut typer = self.take(alloc, counts)?;

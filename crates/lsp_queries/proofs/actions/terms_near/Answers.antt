@@ -13,7 +13,7 @@ use Rattle.lsp_queries.proofs.actions.terms_near.Goals as goal
 pub returns-then-not-is_empty-clause-are : goal.returns-then-not-is_empty-clause-are
 returns-then-not-is_empty-clause-are g c =
     let by = columns_in c.args.by in
-    let text = c.args.session.now in
+    let text = c.args.session.now.text in
     let asked : ℕ × ℕ = (c.args.asked.start, c.args.asked.end) in
     let all = c.args.faults.now in
     let i = c.loop-fault.fault-index in

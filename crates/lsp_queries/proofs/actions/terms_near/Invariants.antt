@@ -8,6 +8,6 @@ use Rattle.lsp_queries.proofs.actions.terms_near.Given as goal
 
 abbrev pub invariant-loop-fault : goal.invariant-loop-fault
 invariant-loop-fault g l =
-    ((acts : List Action) → TermsNear (columns_in l.by) l.session (l.asked.start, l.asked.end) (map fault_of (drop l.fault-index l.faults)) acts
-    → TermsNear (columns_in l.by) l.session (l.asked.start, l.asked.end) (map fault_of l.faults) acts)
+    ((acts : List Action) → TermsNear (columns_in l.by) l.session.text (l.asked.start, l.asked.end) (map fault_of (drop l.fault-index l.faults)) acts
+    → TermsNear (columns_in l.by) l.session.text (l.asked.start, l.asked.end) (map fault_of l.faults) acts)
     × Grows (g.C.Counts.tallies l.fn.counts) (g.C.Counts.tallies l.counts)

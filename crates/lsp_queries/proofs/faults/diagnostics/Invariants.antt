@@ -7,4 +7,4 @@ use Rattle.lsp_queries.proofs.faults.diagnostics.Given as goal
 
 abbrev pub invariant-loop-fault : goal.invariant-loop-fault
 invariant-loop-fault g l =
-    map diagnostic_of l.list.items ++ map (diagnostic_told (columns_in l.by) l.session) (map fault_of (drop l.fault-index l.faults)) ≡ map (diagnostic_told (columns_in l.by) l.session) (map fault_of l.faults)
+    map diagnostic_of l.list.items ++ map (diagnostic_told (columns_in l.by) l.session.text) (map fault_of (drop l.fault-index l.faults)) ≡ map (diagnostic_told (columns_in l.by) l.session.text) (map fault_of l.faults)

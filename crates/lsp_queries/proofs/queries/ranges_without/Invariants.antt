@@ -9,4 +9,4 @@ use Rattle.lsp_queries.proofs.queries.ranges_without.Given as goal
 
 abbrev pub invariant-loop-span : goal.invariant-loop-span
 invariant-loop-span g l =
-    map range_of l.ranges.items ++ ranges_of (columns_in l.by) l.session (option_map pair_of l.left_out) (map span_of (drop l.span-index l.spans)) ≡ ranges_of (columns_in l.by) l.session (option_map pair_of l.left_out) (map span_of l.spans)
+    map range_of l.ranges.items ++ ranges_of (columns_in l.by) l.session.text (option_map pair_of l.left_out) (map span_of (drop l.span-index l.spans)) ≡ ranges_of (columns_in l.by) l.session.text (option_map pair_of l.left_out) (map span_of l.spans)

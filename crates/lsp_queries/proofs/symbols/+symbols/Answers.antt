@@ -12,7 +12,7 @@ use Rattle.lsp_queries.proofs.symbols.+symbols.Goals as goal
 pub symbol_of-returns : goal.symbol_of-returns
 symbol_of-returns g t c =
     let by = columns_in c.args.by in
-    let text = c.args.session.now in
+    let text = c.args.session.now.text in
     symbol_made by text c.args.member.now c.symbol_kind.result c.in_ok-share.field-0 c.range_of.result c.range_within.result c.in_ok-symbols_of.field-0
     c.symbol_kind.ensures c.in_ok-share.ensures (c.range_of.ensures ∙ ap (range_shown by text) c.span_between-item.ensures.value)
     (subst (λ (ms : List Outlined). SymbolsAre by text (outline_of (map outlined_of ms)) (symbols_of (map symbol_of c.in_ok-symbols_of.field-0.items))) c.deref.ensures.value c.in_ok-symbols_of.ensures)
@@ -24,4 +24,4 @@ symbols_of-loop-member-preserved g t c =
     let x = c.member-item.result in
     let lt : i < length all = let n = c.loop-member-test.true in omega arith in
     let front : take (i + 1) all ≡ take i all ++ x ∷ [] = take_more all i x lt ∙ ap (λ y. take i all ++ y ∷ []) (sym c.member-item.is) in
-    rw (front, c.in_ok-push.ensures.items) (symbols_more (columns_in c.args.by) c.args.session.now (take i all) c.loop-member.symbols.items x c.in_ok-symbol_of.field-0 c.loop-member.invariant c.in_ok-symbol_of.ensures)
+    rw (front, c.in_ok-push.ensures.items) (symbols_more (columns_in c.args.by) c.args.session.now.text (take i all) c.loop-member.symbols.items x c.in_ok-symbol_of.field-0 c.loop-member.invariant c.in_ok-symbol_of.ensures)

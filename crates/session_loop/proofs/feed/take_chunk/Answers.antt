@@ -1,7 +1,7 @@
 use Rattle.std.proofs.Common.{rules, arith, ◌++◌, ◌∷◌, [], ◌+◌, ◌≡◌, ◌<◌, ◌∙◌, ap, sym, subst, length, List, ℕ, take, get_or, append_assoc}
 use Rattle.std.proofs.lemmas.List.{take_more}
 use Rattle.text_model.specs.Lines.{ended_from}
-use Rattle.session_loop.specs.Progress.{SoFar, CutShort}
+use Rattle.session_loop.specs.Progress.{Cut, SoFar}
 use Rattle.session_loop.proofs.Steps.{on_err}
 use Rattle.session_loop.proofs.feed.take_chunk.Goals as goal
 
@@ -11,20 +11,20 @@ one_more taken chunk i within = append_assoc taken (take i chunk) (get_or chunk 
 
 pub loop-byte-preserved : goal.loop-byte-preserved
 loop-byte-preserved g c = (
-  λ before taken start.
+  λ start before taken so_far.
       let chunk = c.args.chunk.now in
       let i = c.loop-byte.byte-index in
-      let step = c.in_ok-take_byte.ensures.done before (taken ++ take i chunk) (c.loop-byte.invariant.0 before taken start) in
+      let step = c.in_ok-take_byte.ensures.done start before (taken ++ take i chunk) (c.loop-byte.invariant.0 start before taken so_far) in
       let within : i < length chunk = omega arith in
-      subst (λ (l : List ℕ). SoFar before (g.K.Sink.held c.take_byte.new.sink) l c.take_byte.new.session c.take_byte.new.begun) (one_more taken chunk i within) step,
+      subst (λ (l : List ℕ). SoFar g.A.Analyser.opens start (g.C.Counts.tallies c.take_byte.new.counts) before (g.K.Sink.held c.take_byte.new.sink) l c.take_byte.new.session c.take_byte.new.begun) (one_more taken chunk i within) step,
   omega (arith, c.loop-byte.invariant.1, c.take_byte.ensures.cause.later),
   search rules,
 )
 
 pub returns-in_err-take_byte-clause-cut : goal.returns-in_err-take_byte-clause-cut
-returns-in_err-take_byte-clause-cut g c = on_err c.from_residual.result (λ before taken start.
+returns-in_err-take_byte-clause-cut g c = on_err c.from_residual.result (λ start before taken so_far.
     let chunk = c.args.chunk.now in
     let i = c.loop-byte.byte-index in
-    let cut = c.in_err-take_byte.ensures.cut before (taken ++ take i chunk) (c.loop-byte.invariant.0 before taken start) in
+    let cut = c.in_err-take_byte.ensures.cut start before (taken ++ take i chunk) (c.loop-byte.invariant.0 start before taken so_far) in
     let within : i < length chunk = omega arith in
-    (i + 1, subst (λ (l : List ℕ). CutShort before (g.K.Sink.held c.take_byte.new.sink) (ended_from [] l)) (one_more taken chunk i within) cut))
+    (i + 1, subst (λ (l : List ℕ). Cut g.A.Analyser.opens start (g.C.Counts.tallies c.take_byte.new.counts) before (g.K.Sink.held c.take_byte.new.sink) (ended_from [] l)) (one_more taken chunk i within) cut))

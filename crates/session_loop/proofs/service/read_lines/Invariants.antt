@@ -7,7 +7,7 @@ use Rattle.session_loop.proofs.service.read_lines.Given as goal
 abbrev pub invariant-loop-total : goal.invariant-loop-total
 invariant-loop-total g l =
     ((taken : List ℕ) × (length taken ≡ l.total) × Consumes (g.S.Source.left l.fn.src) (g.S.Source.left l.src) taken
-    × SoFar (g.K.Sink.held l.fn.sink) (g.K.Sink.held l.sink) taken l.session l.begun)
+    × SoFar g.A.Analyser.opens (g.C.Counts.tallies l.fn.counts) (g.C.Counts.tallies l.counts) (g.K.Sink.held l.fn.sink) (g.K.Sink.held l.sink) taken l.session l.begun)
     × (l.total ≤ 2 ^ 40)
     × (g.S.Source.faults l.fn.src ≤ g.S.Source.faults l.src)
     × (g.K.Sink.faults l.fn.sink ≤ g.K.Sink.faults l.sink)

@@ -13,7 +13,7 @@ pub returns-in-Some-clause-is : goal.returns-in-Some-clause-is
 returns-in-Some-clause-is g c =
     let s = c.args.self.now in
     let p = place_of c.args.place.now in
-    let text = c.in-Some.text.now in
+    let text = c.in-Some.text.now.text in
     let o = c.offset_in-offset.result in
     let at = c.offset_in-offset.ensures.value ∙ ap (λ (x : State). offset_at x.choices.columns p.line p.character text) c.self.view_is in
     IfOk-weaker c.answer_at.result _ _ (λ a is.

@@ -8,5 +8,5 @@ use Rattle.session.proofs.session.Session.edit_for.Goals as goal
 
 pub returns-in-None : goal.returns-in-None
 returns-in-None g c =
-    whole_edit c.args.self.now (str_bytes c.args.text) (c.last_place.result.line, c.last_place.result.col) c.last_place.ensures.utf8 c.last_place.ensures.place
-    ∙ ap (λ r. tell_outcome c.args.self.now (option_map range_of r) (str_bytes c.args.text)) (sym c.in-None.is)
+    whole_edit c.args.self.now.text (str_bytes c.args.text) (c.last_place.result.line, c.last_place.result.col) c.last_place.ensures.utf8 c.last_place.ensures.place
+    ∙ ap (λ r. tell_outcome c.args.self.now.text (option_map range_of r) (str_bytes c.args.text)) (sym c.in-None.is)

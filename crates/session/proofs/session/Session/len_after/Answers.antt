@@ -6,7 +6,7 @@ use Rattle.session.proofs.session.Session.len_after.Goals as goal
 
 pub returns-in_default : goal.returns-in_default
 returns-in_default g c = λ first new is.
-    let made = made_of c.args.self.now (edit_of c.args.edit.now) first new is in
+    let made = made_of c.args.self.now.text (edit_of c.args.edit.now) first new is in
     let there = made.start_is in
     let none = c.in_default.ensures.value in
     let same = c.text.ensures in
@@ -14,7 +14,7 @@ returns-in_default g c = λ first new is.
 
 pub returns-in_default-offset_of : goal.returns-in_default-offset_of
 returns-in_default-offset_of g c = λ first new is.
-    let made = made_of c.args.self.now (edit_of c.args.edit.now) first new is in
+    let made = made_of c.args.self.now.text (edit_of c.args.edit.now) first new is in
     let there = made.end_is in
     let none = c.in_default-offset_of.ensures.value in
     let same = c.text-2.ensures in
@@ -22,7 +22,7 @@ returns-in_default-offset_of g c = λ first new is.
 
 pub returns : goal.returns
 returns g c = λ first new is.
-    let text = c.args.self.now in
+    let text = c.args.self.now.text in
     let bytes = str_bytes c.args.edit.now.text in
     let made = made_of text (edit_of c.args.edit.now) first new is in
     let from : c.in-Ok.start ≡ made.from = (let there = made.start_is in let here = c.in-Ok.ensures.value in let same = c.text.ensures in cc) in

@@ -1,14 +1,14 @@
-use Rattle.syntax_tree.specs.View.{trees_of}
-use Rattle.token_store.specs.Stored.{toks_of}
-use Rattle.text_reading.specs.Types.{known}
-use Rattle.text_reading.proofs.Knowing.{items_parsed, known_again}
-use Rattle.text_reading.proofs.Parsing.{kept_as}
+use Rattle.std.proofs.Common.{true}
+use Rattle.session.proofs.Works.{reads_more, reads_typed, reads_typed_ok}
 use Rattle.session.proofs.session.Session.refresh.Goals as goal
 
-pub invariant_of-self : goal.invariant_of-self
-invariant_of-self g c =
-    let kept = c.self.inside.kept in
-    let there = c.in_ok-parsed.ensures in
-    let parsed = kept_as kept.text (toks_of kept.tokens) c.in_ok-parsed.field-0 c.in-Some.parsed c.in-Some.is there.lexed there.tree there.faults in
-    known_again kept.text (trees_of c.in-Some.parsed.tree) (known g.A.Analyser.items c.refresh.new.self) c.refresh.result (items_parsed kept.text c.in-Some.parsed parsed) c.refresh.ensures.known
-    c.refresh.ensures.unknown
+pub returns-clause-reads : goal.returns-clause-reads
+returns-clause-reads g c = reads_typed_ok c.type_again.result g.A.Analyser.opens c.args.self.now c.read_again.new.self c.type_again.new.self (g.C.Counts.tallies c.args.counts.now) (g.C.Counts.tallies c.read_again.new.counts) (g.C.Counts.tallies c.type_again.new.counts)
+    c.read_again.ensures.reads c.type_again.ensures.lexes
+
+pub returns-clause-fails : goal.returns-clause-fails
+returns-clause-fails g c = reads_typed g.A.Analyser.opens true c.args.self.now c.read_again.new.self c.type_again.new.self (g.C.Counts.tallies c.args.counts.now) (g.C.Counts.tallies c.read_again.new.counts) (g.C.Counts.tallies c.type_again.new.counts)
+    c.read_again.ensures.reads c.type_again.ensures.fails
+
+pub returns-in_err-read_again-clause-fails : goal.returns-in_err-read_again-clause-fails
+returns-in_err-read_again-clause-fails g c = reads_more g.A.Analyser.opens true c.args.self.now c.read_again.new.self (g.C.Counts.tallies c.args.counts.now) (g.C.Counts.tallies c.read_again.new.counts) c.read_again.ensures.reads

@@ -9,4 +9,5 @@ abbrev pub invariant-loop-k : goal.invariant-loop-k
 invariant-loop-k g l =
     (views_of l.self.items.items ≡ take l.k (views_of l.items))
     × ((g.C.Counts.tallies l.counts).typed ≡ more_typed (l.k - l.place) (g.C.Counts.tallies l.fn.counts).typed)
+    × ((g.C.Counts.tallies l.counts).lexed ≡ (g.C.Counts.tallies l.fn.counts).lexed)
     × Grows (g.C.Counts.tallies l.fn.counts) (g.C.Counts.tallies l.counts)

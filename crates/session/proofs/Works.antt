@@ -1,0 +1,275 @@
+-- How many tokens a session's answers read, and what is owed behind them.
+use Rattle.std.proofs.Common.{◌≡◌, inl, inr, ◌⊎◌, ℕ, ◌+◌, ◌-◌, ◌≤◌, ◌<◌, min, nat_lt, List, [], ◌∷◌, length, refl, sym, ◌∙◌, ap, subst, arith, Bool, true, false, Result, Ok, Err, OnOk}
+use Rattle.std.specs.Prelude.{Option, Some, None, OnErr, if◌then◌else◌}
+use Rattle.std.proofs.lemmas.Bool.{ltb-true, ltb-false}
+use Rattle.text_model.specs.Edits as edit
+use Rattle.text_store.specs.Edits.{IsRefusal}
+use Rattle.text_store.specs.declared.edits.TextRefusal.{TextRefusal}
+use Rattle.text_store.specs.declared.edits.TextRefusal.TheVariants as code
+use Rattle.token_model.specs.Kinds.{Tok}
+use Rattle.token_model.specs.Tokens.{Lex}
+use Rattle.service_model.specs.Requests.{Asked, Reading, Refusal, asks, reading, refused, tell}
+use Rattle.service_model.specs.Replies as said
+use Rattle.service_model.specs.Answers.{Answered, Replies, tell_outcome}
+use Rattle.work_model.specs.Work.{edited, ends_at, is_query, read_again, since_after, sooner, tries, IsAnew, LineReads, Owed, ReadsBy, WorksAt}
+use Rattle.ml_lexer.specs.Steady.{ends_at as lexer_ends}
+use Rattle.syntax_tree.specs.Tallies.{Tallies}
+use Rattle.kept_text.specs.Keeping.{tok_end}
+use Rattle.kept_text.specs.Keeping as kept
+use Rattle.text_reading.specs.Types.{opening}
+use Rattle.json_lines.specs.Meets.{IsToldOf}
+use Rattle.session.specs.Lines.{line_bytes, refusal_in, RefusesBy, RefusesEditBy, RepliesBy, Says}
+use Rattle.session.specs.Working.{in_vain, is_memory, Held, Lexes, Owes, QueryWorks, Reads, RequestWorks, Rests, Settles}
+use Rattle.session.specs.declared.session.Line.{Line}
+use Rattle.session.specs.declared.session.Line.TheVariants.{Written, Memory}
+use Rattle.session.proofs.Answering.{replies_query}
+
+-- ---- reading
+
+-- of tokens no more end at a later place or behind
+fewer_end : (place later : ℕ) (ts : List Tok) → place ≤ later → lexer_ends tok_end later ts ≤ ends_at place ts
+fewer_end place later [] le = omega arith
+fewer_end place later (t ∷ ts) le = go (nat_lt t.end later) refl (nat_lt t.end place) refl (fewer_end place later ts le)
+  where
+    go : (c : Bool) → nat_lt t.end later ≡ c → (d : Bool) → nat_lt t.end place ≡ d → lexer_ends tok_end later ts ≤ ends_at place ts → (if c then 0 else 1) + lexer_ends tok_end later ts ≤ (if d then 0 else 1) + ends_at place ts
+    go true e true f rest = omega (arith, rest)
+    go true e false f rest = omega (arith, rest)
+    go false e false f rest = omega (arith, rest)
+    go false e true f rest = let least = ltb-false t.end later e in let less = ltb-true t.end place f in absurd (omega (arith, least, less, le))
+
+-- what is read behind the noted change is what is owed
+read_anew : (text : List ℕ) (since noted : Option ℕ) (n : ℕ) → ((k : ℕ) → noted ≡ Some k → (m : ℕ) × (since ≡ Some m) × (m ≤ k)) → (noted ≡ None → n ≡ 0)
+    → ((k : ℕ) (ts : List Tok) → noted ≡ Some k → Lex text ts → n ≤ 32 + lexer_ends tok_end k ts) → IsAnew text since n
+read_anew text None None n later idle work = idle refl
+read_anew text (Some m) None n later idle work = λ ts lex. omega (arith, idle refl)
+read_anew text since (Some k) n later idle work =
+    let (m, is, le) = later k refl in
+    subst (λ (o : Option ℕ). IsAnew text o n) (sym is) (λ ts lex. omega (arith, work k ts refl lex, fewer_end m k ts le))
+
+-- tokens that are brought up to the text
+pub reads_again : (opens : List ℕ) (old new : Held) (before after : Tallies) → new.begun ≡ old.begun → (old.changed ≡ None → after ≡ before)
+    → ((from : ℕ) (ts : List Tok) → old.changed ≡ Some from → Lex old.text ts → after.lexed ≤ before.lexed + (32 + lexer_ends tok_end from ts)) → Reads opens false old new before after
+reads_again opens old new before after begun idle work = λ w ps owes lex.
+    let n = after.lexed - before.lexed in
+    let none : old.changed ≡ None → n ≡ 0 = λ is. omega (arith, ap (λ (t : Tallies). t.lexed) (idle is)) in
+    let some : (k : ℕ) (ts : List Tok) → old.changed ≡ Some k → Lex w.text ts → n ≤ 32 + lexer_ends tok_end k ts =
+    λ k ts is own. omega (arith, work k ts is (subst (λ (l : List ℕ). Lex l ts) owes.text own)) in
+    (n, read_anew w.text w.since old.changed n owes.noted none some, omega (arith, ap (opening (length ps)) begun))
+
+-- and then the typer
+pub reads_typed : (opens : List ℕ) (failed : Bool) (old mid new : Held) (a b c : Tallies) → Reads opens false old mid a b
+    → ((ps : List Tok) → Lex opens ps → Lexes (length ps) (in_vain failed (length ps)) mid new b c) → Reads opens failed old new a c
+reads_typed opens failed old mid new a b c read typed = λ w ps owes lex.
+    let (n, anew, most) = read w ps owes lex in
+    (n, anew, omega (arith, most, typed ps lex))
+
+-- and then nothing
+pub reads_idle : (opens : List ℕ) (failed : Bool) (old mid new : Held) (a b c : Tallies) → Reads opens failed old mid a b → new.begun ≡ mid.begun → c.lexed ≡ b.lexed → Reads opens failed old new a c
+reads_idle opens failed old mid new a b c read begun same = λ w ps owes lex.
+    let (n, anew, most) = read w ps owes lex in
+    (n, anew, omega (arith, most, same, ap (opening (length ps)) begun))
+
+-- what reads no more may fail
+pub reads_more : (opens : List ℕ) (failed : Bool) (old new : Held) (a b : Tallies) → Reads opens false old new a b → Reads opens failed old new a b
+reads_more opens failed old new a b read = λ w ps owes lex.
+    let (n, anew, most) = read w ps owes lex in
+    (n, anew, omega (arith, most))
+
+-- no more of the prelude's tokens are to be read than there are
+opening_most : (p : ℕ) (begun : Bool) → opening p begun ≤ p
+opening_most p true = omega arith
+opening_most p false = omega arith
+
+-- the typer lexed the prelude, where it began
+pub opened : {T E : Type 0} (r : Result T E) (p : ℕ) (old new : Bool) (a b : ℕ) → b ≤ a + opening p old → OnOk r (new ≡ true) → OnOk r (b + opening p new ≤ a + opening p old + 0)
+opened (Ok x) p old new a b most begun = omega (arith, most, ap (opening p) begun)
+opened (Err e) p old new a b most begun = tt
+
+-- or failed to
+pub opened_in_vain : (p : ℕ) (old new : Bool) (a b : ℕ) → b ≤ a + opening p old → (old ≡ true → new ≡ true) → b + opening p new ≤ a + opening p old + p
+opened_in_vain p true new a b most stays = omega (arith, most, ap (opening p) (stays refl))
+opened_in_vain p false new a b most stays = omega (arith, most, opening_most p new)
+
+-- what was read and typed without want of memory
+pub reads_typed_ok : {T E : Type 0} (r : Result T E) (opens : List ℕ) (old mid new : Held) (a b c : Tallies) → Reads opens false old mid a b
+    → ((ps : List Tok) → Lex opens ps → OnOk r (Lexes (length ps) 0 mid new b c)) → OnOk r (Reads opens false old new a c)
+reads_typed_ok (Ok x) opens old mid new a b c read typed = reads_typed opens false old mid new a b c read typed
+reads_typed_ok (Err e) opens old mid new a b c read typed = tt
+
+-- what holds anyway holds of a result
+pub on_ok : {T E P : Type 0} (r : Result T E) → P → OnOk r P
+on_ok (Ok x) p = p
+on_ok (Err e) p = tt
+
+-- what holds of a result under no premise
+pub on_ok_after : {T E : Type 0} (P Q : Type 0) (r : Result T E) → OnOk r P → OnOk r (Q → P)
+on_ok_after P Q (Ok x) p = λ q. p
+on_ok_after P Q (Err e) p = tt
+
+-- ---- lines
+
+-- a query that is answered with a line, or for which memory is short
+pub line_works : {T E : Type 0} (r : Result T E) (opens : List ℕ) (tried : Bool) (l : Line) (old new : Held) (a b : Tallies) → OnErr r (l ≡ Memory) → OnOk r (new.changed ≡ None) → Settles old new
+    → OnOk r (tried ≡ false → Reads opens false old new a b) → (tried ≡ false → Reads opens true old new a b) → QueryWorks opens true tried l old new a b
+line_works (Ok x) opens tried l old new a b memory current settles reads fails = (λ not. current, settles, λ not. reads_more opens (is_memory l) old new a b (reads not))
+line_works (Err e) opens tried l old new a b memory current settles reads fails = (
+  λ not. let bad : true ≡ false = sym (ap is_memory memory) ∙ not in cc,
+  settles,
+  λ not. subst (λ (k : Line). Reads opens (is_memory k) old new a b) (sym memory) (fails not),
+)
+
+-- ---- requests
+
+-- what is owed behind a query that was answered
+none_owed : (w : Owed) (s : Held) → s.changed ≡ None → w.text ≡ s.text → Owes (record { text = w.text; since = None }) s
+none_owed w s none text = record { text = text; noted = λ n is. let bad : None ≡ Some n = sym none ∙ is in cc }
+
+-- what is owed is owed still
+still_owed : (w : Owed) (old new : Held) → Owes w old → new.text ≡ old.text → Settles old new → Owes w new
+still_owed w old new owes text (inl none) = record { text = owes.text ∙ sym text; noted = λ n is. let bad : None ≡ Some n = sym none ∙ is in cc }
+still_owed w old new owes text (inr same) = record { text = owes.text ∙ sym text; noted = λ n is. owes.noted n (sym same ∙ is) }
+
+-- what was answered is answered at the text that is owed
+answered_at : (old new : Held) (w : Owed) (a : Asked) (bytes : List ℕ) → w.text ≡ old.text → new.text ≡ old.text → (s : said.Said) × Replies old.text a s new.text × (bytes ≡ said.line_of s) → Answered w.text (asks a) bytes w.text
+answered_at old new w a bytes text stays (s, replies, is) =
+    (s, subst (λ (t : List ℕ). Replies t a s w.text) (sym text) (subst (λ (t : List ℕ). Replies old.text a s t) (stays ∙ sym text) replies), is)
+
+-- a query that has no place in the text
+pub away_works : (opens : List ℕ) (a : Asked) (l : Line) (old new : Held) (b c : Tallies) → is_query old.text a ≡ false → ((w : Owed) → since_after w a ≡ (if is_query w.text a then None else w.since))
+    → RepliesBy old.text a l new.text → new.text ≡ old.text → Rests old new b c → RequestWorks opens a l old new b c
+away_works opens a (Written v) old new b c away leaves replies stays rests = λ w ps owes lex.
+    let here : is_query w.text a ≡ false = ap (λ (t : List ℕ). is_query t a) owes.text ∙ away in (
+      w,
+      0,
+      inl (answered_at old new w a v.items owes.text stays replies, sym (leaves w ∙ ap (λ (q : Bool). if q then None else w.since) here), subst (λ (q : Bool). ReadsBy q (tries a) w 0) (sym here) refl),
+      still_owed w old new owes stays (inr rests.changed),
+      omega (arith, ap (λ (t : Tallies). t.lexed) rests.counted, ap (opening (length ps)) rests.begun),
+    )
+away_works opens a Memory old new b c away leaves replies stays rests = λ w ps owes lex.
+    let here : is_query w.text a ≡ false = ap (λ (t : List ℕ). is_query t a) owes.text ∙ away in (
+      w,
+      0,
+      inr (refl, refl, (0, subst (λ (q : Bool). ReadsBy q (tries a) w 0) (sym here) refl, omega (arith, ap (λ (q : Bool). if q then length ps else 0) here))),
+      still_owed w old new owes stays (inr rests.changed),
+      omega (arith, ap (λ (t : Tallies). t.lexed) rests.counted, ap (opening (length ps)) rests.begun),
+    )
+
+-- how many tokens a query reads that has a place
+query_reads : (opens : List ℕ) (a : Asked) (failed tried : Bool) (old new : Held) (b c : Tallies) (w : Owed) (ps : List Tok) → Owes w old → Lex opens ps → is_query w.text a ≡ true → tries a ≡ tried
+    → (tried ≡ false → Reads opens failed old new b c) → (n : ℕ) × LineReads w (asks a) n × Lexes (length ps) (n + in_vain failed (length ps)) old new b c
+query_reads opens a failed false old new b c w ps owes lex here tried reads =
+    let (n, anew, most) = reads refl w ps owes lex in
+    (n, subst (λ (q : Bool). ReadsBy q (tries a) w n) (sym here) (subst (λ (t : Bool). ReadsBy true t w n) (sym tried) anew), most)
+query_reads opens a failed true old new b c w ps owes lex here tried reads =
+    let n = (c.lexed - b.lexed) + length ps in
+    (n, subst (λ (q : Bool). ReadsBy q (tries a) w n) (sym here) (subst (λ (t : Bool). ReadsBy true t w n) (sym tried) tt), omega (arith, opening_most (length ps) new.begun))
+
+-- a query that has a place
+pub here_works : (opens : List ℕ) (a : Asked) (tried : Bool) (l : Line) (old new : Held) (b c : Tallies) → is_query old.text a ≡ true → tries a ≡ tried → ((w : Owed) → since_after w a ≡ (if is_query w.text a then None else w.since))
+    → RepliesBy old.text a l new.text → new.text ≡ old.text → QueryWorks opens true tried l old new b c → RequestWorks opens a l old new b c
+here_works opens a tried (Written v) old new b c there tries_so leaves replies stays (current, settles, reads) = λ w ps owes lex.
+    let here : is_query w.text a ≡ true = ap (λ (t : List ℕ). is_query t a) owes.text ∙ there in
+    let (n, line, most) = query_reads opens a false tried old new b c w ps owes lex here tries_so reads in (
+      record { text = w.text; since = None },
+      n,
+      inl (answered_at old new w a v.items owes.text stays replies, sym (leaves w ∙ ap (λ (q : Bool). if q then None else w.since) here), line),
+      none_owed w new (current refl) (owes.text ∙ sym stays),
+      omega (arith, most),
+    )
+here_works opens a tried Memory old new b c there tries_so leaves replies stays (current, settles, reads) = λ w ps owes lex.
+    let here : is_query w.text a ≡ true = ap (λ (t : List ℕ). is_query t a) owes.text ∙ there in
+    let (n, line, most) = query_reads opens a true tried old new b c w ps owes lex here tries_so reads in (
+      w,
+      n + length ps,
+      inr (refl, refl, (n, line, omega (arith, ap (λ (q : Bool). if q then length ps else 0) here))),
+      still_owed w old new owes stays settles,
+      most,
+    )
+
+-- a query by whether it has a place
+pub query_works : (opens : List ℕ) (a : Asked) (there tried : Bool) (l : Line) (old new : Held) (b c : Tallies) → is_query old.text a ≡ there → tries a ≡ tried → ((w : Owed) → since_after w a ≡ (if is_query w.text a then None else w.since))
+    → RepliesBy old.text a l new.text → new.text ≡ old.text → QueryWorks opens there tried l old new b c → RequestWorks opens a l old new b c
+query_works opens a false tried l old new b c is tries_so leaves replies stays rests = away_works opens a l old new b c is leaves replies stays rests
+query_works opens a true tried l old new b c is tries_so leaves replies stays works = here_works opens a tried l old new b c is tries_so leaves replies stays works
+
+-- a request that asks such a query
+pub request_works : (opens : List ℕ) (a : Asked) (P : said.Said → Type 0) (there tried : Bool) (l : Line) (old new : Held) (b c : Tallies) → is_query old.text a ≡ there → tries a ≡ tried
+    → ((w : Owed) → since_after w a ≡ (if is_query w.text a then None else w.since)) → ((s : said.Said) → P s → Replies old.text a s old.text) → Says P l → new.text ≡ old.text → QueryWorks opens there tried l old new b c
+    → RequestWorks opens a l old new b c
+request_works opens a P there tried l old new b c is tries_so leaves replies says stays works =
+    query_works opens a there tried l old new b c is tries_so leaves (replies_query old.text new.text a P l stays replies says) stays works
+
+-- ---- edits
+
+-- the first changed byte that is noted is none before the one that is owed
+sooner_noted : (first : ℕ) (since noted : Option ℕ) → ((n : ℕ) → noted ≡ Some n → (m : ℕ) × (since ≡ Some m) × (m ≤ n)) → sooner first since ≤ kept.sooner first noted
+sooner_noted first None None later = omega arith
+sooner_noted first (Some m) None later = omega arith
+sooner_noted first None (Some n) later = let (m, is, le) = later n refl in let bad : None ≡ Some m = is in cc
+sooner_noted first (Some k) (Some n) later = let (m, is, le) = later n refl in let same : k ≡ m = cc in go (nat_lt first n) same le
+  where
+    go : (c : Bool) {m : ℕ} → k ≡ m → m ≤ n → min first k ≤ (if c then first else n)
+    go true same le = omega arith
+    go false same le = omega (arith, same, le)
+
+same_some : (m n : ℕ) → Some m ≡ Some n → m ≡ n
+same_some m n is = cc
+
+-- a `tell` that is accepted
+pub told_works : (old new : Held) (range : Option ((ℕ × ℕ) × (ℕ × ℕ))) (bytes : List ℕ) (first : ℕ) (l : Line) (w : Owed) (p : ℕ) → Owes w old → tell_outcome old.text range bytes ≡ edit.changed first new.text
+    → new.changed ≡ Some (kept.sooner first old.changed) → is_memory l ≡ false → RepliesBy old.text (tell range bytes) l new.text → (v : Owed) × WorksAt p w (asks (tell range bytes)) (line_bytes l) v 0 × Owes v new
+told_works old new range bytes first (Written v) w p owes outcome noted written (s, replies, is) =
+    let there : tell_outcome w.text range bytes ≡ edit.changed first new.text = ap (λ (t : List ℕ). tell_outcome t range bytes) owes.text ∙ outcome in
+    let since = Some (sooner first w.since) in (
+      record { text = new.text; since = since },
+      inl ((s, subst (λ (t : List ℕ). Replies t (tell range bytes) s new.text) (sym owes.text) replies, is), sym (ap (λ (o : edit.Outcome). edited o w.since) there), refl),
+      record { text = refl; noted = λ n is. (sooner first w.since, refl, omega (arith, sooner_noted first w.since old.changed owes.noted, same_some (kept.sooner first old.changed) n (sym noted ∙ is))) },
+    )
+told_works old new range bytes first Memory w p owes outcome noted written replies = let bad : true ≡ false = written in cc
+
+-- one that is refused, or for which memory is short
+pub untold_works : (old new : Held) (range : Option ((ℕ × ℕ) × (ℕ × ℕ))) (bytes : List ℕ) (l : Line) (w : Owed) (p : ℕ) → Owes w old → new ≡ old
+    → (is_memory l ≡ false → (r : edit.Refusal) × (tell_outcome old.text range bytes ≡ edit.refused r)) → RepliesBy old.text (tell range bytes) l new.text → (v : Owed) × WorksAt p w (asks (tell range bytes)) (line_bytes l) v 0 × Owes v new
+untold_works old new range bytes (Written v) w p owes same outcome replies =
+    let (r, is) = outcome refl in
+    let here : tell_outcome w.text range bytes ≡ edit.refused r = ap (λ (t : List ℕ). tell_outcome t range bytes) owes.text ∙ is in (
+      w,
+      inl (answered_at old new w (tell range bytes) v.items owes.text (ap (λ (h : Held). h.text) same) replies, sym (ap (λ (o : edit.Outcome). edited o w.since) here), refl),
+      subst (Owes w) (sym same) owes,
+    )
+untold_works old new range bytes Memory w p owes same outcome replies = (w, inr (refl, refl, (0, refl, refl)), subst (Owes w) (sym same) owes)
+
+-- why an edit is refused, where memory isn't short
+pub refused_outcome : (o : edit.Outcome) (refusal : TextRefusal) (l : Line) → IsRefusal o refusal → RefusesEditBy (refusal_in refusal) l → is_memory l ≡ false → (r : edit.Refusal) × (o ≡ edit.refused r)
+refused_outcome o (code.BadPosition end) l because written not = (edit.bad_position end, because)
+refused_outcome o code.BadRange l because written not = (edit.bad_range, because)
+refused_outcome o (code.SplitsChar end) l because written not = (edit.splits_char end, because)
+refused_outcome o (code.TextTooLong n) l because written not = (edit.text_too_long n, because)
+refused_outcome o code.NoMemory l because written not = let bad : true ≡ false = sym (ap is_memory written) ∙ not in cc
+
+-- ---- lines of all kinds
+
+-- nothing may be read for any request
+anew_none : (text : List ℕ) (since : Option ℕ) → IsAnew text since 0
+anew_none text None = refl
+anew_none text (Some place) = λ ts lex. omega arith
+
+reads_none_by : (query tried : Bool) (w : Owed) → ReadsBy query tried w 0
+reads_none_by false tried w = refl
+reads_none_by true false w = anew_none w.text w.since
+reads_none_by true true w = tt
+
+reads_none : (r : Reading) (w : Owed) → LineReads w r 0
+reads_none (asks a) w = reads_none_by (is_query w.text a) (tries a) w
+reads_none (refused r) w = refl
+
+-- one for which memory is short
+pub memory_works : (r : Reading) (l : Line) (s : Held) (w : Owed) (p : ℕ) (c : Tallies) → Owes w s → l ≡ Memory → (v : Owed) × (n : ℕ) × WorksAt p w r (line_bytes l) v n × Owes v s × Lexes p n s s c c
+memory_works r l s w p c owes is = (w, read_again p w.text r, inr (ap line_bytes is, refl, (0, reads_none r w, omega arith)), owes, omega arith)
+
+-- a line that is no request, or one for which memory is short
+pub malformed_works : (line : List ℕ) (r : Option Refusal) (l : Line) (s : Held) (w : Owed) (p : ℕ) (c : Tallies) → Owes w s → IsToldOf r (reading line) → RefusesBy r l
+    → (v : Owed) × (n : ℕ) × WorksAt p w (reading line) (line_bytes l) v n × Owes v s × Lexes p n s s c c
+malformed_works line (Some r) (Written v) s w p c owes is written = (w, 0, subst (λ x. WorksAt p w x v.items w 0) (sym is) (inl ((written, refl), refl, refl)), owes, omega arith)
+malformed_works line (Some r) Memory s w p c owes is written = memory_works (reading line) Memory s w p c owes refl
+malformed_works line None l s w p c owes is written = memory_works (reading line) l s w p c owes written

@@ -1,0 +1,23 @@
+use Rattle.std.proofs.Common.{◌+◌, ◌≤◌, ◌∙◌, length, ap, subst, Bool}
+use Rattle.syntax_tree.specs.View.{trees_of}
+use Rattle.token_store.specs.Stored.{toks_of}
+use Rattle.text_reading.specs.Types.{has_begun, known, opening}
+use Rattle.text_reading.proofs.Knowing.{items_parsed, known_again}
+use Rattle.text_reading.proofs.Parsing.{kept_as}
+use Rattle.session.specs.Working.{Held}
+use Rattle.session.proofs.Works.{opened, opened_in_vain}
+use Rattle.session.proofs.session.Session.type_again.Goals as goal
+
+pub invariant_of-self : goal.invariant_of-self
+invariant_of-self g c =
+    let kept = c.self.inside.kept in
+    let there = c.in_ok-parsed.ensures in
+    let parsed = kept_as kept.text (toks_of kept.tokens) c.in_ok-parsed.field-0 c.in-Some.parsed c.in-Some.is there.lexed there.tree there.faults in
+    known_again kept.text (trees_of c.in-Some.parsed.tree) (known g.A.Analyser.items c.refresh.new.self) c.refresh.result (items_parsed kept.text c.in-Some.parsed parsed) c.refresh.ensures.known
+    c.refresh.ensures.unknown
+
+pub returns-clause-lexes : goal.returns-clause-lexes
+returns-clause-lexes g c = λ ps lex. opened c.refresh.result (length ps) c.args.self.now.begun (has_begun c.refresh.new.self) _ _ (subst (λ (b : Bool). (g.C.Counts.tallies c.refresh.new.counts).lexed ≤ (g.C.Counts.tallies c.args.counts.now).lexed + opening (length ps) b) (ap (λ (h : Held). h.begun) c.self.view_is) (c.refresh.ensures.lexed ps lex)) c.refresh.ensures.begun
+
+pub returns-clause-fails : goal.returns-clause-fails
+returns-clause-fails g c = λ ps lex. opened_in_vain (length ps) c.args.self.now.begun (has_begun c.refresh.new.self) _ _ (subst (λ (b : Bool). (g.C.Counts.tallies c.refresh.new.counts).lexed ≤ (g.C.Counts.tallies c.args.counts.now).lexed + opening (length ps) b) (ap (λ (h : Held). h.begun) c.self.view_is) (c.refresh.ensures.lexed ps lex)) (λ is. c.refresh.ensures.stays_begun (ap (λ (h : Held). h.begun) c.self.view_is ∙ is))

@@ -1,0 +1,2 @@
+-- The work that a run may do.
+pub mod Work

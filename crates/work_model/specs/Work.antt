@@ -1,0 +1,107 @@
+-- How many tokens a run may lex, by its lines and their replies: those of the prelude once, and for each query those behind what has changed since the last one.
+use Rattle.std.specs.Prelude.{◌≡◌, ◌⊎◌, ℕ, ◌+◌, ◌≤◌, min, nat_lt, List, [], ◌∷◌, ◌++◌, length, Bool, true, false, is_some, Option, Some, None, if◌then◌else◌}
+use Rattle.text_model.specs.Edits as edit
+use Rattle.text_model.specs.Positions.{offset}
+use Rattle.token_model.specs.Kinds.{Tok}
+use Rattle.token_model.specs.Tokens.{Lex}
+use Rattle.service_model.specs.Requests.{Asked, tell, type_enclosing, complete_prefix, locate, occurrences, outline, errors, case_analysis, construct, Reading, asks, refused, reading}
+use Rattle.service_model.specs.Replies.{memory_line}
+use Rattle.service_model.specs.Answers.{Answered, tell_outcome}
+use Rattle.service_model.specs.Runs.{is_blank_line}
+
+-- the text, and the first byte that may have changed since the last query that was answered; none, where nothing has changed
+pub record Owed : Type 0 where
+  pub text : List ℕ
+  pub since : Option ℕ
+
+-- before the first line: the empty text, of which nothing was read
+abbrev pub at_first : Owed
+at_first = record { text = []; since = Some 0 }
+
+-- how many of these tokens end at a place or behind
+abbrev pub ends_at : ℕ → List Tok → ℕ
+ends_at place [] = 0
+ends_at place (t ∷ ts) = (if nat_lt t.end place then 0 else 1) + ends_at place ts
+
+-- at most 32 more than the number of the text's tokens that end at a place or behind
+abbrev pub IsBehind : List ℕ → ℕ → ℕ → Type 0
+IsBehind text place n = (tokens : List Tok) → Lex text tokens → n ≤ 32 + ends_at place tokens
+
+-- what is read anew of what is owed: nothing, where nothing has changed
+abbrev pub IsAnew : List ℕ → Option ℕ → ℕ → Type 0
+IsAnew text None n = n ≡ 0
+IsAnew text (Some place) n = IsBehind text place n
+
+-- whether a request is a query of a text; one of a position that doesn't exist is none
+abbrev pub is_query : List ℕ → Asked → Bool
+is_query text (tell range bytes) = false
+is_query text (type_enclosing at) = is_some (offset text at.0 at.1)
+is_query text (complete_prefix at prefix) = is_some (offset text at.0 at.1)
+is_query text (locate at) = is_some (offset text at.0 at.1)
+is_query text (occurrences at) = is_some (offset text at.0 at.1)
+is_query text outline = true
+is_query text errors = true
+is_query text (case_analysis at) = is_some (offset text at.0 at.1)
+is_query text (construct at) = is_some (offset text at.0 at.1)
+
+-- whether a request may try other texts
+abbrev pub tries : Asked → Bool
+tries (case_analysis at) = true
+tries (construct at) = true
+tries _ = false
+
+-- What a request reads, by whether it is a query and whether it may try other texts; of one that may, nothing is said.
+abbrev pub ReadsBy : Bool → Bool → Owed → ℕ → Type 0
+ReadsBy false tried w n = n ≡ 0
+ReadsBy true false w n = IsAnew w.text w.since n
+ReadsBy true true w n = Unit {0}
+
+abbrev pub Reads : Owed → Asked → ℕ → Type 0
+Reads w a n = ReadsBy (is_query w.text a) (tries a) w n
+
+-- the first changed byte where bytes from one place on are changed and had been from another, or nothing had been
+abbrev pub sooner : ℕ → Option ℕ → ℕ
+sooner first None = first
+sooner first (Some before) = min first before
+
+-- the first changed byte behind an edit
+abbrev pub edited : edit.Outcome → Option ℕ → Option ℕ
+edited (edit.changed first new) since = Some (sooner first since)
+edited (edit.refused r) since = since
+
+-- the first changed byte behind a request that was answered
+abbrev pub since_after : Owed → Asked → Option ℕ
+since_after w (tell range bytes) = edited (tell_outcome w.text range bytes) w.since
+since_after w a = if is_query w.text a then None else w.since
+
+-- what is owed behind a line that was answered
+abbrev pub since_line : Owed → Reading → Option ℕ
+since_line w (asks a) = since_after w a
+since_line w (refused r) = w.since
+
+-- what a line reads
+abbrev pub LineReads : Owed → Reading → ℕ → Type 0
+LineReads w (asks a) n = Reads w a n
+LineReads w (refused r) n = n ≡ 0
+
+-- the prelude's tokens, of which there are p, may be read once more where memory was short in a query
+abbrev pub read_again : ℕ → List ℕ → Reading → ℕ
+read_again p text (asks a) = if is_query text a then p else 0
+read_again p text (refused r) = 0
+
+-- What a line says is answered with the piece, or memory is short; it leaves what is owed behind it, and may read n tokens.
+abbrev pub WorksAt : ℕ → Owed → Reading → List ℕ → Owed → ℕ → Type 0
+WorksAt p w r piece v n =
+    (Answered w.text r piece v.text × (v.since ≡ since_line w r) × LineReads w r n)
+    ⊎ ((piece ≡ memory_line) × (v ≡ w) × ((m : ℕ) × LineReads w r m × (n ≡ m + read_again p w.text r)))
+
+-- the same of a line; one of blanks is passed over
+abbrev pub WorksBy : Bool → ℕ → Owed → List ℕ → List ℕ → Owed → ℕ → Type 0
+WorksBy true p w line piece v n = (piece ≡ []) × (v ≡ w) × (n ≡ 0)
+WorksBy false p w line piece v n = WorksAt p w (reading line) piece v n
+
+-- From what is owed, the lines put these bytes, leave this owed, and may read n tokens.
+abbrev pub RunWorks : ℕ → Owed → List (List ℕ) → List ℕ → Owed → ℕ → Type 0
+RunWorks p w [] out v n = (out ≡ []) × (v ≡ w) × (n ≡ 0)
+RunWorks p w (line ∷ lines) out v n = (piece : List ℕ) × (mid : Owed) × (rest : List ℕ) × (here : ℕ) × (later : ℕ)
+    × WorksBy (is_blank_line line) p w line piece mid here × RunWorks p mid lines rest v later × (out ≡ piece ++ rest) × (n ≡ here + later)
