@@ -8,8 +8,8 @@ use Rattle.type_nodes.specs.Nodes.{Node, Var, bound_level}
 use Rattle.type_nodes.specs.Readings.{Types}
 use Rattle.typing_state.specs.declared.parts.Parts.{Parts}
 use Rattle.typing_state.specs.Types.{level_for}
-use Rattle.typing_environments.specs.Locals.{IsOwn, ClosesAll}
-use Rattle.typing_environments.specs.Standing.{IsIn}
+use Rattle.typing_conditions.specs.Locals.{IsOwn, ClosesAll}
+use Rattle.typing_conditions.specs.Standing.{IsIn}
 use Rattle.typing_conditions.specs.Sights.{Sight, Letters}
 use Rattle.typing_conditions.specs.Frames.{Frame, AreOpen, inner_frame}
 use Rattle.typing_conditions.specs.Meanings.{AllMean}

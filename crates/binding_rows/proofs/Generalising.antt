@@ -6,9 +6,9 @@ use Rattle.type_nodes.specs.Nodes.{Node}
 use Rattle.type_nodes.specs.Readings.{Types}
 use Rattle.typing_state.specs.declared.parts.Parts.{Parts}
 use Rattle.typing_state.specs.Goes.{OnlyStore}
-use Rattle.typing_environments.specs.Locals.{IsOwn, ClosesAll}
-use Rattle.typing_environments.proofs.Closing.{closed_own}
-use Rattle.typing_environments.proofs.Bindings.{generalised_closes, closes_then}
+use Rattle.typing_conditions.specs.Locals.{IsOwn, ClosesAll}
+use Rattle.typing_conditions.proofs.Closing.{closed_own}
+use Rattle.typing_conditions.proofs.Bindings.{generalised_closes, closes_then}
 use Rattle.binding_rows.specs.Closing.{Limit, LimitsAll, GeneralisesAll}
 
 closes_none : (nodes : List Node) (J : Types) (level : ℕ) → ClosesAll nodes nodes J [] level

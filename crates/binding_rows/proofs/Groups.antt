@@ -13,7 +13,7 @@ use Rattle.typing_conditions.proofs.Carried.{carried_trans}
 use Rattle.typing_conditions.proofs.Surrounding.{surrounds_on}
 use Rattle.typing_steps.specs.States.{is_aloud, sight}
 use Rattle.typing_steps.proofs.Still.{none_idle, carried_idle, state_still}
-use Rattle.case_rows.proofs.Cases.{missing_case}
+use Rattle.binding_rows.proofs.Cases.{missing_case}
 use Rattle.binding_rows.specs.Groups.{TypedBinding, TypesBindings, AsksNothing, TypesGroup}
 
 -- nothing is done

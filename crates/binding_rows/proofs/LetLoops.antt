@@ -4,8 +4,8 @@ use Rattle.env_table.specs.declared.entries.Entry.{Entry}
 use Rattle.type_nodes.specs.Nodes.{IsSound}
 use Rattle.typing_state.specs.declared.parts.Parts.{Parts}
 use Rattle.pattern_rows.specs.Bounds.{Bind}
-use Rattle.case_rows.specs.Scopes.{names_added}
-use Rattle.case_rows.proofs.Scopes.{names_both}
+use Rattle.binding_rows.specs.CaseScopes.{names_added}
+use Rattle.binding_rows.proofs.Scopes.{names_both}
 use Rattle.binding_rows.specs.Closing.{LimitsNodes, GeneralisesAll}
 use Rattle.binding_rows.specs.Lets.{ToClose, bind_nodes, names_closed, limited_nodes}
 use Rattle.binding_rows.specs.LetNodes.{ClosesBindings, LimitsFirst, GeneralisesFirst}

@@ -14,7 +14,7 @@ use Rattle.typing_state.specs.declared.parts.Parts.{Parts}
 use Rattle.typing_state.specs.Goes.{Goes}
 use Rattle.operand_laws.specs.Formed.{row_of, IsFormed}
 use Rattle.operand_laws.specs.Operands.{number_of, expression_of}
-use Rattle.typing_environments.proofs.Groups.{added}
+use Rattle.typing_conditions.proofs.Groups.{added}
 use Rattle.typing_conditions.specs.Sights.{Sight, Letters}
 use Rattle.typing_conditions.specs.Frames.{Frame}
 use Rattle.typing_conditions.specs.Surroundings.{Declared}
@@ -22,7 +22,7 @@ use Rattle.typing_steps.specs.Typing.{as_declared, TypesRow, TypesTo}
 use Rattle.typing_rows.specs.Asked.{row_expression}
 use Rattle.typing_rows.specs.CarriedRows.{IsCarried}
 use Rattle.pattern_rows.specs.Bounds.{Bind}
-use Rattle.case_rows.specs.Scopes.{names_added}
+use Rattle.binding_rows.specs.CaseScopes.{names_added}
 use Rattle.binding_rows.specs.Carried.{IsBinding}
 use Rattle.binding_rows.specs.Decided.{IsAmong, verdicts, JudgesGroup}
 use Rattle.binding_rows.specs.Groups.{TypedBinding, AllTyped, none_typed, one_typed, TypesGroup}

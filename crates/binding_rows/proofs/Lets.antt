@@ -18,12 +18,12 @@ use Rattle.level_unify.specs.Solutions.{Loose}
 use Rattle.level_unify.proofs.Unified.{fits_loosely}
 use Rattle.env_table.specs.declared.entries.Entry.{Entry}
 use Rattle.typing_state.specs.declared.parts.Parts.{Parts}
-use Rattle.typing_environments.specs.Locals.{IsOwn}
-use Rattle.typing_environments.specs.Standing.{IsIn}
-use Rattle.typing_environments.proofs.Own.{own_of}
-use Rattle.typing_environments.proofs.Regions.{any_in}
-use Rattle.typing_environments.proofs.Closing.{closed_loose}
-use Rattle.typing_environments.proofs.Groups.{added}
+use Rattle.typing_conditions.specs.Locals.{IsOwn}
+use Rattle.typing_conditions.specs.Standing.{IsIn}
+use Rattle.typing_conditions.proofs.Own.{own_of}
+use Rattle.typing_conditions.proofs.Regions.{any_in}
+use Rattle.typing_conditions.proofs.Closing.{closed_loose}
+use Rattle.typing_conditions.proofs.Groups.{added}
 use Rattle.typing_conditions.specs.Sights.{Sight, Letters, Agrees}
 use Rattle.typing_conditions.specs.Frames.{Frame, IsWritten, IsOpen, inner_frame, GoesIn}
 use Rattle.typing_conditions.specs.Meanings.{AllMean}

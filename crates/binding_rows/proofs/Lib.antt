@@ -19,3 +19,22 @@ pub mod Held
 pub mod Lets
 pub mod LetLoops
 pub mod LetNodes
+-- The laws of an item's own `let`.
+pub mod Scoped
+pub mod Starting
+pub mod ItemClosing
+pub mod Items
+pub mod ItemsAfter
+pub mod ItemOrders
+pub mod ItemRows
+pub mod ItemTurns
+pub mod Unwritten
+pub mod ItemsAdequate
+-- The laws of the rows of cases and of functions.
+pub mod Scopes
+pub mod Cases
+pub mod Ordered
+pub mod Matches
+pub mod Parameters
+pub mod CaseOperands
+pub mod CaseNodes

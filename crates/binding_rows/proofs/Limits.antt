@@ -14,13 +14,13 @@ use Rattle.level_unify.specs.Solutions.{Loose, HaveNoBound}
 use Rattle.level_unify.proofs.Unified.{fits_under}
 use Rattle.typing_state.specs.declared.parts.Parts.{Parts}
 use Rattle.typing_state.specs.Types.{level_for, any_scope}
-use Rattle.typing_environments.specs.Locals.{IsOwn, Refines}
-use Rattle.typing_environments.specs.Standing.{IsIn}
-use Rattle.typing_environments.proofs.Own.{own_of}
-use Rattle.typing_environments.proofs.Steps.{refines_made}
-use Rattle.typing_environments.proofs.Instances.{open_nodes}
-use Rattle.typing_environments.proofs.Later.{context_after, result_after}
-use Rattle.typing_environments.proofs.Fresh.{own_fits}
+use Rattle.typing_conditions.specs.Locals.{IsOwn, Refines}
+use Rattle.typing_conditions.specs.Standing.{IsIn}
+use Rattle.typing_conditions.proofs.Own.{own_of}
+use Rattle.typing_conditions.proofs.Steps.{refines_made}
+use Rattle.typing_conditions.proofs.Instances.{open_nodes}
+use Rattle.typing_conditions.proofs.Later.{context_after, result_after}
+use Rattle.typing_conditions.proofs.Fresh.{own_fits}
 use Rattle.typing_conditions.specs.Sights.{Sight, Letters}
 use Rattle.typing_conditions.specs.Frames.{Frame, Reaches, IsOpen}
 use Rattle.typing_conditions.specs.Meanings.{AllMean, one_means}

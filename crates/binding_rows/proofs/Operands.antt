@@ -21,12 +21,12 @@ use Rattle.typing_steps.specs.Warning.{OnlyWarnings}
 use Rattle.operand_laws.specs.Operands.{expression_of, pattern_of, type_of}
 use Rattle.operand_laws.proofs.Standing.{expression_of_stands, pattern_of_stands}
 use Rattle.typing_rows.specs.CarriedRows.{IsCarried}
-use Rattle.type_rows.specs.Operands.{ReadsOperand}
+use Rattle.typing_rows.specs.Operands.{ReadsOperand}
 use Rattle.pattern_rows.specs.Bounds.{Bind}
 use Rattle.pattern_rows.specs.CarriedPatterns.{IsCarriedPattern}
 use Rattle.pattern_rows.specs.Contracts.{patterns_of, MatchesTo, Matches}
-use Rattle.case_rows.specs.Scopes.{names_added}
-use Rattle.case_rows.specs.Parameters.{TypesParameters, MakesArrows}
+use Rattle.binding_rows.specs.CaseScopes.{names_added}
+use Rattle.binding_rows.specs.Parameters.{TypesParameters, MakesArrows}
 use Rattle.binding_rows.specs.Rights.{ReadsAnnotation, MakesWhole, TypesRightBody, TypesRight}
 use Rattle.binding_rows.specs.Groups.{TypedBinding, OpenedBinding, names_opened, AsksWhole, TypesBindings, TypesTurnIf, OpensIf, ConcludesBinding, ConcludesAll, AsksNothing}
 use Rattle.binding_rows.specs.Carried.{IsBindingNode, IsBinding, NumberedNode, IsNumberedBinding, nodes_there}

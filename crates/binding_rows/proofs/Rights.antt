@@ -23,14 +23,14 @@ use Rattle.typing_conditions.proofs.Surrounding.{surrounds_on}
 use Rattle.typing_steps.specs.States.{is_aloud, sight}
 use Rattle.typing_steps.specs.Typing.{as_declared, TypesTo, AsksEqual}
 use Rattle.typing_steps.proofs.Still.{plain_noted}
-use Rattle.type_rows.specs.Contracts.{ReadsTo}
+use Rattle.typing_rows.specs.TypeContracts.{ReadsTo}
 use Rattle.pattern_rows.specs.Contracts.{types_at}
 use Rattle.pattern_rows.proofs.Naming.{all_bound_on}
-use Rattle.case_rows.specs.Scopes.{with_bound}
-use Rattle.case_rows.specs.Cases.{MeansIf}
-use Rattle.case_rows.specs.Parameters.{TypesParameters, arrows_by, MakesArrows}
-use Rattle.case_rows.proofs.Scopes.{surrounds_bound, among_names}
-use Rattle.case_rows.proofs.Cases.{means_if_on}
+use Rattle.binding_rows.specs.CaseScopes.{with_bound}
+use Rattle.binding_rows.specs.Cases.{MeansIf}
+use Rattle.binding_rows.specs.Parameters.{TypesParameters, arrows_by, MakesArrows}
+use Rattle.binding_rows.proofs.Scopes.{surrounds_bound, among_names}
+use Rattle.binding_rows.proofs.Cases.{means_if_on}
 use Rattle.binding_rows.specs.Rights.{written_by, right_by, right_parts_ask, has_written, ReadsAnnotation, MakesWhole, TypesRightBody, TypesRightParts, TypesRight}
 
 -- no type is written

@@ -17,8 +17,8 @@ use Rattle.operand_laws.proofs.Sorts.{pattern_stands, patterns_stand, first_type
 use Rattle.operand_laws.proofs.Tokens.{token_stands}
 use Rattle.typing_rows.specs.Asked.{row_expression}
 use Rattle.typing_rows.proofs.Terms.{one, as_row}
-use Rattle.type_rows.specs.Operands.{IsTypeOperand}
-use Rattle.type_rows.proofs.Placed.{slot_operands}
+use Rattle.typing_rows.specs.Operands.{IsTypeOperand}
+use Rattle.typing_rows.proofs.Placed.{slot_operands}
 use Rattle.binding_rows.specs.Carried.{IsBindingPart, IsBinding, NumberedNode, IsNumberedBinding, node_there, nodes_there}
 use Rattle.binding_rows.specs.Operands.{binding_of, bindings_of, binding_over, bindings_over}
 

@@ -22,8 +22,8 @@ use Rattle.typing_steps.proofs.Still.{plain_noted}
 use Rattle.pattern_rows.specs.Bounds.{Bind}
 use Rattle.pattern_rows.specs.Contracts.{MatchesTo}
 use Rattle.pattern_rows.proofs.Naming.{all_bound_on}
-use Rattle.case_rows.specs.Scopes.{with_bound, names_added}
-use Rattle.case_rows.proofs.Scopes.{surrounds_bound, among_names, names_both}
+use Rattle.binding_rows.specs.CaseScopes.{with_bound, names_added}
+use Rattle.binding_rows.proofs.Scopes.{surrounds_bound, among_names, names_both}
 use Rattle.binding_rows.specs.Rights.{whole_by, TypesRight}
 use Rattle.binding_rows.specs.Groups.{TypedBinding, AllTyped, none_typed, OpenedBinding, IsOpened, AllOpened, none_opened, one_opened, names_opened, AsksWhole, TypesBindings, OpensBinding, OpenAdded, NoneAdded, OpensIf, OpensAll, OpensFirst, conclusion_asks, conclusions_ask, ConcludesBinding, ConcludesAll, ConcludesFirst}
 use Rattle.binding_rows.proofs.Typed.{all_typed_on, all_typed_more, all_opened_on, all_opened_more, opened_names, is_opened_on, whole_same}

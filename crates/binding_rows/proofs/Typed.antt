@@ -19,8 +19,8 @@ use Rattle.typing_steps.specs.Warning.{OnlyWarnings}
 use Rattle.pattern_rows.specs.Bounds.{AllBound, none_bound}
 use Rattle.pattern_rows.specs.Contracts.{types_at}
 use Rattle.pattern_rows.proofs.Naming.{all_bound_on, all_bound_both}
-use Rattle.case_rows.specs.Parameters.{arrows_by}
-use Rattle.case_rows.proofs.Scopes.{only_warned}
+use Rattle.binding_rows.specs.Parameters.{arrows_by}
+use Rattle.binding_rows.proofs.Scopes.{only_warned}
 use Rattle.binding_rows.specs.Rights.{right_by}
 use Rattle.binding_rows.specs.Groups.{TypedBinding, IsTyped, AllTyped, none_typed, one_typed, names_typed, OpenedBinding, IsOpened, AllOpened, none_opened, one_opened, names_opened, whole_asks, AsksWhole}
 

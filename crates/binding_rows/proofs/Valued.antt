@@ -18,10 +18,10 @@ use Rattle.typing_rows.specs.CarriedRows.{sort_in, IsCarried}
 use Rattle.typing_rows.specs.Valued.{body_in, bodies_of, is_unguarded, are_unguarded, right_in, rights_of}
 use Rattle.typing_rows.proofs.Going.{operands_carried, cases_carried, bindings_carried}
 use Rattle.typing_rows.proofs.Terms.{alone}
-use Rattle.case_rows.specs.Carried.{IsCasePart, IsCase}
-use Rattle.case_rows.specs.Cases.{cases_of}
-use Rattle.case_rows.proofs.Matches.{case_term, match_term}
-use Rattle.case_rows.proofs.Nodes.{all_cases}
+use Rattle.binding_rows.specs.CaseCarried.{IsCasePart, IsCase}
+use Rattle.binding_rows.specs.Cases.{cases_of}
+use Rattle.binding_rows.proofs.Matches.{case_term, match_term}
+use Rattle.binding_rows.proofs.CaseNodes.{all_cases}
 use Rattle.pattern_rows.specs.Contracts.{patterns_of}
 use Rattle.binding_rows.specs.Carried.{IsBindingPart, IsBinding}
 use Rattle.binding_rows.specs.Operands.{bindings_of, binding_over}

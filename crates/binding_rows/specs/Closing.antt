@@ -9,7 +9,7 @@ use Rattle.level_unify.specs.Solutions.{Loose}
 use Rattle.typing_state.specs.declared.parts.Parts.{Parts}
 use Rattle.typing_state.specs.Goes.{OnlyStore, Goes}
 use Rattle.typing_state.specs.Types.{level_for, any_scope, JoinedIfNodes}
-use Rattle.typing_environments.specs.Locals.{IsOwn, IsContext}
+use Rattle.typing_conditions.specs.Locals.{IsOwn, IsContext}
 
 -- a type that is limited: its node, and the new variable that is made one with it
 pub record Limit : Type 0 where

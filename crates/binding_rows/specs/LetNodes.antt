@@ -2,7 +2,7 @@
 use Rattle.std.specs.Prelude.{◌≡◌, ◌++◌, ℕ, List}
 use Rattle.env_table.specs.declared.entries.Entry.{Entry}
 use Rattle.typing_state.specs.declared.parts.Parts.{Parts}
-use Rattle.case_rows.specs.Scopes.{names_added}
+use Rattle.binding_rows.specs.CaseScopes.{names_added}
 use Rattle.binding_rows.specs.Groups.{TypedBinding}
 use Rattle.binding_rows.specs.Closing.{Limit, limit_nodes, ClosesGroup, LimitsNodes, GeneralisesAll}
 use Rattle.binding_rows.specs.Lets.{ToClose, bind_nodes, names_closed, limited_nodes}

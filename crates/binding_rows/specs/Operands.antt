@@ -13,7 +13,7 @@ use Rattle.env_table.specs.declared.entries.Entry.{Entry}
 use Rattle.typing_state.specs.declared.parts.Parts.{Parts}
 use Rattle.operand_laws.specs.Operands.{number_of, child_at, expression_of, pattern_of, type_of}
 use Rattle.typing_rows.specs.CarriedRows.{IsCarried}
-use Rattle.type_rows.specs.Operands.{IsTypeOperand}
+use Rattle.typing_rows.specs.Operands.{IsTypeOperand}
 use Rattle.pattern_rows.specs.CarriedPatterns.{IsCarriedPattern}
 use Rattle.pattern_rows.specs.Contracts.{patterns_of}
 use Rattle.binding_rows.specs.Rights.{ReadsAnnotation, MakesWhole, TypesRightBody, TypesRightParts, TypesRight}

@@ -16,8 +16,8 @@ use Rattle.typing_conditions.specs.Surroundings.{Surrounds}
 use Rattle.typing_steps.specs.States.{is_aloud, sight}
 use Rattle.typing_steps.specs.Typing.{as_declared}
 use Rattle.pattern_rows.specs.Contracts.{types_at}
-use Rattle.case_rows.specs.Cases.{MeansIf}
-use Rattle.case_rows.specs.Parameters.{arrows_by}
+use Rattle.binding_rows.specs.Cases.{MeansIf}
+use Rattle.binding_rows.specs.Parameters.{arrows_by}
 
 -- the written type by the choice, where there is one
 abbrev pub written_by : Option TypeExpression → Option (Choice → Typ)

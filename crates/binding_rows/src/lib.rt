@@ -1,7 +1,6 @@
-//! What each function that types a group of bindings has to carry, what closing the group does, and the law of the row of a `let`; for `core_typing`'s clauses `carries`.
-//! It stands on `case_rows`, for parameters and the names of patterns in scope, and on `type_rows`, for the type that is written for a right side. No program calls it.
-//! Of a group up to its close: `specs/Rights`, `Groups`, `Carried`, `Operands`, `Decided`; its laws are of a right side (`Rights`), of what stays (`Typed`), of bindings without
-//! `rec` (`Turns`) and with it (`Together`), of the group (`Groups`), of operands and loops (`Terms`, `Operands`, `Loops`, `Nodes`), of what is generalised (`Verdicts`, `Valued`).
-//! Of the close and the row: `specs/Closing`, `Lets`, `LetGroups`, `LetNodes`; laws of limits (`Limits`), generalised types (`Generalising`, `LetTurns`, `LetLoops`), the close
-//! (`Closing`), what is held (`Held`), conditions that are the same in each context of a state (`Alike`), and the row (`Lets`, `LetNodes`).
+//! What each function has to carry that types cases, functions or a group of bindings, what closing the group does, and the laws of their rows: `match`, `try`, `function`, `fun`, `let` and
+//! an item's own `let`; for clauses on them.
+//! It stands on `pattern_rows`, for patterns and the names that they bind, and on `typing_rows`, for rows in general and for the type that is written for a right side. No program calls it.
+//! Of cases: `specs/CaseScopes`, `Cases`, `Parameters`, `CaseCarried`. Of a group up to its close: `specs/Rights`, `Groups`, `Carried`, `Operands`, `Decided`; of the close and the row: `Closing`,
+//! `Lets`, `LetGroups`, `LetNodes`. Of an item: `Scopes`, `Outside` (what it is typed among, and items in order), `ItemGroups`, `ItemRows`. The laws of `proofs/` have the same names, or those of what they join.
 #![tactic(auto)]

@@ -8,9 +8,9 @@ use Rattle.typing_state.specs.declared.parts.Parts.{Parts}
 use Rattle.typing_state.specs.Goes.{Goes, OnlyIndex}
 use Rattle.typing_state.specs.Notes.{NotedNameless}
 use Rattle.typing_steps.proofs.Still.{plain_notes}
-use Rattle.item_rows.specs.Rows.{TypesItem, AreWrittenIn, GivesLet}
-use Rattle.item_rows.proofs.Rows.{let_given}
-use Rattle.item_rows.proofs.Turns.{none_written}
+use Rattle.binding_rows.specs.ItemRows.{TypesItem, AreWrittenIn, GivesLet}
+use Rattle.binding_rows.proofs.ItemRows.{let_given}
+use Rattle.binding_rows.proofs.ItemTurns.{none_written}
 
 -- The node of an item is noted, the type variables that were written are forgotten, and its `let` is typed; then its names are in scope.
 pub item_gives : {A E : Type 0} (r : Result A E) (a b c d : Parts) (w : Written) (env after then : List Entry) (n : ℕ) (t : Tree) → NotedNameless a b n env None → OnlyIndex a b → Goes a b → w.variables.entries ≡ [] → c ≡ record b { written = w } →

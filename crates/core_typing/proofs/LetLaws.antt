@@ -1,16 +1,14 @@
 -- Groups of bindings as the code types them, binding by binding.
-use Rattle.std.proofs.Common.{inl, ◌≡◌, ◌∙◌, ◌++◌, ◌==◌, ◌+◌, ◌-◌, ◌^◌, ◌<◌, arith, ℕ, Bool, true, false, List, [], ◌∷◌, length, map, Some, None, refl, sym, ap, subst, append-nil}
+use Rattle.std.proofs.Common.{inl, ◌≡◌, ◌∙◌, ◌==◌, ◌+◌, ◌-◌, ◌^◌, ◌<◌, arith, ℕ, true, false, List, [], ◌∷◌, length, map, refl, sym, ap, subst}
 use Rattle.std.specs.Prelude.{slice_index_or, Result, Ok, Err, OnOk, IfOk}
 use Rattle.std.specs.List.{remove}
 use Rattle.std.proofs.lemmas.Bool.{eqb-true}
-use denote.Ref.{Bor}
 use Rattle.tree_model.specs.Rows.{Row, elet_row}
 use Rattle.tree_model.specs.Trees.{Place, Tree}
 use Rattle.signature_model.specs.Declarations.{Name}
 use Rattle.syntax_tree.specs.View.{node_view}
-use Rattle.syntax_tree.specs.declared.tree.Node.{Node}
 use Rattle.row_parts.specs.declared.slots.Operand.{Operand}
-use Rattle.row_parts.specs.Numbered.{operand_view, part_of, filled_in}
+use Rattle.row_parts.specs.Numbered.{operand_view, filled_in}
 use Rattle.type_terms.specs.declared.types.NodeRef.{NodeRef}
 use Rattle.type_nodes.specs.Nodes.{bound_level}
 use Rattle.env_table.specs.declared.entries.Entry.{Entry}
@@ -31,8 +29,7 @@ use Rattle.expression_steps.specs.declared.forms.RowForm.TheVariants as form
 use Rattle.expression_steps.specs.Forms.{form_of, row_at, bound_pattern}
 use Rattle.expression_steps.proofs.CarryingLaws.{rows_same}
 use Rattle.binding_rows.specs.Groups.{TypedBinding, AsksNothing}
-use Rattle.binding_rows.specs.Carried.{NumberedNode, node_there}
-use Rattle.case_rows.specs.Scopes.{names_added}
+use Rattle.binding_rows.specs.CaseScopes.{names_added}
 use Rattle.binding_rows.specs.Operands.{AsksWholeOf, RecordsRightNode, TypesRightNode, TypesTurnNode, ConcludesNode, TypesGroupNode}
 use Rattle.binding_rows.specs.Decided.{IsLetNode, JudgesNode, JudgesGroup}
 use Rattle.binding_rows.proofs.Groups.{nothing_reported}
@@ -40,14 +37,14 @@ use Rattle.binding_rows.proofs.Operands.{turn_of_node, conclusion_of_node}
 use Rattle.binding_rows.specs.Lets.{ToClose, bind_nodes, names_closed}
 use Rattle.binding_rows.specs.LetNodes.{ClosesBindings}
 use Rattle.binding_rows.proofs.LetNodes.{same_typed, let_row_of_node}
-use Rattle.core_typing.specs.declared.bindings.Binding.{Binding}
-use Rattle.core_typing.specs.declared.bindings.Opened.{Opened}
-use Rattle.core_typing.specs.declared.bindings.RightSide.{RightSide}
-use Rattle.core_typing.specs.declared.bindings.Bound.{Bound}
-use Rattle.item_rows.specs.Scopes.{InsideNodes}
-use Rattle.item_rows.specs.Rows.{TypesItem}
-use Rattle.core_typing.specs.Bindings.{Concludes, typed_of, closing_of, generals, opened_of, node_of}
-use Rattle.core_typing.proofs.ClosingLaws.{mapped_more}
+use Rattle.binding_steps.specs.declared.groups.Binding.{Binding}
+use Rattle.binding_steps.specs.declared.groups.Opened.{Opened}
+use Rattle.binding_steps.specs.declared.groups.RightSide.{RightSide}
+use Rattle.binding_steps.specs.declared.groups.Bound.{Bound}
+use Rattle.binding_rows.specs.Scopes.{InsideNodes}
+use Rattle.binding_rows.specs.ItemRows.{TypesItem}
+use Rattle.core_typing.specs.Bindings.{Concludes}
+use Rattle.binding_steps.specs.Bindings.{typed_of, closing_of, generals, opened_of}
 
 let_form : (r : Row) → form_of r ≡ form.Let → r ≡ elet_row
 let_form elet_row e = refl
@@ -84,19 +81,6 @@ pub conclusion_done : (a b d : Parts) (env outside : List Entry) (o : Opened) (s
 conclusion_done a b d env outside o side bound typed goes h =
     subst (ConcludesNode a d env o.binding.number (node_view o.binding.node.now) (opened_of o)) (concluded_as b d outside o side bound h)
     (conclusion_of_node a b d env o.binding.number (node_view o.binding.node.now) (opened_of o) side.right.0 side.whole.0 typed goes h.asked)
-
--- the node of an opened binding more
-pub node_more : (o : Operand) (nd : Bor Node) (x : Binding) (one : Opened) (old new : List Opened) → o.node ≡ Some nd → x.number ≡ o.number → x.node ≡ nd → one.binding ≡ x → new ≡ old ++ one ∷ [] →
-    map node_of new ≡ map node_of old ++ node_there (operand_view o).number (operand_view o).part
-node_more o nd x one old new there number tree same grown =
-    mapped_more node_of old new one grown ∙
-    ap (λ (y : Binding). map node_of old ++ (let z : NumberedNode = record { number = y.number; tree = node_view y.node.now } in z) ∷ []) same ∙
-    (λ i. map node_of old ++ (let z : NumberedNode = record { number = number i; tree = node_view (tree i).now } in z) ∷ []) ∙
-    ap (λ m. map node_of old ++ node_there o.number (part_of m o.span)) (sym there)
-
--- a missing one has none
-pub node_lost : (o : Operand) (old : List Opened) → o.node ≡ None → map node_of old ≡ map node_of old ++ node_there (operand_view o).number (operand_view o).part
-node_lost o old none = sym (append-nil (map node_of old)) ∙ ap (λ m. map node_of old ++ node_there o.number (part_of m o.span)) (sym none)
 
 -- the first of a list is taken out
 pub taken_first : {A : Type 0} (xs ys : List A) (x : A) → (length xs == 0) ≡ false → x ≡ slice_index_or xs 0 x → ys ≡ remove xs 0 → xs ≡ x ∷ ys

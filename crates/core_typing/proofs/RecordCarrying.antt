@@ -53,7 +53,7 @@ use Rattle.expression_steps.specs.Records.{here_of, names_written}
 use Rattle.expression_steps.proofs.CarryingLaws.{rows_same}
 use Rattle.expression_steps.proofs.Nodes.{place_of_node}
 use Rattle.core_typing.specs.Records.{AreCarriedPieces, RecordsValue, TypesMadeOr, TypesPieces}
-use Rattle.core_typing.proofs.CaseLaws.{read_one}
+use Rattle.binding_steps.proofs.ParameterLaws.{read_one}
 use Rattle.core_typing.proofs.LabelLaws.{operand_loose}
 use Rattle.expression_steps.proofs.LabelForms.{label_is}
 

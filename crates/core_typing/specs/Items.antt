@@ -1,2 +1,2 @@
 -- What the call for an item's `let` gives, for the crate that makes it.
-pub use Rattle.item_rows.specs.Rows.{GivesLet}
+pub use Rattle.binding_rows.specs.ItemRows.{GivesLet}

@@ -5,18 +5,15 @@ ghost use Rattle.std.specs.Prelude.{◌≡◌, ℕ, [], ◌∷◌, ◌++◌, map
 ghost use Rattle.std.specs.Option.{IfSome};
 ghost use Rattle.tree_model.specs.Trees.{Place};
 ghost use Rattle.tree_model.specs.Extents.{extent_of};
-ghost use Rattle.syntax_tree.specs.Names.{row_of};
-ghost use Rattle.core_typing.specs.Sides.{sides_by};
 ghost use Rattle.syntax_tree.specs.View.{node_view, place_of};
 ghost use Rattle.row_parts.specs.Numbered.{operand_view, operands_in};
-ghost use Rattle.operand_laws.specs.Operands.{number_of, expression_of, pattern_of};
+ghost use Rattle.operand_laws.specs.Operands.{number_of, expression_of};
 ghost use Rattle.typing_steps.specs.Typing.{TypesRow};
 ghost use Rattle.typing_rows.specs.CarriedRows.{IsCarried};
 ghost use Rattle.typing_rows.specs.Asked.{row_expression};
-ghost use Rattle.pattern_typing.specs.Matching.{binds_of};
 ghost use Rattle.pattern_rows.specs.CarriedPatterns.{IsCarriedPattern};
-ghost use Rattle.case_rows.specs.Cases.{MatchesAs, MatchesWithin, TypesCaseIf, TypesCasePartsTo, TypesCases, TypesEachCase, TypesGuard, case_by, case_of, case_over, cases_of};
-ghost use Rattle.case_rows.specs.Carried.{IsCase, IsCaseNode, IsFunctionNode, IsMatchOrTry};
+ghost use Rattle.binding_rows.specs.Cases.{TypesCaseIf, TypesCasePartsTo, TypesCases, TypesEachCase, TypesGuard, case_by, case_of, case_over, cases_of};
+ghost use Rattle.binding_rows.specs.CaseCarried.{IsCase, IsCaseNode, IsFunctionNode, IsMatchOrTry};
 ghost use Rattle.typing_state.specs.Goes.{Goes};
 ghost use Rattle.match_warnings.specs.Warnings.{spans_of, warnings_of, WarnsAtLast};
 ghost use Rattle.core_typing.specs.Cases.{place_there, places_there};
@@ -24,22 +21,12 @@ ghost use Rattle.expression_steps.specs.Forms.{row_at};
 ghost use Rattle.typing_state.specs.Notes.{IsRecorded};
 
 use crate::exprs::{type_under, typed_as};
-use crate::functions::with_names;
+use binding_steps::{Case, sides_of, within_case};
 use match_warnings::Rows;
-use pattern_typing::{Matched, type_pattern};
 use row_parts::{Operand, first_operand, operand_in, operands};
-use syntax_tree::{Node, RowName, Span};
+use syntax_tree::{Node, Span};
 use typing_state::{Depth, Env, NoMemory, NodeRef, Parts};
 use use_typing::{Sign, Used, type_or_var, unnamed};
-
-/// A case by its parts, and where it stands.
-#[derive(Clone, Copy)]
-struct Case<'a> {
-    span: Span,
-    pattern: Operand<'a>,
-    guard: Option<Operand<'a>>,
-    body: Operand<'a>,
-}
 
 /// match e with p -> e, try e with p -> e
 #[cycle(exprs)]
@@ -58,17 +45,6 @@ pub fn match_of(
     let (matched, bodies) = sides_of(at, node.row, ty);
     let ty = type_cases(at, node, number, matched, bodies, env, depth)?;
     Ok(unnamed(at, ty))
-}
-
-/// The type of what is matched, and of the bodies, where it is known before them. A `try` matches exceptions, and its bodies have
-/// the type of what is tried.
-fn sides_of(at: &Parts, row: RowName, ty: NodeRef) -> (NodeRef, Option<NodeRef>)
-    ensures sides { result ≡ sides_by (row_of row) at.now.constants.exn ty }
-{
-    match row {
-        RowName::Etry => (at.constants.exn, Some(ty)),
-        _ => (ty, None),
-    }
 }
 
 /// function p -> e
@@ -231,48 +207,4 @@ fn type_guard(
         typed_as(at, guard, Some(bool), inner, env, depth)?;
     }
     Ok(())
-}
-
-/// The pattern of a case, which is a row of the match: the environment with its names.
-fn within_case(
-    at: &mut Parts,
-    case: Case<'_>,
-    matched: NodeRef,
-    rows: &mut Rows,
-    env: &Env,
-    depth: Depth,
-) -> Result<Env, NoMemory>
-    ensures carries { IfOk result (λ inner. IsCarriedPattern (operand_view case.entry.pattern) → MatchesWithin at.old at.new env.now inner (pattern_of at.old.item (operand_view case.entry.pattern)) matched.0) }
-    ensures spans { OnOk result (spans_of rows.new ≡ spans_of rows.old ++ place_of case.entry.span ∷ []) }
-    ensures goes { Goes at.old at.new }
-{
-    let faults_before = at.faults.list.len();
-    let bound = type_matched(at, case.pattern, matched, env, depth)?;
-    rows.add(
-        at,
-        case.span,
-        case.pattern,
-        case.guard,
-        faults_before,
-        env,
-        depth,
-    )?;
-    with_names(at.alloc(), &bound.names, env)
-}
-
-/// A pattern, which has the type of what is matched.
-fn type_matched<'a>(
-    at: &mut Parts,
-    pattern: Operand<'a>,
-    matched: NodeRef,
-    env: &Env,
-    depth: Depth,
-) -> Result<Matched<'a>, NoMemory>
-    ensures carries { IfOk result (λ m. IsCarriedPattern (operand_view pattern.entry) → MatchesAs at.old at.new env.now (pattern_of at.old.item (operand_view pattern.entry)) (binds_of m.names.items) matched.0) }
-    ensures goes { Goes at.old at.new }
-{
-    let mut seen = Vec::new(at.alloc());
-    let bound = type_pattern(at, pattern, env, &mut seen, depth.inside()?)?;
-    at.equal(pattern.span, bound.ty, matched, env)?;
-    Ok(bound)
 }

@@ -14,7 +14,7 @@ mod functions;
 mod loops;
 mod plain;
 mod records;
-mod variables;
 
-pub use bindings::{Behind, type_bindings};
+pub use binding_steps::Behind;
+pub use bindings::type_bindings;
 pub use exprs::type_expr;

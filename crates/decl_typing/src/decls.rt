@@ -2,12 +2,11 @@
 ghost use Rattle.typing_state.specs.Goes.{Goes};
 
 use crate::fresh::ask_new;
-use crate::groups::{
-    ConstructorPart, DeclarationPart, LabelPart, Right, Told, declarations_of, last_token,
-    missing_in,
-};
-use crate::orders::{Mentions, clear, is_set};
 use crate::reexports::with_reexports;
+use decl_groups::{
+    ConstructorPart, DeclarationPart, LabelPart, Mentions, Right, Told, clear, declarations_of,
+    is_set, last_token, missing_in,
+};
 use env_table::{Constructor, Declaration, Entry, Env, Kind, Label, Shape, What};
 use owned_lists::{owned, push, shared};
 use row_parts::{Operand, first_operand, token};

@@ -1,5 +1,6 @@
-//! Declarations of types and exceptions: groups in which the names stand for each other, re-exports, and the orders in which they are read.
-//! It is built on type expressions (`type_expressions`) and on what the typing of a text works on (`typing_state`).
+//! Declarations of types and exceptions: groups in which the names stand for each other, and re-exports.
+//! It is built on the groups as they are written (`decl_groups`), on type expressions (`type_expressions`) and on what the typing of a
+//! text works on (`typing_state`).
 //! Above, `type_decls` and `type_exception` type an item and give what it adds (`Declared`): the environment after it, its entries in
 //! order, and the origins that it makes.
 //! That the names of types are new in their structure or signature is asked by the caller.
@@ -7,8 +8,6 @@
 
 mod decls;
 mod fresh;
-mod groups;
-mod orders;
 mod reexports;
 
 pub use decls::{Declared, type_decls, type_exception};

@@ -2,8 +2,7 @@
 ghost use Rattle.typing_state.specs.Goes.{Goes};
 
 use crate::decls::group_env;
-use crate::groups::{ConstructorPart, DeclarationPart, LabelPart, Right, Told};
-use crate::orders::{Mentions, set};
+use decl_groups::{ConstructorPart, DeclarationPart, LabelPart, Mentions, Right, Told, set};
 use env_table::{Constructor, Declaration, Env, Label, Shape};
 use owned_lists::{push, shared};
 use row_parts::Operand;

@@ -41,8 +41,8 @@ use Rattle.typing_rows.proofs.Ending.{row_as}
 use Rattle.typing_conditions.specs.Steps.{Records}
 use Rattle.typing_steps.specs.States.{is_aloud, sight}
 use Rattle.use_typing.specs.Constants.{is_negated}
-use Rattle.type_rows.proofs.Annotated.{annotated_typed}
-use Rattle.type_rows.proofs.Placed.{first_operand}
+use Rattle.typing_rows.proofs.Annotated.{annotated_typed}
+use Rattle.typing_rows.proofs.Placed.{first_operand}
 use Rattle.type_expressions.specs.Written.{IsAsWritten, AsksWritten}
 use Rattle.expression_steps.specs.declared.operators.Operator.{Operator}
 use Rattle.expression_steps.specs.declared.forms.RowForm.{RowForm}

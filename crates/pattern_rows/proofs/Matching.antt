@@ -33,8 +33,8 @@ use Rattle.operand_laws.proofs.SlotBySlot.{all_in_order, exactly_one}
 use Rattle.operand_laws.proofs.Standing.{pattern_of_stands}
 use Rattle.typing_rows.proofs.Terms.{two_operands}
 use Rattle.typing_rows.specs.CarriedRows.{sort_in}
-use Rattle.type_rows.specs.Operands.{IsTypeOperand, Annotates}
-use Rattle.type_rows.proofs.Placed.{first_operand}
+use Rattle.typing_rows.specs.Operands.{IsTypeOperand, Annotates}
+use Rattle.typing_rows.proofs.Placed.{first_operand}
 use Rattle.pattern_rows.specs.Bounds.{Bind, Adds}
 use Rattle.pattern_rows.specs.CarriedPatterns.{IsCarriedPattern, MatchesOperand, MatchesNode, MatchesNodeOf, MatchesOperands, MatchesBeside}
 use Rattle.pattern_rows.specs.Contracts.{row_pattern, patterns_of, Matches, MatchesRow, AsksFresh, MatchesInOrder, EndsPatterns, list_asks, cons_asks}

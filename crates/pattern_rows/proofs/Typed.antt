@@ -39,8 +39,8 @@ use Rattle.operand_laws.specs.Operands.{number_of, pattern_of, type_of}
 use Rattle.operand_laws.proofs.SlotBySlot.{exactly_one}
 use Rattle.typing_rows.proofs.Ending.{row_of_type}
 use Rattle.typing_rows.proofs.Terms.{two_operands}
-use Rattle.type_rows.specs.Operands.{Annotates}
-use Rattle.type_rows.proofs.Annotated.{row_written}
+use Rattle.typing_rows.specs.Operands.{Annotates}
+use Rattle.typing_rows.proofs.Annotated.{row_written}
 use Rattle.pattern_rows.specs.Bounds.{Bind, AllBound, none_bound, one_bound}
 use Rattle.pattern_rows.specs.Contracts.{row_pattern, patterns_of, types_at, AsksFresh, MatchesRow, MatchesAll, EndsPatterns, cons_asks}
 use Rattle.pattern_rows.proofs.Naming.{all_bound_on, all_bound_both}

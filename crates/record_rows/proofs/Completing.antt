@@ -13,7 +13,7 @@ use Rattle.type_nodes.specs.Nodes.{Node}
 use Rattle.type_nodes.specs.Readings.{Types}
 use Rattle.env_table.specs.declared.entries.Label.{Label}
 use Rattle.env_table.specs.declared.entries.Shape.{Shape}
-use Rattle.typing_declarations.specs.Declared.{LabelAs, OneByOne, no_more, one_more, ShapeAs, tell_nothing, tell_constructors, tell_labels}
+use Rattle.typing_conditions.specs.Declared.{LabelAs, OneByOne, no_more, one_more, ShapeAs, tell_nothing, tell_constructors, tell_labels}
 use Rattle.typing_state.specs.declared.parts.Parts.{Parts}
 use Rattle.typing_state.specs.Messages.{incomplete_text}
 use Rattle.typing_conditions.specs.Carrying.{Carried}

@@ -24,12 +24,12 @@ use Rattle.env_table.specs.declared.entries.Entry.{Entry}
 use Rattle.env_table.specs.declared.entries.Label.{Label}
 use Rattle.env_table.specs.declared.entries.Shape.{Shape}
 use Rattle.env_table.specs.declared.entries.What.{What}
-use Rattle.typing_environments.specs.Assumptions.{SchemeFits}
-use Rattle.typing_environments.specs.Standing.{IsIn}
-use Rattle.typing_environments.specs.Environments.{WhatAs, of_value, of_constructor, of_exception, of_label, of_type, of_module, of_module_type, EntryAs, entry_as}
-use Rattle.typing_environments.proofs.Environments.{ComesTo, to_entry, to_hole, to_nothing}
-use Rattle.typing_environments.proofs.Own.{own_of}
-use Rattle.typing_declarations.specs.Declared.{LabelAs, OneByOne, no_more, one_more, ShapeAs, tell_nothing, tell_constructors, tell_labels, DeclaredAs, ExceptionAs}
+use Rattle.typing_conditions.specs.Assumptions.{SchemeFits}
+use Rattle.typing_conditions.specs.Standing.{IsIn}
+use Rattle.typing_conditions.specs.Environments.{WhatAs, of_value, of_constructor, of_exception, of_label, of_type, of_module, of_module_type, EntryAs, entry_as}
+use Rattle.typing_conditions.proofs.Environments.{ComesTo, to_entry, to_hole, to_nothing}
+use Rattle.typing_conditions.proofs.Own.{own_of}
+use Rattle.typing_conditions.specs.Declared.{LabelAs, OneByOne, no_more, one_more, ShapeAs, tell_nothing, tell_constructors, tell_labels, DeclaredAs, ExceptionAs}
 use Rattle.typing_conditions.specs.Sights.{Sight, Letters}
 use Rattle.typing_conditions.specs.Frames.{Frame}
 use Rattle.typing_conditions.specs.Carrying.{Scope}

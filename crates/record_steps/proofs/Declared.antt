@@ -27,11 +27,11 @@ use Rattle.env_table.specs.declared.entries.What.{What}
 use Rattle.env_table.specs.declared.entries.What.TheVariants as what
 use Rattle.env_table.specs.Views.{kind_of}
 use Rattle.env_table.specs.Labels.{record_by_kind, labelled, scope_for}
-use Rattle.typing_environments.specs.Environments.{WhatAs, of_value, of_constructor, of_exception, of_label, of_type, of_module, of_module_type, EntryAs, entry_as, EnvAs}
-use Rattle.typing_environments.specs.Locals.{IsOwn}
-use Rattle.typing_environments.proofs.Environments.{ComesTo, to_entry, to_hole, to_nothing}
-use Rattle.typing_declarations.specs.Declared.{LabelAs, OneByOne, no_more, one_more, ShapeAs, tell_nothing, tell_constructors, tell_labels, DeclaredAs, ExceptionAs, and_last, with_parameters}
-use Rattle.typing_declarations.proofs.Finding.{same_label}
+use Rattle.typing_conditions.specs.Environments.{WhatAs, of_value, of_constructor, of_exception, of_label, of_type, of_module, of_module_type, EntryAs, entry_as, EnvAs}
+use Rattle.typing_conditions.specs.Locals.{IsOwn}
+use Rattle.typing_conditions.proofs.Environments.{ComesTo, to_entry, to_hole, to_nothing}
+use Rattle.typing_conditions.specs.Declared.{LabelAs, OneByOne, no_more, one_more, ShapeAs, tell_nothing, tell_constructors, tell_labels, DeclaredAs, ExceptionAs, and_last, with_parameters}
+use Rattle.typing_conditions.proofs.Finding.{same_label}
 use Rattle.record_steps.specs.Alike.{SameLabel, SameRecord}
 use Rattle.record_steps.proofs.Finding.{record_alike}
 

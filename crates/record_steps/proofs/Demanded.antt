@@ -16,11 +16,11 @@ use Rattle.type_nodes.specs.Nodes.{Node}
 use Rattle.type_nodes.specs.Readings.{Types}
 use Rattle.env_table.specs.declared.entries.Entry.{Entry}
 use Rattle.env_table.specs.declared.faults.FaultKind.TheVariants as fault
-use Rattle.typing_environments.specs.Environments.{EnvAs}
-use Rattle.typing_environments.specs.Standing.{IsIn}
-use Rattle.typing_environments.specs.Assumptions.{SchemeFits}
-use Rattle.typing_environments.proofs.Own.{own_of}
-use Rattle.typing_declarations.specs.Declared.{DeclaredAs, ExceptionAs}
+use Rattle.typing_conditions.specs.Environments.{EnvAs}
+use Rattle.typing_conditions.specs.Standing.{IsIn}
+use Rattle.typing_conditions.specs.Assumptions.{SchemeFits}
+use Rattle.typing_conditions.proofs.Own.{own_of}
+use Rattle.typing_conditions.specs.Declared.{DeclaredAs, ExceptionAs}
 use Rattle.typing_state.specs.declared.parts.Parts.{Parts}
 use Rattle.typing_state.specs.declared.messages.Word.TheVariants as word
 use Rattle.typing_state.specs.Bound.{lost_among, TellsLost}

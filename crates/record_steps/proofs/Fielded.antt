@@ -17,9 +17,9 @@ use Rattle.type_nodes.specs.Readings.{Types}
 use Rattle.level_unify.specs.Instances.{Instantiated}
 use Rattle.env_table.specs.declared.entries.Declaration.{Declaration}
 use Rattle.env_table.specs.declared.entries.Label.{Label}
-use Rattle.typing_environments.proofs.Own.{own_of}
-use Rattle.typing_declarations.specs.Declared.{LabelAs}
-use Rattle.typing_declarations.proofs.Later.{declared_after}
+use Rattle.typing_conditions.proofs.Own.{own_of}
+use Rattle.typing_conditions.specs.Declared.{LabelAs}
+use Rattle.typing_conditions.proofs.DeclaredLater.{declared_after}
 use Rattle.typing_state.specs.declared.parts.Parts.{Parts}
 use Rattle.typing_state.specs.Goes.{OnlyStore}
 use Rattle.typing_conditions.specs.Sights.{Sight, Letters, AreNodes}

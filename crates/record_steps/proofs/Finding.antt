@@ -21,8 +21,8 @@ use Rattle.env_table.specs.declared.entries.What.{What}
 use Rattle.env_table.specs.Views.{kind_of}
 use Rattle.env_table.specs.Labels as code
 use Rattle.env_table.specs.Labels.{record_by_kind, labelled}
-use Rattle.typing_environments.specs.Environments.{WhatAs, of_value, of_constructor, of_exception, of_label, of_type, of_module, of_module_type, EntryAs, entry_as, EnvAs, no_names, newest}
-use Rattle.typing_environments.proofs.Environments.{FoundAs, neither, both, ScopeAs, both_known, both_unknown, both_absent, scope_alike, ComesTo, to_entry, to_hole, to_nothing}
+use Rattle.typing_conditions.specs.Environments.{WhatAs, of_value, of_constructor, of_exception, of_label, of_type, of_module, of_module_type, EntryAs, entry_as, EnvAs, no_names, newest}
+use Rattle.typing_conditions.proofs.Environments.{FoundAs, neither, both, ScopeAs, both_known, both_unknown, both_absent, scope_alike, ComesTo, to_entry, to_hole, to_nothing}
 
 -- what is no label has no record type
 no_label : (k : CodeKind) (w : What) → (kind_of k ≡ label_kind → ⊥) → record_by_kind k w ≡ None

@@ -13,7 +13,7 @@ use Rattle.type_nodes.specs.Nodes.{Node}
 use Rattle.type_nodes.specs.Readings.{Types}
 use Rattle.env_table.specs.declared.entries.Label.{Label}
 use Rattle.env_table.specs.declared.entries.Shape.{Shape}
-use Rattle.typing_declarations.specs.Declared.{LabelAs, OneByOne, no_more, one_more, ShapeAs, tell_nothing, tell_constructors, tell_labels}
+use Rattle.typing_conditions.specs.Declared.{LabelAs, OneByOne, no_more, one_more, ShapeAs, tell_nothing, tell_constructors, tell_labels}
 use Rattle.record_steps.specs.Alike.{SameLabel, SameRecord}
 use Rattle.record_steps.specs.Named.{labels_here, label_here}
 use Rattle.record_steps.specs.Recording.{field_in}

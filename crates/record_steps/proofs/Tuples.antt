@@ -17,11 +17,11 @@ use Rattle.level_unify.specs.Solutions.{Loose, FitsLoosely}
 use Rattle.level_unify.specs.Instances.{Instantiated}
 use Rattle.level_unify.proofs.Solving.{loose_root}
 use Rattle.level_unify.proofs.Steps.{cell_at}
-use Rattle.typing_environments.specs.Locals.{IsOwn}
-use Rattle.typing_environments.proofs.Own.{own_of}
-use Rattle.typing_declarations.specs.Declared.{IsNamed, a_parameter, an_unknown, RootAs, and_last, with_parameters}
-use Rattle.typing_declarations.proofs.Roots.{named_bound}
-use Rattle.typing_declarations.proofs.Taking.{images_of}
+use Rattle.typing_conditions.specs.Locals.{IsOwn}
+use Rattle.typing_conditions.proofs.Own.{own_of}
+use Rattle.typing_conditions.specs.Declared.{IsNamed, a_parameter, an_unknown, RootAs, and_last, with_parameters}
+use Rattle.typing_conditions.proofs.Roots.{named_bound}
+use Rattle.typing_conditions.proofs.Taking.{images_of}
 use Rattle.typing_conditions.specs.Sights.{Sight, Letters}
 use Rattle.typing_conditions.specs.Frames.{Frame, IsOpen}
 use Rattle.typing_conditions.specs.Meanings.{Means}

@@ -23,13 +23,13 @@ use Rattle.level_unify.specs.Instances.{Instantiated}
 use Rattle.env_table.specs.declared.entries.Declaration.{Declaration}
 use Rattle.env_table.specs.declared.entries.Entry.{Entry}
 use Rattle.env_table.specs.declared.entries.What.TheVariants as what
-use Rattle.typing_environments.specs.Locals.{IsOwn}
-use Rattle.typing_environments.specs.Standing.{IsIn}
-use Rattle.typing_environments.specs.Assumptions.{SchemeFits}
-use Rattle.typing_environments.proofs.Own.{own_of}
-use Rattle.typing_environments.proofs.Environments.{ComesTo, to_entry, to_hole, to_nothing}
-use Rattle.typing_declarations.specs.Declared.{RootAs, DeclaredAs, ExceptionAs, and_last, with_parameters}
-use Rattle.typing_declarations.proofs.Later.{declared_after}
+use Rattle.typing_conditions.specs.Locals.{IsOwn}
+use Rattle.typing_conditions.specs.Standing.{IsIn}
+use Rattle.typing_conditions.specs.Assumptions.{SchemeFits}
+use Rattle.typing_conditions.proofs.Own.{own_of}
+use Rattle.typing_conditions.proofs.Environments.{ComesTo, to_entry, to_hole, to_nothing}
+use Rattle.typing_conditions.specs.Declared.{RootAs, DeclaredAs, ExceptionAs, and_last, with_parameters}
+use Rattle.typing_conditions.proofs.DeclaredLater.{declared_after}
 use Rattle.typing_state.specs.declared.parts.Parts.{Parts}
 use Rattle.typing_state.specs.Goes.{OnlyFaults}
 use Rattle.typing_conditions.specs.Sights.{Letters, AreNodes}

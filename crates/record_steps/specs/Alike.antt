@@ -2,7 +2,7 @@
 use Rattle.std.specs.Prelude.{◌≡◌, Option, Some}
 use Rattle.signature_model.specs.Declarations.{Declaration, Label, type_of}
 use Rattle.typing_model.specs.Records.{labels_in}
-use Rattle.typing_declarations.specs.Declared.{OneByOne}
+use Rattle.typing_conditions.specs.Declared.{OneByOne}
 
 -- two labels have one name and one type, and both may be set or neither
 pub record SameLabel (l k : Label) : Type 0 where

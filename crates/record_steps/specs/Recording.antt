@@ -21,7 +21,7 @@ use Rattle.env_table.specs.declared.entries.Entry.{Entry}
 use Rattle.env_table.specs.declared.entries.Label.{Label}
 use Rattle.env_table.specs.declared.faults.FaultKind.TheVariants as fault
 use Rattle.env_table.specs.Labels.{labelled, scope_for}
-use Rattle.typing_declarations.specs.Declared.{DeclaredAs}
+use Rattle.typing_conditions.specs.Declared.{DeclaredAs}
 use Rattle.typing_state.specs.declared.parts.Parts.{Parts}
 use Rattle.typing_state.specs.declared.messages.Word.TheVariants as word
 use Rattle.typing_state.specs.Bound.{lost_among, TellsLost}

@@ -39,16 +39,16 @@ use Rattle.typing_steps.proofs.Still.{plain_noted}
 use Rattle.operand_laws.specs.Formed.{row_of, IsPartFormed, IsFormed}
 use Rattle.operand_laws.specs.Operands.{number_of, type_of}
 use Rattle.operand_laws.proofs.Standing.{type_of_stands}
-use Rattle.type_rows.specs.Contracts.{ReadsTo, ReadsAll, ReadsFirst, EndsRead}
-use Rattle.type_rows.specs.Rows.{row_type, types_read, front_nodes, front_asks, end_asks}
-use Rattle.type_rows.specs.Operands.{IsTypeOperand, part_asks, ReadsOperand, ReadsPart, ReadsOperands, ReadsGiven, ReadsFront, EndsRow, ReadsVariable, EndsParentheses, MakesArrowOver, Annotates}
-use Rattle.type_rows.proofs.Reading.{unresolved_reads, noted_reads, row_reads, reads_as}
-use Rattle.type_rows.proofs.Ordered.{one_read, alone_read}
-use Rattle.type_rows.proofs.Composed.{ends_empty, ends_single, ends_several}
-use Rattle.type_rows.proofs.Terms.{TypeRow, a_variable, a_constructor, in_parentheses, an_application, a_tuple, an_arrow, another, type_row_is, IsNoType, node_term}
-use Rattle.type_rows.proofs.Ended.{view_row}
-use Rattle.type_rows.proofs.Placed.{slot_operands, row_operands, filled_operand}
-use Rattle.type_rows.proofs.Given.{IsAlone, node_alone, few_alone, alone_given, several_given}
+use Rattle.typing_rows.specs.TypeContracts.{ReadsTo, ReadsAll, ReadsFirst, EndsRead}
+use Rattle.typing_rows.specs.Rows.{row_type, types_read, front_nodes, front_asks, end_asks}
+use Rattle.typing_rows.specs.Operands.{IsTypeOperand, part_asks, ReadsOperand, ReadsPart, ReadsOperands, ReadsGiven, ReadsFront, EndsRow, ReadsVariable, EndsParentheses, MakesArrowOver, Annotates}
+use Rattle.typing_rows.proofs.Reading.{unresolved_reads, noted_reads, row_reads, reads_as}
+use Rattle.typing_rows.proofs.TypeOrdered.{one_read, alone_read}
+use Rattle.typing_rows.proofs.Composed.{ends_empty, ends_single, ends_several}
+use Rattle.typing_rows.proofs.TypeTerms.{TypeRow, a_variable, a_constructor, in_parentheses, an_application, a_tuple, an_arrow, another, type_row_is, IsNoType, node_term}
+use Rattle.typing_rows.proofs.Ended.{view_row}
+use Rattle.typing_rows.proofs.Placed.{slot_operands, row_operands, filled_operand}
+use Rattle.typing_rows.proofs.TypeGiven.{IsAlone, node_alone, few_alone, alone_given, several_given}
 use Rattle.type_expressions.proofs.Answering.{many_numbers}
 use Rattle.type_expressions.specs.Operands.{parts_by_row, parts_read, several, several_in_part, several_in_row, at_least_two}
 

@@ -13,9 +13,9 @@ use Rattle.typing_conditions.proofs.Framing.{no_bound}
 use Rattle.typing_steps.specs.States.{sight}
 use Rattle.typing_steps.proofs.Seeing.{only_nodes}
 use Rattle.type_reading.specs.Filling.{JoinsOne, JoinsAll, Fills}
-use Rattle.type_rows.specs.Declaring.{AppliesTo}
-use Rattle.type_rows.proofs.Filled.{JoinsTwo, JoinsEach}
-use Rattle.type_rows.proofs.Abbreviated.{arguments_applied}
+use Rattle.typing_rows.specs.Declaring.{AppliesTo}
+use Rattle.typing_rows.proofs.Filled.{JoinsTwo, JoinsEach}
+use Rattle.typing_rows.proofs.Abbreviated.{arguments_applied}
 
 -- a call that makes two types one, as far as the definitions are concerned
 one_joined : (a b : Parts) (p q : ℕ) → JoinsOne a b p q → JoinsTwo (sight a) (sight b) p q

@@ -11,8 +11,8 @@ use Rattle.typing_state.specs.declared.parts.Parts.{Parts}
 use Rattle.typing_state.specs.Goes.{OnlyStore}
 use Rattle.typing_state.specs.Types.{any_scope, level_for}
 use Rattle.typing_steps.specs.Writing.{PutsVariable}
-use Rattle.type_rows.specs.Operands.{ReadsVariable}
-use Rattle.type_rows.proofs.Composed.{variable_again, variable_first}
+use Rattle.typing_rows.specs.Operands.{ReadsVariable}
+use Rattle.typing_rows.proofs.Composed.{variable_again, variable_first}
 
 -- one that was written before
 pub again_reads : (a : Parts) (t : Tok) (m : NodeRef) → get_by_text a.written.variables t.name ≡ Some m → ReadsVariable a a (Some t) m.0

@@ -10,7 +10,7 @@ use Rattle.typing_state.specs.Demands.{EqualIs}
 use Rattle.typing_state.specs.Goes.{Goes}
 use Rattle.tree_model.specs.Trees.{Place}
 use Rattle.operand_laws.specs.Operands.{type_of}
-use Rattle.type_rows.specs.Operands.{IsTypeOperand, Annotates}
+use Rattle.typing_rows.specs.Operands.{IsTypeOperand, Annotates}
 
 -- the type that is written behind a part, which is read and which the part has; without one the part's own
 abbrev pub IsAsWritten : Option Numbered → Span → NodeRef → (old new : Parts) → List Entry → NodeRef → Type 0

@@ -7,7 +7,7 @@ ghost use Rattle.signature_model.specs.Matching.{is_unknown};
 ghost use Rattle.type_nodes.specs.Changes.{Makes};
 ghost use Rattle.type_nodes.specs.Nodes.{Node as plain, IsNode};
 ghost use Rattle.type_nodes.specs.Views.{numbers};
-ghost use Rattle.type_rows.specs.Declaring.{AppliesTo};
+ghost use Rattle.typing_rows.specs.Declaring.{AppliesTo};
 ghost use Rattle.typing_state.specs.Goes.{Goes, OnlyStore, Silent};
 
 use env_table::{Declaration, Origin};

@@ -11,7 +11,7 @@ ghost use Rattle.type_nodes.specs.Nodes.{Node as plain};
 ghost use Rattle.typing_state.specs.Goes.{Goes, OnlyStore, Silent};
 ghost use Rattle.typing_state.specs.Types.{any_scope, level_for};
 ghost use Rattle.typing_steps.specs.Writing.{PutsVariable};
-ghost use Rattle.type_rows.specs.Operands.{ReadsVariable};
+ghost use Rattle.typing_rows.specs.Operands.{ReadsVariable};
 
 use std::alloc::{AllocError, Global};
 use syntax_tree::Token;

@@ -19,18 +19,18 @@ use Rattle.level_unify.proofs.Unified.{fits_loosely}
 use Rattle.env_table.specs.declared.entries.Constructor.{Constructor}
 use Rattle.env_table.specs.declared.entries.Declaration.{Declaration}
 use Rattle.env_table.specs.declared.entries.Entry.{Entry}
-use Rattle.typing_environments.specs.Locals.{IsOwn}
-use Rattle.typing_environments.specs.Assumptions.{SchemeFits, SchemeReads}
-use Rattle.typing_environments.specs.Environments.{of_value, entry_as, newest}
-use Rattle.typing_environments.specs.Standing.{IsIn, Covers, Stands}
-use Rattle.typing_environments.proofs.Own.{own_of}
-use Rattle.typing_environments.proofs.Regions.{any_in, in_any}
-use Rattle.typing_environments.proofs.Steps.{stands_after, old_or_new, same_node, refines_none}
-use Rattle.typing_environments.proofs.Closing.{still_free}
-use Rattle.typing_environments.proofs.Environments.{env_map}
-use Rattle.typing_environments.proofs.Generalised.{Fixes, name_fits, name_reads}
-use Rattle.typing_environments.proofs.Standing.{more_in, none_free}
-use Rattle.typing_environments.proofs.Groups.{NamesStand, no_more, name_more, added, joined, stands_names}
+use Rattle.typing_conditions.specs.Locals.{IsOwn}
+use Rattle.typing_conditions.specs.Assumptions.{SchemeFits, SchemeReads}
+use Rattle.typing_conditions.specs.Environments.{of_value, entry_as, newest}
+use Rattle.typing_conditions.specs.Standing.{IsIn, Covers, Stands}
+use Rattle.typing_conditions.proofs.Own.{own_of}
+use Rattle.typing_conditions.proofs.Regions.{any_in, in_any}
+use Rattle.typing_conditions.proofs.Steps.{stands_after, old_or_new, same_node, refines_none}
+use Rattle.typing_conditions.proofs.Closing.{still_free}
+use Rattle.typing_conditions.proofs.Environments.{env_map}
+use Rattle.typing_conditions.proofs.Generalised.{Fixes, name_fits, name_reads}
+use Rattle.typing_conditions.proofs.Standing.{more_in, none_free}
+use Rattle.typing_conditions.proofs.Groups.{NamesStand, no_more, name_more, added, joined, stands_names}
 use Rattle.typing_conditions.specs.Sights.{Sight, Letters, Agrees}
 use Rattle.typing_conditions.specs.Frames.{Frame, IsWritten, IsHeld, IsRoot}
 use Rattle.typing_conditions.specs.Carrying.{Asks, Scope, HoldsWritten, HoldsUnbound}

@@ -10,9 +10,9 @@ use Rattle.level_unify.specs.Solutions.{Loose, Tightens}
 use Rattle.level_unify.specs.Unification.{Unified, NeverAlike}
 use Rattle.level_unify.proofs.Unified.{fits_loosely, fits_under, under_fits}
 use Rattle.env_table.specs.declared.faults.FaultKind.TheVariants as fault
-use Rattle.typing_environments.specs.Locals.{IsOwn, Refines}
-use Rattle.typing_environments.proofs.Own.{own_of}
-use Rattle.typing_environments.proofs.Steps.{refines_unified, refines_none}
+use Rattle.typing_conditions.specs.Locals.{IsOwn, Refines}
+use Rattle.typing_conditions.proofs.Own.{own_of}
+use Rattle.typing_conditions.proofs.Steps.{refines_unified, refines_none}
 use Rattle.typing_conditions.specs.Sights.{Sight, Letters}
 use Rattle.typing_conditions.specs.Frames.{Frame, Reaches, IsOpen}
 use Rattle.typing_conditions.specs.Meanings.{Means}

@@ -15,13 +15,13 @@ use Rattle.type_nodes.proofs.Ranks.{added_sound}
 use Rattle.level_unify.specs.Solutions.{HaveNoBound, Tightens}
 use Rattle.level_unify.specs.Unification.{Unified}
 use Rattle.level_unify.specs.Instances.{Instantiated}
-use Rattle.typing_environments.specs.Locals.{IsOwn, IsFreeVar, IsLow, Refines, Local, IsResult, IsContext}
-use Rattle.typing_environments.specs.Rows.{Row}
-use Rattle.typing_environments.proofs.Own.{own_of}
-use Rattle.typing_environments.proofs.Steps.{local_made}
-use Rattle.typing_environments.proofs.Later.{context_after, result_after}
-use Rattle.typing_environments.proofs.Instances.{open_nodes}
-use Rattle.typing_environments.proofs.Rows.{row_unify, row_instance, row_var, row_node}
+use Rattle.typing_conditions.specs.Locals.{IsOwn, IsFreeVar, IsLow, Refines, Local, IsResult, IsContext}
+use Rattle.typing_conditions.specs.Rows.{Row}
+use Rattle.typing_conditions.proofs.Own.{own_of}
+use Rattle.typing_conditions.proofs.Steps.{local_made}
+use Rattle.typing_conditions.proofs.Later.{context_after, result_after}
+use Rattle.typing_conditions.proofs.Instances.{open_nodes}
+use Rattle.typing_conditions.proofs.Rows.{row_unify, row_instance, row_var, row_node}
 use Rattle.typing_conditions.specs.Sights.{Sight, Letters}
 use Rattle.typing_conditions.specs.Frames.{Frame, IsFrame, Reaches, IsOpenAt, IsOpen, AreOpen, IsRoot}
 use Rattle.typing_conditions.specs.Meanings.{KnowsWritten}

@@ -9,11 +9,11 @@ use Rattle.type_nodes.specs.Readings.{Types, IsReading}
 use Rattle.level_unify.specs.Solutions.{Loose}
 use Rattle.level_unify.specs.Instances.{is_bound}
 use Rattle.env_table.specs.declared.entries.Entry.{Entry}
-use Rattle.typing_environments.specs.Locals.{IsOwn}
-use Rattle.typing_environments.specs.Assumptions.{SchemeFits, SchemeReads}
-use Rattle.typing_environments.specs.Standing.{IsIn, Covers, Stands}
-use Rattle.typing_environments.proofs.Regions.{in_any}
-use Rattle.typing_environments.proofs.Instances.{root_within}
+use Rattle.typing_conditions.specs.Locals.{IsOwn}
+use Rattle.typing_conditions.specs.Assumptions.{SchemeFits, SchemeReads}
+use Rattle.typing_conditions.specs.Standing.{IsIn, Covers, Stands}
+use Rattle.typing_conditions.proofs.Regions.{in_any}
+use Rattle.typing_conditions.proofs.Instances.{root_within}
 use Rattle.typing_conditions.specs.Sights.{Sight, Fixed, Letters, Agrees}
 use Rattle.typing_conditions.specs.Frames.{Frame, Reaches, IsOpenAt, IsRoot, inner_frame, GoesIn}
 use Rattle.typing_conditions.specs.Meanings.{Means, KnowsFixed, KnowsWritten}

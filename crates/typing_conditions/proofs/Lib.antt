@@ -1,3 +1,27 @@
+-- The laws of environments.
+pub mod Own
+pub mod Regions
+pub mod Steps
+pub mod Later
+pub mod Closing
+pub mod Uses
+pub mod Schemes
+pub mod Generalised
+pub mod Environments
+pub mod Standing
+pub mod Bindings
+pub mod Instances
+pub mod Fresh
+pub mod Holding
+pub mod Groups
+pub mod Scopes
+pub mod Rows
+pub mod Names
+-- The laws of declarations.
+pub mod Roots
+pub mod Taking
+pub mod DeclaredLater
+pub mod Finding
 -- The laws of what is carried.
 pub mod Judged
 pub mod Stays

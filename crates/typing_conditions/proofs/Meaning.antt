@@ -10,10 +10,10 @@ use Rattle.type_nodes.specs.Readings.{Types, IsReading}
 use Rattle.level_unify.specs.Solutions.{Loose}
 use Rattle.level_unify.specs.Instances.{is_bound}
 use Rattle.level_unify.proofs.Variants.{bound_cell, stands_occurs}
-use Rattle.typing_environments.specs.Locals.{IsOwn}
-use Rattle.typing_environments.proofs.Own.{own_of}
-use Rattle.typing_environments.proofs.Steps.{same_node}
-use Rattle.typing_environments.proofs.Uses.{bound_stands}
+use Rattle.typing_conditions.specs.Locals.{IsOwn}
+use Rattle.typing_conditions.proofs.Own.{own_of}
+use Rattle.typing_conditions.proofs.Steps.{same_node}
+use Rattle.typing_conditions.proofs.Uses.{bound_stands}
 use Rattle.typing_conditions.specs.Sights.{Sight, Letters, IsKnownFor, AreGiven, AreNodes, Agrees, IsInside, SameAt}
 use Rattle.typing_conditions.specs.Frames.{Frame, IsOpenAt, IsOpen, AreOpen}
 use Rattle.typing_conditions.specs.Meanings.{Means, AllMean, none_mean, one_means, types_by, KnowsFixed, KnowsWritten}

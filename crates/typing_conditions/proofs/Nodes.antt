@@ -14,8 +14,8 @@ use Rattle.level_unify.specs.Solutions.{Loose}
 use Rattle.level_unify.specs.Copies.{Extends}
 use Rattle.level_unify.proofs.Unified.{fits_loosely}
 use Rattle.signature_model.specs.Matching.{IsKnown}
-use Rattle.typing_environments.specs.Locals.{IsOwn, Refines}
-use Rattle.typing_environments.proofs.Steps.{refines_made}
+use Rattle.typing_conditions.specs.Locals.{IsOwn, Refines}
+use Rattle.typing_conditions.proofs.Steps.{refines_made}
 use Rattle.typing_conditions.specs.Sights.{Sight, Key, without_unknown, value_of, Letters, IsKnownFor, AreNodes, SameAt}
 use Rattle.typing_conditions.specs.Frames.{Frame, Reaches, IsOpen, AreOpen}
 use Rattle.typing_conditions.specs.Meanings.{Means, AllMean, none_mean, one_means, types_by}

@@ -9,15 +9,15 @@ use Rattle.type_nodes.specs.Readings.{Types, Fits, IsReading}
 use Rattle.level_unify.specs.Solutions.{Loose}
 use Rattle.level_unify.specs.Instances.{is_bound}
 use Rattle.level_unify.proofs.Variants.{bound_cell, bound_there}
-use Rattle.typing_environments.specs.Locals.{IsOwn, stands_in_any, Within, Refines, Local, IsContext, ClosesAll}
-use Rattle.typing_environments.specs.Standing.{IsIn}
-use Rattle.typing_environments.proofs.Own.{own_of}
-use Rattle.typing_environments.proofs.Regions.{in_any}
-use Rattle.typing_environments.proofs.Steps.{local_then, same_node}
-use Rattle.typing_environments.proofs.Instances.{local_more}
-use Rattle.typing_environments.proofs.Closing.{closed_loose, own_reopened, local_closed}
-use Rattle.typing_environments.proofs.Bindings.{any_before, any_after}
-use Rattle.typing_environments.proofs.Fresh.{reads_closed, fits_closed}
+use Rattle.typing_conditions.specs.Locals.{IsOwn, stands_in_any, Within, Refines, Local, IsContext, ClosesAll}
+use Rattle.typing_conditions.specs.Standing.{IsIn}
+use Rattle.typing_conditions.proofs.Own.{own_of}
+use Rattle.typing_conditions.proofs.Regions.{in_any}
+use Rattle.typing_conditions.proofs.Steps.{local_then, same_node}
+use Rattle.typing_conditions.proofs.Instances.{local_more}
+use Rattle.typing_conditions.proofs.Closing.{closed_loose, own_reopened, local_closed}
+use Rattle.typing_conditions.proofs.Bindings.{any_before, any_after}
+use Rattle.typing_conditions.proofs.Fresh.{reads_closed, fits_closed}
 use Rattle.typing_conditions.specs.Sights.{Sight, Letters, AreNodes, IsInside}
 use Rattle.typing_conditions.specs.Frames.{Frame, Reaches, IsHeld, IsOpenAt, IsOpen, inner_frame, GoesIn}
 use Rattle.typing_conditions.specs.Meanings.{KnowsWritten}

@@ -13,8 +13,8 @@ use Rattle.type_nodes.specs.Nodes.{IsNode}
 use Rattle.type_nodes.specs.Readings.{Types, Fits, IsReading}
 use Rattle.level_unify.specs.Solutions.{Loose}
 use Rattle.level_unify.proofs.Unified.{fits_loosely}
-use Rattle.typing_environments.specs.Locals.{IsOwn, Refines}
-use Rattle.typing_environments.proofs.Steps.{refines_none}
+use Rattle.typing_conditions.specs.Locals.{IsOwn, Refines}
+use Rattle.typing_conditions.proofs.Steps.{refines_none}
 use Rattle.typing_conditions.specs.Sights.{Sight, number_in, Letters, AreNodes, Agrees}
 use Rattle.typing_conditions.specs.Frames.{Frame, Reaches}
 use Rattle.typing_conditions.specs.Judging.{judgements, StartsWith, FallsShort, TellAll, Meets}

@@ -4,8 +4,8 @@ use Rattle.typing_model.specs.Contexts.{Choice, Context}
 use Rattle.type_nodes.specs.Nodes.{Var, bound_level, IsNode}
 use Rattle.type_nodes.specs.Readings.{Types}
 use Rattle.level_unify.proofs.Variants.{bound_cell, bound_there}
-use Rattle.typing_environments.proofs.Own.{own_of}
-use Rattle.typing_environments.proofs.Steps.{refines_none, refines_then}
+use Rattle.typing_conditions.proofs.Own.{own_of}
+use Rattle.typing_conditions.proofs.Steps.{refines_none, refines_then}
 use Rattle.typing_conditions.specs.Sights.{Sight, Key, Letters, Agrees}
 use Rattle.typing_conditions.specs.Frames.{Frame, Reaches}
 use Rattle.typing_conditions.specs.Carrying.{Scope, HoldsWritten, HoldsUnbound, Stays, GoesOn, Enters}

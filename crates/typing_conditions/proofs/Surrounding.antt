@@ -19,14 +19,14 @@ use Rattle.level_unify.proofs.Unified.{fits_loosely}
 use Rattle.env_table.specs.declared.entries.Constructor.{Constructor}
 use Rattle.env_table.specs.declared.entries.Declaration.{Declaration}
 use Rattle.env_table.specs.declared.entries.Entry.{Entry}
-use Rattle.typing_environments.specs.Locals.{IsOwn, IsFreeVar}
-use Rattle.typing_environments.specs.Assumptions.{SchemeFits, SchemeReads}
-use Rattle.typing_environments.specs.Environments.{of_value, entry_as, no_names, newest}
-use Rattle.typing_environments.specs.Standing.{IsIn, Covers, Stands}
-use Rattle.typing_environments.proofs.Own.{own_of}
-use Rattle.typing_environments.proofs.Environments.{env_map}
-use Rattle.typing_environments.proofs.Steps.{same_node, refines_none}
-use Rattle.typing_environments.proofs.Standing.{more_in, stands_fits_on, stands_reads_on, stands_named, one_type_fits, one_type_reads}
+use Rattle.typing_conditions.specs.Locals.{IsOwn, IsFreeVar}
+use Rattle.typing_conditions.specs.Assumptions.{SchemeFits, SchemeReads}
+use Rattle.typing_conditions.specs.Environments.{of_value, entry_as, no_names, newest}
+use Rattle.typing_conditions.specs.Standing.{IsIn, Covers, Stands}
+use Rattle.typing_conditions.proofs.Own.{own_of}
+use Rattle.typing_conditions.proofs.Environments.{env_map}
+use Rattle.typing_conditions.proofs.Steps.{same_node, refines_none}
+use Rattle.typing_conditions.proofs.Standing.{more_in, stands_fits_on, stands_reads_on, stands_named, one_type_fits, one_type_reads}
 use Rattle.typing_conditions.specs.Sights.{Sight, Letters, Agrees}
 use Rattle.typing_conditions.specs.Frames.{Frame, Reaches, IsRoot}
 use Rattle.typing_conditions.specs.Meanings.{Means, KnowsFixed, KnowsWritten}

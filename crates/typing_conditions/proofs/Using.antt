@@ -16,13 +16,13 @@ use Rattle.level_unify.proofs.Unified.{fits_loosely}
 use Rattle.env_table.specs.declared.entries.Entry.{Entry}
 use Rattle.env_table.specs.declared.entries.What.TheVariants as what
 use Rattle.env_table.specs.Views.{is_named, inside}
-use Rattle.typing_environments.specs.Locals.{IsOwn, Refines}
-use Rattle.typing_environments.specs.Assumptions.{SchemeFits, SchemeReads}
-use Rattle.typing_environments.specs.Standing.{IsIn}
-use Rattle.typing_environments.proofs.Own.{own_of}
-use Rattle.typing_environments.proofs.Steps.{refines_made}
-use Rattle.typing_environments.proofs.Uses.{use_sound, use_complete}
-use Rattle.typing_environments.proofs.Names.{finds_scheme}
+use Rattle.typing_conditions.specs.Locals.{IsOwn, Refines}
+use Rattle.typing_conditions.specs.Assumptions.{SchemeFits, SchemeReads}
+use Rattle.typing_conditions.specs.Standing.{IsIn}
+use Rattle.typing_conditions.proofs.Own.{own_of}
+use Rattle.typing_conditions.proofs.Steps.{refines_made}
+use Rattle.typing_conditions.proofs.Uses.{use_sound, use_complete}
+use Rattle.typing_conditions.proofs.Names.{finds_scheme}
 use Rattle.typing_conditions.specs.Sights.{Sight, Key, value_of, Letters, IsKnownFor}
 use Rattle.typing_conditions.specs.Frames.{Frame, Reaches, IsOpen, IsRoot}
 use Rattle.typing_conditions.specs.Judging.{judgements, StartsWith, TellAll}

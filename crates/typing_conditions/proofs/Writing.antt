@@ -14,12 +14,12 @@ use Rattle.type_nodes.specs.Readings.{Types}
 use Rattle.type_nodes.specs.States.{Change, state}
 use Rattle.type_nodes.specs.Changes.{Makes}
 use Rattle.level_unify.specs.Copies.{Extends}
-use Rattle.typing_environments.specs.Locals.{IsOwn, Refines, Local, stands_in_any}
-use Rattle.typing_environments.specs.Standing.{IsIn}
-use Rattle.typing_environments.proofs.Own.{own_of}
-use Rattle.typing_environments.proofs.Regions.{any_in, in_any}
-use Rattle.typing_environments.proofs.Steps.{local_then, refines_made}
-use Rattle.typing_environments.proofs.Instances.{local_node, new_within}
+use Rattle.typing_conditions.specs.Locals.{IsOwn, Refines, Local, stands_in_any}
+use Rattle.typing_conditions.specs.Standing.{IsIn}
+use Rattle.typing_conditions.proofs.Own.{own_of}
+use Rattle.typing_conditions.proofs.Regions.{any_in, in_any}
+use Rattle.typing_conditions.proofs.Steps.{local_then, refines_made}
+use Rattle.typing_conditions.proofs.Instances.{local_node, new_within}
 use Rattle.typing_conditions.specs.Sights.{Sight, Letters, SameAt}
 use Rattle.typing_conditions.specs.Frames.{Frame, Reaches, IsHeld, IsOpenAt}
 use Rattle.typing_conditions.specs.Steps.{Writes}

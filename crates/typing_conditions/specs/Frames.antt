@@ -4,8 +4,8 @@ use Rattle.type_model.specs.Types.{occurs}
 use Rattle.signature_model.specs.Declarations.{Name}
 use Rattle.type_nodes.specs.Nodes.{Node, Var, bound_level, IsSound, IsNode}
 use Rattle.type_nodes.specs.Readings.{Types}
-use Rattle.typing_environments.specs.Locals.{IsLow, IsOwn, Within, Local, IsContext}
-use Rattle.typing_environments.specs.Standing.{IsIn}
+use Rattle.typing_conditions.specs.Locals.{IsLow, IsOwn, Within, Local, IsContext}
+use Rattle.typing_conditions.specs.Standing.{IsIn}
 use Rattle.typing_conditions.specs.Sights.{Sight}
 
 -- The nodes at a row's start, with their own types; the roots from which it may change nodes; for each lower level the nodes that are held there;

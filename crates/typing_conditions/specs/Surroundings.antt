@@ -15,9 +15,9 @@ use Rattle.env_table.specs.declared.entries.Declaration.{Declaration}
 use Rattle.env_table.specs.declared.entries.Entry.{Entry}
 use Rattle.env_table.specs.declared.entries.What.TheVariants as what
 use Rattle.env_table.specs.Views.{kind_of}
-use Rattle.typing_environments.specs.Locals.{IsOwn, Refines}
-use Rattle.typing_environments.specs.Assumptions.{SchemeFits, SchemeReads}
-use Rattle.typing_environments.specs.Standing.{IsIn, Covers, Stands}
+use Rattle.typing_conditions.specs.Locals.{IsOwn, Refines}
+use Rattle.typing_conditions.specs.Assumptions.{SchemeFits, SchemeReads}
+use Rattle.typing_conditions.specs.Standing.{IsIn, Covers, Stands}
 use Rattle.typing_conditions.specs.Sights.{Sight, Letters, Agrees}
 use Rattle.typing_conditions.specs.Frames.{Frame, Reaches, IsRoot}
 use Rattle.typing_conditions.specs.Meanings.{KnowsFixed, KnowsWritten}

@@ -12,3 +12,17 @@ pub mod Fielded
 pub mod Setting
 pub mod Looped
 pub mod Valued
+-- The laws of rows of type expressions.
+pub mod Reading
+pub mod TypeOrdered
+pub mod TypeTerms
+pub mod Composed
+pub mod Used
+pub mod Filled
+pub mod Declared
+pub mod Abbreviated
+pub mod Named
+pub mod Placed
+pub mod TypeGiven
+pub mod Ended
+pub mod Annotated

@@ -6,3 +6,8 @@ pub mod Contracts
 pub mod Fields
 pub mod Loops
 pub mod Valued
+-- What is carried of type expressions.
+pub mod TypeContracts
+pub mod Rows
+pub mod Declaring
+pub mod Operands

@@ -37,14 +37,14 @@ use Rattle.typing_state.specs.Messages.{arity_text}
 use Rattle.typing_state.specs.Places.{place_of_tok}
 use Rattle.typing_state.specs.Types.{MakesVar, any_scope, level_for}
 use Rattle.typing_state.specs.Bound.{lost_among, found_at, BoundIs}
-use Rattle.typing_environments.specs.Locals.{IsOwn}
-use Rattle.typing_environments.specs.Assumptions.{SchemeFits}
-use Rattle.typing_environments.specs.Standing.{IsIn}
-use Rattle.typing_environments.proofs.Own.{own_of}
-use Rattle.typing_environments.proofs.Environments.{ComesTo, to_entry, to_hole, to_nothing, lookup_alike}
-use Rattle.typing_declarations.specs.Declared.{building, DeclaredAs, ExceptionAs, MakesAs, RootAs, constructor_in}
-use Rattle.typing_declarations.proofs.Roots.{root_after}
-use Rattle.typing_declarations.proofs.Finding.{FindsConstructor, finds_constructor, same_building}
+use Rattle.typing_conditions.specs.Locals.{IsOwn}
+use Rattle.typing_conditions.specs.Assumptions.{SchemeFits}
+use Rattle.typing_conditions.specs.Standing.{IsIn}
+use Rattle.typing_conditions.proofs.Own.{own_of}
+use Rattle.typing_conditions.proofs.Environments.{ComesTo, to_entry, to_hole, to_nothing, lookup_alike}
+use Rattle.typing_conditions.specs.Declared.{building, DeclaredAs, ExceptionAs, MakesAs, RootAs, constructor_in}
+use Rattle.typing_conditions.proofs.Roots.{root_after}
+use Rattle.typing_conditions.proofs.Finding.{FindsConstructor, finds_constructor, same_building}
 use Rattle.typing_conditions.specs.Sights.{Key, value_of, Letters, IsKnownFor}
 use Rattle.typing_conditions.specs.Frames.{Frame, IsRoot}
 use Rattle.typing_conditions.specs.Judging.{judged_at, AreKept}

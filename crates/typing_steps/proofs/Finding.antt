@@ -27,11 +27,11 @@ use Rattle.typing_state.specs.declared.parts.Parts.{Parts}
 use Rattle.typing_state.specs.declared.messages.Word.{Word as Called}
 use Rattle.typing_state.specs.declared.messages.Word.TheVariants as word
 use Rattle.typing_state.specs.Bound.{names_of_tokens, TellsUnbound, token_at, lost_among, found_at, word_of, BoundIs, BoundLastIs}
-use Rattle.typing_environments.specs.Environments.{EnvAs}
-use Rattle.typing_environments.specs.Standing.{IsIn}
-use Rattle.typing_environments.specs.Assumptions.{SchemeFits}
-use Rattle.typing_environments.proofs.Own.{own_of}
-use Rattle.typing_environments.proofs.Environments.{ScopeAs, both_known, both_unknown, both_absent, scope_alike, ComesTo, to_entry, to_hole, to_nothing, lookup_alike}
+use Rattle.typing_conditions.specs.Environments.{EnvAs}
+use Rattle.typing_conditions.specs.Standing.{IsIn}
+use Rattle.typing_conditions.specs.Assumptions.{SchemeFits}
+use Rattle.typing_conditions.proofs.Own.{own_of}
+use Rattle.typing_conditions.proofs.Environments.{ScopeAs, both_known, both_unknown, both_absent, scope_alike, ComesTo, to_entry, to_hole, to_nothing, lookup_alike}
 use Rattle.typing_conditions.specs.Sights.{Letters, Agrees}
 use Rattle.typing_conditions.specs.Frames.{Frame}
 use Rattle.typing_conditions.specs.Steps.{Tells}

@@ -26,16 +26,16 @@ use Rattle.typing_state.specs.declared.messages.Word.TheVariants as word
 use Rattle.typing_state.specs.Goes.{OnlyStore}
 use Rattle.typing_state.specs.Types.{level_for}
 use Rattle.typing_state.specs.Bound.{lost_among, found_at, BoundIs}
-use Rattle.typing_environments.specs.Locals.{IsOwn}
-use Rattle.typing_environments.specs.Assumptions.{SchemeFits}
-use Rattle.typing_environments.specs.Standing.{IsIn}
-use Rattle.typing_environments.proofs.Own.{own_of}
-use Rattle.typing_environments.proofs.Environments.{lookup_alike}
-use Rattle.typing_declarations.specs.Declared as code
-use Rattle.typing_declarations.specs.Declared.{RootAs, LabelAs, DeclaredAs, ExceptionAs}
-use Rattle.typing_declarations.proofs.Roots.{root_after, named_bound}
-use Rattle.typing_declarations.proofs.Taking.{images_of}
-use Rattle.typing_declarations.proofs.Finding.{FindsLabel, finds_label, same_label}
+use Rattle.typing_conditions.specs.Locals.{IsOwn}
+use Rattle.typing_conditions.specs.Assumptions.{SchemeFits}
+use Rattle.typing_conditions.specs.Standing.{IsIn}
+use Rattle.typing_conditions.proofs.Own.{own_of}
+use Rattle.typing_conditions.proofs.Environments.{lookup_alike}
+use Rattle.typing_conditions.specs.Declared as code
+use Rattle.typing_conditions.specs.Declared.{RootAs, LabelAs, DeclaredAs, ExceptionAs}
+use Rattle.typing_conditions.proofs.Roots.{root_after, named_bound}
+use Rattle.typing_conditions.proofs.Taking.{images_of}
+use Rattle.typing_conditions.proofs.Finding.{FindsLabel, finds_label, same_label}
 use Rattle.typing_conditions.specs.Sights.{Letters}
 use Rattle.typing_conditions.specs.Frames.{Frame, IsRoot}
 use Rattle.typing_conditions.specs.Judging.{judged_at, AreKept}

@@ -18,14 +18,14 @@ use Rattle.level_unify.specs.Solutions.{Loose, FitsLoosely, HaveNoBound}
 use Rattle.level_unify.specs.Copies.{Extends}
 use Rattle.level_unify.specs.Unification.{Unified}
 use Rattle.level_unify.proofs.Unified.{fits_loosely, fits_under, under_fits}
-use Rattle.typing_environments.specs.Locals.{IsOwn, Refines, Local, Within, IsContext}
-use Rattle.typing_environments.specs.Standing.{IsIn}
-use Rattle.typing_environments.proofs.Own.{own_of}
-use Rattle.typing_environments.proofs.Regions.{any_in}
-use Rattle.typing_environments.proofs.Steps.{local_then, local_unified, refines_made, refines_then}
-use Rattle.typing_environments.proofs.Instances.{local_node, local_more, new_within, open_nodes}
-use Rattle.typing_environments.proofs.Bindings.{any_before, any_after}
-use Rattle.typing_environments.proofs.Later.{result_after}
+use Rattle.typing_conditions.specs.Locals.{IsOwn, Refines, Local, Within, IsContext}
+use Rattle.typing_conditions.specs.Standing.{IsIn}
+use Rattle.typing_conditions.proofs.Own.{own_of}
+use Rattle.typing_conditions.proofs.Regions.{any_in}
+use Rattle.typing_conditions.proofs.Steps.{local_then, local_unified, refines_made, refines_then}
+use Rattle.typing_conditions.proofs.Instances.{local_node, local_more, new_within, open_nodes}
+use Rattle.typing_conditions.proofs.Bindings.{any_before, any_after}
+use Rattle.typing_conditions.proofs.Later.{result_after}
 use Rattle.typing_conditions.specs.Sights.{Sight, Letters}
 use Rattle.typing_conditions.specs.Frames.{Frame, Reaches, IsHeld, IsOpen}
 use Rattle.typing_conditions.specs.Meanings.{Means}

@@ -23,10 +23,10 @@ use Rattle.typing_state.specs.declared.messages.Word.{Word as Called}
 use Rattle.typing_state.specs.Goes.{OnlyStore}
 use Rattle.typing_state.specs.Types.{MakesVar, any_scope, level_for}
 use Rattle.typing_state.specs.Bound.{lost_among, found_at, BoundIs}
-use Rattle.typing_environments.specs.Standing.{IsIn}
-use Rattle.typing_environments.specs.Assumptions.{SchemeFits}
-use Rattle.typing_environments.proofs.Own.{own_of}
-use Rattle.typing_environments.proofs.Environments.{ComesTo, to_entry, to_hole, to_nothing, lookup_alike}
+use Rattle.typing_conditions.specs.Standing.{IsIn}
+use Rattle.typing_conditions.specs.Assumptions.{SchemeFits}
+use Rattle.typing_conditions.proofs.Own.{own_of}
+use Rattle.typing_conditions.proofs.Environments.{ComesTo, to_entry, to_hole, to_nothing, lookup_alike}
 use Rattle.typing_conditions.specs.Sights.{Key, value_of, Letters, IsKnownFor}
 use Rattle.typing_conditions.specs.Frames.{Frame}
 use Rattle.typing_conditions.specs.Judging.{judged_at, AreKept}

@@ -20,11 +20,11 @@ use Rattle.env_table.specs.Views.{is_named, inside}
 use Rattle.typing_state.specs.declared.parts.Parts.{Parts}
 use Rattle.typing_state.specs.Goes.{OnlyStore}
 use Rattle.typing_state.specs.Types.{level_for}
-use Rattle.typing_environments.specs.Locals.{IsPlain, IsOwn, ClosesAll}
-use Rattle.typing_environments.specs.Standing.{IsIn}
-use Rattle.typing_environments.proofs.Closing.{closed_own}
-use Rattle.typing_environments.proofs.Bindings.{generalised_closes, closes_then}
-use Rattle.typing_environments.proofs.Names.{finds_scheme}
+use Rattle.typing_conditions.specs.Locals.{IsPlain, IsOwn, ClosesAll}
+use Rattle.typing_conditions.specs.Standing.{IsIn}
+use Rattle.typing_conditions.proofs.Closing.{closed_own}
+use Rattle.typing_conditions.proofs.Bindings.{generalised_closes, closes_then}
+use Rattle.typing_conditions.proofs.Names.{finds_scheme}
 use Rattle.typing_conditions.specs.Sights.{Key, value_of, Letters, IsKnownFor}
 use Rattle.typing_conditions.specs.Frames.{Frame, IsOpen, inner_frame}
 use Rattle.typing_conditions.specs.Steps.{OnlyLevel}

@@ -12,8 +12,8 @@ use Rattle.type_nodes.proofs.Roots.{closed_root, root_inside, root_no_link}
 use Rattle.level_unify.specs.Solutions.{Loose, FitsLoosely}
 use Rattle.level_unify.proofs.Solving.{loose_root}
 use Rattle.level_unify.proofs.Steps.{cell_at}
-use Rattle.typing_environments.specs.Locals.{IsOwn}
-use Rattle.typing_environments.proofs.Own.{own_of}
+use Rattle.typing_conditions.specs.Locals.{IsOwn}
+use Rattle.typing_conditions.proofs.Own.{own_of}
 use Rattle.typing_conditions.specs.Sights.{Sight, Letters}
 use Rattle.typing_conditions.specs.Frames.{Frame, IsOpenAt}
 use Rattle.typing_conditions.specs.Meanings.{Means}

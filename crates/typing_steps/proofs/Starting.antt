@@ -18,18 +18,18 @@ use Rattle.level_unify.specs.Solutions.{Loose, Tightens}
 use Rattle.env_table.specs.declared.entries.Entry.{Entry}
 use Rattle.typing_state.specs.declared.parts.Parts.{Parts}
 use Rattle.typing_state.specs.Goes.{Goes}
-use Rattle.typing_environments.specs.Locals.{IsOwn, IsContext}
-use Rattle.typing_environments.specs.Assumptions.{SchemeFits, SchemeReads}
-use Rattle.typing_environments.specs.Standing.{IsIn, Covers, Stands}
-use Rattle.typing_environments.proofs.Regions.{any_in}
-use Rattle.typing_environments.proofs.Steps.{refines_none, local_made}
-use Rattle.typing_environments.proofs.Instances.{root_within}
-use Rattle.typing_environments.proofs.Later.{context_after}
+use Rattle.typing_conditions.specs.Locals.{IsOwn, IsContext}
+use Rattle.typing_conditions.specs.Assumptions.{SchemeFits, SchemeReads}
+use Rattle.typing_conditions.specs.Standing.{IsIn, Covers, Stands}
+use Rattle.typing_conditions.proofs.Regions.{any_in}
+use Rattle.typing_conditions.proofs.Steps.{refines_none, local_made}
+use Rattle.typing_conditions.proofs.Instances.{root_within}
+use Rattle.typing_conditions.proofs.Later.{context_after}
 use Rattle.typing_conditions.specs.Sights.{Sight, Letters, Agrees}
 use Rattle.typing_conditions.specs.Frames.{Frame, Reaches, IsRoot}
 use Rattle.typing_conditions.specs.Meanings.{Means, KnowsFixed, KnowsWritten}
 use Rattle.typing_conditions.specs.Carrying.{Scope, HoldsWritten, HoldsUnbound}
-use Rattle.typing_declarations.proofs.Later.{declared_after, exception_after}
+use Rattle.typing_conditions.proofs.DeclaredLater.{declared_after, exception_after}
 use Rattle.typing_conditions.specs.Surroundings.{Declared, IsSteady, Surrounds}
 use Rattle.typing_steps.specs.Typing.{as_declared}
 use Rattle.typing_conditions.proofs.Inward.{fixed_nodes}

@@ -12,12 +12,12 @@ use Rattle.type_nodes.specs.Nodes.{Node, IsSound}
 use Rattle.type_nodes.specs.Readings.{Types}
 use Rattle.level_unify.specs.Instances.{Instantiated}
 use Rattle.level_unify.proofs.Unified.{fits_loosely}
-use Rattle.typing_environments.specs.Locals.{IsOwn, Refines}
-use Rattle.typing_environments.proofs.Own.{own_of}
-use Rattle.typing_environments.proofs.Steps.{refines_made}
-use Rattle.typing_declarations.specs.Declared.{IsNamed, a_parameter, an_unknown, RootAs}
-use Rattle.typing_declarations.proofs.Roots.{named_bound}
-use Rattle.typing_declarations.proofs.Taking.{HasImages, images_of, take_sound, take_each, take_complete}
+use Rattle.typing_conditions.specs.Locals.{IsOwn, Refines}
+use Rattle.typing_conditions.proofs.Own.{own_of}
+use Rattle.typing_conditions.proofs.Steps.{refines_made}
+use Rattle.typing_conditions.specs.Declared.{IsNamed, a_parameter, an_unknown, RootAs}
+use Rattle.typing_conditions.proofs.Roots.{named_bound}
+use Rattle.typing_conditions.proofs.Taking.{HasImages, images_of, take_sound, take_each, take_complete}
 use Rattle.typing_conditions.specs.Sights.{Sight, Key, letter, filled, value_of, Letters, IsKnownFor, AreGiven, AreNodes}
 use Rattle.typing_conditions.specs.Frames.{Frame, Reaches, IsOpen, IsRoot}
 use Rattle.typing_conditions.specs.Judging.{judgements, StartsWith}

@@ -10,7 +10,7 @@ use Rattle.type_nodes.specs.Nodes.{Var}
 use Rattle.type_nodes.specs.Changes.{Makes}
 use Rattle.typing_state.specs.declared.parts.Parts.{Parts}
 use Rattle.typing_state.specs.Types.{level_for, any_scope}
-use Rattle.typing_environments.proofs.Steps.{true_or_false}
+use Rattle.typing_conditions.proofs.Steps.{true_or_false}
 use Rattle.typing_conditions.specs.Sights.{Letters}
 use Rattle.typing_conditions.specs.Frames.{Frame, Reaches}
 use Rattle.typing_conditions.specs.Steps.{Writes}

@@ -9,7 +9,7 @@ use Rattle.row_parts.specs.Numbered as parts
 use Rattle.type_terms.specs.declared.types.NodeRef.{NodeRef}
 use Rattle.env_table.specs.declared.entries.Entry.{Entry}
 use Rattle.typing_state.specs.declared.parts.Parts.{Parts}
-use Rattle.typing_declarations.specs.Declared.{DeclaredAs, ExceptionAs}
+use Rattle.typing_conditions.specs.Declared.{DeclaredAs, ExceptionAs}
 use Rattle.typing_conditions.specs.Sights.{Sight, Key, value_of, Letters, IsKnownFor}
 use Rattle.typing_conditions.specs.Frames.{Frame, Reaches}
 use Rattle.typing_conditions.specs.Meanings.{Means}

@@ -32,7 +32,7 @@ use Rattle.typing_state.specs.Messages.{too_large_text}
 use Rattle.typing_state.specs.Types.{MakesVar, any_scope, list_path}
 use Rattle.typing_state.specs.Bound.{found_at, lost_among, BoundIs}
 use Rattle.std.specs.Prelude.{codes}
-use Rattle.typing_environments.specs.Standing.{IsIn}
+use Rattle.typing_conditions.specs.Standing.{IsIn}
 use Rattle.typing_conditions.specs.Sights.{Sight, letter as chosen_letter, value_of, Letters}
 use Rattle.typing_conditions.specs.Frames.{Frame}
 use Rattle.typing_conditions.specs.Meanings.{Means}

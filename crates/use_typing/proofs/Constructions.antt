@@ -17,7 +17,7 @@ use Rattle.typing_state.specs.declared.messages.Word.TheVariants as word
 use Rattle.typing_state.specs.Goes.{OnlyStore, OnlyFaults}
 use Rattle.typing_state.specs.Types.{MakesVar, any_scope}
 use Rattle.typing_state.specs.Bound.{found_at, lost_among, BoundIs, BoundLastIs}
-use Rattle.typing_declarations.specs.Declared.{constructor_in, label_in}
+use Rattle.typing_conditions.specs.Declared.{constructor_in, label_in}
 use Rattle.type_model.specs.Types.{Typ}
 use Rattle.type_nodes.specs.Nodes.{IsSound}
 use Rattle.level_unify.specs.Instances.{Instantiated}

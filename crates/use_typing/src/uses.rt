@@ -11,7 +11,7 @@ ghost use Rattle.typing_model.specs.Expressions.{value_asks};
 ghost use Rattle.typing_steps.specs.Typing.{TypesOwn, path_as};
 ghost use Rattle.env_table.specs.declared.entries.Kind.{Kind};
 ghost use Rattle.use_typing.specs.Uses.{BuildsBy, BuildsIf, BuildsNew, IsNoArrow, TellsCountsLast, taken_by, LastHas, TellsBound, TellsUse, UsesScheme, SidesOf, UsesLabel, UsesLabelIf, label_named, constructor_named, scheme_in, TypesLabelIf};
-ghost use Rattle.typing_declarations.specs.Declared.{constructor_in, label_in};
+ghost use Rattle.typing_conditions.specs.Declared.{constructor_in, label_in};
 ghost use Rattle.typing_steps.specs.Building.{TypesConstructor};
 
 use env_table::{Constructor, Kind, Label, Shape, What};

@@ -49,17 +49,17 @@ use Rattle.type_terms.specs.declared.types.NodeRef.{NodeRef}
 use Rattle.typing_model.specs.Parts.{Case}
 use Rattle.operand_laws.specs.Operands.{number_of}
 use Rattle.typing_rows.specs.Asked.{row_expression}
-use Rattle.case_rows.specs.Cases.{cases_of, TypesGuard}
-use Rattle.case_rows.specs.Parameters.{MakesArrows}
-use Rattle.case_rows.proofs.Ordered.{cases_none, cases_all}
-use Rattle.case_rows.proofs.Nodes.{match_node, function_node, fun_node}
-use Rattle.case_rows.proofs.Operands.{case_missing, case_there as case_found, guard_typed, operands_typed}
-use Rattle.case_rows.proofs.Cases.{guard_none}
+use Rattle.binding_rows.specs.Cases.{cases_of, TypesGuard}
+use Rattle.binding_rows.specs.Parameters.{MakesArrows}
+use Rattle.binding_rows.proofs.Ordered.{cases_none, cases_all}
+use Rattle.binding_rows.proofs.CaseNodes.{match_node, function_node, fun_node}
+use Rattle.binding_rows.proofs.CaseOperands.{case_missing, case_there as case_found, guard_typed, operands_typed}
+use Rattle.binding_rows.proofs.Cases.{guard_none}
 use Rattle.expression_steps.proofs.CarryingLaws.{rows_same}
-use Rattle.core_typing.specs.Sides.{sides_by}
+use Rattle.binding_steps.specs.Sides.{sides_by}
 use Rattle.core_typing.proofs.CaseLaws.{node_if, by_match, by_function, by_fun, case_step, match_row, function_row, fun_row, cases_row, case_node, body_by, typed_unasked}
 use Rattle.pattern_typing.specs.Matching.{names_seen}
-use Rattle.case_rows.specs.Scopes.{names_added}
+use Rattle.binding_rows.specs.CaseScopes.{names_added}
 use Rattle.binding_rows.specs.Groups.{names_opened}
 use Rattle.binding_rows.specs.Operands.{TypesRightBodyOf}
 use Rattle.binding_rows.proofs.Nodes.{let_node}
@@ -68,8 +68,8 @@ use Rattle.binding_rows.proofs.Operands.{body_of_operand, right_of_operands, rig
 use Rattle.binding_rows.proofs.Verdicts.{judged_missing, judged_there, judges_start, judges_step, judges_end, nodes_judged_start, nodes_judged_step, nodes_judged_end, judged_by_nodes, judged_group}
 use Rattle.binding_rows.specs.Lets.{names_closed}
 use Rattle.binding_rows.specs.LetNodes.{ClosesBindings}
-use Rattle.core_typing.specs.Bindings.{typed_of, closing_of, opened_of, node_of, generals}
-use Rattle.core_typing.proofs.ClosingLaws.{mapped_more}
+use Rattle.binding_steps.specs.Bindings.{typed_of, closing_of, opened_of, node_of, generals}
+use Rattle.binding_steps.proofs.ClosingLaws.{mapped_more}
 use Rattle.core_typing.proofs.LetLaws.{by_let, let_done, missing_asks, turn_concluded, turn_judged, conclusion_done, taken_first, none_left}
 use Rattle.typing_model.specs.Parts.{Field}
 use Rattle.typing_rows.specs.Contracts.{TypesEach}

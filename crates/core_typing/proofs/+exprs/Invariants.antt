@@ -7,8 +7,8 @@ use Rattle.match_warnings.specs.Warnings.{spans_of}
 use Rattle.core_typing.specs.Cases.{places_there}
 use Rattle.std.specs.Prelude.{All, option_map}
 use Rattle.type_terms.specs.declared.types.NodeRef.{NodeRef}
-use Rattle.case_rows.specs.Carried.{IsCase}
-use Rattle.case_rows.specs.Cases.{cases_of, TypesCasesFirst}
+use Rattle.binding_rows.specs.CaseCarried.{IsCase}
+use Rattle.binding_rows.specs.Cases.{cases_of, TypesCasesFirst}
 use Rattle.type_nodes.specs.Views.{numbers}
 use Rattle.use_typing.specs.Constants.{is_negated}
 use Rattle.typing_rows.specs.CarriedRows.{IsCarried}
@@ -18,7 +18,7 @@ use Rattle.pattern_typing.specs.Matching.{names_seen}
 use Rattle.binding_rows.specs.Carried.{IsNumberedBinding}
 use Rattle.binding_rows.specs.Operands.{TypesInTurnFirst, ConcludesNodesFirst}
 use Rattle.binding_rows.specs.Decided.{JudgesOperandsFirst, JudgesNodesFirst}
-use Rattle.core_typing.specs.Bindings.{typed_of, opened_of, node_of, generals}
+use Rattle.binding_steps.specs.Bindings.{typed_of, opened_of, node_of, generals}
 use Rattle.record_rows.specs.Values.{FieldsWrittenFirst}
 use Rattle.record_rows.specs.ValueOperands.{value_fields_of, IsCarriedValue}
 use Rattle.expression_steps.specs.Records.{here_of, names_written}

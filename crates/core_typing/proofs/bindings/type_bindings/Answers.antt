@@ -4,14 +4,14 @@ use Rattle.syntax_tree.specs.View.{node_view}
 use Rattle.type_nodes.specs.Nodes.{bound_level}
 use Rattle.typing_state.proofs.Going.{goes_trans}
 use Rattle.operand_laws.specs.Operands.{number_of}
-use Rattle.case_rows.specs.Scopes.{names_added}
+use Rattle.binding_rows.specs.CaseScopes.{names_added}
 use Rattle.binding_rows.specs.Lets.{bind_nodes, names_closed}
 use Rattle.binding_rows.specs.LetNodes.{ClosesBindings}
-use Rattle.item_rows.specs.Scopes.{InsideNodes}
-use Rattle.item_rows.specs.Rows.{AreWrittenIn}
+use Rattle.binding_rows.specs.Scopes.{InsideNodes}
+use Rattle.binding_rows.specs.ItemRows.{AreWrittenIn}
 use Rattle.use_typing.proofs.Reading.{on_ok}
-use Rattle.core_typing.specs.Bindings.{closing_of}
-use Rattle.core_typing.proofs.ClosingLaws.{written_kept}
+use Rattle.binding_steps.specs.Bindings.{closing_of}
+use Rattle.binding_steps.proofs.ClosingLaws.{written_kept}
 use Rattle.core_typing.proofs.LetLaws.{held_both, item_let}
 use Rattle.core_typing.proofs.bindings.type_bindings.Goals as goal
 

@@ -22,3 +22,6 @@ returns-in_ok-ty-in_default c = record {
       (plain_end c.args.node.now c.args.at.now c.type_of.new.at c.args.env.now es (numbers c.args.types.now) c.in_ok-ty-in_default.ty.0 c.in_default.not-Field ordered c.in_ok-ty-in_default.ensures.carries);
   goes = c.type_of.ensures.goes;
 }
+
+pub returns-in-Field-clause-goes : goal.returns-in-Field-clause-goes
+returns-in-Field-clause-goes c = c.field.ensures.goes

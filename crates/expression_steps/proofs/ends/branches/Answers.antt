@@ -35,3 +35,18 @@ returns-in_default-clause-carries c =
     let le : length types ≤ 1 = let n = h.0 in grind (arith) in
     if_ok c.var.result _ _ (λ m made.
     if_empty c.args.at.now c.var.new.self c.args.env.now (expressions_of c.args.at.now.item (map operand_view c.args.parts.now)) (numbers types) m.0 (number_missing types 1 (past_end types 1 le)) (var_any c.args.at.now c.var.new.self made c.var.ensures.rest)) c.var.ensures.made
+
+pub returns-in_default-clause-goes : goal.returns-in_default-clause-goes
+returns-in_default-clause-goes c = c.var.ensures.goes
+
+pub returns-in_err-has-2-clause-goes : goal.returns-in_err-has-2-clause-goes
+returns-in_err-has-2-clause-goes c = c.has-else-parts-gt2.ensures.goes
+
+pub returns-in_err-has-clause-goes : goal.returns-in_err-has-clause-goes
+returns-in_err-has-clause-goes c = c.has.ensures.goes
+
+pub returns-in_ok-has-2-clause-goes : goal.returns-in_ok-has-2-clause-goes
+returns-in_ok-has-2-clause-goes c = c.has-else-parts-gt2.ensures.goes
+
+pub returns-in_ok-has-clause-goes : goal.returns-in_ok-has-clause-goes
+returns-in_ok-has-clause-goes c = c.has.ensures.goes

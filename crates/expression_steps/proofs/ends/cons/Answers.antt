@@ -1,3 +1,4 @@
+use Rattle.typing_state.proofs.Going.{goes_trans}
 use Rattle.std.proofs.Common.{map, sym, subst}
 use Rattle.type_nodes.specs.Views.{numbers}
 use Rattle.row_parts.specs.Numbered.{operand_view}
@@ -21,3 +22,15 @@ returns-in-None-clause-carries c =
     let types = c.args.types.now in
     if_ok c.var.result _ _ (λ m made.
     cons_empty c.args.at.now c.var.new.self c.args.env.now (expressions_of c.args.at.now.item (map operand_view c.args.parts.now)) (numbers types) m.0 (number_missing types 0 (sym c.in-None.ensures.value)) (var_any c.args.at.now c.var.new.self made c.var.ensures.rest)) c.var.ensures.made
+
+pub returns-in-None-clause-goes : goal.returns-in-None-clause-goes
+returns-in-None-clause-goes c = c.var.ensures.goes
+
+pub returns-in_err-has-in-Some-clause-goes : goal.returns-in_err-has-in-Some-clause-goes
+returns-in_err-has-in-Some-clause-goes c = goes_trans c.args.at.now c.list.new.self c.has.new.at c.list.ensures.goes c.has.ensures.goes
+
+pub returns-in_err-whole-in-Some-clause-goes : goal.returns-in_err-whole-in-Some-clause-goes
+returns-in_err-whole-in-Some-clause-goes c = c.list.ensures.goes
+
+pub returns-in_ok-has-in-Some-clause-goes : goal.returns-in_ok-has-in-Some-clause-goes
+returns-in_ok-has-in-Some-clause-goes c = goes_trans c.args.at.now c.list.new.self c.has.new.at c.list.ensures.goes c.has.ensures.goes

@@ -1,3 +1,4 @@
+use Rattle.typing_state.proofs.Going.{goes_refl}
 use Rattle.std.proofs.Common.{◌<◌, length, refl, arith, ◌≤◌, map}
 use Rattle.std.proofs.lemmas.Option.{slice_get_read}
 use Rattle.syntax_tree.specs.View.{place_of}
@@ -39,3 +40,15 @@ returns-in_default-clause-carries c =
     let h = c.in_default.ensures.lookup in
     let le : length all ≤ c.args.place = let n = h.0 in grind (arith) in
     asks_none c.args.at.now c.args.env.now (expressions_of i (map operand_view all)) (numbers c.args.types.now) c.args.place c.args.wanted.0 (part_missing i all c.args.place (past_end all c.args.place le))
+
+pub returns-in_default-clause-goes : goal.returns-in_default-clause-goes
+returns-in_default-clause-goes c = goes_refl c.args.at.now
+
+pub returns-in_default-get-clause-goes : goal.returns-in_default-get-clause-goes
+returns-in_default-get-clause-goes c = goes_refl c.args.at.now
+
+pub returns-in_err-equal-clause-goes : goal.returns-in_err-equal-clause-goes
+returns-in_err-equal-clause-goes c = c.equal.ensures.goes
+
+pub returns-in_ok-equal-clause-goes : goal.returns-in_ok-equal-clause-goes
+returns-in_ok-equal-clause-goes c = c.equal.ensures.goes

@@ -28,3 +28,9 @@ returns-clause-carries c =
     let k = c.loop-place.place in
     let le : length c.args.parts.now ≤ k = let n = c.loop-place-test.false in omega arith in
     later_done c.args.at.now c.loop-place.at c.args.env.now c.args.parts.now (numbers c.args.types.now) k c.args.wanted.0 le c.loop-place.invariant.carries
+
+pub returns-clause-goes : goal.returns-clause-goes
+returns-clause-goes c = c.loop-place.invariant.goes
+
+pub returns-in_err-has-clause-goes : goal.returns-in_err-has-clause-goes
+returns-in_err-has-clause-goes c = goes_trans c.args.at.now c.loop-place.at c.has.new.at c.loop-place.invariant.goes c.has.ensures.goes

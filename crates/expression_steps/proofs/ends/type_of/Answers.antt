@@ -1,3 +1,4 @@
+use Rattle.typing_state.proofs.Going.{goes_trans, goes_refl}
 use Rattle.std.proofs.Common.{◌∙◌, map, sym}
 use Rattle.tree_model.specs.Rows.{elist_row, econs_row, etuple_row, eif_row, ebegin_row, eseq_row, eassert_row}
 use Rattle.type_nodes.specs.Views.{numbers}
@@ -76,3 +77,33 @@ returns-in_default c = record {
   carries = if_any c.var-in_default.result _ (λ m plain. absurd (others_apart c.args.row plain c.in_default.not-Ebegin c.in_default.not-Elist c.in_default.not-Econs c.in_default.not-Etuple c.in_default.not-Eseq c.in_default.not-Eif c.in_default.not-Eassert c.in_default.not-Ewhile));
   goes = c.var-in_default.ensures.goes;
 }
+
+pub returns-in-Econs-clause-goes : goal.returns-in-Econs-clause-goes
+returns-in-Econs-clause-goes c = c.cons.ensures.goes
+
+pub returns-in-Eif-clause-goes : goal.returns-in-Eif-clause-goes
+returns-in-Eif-clause-goes c = c.branches.ensures.goes
+
+pub returns-in-Elist-clause-goes : goal.returns-in-Elist-clause-goes
+returns-in-Elist-clause-goes c = c.list.ensures.goes
+
+pub returns-in-Eseq-clause-goes : goal.returns-in-Eseq-clause-goes
+returns-in-Eseq-clause-goes c = goes_trans c.args.at.now c.copied.new.self c.type_or_var.new.at c.copied.ensures c.type_or_var.ensures.goes
+
+pub returns-in-Etuple-clause-goes : goal.returns-in-Etuple-clause-goes
+returns-in-Etuple-clause-goes c = c.tuple.ensures.goes
+
+pub returns-in-Ewhile-clause-goes : goal.returns-in-Ewhile-clause-goes
+returns-in-Ewhile-clause-goes c = goes_refl c.args.at.now
+
+pub returns-in-None-clause-goes : goal.returns-in-None-clause-goes
+returns-in-None-clause-goes c = goes_refl c.args.at.now
+
+pub returns-in-Some-clause-goes : goal.returns-in-Some-clause-goes
+returns-in-Some-clause-goes c = goes_refl c.args.at.now
+
+pub returns-in-Some-first-clause-goes : goal.returns-in-Some-first-clause-goes
+returns-in-Some-first-clause-goes c = c.var.ensures.goes
+
+pub returns-in_default-first-clause-goes : goal.returns-in_default-first-clause-goes
+returns-in_default-first-clause-goes c = goes_refl c.args.at.now

@@ -1,3 +1,4 @@
+use Rattle.typing_state.proofs.Going.{goes_refl, goes_trans}
 use Rattle.std.proofs.Common.{◌∙◌, ◌+◌, ◌<◌, length, drop, Some, sym, ap, arith}
 use Rattle.std.proofs.lemmas.List.{drop_all}
 use Rattle.use_typing.specs.Labels.{is_named_in, toks_of}
@@ -43,3 +44,12 @@ returns-clause-carries c =
     let shape = c.labels_in-label-items.ensures ∙ ap (λ d. labels_here d.shape) c.deref.ensures in
     complete_kept c.args.found.now c.in-Known.declaration c.in-Known.field-1 seen c.args.at.now c.loop-label.at c.args.span c.in-Known.is
     (ap (λ ls. absent_here ls seen) (sym shape) ∙ sym c.loop-label.invariant.3 ∙ ap (λ ls. absent_here ls seen) (drop_all c.loop-label.label-index all c.loop-label-test.false)) c.loop-label.invariant.2
+
+pub returns-clause-goes : goal.returns-clause-goes
+returns-clause-goes c = c.loop-label.invariant.0
+
+pub returns-in_default-clause-goes : goal.returns-in_default-clause-goes
+returns-in_default-clause-goes c = goes_refl c.args.at.now
+
+pub returns-then-not-is_written-clause-goes : goal.returns-then-not-is_written-clause-goes
+returns-then-not-is_written-clause-goes c = goes_trans c.args.at.now c.loop-label.at c.incomplete.new.self c.loop-label.invariant.0 c.incomplete.ensures.goes

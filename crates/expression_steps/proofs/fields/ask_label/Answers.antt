@@ -1,3 +1,4 @@
+use Rattle.typing_state.proofs.Going.{goes_refl}
 use Rattle.expression_steps.proofs.RecordLaws.{refused_there, refused_missing}
 use Rattle.expression_steps.proofs.fields.ask_label.Goals as goal
 
@@ -6,3 +7,9 @@ returns-in-Some-clause-carries c = refused_there c.no_label.result c.args.first 
 
 pub returns-in-None-clause-carries : goal.returns-in-None-clause-carries
 returns-in-None-clause-carries c = refused_missing c.args.first c.args.at.now c.in-None.is
+
+pub returns-in-None-clause-goes : goal.returns-in-None-clause-goes
+returns-in-None-clause-goes c = goes_refl c.args.at.now
+
+pub returns-in-Some-clause-goes : goal.returns-in-Some-clause-goes
+returns-in-Some-clause-goes c = c.no_label.ensures.goes

@@ -14,3 +14,9 @@ returns-in-None-clause-recorded c = c.note_plain.ensures.recorded
 
 pub returns-in-Some-clause-recorded : goal.returns-in-Some-clause-recorded
 returns-in-Some-clause-recorded c = c.pun_of.ensures.recorded
+
+pub returns-in-None-clause-goes : goal.returns-in-None-clause-goes
+returns-in-None-clause-goes c = c.note_plain.ensures.goes
+
+pub returns-in-Some-clause-goes : goal.returns-in-Some-clause-goes
+returns-in-Some-clause-goes c = c.pun_of.ensures.goes

@@ -1,3 +1,4 @@
+use Rattle.typing_state.proofs.Going.{goes_trans}
 use Rattle.std.proofs.Common.{[], None, refl}
 use Rattle.syntax_tree.specs.View.{tok_of}
 use Rattle.operand_laws.specs.Operands.{number_of}
@@ -10,3 +11,12 @@ returns-clause-carries c =
 
 pub returns-clause-recorded : goal.returns-clause-recorded
 returns-clause-recorded c = c.note.ensures.recorded
+
+pub returns-clause-goes : goal.returns-clause-goes
+returns-clause-goes c = goes_trans c.args.at.now c.value_of_name.new.at c.note.new.self c.value_of_name.ensures.goes c.note.ensures.goes
+
+pub returns-in_err-names-clause-goes : goal.returns-in_err-names-clause-goes
+returns-in_err-names-clause-goes c = c.value_of_name.ensures.goes
+
+pub returns-in_err-used-clause-goes : goal.returns-in_err-used-clause-goes
+returns-in_err-used-clause-goes c = c.value_of_name.ensures.goes

@@ -12,3 +12,9 @@ returns-clause-carries c =
     let b = c.type_or_var.new.at in
     subst (λ (t : NodeRef). GivesRecord (here_of c.args.found.now) a b t.0) (sym c.unnamed.ensures.ty)
     (record_given c.args.found.now a b c.in_ok-ty.ty (subst (λ o. GivenOrNew o a b c.in_ok-ty.ty) c.ty.ensures c.in_ok-ty.ensures.ty) (λ none. c.in_ok-ty.ensures.carries (c.ty.ensures ∙ none)))
+
+pub returns-clause-goes : goal.returns-clause-goes
+returns-clause-goes c = c.type_or_var.ensures.goes
+
+pub returns-in_err-ty-clause-goes : goal.returns-in_err-ty-clause-goes
+returns-in_err-ty-clause-goes c = c.type_or_var.ensures.goes

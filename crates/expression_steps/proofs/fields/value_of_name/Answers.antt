@@ -1,3 +1,4 @@
+use Rattle.typing_state.proofs.Going.{goes_trans}
 use Rattle.std.proofs.Common.{map, Some, ap, subst}
 use Rattle.syntax_tree.specs.View.{tok_of}
 use Rattle.typing_model.specs.Expressions.{value_asks}
@@ -12,3 +13,12 @@ returns-clause-carries c = record {
   goes = c.value.ensures.goes;
   equal = c.in_ok-equal_if.ensures.carries;
 }
+
+pub returns-clause-goes : goal.returns-clause-goes
+returns-clause-goes c = goes_trans c.args.at.now c.value.new.at c.equal_if.new.at c.value.ensures.goes c.equal_if.ensures.goes
+
+pub returns-in_err-equal_if-clause-goes : goal.returns-in_err-equal_if-clause-goes
+returns-in_err-equal_if-clause-goes c = goes_trans c.args.at.now c.value.new.at c.equal_if.new.at c.value.ensures.goes c.equal_if.ensures.goes
+
+pub returns-in_err-used-clause-goes : goal.returns-in_err-used-clause-goes
+returns-in_err-used-clause-goes c = c.value.ensures.goes

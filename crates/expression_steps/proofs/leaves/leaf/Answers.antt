@@ -1,3 +1,4 @@
+use Rattle.typing_state.proofs.Going.{goes_refl}
 use Rattle.std.proofs.Common.{◌∙◌, sym, ap}
 use Rattle.std.specs.Prelude.{option_map}
 use Rattle.syntax_tree.specs.View.{node_view}
@@ -20,3 +21,12 @@ pub returns-in-None-clause-carries : goal.returns-in-None-clause-carries
 returns-in-None-clause-carries c =
     let none = sym (ap (option_map path_view) (sym c.in-None.is) ∙ c.in_ok-path.ensures ∙ ap (λ o. constructor_at o.part) c.of.ensures) in
     if_ok c.leaf_value.result _ _ (λ u h place carried is. h c.args.number place carried is none) c.leaf_value.ensures.carries
+
+pub returns-in-None-clause-goes : goal.returns-in-None-clause-goes
+returns-in-None-clause-goes c = c.leaf_value.ensures.goes
+
+pub returns-in-Some-clause-goes : goal.returns-in-Some-clause-goes
+returns-in-Some-clause-goes c = c.constructor_alone.ensures.goes
+
+pub returns-in_err-path-clause-goes : goal.returns-in_err-path-clause-goes
+returns-in_err-path-clause-goes c = goes_refl c.args.at.now

@@ -1,3 +1,4 @@
+use Rattle.typing_state.proofs.Going.{goes_refl}
 use Rattle.std.proofs.Common.{◌∙◌, sym, subst}
 use Rattle.syntax_tree.specs.View.{node_view}
 use Rattle.operand_laws.specs.Operands.{number_of}
@@ -47,3 +48,21 @@ returns-in_default c = record {
   tells = value_tells c.any_type.result (value_in (row_at (node_view c.args.node.now)) (node_view c.args.node.now)) (is_negated c.args.sign) c.args.at.now c.any_type.new.at c.args.env.now (any_value c.args.node.now c.in_default.not-Name c.in_default.not-Epath c.in_default.not-Econst) c.any_type.ensures.silent;
   goes = c.any_type.ensures.goes;
 }
+
+pub returns-in_err-path-in-Epath-clause-goes : goal.returns-in_err-path-in-Epath-clause-goes
+returns-in_err-path-in-Epath-clause-goes c = goes_refl c.args.at.now
+
+pub returns-in_err-path-in-Name-clause-goes : goal.returns-in_err-path-in-Name-clause-goes
+returns-in_err-path-in-Name-clause-goes c = goes_refl c.args.at.now
+
+pub returns-in_err-ty-in-Econst-clause-goes : goal.returns-in_err-ty-in-Econst-clause-goes
+returns-in_err-ty-in-Econst-clause-goes c = c.constant.ensures.goes
+
+pub returns-in_ok-path-in-Epath-clause-goes : goal.returns-in_ok-path-in-Epath-clause-goes
+returns-in_ok-path-in-Epath-clause-goes c = c.value-in-Epath.ensures.goes
+
+pub returns-in_ok-path-in-Name-clause-goes : goal.returns-in_ok-path-in-Name-clause-goes
+returns-in_ok-path-in-Name-clause-goes c = c.value.ensures.goes
+
+pub returns-in_ok-ty-in-Econst-clause-goes : goal.returns-in_ok-ty-in-Econst-clause-goes
+returns-in_ok-ty-in-Econst-clause-goes c = c.constant.ensures.goes

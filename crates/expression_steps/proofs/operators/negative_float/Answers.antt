@@ -6,3 +6,9 @@ returns-clause-carries c = λ aloud. nameless_noted c.args.at.now c.note_type.ne
 
 pub returns-clause-ty : goal.returns-clause-ty
 returns-clause-ty c = c.unnamed.ensures.ty
+
+pub returns-clause-goes : goal.returns-clause-goes
+returns-clause-goes c = c.note_type.ensures.goes
+
+pub returns-in_err-note_type-clause-goes : goal.returns-in_err-note_type-clause-goes
+returns-in_err-note_type-clause-goes c = c.note_type.ensures.goes

@@ -9,3 +9,6 @@ pub returns-clause-carries : goal.returns-clause-carries
 returns-clause-carries c =
     if_ok c.value.result _ _ (λ u h n k.
     subst (λ q. TypesOwn c.args.at.now c.value.new.at c.args.env.now (λ x t. value_asks x n k (record { qualifiers = q; last = Some (tok_of c.args.operator.now) }) t) u.ty.0) (ap (map (λ t. tok_of t.now)) c.new.ensures.items) (h n k)) c.value.ensures.carries
+
+pub returns-clause-goes : goal.returns-clause-goes
+returns-clause-goes c = c.value.ensures.goes

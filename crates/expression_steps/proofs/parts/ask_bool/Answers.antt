@@ -11,3 +11,9 @@ returns-clause-carries c =
     let o = operand_view c.args.part in
     asks_bool c.args.at.now c.equal.new.self c.args.env.now (expression_of c.args.at.now.item o) (place_of c.args.part.span) c.args.ty.0 (expression_of_stands c.args.at.now.item o).where_it_is
     (equal_asks c.args.at.now c.equal.new.self c.args.env.now _ c.in_ok-equal.ensures.verdict c.equal.ensures.rest c.equal.ensures.goes)
+
+pub returns-clause-goes : goal.returns-clause-goes
+returns-clause-goes c = c.equal.ensures.goes
+
+pub returns-in_err-equal-clause-goes : goal.returns-in_err-equal-clause-goes
+returns-in_err-equal-clause-goes c = c.equal.ensures.goes

@@ -559,3 +559,162 @@ match_sides-loop-part-init t c =
       carries = λ carried. beside_none c.args.at.now c.args.env.now (as_patterns c.args.at.now.item all) c.args.seen.now.items c.new-all.result.items c.new-sides.result.items c.new-all.ensures.items c.new-sides.ensures.items;
       parts = ap (λ ss. parts_of_sides ss ++ map operand_view all) c.new-sides.ensures.items;
     }
+
+pub alternatives-returns-in_err-compare_sides-clause-goes : goal.alternatives-returns-in_err-compare_sides-clause-goes
+alternatives-returns-in_err-compare_sides-clause-goes t c = goes_trans c.args.at.now c.sides_in.new.at c.compare_sides.new.at c.sides_in.ensures.goes c.compare_sides.ensures.goes
+
+pub alternatives-returns-in_err-first-clause-goes : goal.alternatives-returns-in_err-first-clause-goes
+alternatives-returns-in_err-first-clause-goes t c = goes_trans c.args.at.now c.compare_sides.new.at c.first_side.new.at (goes_trans c.args.at.now c.sides_in.new.at c.compare_sides.new.at c.sides_in.ensures.goes c.compare_sides.ensures.goes) c.first_side.ensures.goes
+
+pub alternatives-returns-in_err-sides-clause-goes : goal.alternatives-returns-in_err-sides-clause-goes
+alternatives-returns-in_err-sides-clause-goes t c = c.sides_in.ensures.goes
+
+pub applied-returns-in_err-note_type-clause-goes : goal.applied-returns-in_err-note_type-clause-goes
+applied-returns-in_err-note_type-clause-goes t c = goes_trans c.args.at.now c.construction.new.at c.note_type.new.self c.construction.ensures.goes c.note_type.ensures.goes
+
+pub applied-returns-in_err-ty-clause-goes : goal.applied-returns-in_err-ty-clause-goes
+applied-returns-in_err-ty-clause-goes t c = c.construction.ensures.goes
+
+pub cons-returns-in_err-note_type-clause-goes : goal.cons-returns-in_err-note_type-clause-goes
+cons-returns-in_err-note_type-clause-goes t c = goes_trans c.args.at.now c.cons_of.new.at c.note_type.new.self (goes_trans c.args.at.now c.in_row.new.at c.cons_of.new.at c.in_row.ensures.goes c.cons_of.ensures.goes) c.note_type.ensures.goes
+
+pub cons-returns-in_err-ty-clause-goes : goal.cons-returns-in_err-ty-clause-goes
+cons-returns-in_err-ty-clause-goes t c = goes_trans c.args.at.now c.in_row.new.at c.cons_of.new.at c.in_row.ensures.goes c.cons_of.ensures.goes
+
+pub cons-returns-in_err-typed-clause-goes : goal.cons-returns-in_err-typed-clause-goes
+cons-returns-in_err-typed-clause-goes t c = c.in_row.ensures.goes
+
+pub construction-returns-in_err-inside-in-None-clause-goes : goal.construction-returns-in_err-inside-in-None-clause-goes
+construction-returns-in_err-inside-in-None-clause-goes t c = goes_refl c.args.at.now
+
+pub construction-returns-in_err-match_pattern-in-None-clause-goes : goal.construction-returns-in_err-match_pattern-in-None-clause-goes
+construction-returns-in_err-match_pattern-in-None-clause-goes t c = c.match_pattern.ensures.goes
+
+pub construction-returns-in_err-path-clause-goes : goal.construction-returns-in_err-path-clause-goes
+construction-returns-in_err-path-clause-goes t c = goes_refl c.args.at.now
+
+pub in_brackets-returns-in_err-parts-clause-goes : goal.in_brackets-returns-in_err-parts-clause-goes
+in_brackets-returns-in_err-parts-clause-goes t c = goes_refl c.args.at.now
+
+pub in_order-returns-in_err-inside-clause-goes : goal.in_order-returns-in_err-inside-clause-goes
+in_order-returns-in_err-inside-clause-goes t c = c.loop-part.invariant.goes
+
+pub in_order-returns-in_err-push-clause-goes : goal.in_order-returns-in_err-push-clause-goes
+in_order-returns-in_err-push-clause-goes t c = goes_trans c.args.at.now c.loop-part.at c.match_pattern.new.at c.loop-part.invariant.goes c.match_pattern.ensures.goes
+
+pub in_order-returns-in_err-ty-clause-goes : goal.in_order-returns-in_err-ty-clause-goes
+in_order-returns-in_err-ty-clause-goes t c = goes_trans c.args.at.now c.loop-part.at c.match_pattern.new.at c.loop-part.invariant.goes c.match_pattern.ensures.goes
+
+pub in_row-returns-in_err-parts-clause-goes : goal.in_row-returns-in_err-parts-clause-goes
+in_row-returns-in_err-parts-clause-goes t c = goes_refl c.args.at.now
+
+pub list-returns-in_err-note_type-clause-goes : goal.list-returns-in_err-note_type-clause-goes
+list-returns-in_err-note_type-clause-goes t c = goes_trans c.args.at.now c.list_of.new.at c.note_type.new.self (goes_trans c.args.at.now c.in_brackets.new.at c.list_of.new.at c.in_brackets.ensures.goes c.list_of.ensures.goes) c.note_type.ensures.goes
+
+pub list-returns-in_err-ty-clause-goes : goal.list-returns-in_err-ty-clause-goes
+list-returns-in_err-ty-clause-goes t c = goes_trans c.args.at.now c.in_brackets.new.at c.list_of.new.at c.in_brackets.ensures.goes c.list_of.ensures.goes
+
+pub list-returns-in_err-typed-clause-goes : goal.list-returns-in_err-typed-clause-goes
+list-returns-in_err-typed-clause-goes t c = c.in_brackets.ensures.goes
+
+pub match_fields-returns-in_err-match_field-clause-goes : goal.match_fields-returns-in_err-match_field-clause-goes
+match_fields-returns-in_err-match_field-clause-goes t c = goes_trans c.args.at.now c.loop-field.at c.match_field.new.at c.loop-field.invariant.goes c.match_field.ensures.goes
+
+pub match_record-returns-in_err-found-clause-goes : goal.match_record-returns-in_err-found-clause-goes
+match_record-returns-in_err-found-clause-goes t c = goes_trans c.args.at.now c.note_missing.new.at c.record_of_fields.new.at c.note_missing.ensures.goes c.record_of_fields.ensures.goes
+
+pub match_record-returns-in_err-note_missing-clause-goes : goal.match_record-returns-in_err-note_missing-clause-goes
+match_record-returns-in_err-note_missing-clause-goes t c = c.note_missing.ensures.goes
+
+pub match_record-returns-in_err-ty-clause-goes : goal.match_record-returns-in_err-ty-clause-goes
+match_record-returns-in_err-ty-clause-goes t c = goes_trans c.args.at.now c.record_of_fields.new.at c.type_or_var.new.at (goes_trans c.args.at.now c.note_missing.new.at c.record_of_fields.new.at c.note_missing.ensures.goes c.record_of_fields.ensures.goes) c.type_or_var.ensures.goes
+
+pub match_side-returns-clause-goes : goal.match_side-returns-clause-goes
+match_side-returns-clause-goes t c = c.match_pattern.ensures.goes
+
+pub match_side-returns-in_err-ty-clause-goes : goal.match_side-returns-in_err-ty-clause-goes
+match_side-returns-in_err-ty-clause-goes t c = c.match_pattern.ensures.goes
+
+pub match_sides-returns-in_err-append-clause-goes : goal.match_sides-returns-in_err-append-clause-goes
+match_sides-returns-in_err-append-clause-goes t c = c.loop-part.invariant.goes
+
+pub match_sides-returns-in_err-inside-clause-goes : goal.match_sides-returns-in_err-inside-clause-goes
+match_sides-returns-in_err-inside-clause-goes t c = c.loop-part.invariant.goes
+
+pub match_sides-returns-in_err-keep_apart-clause-goes : goal.match_sides-returns-in_err-keep_apart-clause-goes
+match_sides-returns-in_err-keep_apart-clause-goes t c = goes_trans c.args.at.now c.loop-part.at c.match_side.new.at c.loop-part.invariant.goes c.match_side.ensures.goes
+
+pub match_sides-returns-in_err-push-clause-goes : goal.match_sides-returns-in_err-push-clause-goes
+match_sides-returns-in_err-push-clause-goes t c = goes_trans c.args.at.now c.loop-part.at c.match_side.new.at c.loop-part.invariant.goes c.match_side.ensures.goes
+
+pub match_sides-returns-in_err-side-clause-goes : goal.match_sides-returns-in_err-side-clause-goes
+match_sides-returns-in_err-side-clause-goes t c = goes_trans c.args.at.now c.loop-part.at c.match_side.new.at c.loop-part.invariant.goes c.match_side.ensures.goes
+
+pub match_wanted-returns-in_err-found-clause-goes : goal.match_wanted-returns-in_err-found-clause-goes
+match_wanted-returns-in_err-found-clause-goes t c = c.match_pattern.ensures.goes
+
+pub match_written-returns-in_err-inside-clause-goes : goal.match_written-returns-in_err-inside-clause-goes
+match_written-returns-in_err-inside-clause-goes t c = goes_trans c.args.at.now c.begin_field.new.at c.note_label.new.at c.begin_field.ensures.goes c.note_label.ensures.goes
+
+pub match_written-returns-in_err-label-clause-goes : goal.match_written-returns-in_err-label-clause-goes
+match_written-returns-in_err-label-clause-goes t c = goes_refl c.args.at.now
+
+pub match_written-returns-in_err-note_label-clause-goes : goal.match_written-returns-in_err-note_label-clause-goes
+match_written-returns-in_err-note_label-clause-goes t c = goes_trans c.args.at.now c.begin_field.new.at c.note_label.new.at c.begin_field.ensures.goes c.note_label.ensures.goes
+
+pub match_written-returns-in_err-wanted-clause-goes : goal.match_written-returns-in_err-wanted-clause-goes
+match_written-returns-in_err-wanted-clause-goes t c = c.begin_field.ensures.goes
+
+pub named-returns-in_err-bind_if-clause-goes : goal.named-returns-in_err-bind_if-clause-goes
+named-returns-in_err-bind_if-clause-goes t c = goes_trans c.args.at.now c.first_type.new.at c.bind_if.new.at (goes_trans c.args.at.now c.in_row.new.at c.first_type.new.at c.in_row.ensures.goes c.first_type.ensures.goes) c.bind_if.ensures.goes
+
+pub named-returns-in_err-ty-clause-goes : goal.named-returns-in_err-ty-clause-goes
+named-returns-in_err-ty-clause-goes t c = goes_trans c.args.at.now c.in_row.new.at c.first_type.new.at c.in_row.ensures.goes c.first_type.ensures.goes
+
+pub named-returns-in_err-typed-clause-goes : goal.named-returns-in_err-typed-clause-goes
+named-returns-in_err-typed-clause-goes t c = c.in_row.ensures.goes
+
+pub parenthesised-returns-in_err-note_type-clause-goes : goal.parenthesised-returns-in_err-note_type-clause-goes
+parenthesised-returns-in_err-note_type-clause-goes t c = goes_trans c.args.at.now c.annotated.new.at c.note_type.new.self (goes_trans c.args.at.now c.in_brackets.new.at c.annotated.new.at c.in_brackets.ensures.goes c.annotated.ensures.goes) c.note_type.ensures.goes
+
+pub parenthesised-returns-in_err-ty-clause-goes : goal.parenthesised-returns-in_err-ty-clause-goes
+parenthesised-returns-in_err-ty-clause-goes t c = goes_trans c.args.at.now c.in_brackets.new.at c.annotated.new.at c.in_brackets.ensures.goes c.annotated.ensures.goes
+
+pub parenthesised-returns-in_err-typed-clause-goes : goal.parenthesised-returns-in_err-typed-clause-goes
+parenthesised-returns-in_err-typed-clause-goes t c = c.in_brackets.ensures.goes
+
+pub record-returns-in_err-fields-clause-goes : goal.record-returns-in_err-fields-clause-goes
+record-returns-in_err-fields-clause-goes t c = goes_refl c.args.at.now
+
+pub record-returns-in_err-note_type-clause-goes : goal.record-returns-in_err-note_type-clause-goes
+record-returns-in_err-note_type-clause-goes t c = goes_trans c.args.at.now c.match_record.new.at c.note_type.new.self c.match_record.ensures.goes c.note_type.ensures.goes
+
+pub record-returns-in_err-ty-clause-goes : goal.record-returns-in_err-ty-clause-goes
+record-returns-in_err-ty-clause-goes t c = c.match_record.ensures.goes
+
+pub sides_in-returns-in_err-parts-clause-goes : goal.sides_in-returns-in_err-parts-clause-goes
+sides_in-returns-in_err-parts-clause-goes t c = goes_refl c.args.at.now
+
+pub tuple-returns-in_err-note_type-clause-goes : goal.tuple-returns-in_err-note_type-clause-goes
+tuple-returns-in_err-note_type-clause-goes t c = goes_trans c.args.at.now c.tuple.new.self c.note_type.new.self (goes_trans c.args.at.now c.in_row.new.at c.tuple.new.self c.in_row.ensures.goes c.tuple.ensures.goes) c.note_type.ensures.goes
+
+pub tuple-returns-in_err-ty-clause-goes : goal.tuple-returns-in_err-ty-clause-goes
+tuple-returns-in_err-ty-clause-goes t c = goes_trans c.args.at.now c.in_row.new.at c.tuple.new.self c.in_row.ensures.goes c.tuple.ensures.goes
+
+pub tuple-returns-in_err-typed-clause-goes : goal.tuple-returns-in_err-typed-clause-goes
+tuple-returns-in_err-typed-clause-goes t c = c.in_row.ensures.goes
+
+pub tuple-returns-in_err-types-clause-goes : goal.tuple-returns-in_err-types-clause-goes
+tuple-returns-in_err-types-clause-goes t c = c.in_row.ensures.goes
+
+pub with_argument-returns-in_err-found-clause-goes : goal.with_argument-returns-in_err-found-clause-goes
+with_argument-returns-in_err-found-clause-goes t c = c.constructor.ensures.goes
+
+pub with_argument-returns-in_err-inside-clause-goes : goal.with_argument-returns-in_err-inside-clause-goes
+with_argument-returns-in_err-inside-clause-goes t c = c.constructor.ensures.goes
+
+pub with_argument-returns-in_err-match_wanted-clause-goes : goal.with_argument-returns-in_err-match_wanted-clause-goes
+with_argument-returns-in_err-match_wanted-clause-goes t c = goes_trans c.args.at.now c.constructor.new.at c.match_wanted.new.at c.constructor.ensures.goes c.match_wanted.ensures.goes
+
+pub with_argument-returns-in_err-note-clause-goes : goal.with_argument-returns-in_err-note-clause-goes
+with_argument-returns-in_err-note-clause-goes t c = goes_trans c.args.at.now c.match_wanted.new.at c.note.new.self (goes_trans c.args.at.now c.constructor.new.at c.match_wanted.new.at c.constructor.ensures.goes c.match_wanted.ensures.goes) c.note.ensures.goes

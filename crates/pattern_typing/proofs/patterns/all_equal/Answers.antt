@@ -36,3 +36,9 @@ returns-clause-carries c =
     let none : drop i all ≡ [] = drop_all i all (let n = c.loop-one-test.false in omega arith) in
     let ps : List TypedPart → List Pattern = λ ts. patterns_of c.args.at.now.item (typed_view ts) in
     equal_all c.args.at.now c.loop-one.at c.args.env.now (ps all) (ps (drop i all)) (nodes_of all) (nodes_of (drop i all)) c.args.wanted.0 (ap ps none) c.loop-one.invariant.carries
+
+pub returns-clause-goes : goal.returns-clause-goes
+returns-clause-goes c = c.loop-one.invariant.goes
+
+pub returns-in_err-equal-clause-goes : goal.returns-in_err-equal-clause-goes
+returns-in_err-equal-clause-goes c = goes_trans c.args.at.now c.loop-one.at c.equal.new.self c.loop-one.invariant.goes c.equal.ensures.goes

@@ -24,3 +24,9 @@ returns-in-Some-clause-carries c =
 
 pub returns-in-None-clause-carries : goal.returns-in-None-clause-carries
 returns-in-None-clause-carries c = if_any c.var.result _ (λ m o os is. absurd (no_typed c.args.typed.now o os (nil_from_length c.args.typed.now c.in-None.ensures.cases) is))
+
+pub returns-in-None-clause-goes : goal.returns-in-None-clause-goes
+returns-in-None-clause-goes c = c.var.ensures.goes
+
+pub returns-in-Some-clause-goes : goal.returns-in-Some-clause-goes
+returns-in-Some-clause-goes c = c.as_written.ensures.goes

@@ -1,3 +1,4 @@
+use Rattle.typing_state.proofs.Going.{goes_refl}
 use Rattle.std.proofs.Common.{◌≡◌, ◌∙◌, sym, ap, subst, option_map}
 use Rattle.syntax_tree.specs.View.{place_of, tok_of}
 use Rattle.env_table.specs.declared.faults.FaultKind.TheVariants as fault
@@ -26,3 +27,9 @@ returns-in-None-clause-carries c =
     let found : option_map (λ t. (tok_of t.now).name) c.name_apart.result ≡ name_apart_here (binds_of c.args.first.now.names.items) (binds_of c.args.side.now.names.items) =
     c.name_apart.ensures ∙ (λ i. name_apart_here (binds_of (c.deref.ensures.value i)) (binds_of (c.deref-2.ensures.value i))) in
     sides_same c.args.at.now (place_of c.args.side.now.part.span) (binds_of xs) (binds_of ys) (sym found ∙ ap (option_map (λ t. (tok_of t.now).name)) c.in-None.is)
+
+pub returns-in-None-clause-goes : goal.returns-in-None-clause-goes
+returns-in-None-clause-goes c = goes_refl c.args.at.now
+
+pub returns-in-Some-clause-goes : goal.returns-in-Some-clause-goes
+returns-in-Some-clause-goes c = c.one_side.ensures.goes

@@ -1,3 +1,4 @@
+use Rattle.typing_state.proofs.Going.{goes_trans}
 use Rattle.std.proofs.Common.{◌∙◌, ◌++◌, [], ◌∷◌, ap, refl}
 use Rattle.std.specs.Prelude.{Some}
 use Rattle.syntax_tree.specs.View.{tok_of}
@@ -35,3 +36,18 @@ returns-clause-binds c =
         sees = seen_more c.args.seen.now.items c.is_new.new.seen.items (tok_of c.args.token.now) c.in_ok-is_new.ensures.seen;
       };
     }) c.push.ensures.pushed
+
+pub returns-clause-goes : goal.returns-clause-goes
+returns-clause-goes c = goes_trans c.args.at.now c.is_new.new.at c.note.new.self c.is_new.ensures.goes c.note.ensures.goes
+
+pub returns-in_err-bound-clause-goes : goal.returns-in_err-bound-clause-goes
+returns-in_err-bound-clause-goes c = c.is_new.ensures.goes
+
+pub returns-in_err-is_new-clause-goes : goal.returns-in_err-is_new-clause-goes
+returns-in_err-is_new-clause-goes c = c.is_new.ensures.goes
+
+pub returns-in_err-note-clause-goes : goal.returns-in_err-note-clause-goes
+returns-in_err-note-clause-goes c = goes_trans c.args.at.now c.is_new.new.at c.note.new.self c.is_new.ensures.goes c.note.ensures.goes
+
+pub returns-in_err-seen_names-clause-goes : goal.returns-in_err-seen_names-clause-goes
+returns-in_err-seen_names-clause-goes c = c.is_new.ensures.goes

@@ -17,3 +17,9 @@ returns-in-None-clause-binds c =
     let seen = names_seen c.args.seen.now.items in
     subst (λ o. OnOk c.note_type.result (BindsNameIf (option_map (λ t. tok_of t.now) o) c.args.at.now c.note_type.new.self c.args.env.now c.args.number c.args.ty xs xs seen seen)) (sym c.in-None.is)
     (on_ok c.note_type.result _ (BindsNameIf None c.args.at.now c.note_type.new.self c.args.env.now c.args.number c.args.ty xs xs seen seen) (λ noted. record { adds = adds_none xs seen; noted = noted; rest = c.note_type.ensures.rest }) c.note_type.ensures.noted)
+
+pub returns-in-None-clause-goes : goal.returns-in-None-clause-goes
+returns-in-None-clause-goes c = c.note_type.ensures.goes
+
+pub returns-in-Some-clause-goes : goal.returns-in-Some-clause-goes
+returns-in-Some-clause-goes c = c.bind.ensures.goes

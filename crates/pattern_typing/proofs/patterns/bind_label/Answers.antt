@@ -1,3 +1,4 @@
+use Rattle.typing_state.proofs.Going.{goes_trans}
 use Rattle.typing_state.proofs.Recording.{record_still}
 use Rattle.std.proofs.Common.{◌∙◌, ◌++◌, [], ◌∷◌, refl}
 use Rattle.std.specs.Prelude.{None}
@@ -26,3 +27,21 @@ returns-clause-binds c =
 
 pub returns-clause-recorded : goal.returns-clause-recorded
 returns-clause-recorded c = record_still c.push.result c.args.number c.note.new.self c.in_ok-note.ensures.recorded
+
+pub returns-clause-goes : goal.returns-clause-goes
+returns-clause-goes c = goes_trans c.args.at.now c.is_new.new.at c.note.new.self c.is_new.ensures.goes c.note.ensures.goes
+
+pub returns-in_err-bound-clause-goes : goal.returns-in_err-bound-clause-goes
+returns-in_err-bound-clause-goes c = c.is_new.ensures.goes
+
+pub returns-in_err-entry-clause-goes : goal.returns-in_err-entry-clause-goes
+returns-in_err-entry-clause-goes c = c.is_new.ensures.goes
+
+pub returns-in_err-is_new-clause-goes : goal.returns-in_err-is_new-clause-goes
+returns-in_err-is_new-clause-goes c = c.is_new.ensures.goes
+
+pub returns-in_err-note-clause-goes : goal.returns-in_err-note-clause-goes
+returns-in_err-note-clause-goes c = goes_trans c.args.at.now c.is_new.new.at c.note.new.self c.is_new.ensures.goes c.note.ensures.goes
+
+pub returns-in_err-seen_names-clause-goes : goal.returns-in_err-seen_names-clause-goes
+returns-in_err-seen_names-clause-goes c = c.is_new.ensures.goes

@@ -32,3 +32,9 @@ returns-clause-carries c = λ k.
     let i = c.loop-side.side-index in
     let none : drop i all ≡ [] = drop_all i all (let n = c.loop-side-test.false in omega arith) in
     later_all c.args.at.now c.loop-side.at (side_of c.args.first.now) (map side_of all) (map side_of (drop i all)) (patterns_of k (parts_of_sides all)) (patterns_of k (parts_of_sides (drop i all))) (ap (λ ss. patterns_of k (parts_of_sides ss)) none) (c.loop-side.invariant.carries k)
+
+pub returns-clause-goes : goal.returns-clause-goes
+returns-clause-goes c = c.loop-side.invariant.goes
+
+pub returns-in_err-compare_side-clause-goes : goal.returns-in_err-compare_side-clause-goes
+returns-in_err-compare_side-clause-goes c = goes_trans c.args.at.now c.loop-side.at c.compare_side.new.at c.loop-side.invariant.goes c.compare_side.ensures.goes

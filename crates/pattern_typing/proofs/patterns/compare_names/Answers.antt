@@ -29,3 +29,9 @@ returns-clause-carries c =
     let i = c.loop-name.name-index in
     let none : drop i all ≡ [] = drop_all i all (let n = c.loop-name-test.false in omega arith) in
     names_all c.args.at.now c.loop-name.at (binds_of all) (binds_of (drop i all)) (binds_of c.args.later.now) (ap binds_of none) c.loop-name.invariant.carries
+
+pub returns-clause-goes : goal.returns-clause-goes
+returns-clause-goes c = c.loop-name.invariant.goes
+
+pub returns-in_err-compare_name-clause-goes : goal.returns-in_err-compare_name-clause-goes
+returns-in_err-compare_name-clause-goes c = goes_trans c.args.at.now c.loop-name.at c.compare_name.new.at c.loop-name.invariant.goes c.compare_name.ensures.goes

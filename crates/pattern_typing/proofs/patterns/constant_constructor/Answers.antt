@@ -1,3 +1,4 @@
+use Rattle.typing_state.proofs.Going.{goes_trans, goes_refl}
 use Rattle.std.proofs.Common.{ap, subst, option_map, refl}
 use Rattle.std.specs.Prelude.{Some}
 use Rattle.syntax_tree.specs.View.{node_view}
@@ -21,3 +22,15 @@ returns-clause-carries c = λ names seen.
     let argument = option_map (λ (m : NodeRef). m.0) found.argument in
     con_matches c.args.at.now c.constructor.new.at c.note.new.self c.args.env.now c.args.number (node_view c.args.node.now) found.built found.known argument (record { env = c.args.env.now; ty = Some found.built; names = found.names }) names seen refl
     (subst (λ p. TypesConstructor c.args.at.now c.constructor.new.at c.args.env.now (path_of p) 0 found.known found.built.0 argument) c.in_ok-path.ensures c.in_ok-found.ensures.carries) c.constructor.ensures.goes c.in_ok-note.ensures.noted c.note.ensures.rest
+
+pub returns-clause-goes : goal.returns-clause-goes
+returns-clause-goes c = goes_trans c.args.at.now c.constructor.new.at c.note.new.self c.constructor.ensures.goes c.note.ensures.goes
+
+pub returns-in_err-found-clause-goes : goal.returns-in_err-found-clause-goes
+returns-in_err-found-clause-goes c = c.constructor.ensures.goes
+
+pub returns-in_err-note-clause-goes : goal.returns-in_err-note-clause-goes
+returns-in_err-note-clause-goes c = goes_trans c.args.at.now c.constructor.new.at c.note.new.self c.constructor.ensures.goes c.note.ensures.goes
+
+pub returns-in_err-path-clause-goes : goal.returns-in_err-path-clause-goes
+returns-in_err-path-clause-goes c = goes_refl c.args.at.now

@@ -1,3 +1,4 @@
+use Rattle.typing_state.proofs.Going.{goes_trans}
 use Rattle.std.proofs.Common.{subst}
 use Rattle.syntax_tree.specs.View.{node_view}
 use Rattle.typing_steps.proofs.Rows.{var_any}
@@ -14,3 +15,12 @@ returns-clause-carries c =
     let then = names_seen c.bind_if.new.seen.items in
     name_matches c.args.at.now c.var.new.self c.bind_if.new.at c.args.env.now c.args.number (node_view c.args.node.now) c.in_ok-ty.ty xs ys seen then (var_any c.args.at.now c.var.new.self c.in_ok-ty.ensures.made c.var.ensures.rest) c.var.ensures.goes
     (subst (λ q. BindsNameIf q c.var.new.self c.bind_if.new.at c.args.env.now c.args.number c.in_ok-ty.ty xs ys seen then) c.token.ensures c.in_ok-bind_if.ensures.binds)
+
+pub returns-clause-goes : goal.returns-clause-goes
+returns-clause-goes c = goes_trans c.args.at.now c.var.new.self c.bind_if.new.at c.var.ensures.goes c.bind_if.ensures.goes
+
+pub returns-in_err-bind_if-clause-goes : goal.returns-in_err-bind_if-clause-goes
+returns-in_err-bind_if-clause-goes c = goes_trans c.args.at.now c.var.new.self c.bind_if.new.at c.var.ensures.goes c.bind_if.ensures.goes
+
+pub returns-in_err-ty-clause-goes : goal.returns-in_err-ty-clause-goes
+returns-in_err-ty-clause-goes c = c.var.ensures.goes

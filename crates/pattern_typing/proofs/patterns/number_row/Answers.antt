@@ -1,3 +1,4 @@
+use Rattle.typing_state.proofs.Going.{goes_trans}
 use Rattle.std.proofs.Common.{ap, option_map}
 use Rattle.syntax_tree.specs.View.{tok_of}
 use Rattle.use_typing.specs.Constants.{is_negated}
@@ -17,3 +18,12 @@ returns-clause-carries c = record {
   noted = c.in_ok-note_type.ensures.noted;
   rest = c.note_type.ensures.rest;
 }
+
+pub returns-clause-goes : goal.returns-clause-goes
+returns-clause-goes c = goes_trans c.args.at.now c.constant.new.at c.note_type.new.self c.constant.ensures.goes c.note_type.ensures.goes
+
+pub returns-in_err-note_type-clause-goes : goal.returns-in_err-note_type-clause-goes
+returns-in_err-note_type-clause-goes c = goes_trans c.args.at.now c.constant.new.at c.note_type.new.self c.constant.ensures.goes c.note_type.ensures.goes
+
+pub returns-in_err-ty-clause-goes : goal.returns-in_err-ty-clause-goes
+returns-in_err-ty-clause-goes c = c.constant.ensures.goes

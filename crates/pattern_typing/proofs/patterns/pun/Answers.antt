@@ -1,3 +1,4 @@
+use Rattle.typing_state.proofs.Going.{goes_trans, goes_refl}
 use Rattle.std.proofs.Common.{ap}
 use Rattle.row_parts.specs.Numbered.{operand_view, path_view}
 use Rattle.use_typing.specs.Paths.{path_at}
@@ -14,3 +15,12 @@ returns-clause-carries c =
 
 pub returns-clause-found : goal.returns-clause-found
 returns-clause-found c = on_any c.pun_of.result _ (ap here_of c.begin_field.ensures.found)
+
+pub returns-clause-goes : goal.returns-clause-goes
+returns-clause-goes c = goes_trans c.args.at.now c.begin_field.new.at c.pun_of.new.at c.begin_field.ensures.goes c.pun_of.ensures.goes
+
+pub returns-in_err-label-clause-goes : goal.returns-in_err-label-clause-goes
+returns-in_err-label-clause-goes c = goes_refl c.args.at.now
+
+pub returns-in_err-wanted-clause-goes : goal.returns-in_err-wanted-clause-goes
+returns-in_err-wanted-clause-goes c = c.begin_field.ensures.goes

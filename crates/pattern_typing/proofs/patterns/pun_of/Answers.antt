@@ -1,3 +1,4 @@
+use Rattle.typing_state.proofs.Going.{goes_trans}
 use Rattle.std.proofs.Common.{refl, sym, subst, option_map}
 use Rattle.std.specs.Prelude.{OnOk, None, Some}
 use Rattle.syntax_tree.specs.View.{tok_of}
@@ -31,3 +32,12 @@ returns-in-None-clause-puns c =
     let before = names_seen c.args.seen.now.items in
     subst (λ o. OnOk c.note_label.result (Puns (option_map (λ t. tok_of t.now) o) c.args.at.now c.note_label.new.at wanted xs xs before before)) (sym c.in-None.is)
     (on_ok c.note_label.result _ (Puns None c.args.at.now c.note_label.new.at wanted xs xs before before) (λ noted. (noted, refl, refl)) c.note_label.ensures.carries)
+
+pub returns-in-None-clause-goes : goal.returns-in-None-clause-goes
+returns-in-None-clause-goes c = c.note_label.ensures.goes
+
+pub returns-in_err-ty-in-Some-clause-goes : goal.returns-in_err-ty-in-Some-clause-goes
+returns-in_err-ty-in-Some-clause-goes c = c.type_or_var.ensures.goes
+
+pub returns-in_ok-ty-in-Some-clause-goes : goal.returns-in_ok-ty-in-Some-clause-goes
+returns-in_ok-ty-in-Some-clause-goes c = goes_trans c.args.at.now c.type_or_var.new.at c.bind_label.new.at c.type_or_var.ensures.goes c.bind_label.ensures.goes

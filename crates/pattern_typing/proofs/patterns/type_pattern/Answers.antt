@@ -11,3 +11,9 @@ returns-clause-names c = subst (λ bs. Binds bs c.match_pattern.new.names.items 
 pub returns-clause-carries : goal.returns-clause-carries
 returns-clause-carries c =
     subst (λ bs. MatchesOperand c.args.at.now c.match_pattern.new.at c.args.env.now (operand_view c.args.p) (binds_of bs) (binds_of c.match_pattern.new.names.items) (names_seen c.args.seen.now.items) (names_seen c.match_pattern.new.seen.items) c.in_ok-ty.ty.0) c.new-names.ensures.items c.in_ok-ty.ensures.carries
+
+pub returns-clause-goes : goal.returns-clause-goes
+returns-clause-goes c = c.match_pattern.ensures.goes
+
+pub returns-in_err-ty-clause-goes : goal.returns-in_err-ty-clause-goes
+returns-in_err-ty-clause-goes c = c.match_pattern.ensures.goes

@@ -1,8 +1,8 @@
 use Rattle.std.proofs.Common.{◌≡◌, ℕ, List, [], ◌∷◌, sym, subst}
 use Rattle.type_nodes.specs.Views.{numbers}
 use Rattle.type_reading.specs.Filling.{Fills}
-use Rattle.type_rows.specs.Declaring.{AppliesTo}
-use Rattle.type_rows.proofs.Declared.{origin_applied, alone_applied}
+use Rattle.typing_rows.specs.Declaring.{AppliesTo}
+use Rattle.typing_rows.proofs.Declared.{origin_applied, alone_applied}
 use Rattle.type_expressions.proofs.Answering.{if_ok, none_given, some_given}
 use Rattle.type_expressions.proofs.Filled.{filled_applies}
 use Rattle.type_expressions.proofs.arguments.applied.Goals as goal

@@ -5,10 +5,10 @@ use Rattle.std.specs.Prelude.{Some, None, option_map}
 use Rattle.syntax_tree.specs.View.{place_of, node_view}
 use Rattle.row_parts.specs.Numbered.{operand_view, part_of}
 use Rattle.type_nodes.specs.Views.{numbers}
-use Rattle.type_rows.specs.Contracts.{ReadsFirst}
-use Rattle.type_rows.specs.Rows.{types_read}
-use Rattle.type_rows.specs.Operands.{ReadsPart, ReadsOperands, ReadsGiven, EndsRow}
-use Rattle.type_rows.proofs.Ordered.{none_read, all_read}
+use Rattle.typing_rows.specs.TypeContracts.{ReadsFirst}
+use Rattle.typing_rows.specs.Rows.{types_read}
+use Rattle.typing_rows.specs.Operands.{ReadsPart, ReadsOperands, ReadsGiven, EndsRow}
+use Rattle.typing_rows.proofs.TypeOrdered.{none_read, all_read}
 use Rattle.type_expressions.proofs.Answering.{if_ok}
 use Rattle.type_expressions.proofs.Carrying.{operand_reads, missing_reads, node_reads, app_front, other_front, alone_reads, several_reads, each_read, app_row, not_app_row}
 use Rattle.type_expressions.specs.Operands.{several}

@@ -3,9 +3,9 @@ use Rattle.std.specs.Prelude.{All}
 use Rattle.type_nodes.specs.Views.{numbers}
 use Rattle.row_parts.specs.Numbered.{operand_view}
 use Rattle.typing_state.specs.Goes.{Goes}
-use Rattle.type_rows.specs.Contracts.{ReadsFirst}
-use Rattle.type_rows.specs.Rows.{types_read}
-use Rattle.type_rows.specs.Operands.{IsTypeOperand}
+use Rattle.typing_rows.specs.TypeContracts.{ReadsFirst}
+use Rattle.typing_rows.specs.Rows.{types_read}
+use Rattle.typing_rows.specs.Operands.{IsTypeOperand}
 use Rattle.type_expressions.specs.Items.{IsOfItem}
 use Rattle.type_expressions.proofs.types.+types.Given as goal
 

@@ -1,7 +1,7 @@
 use Rattle.row_parts.specs.Numbered.{token_view}
 use Rattle.syntax_tree.specs.View.{node_view}
 use Rattle.type_nodes.specs.Views.{numbers}
-use Rattle.type_rows.proofs.Ended.{var_ends, paren_ends, tuple_ends, arrow_ends, other_ends}
+use Rattle.typing_rows.proofs.Ended.{var_ends, paren_ends, tuple_ends, arrow_ends, other_ends}
 use Rattle.type_expressions.proofs.Answering.{if_ok}
 use Rattle.type_expressions.proofs.Carrying.{var_row, paren_row, tuple_row, arrow_row}
 use Rattle.type_expressions.proofs.types.composed.Goals as goal

@@ -3,9 +3,9 @@ use Rattle.std.specs.Option.{option_copied}
 use Rattle.syntax_tree.specs.View.{tok_of}
 use Rattle.row_parts.specs.Numbered.{path_view, token_view}
 use Rattle.type_nodes.specs.Views.{numbers}
-use Rattle.type_rows.specs.Declaring.{NamesTo}
-use Rattle.type_rows.specs.Operands.{EndsName}
-use Rattle.type_rows.proofs.Named.{name_ends, nameless_ends}
+use Rattle.typing_rows.specs.Declaring.{NamesTo}
+use Rattle.typing_rows.specs.Operands.{EndsName}
+use Rattle.typing_rows.proofs.Named.{name_ends, nameless_ends}
 use Rattle.type_expressions.proofs.types.constructed.Goals as goal
 
 pub returns-in_default-clause-carries : goal.returns-in_default-clause-carries

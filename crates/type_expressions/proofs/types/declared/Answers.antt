@@ -3,8 +3,8 @@ use Rattle.syntax_tree.specs.View.{tok_of}
 use Rattle.type_nodes.specs.Views.{numbers}
 use Rattle.typing_state.specs.declared.demands.Verdict.TheVariants.{Kept, Reported}
 use Rattle.typing_state.specs.Demands.{ArityIs}
-use Rattle.type_rows.specs.Declaring.{declared_in}
-use Rattle.type_rows.proofs.Named.{declared_kept, declared_reported}
+use Rattle.typing_rows.specs.Declaring.{declared_in}
+use Rattle.typing_rows.proofs.Named.{declared_kept, declared_reported}
 use Rattle.type_expressions.proofs.Answering.{if_ok, many_numbers}
 use Rattle.type_expressions.proofs.types.declared.Goals as goal
 

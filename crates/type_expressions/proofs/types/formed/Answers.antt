@@ -2,8 +2,8 @@ use Rattle.std.proofs.Common.{sym, subst}
 use Rattle.syntax_tree.specs.View.{node_view}
 use Rattle.type_nodes.specs.Views.{numbers}
 use Rattle.typing_steps.specs.Typing.{path_as}
-use Rattle.type_rows.specs.Operands.{EndsName, EndsRow}
-use Rattle.type_rows.proofs.Ended.{con_ends, app_ends, plain_ends}
+use Rattle.typing_rows.specs.Operands.{EndsName, EndsRow}
+use Rattle.typing_rows.proofs.Ended.{con_ends, app_ends, plain_ends}
 use Rattle.type_expressions.proofs.Answering.{if_ok}
 use Rattle.type_expressions.proofs.Carrying.{con_row, app_row}
 use Rattle.type_expressions.proofs.types.formed.Goals as goal

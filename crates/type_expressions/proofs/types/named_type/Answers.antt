@@ -2,7 +2,7 @@ use Rattle.std.proofs.Common.{option_map, sym, subst}
 use Rattle.std.specs.Option.{option_copied}
 use Rattle.syntax_tree.specs.View.{tok_of}
 use Rattle.type_nodes.specs.Views.{numbers}
-use Rattle.type_rows.specs.Declaring.{DeclaresTo, NamesTo}
+use Rattle.typing_rows.specs.Declaring.{DeclaresTo, NamesTo}
 use Rattle.type_expressions.proofs.Answering.{if_ok}
 use Rattle.type_expressions.proofs.types.named_type.Goals as goal
 

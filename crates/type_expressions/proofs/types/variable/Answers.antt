@@ -1,6 +1,6 @@
 use Rattle.std.proofs.Common.{option_map, sym, subst}
 use Rattle.syntax_tree.specs.View.{tok_of}
-use Rattle.type_rows.specs.Operands.{ReadsVariable}
+use Rattle.typing_rows.specs.Operands.{ReadsVariable}
 use Rattle.type_expressions.proofs.Answering.{if_ok}
 use Rattle.type_expressions.proofs.Carrying.{missing_variable}
 use Rattle.type_expressions.proofs.types.variable.Goals as goal

@@ -2,7 +2,7 @@ use Rattle.typing_state.proofs.Going.{goes_trans}
 use Rattle.std.proofs.Common.{◌∙◌, option_map, ap, subst, ℕ, Ok}
 use Rattle.row_parts.specs.Numbered.{path_view}
 use Rattle.env_table.specs.declared.entries.Kind.TheVariants as kind
-use Rattle.typing_declarations.specs.Declared.{label_in}
+use Rattle.typing_conditions.specs.Declared.{label_in}
 use Rattle.use_typing.specs.Uses.{UsesLabelIf}
 use Rattle.use_typing.proofs.Telling.{behind, bound_last_tells, label_used}
 use Rattle.use_typing.proofs.Constructions.{label_carried}

@@ -1,0 +1,161 @@
+-- An item's `let` is carried from the state where it starts to the one after it.
+use Rattle.std.proofs.Common.{◌≡◌, ◌∙◌, inl, inr, ℕ, ◌≤◌, false, List, [], ◌∷◌, ◌++◌, length, Option, None, Some, refl, sym, ap, subst, arith}
+use Rattle.type_model.specs.Types.{occurs}
+use Rattle.signature_model.specs.Declarations.{Name}
+use Rattle.signature_model.specs.Entries.{Environment}
+use Rattle.token_model.specs.Kinds.{Tok}
+use Rattle.typing_model.specs.Contexts.{Choice, Context}
+use Rattle.typing_model.specs.Parts.{Binding}
+use Rattle.typing_model.specs.Items.{variables_written, inside_item}
+use Rattle.type_nodes.specs.Nodes.{Var, bound_level, IsNode}
+use Rattle.type_nodes.specs.Readings.{Types, Fits, IsReading}
+use Rattle.level_unify.specs.Solutions.{Loose}
+use Rattle.level_unify.proofs.Variants.{bound_cell, bound_there}
+use Rattle.env_table.specs.declared.entries.Entry.{Entry}
+use Rattle.typing_state.specs.declared.parts.Parts.{Parts}
+use Rattle.typing_conditions.proofs.Own.{own_of}
+use Rattle.typing_conditions.proofs.Fresh.{reads_closed, fits_closed}
+use Rattle.typing_conditions.specs.Sights.{Sight, Letters, AreNodes, IsInside}
+use Rattle.typing_conditions.specs.Carrying.{Asks, HoldsWritten, HoldsUnbound, IsUnder, Enters, ReadsOff}
+use Rattle.typing_conditions.specs.Surroundings.{Declared}
+use Rattle.typing_conditions.proofs.Inward.{reached_inward}
+use Rattle.typing_conditions.proofs.Meaning.{open_unbound, nodes_in}
+use Rattle.typing_steps.specs.States.{sight}
+use Rattle.binding_rows.specs.Closing.{Limit}
+use Rattle.binding_rows.specs.Decided.{IsAmong}
+use Rattle.binding_rows.specs.Lets.{ToClose}
+use Rattle.binding_rows.specs.Outside.{AgreesOutside, AreInside, Left, IsLeft, EntersItems, ReadsItems, StaysOutside, ItemsCarried}
+use Rattle.binding_rows.specs.ItemGroups.{item_scope, ItemGroup}
+use Rattle.binding_rows.proofs.Starting.{group_frame, goes_in, surrounds_item}
+use Rattle.binding_rows.proofs.ItemClosing.{closed_nodes, item_limited, item_letters, item_part, item_written, item_closes, item_out, item_refines, after_reached, loose_before_close, still_bound}
+
+module _ {D : Declared} {n : ℕ} {ts : List Tok} {E : Choice → Environment} {asks : Asks} {x : Parts} {y : Sight} {G : Letters} {s d : Parts} {env : List Entry} {xs : List Binding} {ys : List ToClose} {limits : List Limit} (l : ItemGroup D n ts E asks x y G s d env xs ys limits) where
+  reads_before_close : (V : Types) → IsReading d.store.nodes V → IsReading (item_limited l).nodes V
+  reads_before_close V h = let (K, own_k, closes) = item_closes l in reads_closed (item_limited l).nodes d.store.nodes K V (closed_nodes l) x.level closes h
+
+  same_length : length (item_limited l).nodes ≤ length d.store.nodes
+  same_length = let (K, own_k, closes) = item_closes l in let q = closes.len in omega arith
+
+  none_yet : (z : Name) (m : ℕ) → y.written z ≡ Some m → ⊥
+  none_yet z m e = let f : Some m ≡ None = sym e ∙ l.only.written z ∙ l.cleared z in cc
+
+  inside_start : AreInside (sight x) G → IsInside y G
+  inside_start i = record {
+    recorded = λ j k m e. subst (λ ns. IsNode ns m) (sym l.only.nodes) (i.recorded j k m (sym (l.only.types j k) ∙ e));
+    written = λ z m e. absurd (none_yet z m e);
+    given = subst (AreNodes G) (sym l.only.nodes) i.given;
+  }
+
+  inside_end : IsInside (item_limited l) (item_letters l) → AreInside (sight d) (item_letters l)
+  inside_end i = record {
+    recorded = λ j k m e. let r = i.recorded j k m (sym ((item_out l).types j k) ∙ e) in let q = same_length in omega arith;
+    given = nodes_in (item_letters l) (item_limited l).nodes d.store.nodes same_length i.given;
+  }
+
+  pub item_stays : StaysOutside (sight x) G (sight d) (item_letters l)
+  item_stays = record {
+    sound = λ before. l.close.sound;
+    bounds = λ v b. let own = own_of d.store.nodes l.close.sound in let (o, at) = bound_cell x.store.nodes v b in bound_there d.store.nodes v (Var bound_level o) ((item_refines l own.0 own.1).bounds v o at) refl;
+    loose = λ V h. subst (λ ns. Loose ns V) l.only.nodes ((item_part l).stays.loose V (loose_before_close l V h));
+    reads = λ V h. subst (λ ns. IsReading ns V) l.only.nodes ((item_part l).stays.reads V (reads_before_close V h));
+    refines = item_refines l;
+    recorded = λ i k m e. (item_out l).types i k ∙ (item_part l).stays.recorded i k m (l.only.types i k ∙ e);
+    given = (item_part l).stays.given;
+    inside = λ i. inside_end ((item_part l).stays.inside (inside_start i));
+    aloud = (item_out l).aloud ∙ (item_part l).stays.aloud ∙ l.only.aloud;
+    level = (after_reached l).level;
+    fixed = (item_out l).fixed ∙ (item_part l).stays.fixed ∙ l.only.fixed;
+  }
+
+  under_item : (c : Context) → c.env ≡ E c.chosen → IsUnder (item_scope n ts E) (inside_item n ts c)
+  under_item c e = record { env = e; variables = refl; held = refl }
+
+  named_there : HoldsWritten (item_scope n ts E) (item_limited l)
+  named_there z m e = l.named z m ((item_out l).written z ∙ e)
+
+  -- what only the item's own conditions speak of
+  abbrev pub item_left : Left
+  item_left = record { letters = (item_part l).hidden; owner = n; names = variables_written ts; written = (sight d).written }
+
+  -- no variable that was bound inside the item stands in the type of a type variable of the item, written or not
+  unbound_there : (V : Types) (c : Context) → IsReading d.store.nodes V → IsLeft d.store.nodes item_left V c.chosen → HoldsUnbound (group_frame l) (item_scope n ts E) (item_limited l) c.chosen
+  unbound_there V c reads left k z e v bound = by ((sight d).written z) refl
+    where
+      by : (o : Option ℕ) → (sight d).written z ≡ o → occurs v (c.chosen.written n z) ≡ false
+      by None f = left.others k z e f v (still_bound l v bound)
+      by (Some m) f = ap (occurs v) (left.written z m f) ∙ open_unbound ((item_written l).each z m (sym ((item_out l).written z) ∙ f)) V (reads_before_close V reads) v bound
+
+  reads_off : (V : Types) (c : Context) → ReadsItems E (sight d) (item_letters l) (item_left ∷ []) (item_part l).judged V c → ReadsOff (group_frame l) (item_scope n ts E) (item_limited l) (item_letters l) (item_part l).hidden (item_part l).judged V (inside_item n ts c)
+  reads_off V c r = record {
+    under = under_item c r.env;
+    reads = reads_before_close V r.reads;
+    agrees = record {
+      recorded = λ i p m e. r.agrees.recorded i p m ((item_out l).types i p ∙ e);
+      known = λ i p m e. r.agrees.known i p m ((item_out l).types i p ∙ e);
+      written = λ z m e. r.left_too.0.written z m ((item_out l).written z ∙ e);
+      given = r.agrees.given;
+    };
+    hidden_too = r.left_too.0.letters;
+    named = named_there;
+    unbound = unbound_there V c r.reads r.left_too.0;
+    kept = r.kept;
+  }
+
+  enters_group : (V : Types) (c : Context) → EntersItems E (sight x) G V c → Enters (group_frame l) (item_scope n ts E) y G V (inside_item n ts c)
+  enters_group V c e = record {
+    under = under_item c e.env;
+    inside = inside_start e.inside;
+    fits = subst (λ ns. Fits ns V) (sym l.only.nodes) e.fits;
+    agrees = record {
+      recorded = λ i p m f. e.agrees.recorded i p m (sym (l.only.types i p) ∙ f);
+      known = λ i p m f. e.agrees.known i p m (sym (l.only.types i p) ∙ f);
+      written = λ z m f. absurd (none_yet z m f);
+      given = e.agrees.given;
+    };
+  }
+
+  -- A context that the state before allows is one among the names before, inside the item.
+  pub among_group : (V : Types) (c : Context) → c.env ≡ E c.chosen → Loose x.store.nodes V → AgreesOutside (sight x) G V c.chosen → IsAmong D env (inside_item n ts c)
+  among_group V c e loose agrees = record {
+    state = y;
+    frame = group_frame l;
+    scope = item_scope n ts E;
+    letters = G;
+    types = V;
+    at = surrounds_item l;
+    loose = subst (λ ns. Loose ns V) (sym l.only.nodes) loose;
+    under = under_item c e;
+    agrees = record {
+      recorded = λ i p m f. agrees.recorded i p m (sym (l.only.types i p) ∙ f);
+      known = λ i p m f. agrees.known i p m (sym (l.only.types i p) ∙ f);
+      written = λ z m f. absurd (none_yet z m f);
+      given = agrees.given;
+    };
+    named = λ z m f. absurd (none_yet z m f);
+  }
+
+  -- What is asked inside the item is carried from the state where it starts to the one after it.
+  pub item_carried : ItemsCarried E (λ c. asks (inside_item n ts c)) (sight x) G (sight d) (item_letters l)
+  item_carried = record {
+    stays = item_stays;
+    left = item_left ∷ [];
+    judged = (item_part l).judged;
+    told = (item_part l).told;
+    reports = (item_out l).reports ∙ (item_part l).reports ∙ ap (λ rs. rs ++ (item_part l).told) l.only.reports;
+    sound = λ V c r. (item_part l).sound (reached_inward (goes_in l) l.only l.raised) V (inside_item n ts c) (reads_off V c r);
+    complete = λ V c e h. elim ((item_part l).complete named_there V (inside_item n ts c) (enters_group V c e) h) [
+      | inl goes ↦ inl (record {
+        same = goes.same;
+        types = goes.types;
+        fits = let (K, own_k, closes) = item_closes l in fits_closed (item_limited l).nodes d.store.nodes K goes.types (closed_nodes l) x.level closes goes.on.fits;
+        before = λ m lt. goes.on.before m (let q : length y.nodes ≡ length x.store.nodes = ap length l.only.nodes in omega arith);
+        agrees = record {
+          recorded = λ i p m f. goes.on.agrees.recorded i p m (sym ((item_out l).types i p) ∙ f);
+          known = λ i p m f. goes.on.agrees.known i p m (sym ((item_out l).types i p) ∙ f);
+          given = goes.on.agrees.given;
+        };
+      })
+      | inr short ↦ inr short
+    ];
+    first = λ k V c e h. (item_part l).first named_there k V (inside_item n ts c) (enters_group V c e) h;
+  }

@@ -1,0 +1,76 @@
+-- The `let` of an item by its node, and what an item gives.
+use Rattle.std.specs.Prelude.{◌≡◌, ◌+◌, ◌++◌, ℕ, true, List, map, slice_get, Some, All}
+use Rattle.token_model.specs.Kinds.{Tok}
+use Rattle.tree_model.specs.Rows.{let_row}
+use Rattle.tree_model.specs.Trees.{Tree, yield_of}
+use Rattle.signature_model.specs.Declarations.{Name}
+use Rattle.signature_model.specs.Entries.{Environment}
+use Rattle.typing_model.specs.Contexts.{Choice, Context, tell}
+use Rattle.typing_model.specs.Parts.{Item, Seen, no_names}
+use Rattle.typing_model.specs.Items.{let_item, variables_written}
+use Rattle.typing_model.specs.Expressions.{is_some}
+use Rattle.row_parts.specs.Numbered.{operands_in, token_in}
+use Rattle.type_nodes.specs.Nodes.{bound_level}
+use Rattle.env_table.specs.declared.entries.Entry.{Entry}
+use Rattle.typing_state.specs.declared.parts.Written.{Written}
+use Rattle.typing_state.specs.declared.parts.Parts.{Parts}
+use Rattle.typing_state.specs.Goes.{Goes}
+use Rattle.operand_laws.specs.Formed.{row_of, IsFormed}
+use Rattle.operand_laws.specs.Operands.{number_of}
+use Rattle.typing_conditions.specs.Sights.{Letters}
+use Rattle.typing_conditions.specs.Surroundings.{Declared}
+use Rattle.typing_steps.specs.States.{is_aloud, written_in, sight}
+use Rattle.typing_steps.specs.Typing.{as_declared}
+use Rattle.typing_steps.specs.Constants.{HasConstants}
+use Rattle.binding_rows.specs.CaseScopes.{names_added}
+use Rattle.binding_rows.specs.Carried.{IsBinding}
+use Rattle.binding_rows.specs.Operands.{bindings_of, TypesGroupNode}
+use Rattle.binding_rows.specs.Decided.{JudgesGroup}
+use Rattle.binding_rows.specs.Lets.{ToClose, bind_nodes, names_closed}
+use Rattle.binding_rows.specs.LetNodes.{typed_as, ClosesBindings}
+use Rattle.binding_rows.specs.Scopes.{AreMade}
+use Rattle.binding_rows.specs.Outside.{InEachOutside, Outside, ItemsCarried}
+
+-- an item `let b and b` of which bindings are carried
+pub record IsItemNode (n : ℕ) (t : Tree) : Type 0 where
+  pub formed : IsFormed n t
+  pub row : row_of t ≡ let_row
+  pub bindings : All IsBinding (operands_in n t 2)
+
+-- The `let` of an item by its node: its group is typed one level above the item's, then the types of all its names are limited to what was made before it, at any level,
+-- and then the group is closed; its names are in scope after it.
+pub record TypesItem (a b : Parts) (env after : List Entry) (n : ℕ) (t : Tree) : Type 0 where
+  pub begun : Parts
+  pub raised : begun ≡ record a { level = a.level + 1 }
+  pub done : Parts
+  pub scoped : Parts
+  pub bindings : List ToClose
+  pub typed : TypesGroupNode begun done env n t (map typed_as bindings)
+  pub judged : JudgesGroup env n t (map (λ (y : ToClose). y.general) bindings)
+  pub scopes : AreMade done scoped bound_level (number_of a.item n) (bind_nodes (names_closed bindings))
+  pub closes : ClosesBindings scoped b bindings
+  pub scope : after ≡ names_added (names_closed bindings) env
+  pub goes : Goes a b
+
+-- an item as it is recorded: its node is treated, and then its `let` is asked
+abbrev pub recorded_let : ℕ → List Tok → ℕ → Tree → Item
+recorded_let i ts n t = let l = let_item (number_of i n) ts (is_some (token_in t 1)) (bindings_of i (operands_in n t 2)) in record l { asks = λ c seen. tell (number_of i n) c ++ l.asks c seen }
+
+-- What an item gives: what it asks is carried, the next item starts among its names, which are those that it adds in each context that the state before allows, and it names no type and no module.
+pub record ItemDone (D : Declared) (E : Choice → Environment) (m : Item) (a b : Parts) (G : Letters) (after : List Entry) : Type 0 where
+  pub letters : Letters
+  pub env : Choice → Environment
+  pub carried : (seen : Seen) → ItemsCarried E (λ c. m.asks c seen) (sight a) G (sight b) letters
+  pub outside : Outside D (sight b) letters after env
+  pub adds : InEachOutside E (sight a) G (λ c. m.adds c ++ c.env ≡ env c.chosen)
+  pub named : (c : Context) → m.named c ≡ no_names
+  pub constants : HasConstants b
+
+-- the type variables that are written are among those of tokens
+abbrev pub AreWrittenIn : List Tok → Written → Type 0
+AreWrittenIn ts w = (x : Name) (m : ℕ) → written_in w x ≡ Some m → (k : ℕ) × (slice_get (variables_written ts) k ≡ Some x)
+
+-- What a call gives for an item's `let` by its node, from where the item starts to where the next one does: where faults are reported, the definitions' own item. Its type variables are those among its tokens.
+abbrev pub GivesLet : (a b : Parts) → (env after : List Entry) → (n : ℕ) → Tree → Type 0
+GivesLet a b env after n t =
+    (G : Letters) (E : Choice → Environment) → IsItemNode n t → is_aloud a.telling ≡ true → Outside as_declared (sight a) G env E → HasConstants a → ItemDone as_declared E (recorded_let a.item (yield_of t) n t) a b G after

@@ -1,0 +1,128 @@
+-- What an item's own `let` is typed among, at the lowest level, and what is carried of items.
+use Rattle.std.specs.Prelude.{◌≡◌, ◌⊎◌, ℕ, true, false, List, [], ◌∷◌, ◌++◌, take, slice_get, Option, Some, None}
+use Rattle.type_model.specs.Types.{occurs}
+use Rattle.signature_model.specs.Declarations.{Name}
+use Rattle.signature_model.specs.Entries.{Environment}
+use Rattle.signature_model.specs.Matching.{IsKnown}
+use Rattle.typing_model.specs.Demands.{AllHold}
+use Rattle.typing_model.specs.Contexts.{Choice, Context}
+use Rattle.type_nodes.specs.Nodes.{IsSound, IsNode}
+use Rattle.type_nodes.specs.Nodes.{Node}
+use Rattle.type_nodes.specs.Readings.{Types, Fits, IsReading}
+use Rattle.level_unify.specs.Solutions.{Loose}
+use Rattle.level_unify.specs.Instances.{is_bound}
+use Rattle.env_table.specs.declared.entries.Entry.{Entry}
+use Rattle.typing_conditions.specs.Locals.{IsOwn, Refines, IsContext}
+use Rattle.typing_conditions.specs.Assumptions.{SchemeFits, SchemeReads}
+use Rattle.typing_conditions.specs.Standing.{Covers, Stands}
+use Rattle.typing_conditions.specs.Sights.{Sight, Report, number_in, Letters, AreGiven, AreNodes, SameAt}
+use Rattle.typing_conditions.specs.Judging.{Judgement, judgements, AreKept, StartsWith, FallsShort, Meets}
+use Rattle.typing_conditions.specs.Carrying.{Asks}
+use Rattle.typing_conditions.specs.Surroundings.{Declared, IsSteady}
+
+-- A choice agrees with a state between items: it has the types of the nodes that are recorded, in which no unknown type stands, and of letters. Type variables
+-- that are written belong to one item, and none is written between items.
+pub record AgreesOutside (a : Sight) (G : Letters) (V : Types) (ch : Choice) : Type 0 where
+  pub recorded : (i p m : ℕ) → a.types i p ≡ Some m → ch.type_at (number_in i p) ≡ V m
+  pub known : (i p m : ℕ) → a.types i p ≡ Some m → IsKnown (V m)
+  pub given : AreGiven G V ch
+
+-- in each context that a state between items allows
+abbrev pub InEachOutside : (Choice → Environment) → Sight → Letters → (Context → Type 0) → Type 0
+InEachOutside E a G P = (V : Types) (c : Context) → c.env ≡ E c.chosen → Loose a.nodes V → AgreesOutside a G V c.chosen → P c
+
+-- what is recorded is a node of the store, and so are the nodes of letters
+pub record AreInside (a : Sight) (G : Letters) : Type 0 where
+  pub recorded : (i p m : ℕ) → a.types i p ≡ Some m → IsNode a.nodes m
+  pub given : AreNodes G a.nodes
+
+-- A state between items, where the code's names stand for those of the definitions: at each reading schemes both ways, under types that fit one way. Its level is the lowest,
+-- and the free variables of the names' types, which are weak, are of that level. `Surrounds` is the same inside an item.
+pub record Outside (D : Declared) (a : Sight) (G : Letters) (env : List Entry) (E : Choice → Environment) : Type 0 where
+  pub sound : IsSound a.nodes
+  pub level : a.level ≡ 0
+  pub roots : List ℕ
+  pub names : Types
+  pub steady : IsSteady D
+  pub context : (J : Types) → IsOwn a.nodes J → IsContext a.nodes J roots a.level
+  pub covered : Covers (D.declaration a.nodes roots names) (D.exception a.nodes roots names) roots env
+  pub reads : (J V : Types) (ch : Choice) → IsOwn a.nodes J → IsReading a.nodes V → AgreesOutside a G V ch → Stands SchemeReads (D.declaration a.nodes roots names) (D.exception a.nodes roots names) a.nodes J roots V env (E ch)
+  pub fits : (J V : Types) (ch : Choice) → IsOwn a.nodes J → Loose a.nodes V → AgreesOutside a G V ch → Stands SchemeFits (D.declaration a.nodes roots names) (D.exception a.nodes roots names) a.nodes J roots V env (E ch)
+
+-- What only an item's own conditions speak of: the letters of its rows, and the nodes of the type variables that are written in it, which are among some names.
+pub record Left : Type 0 where
+  pub letters : Letters
+  pub owner : ℕ
+  pub names : List Name
+  pub written : Name → Option ℕ
+
+-- A choice has them: letters and written type variables have the types of their nodes, and where a name isn't written, which any closed type does for, no bound
+-- variable of the store stands in its type.
+pub record IsLeft (nodes : List Node) (l : Left) (V : Types) (ch : Choice) : Type 0 where
+  pub letters : AreGiven l.letters V ch
+  pub written : (x : Name) (m : ℕ) → l.written x ≡ Some m → ch.written l.owner x ≡ V m
+  pub others : (k : ℕ) (x : Name) → slice_get l.names k ≡ Some x → l.written x ≡ None → (v : ℕ) → is_bound nodes v ≡ true → occurs v (ch.written l.owner x) ≡ false
+
+-- the same of what several items left
+abbrev pub AreLeft : List Node → List Left → Types → Choice → Type 0
+AreLeft nodes [] V ch = Unit {0}
+AreLeft nodes (l ∷ ls) V ch = IsLeft nodes l V ch × AreLeft nodes ls V ch
+
+-- types with which a choice enters items
+pub record EntersItems (E : Choice → Environment) (a : Sight) (G : Letters) (V : Types) (c : Context) : Type 0 where
+  pub env : c.env ≡ E c.chosen
+  pub inside : AreInside a G
+  pub fits : Fits a.nodes V
+  pub agrees : AgreesOutside a G V c.chosen
+
+-- types with which a choice is read off the state after items, under the demands that were kept
+pub record ReadsItems (E : Choice → Environment) (b : Sight) (G : Letters) (left : List Left) (judged : List Judgement) (V : Types) (c : Context) : Type 0 where
+  pub env : c.env ≡ E c.chosen
+  pub reads : IsReading b.nodes V
+  pub agrees : AgreesOutside b G V c.chosen
+  pub left_too : AreLeft b.nodes left V c.chosen
+  pub kept : AreKept c.kept judged
+
+-- the demands are judged as they were, and the types go on
+pub record ContinuesItems (asks : Asks) (a b : Sight) (G : Letters) (judged : List Judgement) (V : Types) (c : Context) : Type 0 where
+  pub same : judgements c.kept (asks c) ≡ judged
+  pub types : Types
+  pub fits : Fits b.nodes types
+  pub before : SameAt a.nodes V types
+  pub agrees : AgreesOutside b G types c.chosen
+
+-- what is made and recorded stays, and is read as before
+pub record StaysOutside (a : Sight) (G : Letters) (b : Sight) (G' : Letters) : Type 0 where
+  pub sound : IsSound a.nodes → IsSound b.nodes
+  pub loose : (V : Types) → Loose b.nodes V → Loose a.nodes V
+  pub reads : (V : Types) → IsReading b.nodes V → IsReading a.nodes V
+  pub refines : (K : Types) → IsOwn b.nodes K → Refines a.nodes b.nodes K
+  pub bounds : (v : ℕ) → is_bound a.nodes v ≡ true → is_bound b.nodes v ≡ true
+  pub recorded : (i p m : ℕ) → a.types i p ≡ Some m → b.types i p ≡ Some m
+  pub given : (V : Types) (ch : Choice) → AreGiven G' V ch → AreGiven G V ch
+  pub inside : AreInside a G → AreInside b G'
+  pub aloud : b.aloud ≡ a.aloud
+  pub level : b.level ≡ a.level
+  pub fixed : b.fixed ≡ a.fixed
+
+-- Between items the type variables that were written are forgotten, and the next item begins; nodes and what is recorded are as before.
+pub record OnlyBetween (a b : Sight) : Type 0 where
+  pub nodes : b.nodes ≡ a.nodes
+  pub types : (i p : ℕ) → b.types i p ≡ a.types i p
+  pub reports : b.reports ≡ a.reports
+  pub aloud : b.aloud ≡ a.aloud
+  pub level : b.level ≡ a.level
+  pub fixed : b.fixed ≡ a.fixed
+
+-- What items ask was done, from one state between items to another. `sound`, `complete` and `first` are those of `Carried`, with these differences: no frame is needed,
+-- since the next item has one of its own, and the type variables that were written in the items are left with their nodes, since the end of an item may generalise them.
+pub record ItemsCarried (E : Choice → Environment) (asks : Asks) (a : Sight) (G : Letters) (b : Sight) (G' : Letters) : Type 0 where
+  pub stays : StaysOutside a G b G'
+  pub left : List Left
+  pub judged : List Judgement
+  pub told : List Report
+  pub reports : b.reports ≡ a.reports ++ told
+  pub sound : (V : Types) (c : Context) → ReadsItems E b G' left judged V c → Meets c.kept (asks c) judged told
+  pub complete : (V : Types) (c : Context) → EntersItems E a G V c → AllHold c.kept (asks c) → ContinuesItems asks a b G' judged V c ⊎ FallsShort (judgements c.kept (asks c)) judged
+  pub first : (k : ℕ) (V : Types) (c : Context) → EntersItems E a G V c → AllHold c.kept (take k (asks c)) →
+      StartsWith judged (judgements c.kept (take k (asks c))) ⊎ FallsShort (judgements c.kept (take k (asks c))) judged
