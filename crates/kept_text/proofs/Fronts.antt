@@ -24,6 +24,15 @@ steady_less first later (t ∷ ts) le = go (nat_lt later t.reach) refl (steady_l
         ap (λ (b : Bool). if b then [] else t ∷ steady reach_of first ts) (sym early)
     go false is rest = ap (λ (l : List Reached). if nat_lt first t.reach then [] else t ∷ l) rest
 
+-- they are no more than all
+pub steady_few : (place : ℕ) (ts : List Reached) → length (steady reach_of place ts) ≤ length ts
+steady_few place [] = omega arith
+steady_few place (t ∷ ts) = go (nat_lt place t.reach) (steady_few place ts)
+  where
+    go : (c : Bool) → length (steady reach_of place ts) ≤ length ts → length (if c then [] else t ∷ steady reach_of place ts) ≤ length (t ∷ ts)
+    go true rest = omega arith
+    go false rest = omega (arith, rest)
+
 -- where the bytes before a place are as they were, the steady ones among first tokens of the text before are first tokens of the text after
 pub front_on : (place : ℕ) (text other : List ℕ) (at : ℕ) (ts : List Reached) → take place text ≡ take place other → IsFront FirstReached end_of text at ts → IsFront FirstReached end_of other at (steady reach_of place ts)
 front_on place text other at [] same front = tt

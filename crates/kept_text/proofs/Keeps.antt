@@ -1,5 +1,5 @@
 -- What is kept of a text still holds of it after an edit, after it is read again, and after it is parsed again.
-use Rattle.std.proofs.Common.{◌≡◌, ℕ, zero, suc, ◌+◌, ◌≤◌, List, [], ◌∷◌, ◌++◌, length, length-append, map, take, drop, min, Option, Some, None, Bool, true, false, nat_lt, refl, sym, ap, ◌∙◌, subst, arith, Ok, Err}
+use Rattle.std.proofs.Common.{◌≡◌, ℕ, zero, suc, ◌+◌, ◌-◌, ◌*◌, ◌≤◌, List, [], ◌∷◌, ◌++◌, length, length-append, map, take, drop, min, Option, Some, None, Bool, true, false, nat_lt, refl, sym, ap, ◌∙◌, subst, arith, Ok, Err}
 use Rattle.std.specs.Prelude.{if◌then◌else◌, is_some}
 use Rattle.std.specs.Result.{OnOk, OnErr}
 use Rattle.std.specs.declared.result.Result.{Result}
@@ -11,27 +11,34 @@ use Rattle.text_model.specs.Positions.{offset}
 use Rattle.text_model.proofs.Positions.{offset-le}
 use Rattle.token_model.specs.Kinds.{Tok}
 use Rattle.token_model.specs.Tokens.{no_gap, FirstToken, Lex}
-use Rattle.syntax_tree.specs.Tallies.{Tallies, Grows, lexed_more}
+use Rattle.syntax_tree.specs.Tallies.{Tallies, Grows, lexed_more, shifted_more}
+use Rattle.frame_parser.specs.Run.{shifted_by}
 use Rattle.syntax_tree.specs.View.{tok_of}
 use Rattle.syntax_tree.specs.declared.tree.Token.{Token}
 use Rattle.ml_lexer.specs.Reached.{Reached, FirstReached, end_of, reach_of, reached_of}
 use Rattle.ml_lexer.specs.Steady.{ends_at, steady, AllTokens}
 use Rattle.ml_lexer.proofs.Agree.{agree_less}
 use Rattle.ml_lexer.proofs.SameTokens.{read_again, same_steady}
+use Rattle.token_laws.proofs.Ones.{lex_one}
 use Rattle.token_laws.proofs.Steadies.{reached_steady}
 use Rattle.token_store.specs.Stored.{lexed_by, toks_of, IsFront}
-use Rattle.token_store.proofs.Fronts.{all_few, all_reached, lexed_most, reached_ends, reached_many, with_reaches}
+use Rattle.token_store.proofs.Fronts.{all_few, all_reached, lex_of, lexed_most, reached_ends, reached_many, with_reaches}
 use Rattle.grammar_model.specs.Ocaml.{program_text}
 use Rattle.resume_parser.specs.Kept.{text_in, HasParsed}
+use Rattle.resume_parser.specs.Retaken.{kept_behind}
 use Rattle.resume_parser.specs.declared.kept.KeptParse.{KeptParse}
 use Rattle.resume_parser.proofs.Steps.{mapped_first}
-use Rattle.kept_text.specs.Keeping.{sooner, tok_end, AreLeft, IsKept, IsParsedUpTo, IsParsedWhole, IsUpToDate, Kept}
-use Rattle.kept_text.proofs.Fronts.{steady_less, front_on, all_front, front_of_all, steady_first, toks_first}
+use Rattle.kept_text.specs.Keeping.{read_behind, shifted_behind, sooner, tok_end, AreLeft, IsKept, IsKnown, IsParsedUpTo, IsParsedWhole, IsUpToDate, Kept}
+use Rattle.kept_text.proofs.Fronts.{steady_few, steady_less, front_on, all_front, front_of_all, steady_first, toks_first}
 
 -- the code's tokens, with their reaches and then without
 pub toks_mapped : (ts : List Token) → toks_of (map reached_of ts) ≡ map tok_of ts
 toks_mapped [] = refl
 toks_mapped (t ∷ ts) = ap (λ (l : List Tok). tok_of t ∷ l) (toks_mapped ts)
+
+-- the parser's tokens, as the code has them and as the store is seen
+pub toks_are : (tokens : List Token) (ts : List Reached) → map reached_of tokens ≡ ts → map tok_of tokens ≡ toks_of ts
+toks_are tokens ts same = sym (toks_mapped tokens) ∙ ap toks_of same
 
 -- ---- reading again
 
@@ -65,7 +72,7 @@ read_left (Err e) text from old new left all refused = subst (AreLeft text from)
 
 -- what isn't left by a change is at most 32 more than the tokens that end at its place or behind
 pub few_read : (text : List ℕ) (from n : ℕ) (old : List Reached) → AreLeft text from old → ((ts : List Tok) → Lex text ts → n + length (steady reach_of from old) ≤ length ts)
-    → (ts : List Tok) → Lex text ts → n ≤ 32 + ends_at tok_end from ts
+    → (ts : List Tok) → Lex text ts → n ≤ read_behind from ts
 few_read text from n old h few ts lex =
     let us = with_reaches text ts in
     let all = all_reached text ts lex in
@@ -103,7 +110,53 @@ read_known r text from same kept old new parse front all refused many h =
     toks_first kept old ∙ ap (λ n. toks_of (take n old)) many ∙ ap toks_of (steady_first from old ∙ sym first) ∙ ap (λ n. toks_of (take n new)) (sym many) ∙ sym (toks_first kept new) in
     known_less same kept (toks_of old) (toks_of new) parse (omega (arith, many, ap length first, length-take (length (steady reach_of from old)) new, length-map new (λ (t : Reached). t.token))) eq h
 
+-- of the tokens before and after, those that the change leaves are the same
+pub steady_one : (text : List ℕ) (from : ℕ) (old new : List Reached) → AreLeft text from old → AreLeft text from new → steady reach_of from old ≡ steady reach_of from new
+steady_one text from old new h k = h.left ∙ same_steady FirstReached end_of reach_of reached_steady from h.read k.read (h.same ∙ sym k.same) 0 h.all k.all h.lexed k.lexed ∙ sym k.left
+
+-- Where the parser knows the tokens that a change leaves, it knows all but those that are read behind it.
+pub known_most : (text : List ℕ) (from same : ℕ) (now : List Reached) (ts : List Tok) → AllTokens FirstReached end_of text 0 now → Lex text ts → length (steady reach_of from now) ≤ same → length ts - read_behind from ts ≤ same
+known_most text from same now ts lexed lex known =
+    let us = with_reaches text ts in
+    let all = all_reached text ts lex in
+    let one : steady reach_of from now ≡ steady reach_of from us = same_steady FirstReached end_of reach_of reached_steady from text text refl 0 now us lexed all in
+    omega (arith, known, ap length one, read_again FirstReached end_of reach_of reached_steady from text 0 us all, reached_ends text from ts, reached_many text ts)
+
 -- ---- counting
+
+same_place : (from place : ℕ) (noted other : Option ℕ) → noted ≡ Some from → noted ≡ other → other ≡ Some place → from ≡ place
+same_place from place noted other is same there = cc
+
+-- so many shifted tokens more
+pub shifted_most : (n : ℕ) (a : Tallies) → (shifted_by n a).shifted ≤ a.shifted + n
+shifted_most zero a = omega arith
+shifted_most (suc n) a = omega (arith, shifted_most n (shifted_more a))
+
+pub shifted_within : (a b : Tallies) (n most : ℕ) → b ≡ shifted_by n a → n ≤ most → b.shifted ≤ a.shifted + most
+shifted_within a b n most is le = omega (arith, ap (λ (t : Tallies). t.shifted) is, shifted_most n a, le)
+
+-- what is lexed isn't shifted
+lexed_unshifted : (n : ℕ) (a : Tallies) → (lexed_by n a).shifted ≡ a.shifted
+lexed_unshifted zero a = refl
+lexed_unshifted (suc n) a = lexed_unshifted n a
+
+-- A refresh counts as shifted no more than it may shift: once the tokens are read, and once they are parsed, or could not be.
+pub read_shifts : (outside : Kept) (a b : Tallies) (n : ℕ) → b ≡ lexed_by n a → (place : ℕ) (ts : List Tok) → outside.changed ≡ Some place → Lex outside.text ts → b.shifted ≤ a.shifted + shifted_behind place ts
+read_shifts outside a b n is place ts there lex = omega (arith, ap (λ (t : Tallies). t.shifted) is, lexed_unshifted n a)
+
+pub parsed_shifts : (inside outside : Kept) (text : List ℕ) (from same n : ℕ) (tokens : List Token) (now : List Reached) (a b c : Tallies) → inside ≡ outside → inside.changed ≡ Some from → text ≡ inside.text → b ≡ lexed_by n a
+    → AllTokens FirstReached end_of text 0 now → map reached_of tokens ≡ now → length (steady reach_of from now) ≤ same
+    → ((k : ℕ) → k ≤ same → c.shifted ≤ b.shifted + (kept_behind program_text (take k (map tok_of tokens)) + 2 * (length tokens - k)))
+    → (place : ℕ) (ts : List Tok) → outside.changed ≡ Some place → Lex outside.text ts → c.shifted ≤ a.shifted + shifted_behind place ts
+parsed_shifts inside outside text from same n tokens now a b c view noted is counted all are known work place ts there lex =
+    let own : Lex text ts = subst (λ (l : List ℕ). Lex l ts) (sym (is ∙ ap (λ (k : Kept). k.text) view)) lex in
+    let at : from ≡ place = same_place from place inside.changed outside.changed noted (ap (λ (k : Kept). k.changed) view) there in
+    let one : map tok_of tokens ≡ ts = toks_are tokens now are ∙ lex_one text (toks_of now) ts (lex_of text now all) own in
+    let k = length ts - read_behind from ts in
+    let within = work k (known_most text from same now ts all own known) in
+    let most : c.shifted ≤ a.shifted + shifted_behind from ts =
+    omega (arith, within, ap (λ (l : List Tok). kept_behind program_text (take k l)) one, length-map tokens tok_of, ap length one, ap (λ (t : Tallies). t.shifted) counted, lexed_unshifted n a) in
+    subst (λ m. c.shifted ≤ a.shifted + shifted_behind m ts) at most
 
 counted_one : (a b : Tallies) → Grows a b → Grows a (lexed_more b)
 counted_one a b g = let x = g.lexed in let y = g.shifted in let z = g.typed in record { lexed = omega arith; shifted = omega arith; typed = omega arith }
@@ -116,16 +169,22 @@ counted_by a (suc n) = counted_one a (lexed_by n a) (counted_by a n)
 pub grows_lexed : (a b : Tallies) (n : ℕ) → b ≡ lexed_by n a → Grows a b
 grows_lexed a b n is = subst (Grows a) (sym is) (counted_by a n)
 
+-- what is lexed isn't typed
+lexed_untyped : (n : ℕ) (a : Tallies) → (lexed_by n a).typed ≡ a.typed
+lexed_untyped zero a = refl
+lexed_untyped (suc n) a = lexed_untyped n a
+
+-- nothing was typed while tokens were read, and nothing after it
+pub read_untyped : (a b c : Tallies) (n : ℕ) → b ≡ lexed_by n a → c.typed ≡ b.typed → c.typed ≡ a.typed
+read_untyped a b c n is stays = stays ∙ ap (λ (t : Tallies). t.typed) is ∙ lexed_untyped n a
+
 pub grows_on : (a b c : Tallies) → Grows a b → Grows b c → Grows a c
 grows_on a b c g h = record { lexed = omega (arith, g.lexed, h.lexed); shifted = omega (arith, g.shifted, h.shifted); typed = omega (arith, g.typed, h.typed) }
 
-same_place : (from place : ℕ) (noted other : Option ℕ) → noted ≡ Some from → noted ≡ other → other ≡ Some place → from ≡ place
-same_place from place noted other is same there = cc
-
 -- A refresh counts the tokens that are read, and no more: by what is kept as it is inside and as it is seen, the text as it is read, and the counter before, once the tokens are read, and behind.
 pub work_done : (inside outside : Kept) (text : List ℕ) (from n : ℕ) (a b c : Tallies) → inside ≡ outside → inside.changed ≡ Some from → text ≡ inside.text → b ≡ lexed_by n a
-    → ((ts : List Tok) → Lex text ts → n ≤ 32 + ends_at tok_end from ts) → c.lexed ≡ b.lexed
-    → (place : ℕ) (ts : List Tok) → outside.changed ≡ Some place → Lex outside.text ts → c.lexed ≤ a.lexed + (32 + ends_at tok_end place ts)
+    → ((ts : List Tok) → Lex text ts → n ≤ read_behind from ts) → c.lexed ≡ b.lexed
+    → (place : ℕ) (ts : List Tok) → outside.changed ≡ Some place → Lex outside.text ts → c.lexed ≤ a.lexed + read_behind place ts
 work_done inside outside text from n a b c view noted is counted few stays place ts there lex =
     let own : Lex text ts = subst (λ (l : List ℕ). Lex l ts) (sym (is ∙ ap (λ (k : Kept). k.text) view)) lex in
     let same : from ≡ place = same_place from place inside.changed outside.changed noted (ap (λ (k : Kept). k.changed) view) there in
@@ -167,6 +226,7 @@ pub kept_edited : (text new : List ℕ) (e : Edit) (first same : ℕ) (tokens : 
 kept_edited text new e first same tokens parse None is h = record {
   lexed = record { read = text; all = tokens; lexed = h.lexed; same = same_before text e first new is; left = refl };
   parsed = h.parsed;
+  known = omega (arith, steady_few first tokens, h.known);
   whole = tt;
 }
 kept_edited text new e first same tokens parse (Some before) is h =
@@ -176,6 +236,7 @@ kept_edited text new e first same tokens parse (Some before) is h =
     record {
       lexed = left_less text new s before tokens le.1 bytes h.lexed;
       parsed = h.parsed;
+      known = omega (arith, ap length (steady_less s before tokens le.1), steady_few s (steady reach_of before tokens), h.known);
       whole = tt;
     }
   where
@@ -183,19 +244,19 @@ kept_edited text new e first same tokens parse (Some before) is h =
     go true is = (omega arith, grind (arith, nat_tests))
     go false is = (grind (arith, nat_tests), omega arith)
 
+-- what the parser knows where a change is noted
+pub known_at : (noted : Option ℕ) (from : ℕ) (tokens : List Reached) (same : ℕ) → noted ≡ Some from → IsKnown noted tokens same → length (steady reach_of from tokens) ≤ same
+known_at noted from tokens same is known = subst (λ (o : Option ℕ). IsKnown o tokens same) is known
+
 -- ---- reading and parsing the text again
 
 -- what is kept once the tokens are read again, or could not be
-pub kept_read : (text : List ℕ) (tokens : List Reached) (parse : Option KeptParse) (from same : ℕ) → AreLeft text from tokens → IsParsedUpTo same (toks_of tokens) parse → IsKept text tokens parse (Some from) same
-kept_read text tokens parse from same left parsed = record { lexed = left; parsed = parsed; whole = tt }
+pub kept_read : (text : List ℕ) (tokens : List Reached) (parse : Option KeptParse) (from same : ℕ) → AreLeft text from tokens → IsParsedUpTo same (toks_of tokens) parse → length (steady reach_of from tokens) ≤ same → IsKept text tokens parse (Some from) same
+kept_read text tokens parse from same left parsed known = record { lexed = left; parsed = parsed; known = known; whole = tt }
 
 -- all tokens of a text are few enough for the parser
 pub few_tokens : (text : List ℕ) (tokens : List Token) (ts : List Reached) → length text ≤ text_limit → AllTokens FirstReached end_of text 0 ts → map reached_of tokens ≡ ts → length tokens ≤ 1048576
 few_tokens text tokens ts short all same = omega (arith, short, all_few text 0 ts (omega arith) all, ap length same, length-map tokens reached_of)
-
--- the parser's tokens, as the code has them and as the store is seen
-pub toks_are : (tokens : List Token) (ts : List Reached) → map reached_of tokens ≡ ts → map tok_of tokens ≡ toks_of ts
-toks_are tokens ts same = sym (toks_mapped tokens) ∙ ap toks_of same
 
 -- a parser that has taken all tokens knows them
 whole_known : (ts : List Tok) (parse : Option KeptParse) → IsParsedWhole ts parse → IsParsedUpTo (length ts) ts parse
@@ -212,6 +273,7 @@ kept_whole text tokens ts parse same short all are whole many =
     record {
       lexed = all;
       parsed = subst (λ n. IsParsedUpTo n (toks_of ts) parse) count (whole_known (toks_of ts) parse known);
+      known = omega (arith, count, length-map ts (λ (t : Reached). t.token));
       whole = (known, omega (arith, few_tokens text tokens ts short all are, count, many));
     }
 
@@ -224,16 +286,16 @@ pub resumed : (same : ℕ) (ts : List Tok) (k : KeptParse) → IsParsedUpTo same
 resumed same ts k h = (h.old, h.parsed.0, h.known, h.first)
 
 -- what the parser knows once it went on, or could not
-pub resumed_known : {T E : Type 0} (r : Result T E) (same : ℕ) (tokens : List Token) (k : KeptParse) → same ≤ length tokens → text_in k ≡ program_text
-    → OnOk r (HasParsed (map tok_of tokens) k) → OnErr r ((n : ℕ) × (same ≤ n) × (n ≤ length tokens) × HasParsed (map tok_of (take n tokens)) k) → IsParsedUpTo same (map tok_of tokens) (Some k)
-resumed_known (Ok x) same tokens k within text all some = record {
+pub resumed_known : {T E : Type 0} (P : ℕ → Type 0) (r : Result T E) (same : ℕ) (tokens : List Token) (k : KeptParse) → same ≤ length tokens → text_in k ≡ program_text
+    → OnOk r (HasParsed (map tok_of tokens) k) → OnErr r ((n : ℕ) × (same ≤ n) × (n ≤ length tokens) × HasParsed (map tok_of (take n tokens)) k × P n) → IsParsedUpTo same (map tok_of tokens) (Some k)
+resumed_known P (Ok x) same tokens k within text all some = record {
   old = map tok_of tokens;
   parsed = (all, text);
   known = omega (arith, within, length-map tokens tok_of);
   within = omega (arith, within, length-map tokens tok_of);
   first = refl;
 }
-resumed_known (Err e) same tokens k within text all (n, least, most, parsed) = record {
+resumed_known P (Err e) same tokens k within text all (n, least, most, parsed, more) = record {
   old = map tok_of (take n tokens);
   parsed = (parsed, text);
   known = omega (arith, least, most, length-map (take n tokens) tok_of, length-take n tokens);
@@ -254,6 +316,7 @@ pub kept_new : (text : List ℕ) (tokens : List Reached) → text ≡ [] → tok
 kept_new text tokens empty none = subst (λ (l : List ℕ). IsKept l tokens None (Some 0) 0) (sym empty) (subst (λ (ts : List Reached). IsKept [] ts None (Some 0) 0) (sym none) (record {
   lexed = record { read = []; all = []; lexed = no_tokens; same = refl; left = refl };
   parsed = record { old = []; parsed = refl; known = omega arith; within = omega arith; first = refl };
+  known = omega arith;
   whole = tt;
 }))
 

@@ -1,11 +1,12 @@
 -- A text with what is kept of it: its tokens, and what the parser made of them.
-use Rattle.std.specs.Prelude.{◌≡◌, ℕ, ◌≤◌, List, [], length, take, Option, Some, None, if◌then◌else◌, nat_lt}
+use Rattle.std.specs.Prelude.{◌≡◌, ℕ, ◌+◌, ◌-◌, ◌*◌, ◌≤◌, List, [], length, take, Option, Some, None, if◌then◌else◌, nat_lt}
 use Rattle.token_model.specs.Kinds.{Tok}
 use Rattle.grammar_model.specs.Ocaml.{program_text}
 use Rattle.ml_lexer.specs.Reached.{end_of, reach_of, FirstReached, Reached}
-use Rattle.ml_lexer.specs.Steady.{steady, AllTokens}
+use Rattle.ml_lexer.specs.Steady.{ends_at, steady, AllTokens}
 use Rattle.token_store.specs.Stored.{toks_of}
 use Rattle.resume_parser.specs.Kept.{text_in, HasParsed}
+use Rattle.resume_parser.specs.Retaken.{kept_behind}
 use Rattle.resume_parser.specs.declared.kept.KeptParse.{KeptParse}
 
 -- a text, the tokens that are kept of it with their reaches, and the first byte that may have changed since they were read; none, where they are those of the text
@@ -22,6 +23,14 @@ sooner first (Some before) = if nat_lt first before then first else before
 -- where a token ends
 abbrev pub tok_end : Tok → ℕ
 tok_end t = t.end
+
+-- How many tokens are read anew at most where bytes from a place on were changed: 32 more than those of the text that end there or behind.
+abbrev pub read_behind : ℕ → List Tok → ℕ
+read_behind from ts = 32 + ends_at tok_end from ts
+
+-- How many are shifted at most: each of these twice, and those before them that the parser keeps, as it may take them again.
+abbrev pub shifted_behind : ℕ → List Tok → ℕ
+shifted_behind from ts = kept_behind program_text (take (length ts - read_behind from ts) ts) + 2 * read_behind from ts
 
 -- All tokens are there that a change at a place leaves as they are: those of a text that was read whole, with the same bytes before the place.
 pub record AreLeft (text : List ℕ) (from : ℕ) (tokens : List Reached) : Type 0 where
@@ -59,8 +68,14 @@ abbrev pub IsUpToDate : Option ℕ → List Tok → Option KeptParse → Type 0
 IsUpToDate None ts parse = IsParsedWhole ts parse × (length ts ≤ 1048576)
 IsUpToDate (Some from) ts parse = Unit {0}
 
+-- the parser knows all tokens that the change left, or all of them where nothing was changed
+abbrev pub IsKnown : Option ℕ → List Reached → ℕ → Type 0
+IsKnown None ts same = length ts ≤ same
+IsKnown (Some from) ts same = length (steady reach_of from ts) ≤ same
+
 -- what ties the tokens and the parser to the text
 pub record IsKept (text : List ℕ) (tokens : List Reached) (parse : Option KeptParse) (changed : Option ℕ) (same : ℕ) : Type 0 where
   pub lexed : AreTokens text changed tokens
   pub parsed : IsParsedUpTo same (toks_of tokens) parse
+  pub known : IsKnown changed tokens same
   pub whole : IsUpToDate changed (toks_of tokens) parse

@@ -1,13 +1,15 @@
 // What is read and parsed anew behind a change.
-ghost use Rattle.std.specs.Prelude.{◌≡◌, ℕ, ◌+◌, ◌-◌, ◌<◌, ◌≤◌, ◌^◌, List, ◌++◌, length, map, Option, OnOk};
+ghost use Rattle.std.specs.Prelude.{◌≡◌, ℕ, ◌+◌, ◌-◌, ◌*◌, ◌<◌, ◌≤◌, ◌^◌, List, ◌++◌, length, map, take, Option, OnOk};
 ghost use Rattle.std.specs.Str.{IsUtf8};
+ghost use Rattle.grammar_model.specs.Ocaml.{program_text};
 ghost use Rattle.token_model.specs.Kinds.{Tok};
 ghost use Rattle.token_model.specs.Tokens.{Lex};
-ghost use Rattle.ml_lexer.specs.Reached.{end_of, FirstReached};
-ghost use Rattle.ml_lexer.specs.Steady.{ends_at, AllTokens};
+ghost use Rattle.ml_lexer.specs.Reached.{end_of, reach_of, FirstReached};
+ghost use Rattle.ml_lexer.specs.Steady.{ends_at, steady, AllTokens};
 ghost use Rattle.syntax_tree.specs.Tallies.{Grows};
 ghost use Rattle.syntax_tree.specs.View.{tok_of};
 ghost use Rattle.token_store.specs.Stored.{lexed_by, toks_of};
+ghost use Rattle.resume_parser.specs.Retaken.{kept_behind};
 ghost use Rattle.resume_parser.specs.declared.kept.KeptParse.{KeptParse as parser};
 ghost use Rattle.kept_text.specs.Keeping.{tok_end, AreLeft, IsParsedUpTo, IsParsedWhole};
 
@@ -32,6 +34,7 @@ pub fn read_again<C: Counts>(
     ensures all { OnOk result (AllTokens FirstReached end_of (left.now ++ right.now) 0 tokens.new.tokens) }
     ensures left { AreLeft (left.now ++ right.now) from tokens.new.tokens }
     ensures same { (parse : Option parser) → IsParsedUpTo same.old (toks_of tokens.old.tokens) parse → IsParsedUpTo same.new (toks_of tokens.new.tokens) parse }
+    ensures known { length (steady reach_of from tokens.old.tokens) ≤ same.old → length (steady reach_of from tokens.new.tokens) ≤ same.new }
     ensures work { (n : ℕ) × (C.tallies counts.new ≡ lexed_by n (C.tallies counts.old)) × ((ts : List Tok) → Lex (left.now ++ right.now) ts → n ≤ 32 + ends_at tok_end from ts) }
 {
     let answer = tokens.relex(left, right, from, counts);
@@ -51,7 +54,9 @@ pub fn parse_again<C: Counts>(
     requires parsed { IsParsedUpTo same (map tok_of tokens.now) parse.old }
     ensures whole { OnOk result (IsParsedWhole (map tok_of tokens.now) parse.new) }
     ensures parsed { IsParsedUpTo same (map tok_of tokens.now) parse.new }
+    ensures shifted { (k : ℕ) → k ≤ same → (C.tallies counts.new).shifted ≤ (C.tallies counts.old).shifted + (kept_behind program_text (take k (map tok_of tokens.now)) + 2 * (length tokens.now - k)) }
     ensures unlexed { (C.tallies counts.new).lexed ≡ (C.tallies counts.old).lexed }
+    ensures untyped { (C.tallies counts.new).typed ≡ (C.tallies counts.old).typed }
     ensures grows { Grows (C.tallies counts.old) (C.tallies counts.new) }
 {
     match parse {

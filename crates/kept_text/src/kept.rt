@@ -6,14 +6,13 @@ ghost use Rattle.recovery_model.specs.Recovery.{recover};
 ghost use Rattle.text_model.specs.Edits.{changed, outcome_of};
 ghost use Rattle.token_model.specs.Kinds.{AllWithin, Tok};
 ghost use Rattle.token_model.specs.Tokens.{Lex};
-ghost use Rattle.ml_lexer.specs.Steady.{ends_at};
 ghost use Rattle.syntax_tree.specs.Tallies.{Grows};
 ghost use Rattle.syntax_tree.specs.View.{tok_of, trees_of};
 ghost use Rattle.frame_steps.specs.Told.{told};
 ghost use Rattle.frame_steps.specs.View.{fault_of};
 ghost use Rattle.text_store.specs.Edits.{edit_of, IsRefusal};
 ghost use Rattle.token_store.specs.Stored.{toks_of};
-ghost use Rattle.kept_text.specs.Keeping.{sooner, tok_end};
+ghost use Rattle.kept_text.specs.Keeping.{read_behind, shifted_behind, sooner};
 
 use crate::again::{parse_again, read_again};
 use resume_parser::{KeptParse, Parsed};
@@ -93,13 +92,16 @@ impl KeptText {
     }
 
     /// Brings the tokens and the tree up to the text: those from the first changed byte on are read and parsed, and at most 32 tokens
-    /// that end before it are read once more. After `NoMemory` the next call does what is left.
+    /// that end before it are read once more. After `NoMemory` the next call does what is left. A token that is parsed counts as
+    /// shifted once for each time that the parser takes it, and it takes none more than twice.
     pub fn refresh<C: Counts>(&mut self, counts: &mut C) -> Result<(), NoMemory>
         ensures text { self.new.text ≡ self.old.text }
         ensures current { OnOk result (self.new.changed ≡ None) }
         ensures refused { OnErr result (self.new.changed ≡ self.old.changed) }
-        ensures work { (from : ℕ) (ts : List Tok) → self.old.changed ≡ Some from → Lex self.old.text ts → (C.tallies counts.new).lexed ≤ (C.tallies counts.old).lexed + (32 + ends_at tok_end from ts) }
+        ensures work { (from : ℕ) (ts : List Tok) → self.old.changed ≡ Some from → Lex self.old.text ts → (C.tallies counts.new).lexed ≤ (C.tallies counts.old).lexed + read_behind from ts }
+        ensures shifted { (from : ℕ) (ts : List Tok) → self.old.changed ≡ Some from → Lex self.old.text ts → (C.tallies counts.new).shifted ≤ (C.tallies counts.old).shifted + shifted_behind from ts }
         ensures idle { self.old.changed ≡ None → C.tallies counts.new ≡ C.tallies counts.old }
+        ensures untyped { (C.tallies counts.new).typed ≡ (C.tallies counts.old).typed }
         ensures grows { Grows (C.tallies counts.old) (C.tallies counts.new) }
     {
         let Some(from) = self.changed else {

@@ -103,6 +103,11 @@ pub lexed_stays : (n : ℕ) (c : Tallies) → (shifted_by n c).lexed ≡ c.lexed
 lexed_stays zero c = refl
 lexed_stays (suc n) c = lexed_stays n (shifted_more c)
 
+-- nor typed
+pub typed_stays : (n : ℕ) (c : Tallies) → (shifted_by n c).typed ≡ c.typed
+typed_stays zero c = refl
+typed_stays (suc n) c = typed_stays n (shifted_more c)
+
 -- nothing is counted yet
 pub counted_none : (text : Text) (tokens : List Token) (n : ℕ) (c : Tallies) → n ≤ length tokens → IsCounted text n (map tok_of (take n tokens)) c c
 counted_none text tokens n c le =

@@ -1,5 +1,5 @@
 // Steps of a text's tokens, one a token.
-ghost use Rattle.std.specs.Prelude.{◌≡◌, ℕ, ◌+◌, ◌≤◌, ◌<◌, List, [], ◌∷◌, ◌++◌, length, map, take, IfOk, OnOk, OnErr};
+ghost use Rattle.std.specs.Prelude.{◌≡◌, ℕ, ◌+◌, ◌-◌, ◌*◌, ◌≤◌, ◌<◌, List, [], ◌∷◌, ◌++◌, length, map, take, IfOk, OnOk, OnErr};
 ghost use Rattle.std.specs.Vec.{vec_capacity};
 ghost use Rattle.token_model.specs.Kinds.{Tok};
 ghost use Rattle.grammar_model.specs.Named.{named, items_of};
@@ -13,6 +13,7 @@ ghost use Rattle.frame_steps.specs.View.{fault_of};
 ghost use Rattle.frame_parser.specs.Behind.{Behind};
 ghost use Rattle.frame_parser.specs.Run.{faults, next_shifts, shifted_by};
 ghost use Rattle.resume_parser.specs.Kept.{text_in, AreSteps, HasParsed, IsCounted};
+ghost use Rattle.resume_parser.specs.Retaken.{kept_behind};
 
 use frame_parser::{
     Closed, Parsed, Stack, Stepped, SyntaxFault, Text, close, empty, empty_sig, step,
@@ -88,7 +89,8 @@ impl KeptParse {
     }
 
     /// Parses tokens of which the first `same` are the first ones that it has parsed already; the others count as tokens shifted,
-    /// one for each time that the parser takes one. After `NoMemory` it has parsed some of them, at least the first `same`.
+    /// one for each time that the parser takes one. After `NoMemory` it has parsed some of them, at least the first `same`, and counted
+    /// these.
     pub fn refresh<C: Counts>(
         &mut self,
         tokens: &[Token],
@@ -100,9 +102,11 @@ impl KeptParse {
         requires kept { (old : List Tok) × HasParsed old self.old × (same ≤ length old) × (take same old ≡ take same (map tok_of tokens.now)) }
         ensures text { text_in self.new ≡ text_in self.old }
         ensures parsed { OnOk result (HasParsed (map tok_of tokens.now) self.new) }
-        ensures refused { OnErr result ((n : ℕ) × (same ≤ n) × (n ≤ length tokens.now) × HasParsed (map tok_of (take n tokens.now)) self.new) }
+        ensures refused { OnErr result ((n : ℕ) × (same ≤ n) × (n ≤ length tokens.now) × HasParsed (map tok_of (take n tokens.now)) self.new × IsCounted (text_in self.old) same (map tok_of (take n tokens.now)) (C.tallies counts.old) (C.tallies counts.new)) }
         ensures counted { OnOk result (IsCounted (text_in self.old) same (map tok_of tokens.now) (C.tallies counts.old) (C.tallies counts.new)) }
+        ensures work { (n : ℕ) × (C.tallies counts.new ≡ shifted_by n (C.tallies counts.old)) × ((k : ℕ) → k ≤ same → n ≤ kept_behind (text_in self.old) (take k (map tok_of tokens.now)) + 2 * (length tokens.now - k)) }
         ensures unlexed { (C.tallies counts.new).lexed ≡ (C.tallies counts.old).lexed }
+        ensures untyped { (C.tallies counts.new).typed ≡ (C.tallies counts.old).typed }
         ensures grows { Grows (C.tallies counts.old) (C.tallies counts.new) }
     {
         self.cut(same);

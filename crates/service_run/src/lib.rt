@@ -4,9 +4,11 @@
 //! The layer above may use `served`, whose contract says what was taken and put for each exit status.
 #![tactic(auto)]
 
-ghost use Rattle.std.specs.Prelude.{◌≡◌, ◌≢◌, ◌⊎◌, false, is_some, true};
+ghost use Rattle.std.specs.Prelude.{◌≡◌, ◌≢◌, ◌⊎◌, false, is_some, true, None, IfSome};
+ghost use Rattle.service_model.specs.Runs.{request_lines};
 ghost use Rattle.syntax_tree.specs.Tallies.{Grows};
 ghost use Rattle.session_loop.specs.Causes.{Rose};
+ghost use Rattle.session_loop.specs.Spending.{SpentOver};
 ghost use Rattle.session_loop.specs.Words.{are_refused, items_asked, texts, AlwaysAccepted};
 ghost use Rattle.lsp_loop.specs.Words.{asks_editor as asks_editor_spec};
 ghost use Rattle.service_run.specs.Numbers.{number_of, number_of_end};
@@ -69,6 +71,8 @@ pub fn served<A: Analyser, S: Source, K: Sink, C: Counts>(
     // A read or a write failed where the exit status says so.
     ensures read { result ≡ 3 → Rose (S.faults src.old) (S.faults src.new) }
     ensures write { result ≡ 4 → Rose (K.faults sink.old) (K.faults sink.new) }
+    // A session lexes no more tokens and types no more items than the lines may that were answered.
+    ensures work { asks_editor_spec (texts words.now) ≡ false → items_asked (texts words.now) ≡ None → IfSome (S.left src.old) (λ input. SpentOver A.opens (C.tallies counts.old) (C.tallies counts.new) (K.held sink.old) (K.held sink.new) (request_lines input)) }
     // No number of the counter falls.
     ensures counted { Grows (C.tallies counts.old) (C.tallies counts.new) }
 {

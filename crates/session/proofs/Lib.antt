@@ -1,4 +1,5 @@
 mod Answering
+pub mod Carrying
 pub mod Cases
 pub mod Completing
 pub mod Naming

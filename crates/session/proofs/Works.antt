@@ -1,5 +1,5 @@
--- How many tokens a session's answers read, and what is owed behind them.
-use Rattle.std.proofs.Common.{◌≡◌, inl, inr, ◌⊎◌, ℕ, ◌+◌, ◌-◌, ◌≤◌, ◌<◌, min, nat_lt, List, [], ◌∷◌, length, refl, sym, ◌∙◌, ap, subst, arith, Bool, true, false, Result, Ok, Err, OnOk}
+-- How many tokens a session's answers read and items they type, and what is owed behind them.
+use Rattle.std.proofs.Common.{◌≡◌, inl, inr, ℕ, ◌+◌, ◌-◌, ◌≤◌, min, nat_lt, List, [], ◌∷◌, length, refl, sym, ◌∙◌, ap, subst, arith, Bool, true, false, Result, Ok, Err, OnOk}
 use Rattle.std.specs.Prelude.{Option, Some, None, OnErr, if◌then◌else◌}
 use Rattle.std.proofs.lemmas.Bool.{ltb-true, ltb-false}
 use Rattle.text_model.specs.Edits as edit
@@ -19,10 +19,11 @@ use Rattle.kept_text.specs.Keeping as kept
 use Rattle.text_reading.specs.Types.{opening}
 use Rattle.json_lines.specs.Meets.{IsToldOf}
 use Rattle.session.specs.Lines.{line_bytes, refusal_in, RefusesBy, RefusesEditBy, RepliesBy, Says}
-use Rattle.session.specs.Working.{in_vain, is_memory, Held, Lexes, Owes, QueryWorks, Reads, RequestWorks, Rests, Settles}
+use Rattle.session.specs.Working.{in_vain, is_memory, Carries, Held, Lexes, Owes, QueryWorks, Reads, RequestWorks, Rests, Settles, Types}
 use Rattle.session.specs.declared.session.Line.{Line}
 use Rattle.session.specs.declared.session.Line.TheVariants.{Written, Memory}
 use Rattle.session.proofs.Answering.{replies_query}
+use Rattle.session.proofs.Carrying.{apart_carry, rest_carry, short_carry, types_carry}
 
 -- ---- reading
 
@@ -110,24 +111,29 @@ on_ok_after P Q (Err e) p = tt
 
 -- a query that is answered with a line, or for which memory is short
 pub line_works : {T E : Type 0} (r : Result T E) (opens : List ℕ) (tried : Bool) (l : Line) (old new : Held) (a b : Tallies) → OnErr r (l ≡ Memory) → OnOk r (new.changed ≡ None) → Settles old new
-    → OnOk r (tried ≡ false → Reads opens false old new a b) → (tried ≡ false → Reads opens true old new a b) → QueryWorks opens true tried l old new a b
-line_works (Ok x) opens tried l old new a b memory current settles reads fails = (λ not. current, settles, λ not. reads_more opens (is_memory l) old new a b (reads not))
-line_works (Err e) opens tried l old new a b memory current settles reads fails = (
+    → OnOk r (tried ≡ false → Reads opens false old new a b) → (tried ≡ false → Reads opens true old new a b) → OnOk r (tried ≡ false → Types old new a b) → QueryWorks opens true tried l old new a b
+line_works (Ok x) opens tried l old new a b memory current settles reads fails types = (λ not. current, settles, λ not. reads_more opens (is_memory l) old new a b (reads not), λ not written. types not)
+line_works (Err e) opens tried l old new a b memory current settles reads fails types = (
   λ not. let bad : true ≡ false = sym (ap is_memory memory) ∙ not in cc,
   settles,
   λ not. subst (λ (k : Line). Reads opens (is_memory k) old new a b) (sym memory) (fails not),
+  λ not written. let bad : true ≡ false = sym (ap is_memory memory) ∙ written in cc,
 )
 
 -- ---- requests
 
 -- what is owed behind a query that was answered
-none_owed : (w : Owed) (s : Held) → s.changed ≡ None → w.text ≡ s.text → Owes (record { text = w.text; since = None }) s
-none_owed w s none text = record { text = text; noted = λ n is. let bad : None ≡ Some n = sym none ∙ is in cc }
+none_owed : (w : Owed) (asked : List (List ℕ)) (apart : ℕ) (s : Held) → s.changed ≡ None → w.text ≡ s.text → Owes (record { text = w.text; since = None; asked = asked; apart = apart }) s
+none_owed w asked apart s none text = record { text = text; noted = λ n is. let bad : None ≡ Some n = sym none ∙ is in cc }
 
 -- what is owed is owed still
 still_owed : (w : Owed) (old new : Held) → Owes w old → new.text ≡ old.text → Settles old new → Owes w new
 still_owed w old new owes text (inl none) = record { text = owes.text ∙ sym text; noted = λ n is. let bad : None ≡ Some n = sym none ∙ is in cc }
 still_owed w old new owes text (inr same) = record { text = owes.text ∙ sym text; noted = λ n is. owes.noted n (sym same ∙ is) }
+
+-- the same with other numbers of items
+short_owed : (w : Owed) (apart : ℕ) (s : Held) → Owes w s → Owes (record { text = w.text; since = w.since; asked = w.asked; apart = apart }) s
+short_owed w apart s owes = record { text = owes.text; noted = owes.noted }
 
 -- what was answered is answered at the text that is owed
 answered_at : (old new : Held) (w : Owed) (a : Asked) (bytes : List ℕ) → w.text ≡ old.text → new.text ≡ old.text → (s : said.Said) × Replies old.text a s new.text × (bytes ≡ said.line_of s) → Answered w.text (asks a) bytes w.text
@@ -141,17 +147,19 @@ away_works opens a (Written v) old new b c away leaves replies stays rests = λ 
     let here : is_query w.text a ≡ false = ap (λ (t : List ℕ). is_query t a) owes.text ∙ away in (
       w,
       0,
-      inl (answered_at old new w a v.items owes.text stays replies, sym (leaves w ∙ ap (λ (q : Bool). if q then None else w.since) here), subst (λ (q : Bool). ReadsBy q (tries a) w 0) (sym here) refl),
+      inl (answered_at old new w a v.items owes.text stays replies, sym (leaves w ∙ ap (λ (q : Bool). if q then None else w.since) here), sym (ap (λ (q : Bool). if q then w.text ∷ w.asked else w.asked) here), λ not. refl, subst (λ (q : Bool). ReadsBy q (tries a) w 0) (sym here) refl),
       still_owed w old new owes stays (inr rests.changed),
       omega (arith, ap (λ (t : Tallies). t.lexed) rests.counted, ap (opening (length ps)) rests.begun),
+      rest_carry w old new b c rests.holds (ap (λ (t : Tallies). t.typed) rests.counted),
     )
 away_works opens a Memory old new b c away leaves replies stays rests = λ w ps owes lex.
     let here : is_query w.text a ≡ false = ap (λ (t : List ℕ). is_query t a) owes.text ∙ away in (
       w,
       0,
-      inr (refl, refl, (0, subst (λ (q : Bool). ReadsBy q (tries a) w 0) (sym here) refl, omega (arith, ap (λ (q : Bool). if q then length ps else 0) here))),
+      inr (refl, refl, refl, refl, (0, subst (λ (q : Bool). ReadsBy q (tries a) w 0) (sym here) refl, omega (arith, ap (λ (q : Bool). if q then length ps else 0) here))),
       still_owed w old new owes stays (inr rests.changed),
       omega (arith, ap (λ (t : Tallies). t.lexed) rests.counted, ap (opening (length ps)) rests.begun),
+      rest_carry w old new b c rests.holds (ap (λ (t : Tallies). t.typed) rests.counted),
     )
 
 -- how many tokens a query reads that has a place
@@ -164,26 +172,36 @@ query_reads opens a failed true old new b c w ps owes lex here tried reads =
     let n = (c.lexed - b.lexed) + length ps in
     (n, subst (λ (q : Bool). ReadsBy q (tries a) w n) (sym here) (subst (λ (t : Bool). ReadsBy true t w n) (sym tried) tt), omega (arith, opening_most (length ps) new.begun))
 
+-- what a query types that has a place
+query_types : (tried : Bool) (w : Owed) (old new : Held) (b c : Tallies) → w.text ≡ old.text → (tried ≡ false → Types old new b c)
+    → (apart : ℕ) × (tried ≡ false → apart ≡ w.apart) × Carries w (record { text = w.text; since = None; asked = w.text ∷ w.asked; apart = apart }) old new b c
+query_types false w old new b c text types = (w.apart, λ not. refl, types_carry w None old new b c text (types refl))
+query_types true w old new b c text types = (w.apart + (c.typed + length old.holds), λ not. cc, apart_carry w None old new b c)
+
 -- a query that has a place
 pub here_works : (opens : List ℕ) (a : Asked) (tried : Bool) (l : Line) (old new : Held) (b c : Tallies) → is_query old.text a ≡ true → tries a ≡ tried → ((w : Owed) → since_after w a ≡ (if is_query w.text a then None else w.since))
     → RepliesBy old.text a l new.text → new.text ≡ old.text → QueryWorks opens true tried l old new b c → RequestWorks opens a l old new b c
-here_works opens a tried (Written v) old new b c there tries_so leaves replies stays (current, settles, reads) = λ w ps owes lex.
+here_works opens a tried (Written v) old new b c there tries_so leaves replies stays (current, settles, reads, types) = λ w ps owes lex.
     let here : is_query w.text a ≡ true = ap (λ (t : List ℕ). is_query t a) owes.text ∙ there in
-    let (n, line, most) = query_reads opens a false tried old new b c w ps owes lex here tries_so reads in (
-      record { text = w.text; since = None },
+    let (n, line, most) = query_reads opens a false tried old new b c w ps owes lex here tries_so reads in
+    let (apart, same, carries) = query_types tried w old new b c owes.text (λ not. types not refl) in (
+      record { text = w.text; since = None; asked = w.text ∷ w.asked; apart = apart },
       n,
-      inl (answered_at old new w a v.items owes.text stays replies, sym (leaves w ∙ ap (λ (q : Bool). if q then None else w.since) here), line),
-      none_owed w new (current refl) (owes.text ∙ sym stays),
+      inl (answered_at old new w a v.items owes.text stays replies, sym (leaves w ∙ ap (λ (q : Bool). if q then None else w.since) here), sym (ap (λ (q : Bool). if q then w.text ∷ w.asked else w.asked) here), λ not. same (sym tries_so ∙ not), line),
+      none_owed w (w.text ∷ w.asked) apart new (current refl) (owes.text ∙ sym stays),
       omega (arith, most),
+      carries,
     )
-here_works opens a tried Memory old new b c there tries_so leaves replies stays (current, settles, reads) = λ w ps owes lex.
+here_works opens a tried Memory old new b c there tries_so leaves replies stays (current, settles, reads, types) = λ w ps owes lex.
     let here : is_query w.text a ≡ true = ap (λ (t : List ℕ). is_query t a) owes.text ∙ there in
-    let (n, line, most) = query_reads opens a true tried old new b c w ps owes lex here tries_so reads in (
-      w,
+    let (n, line, most) = query_reads opens a true tried old new b c w ps owes lex here tries_so reads in
+    let apart = w.apart + (c.typed + length old.holds) in (
+      record { text = w.text; since = w.since; asked = w.asked; apart = apart },
       n + length ps,
-      inr (refl, refl, (n, line, omega (arith, ap (λ (q : Bool). if q then length ps else 0) here))),
-      still_owed w old new owes stays settles,
+      inr (refl, refl, refl, refl, (n, line, omega (arith, ap (λ (q : Bool). if q then length ps else 0) here))),
+      short_owed w apart new (still_owed w old new owes stays settles),
       most,
+      short_carry w old new b c,
     )
 
 -- a query by whether it has a place
@@ -217,27 +235,31 @@ same_some m n is = cc
 
 -- a `tell` that is accepted
 pub told_works : (old new : Held) (range : Option ((ℕ × ℕ) × (ℕ × ℕ))) (bytes : List ℕ) (first : ℕ) (l : Line) (w : Owed) (p : ℕ) → Owes w old → tell_outcome old.text range bytes ≡ edit.changed first new.text
-    → new.changed ≡ Some (kept.sooner first old.changed) → is_memory l ≡ false → RepliesBy old.text (tell range bytes) l new.text → (v : Owed) × WorksAt p w (asks (tell range bytes)) (line_bytes l) v 0 × Owes v new
-told_works old new range bytes first (Written v) w p owes outcome noted written (s, replies, is) =
+    → new.changed ≡ Some (kept.sooner first old.changed) → new.holds ≡ old.holds → is_memory l ≡ false → RepliesBy old.text (tell range bytes) l new.text
+    → (v : Owed) × WorksAt p w (asks (tell range bytes)) (line_bytes l) v 0 × Owes v new × ((c : Tallies) → Carries w v old new c c)
+told_works old new range bytes first (Written v) w p owes outcome noted holds written (s, replies, is) =
     let there : tell_outcome w.text range bytes ≡ edit.changed first new.text = ap (λ (t : List ℕ). tell_outcome t range bytes) owes.text ∙ outcome in
     let since = Some (sooner first w.since) in (
-      record { text = new.text; since = since },
-      inl ((s, subst (λ (t : List ℕ). Replies t (tell range bytes) s new.text) (sym owes.text) replies, is), sym (ap (λ (o : edit.Outcome). edited o w.since) there), refl),
+      record { text = new.text; since = since; asked = w.asked; apart = w.apart },
+      inl ((s, subst (λ (t : List ℕ). Replies t (tell range bytes) s new.text) (sym owes.text) replies, is), sym (ap (λ (o : edit.Outcome). edited o w.since) there), refl, λ not. refl, refl),
       record { text = refl; noted = λ n is. (sooner first w.since, refl, omega (arith, sooner_noted first w.since old.changed owes.noted, same_some (kept.sooner first old.changed) n (sym noted ∙ is))) },
+      λ c. rest_carry w old new c c holds refl,
     )
-told_works old new range bytes first Memory w p owes outcome noted written replies = let bad : true ≡ false = written in cc
+told_works old new range bytes first Memory w p owes outcome noted holds written replies = let bad : true ≡ false = written in cc
 
 -- one that is refused, or for which memory is short
 pub untold_works : (old new : Held) (range : Option ((ℕ × ℕ) × (ℕ × ℕ))) (bytes : List ℕ) (l : Line) (w : Owed) (p : ℕ) → Owes w old → new ≡ old
-    → (is_memory l ≡ false → (r : edit.Refusal) × (tell_outcome old.text range bytes ≡ edit.refused r)) → RepliesBy old.text (tell range bytes) l new.text → (v : Owed) × WorksAt p w (asks (tell range bytes)) (line_bytes l) v 0 × Owes v new
+    → (is_memory l ≡ false → (r : edit.Refusal) × (tell_outcome old.text range bytes ≡ edit.refused r)) → RepliesBy old.text (tell range bytes) l new.text
+    → (v : Owed) × WorksAt p w (asks (tell range bytes)) (line_bytes l) v 0 × Owes v new × ((c : Tallies) → Carries w v old new c c)
 untold_works old new range bytes (Written v) w p owes same outcome replies =
     let (r, is) = outcome refl in
     let here : tell_outcome w.text range bytes ≡ edit.refused r = ap (λ (t : List ℕ). tell_outcome t range bytes) owes.text ∙ is in (
       w,
-      inl (answered_at old new w (tell range bytes) v.items owes.text (ap (λ (h : Held). h.text) same) replies, sym (ap (λ (o : edit.Outcome). edited o w.since) here), refl),
+      inl (answered_at old new w (tell range bytes) v.items owes.text (ap (λ (h : Held). h.text) same) replies, sym (ap (λ (o : edit.Outcome). edited o w.since) here), refl, λ not. refl, refl),
       subst (Owes w) (sym same) owes,
+      λ c. rest_carry w old new c c (ap (λ (h : Held). h.holds) same) refl,
     )
-untold_works old new range bytes Memory w p owes same outcome replies = (w, inr (refl, refl, (0, refl, refl)), subst (Owes w) (sym same) owes)
+untold_works old new range bytes Memory w p owes same outcome replies = (w, inr (refl, refl, refl, refl, (0, refl, refl)), subst (Owes w) (sym same) owes, λ c. rest_carry w old new c c (ap (λ (h : Held). h.holds) same) refl)
 
 -- why an edit is refused, where memory isn't short
 pub refused_outcome : (o : edit.Outcome) (refusal : TextRefusal) (l : Line) → IsRefusal o refusal → RefusesEditBy (refusal_in refusal) l → is_memory l ≡ false → (r : edit.Refusal) × (o ≡ edit.refused r)
@@ -264,12 +286,12 @@ reads_none (asks a) w = reads_none_by (is_query w.text a) (tries a) w
 reads_none (refused r) w = refl
 
 -- one for which memory is short
-pub memory_works : (r : Reading) (l : Line) (s : Held) (w : Owed) (p : ℕ) (c : Tallies) → Owes w s → l ≡ Memory → (v : Owed) × (n : ℕ) × WorksAt p w r (line_bytes l) v n × Owes v s × Lexes p n s s c c
-memory_works r l s w p c owes is = (w, read_again p w.text r, inr (ap line_bytes is, refl, (0, reads_none r w, omega arith)), owes, omega arith)
+pub memory_works : (r : Reading) (l : Line) (s : Held) (w : Owed) (p : ℕ) (c : Tallies) → Owes w s → l ≡ Memory → (v : Owed) × (n : ℕ) × WorksAt p w r (line_bytes l) v n × Owes v s × Lexes p n s s c c × Carries w v s s c c
+memory_works r l s w p c owes is = (w, read_again p w.text r, inr (ap line_bytes is, refl, refl, refl, (0, reads_none r w, omega arith)), owes, omega arith, rest_carry w s s c c refl refl)
 
 -- a line that is no request, or one for which memory is short
 pub malformed_works : (line : List ℕ) (r : Option Refusal) (l : Line) (s : Held) (w : Owed) (p : ℕ) (c : Tallies) → Owes w s → IsToldOf r (reading line) → RefusesBy r l
-    → (v : Owed) × (n : ℕ) × WorksAt p w (reading line) (line_bytes l) v n × Owes v s × Lexes p n s s c c
-malformed_works line (Some r) (Written v) s w p c owes is written = (w, 0, subst (λ x. WorksAt p w x v.items w 0) (sym is) (inl ((written, refl), refl, refl)), owes, omega arith)
+    → (v : Owed) × (n : ℕ) × WorksAt p w (reading line) (line_bytes l) v n × Owes v s × Lexes p n s s c c × Carries w v s s c c
+malformed_works line (Some r) (Written v) s w p c owes is written = (w, 0, subst (λ x. WorksAt p w x v.items w 0) (sym is) (inl ((written, refl), refl, refl, refl, refl)), owes, omega arith, rest_carry w s s c c refl refl)
 malformed_works line (Some r) Memory s w p c owes is written = memory_works (reading line) Memory s w p c owes refl
 malformed_works line None l s w p c owes is written = memory_works (reading line) l s w p c owes written

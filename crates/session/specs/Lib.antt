@@ -2,5 +2,6 @@
 pub mod Changes
 pub mod Lines
 pub mod Queries
+pub mod TreeCodes
 pub mod Trials
 pub mod Working

@@ -1,10 +1,14 @@
--- What a session keeps, and how many tokens its answers read.
-use Rattle.std.specs.Prelude.{◌≡◌, ◌⊎◌, ℕ, ◌+◌, ◌≤◌, List, length, Bool, true, false, Option, Some, None, if◌then◌else◌}
+-- What a session keeps, and how many tokens its answers read and items they type.
+use Rattle.std.specs.Prelude.{◌≡◌, ◌⊎◌, ℕ, ◌+◌, ◌-◌, ◌≤◌, List, length, Bool, true, false, Option, Some, None, if◌then◌else◌, refl}
+use Rattle.std.specs.Coded.{Coded, code_by, coded×, coded_bool, coded_list, coded_option, coded_ℕ}
 use Rattle.token_model.specs.Kinds.{Tok}
 use Rattle.token_model.specs.Tokens.{Lex}
+use Rattle.tree_model.specs.Trees.{Tree}
 use Rattle.service_model.specs.Requests.{Asked, asks}
-use Rattle.work_model.specs.Work.{Owed, IsAnew, WorksAt}
+use Rattle.work_model.specs.Work.{Owed, AreLast, IsAnew, RetypedOver, WorksAt}
 use Rattle.syntax_tree.specs.Tallies.{Tallies}
+use Rattle.analysis_api.specs.Typed.{more_typed, LongestFront, SameFront}
+use Rattle.text_reading.specs.Structures.{AreItemsOf}
 use Rattle.text_reading.specs.Types.{opening}
 use Rattle.session.specs.Lines.{line_bytes}
 use Rattle.session.specs.declared.session.Line.{Line}
@@ -12,12 +16,19 @@ use Rattle.session.specs.declared.session.Line.TheVariants.{Written, Memory}
 use Rattle.session.specs.declared.queries.Query.{Query}
 use Rattle.session.specs.declared.queries.Query.TheVariants.{Cases, Terms}
 
--- The text, the first byte that may have changed since its tokens were read, or none, whether a typer has begun, and whether the types of the text are known.
+-- The text, the first byte that may have changed since its tokens were read, or none, whether a typer has begun, whether the types of the text are known, and the items that the typer holds.
 pub record Held : Type 0 where
   pub text : List ℕ
   pub changed : Option ℕ
   pub begun : Bool
   pub known : Bool
+  pub holds : List Tree
+
+-- by which two of these are told apart, by the code of a tree
+abbrev pub held_code : Coded Tree → Coded Held
+held_code tree =
+    code_by (List ℕ × (Option ℕ × (Bool × (Bool × List Tree)))) (coded× (coded_list coded_ℕ) (coded× (coded_option coded_ℕ) (coded× coded_bool (coded× coded_bool (coded_list tree)))))
+    (λ h. (h.text, (h.changed, (h.begun, (h.known, h.holds))))) (λ p. record { text = p.0; changed = p.1.0; begun = p.1.1.0; known = p.1.1.1.0; holds = p.1.1.1.1 }) (λ _. refl)
 
 -- what is owed is of the text, and from no later byte on than what was noted
 pub record Owes (w : Owed) (s : Held) : Type 0 where
@@ -45,16 +56,36 @@ abbrev pub is_memory : Line → Bool
 is_memory (Written v) = false
 is_memory Memory = true
 
--- nothing was read, and no change is noted or forgotten
+-- Nothing was typed, or the typer holds the text's items now, of which those were typed that are behind the longest front of what it held before.
+abbrev pub Types : Held → Held → Tallies → Tallies → Type 0
+Types old new before after = ((new.holds ≡ old.holds) × (after.typed ≡ before.typed))
+    ⊎ ((n : ℕ) × AreItemsOf old.text new.holds × LongestFront old.holds new.holds n × (after.typed ≡ more_typed (length new.holds - n) before.typed))
+
+-- What a typer holds against the text at the last query that was answered: the count of typed items is at most so many, and still is where those of this text are added that aren't at the front of what it holds.
+pub record Covers (asked : List (List ℕ)) (holds : List Tree) (typed most : ℕ) : Type 0 where
+  pub within : typed ≤ most
+  pub front : (items : List Tree) → AreLast asked items → (n : ℕ) × SameFront holds items n × (typed + length items ≤ most + n)
+
+-- the count is within what the queries so far may type, from this count on
+abbrev pub Within : ℕ → Owed → Held → Tallies → Type 0
+Within start w s counts = (n : ℕ) → RetypedOver w.asked n → Covers w.asked s.holds counts.typed (start + (w.apart + n))
+
+-- and stays so
+abbrev pub Carries : Owed → Owed → Held → Held → Tallies → Tallies → Type 0
+Carries w v old new before after = (start : ℕ) → Within start w old before → Within start v new after
+
+-- nothing was read or typed, and no change is noted or forgotten
 pub record Rests (old new : Held) (before after : Tallies) : Type 0 where
   pub changed : new.changed ≡ old.changed
   pub begun : new.begun ≡ old.begun
+  pub holds : new.holds ≡ old.holds
   pub counted : after ≡ before
 
 -- What a query has done that is answered with a line, by whether it has a place in the text, and whether it may try other texts.
 abbrev pub QueryWorks : List ℕ → Bool → Bool → Line → Held → Held → Tallies → Tallies → Type 0
 QueryWorks opens false tried l old new before after = Rests old new before after
 QueryWorks opens true tried l old new before after = (is_memory l ≡ false → new.changed ≡ None) × Settles old new × (tried ≡ false → Reads opens (is_memory l) old new before after)
+    × (tried ≡ false → is_memory l ≡ false → Types old new before after)
 
 -- whether a query may try other texts
 abbrev pub tries_texts : Query → Bool
@@ -66,3 +97,4 @@ tries_texts _ = false
 abbrev pub RequestWorks : List ℕ → Asked → Line → Held → Held → Tallies → Tallies → Type 0
 RequestWorks opens a l old new before after = (w : Owed) (ps : List Tok) → Owes w old → Lex opens ps
     → (v : Owed) × (n : ℕ) × WorksAt (length ps) w (asks a) (line_bytes l) v n × Owes v new × Lexes (length ps) n old new before after
+    × Carries w v old new before after

@@ -13,7 +13,7 @@ ghost use Rattle.query_model.specs.Faults.{TyperFault, by_typer};
 ghost use Rattle.service_model.specs.Requests.{asks, reading, tell as tell_spec};
 ghost use Rattle.service_model.specs.Answers.{Answers, PlacedIs, EnclosingIs, TypesAre, tell_outcome, end_key, typed_among as typed_among_spec, typed_round, types_or_none};
 ghost use Rattle.work_model.specs.Work.{Owed, WorksAt};
-ghost use Rattle.syntax_tree.specs.Tallies.{Grows};
+ghost use Rattle.syntax_tree.specs.Tallies.{Grows, Tallies};
 ghost use Rattle.syntax_tree.specs.View.{trees_of};
 ghost use Rattle.plain_typing.specs.View.{seen_of};
 ghost use Rattle.text_queries.specs.Faults.{fault_of, typer_fault_of};
@@ -28,7 +28,7 @@ ghost use Rattle.text_reading.specs.Structures.{AreItemsOf};
 ghost use Rattle.text_reading.specs.Types.{items_in};
 ghost use Rattle.session.specs.Queries.{IsAnswered};
 ghost use Rattle.session.specs.Lines.{line_bytes, refusal_in, IsWritten, RefusesBy, RefusesEditBy, RepliesBy, Says};
-ghost use Rattle.session.specs.Working.{tries_texts, Lexes, Owes, QueryWorks, Reads, RequestWorks, Settles};
+ghost use Rattle.session.specs.Working.{tries_texts, Carries, Lexes, Owes, QueryWorks, Reads, RequestWorks, Settles, Types};
 
 use crate::queries::{Query, answer, asked, failure_of};
 use analysis_api::Analyser;
@@ -179,16 +179,20 @@ pub struct Session<A: Analyser> {
     tried: TriedText<A>,
 }
 
-/// A session is seen as its text and how far it is read. Where the typer's items are known as those of the text, they are.
+/// A session is seen as its text, how far it is read, and the items that are typed. Where the typer's items are known as those of the text, they are.
 impl<A: Analyser> Model for Session<A> {
     ghost use Rattle.std.specs.Prelude.{IfSome, is_some};
     ghost use Rattle.text_reading.specs.Structures.{AreItemsOf};
-    ghost use Rattle.text_reading.specs.Types.{has_begun, known};
-    ghost use Rattle.session.specs.Working.{Held};
+    ghost use Rattle.text_reading.specs.Types.{has_begun, held, known};
+    ghost use Rattle.session.specs.TreeCodes.{tree_code};
+    ghost use Rattle.session.specs.Working.{held_code, Held};
+    ghost use Rattle.std.specs.Coded.{codes};
 
     ghost Value = { Held };
 
-    ghost view = { λ s. record { text = s.kept.text; changed = s.kept.changed; begun = has_begun s.types; known = is_some (known A.items s.types) } };
+    ghost coded = { held_code (tree_code (Prim.hlevel codes) (Prim.hlevel codes) (Prim.hlevel codes)) };
+
+    ghost view = { λ s. record { text = s.kept.text; changed = s.kept.changed; begun = has_begun s.types; known = is_some (known A.items s.types); holds = held A.items s.types } };
 
     ghost invariant = { λ s. IfSome (known A.items s.types) (AreItemsOf s.kept.text) };
 }
@@ -217,7 +221,7 @@ impl<A: Analyser> Session<A> {
     /// Answers one line that isn't blank. Only a `tell` that is accepted changes the text.
     pub fn answer<C: Counts>(&mut self, line: &[u8], counts: &mut C) -> Line
         ensures answers { Answers self.old.text line.now (line_bytes result) self.new.text }
-        ensures works { (w : Owed) (ps : List Tok) → Owes w self.old → Lex A.opens ps → (v : Owed) × (n : ℕ) × WorksAt (length ps) w (reading line.now) (line_bytes result) v n × Owes v self.new × Lexes (length ps) n self.old self.new (C.tallies counts.old) (C.tallies counts.new) }
+        ensures works { (w : Owed) (ps : List Tok) → Owes w self.old → Lex A.opens ps → (v : Owed) × (n : ℕ) × WorksAt (length ps) w (reading line.now) (line_bytes result) v n × Owes v self.new × Lexes (length ps) n self.old self.new (C.tallies counts.old) (C.tallies counts.new) × Carries w v self.old self.new (C.tallies counts.old) (C.tallies counts.new) }
         ensures counted { Grows (C.tallies counts.old) (C.tallies counts.new) }
     {
         match read_request(self.alloc, line) {
@@ -252,7 +256,7 @@ impl<A: Analyser> Session<A> {
     /// Makes an edit, or replaces the whole text. The reply is made before the text is changed.
     fn tell(&mut self, range: Option<(Pos, Pos)>, text: RcStr) -> Line
         ensures replies { RepliesBy self.old.text (tell_spec (option_map range_of range) (str_bytes text)) result self.new.text }
-        ensures owed { (w : Owed) (p : ℕ) → Owes w self.old → (v : Owed) × WorksAt p w (asks (tell_spec (option_map range_of range) (str_bytes text))) (line_bytes result) v 0 × Owes v self.new }
+        ensures owed { (w : Owed) (p : ℕ) → Owes w self.old → (v : Owed) × WorksAt p w (asks (tell_spec (option_map range_of range) (str_bytes text))) (line_bytes result) v 0 × Owes v self.new × ((c : Tallies) → Carries w v self.old self.new c c) }
         ensures begun { self.new.begun ≡ self.old.begun }
     {
         let edit = self.edit_for(range, text);
@@ -271,6 +275,7 @@ impl<A: Analyser> Session<A> {
         ensures done { IfOk result (λ first. outcome_of self.old.text (edit_of edit.now) ≡ changed first self.new.text) }
         ensures noted { IfOk result (λ first. self.new.changed ≡ Some (sooner first self.old.changed)) }
         ensures begun { self.new.begun ≡ self.old.begun }
+        ensures holds { self.new.holds ≡ self.old.holds }
         ensures refused { IfErr result (λ refusal. (self.new ≡ self.old) × IsRefusal (outcome_of self.old.text (edit_of edit.now)) refusal) }
     {
         match self.kept.apply(edit) {
@@ -387,7 +392,7 @@ impl<A: Analyser> Session<A> {
         counts: &mut C,
     ) -> Result<Reply, NoMemory>
         ensures said { IfOk result (λ r. IsAnswered query.now self.now.text offset (said_of r)) }
-        ensures idle { self.now.changed ≡ None → self.now.known ≡ true → tries_texts query.now ≡ false → (C.tallies counts.new).lexed ≡ (C.tallies counts.old).lexed }
+        ensures idle { self.now.changed ≡ None → self.now.known ≡ true → tries_texts query.now ≡ false → C.tallies counts.new ≡ C.tallies counts.old }
         ensures counted { Grows (C.tallies counts.old) (C.tallies counts.new) }
     {
         let mut tried = TriedText::new(self.alloc);
@@ -404,7 +409,7 @@ impl<A: Analyser> Session<A> {
         counts: &mut C,
     ) -> Result<Reply, NoMemory>
         ensures said { IfOk result (λ r. IsAnswered query.now self.now.text offset (said_of r)) }
-        ensures idle { self.now.changed ≡ None → self.now.known ≡ true → tries_texts query.now ≡ false → (C.tallies counts.new).lexed ≡ (C.tallies counts.old).lexed }
+        ensures idle { self.now.changed ≡ None → self.now.known ≡ true → tries_texts query.now ≡ false → C.tallies counts.new ≡ C.tallies counts.old }
         ensures counted { Grows (C.tallies counts.old) (C.tallies counts.new) }
     {
         let parsed = tree_of(self.alloc, &self.kept, counts)?;
@@ -431,7 +436,7 @@ impl<A: Analyser> Session<A> {
     ) -> Result<Reply, NoMemory>
         ensures said { IfOk result (λ r. IsAnswered query.now self.old.text offset (said_of r)) }
         ensures stays { self.new ≡ self.old }
-        ensures idle { self.old.changed ≡ None → self.old.known ≡ true → tries_texts query.now ≡ false → (C.tallies counts.new).lexed ≡ (C.tallies counts.old).lexed }
+        ensures idle { self.old.changed ≡ None → self.old.known ≡ true → tries_texts query.now ≡ false → C.tallies counts.new ≡ C.tallies counts.old }
         ensures counted { Grows (C.tallies counts.old) (C.tallies counts.new) }
     {
         let mut tried = mem::replace(&mut self.tried, TriedText::new(self.alloc));
@@ -453,10 +458,11 @@ impl<A: Analyser> Session<A> {
 
     /// Brings the kept tokens and the kept tree up to the text. The text stays.
     fn read_again<C: Counts>(&mut self, counts: &mut C) -> Result<(), NoMemory>
-        ensures rest { (self.new.text ≡ self.old.text) × (self.new.begun ≡ self.old.begun) × (self.new.known ≡ self.old.known) }
+        ensures rest { (self.new.text ≡ self.old.text) × (self.new.begun ≡ self.old.begun) × (self.new.known ≡ self.old.known) × (self.new.holds ≡ self.old.holds) }
         ensures current { OnOk result (self.new.changed ≡ None) }
         ensures refused { OnErr result (self.new.changed ≡ self.old.changed) }
         ensures reads { Reads A.opens false self.old self.new (C.tallies counts.old) (C.tallies counts.new) }
+        ensures untyped { (C.tallies counts.new).typed ≡ (C.tallies counts.old).typed }
         ensures counted { Grows (C.tallies counts.old) (C.tallies counts.new) }
     {
         self.kept.refresh(counts)
@@ -469,6 +475,7 @@ impl<A: Analyser> Session<A> {
         ensures known { OnOk result (self.new.known ≡ true) }
         ensures lexes { (ps : List Tok) → Lex A.opens ps → OnOk result (Lexes (length ps) 0 self.old self.new (C.tallies counts.old) (C.tallies counts.new)) }
         ensures fails { (ps : List Tok) → Lex A.opens ps → Lexes (length ps) (length ps) self.old self.new (C.tallies counts.old) (C.tallies counts.new) }
+        ensures types { OnOk result (Types self.old self.new (C.tallies counts.old) (C.tallies counts.new)) }
         ensures counted { Grows (C.tallies counts.old) (C.tallies counts.new) }
     {
         if self.types.known().is_some() {
@@ -488,6 +495,7 @@ impl<A: Analyser> Session<A> {
         ensures settles { Settles self.old self.new }
         ensures reads { OnOk result (Reads A.opens false self.old self.new (C.tallies counts.old) (C.tallies counts.new)) }
         ensures fails { Reads A.opens true self.old self.new (C.tallies counts.old) (C.tallies counts.new) }
+        ensures types { OnOk result (Types self.old self.new (C.tallies counts.old) (C.tallies counts.new)) }
         ensures known { OnOk result (self.new.known ≡ true) }
         ensures counted { Grows (C.tallies counts.old) (C.tallies counts.new) }
     {
@@ -524,6 +532,7 @@ impl<A: Analyser> Session<A> {
         ensures settles { Settles self.old self.new }
         ensures reads { OnOk result (tries_texts query.now ≡ false → Reads A.opens false self.old self.new (C.tallies counts.old) (C.tallies counts.new)) }
         ensures fails { tries_texts query.now ≡ false → Reads A.opens true self.old self.new (C.tallies counts.old) (C.tallies counts.new) }
+        ensures types { OnOk result (tries_texts query.now ≡ false → Types self.old self.new (C.tallies counts.old) (C.tallies counts.new)) }
         ensures counted { Grows (C.tallies counts.old) (C.tallies counts.new) }
     {
         self.refresh(counts)?;
@@ -549,6 +558,7 @@ impl<A: Analyser> Session<A> {
         ensures settles { Settles self.old self.new }
         ensures reads { OnOk result (Reads A.opens false self.old self.new (C.tallies counts.old) (C.tallies counts.new)) }
         ensures fails { Reads A.opens true self.old self.new (C.tallies counts.old) (C.tallies counts.new) }
+        ensures types { OnOk result (Types self.old self.new (C.tallies counts.old) (C.tallies counts.new)) }
         ensures counted { Grows (C.tallies counts.old) (C.tallies counts.new) }
     {
         self.read_again(counts)?;
@@ -585,6 +595,7 @@ impl<A: Analyser> Session<A> {
         ensures settles { Settles self.old self.new }
         ensures reads { OnOk result (Reads A.opens false self.old self.new (C.tallies counts.old) (C.tallies counts.new)) }
         ensures fails { Reads A.opens true self.old self.new (C.tallies counts.old) (C.tallies counts.new) }
+        ensures types { OnOk result (Types self.old self.new (C.tallies counts.old) (C.tallies counts.new)) }
         ensures counted { Grows (C.tallies counts.old) (C.tallies counts.new) }
     {
         self.read_again(counts)?;
@@ -678,6 +689,7 @@ impl<A: Analyser> Session<A> {
         ensures settles { Settles self.old self.new }
         ensures reads { OnOk result (Reads A.opens false self.old self.new (C.tallies counts.old) (C.tallies counts.new)) }
         ensures fails { Reads A.opens true self.old self.new (C.tallies counts.old) (C.tallies counts.new) }
+        ensures types { OnOk result (Types self.old self.new (C.tallies counts.old) (C.tallies counts.new)) }
         ensures counted { Grows (C.tallies counts.old) (C.tallies counts.new) }
     {
         self.read_again(counts)?;

@@ -1,15 +1,13 @@
 -- A run's work goes on by a line.
-use Rattle.std.proofs.Common.{◌≡◌, ℕ, suc, ◌+◌, ◌≤◌, List, [], ◌∷◌, ◌++◌, length, take, Bool, true, false, Option, Some, None, IfSome, refl, sym, ◌∙◌, ap, subst, arith, append_assoc}
+use Rattle.std.proofs.Common.{◌≡◌, ℕ, suc, ◌+◌, ◌≤◌, List, [], ◌∷◌, ◌++◌, length, take, false, Option, Some, None, IfSome, refl, sym, ◌∙◌, ap, subst, arith, append_assoc}
 use Rattle.std.specs.Io.KnownBytes.{Appends}
 use Rattle.std.proofs.KnownBytes.{Appends-nil, Appends-trans}
 use Rattle.std.proofs.lemmas.List.{append-nil, take_all}
-use Rattle.token_model.specs.Kinds.{Tok}
-use Rattle.token_model.specs.Tokens.{Lex}
 use Rattle.service_model.specs.Runs.{is_blank_line, last_line, request_lines, Step}
-use Rattle.work_model.specs.Work.{at_first, Owed, RunWorks, WorksBy}
+use Rattle.work_model.specs.Work.{at_first, Owed, RetypedOver, RunWorks, WorksBy}
 use Rattle.syntax_tree.specs.Tallies.{Tallies}
 use Rattle.text_reading.specs.Types.{opening}
-use Rattle.session.specs.Working.{Held, Owes}
+use Rattle.session.specs.Working.{Held}
 use Rattle.session_loop.specs.Spending.{LineSpends, Spends, SpendsOn, SpentOver}
 
 -- one line more
@@ -41,12 +39,16 @@ works_more p w (l ∷ lines) out mid line piece new n m (first, next, rest, here
 pub spends_more : (opens : List ℕ) (start x y : Tallies) (s t : Held) (lines : List (List ℕ)) (line out piece : List ℕ) → SpendsOn opens start x s lines out → LineSpends opens line piece s t x y
     → SpendsOn opens start y t (lines ++ line ∷ []) (out ++ piece)
 spends_more opens start x y s t lines line out piece spends more = λ ps lex.
-    let (v, n, ran, owes, most) = spends ps lex in
-    let (u, m, works, owed, lexes) = more v ps owes lex in
-    (u, n + m, works_more (length ps) at_first lines out v line piece u n m ran works, owed, omega (arith, most, lexes))
+    let (v, n, ran, owes, most, within) = spends ps lex in
+    let (u, m, works, owed, lexes, carries) = more v ps owes lex in
+    (u, n + m, works_more (length ps) at_first lines out v line piece u n m ran works, owed, omega (arith, most, lexes), carries start.typed within)
 
 pub spends_end : (opens : List ℕ) (start x : Tallies) (s : Held) (lines : List (List ℕ)) (out : List ℕ) → SpendsOn opens start x s lines out → Spends opens start x lines out
-spends_end opens start x s lines out spends = λ ps lex. let (v, n, ran, owes, most) = spends ps lex in (v, n, ran, omega (arith, most))
+spends_end opens start x s lines out spends = λ ps lex. let (v, n, ran, owes, most, within) = spends ps lex in (v, n, ran, omega (arith, most), λ m over. (within m over).within)
+
+take_none : {T : Type 0} (xs : List T) → take 0 xs ≡ []
+take_none [] = refl
+take_none (x ∷ xs) = refl
 
 -- before the first line
 pub spends_none : (opens : List ℕ) (x : Tallies) (s : Held) → s.text ≡ [] → s.begun ≡ false → SpendsOn opens x x s [] []
@@ -56,6 +58,7 @@ spends_none opens x s text begun = λ ps lex. (
   (refl, refl, refl),
   record { text = sym text; noted = λ n is. (0, refl, omega arith) },
   omega (arith, ap (opening (length ps)) begun),
+  λ m none. record { within = omega arith; front = λ items empty. (0, record { left = omega arith; right = omega arith; same = take_none s.holds ∙ sym (take_none items) }, omega (arith, ap length empty)) },
 )
 
 -- all of the bytes were put
@@ -106,9 +109,9 @@ spent_last opens start x y before held now lines [] out piece s t step put puts 
   count = length out;
   put = subst (Appends before now) (ap (λ (p : List ℕ). out ++ p) step.0 ∙ append-nil out ∙ sym (take_all (length out) out (omega arith))) (Appends-trans before held now out piece put puts);
   spends = λ ps lex.
-      let (v, n, ran, owes, most) = spends ps lex in
-      let (u, m, works, owed, lexes) = more v ps owes lex in
-      (v, n, ran, omega (arith, most, lexes, works.2));
+      let (v, n, ran, owes, most, within) = spends ps lex in
+      let (u, m, works, owed, lexes, carries) = more v ps owes lex in
+      (v, n, ran, omega (arith, most, lexes, works.2), λ k over. subst (λ (o : Owed). y.typed ≤ start.typed + (o.apart + k)) works.1 (carries start.typed within k (subst (λ (o : Owed). RetypedOver o.asked k) (sym works.1) over)).within);
 }
 spent_last opens start x y before held now lines (b ∷ bs) out piece s t step put puts spends more =
     spent_whole opens start y before now (lines ++ (b ∷ bs) ∷ []) (lines ++ (b ∷ bs) ∷ []) [] (out ++ piece) (sym (append-nil (lines ++ (b ∷ bs) ∷ []))) (Appends-trans before held now out piece put puts)
@@ -124,5 +127,5 @@ spent_none opens x (Some input) held = record {
   out = [];
   count = 0;
   put = Appends-nil held;
-  spends = λ ps lex. (at_first, 0, (refl, refl, refl), omega arith);
+  spends = λ ps lex. (at_first, 0, (refl, refl, refl), omega arith, λ m none. omega arith);
 }

@@ -1,4 +1,5 @@
 pub mod Parsing
 pub mod Places
 pub mod ReadAs
+pub mod Trying
 pub mod Knowing

@@ -1,18 +1,20 @@
 //! A text that is tried in place of another, with what is kept of it from one such text to the next.
-ghost use Rattle.std.specs.Prelude.{◌≡◌, ◌≤◌, [], ◌++◌, true, length, IfOk};
+ghost use Rattle.std.specs.Prelude.{◌≡◌, ◌≤◌, ◌+◌, [], ◌++◌, List, true, length, IfOk, OnOk};
 ghost use Rattle.text_model.specs.Edits.{text_limit};
+ghost use Rattle.token_model.specs.Kinds.{Tok};
+ghost use Rattle.token_model.specs.Tokens.{Lex};
 ghost use Rattle.syntax_tree.specs.Tallies.{Grows};
 ghost use Rattle.syntax_tree.specs.View.{trees_of};
 ghost use Rattle.text_reading.specs.Structures.{IsParsedAs};
 ghost use Rattle.text_reading.specs.Types.{IsOf};
 
-use crate::structure::{parse_text, tree_of};
+use crate::structure::tree_of;
 use crate::types::KeptTypes;
 use analysis_api::{Analyser, Analysis};
 use frame_parser::Parsed;
 use kept_text::KeptText;
-use std::alloc::Global;
-use syntax_tree::{Counts, NoMemory, RcStr, Tree};
+use std::alloc::{AllocError, Global};
+use syntax_tree::{Counts, NoMemory, Pos, RcStr, Tree};
 use text_store::{Edit, TextStore};
 
 /// A text that is tried, with its tokens, its tree and its types. One that begins like the one before it is read and typed from where
@@ -113,18 +115,46 @@ impl<A: Analyser> TriedText<A> {
         Ok(self.is_kept(text))
     }
 
-    /// The tree and the faults of a text.
+    /// Makes the text that is kept this one by an edit of all of it, which is refused for want of memory alone.
+    fn replace(&mut self, text: &str) -> Result<(), NoMemory>
+        requires short { length text.now ≤ text_limit }
+        ensures { OnOk result (self.new.kept.text ≡ text.now) }
+    {
+        let store = self.kept.text();
+        let (left, right) = store.slices();
+        let edit = Edit {
+            start: Pos { line: 1, col: 0 },
+            end: store.pos_of((left.len() + right.len()) as u32),
+            text: RcStr::from_str(self.alloc, text)?,
+        };
+        match self.kept.apply(&edit) {
+            Ok(_) => Ok(()),
+            Err(_) => Err(AllocError),
+        }
+    }
+
+    /// Makes the text that is kept this one: from the first byte that differs on, where that can be done.
+    fn take(&mut self, text: &str) -> Result<(), NoMemory>
+        requires short { length text.now ≤ text_limit }
+        ensures { OnOk result (self.new.kept.text ≡ text.now) }
+    {
+        if self.bring(text)? {
+            return Ok(());
+        }
+        self.replace(text)
+    }
+
+    /// The tree and the faults of a text. At most 32 tokens more are read than it has, after want of memory too, and nothing is typed.
     pub fn read<C: Counts>(&mut self, text: &str, counts: &mut C) -> Result<Parsed, NoMemory>
         requires short { length text.now ≤ text_limit }
         ensures parsed { IfOk result (λ p. IsParsedAs text.now p) }
+        ensures lexed { (ts : List Tok) → Lex text.now ts → (C.tallies counts.new).lexed ≤ (C.tallies counts.old).lexed + (32 + length ts) }
+        ensures untyped { (C.tallies counts.new).typed ≡ (C.tallies counts.old).typed }
         ensures grows { Grows (C.tallies counts.old) (C.tallies counts.new) }
     {
-        if self.bring(text)? {
-            self.kept.refresh(counts)?;
-            tree_of(self.alloc, &self.kept, counts)
-        } else {
-            parse_text(self.alloc, text.as_bytes(), &[], counts)
-        }
+        self.take(text)?;
+        self.kept.refresh(counts)?;
+        tree_of(self.alloc, &self.kept, counts)
     }
 
     /// What is found of the types and names of a text with this tree.

@@ -1,22 +1,28 @@
--- How many tokens a run may lex, by its lines and their replies: those of the prelude once, and for each query those behind what has changed since the last one.
-use Rattle.std.specs.Prelude.{◌≡◌, ◌⊎◌, ℕ, ◌+◌, ◌≤◌, min, nat_lt, List, [], ◌∷◌, ◌++◌, length, Bool, true, false, is_some, Option, Some, None, if◌then◌else◌}
+-- How many tokens a run may lex and how many items it may type, by its lines and their replies: the prelude's tokens once, and for each query what is behind what has changed since the last one.
+use Rattle.std.specs.Prelude.{◌≡◌, ◌⊎◌, ℕ, ◌+◌, ◌≤◌, min, nat_lt, List, [], ◌∷◌, ◌++◌, length, take, Bool, true, false, is_some, Option, Some, None, if◌then◌else◌}
 use Rattle.text_model.specs.Edits as edit
 use Rattle.text_model.specs.Positions.{offset}
 use Rattle.token_model.specs.Kinds.{Tok}
 use Rattle.token_model.specs.Tokens.{Lex}
+use Rattle.tree_model.specs.Trees.{Tree}
 use Rattle.service_model.specs.Requests.{Asked, tell, type_enclosing, complete_prefix, locate, occurrences, outline, errors, case_analysis, construct, Reading, asks, refused, reading}
 use Rattle.service_model.specs.Replies.{memory_line}
 use Rattle.service_model.specs.Answers.{Answered, tell_outcome}
 use Rattle.service_model.specs.Runs.{is_blank_line}
+use Rattle.service_model.specs.Structure.{items_in}
 
--- the text, and the first byte that may have changed since the last query that was answered; none, where nothing has changed
+-- The text, and the first byte that may have changed since the last query that was answered, or none, where nothing has changed; the texts at the queries that were answered, the last one first; and how many items were typed by lines of which nothing is said.
 pub record Owed : Type 0 where
   pub text : List ℕ
   pub since : Option ℕ
+  pub asked : List (List ℕ)
+  pub apart : ℕ
 
 -- before the first line: the empty text, of which nothing was read
 abbrev pub at_first : Owed
-at_first = record { text = []; since = Some 0 }
+at_first = record { text = []; since = Some 0; asked = []; apart = 0 }
+
+-- ---- tokens
 
 -- how many of these tokens end at a place or behind
 abbrev pub ends_at : ℕ → List Tok → ℕ
@@ -79,6 +85,16 @@ abbrev pub since_line : Owed → Reading → Option ℕ
 since_line w (asks a) = since_after w a
 since_line w (refused r) = w.since
 
+-- the texts at the queries behind a line that was answered
+abbrev pub asked_line : Owed → Reading → List (List ℕ)
+asked_line w (asks a) = if is_query w.text a then w.text ∷ w.asked else w.asked
+asked_line w (refused r) = w.asked
+
+-- of what an answered line types something is said, unless it may try other texts
+abbrev pub StaysApart : Reading → ℕ → ℕ → Type 0
+StaysApart (asks a) before now = tries a ≡ false → now ≡ before
+StaysApart (refused r) before now = now ≡ before
+
 -- what a line reads
 abbrev pub LineReads : Owed → Reading → ℕ → Type 0
 LineReads w (asks a) n = Reads w a n
@@ -89,11 +105,11 @@ abbrev pub read_again : ℕ → List ℕ → Reading → ℕ
 read_again p text (asks a) = if is_query text a then p else 0
 read_again p text (refused r) = 0
 
--- What a line says is answered with the piece, or memory is short; it leaves what is owed behind it, and may read n tokens.
+-- What a line says is answered with the piece, or memory is short; it leaves what is owed behind it, and may read n tokens. Of what is typed where memory is short nothing is said.
 abbrev pub WorksAt : ℕ → Owed → Reading → List ℕ → Owed → ℕ → Type 0
 WorksAt p w r piece v n =
-    (Answered w.text r piece v.text × (v.since ≡ since_line w r) × LineReads w r n)
-    ⊎ ((piece ≡ memory_line) × (v ≡ w) × ((m : ℕ) × LineReads w r m × (n ≡ m + read_again p w.text r)))
+    (Answered w.text r piece v.text × (v.since ≡ since_line w r) × (v.asked ≡ asked_line w r) × StaysApart r w.apart v.apart × LineReads w r n)
+    ⊎ ((piece ≡ memory_line) × (v.text ≡ w.text) × (v.since ≡ w.since) × (v.asked ≡ w.asked) × ((m : ℕ) × LineReads w r m × (n ≡ m + read_again p w.text r)))
 
 -- the same of a line; one of blanks is passed over
 abbrev pub WorksBy : Bool → ℕ → Owed → List ℕ → List ℕ → Owed → ℕ → Type 0
@@ -105,3 +121,31 @@ abbrev pub RunWorks : ℕ → Owed → List (List ℕ) → List ℕ → Owed →
 RunWorks p w [] out v n = (out ≡ []) × (v ≡ w) × (n ≡ 0)
 RunWorks p w (line ∷ lines) out v n = (piece : List ℕ) × (mid : Owed) × (rest : List ℕ) × (here : ℕ) × (later : ℕ)
     × WorksBy (is_blank_line line) p w line piece mid here × RunWorks p mid lines rest v later × (out ≡ piece ++ rest) × (n ≡ here + later)
+
+-- ---- items
+
+-- these are the items of a text
+abbrev pub AreItems : List ℕ → List Tree → Type 0
+AreItems text items = (tokens : List Tok) × Lex text tokens × (items ≡ items_in tokens)
+
+-- these are the items at the last of some queries, and none before the first
+abbrev pub AreLast : List (List ℕ) → List Tree → Type 0
+AreLast [] items = items ≡ []
+AreLast (text ∷ before) items = AreItems text items
+
+-- A text has at most n items but for some at its front, which are, with their trees, those that the text at the last query had there.
+pub record Retyped (asked : List (List ℕ)) (text : List ℕ) (n : ℕ) : Type 0 where
+  pub olds : List Tree
+  pub were : AreLast asked olds
+  pub items : List Tree
+  pub are : AreItems text items
+  pub same : ℕ
+  pub left : same ≤ length olds
+  pub right : same ≤ length items
+  pub front : take same olds ≡ take same items
+  pub others : length items ≤ n + same
+
+-- n is the sum of such numbers over the queries so far
+abbrev pub RetypedOver : List (List ℕ) → ℕ → Type 0
+RetypedOver [] n = n ≡ 0
+RetypedOver (text ∷ before) n = (here : ℕ) × (earlier : ℕ) × Retyped before text here × RetypedOver before earlier × (n ≡ here + earlier)

@@ -1,7 +1,7 @@
-use Rattle.std.proofs.Common.{◌++◌, min, sym, ap, ◌∙◌, subst}
+use Rattle.std.proofs.Common.{◌++◌, length, min, sym, ap, ◌∙◌, subst, arith}
 use Rattle.token_store.specs.Stored.{toks_of}
 use Rattle.kept_text.specs.Keeping.{IsParsedUpTo}
-use Rattle.kept_text.proofs.Keeps.{few_read, left_front, read_known, read_left}
+use Rattle.kept_text.proofs.Keeps.{few_read, left_front, read_known, read_left, steady_one}
 use Rattle.kept_text.proofs.again.read_again.Goals as goal
 
 pub relex-answer-requires : goal.relex-answer-requires
@@ -26,3 +26,9 @@ pub returns-clause-work : goal.returns-clause-work
 returns-clause-work g c =
     let (n, counted, few) = c.relex-answer.ensures.work in
     (n, counted, few_read (c.args.left.now ++ c.args.right.now) c.args.from n c.args.tokens.now.tokens c.requires.left few)
+
+pub returns-clause-known : goal.returns-clause-known
+returns-clause-known g c = λ known.
+    let text = c.args.left.now ++ c.args.right.now in
+    let left = read_left c.relex-answer.result text c.args.from c.args.tokens.now.tokens c.relex-answer.new.self.tokens c.requires.left c.relex-answer.ensures.all c.relex-answer.ensures.refused in
+    omega (arith, known, c.min.ensures, c.unchanged.ensures, c.relex-answer.ensures.unchanged, ap length (steady_one text c.args.from c.args.tokens.now.tokens c.relex-answer.new.self.tokens c.requires.left left))

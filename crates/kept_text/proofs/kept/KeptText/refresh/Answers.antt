@@ -5,7 +5,7 @@ use Rattle.token_model.specs.Kinds.{Tok}
 use Rattle.ml_lexer.specs.Reached.{end_of, FirstReached}
 use Rattle.ml_lexer.specs.Steady.{AllTokens}
 use Rattle.kept_text.specs.Keeping.{AreLeft, AreTokens, IsKept, IsParsedUpTo}
-use Rattle.kept_text.proofs.Keeps.{few_tokens, grows_lexed, grows_on, kept_read, kept_whole, toks_are, work_done}
+use Rattle.kept_text.proofs.Keeps.{few_tokens, grows_lexed, grows_on, kept_read, kept_whole, known_at, parsed_shifts, read_shifts, read_untyped, toks_are, work_done}
 use Rattle.kept_text.proofs.kept.KeptText.refresh.Goals as goal
 
 pub read_again-requires : goal.read_again-requires
@@ -35,7 +35,7 @@ invariant_of-self g c =
     let ts = c.read_again.new.tokens.tokens in
     let left = subst (λ (l : List ℕ). AreLeft l c.in-Some.from ts) c.slices.ensures.text c.read_again.ensures.left in
     subst (λ (o : Option ℕ). IsKept was.text ts was.parse o c.read_again.new.same) (sym c.in-Some.is)
-    (kept_read was.text ts was.parse c.in-Some.from c.read_again.new.same left (c.read_again.ensures.same was.parse c.self.invariant.parsed))
+    (kept_read was.text ts was.parse c.in-Some.from c.read_again.new.same left (c.read_again.ensures.same was.parse c.self.invariant.parsed) (c.read_again.ensures.known (known_at was.changed c.in-Some.from was.tokens.tokens was.same c.in-Some.is c.self.invariant.known)))
 
 pub invariant_of-self-in_err-parse_again : goal.invariant_of-self-in_err-parse_again
 invariant_of-self-in_err-parse_again g c =
@@ -44,7 +44,7 @@ invariant_of-self-in_err-parse_again g c =
     let parse = c.parse_again.new.parse in
     let left = subst (λ (l : List ℕ). AreLeft l c.in-Some.from ts) c.slices.ensures.text c.read_again.ensures.left in
     let known = subst (λ (l : List Tok). IsParsedUpTo c.read_again.new.same l parse) (toks_are c.tokens-tokens.result.now ts c.tokens-tokens.ensures) c.parse_again.ensures.parsed in
-    subst (λ (o : Option ℕ). IsKept was.text ts parse o c.read_again.new.same) (sym c.in-Some.is) (kept_read was.text ts parse c.in-Some.from c.read_again.new.same left known)
+    subst (λ (o : Option ℕ). IsKept was.text ts parse o c.read_again.new.same) (sym c.in-Some.is) (kept_read was.text ts parse c.in-Some.from c.read_again.new.same left known (c.read_again.ensures.known (known_at was.changed c.in-Some.from was.tokens.tokens was.same c.in-Some.is c.self.invariant.known)))
 
 pub invariant_of-self-2 : goal.invariant_of-self-2
 invariant_of-self-2 g c =
@@ -81,3 +81,33 @@ pub returns-clause-work : goal.returns-clause-work
 returns-clause-work g c =
     let (n, counted, few) = c.read_again.ensures.work in
     work_done _ c.args.self.now (c.slices.result.0.now ++ c.slices.result.1.now) c.in-Some.from n (g.C.Counts.tallies c.args.counts.now) (g.C.Counts.tallies c.read_again.new.counts) (g.C.Counts.tallies c.parse_again.new.counts) c.self.view_is c.in-Some.is c.slices.ensures.text counted few c.parse_again.ensures.unlexed
+
+pub returns-in_err-read_again-clause-untyped : goal.returns-in_err-read_again-clause-untyped
+returns-in_err-read_again-clause-untyped g c = let (n, counted, few) = c.read_again.ensures.work in read_untyped (g.C.Counts.tallies c.args.counts.now) (g.C.Counts.tallies c.read_again.new.counts) (g.C.Counts.tallies c.read_again.new.counts) n counted refl
+
+pub returns-in_err-parse_again-clause-untyped : goal.returns-in_err-parse_again-clause-untyped
+returns-in_err-parse_again-clause-untyped g c = let (n, counted, few) = c.read_again.ensures.work in read_untyped (g.C.Counts.tallies c.args.counts.now) (g.C.Counts.tallies c.read_again.new.counts) (g.C.Counts.tallies c.parse_again.new.counts) n counted c.parse_again.ensures.untyped
+
+pub returns-clause-untyped : goal.returns-clause-untyped
+returns-clause-untyped g c = let (n, counted, few) = c.read_again.ensures.work in read_untyped (g.C.Counts.tallies c.args.counts.now) (g.C.Counts.tallies c.read_again.new.counts) (g.C.Counts.tallies c.parse_again.new.counts) n counted c.parse_again.ensures.untyped
+
+pub returns-in_err-read_again-clause-shifted : goal.returns-in_err-read_again-clause-shifted
+returns-in_err-read_again-clause-shifted g c = let (n, counted, few) = c.read_again.ensures.work in read_shifts c.args.self.now (g.C.Counts.tallies c.args.counts.now) (g.C.Counts.tallies c.read_again.new.counts) n counted
+
+pub returns-in_err-parse_again-clause-shifted : goal.returns-in_err-parse_again-clause-shifted
+returns-in_err-parse_again-clause-shifted g c =
+    let was = c.self.inside in
+    let ts = c.read_again.new.tokens.tokens in
+    let all = subst (λ (l : List ℕ). AllTokens FirstReached end_of l 0 ts) c.slices.ensures.text c.in_ok-read_again.ensures.all in
+    let (n, counted, few) = c.read_again.ensures.work in
+    parsed_shifts _ c.args.self.now was.text c.in-Some.from c.read_again.new.same n c.tokens-tokens.result.now ts (g.C.Counts.tallies c.args.counts.now) (g.C.Counts.tallies c.read_again.new.counts) (g.C.Counts.tallies c.parse_again.new.counts) c.self.view_is c.in-Some.is refl counted
+    all c.tokens-tokens.ensures (c.read_again.ensures.known (known_at was.changed c.in-Some.from was.tokens.tokens was.same c.in-Some.is c.self.invariant.known)) c.parse_again.ensures.shifted
+
+pub returns-clause-shifted : goal.returns-clause-shifted
+returns-clause-shifted g c =
+    let was = c.self.inside in
+    let ts = c.read_again.new.tokens.tokens in
+    let all = subst (λ (l : List ℕ). AllTokens FirstReached end_of l 0 ts) c.slices.ensures.text c.in_ok-read_again.ensures.all in
+    let (n, counted, few) = c.read_again.ensures.work in
+    parsed_shifts _ c.args.self.now was.text c.in-Some.from c.read_again.new.same n c.tokens-tokens.result.now ts (g.C.Counts.tallies c.args.counts.now) (g.C.Counts.tallies c.read_again.new.counts) (g.C.Counts.tallies c.parse_again.new.counts) c.self.view_is c.in-Some.is refl counted
+    all c.tokens-tokens.ensures (c.read_again.ensures.known (known_at was.changed c.in-Some.from was.tokens.tokens was.same c.in-Some.is c.self.invariant.known)) c.parse_again.ensures.shifted

@@ -5,8 +5,9 @@ use Rattle.syntax_tree.specs.Tallies.{Tallies}
 use Rattle.syntax_tree.specs.View.{tok_of}
 use Rattle.frame_parser.specs.Run.{next_shifts, shifted_by}
 use Rattle.frame_parser.proofs.Lists.{tokens_next, grows_more}
-use Rattle.resume_parser.specs.Kept.{HasParsed, text_in}
-use Rattle.resume_parser.proofs.Steps.{first_many, counted_none, counted_on, lexed_stays, mapped_first}
+use Rattle.resume_parser.specs.Kept.{text_in, HasParsed, IsCounted}
+use Rattle.resume_parser.proofs.Bounds.{counted_first}
+use Rattle.resume_parser.proofs.Steps.{at_refusal, first_many, counted_none, counted_on, lexed_stays, mapped_first, typed_stays}
 use Rattle.resume_parser.proofs.kept.KeptParse.refresh.Goals as goal
 
 pub loop-k-init : goal.loop-k-init
@@ -16,6 +17,7 @@ loop-k-init g c = let (old, parsed, le, same) = c.requires.kept in record {
   parsed = subst (λ (l : List Tok). HasParsed l c.cut.new.self) (same ∙ mapped_first c.args.tokens.now c.args.same) (c.cut.ensures.parsed old parsed);
   counted = counted_none (text_in c.args.self.now) c.args.tokens.now c.args.same (g.C.Counts.tallies c.args.counts.now) c.requires.within;
   unlexed = refl;
+  untyped = refl;
   grows = record { lexed = omega arith; shifted = omega arith; typed = omega arith };
 }
 
@@ -40,5 +42,29 @@ loop-k-preserved g c =
       parsed = subst (λ (l : List Tok). HasParsed l c.take.new.self) (sym next) (c.in_ok-take.ensures.parsed ts inv.parsed few);
       counted = counted_on (text_in c.args.self.now) c.args.same ts (map tok_of (take (k + 1) c.args.tokens.now)) t _ _ _ (omega (arith, many, inv.least)) next inv.counted counted;
       unlexed = ap (λ (a : Tallies). a.lexed) counted ∙ lexed_stays (next_shifts (text_in c.args.self.now) ts t) (g.C.Counts.tallies c.loop-k.counts) ∙ inv.unlexed;
+      untyped = ap (λ (a : Tallies). a.typed) counted ∙ typed_stays (next_shifts (text_in c.args.self.now) ts t) (g.C.Counts.tallies c.loop-k.counts) ∙ inv.untyped;
       grows = grows_more (g.C.Counts.tallies c.args.counts.now) (g.C.Counts.tallies c.loop-k.counts) (g.C.Counts.tallies c.take.new.counts) (next_shifts (text_in c.args.self.now) ts t) inv.grows counted;
     }
+
+pub returns-in_err-take-clause-refused : goal.returns-in_err-take-clause-refused
+returns-in_err-take-clause-refused g c =
+    let k = c.loop-k.k in
+    let inv = c.loop-k.invariant in
+    let ts = map tok_of (take k c.args.tokens.now) in
+    at_refusal c.from_residual.result (
+      k,
+      inv.least,
+      omega (arith, c.loop-k-test.true),
+      c.in_err-take.ensures.refused ts inv.parsed,
+      subst (IsCounted (text_in c.args.self.now) c.args.same ts (g.C.Counts.tallies c.args.counts.now)) (sym c.in_err-take.ensures.uncounted) inv.counted,
+    )
+
+pub returns-in_err-take-clause-work : goal.returns-in_err-take-clause-work
+returns-in_err-take-clause-work g c =
+    let inv = c.loop-k.invariant in
+    (inv.counted.steps, c.in_err-take.ensures.uncounted ∙ inv.counted.counted, counted_first (text_in c.args.self.now) c.args.same c.loop-k.k c.args.tokens.now _ _ inv.counted inv.least)
+
+pub returns-clause-work : goal.returns-clause-work
+returns-clause-work g c =
+    let inv = c.loop-k.invariant in
+    (inv.counted.steps, inv.counted.counted, counted_first (text_in c.args.self.now) c.args.same c.loop-k.k c.args.tokens.now _ _ inv.counted inv.least)

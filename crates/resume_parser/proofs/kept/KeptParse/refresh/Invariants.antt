@@ -12,5 +12,6 @@ invariant-loop-k g l = let tokens = map tok_of (take l.k l.tokens) in record {
   parsed : HasParsed tokens l.self;
   counted : IsCounted (text_in l.fn.self) l.same tokens (g.C.Counts.tallies l.fn.counts) (g.C.Counts.tallies l.counts);
   unlexed : (g.C.Counts.tallies l.counts).lexed ≡ (g.C.Counts.tallies l.fn.counts).lexed;
+  untyped : (g.C.Counts.tallies l.counts).typed ≡ (g.C.Counts.tallies l.fn.counts).typed;
   grows : Grows (g.C.Counts.tallies l.fn.counts) (g.C.Counts.tallies l.counts);
 }

@@ -8,6 +8,7 @@ use Rattle.text_reading.specs.Structures.{AreItemsOf}
 use Rattle.text_reading.proofs.Knowing.{items_read}
 use Rattle.session.specs.Working.{Held}
 use Rattle.session.proofs.Typing.{enclosing_plain, plain_within}
+use Rattle.session.proofs.Carrying.{types_after, types_none, types_then}
 use Rattle.session.proofs.Works.{on_ok, reads_idle, reads_more, reads_typed}
 use Rattle.session.proofs.session.Session.enclosing_now.Goals as goal
 
@@ -51,3 +52,13 @@ returns-clause-reads g c = on_ok c.types_in.result (reads_idle g.A.Analyser.open
 
 pub returns-clause-fails : goal.returns-clause-fails
 returns-clause-fails g c = reads_more g.A.Analyser.opens true c.args.self.now c.type_again.new.self (g.C.Counts.tallies c.args.counts.now) (g.C.Counts.tallies c.types_in.new.counts) (reads_idle g.A.Analyser.opens false c.args.self.now c.type_again.new.self c.type_again.new.self (g.C.Counts.tallies c.args.counts.now) (g.C.Counts.tallies c.type_again.new.counts) (g.C.Counts.tallies c.types_in.new.counts) (reads_typed g.A.Analyser.opens false c.args.self.now c.read_again.new.self c.type_again.new.self (g.C.Counts.tallies c.args.counts.now) (g.C.Counts.tallies c.read_text.new.counts) (g.C.Counts.tallies c.type_again.new.counts) (reads_idle g.A.Analyser.opens false c.args.self.now c.read_again.new.self c.read_again.new.self (g.C.Counts.tallies c.args.counts.now) (g.C.Counts.tallies c.read_again.new.counts) (g.C.Counts.tallies c.read_text.new.counts) c.read_again.ensures.reads refl (ap (λ (t : Tallies). t.lexed) (c.read_text.ensures.idle (ap (λ (h : Held). h.changed) c.self.view_is ∙ c.in_ok-read_again.ensures.current)))) c.in_ok-type_again.ensures.lexes) refl (ap (λ (t : Tallies). t.lexed) (c.types_in.ensures.idle c.in_ok-type_again.ensures.known)))
+
+-- ---- what is typed
+
+pub returns-in-Some-clause-types : goal.returns-in-Some-clause-types
+returns-in-Some-clause-types g c = on_ok c.plain_types.result (types_none c.args.self.now c.read_again.new.self (g.C.Counts.tallies c.args.counts.now) (g.C.Counts.tallies c.read_again.new.counts) (g.C.Counts.tallies c.read_text.new.counts) c.read_again.ensures.rest.3 c.read_again.ensures.untyped (c.read_text.ensures.idle (ap (λ (h : Held). h.changed) c.self.view_is ∙ c.in_ok-read_again.ensures.current)))
+
+pub returns-clause-types : goal.returns-clause-types
+returns-clause-types g c = on_ok c.types_in.result (types_then c.args.self.now c.type_again.new.self c.type_again.new.self (g.C.Counts.tallies c.args.counts.now) (g.C.Counts.tallies c.type_again.new.counts) (g.C.Counts.tallies c.types_in.new.counts)
+    (types_after c.args.self.now c.read_again.new.self c.type_again.new.self (g.C.Counts.tallies c.args.counts.now) (g.C.Counts.tallies c.read_text.new.counts) (g.C.Counts.tallies c.type_again.new.counts) c.read_again.ensures.rest.0 c.read_again.ensures.rest.3 (ap (λ (t : Tallies). t.typed) (c.read_text.ensures.idle (ap (λ (h : Held). h.changed) c.self.view_is ∙ c.in_ok-read_again.ensures.current)) ∙ c.read_again.ensures.untyped) c.in_ok-type_again.ensures.types)
+    refl (ap (λ (t : Tallies). t.typed) (c.types_in.ensures.idle c.in_ok-type_again.ensures.known)))

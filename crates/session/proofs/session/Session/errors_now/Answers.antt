@@ -10,6 +10,7 @@ use Rattle.text_reading.specs.Structures.{AreItemsOf}
 use Rattle.text_reading.proofs.Knowing.{items_read}
 use Rattle.session.specs.Working.{Held}
 use Rattle.session.proofs.Typing.{errors_plain, errors_typed}
+use Rattle.session.proofs.Carrying.{types_after, types_none, types_then}
 use Rattle.session.proofs.Works.{on_ok, reads_idle, reads_more, reads_typed}
 use Rattle.session.proofs.session.Session.errors_now.Goals as goal
 
@@ -55,3 +56,13 @@ returns-clause-reads g c = on_ok c.typed_errors.result (reads_idle g.A.Analyser.
 
 pub returns-clause-fails : goal.returns-clause-fails
 returns-clause-fails g c = reads_more g.A.Analyser.opens true c.args.self.now c.type_again.new.self (g.C.Counts.tallies c.args.counts.now) (g.C.Counts.tallies c.typed_errors.new.counts) (reads_idle g.A.Analyser.opens false c.args.self.now c.type_again.new.self c.type_again.new.self (g.C.Counts.tallies c.args.counts.now) (g.C.Counts.tallies c.type_again.new.counts) (g.C.Counts.tallies c.typed_errors.new.counts) (reads_typed g.A.Analyser.opens false c.args.self.now c.read_again.new.self c.type_again.new.self (g.C.Counts.tallies c.args.counts.now) (g.C.Counts.tallies c.read_text.new.counts) (g.C.Counts.tallies c.type_again.new.counts) (reads_idle g.A.Analyser.opens false c.args.self.now c.read_again.new.self c.read_again.new.self (g.C.Counts.tallies c.args.counts.now) (g.C.Counts.tallies c.read_again.new.counts) (g.C.Counts.tallies c.read_text.new.counts) c.read_again.ensures.reads refl (ap (λ (t : Tallies). t.lexed) (c.read_text.ensures.idle (ap (λ (h : Held). h.changed) c.self.view_is ∙ c.in_ok-read_again.ensures.current)))) c.in_ok-type_again.ensures.lexes) refl (ap (λ (t : Tallies). t.lexed) (c.typed_errors.ensures.idle c.in_ok-type_again.ensures.known)))
+
+-- ---- what is typed
+
+pub returns-then-is_well_typed-clause-types : goal.returns-then-is_well_typed-clause-types
+returns-then-is_well_typed-clause-types g c = on_ok c.page_of.result (types_none c.args.self.now c.read_again.new.self (g.C.Counts.tallies c.args.counts.now) (g.C.Counts.tallies c.read_again.new.counts) (g.C.Counts.tallies c.read_text.new.counts) c.read_again.ensures.rest.3 c.read_again.ensures.untyped (c.read_text.ensures.idle (ap (λ (h : Held). h.changed) c.self.view_is ∙ c.in_ok-read_again.ensures.current)))
+
+pub returns-clause-types : goal.returns-clause-types
+returns-clause-types g c = on_ok c.typed_errors.result (types_then c.args.self.now c.type_again.new.self c.type_again.new.self (g.C.Counts.tallies c.args.counts.now) (g.C.Counts.tallies c.type_again.new.counts) (g.C.Counts.tallies c.typed_errors.new.counts)
+    (types_after c.args.self.now c.read_again.new.self c.type_again.new.self (g.C.Counts.tallies c.args.counts.now) (g.C.Counts.tallies c.read_text.new.counts) (g.C.Counts.tallies c.type_again.new.counts) c.read_again.ensures.rest.0 c.read_again.ensures.rest.3 (ap (λ (t : Tallies). t.typed) (c.read_text.ensures.idle (ap (λ (h : Held). h.changed) c.self.view_is ∙ c.in_ok-read_again.ensures.current)) ∙ c.read_again.ensures.untyped) c.in_ok-type_again.ensures.types)
+    refl (ap (λ (t : Tallies). t.typed) (c.typed_errors.ensures.idle c.in_ok-type_again.ensures.known)))

@@ -1,4 +1,5 @@
 use Rattle.std.proofs.Common.{true}
+use Rattle.session.proofs.Carrying.{types_after_ok}
 use Rattle.session.proofs.Works.{reads_more, reads_typed, reads_typed_ok}
 use Rattle.session.proofs.session.Session.refresh.Goals as goal
 
@@ -12,3 +13,7 @@ returns-clause-fails g c = reads_typed g.A.Analyser.opens true c.args.self.now c
 
 pub returns-in_err-read_again-clause-fails : goal.returns-in_err-read_again-clause-fails
 returns-in_err-read_again-clause-fails g c = reads_more g.A.Analyser.opens true c.args.self.now c.read_again.new.self (g.C.Counts.tallies c.args.counts.now) (g.C.Counts.tallies c.read_again.new.counts) c.read_again.ensures.reads
+
+pub returns-clause-types : goal.returns-clause-types
+returns-clause-types g c = types_after_ok c.type_again.result c.args.self.now c.read_again.new.self c.type_again.new.self (g.C.Counts.tallies c.args.counts.now) (g.C.Counts.tallies c.read_again.new.counts) (g.C.Counts.tallies c.type_again.new.counts)
+    c.read_again.ensures.rest.0 c.read_again.ensures.rest.3 c.read_again.ensures.untyped c.type_again.ensures.types

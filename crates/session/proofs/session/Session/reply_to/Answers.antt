@@ -76,4 +76,4 @@ returns-in-Construct-clause-works g c = subst (λ (r : Request). RequestWorks g.
 
 pub returns-in-Tell-clause-works : goal.returns-in-Tell-clause-works
 returns-in-Tell-clause-works g c = subst (λ (r : Request). RequestWorks g.A.Analyser.opens (asked_of r) c.tell.result c.args.self.now c.tell.new.self (g.C.Counts.tallies c.args.counts.now) (g.C.Counts.tallies c.args.counts.now)) (sym c.in-Tell.is)
-    (λ w ps owes lex. let (v, works, owed) = c.tell.ensures.owed w (length ps) owes in (v, 0, works, owed, omega (arith, ap (opening (length ps)) c.tell.ensures.begun)))
+    (λ w ps owes lex. let (v, works, owed, carries) = c.tell.ensures.owed w (length ps) owes in (v, 0, works, owed, omega (arith, ap (opening (length ps)) c.tell.ensures.begun), carries (g.C.Counts.tallies c.args.counts.now)))

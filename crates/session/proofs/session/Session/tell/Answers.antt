@@ -25,7 +25,7 @@ returns-in-Ok-clause-owed g c = λ w p owes.
     let new = c.apply.new.self in
     let first = c.in-Ok.field-0 in
     let written = subst (λ (l : Line). IsWritten (said_of (Size c.len_after.result)) l) c.in-Written.is c.written.ensures in
-    told_works c.args.self.now new range bytes first (Written c.in-Written.bytes) w p owes (sym c.edit_for-edit.ensures ∙ c.in-Ok.ensures.done) c.in-Ok.ensures.noted refl
+    told_works c.args.self.now new range bytes first (Written c.in-Written.bytes) w p owes (sym c.edit_for-edit.ensures ∙ c.in-Ok.ensures.done) c.in-Ok.ensures.noted c.apply.ensures.holds refl
     (told_changed c.args.self.now.text bytes c.in-Written.bytes.items new.text range c.len_after.result first (outcome_of c.args.self.now.text (edit_of c.edit_for-edit.result)) c.edit_for-edit.ensures c.in-Ok.ensures.done
     (λ is. c.len_after.ensures first new.text is) written)
 

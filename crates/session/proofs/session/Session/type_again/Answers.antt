@@ -1,10 +1,12 @@
-use Rattle.std.proofs.Common.{◌+◌, ◌≤◌, ◌∙◌, length, ap, subst, Bool}
+use Rattle.std.proofs.Common.{◌+◌, ◌≤◌, ◌∙◌, length, ap, refl, subst, Bool}
+use Rattle.std.specs.Prelude.{is_some}
 use Rattle.syntax_tree.specs.View.{trees_of}
 use Rattle.token_store.specs.Stored.{toks_of}
-use Rattle.text_reading.specs.Types.{has_begun, known, opening}
+use Rattle.text_reading.specs.Types.{has_begun, held, known, opening}
 use Rattle.text_reading.proofs.Knowing.{items_parsed, known_again}
 use Rattle.text_reading.proofs.Parsing.{kept_as}
 use Rattle.session.specs.Working.{Held}
+use Rattle.session.proofs.Carrying.{types_anew}
 use Rattle.session.proofs.Works.{opened, opened_in_vain}
 use Rattle.session.proofs.session.Session.type_again.Goals as goal
 
@@ -21,3 +23,13 @@ returns-clause-lexes g c = λ ps lex. opened c.refresh.result (length ps) c.args
 
 pub returns-clause-fails : goal.returns-clause-fails
 returns-clause-fails g c = λ ps lex. opened_in_vain (length ps) c.args.self.now.begun (has_begun c.refresh.new.self) _ _ (subst (λ (b : Bool). (g.C.Counts.tallies c.refresh.new.counts).lexed ≤ (g.C.Counts.tallies c.args.counts.now).lexed + opening (length ps) b) (ap (λ (h : Held). h.begun) c.self.view_is) (c.refresh.ensures.lexed ps lex)) (λ is. c.refresh.ensures.stays_begun (ap (λ (h : Held). h.begun) c.self.view_is ∙ is))
+
+pub returns-clause-types : goal.returns-clause-types
+returns-clause-types g c =
+    let kept = c.self.inside.kept in
+    let there = c.in_ok-parsed.ensures in
+    let parsed = kept_as kept.text (toks_of kept.tokens) c.in_ok-parsed.field-0 c.in-Some.parsed c.in-Some.is there.lexed there.tree there.faults in
+    let now : Held = record { text = kept.text; changed = kept.changed; begun = has_begun c.refresh.new.self; known = is_some (known g.A.Analyser.items c.refresh.new.self); holds = held g.A.Analyser.items c.refresh.new.self } in
+    types_anew g.A.Analyser.items c.refresh.result c.args.self.now now c.self.inside.types c.refresh.new.self kept.text c.in-Some.parsed (g.C.Counts.tallies c.args.counts.now) (g.C.Counts.tallies c.refresh.new.counts)
+    (ap (λ (h : Held). h.text) c.self.view_is) (ap (λ (h : Held). h.holds) c.self.view_is) refl (items_parsed kept.text c.in-Some.parsed parsed)
+    c.refresh.ensures.known c.refresh.ensures.typed
