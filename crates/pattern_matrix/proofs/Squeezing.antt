@@ -4,7 +4,7 @@ use Rattle.std.specs.Prelude.{slice_get}
 use Rattle.std.proofs.Math.Seq.{drop-cons}
 use Rattle.pattern_matrix.specs.Lines.{Line, any, opened}
 use Rattle.pattern_matrix.specs.Views.{line_view, lines_view}
-use Rattle.pattern_matrix.specs.declared.columns.Line.{Line as CodeLine}
+use Rattle.pattern_matrix.specs.declared.lines.Line.{Line as CodeLine}
 use Rattle.pattern_matrix.specs.Search.{IsIn, here, there, IsSqueezed}
 use Rattle.pattern_matrix.proofs.Weighing.{lines_weight-append}
 

@@ -2,6 +2,7 @@
 pub mod Lines
 pub mod Weights
 pub mod Search
+pub mod Cells
 pub mod Views
 pub mod Known
 pub mod Rows

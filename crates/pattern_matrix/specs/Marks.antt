@@ -1,7 +1,7 @@
 -- Marks of rows: numbers by which most rows that can't match the same value are known without a search.
-use Rattle.std.specs.Prelude.{ℕ, zero, suc, ◌+◌, ◌*◌, ◌%◌, Bool, true, nat_eq, [], ◌∷◌, Option, Some, None}
+use Rattle.std.specs.Prelude.{ℕ, zero, suc, ◌+◌, ◌*◌, ◌%◌, Bool, true, false, nat_eq, [], ◌∷◌, Option, Some, None, if◌then◌else◌}
 use Rattle.signature_model.specs.Declarations.{Name}
-use Rattle.pattern_matrix.specs.Lines.{Typed, Typeds, any, con, lit, either, none, also, Line}
+use Rattle.pattern_matrix.specs.Lines.{Typed, Typeds, any, con, lit, either, none, also, Line, Head, built_head, literal_head}
 
 -- the code of what came before, and of one byte more
 unfoldable pub coded : ℕ → ℕ → ℕ
@@ -11,6 +11,28 @@ coded before b = (before % 2147483647) * 257 + b
 abbrev pub name_code : ℕ → Name → ℕ
 name_code before [] = before
 name_code before (b ∷ bs) = name_code (coded before b) bs
+
+-- the code of the name that a pattern begins with; none where it matches anything or is of alternatives
+abbrev pub head_code : Typed → Option ℕ
+head_code any = None
+head_code (con all n ps) = Some (name_code 0 n)
+head_code (lit n) = Some (name_code 0 n)
+head_code (either ps) = None
+
+-- the same of a line's first pattern
+abbrev pub line_code : Line → Option ℕ
+line_code [] = None
+line_code (p ∷ rest) = head_code p
+
+-- the code of a head's name
+abbrev pub code_of : Head → ℕ
+code_of (built_head n parts) = name_code 0 n
+code_of (literal_head n) = name_code 0 n
+
+-- whether there is a code, and another than this one
+abbrev pub is_other : Option ℕ → ℕ → Bool
+is_other None c = false
+is_other (Some a) c = if nat_eq a c then false else true
 
 -- the code of a pattern's name, of its first part's name, and so on down; none where one of them matches anything or is of alternatives
 abbrev mutual

@@ -1,41 +1,18 @@
 -- What the values of the code mean.
+pub use Rattle.pattern_matrix.specs.Cells.{member_of, members_of, typed_step, typed_of, cell_view, cells_view}
 use Rattle.std.specs.Prelude.{List, map, Option, option_map, Vec}
 use Rattle.std.specs.Global.{Global}
 use Rattle.text_terms.specs.Bytes.{str_bytes}
 use Rattle.match_model.specs.Values.{open_shape, of_built, of_spelling}
 use Rattle.match_model.specs.Values.{Shape as plain}
 use Rattle.match_model.specs.Forms.{tuple_name}
-use Rattle.pattern_matrix.specs.Lines.{Member, Typed, any, con, lit, either, listed, Line, shapes_in}
+use Rattle.pattern_matrix.specs.Lines.{Line, shapes_in}
 use Rattle.pattern_matrix.specs.Lines.{Head as PlainHead, built_head, literal_head}
-use Rattle.pattern_matrix.specs.declared.patterns.Built.{Built}
-use Rattle.pattern_matrix.specs.declared.patterns.Pat.{Pat, fold-Pat}
-use Rattle.pattern_matrix.specs.declared.patterns.Pat.TheOpen.{Pat-F}
 use Rattle.pattern_matrix.specs.declared.patterns.Shape.{Shape, fold-Shape}
 use Rattle.pattern_matrix.specs.declared.patterns.Shape.TheOpen.{Shape-F}
-use Rattle.pattern_matrix.specs.declared.columns.Cell.{Cell}
-use Rattle.pattern_matrix.specs.declared.columns.Cell.TheVariants as cell
-use Rattle.pattern_matrix.specs.declared.columns.Line.{Line as CodeLine}
+use Rattle.pattern_matrix.specs.declared.lines.Line.{Line as CodeLine}
 use Rattle.pattern_matrix.specs.declared.columns.Head.{Head}
 use Rattle.pattern_matrix.specs.declared.columns.Head.TheVariants as head
-
--- a constructor of the code
-abbrev pub member_of : Built → Member
-member_of k = record { name = str_bytes k.name; parts = k.parts }
-
--- the constructors of the code, in order
-abbrev pub members_of : List Built → List Member
-members_of = map member_of
-
--- a pattern whose parts are read already
-abbrev pub typed_step : Pat-F Typed → Typed
-typed_step Pat-F.Any = any
-typed_step (Pat-F.Con all name parts) = con (members_of all.value.items) (str_bytes name) (listed parts.items)
-typed_step (Pat-F.Literal n) = lit (str_bytes n)
-typed_step (Pat-F.Either ps) = either (listed ps.items)
-
--- a pattern with all constructors of its type
-abbrev pub typed_of : Pat → Typed
-typed_of = fold-Pat Typed typed_step
 
 -- a shape whose parts are read already
 abbrev pub shape_step : Shape-F plain → plain
@@ -47,15 +24,6 @@ shape_step (Shape-F.Literal n) = of_spelling (str_bytes n)
 -- a shape of the code
 abbrev pub shape_of : Shape → plain
 shape_of = fold-Shape plain shape_step
-
--- a cell of a line: any value, or a pattern
-abbrev pub cell_view : Cell → Typed
-cell_view cell.Any = any
-cell_view (cell.Of p) = typed_of p.now
-
--- the cells of a line
-abbrev pub cells_view : List Cell → Line
-cells_view = map cell_view
 
 -- a line of the code
 abbrev pub line_view : CodeLine → Line

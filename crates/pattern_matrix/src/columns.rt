@@ -2,9 +2,12 @@
 ghost use Rattle.std.specs.Prelude.{◌≡◌, [], ◌∷◌, ◌++◌, map, option_map, IfOk, OnOk};
 ghost use Rattle.text_terms.specs.Bytes.{str_bytes};
 ghost use Rattle.pattern_matrix.specs.Lines.{any, listed, opened, width_of, head_of, under, under_each, line_under, lines_under, without_head, each_without_head, line_without_head, headless, family, family_of_line, family_in, family_in_some, heads_some, heads_line, is_head, some_is_head, first_absent};
+ghost use Rattle.pattern_matrix.specs.Marks.{code_of, name_code};
 ghost use Rattle.pattern_matrix.specs.Search.{IsSqueezed};
 ghost use Rattle.pattern_matrix.specs.Views.{member_of, members_of, typed_of, cells_view, line_view, lines_view, head_view};
 
+use crate::lines::{Line, Stem};
+use crate::marks::name_code;
 use crate::patterns::{Built, Pat};
 use crate::same::same_cells;
 use std::alloc::{AllocError, Global};
@@ -15,22 +18,6 @@ use text_terms::{NoMemory, RcStr};
 pub(crate) enum Cell<'a> {
     Any,
     Of(&'a Pat),
-}
-
-/// Whether two lines can have the same cells.
-#[derive(Clone, Copy)]
-pub(crate) enum Stem {
-    /// A line of a row.
-    Row,
-    /// A line of one of several alternatives of a row.
-    Alternative,
-}
-
-/// The patterns of a row, from some column on.
-#[derive(Drop)]
-pub(crate) struct Line<'a> {
-    pub(crate) cells: Vec<Cell<'a>>,
-    pub(crate) stem: Stem,
 }
 
 /// What a value begins with.
@@ -46,6 +33,15 @@ pub(crate) fn head_of(built: &Built) -> Head<'_>
     ensures { head_view result ≡ head_of (member_of built.now) }
 {
     Head::Built(&built.name, built.parts)
+}
+
+fn code_of(head: Head<'_>) -> u64
+    ensures { result ≡ code_of (head_view head.entry) }
+{
+    match head {
+        Head::Built(name, _) => name_code(0, name),
+        Head::Literal(name) => name_code(0, name),
+    }
 }
 
 fn width_of(head: Head<'_>) -> usize
@@ -112,9 +108,10 @@ pub(crate) fn lines_under<'a>(
 ) -> Result<Vec<Line<'a>>, NoMemory>
     ensures { IfOk result (λ ls. IsSqueezed (lines_view ls.items) (lines_under (head_view head.entry) (lines_view lines.now))) }
 {
+    let code = code_of(head);
     let mut under = Vec::new(alloc);
     for line in lines {
-        put_line_under(alloc, &mut under, head, line)?;
+        put_line_under(alloc, &mut under, head, code, line)?;
     }
     Ok(under)
 }
@@ -123,10 +120,15 @@ fn put_line_under<'a>(
     alloc: Global,
     lines: &mut Vec<Line<'a>>,
     head: Head<'_>,
+    code: u64,
     line: &Line<'a>,
 ) -> Result<(), NoMemory>
+    requires { code ≡ code_of (head_view head) }
     ensures { OnOk result (IsSqueezed (lines_view lines.new.items) (lines_view lines.old.items ++ line_under (head_view head.entry) (line_view line.now))) }
 {
+    if line.is_other(code) {
+        return Ok(());
+    }
     match line.cells.split_first() {
         Some((first, rest)) => match first {
             Cell::Any => put_open(alloc, lines, head, rest, line.stem),
@@ -207,7 +209,7 @@ fn put<'a>(lines: &mut Vec<Line<'a>>, cells: Vec<Cell<'a>>, stem: Stem) -> Resul
             return Ok(());
         }
     }
-    lines.push(Line { cells, stem }).map_err(|_| AllocError)
+    lines.push(Line::new(cells, stem)).map_err(|_| AllocError)
 }
 
 /// What is left of the lines that have no head in the first column.
@@ -319,17 +321,22 @@ fn family_in_some(pats: &[Pat]) -> Option<&[Built]>
 pub(crate) fn heads_some(name: &RcStr, lines: &[Line<'_>]) -> bool
     ensures { result ≡ heads_some (str_bytes name.now) (lines_view lines.now) }
 {
+    let code = name_code(0, name);
     for line in lines {
-        if heads_line(name, line) {
+        if heads_line(name, code, line) {
             return true;
         }
     }
     false
 }
 
-fn heads_line(name: &RcStr, line: &Line<'_>) -> bool
+fn heads_line(name: &RcStr, code: u64, line: &Line<'_>) -> bool
+    requires { code ≡ name_code 0 (str_bytes name.now) }
     ensures { result ≡ heads_line (str_bytes name.now) (line_view line.now) }
 {
+    if line.is_other(code) {
+        return false;
+    }
     match line.cells.first() {
         Some(Cell::Of(pat)) => is_head(name, pat),
         _ => false,

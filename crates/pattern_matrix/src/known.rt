@@ -4,7 +4,8 @@ ghost use Rattle.pattern_matrix.specs.Search.{Finds, row_in};
 ghost use Rattle.pattern_matrix.specs.Views.{lines_view, cells_view};
 ghost use Rattle.pattern_matrix.specs.Known.{covered_task, IsKnown};
 
-use crate::columns::{Cell, Line};
+use crate::columns::Cell;
+use crate::lines::Line;
 use crate::patterns::Pat;
 use crate::same::{same_cells, same_lines};
 use std::alloc::{AllocError, Global};

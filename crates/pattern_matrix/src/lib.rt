@@ -5,6 +5,7 @@
 
 mod columns;
 mod known;
+mod lines;
 mod marks;
 mod patterns;
 mod printing;

@@ -3,7 +3,7 @@ ghost use Rattle.std.specs.Prelude.{◌≡◌, map, IfOk, OnOk, ◌++◌, ◌∷
 ghost use Rattle.text_terms.specs.Bytes.{str_bytes};
 ghost use Rattle.pattern_matrix.specs.Views.{typed_of};
 ghost use Rattle.pattern_matrix.specs.Lines.{listed};
-ghost use Rattle.pattern_matrix.specs.Marks.{coded, name_code, mark_from, mark_part, mark_at, can_meet};
+ghost use Rattle.pattern_matrix.specs.Marks.{coded, head_code, name_code, mark_from, mark_part, mark_at, can_meet};
 ghost use Rattle.pattern_matrix.specs.Rows.{mark_of};
 
 use crate::patterns::{Pat, PatRow};
@@ -20,7 +20,8 @@ fn coded(before: u64, byte: u8) -> u64
     before % 2_147_483_647 * 257 + u64::from(byte)
 }
 
-fn name_code(before: u64, name: &RcStr) -> u64
+/// The code of a name, and of what came before it.
+pub(crate) fn name_code(before: u64, name: &RcStr) -> u64
     ensures { result ≡ name_code before (str_bytes name.now) }
 {
     let mut code = before;
@@ -28,6 +29,18 @@ fn name_code(before: u64, name: &RcStr) -> u64
         code = coded(code, *byte);
     }
     code
+}
+
+/// The code of the name that a pattern begins with. It is None where it matches anything or is of alternatives.
+pub(crate) fn head_code(pat: &Pat) -> Option<u64>
+    ensures { result ≡ head_code (typed_of pat.now) }
+{
+    match pat {
+        Pat::Any => None,
+        Pat::Con { name, .. } => Some(name_code(0, name)),
+        Pat::Literal(name) => Some(name_code(0, name)),
+        Pat::Either(_) => None,
+    }
 }
 
 /// The code of a pattern's name, of its first part's name, and so on down. It is None where one of them matches anything or is of

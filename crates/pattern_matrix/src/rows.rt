@@ -9,8 +9,9 @@ ghost use Rattle.pattern_matrix.specs.Rows.{line_of, lines_of, mark_of, near_lin
 ghost use Rattle.pattern_matrix.specs.Typing.{IsSound};
 ghost use Rattle.pattern_matrix.specs.Exact.{row_of, rows_of, IsRowTyped, AreRowsTyped, Tells, TellsMissed, AreThose};
 
-use crate::columns::{Cell, Line, Stem, opened};
+use crate::columns::{Cell, opened};
 use crate::known::Known;
+use crate::lines::{Line, Stem};
 use crate::marks::{best_place, can_meet, mark_of, marks_of};
 use crate::patterns::{Matrix, PatRow, Shape};
 use crate::search::search;
@@ -155,10 +156,7 @@ fn lines_of(alloc: Global, rows: &[PatRow]) -> Result<Vec<Line<'_>>, NoMemory>
 fn line_of(alloc: Global, row: &PatRow) -> Result<Line<'_>, NoMemory>
     ensures { IfOk result (λ l. line_view l ≡ line_of row.now) }
 {
-    Ok(Line {
-        cells: cells_of(alloc, row)?,
-        stem: Stem::Row,
-    })
+    Ok(Line::new(cells_of(alloc, row)?, Stem::Row))
 }
 
 fn cells_of(alloc: Global, row: &PatRow) -> Result<Vec<Cell<'_>>, NoMemory>

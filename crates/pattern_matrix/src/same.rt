@@ -2,7 +2,8 @@
 ghost use Rattle.std.specs.Prelude.{◌≡◌, IsTrue, map};
 ghost use Rattle.pattern_matrix.specs.Views.{member_of, members_of, typed_of, cell_view, cells_view, lines_view};
 
-use crate::columns::{Cell, Line};
+use crate::columns::Cell;
+use crate::lines::Line;
 use crate::patterns::{Built, Pat};
 
 /// Whether two patterns are the same, and their constructors of the same types.

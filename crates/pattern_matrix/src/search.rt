@@ -8,9 +8,10 @@ ghost use Rattle.pattern_matrix.specs.Known.{IsKnown};
 ghost use Rattle.pattern_matrix.specs.Views.{member_of, members_of, typed_of, cell_view, cells_view, lines_view, head_view, shape_of, shapes_view};
 
 use crate::columns::{
-    Cell, Head, Line, extended, family, first_absent, head_of, headless, lines_under, opened,
+    Cell, Head, extended, family, first_absent, head_of, headless, lines_under, opened,
 };
 use crate::known::{Known, mark_of};
+use crate::lines::Line;
 use crate::patterns::{Built, Pat, Shape, TUPLE};
 use std::alloc::{AllocError, Global};
 use text_terms::{NoMemory, RcStr};

@@ -1,0 +1,3 @@
+mod Replying
+mod Comparing
+mod Known

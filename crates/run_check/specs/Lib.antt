@@ -1,0 +1,2 @@
+-- Runs that the texts allow no other bytes for.
+pub mod Settled
