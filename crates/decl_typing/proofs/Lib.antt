@@ -1,1 +1,4 @@
 pub mod Levels
+pub mod Settling
+pub mod Constructors
+pub mod Labels

@@ -1,5 +1,15 @@
 //! Declarations of types and exceptions.
+ghost use Rattle.std.specs.Prelude.{List, [], ◌++◌, option_map, OnOk};
+ghost use Rattle.syntax_tree.specs.View.{node_view};
+ghost use Rattle.row_parts.specs.Numbered.{first_in, operand_view};
 ghost use Rattle.typing_state.specs.Goes.{Goes};
+ghost use Rattle.signature_model.specs.Declarations.{Name};
+ghost use Rattle.typing_model.specs.Contexts.{tell};
+ghost use Rattle.typing_model.specs.Declarations.{read_optional};
+ghost use Rattle.type_expressions.specs.Items.{IsOver};
+ghost use Rattle.typing_rows.specs.DeclaredContracts.{SettlesTo};
+ghost use Rattle.decl_typing.specs.Labels.{label_as, labels_as, HasBody, SettlesLabelNames, SettlesLabels};
+ghost use Rattle.decl_typing.specs.Settling.{constructor_as, constructors_as, HasOperand, SettlesArgument, SettlesConstructor, SettlesConstructors, SettlesNames, SettlesOption, SettlesPartIf};
 
 use crate::fresh::ask_new;
 use crate::reexports::with_reexports;
@@ -476,6 +486,7 @@ fn read_constructors(
     variables: &Variables,
     depth: Depth,
 ) -> Result<Shape, NoMemory>
+    ensures settles { OnOk result ((names : List Name) → IsOver variables.now names → SettlesConstructors at.old at.new inner.now names parts.now) }
     ensures goes { Goes at.old at.new }
 {
     let mut constructors = Vec::new(at.alloc());
@@ -494,6 +505,7 @@ fn read_constructors(
 }
 
 fn names_are_new(at: &mut Parts, parts: &[ConstructorPart<'_>]) -> Result<(), NoMemory>
+    ensures settles { OnOk result (SettlesNames at.old at.new (constructors_as at.old.item parts.now)) }
     ensures goes { Goes at.old at.new }
 {
     let mut seen = HashSet::new(at.alloc());
@@ -506,6 +518,7 @@ fn names_are_new(at: &mut Parts, parts: &[ConstructorPart<'_>]) -> Result<(), No
 }
 
 fn labels_are_new(at: &mut Parts, parts: &[LabelPart<'_>]) -> Result<(), NoMemory>
+    ensures settles { OnOk result (SettlesLabelNames at.old at.new (labels_as at.old.item parts.now)) }
     ensures goes { Goes at.old at.new }
 {
     let mut seen = HashSet::new(at.alloc());
@@ -526,6 +539,7 @@ fn constructor_root(
     variables: &Variables,
     depth: Depth,
 ) -> Result<NodeRef, NoMemory>
+    ensures settles { OnOk result ((names : List Name) → IsOver variables.now names → HasOperand part.now → SettlesOption at.old at.new inner.now names (λ c. read_optional c (constructor_as at.old.item part.now).argument) (constructor_as at.old.item part.now).argument) }
     ensures goes { Goes at.old at.new }
 {
     match part.argument {
@@ -546,6 +560,7 @@ fn read_constructor(
     variables: &Variables,
     depth: Depth,
 ) -> Result<Option<Constructor>, NoMemory>
+    ensures settles { OnOk result ((names : List Name) → IsOver variables.now names → HasOperand part.now → SettlesOption at.old at.new inner.now names (λ c. tell (constructor_as at.old.item part.now).node c ++ read_optional c (constructor_as at.old.item part.now).argument) (constructor_as at.old.item part.now).argument) }
     ensures goes { Goes at.old at.new }
 {
     let root = constructor_root(at, part, own, inner, variables, depth)?;
@@ -571,6 +586,7 @@ fn read_label(
     variables: &Variables,
     depth: Depth,
 ) -> Result<Option<Label>, NoMemory>
+    ensures settles { OnOk result ((names : List Name) → IsOver variables.now names → HasBody part.now → SettlesTo at.old at.new inner.now names (λ c. tell (label_as at.old.item part.now).node c ++ (label_as at.old.item part.now).body.read c) (label_as at.old.item part.now).body.node) }
     ensures goes { Goes at.old at.new }
 {
     let field = read_type(at, part.body, inner, variables, depth)?;
@@ -596,6 +612,7 @@ fn read_labels(
     variables: &Variables,
     depth: Depth,
 ) -> Result<Shape, NoMemory>
+    ensures settles { OnOk result ((names : List Name) → IsOver variables.now names → SettlesLabels at.old at.new inner.now names parts.now) }
     ensures goes { Goes at.old at.new }
 {
     let mut labels = Vec::new(at.alloc());
@@ -895,6 +912,7 @@ pub fn type_exception(
     env: &Env,
     depth: Depth,
 ) -> Result<Declared, NoMemory>
+    ensures settles { OnOk result (SettlesPartIf at.old at.new env.now (first_in number (node_view item.now) 1)) }
     ensures goes { Goes at.old at.new }
 {
     let mut entries = Vec::new(at.alloc());
@@ -931,6 +949,7 @@ fn exception_part(
     env: &Env,
     depth: Depth,
 ) -> Result<Option<Rc<Entry>>, NoMemory>
+    ensures settles { OnOk result (SettlesPartIf at.old at.new env.now (option_map operand_view part.entry)) }
     ensures goes { Goes at.old at.new }
 {
     let Some(part) = part else {
@@ -953,6 +972,7 @@ fn exception(
     env: &Env,
     depth: Depth,
 ) -> Result<Option<Rc<Entry>>, NoMemory>
+    ensures settles { OnOk result (SettlesConstructor at.old at.new env.now number (node_view node.now)) }
     ensures goes { Goes at.old at.new }
 {
     let root = exception_type(at, node, number, env, depth)?;
@@ -998,6 +1018,7 @@ fn exception_type(
     env: &Env,
     depth: Depth,
 ) -> Result<NodeRef, NoMemory>
+    ensures settles { OnOk result (SettlesArgument at.old at.new env.now [] number (node_view node.now)) }
     ensures goes { Goes at.old at.new }
 {
     let level = at.level;
@@ -1016,6 +1037,7 @@ fn exception_root(
     env: &Env,
     depth: Depth,
 ) -> Result<NodeRef, NoMemory>
+    ensures settles { OnOk result (SettlesArgument at.old at.new env.now [] number (node_view node.now)) }
     ensures goes { Goes at.old at.new }
 {
     match first_operand(node, number, 2) {

@@ -53,7 +53,7 @@ use Rattle.type_expressions.proofs.Answering.{many_numbers}
 use Rattle.type_expressions.specs.Operands.{parts_by_row, parts_read, several, several_in_part, several_in_row, at_least_two}
 
 -- what a part asks is what it asks as an operand
-part_read : (i n : ℕ) (at : Place) (p : Part) (c : Context) → IsPartFormed n p → tell (number_of i n) c ++ part_asks i n at p c ≡ (type_of i (numbered n at p)).read c
+pub part_read : (i n : ℕ) (at : Place) (p : Part) (c : Context) → IsPartFormed n p → tell (number_of i n) c ++ part_asks i n at p c ≡ (type_of i (numbered n at p)).read c
 part_read i n at (taken t) c formed = refl
 part_read i n at (inner t) c formed = node_term i n at t formed c
 part_read i n at (missing q) c formed = refl
@@ -105,61 +105,62 @@ not_several : (r : Row) (os : List Numbered) → IsNoType r → several_in_row r
 not_several tparen_row os h = absurd h
 not_several _ os h = refl
 
--- one type expression alone in front of a constructor
-pub alone_reads : (a b : Parts) (env : List Entry) (o : Numbered) (m : ℕ) → several o ≡ None → ReadsOperand a b env o m → ReadsGiven a b env o (m ∷ [])
-alone_reads a b env o m none read operand =
-    let alone = is_alone o.part none operand.formed in
-    let one = alone_read a b env (λ c. (type_of a.item o).read c) (type_of a.item o).node m (read operand) in
-    subst (λ ns. ReadsAll a b env (λ c. (type_of a.item o).grouped_read c) ns (m ∷ [])) (sym alone.grouped) (λ aloud F scope G s.
-    let x = one aloud F scope G s in record { letters = x.letters; carried = carried_as (λ c. sym (alone.read c)) x.carried; means = x.means })
+-- a type expression that isn't several in parentheses is given in front of a constructor as itself
+pub alone_operand : (i : ℕ) (o : Numbered) → several o ≡ None → IsPartFormed o.number o.part → IsAlone (type_of i o)
+alone_operand i o = is_alone o.part
   where
     few : (os : List Numbered) → at_least_two os ≡ None → (x y : Numbered) (us : List Numbered) → os ≡ x ∷ y ∷ us → ⊥
     few os e x y us f = let g : at_least_two (x ∷ y ∷ us) ≡ None = ap at_least_two (sym f) ∙ e in cc
 
-    in_node : (t : Tree) → several_in_row (row_of t) (operands_in o.number t 1) ≡ None → IsFormed o.number t → IsAlone (type_of a.item (numbered o.number o.at (inner t)))
-    in_node t e formed = alone_given a.item o.number o.at t (by (type_row_is (row_of t)))
+    in_node : (t : Tree) → several_in_row (row_of t) (operands_in o.number t 1) ≡ None → IsFormed o.number t → IsAlone (type_of i (numbered o.number o.at (inner t)))
+    in_node t e formed = alone_given i o.number o.at t (by (type_row_is (row_of t)))
       where
-        by : TypeRow (row_of t) → IsAlone (row_type a.item o.number o.at t)
-        by (in_parentheses row) = few_alone a.item o.number o.at t formed row (few (operands_in o.number t 1) (sym (ap (λ r. several_in_row r (operands_in o.number t 1)) row) ∙ e))
-        by (a_variable row) = node_alone a.item o.number o.at t (λ g. let f : tvar_row ≡ tparen_row = sym row ∙ g in cc)
-        by (a_constructor row) = node_alone a.item o.number o.at t (λ g. let f : tcon_row ≡ tparen_row = sym row ∙ g in cc)
-        by (an_application row) = node_alone a.item o.number o.at t (λ g. let f : tapp_row ≡ tparen_row = sym row ∙ g in cc)
-        by (a_tuple row) = node_alone a.item o.number o.at t (λ g. let f : ttuple_row ≡ tparen_row = sym row ∙ g in cc)
-        by (an_arrow row) = node_alone a.item o.number o.at t (λ g. let f : tarrow_row ≡ tparen_row = sym row ∙ g in cc)
-        by (another h) = node_alone a.item o.number o.at t (λ g. subst IsNoType g h)
+        by : TypeRow (row_of t) → IsAlone (row_type i o.number o.at t)
+        by (in_parentheses row) = few_alone i o.number o.at t formed row (few (operands_in o.number t 1) (sym (ap (λ r. several_in_row r (operands_in o.number t 1)) row) ∙ e))
+        by (a_variable row) = node_alone i o.number o.at t (λ g. let f : tvar_row ≡ tparen_row = sym row ∙ g in cc)
+        by (a_constructor row) = node_alone i o.number o.at t (λ g. let f : tcon_row ≡ tparen_row = sym row ∙ g in cc)
+        by (an_application row) = node_alone i o.number o.at t (λ g. let f : tapp_row ≡ tparen_row = sym row ∙ g in cc)
+        by (a_tuple row) = node_alone i o.number o.at t (λ g. let f : ttuple_row ≡ tparen_row = sym row ∙ g in cc)
+        by (an_arrow row) = node_alone i o.number o.at t (λ g. let f : tarrow_row ≡ tparen_row = sym row ∙ g in cc)
+        by (another h) = node_alone i o.number o.at t (λ g. subst IsNoType g h)
 
-    is_alone : (p : Part) → several_in_part o.number p ≡ None → IsPartFormed o.number p → IsAlone (type_of a.item (numbered o.number o.at p))
+    is_alone : (p : Part) → several_in_part o.number p ≡ None → IsPartFormed o.number p → IsAlone (type_of i (numbered o.number o.at p))
     is_alone (taken t) e formed = record { grouped = refl; read = λ c. refl }
     is_alone (inner (node r x ps)) e formed = in_node (node r x ps) e formed
     is_alone (missing q) e formed = record { grouped = refl; read = λ c. refl }
 
--- several type expressions in parentheses in front of a constructor, as a node
-several_in : (a b d : Parts) (env : List Entry) (number : ℕ) (at : Place) (t : Tree) (x y : Numbered) (zs : List Numbered) (ms : List ℕ) → IsFormed number t → row_of t ≡ tparen_row → operands_in number t 1 ≡ x ∷ y ∷ zs → NotedNameless a b number env None → OnlyIndex a b → Goes a b → ReadsOperands b d env (x ∷ y ∷ zs) ms →
-    ReadsAll a d env (λ c. (type_of a.item (numbered number at (inner t))).grouped_read c) (type_of a.item (numbered number at (inner t))).grouped ms
-several_in a b d env number at t x y zs ms formed row there noted only goes read =
-    let h = several_given a.item number at t x y zs formed row there in
-    let all = subst (λ i. ReadsAll b d env (λ c. read_all c (types_read i (x ∷ y ∷ zs))) (nodes_of (types_read i (x ∷ y ∷ zs))) ms) goes.item (read (subst (All IsTypeOperand) there (slot_operands number t 1 formed))) in
-    subst (λ ns. ReadsAll a d env (λ c. (type_of a.item (numbered number at (inner t))).grouped_read c) ns ms) (sym h.0) (λ aloud F scope G s.
-    let first = plain_noted a b {F = F} {scope = scope} {G = G} number env (number_of a.item number) (λ c. c.env) noted only in
-    let z = all (first.stays.aloud ∙ aloud) F scope G (surrounds_on first.stays s) in
-    record { letters = z.letters; carried = carried_as (λ c. sym (h.1 c)) (carried_trans first z.carried); means = z.means })
+-- one type expression alone in front of a constructor
+pub alone_reads : (a b : Parts) (env : List Entry) (o : Numbered) (m : ℕ) → several o ≡ None → ReadsOperand a b env o m → ReadsGiven a b env o (m ∷ [])
+alone_reads a b env o m none read operand =
+    let alone = alone_operand a.item o none operand.formed in
+    let one = alone_read a b env (λ c. (type_of a.item o).read c) (type_of a.item o).node m (read operand) in
+    subst (λ ns. ReadsAll a b env (λ c. (type_of a.item o).grouped_read c) ns (m ∷ [])) (sym alone.grouped) (λ aloud F scope G s.
+    let x = one aloud F scope G s in record { letters = x.letters; carried = carried_as (λ c. sym (alone.read c)) x.carried; means = x.means })
 
--- the same of an operand
-pub several_reads : (a b d : Parts) (env : List Entry) (o : Numbered) (os : List Numbered) (ms : List ℕ) → several o ≡ Some os → NotedNameless a b o.number env None → OnlyIndex a b → Goes a b → ReadsOperands b d env os ms → ReadsGiven a d env o ms
-several_reads a b d env o os ms some noted only goes read operand = by o.part some operand.formed
+-- several type expressions in parentheses are given in front of a constructor one by one
+pub record SeveralGiven (i : ℕ) (o : Numbered) (os : List Numbered) : Type 0 where
+  pub operands : All IsTypeOperand os
+  pub nodes : (type_of i o).grouped ≡ nodes_of (types_read i os)
+  pub asks : (c : Context) → (type_of i o).grouped_read c ≡ tell (number_of i o.number) c ++ read_all c (types_read i os)
+
+-- so they are where the code finds several
+pub several_operand : (i : ℕ) (o : Numbered) (os : List Numbered) → several o ≡ Some os → IsPartFormed o.number o.part → SeveralGiven i o os
+several_operand i o os = by o.part
   where
-    in_node : (t : Tree) → several_in_row (row_of t) (operands_in o.number t 1) ≡ Some os → IsFormed o.number t → ReadsAll a d env (λ c. (type_of a.item (numbered o.number o.at (inner t))).grouped_read c) (type_of a.item (numbered o.number o.at (inner t))).grouped ms
+    in_node : (t : Tree) → several_in_row (row_of t) (operands_in o.number t 1) ≡ Some os → IsFormed o.number t → SeveralGiven i (numbered o.number o.at (inner t)) os
     in_node t e formed = at_row (type_row_is (row_of t))
       where
-        split : (us : List Numbered) → operands_in o.number t 1 ≡ us → at_least_two us ≡ Some os → row_of t ≡ tparen_row → ReadsAll a d env (λ c. (type_of a.item (numbered o.number o.at (inner t))).grouped_read c) (type_of a.item (numbered o.number o.at (inner t))).grouped ms
+        split : (us : List Numbered) → operands_in o.number t 1 ≡ us → at_least_two us ≡ Some os → row_of t ≡ tparen_row → SeveralGiven i (numbered o.number o.at (inner t)) os
         split [] f g row = absurd (cc)
         split (x ∷ []) f g row = absurd (cc)
-        split (x ∷ y ∷ zs) f g row = several_in a b d env o.number o.at t x y zs ms formed row f noted only goes (subst (λ us. ReadsOperands b d env us ms) (let h : os ≡ x ∷ y ∷ zs = cc in h) read)
+        split (x ∷ y ∷ zs) f g row =
+            let h = several_given i o.number o.at t x y zs formed row f in
+            subst (SeveralGiven i (numbered o.number o.at (inner t))) (let q : x ∷ y ∷ zs ≡ os = cc in q) (record { operands = subst (All IsTypeOperand) f (slot_operands o.number t 1 formed); nodes = h.0; asks = h.1 })
 
         none : (r : Row) → several_in_row r (operands_in o.number t 1) ≡ None → row_of t ≡ r → ⊥
         none r f row = let h : None ≡ Some os = sym f ∙ sym (ap (λ r. several_in_row r (operands_in o.number t 1)) row) ∙ e in cc
 
-        at_row : TypeRow (row_of t) → ReadsAll a d env (λ c. (type_of a.item (numbered o.number o.at (inner t))).grouped_read c) (type_of a.item (numbered o.number o.at (inner t))).grouped ms
+        at_row : TypeRow (row_of t) → SeveralGiven i (numbered o.number o.at (inner t)) os
         at_row (in_parentheses row) = split (operands_in o.number t 1) refl (sym (ap (λ r. several_in_row r (operands_in o.number t 1)) row) ∙ e) row
         at_row (a_variable row) = absurd (none tvar_row refl row)
         at_row (a_constructor row) = absurd (none tcon_row refl row)
@@ -168,10 +169,31 @@ several_reads a b d env o os ms some noted only goes read operand = by o.part so
         at_row (an_arrow row) = absurd (none tarrow_row refl row)
         at_row (another h) = absurd (none (row_of t) (not_several (row_of t) (operands_in o.number t 1) h) refl)
 
-    by : (p : Part) → several_in_part o.number p ≡ Some os → IsPartFormed o.number p → ReadsAll a d env (λ c. (type_of a.item (numbered o.number o.at p)).grouped_read c) (type_of a.item (numbered o.number o.at p)).grouped ms
+    by : (p : Part) → several_in_part o.number p ≡ Some os → IsPartFormed o.number p → SeveralGiven i (numbered o.number o.at p) os
     by (taken t) e formed = absurd (cc)
     by (inner (node r x ps)) e formed = in_node (node r x ps) e formed
     by (missing q) e formed = absurd (cc)
+
+-- several type expressions in parentheses in front of a constructor, once their node is recorded
+pub several_reads : (a b d : Parts) (env : List Entry) (o : Numbered) (os : List Numbered) (ms : List ℕ) → several o ≡ Some os → NotedNameless a b o.number env None → OnlyIndex a b → Goes a b → ReadsOperands b d env os ms → ReadsGiven a d env o ms
+several_reads a b d env o os ms some noted only goes read operand =
+    let h = several_operand a.item o os some operand.formed in
+    let all = subst (λ i. ReadsAll b d env (λ c. read_all c (types_read i os)) (nodes_of (types_read i os)) ms) goes.item (read h.operands) in
+    subst (λ ns. ReadsAll a d env (λ c. (type_of a.item o).grouped_read c) ns ms) (sym h.nodes) (λ aloud F scope G s.
+    let first = plain_noted a b {F = F} {scope = scope} {G = G} o.number env (number_of a.item o.number) (λ c. c.env) noted only in
+    let z = all (first.stays.aloud ∙ aloud) F scope G (surrounds_on first.stays s) in
+    record { letters = z.letters; carried = carried_as (λ c. sym (h.asks c)) (carried_trans first z.carried); means = z.means })
+
+-- the numbers of nodes and one more
+pub numbers_more : (ms : List NodeRef) (m : NodeRef) → numbers (ms ++ m ∷ []) ≡ numbers ms ++ m.0 ∷ []
+numbers_more [] m = refl
+numbers_more (k ∷ ms) m = ap (λ ns. k.0 ∷ ns) (numbers_more ms m)
+
+-- the operand at a place is one of a type expression where all are
+pub operand_there : (os : List Operand) (i : ℕ) (x : Operand) → i < length os → x ≡ slice_index_or os i x → All IsTypeOperand (map operand_view os) → IsTypeOperand (operand_view x)
+operand_there [] i x lt e all = absurd (omega arith)
+operand_there (o ∷ os) zero x lt e all = subst (λ z. IsTypeOperand (operand_view z)) (sym e) (All-head IsTypeOperand (operand_view o) (map operand_view os) all)
+operand_there (o ∷ os) (suc i) x lt e all = operand_there os i x (omega arith) e (All-tail IsTypeOperand (operand_view o) (map operand_view os) all)
 
 -- one type expression more was read in a loop
 pub each_read : (a b d : Parts) (env : List Entry) (os : List Operand) (i : ℕ) (x : Operand) (ms new : List NodeRef) (m : NodeRef) → i < length os → x ≡ slice_index_or os i x → new ≡ ms ++ m ∷ [] → All IsTypeOperand (map operand_view os) →
@@ -183,15 +205,6 @@ each_read a b d env os i x ms new m lt here pushed all first goes read =
     subst (ReadsFirst a d env (types_read a.item (map operand_view os)) (types_read a.item (map operand_view (drop (i + 1) os)))) (sym (ap numbers pushed ∙ numbers_more ms m))
     (one_read a b d env (types_read a.item (map operand_view os)) (types_read a.item (map operand_view (drop (i + 1) os))) (type_of a.item (operand_view x)) (numbers ms) m.0
     (subst (λ us. ReadsFirst a b env (types_read a.item (map operand_view os)) (types_read a.item (map operand_view us)) (numbers ms)) cut first) goes one)
-  where
-    numbers_more : (ms : List NodeRef) (m : NodeRef) → numbers (ms ++ m ∷ []) ≡ numbers ms ++ m.0 ∷ []
-    numbers_more [] m = refl
-    numbers_more (k ∷ ms) m = ap (λ ns. k.0 ∷ ns) (numbers_more ms m)
-
-    operand_there : (os : List Operand) (i : ℕ) (x : Operand) → i < length os → x ≡ slice_index_or os i x → All IsTypeOperand (map operand_view os) → IsTypeOperand (operand_view x)
-    operand_there [] i x lt e all = absurd (omega arith)
-    operand_there (o ∷ os) zero x lt e all = subst (λ z. IsTypeOperand (operand_view z)) (sym e) (All-head IsTypeOperand (operand_view o) (map operand_view os) all)
-    operand_there (o ∷ os) (suc i) x lt e all = operand_there os i x (omega arith) e (All-tail IsTypeOperand (operand_view o) (map operand_view os) all)
 
 -- the row of a node, by that of the code
 pub var_row : (nd : Node) → (out-Node nd).row ≡ name.Tvar → row_of (node_view nd) ≡ tvar_row

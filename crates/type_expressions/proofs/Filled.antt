@@ -1,7 +1,6 @@
 -- What a declaration over arguments carries, by the calls that make it.
-use Rattle.std.proofs.Common.{◌≡◌, ◌≢◌, ◌⊎◌, inl, inr, ℕ, suc, List, [], ◌∷◌, ◌++◌, length, refl, sym, ap, subst}
-use Rattle.type_nodes.specs.Nodes.{Tuple, IsNode, IsSound}
-use Rattle.type_nodes.specs.Links.{reading}
+use Rattle.std.proofs.Common.{◌⊎◌, inl, inr, ℕ, List, [], ◌∷◌, ap}
+use Rattle.type_nodes.specs.Nodes.{IsNode, IsSound}
 use Rattle.level_unify.specs.Instances.{Instantiated}
 use Rattle.level_unify.specs.Unification.{Unified, NeverAlike}
 use Rattle.env_table.specs.declared.entries.Declaration.{Declaration}

@@ -1,5 +1,6 @@
 -- The laws of type expressions.
 pub mod Carrying
+pub mod Settling
 pub mod Filled
 pub mod Answering
 pub mod Naming

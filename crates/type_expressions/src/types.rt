@@ -1,7 +1,7 @@
 //! Type expressions.
 #![tactic(auto, using(typing_state::proofs::Going::goes_trans, typing_state::proofs::Going::goes_refl, typing_state::proofs::Silence::store_silent), unfolding(syntax_tree::specs::Names::row_of))]
 
-ghost use Rattle.std.specs.Prelude.{◌≡◌, ◌==◌, [], ◌∷◌, length, map, option_map, IfOk, OnOk};
+ghost use Rattle.std.specs.Prelude.{◌≡◌, ◌==◌, List, [], ◌∷◌, length, map, option_map, IfOk, OnOk};
 ghost use Rattle.std.specs.Option.{option_copied};
 ghost use Rattle.syntax_tree.specs.Names.{row_of};
 ghost use Rattle.syntax_tree.specs.declared.tree.Node.{out-Node};
@@ -14,7 +14,10 @@ ghost use Rattle.typing_state.specs.Types.{MakesVar, any_scope};
 ghost use Rattle.typing_steps.specs.Typing.{path_as};
 ghost use Rattle.typing_rows.specs.Declaring.{declared_in, DeclaresTo, NamesTo};
 ghost use Rattle.typing_rows.specs.Operands.{EndsName, EndsParentheses, EndsPlainRow, EndsRow, MakesArrowOver, ReadsFront, ReadsGiven, ReadsOperand, ReadsOperands, ReadsPart, ReadsVariable};
-ghost use Rattle.type_expressions.specs.Items.{IsOfItem};
+ghost use Rattle.signature_model.specs.Declarations.{Name};
+ghost use Rattle.typing_rows.specs.DeclaredContracts.{SettlesDeclared, SettlesNamed};
+ghost use Rattle.typing_rows.specs.DeclaredOperands.{SettlesFront, SettlesGiven, SettlesName, SettlesOperand, SettlesOperands, SettlesParentheses, SettlesPart, SettlesPlainRow, SettlesRow, SettlesVariable};
+ghost use Rattle.type_expressions.specs.Items.{IsOfItem, IsOver, parameter_in};
 ghost use Rattle.type_expressions.specs.Operands.{several, parts_read};
 ghost use Rattle.typing_state.specs.Notes.{IsRecorded};
 
@@ -47,7 +50,9 @@ pub enum Variables {
 }
 
 /// The parameter of a name, of two the later one.
-fn parameter_named(parameters: &[Parameter], name: &str) -> Option<NodeRef> {
+fn parameter_named(parameters: &[Parameter], name: &str) -> Option<NodeRef>
+    ensures { result ≡ parameter_in name.now parameters.now }
+{
     let mut found = None;
     for parameter in parameters {
         if parameter.name.is(name) {
@@ -74,6 +79,7 @@ pub fn read_type(
     depth: Depth,
 ) -> Result<NodeRef, NoMemory>
     ensures carries { IfOk result (λ m. IsOfItem variables.now → ReadsOperand at.old at.new env.now (operand_view ty.entry) m.0) }
+    ensures settles { IfOk result (λ m. (names : List Name) → IsOver variables.now names → SettlesOperand at.old at.new env.now names (operand_view ty.entry)) }
     ensures recorded { OnOk result (IsRecorded at.new ty.entry.number) }
     ensures goes { Goes at.old at.new }
 {
@@ -92,6 +98,7 @@ fn read_row(
     depth: Depth,
 ) -> Result<Read, NoMemory>
     ensures carries { IfOk result (λ r. IsOfItem variables.now → ReadsPart at.old at.new env.now ty.entry.number (place_of ty.entry.span) (part_of ty.entry.node ty.entry.span) r.ty.0) }
+    ensures settles { IfOk result (λ r. (names : List Name) → IsOver variables.now names → SettlesPart at.old at.new env.now names ty.entry.number (place_of ty.entry.span) (part_of ty.entry.node ty.entry.span)) }
     ensures goes { Goes at.old at.new }
 {
     match ty.node {
@@ -127,6 +134,7 @@ fn read_parts(
     depth: Depth,
 ) -> Result<Vec<NodeRef>, NoMemory>
     ensures carries { IfOk result (λ ms. IsOfItem variables.now → ReadsFront at.old at.new env.now number (node_view node.now) (numbers ms.items)) }
+    ensures settles { IfOk result (λ ms. (names : List Name) → IsOver variables.now names → SettlesFront at.old at.new env.now names number (node_view node.now) (numbers ms.items)) }
     ensures goes { Goes at.old at.new }
 {
     match node.row {
@@ -148,6 +156,7 @@ fn read_given(
     depth: Depth,
 ) -> Result<Vec<NodeRef>, NoMemory>
     ensures carries { IfOk result (λ ms. IsOfItem variables.now → ReadsGiven at.old at.new env.now (operand_view left.entry) (numbers ms.items)) }
+    ensures settles { IfOk result (λ ms. (names : List Name) → IsOver variables.now names → SettlesGiven at.old at.new env.now names (operand_view left.entry) (numbers ms.items)) }
     ensures recorded { OnOk result (IsRecorded at.new left.entry.number) }
     ensures goes { Goes at.old at.new }
 {
@@ -173,6 +182,7 @@ fn read_each(
     depth: Depth,
 ) -> Result<Vec<NodeRef>, NoMemory>
     ensures carries { IfOk result (λ ms. IsOfItem variables.now → ReadsOperands at.old at.new env.now (map operand_view parts.now) (numbers ms.items)) }
+    ensures settles { IfOk result (λ ms. (names : List Name) → IsOver variables.now names → SettlesOperands at.old at.new env.now names (map operand_view parts.now) (numbers ms.items)) }
     ensures goes { Goes at.old at.new }
 {
     let mut types = Vec::new(at.alloc());
@@ -205,6 +215,7 @@ fn formed(
     variables: &Variables,
 ) -> Result<Read, NoMemory>
     ensures carries { IfOk result (λ r. IsOfItem variables.now → EndsRow at.old at.new env.now (node_view node.now) (numbers types.now) r.ty.0) }
+    ensures settles { IfOk result (λ r. (names : List Name) → IsOver variables.now names → SettlesRow at.old at.new env.now names (node_view node.now) (numbers types.now)) }
     ensures goes { Goes at.old at.new }
 {
     match node.row {
@@ -232,6 +243,7 @@ fn composed(
     variables: &Variables,
 ) -> Result<NodeRef, NoMemory>
     ensures carries { IfOk result (λ m. IsOfItem variables.now → EndsPlainRow at.old at.new (node_view node.now) (numbers types.now) m.0) }
+    ensures settles { IfOk result (λ m. (names : List Name) → IsOver variables.now names → SettlesPlainRow at.old at.new names (node_view node.now) (numbers types.now)) }
     ensures goes { Goes at.old at.new }
 {
     match node.row {
@@ -274,6 +286,7 @@ fn in_parentheses(
     variables: &Variables,
 ) -> Result<NodeRef, NoMemory>
     ensures carries { IfOk result (λ m. IsOfItem variables.now → EndsParentheses at.old at.new (place_of (out-Node node.now).span) (numbers types.now) m.0) }
+    ensures settles { IfOk result (λ m. (names : List Name) → IsOver variables.now names → SettlesParentheses at.old at.new names (place_of (out-Node node.now).span) (numbers types.now)) }
     ensures goes { Goes at.old at.new }
 {
     match types {
@@ -293,6 +306,7 @@ fn variable(
     variables: &Variables,
 ) -> Result<NodeRef, NoMemory>
     ensures carries { IfOk result (λ m. IsOfItem variables.now → ReadsVariable at.old at.new (option_map (λ t. tok_of t.now) name.entry) m.0) }
+    ensures settles { IfOk result (λ m. (names : List Name) → IsOver variables.now names → SettlesVariable at.old at.new names (option_map (λ t. tok_of t.now) name.entry)) }
     ensures goes { Goes at.old at.new }
 {
     let Some(name) = name else {
@@ -321,6 +335,7 @@ fn constructed(
     variables: &Variables,
 ) -> Result<Read, NoMemory>
     ensures carries { IfOk result (λ r. IsOfItem variables.now → EndsName at.old at.new env.now (path_as (path_view path.now)) (numbers types.now) r.ty.0) }
+    ensures settles { IfOk result (λ r. (names : List Name) → IsOver variables.now names → SettlesName at.old at.new env.now names (path_as (path_view path.now)) (numbers types.now)) }
     ensures goes { Goes at.old at.new }
 {
     let Some(last) = path.last else {
@@ -343,6 +358,7 @@ fn named_type(
     variables: &Variables,
 ) -> Result<NodeRef, NoMemory>
     ensures carries { IfOk result (λ m. IsOfItem variables.now → NamesTo (option_map (λ r. r.value) (option_copied entry.entry)) at.old at.new (tok_of last.now) (numbers types.now) m.0) }
+    ensures settles { IfOk result (λ m. (names : List Name) → IsOver variables.now names → SettlesNamed (option_map (λ r. r.value) (option_copied entry.entry)) at.old at.new names (tok_of last.now) (numbers types.now)) }
     ensures goes { Goes at.old at.new }
 {
     match entry {
@@ -370,6 +386,7 @@ fn declared(
     variables: &Variables,
 ) -> Result<NodeRef, NoMemory>
     ensures carries { IfOk result (λ m. IsOfItem variables.now → DeclaresTo at.old at.new (tok_of last.now) entry.now (numbers types.now) m.0) }
+    ensures settles { IfOk result (λ m. (names : List Name) → IsOver variables.now names → SettlesDeclared (declared_in entry.now.what) at.old at.new names (tok_of last.now) (numbers types.now)) }
     ensures goes { Goes at.old at.new }
 {
     let Some(declaration) = declaration_behind(entry) else {

@@ -26,3 +26,11 @@ pub mod Placed
 pub mod TypeGiven
 pub mod Ended
 pub mod Annotated
+-- The laws of type expressions in declarations.
+pub mod Settling
+pub mod Judging
+pub mod DeclaredOrdered
+pub mod DeclaredComposed
+pub mod DeclaredNamed
+pub mod DeclaredEnded
+pub mod Surrounding

@@ -11,3 +11,8 @@ pub mod TypeContracts
 pub mod Rows
 pub mod Declaring
 pub mod Operands
+-- What is settled of type expressions in declarations.
+pub mod Settled
+pub mod Around
+pub mod DeclaredContracts
+pub mod DeclaredOperands

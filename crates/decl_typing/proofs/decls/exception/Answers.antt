@@ -1,23 +1,34 @@
 use Rattle.typing_state.proofs.Going.{goes_trans}
+use Rattle.syntax_tree.specs.View.{node_view}
+use Rattle.typing_rows.proofs.DeclaredOrdered.{index_reports}
+use Rattle.decl_typing.proofs.Settling.{exception_settles}
 use Rattle.decl_typing.proofs.decls.exception.Goals as goal
 
-pub returns : goal.returns
-returns c = record { goes = goes_trans c.args.at.now c.exception_type.new.at c.note.new.self c.exception_type.ensures.goes c.note.ensures.goes }
+pub returns-clause-goes : goal.returns-clause-goes
+returns-clause-goes c = goes_trans c.args.at.now c.exception_type.new.at c.note.new.self c.exception_type.ensures.goes c.note.ensures.goes
 
-pub returns-in_default : goal.returns-in_default
-returns-in_default c = record { goes = goes_trans c.args.at.now c.exception_type.new.at c.note_plain.new.self c.exception_type.ensures.goes c.note_plain.ensures.goes }
+pub returns-in_default-clause-goes : goal.returns-in_default-clause-goes
+returns-in_default-clause-goes c = goes_trans c.args.at.now c.exception_type.new.at c.note_plain.new.self c.exception_type.ensures.goes c.note_plain.ensures.goes
 
-pub returns-in_err-entry : goal.returns-in_err-entry
-returns-in_err-entry c = record { goes = c.exception_type.ensures.goes }
+pub returns-in_err-entry-clause-goes : goal.returns-in_err-entry-clause-goes
+returns-in_err-entry-clause-goes c = c.exception_type.ensures.goes
 
-pub returns-in_err-names : goal.returns-in_err-names
-returns-in_err-names c = record { goes = c.exception_type.ensures.goes }
+pub returns-in_err-names-clause-goes : goal.returns-in_err-names-clause-goes
+returns-in_err-names-clause-goes c = c.exception_type.ensures.goes
 
-pub returns-in_err-note : goal.returns-in_err-note
-returns-in_err-note c = record { goes = goes_trans c.args.at.now c.exception_type.new.at c.note.new.self c.exception_type.ensures.goes c.note.ensures.goes }
+pub returns-in_err-note-clause-goes : goal.returns-in_err-note-clause-goes
+returns-in_err-note-clause-goes c = goes_trans c.args.at.now c.exception_type.new.at c.note.new.self c.exception_type.ensures.goes c.note.ensures.goes
 
-pub returns-in_err-note_plain : goal.returns-in_err-note_plain
-returns-in_err-note_plain c = record { goes = goes_trans c.args.at.now c.exception_type.new.at c.note_plain.new.self c.exception_type.ensures.goes c.note_plain.ensures.goes }
+pub returns-in_err-note_plain-clause-goes : goal.returns-in_err-note_plain-clause-goes
+returns-in_err-note_plain-clause-goes c = goes_trans c.args.at.now c.exception_type.new.at c.note_plain.new.self c.exception_type.ensures.goes c.note_plain.ensures.goes
 
-pub returns-in_err-root : goal.returns-in_err-root
-returns-in_err-root c = record { goes = c.exception_type.ensures.goes }
+pub returns-in_err-root-clause-goes : goal.returns-in_err-root-clause-goes
+returns-in_err-root-clause-goes c = c.exception_type.ensures.goes
+
+pub returns-clause-settles : goal.returns-clause-settles
+returns-clause-settles c =
+    exception_settles c.args.at.now c.exception_type.new.at c.note.new.self c.args.env.now c.args.number (node_view c.args.node.now) (index_reports c.exception_type.new.at c.note.new.self c.note.ensures.rest) c.in_ok-root.ensures.settles
+
+pub returns-in_default-clause-settles : goal.returns-in_default-clause-settles
+returns-in_default-clause-settles c =
+    exception_settles c.args.at.now c.exception_type.new.at c.note_plain.new.self c.args.env.now c.args.number (node_view c.args.node.now) (index_reports c.exception_type.new.at c.note_plain.new.self c.note_plain.ensures.rest) c.in_ok-root.ensures.settles

@@ -1,12 +1,21 @@
 use Rattle.typing_state.proofs.Going.{goes_trans}
 use Rattle.decl_typing.proofs.Levels.{with_level, deeper_goes}
+use Rattle.std.proofs.Common.{[]}
+use Rattle.syntax_tree.specs.View.{node_view}
+use Rattle.typing_rows.proofs.DeclaredOrdered.{store_reports}
+use Rattle.decl_typing.proofs.Settling.{settles_deeper}
 use Rattle.decl_typing.proofs.decls.exception_type.Goals as goal
 
-pub returns : goal.returns
-returns c = record { goes = goes_trans c.args.at.now (with_level c.exception_root-read.new.at c.args.at.now.level) c.generalise.new.self (deeper_goes c.args.at.now c.exception_root-read.new.at c.saturating_add-at.result c.args.at.now.level c.exception_root-read.ensures.goes) c.generalise.ensures.goes }
+pub returns-clause-goes : goal.returns-clause-goes
+returns-clause-goes c = goes_trans c.args.at.now (with_level c.exception_root-read.new.at c.args.at.now.level) c.generalise.new.self (deeper_goes c.args.at.now c.exception_root-read.new.at c.saturating_add-at.result c.args.at.now.level c.exception_root-read.ensures.goes) c.generalise.ensures.goes
 
-pub returns-in_err-generalise : goal.returns-in_err-generalise
-returns-in_err-generalise c = record { goes = goes_trans c.args.at.now (with_level c.exception_root-read.new.at c.args.at.now.level) c.generalise.new.self (deeper_goes c.args.at.now c.exception_root-read.new.at c.saturating_add-at.result c.args.at.now.level c.exception_root-read.ensures.goes) c.generalise.ensures.goes }
+pub returns-in_err-generalise-clause-goes : goal.returns-in_err-generalise-clause-goes
+returns-in_err-generalise-clause-goes c = goes_trans c.args.at.now (with_level c.exception_root-read.new.at c.args.at.now.level) c.generalise.new.self (deeper_goes c.args.at.now c.exception_root-read.new.at c.saturating_add-at.result c.args.at.now.level c.exception_root-read.ensures.goes) c.generalise.ensures.goes
 
-pub returns-in_err-root : goal.returns-in_err-root
-returns-in_err-root c = record { goes = deeper_goes c.args.at.now c.exception_root-read.new.at c.saturating_add-at.result c.args.at.now.level c.exception_root-read.ensures.goes }
+pub returns-in_err-root-clause-goes : goal.returns-in_err-root-clause-goes
+returns-in_err-root-clause-goes c = deeper_goes c.args.at.now c.exception_root-read.new.at c.saturating_add-at.result c.args.at.now.level c.exception_root-read.ensures.goes
+
+pub returns-clause-settles : goal.returns-clause-settles
+returns-clause-settles c =
+    let read = c.exception_root-read.new.at in
+    settles_deeper c.args.at.now read c.generalise.new.self c.saturating_add-at.result c.args.env.now [] c.args.number (node_view c.args.node.now) (store_reports (with_level read c.args.at.now.level) c.generalise.new.self c.generalise.ensures.rest) c.in_ok-root.ensures.settles

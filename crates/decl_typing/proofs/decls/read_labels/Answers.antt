@@ -1,14 +1,44 @@
-use Rattle.typing_state.proofs.Going.{goes_trans}
+use Rattle.std.proofs.Common.{◌∙◌, ◌<◌, length, ap, subst, arith}
+use Rattle.std.proofs.lemmas.List.{drop_all}
+use Rattle.typing_state.proofs.Going.{goes_refl, goes_trans}
+use Rattle.typing_steps.specs.States.{is_aloud, sight}
+use Rattle.typing_rows.specs.Settled.{behind}
+use Rattle.decl_typing.specs.Labels.{labels_as, FirstLabels, SettlesLabelNames}
+use Rattle.decl_typing.proofs.Labels.{none_read, each_label, all_labels}
 use Rattle.decl_typing.proofs.decls.read_labels.Goals as goal
 
-pub returns : goal.returns
-returns c = record { goes = goes_trans c.args.at.now c.loop-part.at c.labels_are_new.new.at c.loop-part.invariant c.labels_are_new.ensures.goes }
+pub returns-clause-goes : goal.returns-clause-goes
+returns-clause-goes c = goes_trans c.args.at.now c.loop-part.at c.labels_are_new.new.at c.loop-part.invariant.goes c.labels_are_new.ensures.goes
 
-pub returns-in_err-label : goal.returns-in_err-label
-returns-in_err-label c = record { goes = goes_trans c.args.at.now c.loop-part.at c.read_label.new.at c.loop-part.invariant c.read_label.ensures.goes }
+pub returns-in_err-label-clause-goes : goal.returns-in_err-label-clause-goes
+returns-in_err-label-clause-goes c = goes_trans c.args.at.now c.loop-part.at c.read_label.new.at c.loop-part.invariant.goes c.read_label.ensures.goes
 
-pub returns-in_err-labels_are_new : goal.returns-in_err-labels_are_new
-returns-in_err-labels_are_new c = record { goes = goes_trans c.args.at.now c.loop-part.at c.labels_are_new.new.at c.loop-part.invariant c.labels_are_new.ensures.goes }
+pub returns-in_err-labels_are_new-clause-goes : goal.returns-in_err-labels_are_new-clause-goes
+returns-in_err-labels_are_new-clause-goes c = goes_trans c.args.at.now c.loop-part.at c.labels_are_new.new.at c.loop-part.invariant.goes c.labels_are_new.ensures.goes
 
-pub returns-in_err-push : goal.returns-in_err-push
-returns-in_err-push c = record { goes = goes_trans c.args.at.now c.loop-part.at c.read_label.new.at c.loop-part.invariant c.read_label.ensures.goes }
+pub returns-in_err-push-clause-goes : goal.returns-in_err-push-clause-goes
+returns-in_err-push-clause-goes c = goes_trans c.args.at.now c.loop-part.at c.read_label.new.at c.loop-part.invariant.goes c.read_label.ensures.goes
+
+pub loop-part-init : goal.loop-part-init
+loop-part-init c = record { goes = goes_refl c.args.at.now; settles = λ names over all aloud B around. none_read (labels_as c.args.at.now.item c.args.parts.now) }
+
+pub loop-part-preserved : goal.loop-part-preserved
+loop-part-preserved c =
+    let at = c.args.at.now in
+    let ps = c.args.parts.now in
+    let k = c.loop-part.part-index in
+    let lt : k < length ps = let n = c.loop-part-test.true in omega arith in
+    record {
+      goes = goes_trans at c.loop-part.at c.read_label.new.at c.loop-part.invariant.goes c.read_label.ensures.goes;
+      settles = λ names over. each_label at c.loop-part.at c.read_label.new.at c.args.inner.now names ps k c.part-item.result lt c.part-item.is (c.loop-part.invariant.settles names over) c.loop-part.invariant.goes (c.in_ok-label.ensures.settles names over);
+    }
+
+pub returns-clause-settles : goal.returns-clause-settles
+returns-clause-settles c = λ names over all aloud B around.
+    let at = c.args.at.now in
+    let ps = c.args.parts.now in
+    let g = c.loop-part.invariant.goes in
+    let none = drop_all c.loop-part.part-index ps c.loop-part-test.false in
+    let x = subst (λ left. FirstLabels B (labels_as at.item ps) (labels_as at.item left) (sight at) (sight c.loop-part.at)) none (c.loop-part.invariant.settles names over all aloud B around) in
+    let y = subst (λ i. SettlesLabelNames c.loop-part.at c.labels_are_new.new.at (labels_as i ps)) g.item c.in_ok-labels_are_new.ensures.settles in
+    all_labels x (y (ap is_aloud g.telling ∙ aloud) (behind B x.judged x.fixes))

@@ -1,4 +1,4 @@
-use Rattle.std.proofs.Common.{◌≡◌, ℕ, List, [], ◌∷◌, sym, subst}
+use Rattle.std.proofs.Common.{sym, subst}
 use Rattle.type_nodes.specs.Views.{numbers}
 use Rattle.type_reading.specs.Filling.{Fills}
 use Rattle.typing_rows.specs.Declaring.{AppliesTo}

@@ -1,6 +1,5 @@
-use Rattle.std.proofs.Common.{◌≡◌, ◌∙◌, Some, None, sym, ap, subst}
+use Rattle.std.proofs.Common.{◌≡◌, ◌∙◌, None, sym, ap, subst}
 use Rattle.std.specs.HashMap.{get_by_text}
-use Rattle.std.specs.String.{string_bytes}
 use Rattle.syntax_tree.specs.View.{tok_of}
 use Rattle.typing_steps.specs.Writing.{PutsVariable}
 use Rattle.type_expressions.proofs.Naming.{again_reads, first_reads}

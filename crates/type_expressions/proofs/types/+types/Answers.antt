@@ -1,5 +1,5 @@
 use Rattle.typing_state.proofs.Recording.{record_stays_in, record_still}
-use Rattle.std.proofs.Common.{◌≡◌, ◌∙◌, ◌<◌, [], length, map, refl, sym, ap, subst, arith}
+use Rattle.std.proofs.Common.{◌≡◌, ◌∙◌, ◌<◌, length, map, refl, sym, ap, subst, arith}
 use Rattle.std.proofs.lemmas.List.{drop_all}
 use Rattle.std.specs.Prelude.{Some, None, option_map}
 use Rattle.syntax_tree.specs.View.{place_of, node_view}
@@ -13,6 +13,10 @@ use Rattle.type_expressions.proofs.Answering.{if_ok}
 use Rattle.type_expressions.proofs.Carrying.{operand_reads, missing_reads, node_reads, app_front, other_front, alone_reads, several_reads, each_read, app_row, not_app_row}
 use Rattle.type_expressions.specs.Operands.{several}
 use Rattle.typing_state.proofs.Going.{goes_refl, goes_trans}
+use Rattle.typing_rows.specs.DeclaredContracts.{SettlesFirst}
+use Rattle.typing_rows.specs.DeclaredOperands.{SettlesOperands, SettlesGiven, SettlesRow}
+use Rattle.typing_rows.proofs.DeclaredOrdered.{none_settled, all_settled}
+use Rattle.type_expressions.proofs.Settling as settled
 use Rattle.type_expressions.proofs.types.+types.Goals as goal
 
 pub read_each-loop-part-preserved : goal.read_each-loop-part-preserved
@@ -25,6 +29,8 @@ read_each-loop-part-preserved t c =
       goes = goes_trans c.args.at.now c.loop-part.at c.read_type.new.at c.loop-part.invariant.goes c.read_type.ensures.goes;
       reads = λ item operands. each_read c.args.at.now c.loop-part.at c.read_type.new.at c.args.env.now all i x c.loop-part.types.items c.push.new.list.items c.in_ok-ty.ty lt c.part-item.is c.in_ok-push.ensures.pushed operands
           (c.loop-part.invariant.reads item operands) c.loop-part.invariant.goes (c.in_ok-ty.ensures.carries item);
+      settles = λ names over operands. settled.each_settles c.args.at.now c.loop-part.at c.read_type.new.at c.args.env.now names all i x c.loop-part.types.items c.push.new.list.items c.in_ok-ty.ty lt c.part-item.is c.in_ok-push.ensures.pushed operands
+          (c.loop-part.invariant.settles names over operands) c.loop-part.invariant.goes (c.in_ok-ty.ensures.settles names over);
     }
 
 pub read_each-loop-part-init : goal.read_each-loop-part-init
@@ -33,6 +39,9 @@ read_each-loop-part-init t c = record {
   reads = λ item operands.
       let all = types_read c.args.at.now.item (map operand_view c.args.parts.now) in
       subst (λ ns. ReadsFirst c.args.at.now c.args.at.now c.args.env.now all all (numbers ns)) (sym c.new-types.ensures.items) (none_read c.args.at.now c.args.env.now all);
+  settles = λ names over operands.
+      let all = types_read c.args.at.now.item (map operand_view c.args.parts.now) in
+      subst (λ ns. SettlesFirst c.args.at.now c.args.at.now c.args.env.now names all all (numbers ns)) (sym c.new-types.ensures.items) (none_settled c.args.at.now c.args.env.now names all);
 }
 
 pub read_each-returns-clause-carries : goal.read_each-returns-clause-carries
@@ -84,6 +93,9 @@ read_parts-returns-in_ok-parts-in_default t c =
       carries = if_ok c.read_each.result _ _ (λ ms reads item.
           other_front c.args.at.now c.read_each.new.at c.args.env.now c.args.number (node_view c.args.node.now) (numbers ms.items) (not_app_row c.args.node.now c.in_default.not-Tapp)
           (subst (λ os. ReadsOperands c.args.at.now c.read_each.new.at c.args.env.now os (numbers ms.items)) (ap (map operand_view) c.deref.ensures.value ∙ c.in_ok-parts-in_default.ensures) (reads item))) c.read_each.ensures.carries;
+      settles = if_ok c.read_each.result _ _ (λ ms reads names over.
+          settled.other_settles c.args.at.now c.read_each.new.at c.args.env.now names c.args.number (node_view c.args.node.now) (numbers ms.items) (not_app_row c.args.node.now c.in_default.not-Tapp)
+          (subst (λ os. SettlesOperands c.args.at.now c.read_each.new.at c.args.env.now names os (numbers ms.items)) (ap (map operand_view) c.deref.ensures.value ∙ c.in_ok-parts-in_default.ensures) (reads names over))) c.read_each.ensures.settles;
       goes = c.read_each.ensures.goes;
     }
 
@@ -95,3 +107,43 @@ read_given-returns-in_ok-note_plain-in-Some-clause-recorded t c = record_stays_i
 
 pub read_given-returns-in_ok-ty-in-None-clause-recorded : goal.read_given-returns-in_ok-ty-in-None-clause-recorded
 read_given-returns-in_ok-ty-in-None-clause-recorded t c = record_still c.one_of.result c.args.left.number c.read_type.new.at c.in_ok-ty-in-None.ensures.recorded
+
+pub read_each-returns-clause-settles : goal.read_each-returns-clause-settles
+read_each-returns-clause-settles t c = λ names over operands.
+    let all = c.args.parts.now in
+    let none = drop_all c.loop-part.part-index all c.loop-part-test.false in
+    all_settled c.args.at.now c.loop-part.at c.args.env.now names (types_read c.args.at.now.item (map operand_view all)) (numbers c.loop-part.types.items)
+    (subst (λ os. SettlesFirst c.args.at.now c.loop-part.at c.args.env.now names (types_read c.args.at.now.item (map operand_view all)) (types_read c.args.at.now.item (map operand_view os)) (numbers c.loop-part.types.items)) none (c.loop-part.invariant.settles names over operands))
+
+pub read_type-returns-clause-settles : goal.read_type-returns-clause-settles
+read_type-returns-clause-settles t c = λ names over. settled.operand_settles c.args.at.now c.read_row.new.at c.note.new.self c.args.env.now names c.args.ty (c.in_ok-read.ensures.settles names over) c.note.ensures.rest
+
+pub read_row-returns-in_ok-any-in-None-clause-settles : goal.read_row-returns-in_ok-any-in-None-clause-settles
+read_row-returns-in_ok-any-in-None-clause-settles t c = λ names over. settled.missing_settles c.args.at.now c.unresolved.new.at c.args.env.now names c.args.ty c.in-None.is c.unresolved.ensures.silent
+
+pub read_row-returns-in_ok-types-in-Some-clause-settles : goal.read_row-returns-in_ok-types-in-Some-clause-settles
+read_row-returns-in_ok-types-in-Some-clause-settles t c =
+    if_ok c.formed.result _ _ (λ r ends names over.
+    settled.node_settles c.args.at.now c.read_parts.new.at c.formed.new.at c.args.env.now names c.args.ty c.in-Some.node (numbers c.in_ok-types-in-Some.types.items) c.in-Some.is (c.in_ok-types-in-Some.ensures.settles names over) c.read_parts.ensures.goes
+    (subst (λ ts. SettlesRow c.read_parts.new.at c.formed.new.at c.args.env.now names (node_view c.in-Some.node.now) (numbers ts)) c.deref.ensures.value (ends names over))) c.formed.ensures.settles
+
+pub read_given-returns-in_ok-note_plain-in-Some-clause-settles : goal.read_given-returns-in_ok-note_plain-in-Some-clause-settles
+read_given-returns-in_ok-note_plain-in-Some-clause-settles t c =
+    let items = c.in-Some.several.items in
+    let some : several (operand_view c.args.left) ≡ Some (map operand_view items) = sym c.in_ok-several.ensures ∙ ap (λ o. option_map (λ os. map operand_view os.items) o) c.in-Some.is in
+    if_ok c.read_each.result _ _ (λ ms reads names over.
+    settled.several_settles c.args.at.now c.note_plain.new.self c.read_each.new.at c.args.env.now names (operand_view c.args.left) (map operand_view items) (numbers ms.items) some c.note_plain.ensures.rest c.note_plain.ensures.goes
+    (subst (λ os. SettlesOperands c.note_plain.new.self c.read_each.new.at c.args.env.now names (map operand_view os) (numbers ms.items)) c.deref.ensures.value (reads names over))) c.read_each.ensures.settles
+
+pub read_given-returns-in_ok-ty-in-None-clause-settles : goal.read_given-returns-in_ok-ty-in-None-clause-settles
+read_given-returns-in_ok-ty-in-None-clause-settles t c =
+    let none : several (operand_view c.args.left) ≡ None = sym c.in_ok-several.ensures ∙ ap (λ o. option_map (λ os. map operand_view os.items) o) c.in-None.is in
+    if_ok c.one_of.result _ _ (λ ms is names over.
+    subst (λ xs. SettlesGiven c.args.at.now c.read_type.new.at c.args.env.now names (operand_view c.args.left) (numbers xs)) (sym is)
+    (settled.alone_settles c.args.at.now c.read_type.new.at c.args.env.now names (operand_view c.args.left) c.in_ok-ty-in-None.ty.0 none (c.in_ok-ty-in-None.ensures.settles names over))) c.one_of.ensures
+
+pub read_parts-returns-in-Tapp-clause-settles : goal.read_parts-returns-in-Tapp-clause-settles
+read_parts-returns-in-Tapp-clause-settles t c =
+    if_ok c.read_given.result _ _ (λ ms reads names over.
+    settled.app_settles c.args.at.now c.read_given.new.at c.args.env.now names c.args.number (node_view c.args.node.now) (numbers ms.items) (app_row c.args.node.now c.in-Tapp.is)
+    (subst (λ o. SettlesGiven c.args.at.now c.read_given.new.at c.args.env.now names o (numbers ms.items)) c.operand_in.ensures (reads names over))) c.read_given.ensures.settles

@@ -2,8 +2,10 @@ use Rattle.row_parts.specs.Numbered.{token_view}
 use Rattle.syntax_tree.specs.View.{node_view}
 use Rattle.type_nodes.specs.Views.{numbers}
 use Rattle.typing_rows.proofs.Ended.{var_ends, paren_ends, tuple_ends, arrow_ends, other_ends}
-use Rattle.type_expressions.proofs.Answering.{if_ok}
+use Rattle.type_expressions.proofs.Answering.{if_ok, if_any}
 use Rattle.type_expressions.proofs.Carrying.{var_row, paren_row, tuple_row, arrow_row}
+use Rattle.typing_rows.proofs.DeclaredOrdered.{silent_reports, store_reports}
+use Rattle.typing_rows.proofs.DeclaredEnded as settled
 use Rattle.type_expressions.proofs.types.composed.Goals as goal
 
 pub returns-in-Tvar-clause-carries : goal.returns-in-Tvar-clause-carries
@@ -26,3 +28,25 @@ pub returns-in_default-clause-carries : goal.returns-in_default-clause-carries
 returns-in_default-clause-carries c =
     if_ok c.unresolved.result _ _ (λ m any item.
     other_ends c.args.at.now c.unresolved.new.at c.args.node.now (numbers c.args.types.now) m.0 c.in_default.not-Tvar c.in_default.not-Tparen c.in_default.not-Ttuple c.in_default.not-Tarrow (any item) c.unresolved.ensures.rest) c.unresolved.ensures.any
+
+pub returns-in-Tvar-clause-settles : goal.returns-in-Tvar-clause-settles
+returns-in-Tvar-clause-settles c =
+    if_ok c.variable.result _ _ (λ m reads names over. settled.var_ends c.args.at.now c.variable.new.at names (node_view c.args.node.now) (token_view c.token.result) (numbers c.args.types.now) (var_row c.args.node.now c.in-Tvar.is) c.token.ensures (reads names over)) c.variable.ensures.settles
+
+pub returns-in-Tparen-clause-settles : goal.returns-in-Tparen-clause-settles
+returns-in-Tparen-clause-settles c =
+    if_ok c.in_parentheses.result _ _ (λ m ends names over. settled.paren_ends c.args.at.now c.in_parentheses.new.at names c.args.node.now (numbers c.args.types.now) (paren_row c.args.node.now c.in-Tparen.is) (ends names over)) c.in_parentheses.ensures.settles
+
+pub returns-in-Ttuple-clause-settles : goal.returns-in-Ttuple-clause-settles
+returns-in-Ttuple-clause-settles c =
+    if_any c.tuple.result _ (λ m names over. settled.tuple_ends c.args.at.now c.tuple.new.self names (node_view c.args.node.now) (numbers c.args.types.now) (tuple_row c.args.node.now c.in-Ttuple.is) (store_reports c.args.at.now c.tuple.new.self c.tuple.ensures.rest))
+
+pub returns-in-Tarrow-clause-settles : goal.returns-in-Tarrow-clause-settles
+returns-in-Tarrow-clause-settles c =
+    if_any c.arrow_between.result _ (λ m names over.
+    settled.arrow_ends c.args.at.now c.arrow_between.new.at names (node_view c.args.node.now) (numbers c.args.types.now) (arrow_row c.args.node.now c.in-Tarrow.is) (silent_reports c.args.at.now c.arrow_between.new.at c.arrow_between.ensures.silent))
+
+pub returns-in_default-clause-settles : goal.returns-in_default-clause-settles
+returns-in_default-clause-settles c =
+    if_any c.unresolved.result _ (λ m names over.
+    settled.other_ends c.args.at.now c.unresolved.new.at names c.args.node.now (numbers c.args.types.now) c.in_default.not-Tvar c.in_default.not-Tparen c.in_default.not-Ttuple c.in_default.not-Tarrow (silent_reports c.args.at.now c.unresolved.new.at c.unresolved.ensures.silent))

@@ -6,6 +6,8 @@ use Rattle.typing_rows.specs.Operands.{EndsName, EndsRow}
 use Rattle.typing_rows.proofs.Ended.{con_ends, app_ends, plain_ends}
 use Rattle.type_expressions.proofs.Answering.{if_ok}
 use Rattle.type_expressions.proofs.Carrying.{con_row, app_row}
+use Rattle.typing_rows.specs.DeclaredOperands.{SettlesName}
+use Rattle.typing_rows.proofs.DeclaredEnded as settled
 use Rattle.type_expressions.proofs.types.formed.Goals as goal
 
 pub returns-in_ok-path-in-Tcon-clause-carries : goal.returns-in_ok-path-in-Tcon-clause-carries
@@ -24,3 +26,19 @@ pub returns-in_ok-ty-in_default-clause-carries : goal.returns-in_ok-ty-in_defaul
 returns-in_ok-ty-in_default-clause-carries c = λ item.
     subst (λ x. EndsRow c.args.at.now c.composed.new.at c.args.env.now (node_view c.args.node.now) (numbers c.args.types.now) x.0) (sym c.unnamed.ensures)
     (plain_ends c.args.at.now c.composed.new.at c.args.env.now c.args.node.now (numbers c.args.types.now) c.in_ok-ty-in_default.ty.0 c.in_default.not-Tcon c.in_default.not-Tapp (c.in_ok-ty-in_default.ensures.carries item))
+
+pub returns-in_ok-path-in-Tcon-clause-settles : goal.returns-in_ok-path-in-Tcon-clause-settles
+returns-in_ok-path-in-Tcon-clause-settles c =
+    if_ok c.constructed.result _ _ (λ r ends names over.
+    settled.con_ends c.args.at.now c.constructed.new.at c.args.env.now names (node_view c.args.node.now) (numbers c.args.types.now) (con_row c.args.node.now c.in-Tcon.is)
+    (subst (λ p. SettlesName c.args.at.now c.constructed.new.at c.args.env.now names (path_as p) (numbers c.args.types.now)) c.in_ok-path-in-Tcon.ensures (ends names over))) c.constructed.ensures.settles
+
+pub returns-in_ok-path-in-Tapp-clause-settles : goal.returns-in_ok-path-in-Tapp-clause-settles
+returns-in_ok-path-in-Tapp-clause-settles c =
+    if_ok c.constructed-in-Tapp.result _ _ (λ r ends names over.
+    settled.app_ends c.args.at.now c.constructed-in-Tapp.new.at c.args.env.now names (node_view c.args.node.now) (numbers c.args.types.now) (app_row c.args.node.now c.in-Tapp.is)
+    (subst (λ p. SettlesName c.args.at.now c.constructed-in-Tapp.new.at c.args.env.now names (path_as p) (numbers c.args.types.now)) c.in_ok-path-in-Tapp.ensures (ends names over))) c.constructed-in-Tapp.ensures.settles
+
+pub returns-in_ok-ty-in_default-clause-settles : goal.returns-in_ok-ty-in_default-clause-settles
+returns-in_ok-ty-in_default-clause-settles c = λ names over.
+    settled.plain_ends c.args.at.now c.composed.new.at c.args.env.now names c.args.node.now (numbers c.args.types.now) c.in_default.not-Tcon c.in_default.not-Tapp (c.in_ok-ty-in_default.ensures.settles names over)

@@ -1,7 +1,8 @@
-use Rattle.type_expressions.proofs.Answering.{if_ok}
+use Rattle.type_expressions.proofs.Answering.{if_ok, if_any}
 use Rattle.type_expressions.proofs.Carrying.{empty_end, single_end, several_end}
 use Rattle.syntax_tree.specs.View.{place_of}
 use Rattle.syntax_tree.specs.declared.tree.Node.{out-Node}
+use Rattle.type_expressions.proofs.Settling.{empty_settles, single_settles, several_ends}
 use Rattle.type_expressions.proofs.types.in_parentheses.Goals as goal
 
 pub returns-in-empty-clause-carries : goal.returns-in-empty-clause-carries
@@ -17,3 +18,14 @@ returns-in_ok-arity-in_default-clause-carries c =
     if_ok c.unresolved-in_default.result _ _ (λ m any item.
     several_end c.args.at.now c.arity.new.self c.unresolved-in_default.new.at m.0 (out-Node c.args.node.now).span c.args.types.now c.in_ok-arity-in_default.field-0 c.in_default.len_at_least c.in_ok-arity-in_default.ensures.verdict c.arity.ensures.rest (any item) c.unresolved-in_default.ensures.rest)
     c.unresolved-in_default.ensures.any
+
+pub returns-in-empty-clause-settles : goal.returns-in-empty-clause-settles
+returns-in-empty-clause-settles c = if_any c.unresolved.result _ (λ m names over. empty_settles c.args.at.now c.unresolved.new.at names (place_of (out-Node c.args.node.now).span) c.args.types.now c.in-empty.len_below)
+
+pub returns-in-len1-clause-settles : goal.returns-in-len1-clause-settles
+returns-in-len1-clause-settles c = λ names over. single_settles c.args.at.now names (place_of (out-Node c.args.node.now).span) c.args.types.now c.in-len1.len_at_least c.in-len1.len_below
+
+pub returns-in_ok-arity-in_default-clause-settles : goal.returns-in_ok-arity-in_default-clause-settles
+returns-in_ok-arity-in_default-clause-settles c =
+    if_any c.unresolved-in_default.result _ (λ m names over.
+    several_ends c.args.at.now c.arity.new.self c.unresolved-in_default.new.at names (out-Node c.args.node.now).span c.args.types.now c.in_ok-arity-in_default.field-0 c.in_default.len_at_least c.in_ok-arity-in_default.ensures.verdict c.unresolved-in_default.ensures.silent)

@@ -2,8 +2,10 @@ use Rattle.std.proofs.Common.{option_map, sym, subst}
 use Rattle.std.specs.Option.{option_copied}
 use Rattle.syntax_tree.specs.View.{tok_of}
 use Rattle.type_nodes.specs.Views.{numbers}
-use Rattle.typing_rows.specs.Declaring.{DeclaresTo, NamesTo}
-use Rattle.type_expressions.proofs.Answering.{if_ok}
+use Rattle.typing_rows.specs.Declaring.{declared_in, DeclaresTo, NamesTo}
+use Rattle.type_expressions.proofs.Answering.{if_ok, if_any}
+use Rattle.typing_rows.specs.DeclaredContracts.{SettlesDeclared, SettlesNamed}
+use Rattle.typing_rows.proofs.DeclaredOrdered.{silent_reports}
 use Rattle.type_expressions.proofs.types.named_type.Goals as goal
 
 pub returns-in-None-clause-carries : goal.returns-in-None-clause-carries
@@ -18,3 +20,15 @@ returns-in-Some-clause-carries c =
     subst (λ o. NamesTo (option_map (λ r. r.value) (option_copied o)) c.args.at.now c.declared.new.at (tok_of c.args.last.now) (numbers c.args.types.now) m.0) (sym c.in-Some.is)
     (subst (λ x. DeclaresTo c.args.at.now c.declared.new.at (tok_of c.args.last.now) x (numbers c.args.types.now) m.0) c.deref.ensures (carries item)))
     c.declared.ensures.carries
+
+pub returns-in-None-clause-settles : goal.returns-in-None-clause-settles
+returns-in-None-clause-settles c =
+    if_any c.unresolved.result _ (λ m names over.
+    subst (λ o. SettlesNamed (option_map (λ r. r.value) (option_copied o)) c.args.at.now c.unresolved.new.at names (tok_of c.args.last.now) (numbers c.args.types.now)) (sym c.in-None.is) (silent_reports c.args.at.now c.unresolved.new.at c.unresolved.ensures.silent))
+
+pub returns-in-Some-clause-settles : goal.returns-in-Some-clause-settles
+returns-in-Some-clause-settles c =
+    if_ok c.declared.result _ _ (λ m settles names over.
+    subst (λ o. SettlesNamed (option_map (λ r. r.value) (option_copied o)) c.args.at.now c.declared.new.at names (tok_of c.args.last.now) (numbers c.args.types.now)) (sym c.in-Some.is)
+    (subst (λ x. SettlesDeclared (declared_in x.what) c.args.at.now c.declared.new.at names (tok_of c.args.last.now) (numbers c.args.types.now)) c.deref.ensures (settles names over)))
+    c.declared.ensures.settles

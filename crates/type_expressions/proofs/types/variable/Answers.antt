@@ -1,8 +1,15 @@
-use Rattle.std.proofs.Common.{option_map, sym, subst}
+use Rattle.std.proofs.Common.{◌≡◌, ◌∙◌, Some, None, option_map, refl, sym, subst}
 use Rattle.syntax_tree.specs.View.{tok_of}
+use Rattle.typing_model.specs.TypeExpressions.{index_from}
 use Rattle.typing_rows.specs.Operands.{ReadsVariable}
-use Rattle.type_expressions.proofs.Answering.{if_ok}
+use Rattle.type_expressions.proofs.Answering.{if_ok, if_any}
 use Rattle.type_expressions.proofs.Carrying.{missing_variable}
+use Rattle.type_expressions.proofs.Settling as settled
+use Rattle.typing_rows.specs.DeclaredOperands.{SettlesVariable}
+use Rattle.typing_rows.proofs.DeclaredOrdered.{silent_reports}
+use Rattle.typing_rows.proofs.DeclaredComposed.{variable_known, variable_unbound}
+use Rattle.type_expressions.proofs.Settling.{number_known, number_none}
+use Rattle.type_expressions.specs.Items.{IsOver, names_of, parameter_in}
 use Rattle.type_expressions.proofs.types.variable.Goals as goal
 
 pub returns-in_default-clause-carries : goal.returns-in_default-clause-carries
@@ -13,3 +20,32 @@ returns-in_default-clause-carries c =
 pub returns-in-OfItem-clause-carries : goal.returns-in-OfItem-clause-carries
 returns-in-OfItem-clause-carries c =
     if_ok c.written_variable.result _ _ (λ m reads item. subst (λ o. ReadsVariable c.args.at.now c.written_variable.new.at (option_map (λ t. tok_of t.now) o) m.0) (sym c.in-Some.is) reads) c.written_variable.ensures.carries
+
+pub returns-in_default-clause-settles : goal.returns-in_default-clause-settles
+returns-in_default-clause-settles c =
+    if_any c.unresolved.result _ (λ m names over.
+    subst (λ o. SettlesVariable c.args.at.now c.unresolved.new.at names (option_map (λ t. tok_of t.now) o)) (sym c.in_default.is) (settled.missing_variable c.args.at.now c.unresolved.new.at names c.unresolved.ensures.silent))
+
+pub returns-in-OfItem-clause-settles : goal.returns-in-OfItem-clause-settles
+returns-in-OfItem-clause-settles c = if_any c.written_variable.result _ (λ m names over. absurd (subst (λ v. IsOver v names) c.in-OfItem.is over))
+
+pub returns-in-Some-parameter_named-clause-settles : goal.returns-in-Some-parameter_named-clause-settles
+returns-in-Some-parameter_named-clause-settles c = λ names over.
+    let t = tok_of c.in-Some.name.now in
+    let ps = c.in-Parameters.parameters.items in
+    let are : names_of ps ≡ names = subst (λ v. IsOver v names) c.in-Parameters.is over in
+    let found : parameter_in t.name ps ≡ Some c.in-Some-parameter_named.node = sym (c.parameter_named.ensures ∙ (λ i. parameter_in (c.as_str.ensures i) (c.deref.ensures.value i))) ∙ c.in-Some-parameter_named.is in
+    let (k, number) = number_known t.name ps c.in-Some-parameter_named.node found in
+    subst (λ o. SettlesVariable c.args.at.now c.args.at.now names (option_map (λ t. tok_of t.now) o)) (sym c.in-Some.is)
+    (λ env n at. variable_known c.args.at.now env names n t k (subst (λ ns. index_from 0 t.name ns ≡ Some k) are number))
+
+pub returns-in_ok-unbound-in-None-clause-settles : goal.returns-in_ok-unbound-in-None-clause-settles
+returns-in_ok-unbound-in-None-clause-settles c =
+    let t = tok_of c.in-Some.name.now in
+    let ps = c.in-Parameters.parameters.items in
+    let missing : parameter_in t.name ps ≡ None = sym (c.parameter_named.ensures ∙ (λ i. parameter_in (c.as_str.ensures i) (c.deref.ensures.value i))) ∙ c.in-None.is in
+    if_any c.unresolved-in-None.result _ (λ m names over.
+    let are : names_of ps ≡ names = subst (λ v. IsOver v names) c.in-Parameters.is over in
+    subst (λ o. SettlesVariable c.args.at.now c.unresolved-in-None.new.at names (option_map (λ t. tok_of t.now) o)) (sym c.in-Some.is)
+    (λ env n at. variable_unbound c.args.at.now c.unbound.new.self c.unresolved-in-None.new.at env names n t c.in-Some.name.now.span _ refl (subst (λ ns. index_from 0 t.name ns ≡ None) are (number_none t.name ps missing)) c.in_ok-unbound-in-None.ensures.told
+    (silent_reports c.unbound.new.self c.unresolved-in-None.new.at c.unresolved-in-None.ensures.silent)))
