@@ -20,27 +20,28 @@ use Rattle.typing_conditions.specs.Standing.{Covers, Stands}
 use Rattle.typing_conditions.proofs.Own.{own_of}
 use Rattle.typing_conditions.proofs.Steps.{refines_none, refines_then}
 use Rattle.typing_conditions.specs.Sights.{Sight, Letters, AreNodes}
-use Rattle.typing_conditions.specs.Judging.{Meets, judgements, StartsWith, FallsShort}
+use Rattle.typing_conditions.specs.Judging.{Meets, AreKept, judgements, StartsWith, FallsShort}
 use Rattle.typing_conditions.specs.Carrying.{Asks}
 use Rattle.typing_conditions.specs.Surroundings.{Declared, IsSteady}
-use Rattle.typing_conditions.proofs.Judged.{hold_both, hold_left, hold_right, judged_both, kept_left, kept_right, tell_both, short_left, short_right, starts_all, starts_left, starts_right, short_of_more}
+use Rattle.typing_conditions.proofs.Judged.{hold_both, hold_left, hold_right, judged_both, kept_left, kept_right, tell_both, short_left, short_right, starts_all, starts_left, starts_right, short_of_more, judged_kept}
 use Rattle.typing_conditions.proofs.Carried.{Decides, take_none, less_or_more}
 use Rattle.typing_conditions.proofs.First.{starts_none}
 use Rattle.typing_model.specs.Parts.{Item, Seen, no_names, seen_too}
-use Rattle.typing_model.specs.Items.{items_ask}
+use Rattle.typing_model.specs.Items.{items_ask, behind_items, seen_names}
 use Rattle.typing_state.specs.declared.parts.Parts.{Parts}
 use Rattle.typing_steps.specs.States.{sight}
-use Rattle.binding_rows.specs.ItemRows.{ItemDone}
-use Rattle.binding_rows.specs.Outside.{AgreesOutside, InEachOutside, Outside, Left, AreLeft, EntersItems, ContinuesItems, StaysOutside, OnlyBetween, ItemsCarried}
+use Rattle.typing_steps.specs.Constants.{HasConstants}
+use Rattle.binding_rows.specs.ItemRows.{ItemDone, ItemsDone, recorded_idle}
+use Rattle.binding_rows.specs.Outside.{AgreesOutside, AreMet, InEachMet, Outside, Left, AreLeft, EntersItems, ContinuesItems, StaysOutside, OnlyBetween, ItemsCarried}
 
 -- what agrees with a state agreed before
-agrees_earlier : {a b : Sight} {G H : Letters} {V : Types} {ch : Choice} → StaysOutside a G b H → AgreesOutside b H V ch → AgreesOutside a G V ch
+pub agrees_earlier : {a b : Sight} {G H : Letters} {V : Types} {ch : Choice} → StaysOutside a G b H → AgreesOutside b H V ch → AgreesOutside a G V ch
 agrees_earlier {V = V} {ch = ch} s g = record { recorded = λ i p m e. g.recorded i p m (s.recorded i p m e); known = λ i p m e. g.known i p m (s.recorded i p m e); given = s.given V ch g.given }
 
 -- what items left is left where no more is bound
 left_earlier : (old new : List Node) (ls : List Left) (V : Types) (ch : Choice) → ((v : ℕ) → is_bound old v ≡ true → is_bound new v ≡ true) → AreLeft new ls V ch → AreLeft old ls V ch
 left_earlier old new [] V ch bounds h = tt
-left_earlier old new (l ∷ ls) V ch bounds h = (record { letters = h.0.letters; written = h.0.written; others = λ k x e f v b. h.0.others k x e f v (bounds v b) }, left_earlier old new ls V ch bounds h.1)
+left_earlier old new (l ∷ ls) V ch bounds h = (record { letters = h.0.letters; written = h.0.written; others = λ k x e f v b. h.0.others k x e f v (bounds v b); fixed = h.0.fixed }, left_earlier old new ls V ch bounds h.1)
 
 left_first : (nodes : List Node) (ls ms : List Left) (V : Types) (ch : Choice) → AreLeft nodes (ls ++ ms) V ch → AreLeft nodes ls V ch
 left_first nodes [] ms V ch h = tt
@@ -69,10 +70,15 @@ stays_both {a} {b} {c} sound p q = record {
   fixed = q.fixed ∙ p.fixed;
 }
 
--- Items after others: those after are asked in the context with the environment after those before.
-pub items_trans : {E E' : Choice → Environment} {asks further : Asks} {a b c : Sight} {G H K : Letters} (after : Context → Environment) → InEachOutside E a G (λ x. after x ≡ E' x.chosen) → IsSound a.nodes → ItemsCarried E asks a G b H → ItemsCarried E' further b H c K →
-    ItemsCarried E (λ x. asks x ++ further (under (after x) x)) a G c K
-items_trans {E} {E'} {asks} {further} {a} {b} {c} {G} {H} {K} after same_env sound p q = record {
+-- Items after others: what is asked next is what is asked in the context with the environment after those before, wherever what these ask is met as it was judged.
+pub record IsNext (E : Choice → Environment) (rest further : Asks) (after : Context → Environment) (x : Context) : Type 0 where
+  pub env : after x ≡ E x.chosen
+  pub asks : rest x ≡ further (under (after x) x)
+
+-- Items after others are carried where they are what is asked next.
+pub items_trans : {E E' : Choice → Environment} {asks rest further : Asks} {a b c : Sight} {G H K : Letters} (after : Context → Environment) (p : ItemsCarried E asks a G b H) → InEachMet E asks b H p.judged (IsNext E' rest further after) → IsSound a.nodes → ItemsCarried E' further b H c K →
+    ItemsCarried E (λ x. asks x ++ rest x) a G c K
+items_trans {E} {E'} {asks} {rest} {further} {a} {b} {c} {G} {H} {K} after p next sound q = record {
   stays = stays_both sound p.stays q.stays;
   left = p.left ++ q.left;
   judged = p.judged ++ q.judged;
@@ -86,21 +92,22 @@ items_trans {E} {E'} {asks} {further} {a} {b} {c} {G} {H} {K} after same_env sou
         left_too = left_earlier b.nodes c.nodes p.left V x.chosen q.stays.bounds (left_first c.nodes p.left q.left V x.chosen l.left_too);
         kept = kept_left x.kept p.judged q.judged l.kept;
       }) in
-      let two = q.sound V (into x) (record {
-        env = same_env V x l.env ((stays_both sound p.stays q.stays).loose V (fits_loosely c.nodes V l.reads.fits)) (agrees_earlier (stays_both sound p.stays q.stays) l.agrees);
+      let comes = next V x l.env (q.stays.loose V (fits_loosely c.nodes V l.reads.fits)) (agrees_earlier q.stays l.agrees) (record { kept = kept_left x.kept p.judged q.judged l.kept; holds = one.holds }) in
+      let two = subst (λ cs. Meets x.kept cs q.judged q.told) (sym comes.asks) (q.sound V (into x) (record {
+        env = comes.env;
         reads = l.reads;
         agrees = l.agrees;
         left_too = left_second c.nodes p.left q.left V x.chosen l.left_too;
         kept = kept_right x.kept p.judged q.judged l.kept;
-      }) in
+      })) in
       record {
-        same = judged_both x.kept (asks x) (further (into x)) ∙ ap (λ js. js ++ judgements x.kept (further (into x))) one.same ∙ ap (λ js. p.judged ++ js) two.same;
-        holds = hold_both x.kept (asks x) (further (into x)) one.holds two.holds;
-        tells = tell_both x.kept (asks x) (further (into x)) p.told q.told one.tells two.tells;
+        same = judged_both x.kept (asks x) (rest x) ∙ ap (λ js. js ++ judgements x.kept (rest x)) one.same ∙ ap (λ js. p.judged ++ js) two.same;
+        holds = hold_both x.kept (asks x) (rest x) one.holds two.holds;
+        tells = tell_both x.kept (asks x) (rest x) p.told q.told one.tells two.tells;
       };
-  complete = λ V x e h. elim (p.complete V x e (hold_left x.kept (asks x) (further (into x)) h)) [
-    | inl goes ↦ then_complete V x goes (q.complete goes.types (into x) (enters_next V x e goes) (hold_right x.kept (asks x) (further (into x)) h))
-    | inr short ↦ inr (falls_first x (further (into x)) short)
+  complete = λ V x e h. elim (p.complete V x e (hold_left x.kept (asks x) (rest x) h)) [
+    | inl goes ↦ then_complete V x goes (comes_next V x e goes (hold_left x.kept (asks x) (rest x) h)) e (hold_right x.kept (asks x) (rest x) h)
+    | inr short ↦ inr (falls_first x (rest x) short)
   ];
   first = λ k V x e h. by_place k V x e h (less_or_more k (length (asks x)));
 }
@@ -108,8 +115,12 @@ items_trans {E} {E'} {asks} {further} {a} {b} {c} {G} {H} {K} after same_env sou
     into : Context → Context
     into x = under (after x) x
 
-    enters_next : (V : Types) (x : Context) → EntersItems E a G V x → (goes : ContinuesItems asks a b H p.judged V x) → EntersItems E' b H goes.types (into x)
-    enters_next V x e goes = record { env = same_env V x e.env (fits_loosely a.nodes V e.fits) e.agrees; inside = p.stays.inside e.inside; fits = goes.fits; agrees = goes.agrees }
+    -- what is asked next, where those before are met
+    comes_next : (V : Types) (x : Context) → EntersItems E a G V x → ContinuesItems asks a b H p.judged V x → AllHold x.kept (asks x) → IsNext E' rest further after x
+    comes_next V x e goes h = next goes.types x e.env (fits_loosely b.nodes goes.types goes.fits) goes.agrees (record { kept = subst (AreKept x.kept) goes.same (judged_kept x.kept (asks x)); holds = h })
+
+    enters_next : (V : Types) (x : Context) → EntersItems E a G V x → (goes : ContinuesItems asks a b H p.judged V x) → IsNext E' rest further after x → EntersItems E' b H goes.types (into x)
+    enters_next V x e goes comes = record { env = comes.env; inside = p.stays.inside e.inside; fits = goes.fits; agrees = goes.agrees }
 
     -- the first ones fall short
     falls_first : (x : Context) (cs : List Condition) → FallsShort (judgements x.kept (asks x)) p.judged → FallsShort (judgements x.kept (asks x ++ cs)) (p.judged ++ q.judged)
@@ -119,36 +130,44 @@ items_trans {E} {E'} {asks} {further} {a} {b} {c} {G} {H} {K} after same_env sou
     falls_then : (x : Context) (cs : List Condition) → judgements x.kept (asks x) ≡ p.judged → FallsShort (judgements x.kept cs) q.judged → FallsShort (judgements x.kept (asks x ++ cs)) (p.judged ++ q.judged)
     falls_then x cs same short = subst (λ js. FallsShort js (p.judged ++ q.judged)) (sym (judged_both x.kept (asks x) cs)) (short_right (judgements x.kept (asks x)) p.judged (judgements x.kept cs) q.judged same short)
 
-    then_complete : (V : Types) (x : Context) → (goes : ContinuesItems asks a b H p.judged V x) → ContinuesItems further b c K q.judged goes.types (into x) ⊎ FallsShort (judgements x.kept (further (into x))) q.judged →
-        ContinuesItems (λ y. asks y ++ further (into y)) a c K (p.judged ++ q.judged) V x ⊎ FallsShort (judgements x.kept (asks x ++ further (into x))) (p.judged ++ q.judged)
-    then_complete V x goes (inl also) = inl (record {
-      same = judged_both x.kept (asks x) (further (into x)) ∙ ap (λ js. js ++ judgements x.kept (further (into x))) goes.same ∙ ap (λ js. p.judged ++ js) also.same;
+    then_both : (V : Types) (x : Context) → (goes : ContinuesItems asks a b H p.judged V x) → rest x ≡ further (into x) → ContinuesItems further b c K q.judged goes.types (into x) ⊎ FallsShort (judgements x.kept (further (into x))) q.judged →
+        ContinuesItems (λ y. asks y ++ rest y) a c K (p.judged ++ q.judged) V x ⊎ FallsShort (judgements x.kept (asks x ++ rest x)) (p.judged ++ q.judged)
+    then_both V x goes same (inl also) = inl (record {
+      same = judged_both x.kept (asks x) (rest x) ∙ ap (λ js. js ++ judgements x.kept (rest x)) goes.same ∙ ap (λ js. p.judged ++ js) (ap (judgements x.kept) same ∙ also.same);
       types = also.types;
       fits = also.fits;
       before = λ n lt. also.before n (let own = own_of c.nodes (q.stays.sound (p.stays.sound sound)) in let mid = own_of b.nodes (p.stays.sound sound) in let r = (p.stays.refines mid.0 mid.1).longer in omega arith) ∙ goes.before n lt;
       agrees = also.agrees;
     })
-    then_complete V x goes (inr short) = inr (falls_then x (further (into x)) goes.same short)
+    then_both V x goes same (inr short) = inr (falls_then x (rest x) goes.same (subst (λ cs. FallsShort (judgements x.kept cs) q.judged) (sym same) short))
 
-    then_first : (V : Types) (x : Context) (n : ℕ) → ContinuesItems asks a b H p.judged V x → Decides (into x) q.judged (take n (further (into x))) → Decides x (p.judged ++ q.judged) (asks x ++ take n (further (into x)))
-    then_first V x n goes (inl starts) = inl (subst (StartsWith (p.judged ++ q.judged)) (sym (judged_both x.kept (asks x) (take n (further (into x))) ∙ ap (λ js. js ++ judgements x.kept (take n (further (into x)))) goes.same))
-        (starts_right p.judged q.judged (judgements x.kept (take n (further (into x)))) starts))
-    then_first V x n goes (inr short) = inr (falls_then x (take n (further (into x))) goes.same short)
+    then_complete : (V : Types) (x : Context) → (goes : ContinuesItems asks a b H p.judged V x) → IsNext E' rest further after x → EntersItems E a G V x → AllHold x.kept (rest x) →
+        ContinuesItems (λ y. asks y ++ rest y) a c K (p.judged ++ q.judged) V x ⊎ FallsShort (judgements x.kept (asks x ++ rest x)) (p.judged ++ q.judged)
+    then_complete V x goes comes e h = then_both V x goes comes.asks (q.complete goes.types (into x) (enters_next V x e goes comes) (subst (AllHold x.kept) comes.asks h))
+
+    then_first : (V : Types) (x : Context) (n : ℕ) → ContinuesItems asks a b H p.judged V x → Decides x q.judged (take n (rest x)) → Decides x (p.judged ++ q.judged) (asks x ++ take n (rest x))
+    then_first V x n goes (inl starts) = inl (subst (StartsWith (p.judged ++ q.judged)) (sym (judged_both x.kept (asks x) (take n (rest x)) ∙ ap (λ js. js ++ judgements x.kept (take n (rest x))) goes.same))
+        (starts_right p.judged q.judged (judgements x.kept (take n (rest x))) starts))
+    then_first V x n goes (inr short) = inr (falls_then x (take n (rest x)) goes.same short)
+
+    first_next : (V : Types) (x : Context) (n : ℕ) → (goes : ContinuesItems asks a b H p.judged V x) → IsNext E' rest further after x → EntersItems E a G V x → AllHold x.kept (take n (rest x)) → Decides x q.judged (take n (rest x))
+    first_next V x n goes comes e h = subst (λ cs. Decides x q.judged (take n cs)) (sym comes.asks) (q.first n goes.types (into x) (enters_next V x e goes comes) (subst (λ cs. AllHold x.kept (take n cs)) comes.asks h))
 
     -- the first k conditions end among the first ones, or among the others
-    by_place : (k : ℕ) (V : Types) (x : Context) → EntersItems E a G V x → AllHold x.kept (take k (asks x ++ further (into x))) → (k ≤ length (asks x)) ⊎ ((n : ℕ) × (k ≡ length (asks x) + n)) → Decides x (p.judged ++ q.judged) (take k (asks x ++ further (into x)))
+    by_place : (k : ℕ) (V : Types) (x : Context) → EntersItems E a G V x → AllHold x.kept (take k (asks x ++ rest x)) → (k ≤ length (asks x)) ⊎ ((n : ℕ) × (k ≡ length (asks x) + n)) → Decides x (p.judged ++ q.judged) (take k (asks x ++ rest x))
     by_place k V x e h (inl le) =
-        let here = take-append-le k (asks x) (further (into x)) le in
+        let here = take-append-le k (asks x) (rest x) le in
         subst (Decides x (p.judged ++ q.judged)) (sym here) (elim (p.first k V x e (subst (AllHold x.kept) here h)) [
           | inl starts ↦ inl (starts_left p.judged (judgements x.kept (take k (asks x))) q.judged starts)
           | inr short ↦ inr (short_of_more (judgements x.kept (take k (asks x))) p.judged q.judged short)
         ])
     by_place k V x e h (inr (n, eq)) =
-        let here = ap (λ i. take i (asks x ++ further (into x))) eq ∙ take-append-add (asks x) (further (into x)) n in
+        let here = ap (λ i. take i (asks x ++ rest x)) eq ∙ take-append-add (asks x) (rest x) n in
         let held = subst (AllHold x.kept) here h in
-        subst (Decides x (p.judged ++ q.judged)) (sym here) (elim (p.complete V x e (hold_left x.kept (asks x) (take n (further (into x))) held)) [
-          | inl goes ↦ then_first V x n goes (q.first n goes.types (into x) (enters_next V x e goes) (hold_right x.kept (asks x) (take n (further (into x))) held))
-          | inr short ↦ inr (falls_first x (take n (further (into x))) short)
+        let before = hold_left x.kept (asks x) (take n (rest x)) held in
+        subst (Decides x (p.judged ++ q.judged)) (sym here) (elim (p.complete V x e before) [
+          | inl goes ↦ then_first V x n goes (first_next V x n goes (comes_next V x e goes before) e (hold_right x.kept (asks x) (take n (rest x)) held))
+          | inr short ↦ inr (falls_first x (take n (rest x)) short)
         ])
 
 -- between items nothing changes that the definitions ask of
@@ -295,21 +314,109 @@ pub items_none : {E : Choice → Environment} {a : Sight} {G : Letters} (seen : 
 items_none seen = items_between (record { nodes = refl; types = λ i p. refl; reports = refl; aloud = refl; level = refl; fixed = refl })
 
 -- An item before others: the state after it, and what changes before the next one begins, are those at which the others start.
-pub items_more : {D : Declared} {E : Choice → Environment} {m : Item} {a b : Parts} {c d : Sight} {G K : Letters} {after : List Entry} (ms : List Item) (seen : Seen) → IsSound a.store.nodes → (done : ItemDone D E m a b G after) → OnlyBetween (sight b) c →
-    ItemsCarried done.env (λ x. items_ask x (seen_too seen no_names) ms) c done.letters d K → ItemsCarried E (λ x. items_ask x seen (m ∷ ms)) (sight a) G d K
-items_more {m = m} ms seen sound done only more = items_as
-    (λ x. ap (λ names. m.asks x seen ++ items_ask (under (m.adds x ++ x.env) x) (seen_too seen names) ms) (sym (done.named x)))
-    (items_trans (λ x. m.adds x ++ x.env) done.adds sound (done.carried seen) (items_then only more))
+pub items_more : {D : Declared} {E : Choice → Environment} {m : Item} {seen names : Seen} {a b : Parts} {c d : Sight} {G K : Letters} {after : List Entry} (ms : List Item) → IsSound a.store.nodes → (done : ItemDone D E m seen names a b G after) → OnlyBetween (sight b) c →
+    ItemsCarried done.env (λ x. items_ask x (seen_too seen names) ms) c done.letters d K → ItemsCarried E (λ x. items_ask x seen (m ∷ ms)) (sight a) G d K
+items_more {m = m} {seen = seen} ms sound done only more = items_trans (λ x. m.adds x ++ x.env) done.carried
+    (λ V x env loose agrees met. record {
+      env = done.adds V x env loose agrees met;
+      asks = ap (λ ns. items_ask (under (m.adds x ++ x.env) x) (seen_too seen ns) ms) (done.named V x env loose agrees met);
+    }) sound (items_then only more)
 
 -- an item is done where it was done from a state that differs only as between items
-pub done_between : {D : Declared} {E : Choice → Environment} {m : Item} {a b d : Parts} {G : Letters} {after : List Entry} → OnlyBetween (sight a) (sight b) → ItemDone D E m b d G after → ItemDone D E m a d G after
+pub done_between : {D : Declared} {E : Choice → Environment} {m : Item} {seen names : Seen} {a b d : Parts} {G : Letters} {after : List Entry} → OnlyBetween (sight a) (sight b) → ItemDone D E m seen names b d G after → ItemDone D E m seen names a d G after
+unfolding items_then
 done_between only done = record {
   letters = done.letters;
   env = done.env;
-  carried = λ seen. items_then only (done.carried seen);
+  carried = items_then only done.carried;
   outside = done.outside;
-  adds = λ V c env loose agrees. done.adds V c env (subst (λ ns. Loose ns V) (sym only.nodes) loose)
-      (record { recorded = λ i k m f. agrees.recorded i k m (sym (only.types i k) ∙ f); known = λ i k m f. agrees.known i k m (sym (only.types i k) ∙ f); given = agrees.given });
+  adds = done.adds;
   named = done.named;
   constants = done.constants;
 }
+
+-- An item that asks nothing but that its node is treated, adds nothing and names nothing: `;;`.
+pub idle_done : {D : Declared} {E : Choice → Environment} {a b : Parts} {G : Letters} {env : List Entry} (n : ℕ) (seen : Seen) → OnlyBetween (sight a) (sight b) → Outside D (sight a) G env E → HasConstants b → ItemDone D E (recorded_idle n) seen no_names a b G env
+idle_done {E = E} {G = G} n seen only at constants = record {
+  letters = G;
+  env = E;
+  carried = items_treated n (items_between only);
+  outside = outside_between only at;
+  adds = λ V c env loose agrees met. env;
+  named = λ V c env loose agrees met. refl;
+  constants = constants;
+}
+
+-- Between items: none of them.
+pub done_none : {D : Declared} {E : Choice → Environment} {a b : Parts} {G : Letters} {env : List Entry} (seen : Seen) → OnlyBetween (sight a) (sight b) → Outside D (sight a) G env E → HasConstants b → ItemsDone D E [] seen seen a b G env
+done_none {E = E} {G = G} seen only at constants = record {
+  letters = G;
+  env = E;
+  carried = items_between only;
+  outside = outside_between only at;
+  behind = λ V c env loose agrees met. env;
+  named = λ V c env loose agrees met. refl;
+  constants = constants;
+}
+
+-- one item
+pub done_one : {D : Declared} {E : Choice → Environment} {m : Item} {seen names : Seen} {a b : Parts} {G : Letters} {after : List Entry} → ItemDone D E m seen names a b G after → ItemsDone D E (m ∷ []) seen (seen_too seen names) a b G after
+unfolding items_as
+done_one {m = m} {seen = seen} done = record {
+  letters = done.letters;
+  env = done.env;
+  carried = items_as (λ x. sym (append-nil (m.asks x seen))) done.carried;
+  outside = done.outside;
+  behind = λ V c env loose agrees met. done.adds V c env loose agrees (record { kept = met.kept; holds = hold_left c.kept (m.asks c seen) [] met.holds });
+  named = λ V c env loose agrees met. ap (seen_too seen) (done.named V c env loose agrees (record { kept = met.kept; holds = hold_left c.kept (m.asks c seen) [] met.holds }));
+  constants = done.constants;
+}
+
+-- what some items and others ask
+asked_both : (c : Context) (seen : Seen) (ms ns : List Item) → items_ask c seen ms ++ items_ask (under (behind_items c ms) c) (seen_names c ms seen) ns ≡ items_ask c seen (ms ++ ns)
+asked_both c seen [] ns = refl
+asked_both c seen (m ∷ ms) ns =
+    append_assoc (m.asks c seen) (items_ask (under (m.adds c ++ c.env) c) (seen_too seen (m.named c)) ms) (items_ask (under (behind_items c (m ∷ ms)) c) (seen_names c (m ∷ ms) seen) ns)
+    ∙ ap (λ cs. m.asks c seen ++ cs) (asked_both (under (m.adds c ++ c.env) c) (seen_too seen (m.named c)) ms ns)
+
+behind_both : (c : Context) (ms ns : List Item) → behind_items (under (behind_items c ms) c) ns ≡ behind_items c (ms ++ ns)
+behind_both c [] ns = refl
+behind_both c (m ∷ ms) ns = behind_both (under (m.adds c ++ c.env) c) ms ns
+
+named_both : (c : Context) (seen : Seen) (ms ns : List Item) → seen_names (under (behind_items c ms) c) ns (seen_names c ms seen) ≡ seen_names c (ms ++ ns) seen
+named_both c seen [] ns = refl
+named_both c seen (m ∷ ms) ns = named_both (under (m.adds c ++ c.env) c) (seen_too seen (m.named c)) ms ns
+
+-- The first items were met, and so are the others, in the context after them.
+pub record WasMet {D : Declared} {E : Choice → Environment} {ms : List Item} {seen names : Seen} {a b : Parts} {G : Letters} {mid : List Entry} (p : ItemsDone D E ms seen names a b G mid) (x : Context) (ns : List Item) : Type 0 where
+  pub env : behind_items x ms ≡ p.env x.chosen
+  pub named : seen_names x ms seen ≡ names
+  pub holds : AllHold x.kept (items_ask (under (behind_items x ms) x) names ns)
+
+-- Items after others.
+pub done_then : {D : Declared} {E : Choice → Environment} {ms ns : List Item} {seen names last : Seen} {a b c : Parts} {G : Letters} {mid after : List Entry} → IsSound a.store.nodes → (p : ItemsDone D E ms seen names a b G mid) → ItemsDone D p.env ns names last b c p.letters after →
+    ItemsDone D E (ms ++ ns) seen last a c G after
+unfolding items_as items_trans
+done_then {E = E} {ms = ms} {ns = ns} {seen = seen} {names = names} {a = a} {b = b} {c = c} {G = G} sound p q = record {
+  letters = q.letters;
+  env = q.env;
+  carried = items_as (λ x. asked_both x seen ms ns) (items_trans (λ x. behind_items x ms) p.carried comes sound q.carried);
+  outside = q.outside;
+  behind = λ V x env loose agrees met. sym (behind_both x ms ns) ∙ (let n = before V x env loose agrees met in q.behind V (under (behind_items x ms) x) n.env loose agrees (record { kept = kept_right x.kept p.carried.judged q.carried.judged met.kept; holds = n.holds }));
+  named = λ V x env loose agrees met. sym (named_both x seen ms ns) ∙ (let n = before V x env loose agrees met in ap (seen_names (under (behind_items x ms) x) ns) n.named ∙ q.named V (under (behind_items x ms) x) n.env loose agrees (record { kept = kept_right x.kept p.carried.judged q.carried.judged met.kept; holds = n.holds }));
+  constants = q.constants;
+}
+  where
+    comes : InEachMet E (λ x. items_ask x seen ms) (sight b) p.letters p.carried.judged (IsNext p.env (λ x. items_ask (under (behind_items x ms) x) (seen_names x ms seen) ns) (λ x. items_ask x names ns) (λ x. behind_items x ms))
+    comes V x env loose agrees met = record { env = p.behind V x env loose agrees met; asks = ap (λ zs. items_ask (under (behind_items x ms) x) zs ns) (p.named V x env loose agrees met) }
+
+    before : (V : Types) (x : Context) → x.env ≡ E x.chosen → Loose c.store.nodes V → AgreesOutside (sight c) q.letters V x.chosen → AreMet x (items_ask x seen (ms ++ ns)) (p.carried.judged ++ q.carried.judged) → WasMet p x ns
+    before V x env loose agrees met =
+        let held = subst (AllHold x.kept) (sym (asked_both x seen ms ns)) met.holds in
+        let one : AreMet x (items_ask x seen ms) p.carried.judged = record { kept = kept_left x.kept p.carried.judged q.carried.judged met.kept; holds = hold_left x.kept (items_ask x seen ms) (items_ask (under (behind_items x ms) x) (seen_names x ms seen) ns) held } in
+        let n = comes V x env (q.carried.stays.loose V loose) (agrees_earlier q.carried.stays agrees) one in
+        record {
+          env = n.env;
+          named = p.named V x env (q.carried.stays.loose V loose) (agrees_earlier q.carried.stays agrees) one;
+          holds = subst (AllHold x.kept) n.asks (hold_right x.kept (items_ask x seen ms) (items_ask (under (behind_items x ms) x) (seen_names x ms seen) ns) held);
+        }

@@ -3,13 +3,13 @@ use Rattle.std.proofs.Common.{inl, inr, ◌≡◌, ◌≢◌, ◌∙◌, ℕ, su
 use Rattle.token_model.specs.Kinds.{Tok}
 use Rattle.tree_model.specs.Slots.{is_operand}
 use Rattle.tree_model.specs.Trees.{Place, Tree, yield_of}
-use Rattle.type_model.specs.Types.{Typ, Var}
+use Rattle.type_model.specs.Types.{Typ}
 use Rattle.type_model.specs.Schemes.{Scheme}
 use Rattle.signature_model.specs.Declarations.{Name, in_text}
 use Rattle.signature_model.specs.Entries.{Environment, entry, a_value}
 use Rattle.typing_model.specs.Demands.{made}
 use Rattle.typing_model.specs.Contexts.{Choice, Context, Bound, entries_with, generalised_in}
-use Rattle.typing_model.specs.Parts.{Binding}
+use Rattle.typing_model.specs.Parts.{Binding, Seen, no_names}
 use Rattle.typing_model.specs.Bindings.{bindings_ask, names_of_group, held_by}
 use Rattle.typing_model.specs.Expressions.{is_some}
 use Rattle.typing_model.specs.Items.{let_item, inside_item, names_made}
@@ -17,6 +17,8 @@ use Rattle.typing_model.specs.Modules.{item_row}
 use Rattle.typing_model.specs.Meanings.{recorded_item}
 use Rattle.row_parts.specs.Numbered.{operands_in, token_in}
 use Rattle.type_nodes.specs.Nodes.{bound_level}
+use Rattle.type_nodes.specs.Readings.{Types}
+use Rattle.level_unify.specs.Solutions.{Loose}
 use Rattle.env_table.specs.declared.entries.Entry.{Entry}
 use Rattle.typing_state.specs.declared.parts.Written.{Written}
 use Rattle.typing_state.specs.declared.parts.Parts.{Parts}
@@ -51,14 +53,14 @@ use Rattle.binding_rows.specs.LetNodes.{typed_as}
 use Rattle.binding_rows.proofs.Held.{to_close_on, all_names_bound}
 use Rattle.binding_rows.proofs.LetNodes.{types_to_close}
 use Rattle.binding_rows.specs.Scopes.{CanBeMade, AreMade, all_made}
-use Rattle.binding_rows.specs.Outside.{InEachOutside, Outside}
+use Rattle.binding_rows.specs.Outside.{AgreesOutside, Outside}
 use Rattle.binding_rows.specs.ItemGroups.{item_scope, group_asks, env_after, ItemGroup}
 use Rattle.binding_rows.specs.ItemRows.{IsItemNode, TypesItem, recorded_let, ItemDone, AreWrittenIn, GivesLet}
 use Rattle.binding_rows.proofs.Scoped.{scopes_carried, inside_carried, scoped_level, inside_level}
 use Rattle.binding_rows.proofs.ItemClosing.{item_letters, item_typed, item_bound}
-use Rattle.binding_rows.proofs.Items.{among_group, item_carried}
+use Rattle.binding_rows.proofs.Items.{among_group, item_stays, item_carried}
 use Rattle.binding_rows.proofs.ItemsAfter.{outside_after}
-use Rattle.binding_rows.proofs.ItemOrders.{items_treated, outside_between, done_between}
+use Rattle.binding_rows.proofs.ItemOrders.{agrees_earlier, items_treated, outside_between, done_between}
 use Rattle.binding_rows.proofs.ItemTurns.{item_begins}
 use Rattle.binding_rows.proofs.Unwritten.{names_unwritten}
 
@@ -132,7 +134,7 @@ entries_same (one_bound {x = x} h hs) c s s' E E' p e =
 
 -- The environment after an item is that of the definitions.
 pub item_adds : {D : Declared} {n : ℕ} {ts : List Tok} {E : Choice → Environment} {asks : Asks} {x : Parts} {y : Sight} {G : Letters} {s d : Parts} {env : List Entry} {xs : List Binding} {ys : List ToClose} {limits : List Limit} (l : ItemGroup D n ts E asks x y G s d env xs ys limits) (is_rec : Bool) →
-    InEachOutside E (sight x) G (λ c. (let_item n ts is_rec xs).adds c ++ c.env ≡ env_after E xs ys c.chosen)
+    (V : Types) (c : Context) → c.env ≡ E c.chosen → Loose x.store.nodes V → AgreesOutside (sight x) G V c.chosen → (let_item n ts is_rec xs).adds c ++ c.env ≡ env_after E xs ys c.chosen
 item_adds {n = n} {ts = ts} {E = E} {xs = xs} {ys = ys} l is_rec V c same loose agrees =
     entries_before (generalised_in c.env (held_by (inside_item n ts c) xs)) (inside_item n ts c) (names_of_group xs) [] c.env
     ∙ entries_same (item_bound l) (inside_item n ts c) (generalised_in c.env (held_by (inside_item n ts c) xs)) (generalised_in (E c.chosen) (held_at c.chosen xs ys)) c.env (E c.chosen)
@@ -158,15 +160,15 @@ item_term i n at t ts node =
     ∙ (λ k. recorded_item (number_of i n) (Some (let_item (number_of i n) ts (rec_stands i n t k) (bindings_stand i n t node.formed (ap (λ r. is_operand r 2) node.row) k))))
 
 -- The `let` of an item: where faults are reported, what it asks is carried, and the next item starts among its names.
-pub item_row_of_node : (x d : Parts) (env after : List Entry) (n : ℕ) (t : Tree) (ts : List Tok) (G : Letters) (E : Choice → Environment) → IsItemNode n t → (h : TypesItem x d env after n t) → is_aloud x.telling ≡ true → Outside as_declared (sight x) G env E → HasConstants x →
-    ((z : Name) → (sight x).written z ≡ None) → HoldsWritten (item_scope (number_of x.item n) ts E) (sight d) → ItemDone as_declared E (recorded_let x.item ts n t) x d G after
-item_row_of_node x d env after n t ts G E node h aloud at constants cleared named = record {
+pub item_row_of_node : (x d : Parts) (env after : List Entry) (n : ℕ) (t : Tree) (ts : List Tok) (G : Letters) (E : Choice → Environment) (seen : Seen) → IsItemNode n t → (h : TypesItem x d env after n t) → is_aloud x.telling ≡ true → Outside as_declared (sight x) G env E → HasConstants x →
+    ((z : Name) → (sight x).written z ≡ None) → HoldsWritten (item_scope (number_of x.item n) ts E) (sight d) → ItemDone as_declared E (recorded_let x.item ts n t) seen no_names x d G after
+item_row_of_node x d env after n t ts G E seen node h aloud at constants cleared named = record {
   letters = item_letters group;
   env = env_after E (bindings_of x.item (operands_in n t 2)) h.bindings;
-  carried = λ seen. items_treated (number_of x.item n) (item_carried group);
+  carried = items_treated (number_of x.item n) (item_carried group);
   outside = subst (λ es. Outside as_declared (sight d) (item_letters group) es (env_after E (bindings_of x.item (operands_in n t 2)) h.bindings)) (sym (h.scope ∙ entries_added (names_closed h.bindings) env)) (outside_after group (names_unwritten x.item (operands_in n t 2)));
-  adds = item_adds group (is_some (token_in t 1));
-  named = λ c. refl;
+  adds = λ V c same loose agrees met. item_adds group (is_some (token_in t 1)) V c same ((item_stays group).loose V loose) (agrees_earlier (item_stays group) agrees);
+  named = λ V c same loose agrees met. refl;
   constants = constants_kept x d h.goes constants;
 }
   where
@@ -198,9 +200,9 @@ written_goes a b w g = record { store = g.store; types = g.types; faults = g.fau
 
 -- The call for an item's `let`: its node is noted, the type variables that were written are forgotten, and its `let` is typed, in which only its own type variables are written.
 pub let_given : (a b c d : Parts) (w : Written) (env after : List Entry) (n : ℕ) (t : Tree) → OnlyNotes a b → Goes a b → c ≡ record b { written = w } → ((z : Name) → written_in w z ≡ None) → TypesItem c d env after n t → AreWrittenIn (yield_of t) d.written → GivesLet a d env after n t
-let_given a b c d w env after n t notes goes same none typed own G E node aloud at constants =
+let_given a b c d w env after n t notes goes same none typed own G E seen node aloud at constants =
     let only = item_begins a b c w notes same in
     let here : c.item ≡ a.item = ap (λ (p : Parts). p.item) same ∙ notes.rest.item in
     let goes' : Goes a c = subst (Goes a) (sym same) (written_goes a b w goes) in
-    done_between only (subst (λ i. ItemDone as_declared E (recorded_let i (yield_of t) n t) c d G after) here
-    (item_row_of_node c d env after n t (yield_of t) G E node typed (only.aloud ∙ aloud) (outside_between only at) (constants_kept a c goes' constants) (λ z. ap (λ (p : Parts). written_in p.written z) same ∙ none z) own))
+    done_between only (subst (λ i. ItemDone as_declared E (recorded_let i (yield_of t) n t) seen no_names c d G after) here
+    (item_row_of_node c d env after n t (yield_of t) G E seen node typed (only.aloud ∙ aloud) (outside_between only at) (constants_kept a c goes' constants) (λ z. ap (λ (p : Parts). written_in p.written z) same ∙ none z) own))

@@ -75,7 +75,7 @@ module _ {D : Declared} {n : ℕ} {ts : List Tok} {E : Choice → Environment} {
 
   -- what only the item's own conditions speak of
   abbrev pub item_left : Left
-  item_left = record { letters = (item_part l).hidden; owner = n; names = variables_written ts; written = (sight d).written }
+  item_left = record { letters = (item_part l).hidden; owner = n; names = variables_written ts; written = (sight d).written; fixed = [] }
 
   -- no variable that was bound inside the item stands in the type of a type variable of the item, written or not
   unbound_there : (V : Types) (c : Context) → IsReading d.store.nodes V → IsLeft d.store.nodes item_left V c.chosen → HoldsUnbound (group_frame l) (item_scope n ts E) (item_limited l) c.chosen

@@ -30,6 +30,7 @@ pub mod ItemRows
 pub mod ItemTurns
 pub mod Unwritten
 pub mod ItemsAdequate
+pub mod ItemKinds
 -- The laws of the rows of cases and of functions.
 pub mod Scopes
 pub mod Cases

@@ -1,22 +1,22 @@
 -- The `let` of an item by its node, and what an item gives.
-use Rattle.std.specs.Prelude.{◌≡◌, ◌+◌, ◌++◌, ℕ, true, List, map, slice_get, Some, All}
+use Rattle.std.specs.Prelude.{◌≡◌, ◌⊎◌, ◌+◌, ◌++◌, ℕ, true, List, [], ◌∷◌, map, slice_get, Option, Some, None, All}
 use Rattle.token_model.specs.Kinds.{Tok}
-use Rattle.tree_model.specs.Rows.{let_row}
-use Rattle.tree_model.specs.Trees.{Tree, yield_of}
+use Rattle.tree_model.specs.Rows.{let_row, break_row}
+use Rattle.tree_model.specs.Trees.{Tree, Part, taken, inner, missing, yield_of}
 use Rattle.signature_model.specs.Declarations.{Name}
 use Rattle.signature_model.specs.Entries.{Environment}
-use Rattle.typing_model.specs.Contexts.{Choice, Context, tell}
+use Rattle.typing_model.specs.Contexts.{Choice, tell}
 use Rattle.typing_model.specs.Parts.{Item, Seen, no_names}
-use Rattle.typing_model.specs.Items.{let_item, variables_written}
+use Rattle.typing_model.specs.Items.{let_item, no_item, variables_written, items_ask, behind_items, seen_names}
 use Rattle.typing_model.specs.Expressions.{is_some}
-use Rattle.row_parts.specs.Numbered.{operands_in, token_in}
+use Rattle.row_parts.specs.Numbered.{Numbered, operands_in, token_in}
 use Rattle.type_nodes.specs.Nodes.{bound_level}
 use Rattle.env_table.specs.declared.entries.Entry.{Entry}
 use Rattle.typing_state.specs.declared.parts.Written.{Written}
 use Rattle.typing_state.specs.declared.parts.Parts.{Parts}
 use Rattle.typing_state.specs.Goes.{Goes}
 use Rattle.operand_laws.specs.Formed.{row_of, IsFormed}
-use Rattle.operand_laws.specs.Operands.{number_of}
+use Rattle.operand_laws.specs.Operands.{number_of, child_at}
 use Rattle.typing_conditions.specs.Sights.{Letters}
 use Rattle.typing_conditions.specs.Surroundings.{Declared}
 use Rattle.typing_steps.specs.States.{is_aloud, written_in, sight}
@@ -29,7 +29,7 @@ use Rattle.binding_rows.specs.Decided.{JudgesGroup}
 use Rattle.binding_rows.specs.Lets.{ToClose, bind_nodes, names_closed}
 use Rattle.binding_rows.specs.LetNodes.{typed_as, ClosesBindings}
 use Rattle.binding_rows.specs.Scopes.{AreMade}
-use Rattle.binding_rows.specs.Outside.{InEachOutside, Outside, ItemsCarried}
+use Rattle.binding_rows.specs.Outside.{InEachMet, Outside, ItemsCarried}
 
 -- an item `let b and b` of which bindings are carried
 pub record IsItemNode (n : ℕ) (t : Tree) : Type 0 where
@@ -56,21 +56,64 @@ pub record TypesItem (a b : Parts) (env after : List Entry) (n : ℕ) (t : Tree)
 abbrev pub recorded_let : ℕ → List Tok → ℕ → Tree → Item
 recorded_let i ts n t = let l = let_item (number_of i n) ts (is_some (token_in t 1)) (bindings_of i (operands_in n t 2)) in record l { asks = λ c seen. tell (number_of i n) c ++ l.asks c seen }
 
--- What an item gives: what it asks is carried, the next item starts among its names, which are those that it adds in each context that the state before allows, and it names no type and no module.
-pub record ItemDone (D : Declared) (E : Choice → Environment) (m : Item) (a b : Parts) (G : Letters) (after : List Entry) : Type 0 where
+-- `;;` as it is recorded: its node is treated
+abbrev pub recorded_idle : ℕ → Item
+recorded_idle n = let i = no_item n in record i { asks = λ c seen. tell n c ++ i.asks c seen }
+
+-- What an item gives where the names `seen` stand before it in its structure: what it asks is carried, and the next item starts among its names. In each context
+-- that the state after it allows, and in which what it asks is met, it adds these entries, and names the types, modules and module types `names`.
+pub record ItemDone (D : Declared) (E : Choice → Environment) (m : Item) (seen names : Seen) (a b : Parts) (G : Letters) (after : List Entry) : Type 0 where
   pub letters : Letters
   pub env : Choice → Environment
-  pub carried : (seen : Seen) → ItemsCarried E (λ c. m.asks c seen) (sight a) G (sight b) letters
+  pub carried : ItemsCarried E (λ c. m.asks c seen) (sight a) G (sight b) letters
   pub outside : Outside D (sight b) letters after env
-  pub adds : InEachOutside E (sight a) G (λ c. m.adds c ++ c.env ≡ env c.chosen)
-  pub named : (c : Context) → m.named c ≡ no_names
+  pub adds : InEachMet E (λ c. m.asks c seen) (sight b) letters carried.judged (λ c. m.adds c ++ c.env ≡ env c.chosen)
+  pub named : InEachMet E (λ c. m.asks c seen) (sight b) letters carried.judged (λ c. m.named c ≡ names)
+  pub constants : HasConstants b
+
+-- The same of items in order: the environment after them, and all `names` that then stand in the structure.
+pub record ItemsDone (D : Declared) (E : Choice → Environment) (ms : List Item) (seen names : Seen) (a b : Parts) (G : Letters) (after : List Entry) : Type 0 where
+  pub letters : Letters
+  pub env : Choice → Environment
+  pub carried : ItemsCarried E (λ c. items_ask c seen ms) (sight a) G (sight b) letters
+  pub outside : Outside D (sight b) letters after env
+  pub behind : InEachMet E (λ c. items_ask c seen ms) (sight b) letters carried.judged (λ c. behind_items c ms ≡ env c.chosen)
+  pub named : InEachMet E (λ c. items_ask c seen ms) (sight b) letters carried.judged (λ c. seen_names c ms seen ≡ names)
   pub constants : HasConstants b
 
 -- the type variables that are written are among those of tokens
 abbrev pub AreWrittenIn : List Tok → Written → Type 0
 AreWrittenIn ts w = (x : Name) (m : ℕ) → written_in w x ≡ Some m → (k : ℕ) × (slice_get (variables_written ts) k ≡ Some x)
 
--- What a call gives for an item's `let` by its node, from where the item starts to where the next one does: where faults are reported, the definitions' own item. Its type variables are those among its tokens.
+-- What a call gives for an item's `let` by its node, from where the item starts to where the next one does: where faults are reported, the definitions' own item, whatever names stand before it. Its type variables are those among its tokens.
 abbrev pub GivesLet : (a b : Parts) → (env after : List Entry) → (n : ℕ) → Tree → Type 0
 GivesLet a b env after n t =
-    (G : Letters) (E : Choice → Environment) → IsItemNode n t → is_aloud a.telling ≡ true → Outside as_declared (sight a) G env E → HasConstants a → ItemDone as_declared E (recorded_let a.item (yield_of t) n t) a b G after
+    (G : Letters) (E : Choice → Environment) (seen : Seen) → IsItemNode n t → is_aloud a.telling ≡ true → Outside as_declared (sight a) G env E → HasConstants a → ItemDone as_declared E (recorded_let a.item (yield_of t) n t) seen no_names a b G after
+
+-- an item whose conditions are carried: a `let` of which bindings are, or `;;`
+abbrev pub IsCarriedItem : ℕ → Tree → Type 0
+IsCarriedItem n t = IsItemNode n t ⊎ (row_of t ≡ break_row)
+
+-- the same of what is at an operand; what is missing is no item
+abbrev pub IsCarriedPart : ℕ → Part → Type 0
+IsCarriedPart n (taken t) = Unit {0}
+IsCarriedPart n (inner t) = IsCarriedItem n t
+IsCarriedPart n (missing at) = Unit {0}
+
+-- the same of an operand
+abbrev pub IsCarriedItemOperand : Numbered → Type 0
+IsCarriedItemOperand o = IsCarriedPart o.number o.part
+
+-- an item that may be there, as a list
+abbrev pub item_if : Option Item → List Item
+item_if None = []
+item_if (Some m) = m ∷ []
+
+-- the item of the definitions that an operand is, if it is one
+abbrev pub item_at : ℕ → Numbered → List Item
+item_at i o = item_if (child_at i 0 o).item
+
+-- the items that operands are, in order
+abbrev pub items_at : ℕ → List Numbered → List Item
+items_at i [] = []
+items_at i (o ∷ os) = item_at i o ++ items_at i os

@@ -4,7 +4,7 @@ use Rattle.type_model.specs.Types.{occurs}
 use Rattle.signature_model.specs.Declarations.{Name}
 use Rattle.signature_model.specs.Entries.{Environment}
 use Rattle.signature_model.specs.Matching.{IsKnown}
-use Rattle.typing_model.specs.Demands.{AllHold}
+use Rattle.typing_model.specs.Demands.{Condition, AllHold}
 use Rattle.typing_model.specs.Contexts.{Choice, Context}
 use Rattle.type_nodes.specs.Nodes.{IsSound, IsNode}
 use Rattle.type_nodes.specs.Nodes.{Node}
@@ -19,6 +19,7 @@ use Rattle.typing_conditions.specs.Sights.{Sight, Report, number_in, Letters, Ar
 use Rattle.typing_conditions.specs.Judging.{Judgement, judgements, AreKept, StartsWith, FallsShort, Meets}
 use Rattle.typing_conditions.specs.Carrying.{Asks}
 use Rattle.typing_conditions.specs.Surroundings.{Declared, IsSteady}
+use Rattle.typing_rows.specs.Settled.{Fixes, AreFixed}
 
 -- A choice agrees with a state between items: it has the types of the nodes that are recorded, in which no unknown type stands, and of letters. Type variables
 -- that are written belong to one item, and none is written between items.
@@ -27,9 +28,14 @@ pub record AgreesOutside (a : Sight) (G : Letters) (V : Types) (ch : Choice) : T
   pub known : (i p m : ℕ) → a.types i p ≡ Some m → IsKnown (V m)
   pub given : AreGiven G V ch
 
--- in each context that a state between items allows
-abbrev pub InEachOutside : (Choice → Environment) → Sight → Letters → (Context → Type 0) → Type 0
-InEachOutside E a G P = (V : Types) (c : Context) → c.env ≡ E c.chosen → Loose a.nodes V → AgreesOutside a G V c.chosen → P c
+-- Conditions hold in a context, which keeps the demands that were judged as they were.
+pub record AreMet (c : Context) (cs : List Condition) (judged : List Judgement) : Type 0 where
+  pub kept : AreKept c.kept judged
+  pub holds : AllHold c.kept cs
+
+-- in each context before items, with this environment, that the state after them allows, and in which what they ask is met
+abbrev pub InEachMet : (Choice → Environment) → Asks → Sight → Letters → List Judgement → (Context → Type 0) → Type 0
+InEachMet E asks b H judged P = (V : Types) (c : Context) → c.env ≡ E c.chosen → Loose b.nodes V → AgreesOutside b H V c.chosen → AreMet c (asks c) judged → P c
 
 -- what is recorded is a node of the store, and so are the nodes of letters
 pub record AreInside (a : Sight) (G : Letters) : Type 0 where
@@ -49,19 +55,22 @@ pub record Outside (D : Declared) (a : Sight) (G : Letters) (env : List Entry) (
   pub reads : (J V : Types) (ch : Choice) → IsOwn a.nodes J → IsReading a.nodes V → AgreesOutside a G V ch → Stands SchemeReads (D.declaration a.nodes roots names) (D.exception a.nodes roots names) a.nodes J roots V env (E ch)
   pub fits : (J V : Types) (ch : Choice) → IsOwn a.nodes J → Loose a.nodes V → AgreesOutside a G V ch → Stands SchemeFits (D.declaration a.nodes roots names) (D.exception a.nodes roots names) a.nodes J roots V env (E ch)
 
--- What only an item's own conditions speak of: the letters of its rows, and the nodes of the type variables that are written in it, which are among some names.
+-- What only an item's own conditions speak of: the letters of its rows, the nodes of the type variables that are written in it, which are among some names, and
+-- the types of its declarations.
 pub record Left : Type 0 where
   pub letters : Letters
   pub owner : ℕ
   pub names : List Name
   pub written : Name → Option ℕ
+  pub fixed : Fixes
 
 -- A choice has them: letters and written type variables have the types of their nodes, and where a name isn't written, which any closed type does for, no bound
--- variable of the store stands in its type.
+-- variable of the store stands in its type; and the types of declarations are the ones that are decided.
 pub record IsLeft (nodes : List Node) (l : Left) (V : Types) (ch : Choice) : Type 0 where
   pub letters : AreGiven l.letters V ch
   pub written : (x : Name) (m : ℕ) → l.written x ≡ Some m → ch.written l.owner x ≡ V m
   pub others : (k : ℕ) (x : Name) → slice_get l.names k ≡ Some x → l.written x ≡ None → (v : ℕ) → is_bound nodes v ≡ true → occurs v (ch.written l.owner x) ≡ false
+  pub fixed : AreFixed l.fixed ch
 
 -- the same of what several items left
 abbrev pub AreLeft : List Node → List Left → Types → Choice → Type 0

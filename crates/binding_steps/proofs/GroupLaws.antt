@@ -1,5 +1,5 @@
 -- The nodes of bindings whose patterns are typed.
-use Rattle.std.proofs.Common.{◌≡◌, ◌∙◌, ◌++◌, ◌+◌, ◌-◌, List, [], ◌∷◌, map, Some, None, sym, ap, append-nil}
+use Rattle.std.proofs.Common.{◌≡◌, ◌∙◌, ◌++◌, List, [], ◌∷◌, map, Some, None, sym, ap, append-nil}
 use denote.Ref.{Bor}
 use Rattle.syntax_tree.specs.View.{node_view}
 use Rattle.syntax_tree.specs.declared.tree.Node.{Node}

@@ -1,12 +1,11 @@
 -- Cases, functions and parameters as the code types them.
-use Rattle.std.proofs.Common.{◌≡◌, ◌∙◌, ◌+◌, ◌-◌, ◌<◌, ℕ, List, length, map, drop, Option, Some, None, option_map, refl, sym, ap, subst}
+use Rattle.std.proofs.Common.{◌≡◌, ◌∙◌, ◌+◌, ◌<◌, ℕ, List, length, map, drop, Option, Some, None, option_map, refl, sym, ap, subst}
 use Rattle.std.specs.Prelude.{All, slice_index_or, unwrap_or}
 use Rattle.std.specs.Option.{IfSome}
 use Rattle.tree_model.specs.Rows.{Row, ematch_row, etry_row, efun_row, efunction_row}
 use Rattle.tree_model.specs.Trees.{Place, Tree}
 use Rattle.row_parts.specs.declared.slots.Operand.{Operand}
 use Rattle.row_parts.specs.Numbered.{Numbered, operand_view, operands_in, first_in, filled_in}
-use Rattle.syntax_tree.specs.Names.{row_of}
 use Rattle.typing_model.specs.Parts.{Case, Expression}
 use Rattle.type_terms.specs.declared.types.NodeRef.{NodeRef}
 use Rattle.type_nodes.specs.Nodes.{Arrow, IsNode}
@@ -38,6 +37,7 @@ use Rattle.expression_steps.specs.declared.forms.RowForm.TheVariants as form
 use Rattle.expression_steps.specs.Forms.{form_of, row_at}
 use Rattle.expression_steps.proofs.CarryingLaws.{rows_same}
 use Rattle.binding_steps.specs.Sides.{sides_by}
+use Rattle.binding_steps.proofs.ParameterLaws.{read_one}
 
 -- the number of a node, where there is one
 abbrev pub node_if : Option NodeRef → Option ℕ

@@ -1,2 +1,3 @@
--- What the call for an item's `let` gives, for the crate that makes it.
-pub use Rattle.binding_rows.specs.ItemRows.{GivesLet}
+-- What the call for an item's `let` gives, and what is done of items in order, for the crate that types them.
+pub use Rattle.binding_rows.specs.Outside.{Outside, OnlyBetween}
+pub use Rattle.binding_rows.specs.ItemRows.{IsItemNode, GivesLet, ItemsDone, IsCarriedPart, IsCarriedItemOperand, item_at, items_at}

@@ -1,5 +1,8 @@
 //! Structures, module expressions and the items of structures.
+ghost use Rattle.std.specs.Prelude.{map, OnOk};
+ghost use Rattle.row_parts.specs.Numbered.{operand_view};
 ghost use Rattle.typing_state.specs.Goes.{Goes};
+ghost use Rattle.module_typing.specs.Items.{GivesItem, GivesItems};
 
 use crate::items::let_item;
 use env_table::{Entry, Kind, What};
@@ -24,6 +27,7 @@ fn type_items(
     env: &Env,
     depth: Depth,
 ) -> Result<Kept, NoMemory>
+    ensures carries { OnOk result (GivesItems at.old at.new env.now (map operand_view items.now)) }
     ensures goes { Goes at.old at.new }
 {
     let mut scene = Scene::new(at.alloc(), env.share()?);
@@ -44,6 +48,7 @@ pub fn type_item(
     scene: &mut Scene,
     depth: Depth,
 ) -> Result<(), NoMemory>
+    ensures carries { OnOk result (GivesItem at.old at.new scene.old scene.new (operand_view item.entry)) }
     ensures goes { Goes at.old at.new }
 {
     let Some(node) = item.node else {
@@ -51,6 +56,7 @@ pub fn type_item(
     };
     match node.row {
         RowName::Let => let_item(at, node, item.number, scene, depth),
+        RowName::Break => at.note_plain(item.number, &scene.env),
         RowName::Module => type_module_item(at, node, item.number, scene, depth),
         RowName::Include => include_item(at, node, item.number, scene),
         _ => type_specification(at, item, scene, depth),

@@ -1,4 +1,4 @@
-use Rattle.std.proofs.Common.{◌≡◌, ◌∙◌, ◌+◌, ◌<◌, length, drop, arith, sym, ap}
+use Rattle.std.proofs.Common.{◌∙◌, ◌<◌, length, arith, sym, ap}
 use Rattle.std.proofs.lemmas.List.{drop_all}
 use Rattle.pattern_typing.specs.Matching.{binds_of}
 use Rattle.binding_rows.specs.CaseScopes.{names_added}

@@ -1,12 +1,17 @@
-use Rattle.std.proofs.Common.{◌+◌, ◌*◌}
+use Rattle.std.proofs.Common.{◌+◌, ◌*◌, drop, map}
+use Rattle.row_parts.specs.Numbered.{operand_view}
 use Rattle.typing_state.specs.Goes.{Goes}
+use Rattle.module_typing.specs.Items.{GivesItemsFirst}
 use Rattle.module_typing.proofs.modules.+modules.Given as goal
 
 abbrev pub decreases-type_items : goal.decreases-type_items
 decreases-type_items l = 10 * l.depth.0 + 9
 
 abbrev pub invariant-type_items-loop-item : goal.invariant-type_items-loop-item
-invariant-type_items-loop-item l = Goes l.fn.at l.at
+invariant-type_items-loop-item l = record {
+  goes : Goes l.fn.at l.at;
+  gives : GivesItemsFirst l.fn.at l.at l.env l.scene (map operand_view l.items) (map operand_view (drop l.item-index l.items));
+}
 
 abbrev pub decreases-type_item : goal.decreases-type_item
 decreases-type_item l = 10 * l.depth.0 + 7

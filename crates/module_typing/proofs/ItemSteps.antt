@@ -1,0 +1,149 @@
+-- What the calls for the items of a structure carry, from what each call in them does.
+use Rattle.std.proofs.Common.{inl, inr, ◌≡◌, ◌∙◌, ℕ, ◌+◌, ◌<◌, ◌≤◌, false, drop, length, slice_index_or, List, [], ◌∷◌, ◌++◌, map, Some, None, refl, sym, ap, subst, append_assoc, append-nil}
+use Rattle.std.specs.Prelude.{Result, Ok, Err, OnOk}
+use Rattle.std.proofs.lemmas.List.{drop_more, drop_all}
+use denote.Ref.{Bor}
+use Rattle.tree_model.specs.Rows.{let_row, break_row}
+use Rattle.tree_model.specs.Trees.{inner}
+use Rattle.signature_model.specs.Declarations.{Name}
+use Rattle.typing_model.specs.Parts.{Seen, no_names}
+use Rattle.syntax_tree.specs.declared.rows.RowName.{RowName}
+use Rattle.syntax_tree.specs.declared.rows.RowName.TheVariants as name
+use Rattle.syntax_tree.specs.declared.tree.Node.{Node, out-Node}
+use Rattle.syntax_tree.specs.Names as names
+use Rattle.syntax_tree.specs.View.{node_view, place_of}
+use Rattle.syntax_tree.proofs.Views.{node_view_parts}
+use Rattle.row_parts.specs.declared.slots.Operand.{Operand}
+use Rattle.row_parts.specs.Numbered.{Numbered, numbered, part_of, operand_view}
+use Rattle.env_table.specs.declared.entries.Entry.{Entry}
+use Rattle.env_table.specs.declared.entries.Kind.{Kind}
+use Rattle.env_table.specs.declared.entries.Kind.TheVariants as kind
+use Rattle.typing_state.specs.declared.parts.Parts.{Parts}
+use Rattle.typing_state.specs.Goes.{Goes, OnlyIndex}
+use Rattle.typing_state.specs.Notes.{NotedNameless}
+use Rattle.operand_laws.specs.Formed.{row_of}
+use Rattle.typing_steps.specs.States.{is_aloud, sight}
+use Rattle.typing_steps.specs.Typing.{as_declared}
+use Rattle.typing_steps.proofs.Still.{plain_notes, notes_unseen, notes_untold}
+use Rattle.typing_steps.proofs.Starting.{constants_kept}
+use Rattle.core_typing.specs.Items.{Outside, OnlyBetween, IsCarriedPart, IsCarriedItemOperand, IsItemNode, ItemsDone, GivesLet, item_at, items_at}
+use Rattle.core_typing.proofs.ItemLaws.{done_none, done_then, let_done, idle_given}
+use Rattle.module_steps.specs.declared.scenes.Scene.{Scene}
+use Rattle.module_steps.specs.Scenes.{has_name, SameNames}
+use Rattle.module_typing.specs.Items.{HasSeen, IsGiven, GivesItem, GivesItems, GivesFirst, GivesItemsFirst}
+
+-- the row of a node, by that of the code
+row_there : (nd : Node) → row_of (node_view nd) ≡ names.row_of (out-Node nd).row
+row_there nd = ap row_of (node_view_parts nd)
+
+only_let : (r : RowName) → names.row_of r ≡ let_row → r ≡ name.Let
+unfolding names.row_of
+only_let name.Let e = refl
+only_let _ e = absurd (cc)
+
+only_break : (r : RowName) → names.row_of r ≡ break_row → r ≡ name.Break
+unfolding names.row_of
+only_break name.Break e = refl
+only_break _ e = absurd (cc)
+
+break_there : (nd : Node) → (out-Node nd).row ≡ name.Break → row_of (node_view nd) ≡ break_row
+unfolding names.row_of
+break_there nd e = row_there nd ∙ ap names.row_of e
+
+-- a scene in which the same names stand has them
+seen_same : {s s' : Scene} {seen : Seen} → SameNames s s' → HasSeen s seen → HasSeen s' seen
+seen_same same h = record { types = λ n. same kind.TypeName n ∙ h.types n; modules = λ n. same kind.Module n ∙ h.modules n; module_types = λ n. same kind.ModuleType n ∙ h.module_types n }
+
+-- a node is noted without a type
+between : (a b : Parts) (number : ℕ) (env : List Entry) → NotedNameless a b number env None → OnlyIndex a b → OnlyBetween (sight a) (sight b)
+between a b number env noted rest =
+    let notes = plain_notes a b number env noted rest in
+    let only = notes_unseen a b notes in
+    record { nodes = only.nodes; types = only.types; reports = notes_untold a b notes; aloud = only.aloud; level = only.level; fixed = only.fixed }
+
+-- what is missing is noted, and nothing else is done
+pub missing_given : {A F : Type 0} (r : Result A F) (a b : Parts) (s : Scene) (x : Operand) → x.node ≡ None → OnOk r (NotedNameless a b x.number s.env None) → OnlyIndex a b → Goes a b → OnOk r (GivesItem a b s s (operand_view x))
+missing_given (Err e) a b s x none noted rest goes = tt
+missing_given (Ok v) a b s x none noted rest goes = λ G E seen carried aloud at constants standing.
+    subst (λ p. IsGiven E (item_at a.item (numbered x.number (place_of x.span) p)) seen a b G s) (sym (ap (λ o. part_of o x.span) none)) (record {
+      names = seen;
+      done = done_none seen (between a b x.number s.env noted rest) at (constants_kept a b goes constants);
+      standing = standing;
+    })
+
+-- an item that is there, as an operand
+there : (x : Operand) (nd : Bor Node) → x.node ≡ Some nd → part_of x.node x.span ≡ inner (node_view nd.now)
+there x nd e = ap (λ o. part_of o x.span) e
+
+-- `;;` is noted
+pub break_given : {A F : Type 0} (r : Result A F) (a b : Parts) (s : Scene) (x : Operand) (nd : Bor Node) → x.node ≡ Some nd → (out-Node nd.now).row ≡ name.Break → OnOk r (NotedNameless a b x.number s.env None) → OnlyIndex a b → Goes a b → OnOk r (GivesItem a b s s (operand_view x))
+break_given (Err e) a b s x nd some row noted rest goes = tt
+break_given (Ok v) a b s x nd some row noted rest goes = λ G E seen carried aloud at constants standing.
+    subst (λ p. IsGiven E (item_at a.item (numbered x.number (place_of x.span) p)) seen a b G s) (sym (there x nd some)) (record {
+      names = seen;
+      done = idle_given a b s.env x.number (place_of x.span) (node_view nd.now) G E seen (break_there nd.now row) (between a b x.number s.env noted rest) at (constants_kept a b goes constants);
+      standing = standing;
+    })
+
+-- A `let` is typed.
+pub let_item_given : {A F : Type 0} (r : Result A F) (a b : Parts) (s s' : Scene) (x : Operand) (nd : Bor Node) → x.node ≡ Some nd → (out-Node nd.now).row ≡ name.Let → OnOk r (GivesLet a b s.env s'.env x.number (node_view nd.now)) → SameNames s s' → OnOk r (GivesItem a b s s' (operand_view x))
+let_item_given (Err e) a b s s' x nd some row gives same = tt
+let_item_given (Ok v) a b s s' x nd some row gives same = λ G E seen carried aloud at constants standing.
+    subst (λ p. IsGiven E (item_at a.item (numbered x.number (place_of x.span) p)) seen a b G s') (sym (there x nd some)) (record {
+      names = seen;
+      done = let_done a b s.env s'.env x.number (place_of x.span) (node_view nd.now) G E seen (is_let carried) aloud at constants gives;
+      standing = seen_same same standing;
+    })
+  where
+    is_let : IsCarriedItemOperand (operand_view x) → IsItemNode x.number (node_view nd.now)
+    is_let carried = elim (subst (IsCarriedPart x.number) (there x nd some) carried) [
+      | inl item ↦ item
+      | inr break ↦ absurd (let b : name.Let ≡ name.Break = sym row ∙ only_break (out-Node nd.now).row (sym (row_there nd.now) ∙ break) in cc)
+    ]
+
+-- an item of another row isn't one that is carried
+pub other_item : {A F : Type 0} (r : Result A F) (a b : Parts) (s s' : Scene) (x : Operand) (nd : Bor Node) → x.node ≡ Some nd → ((out-Node nd.now).row ≡ name.Let → ⊥) → ((out-Node nd.now).row ≡ name.Break → ⊥) → OnOk r (GivesItem a b s s' (operand_view x))
+other_item (Err e) a b s s' x nd some no_let no_break = tt
+other_item (Ok v) a b s s' x nd some no_let no_break = λ G E seen carried aloud at constants standing. absurd (elim (subst (IsCarriedPart x.number) (there x nd some) carried) [
+  | inl item ↦ no_let (only_let (out-Node nd.now).row (sym (row_there nd.now) ∙ item.row))
+  | inr break ↦ no_break (only_break (out-Node nd.now).row (sym (row_there nd.now) ∙ break))
+])
+
+-- no row is two
+pub not_of : (r q p : RowName) → r ≡ q → (q ≡ p → ⊥) → r ≡ p → ⊥
+not_of r q p e other f = other (sym e ∙ f)
+
+-- before the first item of a structure
+pub items_start : (a : Parts) (env : List Entry) (s : Scene) (all : List Numbered) → s.env ≡ env → ((k : Kind) (n : Name) → has_name s k n ≡ false) → GivesItemsFirst a a env s all all
+items_start a env s all same none G E carried aloud at constants = record {
+  items = [];
+  given = record {
+    names = no_names;
+    done = done_none no_names (record { nodes = refl; types = λ i p. refl; reports = refl; aloud = refl; level = refl; fixed = refl }) (subst (λ es. Outside as_declared (sight a) G es E) (sym same) at) constants;
+    standing = record { types = λ n. none kind.TypeName n; modules = λ n. none kind.Module n; module_types = λ n. none kind.ModuleType n };
+  };
+  splits = refl;
+  carried = carried;
+}
+
+-- one item more
+pub items_next : (a b d : Parts) (env : List Entry) (s s' : Scene) (all : List Numbered) (os : List Operand) (i : ℕ) (x : Operand) → i < length os → x ≡ slice_index_or os i x → Goes a b → GivesItemsFirst a b env s all (map operand_view (drop i os)) →
+    GivesItem b d s s' (operand_view x) → GivesItemsFirst a d env s' all (map operand_view (drop (i + 1) os))
+items_next a b d env s s' all os i x lt here goes first gives G E carried aloud at constants =
+    let cut : drop i os ≡ x ∷ drop (i + 1) os = drop_more os i x lt ∙ ap (λ o. o ∷ drop (i + 1) os) (sym here) in
+    let f : GivesFirst E G a b s all (operand_view x ∷ map operand_view (drop (i + 1) os)) = subst (λ us. GivesFirst E G a b s all (map operand_view us)) cut (first G E carried aloud at constants) in
+    let g = gives f.given.done.letters f.given.done.env f.given.names f.carried.0 (ap is_aloud goes.telling ∙ aloud) f.given.done.outside f.given.done.constants f.given.standing in
+    let whole : f.items ++ (item_at a.item (operand_view x) ++ items_at a.item (map operand_view (drop (i + 1) os))) ≡ items_at a.item all = f.splits in
+    record {
+      items = f.items ++ item_at b.item (operand_view x);
+      given = record { names = g.names; done = done_then {last = g.names} at.sound f.given.done g.done; standing = g.standing };
+      splits = append_assoc f.items (item_at b.item (operand_view x)) (items_at a.item (map operand_view (drop (i + 1) os)))
+          ∙ ap (λ n. f.items ++ (item_at n (operand_view x) ++ items_at a.item (map operand_view (drop (i + 1) os)))) goes.item ∙ whole;
+      carried = f.carried.1;
+    }
+
+-- all items are done
+pub items_end : (a b : Parts) (env : List Entry) (s : Scene) (all : List Numbered) (os : List Operand) (i : ℕ) → length os ≤ i → GivesItemsFirst a b env s all (map operand_view (drop i os)) → GivesItems a b env all
+items_end a b env s all os i past first G E carried aloud at constants =
+    let f : GivesFirst E G a b s all [] = subst (λ us. GivesFirst E G a b s all (map operand_view us)) (drop_all i os past) (first G E carried aloud at constants) in
+    (s.env, f.given.names, subst (λ ms. ItemsDone as_declared E ms no_names f.given.names a b G s.env) (sym (append-nil f.items) ∙ f.splits) f.given.done)

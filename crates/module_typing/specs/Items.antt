@@ -1,0 +1,54 @@
+-- What the calls for the items of a structure carry.
+use Rattle.std.specs.Prelude.{◌≡◌, true, List, [], ◌∷◌, ◌++◌}
+use Rattle.signature_model.specs.Declarations.{Name}
+use Rattle.signature_model.specs.Entries.{Environment}
+use Rattle.typing_model.specs.Contexts.{Choice}
+use Rattle.typing_model.specs.Parts.{Item, Seen, no_names}
+use Rattle.typing_model.specs.Records.{is_among}
+use Rattle.row_parts.specs.Numbered.{Numbered}
+use Rattle.env_table.specs.declared.entries.Entry.{Entry}
+use Rattle.env_table.specs.declared.entries.Kind.TheVariants as kind
+use Rattle.typing_state.specs.declared.parts.Parts.{Parts}
+use Rattle.typing_conditions.specs.Sights.{Letters}
+use Rattle.typing_steps.specs.States.{is_aloud, sight}
+use Rattle.typing_steps.specs.Typing.{as_declared}
+use Rattle.typing_steps.specs.Constants.{HasConstants}
+use Rattle.core_typing.specs.Items.{Outside, IsCarriedItemOperand, ItemsDone, item_at, items_at}
+use Rattle.module_steps.specs.declared.scenes.Scene.{Scene}
+use Rattle.module_steps.specs.Scenes.{has_name}
+
+-- the names of types, modules and module types that stand in a scene are these
+pub record HasSeen (s : Scene) (seen : Seen) : Type 0 where
+  pub types : (n : Name) → has_name s kind.TypeName n ≡ is_among n seen.types
+  pub modules : (n : Name) → has_name s kind.Module n ≡ is_among n seen.modules
+  pub module_types : (n : Name) → has_name s kind.ModuleType n ≡ is_among n seen.module_types
+
+-- items are done where these names stand before them, and the scene after them has the names that then stand
+pub record IsGiven (E : Choice → Environment) (ms : List Item) (seen : Seen) (a b : Parts) (G : Letters) (after : Scene) : Type 0 where
+  pub names : Seen
+  pub done : ItemsDone as_declared E ms seen names a b G after.env
+  pub standing : HasSeen after names
+
+-- What the call for an item of a structure gives where faults are reported, if the item is one that is carried: the definitions' own item is done.
+abbrev pub GivesItem : (a b : Parts) → (old new : Scene) → Numbered → Type 0
+GivesItem a b old new o = (G : Letters) (E : Choice → Environment) (seen : Seen) → IsCarriedItemOperand o → is_aloud a.telling ≡ true → Outside as_declared (sight a) G old.env E → HasConstants a → HasSeen old seen → IsGiven E (item_at a.item o) seen a b G new
+
+-- each of some items is one that is carried
+abbrev pub AreCarriedItems : List Numbered → Type 0
+AreCarriedItems [] = Unit {0}
+AreCarriedItems (o ∷ os) = IsCarriedItemOperand o × AreCarriedItems os
+
+-- the same of the items of a whole structure, in order, if all of them are carried
+abbrev pub GivesItems : (a b : Parts) → (env : List Entry) → List Numbered → Type 0
+GivesItems a b env os = (G : Letters) (E : Choice → Environment) → AreCarriedItems os → is_aloud a.telling ≡ true → Outside as_declared (sight a) G env E → HasConstants a → (after : List Entry) × (names : Seen) × ItemsDone as_declared E (items_at a.item os) no_names names a b G after
+
+-- the first of some items are done, and these are left
+pub record GivesFirst (E : Choice → Environment) (G : Letters) (a b : Parts) (now : Scene) (all left : List Numbered) : Type 0 where
+  pub items : List Item
+  pub given : IsGiven E items no_names a b G now
+  pub splits : items ++ items_at a.item left ≡ items_at a.item all
+  pub carried : AreCarriedItems left
+
+-- the same, if all of them are carried, from where a structure starts
+abbrev pub GivesItemsFirst : (a b : Parts) → (env : List Entry) → (now : Scene) → (all left : List Numbered) → Type 0
+GivesItemsFirst a b env now all left = (G : Letters) (E : Choice → Environment) → AreCarriedItems all → is_aloud a.telling ≡ true → Outside as_declared (sight a) G env E → HasConstants a → GivesFirst E G a b now all left

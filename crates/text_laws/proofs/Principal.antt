@@ -1,0 +1,117 @@
+-- Where typing was complete also for what items left, the types that were found are a principal typing.
+use Rattle.std.proofs.Common.{◌≡◌, ◌∙◌, ℕ, zero, suc, ◌+◌, ◌-◌, ◌/◌, ◌%◌, ◌^◌, ◌<◌, nat_lt, Bool, true, false, Option, Some, None, List, [], ◌∷◌, ◌++◌, length, refl, sym, ap, subst, arith, if◌then◌else◌}
+use Rattle.std.specs.Prelude.{slice_get}
+use Rattle.std.proofs.lemmas.Nat.{div-add-mod'}
+use Rattle.type_model.specs.Types.{Var}
+use Rattle.type_model.specs.Substitutions.{Subst, apply}
+use Rattle.type_model.proofs.Applying.{apply_agree}
+use Rattle.tree_model.specs.Trees.{Tree}
+use Rattle.signature_model.specs.Entries.{Environment}
+use Rattle.typing_model.specs.Contexts.{Choice}
+use Rattle.typing_model.specs.Typings.{IsPrincipal}
+use Rattle.type_nodes.specs.Nodes.{Node, IsNode}
+use Rattle.type_nodes.specs.Readings.{Types, Fits}
+use Rattle.level_unify.proofs.Unified.{fits_loosely}
+use Rattle.typing_conditions.specs.Locals.{IsOwn}
+use Rattle.typing_conditions.specs.Sights.{Sight, Key, value_of, Letters, IsGiven, AreGiven, AreNodes, number_in}
+use Rattle.typing_conditions.proofs.Judged.{given_both, nodes_both}
+use Rattle.binding_rows.specs.Outside.{Left, AreLeft}
+use Rattle.text_laws.specs.Texts.{IsTyped, IsComplete}
+use Rattle.text_laws.specs.Reading.{plain_key, is_own, node_for, recorded_at, type_or, first_there, read_choice, letters_left}
+use Rattle.text_laws.proofs.Kept.{met, enters}
+use Rattle.text_laws.proofs.Reading.{own_is, value_plain}
+
+place_inside : {A : Type 0} {x : A} (xs : List A) (k : ℕ) → slice_get xs k ≡ Some x → k < length xs
+place_inside [] k e = absurd (cc)
+place_inside (y ∷ ys) zero e = omega arith
+place_inside (y ∷ ys) (suc k) e = let h = place_inside ys k e in omega arith
+
+-- what is given is so at each place
+given_at : (xs : Letters) (V : Types) (ch : Choice) → AreGiven xs V ch → (k : ℕ) (x : Key × ℕ) → slice_get xs k ≡ Some x → IsGiven V ch x.0 x.1
+given_at [] V ch h k x e = absurd (cc)
+given_at (y ∷ ys) V ch h zero x e = let same : y ≡ x = cc in subst (λ (z : Key × ℕ). IsGiven V ch z.0 z.1) same h.0
+given_at (y ∷ ys) V ch h (suc k) x e = given_at ys V ch h.1 k x e
+
+node_at : (xs : Letters) (nodes : List Node) → AreNodes xs nodes → (k : ℕ) (x : Key × ℕ) → slice_get xs k ≡ Some x → IsNode nodes x.1
+node_at [] nodes h k x e = absurd (cc)
+node_at (y ∷ ys) nodes h zero x e = let same : y ≡ x = cc in subst (λ (z : Key × ℕ). IsNode nodes z.1) same h.0
+node_at (y ∷ ys) nodes h (suc k) x e = node_at ys nodes h.1 k x e
+
+letters_given : (nodes : List Node) (ls : List Left) (W : Types) (ch : Choice) → AreLeft nodes ls W ch → AreGiven (letters_left ls) W ch
+letters_given nodes [] W ch h = tt
+letters_given nodes (l ∷ ls) W ch h = given_both W ch l.letters (letters_left ls) h.0.letters (letters_given nodes ls W ch h.1)
+
+-- what is found is one of the letters
+pub record ComesFrom (test : Key → Bool) (keys : Letters) (m : ℕ) : Type 0 where
+  pub place : ℕ
+  pub entry : Key × ℕ
+  pub at : slice_get keys place ≡ Some entry
+  pub passes : test (plain_key entry.0) ≡ true
+  pub node : entry.1 ≡ m
+
+comes_from : (test : Key → Bool) (keys : Letters) (m : ℕ) → node_for test keys ≡ Some m → ComesFrom test keys m
+comes_from test [] m e = absurd (cc)
+comes_from test (y ∷ ys) m e = by (test (plain_key y.0)) refl e (comes_from test ys m)
+  where
+    by : (b : Bool) → test (plain_key y.0) ≡ b → (if b then Some y.1 else node_for test ys) ≡ Some m → (node_for test ys ≡ Some m → ComesFrom test ys m) → ComesFrom test (y ∷ ys) m
+    by true holds f further = record { place = zero; entry = y; at = refl; passes = holds; node = cc }
+    by false fails f further = let c = further f in record { place = suc c.place; entry = c.entry; at = c.at; passes = c.passes; node = c.node }
+
+-- a node that stands for a number has its type in each choice that agrees
+stands_for : (b : Sight) (keys : Letters) (W : Types) (ch : Choice) → ((i p m : ℕ) → b.types i p ≡ Some m → ch.type_at (number_in i p) ≡ W m) → ((i p m : ℕ) → b.types i p ≡ Some m → IsNode b.nodes m) → AreGiven keys W ch → AreNodes keys b.nodes →
+    (n m : ℕ) (o : Option ℕ) → recorded_at b n ≡ o → first_there o (node_for (is_own n) keys) ≡ Some m → (ch.type_at n ≡ W m) × IsNode b.nodes m
+stands_for b keys W ch recorded inside given nodes n m (Some j) e f =
+    let same : j ≡ m = cc in
+    let there : b.types (n / 2 ^ 32) (n % 2 ^ 32) ≡ Some m = e ∙ ap Some same in
+    (ap ch.type_at (sym (div-add-mod' n (2 ^ 32))) ∙ recorded (n / 2 ^ 32) (n % 2 ^ 32) m there, inside (n / 2 ^ 32) (n % 2 ^ 32) m there)
+stands_for b keys W ch recorded inside given nodes n m None e f =
+    let c = comes_from (is_own n) keys m f in
+    let g = given_at keys W ch given c.place c.entry c.at in (
+      sym (ap (value_of ch) (own_is n (plain_key c.entry.0) c.passes)) ∙ sym (value_plain ch c.entry.0) ∙ g.is ∙ ap W c.node,
+      subst (IsNode b.nodes) c.node (node_at keys b.nodes nodes c.place c.entry c.at),
+    )
+
+-- the substitution that gives the nodes' variables these types, and each variable behind them that of a number
+abbrev gives : ℕ → Types → Choice → Subst
+gives n W ch v = if nat_lt v n then W v else ch.type_at (v - n)
+
+below : (n v : ℕ) → v < n → nat_lt v n ≡ true
+below n v h = grind arith
+
+above : (n k : ℕ) → nat_lt (n + k) n ≡ false
+above n k = grind arith
+
+back : (n k : ℕ) → (n + k) - n ≡ k
+back n k = omega arith
+
+-- the types that are read off at the nodes' own types give those of each other choice by one substitution
+found_general : (b : Sight) (I : Types) → IsOwn b.nodes I → (keys : Letters) (left : List Left) (W : Types) (ch : Choice) → Fits b.nodes W → ((i p m : ℕ) → b.types i p ≡ Some m → ch.type_at (number_in i p) ≡ W m) → ((i p m : ℕ) → b.types i p ≡ Some m → IsNode b.nodes m) →
+    AreGiven keys W ch → AreNodes keys b.nodes → (n : ℕ) → ch.type_at n ≡ apply (gives (length b.nodes) W ch) ((read_choice I b keys left).type_at n)
+found_general b I own_types keys left W ch fits recorded inside given nodes n = by (first_there (recorded_at b n) (node_for (is_own n) keys)) refl
+  where
+    s : Subst
+    s = gives (length b.nodes) W ch
+
+    by : (o : Option ℕ) → first_there (recorded_at b n) (node_for (is_own n) keys) ≡ o → ch.type_at n ≡ apply s (type_or I (Var (length b.nodes + n)) o)
+    by None e = sym (ap (λ c. if c then W (length b.nodes + n) else ch.type_at ((length b.nodes + n) - length b.nodes)) (above (length b.nodes) n) ∙ ap ch.type_at (back (length b.nodes) n))
+    by (Some m) e =
+        let (is, node) = stands_for b keys W ch recorded inside given nodes n m (recorded_at b n) refl e in
+        is ∙ own_types.comes W (fits_loosely b.nodes W fits) m
+        ∙ apply_agree W s (I m) (λ v o. let var = own_types.only m v node o in sym (ap (λ c. if c then W v else ch.type_at (v - length b.nodes)) (below (length b.nodes) v (place_inside b.nodes v var.at))))
+
+-- So where a choice was read off at the nodes' own types, and typing was complete for what items left, its types are a principal typing of the text.
+pub text_principal : {env : Environment} {text : List Tree} {kept : _} {a b : Sight} {G : Letters} (h : IsTyped env text kept a b G) → IsOwn b.nodes h.types → h.choice ≡ read_choice h.types b (G ++ letters_left h.carried.left) h.carried.left → IsComplete env text kept b G h.carried.left →
+    IsPrincipal env text kept h.choice.type_at
+text_principal {env} {text} {kept} {b = b} {G = G} h own_types read complete = record {
+  fits = record { choice = h.choice; chosen = λ n. refl; holds = (met h).holds };
+  general = λ others fits.
+      let (W, fit, agrees, left) = complete.each fits.choice fits.holds in
+      let inside = h.carried.stays.inside (enters h kept fits.choice).inside in (
+        gives (length b.nodes) W fits.choice,
+        λ n.
+            sym (fits.chosen n)
+            ∙ found_general b h.types own_types (G ++ letters_left h.carried.left) h.carried.left W fits.choice fit agrees.recorded inside.recorded
+            (given_both W fits.choice G (letters_left h.carried.left) agrees.given (letters_given b.nodes h.carried.left W fits.choice left)) (nodes_both G (letters_left h.carried.left) b.nodes inside.given complete.nodes) n
+            ∙ ap (λ (ch : Choice). apply (gives (length b.nodes) W fits.choice) (ch.type_at n)) (sym read),
+      );
+}

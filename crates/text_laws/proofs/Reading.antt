@@ -1,0 +1,193 @@
+-- Where nodes that stand for one thing have one type, a choice is read off a state.
+use Rattle.std.proofs.Common.{◌≡◌, ◌∙◌, ℕ, zero, suc, ◌+◌, ◌/◌, ◌%◌, ◌^◌, Bool, true, false, ◌==◌, Option, Some, None, List, [], ◌∷◌, ◌++◌, refl, sym, ap, subst, if◌then◌else◌, length}
+use Rattle.std.specs.Prelude.{slice_get}
+use Rattle.std.proofs.lemmas.Bool.{eqb-true}
+use Rattle.std.proofs.lemmas.Nat.{div-mul-add, mod-mul-add, div-add-mod'}
+use Rattle.std.proofs.lemmas.Slice.Eq.{bytes_eq-Decides}
+use Rattle.type_model.specs.Types.{Path, Typ, Var, Tuple, Nil, occurs}
+use Rattle.type_model.specs.Origins.{same_path}
+use Rattle.type_model.proofs.Applying.{eqb_same}
+use Rattle.tree_model.specs.Trees.{Tree}
+use Rattle.signature_model.specs.Declarations.{Name}
+use Rattle.signature_model.specs.Entries.{Environment}
+use Rattle.signature_model.specs.Matching.{IsKnown}
+use Rattle.typing_model.specs.Contexts.{Choice}
+use Rattle.type_nodes.specs.Nodes.{Node, IsSound}
+use Rattle.type_nodes.specs.Readings.{Types, IsReading}
+use Rattle.typing_laws.proofs.Bools.{no_yes, and_cases, and_both}
+use Rattle.typing_conditions.specs.Sights.{Sight, Key, own, letter, filled, without_unknown, value_of, Letters, IsKnownFor, AreGiven, number_in}
+use Rattle.typing_conditions.proofs.Adequate.{kept_of}
+use Rattle.typing_rows.specs.Settled.{AreFixed}
+use Rattle.binding_rows.specs.Outside.{Left, IsLeft, AreLeft, ItemsCarried}
+use Rattle.text_laws.specs.Texts.{AreApart, NoneCloses, text_asks, IsTyped}
+use Rattle.text_laws.specs.Reading.{plain_key, is_own, is_letter, is_filled, node_for, recorded_at, written_at, type_or, first_there, read_choice, letters_left, OwnersApart, AreOne}
+use Rattle.text_laws.proofs.Sites.{kept_as_judged, kept_among}
+
+-- a key is what it is tested for
+pub own_is : (n : ℕ) (key : Key) → is_own n key ≡ true → key ≡ own n
+own_is n (own m) e = ap own (sym (eqb-true n m e))
+own_is n (letter m j) e = absurd (no_yes e)
+own_is n (filled m p) e = absurd (no_yes e)
+own_is n (without_unknown key) e = absurd (no_yes e)
+
+letter_is : (n k : ℕ) (key : Key) → is_letter n k key ≡ true → key ≡ letter n k
+letter_is n k (own m) e = absurd (no_yes e)
+letter_is n k (letter m j) e = let (p, q) = and_cases (n == m) (k == j) e in (λ i. letter (sym (eqb-true n m p) i) (sym (eqb-true k j q) i))
+letter_is n k (filled m p) e = absurd (no_yes e)
+letter_is n k (without_unknown key) e = absurd (no_yes e)
+
+filled_is : (n : ℕ) (o : Path) (key : Key) → is_filled n o key ≡ true → key ≡ filled n o
+filled_is n o (own m) e = absurd (no_yes e)
+filled_is n o (letter m j) e = absurd (no_yes e)
+filled_is n o (filled m p) e = let (q, r) = and_cases (n == m) (same_path o p) e in (λ i. filled (sym (eqb-true n m q) i) (sym ((bytes_eq-Decides o p).0 r) i))
+filled_is n o (without_unknown key) e = absurd (no_yes e)
+
+filled_itself : (n : ℕ) (o : Path) → is_filled n o (filled n o) ≡ true
+filled_itself n o = and_both (n == n) (same_path o o) (eqb_same n) ((bytes_eq-Decides o o).1 refl)
+
+letter_itself : (n k : ℕ) → is_letter n k (letter n k) ≡ true
+letter_itself n k = and_both (n == n) (k == k) (eqb_same n) (eqb_same k)
+
+-- the letter that is found where one passes the test
+pub record IsFound (test : Key → Bool) (keys : Letters) : Type 0 where
+  pub place : ℕ
+  pub entry : Key × ℕ
+  pub at : slice_get keys place ≡ Some entry
+  pub passes : test (plain_key entry.0) ≡ true
+  pub found : node_for test keys ≡ Some entry.1
+
+find : (test : Key → Bool) (keys : Letters) (k : ℕ) (x : Key × ℕ) → slice_get keys k ≡ Some x → test (plain_key x.0) ≡ true → IsFound test keys
+find test [] k x e t = absurd (cc)
+find test (y ∷ ys) k x e t = by (test (plain_key y.0)) refl k e (λ j g. find test ys j x g t)
+  where
+    later : IsFound test ys → test (plain_key y.0) ≡ false → IsFound test (y ∷ ys)
+    later f fails = record { place = suc f.place; entry = f.entry; at = f.at; passes = f.passes; found = ap (λ b. if b then Some y.1 else node_for test ys) fails ∙ f.found }
+
+    by : (b : Bool) → test (plain_key y.0) ≡ b → (j : ℕ) → slice_get (y ∷ ys) j ≡ Some x → ((i : ℕ) → slice_get ys i ≡ Some x → IsFound test ys) → IsFound test (y ∷ ys)
+    by true holds j g further = record { place = zero; entry = y; at = refl; passes = holds; found = ap (λ b. if b then Some y.1 else node_for test ys) holds }
+    by false fails zero g further = let same : y ≡ x = cc in absurd (no_yes (sym fails ∙ ap (λ (z : Key × ℕ). test (plain_key z.0)) same ∙ t))
+    by false fails (suc j) g further = later (further j g) fails
+
+-- a key without what it says of unknown types chooses the same
+pub value_plain : (ch : Choice) (key : Key) → value_of ch key ≡ value_of ch (plain_key key)
+value_plain ch (own n) = refl
+value_plain ch (letter n k) = refl
+value_plain ch (filled n o) = refl
+value_plain ch (without_unknown key) = value_plain ch key
+
+plain_is : (key z : Key) → plain_key key ≡ without_unknown z → ⊥
+plain_is (own n) z e = absurd (cc)
+plain_is (letter n k) z e = absurd (cc)
+plain_is (filled n o) z e = absurd (cc)
+plain_is (without_unknown key) z e = plain_is key z e
+
+known_for : (key : Key) (t : Typ) → IsKnown t → IsKnownFor key t
+known_for (own n) t h = tt
+known_for (letter n k) t h = tt
+known_for (filled n o) t h = tt
+known_for (without_unknown key) t h = h
+
+module _ (V : Types) (b : Sight) (keys : Letters) (left : List Left) (one : AreOne V b keys) where
+  abbrev ch : Choice
+  ch = read_choice V b keys left
+
+  -- the type of what is found is that of each letter with its key
+  letter_found : (test : Key → Bool) (q : Key) → ((key : Key) → test key ≡ true → key ≡ q) → test q ≡ true → (k : ℕ) (x : Key × ℕ) → slice_get keys k ≡ Some x → plain_key x.0 ≡ q → (t : Typ) → type_or V t (node_for test keys) ≡ V x.1
+  letter_found test q only itself k x e is t =
+      let f = find test keys k x e (ap test is ∙ itself) in
+      ap (type_or V t) f.found ∙ one.letters f.place k f.entry x f.at e (only (plain_key f.entry.0) f.passes ∙ sym is)
+
+  own_found : (n : ℕ) (o : Option ℕ) → recorded_at b n ≡ o → (k : ℕ) (x : Key × ℕ) → slice_get keys k ≡ Some x → plain_key x.0 ≡ own n → type_or V (Var (length b.nodes + n)) (first_there o (node_for (is_own n) keys)) ≡ V x.1
+  own_found n None e k x at is = letter_found (is_own n) (own n) (own_is n) (eqb_same n) k x at is (Var (length b.nodes + n))
+  own_found n (Some m) e k x at is = sym (one.recorded (n / 2 ^ 32) (n % 2 ^ 32) m k x e at (is ∙ ap own (sym (div-add-mod' n (2 ^ 32)))))
+
+  value_there : (k : ℕ) (x : Key × ℕ) → slice_get keys k ≡ Some x → value_of ch x.0 ≡ V x.1
+  value_there k x at = value_plain ch x.0 ∙ by (plain_key x.0) refl
+    where
+      by : (q : Key) → plain_key x.0 ≡ q → value_of ch q ≡ V x.1
+      by (own n) is = own_found n (recorded_at b n) refl k x at is
+      by (letter n j) is = letter_found (is_letter n j) (letter n j) (letter_is n j) (letter_itself n j) k x at is (Var n)
+      by (filled n o) is = letter_found (is_filled n o) (filled n o) (filled_is n o) (filled_itself n o) k x at is (Var n)
+      by (without_unknown z) is = absurd (plain_is x.0 z is)
+
+  -- letters that are among these have the types of their nodes
+  given_there : ((m : ℕ) → IsKnown (V m)) → (xs : Letters) → ((k : ℕ) (x : Key × ℕ) → slice_get xs k ≡ Some x → (j : ℕ) × (slice_get keys j ≡ Some x)) → AreGiven xs V ch
+  given_there known [] among = tt
+  given_there known (x ∷ xs) among =
+      let (j, at) = among zero x refl in
+      (record { is = value_there j x at; known = known_for x.0 (V x.1) (known x.1) }, given_there known xs (λ k y e. among (suc k) y e))
+
+  recorded_there : (i p m : ℕ) → b.types i p ≡ Some m → ch.type_at (number_in i p) ≡ V m
+  recorded_there i p m e =
+      let low = one.places i p m e in
+      let here : recorded_at b (number_in i p) ≡ Some m = (λ k. b.types (div-mul-add i (2 ^ 32) p low k) (mod-mul-add i (2 ^ 32) p low k)) ∙ e in
+      ap (λ o. type_or V (Var (length b.nodes + number_in i p)) (first_there o (node_for (is_own (number_in i p)) keys))) here
+
+-- entries of a list are among those with others before or after them
+in_first : (xs ys : Letters) (k : ℕ) (x : Key × ℕ) → slice_get xs k ≡ Some x → (j : ℕ) × (slice_get (xs ++ ys) j ≡ Some x)
+in_first [] ys k x e = absurd (cc)
+in_first (z ∷ xs) ys zero x e = (zero, e)
+in_first (z ∷ xs) ys (suc k) x e = let (j, f) = in_first xs ys k x e in (suc j, f)
+
+in_second : (xs ys : Letters) (k : ℕ) (x : Key × ℕ) → slice_get ys k ≡ Some x → (j : ℕ) × (slice_get (xs ++ ys) j ≡ Some x)
+in_second [] ys k x e = (k, e)
+in_second (z ∷ xs) ys k x e = let (j, f) = in_second xs ys k x e in (suc j, f)
+
+-- a type variable that is written in an item is found there
+written_found : (front : List Left) (l : Left) (ls : List Left) (x : Name) → ((k : ℕ) (m : Left) → slice_get front k ≡ Some m → (l.owner == m.owner) ≡ false) → written_at l.owner x (front ++ l ∷ ls) ≡ l.written x
+written_found [] l ls x apart = ap (λ b. if b then l.written x else written_at l.owner x ls) (eqb_same l.owner)
+written_found (m ∷ front) l ls x apart = ap (λ b. if b then m.written x else written_at l.owner x (front ++ l ∷ ls)) (apart zero m refl) ∙ written_found front l ls x (λ k z e. apart (suc k) z e)
+
+-- what items left is read off
+left_there : (nodes : List Node) (V : Types) (b : Sight) (keys : Letters) (one : AreOne V b keys) → ((m : ℕ) → IsKnown (V m)) → (all front ls : List Left) → all ≡ front ++ ls → OwnersApart ls → ((j k : ℕ) (l m : Left) → slice_get front j ≡ Some m → slice_get ls k ≡ Some l → (l.owner == m.owner) ≡ false) →
+    ((k : ℕ) (x : Key × ℕ) → slice_get (letters_left ls) k ≡ Some x → (j : ℕ) × (slice_get keys j ≡ Some x)) → AreLeft nodes ls V (read_choice V b keys all)
+left_there nodes V b keys one known all front [] e apart others among = tt
+left_there nodes V b keys one known all front (l ∷ ls) e apart others among = (here, left_there nodes V b keys one known all (front ++ l ∷ []) ls (e ∙ more front) apart.2 next (λ k x g. let (j, at) = in_second l.letters (letters_left ls) k x g in among j x at))
+  where
+    more : (f : List Left) → f ++ l ∷ ls ≡ (f ++ l ∷ []) ++ ls
+    more [] = refl
+    more (m ∷ f) = ap (λ ms. m ∷ ms) (more f)
+
+    is_written : (x : Name) → written_at l.owner x all ≡ l.written x
+    is_written x = ap (written_at l.owner x) e ∙ written_found front l ls x (λ k m g. others k zero l m g refl)
+
+    here : IsLeft nodes l V (read_choice V b keys all)
+    here = record {
+      letters = given_there V b keys all one known l.letters (λ k x g. let (j, at) = in_first l.letters (letters_left ls) k x g in among j x at);
+      written = λ x m g. ap (type_or V (Tuple Nil)) (is_written x ∙ g);
+      others = λ k x g none v bound. ap (λ o. occurs v (type_or V (Tuple Nil) o)) (is_written x ∙ none);
+      fixed = subst (λ fs. AreFixed fs (read_choice V b keys all)) (sym apart.1) tt;
+    }
+
+    next : (j k : ℕ) (q m : Left) → slice_get (front ++ l ∷ []) j ≡ Some m → slice_get ls k ≡ Some q → (q.owner == m.owner) ≡ false
+    next j k q m g h = last front j g (λ i f. others i (suc k) q m f h)
+      where
+        last : (f : List Left) (i : ℕ) → slice_get (f ++ l ∷ []) i ≡ Some m → ((i : ℕ) → slice_get f i ≡ Some m → (q.owner == m.owner) ≡ false) → (q.owner == m.owner) ≡ false
+        last [] zero g among = let same : l ≡ m = cc in subst (λ z. (q.owner == z.owner) ≡ false) same (apart.0 k q h)
+        last [] (suc i) g among = absurd (cc)
+        last (z ∷ f) zero g among = among zero g
+        last (z ∷ f) (suc i) g among = last f i g (λ n e. among (suc n) e)
+
+-- So items that were typed from a state in which nothing is recorded are those of a typed text, with the demands that were kept, at each reading in which no unknown type stands.
+pub text_typed : {env : Environment} {text : List Tree} {a b : Sight} {G : Letters} (p : ItemsCarried (λ ch. env) (text_asks text) a [] b G) → ((i k : ℕ) → a.types i k ≡ None) → IsSound a.nodes → AreApart p.judged → NoneCloses p.judged →
+    (V : Types) → IsReading b.nodes V → ((m : ℕ) → IsKnown (V m)) → AreOne V b (G ++ letters_left p.left) → OwnersApart p.left → IsTyped env text (kept_of p.judged) a b G
+text_typed {env} {b = b} {G = G} p none sound apart unclosed V reads known one owners = record {
+  none_recorded = none;
+  sound = sound;
+  carried = p;
+  none_closes = unclosed;
+  only = λ s e. kept_among p.judged s e;
+  types = V;
+  choice = read_choice V b (G ++ letters_left p.left) p.left;
+  reads = record {
+    env = refl;
+    reads = reads;
+    agrees = record {
+      recorded = recorded_there V b (G ++ letters_left p.left) p.left one;
+      known = λ i k m e. known m;
+      given = given_there V b (G ++ letters_left p.left) p.left one known G (in_first G (letters_left p.left));
+    };
+    left_too = left_there b.nodes V b (G ++ letters_left p.left) one known p.left [] p.left refl owners (λ j k l m g h. absurd (cc)) (in_second G (letters_left p.left));
+    kept = kept_as_judged [] p.judged apart;
+  };
+}

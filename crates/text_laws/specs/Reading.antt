@@ -1,0 +1,86 @@
+-- The choice that is read off a state, from the nodes that stand for what it chooses.
+use Rattle.std.specs.Prelude.{◌≡◌, ℕ, ◌+◌, length, ◌<◌, ◌/◌, ◌%◌, ◌^◌, ◌==◌, ◌&&◌, Bool, false, List, [], ◌∷◌, ◌++◌, slice_get, Option, Some, None, if◌then◌else◌}
+use Rattle.type_model.specs.Types.{Path, Typ, Var, Tuple, Nil}
+use Rattle.type_model.specs.Origins.{same_path}
+use Rattle.signature_model.specs.Declarations.{Name}
+use Rattle.typing_model.specs.Contexts.{Choice}
+use Rattle.type_nodes.specs.Readings.{Types}
+use Rattle.typing_conditions.specs.Sights.{Sight, Key, own, letter, filled, without_unknown, Letters, number_in}
+use Rattle.binding_rows.specs.Outside.{Left}
+
+-- a key without what it says of unknown types
+abbrev pub plain_key : Key → Key
+plain_key (own n) = own n
+plain_key (letter n k) = letter n k
+plain_key (filled n o) = filled n o
+plain_key (without_unknown key) = plain_key key
+
+-- whether a key is for the type of a node
+abbrev pub is_own : ℕ → Key → Bool
+is_own n (own m) = n == m
+is_own n (letter m j) = false
+is_own n (filled m p) = false
+is_own n (without_unknown key) = false
+
+-- whether it is for a letter of a row
+abbrev pub is_letter : ℕ → ℕ → Key → Bool
+is_letter n k (own m) = false
+is_letter n k (letter m j) = n == m && k == j
+is_letter n k (filled m p) = false
+is_letter n k (without_unknown key) = false
+
+-- whether it is for what an unknown type stands for at a node
+abbrev pub is_filled : ℕ → Path → Key → Bool
+is_filled n o (own m) = false
+is_filled n o (letter m j) = false
+is_filled n o (filled m p) = n == m && same_path o p
+is_filled n o (without_unknown key) = false
+
+-- the node of the first letter whose key passes a test
+abbrev pub node_for : (Key → Bool) → Letters → Option ℕ
+node_for test [] = None
+node_for test (x ∷ xs) = if test (plain_key x.0) then Some x.1 else node_for test xs
+
+-- the node that is recorded for a number among those of all items
+abbrev pub recorded_at : Sight → ℕ → Option ℕ
+recorded_at b n = b.types (n / 2 ^ 32) (n % 2 ^ 32)
+
+-- the node of a type variable that is written in an item
+abbrev pub written_at : ℕ → Name → List Left → Option ℕ
+written_at i x [] = None
+written_at i x (l ∷ ls) = if i == l.owner then l.written x else written_at i x ls
+
+-- the type of a node that may be there, or else another
+abbrev pub type_or : Types → Typ → Option ℕ → Typ
+type_or V t None = t
+type_or V t (Some m) = V m
+
+-- the first of two that is there
+abbrev pub first_there : Option ℕ → Option ℕ → Option ℕ
+first_there None o = o
+first_there (Some m) o = Some m
+
+-- The choice that has the types of what is recorded, of letters and of written type variables; every other number has a variable of its own, and a type variable that isn't written a closed type.
+abbrev pub read_choice : Types → Sight → Letters → List Left → Choice
+read_choice V b keys left = record {
+  type_at = λ n. type_or V (Var (length b.nodes + n)) (first_there (recorded_at b n) (node_for (is_own n) keys));
+  letter = λ n k. type_or V (Var n) (node_for (is_letter n k) keys);
+  filled = λ n o. type_or V (Var n) (node_for (is_filled n o) keys);
+  written = λ i x. type_or V (Tuple Nil) (written_at i x left);
+}
+
+-- all letters that items left
+abbrev pub letters_left : List Left → Letters
+letters_left [] = []
+letters_left (l ∷ ls) = l.letters ++ letters_left ls
+
+-- the items whose type variables were written are different ones, and no declaration left a type
+abbrev pub OwnersApart : List Left → Type 0
+OwnersApart [] = Unit {0}
+OwnersApart (l ∷ ls) = ((k : ℕ) (m : Left) → slice_get ls k ≡ Some m → (m.owner == l.owner) ≡ false) × (l.fixed ≡ []) × OwnersApart ls
+
+-- Nodes that stand for one thing have one type: those of letters with the same key, and the one that is recorded for a node with those of its letters. Numbers in an item are below 2^32.
+pub record AreOne (V : Types) (b : Sight) (keys : Letters) : Type 0 where
+  pub letters : (j k : ℕ) (x y : Key × ℕ) → slice_get keys j ≡ Some x → slice_get keys k ≡ Some y → plain_key x.0 ≡ plain_key y.0 → V x.1 ≡ V y.1
+  pub recorded : (i p m k : ℕ) (x : Key × ℕ) → b.types i p ≡ Some m → slice_get keys k ≡ Some x → plain_key x.0 ≡ own (number_in i p) → V x.1 ≡ V m
+  pub places : (i p m : ℕ) → b.types i p ≡ Some m → p < 2 ^ 32
