@@ -1,0 +1,6 @@
+pub mod Renamed
+pub mod Declared
+pub mod Grown
+pub mod Roots
+pub mod Built
+pub mod First

@@ -1,0 +1,5 @@
+pub mod Tabled
+pub mod Signs
+pub mod Rows
+pub mod Sized
+pub mod Items

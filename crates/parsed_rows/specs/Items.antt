@@ -1,0 +1,35 @@
+-- What the items of a program are.
+use Rattle.std.specs.Prelude.{ℕ, ◌⊎◌, ◌<◌, ◌^◌}
+use Rattle.tree_model.specs.Rows.{Row, type_row, exception_row, module_row, modtype_row, open_row, include_row}
+use Rattle.tree_model.specs.Trees.{Tree, Part, taken, inner, missing, size_of}
+use Rattle.row_parts.specs.Numbered.{Numbered}
+use Rattle.operand_laws.specs.Formed.{row_of}
+use Rattle.binding_rows.specs.ItemRows.{IsCarriedItem}
+
+-- the rows of items that are no `let` and no `;;`
+abbrev pub IsOtherItemRow : Row → Type 0
+IsOtherItemRow type_row = Unit {0}
+IsOtherItemRow exception_row = Unit {0}
+IsOtherItemRow module_row = Unit {0}
+IsOtherItemRow modtype_row = Unit {0}
+IsOtherItemRow open_row = Unit {0}
+IsOtherItemRow include_row = Unit {0}
+IsOtherItemRow _ = ⊥
+
+-- an item by its number and its node: one whose conditions are carried, or one of another kind
+abbrev pub IsParsedItem : ℕ → Tree → Type 0
+IsParsedItem n t = IsCarriedItem n t ⊎ IsOtherItemRow (row_of t)
+
+-- the same of what is at an operand; what is missing is no item
+abbrev pub IsParsedPart : ℕ → Part → Type 0
+IsParsedPart n (taken t) = Unit {0}
+IsParsedPart n (inner t) = IsParsedItem n t
+IsParsedPart n (missing at) = Unit {0}
+
+-- the same of an operand
+abbrev pub IsParsedOperand : Numbered → Type 0
+IsParsedOperand o = IsParsedPart o.number o.part
+
+-- an item of fewer than 2^32 nodes and missing operands, as each has that the code holds
+abbrev pub IsSmall : Tree → Type 0
+IsSmall t = size_of t < 2 ^ 32
