@@ -6,7 +6,7 @@ use Rattle.std.specs.Prelude.{All, slice_index_or}
 use Rattle.std.proofs.lemmas.List.Elements.{All-head, All-tail}
 use denote.Ref.{Bor}
 use Rattle.tree_model.specs.Rows.{Row, eapp_row, eassert_row, erecord_row, ematch_row, elet_row}
-use Rattle.tree_model.specs.Trees.{Place, Tree, inner}
+use Rattle.tree_model.specs.Trees.{Place, inner}
 use Rattle.syntax_tree.specs.declared.rows.RowName.{RowName}
 use Rattle.syntax_tree.specs.declared.rows.RowName.TheVariants as name
 use Rattle.syntax_tree.specs.declared.tree.Node.{Node, out-Node}

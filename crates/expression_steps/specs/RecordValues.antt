@@ -1,11 +1,9 @@
 -- The labels and the values by which a record is non-expansive.
-use Rattle.std.specs.Prelude.{ℕ, List, [], ◌∷◌, ◌++◌, map, Option, Some, None}
+use Rattle.std.specs.Prelude.{ℕ, List, [], ◌∷◌, ◌++◌, Option, Some, None}
 use Rattle.std.specs.Option.{option_to_list}
 use Rattle.token_model.specs.Kinds.{Tok}
 use Rattle.tree_model.specs.Trees.{Tree}
 use Rattle.row_parts.specs.Numbered.{Numbered, Written, operands_in, first_in, filled_in, token_in}
-use Rattle.typing_model.specs.Parts as parts
-use Rattle.typing_steps.specs.Typing.{path_as}
 use Rattle.use_typing.specs.Paths.{labels_of}
 use Rattle.record_rows.specs.NonExpansive.{field_values}
 use Rattle.expression_steps.specs.Heads.{label_at}

@@ -1,7 +1,5 @@
-use Rattle.typing_state.proofs.Going.{goes_trans}
 use Rattle.std.proofs.Common.{map, ◌≡◌, slice_get, subst}
 use Rattle.row_parts.specs.Numbered.{operand_view}
-use Rattle.pattern_names.specs.PatternNames.{later}
 use Rattle.type_nodes.specs.Views.{numbers}
 use Rattle.typing_rows.specs.Asked.{expressions_of}
 use Rattle.typing_rows.specs.Contracts.{AsksLater}
@@ -17,12 +15,3 @@ returns-clause-carries c =
     let later = subst (λ i. AsksLater c.type_or_var.new.at c.later_have.new.at c.args.env.now (expressions_of i os) (numbers types) c.in_ok-element.element.0) c.type_or_var.ensures.goes.item c.in_ok-later_have.ensures.carries in
     if_ok c.list.result _ _ (λ m made.
     list_ends c.args.at.now c.type_or_var.new.at c.later_have.new.at c.list.new.self c.args.env.now (expressions_of c.args.at.now.item os) types c.copied.result c.in_ok-element.element m.0 first c.in_ok-element.ensures.ty c.in_ok-element.ensures.carries c.type_or_var.ensures.goes c.later_have.ensures.goes later made c.list.ensures.rest) c.list.ensures.made
-
-pub returns-clause-goes : goal.returns-clause-goes
-returns-clause-goes c = goes_trans c.args.at.now c.later_have.new.at c.list.new.self (goes_trans c.args.at.now c.type_or_var.new.at c.later_have.new.at (goes_trans c.args.at.now c.copied.new.self c.type_or_var.new.at c.copied.ensures c.type_or_var.ensures.goes) c.later_have.ensures.goes) c.list.ensures.goes
-
-pub returns-in_err-element-clause-goes : goal.returns-in_err-element-clause-goes
-returns-in_err-element-clause-goes c = goes_trans c.args.at.now c.copied.new.self c.type_or_var.new.at c.copied.ensures c.type_or_var.ensures.goes
-
-pub returns-in_err-later_have-clause-goes : goal.returns-in_err-later_have-clause-goes
-returns-in_err-later_have-clause-goes c = goes_trans c.args.at.now c.type_or_var.new.at c.later_have.new.at (goes_trans c.args.at.now c.copied.new.self c.type_or_var.new.at c.copied.ensures c.type_or_var.ensures.goes) c.later_have.ensures.goes

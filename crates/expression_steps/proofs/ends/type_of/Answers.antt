@@ -1,4 +1,4 @@
-use Rattle.typing_state.proofs.Going.{goes_trans, goes_refl}
+use Rattle.typing_state.proofs.Going.{goes_refl}
 use Rattle.std.proofs.Common.{◌∙◌, map, sym}
 use Rattle.tree_model.specs.Rows.{elist_row, econs_row, etuple_row, eif_row, ebegin_row, eseq_row, eassert_row}
 use Rattle.type_nodes.specs.Views.{numbers}
@@ -86,9 +86,6 @@ returns-in-Eif-clause-goes c = c.branches.ensures.goes
 
 pub returns-in-Elist-clause-goes : goal.returns-in-Elist-clause-goes
 returns-in-Elist-clause-goes c = c.list.ensures.goes
-
-pub returns-in-Eseq-clause-goes : goal.returns-in-Eseq-clause-goes
-returns-in-Eseq-clause-goes c = goes_trans c.args.at.now c.copied.new.self c.type_or_var.new.at c.copied.ensures c.type_or_var.ensures.goes
 
 pub returns-in-Etuple-clause-goes : goal.returns-in-Etuple-clause-goes
 returns-in-Etuple-clause-goes c = c.tuple.ensures.goes

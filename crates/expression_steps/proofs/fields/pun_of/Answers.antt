@@ -1,5 +1,5 @@
 use Rattle.typing_state.proofs.Going.{goes_trans}
-use Rattle.std.proofs.Common.{[], None, refl}
+use Rattle.std.proofs.Common.{None, refl}
 use Rattle.syntax_tree.specs.View.{tok_of}
 use Rattle.operand_laws.specs.Operands.{number_of}
 use Rattle.expression_steps.proofs.RecordLaws.{pun_noted}

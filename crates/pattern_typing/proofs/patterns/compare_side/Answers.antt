@@ -1,5 +1,5 @@
 use Rattle.typing_state.proofs.Going.{goes_trans}
-use Rattle.std.proofs.Common.{[], subst}
+use Rattle.std.proofs.Common.{subst}
 use Rattle.syntax_tree.specs.View.{place_of}
 use Rattle.typing_steps.proofs.Rows.{equal_asks}
 use Rattle.pattern_rows.specs.Sides.{AsksNames}

@@ -1,5 +1,5 @@
 use Rattle.typing_state.proofs.Going.{goes_trans}
-use Rattle.std.proofs.Common.{rules, ◌≡◌, [], length, arith}
+use Rattle.std.proofs.Common.{rules, ◌≡◌, length, arith}
 use Rattle.std.proofs.lemmas.Grind.{common_steps}
 use Rattle.typing_steps.proofs.Rows.{equal_asks}
 use Rattle.pattern_typing.proofs.Carrying.{if_any}

@@ -1,5 +1,5 @@
 use Rattle.typing_state.proofs.Going.{goes_refl}
-use Rattle.std.proofs.Common.{◌∙◌, [], refl, sym, subst}
+use Rattle.std.proofs.Common.{◌∙◌, refl, sym, subst}
 use Rattle.std.specs.Prelude.{true, false}
 use Rattle.env_table.specs.declared.faults.FaultKind.TheVariants as fault
 use Rattle.typing_state.specs.Goes.{Told, faults_of}

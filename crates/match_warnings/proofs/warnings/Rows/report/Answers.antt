@@ -1,7 +1,6 @@
 use Rattle.std.proofs.Common.{List, map, subst}
 use Rattle.std.specs.Prelude.{OnOk}
 use Rattle.text_terms.specs.declared.Span.{Span}
-use Rattle.std.proofs.Common.{[]}
 use Rattle.syntax_tree.specs.Names.{row_of}
 use Rattle.syntax_tree.specs.View.{place_of}
 use Rattle.match_warnings.specs.Warnings.{WarnsOf, missed_in, spans_of, unused_cases, warnings_of}
