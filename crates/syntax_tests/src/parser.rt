@@ -183,7 +183,7 @@ fn is_only(faults: &[SyntaxFault], fault: Option<SyntaxFault>) -> bool {
 fn closes(alloc: Global, stack: &Stack, items: usize, fault: Option<SyntaxFault>) -> bool
     requires few { (text : ocaml.Text) × (ts : List Tok) × Behind text ts stack.now × (length ts < 1048576) }
 {
-    match close(alloc, stack) {
+    match close(alloc, stack, 0) {
         Ok(closed) => closed.tree.items.len() == items && is_only(&closed.faults, fault),
         Err(_) => false,
     }

@@ -56,8 +56,13 @@ fn searched_name(alloc: Global, origin: &Origin, env: &Env) -> Result<RcStr, NoM
     }
 }
 
-/// How an origin is found in the first of the modules that are left, or of those in them, in which it has a name.
-#[tactic(auto, using(crate::proofs::Searching::way_step, crate::proofs::Searching::way_none, crate::proofs::Searching::searched_less))]
+/// How many modules a search looks into at most. Modules that stand for others may lead to one module in very many ways: thirty of
+/// them, each with two names for the one before it, in a thousand million.
+const MOST_MODULES: u32 = 262_144;
+
+/// How an origin is found in the first of the modules that are left, or of those in them, in which it has a name. Where it isn't in the
+/// first `MOST_MODULES` of them and more are left, memory is taken to be short.
+#[tactic(auto, using(crate::proofs::Searching::way_step, crate::proofs::Searching::way_none))]
 fn search<'a>(
     alloc: Global,
     origin: &Origin,
@@ -65,13 +70,15 @@ fn search<'a>(
 ) -> Result<Option<Reached>, NoMemory>
     ensures { IfOk result (λ r. option_map reached_view r ≡ way_among (path_of origin.now) (scopes_of left.old.items)) }
 {
-    while let Some(inside) = take_first(left) {
-        match look(alloc, origin, left, inside)? {
-            Some(reached) => return Ok(Some(reached)),
-            None => {}
+    for _ in 0..MOST_MODULES {
+        let Some(inside) = take_first(left) else {
+            return Ok(None);
+        };
+        if let Some(reached) = look(alloc, origin, left, inside)? {
+            return Ok(Some(reached));
         }
     }
-    Ok(None)
+    Err(AllocError)
 }
 
 /// How an origin is found in a module; where it has no name in it, the modules in it come last.
