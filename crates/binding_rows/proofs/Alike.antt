@@ -1,12 +1,12 @@
 -- What is carried, where other words for it are the same in each context that a state allows.
-use Rattle.std.proofs.Common.{◌≡◌, ◌∙◌, inl, inr, take, sym, ap, subst}
+use Rattle.std.proofs.Common.{◌≡◌, ◌∙◌, inl, inr, List, [], take, sym, ap, subst}
 use Rattle.typing_model.specs.Demands.{AllHold}
 use Rattle.typing_model.specs.Contexts.{Context}
 use Rattle.type_nodes.specs.Readings.{Types}
 use Rattle.level_unify.proofs.Unified.{fits_loosely}
 use Rattle.typing_conditions.specs.Sights.{Sight, Letters}
 use Rattle.typing_conditions.specs.Frames.{Frame}
-use Rattle.typing_conditions.specs.Judging.{judgements, FallsShort, Meets}
+use Rattle.typing_conditions.specs.Judging.{Judgement, judgements, Follows, FallsShort, Meets}
 use Rattle.typing_conditions.specs.Carrying.{Asks, Scope, HoldsWritten, Enters, ReadsOff, Carried}
 use Rattle.typing_conditions.proofs.Carried.{Decides}
 use Rattle.typing_conditions.proofs.Stays.{agrees_before, named_before}
@@ -20,9 +20,10 @@ carried_alike {F} {scope} {asks} {others} {a} {b} {G} {H} same p = record {
   judged = p.judged;
   told = p.told;
   reports = p.reports;
-  sound = λ r V c l. subst (λ cs. Meets c.kept cs p.judged p.told) (read V c l) (p.sound r V c l);
+  sound = λ r V c l. subst (λ cs. Meets c.kept cs p.judged p.told) (read p.judged V c l) (p.sound r V c l);
+  follows = λ r V c l. subst (λ cs. Follows c.kept cs p.judged) (read [] V c l) (p.follows r V c l);
   complete = λ named V c e h. elim (p.complete named V c e (subst (AllHold c.kept) (sym (entered named V c e)) h)) [
-    | inl goes ↦ inl (record { same = ap (judgements c.kept) (sym (entered named V c e)) ∙ goes.same; types = goes.types; on = goes.on })
+    | inl goes ↦ inl (record { same = ap (judgements c.kept) (sym (entered named V c e)) ∙ goes.same; types = goes.types; on = goes.on; hidden_too = goes.hidden_too })
     | inr short ↦ inr (subst (λ cs. FallsShort (judgements c.kept cs) p.judged) (entered named V c e) short)
   ];
   first = λ named k V c e h. subst (λ cs. Decides c p.judged (take k cs)) (entered named V c e) (p.first named k V c e (subst (λ cs. AllHold c.kept (take k cs)) (sym (entered named V c e)) h));
@@ -31,5 +32,5 @@ carried_alike {F} {scope} {asks} {others} {a} {b} {G} {H} same p = record {
     entered : HoldsWritten scope b → (V : Types) (c : Context) → Enters F scope a G V c → asks c ≡ others c
     entered named V c e = same V c (fits_loosely a.nodes V e.fits) e.under e.agrees (named_before scope p.stays named)
 
-    read : (V : Types) (c : Context) → ReadsOff F scope b H p.hidden p.judged V c → asks c ≡ others c
-    read V c l = same V c (p.stays.loose V (fits_loosely b.nodes V l.reads.fits)) l.under (agrees_before p.stays l.agrees) (named_before scope p.stays l.named)
+    read : (js : List Judgement) (V : Types) (c : Context) → ReadsOff F scope b H p.hidden js V c → asks c ≡ others c
+    read js V c l = same V c (p.stays.loose V (fits_loosely b.nodes V l.reads.fits)) l.under (agrees_before p.stays l.agrees) (named_before scope p.stays l.named)

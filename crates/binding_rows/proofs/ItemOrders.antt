@@ -19,20 +19,20 @@ use Rattle.typing_conditions.specs.Environments.{no_names as no_entries}
 use Rattle.typing_conditions.specs.Standing.{Covers, Stands}
 use Rattle.typing_conditions.proofs.Own.{own_of}
 use Rattle.typing_conditions.proofs.Steps.{refines_none, refines_then}
-use Rattle.typing_conditions.specs.Sights.{Sight, Letters, AreNodes}
-use Rattle.typing_conditions.specs.Judging.{Meets, AreKept, judgements, StartsWith, FallsShort}
-use Rattle.typing_conditions.specs.Carrying.{Asks}
+use Rattle.typing_conditions.specs.Sights.{Sight, Letters, AreGiven, AreNodes, SameAt}
+use Rattle.typing_conditions.specs.Judging.{Judgement, Meets, AreKept, Follows, judgements, StartsWith, FallsShort}
+use Rattle.typing_conditions.specs.Carrying.{Asks, AreHidden}
 use Rattle.typing_conditions.specs.Surroundings.{Declared, IsSteady}
-use Rattle.typing_conditions.proofs.Judged.{hold_both, hold_left, hold_right, judged_both, kept_left, kept_right, tell_both, short_left, short_right, starts_all, starts_left, starts_right, short_of_more, judged_kept}
-use Rattle.typing_conditions.proofs.Carried.{Decides, take_none, less_or_more}
+use Rattle.typing_conditions.proofs.Judged.{hold_both, hold_left, hold_right, judged_both, kept_left, kept_right, tell_both, follows_both, short_left, short_right, starts_all, starts_left, starts_right, short_of_more, judged_kept}
+use Rattle.typing_conditions.proofs.Carried.{Decides, hidden_both, take_none, less_or_more}
 use Rattle.typing_conditions.proofs.First.{starts_none}
 use Rattle.typing_model.specs.Parts.{Item, Seen, no_names, seen_too}
 use Rattle.typing_model.specs.Items.{items_ask, behind_items, seen_names}
 use Rattle.typing_state.specs.declared.parts.Parts.{Parts}
 use Rattle.typing_steps.specs.States.{sight}
 use Rattle.typing_steps.specs.Constants.{HasConstants}
-use Rattle.binding_rows.specs.ItemRows.{ItemDone, ItemsDone, recorded_idle}
-use Rattle.binding_rows.specs.Outside.{AgreesOutside, AreMet, InEachMet, Outside, Left, AreLeft, EntersItems, ContinuesItems, StaysOutside, OnlyBetween, ItemsCarried}
+use Rattle.binding_rows.specs.ItemRows.{AreOwned, none_owned, leaves_none, leaves_one, ItemDone, ItemsDone, recorded_idle}
+use Rattle.binding_rows.specs.Outside.{AgreesOutside, AreMet, InEachMet, Outside, Left, letters_left, AreLeft, EntersItems, ReadsItems, ContinuesItems, StaysOutside, OnlyBetween, ItemsCarried}
 
 -- what agrees with a state agreed before
 pub agrees_earlier : {a b : Sight} {G H : Letters} {V : Types} {ch : Choice} → StaysOutside a G b H → AgreesOutside b H V ch → AgreesOutside a G V ch
@@ -70,6 +70,15 @@ stays_both {a} {b} {c} sound p q = record {
   fixed = q.fixed ∙ p.fixed;
 }
 
+-- what several items left is what they left together
+letters_both : (ls ms : List Left) → letters_left (ls ++ ms) ≡ letters_left ls ++ letters_left ms
+letters_both [] ms = refl
+letters_both (l ∷ ls) ms = ap (λ xs. l.letters ++ xs) (letters_both ls ms) ∙ sym (append_assoc l.letters (letters_left ls) (letters_left ms))
+
+-- the letters that items left have their types further on, and so have those of the next ones
+left_both : (ls ms : List Left) (nodes : List Node) (c : Sight) (ch : Choice) (V W : Types) → length nodes ≤ length c.nodes → SameAt nodes V W → AreNodes (letters_left ls) nodes × AreGiven (letters_left ls) V ch → AreHidden (letters_left ms) c W ch → AreHidden (letters_left (ls ++ ms)) c W ch
+left_both ls ms nodes c ch V W longer same p q = subst (λ xs. AreHidden xs c W ch) (sym (letters_both ls ms)) (hidden_both (letters_left ls) (letters_left ms) nodes c ch V W longer same p q)
+
 -- Items after others: what is asked next is what is asked in the context with the environment after those before, wherever what these ask is met as it was judged.
 pub record IsNext (E : Choice → Environment) (rest further : Asks) (after : Context → Environment) (x : Context) : Type 0 where
   pub env : after x ≡ E x.chosen
@@ -105,6 +114,10 @@ items_trans {E} {E'} {asks} {rest} {further} {a} {b} {c} {G} {H} {K} after p nex
         holds = hold_both x.kept (asks x) (rest x) one.holds two.holds;
         tells = tell_both x.kept (asks x) (rest x) p.told q.told one.tells two.tells;
       };
+  follows = λ V x l. follows_both x.kept (asks x) (rest x) p.judged q.judged (p.follows V x (earlier V x l tt)) (λ kept.
+      let one = p.sound V x (earlier V x l kept) in
+      let comes = next V x l.env (q.stays.loose V (fits_loosely c.nodes V l.reads.fits)) (agrees_earlier q.stays l.agrees) (record { kept = kept; holds = one.holds }) in
+      subst (λ cs. Follows x.kept cs q.judged) (sym comes.asks) (q.follows V (into x) (record { env = comes.env; reads = l.reads; agrees = l.agrees; left_too = left_second c.nodes p.left q.left V x.chosen l.left_too; kept = tt })));
   complete = λ V x e h. elim (p.complete V x e (hold_left x.kept (asks x) (rest x) h)) [
     | inl goes ↦ then_complete V x goes (comes_next V x e goes (hold_left x.kept (asks x) (rest x) h)) e (hold_right x.kept (asks x) (rest x) h)
     | inr short ↦ inr (falls_first x (rest x) short)
@@ -115,11 +128,21 @@ items_trans {E} {E'} {asks} {rest} {further} {a} {b} {c} {G} {H} {K} after p nex
     into : Context → Context
     into x = under (after x) x
 
+    -- what is read off after the others is read off after the first ones
+    earlier : (V : Types) (x : Context) → ReadsItems E c K (p.left ++ q.left) [] V x → {js : List Judgement} → AreKept x.kept js → ReadsItems E b H p.left js V x
+    earlier V x l kept = record {
+      env = l.env;
+      reads = q.stays.reads V l.reads;
+      agrees = agrees_earlier q.stays l.agrees;
+      left_too = left_earlier b.nodes c.nodes p.left V x.chosen q.stays.bounds (left_first c.nodes p.left q.left V x.chosen l.left_too);
+      kept = kept;
+    }
+
     -- what is asked next, where those before are met
-    comes_next : (V : Types) (x : Context) → EntersItems E a G V x → ContinuesItems asks a b H p.judged V x → AllHold x.kept (asks x) → IsNext E' rest further after x
+    comes_next : (V : Types) (x : Context) → EntersItems E a G V x → ContinuesItems asks a b H p.left p.judged V x → AllHold x.kept (asks x) → IsNext E' rest further after x
     comes_next V x e goes h = next goes.types x e.env (fits_loosely b.nodes goes.types goes.fits) goes.agrees (record { kept = subst (AreKept x.kept) goes.same (judged_kept x.kept (asks x)); holds = h })
 
-    enters_next : (V : Types) (x : Context) → EntersItems E a G V x → (goes : ContinuesItems asks a b H p.judged V x) → IsNext E' rest further after x → EntersItems E' b H goes.types (into x)
+    enters_next : (V : Types) (x : Context) → EntersItems E a G V x → (goes : ContinuesItems asks a b H p.left p.judged V x) → IsNext E' rest further after x → EntersItems E' b H goes.types (into x)
     enters_next V x e goes comes = record { env = comes.env; inside = p.stays.inside e.inside; fits = goes.fits; agrees = goes.agrees }
 
     -- the first ones fall short
@@ -130,27 +153,28 @@ items_trans {E} {E'} {asks} {rest} {further} {a} {b} {c} {G} {H} {K} after p nex
     falls_then : (x : Context) (cs : List Condition) → judgements x.kept (asks x) ≡ p.judged → FallsShort (judgements x.kept cs) q.judged → FallsShort (judgements x.kept (asks x ++ cs)) (p.judged ++ q.judged)
     falls_then x cs same short = subst (λ js. FallsShort js (p.judged ++ q.judged)) (sym (judged_both x.kept (asks x) cs)) (short_right (judgements x.kept (asks x)) p.judged (judgements x.kept cs) q.judged same short)
 
-    then_both : (V : Types) (x : Context) → (goes : ContinuesItems asks a b H p.judged V x) → rest x ≡ further (into x) → ContinuesItems further b c K q.judged goes.types (into x) ⊎ FallsShort (judgements x.kept (further (into x))) q.judged →
-        ContinuesItems (λ y. asks y ++ rest y) a c K (p.judged ++ q.judged) V x ⊎ FallsShort (judgements x.kept (asks x ++ rest x)) (p.judged ++ q.judged)
+    then_both : (V : Types) (x : Context) → (goes : ContinuesItems asks a b H p.left p.judged V x) → rest x ≡ further (into x) → ContinuesItems further b c K q.left q.judged goes.types (into x) ⊎ FallsShort (judgements x.kept (further (into x))) q.judged →
+        ContinuesItems (λ y. asks y ++ rest y) a c K (p.left ++ q.left) (p.judged ++ q.judged) V x ⊎ FallsShort (judgements x.kept (asks x ++ rest x)) (p.judged ++ q.judged)
     then_both V x goes same (inl also) = inl (record {
       same = judged_both x.kept (asks x) (rest x) ∙ ap (λ js. js ++ judgements x.kept (rest x)) goes.same ∙ ap (λ js. p.judged ++ js) (ap (judgements x.kept) same ∙ also.same);
       types = also.types;
       fits = also.fits;
       before = λ n lt. also.before n (let own = own_of c.nodes (q.stays.sound (p.stays.sound sound)) in let mid = own_of b.nodes (p.stays.sound sound) in let r = (p.stays.refines mid.0 mid.1).longer in omega arith) ∙ goes.before n lt;
       agrees = also.agrees;
+      left_too = left_both p.left q.left b.nodes c x.chosen goes.types also.types (let own = own_of c.nodes (q.stays.sound (p.stays.sound sound)) in (q.stays.refines own.0 own.1).longer) also.before goes.left_too also.left_too;
     })
     then_both V x goes same (inr short) = inr (falls_then x (rest x) goes.same (subst (λ cs. FallsShort (judgements x.kept cs) q.judged) (sym same) short))
 
-    then_complete : (V : Types) (x : Context) → (goes : ContinuesItems asks a b H p.judged V x) → IsNext E' rest further after x → EntersItems E a G V x → AllHold x.kept (rest x) →
-        ContinuesItems (λ y. asks y ++ rest y) a c K (p.judged ++ q.judged) V x ⊎ FallsShort (judgements x.kept (asks x ++ rest x)) (p.judged ++ q.judged)
+    then_complete : (V : Types) (x : Context) → (goes : ContinuesItems asks a b H p.left p.judged V x) → IsNext E' rest further after x → EntersItems E a G V x → AllHold x.kept (rest x) →
+        ContinuesItems (λ y. asks y ++ rest y) a c K (p.left ++ q.left) (p.judged ++ q.judged) V x ⊎ FallsShort (judgements x.kept (asks x ++ rest x)) (p.judged ++ q.judged)
     then_complete V x goes comes e h = then_both V x goes comes.asks (q.complete goes.types (into x) (enters_next V x e goes comes) (subst (AllHold x.kept) comes.asks h))
 
-    then_first : (V : Types) (x : Context) (n : ℕ) → ContinuesItems asks a b H p.judged V x → Decides x q.judged (take n (rest x)) → Decides x (p.judged ++ q.judged) (asks x ++ take n (rest x))
+    then_first : (V : Types) (x : Context) (n : ℕ) → ContinuesItems asks a b H p.left p.judged V x → Decides x q.judged (take n (rest x)) → Decides x (p.judged ++ q.judged) (asks x ++ take n (rest x))
     then_first V x n goes (inl starts) = inl (subst (StartsWith (p.judged ++ q.judged)) (sym (judged_both x.kept (asks x) (take n (rest x)) ∙ ap (λ js. js ++ judgements x.kept (take n (rest x))) goes.same))
         (starts_right p.judged q.judged (judgements x.kept (take n (rest x))) starts))
     then_first V x n goes (inr short) = inr (falls_then x (take n (rest x)) goes.same short)
 
-    first_next : (V : Types) (x : Context) (n : ℕ) → (goes : ContinuesItems asks a b H p.judged V x) → IsNext E' rest further after x → EntersItems E a G V x → AllHold x.kept (take n (rest x)) → Decides x q.judged (take n (rest x))
+    first_next : (V : Types) (x : Context) (n : ℕ) → (goes : ContinuesItems asks a b H p.left p.judged V x) → IsNext E' rest further after x → EntersItems E a G V x → AllHold x.kept (take n (rest x)) → Decides x q.judged (take n (rest x))
     first_next V x n goes comes e h = subst (λ cs. Decides x q.judged (take n cs)) (sym comes.asks) (q.first n goes.types (into x) (enters_next V x e goes comes) (subst (λ cs. AllHold x.kept (take n cs)) comes.asks h))
 
     -- the first k conditions end among the first ones, or among the others
@@ -195,12 +219,14 @@ items_between {E} {a} {b} {G} only = record {
   told = [];
   reports = only.reports ∙ sym (append-nil a.reports);
   sound = λ V c l. record { same = refl; holds = tt; tells = refl };
+  follows = λ V c l. refl;
   complete = λ V c e h. inl (record {
     same = refl;
     types = V;
     fits = subst (λ ns. Fits ns V) (sym only.nodes) e.fits;
     before = λ n lt. refl;
     agrees = record { recorded = λ i p m f. e.agrees.recorded i p m (sym (only.types i p) ∙ f); known = λ i p m f. e.agrees.known i p m (sym (only.types i p) ∙ f); given = e.agrees.given };
+    left_too = (tt, tt);
   });
   first = λ k V c e h. inl (subst (λ cs. StartsWith [] (judgements c.kept cs)) (sym (take_none k)) (starts_all []));
 }
@@ -226,8 +252,9 @@ items_then {E} {asks} {a} {b} {c} {G} {H} only p = record {
   told = p.told;
   reports = p.reports ∙ ap (λ rs. rs ++ p.told) only.reports;
   sound = p.sound;
+  follows = p.follows;
   complete = λ V x e h. elim (p.complete V x (enters V x e) h) [
-    | inl goes ↦ inl (record { same = goes.same; types = goes.types; fits = goes.fits; before = λ m lt. goes.before m (subst (λ ns. m < length ns) (sym only.nodes) lt); agrees = goes.agrees })
+    | inl goes ↦ inl (record { same = goes.same; types = goes.types; fits = goes.fits; before = λ m lt. goes.before m (subst (λ ns. m < length ns) (sym only.nodes) lt); agrees = goes.agrees; left_too = goes.left_too })
     | inr short ↦ inr short
   ];
   first = λ k V x e h. p.first k V x (enters V x e) h;
@@ -253,8 +280,9 @@ items_as {E} {asks} {others} {a} {b} {G} {H} same p = record {
   told = p.told;
   reports = p.reports;
   sound = λ V x l. subst (λ cs. Meets x.kept cs p.judged p.told) (same x) (p.sound V x l);
+  follows = λ V x l. subst (λ cs. Follows x.kept cs p.judged) (same x) (p.follows V x l);
   complete = λ V x e h. elim (p.complete V x e (subst (AllHold x.kept) (sym (same x)) h)) [
-    | inl goes ↦ inl (record { same = ap (judgements x.kept) (sym (same x)) ∙ goes.same; types = goes.types; fits = goes.fits; before = goes.before; agrees = goes.agrees })
+    | inl goes ↦ inl (record { same = ap (judgements x.kept) (sym (same x)) ∙ goes.same; types = goes.types; fits = goes.fits; before = goes.before; agrees = goes.agrees; left_too = goes.left_too })
     | inr short ↦ inr (subst (λ cs. FallsShort (judgements x.kept cs) p.judged) (same x) short)
   ];
   first = λ k V x e h. subst (λ cs. Decides x p.judged (take k cs)) (same x) (p.first k V x e (subst (λ cs. AllHold x.kept (take k cs)) (sym (same x)) h));
@@ -301,13 +329,19 @@ items_treated {E} {asks} {a} {b} {G} {H} n p = record {
   told = p.told;
   reports = p.reports;
   sound = λ V c l. let h = p.sound V c l in record { same = h.same; holds = (tt, h.holds); tells = h.tells };
-  complete = λ V c e h. elim (p.complete V c e h.1) [ inl goes ↦ inl (record { same = goes.same; types = goes.types; fits = goes.fits; before = goes.before; agrees = goes.agrees }) | inr short ↦ inr short ];
+  follows = p.follows;
+  complete = λ V c e h. elim (p.complete V c e h.1) [ inl goes ↦ inl (record { same = goes.same; types = goes.types; fits = goes.fits; before = goes.before; agrees = goes.agrees; left_too = goes.left_too }) | inr short ↦ inr short ];
   first = first;
 }
   where
     first : (k : ℕ) (V : Types) (c : Context) → EntersItems E a G V c → AllHold c.kept (take k (treated n c.env ∷ [] ++ asks c)) → Decides c p.judged (take k (treated n c.env ∷ [] ++ asks c))
     first zero V c e h = inl (starts_none p.judged)
     first (suc k) V c e h = p.first k V c e h.1
+
+-- and nothing is left because of it
+pub treated_owned : {E : Choice → Environment} {asks : Asks} {a b : Sight} {G H : Letters} {ms : List Item} (n : ℕ) (p : ItemsCarried E asks a G b H) → AreOwned ms p.left → AreOwned ms (items_treated n p).left
+unfolding items_treated
+treated_owned n p h = h
 
 -- of no items nothing is asked
 pub items_none : {E : Choice → Environment} {a : Sight} {G : Letters} (seen : Seen) → ItemsCarried E (λ c. items_ask c seen []) a G a G
@@ -329,6 +363,7 @@ done_between only done = record {
   letters = done.letters;
   env = done.env;
   carried = items_then only done.carried;
+  owners = done.owners;
   outside = done.outside;
   adds = done.adds;
   named = done.named;
@@ -337,10 +372,12 @@ done_between only done = record {
 
 -- An item that asks nothing but that its node is treated, adds nothing and names nothing: `;;`.
 pub idle_done : {D : Declared} {E : Choice → Environment} {a b : Parts} {G : Letters} {env : List Entry} (n : ℕ) (seen : Seen) → OnlyBetween (sight a) (sight b) → Outside D (sight a) G env E → HasConstants b → ItemDone D E (recorded_idle n) seen no_names a b G env
+unfolding items_treated items_between
 idle_done {E = E} {G = G} n seen only at constants = record {
   letters = G;
   env = E;
   carried = items_treated n (items_between only);
+  owners = leaves_none none_owned;
   outside = outside_between only at;
   adds = λ V c env loose agrees met. env;
   named = λ V c env loose agrees met. refl;
@@ -349,10 +386,12 @@ idle_done {E = E} {G = G} n seen only at constants = record {
 
 -- Between items: none of them.
 pub done_none : {D : Declared} {E : Choice → Environment} {a b : Parts} {G : Letters} {env : List Entry} (seen : Seen) → OnlyBetween (sight a) (sight b) → Outside D (sight a) G env E → HasConstants b → ItemsDone D E [] seen seen a b G env
+unfolding items_between
 done_none {E = E} {G = G} seen only at constants = record {
   letters = G;
   env = E;
   carried = items_between only;
+  owners = none_owned;
   outside = outside_between only at;
   behind = λ V c env loose agrees met. env;
   named = λ V c env loose agrees met. refl;
@@ -366,6 +405,7 @@ done_one {m = m} {seen = seen} done = record {
   letters = done.letters;
   env = done.env;
   carried = items_as (λ x. sym (append-nil (m.asks x seen))) done.carried;
+  owners = done.owners;
   outside = done.outside;
   behind = λ V c env loose agrees met. done.adds V c env loose agrees (record { kept = met.kept; holds = hold_left c.kept (m.asks c seen) [] met.holds });
   named = λ V c env loose agrees met. ap (seen_too seen) (done.named V c env loose agrees (record { kept = met.kept; holds = hold_left c.kept (m.asks c seen) [] met.holds }));
@@ -393,6 +433,12 @@ pub record WasMet {D : Declared} {E : Choice → Environment} {ms : List Item} {
   pub named : seen_names x ms seen ≡ names
   pub holds : AllHold x.kept (items_ask (under (behind_items x ms) x) names ns)
 
+-- what some items left and what others left was left by them together
+owned_both : {ms ns : List Item} {ls ks : List Left} → AreOwned ms ls → AreOwned ns ks → AreOwned (ms ++ ns) (ls ++ ks)
+owned_both none_owned q = q
+owned_both (leaves_none p) q = leaves_none (owned_both p q)
+owned_both (leaves_one owner fixed p) q = leaves_one owner fixed (owned_both p q)
+
 -- Items after others.
 pub done_then : {D : Declared} {E : Choice → Environment} {ms ns : List Item} {seen names last : Seen} {a b c : Parts} {G : Letters} {mid after : List Entry} → IsSound a.store.nodes → (p : ItemsDone D E ms seen names a b G mid) → ItemsDone D p.env ns names last b c p.letters after →
     ItemsDone D E (ms ++ ns) seen last a c G after
@@ -401,6 +447,7 @@ done_then {E = E} {ms = ms} {ns = ns} {seen = seen} {names = names} {a = a} {b =
   letters = q.letters;
   env = q.env;
   carried = items_as (λ x. asked_both x seen ms ns) (items_trans (λ x. behind_items x ms) p.carried comes sound q.carried);
+  owners = owned_both p.owners q.owners;
   outside = q.outside;
   behind = λ V x env loose agrees met. sym (behind_both x ms ns) ∙ (let n = before V x env loose agrees met in q.behind V (under (behind_items x ms) x) n.env loose agrees (record { kept = kept_right x.kept p.carried.judged q.carried.judged met.kept; holds = n.holds }));
   named = λ V x env loose agrees met. sym (named_both x seen ms ns) ∙ (let n = before V x env loose agrees met in ap (seen_names (under (behind_items x ms) x) ns) n.named ∙ q.named V (under (behind_items x ms) x) n.env loose agrees (record { kept = kept_right x.kept p.carried.judged q.carried.judged met.kept; holds = n.holds }));

@@ -58,9 +58,9 @@ use Rattle.binding_rows.specs.ItemGroups.{item_scope, group_asks, env_after, Ite
 use Rattle.binding_rows.specs.ItemRows.{IsItemNode, TypesItem, recorded_let, ItemDone, AreWrittenIn, GivesLet}
 use Rattle.binding_rows.proofs.Scoped.{scopes_carried, inside_carried, scoped_level, inside_level}
 use Rattle.binding_rows.proofs.ItemClosing.{item_letters, item_typed, item_bound}
-use Rattle.binding_rows.proofs.Items.{among_group, item_stays, item_carried}
+use Rattle.binding_rows.proofs.Items.{among_group, item_stays, item_carried, item_owned}
 use Rattle.binding_rows.proofs.ItemsAfter.{outside_after}
-use Rattle.binding_rows.proofs.ItemOrders.{agrees_earlier, items_treated, outside_between, done_between}
+use Rattle.binding_rows.proofs.ItemOrders.{agrees_earlier, items_treated, treated_owned, outside_between, done_between}
 use Rattle.binding_rows.proofs.ItemTurns.{item_begins}
 use Rattle.binding_rows.proofs.Unwritten.{names_unwritten}
 
@@ -166,6 +166,7 @@ item_row_of_node x d env after n t ts G E seen node h aloud at constants cleared
   letters = item_letters group;
   env = env_after E (bindings_of x.item (operands_in n t 2)) h.bindings;
   carried = items_treated (number_of x.item n) (item_carried group);
+  owners = treated_owned (number_of x.item n) (item_carried group) (item_owned group (recorded_let x.item ts n t) refl);
   outside = subst (λ es. Outside as_declared (sight d) (item_letters group) es (env_after E (bindings_of x.item (operands_in n t 2)) h.bindings)) (sym (h.scope ∙ entries_added (names_closed h.bindings) env)) (outside_after group (names_unwritten x.item (operands_in n t 2)));
   adds = λ V c same loose agrees met. item_adds group (is_some (token_in t 1)) V c same ((item_stays group).loose V loose) (agrees_earlier (item_stays group) agrees);
   named = λ V c same loose agrees met. refl;

@@ -1,11 +1,11 @@
 -- An item's `let` is carried from the state where it starts to the one after it.
-use Rattle.std.proofs.Common.{◌≡◌, ◌∙◌, inl, inr, ℕ, ◌≤◌, false, List, [], ◌∷◌, ◌++◌, length, Option, None, Some, refl, sym, ap, subst, arith}
+use Rattle.std.proofs.Common.{◌≡◌, ◌∙◌, inl, inr, ℕ, ◌≤◌, false, List, [], ◌∷◌, ◌++◌, length, Option, None, Some, refl, sym, ap, subst, append-nil, arith}
 use Rattle.type_model.specs.Types.{occurs}
 use Rattle.signature_model.specs.Declarations.{Name}
 use Rattle.signature_model.specs.Entries.{Environment}
 use Rattle.token_model.specs.Kinds.{Tok}
 use Rattle.typing_model.specs.Contexts.{Choice, Context}
-use Rattle.typing_model.specs.Parts.{Binding}
+use Rattle.typing_model.specs.Parts.{Binding, Item}
 use Rattle.typing_model.specs.Items.{variables_written, inside_item}
 use Rattle.type_nodes.specs.Nodes.{Var, bound_level, IsNode}
 use Rattle.type_nodes.specs.Readings.{Types, Fits, IsReading}
@@ -15,7 +15,8 @@ use Rattle.env_table.specs.declared.entries.Entry.{Entry}
 use Rattle.typing_state.specs.declared.parts.Parts.{Parts}
 use Rattle.typing_conditions.proofs.Own.{own_of}
 use Rattle.typing_conditions.proofs.Fresh.{reads_closed, fits_closed}
-use Rattle.typing_conditions.specs.Sights.{Sight, Letters, AreNodes, IsInside}
+use Rattle.typing_conditions.specs.Sights.{Sight, Letters, AreGiven, AreNodes, IsInside}
+use Rattle.typing_conditions.specs.Judging.{Judgement}
 use Rattle.typing_conditions.specs.Carrying.{Asks, HoldsWritten, HoldsUnbound, IsUnder, Enters, ReadsOff}
 use Rattle.typing_conditions.specs.Surroundings.{Declared}
 use Rattle.typing_conditions.proofs.Inward.{reached_inward}
@@ -25,6 +26,7 @@ use Rattle.binding_rows.specs.Closing.{Limit}
 use Rattle.binding_rows.specs.Decided.{IsAmong}
 use Rattle.binding_rows.specs.Lets.{ToClose}
 use Rattle.binding_rows.specs.Outside.{AgreesOutside, AreInside, Left, IsLeft, EntersItems, ReadsItems, StaysOutside, ItemsCarried}
+use Rattle.binding_rows.specs.ItemRows.{AreOwned, none_owned, leaves_one}
 use Rattle.binding_rows.specs.ItemGroups.{item_scope, ItemGroup}
 use Rattle.binding_rows.proofs.Starting.{group_frame, goes_in, surrounds_item}
 use Rattle.binding_rows.proofs.ItemClosing.{closed_nodes, item_limited, item_letters, item_part, item_written, item_closes, item_out, item_refines, after_reached, loose_before_close, still_bound}
@@ -85,7 +87,7 @@ module _ {D : Declared} {n : ℕ} {ts : List Tok} {E : Choice → Environment} {
       by None f = left.others k z e f v (still_bound l v bound)
       by (Some m) f = ap (occurs v) (left.written z m f) ∙ open_unbound ((item_written l).each z m (sym ((item_out l).written z) ∙ f)) V (reads_before_close V reads) v bound
 
-  reads_off : (V : Types) (c : Context) → ReadsItems E (sight d) (item_letters l) (item_left ∷ []) (item_part l).judged V c → ReadsOff (group_frame l) (item_scope n ts E) (item_limited l) (item_letters l) (item_part l).hidden (item_part l).judged V (inside_item n ts c)
+  reads_off : {js : List Judgement} (V : Types) (c : Context) → ReadsItems E (sight d) (item_letters l) (item_left ∷ []) js V c → ReadsOff (group_frame l) (item_scope n ts E) (item_limited l) (item_letters l) (item_part l).hidden js V (inside_item n ts c)
   reads_off V c r = record {
     under = under_item c r.env;
     reads = reads_before_close V r.reads;
@@ -143,6 +145,7 @@ module _ {D : Declared} {n : ℕ} {ts : List Tok} {E : Choice → Environment} {
     told = (item_part l).told;
     reports = (item_out l).reports ∙ (item_part l).reports ∙ ap (λ rs. rs ++ (item_part l).told) l.only.reports;
     sound = λ V c r. (item_part l).sound (reached_inward (goes_in l) l.only l.raised) V (inside_item n ts c) (reads_off V c r);
+    follows = λ V c r. (item_part l).follows (reached_inward (goes_in l) l.only l.raised) V (inside_item n ts c) (reads_off V c r);
     complete = λ V c e h. elim ((item_part l).complete named_there V (inside_item n ts c) (enters_group V c e) h) [
       | inl goes ↦ inl (record {
         same = goes.same;
@@ -154,8 +157,17 @@ module _ {D : Declared} {n : ℕ} {ts : List Tok} {E : Choice → Environment} {
           known = λ i p m f. goes.on.agrees.known i p m (sym ((item_out l).types i p) ∙ f);
           given = goes.on.agrees.given;
         };
+        left_too = (
+          subst (λ xs. AreNodes xs d.store.nodes) (sym (append-nil (item_part l).hidden)) (nodes_in (item_part l).hidden (item_limited l).nodes d.store.nodes same_length goes.hidden_too.0),
+          subst (λ xs. AreGiven xs goes.types c.chosen) (sym (append-nil (item_part l).hidden)) goes.hidden_too.1,
+        );
       })
       | inr short ↦ inr short
     ];
     first = λ k V c e h. (item_part l).first named_there k V (inside_item n ts c) (enters_group V c e) h;
   }
+
+  -- It is the item's own that was left.
+  pub item_owned : (m : Item) → n ≡ m.node → AreOwned (m ∷ []) item_carried.left
+  unfolding item_carried
+  item_owned m own = leaves_one own refl none_owned

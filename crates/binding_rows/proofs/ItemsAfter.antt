@@ -32,7 +32,7 @@ use Rattle.typing_conditions.proofs.Environments.{env_map}
 use Rattle.typing_conditions.proofs.Later.{context_after}
 use Rattle.typing_conditions.proofs.Standing.{more_in, stands_fits_on, stands_reads_on}
 use Rattle.typing_conditions.proofs.Groups.{NamesStand, no_more, name_more, added, joined, stands_names}
-use Rattle.typing_conditions.specs.Sights.{Sight, Letters, Key, AreGiven, IsGiven, Agrees}
+use Rattle.typing_conditions.specs.Sights.{Sight, Letters, Key, AreGiven, Agrees}
 use Rattle.typing_conditions.specs.Sights as keys
 use Rattle.typing_conditions.specs.Frames.{Frame}
 use Rattle.typing_conditions.specs.Carrying.{Asks}

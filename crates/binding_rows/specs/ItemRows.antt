@@ -29,7 +29,7 @@ use Rattle.binding_rows.specs.Decided.{JudgesGroup}
 use Rattle.binding_rows.specs.Lets.{ToClose, bind_nodes, names_closed}
 use Rattle.binding_rows.specs.LetNodes.{typed_as, ClosesBindings}
 use Rattle.binding_rows.specs.Scopes.{AreMade}
-use Rattle.binding_rows.specs.Outside.{InEachMet, Outside, ItemsCarried}
+use Rattle.binding_rows.specs.Outside.{InEachMet, Outside, Left, ItemsCarried}
 
 -- an item `let b and b` of which bindings are carried
 pub record IsItemNode (n : ℕ) (t : Tree) : Type 0 where
@@ -60,12 +60,19 @@ recorded_let i ts n t = let l = let_item (number_of i n) ts (is_some (token_in t
 abbrev pub recorded_idle : ℕ → Item
 recorded_idle n = let i = no_item n in record i { asks = λ c seen. tell n c ++ i.asks c seen }
 
+-- What was left was left by some of the items, in order, each with the type variables of its own node; none left types of declarations.
+pub data AreOwned : List Item → List Left → Type 0 where
+  none_owned : AreOwned [] []
+  leaves_none : {m : Item} {ms : List Item} {ls : List Left} → AreOwned ms ls → AreOwned (m ∷ ms) ls
+  leaves_one : {m : Item} {ms : List Item} {l : Left} {ls : List Left} → l.owner ≡ m.node → l.fixed ≡ [] → AreOwned ms ls → AreOwned (m ∷ ms) (l ∷ ls)
+
 -- What an item gives where the names `seen` stand before it in its structure: what it asks is carried, and the next item starts among its names. In each context
 -- that the state after it allows, and in which what it asks is met, it adds these entries, and names the types, modules and module types `names`.
 pub record ItemDone (D : Declared) (E : Choice → Environment) (m : Item) (seen names : Seen) (a b : Parts) (G : Letters) (after : List Entry) : Type 0 where
   pub letters : Letters
   pub env : Choice → Environment
   pub carried : ItemsCarried E (λ c. m.asks c seen) (sight a) G (sight b) letters
+  pub owners : AreOwned (m ∷ []) carried.left
   pub outside : Outside D (sight b) letters after env
   pub adds : InEachMet E (λ c. m.asks c seen) (sight b) letters carried.judged (λ c. m.adds c ++ c.env ≡ env c.chosen)
   pub named : InEachMet E (λ c. m.asks c seen) (sight b) letters carried.judged (λ c. m.named c ≡ names)
@@ -76,6 +83,7 @@ pub record ItemsDone (D : Declared) (E : Choice → Environment) (ms : List Item
   pub letters : Letters
   pub env : Choice → Environment
   pub carried : ItemsCarried E (λ c. items_ask c seen ms) (sight a) G (sight b) letters
+  pub owners : AreOwned ms carried.left
   pub outside : Outside D (sight b) letters after env
   pub behind : InEachMet E (λ c. items_ask c seen ms) (sight b) letters carried.judged (λ c. behind_items c ms ≡ env c.chosen)
   pub named : InEachMet E (λ c. items_ask c seen ms) (sight b) letters carried.judged (λ c. seen_names c ms seen ≡ names)

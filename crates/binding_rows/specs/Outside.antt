@@ -16,8 +16,8 @@ use Rattle.typing_conditions.specs.Locals.{IsOwn, Refines, IsContext}
 use Rattle.typing_conditions.specs.Assumptions.{SchemeFits, SchemeReads}
 use Rattle.typing_conditions.specs.Standing.{Covers, Stands}
 use Rattle.typing_conditions.specs.Sights.{Sight, Report, number_in, Letters, AreGiven, AreNodes, SameAt}
-use Rattle.typing_conditions.specs.Judging.{Judgement, judgements, AreKept, StartsWith, FallsShort, Meets}
-use Rattle.typing_conditions.specs.Carrying.{Asks}
+use Rattle.typing_conditions.specs.Judging.{Judgement, judgements, AreKept, Follows, StartsWith, FallsShort, Meets}
+use Rattle.typing_conditions.specs.Carrying.{Asks, AreHidden}
 use Rattle.typing_conditions.specs.Surroundings.{Declared, IsSteady}
 use Rattle.typing_rows.specs.Settled.{Fixes, AreFixed}
 
@@ -72,6 +72,11 @@ pub record IsLeft (nodes : List Node) (l : Left) (V : Types) (ch : Choice) : Typ
   pub others : (k : ℕ) (x : Name) → slice_get l.names k ≡ Some x → l.written x ≡ None → (v : ℕ) → is_bound nodes v ≡ true → occurs v (ch.written l.owner x) ≡ false
   pub fixed : AreFixed l.fixed ch
 
+-- all letters that items left
+abbrev pub letters_left : List Left → Letters
+letters_left [] = []
+letters_left (l ∷ ls) = l.letters ++ letters_left ls
+
 -- the same of what several items left
 abbrev pub AreLeft : List Node → List Left → Types → Choice → Type 0
 AreLeft nodes [] V ch = Unit {0}
@@ -92,13 +97,14 @@ pub record ReadsItems (E : Choice → Environment) (b : Sight) (G : Letters) (le
   pub left_too : AreLeft b.nodes left V c.chosen
   pub kept : AreKept c.kept judged
 
--- the demands are judged as they were, and the types go on
-pub record ContinuesItems (asks : Asks) (a b : Sight) (G : Letters) (judged : List Judgement) (V : Types) (c : Context) : Type 0 where
+-- the demands are judged as they were, and the types go on, those of the letters that items left too
+pub record ContinuesItems (asks : Asks) (a b : Sight) (G : Letters) (left : List Left) (judged : List Judgement) (V : Types) (c : Context) : Type 0 where
   pub same : judgements c.kept (asks c) ≡ judged
   pub types : Types
   pub fits : Fits b.nodes types
   pub before : SameAt a.nodes V types
   pub agrees : AgreesOutside b G types c.chosen
+  pub left_too : AreHidden (letters_left left) b types c.chosen
 
 -- what is made and recorded stays, and is read as before
 pub record StaysOutside (a : Sight) (G : Letters) (b : Sight) (G' : Letters) : Type 0 where
@@ -123,7 +129,7 @@ pub record OnlyBetween (a b : Sight) : Type 0 where
   pub level : b.level ≡ a.level
   pub fixed : b.fixed ≡ a.fixed
 
--- What items ask was done, from one state between items to another. `sound`, `complete` and `first` are those of `Carried`, with these differences: no frame is needed,
+-- What items ask was done, from one state between items to another. `sound`, `follows`, `complete` and `first` are those of `Carried`, with these differences: no frame is needed,
 -- since the next item has one of its own, and the type variables that were written in the items are left with their nodes, since the end of an item may generalise them.
 pub record ItemsCarried (E : Choice → Environment) (asks : Asks) (a : Sight) (G : Letters) (b : Sight) (G' : Letters) : Type 0 where
   pub stays : StaysOutside a G b G'
@@ -132,6 +138,7 @@ pub record ItemsCarried (E : Choice → Environment) (asks : Asks) (a : Sight) (
   pub told : List Report
   pub reports : b.reports ≡ a.reports ++ told
   pub sound : (V : Types) (c : Context) → ReadsItems E b G' left judged V c → Meets c.kept (asks c) judged told
-  pub complete : (V : Types) (c : Context) → EntersItems E a G V c → AllHold c.kept (asks c) → ContinuesItems asks a b G' judged V c ⊎ FallsShort (judgements c.kept (asks c)) judged
+  pub follows : (V : Types) (c : Context) → ReadsItems E b G' left [] V c → Follows c.kept (asks c) judged
+  pub complete : (V : Types) (c : Context) → EntersItems E a G V c → AllHold c.kept (asks c) → ContinuesItems asks a b G' left judged V c ⊎ FallsShort (judgements c.kept (asks c)) judged
   pub first : (k : ℕ) (V : Types) (c : Context) → EntersItems E a G V c → AllHold c.kept (take k (asks c)) →
       StartsWith judged (judgements c.kept (take k (asks c))) ⊎ FallsShort (judgements c.kept (take k (asks c))) judged

@@ -424,11 +424,6 @@ pub argument_typed : (a b d : Parts) (env : List Entry) (negated : Bool) (i : �
 argument_typed a b d env true i o found wanted typed goes asked = types_as a b d env (under_minus true (expression_of i o)) o.at found wanted (expression_of_stands i o).where_it_is typed goes asked
 argument_typed a b d env false i o found wanted typed goes asked = types_as a b d env (expression_of i o) o.at found wanted (expression_of_stands i o).where_it_is typed goes asked
 
--- what holds of a result holds as far as something follows from it
-pub if_ok : {A E : Type 0} (r : Result A E) (P Q : A → Type 0) → ((x : A) → P x → Q x) → IfOk r P → IfOk r Q
-if_ok (Ok x) P Q f h = f x h
-if_ok (Err e) P Q f h = tt
-
 usual_row : (r : Row) (t : Tree) (ps : Forest) → IsCarriedRow r t ps → (form_of r ≡ form.Leaf → ⊥) → IsUsual r
 usual_row econst_row t ps c h = absurd (h refl)
 usual_row _ t ps c h = tt

@@ -7,7 +7,7 @@ use Rattle.syntax_tree.specs.View.{place_of}
 use Rattle.signature_model.specs.Declarations.{Name}
 use Rattle.signature_model.specs.Components.{same_name}
 use Rattle.row_parts.specs.Numbered.{operands_in, filled_in}
-use Rattle.typing_model.specs.Demands.{Condition, Demand, site, demand, same, equal, test}
+use Rattle.typing_model.specs.Demands.{Demand, site, demand, same, equal, test}
 use Rattle.typing_model.specs.Demands as complaint
 use Rattle.typing_model.specs.Contexts.{Context, Bound, ask, type_at}
 use Rattle.typing_model.specs.Parts as parts

@@ -6,7 +6,7 @@ use Rattle.tree_model.specs.Trees.{Place, Tree}
 use Rattle.signature_model.specs.Declarations.{Name}
 use Rattle.row_parts.specs.Numbered.{operands_in}
 use Rattle.typing_model.specs.Demands.{site, same, equal}
-use Rattle.typing_model.specs.Contexts.{Choice, Context, ask, type_at}
+use Rattle.typing_model.specs.Contexts.{ask, type_at}
 use Rattle.typing_model.specs.Contexts as contexts
 use Rattle.typing_model.specs.Parts.{Pattern}
 use Rattle.typing_model.specs.BuiltIns.{list_type}

@@ -3,11 +3,11 @@ use Rattle.std.proofs.Common.{◌∙◌, ◌++◌, ℕ, List, [], ◌∷◌, inl
 use Rattle.typing_model.specs.Contexts.{Choice}
 use Rattle.type_nodes.specs.Nodes.{Node}
 use Rattle.type_nodes.specs.Readings.{Types}
-use Rattle.typing_conditions.specs.Sights.{Sight, Letters, AreGiven, AreNodes}
+use Rattle.typing_conditions.specs.Sights.{Sight, Letters, AreNodes}
 use Rattle.typing_conditions.specs.Frames.{Frame}
 use Rattle.typing_conditions.specs.Carrying.{Asks, Scope, Stays, GoesOn, Carried, CarriedTo}
 use Rattle.typing_conditions.proofs.Judged.{given_left, given_right, given_both, nodes_right, nodes_both}
-use Rattle.typing_conditions.proofs.Carried.{carried_trans}
+use Rattle.typing_conditions.proofs.Carried.{hidden_more, carried_trans}
 use Rattle.typing_steps.specs.Typing.{RowCarried}
 use Rattle.pattern_rows.specs.Bounds.{IsAmong}
 
@@ -88,8 +88,22 @@ carried_kept {F} {scope} {asks} {a} {b} own opens {G} among p = record {
     unbound = l.unbound;
     kept = l.kept;
   });
+  follows = λ r V c l. p.follows r V c (record {
+    under = l.under;
+    reads = l.reads;
+    agrees = record {
+      recorded = l.agrees.recorded;
+      known = l.agrees.known;
+      written = l.agrees.written;
+      given = given_both V c.chosen own G (given_right V c.chosen p.hidden own l.hidden_too) (given_right V c.chosen opens G l.agrees.given);
+    };
+    hidden_too = given_left V c.chosen p.hidden own l.hidden_too;
+    named = l.named;
+    unbound = l.unbound;
+    kept = l.kept;
+  });
   complete = λ named V c e h. elim (p.complete named V c e h) [
-    | inl goes ↦ inl (record { same = goes.same; types = goes.types; on = goes_kept own opens G among goes.on })
+    | inl goes ↦ inl (record { same = goes.same; types = goes.types; on = goes_kept own opens G among goes.on; hidden_too = hidden_more p.hidden own G b c.chosen goes.types (p.stays.inside e.inside).given goes.on.agrees.given goes.hidden_too })
     | inr short ↦ inr short
   ];
   first = p.first;

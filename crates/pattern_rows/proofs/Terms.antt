@@ -6,7 +6,7 @@ use Rattle.tree_model.specs.Slots.{is_operand, operand_slots}
 use Rattle.tree_model.specs.Trees.{Place, Tree}
 use Rattle.row_parts.specs.Numbered.{Numbered, operands_in, all_operands, first_in, filled_in, token_in, path_in}
 use Rattle.typing_model.specs.Parts as parts
-use Rattle.typing_model.specs.Parts.{Child, Pattern, patterns_in, pattern_in, types_in, no_pattern_at}
+use Rattle.typing_model.specs.Parts.{Child, patterns_in, pattern_in, types_in, no_pattern_at}
 use Rattle.typing_model.specs.Patterns.{pattern_row, over, pname, pconst, pneg, pcon, papp, pparen, plist, pcons, ptuple, por, pas}
 use Rattle.operand_laws.specs.Formed.{row_of, is_needed, may_repeat, IsFormed}
 use Rattle.operand_laws.specs.Operands.{number_of, parts_of, pattern_of, type_of, path_of}

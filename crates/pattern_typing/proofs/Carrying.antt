@@ -111,11 +111,6 @@ pub names_both : (xs ys : List (Bor Token)) → names_seen (xs ++ ys) ≡ names_
 names_both [] ys = refl
 names_both (x ∷ xs) ys = ap (λ ns. (tok_of x.now).name ∷ ns) (names_both xs ys)
 
--- what holds of a call's answer, by what it says
-pub if_ok : {A E : Type 0} (r : Result A E) (P Q : A → Type 0) → ((x : A) → P x → Q x) → IfOk r P → IfOk r Q
-if_ok (Ok x) P Q f h = f x h
-if_ok (Err e) P Q f h = tt
-
 -- what holds of any answer
 pub if_any : {A E : Type 0} (r : Result A E) (Q : A → Type 0) → ((x : A) → Q x) → IfOk r Q
 if_any (Ok x) Q f = f x

@@ -4,7 +4,7 @@ use Rattle.std.specs.Prelude.{All}
 use Rattle.std.specs.Option.{IfSome}
 use Rattle.tree_model.specs.Rows.{Row, precord_row, qfield_row, erecord_row, ffield_row}
 use Rattle.tree_model.specs.Trees.{Place, Part, Tree, node, taken, inner, missing}
-use Rattle.row_parts.specs.Numbered.{Numbered, numbered, first_in, filled_in, operands_in}
+use Rattle.row_parts.specs.Numbered.{Numbered, numbered, first_in, operands_in}
 use Rattle.operand_laws.specs.Formed.{row_of, IsFormed, IsPartFormed, IsOperandFormed}
 use Rattle.operand_laws.proofs.Going.{operands_formed, first_operand_formed}
 use Rattle.typing_rows.specs.CarriedRows.{sort_in, an_expression, a_pattern, a_field_pattern, a_field, IsFieldPatternRow, IsFieldRow, IsTreeOfSort, IsOfSort, IsPlaced, IsCarried}

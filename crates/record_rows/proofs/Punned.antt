@@ -45,6 +45,7 @@ known_made {F} {scope} {G} {a} {m} {type} key free p = record {
       let g = l.agrees.given in
       let before = agrees_before (stays_trans (stays_opened {F = F} key p.open_node.inside) (stays_opened {F = F} (without_unknown key) p.open_node.inside)) l.agrees in
       record { same = refl; holds = (subst IsKnown (sym g.0.is) g.0.known, (g.1.0.is ∙ sym (p.is V c.chosen (fits_loosely a.nodes V l.reads.fits) before), tt)); tells = refl };
+  follows = λ r V c l. refl;
   complete = λ named V c e h.
       let is = h.1.0 ∙ p.is V c.chosen (fits_loosely a.nodes V e.fits) e.agrees in
       let g = e.agrees in
@@ -56,6 +57,7 @@ known_made {F} {scope} {G} {a} {m} {type} key free p = record {
           before = λ i lt. refl;
           agrees = record { recorded = g.recorded; known = g.known; written = g.written; given = (record { is = is; known = subst IsKnown is h.0 }, (record { is = is; known = free (V m) }, g.given)) };
         };
+        hidden_too = (tt, tt);
       });
   first = λ named k V c e h. inl (subst (StartsWith []) (sym (silent k c)) (starts_all []));
 }

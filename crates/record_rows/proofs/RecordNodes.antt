@@ -22,10 +22,10 @@ use Rattle.typing_state.specs.declared.parts.Parts.{Parts}
 use Rattle.typing_state.specs.Goes.{faults_of, Goes, OnlyFaults, Told}
 use Rattle.typing_state.proofs.Going.{goes_refl, goes_trans}
 use Rattle.typing_state.specs.Messages.{no_label_text}
-use Rattle.typing_conditions.specs.Carrying.{Asks, Carried}
+use Rattle.typing_conditions.specs.Carrying.{Asks}
 use Rattle.typing_conditions.proofs.Carried.{carried_refl, carried_trans, carried_as}
 use Rattle.typing_conditions.proofs.Surrounding.{surrounds_on}
-use Rattle.typing_steps.specs.States.{is_aloud, sight}
+use Rattle.typing_steps.specs.States.{is_aloud}
 use Rattle.typing_steps.specs.Typing.{TypesTo, TypesRow}
 use Rattle.typing_steps.specs.Warning.{OnlyNotes}
 use Rattle.typing_steps.proofs.Testing.{complaint_told}

@@ -6,7 +6,7 @@ use Rattle.signature_model.specs.Declarations as rules
 use Rattle.signature_model.specs.Declarations.{Name}
 use Rattle.typing_model.specs.Demands.{site}
 use Rattle.typing_model.specs.Contexts as contexts
-use Rattle.typing_model.specs.Contexts.{Context, ask, tell}
+use Rattle.typing_model.specs.Contexts.{Context, tell}
 use Rattle.typing_model.specs.Names.{used_at}
 use Rattle.typing_model.specs.Parts.{Written, Expression, Field, place_of}
 use Rattle.typing_model.specs.Records.{ask_once, field_type, name_in}

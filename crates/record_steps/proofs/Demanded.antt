@@ -9,7 +9,7 @@ use Rattle.typing_model.specs.Demands.{site, demand, test, label_word}
 use Rattle.typing_model.specs.Contexts.{Context, ask, is_kept}
 use Rattle.typing_model.specs.Parts as parts
 use Rattle.typing_model.specs.Names as names
-use Rattle.typing_model.specs.Names.{then_by, place_unbound, complaint_unbound, is_found, entry_of}
+use Rattle.typing_model.specs.Names.{then_by, place_unbound, complaint_unbound, is_found}
 use Rattle.typing_model.specs.Records.{ask_record, first_lost, first_token, record_found, declaration_found, labels_of}
 use Rattle.typing_model.specs.Patterns.{kept_record}
 use Rattle.type_nodes.specs.Nodes.{Node}

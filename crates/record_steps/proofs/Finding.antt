@@ -10,7 +10,7 @@ use Rattle.signature_model.specs.Components.{same_name}
 use Rattle.signature_model.specs.Entries.{Environment, label_kind}
 use Rattle.signature_model.specs.Entries.{Entry as Named, Referent, kind_of as kind_named}
 use Rattle.signature_model.specs.Lookups.{ScopeOf, newest_by, found, a_hole, nothing}
-use Rattle.signature_model.specs.Records.{Written, Labelled, path_for, is_of_type, is_label_of, is_some, has_label, has_each, belongs_to, has_name, newest_label, is_there, is_known, each_scope, first_label, record_by, origin_of, record_of_label, label_entries, record_of}
+use Rattle.signature_model.specs.Records.{Written, path_for, is_of_type, is_label_of, is_some, has_label, has_each, belongs_to, has_name, newest_label, is_there, is_known, each_scope, first_label, record_by, origin_of, record_of_label, label_entries, record_of}
 use Rattle.signature_model.specs.Records as rule
 use Rattle.env_table.specs.declared.entries.Constructor.{Constructor}
 use Rattle.env_table.specs.declared.entries.Declaration.{Declaration}

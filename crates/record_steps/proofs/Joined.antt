@@ -32,6 +32,7 @@ made_one {m = m} {n = n} {a = a} {b = b} sound p q rest tight one = record {
   told = [];
   reports = rest.reports ∙ sym (append-nil a.reports);
   sound = λ r V c l. record { same = refl; holds = tt; tells = refl };
+  follows = λ r V c l. refl;
   complete = λ named V c e h.
       let loose = fits_loosely a.nodes V e.fits in
       let same : V m ≡ V n = sym (p.is V c.chosen loose e.agrees) ∙ q.is V c.chosen loose e.agrees in
@@ -39,6 +40,7 @@ made_one {m = m} {n = n} {a = a} {b = b} sound p q rest tight one = record {
         same = refl;
         types = V;
         on = record { fits = under_fits (λ v. 0) b.nodes V (one.fits (λ v. 0) V (fits_under a.nodes V e.fits) same); before = λ i lt. refl; agrees = agrees_same a b rest.types rest.written e.inside (λ i lt. refl) e.agrees };
+        hidden_too = (tt, tt);
       });
   first = λ named k V c e h. inl (subst (λ cs. StartsWith [] (judgements c.kept cs)) (sym (take_none k)) (starts_all []));
 }

@@ -6,7 +6,7 @@ use Rattle.text_terms.specs.Bytes.{str_bytes}
 use Rattle.token_model.specs.Kinds.{Tok}
 use Rattle.type_model.specs.Types.{Typ}
 use Rattle.signature_model.specs.Declarations as rules
-use Rattle.signature_model.specs.Declarations.{Name, type_of}
+use Rattle.signature_model.specs.Declarations.{Name}
 use Rattle.signature_model.specs.Components.{same_name}
 use Rattle.typing_model.specs.Records.{find_label, labels_in}
 use Rattle.type_nodes.specs.Nodes.{Node}

@@ -8,11 +8,11 @@ use Rattle.type_nodes.specs.Readings.{Types}
 use Rattle.level_unify.specs.Solutions.{Loose}
 use Rattle.level_unify.proofs.Unified.{fits_loosely}
 use Rattle.typing_conditions.specs.Sights.{Sight, Letters, Agrees}
-use Rattle.typing_conditions.specs.Frames.{Frame}
-use Rattle.typing_conditions.specs.Judging.{judgements, AreKept, FallsShort, Meets, judged_at}
+use Rattle.typing_conditions.specs.Frames.{Frame, Reaches}
+use Rattle.typing_conditions.specs.Judging.{judgements, AreKept, Follows, FallsShort, Meets, judged_at}
 use Rattle.typing_conditions.specs.Carrying.{Asks, Scope, HoldsWritten, IsUnder, Enters, ReadsOff, Continues, Carried}
-use Rattle.typing_conditions.proofs.Stays.{agrees_before, named_before}
-use Rattle.typing_conditions.proofs.Judged.{hold_left, judged_both, judged_kept, kept_left, short_left, short_of_more, starts_left}
+use Rattle.typing_conditions.proofs.Stays.{agrees_before, named_before, bounds_before}
+use Rattle.typing_conditions.proofs.Judged.{hold_left, judged_both, judged_kept, kept_left, given_left, given_right, follows_both, short_left, short_of_more, starts_left}
 use Rattle.typing_conditions.proofs.Carried.{Decides, carried_trans, less_or_more}
 
 -- What is asked after some conditions may depend on how those are judged, and on the names in scope: `actual` is what it is under these judgements, in each context that
@@ -27,6 +27,7 @@ carried_after {F} {scope} {asks} {further} {actual} {a} {b} {d} {G} {H} {K} p by
   told = both.told;
   reports = both.reports;
   sound = λ r V c l. subst (λ cs. Meets c.kept (asks c ++ cs) both.judged both.told) (sym (at_end V c l)) (both.sound r V c l);
+  follows = follows;
   complete = complete;
   first = λ named k V c e h. first_of named k V c e h (less_or_more k (length (asks c)));
 }
@@ -38,18 +39,35 @@ carried_after {F} {scope} {asks} {further} {actual} {a} {b} {d} {G} {H} {K} p by
     at_end V c l = by_kept V c (both.stays.loose V (fits_loosely d.nodes V l.reads.fits)) l.under (agrees_before both.stays l.agrees) (named_before scope both.stays l.named) (kept_left c.kept p.judged q.judged l.kept)
 
     -- where the first conditions are judged as they were, what is asked after them is this
-    here : HoldsWritten scope d → (V : Types) (c : Context) → Enters F scope a G V c → Continues F asks a b H p.judged V c → further c ≡ actual c
+    here : HoldsWritten scope d → (V : Types) (c : Context) → Enters F scope a G V c → Continues F asks a b H p.hidden p.judged V c → further c ≡ actual c
     here named V c e goes = by_kept V c (fits_loosely a.nodes V e.fits) e.under e.agrees (named_before scope both.stays named) (subst (AreKept c.kept) goes.same (judged_kept c.kept (asks c)))
+
+    follows : Reaches F a → (V : Types) (c : Context) → ReadsOff F scope d K both.hidden [] V c → Follows c.kept (asks c ++ further c) both.judged
+    follows r V c l =
+        follows_both c.kept (asks c) (further c) p.judged q.judged
+        (p.follows r V c (record {
+          under = l.under;
+          reads = q.stays.reads V l.reads;
+          agrees = agrees_before q.stays l.agrees;
+          hidden_too = given_left V c.chosen p.hidden q.hidden l.hidden_too;
+          named = named_before scope q.stays l.named;
+          unbound = bounds_before scope c.chosen q.stays (p.stays.reaches r) l.unbound;
+          kept = tt;
+        }))
+        (λ kept.
+        let eq = by_kept V c (both.stays.loose V (fits_loosely d.nodes V l.reads.fits)) l.under (agrees_before both.stays l.agrees) (named_before scope both.stays l.named) kept in
+        subst (λ cs. Follows c.kept cs q.judged) (sym eq)
+        (q.follows (p.stays.reaches r) V c (record { under = l.under; reads = l.reads; agrees = l.agrees; hidden_too = given_right V c.chosen p.hidden q.hidden l.hidden_too; named = l.named; unbound = l.unbound; kept = tt })))
 
     short_in_first : (c : Context) (cs : List Condition) → FallsShort (judgements c.kept (asks c)) p.judged → FallsShort (judgements c.kept (asks c ++ cs)) both.judged
     short_in_first c cs short = subst (λ js. FallsShort js both.judged) (sym (judged_both c.kept (asks c) cs)) (short_left (judgements c.kept (asks c)) p.judged (judgements c.kept cs) q.judged short)
 
-    complete : HoldsWritten scope d → (V : Types) (c : Context) → Enters F scope a G V c → AllHold c.kept (asks c ++ further c) → Continues F (λ x. asks x ++ further x) a d K both.judged V c ⊎ FallsShort (judgements c.kept (asks c ++ further c)) both.judged
+    complete : HoldsWritten scope d → (V : Types) (c : Context) → Enters F scope a G V c → AllHold c.kept (asks c ++ further c) → Continues F (λ x. asks x ++ further x) a d K both.hidden both.judged V c ⊎ FallsShort (judgements c.kept (asks c ++ further c)) both.judged
     complete named V c e h = elim (p.complete (named_before scope q.stays named) V c e (hold_left c.kept (asks c) (further c) h)) [
       | inl goes ↦
           let eq = here named V c e goes in
           elim (both.complete named V c e (subst (λ cs. AllHold c.kept (asks c ++ cs)) eq h)) [
-            | inl on ↦ inl (record { same = ap (λ cs. judgements c.kept (asks c ++ cs)) eq ∙ on.same; types = on.types; on = on.on })
+            | inl on ↦ inl (record { same = ap (λ cs. judgements c.kept (asks c ++ cs)) eq ∙ on.same; types = on.types; on = on.on; hidden_too = on.hidden_too })
             | inr short ↦ inr (subst (λ cs. FallsShort (judgements c.kept (asks c ++ cs)) both.judged) (sym eq) short)
           ]
       | inr short ↦ inr (short_in_first c (further c) short)

@@ -6,12 +6,14 @@ use Rattle.std.proofs.Math.Seq.{take-append-add}
 use Rattle.type_model.specs.Types.{occurs}
 use Rattle.typing_model.specs.Demands.{Condition, AllHold}
 use Rattle.typing_model.specs.Contexts.{Choice, Context}
+use Rattle.type_nodes.specs.Nodes.{Node}
 use Rattle.type_nodes.specs.Readings.{Types}
-use Rattle.typing_conditions.specs.Sights.{Sight, Letters, AreGiven, Agrees}
+use Rattle.typing_conditions.specs.Sights.{Sight, Letters, AreGiven, AreNodes, SameAt, Agrees}
 use Rattle.typing_conditions.specs.Frames.{Frame}
-use Rattle.typing_conditions.specs.Judging.{Judgement, judgements, AreKept, StartsWith, FallsShort, Meets}
-use Rattle.typing_conditions.specs.Carrying.{Asks, Scope, HoldsWritten, IsUnder, Enters, GoesOn, Continues, Carried}
-use Rattle.typing_conditions.proofs.Judged.{hold_both, hold_left, hold_right, judged_both, kept_left, kept_right, given_left, given_right, given_both, tell_both, short_left, short_right, short_of_more, starts_all, starts_left, starts_right}
+use Rattle.typing_conditions.specs.Judging.{Judgement, judgements, AreKept, Follows, StartsWith, FallsShort, Meets}
+use Rattle.typing_conditions.specs.Carrying.{Asks, Scope, HoldsWritten, IsUnder, Enters, GoesOn, AreHidden, Continues, Carried}
+use Rattle.typing_conditions.proofs.Judged.{hold_both, hold_left, hold_right, judged_both, kept_left, kept_right, given_left, given_right, given_both, nodes_left, nodes_both, tell_both, follows_both, short_left, short_right, short_of_more, starts_all, starts_left, starts_right}
+use Rattle.typing_conditions.proofs.Meaning.{nodes_in, given_same}
 use Rattle.typing_conditions.proofs.Stays.{stays_refl, stays_trans, stays_closed, agrees_before, named_before, bounds_before, enters_next, goes_further}
 
 -- what the demands of some conditions come to: they are the first of those that were judged, or they fall short of them
@@ -23,6 +25,14 @@ pub take_none : (k : ℕ) → let none : List Condition = [] in take k none ≡ 
 take_none zero = refl
 take_none (suc k) = refl
 
+-- letters that are hidden have their types further on, and so have those that are hidden then
+pub hidden_both : (xs ys : Letters) (nodes : List Node) (c : Sight) (ch : Choice) (V W : Types) → length nodes ≤ length c.nodes → SameAt nodes V W → AreNodes xs nodes × AreGiven xs V ch → AreHidden ys c W ch → AreHidden (xs ++ ys) c W ch
+hidden_both xs ys nodes c ch V W longer same p q = (nodes_both xs ys c.nodes (nodes_in xs nodes c.nodes longer p.0) q.0, given_both W ch xs ys (given_same xs nodes V W ch p.0 same p.1) q.1)
+
+-- open letters that a row has no more use for are hidden too
+pub hidden_more : (xs own G : Letters) (b : Sight) (ch : Choice) (W : Types) → AreNodes (own ++ G) b.nodes → AreGiven (own ++ G) W ch → AreHidden xs b W ch → AreHidden (xs ++ own) b W ch
+hidden_more xs own G b ch W nodes given h = (nodes_both xs own b.nodes h.0 (nodes_left own G b.nodes nodes), given_both W ch xs own h.1 (given_left W ch own G given))
+
 -- nothing is asked and nothing done
 pub carried_refl : {F : Frame} {scope : Scope} {a : Sight} {G : Letters} → Carried F scope (λ c. []) a G a G
 carried_refl {F} {scope} {a} {G} = record {
@@ -32,7 +42,8 @@ carried_refl {F} {scope} {a} {G} = record {
   told = [];
   reports = sym (append-nil a.reports);
   sound = λ r V c l. record { same = refl; holds = tt; tells = refl };
-  complete = λ named V c e h. inl (record { same = refl; types = V; on = record { fits = e.fits; before = λ n lt. refl; agrees = e.agrees } });
+  follows = λ r V c l. refl;
+  complete = λ named V c e h. inl (record { same = refl; types = V; on = record { fits = e.fits; before = λ n lt. refl; agrees = e.agrees }; hidden_too = (tt, tt) });
   first = λ named k V c e h. inl (subst (λ cs. StartsWith [] (judgements c.kept cs)) (sym (take_none k)) (starts_all []));
 }
 
@@ -75,6 +86,18 @@ carried_trans {F} {scope} {asks} {further} {a} {b} {c} {G} {H} {K} p q = record 
         holds = hold_both x.kept (asks x) (further x) one.holds two.holds;
         tells = tell_both x.kept (asks x) (further x) p.told q.told one.tells two.tells;
       };
+  follows = λ r V x l.
+      follows_both x.kept (asks x) (further x) p.judged q.judged
+      (p.follows r V x (record {
+        under = l.under;
+        reads = q.stays.reads V l.reads;
+        agrees = agrees_before q.stays l.agrees;
+        hidden_too = given_left V x.chosen p.hidden q.hidden l.hidden_too;
+        named = named_before scope q.stays l.named;
+        unbound = bounds_before scope x.chosen q.stays (p.stays.reaches r) l.unbound;
+        kept = tt;
+      }))
+      (λ kept. q.follows (p.stays.reaches r) V x (record { under = l.under; reads = l.reads; agrees = l.agrees; hidden_too = given_right V x.chosen p.hidden q.hidden l.hidden_too; named = l.named; unbound = l.unbound; kept = tt }));
   complete = λ named V x e h. elim (p.complete (named_before scope q.stays named) V x e (hold_left x.kept (asks x) (further x) h)) [
     | inl goes ↦ then_complete V x e goes (q.complete named goes.types x (enters_next p.stays e goes.on) (hold_right x.kept (asks x) (further x) h))
     | inr short ↦ inr (falls_first x (further x) short)
@@ -90,17 +113,18 @@ carried_trans {F} {scope} {asks} {further} {a} {b} {c} {G} {H} {K} p q = record 
     falls_then : (x : Context) (cs : List Condition) → judgements x.kept (asks x) ≡ p.judged → FallsShort (judgements x.kept cs) q.judged → FallsShort (judgements x.kept (asks x ++ cs)) (p.judged ++ q.judged)
     falls_then x cs same short = subst (λ js. FallsShort js (p.judged ++ q.judged)) (sym (judged_both x.kept (asks x) cs)) (short_right (judgements x.kept (asks x)) p.judged (judgements x.kept cs) q.judged same short)
 
-    then_complete : (V : Types) (x : Context) → Enters F scope a G V x → (goes : Continues F asks a b H p.judged V x) →
-        Continues F further b c K q.judged goes.types x ⊎ FallsShort (judgements x.kept (further x)) q.judged →
-        Continues F (λ y. asks y ++ further y) a c K (p.judged ++ q.judged) V x ⊎ FallsShort (judgements x.kept (asks x ++ further x)) (p.judged ++ q.judged)
+    then_complete : (V : Types) (x : Context) → Enters F scope a G V x → (goes : Continues F asks a b H p.hidden p.judged V x) →
+        Continues F further b c K q.hidden q.judged goes.types x ⊎ FallsShort (judgements x.kept (further x)) q.judged →
+        Continues F (λ y. asks y ++ further y) a c K (p.hidden ++ q.hidden) (p.judged ++ q.judged) V x ⊎ FallsShort (judgements x.kept (asks x ++ further x)) (p.judged ++ q.judged)
     then_complete V x e goes (inl also) = inl (record {
       same = judged_both x.kept (asks x) (further x) ∙ ap (λ js. js ++ judgements x.kept (further x)) goes.same ∙ ap (λ js. p.judged ++ js) also.same;
       types = also.types;
       on = goes_further p.stays goes.on also.on;
+      hidden_too = hidden_both p.hidden q.hidden b.nodes c x.chosen goes.types also.types q.stays.longer also.on.before goes.hidden_too also.hidden_too;
     })
     then_complete V x e goes (inr short) = inr (falls_then x (further x) goes.same short)
 
-    then_first : (V : Types) (x : Context) (n : ℕ) → Continues F asks a b H p.judged V x → Decides x q.judged (take n (further x)) → Decides x (p.judged ++ q.judged) (asks x ++ take n (further x))
+    then_first : (V : Types) (x : Context) (n : ℕ) → Continues F asks a b H p.hidden p.judged V x → Decides x q.judged (take n (further x)) → Decides x (p.judged ++ q.judged) (asks x ++ take n (further x))
     then_first V x n goes (inl starts) = inl (subst (StartsWith (p.judged ++ q.judged)) (sym (judged_both x.kept (asks x) (take n (further x)) ∙ ap (λ js. js ++ judgements x.kept (take n (further x))) goes.same))
         (starts_right p.judged q.judged (judgements x.kept (take n (further x))) starts))
     then_first V x n goes (inr short) = inr (falls_then x (take n (further x)) goes.same short)
@@ -143,8 +167,19 @@ carried_under {F} {scope} {inner} {asks} {a} {b} {G} {H} into held still has p =
         kept = subst (λ k. AreKept k p.judged) (sym kept) l.kept;
       }) in
       subst (λ k. Meets k (asks (into c)) p.judged p.told) kept m;
+  follows = λ r V c l.
+      let chosen = (still c).1 in
+      subst (λ k. Follows k (asks (into c)) p.judged) (still c).0 (p.follows r V (into c) (record {
+        under = has c l.under;
+        reads = l.reads;
+        agrees = subst (Agrees F.owner b H V) (sym chosen) l.agrees;
+        hidden_too = subst (AreGiven p.hidden V) (sym chosen) l.hidden_too;
+        named = named_in b l.named;
+        unbound = λ k x e v bound. ap (λ ch. occurs v (ch.written F.owner x)) chosen ∙ l.unbound k x (ap (λ xs. slice_get xs k) (sym held) ∙ e) v bound;
+        kept = tt;
+      }));
   complete = λ named V c e h. elim (p.complete (named_in b named) V (into c) (enters V c e) (subst (λ k. AllHold k (asks (into c))) (sym (still c).0) h)) [
-    | inl goes ↦ inl (record { same = subst (λ k. judgements k (asks (into c)) ≡ p.judged) (still c).0 goes.same; types = goes.types; on = subst (GoesOn F a b H V goes.types) (still c).1 goes.on })
+    | inl goes ↦ inl (record { same = subst (λ k. judgements k (asks (into c)) ≡ p.judged) (still c).0 goes.same; types = goes.types; on = subst (GoesOn F a b H V goes.types) (still c).1 goes.on; hidden_too = subst (AreHidden p.hidden b goes.types) (still c).1 goes.hidden_too })
     | inr short ↦ inr (subst (λ k. FallsShort (judgements k (asks (into c))) p.judged) (still c).0 short)
   ];
   first = λ named k V c e h.
@@ -183,8 +218,17 @@ carried_closed {F} {scope} {asks} {a} {b} own {G} p = record {
     unbound = l.unbound;
     kept = l.kept;
   });
+  follows = λ r V c l. p.follows r V c (record {
+    under = l.under;
+    reads = l.reads;
+    agrees = record { recorded = l.agrees.recorded; known = l.agrees.known; written = l.agrees.written; given = given_both V c.chosen own G (given_right V c.chosen p.hidden own l.hidden_too) l.agrees.given };
+    hidden_too = given_left V c.chosen p.hidden own l.hidden_too;
+    named = l.named;
+    unbound = l.unbound;
+    kept = l.kept;
+  });
   complete = λ named V c e h. elim (p.complete named V c e h) [
-    | inl goes ↦ inl (record { same = goes.same; types = goes.types; on = goes_closed own goes.on })
+    | inl goes ↦ inl (record { same = goes.same; types = goes.types; on = goes_closed own goes.on; hidden_too = hidden_more p.hidden own G b c.chosen goes.types (p.stays.inside e.inside).given goes.on.agrees.given goes.hidden_too })
     | inr short ↦ inr short
   ];
   first = p.first;
@@ -199,8 +243,9 @@ carried_as {F} {scope} {asks} {others} {a} {b} {G} {H} e p = record {
   told = p.told;
   reports = p.reports;
   sound = λ r V c l. subst (λ cs. Meets c.kept cs p.judged p.told) (e c) (p.sound r V c l);
+  follows = λ r V c l. subst (λ cs. Follows c.kept cs p.judged) (e c) (p.follows r V c l);
   complete = λ named V c en h. elim (p.complete named V c en (subst (AllHold c.kept) (sym (e c)) h)) [
-    | inl goes ↦ inl (record { same = ap (judgements c.kept) (sym (e c)) ∙ goes.same; types = goes.types; on = goes.on })
+    | inl goes ↦ inl (record { same = ap (judgements c.kept) (sym (e c)) ∙ goes.same; types = goes.types; on = goes.on; hidden_too = goes.hidden_too })
     | inr short ↦ inr (subst (λ cs. FallsShort (judgements c.kept cs) p.judged) (e c) short)
   ];
   first = λ named k V c en h. subst (λ cs. Decides c p.judged (take k cs)) (e c) (p.first named k V c en (subst (λ cs. AllHold c.kept (take k cs)) (sym (e c)) h));

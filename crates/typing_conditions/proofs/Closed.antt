@@ -5,7 +5,6 @@ use Rattle.type_model.specs.Types.{Typ, occurs}
 use Rattle.type_model.specs.Schemes.{Scheme}
 use Rattle.type_model.proofs.Applying.{or_left, or_right}
 use Rattle.signature_model.specs.Declarations as rules
-use Rattle.signature_model.specs.Declarations.{Name}
 use Rattle.signature_model.specs.Entries.{entry, a_value, free_in}
 use Rattle.signature_model.specs.Matching.{IsKnown}
 use Rattle.typing_model.specs.Contexts.{Choice, Bound, monomorphic, occurs_in, generalised_in}

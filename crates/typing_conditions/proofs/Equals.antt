@@ -115,6 +115,7 @@ equal_kept {F} {scope} {G} {found} {wanted} {m} {n} {a} {b} s at sound p q rest 
         holds = ((λ kept. p.is V c.chosen loose g ∙ old.1 ∙ sym (q.is V c.chosen loose g)), tt);
         tells = subst (λ t. TellBy t at (equal (found c.chosen) (wanted c.chosen)) (λ later. later ≡ []) []) (sym l.kept.0) refl;
       };
+  follows = λ r V c l. (refl, λ k. refl);
   complete = λ named. complete;
   first = λ named. first_one (λ c. demand s at (equal (found c.chosen) (wanted c.chosen))) complete;
 }
@@ -123,7 +124,7 @@ equal_kept {F} {scope} {G} {found} {wanted} {m} {n} {a} {b} s at sound p q rest 
     stays = unified_stays sound rest tight p.open_node q.open_node one
 
     by : (V : Types) (c : Context) → Enters F scope a G V c → (c.kept s ≡ true → found c.chosen ≡ wanted c.chosen) → (t : Bool) → c.kept s ≡ t →
-        Continues F (λ c. demand s at (equal (found c.chosen) (wanted c.chosen)) ∷ []) a b G (judged_as s true) V c ⊎ FallsShort (judged_as s (c.kept s)) (judged_as s true)
+        Continues F (λ c. demand s at (equal (found c.chosen) (wanted c.chosen)) ∷ []) a b G [] (judged_as s true) V c ⊎ FallsShort (judged_as s (c.kept s)) (judged_as s true)
     by V c e h true k =
         let loose = fits_loosely a.nodes V e.fits in
         let same : V m ≡ V n = sym (p.is V c.chosen loose e.agrees) ∙ h k ∙ q.is V c.chosen loose e.agrees in
@@ -135,11 +136,12 @@ equal_kept {F} {scope} {G} {found} {wanted} {m} {n} {a} {b} s at sound p q rest 
             before = λ i lt. refl;
             agrees = agrees_same a b rest.types rest.written e.inside (λ i lt. refl) e.agrees;
           };
+          hidden_too = (tt, tt);
         })
     by V c e h false k = inr (falls_short s k)
 
     complete : (V : Types) (c : Context) → Enters F scope a G V c → AllHold c.kept (demand s at (equal (found c.chosen) (wanted c.chosen)) ∷ []) →
-        Continues F (λ c. demand s at (equal (found c.chosen) (wanted c.chosen)) ∷ []) a b G (judged_as s true) V c ⊎ FallsShort (judged_as s (c.kept s)) (judged_as s true)
+        Continues F (λ c. demand s at (equal (found c.chosen) (wanted c.chosen)) ∷ []) a b G [] (judged_as s true) V c ⊎ FallsShort (judged_as s (c.kept s)) (judged_as s true)
     complete V c e h = by V c e h.0 (c.kept s) refl
 
 -- the demand that two types are one isn't kept
@@ -156,19 +158,20 @@ equal_told {F} {scope} {G} {found} {wanted} {m} {n} {a} {b} s at p q rest tells 
     holds = ((λ kept. absurd (not_both l.kept.0 kept)), tt);
     tells = subst (λ t. TellBy t at (equal (found c.chosen) (wanted c.chosen)) (λ later. later ≡ []) (tells.report ∷ [])) (sym l.kept.0) (tells.report, [], refl, record { place = tells.place; kind = tells.is_kind }, refl);
   };
+  follows = λ r V c l. (refl, λ k. refl);
   complete = λ named. complete;
   first = λ named. first_one (λ c. demand s at (equal (found c.chosen) (wanted c.chosen))) complete;
 }
   where
     by : (V : Types) (c : Context) → Enters F scope a G V c → (c.kept s ≡ true → found c.chosen ≡ wanted c.chosen) → (t : Bool) → c.kept s ≡ t →
-        Continues F (λ c. demand s at (equal (found c.chosen) (wanted c.chosen)) ∷ []) a b G (judged_as s false) V c ⊎ FallsShort (judged_as s (c.kept s)) (judged_as s false)
+        Continues F (λ c. demand s at (equal (found c.chosen) (wanted c.chosen)) ∷ []) a b G [] (judged_as s false) V c ⊎ FallsShort (judged_as s (c.kept s)) (judged_as s false)
     by V c e h true k =
         let loose = fits_loosely a.nodes V e.fits in
         let none_left = no_bound p.open_node p.open_node in
         let none_right = no_bound q.open_node q.open_node in
         absurd (never_fit a.nodes m n p.open_node.reached.sound p.open_node.inside q.open_node.inside none_left none_right never V e.fits (sym (p.is V c.chosen loose e.agrees) ∙ h k ∙ q.is V c.chosen loose e.agrees))
-    by V c e h false k = inl (record { same = ap (judged_as s) k; types = V; on = goes_as rest e })
+    by V c e h false k = inl (record { same = ap (judged_as s) k; types = V; on = goes_as rest e; hidden_too = (tt, tt) })
 
     complete : (V : Types) (c : Context) → Enters F scope a G V c → AllHold c.kept (demand s at (equal (found c.chosen) (wanted c.chosen)) ∷ []) →
-        Continues F (λ c. demand s at (equal (found c.chosen) (wanted c.chosen)) ∷ []) a b G (judged_as s false) V c ⊎ FallsShort (judged_as s (c.kept s)) (judged_as s false)
+        Continues F (λ c. demand s at (equal (found c.chosen) (wanted c.chosen)) ∷ []) a b G [] (judged_as s false) V c ⊎ FallsShort (judged_as s (c.kept s)) (judged_as s false)
     complete V c e h = by V c e h.0 (c.kept s) refl

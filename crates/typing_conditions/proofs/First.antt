@@ -19,8 +19,8 @@ pub first_none : (k : ℕ) (c : Context) → Decides c [] (take k (let none : Li
 first_none k c = inl (subst (λ cs. StartsWith [] (judgements c.kept cs)) (sym (take_none k)) (starts_all []))
 
 -- where one condition is asked the first ones are none or all
-pub first_one : {F : Frame} {scope : Scope} {a b : Sight} {G H : Letters} {judged : List Judgement} (ask : Context → Condition) →
-    ((V : Types) (c : Context) → Enters F scope a G V c → AllHold c.kept (ask c ∷ []) → Continues F (λ x. ask x ∷ []) a b H judged V c ⊎ FallsShort (judgements c.kept (ask c ∷ [])) judged) →
+pub first_one : {F : Frame} {scope : Scope} {a b : Sight} {G H : Letters} {hidden : Letters} {judged : List Judgement} (ask : Context → Condition) →
+    ((V : Types) (c : Context) → Enters F scope a G V c → AllHold c.kept (ask c ∷ []) → Continues F (λ x. ask x ∷ []) a b H hidden judged V c ⊎ FallsShort (judgements c.kept (ask c ∷ [])) judged) →
     (k : ℕ) (V : Types) (c : Context) → Enters F scope a G V c → AllHold c.kept (take k (ask c ∷ [])) → Decides c judged (take k (ask c ∷ []))
 first_one {judged = judged} ask complete zero V c e h = inl (starts_none judged)
 first_one {judged = judged} ask complete (suc k) V c e h =

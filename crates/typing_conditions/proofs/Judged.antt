@@ -6,7 +6,7 @@ use Rattle.type_nodes.specs.Nodes.{Node}
 use Rattle.typing_model.specs.Demands.{Site, Demand, Condition, same, instance, made, known, demand, treated, AllHold}
 use Rattle.typing_model.specs.Contexts.{Choice}
 use Rattle.typing_conditions.specs.Sights.{Report, Letters, AreGiven, AreNodes}
-use Rattle.typing_conditions.specs.Judging.{Judgement, is_closing, judgements, AreKept, StartsWith, FallsShort, TellAll, TellBy, judged_at}
+use Rattle.typing_conditions.specs.Judging.{Judgement, is_closing, judgements, AreKept, JudgedBy, Follows, StartsWith, FallsShort, TellAll, TellBy, judged_at}
 
 -- conditions that hold hold together
 pub hold_both : (kept : Site → Bool) (xs ys : List Condition) → AllHold kept xs → AllHold kept ys → AllHold kept (xs ++ ys)
@@ -63,6 +63,10 @@ pub nodes_right : (xs ys : Letters) (nodes : List Node) → AreNodes (xs ++ ys) 
 nodes_right [] ys nodes h = h
 nodes_right (x ∷ xs) ys nodes h = nodes_right xs ys nodes h.1
 
+pub nodes_left : (xs ys : Letters) (nodes : List Node) → AreNodes (xs ++ ys) nodes → AreNodes xs nodes
+nodes_left [] ys nodes h = tt
+nodes_left (x ∷ xs) ys nodes h = (h.0, nodes_left xs ys nodes h.1)
+
 -- letters that are nodes are nodes together
 pub nodes_both : (xs ys : Letters) (nodes : List Node) → AreNodes xs nodes → AreNodes ys nodes → AreNodes (xs ++ ys) nodes
 nodes_both [] ys nodes p q = q
@@ -82,6 +86,31 @@ tell_both kept (known t ∷ xs) ys rs us p q = tell_both kept xs ys rs us p q
 tell_both kept (demand s at d ∷ xs) ys rs us p q =
     tell_by (kept s) at d (λ later. TellAll kept xs later) (λ later. TellAll kept (xs ++ ys) later) us rs (λ zs h. tell_both kept xs ys zs us h q) p
 tell_both kept (treated n env ∷ xs) ys rs us p q = tell_both kept xs ys rs us p q
+
+judged_by : (kept : Site → Bool) (s : Site) (P Q : List Judgement → Type 0) (us js : List Judgement) → ((zs : List Judgement) → P zs → (AreKept kept zs → AreKept kept js) → Q (zs ++ us)) → JudgedBy kept s P js → JudgedBy kept s Q (js ++ us)
+judged_by kept s P Q us [] f p = absurd p
+judged_by kept s P Q us (j ∷ js) f p = (p.0, λ k. f js (p.1 k) (λ h. (k, h)))
+
+-- judgements that follow the demands of conditions, and others those after them, follow them together
+pub follows_both : (kept : Site → Bool) (xs ys : List Condition) (js us : List Judgement) → Follows kept xs js → (AreKept kept js → Follows kept ys us) → Follows kept (xs ++ ys) (js ++ us)
+follows_both kept [] ys js us p q = subst (λ zs. Follows kept ys (zs ++ us)) (sym p) (q (subst (AreKept kept) (sym p) tt))
+follows_both kept (same t u ∷ xs) ys js us p q = follows_both kept xs ys js us p q
+follows_both kept (instance s t ∷ xs) ys js us p q = follows_both kept xs ys js us p q
+follows_both kept (made n t ∷ xs) ys js us p q = follows_both kept xs ys js us p q
+follows_both kept (known t ∷ xs) ys js us p q = follows_both kept xs ys js us p q
+follows_both kept (demand s at d ∷ xs) ys js us p q =
+    judged_by kept s (λ later. Follows kept xs later) (λ later. Follows kept (xs ++ ys) later) us js (λ zs h k. follows_both kept xs ys zs us h (λ g. q (k g))) p
+follows_both kept (treated n env ∷ xs) ys js us p q = follows_both kept xs ys js us p q
+
+-- where nothing is demanded nothing is judged
+pub follows_silent : (kept : Site → Bool) (cs : List Condition) → judgements kept cs ≡ [] → Follows kept cs []
+follows_silent kept [] e = refl
+follows_silent kept (same t u ∷ cs) e = follows_silent kept cs e
+follows_silent kept (instance s t ∷ cs) e = follows_silent kept cs e
+follows_silent kept (made n t ∷ cs) e = follows_silent kept cs e
+follows_silent kept (known t ∷ cs) e = follows_silent kept cs e
+follows_silent kept (demand s at d ∷ cs) e = absurd (cc)
+follows_silent kept (treated n env ∷ cs) e = follows_silent kept cs e
 
 -- what falls short does so with others after it
 pub short_left : (xs ys us vs : List Judgement) → FallsShort xs ys → FallsShort (xs ++ us) (ys ++ vs)

@@ -65,7 +65,8 @@ letter_made {F} {scope} {G} {a} {b} {s} {t} {n} key free r made rest = record {
     told = [];
     reports = rest.reports ∙ sym (append-nil a.reports);
     sound = λ r V c l. nothing_met c.kept;
-    complete = λ named V c e h. inl (record { same = refl; types = with_type V n (value_of c.chosen key); on = goes V c e });
+    follows = λ r V c l. refl;
+    complete = λ named V c e h. inl (record { same = refl; types = with_type V n (value_of c.chosen key); on = goes V c e; hidden_too = (tt, tt) });
     first = λ named k V c e h. first_none k c;
   };
   means = record { open_node = opened; is = λ V ch loose g. g.given.0.is };
@@ -97,6 +98,7 @@ node_made {F} {scope} {G} {a} {b} {s} {t} {n} {c} build r opened made rest build
   told = [];
   reports = rest.reports ∙ sym (append-nil a.reports);
   sound = λ r V x l. nothing_met x.kept;
+  follows = λ r V x l. refl;
   complete = λ named V x e h. inl (record {
     same = refl;
     types = with_type V n (build V);
@@ -105,6 +107,7 @@ node_made {F} {scope} {G} {a} {b} {s} {t} {n} {c} build r opened made rest build
       before = older V (build V);
       agrees = agrees_same a b rest.types rest.written e.inside (older V (build V)) e.agrees;
     };
+    hidden_too = (tt, tt);
   });
   first = λ named k V x e h. first_none k x;
 }
@@ -178,12 +181,13 @@ key_known {F} {scope} {G} {a} {m} key p = record {
   told = [];
   reports = sym (append-nil a.reports);
   sound = λ r V c l. record { same = refl; holds = (subst IsKnown (sym l.agrees.given.0.is) l.agrees.given.0.known, tt); tells = refl };
+  follows = λ r V c l. refl;
   complete = λ named. complete;
   first = λ named. first_one (λ c. known (value_of c.chosen key)) complete;
 }
   where
     complete : (V : Types) (c : Context) → Enters F scope a G V c → AllHold c.kept (known (value_of c.chosen key) ∷ []) →
-        Continues F (λ c. known (value_of c.chosen key) ∷ []) a a ((without_unknown key, m) ∷ G) [] V c ⊎ FallsShort [] []
+        Continues F (λ c. known (value_of c.chosen key) ∷ []) a a ((without_unknown key, m) ∷ G) [] [] V c ⊎ FallsShort [] []
     complete V c e h =
         let is = p.is V c.chosen (fits_loosely a.nodes V e.fits) e.agrees in
         let g = e.agrees in
@@ -191,6 +195,7 @@ key_known {F} {scope} {G} {a} {m} key p = record {
           same = refl;
           types = V;
           on = record { fits = e.fits; before = λ i lt. refl; agrees = record { recorded = g.recorded; known = g.known; written = g.written; given = (record { is = is; known = subst IsKnown is h.0 }, g.given) } };
+          hidden_too = (tt, tt);
         })
 
 -- A node whose row gives it a type, and for which nothing is recorded: what the choice has for it is that type.
@@ -205,12 +210,13 @@ same_made {F} {scope} {G} {a} {m} {type} key free p = record {
   sound = λ r V c l.
       let before = agrees_before (stays_opened {F = F} key p.open_node.inside) l.agrees in
       record { same = refl; holds = (l.agrees.given.0.is ∙ sym (p.is V c.chosen (fits_loosely a.nodes V l.reads.fits) before), tt); tells = refl };
+  follows = λ r V c l. refl;
   complete = λ named. complete;
   first = λ named. first_one (λ c. same (value_of c.chosen key) (type c.chosen)) complete;
 }
   where
     complete : (V : Types) (c : Context) → Enters F scope a G V c → AllHold c.kept (same (value_of c.chosen key) (type c.chosen) ∷ []) →
-        Continues F (λ c. same (value_of c.chosen key) (type c.chosen) ∷ []) a a ((key, m) ∷ G) [] V c ⊎ FallsShort [] []
+        Continues F (λ c. same (value_of c.chosen key) (type c.chosen) ∷ []) a a ((key, m) ∷ G) [] [] V c ⊎ FallsShort [] []
     complete V c e h =
         let is = h.0 ∙ p.is V c.chosen (fits_loosely a.nodes V e.fits) e.agrees in
         let g = e.agrees in
@@ -218,6 +224,7 @@ same_made {F} {scope} {G} {a} {m} {type} key free p = record {
           same = refl;
           types = V;
           on = record { fits = e.fits; before = λ i lt. refl; agrees = record { recorded = g.recorded; known = g.known; written = g.written; given = (record { is = is; known = free (V m) }, g.given) } };
+          hidden_too = (tt, tt);
         })
 
 -- What a node that is no expression and no pattern tells first asks nothing.
@@ -229,9 +236,10 @@ told_first {F} {scope} {G} {a} n = record {
   told = [];
   reports = sym (append-nil a.reports);
   sound = λ r V c l. record { same = refl; holds = (tt, tt); tells = refl };
+  follows = λ r V c l. refl;
   complete = λ named. complete;
   first = λ named. first_one (λ c. treated n c.env) complete;
 }
   where
-    complete : (V : Types) (c : Context) → Enters F scope a G V c → AllHold c.kept (tell n c) → Continues F (tell n) a a G [] V c ⊎ FallsShort [] []
-    complete V c e h = inl (record { same = refl; types = V; on = record { fits = e.fits; before = λ i lt. refl; agrees = e.agrees } })
+    complete : (V : Types) (c : Context) → Enters F scope a G V c → AllHold c.kept (tell n c) → Continues F (tell n) a a G [] [] V c ⊎ FallsShort [] []
+    complete V c e h = inl (record { same = refl; types = V; on = record { fits = e.fits; before = λ i lt. refl; agrees = e.agrees }; hidden_too = (tt, tt) })

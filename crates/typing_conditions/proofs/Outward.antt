@@ -23,7 +23,7 @@ use Rattle.typing_conditions.specs.Frames.{Frame, Reaches, IsHeld, IsOpenAt, IsO
 use Rattle.typing_conditions.specs.Meanings.{KnowsWritten}
 use Rattle.typing_conditions.specs.Steps.{OnlyLevel}
 use Rattle.typing_conditions.specs.Carrying.{Asks, Scope, HoldsWritten, Enters, Stays, Carried}
-use Rattle.typing_conditions.proofs.Meaning.{inside_longer}
+use Rattle.typing_conditions.proofs.Meaning.{inside_longer, nodes_in}
 use Rattle.typing_conditions.proofs.Inward.{agrees_as, reached_inward, written_inward}
 
 -- What is done at the end: the level is the outer one again, and of the variables above it exactly those of these names are bound. The names are open nodes of the
@@ -240,6 +240,15 @@ module _ {F : Frame} {scope : Scope} {asks : Asks} {a b c d : Sight} {J : Types}
       unbound = λ k y e v b. at.unbound k y e v (still_bound v b);
       kept = at.kept;
     });
+    follows = λ r V x at. l.part.follows (reached_inward l.goes_in l.only l.raised) V x (record {
+      under = at.under;
+      reads = let (K, own_k, closes) = any_closing in reads_closed c.nodes d.nodes K V names F.level closes at.reads;
+      agrees = agrees_as d c (λ i k. sym (l.out.types i k)) (λ y. sym (l.out.written y)) at.agrees;
+      hidden_too = at.hidden_too;
+      named = named_there at.named;
+      unbound = λ k y e v b. at.unbound k y e v (still_bound v b);
+      kept = at.kept;
+    });
     complete = λ named V x e h. elim (l.part.complete (named_there named) V x (enters V x e) h) [
       | inl goes ↦ inl (record {
         same = goes.same;
@@ -249,6 +258,7 @@ module _ {F : Frame} {scope : Scope} {asks : Asks} {a b c d : Sight} {J : Types}
           before = λ n lt. goes.on.before n (let q : length b.nodes ≡ length a.nodes = ap length l.only.nodes in omega arith);
           agrees = agrees_as c d l.out.types l.out.written goes.on.agrees;
         };
+        hidden_too = let (K, own_k, closes) = any_closing in (nodes_in l.part.hidden c.nodes d.nodes (let q = closes.len in omega arith) goes.hidden_too.0, goes.hidden_too.1);
       })
       | inr short ↦ inr short
     ];

@@ -17,13 +17,13 @@ use Rattle.typing_conditions.specs.Locals.{IsOwn, Refines}
 use Rattle.typing_conditions.proofs.Steps.{refines_none}
 use Rattle.typing_conditions.specs.Sights.{Sight, number_in, Letters, AreNodes, Agrees}
 use Rattle.typing_conditions.specs.Frames.{Frame, Reaches}
-use Rattle.typing_conditions.specs.Judging.{judgements, StartsWith, FallsShort, TellAll, Meets}
+use Rattle.typing_conditions.specs.Judging.{judgements, Follows, StartsWith, FallsShort, TellAll, Meets}
 use Rattle.typing_conditions.specs.Steps.{Records}
-use Rattle.typing_conditions.specs.Carrying.{Asks, Scope, HoldsWritten, Enters, ReadsOff, GoesOn, Stays, Continues, Carried, CarriedTo, EndsAs}
-use Rattle.typing_conditions.proofs.Judged.{hold_both, hold_left, hold_right, judged_both, given_left, given_right, given_both, tell_both, starts_all}
+use Rattle.typing_conditions.specs.Carrying.{Asks, Scope, HoldsWritten, Enters, ReadsOff, GoesOn, Stays, AreHidden, Continues, Carried, CarriedTo, EndsAs}
+use Rattle.typing_conditions.proofs.Judged.{hold_both, hold_left, hold_right, judged_both, given_left, given_right, given_both, tell_both, follows_both, follows_silent, starts_all}
 use Rattle.typing_conditions.proofs.Stays.{stays_trans, stays_closed, named_before, bounds_before}
 use Rattle.typing_conditions.proofs.Framing.{open_on, reaches_same, written_next}
-use Rattle.typing_conditions.proofs.Carried.{Decides, take_none, less_or_more}
+use Rattle.typing_conditions.proofs.Carried.{Decides, hidden_more, take_none, less_or_more}
 use Rattle.typing_conditions.proofs.First.{starts_none}
 
 one_some : (x y : ℕ) → Some x ≡ Some y → x ≡ y
@@ -117,6 +117,7 @@ row_recorded {F} {scope} {asks} {ends} {type} {a} {b} {d} {G} own n {p} {m} numb
     told = it.told;
     reports = r.reports ∙ it.reports;
     sound = sound;
+    follows = follows;
     complete = complete;
     first = first;
   };
@@ -157,7 +158,27 @@ row_recorded {F} {scope} {asks} {ends} {type} {a} {b} {d} {G} own n {p} {m} numb
           tells = subst (TellAll c.kept (asks c ++ ends c)) (append-nil it.told) (tell_both c.kept (asks c) (ends c) it.told [] meets.tells (end.reports_none c));
         }
 
-    goes : (V : Types) (c : Context) → IsKnown (c.chosen.type_at n) → AllHold c.kept (ends c) → (on : Continues F asks a b (own ++ G) it.judged V c) → GoesOn F a d G V on.types c.chosen
+    follows : Reaches F a → (V : Types) (c : Context) → ReadsOff F scope d G (it.hidden ++ own) [] V c → Follows c.kept (tell_typed n c ++ (asks c ++ ends c)) it.judged
+    follows reached V c l =
+        subst (Follows c.kept (asks c ++ ends c)) (append-nil it.judged)
+        (follows_both c.kept (asks c) (ends c) it.judged []
+        (it.follows reached V c (record {
+          under = l.under;
+          reads = (recorded G).reads V l.reads;
+          agrees = record {
+            recorded = λ i q x e. l.agrees.recorded i q x (still_there r i q x e);
+            known = λ i q x e. l.agrees.known i q x (still_there r i q x e);
+            written = λ x y e. l.agrees.written x y (r.written x ∙ e);
+            given = given_both V c.chosen own G (given_right V c.chosen it.hidden own l.hidden_too) l.agrees.given;
+          };
+          hidden_too = given_left V c.chosen it.hidden own l.hidden_too;
+          named = named_before scope (recorded G) l.named;
+          unbound = bounds_before scope c.chosen (recorded G) (it.stays.reaches reached) l.unbound;
+          kept = tt;
+        }))
+        (λ kept. follows_silent c.kept (ends c) (end.silent c)))
+
+    goes : (V : Types) (c : Context) → IsKnown (c.chosen.type_at n) → AllHold c.kept (ends c) → (on : Continues F asks a b (own ++ G) it.hidden it.judged V c) → GoesOn F a d G V on.types c.chosen
     goes V c is_known h on =
         let g = on.on.agrees in
         let here = end.gives c (on.types m) h (row.means.is on.types c.chosen (fits_loosely b.nodes on.types on.on.fits) g) in
@@ -175,14 +196,17 @@ row_recorded {F} {scope} {asks} {ends} {type} {a} {b} {d} {G} own n {p} {m} numb
           };
         }
 
+    hidden_after : (V : Types) (c : Context) → Enters F scope a G V c → (on : Continues F asks a b (own ++ G) it.hidden it.judged V c) → AreHidden (it.hidden ++ own) d on.types c.chosen
+    hidden_after V c e on = let (nodes, given) = hidden_more it.hidden own G b c.chosen on.types (it.stays.inside e.inside).given on.on.agrees.given on.hidden_too in (subst (AreNodes (it.hidden ++ own)) (sym r.nodes) nodes, given)
+
     -- with what the row asks at its end nothing more is judged
     judged_ends : (c : Context) (cs : List Condition) → judgements c.kept cs ≡ [] → judgements c.kept (asks c ++ cs) ≡ judgements c.kept (asks c)
     judged_ends c cs e = judged_both c.kept (asks c) cs ∙ ap (λ js. judgements c.kept (asks c) ++ js) e ∙ append-nil (judgements c.kept (asks c))
 
     complete : HoldsWritten scope d → (V : Types) (c : Context) → Enters F scope a G V c → AllHold c.kept (tell_typed n c ++ (asks c ++ ends c)) →
-        Continues F (λ x. tell_typed n x ++ (asks x ++ ends x)) a d G it.judged V c ⊎ FallsShort (judgements c.kept (asks c ++ ends c)) it.judged
+        Continues F (λ x. tell_typed n x ++ (asks x ++ ends x)) a d G (it.hidden ++ own) it.judged V c ⊎ FallsShort (judgements c.kept (asks c ++ ends c)) it.judged
     complete named V c e h = elim (it.complete (named_before scope (recorded G) named) V c e (hold_left c.kept (asks c) (ends c) h.1.1)) [
-      | inl on ↦ inl (record { same = judged_ends c (ends c) (end.silent c) ∙ on.same; types = on.types; on = goes V c h.1.0 (hold_right c.kept (asks c) (ends c) h.1.1) on })
+      | inl on ↦ inl (record { same = judged_ends c (ends c) (end.silent c) ∙ on.same; types = on.types; on = goes V c h.1.0 (hold_right c.kept (asks c) (ends c) h.1.1) on; hidden_too = hidden_after V c e on })
       | inr short ↦ inr (subst (λ js. FallsShort js it.judged) (sym (judged_ends c (ends c) (end.silent c))) short)
     ]
 

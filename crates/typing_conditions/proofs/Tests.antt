@@ -36,13 +36,14 @@ test_judged {F} {scope} {G} {complaint} {holds} {at} {kind} {place} {a} {b} s tr
     holds = ((λ kept. is.truth c l.under), tt);
     tells = subst (λ t. TellBy t (at c) (test (complaint c) (holds c)) (λ later. later ≡ []) []) (sym l.kept.0) refl;
   };
+  follows = λ r V c l. (refl, λ k. refl);
   complete = λ named V c e h. by V c e (c.kept s) refl;
   first = λ named. first_one (λ c. demand s (at c) (test (complaint c) (holds c))) (λ V c e h. by V c e (c.kept s) refl);
 }
   where
     by : (V : Types) (c : Context) → Enters F scope a G V c → (t : Bool) → c.kept s ≡ t →
-        Continues F (λ c. demand s (at c) (test (complaint c) (holds c)) ∷ []) a b G (judged_as s true) V c ⊎ FallsShort (judged_as s (c.kept s)) (judged_as s true)
-    by V c e true k = inl (record { same = ap (judged_as s) k; types = V; on = goes_as rest e })
+        Continues F (λ c. demand s (at c) (test (complaint c) (holds c)) ∷ []) a b G [] (judged_as s true) V c ⊎ FallsShort (judged_as s (c.kept s)) (judged_as s true)
+    by V c e true k = inl (record { same = ap (judged_as s) k; types = V; on = goes_as rest e; hidden_too = (tt, tt) })
     by V c e false k = inr (falls_short s k)
 test_judged {F} {scope} {G} {complaint} {holds} {at} {kind} {place} {a} {b} s false is rest tells = record {
   stays = reports_stay rest;
@@ -56,14 +57,15 @@ test_judged {F} {scope} {G} {complaint} {holds} {at} {kind} {place} {a} {b} s fa
     tells = subst (λ t. TellBy t (at c) (test (complaint c) (holds c)) (λ later. later ≡ []) (tells.report ∷ [])) (sym l.kept.0)
         (tells.report, [], refl, record { place = tells.place ∙ sym (is.here c l.under); kind = tells.is_kind ∙ sym (is.is_kind c l.under) }, refl);
   };
+  follows = λ r V c l. (refl, λ k. refl);
   complete = λ named V c e h. by V c e h.0 (c.kept s) refl;
   first = λ named. first_one (λ c. demand s (at c) (test (complaint c) (holds c))) (λ V c e h. by V c e h.0 (c.kept s) refl);
 }
   where
     by : (V : Types) (c : Context) → Enters F scope a G V c → (c.kept s ≡ true → holds c ≡ true) → (t : Bool) → c.kept s ≡ t →
-        Continues F (λ c. demand s (at c) (test (complaint c) (holds c)) ∷ []) a b G (judged_as s false) V c ⊎ FallsShort (judged_as s (c.kept s)) (judged_as s false)
+        Continues F (λ c. demand s (at c) (test (complaint c) (holds c)) ∷ []) a b G [] (judged_as s false) V c ⊎ FallsShort (judged_as s (c.kept s)) (judged_as s false)
     by V c e h true k = absurd (not_both (is.truth c e.under) (h k))
-    by V c e h false k = inl (record { same = ap (judged_as s) k; types = V; on = goes_as rest e })
+    by V c e h false k = inl (record { same = ap (judged_as s) k; types = V; on = goes_as rest e; hidden_too = (tt, tt) })
 
 -- the demand of a closing, as it is judged
 abbrev pub closing_as : Site → Bool → List Judgement
@@ -81,9 +83,9 @@ pub closing_judged : {F : Frame} {scope : Scope} {G : Letters} {env : Context �
 closing_judged {F} {scope} {G} {env} {body} {a} {b} s at v rest tells = by v tells
   where
     complete : (v : Bool) (V : Types) (c : Context) → Enters F scope a G V c → AllHold c.kept (demand s at (closes (env c) (body c)) ∷ []) →
-        Continues F (λ c. demand s at (closes (env c) (body c)) ∷ []) a b G (closing_as s v) V c ⊎ FallsShort (closing_as s (c.kept s)) (closing_as s v)
+        Continues F (λ c. demand s at (closes (env c) (body c)) ∷ []) a b G [] (closing_as s v) V c ⊎ FallsShort (closing_as s (c.kept s)) (closing_as s v)
     complete v V c e h = elim (same_or_not (c.kept s) v) [
-      | inl one ↦ inl (record { same = ap (closing_as s) one; types = V; on = goes_as rest e })
+      | inl one ↦ inl (record { same = ap (closing_as s) one; types = V; on = goes_as rest e; hidden_too = (tt, tt) })
       | inr other ↦ inr (record { before = []; site = s; mine = c.kept s; theirs = v; closing = true; left = []; right = []; short = refl; full = refl; why = inr (refl, other) })
     ]
 
@@ -95,6 +97,7 @@ closing_judged {F} {scope} {G} {env} {body} {a} {b} s at v rest tells = by v tel
       told = [];
       reports = tells ∙ sym (append-nil a.reports);
       sound = λ r V c l. record { same = ap (closing_as s) l.kept.0; holds = ((λ kept. tt), tt); tells = subst (λ t. TellBy t at (closes (env c) (body c)) (λ later. later ≡ []) []) (sym l.kept.0) refl };
+      follows = λ r V c l. (refl, λ k. refl);
       complete = λ named. complete true;
       first = λ named. first_one (λ c. demand s at (closes (env c) (body c))) (complete true);
     }
@@ -109,6 +112,7 @@ closing_judged {F} {scope} {G} {env} {body} {a} {b} s at v rest tells = by v tel
         holds = ((λ kept. tt), tt);
         tells = subst (λ t. TellBy t at (closes (env c) (body c)) (λ later. later ≡ []) (tells.report ∷ [])) (sym l.kept.0) (tells.report, [], refl, record { place = tells.place; kind = tells.is_kind }, refl);
       };
+      follows = λ r V c l. (refl, λ k. refl);
       complete = λ named. complete false;
       first = λ named. first_one (λ c. demand s at (closes (env c) (body c))) (complete false);
     }

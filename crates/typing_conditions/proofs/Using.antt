@@ -29,6 +29,7 @@ use Rattle.typing_conditions.specs.Judging.{judgements, StartsWith, TellAll}
 use Rattle.typing_conditions.specs.Steps.{OnlyNodes}
 use Rattle.typing_conditions.specs.Carrying.{Scope, HoldsWritten, Enters, ReadsOff, Stays, Continues, CarriedTo}
 use Rattle.typing_conditions.specs.Surroundings.{Declared, Surrounds}
+use Rattle.typing_conditions.proofs.Judged.{follows_silent}
 use Rattle.typing_conditions.proofs.Stays.{agrees_before, named_before, bounds_before}
 use Rattle.typing_conditions.proofs.Framing.{open_instance, written_next}
 use Rattle.typing_conditions.proofs.Carried.{take_none}
@@ -88,6 +89,7 @@ name_used {D} {F} {scope} {G} {env} {a} {b} {ms} {x} {m} key free at it = record
       holds = sound V c l;
       tells = used_tells c.kept (scheme_found c.env ms x) (value_of c.chosen key);
     };
+    follows = λ r V c l. follows_silent c.kept (used_if (scheme_found c.env ms x) (value_of c.chosen key)) (used_silent c.kept (scheme_found c.env ms x) (value_of c.chosen key));
     complete = λ named V c e h. inl (complete named V c e h);
     first = λ named k V c e h. inl (subst (StartsWith []) (sym (used_silent_first c.kept k (scheme_found c.env ms x) (value_of c.chosen key))) (starts_none []));
   };
@@ -132,7 +134,7 @@ name_used {D} {F} {scope} {G} {env} {a} {b} {ms} {x} {m} key free at it = record
         used_holds c.kept (scheme_found c.env ms x) found.scheme (value_of c.chosen key) (ap (λ E. scheme_found E ms x) l.under.env ∙ found.is) (subst (IsUse found.scheme) (sym l.agrees.given.0.is) used)
 
     complete : HoldsWritten scope b → (V : Types) (c : Context) → Enters F scope a G V c → AllHold c.kept (used_if (scheme_found c.env ms x) (value_of c.chosen key)) →
-        Continues F (λ y. used_if (scheme_found y.env ms x) (value_of y.chosen key)) a b ((key, m) ∷ G) [] V c
+        Continues F (λ y. used_if (scheme_found y.env ms x) (value_of y.chosen key)) a b ((key, m) ∷ G) [] [] V c
     complete named V c e h =
         let stand = at.fits own.0 V c.chosen own.1 (fits_loosely a.nodes V e.fits) e.agrees (named_before scope stays named) in
         let found = finds_scheme (λ k sc. SchemeFits a.nodes V k sc × IsIn at.roots k) (D.declaration a.nodes at.roots at.names) (D.exception a.nodes at.roots at.names) it.root ms x it.entry it.finds it.is stand.names in
@@ -143,4 +145,5 @@ name_used {D} {F} {scope} {G} {env} {a} {b} {ms} {x} {m} key free at it = record
           same = used_silent c.kept (scheme_found c.env ms x) (value_of c.chosen key);
           types = W;
           on = record { fits = fits; before = same; agrees = record { recorded = g.recorded; known = g.known; written = g.written; given = (record { is = sym is; known = free (W m) }, g.given) } };
+          hidden_too = (tt, tt);
         }

@@ -113,7 +113,8 @@ module _ (F : Frame) (a b : Sight) (s t : List Change) (n : ℕ) (x : Name) (r :
       told = [];
       reports = w.reports ∙ sym (append-nil a.reports);
       sound = λ r V c l. nothing_met c.kept;
-      complete = λ named V c e h. inl (record { same = refl; types = with_type V n (c.chosen.written F.owner x); on = goes V c e });
+      follows = λ r V c l. refl;
+      complete = λ named V c e h. inl (record { same = refl; types = with_type V n (c.chosen.written F.owner x); on = goes V c e; hidden_too = (tt, tt) });
       first = λ named k V c e h. first_none k c;
     };
     means = record { open_node = open_lower (min_left F.level 1) written_open; is = λ V ch loose g. g.written x n w.now };

@@ -9,10 +9,10 @@ use Rattle.type_nodes.specs.Readings.{Types, Fits, IsReading}
 use Rattle.level_unify.specs.Solutions.{Loose}
 use Rattle.level_unify.specs.Instances.{is_bound}
 use Rattle.typing_conditions.specs.Locals.{IsOwn, Refines}
-use Rattle.typing_conditions.specs.Sights.{Report, Sight, Letters, AreGiven, Agrees, IsInside, SameAt}
+use Rattle.typing_conditions.specs.Sights.{Report, Sight, Letters, AreGiven, AreNodes, Agrees, IsInside, SameAt}
 use Rattle.typing_conditions.specs.Frames.{Frame, Reaches}
 use Rattle.typing_conditions.specs.Meanings.{Means, KnowsWritten}
-use Rattle.typing_conditions.specs.Judging.{Judgement, judgements, AreKept, StartsWith, FallsShort, TellAll, Meets}
+use Rattle.typing_conditions.specs.Judging.{Judgement, judgements, AreKept, Follows, StartsWith, FallsShort, TellAll, Meets}
 
 -- what a part asks, by the context in which it stands
 abbrev pub Asks : Type 0
@@ -78,19 +78,25 @@ pub record Stays (F : Frame) (a : Sight) (G : Letters) (b : Sight) (G' : Letters
   pub level : b.level ≡ a.level
   pub fixed : b.fixed ≡ a.fixed
 
--- the demands are judged as they were, and the types go on
-pub record Continues (F : Frame) (asks : Asks) (a b : Sight) (G : Letters) (judged : List Judgement) (V : Types) (c : Context) : Type 0 where
+-- letters that a row has no more use for stand for nodes of the store still, and have the types of the choice
+abbrev pub AreHidden : Letters → Sight → Types → Choice → Type 0
+AreHidden hidden b W ch = AreNodes hidden b.nodes × AreGiven hidden W ch
+
+-- the demands are judged as they were, and the types go on, those of hidden letters too
+pub record Continues (F : Frame) (asks : Asks) (a b : Sight) (G hidden : Letters) (judged : List Judgement) (V : Types) (c : Context) : Type 0 where
   pub same : judgements c.kept (asks c) ≡ judged
   pub types : Types
   pub on : GoesOn F a b G V types c.chosen
+  pub hidden_too : AreHidden hidden b types c.chosen
 
 -- What conditions ask was done, from one state to another, where the letters G are open before and G' after.
 -- `sound`: where typing in the frame reached the state before, each reading of the state after meets the conditions, under the demands that were kept, and what
 -- was reported are the others, in order.
+-- `follows`: each reading of the state after, whatever demands are kept, asks the demands that were judged, in order, as long as they are kept as they were judged.
 -- `complete`: types that fitted before and meet the conditions, under any set of kept demands, keep the same demands and go on; or they are the first not to
 -- keep one that was kept. So a demand that wasn't kept never is, together with those before it.
 -- `first`: the same of the demands alone for the first conditions, where only they are met.
--- All three are for scopes that hold the type variables that are written after it.
+-- All four are for scopes that hold the type variables that are written after it.
 pub record Carried (F : Frame) (scope : Scope) (asks : Asks) (a : Sight) (G : Letters) (b : Sight) (G' : Letters) : Type 0 where
   pub stays : Stays F a G b G'
   pub hidden : Letters
@@ -98,7 +104,8 @@ pub record Carried (F : Frame) (scope : Scope) (asks : Asks) (a : Sight) (G : Le
   pub told : List Report
   pub reports : b.reports ≡ a.reports ++ told
   pub sound : Reaches F a → (V : Types) (c : Context) → ReadsOff F scope b G' hidden judged V c → Meets c.kept (asks c) judged told
-  pub complete : HoldsWritten scope b → (V : Types) (c : Context) → Enters F scope a G V c → AllHold c.kept (asks c) → Continues F asks a b G' judged V c ⊎ FallsShort (judgements c.kept (asks c)) judged
+  pub follows : Reaches F a → (V : Types) (c : Context) → ReadsOff F scope b G' hidden [] V c → Follows c.kept (asks c) judged
+  pub complete : HoldsWritten scope b → (V : Types) (c : Context) → Enters F scope a G V c → AllHold c.kept (asks c) → Continues F asks a b G' hidden judged V c ⊎ FallsShort (judgements c.kept (asks c)) judged
   pub first : HoldsWritten scope b → (k : ℕ) (V : Types) (c : Context) → Enters F scope a G V c → AllHold c.kept (take k (asks c)) →
       StartsWith judged (judgements c.kept (take k (asks c))) ⊎ FallsShort (judgements c.kept (take k (asks c))) judged
 

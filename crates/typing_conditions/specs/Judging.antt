@@ -53,6 +53,21 @@ pub record FallsShort (xs ys : List Judgement) : Type 0 where
   pub full : ys ≡ before ++ judged_at site theirs closing ∷ right
   pub why : ((mine ≡ false) × (theirs ≡ true)) ⊎ ((closing ≡ true) × (mine ≢ theirs))
 
+-- a demand was judged first; `Rest` is for the judgements after it, where it is kept as it was judged
+abbrev pub JudgedBy : (Site → Bool) → Site → (List Judgement → Type 0) → List Judgement → Type 0
+JudgedBy kept s Rest [] = ⊥
+JudgedBy kept s Rest (j ∷ js) = (j.site ≡ s) × (kept j.site ≡ j.kept → Rest js)
+
+-- the judgements are those of the demands of conditions, in order, as long as the demands are kept as they were judged
+abbrev pub Follows : (Site → Bool) → List Condition → List Judgement → Type 0
+Follows kept [] js = js ≡ []
+Follows kept (same t u ∷ cs) js = Follows kept cs js
+Follows kept (instance s t ∷ cs) js = Follows kept cs js
+Follows kept (made n t ∷ cs) js = Follows kept cs js
+Follows kept (known t ∷ cs) js = Follows kept cs js
+Follows kept (demand s at d ∷ cs) js = JudgedBy kept s (λ later. Follows kept cs later) js
+Follows kept (treated n env ∷ cs) js = Follows kept cs js
+
 -- a list of judgements begins with others
 pub record StartsWith (js first : List Judgement) : Type 0 where
   pub rest : List Judgement

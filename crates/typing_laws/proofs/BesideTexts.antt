@@ -4,7 +4,7 @@ use mathlib.Core.List.{reverse_aux}
 use Rattle.std.specs.List.{cons_option}
 use Rattle.token_model.specs.Kinds.{Tok}
 use Rattle.tree_model.specs.Trees as place
-use Rattle.tree_model.specs.Trees.{Tree, node, Forest, Part, inner, part_yield}
+use Rattle.tree_model.specs.Trees.{Tree, node, inner, part_yield}
 use Rattle.tree_model.specs.Rows.{Row, let_row, type_row, exception_row, break_row}
 use Rattle.type_model.specs.Types.{Path, Typ, Var, Arrow, Tuple, Con}
 use Rattle.type_model.specs.Substitutions.{apply}

@@ -5,12 +5,12 @@ use Rattle.token_model.specs.Kinds.{Tok}
 use Rattle.tree_model.specs.Trees.{Place, place, Tree, Forest, Part, node, no_parts, part, taken, inner, missing, part_size, part_yield}
 use Rattle.tree_model.specs.Rows.{Row, con_row, label_row, decl_row, alias_row, variant_row, record_row, tvar_row, tcon_row, tparen_row, tapp_row, ttuple_row, tarrow_row, val_row, type_row, exception_row, gmodule_row, modtype_row, open_row, include_row, ypath_row, ysig_row, yparen_row, ywith_row, yfunctor_row}
 use Rattle.type_model.specs.Types.{Path, Typ, Arrow, Tuple, types_of}
-use Rattle.signature_model.specs.Declarations.{Name, Declaration, type_of, in_text, Shape, Constructor, Label, Own, unknown}
+use Rattle.signature_model.specs.Declarations.{Name, Declaration, type_of, in_text, Shape, Constructor, Label, Own}
 use Rattle.signature_model.specs.Declarations as declared
 use Rattle.signature_model.specs.Components.{same_name}
 use Rattle.signature_model.specs.Changes.{argument}
 use Rattle.signature_model.specs.Matching.{used}
-use Rattle.signature_model.specs.Signatures.{Signature, Structure, Functor, Components, Component, Meaning, TypeName, Exception, Module, Template, template, components_of}
+use Rattle.signature_model.specs.Signatures.{Signature, Structure, Components, Component, Exception, Module, template}
 use Rattle.signature_model.specs.Signatures as signatures
 use Rattle.signature_model.specs.Templates.{made_at, origins_at}
 use Rattle.signature_model.specs.Entries.{Environment, Entry, entry, a_type, a_value, an_exception, a_module, a_module_type, type_kind, entries_of_shape}
@@ -21,7 +21,7 @@ use Rattle.typing_model.specs.Parts as parts
 use Rattle.typing_model.specs.Parts.{Written, TypeExpression, Parameter, ConstructorPart, LabelPart, Told, constructors, labels, RightSide, another, own, DeclarationPart, Item, Seen, Child, in_slot, path_in, token_in, optional_tokens_in, types_in, type_in, module_types_in, module_type_in, first_of, no_type_at, no_module_type_at, place_of, no_names, seen_too}
 use Rattle.typing_model.specs.Names.{names_of, then_by, referent_of, declaration_in}
 use Rattle.typing_model.specs.TypeExpressions as types
-use Rattle.typing_model.specs.TypeExpressions.{index_from, variable_asks, tvar, types_of_nodes, nodes_of, read_all, declared_type, applied_to, constructor_asks, tcon, tapp, in_parentheses, equal_of_one, grouped_nodes, tparen, ttuple, tarrow}
+use Rattle.typing_model.specs.TypeExpressions.{index_from, variable_asks, tvar, nodes_of, read_all, declared_type, applied_to, constructor_asks, tcon, tapp, in_parentheses, tparen, ttuple, tarrow}
 use Rattle.typing_model.specs.Declarations.{constructor_of, label_of, variant_of, shape_of, declaration_of, type_entry, entries_of_part, entries_of_group, names_of_types, names_of_tokens, names_asked, read_optional, constructors_read, labels_read, shape_asks, right_asks, declaration_asks, declarations_ask, cycles_asked, group_asks, new_tokens, right_side_row}
 use Rattle.typing_model.specs.Patterns.{ask_all}
 use Rattle.typing_model.specs.Items.{type_components, origin_by, origins_of_group, items_ask, components_of_items, made_by_items, behind_items, signature_of_items, newest_alone, then_components, type_item, exception_item, variables_written}

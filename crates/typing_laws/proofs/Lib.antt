@@ -7,8 +7,10 @@ pub mod Alike
 pub mod Existing
 pub mod Choices
 pub mod Together
+pub mod Whole
 pub mod Steady
 pub mod SteadyTypes
+pub mod WholeTypes
 pub mod SteadyPatterns
 pub mod SteadyBindings
 pub mod SteadyExpressions
@@ -17,6 +19,8 @@ pub mod SteadyItems
 pub mod SteadyModules
 pub mod SteadyRows
 pub mod SteadyTexts
+pub mod WholeTexts
+pub mod Settled
 pub mod Decided
 pub mod Labelled
 pub mod Beside

@@ -7,13 +7,13 @@ use Rattle.signature_model.specs.Declarations.{Name}
 use Rattle.signature_model.specs.Entries.{Environment}
 use Rattle.signature_model.specs.Signatures.{Signature}
 use Rattle.typing_model.specs.Demands.{Site, site, same_site, Demand, equal, test, agrees, matches, closes, cyclic, twice, Condition, demand_of}
-use Rattle.typing_model.specs.Contexts.{Context, Bound, parameters, under, type_at, letter, ask, with_names}
+use Rattle.typing_model.specs.Contexts.{Context, Bound, parameters, under, type_at, letter, ask, with_names, Choice}
 use Rattle.typing_model.specs.Parts.{Expression, Pattern, TypeExpression, Binding, ConstructorPart, LabelPart, Told, constructors, labels, RightSide, another, own, DeclarationPart, Item, Seen, Child, in_slot, path_in, token_in, expressions_in, expression_in, patterns_in, pattern_in, types_in, type_in, first_of, no_expression_at, no_pattern_at, no_type_at, place_of, no_names, seen_too}
 use Rattle.typing_model.specs.BuiltIns.{exn_type}
 use Rattle.typing_model.specs.Names.{then_by}
 use Rattle.typing_model.specs.Patterns.{all_names, behind_first, first_type, pattern_row}
 use Rattle.typing_model.specs.TypeExpressions as types
-use Rattle.typing_model.specs.Expressions.{has_type, first_body, expression_row, cases_in, fields_in, bindings_in, is_some, update_expression, record_expression, name_of, loop_names, expression}
+use Rattle.typing_model.specs.Expressions.{expression_row, cases_in, fields_in, bindings_in, is_some, update_expression, record_expression, name_of, loop_names, expression}
 use Rattle.typing_model.specs.Expressions as expressions
 use Rattle.typing_model.specs.Bindings.{names_of_group, within_let}
 use Rattle.typing_model.specs.Declarations.{names_asked, names_of_types, read_optional, constructors_read, labels_read, constructors_new, labels_new, shape_asks, reexport_asked, names_itself, shape_of, token_name, right_asks, declarations_ask, abbreviation_in, contains_itself, cycles_asked, new_tokens, names_of_tokens, told_row, right_side_row}
@@ -21,7 +21,7 @@ use Rattle.typing_model.specs.Records.{is_among}
 use Rattle.typing_model.specs.Items.{inside_item, names_made, let_item, type_item, exception_item, items_ask}
 use Rattle.typing_model.specs.Modules.{item_row}
 use Rattle.typing_model.specs.Meanings.{binding_of, case_of, field_of, field_pattern_of, constructor_of, label_of, declaration_of, recorded_item, node_child, leaf_child, children_of, child_of, tree_child, item_base, items_from, items_of}
-use Rattle.typing_model.specs.Typings.{outermost, no_choice, body_in, body_asked, body_at, is_closing}
+use Rattle.typing_model.specs.Typings.{outermost, conditions_of, no_choice, body_in, body_asked, body_at, is_closing}
 use Rattle.typing_laws.specs.Plain.{is_plain_row, is_plain_item, has_no_modules}
 use Rattle.typing_laws.proofs.Bools.{no_yes, and_cases}
 use Rattle.typing_laws.proofs.Together.{is_end}
@@ -403,5 +403,9 @@ quiet_site s (q_made h) = quiet_site s h
 quiet_site s (q_known h) = quiet_site s h
 quiet_site s (q_treated h) = quiet_site s h
 
+-- a text without modules asks for no closing, whatever is kept and chosen
+pub text_quiet : (env : Environment) (text : List Tree) (kept : Site → Bool) (choice : Choice) → has_no_modules text ≡ true → Quiet (conditions_of env text kept choice)
+text_quiet env text kept choice plain = all_items_quiet (outermost env kept choice) no_names (items_of text) (items_quiet 1 text plain)
+
 pub no_closings : (env : Environment) (text : List Tree) (kept : Site → Bool) → has_no_modules text ≡ true → (s : Site) → is_closing env text kept s ≡ false
-no_closings env text kept plain s = quiet_site s (all_items_quiet (outermost env kept no_choice) no_names (items_of text) (items_quiet 1 text plain))
+no_closings env text kept plain s = quiet_site s (text_quiet env text kept no_choice plain)

@@ -11,6 +11,7 @@ use Rattle.typing_model.specs.Contexts.{Context, Bound, under, entries_with, wit
 use Rattle.typing_model.specs.Names.{then_by, referent_of, declaration_in}
 use Rattle.typing_model.specs.Parts.{Form, a_constructor, a_path, a_float, a_false, a_field, no_expression, other, Expression, Pattern, TypeExpression, Binding, Case, Field, FieldPattern, ConstructorPart, LabelPart, Told, constructors, labels, RightSide, another, own, DeclarationPart, ModuleExpression, ModuleType, WithClause, Parameter, Seen, Item, Child}
 use Rattle.typing_laws.proofs.Together.{Kept, keeping, Together, Agreed}
+use Rattle.typing_laws.proofs.Whole.{Whole}
 
 -- each of a list has a property
 pub data Each {A : Type 0} (P : A → Type 0) : List A → Type 0 where
@@ -38,6 +39,12 @@ declares (Some d) = true
 pub record TypesAlike (E F : Environment) : Type 0 where
   pub finds : (path : List Name) (n : Name) → declares (then_by (referent_of (lookup E path type_kind n)) declaration_in) ≡ declares (then_by (referent_of (lookup F path type_kind n)) declaration_in)
 
+-- a type expression asks the same of both where it stands in one environment
+pub record WholeType (k m : Kept) (t : TypeExpression) : Type 0 where
+  pub reads : (c : Context) → Whole k m (t.read (keeping k c)) (t.read (keeping m c))
+  pub reads_group : (c : Context) → Whole k m (t.grouped_read (keeping k c)) (t.grouped_read (keeping m c))
+
+-- and it has the same demands in two where the same declarations are found
 pub record SteadyType (k m : Kept) (t : TypeExpression) : Type 0 where
   pub reads : (c : Context) (E F : Environment) → TypesAlike E F → Together k m (t.read (under E (keeping k c))) (t.read (under F (keeping m c)))
   pub reads_group : (c : Context) (E F : Environment) → TypesAlike E F → Together k m (t.grouped_read (under E (keeping k c))) (t.grouped_read (under F (keeping m c)))
@@ -53,19 +60,19 @@ IsFormSteady k m typed no_expression = Unit {0}
 IsFormSteady k m typed other = Unit {0}
 
 pub record SteadyExpression (k m : Kept) (e : Expression) : Type 0 where
-  pub types : (c : Context) → Together k m (e.typed (keeping k c)) (e.typed (keeping m c))
-  pub negates : (c : Context) → Together k m (e.negated (keeping k c)) (e.negated (keeping m c))
+  pub types : (c : Context) → Whole k m (e.typed (keeping k c)) (e.typed (keeping m c))
+  pub negates : (c : Context) → Whole k m (e.negated (keeping k c)) (e.negated (keeping m c))
   pub values : (c : Context) → e.is_value (keeping k c) ≡ e.is_value (keeping m c)
   pub forms : IsFormSteady k m e.typed e.form
 
 pub record SteadyPattern (k m : Kept) (p : Pattern) : Type 0 where
   pub binds : Each (SameName k m) p.names
-  pub matches : (c : Context) (seen : List Name) → Together k m (p.matched (keeping k c) seen) (p.matched (keeping m c) seen)
+  pub matches : (c : Context) (seen : List Name) → Whole k m (p.matched (keeping k c) seen) (p.matched (keeping m c) seen)
 
 pub record SteadyBinding (k m : Kept) (b : Binding) : Type 0 where
   pub pattern : SteadyPattern k m b.pattern
   pub parameters : Each (SteadyPattern k m) b.parameters
-  pub annotation : IfThere (SteadyType k m) b.annotation
+  pub annotation : IfThere (WholeType k m) b.annotation
   pub body : SteadyExpression k m b.body
 
 pub record SteadyCase (k m : Kept) (a : Case) : Type 0 where
@@ -123,6 +130,7 @@ pub record SteadyChild (k m : Kept) (x : Child) : Type 0 where
   pub expression : SteadyExpression k m x.expression
   pub pattern : SteadyPattern k m x.pattern
   pub type_expression : SteadyType k m x.type_expression
+  pub whole_type : WholeType k m x.type_expression
   pub binding : IfThere (SteadyBinding k m) x.binding
   pub case : IfThere (SteadyCase k m) x.case
   pub field : IfThere (SteadyField k m) x.field
@@ -149,7 +157,7 @@ entries_alike {k} {m} scheme c E (one_and {x = b} {xs = bs} p h) =
     entries_alike scheme c (entry b.name (in_text b.place) (a_value (scheme (b.has_type (keeping k c)))) ∷ E) h ∙
     ap (λ t. entries_with scheme (keeping m c) bs (entry b.name (in_text b.place) (a_value (scheme t)) ∷ E)) (p.one c)
 
--- what stands in scope of names with one type each goes together
-pub in_scope : {k m : Kept} (f : Context → List Condition) (c : Context) (bs : List Bound) → Each (SameName k m) bs → ((d : Context) → Together k m (f (keeping k d)) (f (keeping m d))) →
-    Together k m (f (with_names (keeping k c) bs)) (f (with_names (keeping m c) bs))
-in_scope {k} {m} f c bs each h = subst (λ E. Together k m (f (with_names (keeping k c) bs)) (f (under E (keeping m c)))) (entries_alike monomorphic c c.env each) (h (with_names (keeping k c) bs))
+-- what stands in scope of names with one type each is one for both
+pub in_scope : {k m : Kept} (f : Context → List Condition) (c : Context) (bs : List Bound) → Each (SameName k m) bs → ((d : Context) → Whole k m (f (keeping k d)) (f (keeping m d))) →
+    Whole k m (f (with_names (keeping k c) bs)) (f (with_names (keeping m c) bs))
+in_scope {k} {m} f c bs each h = subst (λ E. Whole k m (f (with_names (keeping k c) bs)) (f (under E (keeping m c)))) (entries_alike monomorphic c c.env each) (h (with_names (keeping k c) bs))

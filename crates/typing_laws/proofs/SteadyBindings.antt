@@ -7,19 +7,20 @@ use Rattle.typing_model.specs.Contexts.{Context, Bound, under, with_names, entri
 use Rattle.typing_model.specs.Parts.{Pattern, TypeExpression, Binding}
 use Rattle.typing_model.specs.Patterns.{all_names}
 use Rattle.typing_model.specs.Bindings.{matched_apart, read_annotation, right_side, names_of_group, bound_in_turn, patterns_first, right_sides, bindings_ask, generalises, held_by, types_written, behind_group, within_let}
-use Rattle.typing_laws.proofs.Together.{Kept, keeping, Together, at_end, at_treated, alone, behind}
-use Rattle.typing_laws.proofs.Steady.{Each, no_one, one_and, each_append, IfThere, absent, there, SameName, SteadyType, SteadyPattern, SteadyBinding, as_itself, entries_alike, in_scope}
+use Rattle.typing_laws.proofs.Together.{Kept, keeping}
+use Rattle.typing_laws.proofs.Whole.{Whole, at_end, at_treated, alone, behind}
+use Rattle.typing_laws.proofs.Steady.{Each, no_one, one_and, each_append, IfThere, absent, there, SameName, WholeType, SteadyPattern, SteadyBinding, entries_alike, in_scope}
 use Rattle.typing_laws.proofs.SteadyPatterns.{all_names_one}
 
-pub apart_alike : {k m : Kept} (c : Context) (ps : List Pattern) → Each (SteadyPattern k m) ps → Together k m (matched_apart (keeping k c) ps) (matched_apart (keeping m c) ps)
+pub apart_alike : {k m : Kept} (c : Context) (ps : List Pattern) → Each (SteadyPattern k m) ps → Whole k m (matched_apart (keeping k c) ps) (matched_apart (keeping m c) ps)
 apart_alike c [] no_one = at_end
 apart_alike c (p ∷ ps) (one_and s each) = behind (s.matches c []) (λ a. apart_alike c ps each)
 
-annotation_alike : {k m : Kept} (c : Context) (t : Option TypeExpression) → IfThere (SteadyType k m) t → Together k m (read_annotation (keeping k c) t) (read_annotation (keeping m c) t)
+annotation_alike : {k m : Kept} (c : Context) (t : Option TypeExpression) → IfThere (WholeType k m) t → Whole k m (read_annotation (keeping k c) t) (read_annotation (keeping m c) t)
 annotation_alike c None absent = at_end
-annotation_alike c (Some t) (there s) = s.reads c c.env c.env (as_itself c.env)
+annotation_alike c (Some t) (there s) = s.reads c
 
-right_side_alike : {k m : Kept} (b : Binding) → SteadyBinding k m b → (c : Context) → Together k m (right_side (keeping k c) b) (right_side (keeping m c) b)
+right_side_alike : {k m : Kept} (b : Binding) → SteadyBinding k m b → (c : Context) → Whole k m (right_side (keeping k c) b) (right_side (keeping m c) b)
 right_side_alike b s c =
     behind (behind (behind (apart_alike c b.parameters s.parameters) (λ a. annotation_alike c b.annotation s.annotation))
     (λ a. in_scope b.body.typed c (all_names b.parameters) (all_names_one b.parameters s.parameters) s.body.types)) (λ a. alone _)
@@ -28,22 +29,22 @@ pub group_names_one : {k m : Kept} (bs : List Binding) → Each (SteadyBinding k
 group_names_one [] no_one = no_one
 group_names_one (b ∷ bs) (one_and s each) = each_append s.pattern.binds (group_names_one bs each)
 
-in_turn_alike : {k m : Kept} (c : Context) (seen : List Name) (bs : List Binding) → Each (SteadyBinding k m) bs → Together k m (bound_in_turn (keeping k c) seen bs) (bound_in_turn (keeping m c) seen bs)
+in_turn_alike : {k m : Kept} (c : Context) (seen : List Name) (bs : List Binding) → Each (SteadyBinding k m) bs → Whole k m (bound_in_turn (keeping k c) seen bs) (bound_in_turn (keeping m c) seen bs)
 in_turn_alike c seen [] no_one = at_end
 in_turn_alike c seen (b ∷ bs) (one_and s each) =
     at_treated (behind (behind (behind (right_side_alike b s c) (λ a. s.pattern.matches c seen)) (λ a. alone _)) (λ a. in_turn_alike c (seen ++ b.pattern.mentions) bs each))
 
-patterns_alike : {k m : Kept} (c : Context) (seen : List Name) (bs : List Binding) → Each (SteadyBinding k m) bs → Together k m (patterns_first (keeping k c) seen bs) (patterns_first (keeping m c) seen bs)
+patterns_alike : {k m : Kept} (c : Context) (seen : List Name) (bs : List Binding) → Each (SteadyBinding k m) bs → Whole k m (patterns_first (keeping k c) seen bs) (patterns_first (keeping m c) seen bs)
 patterns_alike c seen [] no_one = at_end
 patterns_alike c seen (b ∷ bs) (one_and s each) = at_treated (behind (s.pattern.matches c seen) (λ a. patterns_alike c (seen ++ b.pattern.mentions) bs each))
 
 right_sides_alike : {k m : Kept} (c : Context) (group : List Bound) (bs : List Binding) → Each (SameName k m) group → Each (SteadyBinding k m) bs →
-    Together k m (right_sides (keeping k c) (with_names (keeping k c) group) bs) (right_sides (keeping m c) (with_names (keeping m c) group) bs)
+    Whole k m (right_sides (keeping k c) (with_names (keeping k c) group) bs) (right_sides (keeping m c) (with_names (keeping m c) group) bs)
 right_sides_alike c group [] names no_one = at_end
 right_sides_alike c group (b ∷ bs) names (one_and s each) =
     behind (behind (in_scope (λ d. right_side d b) c group names (right_side_alike b s)) (λ a. alone _)) (λ a. right_sides_alike c group bs names each)
 
-pub bindings_alike : {k m : Kept} (c : Context) (is_rec : Bool) (bs : List Binding) → Each (SteadyBinding k m) bs → Together k m (bindings_ask (keeping k c) is_rec bs) (bindings_ask (keeping m c) is_rec bs)
+pub bindings_alike : {k m : Kept} (c : Context) (is_rec : Bool) (bs : List Binding) → Each (SteadyBinding k m) bs → Whole k m (bindings_ask (keeping k c) is_rec bs) (bindings_ask (keeping m c) is_rec bs)
 bindings_alike c true bs each = behind (patterns_alike c [] bs each) (λ a. right_sides_alike c (names_of_group bs) bs (group_names_one bs each) each)
 bindings_alike c false bs each = in_turn_alike c [] bs each
 
@@ -78,7 +79,7 @@ behind_alike {k} {m} c held bs each =
     entries_alike (generalised_in c.env (held ++ held_by (keeping k c) bs)) c c.env (group_names_one bs each) ∙
     ap (λ ts. entries_with (generalised_in c.env (held ++ ts)) (keeping m c) (names_of_group bs) c.env) (held_alike c bs each)
 
-pub in_let : {k m : Kept} (f : Context → List Condition) (c : Context) (bs : List Binding) → Each (SteadyBinding k m) bs → ((d : Context) → Together k m (f (keeping k d)) (f (keeping m d))) →
-    Together k m (f (within_let (keeping k c) bs)) (f (within_let (keeping m c) bs))
+pub in_let : {k m : Kept} (f : Context → List Condition) (c : Context) (bs : List Binding) → Each (SteadyBinding k m) bs → ((d : Context) → Whole k m (f (keeping k d)) (f (keeping m d))) →
+    Whole k m (f (within_let (keeping k c) bs)) (f (within_let (keeping m c) bs))
 in_let {k} {m} f c bs each h =
-    subst (λ E. Together k m (f (within_let (keeping k c) bs)) (f (under E (keeping m c)))) (behind_alike c (types_written c c.variables) bs each) (h (within_let (keeping k c) bs))
+    subst (λ E. Whole k m (f (within_let (keeping k c) bs)) (f (under E (keeping m c)))) (behind_alike c (types_written c c.variables) bs each) (h (within_let (keeping k c) bs))

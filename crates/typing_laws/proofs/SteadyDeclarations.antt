@@ -2,7 +2,7 @@
 use Rattle.std.proofs.Common.{◌≡◌, ℕ, Bool, true, false, List, [], ◌∷◌, ◌++◌, length, Option, Some, None, refl, sym, ◌∙◌, ap, subst, if◌then◌else◌}
 use Rattle.token_model.specs.Kinds.{Tok}
 use Rattle.tree_model.specs.Trees.{Place}
-use Rattle.signature_model.specs.Declarations.{Name, Declaration, Shape, Definition, Own, Is}
+use Rattle.signature_model.specs.Declarations.{Name, Declaration, Shape, Own, Is}
 use Rattle.signature_model.specs.Declarations as declared
 use Rattle.signature_model.specs.Components.{same_name}
 use Rattle.signature_model.specs.Signatures.{Components, Component, TypeName}

@@ -16,14 +16,15 @@ use Rattle.typing_model.specs.BuiltIns.{exn_type}
 use Rattle.typing_model.specs.Patterns.{built_by, applied_constructor, argument_has, kept_record, all_names}
 use Rattle.typing_model.specs.Bindings.{generalises}
 use Rattle.typing_model.specs.Expressions.{expression, typed_all, all_values, has_type, is_of, value_asks, name_form, name_expression, constructor_expression, path_expression, literal_form, constant_expression, hole_expression, parenthesised, begun, list_expression, cons_expression, tuple_expression, applied_from, behind_constructor, behind_unbound, behind_argument, constructor_applied, application_asks, is_built_value, application, operator_applied, name_of, infix_expression, prefix_expression, under_sign, minus_asks, minus_expression, label_found, field_asks, field_expression, ask_mutable, set_expression, pun_asks, field_value_asks, is_some, fields_ask, labels_of, names_of_labels, is_record, record_asks, update_asks, first_field, before_labels, loose_value, all_field_values, none_mutable, is_constant_record, record_expression, update_expression, assert_asks, assert_expression, if_expression, sequence_expression, while_expression, loop_names, for_expression, guard_asks, case_asks, later_cases, cases_ask, cases_are_values, match_expression, try_expression, function_expression, fun_expression, all_generalise, let_expression}
-use Rattle.typing_laws.proofs.Together.{Kept, keeping, Together, at_end, at_demand, at_treated, Agreed, past_treated, past_known, kept_alike, agree_first, agree_left, agree_right, alone, behind, along}
-use Rattle.typing_laws.proofs.Steady.{Each, no_one, one_and, each_append, IfThere, absent, there, SameName, SteadyType, IsFormSteady, SteadyExpression, SteadyPattern, SteadyBinding, SteadyCase, SteadyField, as_itself, in_scope}
+use Rattle.typing_laws.proofs.Together.{Kept, keeping, Agreed, past_treated, past_known, kept_alike, agree_first, agree_left, agree_right}
+use Rattle.typing_laws.proofs.Whole.{Whole, at_end, at_demand, at_treated, alone, behind, along}
+use Rattle.typing_laws.proofs.Steady.{Each, no_one, one_and, each_append, IfThere, absent, there, SameName, WholeType, IsFormSteady, SteadyExpression, SteadyPattern, SteadyBinding, SteadyCase, SteadyField, in_scope}
 use Rattle.typing_laws.proofs.SteadyPatterns.{constant_alone, built_alike, constructor_alone_alike, applied_alike, record_one, all_names_one}
 use Rattle.typing_laws.proofs.SteadyBindings.{apart_alike, bindings_alike, generalises_alike, in_let}
 
 -- an expression asks the same demands; what else is steady of it isn't told
 pub record TypedAlike (k m : Kept) (e : Expression) : Type 0 where
-  pub types : (c : Context) → Together k m (e.typed (keeping k c)) (e.typed (keeping m c))
+  pub types : (c : Context) → Whole k m (e.typed (keeping k c)) (e.typed (keeping m c))
 
 pub typed_too : {k m : Kept} (es : List Expression) → Each (SteadyExpression k m) es → Each (TypedAlike k m) es
 typed_too [] no_one = no_one
@@ -33,11 +34,11 @@ pub no_expression_steady : {k m : Kept} (n : ℕ) (q : Place) → SteadyExpressi
 no_expression_steady n q = record { types = λ c. at_end; negates = λ c. at_end; values = λ c. refl; forms = tt }
 
 -- an expression of the usual kind
-usual : {k m : Kept} (n : ℕ) (q : Place) (f : Form) (typed : Context → List Condition) (is_value : Context → Bool) → IsFormSteady k m typed f → ((c : Context) → Together k m (typed (keeping k c)) (typed (keeping m c))) →
+usual : {k m : Kept} (n : ℕ) (q : Place) (f : Form) (typed : Context → List Condition) (is_value : Context → Bool) → IsFormSteady k m typed f → ((c : Context) → Whole k m (typed (keeping k c)) (typed (keeping m c))) →
     ((c : Context) → is_value (keeping k c) ≡ is_value (keeping m c)) → SteadyExpression k m (expression n q f typed is_value)
 usual n q f typed is_value forms h values = record { types = h; negates = h; values = values; forms = forms }
 
-pub all_typed : {k m : Kept} (c : Context) (es : List Expression) → Each (TypedAlike k m) es → Together k m (typed_all (keeping k c) es) (typed_all (keeping m c) es)
+pub all_typed : {k m : Kept} (c : Context) (es : List Expression) → Each (TypedAlike k m) es → Whole k m (typed_all (keeping k c) es) (typed_all (keeping m c) es)
 all_typed c [] no_one = at_end
 all_typed c (e ∷ es) (one_and s each) = behind (s.types c) (λ a. all_typed c es each)
 
@@ -52,12 +53,12 @@ all_values_alike {k} {m} c (e ∷ es) (one_and s each) = and_alike (e.is_value (
 abbrev use_behind : Typ → Option Scheme → List Condition
 use_behind t o = elim o [ None ↦ [] | Some s ↦ instance s t ∷ [] ]
 
-pub value_alike : {k m : Kept} (c : Context) (n j : ℕ) (p : Written) (t : Typ) → Together k m (value_asks (keeping k c) n j p t) (value_asks (keeping m c) n j p t)
+pub value_alike : {k m : Kept} (c : Context) (n j : ℕ) (p : Written) (t : Typ) → Whole k m (value_asks (keeping k c) n j p t) (value_asks (keeping m c) n j p t)
 value_alike {k} {m} c n j p t = by p.last refl
   where
-    by : (o : Option Tok) → p.last ≡ o → Together k m (value_asks (keeping k c) n j p t) (value_asks (keeping m c) n j p t)
+    by : (o : Option Tok) → p.last ≡ o → Whole k m (value_asks (keeping k c) n j p t) (value_asks (keeping m c) n j p t)
     by None e = rw (e, value_asks) at_end
-    by (Some x) e = rw (e, value_asks) (at_demand refl (λ a.
+    by (Some x) e = rw (e, value_asks) (at_demand (λ a.
         along (use_behind t) (use_behind t) (ap (λ b. if b then then_by (referent_of (found_by c value_kind p x)) scheme_in else None) a) (alone _)))
 
 name_form_steady : (k m : Kept) (typed : Context → List Condition) (p : Written) → IsFormSteady k m typed (name_form p)
@@ -103,10 +104,10 @@ econst_steady {k} {m} n q t = record { types = constant_alone false n t; negates
 pub hole_steady : {k m : Kept} (n : ℕ) (q : Place) → SteadyExpression k m (hole_expression n q)
 hole_steady n q = usual n q other _ _ tt (λ c. at_end) (λ c. refl)
 
-pub eparen_steady : {k m : Kept} (n : ℕ) (q : Place) (e : Expression) (t : Option TypeExpression) → SteadyExpression k m e → IfThere (SteadyType k m) t → SteadyExpression k m (parenthesised n q e t)
+pub eparen_steady : {k m : Kept} (n : ℕ) (q : Place) (e : Expression) (t : Option TypeExpression) → SteadyExpression k m e → IfThere (WholeType k m) t → SteadyExpression k m (parenthesised n q e t)
 eparen_steady n q e None s absent = usual n q other _ _ tt (λ c. behind (s.types c) (λ a. alone _)) s.values
 eparen_steady n q e (Some t) s (there r) =
-    usual n q other _ _ tt (λ c. behind (behind (behind (s.types c) (λ a. r.reads c c.env c.env (as_itself c.env))) (λ a. alone _)) (λ a. alone _)) s.values
+    usual n q other _ _ tt (λ c. behind (behind (behind (s.types c) (λ a. r.reads c)) (λ a. alone _)) (λ a. alone _)) s.values
 
 pub ebegin_steady : {k m : Kept} (n : ℕ) (q : Place) (e : Option Expression) → IfThere (SteadyExpression k m) e → SteadyExpression k m (begun n q e)
 ebegin_steady n q None absent = usual n q other _ _ tt (λ c. alone _) (λ c. refl)
@@ -124,20 +125,20 @@ etuple_steady n q es each = usual n q other _ _ tt (λ c. behind (all_typed c es
 
 -- a head and its arguments
 pub applied_from_alike : {k m : Kept} (c : Context) (n j i : ℕ) (q : Place) (h : Typ) (es : List Expression) → Each (TypedAlike k m) es →
-    Together k m (applied_from (keeping k c) n j i q h es) (applied_from (keeping m c) n j i q h es)
+    Whole k m (applied_from (keeping k c) n j i q h es) (applied_from (keeping m c) n j i q h es)
 applied_from_alike c n j i q h [] no_one = alone _
 applied_from_alike c n j i q h (e ∷ es) (one_and s each) =
-    at_demand refl (λ a. behind (behind (s.types c) (λ b. alone _)) (λ b. applied_from_alike c n (j + 2) (i + 2) q (letter c n (i + 1)) es each))
+    at_demand (λ a. behind (behind (s.types c) (λ b. alone _)) (λ b. applied_from_alike c n (j + 2) (i + 2) q (letter c n (i + 1)) es each))
 
-unbound_alike : {k m : Kept} (c : Context) (n : ℕ) (head : Expression) (es : List Expression) → Each (TypedAlike k m) es → Together k m (behind_unbound (keeping k c) n head es) (behind_unbound (keeping m c) n head es)
+unbound_alike : {k m : Kept} (c : Context) (n : ℕ) (head : Expression) (es : List Expression) → Each (TypedAlike k m) es → Whole k m (behind_unbound (keeping k c) n head es) (behind_unbound (keeping m c) n head es)
 unbound_alike c n head [] no_one = alone _
 unbound_alike c n head (e ∷ es) each = all_typed c (e ∷ es) each
 
-behind_constructor_alike : {k m : Kept} (c : Context) (n : ℕ) (head : Expression) (es : List Expression) → Each (TypedAlike k m) es → Together k m (behind_constructor (keeping k c) n head es) (behind_constructor (keeping m c) n head es)
+behind_constructor_alike : {k m : Kept} (c : Context) (n : ℕ) (head : Expression) (es : List Expression) → Each (TypedAlike k m) es → Whole k m (behind_constructor (keeping k c) n head es) (behind_constructor (keeping m c) n head es)
 behind_constructor_alike c n head [] no_one = alone _
 behind_constructor_alike c n head (e ∷ es) each = applied_from_alike c n 3 0 head.at (type_at c head.node) (e ∷ es) each
 
-argument_alike : {k m : Kept} (c : Context) (n : ℕ) (head : Expression) (es : List Expression) (o : Option Built) → Each (TypedAlike k m) es → Together k m (behind_argument (keeping k c) n head es o) (behind_argument (keeping m c) n head es o)
+argument_alike : {k m : Kept} (c : Context) (n : ℕ) (head : Expression) (es : List Expression) (o : Option Built) → Each (TypedAlike k m) es → Whole k m (behind_argument (keeping k c) n head es o) (behind_argument (keeping m c) n head es o)
 argument_alike c n head es None each = unbound_alike c n head es each
 argument_alike c n head es (Some b) each = behind_constructor_alike c n head es each
 
@@ -154,7 +155,7 @@ built_behind {k} {m} c n p head nodes xs has a = by p.last refl
     by (Some t) e = built_alike k m c n p t (behind_two _ _ _ _ _ _ _ (rw (e, applied_constructor) at a))
 
 constructor_applied_alike : {k m : Kept} (c : Context) (n : ℕ) (p : Written) (head : Expression) (es : List Expression) → TypedAlike k m head → Each (TypedAlike k m) es →
-    Together k m (constructor_applied (keeping k c) n p head es) (constructor_applied (keeping m c) n p head es)
+    Whole k m (constructor_applied (keeping k c) n p head es) (constructor_applied (keeping m c) n p head es)
 constructor_applied_alike c n p head [] h no_one = h.types c
 constructor_applied_alike {k} {m} c n p head (e ∷ es) h (one_and s each) =
     behind (applied_alike c n p head.node (head.node ∷ []) (e.typed (keeping k c)) (e.typed (keeping m c)) (argument_has n 2 e.at (type_at (keeping k c) e.node)) (s.types c))
@@ -163,7 +164,7 @@ constructor_applied_alike {k} {m} c n p head (e ∷ es) h (one_and s each) =
     (argument_alike c n head es (then_by p.last (built_by (keeping k c) n p)) each))
 
 application_alike : {k m : Kept} (c : Context) (n : ℕ) (head : Expression) (es : List Expression) (f : Form) → TypedAlike k m head → Each (TypedAlike k m) es →
-    Together k m (application_asks (keeping k c) n head es f) (application_asks (keeping m c) n head es f)
+    Whole k m (application_asks (keeping k c) n head es f) (application_asks (keeping m c) n head es f)
 application_alike c n head es (a_constructor p) h each = constructor_applied_alike c n p head es h each
 application_alike c n head es (a_path p) h each = behind (h.types c) (λ a. applied_from_alike c n 0 0 head.at (type_at c head.node) es each)
 application_alike c n head es a_float h each = behind (h.types c) (λ a. applied_from_alike c n 0 0 head.at (type_at c head.node) es each)
@@ -186,7 +187,7 @@ eapp_steady n q head es s each =
     usual n q other _ _ tt (λ c. application_alike c n head es head.form (record { types = s.types }) (typed_too es each)) (λ c. built_value_alike c es head.form each)
 
 operator_alike : {k m : Kept} (c : Context) (n : ℕ) (t : Option Tok) (x : Name) (es : List Expression) → Each (TypedAlike k m) es →
-    Together k m (operator_applied (keeping k c) n t x es) (operator_applied (keeping m c) n t x es)
+    Whole k m (operator_applied (keeping k c) n t x es) (operator_applied (keeping m c) n t x es)
 operator_alike c n None x es each = all_typed c es each
 operator_alike c n (Some t) x es each =
     behind (value_alike c n 0 (record { qualifiers = []; last = Some (record t { name = x }) }) (letter c n 0)) (λ a. applied_from_alike c n 1 1 (place_of t) (letter c n 0) es each)
@@ -204,7 +205,7 @@ under_sign_alike {k} {m} t e s = by (same_name (name_of t) (codes "-"))
     by true = record { types = s.negates }
     by false = record { types = s.types }
 
-minus_alike : {k m : Kept} (c : Context) (n : ℕ) (t : Option Tok) (e : Expression) (f : Form) → SteadyExpression k m e → Together k m (minus_asks (keeping k c) n t e f) (minus_asks (keeping m c) n t e f)
+minus_alike : {k m : Kept} (c : Context) (n : ℕ) (t : Option Tok) (e : Expression) (f : Form) → SteadyExpression k m e → Whole k m (minus_asks (keeping k c) n t e f) (minus_asks (keeping m c) n t e f)
 minus_alike c n t e a_float s = behind (s.negates c) (λ a. alone _)
 minus_alike c n t e (a_constructor p) s = operator_alike c n t (codes "~" ++ name_of t) (under_sign t e ∷ []) (one_and (under_sign_alike t e s) no_one)
 minus_alike c n t e (a_path p) s = operator_alike c n t (codes "~" ++ name_of t) (under_sign t e ∷ []) (one_and (under_sign_alike t e s) no_one)
@@ -220,10 +221,10 @@ eneg_steady n q t e s = usual n q other _ _ tt (λ c. minus_alike c n t e e.form
 abbrev field_behind : Context → ℕ → Expression → Option (Declaration × Label) → List Condition
 field_behind c n e o = elim o [ None ↦ [] | Some (d, l) ↦ has_type c n 1 e (used_at c n (type_of d)) ++ is_of c n (used_at c n l.body) ]
 
-field_alike : {k m : Kept} (c : Context) (n : ℕ) (e : Expression) (p : Written) → SteadyExpression k m e → Together k m (field_asks (keeping k c) n e p) (field_asks (keeping m c) n e p)
+field_alike : {k m : Kept} (c : Context) (n : ℕ) (e : Expression) (p : Written) → SteadyExpression k m e → Whole k m (field_asks (keeping k c) n e p) (field_asks (keeping m c) n e p)
 field_alike {k} {m} c n e p s = by p.last refl
   where
-    by : (o : Option Tok) → p.last ≡ o → Together k m (field_asks (keeping k c) n e p) (field_asks (keeping m c) n e p)
+    by : (o : Option Tok) → p.last ≡ o → Whole k m (field_asks (keeping k c) n e p) (field_asks (keeping m c) n e p)
     by None g = rw (g, field_asks) (s.types c)
     by (Some t) g = rw (g, field_asks) (behind (behind (s.types c) (λ a. alone (ask_bound (keeping k c) n 0 label_kind label_word p t)))
         (λ a. along (field_behind (keeping k c) n e) (field_behind (keeping m c) n e) (ap (λ b. if b then label_found c p else None) (agree_first _ _ _ _ (agree_right (e.typed (keeping k c)) _ a))) (alone _)))
@@ -251,7 +252,7 @@ field_steady n q e p s = record { types = λ c. field_alike c n e p s; negates =
 abbrev mutable_behind : ℕ → Written → Option Label → List Condition
 mutable_behind n p o = elim o [ None ↦ [] | Some l ↦ elim p.last [ None ↦ [] | Some t ↦ ask n 0 (place_of t) (test (not_mutable t.name) l.is_mutable) ] ]
 
-mutable_alike : {k m : Kept} (c : Context) (n : ℕ) (typed : Context → List Condition) (f : Form) → IsFormSteady k m typed f → Agreed k m (typed (keeping k c)) → Together k m (ask_mutable (keeping k c) n f) (ask_mutable (keeping m c) n f)
+mutable_alike : {k m : Kept} (c : Context) (n : ℕ) (typed : Context → List Condition) (f : Form) → IsFormSteady k m typed f → Agreed k m (typed (keeping k c)) → Whole k m (ask_mutable (keeping k c) n f) (ask_mutable (keeping m c) n f)
 mutable_alike c n typed (a_field p label) h a = along (mutable_behind n p) (mutable_behind n p) (h c a) (alone _)
 mutable_alike c n typed (a_constructor p) h a = at_end
 mutable_alike c n typed (a_path p) h a = at_end
@@ -265,32 +266,32 @@ eset_steady n q e f s z =
     usual n q other _ _ tt (λ c. behind (behind (behind (behind (s.types c) (λ a. mutable_alike c n e.typed e.form s.forms a)) (λ a. z.types c)) (λ a. alone _)) (λ a. alone _)) (λ c. refl)
 
 -- fields of records
-pun_alike : {k m : Kept} (c : Context) (f : Field) (t : Option Typ) → Together k m (pun_asks (keeping k c) f t) (pun_asks (keeping m c) f t)
+pun_alike : {k m : Kept} (c : Context) (f : Field) (t : Option Typ) → Whole k m (pun_asks (keeping k c) f t) (pun_asks (keeping m c) f t)
 pun_alike {k} {m} c f t = by f.label.last refl
   where
-    by : (o : Option Tok) → f.label.last ≡ o → Together k m (pun_asks (keeping k c) f t) (pun_asks (keeping m c) f t)
+    by : (o : Option Tok) → f.label.last ≡ o → Whole k m (pun_asks (keeping k c) f t) (pun_asks (keeping m c) f t)
     by None e = rw (e, pun_asks) at_end
     by (Some x) e = rw (e, pun_asks) (behind (value_alike c f.node 1 (record { qualifiers = []; last = Some x }) (letter c f.node 0)) (λ a. alone _))
 
 field_value_alike : {k m : Kept} (c : Context) (is_found : Bool) (f : Field) (names : List Name) (t : Option Typ) → SteadyField k m f →
-    Together k m (field_value_asks (keeping k c) is_found f names t) (field_value_asks (keeping m c) is_found f names t)
+    Whole k m (field_value_asks (keeping k c) is_found f names t) (field_value_asks (keeping m c) is_found f names t)
 field_value_alike {k} {m} c is_found f names t s = by f.value refl s.value
   where
     once : List Condition
     once = if is_found then ask_once f.node 0 names f.label else []
 
-    by : (o : Option Expression) → f.value ≡ o → IfThere (SteadyExpression k m) o → Together k m (field_value_asks (keeping k c) is_found f names t) (field_value_asks (keeping m c) is_found f names t)
+    by : (o : Option Expression) → f.value ≡ o → IfThere (SteadyExpression k m) o → Whole k m (field_value_asks (keeping k c) is_found f names t) (field_value_asks (keeping m c) is_found f names t)
     by None e absent = rw (e, field_value_asks) (at_treated (behind (alone (if is_found then ask_once f.node 0 names f.label else [])) (λ a. pun_alike c f t)))
     by (Some v) e (there z) = rw (e, field_value_asks) (at_treated (behind (alone (if is_found then ask_once f.node 0 names f.label else [])) (λ a. behind (z.types c) (λ b. alone _))))
 
 fields_alike : {k m : Kept} (c : Context) (n : ℕ) (found : Option Declaration) (fs : List Field) (names : List Name) → Each (SteadyField k m) fs →
-    Together k m (fields_ask (keeping k c) n found fs names) (fields_ask (keeping m c) n found fs names)
+    Whole k m (fields_ask (keeping k c) n found fs names) (fields_ask (keeping m c) n found fs names)
 fields_alike c n found [] names no_one = at_end
 fields_alike {k} {m} c n found (f ∷ fs) names (one_and s each) =
     behind (field_value_alike c (is_some found) f names (field_type (keeping k c) n found f.label) s) (λ a. fields_alike c n found fs (names ++ name_in f.label) each)
 
-record_alike : {k m : Kept} (c : Context) (n : ℕ) (q : Place) (fs : List Field) (xs ys us vs : List Condition) → Each (SteadyField k m) fs → Together k m xs ys → Together k m us vs →
-    Together k m (record_asks (keeping k c) n q xs us fs) (record_asks (keeping m c) n q ys vs fs)
+record_alike : {k m : Kept} (c : Context) (n : ℕ) (q : Place) (fs : List Field) (xs ys us vs : List Condition) → Each (SteadyField k m) fs → Whole k m xs ys → Whole k m us vs →
+    Whole k m (record_asks (keeping k c) n q xs us fs) (record_asks (keeping m c) n q ys vs fs)
 record_alike {k} {m} c n q fs xs ys us vs each h g =
     let ls : List Written = labels_of fs in
     let one : (zs : List Condition) → Agreed k m ((xs ++ ask_record (keeping k c) n 1 ls) ++ zs) → kept_record (keeping k c) n 1 ls ≡ kept_record (keeping m c) n 1 ls =
@@ -303,7 +304,7 @@ record_alike {k} {m} c n q fs xs ys us vs each h g =
 abbrev has_record : Context → ℕ → Expression → Option Declaration → List Condition
 has_record c n e o = elim o [ None ↦ [] | Some d ↦ has_type c n 2 e (used_at c n (type_of d)) ]
 
-update_alike : {k m : Kept} (c : Context) (n : ℕ) (e : Expression) (fs : List Field) → SteadyExpression k m e → Each (SteadyField k m) fs → Together k m (update_asks (keeping k c) n e fs) (update_asks (keeping m c) n e fs)
+update_alike : {k m : Kept} (c : Context) (n : ℕ) (e : Expression) (fs : List Field) → SteadyExpression k m e → Each (SteadyField k m) fs → Whole k m (update_asks (keeping k c) n e fs) (update_asks (keeping m c) n e fs)
 update_alike {k} {m} c n e fs s each =
     let ls : List Written = labels_of fs in
     let one : Agreed k m (e.typed (keeping k c) ++ ask_record (keeping k c) n 1 ls) → kept_record (keeping k c) n 1 ls ≡ kept_record (keeping m c) n 1 ls =
@@ -323,14 +324,14 @@ first_steady (a_field p l) n value s = no_one
 first_steady no_expression n value s = no_one
 first_steady other n value s = no_one
 
-before_alike : {k m : Kept} (c : Context) (n : ℕ) (e : Expression) (f : Form) → SteadyExpression k m e → Together k m (before_labels (keeping k c) n e f) (before_labels (keeping m c) n e f)
+before_alike : {k m : Kept} (c : Context) (n : ℕ) (e : Expression) (f : Form) → SteadyExpression k m e → Whole k m (before_labels (keeping k c) n e f) (before_labels (keeping m c) n e f)
 before_alike c n e (a_path p) s = at_end
 before_alike c n e no_expression s = s.types c
-before_alike c n e (a_constructor p) s = at_demand refl (λ a. s.types c)
-before_alike c n e a_float s = at_demand refl (λ a. s.types c)
-before_alike c n e a_false s = at_demand refl (λ a. s.types c)
-before_alike c n e (a_field p l) s = at_demand refl (λ a. s.types c)
-before_alike c n e other s = at_demand refl (λ a. s.types c)
+before_alike c n e (a_constructor p) s = at_demand (λ a. s.types c)
+before_alike c n e a_float s = at_demand (λ a. s.types c)
+before_alike c n e a_false s = at_demand (λ a. s.types c)
+before_alike c n e (a_field p l) s = at_demand (λ a. s.types c)
+before_alike c n e other s = at_demand (λ a. s.types c)
 
 abbrev as_list : Option Expression → List Expression
 as_list o = elim o [ None ↦ [] | Some e ↦ e ∷ [] ]
@@ -339,7 +340,7 @@ list_typed : {k m : Kept} (o : Option Expression) → IfThere (SteadyExpression 
 list_typed None absent = no_one
 list_typed (Some e) (there s) = one_and (record { types = s.types }) no_one
 
-loose_alike : {k m : Kept} (c : Context) (f : Form) (value : Option Expression) → IfThere (SteadyExpression k m) value → Together k m (loose_value (keeping k c) f value) (loose_value (keeping m c) f value)
+loose_alike : {k m : Kept} (c : Context) (f : Form) (value : Option Expression) → IfThere (SteadyExpression k m) value → Whole k m (loose_value (keeping k c) f value) (loose_value (keeping m c) f value)
 loose_alike c (a_path p) value s = at_end
 loose_alike c (a_constructor p) value s = all_typed c (as_list value) (list_typed value s)
 loose_alike c a_float value s = all_typed c (as_list value) (list_typed value s)
@@ -376,7 +377,7 @@ pub eupdate_steady : {k m : Kept} (n : ℕ) (q : Place) (e : Expression) (fs : L
 eupdate_steady {k} {m} n q e fs s each = usual n q other _ _ tt (λ c. update_alike c n e fs s each)
     (λ c. and_alike (e.is_value (keeping k c)) (is_constant_record (keeping k c) fs) (e.is_value (keeping m c)) (is_constant_record (keeping m c) fs) (s.values c) (constant_record_alike c fs each))
 
-assert_alike : {k m : Kept} (c : Context) (n : ℕ) (e : Expression) (f : Form) → SteadyExpression k m e → Together k m (assert_asks (keeping k c) n e f) (assert_asks (keeping m c) n e f)
+assert_alike : {k m : Kept} (c : Context) (n : ℕ) (e : Expression) (f : Form) → SteadyExpression k m e → Whole k m (assert_asks (keeping k c) n e f) (assert_asks (keeping m c) n e f)
 assert_alike c n e a_false s = s.types c
 assert_alike c n e (a_constructor p) s = behind (behind (s.types c) (λ a. alone _)) (λ a. alone _)
 assert_alike c n e (a_path p) s = behind (behind (s.types c) (λ a. alone _)) (λ a. alone _)
@@ -409,21 +410,21 @@ efor_steady n q x e f g s z w = usual n q other _ _ tt
     (λ c. behind (behind (behind (behind (behind (s.types c) (λ a. alone _)) (λ a. z.types c)) (λ a. alone _)) (λ a. in_scope g.typed c (loop_names x) (loop_one x) w.types)) (λ a. alone _)) (λ c. refl)
 
 -- cases
-guard_alike : {k m : Kept} (n j : ℕ) (g : Option Expression) → IfThere (SteadyExpression k m) g → (c : Context) → Together k m (guard_asks (keeping k c) n j g) (guard_asks (keeping m c) n j g)
+guard_alike : {k m : Kept} (n j : ℕ) (g : Option Expression) → IfThere (SteadyExpression k m) g → (c : Context) → Whole k m (guard_asks (keeping k c) n j g) (guard_asks (keeping m c) n j g)
 guard_alike n j None absent c = at_end
 guard_alike n j (Some e) (there s) c = behind (s.types c) (λ a. alone _)
 
-case_alike : {k m : Kept} (c : Context) (n j : ℕ) (subject : Typ) (result : Option Typ) (x : Case) → SteadyCase k m x → Together k m (case_asks (keeping k c) n j subject result x) (case_asks (keeping m c) n j subject result x)
+case_alike : {k m : Kept} (c : Context) (n j : ℕ) (subject : Typ) (result : Option Typ) (x : Case) → SteadyCase k m x → Whole k m (case_asks (keeping k c) n j subject result x) (case_asks (keeping m c) n j subject result x)
 case_alike {k} {m} c n j subject result x s =
     at_treated (behind (behind (behind (behind (s.pattern.matches c []) (λ a. alone (ask n j x.pattern.at (equal (type_at (keeping k c) x.pattern.node) subject))))
     (λ a. in_scope (λ d. guard_asks d n (j + 1) x.guard) c x.pattern.names s.pattern.binds (guard_alike n (j + 1) x.guard s.guard)))
     (λ a. in_scope x.body.typed c x.pattern.names s.pattern.binds s.body.types)) (λ a. alone _))
 
-later_alike : {k m : Kept} (c : Context) (n j : ℕ) (subject result : Typ) (xs : List Case) → Each (SteadyCase k m) xs → Together k m (later_cases (keeping k c) n j subject result xs) (later_cases (keeping m c) n j subject result xs)
+later_alike : {k m : Kept} (c : Context) (n j : ℕ) (subject result : Typ) (xs : List Case) → Each (SteadyCase k m) xs → Whole k m (later_cases (keeping k c) n j subject result xs) (later_cases (keeping m c) n j subject result xs)
 later_alike c n j subject result [] no_one = at_end
 later_alike c n j subject result (x ∷ xs) (one_and s each) = behind (case_alike c n j subject (Some result) x s) (λ a. later_alike c n (j + 3) subject result xs each)
 
-cases_alike : {k m : Kept} (c : Context) (n : ℕ) (subject : Typ) (xs : List Case) → Each (SteadyCase k m) xs → Together k m (cases_ask (keeping k c) n subject xs) (cases_ask (keeping m c) n subject xs)
+cases_alike : {k m : Kept} (c : Context) (n : ℕ) (subject : Typ) (xs : List Case) → Each (SteadyCase k m) xs → Whole k m (cases_ask (keeping k c) n subject xs) (cases_ask (keeping m c) n subject xs)
 cases_alike c n subject [] no_one = at_end
 cases_alike c n subject (x ∷ xs) (one_and s each) = behind (case_alike c n 0 subject None x s) (λ a. later_alike c n 3 subject (type_at c x.body.node) xs each)
 

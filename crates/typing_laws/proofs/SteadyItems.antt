@@ -11,6 +11,7 @@ use Rattle.typing_model.specs.Parts.{Binding, ConstructorPart, DeclarationPart, 
 use Rattle.typing_model.specs.Bindings.{names_of_group, held_by}
 use Rattle.typing_model.specs.Items.{inside_item, names_made, then_components, value_components, let_item, type_item, no_item, exception_item, items_ask, components_of_items, made_by_items, newest_alone, signature_of_items}
 use Rattle.typing_laws.proofs.Together.{Kept, keeping, Together, at_end, at_made, Agreed, agree_left, agree_right, behind, along}
+use Rattle.typing_laws.proofs.Whole.{weaken}
 use Rattle.typing_laws.proofs.Steady.{Each, no_one, one_and, IfThere, absent, there, SameName, SteadyBinding, SteadyConstructor, SteadyDeclaration, SteadyItem, entries_alike}
 use Rattle.typing_laws.proofs.SteadyBindings.{bindings_alike, group_names_one, held_alike}
 use Rattle.typing_laws.proofs.SteadyDeclarations.{group_alike, group_one, group_entries, group_components, group_origins, exception_alike}
@@ -27,7 +28,7 @@ values_alike {k} {m} scheme c (b ∷ bs) (one_and s each) =
 
 pub let_item_steady : {k m : Kept} (n : ℕ) (ts : List Tok) (is_rec : Bool) (bs : List Binding) → Each (SteadyBinding k m) bs → SteadyItem k m (let_item n ts is_rec bs)
 let_item_steady {k} {m} n ts is_rec bs each = record {
-  asks = λ c seen. behind (bindings_alike (inside_item n ts c) is_rec bs each) (λ a. names_made_alike n (inside_item n ts (keeping k c)) (inside_item n ts (keeping m c)) (names_of_group bs));
+  asks = λ c seen. behind (weaken (bindings_alike (inside_item n ts c) is_rec bs each)) (λ a. names_made_alike n (inside_item n ts (keeping k c)) (inside_item n ts (keeping m c)) (names_of_group bs));
   adds = λ c seen a.
       entries_alike (generalised_in c.env (held_by (inside_item n ts (keeping k c)) bs)) (inside_item n ts c) [] (group_names_one bs each) ∙
       ap (λ hs. entries_with (generalised_in c.env hs) (inside_item n ts (keeping m c)) (names_of_group bs) []) (held_alike (inside_item n ts c) bs each);

@@ -10,7 +10,7 @@ use Rattle.signature_model.specs.Functors.{applied}
 use Rattle.signature_model.specs.Entries.{Environment, a_module, a_module_type, entry, scope_of}
 use Rattle.typing_model.specs.Demands.{Site, site, Demand, test, no_functor, Condition, demand}
 use Rattle.typing_model.specs.Contexts.{Context, under, ask, parameters, is_kept}
-use Rattle.typing_model.specs.Parts.{Written, TypeExpression, ModuleExpression, WithClause, Parameter, Item, Seen, no_names, no_module_at, no_module_type_at, place_of}
+use Rattle.typing_model.specs.Parts.{Written, TypeExpression, ModuleExpression, WithClause, Parameter, Item, no_names, no_module_at, no_module_type_at, place_of}
 use Rattle.typing_model.specs.Parts as parts
 use Rattle.typing_model.specs.Declarations.{names_of_tokens}
 use Rattle.typing_model.specs.Items.{variables_written, signature_of_items, made_by_items}

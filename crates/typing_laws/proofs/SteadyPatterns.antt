@@ -12,12 +12,13 @@ use Rattle.typing_model.specs.Names.{Built, used_at}
 use Rattle.typing_model.specs.BuiltIns.{constant, constant_by}
 use Rattle.typing_model.specs.Records.{ask_once, field_type, ask_record, first_lost, first_token, declaration_found, name_in}
 use Rattle.typing_model.specs.Patterns.{bound_at, matched_all, matched_each, all_names, ask_all, over, pname, pconst, pneg, with_built, built_by, argument_type, constructor_alone, pcon, argument_has, of_one_type, applied_constructor, papp, pparen, plist, pcons, ptuple, pas, find_bound, common_names, side_beside, sides_beside, por, punned, names_in_field, mentions_in_field, match_field, match_fields, labels_of_fields, kept_record, precord}
-use Rattle.typing_laws.proofs.Together.{Kept, keeping, Together, at_end, at_demand, at_known, at_treated, Agreed, agree_first, agree_left, alone, behind, along}
-use Rattle.typing_laws.proofs.Steady.{Each, no_one, one_and, each_append, IfThere, absent, there, SameName, SteadyType, SteadyPattern, SteadyFieldPattern, as_itself}
+use Rattle.typing_laws.proofs.Together.{Kept, keeping, Agreed, agree_first, agree_left}
+use Rattle.typing_laws.proofs.Whole.{Whole, at_end, at_demand, at_known, at_treated, alone, behind, along}
+use Rattle.typing_laws.proofs.Steady.{Each, no_one, one_and, each_append, IfThere, absent, there, SameName, WholeType, SteadyPattern, SteadyFieldPattern}
 
 -- conditions that are the same for both
-pub equal_alone : {k m : Kept} {xs ys : List Condition} → xs ≡ ys → Together k m xs ys
-equal_alone {k} {m} {xs} {ys} e = subst (λ zs. Together k m xs zs) e (alone xs)
+pub equal_alone : {k m : Kept} {xs ys : List Condition} → xs ≡ ys → Whole k m xs ys
+equal_alone {k} {m} {xs} {ys} e = subst (λ zs. Whole k m xs zs) e (alone xs)
 
 pub no_pattern_steady : {k m : Kept} (n : ℕ) (p : Place) → SteadyPattern k m (no_pattern_at n p)
 no_pattern_steady n p = record { binds = no_one; matches = λ c seen. at_end }
@@ -25,11 +26,11 @@ no_pattern_steady n p = record { binds = no_one; matches = λ c seen. at_end }
 bound_at_one : {k m : Kept} (n : ℕ) (t : Tok) → SameName k m (bound_at n t)
 bound_at_one n t = record { one = λ c. refl }
 
-pub matches_all : {k m : Kept} (c : Context) (seen : List Name) (ps : List Pattern) → Each (SteadyPattern k m) ps → Together k m (matched_all (keeping k c) seen ps) (matched_all (keeping m c) seen ps)
+pub matches_all : {k m : Kept} (c : Context) (seen : List Name) (ps : List Pattern) → Each (SteadyPattern k m) ps → Whole k m (matched_all (keeping k c) seen ps) (matched_all (keeping m c) seen ps)
 matches_all c seen [] no_one = at_end
 matches_all c seen (p ∷ ps) (one_and s each) = behind (s.matches c seen) (λ a. matches_all c (seen ++ p.mentions) ps each)
 
-matches_each : {k m : Kept} (c : Context) (seen : List Name) (ps : List Pattern) → Each (SteadyPattern k m) ps → Together k m (matched_each (keeping k c) seen ps) (matched_each (keeping m c) seen ps)
+matches_each : {k m : Kept} (c : Context) (seen : List Name) (ps : List Pattern) → Each (SteadyPattern k m) ps → Whole k m (matched_each (keeping k c) seen ps) (matched_each (keeping m c) seen ps)
 matches_each c seen [] no_one = at_end
 matches_each c seen (p ∷ ps) (one_and s each) = behind (s.matches c seen) (λ a. matches_each c seen ps each)
 
@@ -38,7 +39,7 @@ all_names_one [] no_one = no_one
 all_names_one (p ∷ ps) (one_and s each) = each_append s.binds (all_names_one ps each)
 
 pub over_steady : {k m : Kept} (n : ℕ) (q : Place) (ps : List Pattern) (own : Context → List Condition) → Each (SteadyPattern k m) ps →
-    ((c : Context) → Together k m (own (keeping k c)) (own (keeping m c))) → SteadyPattern k m (over n q ps own)
+    ((c : Context) → Whole k m (own (keeping k c)) (own (keeping m c))) → SteadyPattern k m (over n q ps own)
 over_steady n q ps own each h = record { binds = all_names_one ps each; matches = λ c seen. behind (matches_all c seen ps each) (λ a. h c) }
 
 pub pname_steady : {k m : Kept} (n : ℕ) (q : Place) (t : Option Tok) → SteadyPattern k m (pname n q t)
@@ -46,7 +47,7 @@ pname_steady n q None = no_pattern_steady n q
 pname_steady n q (Some t) = record { binds = one_and (bound_at_one n t) no_one; matches = λ c seen. alone _ }
 
 -- constants ask the same of both
-constant_by_alone : {k m : Kept} (negated : Bool) (s : Kind) (n : ℕ) (t : Tok) (c : Context) → Together k m (constant_by negated s n t (keeping k c)) (constant_by negated s n t (keeping m c))
+constant_by_alone : {k m : Kept} (negated : Bool) (s : Kind) (n : ℕ) (t : Tok) (c : Context) → Whole k m (constant_by negated s n t (keeping k c)) (constant_by negated s n t (keeping m c))
 unfolding constant_by
 constant_by_alone negated int n t c = alone _
 constant_by_alone negated float n t c = alone _
@@ -58,7 +59,7 @@ constant_by_alone negated false_word n t c = alone _
 constant_by_alone negated nil n t c = alone _
 constant_by_alone negated _ n t c = at_end
 
-pub constant_alone : {k m : Kept} (negated : Bool) (n : ℕ) (t : Option Tok) (c : Context) → Together k m (constant negated n t (keeping k c)) (constant negated n t (keeping m c))
+pub constant_alone : {k m : Kept} (negated : Bool) (n : ℕ) (t : Option Tok) (c : Context) → Whole k m (constant negated n t (keeping k c)) (constant negated n t (keeping m c))
 constant_alone negated n None c = at_end
 constant_alone negated n (Some t) c = constant_by_alone negated t.kind n t c
 
@@ -73,49 +74,49 @@ pub built_alike : (k m : Kept) (c : Context) (n : ℕ) (p : Written) (t : Tok) �
 built_alike k m c n p t e = rw (e, built_by) refl
 
 -- a constructor that is found, over arguments that go together
-pub with_built_alike : {k m : Kept} (c : Context) (n own : ℕ) (t : Tok) (given : ℕ) (b : Built) (nodes : List ℕ) (xs ys : List Condition) → Together k m xs ys →
-    Together k m (with_built (keeping k c) n own t given b nodes xs) (with_built (keeping m c) n own t given b nodes ys)
-with_built_alike c n own t given b nodes xs ys h = at_demand refl (λ a. behind h (λ d. alone _))
+pub with_built_alike : {k m : Kept} (c : Context) (n own : ℕ) (t : Tok) (given : ℕ) (b : Built) (nodes : List ℕ) (xs ys : List Condition) → Whole k m xs ys →
+    Whole k m (with_built (keeping k c) n own t given b nodes xs) (with_built (keeping m c) n own t given b nodes ys)
+with_built_alike c n own t given b nodes xs ys h = at_demand (λ a. behind h (λ d. alone _))
 
 abbrev alone_behind : Context → ℕ → Tok → Option Built → List Condition
 alone_behind c n t o = elim o [ None ↦ [] | Some b ↦ with_built c n n t 0 b (n ∷ []) [] ]
 
-pub constructor_alone_alike : {k m : Kept} (c : Context) (n : ℕ) (p : Written) → Together k m (constructor_alone (keeping k c) n p) (constructor_alone (keeping m c) n p)
+pub constructor_alone_alike : {k m : Kept} (c : Context) (n : ℕ) (p : Written) → Whole k m (constructor_alone (keeping k c) n p) (constructor_alone (keeping m c) n p)
 constructor_alone_alike {k} {m} c n p = by p.last refl
   where
-    found : (t : Tok) (o : Option Built) → Together k m (alone_behind (keeping k c) n t o) (alone_behind (keeping m c) n t o)
+    found : (t : Tok) (o : Option Built) → Whole k m (alone_behind (keeping k c) n t o) (alone_behind (keeping m c) n t o)
     found t None = at_end
     found t (Some b) = with_built_alike c n n t 0 b (n ∷ []) [] [] at_end
 
-    by : (o : Option Tok) → p.last ≡ o → Together k m (constructor_alone (keeping k c) n p) (constructor_alone (keeping m c) n p)
+    by : (o : Option Tok) → p.last ≡ o → Whole k m (constructor_alone (keeping k c) n p) (constructor_alone (keeping m c) n p)
     by None e = rw (e, constructor_alone) at_end
-    by (Some t) e = rw (e, constructor_alone) (at_demand refl (λ a.
+    by (Some t) e = rw (e, constructor_alone) (at_demand (λ a.
         along (alone_behind (keeping k c) n t) (alone_behind (keeping m c) n t) (built_alike k m c n p t a) (found t (built_by (keeping k c) n p t))))
 
 pub pcon_steady : {k m : Kept} (n : ℕ) (q : Place) (p : Written) → SteadyPattern k m (pcon n q p)
 pcon_steady n q p = record { binds = no_one; matches = λ c seen. constructor_alone_alike c n p }
 
-pub argument_has_alone : {k m : Kept} (n j : ℕ) (q : Place) (t : Typ) (o : Option Typ) → Together k m (argument_has n j q t o) (argument_has n j q t o)
+pub argument_has_alone : {k m : Kept} (n j : ℕ) (q : Place) (t : Typ) (o : Option Typ) → Whole k m (argument_has n j q t o) (argument_has n j q t o)
 argument_has_alone n j q t o = alone (argument_has n j q t o)
 
 -- behind the name of a constructor with an argument
 abbrev applied_behind : Context → ℕ → ℕ → List ℕ → List Condition → (Option Typ → List Condition) → Tok → Option Built → List Condition
 applied_behind c n head nodes argument has t o = elim o [ None ↦ argument ++ of_one_type c head nodes | Some b ↦ with_built c n head t 1 b nodes (argument ++ has (argument_type c head (Some b))) ]
 
-pub applied_alike : {k m : Kept} (c : Context) (n : ℕ) (p : Written) (head : ℕ) (nodes : List ℕ) (xs ys : List Condition) (has : Option Typ → List Condition) → Together k m xs ys →
-    Together k m (applied_constructor (keeping k c) n p head nodes xs has) (applied_constructor (keeping m c) n p head nodes ys has)
+pub applied_alike : {k m : Kept} (c : Context) (n : ℕ) (p : Written) (head : ℕ) (nodes : List ℕ) (xs ys : List Condition) (has : Option Typ → List Condition) → Whole k m xs ys →
+    Whole k m (applied_constructor (keeping k c) n p head nodes xs has) (applied_constructor (keeping m c) n p head nodes ys has)
 applied_alike {k} {m} c n p head nodes xs ys has h = by p.last refl
   where
-    unfound : Together k m (xs ++ of_one_type (keeping k c) head nodes) (ys ++ of_one_type (keeping m c) head nodes)
+    unfound : Whole k m (xs ++ of_one_type (keeping k c) head nodes) (ys ++ of_one_type (keeping m c) head nodes)
     unfound = behind h (λ a. alone _)
 
-    found : (t : Tok) (o : Option Built) → Together k m (applied_behind (keeping k c) n head nodes xs has t o) (applied_behind (keeping m c) n head nodes ys has t o)
+    found : (t : Tok) (o : Option Built) → Whole k m (applied_behind (keeping k c) n head nodes xs has t o) (applied_behind (keeping m c) n head nodes ys has t o)
     found t None = unfound
     found t (Some b) = with_built_alike c n head t 1 b nodes (xs ++ has (argument_type (keeping k c) head (Some b))) (ys ++ has (argument_type (keeping m c) head (Some b))) (behind h (λ a. alone _))
 
-    by : (o : Option Tok) → p.last ≡ o → Together k m (applied_constructor (keeping k c) n p head nodes xs has) (applied_constructor (keeping m c) n p head nodes ys has)
+    by : (o : Option Tok) → p.last ≡ o → Whole k m (applied_constructor (keeping k c) n p head nodes xs has) (applied_constructor (keeping m c) n p head nodes ys has)
     by None e = rw (e, applied_constructor) (at_treated (at_known unfound))
-    by (Some t) e = rw (e, applied_constructor) (at_treated (at_known (at_demand refl (λ a.
+    by (Some t) e = rw (e, applied_constructor) (at_treated (at_known (at_demand (λ a.
         along (applied_behind (keeping k c) n head nodes xs has t) (applied_behind (keeping m c) n head nodes ys has t) (built_alike k m c n p t a) (found t (built_by (keeping k c) n p t))))))
 
 pub papp_steady : {k m : Kept} (n : ℕ) (q : Place) (head p : Pattern) → SteadyPattern k m p → SteadyPattern k m (papp n q head p)
@@ -128,9 +129,9 @@ papp_steady {k} {m} n q head p s = by head.constructor refl
       matches = λ c seen. applied_alike c n path head.node (n ∷ head.node ∷ []) (p.matched (keeping k c) seen) (p.matched (keeping m c) seen) (argument_has n 2 p.at (type_at (keeping k c) p.node)) (s.matches c seen);
     })
 
-pub pparen_steady : {k m : Kept} (n : ℕ) (q : Place) (p : Pattern) (t : Option TypeExpression) → SteadyPattern k m p → IfThere (SteadyType k m) t → SteadyPattern k m (pparen n q p t)
+pub pparen_steady : {k m : Kept} (n : ℕ) (q : Place) (p : Pattern) (t : Option TypeExpression) → SteadyPattern k m p → IfThere (WholeType k m) t → SteadyPattern k m (pparen n q p t)
 pparen_steady n q p None s absent = over_steady n q (p ∷ []) _ (one_and s no_one) (λ c. alone _)
-pparen_steady n q p (Some t) s (there r) = over_steady n q (p ∷ []) _ (one_and s no_one) (λ c. behind (behind (r.reads c c.env c.env (as_itself c.env)) (λ a. alone _)) (λ a. alone _))
+pparen_steady n q p (Some t) s (there r) = over_steady n q (p ∷ []) _ (one_and s no_one) (λ c. behind (behind (r.reads c) (λ a. alone _)) (λ a. alone _))
 
 pub plist_steady : {k m : Kept} (n : ℕ) (q : Place) (ps : List Pattern) → Each (SteadyPattern k m) ps → SteadyPattern k m (plist n q ps)
 plist_steady n q ps each = over_steady n q ps _ each (λ c. alone _)
@@ -222,15 +223,15 @@ field_names_one {k} {m} n f s = by f.pattern refl s.pattern
     by (Some p) e (there z) = rw (e, names_in_field) z.binds
 
 field_alike : {k m : Kept} (c : Context) (n : ℕ) (is_found : Bool) (f : FieldPattern) (names : List Name) (seen : List Name) (t : Option Typ) → SteadyFieldPattern k m f →
-    Together k m (match_field (keeping k c) n is_found f names seen t) (match_field (keeping m c) n is_found f names seen t)
+    Whole k m (match_field (keeping k c) n is_found f names seen t) (match_field (keeping m c) n is_found f names seen t)
 field_alike {k} {m} c n is_found f names seen t s = by f.pattern refl s.pattern
   where
-    by : (o : Option Pattern) → f.pattern ≡ o → IfThere (SteadyPattern k m) o → Together k m (match_field (keeping k c) n is_found f names seen t) (match_field (keeping m c) n is_found f names seen t)
+    by : (o : Option Pattern) → f.pattern ≡ o → IfThere (SteadyPattern k m) o → Whole k m (match_field (keeping k c) n is_found f names seen t) (match_field (keeping m c) n is_found f names seen t)
     by None e absent = rw (e, match_field) (alone _)
     by (Some p) e (there z) = rw (e, match_field) (at_treated (behind (alone (if is_found then ask_once f.node 0 names f.label else [])) (λ a. behind (z.matches c seen) (λ b. alone _))))
 
 fields_alike : {k m : Kept} (c : Context) (n : ℕ) (found : Option Declaration) (fs : List FieldPattern) (names : List Name) (seen : List Name) → Each (SteadyFieldPattern k m) fs →
-    Together k m (match_fields (keeping k c) n found fs names seen) (match_fields (keeping m c) n found fs names seen)
+    Whole k m (match_fields (keeping k c) n found fs names seen) (match_fields (keeping m c) n found fs names seen)
 fields_alike c n found [] names seen no_one = at_end
 fields_alike {k} {m} c n found (f ∷ fs) names seen (one_and s each) =
     behind (field_alike c n _ f names seen (field_type (keeping k c) n found f.label) s) (λ a. fields_alike c n found fs (names ++ name_in f.label) (seen ++ mentions_in_field f) each)

@@ -11,9 +11,11 @@ use Rattle.typing_model.specs.TypeExpressions as types
 use Rattle.typing_model.specs.Expressions.{expression_row, cases_in, fields_in, bindings_in, is_some, update_expression, record_expression}
 use Rattle.typing_model.specs.Declarations.{told_row, right_side_row}
 use Rattle.typing_model.specs.Modules.{paired, module_expression_row, module_type_row, module_of_item, item_row, signature_item_row, sealed, functor_expression}
-use Rattle.typing_laws.proofs.Together.{Kept, at_end}
-use Rattle.typing_laws.proofs.Steady.{Each, no_one, one_and, each_append, IfThere, absent, there, SteadyType, SteadyExpression, SteadyPattern, SteadyBinding, SteadyCase, SteadyField, SteadyFieldPattern, SteadyConstructor, SteadyLabel, SteadyTold, of_constructors, of_labels, SteadyRight, of_another, of_own, SteadyDeclaration, SteadyModule, SteadyModuleType, SteadyClause, SteadyParameter, SteadyItem, SteadyChild}
+use Rattle.typing_laws.proofs.Together.{Kept}
+use Rattle.typing_laws.proofs.Whole.{at_end}
+use Rattle.typing_laws.proofs.Steady.{Each, no_one, one_and, each_append, IfThere, absent, there, WholeType, SteadyType, SteadyExpression, SteadyPattern, SteadyBinding, SteadyCase, SteadyField, SteadyFieldPattern, SteadyConstructor, SteadyLabel, SteadyTold, of_constructors, of_labels, SteadyRight, of_another, of_own, SteadyDeclaration, SteadyModule, SteadyModuleType, SteadyClause, SteadyParameter, SteadyItem, SteadyChild}
 use Rattle.typing_laws.proofs.SteadyTypes.{no_type_steady, tvar_steady, tcon_steady, tapp_steady, tparen_steady, ttuple_steady, tarrow_steady}
+use Rattle.typing_laws.proofs.WholeTypes.{no_type_whole, tvar_whole, tcon_whole, tapp_whole, tparen_whole, ttuple_whole, tarrow_whole}
 use Rattle.typing_laws.proofs.SteadyPatterns.{no_pattern_steady, over_steady, pname_steady, pconst_steady, pneg_steady, pcon_steady, papp_steady, pparen_steady, plist_steady, pcons_steady, ptuple_steady, pas_steady, por_steady, precord_steady}
 use Rattle.typing_laws.proofs.SteadyExpressions.{no_expression_steady, name_steady, econ_steady, path_steady, econst_steady, hole_steady, eparen_steady, ebegin_steady, elist_steady, econs_steady, etuple_steady, eapp_steady, infix_steady, prefix_steady, eneg_steady, field_steady, eset_steady, erecord_steady, eupdate_steady, eassert_steady, eif_steady, eseq_steady, ewhile_steady, efor_steady, ematch_steady, etry_steady, efunction_steady, efun_steady, elet_steady}
 use Rattle.typing_laws.proofs.SteadyItems.{let_item_steady, type_item_steady, no_item_steady, exception_item_steady}
@@ -53,6 +55,9 @@ patterns_steady {k} {m} s cs each = mapped (SteadyPattern k m) (λ c. c.pattern)
 pub types_steady : {k m : Kept} (s : ℕ) (cs : List Child) → Each (SteadyChild k m) cs → Each (SteadyType k m) (types_in s cs)
 types_steady {k} {m} s cs each = mapped (SteadyType k m) (λ c. c.type_expression) (in_slot s cs) (λ c h. h.type_expression) (slot_steady s cs each)
 
+pub types_whole : {k m : Kept} (s : ℕ) (cs : List Child) → Each (SteadyChild k m) cs → Each (WholeType k m) (types_in s cs)
+types_whole {k} {m} s cs each = mapped (WholeType k m) (λ c. c.type_expression) (in_slot s cs) (λ c h. h.whole_type) (slot_steady s cs each)
+
 modules_steady : {k m : Kept} (s : ℕ) (cs : List Child) → Each (SteadyChild k m) cs → Each (SteadyModule k m) (modules_in s cs)
 modules_steady {k} {m} s cs each = mapped (SteadyModule k m) (λ c. c.module_expression) (in_slot s cs) (λ c h. h.module_expression) (slot_steady s cs each)
 
@@ -81,6 +86,13 @@ one_type_steady {k} {m} s cs each = by (first_of (types_in s cs)) (first_there (
     by None absent = no_type_steady 0 (place 0 0)
     by (Some e) (there h) = h
 
+pub one_type_whole : {k m : Kept} (s : ℕ) (cs : List Child) → Each (SteadyChild k m) cs → WholeType k m (type_in s cs)
+one_type_whole {k} {m} s cs each = by (first_of (types_in s cs)) (first_there (types_in s cs) (types_whole s cs each))
+  where
+    by : (o : Option TypeExpression) → IfThere (WholeType k m) o → WholeType k m (elim o [ None ↦ no_type_at 0 (place 0 0) | Some t ↦ t ])
+    by None absent = no_type_whole 0 (place 0 0)
+    by (Some e) (there h) = h
+
 one_module_steady : {k m : Kept} (s : ℕ) (cs : List Child) → Each (SteadyChild k m) cs → SteadyModule k m (module_in s cs)
 one_module_steady {k} {m} s cs each = by (first_of (modules_in s cs)) (first_there (modules_in s cs) (modules_steady s cs each))
   where
@@ -95,7 +107,7 @@ one_module_type_steady {k} {m} s cs each = by (first_of (module_types_in s cs)) 
     by None absent = no_module_type_steady 0
     by (Some e) (there h) = h
 
-bindings_steady : {k m : Kept} (s : ℕ) (cs : List Child) → Each (SteadyChild k m) cs → Each (SteadyBinding k m) (bindings_in s cs)
+pub bindings_steady : {k m : Kept} (s : ℕ) (cs : List Child) → Each (SteadyChild k m) cs → Each (SteadyBinding k m) (bindings_in s cs)
 bindings_steady {k} {m} s cs each = filtered (SteadyBinding k m) (λ c. c.binding) (in_slot s cs) (λ c h. h.binding) (slot_steady s cs each)
 
 cases_steady : {k m : Kept} (s : ℕ) (cs : List Child) → Each (SteadyChild k m) cs → Each (SteadyCase k m) (cases_in s cs)
@@ -117,7 +129,7 @@ expression_row_steady econ_row n q cs h = econ_steady n q (path_in 9 0 cs)
 expression_row_steady epath_row n q cs h = path_steady n q (path_in 0 1 cs)
 expression_row_steady econst_row n q cs h = econst_steady n q (token_in 0 cs)
 expression_row_steady hole_row n q cs h = hole_steady n q
-expression_row_steady eparen_row n q cs h = eparen_steady n q (expression_in 1 cs) (first_of (types_in 3 cs)) (expression_steady 1 cs h) (first_there (types_in 3 cs) (types_steady 3 cs h))
+expression_row_steady eparen_row n q cs h = eparen_steady n q (expression_in 1 cs) (first_of (types_in 3 cs)) (expression_steady 1 cs h) (first_there (types_in 3 cs) (types_whole 3 cs h))
 expression_row_steady ebegin_row n q cs h = ebegin_steady n q (first_of (expressions_in 1 cs)) (first_there (expressions_in 1 cs) (expressions_steady 1 cs h))
 expression_row_steady elist_row n q cs h = elist_steady n q (expressions_in 1 cs) (expressions_steady 1 cs h)
 expression_row_steady {k} {m} erecord_row n q cs h = by (is_some (token_in 4 cs))
@@ -152,7 +164,7 @@ pattern_row_steady pany_row n q cs h = over_steady n q [] (λ c. []) no_one (λ 
 pattern_row_steady pconst_row n q cs h = pconst_steady n q (token_in 0 cs)
 pattern_row_steady pneg_row n q cs h = pneg_steady n q (token_in 1 cs)
 pattern_row_steady pcon_row n q cs h = pcon_steady n q (path_in 0 1 cs)
-pattern_row_steady pparen_row n q cs h = pparen_steady n q (pattern_in 1 cs) (first_of (types_in 3 cs)) (one_pattern_steady 1 cs h) (first_there (types_in 3 cs) (types_steady 3 cs h))
+pattern_row_steady pparen_row n q cs h = pparen_steady n q (pattern_in 1 cs) (first_of (types_in 3 cs)) (one_pattern_steady 1 cs h) (first_there (types_in 3 cs) (types_whole 3 cs h))
 pattern_row_steady plist_row n q cs h = plist_steady n q (patterns_in 1 cs) (patterns_steady 1 cs h)
 pattern_row_steady {k} {m} precord_row n q cs h = precord_steady n q (filter_map (λ c. c.field_pattern) (in_slot 1 cs)) (filtered (SteadyFieldPattern k m) (λ c. c.field_pattern) (in_slot 1 cs) (λ c g. g.field_pattern) (slot_steady 1 cs h))
 pattern_row_steady papp_row n q cs h = papp_steady n q (pattern_in 0 cs) (pattern_in 1 cs) (one_pattern_steady 1 cs h)
@@ -171,6 +183,16 @@ type_row_steady tapp_row n q cs h = tapp_steady n q (type_in 0 cs) (path_in 1 2 
 type_row_steady ttuple_row n q cs h = ttuple_steady n q (types_in 0 cs ++ types_in 2 cs) (each_append (types_steady 0 cs h) (types_steady 2 cs h))
 type_row_steady tarrow_row n q cs h = tarrow_steady n q (type_in 0 cs) (type_in 2 cs) (one_type_steady 0 cs h) (one_type_steady 2 cs h)
 type_row_steady _ n q cs h = no_type_steady n q
+
+pub type_row_whole : {k m : Kept} (r : Row) (n : ℕ) (q : Place) (cs : List Child) → Each (SteadyChild k m) cs → WholeType k m (types.type_row r n q cs)
+unfolding types.type_row
+type_row_whole tvar_row n q cs h = tvar_whole n q (token_in 0 cs)
+type_row_whole tcon_row n q cs h = tcon_whole n q (path_in 0 1 cs)
+type_row_whole tparen_row n q cs h = tparen_whole n q (types_in 1 cs) (types_whole 1 cs h)
+type_row_whole tapp_row n q cs h = tapp_whole n q (type_in 0 cs) (path_in 1 2 cs) (one_type_whole 0 cs h)
+type_row_whole ttuple_row n q cs h = ttuple_whole n q (types_in 0 cs ++ types_in 2 cs) (each_append (types_whole 0 cs h) (types_whole 2 cs h))
+type_row_whole tarrow_row n q cs h = tarrow_whole n q (type_in 0 cs) (type_in 2 cs) (one_type_whole 0 cs h) (one_type_whole 2 cs h)
+type_row_whole _ n q cs h = no_type_whole n q
 
 -- what stands behind another optional part
 pub then_there : {A B : Type 0} {P : A → Type 0} (Q : B → Type 0) (o : Option A) (f : A → Option B) → ((x : A) → P x → IfThere Q (f x)) → IfThere P o → IfThere Q (then_by o f)

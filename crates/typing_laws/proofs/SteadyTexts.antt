@@ -12,14 +12,16 @@ use Rattle.typing_model.specs.TypeExpressions.{type_row}
 use Rattle.typing_model.specs.Modules.{item_row, signature_item_row, module_expression_row, module_type_row}
 use Rattle.typing_model.specs.Meanings.{binding_of, case_of, field_of, field_pattern_of, constructor_of, label_of, declaration_of, recorded_expression, recorded_pattern, recorded_type, recorded_item, recorded_module, recorded_module_type, with_clause_of, node_child, leaf_child, children_of, child_of, tree_child, item_base, items_from, items_of}
 use Rattle.typing_model.specs.Typings.{outermost, conditions_of}
-use Rattle.typing_laws.proofs.Together.{Kept, keeping, Together, at_treated, at_known, Agreed, past_treated, past_known}
-use Rattle.typing_laws.proofs.Steady.{Each, no_one, one_and, IfThere, absent, there, SteadyType, IsFormSteady, SteadyExpression, SteadyPattern, SteadyBinding, SteadyCase, SteadyField, SteadyFieldPattern, SteadyConstructor, SteadyLabel, SteadyRight, SteadyDeclaration, SteadyModule, SteadyModuleType, SteadyClause, SteadyItem, SteadyChild}
+use Rattle.typing_laws.proofs.Together.{Kept, keeping, Together, at_treated, Agreed, past_treated, past_known}
+use Rattle.typing_laws.proofs.Whole as whole
+use Rattle.typing_laws.proofs.Steady.{Each, no_one, one_and, IfThere, absent, there, WholeType, SteadyType, IsFormSteady, SteadyExpression, SteadyPattern, SteadyBinding, SteadyCase, SteadyField, SteadyFieldPattern, SteadyConstructor, SteadyLabel, SteadyRight, SteadyDeclaration, SteadyModule, SteadyModuleType, SteadyClause, SteadyItem, SteadyChild}
 use Rattle.typing_laws.proofs.SteadyTypes.{no_type_steady}
+use Rattle.typing_laws.proofs.WholeTypes.{no_type_whole}
 use Rattle.typing_laws.proofs.SteadyPatterns.{no_pattern_steady}
 use Rattle.typing_laws.proofs.SteadyExpressions.{no_expression_steady}
 use Rattle.typing_laws.proofs.SteadyItems.{items_alike}
 use Rattle.typing_laws.proofs.SteadyModules.{no_module_steady, no_module_type_steady}
-use Rattle.typing_laws.proofs.SteadyRows.{expressions_steady, patterns_steady, types_steady, expression_steady, one_pattern_steady, one_type_steady, first_there, then_there, first_steady, expression_row_steady, pattern_row_steady, type_row_steady, told_row_steady, right_side_steady, item_steady, signature_item_steady, module_row_steady, module_type_row_steady}
+use Rattle.typing_laws.proofs.SteadyRows.{expressions_steady, patterns_steady, types_steady, types_whole, expression_steady, one_pattern_steady, one_type_steady, first_there, then_there, first_steady, expression_row_steady, pattern_row_steady, type_row_steady, type_row_whole, told_row_steady, right_side_steady, item_steady, signature_item_steady, module_row_steady, module_type_row_steady}
 
 -- a part that tells its environment first
 further_form : (k m : Kept) (typed after : Context → List Condition) (f : Form) → ((c : Context) → Agreed k m (after (keeping k c)) → Agreed k m (typed (keeping k c))) → IsFormSteady k m typed f → IsFormSteady k m after f
@@ -36,17 +38,20 @@ behind_told n c xs (past_treated (past_known a)) = a
 
 expression_told : {k m : Kept} (n : ℕ) (e : Expression) → SteadyExpression k m e → SteadyExpression k m (recorded_expression n e)
 expression_told {k} {m} n e s = record {
-  types = λ c. at_treated (at_known (s.types c));
-  negates = λ c. at_treated (at_known (s.negates c));
+  types = λ c. whole.at_treated (whole.at_known (s.types c));
+  negates = λ c. whole.at_treated (whole.at_known (s.negates c));
   values = s.values;
   forms = further_form k m e.typed (λ c. tell_typed n c ++ e.typed c) e.form (λ c a. behind_told n (keeping k c) (e.typed (keeping k c)) a) s.forms;
 }
 
 pattern_told : {k m : Kept} (n : ℕ) (p : Pattern) → SteadyPattern k m p → SteadyPattern k m (recorded_pattern n p)
-pattern_told n p s = record { binds = s.binds; matches = λ c seen. at_treated (at_known (s.matches c seen)) }
+pattern_told n p s = record { binds = s.binds; matches = λ c seen. whole.at_treated (whole.at_known (s.matches c seen)) }
 
 type_told : {k m : Kept} (n : ℕ) (t : TypeExpression) → SteadyType k m t → SteadyType k m (recorded_type n t)
 type_told n t s = record { reads = λ c E F h. at_treated (s.reads c E F h); reads_group = λ c E F h. at_treated (s.reads_group c E F h) }
+
+type_whole : {k m : Kept} (n : ℕ) (t : TypeExpression) → WholeType k m t → WholeType k m (recorded_type n t)
+type_whole n t s = record { reads = λ c. whole.at_treated (s.reads c); reads_group = λ c. whole.at_treated (s.reads_group c) }
 
 behind_tell : {k m : Kept} (n : ℕ) (c : Context) (xs : List Condition) → Agreed k m (tell n c ++ xs) → Agreed k m xs
 behind_tell n c xs (past_treated a) = a
@@ -79,7 +84,7 @@ binding_steady : {k m : Kept} (r : Row) (n : ℕ) (cs : List Child) → Each (St
 binding_steady binding_row n cs h = there (record {
   pattern = one_pattern_steady 0 cs h;
   parameters = patterns_steady 1 cs h;
-  annotation = first_there (types_in 3 cs) (types_steady 3 cs h);
+  annotation = first_there (types_in 3 cs) (types_whole 3 cs h);
   body = expression_steady 5 cs h;
 })
 binding_steady _ n cs h = absent
@@ -118,6 +123,7 @@ node_steady slot p r n q cs h = record {
   expression = expression_told n (expression_row r n q cs) (expression_row_steady r n q cs h);
   pattern = pattern_told n (pattern_row r n q cs) (pattern_row_steady r n q cs h);
   type_expression = type_told n (type_row r n q cs) (type_row_steady r n q cs h);
+  whole_type = type_whole n (type_row r n q cs) (type_row_whole r n q cs h);
   binding = binding_steady r n cs h;
   case = case_steady r n cs h;
   field = field_steady r n cs h;
@@ -139,6 +145,7 @@ leaf_steady slot p n q = record {
   expression = expression_told n (no_expression_at n q) (no_expression_steady n q);
   pattern = pattern_told n (no_pattern_at n q) (no_pattern_steady n q);
   type_expression = type_told n (no_type_at n q) (no_type_steady n q);
+  whole_type = type_whole n (no_type_at n q) (no_type_whole n q);
   binding = absent;
   case = absent;
   field = absent;

@@ -19,3 +19,18 @@ is_plain_item (node r x ps) = is_plain_row r
 abbrev pub has_no_modules : List Tree → Bool
 has_no_modules [] = true
 has_no_modules (t ∷ ts) = is_plain_item t && has_no_modules ts
+
+-- whether an item of this row is a binding or `;;`
+abbrev pub is_let_row : Row → Bool
+is_let_row let_row = true
+is_let_row break_row = true
+is_let_row _ = false
+
+-- whether an item is one of these
+abbrev pub is_let_item : Tree → Bool
+is_let_item (node r x ps) = is_let_row r
+
+-- whether all items of a text are
+abbrev pub has_lets_alone : List Tree → Bool
+has_lets_alone [] = true
+has_lets_alone (t ∷ ts) = is_let_item t && has_lets_alone ts

@@ -9,7 +9,7 @@ use Rattle.type_model.specs.Types.{Path, Typ, types_of}
 use Rattle.type_model.specs.Types.{Typ as type, Typs as types}
 use Rattle.type_model.specs.Schemes.{Scheme}
 use Rattle.signature_model.specs.Declarations as rules
-use Rattle.signature_model.specs.Declarations.{Name, type_of}
+use Rattle.signature_model.specs.Declarations.{Name}
 use Rattle.signature_model.specs.Entries.{type_kind}
 use Rattle.signature_model.specs.Entries.{Entry as Named, Referent, kind_of as kind_named}
 use Rattle.signature_model.specs.Changes.{argument}
@@ -39,7 +39,7 @@ use Rattle.typing_conditions.proofs.Environments.{ComesTo, to_entry, to_hole, to
 use Rattle.typing_conditions.proofs.Equals.{judged_as}
 use Rattle.typing_conditions.proofs.Judged.{kept_right}
 use Rattle.typing_steps.specs.States.{is_aloud, sight}
-use Rattle.typing_steps.specs.Demands.{is_found_here, bound_asks}
+use Rattle.typing_steps.specs.Demands.{is_found_here}
 use Rattle.typing_steps.specs.Demands as verdicts
 use Rattle.typing_steps.proofs.Valued.{found_of_kind}
 use Rattle.typing_steps.proofs.Constructing.{hole_none}

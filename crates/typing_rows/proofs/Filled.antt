@@ -122,6 +122,7 @@ joined_means {F} {scope} {G} {type} {p} {q} {a} {b} W fits same h k j = by (j.jo
         told = [];
         reports = j.rest.reports ∙ sym (append-nil a.reports);
         sound = λ r V c l. record { same = refl; holds = tt; tells = refl };
+        follows = λ r V c l. refl;
         complete = λ named V c e asked.
             let loose = fits_loosely a.nodes V e.fits in
             let is : V p ≡ V q = sym (h.is V c.chosen loose e.agrees) ∙ k.is V c.chosen loose e.agrees in
@@ -129,6 +130,7 @@ joined_means {F} {scope} {G} {type} {p} {q} {a} {b} W fits same h k j = by (j.jo
               same = refl;
               types = V;
               on = record { fits = under_fits (λ v. 0) b.nodes V (one.fits (λ v. 0) V (fits_under a.nodes V e.fits) is); before = λ i lt. refl; agrees = agrees_same a b j.rest.types j.rest.written e.inside (λ i lt. refl) e.agrees };
+              hidden_too = (tt, tt);
             });
         first = λ named n V c e asked. inl (subst (λ cs. StartsWith [] (judgements c.kept cs)) (sym (take_none n)) (starts_none []));
       },

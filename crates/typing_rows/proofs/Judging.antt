@@ -31,7 +31,7 @@ use Rattle.typing_conditions.proofs.Environments.{lookup_alike}
 use Rattle.typing_conditions.proofs.Equals.{judged_as, falls_short, not_both}
 use Rattle.typing_conditions.specs.Sights.{Report, Sight}
 use Rattle.typing_conditions.specs.Steps.{IsTold}
-use Rattle.typing_conditions.specs.Judging.{Judgement, judgements, FallsShort, TellBy}
+use Rattle.typing_conditions.specs.Judging.{judgements, FallsShort, TellBy}
 use Rattle.typing_conditions.specs.Judging as judging
 use Rattle.typing_conditions.specs.Carrying.{Asks}
 use Rattle.typing_steps.specs.States.{is_aloud, sight}

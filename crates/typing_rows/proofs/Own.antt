@@ -9,13 +9,13 @@ use Rattle.typing_model.specs.Demands.{same, AllHold}
 use Rattle.typing_model.specs.Contexts.{Choice, Context, tell_typed}
 use Rattle.type_nodes.specs.Readings.{Types, Fits}
 use Rattle.level_unify.proofs.Unified.{fits_loosely}
-use Rattle.typing_conditions.specs.Sights.{Sight, own, number_in, Letters}
+use Rattle.typing_conditions.specs.Sights.{Sight, own, number_in, Letters, AreNodes}
 use Rattle.typing_conditions.specs.Frames.{Frame}
 use Rattle.typing_conditions.specs.Meanings.{Means}
 use Rattle.typing_conditions.specs.Judging.{StartsWith, FallsShort}
 use Rattle.typing_conditions.specs.Steps.{Records}
 use Rattle.typing_conditions.specs.Carrying.{Asks, Scope, HoldsWritten, Enters, GoesOn, Stays, Continues, Carried, EndsAs}
-use Rattle.typing_conditions.proofs.Judged.{starts_all}
+use Rattle.typing_conditions.proofs.Judged.{follows_silent, starts_all}
 use Rattle.typing_conditions.proofs.Stays.{stays_refl, stays_trans, stays_opened, agrees_before, named_before, bounds_before}
 use Rattle.typing_conditions.proofs.First.{first_one, starts_none}
 use Rattle.typing_conditions.proofs.Carried.{Decides}
@@ -30,13 +30,14 @@ same_itself {F} {scope} {G} {a} type = record {
   told = [];
   reports = sym (append-nil a.reports);
   sound = λ r V c l. record { same = refl; holds = (refl, tt); tells = refl };
+  follows = λ r V c l. refl;
   complete = λ named. complete;
   first = λ named. first_one (λ c. same (type c.chosen) (type c.chosen)) complete;
 }
   where
     complete : (V : Types) (c : Context) → Enters F scope a G V c → AllHold c.kept (same (type c.chosen) (type c.chosen) ∷ []) →
-        Continues F (λ c. same (type c.chosen) (type c.chosen) ∷ []) a a G [] V c ⊎ FallsShort [] []
-    complete V c e h = inl (record { same = refl; types = V; on = record { fits = e.fits; before = λ i lt. refl; agrees = e.agrees } })
+        Continues F (λ c. same (type c.chosen) (type c.chosen) ∷ []) a a G [] [] V c ⊎ FallsShort [] []
+    complete V c e h = inl (record { same = refl; types = V; on = record { fits = e.fits; before = λ i lt. refl; agrees = e.agrees }; hidden_too = (tt, tt) })
 
 -- what a row asks at its end: from then on the choice has the row's type for its node
 pub ends_made : {F : Frame} {scope : Scope} {G : Letters} {a : Sight} {n m : ℕ} {type : Choice → Typ} {ends : Asks} → Means F a G type m → EndsAs n type ends → Carried F scope ends a G a ((own n, m) ∷ G)
@@ -49,6 +50,7 @@ ends_made {F} {scope} {G} {a} {n} {m} {type} {ends} p end = record {
   sound = λ r V c l.
       let before = agrees_before (stays_opened {F = F} (own n) p.open_node.inside) l.agrees in
       record { same = end.silent c; holds = end.holds c (l.agrees.given.0.is ∙ sym (p.is V c.chosen (fits_loosely a.nodes V l.reads.fits) before)); tells = end.reports_none c };
+  follows = λ r V c l. follows_silent c.kept (ends c) (end.silent c);
   complete = λ named V c e h.
       let g = e.agrees in
       inl (record {
@@ -59,6 +61,7 @@ ends_made {F} {scope} {G} {a} {n} {m} {type} {ends} p end = record {
           before = λ i lt. refl;
           agrees = record { recorded = g.recorded; known = g.known; written = g.written; given = (record { is = end.gives c (V m) h (p.is V c.chosen (fits_loosely a.nodes V e.fits) g); known = tt }, g.given) };
         };
+        hidden_too = (tt, tt);
       });
   first = λ named k V c e h. inl (subst (StartsWith []) (sym (end.silent_first k c)) (starts_all []));
 }
@@ -101,8 +104,17 @@ own_recorded {F} {scope} {asks} {a} {b} {d} {G} {H} n {p} {m} number it means r 
       }) in
       let here = means.is V c.chosen (fits_loosely b.nodes V (later.reads V l.reads).fits) g in
       record { same = meets.same; holds = (tt, (subst IsKnown (sym here) (l.agrees.known b.item p m (here_now r)), meets.holds)); tells = meets.tells };
+  follows = λ r' V c l. it.follows r' V c (record {
+    under = l.under;
+    reads = later.reads V l.reads;
+    agrees = agrees_before later l.agrees;
+    hidden_too = l.hidden_too;
+    named = named_before scope later l.named;
+    unbound = bounds_before scope c.chosen later (it.stays.reaches r') l.unbound;
+    kept = l.kept;
+  });
   complete = λ named V c e h. elim (it.complete (named_before scope later named) V c e h.1.1) [
-    | inl on ↦ inl (record { same = on.same; types = on.types; on = goes V c h.1.0 on })
+    | inl on ↦ inl (record { same = on.same; types = on.types; on = goes V c h.1.0 on; hidden_too = (subst (AreNodes it.hidden) (sym r.nodes) on.hidden_too.0, on.hidden_too.1) })
     | inr short ↦ inr short
   ];
   first = λ named. first (named_before scope later named);
@@ -111,7 +123,7 @@ own_recorded {F} {scope} {asks} {a} {b} {d} {G} {H} n {p} {m} number it means r 
     later : Stays F b H d H
     later = records_stay r means.open_node.inside
 
-    goes : (V : Types) (c : Context) → IsKnown (c.chosen.type_at n) → (on : Continues F asks a b H it.judged V c) → GoesOn F a d H V on.types c.chosen
+    goes : (V : Types) (c : Context) → IsKnown (c.chosen.type_at n) → (on : Continues F asks a b H it.hidden it.judged V c) → GoesOn F a d H V on.types c.chosen
     goes V c is_known on =
         let g = on.on.agrees in
         let here = means.is on.types c.chosen (fits_loosely b.nodes on.types on.on.fits) g in

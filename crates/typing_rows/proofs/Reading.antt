@@ -14,7 +14,7 @@ use Rattle.typing_conditions.specs.Sights.{Sight, own, Letters}
 use Rattle.typing_conditions.specs.Frames.{Frame, Reaches}
 use Rattle.typing_conditions.specs.Carrying.{Asks, Scope, Carried, CarriedTo}
 use Rattle.typing_conditions.proofs.Judged.{given_left, given_right, given_both, nodes_right}
-use Rattle.typing_conditions.proofs.Carried.{carried_trans, carried_as}
+use Rattle.typing_conditions.proofs.Carried.{hidden_more, carried_trans, carried_as}
 use Rattle.typing_conditions.proofs.Framing.{open_on}
 use Rattle.typing_conditions.proofs.Meaning.{means_on}
 use Rattle.typing_conditions.proofs.Nodes.{same_made, told_first}
@@ -64,6 +64,20 @@ read_closed {F} {scope} {asks} {a} {b} {G} {n} {m} more r = record {
       unbound = l.unbound;
       kept = l.kept;
     });
+    follows = λ r V c l. p.follows r V c (record {
+      under = l.under;
+      reads = l.reads;
+      agrees = record {
+        recorded = l.agrees.recorded;
+        known = l.agrees.known;
+        written = l.agrees.written;
+        given = (l.agrees.given.0, given_both V c.chosen more G (given_right V c.chosen p.hidden more l.hidden_too) l.agrees.given.1);
+      };
+      hidden_too = given_left V c.chosen p.hidden more l.hidden_too;
+      named = l.named;
+      unbound = l.unbound;
+      kept = l.kept;
+    });
     complete = λ named V c e h. elim (p.complete named V c e h) [
       | inl goes ↦ inl (record {
         same = goes.same;
@@ -78,6 +92,7 @@ read_closed {F} {scope} {asks} {a} {b} {G} {n} {m} more r = record {
             given = (goes.on.agrees.given.0, given_right goes.types c.chosen more G goes.on.agrees.given.1);
           };
         };
+        hidden_too = hidden_more p.hidden more G b c.chosen goes.types (p.stays.inside e.inside).given.1 goes.on.agrees.given.1 goes.hidden_too;
       })
       | inr short ↦ inr short
     ];

@@ -14,7 +14,7 @@ use Rattle.typing_model.specs.Expressions.{expression_row, value_asks, typed_all
 use Rattle.env_table.specs.declared.entries.Entry.{Entry}
 use Rattle.typing_state.specs.declared.parts.Parts.{Parts}
 use Rattle.typing_state.specs.Goes.{Goes}
-use Rattle.typing_conditions.specs.Sights.{Key, Letters, number_in}
+use Rattle.typing_conditions.specs.Sights.{number_in}
 use Rattle.typing_conditions.specs.Sights as key
 use Rattle.typing_conditions.specs.Steps.{Records}
 use Rattle.typing_conditions.proofs.Carried.{carried_refl}

@@ -114,6 +114,7 @@ root_used {F} {scope} {G} {a} {b} {C} {N} {arity} {root} {m} {t} key free s f na
       told = [];
       reports = rest.reports ∙ sym (append-nil a.reports);
       sound = λ r V c l. record { same = refl; holds = tt; tells = refl };
+      follows = λ r V c l. refl;
       complete = λ named V c e h. inl (complete V c e);
       first = λ named k V c e h. inl (subst (λ cs. StartsWith [] (judgements c.kept cs)) (sym (take_none k)) (starts_none []));
     };
@@ -160,7 +161,7 @@ root_used {F} {scope} {G} {a} {b} {C} {N} {arity} {root} {m} {t} key free s f na
       fixed = rest.fixed;
     }
 
-    complete : (V : Types) (c : Context) → Enters F scope a G V c → Continues F (λ x. []) a b (letters ++ G) [] V c
+    complete : (V : Types) (c : Context) → Enters F scope a G V c → Continues F (λ x. []) a b (letters ++ G) [] [] V c
     complete V c e =
         let ch = c.chosen in
         let (W, fits, same, is) = take_complete own_a.1 as_root taken V (s ch) (f ch) e.fits in
@@ -179,4 +180,5 @@ root_used {F} {scope} {G} {a} {b} {C} {N} {arity} {root} {m} {t} key free s f na
               given = given_both W ch letters G (at_given key free images.image W ch (own_a.0 root) (λ v o. named ch own_a.0 own_a.1 v o ∙ each v o)) g.given;
             };
           };
+          hidden_too = (tt, tt);
         }

@@ -9,7 +9,7 @@ use Rattle.tree_model.specs.Trees.{Place, Tree, Forest, node, inner}
 use Rattle.row_parts.specs.Numbered.{Numbered, numbered, operands_in, all_operands, first_in, first_of, filled_in, path_in}
 use Rattle.typing_model.specs.Contexts.{Context}
 use Rattle.typing_model.specs.Parts as parts
-use Rattle.typing_model.specs.Parts.{Expression, Form, Written, expression_in, expressions_in, types_in}
+use Rattle.typing_model.specs.Parts.{Expression, Form, Written, expression_in, types_in}
 use Rattle.typing_model.specs.Expressions.{expression_row, all_values, is_built_value, is_false, path_expression, parenthesised, begun, cons_expression, if_expression, assert_expression}
 use Rattle.typing_steps.specs.Rows.{IsNoConstructor}
 use Rattle.operand_laws.specs.Formed.{row_of, is_needed, may_repeat, IsFormed}

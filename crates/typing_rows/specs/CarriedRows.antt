@@ -5,7 +5,7 @@ use Rattle.token_model.specs.Kinds.{Tok, Kind, upper}
 use Rattle.tree_model.specs.Rows.{Row, pparen_row, plist_row, precord_row, qfield_row, papp_row, pcons_row, ptuple_row, por_row, pas_row, case_row, binding_row, ematch_row, etry_row, efun_row, efunction_row, name_row, econ_row, epath_row, econst_row, hole_row, eparen_row, ebegin_row, elist_row, prefix_row, field_row, eapp_row, eassert_row, ewhile_row, efor_row, eneg_row, infix_row, econs_row, etuple_row, eset_row, eif_row, eseq_row, elet_row, erecord_row, ffield_row}
 use Rattle.tree_model.specs.Trees.{Place, Tree, Forest, Part, node, no_parts, part, taken, inner, missing}
 use Rattle.tree_model.specs.Extents.{extent_of}
-use Rattle.row_parts.specs.Numbered.{Numbered, token_in, filled_in}
+use Rattle.row_parts.specs.Numbered.{Numbered, token_in}
 use Rattle.operand_laws.specs.Formed.{IsOperandFormed}
 use Rattle.typing_rows.specs.CarriedPatternRows.{IsCarriedPatternRow}
 

@@ -3,7 +3,7 @@ use Rattle.std.proofs.Common.{◌≡◌, ◌∙◌, ◌++◌, ℕ, ◌+◌, List
 use Rattle.tree_model.specs.Trees.{Place}
 use Rattle.type_model.specs.Types.{Typ}
 use Rattle.typing_model.specs.Demands.{same}
-use Rattle.typing_model.specs.Contexts.{Choice, Context, ask, type_at}
+use Rattle.typing_model.specs.Contexts.{Choice, Context, type_at}
 use Rattle.typing_model.specs.Contexts as contexts
 use Rattle.typing_model.specs.Parts.{Expression, Form, a_constructor, a_path, a_float, a_false, a_field, no_expression, other}
 use Rattle.typing_model.specs.Expressions.{applied_from, application, application_asks}

@@ -6,7 +6,7 @@ use Rattle.syntax_tree.specs.View.{place_of}
 use Rattle.type_model.specs.Types.{Typ}
 use Rattle.type_model.specs.Types.{Typ as type}
 use Rattle.typing_model.specs.Demands.{site, equal}
-use Rattle.typing_model.specs.Contexts.{Choice, Context, ask}
+use Rattle.typing_model.specs.Contexts.{Choice, ask}
 use Rattle.typing_model.specs.Contexts as contexts
 use Rattle.typing_model.specs.Parts.{Expression}
 use Rattle.typing_model.specs.Expressions.{has_type}

@@ -18,6 +18,7 @@ use Rattle.typing_state.specs.Types.{level_for, any_scope, MakesVar, MadeOne, Jo
 use Rattle.typing_conditions.specs.Locals.{IsOwn}
 use Rattle.typing_conditions.specs.Rows.{Row}
 use Rattle.typing_conditions.specs.Standing.{IsIn}
+use Rattle.typing_conditions.proofs.Judged.{follows_silent}
 use Rattle.typing_conditions.proofs.Own.{own_of}
 use Rattle.typing_conditions.proofs.Rows.{row_var}
 use Rattle.typing_conditions.proofs.Fresh.{fresh_is_one}
@@ -52,6 +53,7 @@ same_joined {F} {scope} {G} {first} {second} {m} {n} {a} {b} sound p q rest tigh
       let g = agrees_before stays l.agrees in
       let loose = fits_loosely a.nodes V old.0.fits in
       record { same = refl; holds = (p.is V c.chosen loose g ∙ old.1 ∙ sym (q.is V c.chosen loose g), tt); tells = refl };
+  follows = λ r V c l. refl;
   complete = λ named. complete;
   first = λ named. first_one (λ c. same (first c.chosen) (second c.chosen)) complete;
 }
@@ -60,7 +62,7 @@ same_joined {F} {scope} {G} {first} {second} {m} {n} {a} {b} sound p q rest tigh
     stays = unified_stays sound rest tight p.open_node q.open_node one
 
     complete : (V : Types) (c : Context) → Enters F scope a G V c → AllHold c.kept (same (first c.chosen) (second c.chosen) ∷ []) →
-        Continues F (λ c. same (first c.chosen) (second c.chosen) ∷ []) a b G [] V c ⊎ FallsShort [] []
+        Continues F (λ c. same (first c.chosen) (second c.chosen) ∷ []) a b G [] [] V c ⊎ FallsShort [] []
     complete V c e h =
         let loose = fits_loosely a.nodes V e.fits in
         let is : V m ≡ V n = sym (p.is V c.chosen loose e.agrees) ∙ h.0 ∙ q.is V c.chosen loose e.agrees in
@@ -72,6 +74,7 @@ same_joined {F} {scope} {G} {first} {second} {m} {n} {a} {b} sound p q rest tigh
             before = λ i lt. refl;
             agrees = agrees_same a b rest.types rest.written e.inside (λ i lt. refl) e.agrees;
           };
+          hidden_too = (tt, tt);
         })
 
 -- `join`: two types are the same from then on, or they never are, and all is as before
@@ -111,7 +114,8 @@ scoped_letter {F} {scope} {G} {a} {b} {s} {t} {n} {o} {asks} key free limits r m
       holds = limits.holds c (subst (IsInScope o) (sym l.agrees.given.0.is) (l.reads.fits.each n (Var F.level o) (made_here (state a.nodes s) (state b.nodes t) n (Var F.level o) makes) not_bound));
       tells = limits.reports_none c;
     };
-    complete = λ named V c e h. inl (record { same = limits.silent c; types = with_type V n (value_of c.chosen key); on = goes V c e (limits.gives c h) });
+    follows = λ r V c l. follows_silent c.kept (asks c) (limits.silent c);
+    complete = λ named V c e h. inl (record { same = limits.silent c; types = with_type V n (value_of c.chosen key); on = goes V c e (limits.gives c h); hidden_too = (tt, tt) });
     first = λ named k V c e h. inl (subst (StartsWith []) (sym (limits.silent_first k c)) (starts_none []));
   };
   means = record { open_node = opened; is = λ V ch loose g. g.given.0.is };

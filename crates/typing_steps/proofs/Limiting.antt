@@ -20,6 +20,7 @@ use Rattle.level_unify.specs.Unification.{Unified}
 use Rattle.level_unify.proofs.Unified.{fits_loosely, fits_under, under_fits}
 use Rattle.typing_conditions.specs.Locals.{IsOwn, Refines, Local, Within, IsContext}
 use Rattle.typing_conditions.specs.Standing.{IsIn}
+use Rattle.typing_conditions.proofs.Judged.{follows_silent}
 use Rattle.typing_conditions.proofs.Own.{own_of}
 use Rattle.typing_conditions.proofs.Regions.{any_in}
 use Rattle.typing_conditions.proofs.Steps.{local_then, local_unified, refines_made, refines_then}
@@ -206,6 +207,7 @@ limit_asked {F} {a} {b} {mid} {v} {l} {o} {m} {scope} {G} {type} {asks} at p lim
       let here : IsInScope o (V v) = before.0.fits.each v (Var l o) (there at p.open_node) at.free in
       let is = p.is V c.chosen (stays.loose V (fits_loosely b.nodes V r.reads.fits)) (agrees_before stays r.agrees) in
       record { same = limits.silent c; holds = limits.holds c (subst (IsInScope o) (before.1 ∙ sym is) here); tells = limits.reports_none c };
+  follows = λ reached V c r. follows_silent c.kept (asks c) (limits.silent c);
   complete = λ named V c e h. inl (goes V c e (limits.gives c h));
   first = λ named k V c e h. inl (subst (StartsWith []) (sym (limits.silent_first k c)) (starts_none []));
 }
@@ -213,7 +215,7 @@ limit_asked {F} {a} {b} {mid} {v} {l} {o} {m} {scope} {G} {type} {asks} at p lim
     stays : Stays F a G b G
     stays = limit_stays at p.open_node
 
-    goes : (V : Types) (c : Context) → Enters F scope a G V c → IsInScope o (type c.chosen) → Continues F asks a b G [] V c
+    goes : (V : Types) (c : Context) → Enters F scope a G V c → IsInScope o (type c.chosen) → Continues F asks a b G [] [] V c
     goes V c e here =
         let is = p.is V c.chosen (fits_loosely a.nodes V e.fits) e.agrees in
         let W : Types = with_type V v (V m) in
@@ -228,4 +230,5 @@ limit_asked {F} {a} {b} {mid} {v} {l} {o} {m} {scope} {G} {type} {asks} at p lim
             before = older;
             agrees = agrees_same a b at.rest.types at.rest.written e.inside older e.agrees;
           };
+          hidden_too = (tt, tt);
         }

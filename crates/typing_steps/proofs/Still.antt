@@ -26,6 +26,7 @@ use Rattle.typing_conditions.specs.Frames.{Frame, IsOpen}
 use Rattle.typing_conditions.specs.Judging.{judgements, StartsWith, TellAll}
 use Rattle.typing_conditions.specs.Steps.{OnlyReports}
 use Rattle.typing_conditions.specs.Carrying.{Asks, Scope, Stays, Carried}
+use Rattle.typing_conditions.proofs.Judged.{follows_silent}
 use Rattle.typing_conditions.proofs.Carried.{take_none}
 use Rattle.typing_conditions.proofs.First.{starts_none}
 use Rattle.typing_conditions.proofs.Framing.{no_bound}
@@ -50,7 +51,8 @@ carried_idle {F} {scope} {asks} {a} {b} {G} idle rest same = record {
   told = [];
   reports = same ∙ sym (append-nil a.reports);
   sound = λ r V c l. record { same = idle.silent c; holds = idle.holds c; tells = idle.reports_none c };
-  complete = λ named V c e h. inl (record { same = idle.silent c; types = V; on = goes_as rest e });
+  follows = λ r V c l. follows_silent c.kept (asks c) (idle.silent c);
+  complete = λ named V c e h. inl (record { same = idle.silent c; types = V; on = goes_as rest e; hidden_too = (tt, tt) });
   first = λ named k V c e h. inl (subst (StartsWith []) (sym (idle.silent_first k c)) (starts_none []));
 }
 

@@ -150,6 +150,7 @@ root_taken {F} {scope} {G} {a} {b} {C} {N} {arity} {root} {m} {t} n reached is_r
       told = [];
       reports = rest.reports ∙ sym (append-nil a.reports);
       sound = λ r V c l. record { same = refl; holds = tt; tells = refl };
+      follows = λ r V c l. refl;
       complete = λ named V c e h. inl (complete V c e);
       first = λ named k V c e h. inl (subst (λ cs. StartsWith [] (judgements c.kept cs)) (sym (take_none k)) (starts_none []));
     };
@@ -201,7 +202,7 @@ root_taken {F} {scope} {G} {a} {b} {C} {N} {arity} {root} {m} {t} n reached is_r
       fixed = rest.fixed;
     }
 
-    complete : (V : Types) (c : Context) → Enters F scope a G V c → Continues F (λ x. []) a b (letters ++ G) [] V c
+    complete : (V : Types) (c : Context) → Enters F scope a G V c → Continues F (λ x. []) a b (letters ++ G) [] [] V c
     complete V c e =
         let ch = c.chosen in
         let (W, fits, same, is) = take_complete own.1 as_root taken V (ch.letter n) (ch.filled n) e.fits in
@@ -220,4 +221,5 @@ root_taken {F} {scope} {G} {a} {b} {C} {N} {arity} {root} {m} {t} n reached is_r
               given = given_both W ch letters G (at_given n N images.image W ch (own.0 root) (λ v o. named_value n ch (as_root.named own.0 own.1 v o) ∙ each v o)) g.given;
             };
           };
+          hidden_too = (tt, tt);
         }

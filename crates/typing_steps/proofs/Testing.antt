@@ -7,7 +7,7 @@ use Rattle.text_terms.specs.declared.Span.{Span}
 use Rattle.tree_model.specs.Trees.{Place}
 use Rattle.syntax_tree.specs.View.{place_of}
 use Rattle.signature_model.specs.Declarations.{Name}
-use Rattle.typing_model.specs.Demands.{Site, test, Complaint, Condition, demand, AllHold}
+use Rattle.typing_model.specs.Demands.{Site, test, Complaint, demand, AllHold}
 use Rattle.typing_model.specs.Demands as complaint
 use Rattle.typing_model.specs.Contexts.{Context}
 use Rattle.typing_model.specs.Records.{is_among}
@@ -23,7 +23,7 @@ use Rattle.typing_state.specs.Messages.{twice_text}
 use Rattle.typing_state.specs.Demands.{ArityIs}
 use Rattle.typing_conditions.specs.Sights.{Sight, Letters, Agrees}
 use Rattle.typing_conditions.specs.Frames.{Frame}
-use Rattle.typing_conditions.specs.Judging.{judgements, FallsShort, Meets, kind_of}
+use Rattle.typing_conditions.specs.Judging.{Judgement, judgements, Follows, FallsShort, Meets, kind_of}
 use Rattle.typing_conditions.specs.Steps.{OnlyReports, Tells}
 use Rattle.typing_conditions.specs.Carrying.{Asks, Scope, HoldsWritten, IsUnder, Enters, ReadsOff, Carried}
 use Rattle.typing_conditions.proofs.Stays.{agrees_before, named_before}
@@ -46,9 +46,10 @@ carried_here {F} {scope} {asks} {others} {a} {b} {G} {H} e p = record {
   judged = p.judged;
   told = p.told;
   reports = p.reports;
-  sound = λ r V c l. subst (λ cs. Meets c.kept cs p.judged p.told) (at_end V c l) (p.sound r V c l);
+  sound = λ r V c l. subst (λ cs. Meets c.kept cs p.judged p.told) (at_end p.judged V c l) (p.sound r V c l);
+  follows = λ r V c l. subst (λ cs. Follows c.kept cs p.judged) (at_end [] V c l) (p.follows r V c l);
   complete = λ named V c en h. elim (p.complete named V c en (subst (AllHold c.kept) (sym (at_start named V c en)) h)) [
-    | inl goes ↦ inl (record { same = ap (judgements c.kept) (sym (at_start named V c en)) ∙ goes.same; types = goes.types; on = goes.on })
+    | inl goes ↦ inl (record { same = ap (judgements c.kept) (sym (at_start named V c en)) ∙ goes.same; types = goes.types; on = goes.on; hidden_too = goes.hidden_too })
     | inr short ↦ inr (subst (λ cs. FallsShort (judgements c.kept cs) p.judged) (at_start named V c en) short)
   ];
   first = λ named k V c en h. subst (λ cs. Decides c p.judged (take k cs)) (at_start named V c en) (p.first named k V c en (subst (λ cs. AllHold c.kept (take k cs)) (sym (at_start named V c en)) h));
@@ -57,8 +58,8 @@ carried_here {F} {scope} {asks} {others} {a} {b} {G} {H} e p = record {
     at_start : HoldsWritten scope b → (V : Types) (c : Context) → Enters F scope a G V c → asks c ≡ others c
     at_start named V c en = e V c (fits_loosely a.nodes V en.fits) en.under en.agrees (named_before scope p.stays named)
 
-    at_end : (V : Types) (c : Context) → ReadsOff F scope b H p.hidden p.judged V c → asks c ≡ others c
-    at_end V c l = e V c (p.stays.loose V (fits_loosely b.nodes V l.reads.fits)) l.under (agrees_before p.stays l.agrees) (named_before scope p.stays l.named)
+    at_end : (js : List Judgement) (V : Types) (c : Context) → ReadsOff F scope b H p.hidden js V c → asks c ≡ others c
+    at_end js V c l = e V c (p.stays.loose V (fits_loosely b.nodes V l.reads.fits)) l.under (agrees_before p.stays l.agrees) (named_before scope p.stays l.named)
 
 -- and their demand is judged so
 pub judged_here : {F : Frame} {scope : Scope} {asks others : Asks} {a b : Sight} {G H : Letters} {s : Site} {v : Bool} → AreSameHere F scope a G asks others → JudgedAs F scope asks a G b H s v → JudgedAs F scope others a G b H s v

@@ -41,8 +41,9 @@ use Rattle.operand_laws.specs.Operands.{path_of}
 use Rattle.row_parts.specs.Numbered.{path_in}
 use Rattle.typing_steps.proofs.Recording.{type_noted}
 use Rattle.typing_rows.specs.Fields.{EndsSettable}
-use Rattle.expression_steps.proofs.CarryingLaws.{if_ok, both_ok, usual_by, by_operation, paren_row, plain_row, operation_row, operation_missing, minus_float, minus_operation, application_row, construction_row, first_carried, later_carried, head_row, known_later, unknown_later, typed_as_if as typed_where_wanted, constructed_row, argument_typed, each_step, given_step, parts_step}
+use Rattle.expression_steps.proofs.CarryingLaws.{both_ok, usual_by, by_operation, paren_row, plain_row, operation_row, operation_missing, minus_float, minus_operation, application_row, construction_row, first_carried, later_carried, head_row, known_later, unknown_later, typed_as_if as typed_where_wanted, constructed_row, argument_typed, each_step, given_step, parts_step}
 use Rattle.std.specs.Option.{IfSome}
+use Rattle.std.proofs.lemmas.Result.{IfOk-weaker}
 use Rattle.expression_steps.specs.Operators.{sign_in, IsSignOf}
 use Rattle.expression_steps.specs.declared.forms.RowForm.TheVariants as form
 use Rattle.type_terms.specs.declared.types.NodeRef.{NodeRef}
@@ -110,7 +111,7 @@ apply::constructed-returns-clause-carries t c =
     let x = c.in-Some.first.now in
     let ys = c.in-Some.later.now in
     let split = c.in-Some.ensures.cases.0 in
-    if_ok c.later_arguments.result _ _ (λ u h carried n.
+    IfOk-weaker c.later_arguments.result _ _ (λ u h carried n.
     constructed_row c.args.at.now c.with_argument.new.at c.later_arguments.new.at c.args.env.now n (path_as (path_view c.args.path.now)) head x ys c.args.given.now c.in_ok-built.built.known c.in_ok-built.built.ty.0 u.ty.0 split
     (c.in_ok-built.ensures.carries (first_carried x ys c.args.given.now split carried) n) c.with_argument.ensures.goes (h (later_carried x ys c.args.given.now split carried))) c.later_arguments.ensures.carries
 
@@ -180,7 +181,7 @@ cases::function_of_cases-returns-clause-carries t c = λ place node.
 pub cases::type_cases-returns-clause-carries : goal.cases::type_cases-returns-clause-carries
 cases::type_cases-returns-clause-carries t c =
     let same : map operand_view c.deref.result.now ≡ operands_in c.args.number (node_view c.args.node.now) 4 = ap (map operand_view) c.deref.ensures.value ∙ c.in_ok-cases.ensures in
-    if_ok c.type_or_var.result _ _ (λ m both all.
+    IfOk-weaker c.type_or_var.result _ _ (λ m both all.
     cases_row c.args.at.now c.type_each_case.new.at c.report.new.at c.type_or_var.new.at c.args.env.now (map operand_view c.deref.result.now) (operands_in c.args.number (node_view c.args.node.now) 4) c.args.matched.0 (node_if c.args.known) c.in_ok-bodies.bodies m same
     c.in_ok-bodies.ensures.carries c.in_ok-report.ensures.warns both.0 both.1 all) (both_ok c.type_or_var.result _ _ c.type_or_var.ensures.ty c.type_or_var.ensures.carries)
 
@@ -196,14 +197,14 @@ cases::type_case-returns-in_default-clause-carries t c = λ carried.
 
 pub cases::type_case-returns-clause-carries : goal.cases::type_case-returns-clause-carries
 cases::type_case-returns-clause-carries t c =
-    if_ok c.typed_case.result _ _ (λ now h.
+    IfOk-weaker c.typed_case.result _ _ (λ now h.
     case_found c.args.at.now c.note_plain.new.self c.typed_case.new.at c.args.env.now c.args.case c.in-Some.node c.args.matched.0 (node_if c.args.bodies) (node_if now) c.in-Some.is c.in_ok-note_plain.ensures.noted c.note_plain.ensures.rest c.note_plain.ensures.goes h)
     c.typed_case.ensures.carries
 
 pub cases::typed_case-returns-clause-carries : goal.cases::typed_case-returns-clause-carries
 cases::typed_case-returns-clause-carries t c =
     let tree = node_view c.args.node.now in
-    if_ok c.case_of.result _ _ (λ now h node.
+    IfOk-weaker c.case_of.result _ _ (λ now h node.
     case_node c.args.at.now c.case_of.new.at c.args.env.now c.args.number tree (operand_view c.operand_in.result) (option_map operand_view c.first_operand.result) (operand_view c.operand_in-2.result) c.args.matched.0 (node_if c.args.bodies) (node_if now)
     c.operand_in.ensures c.first_operand.ensures c.operand_in-2.ensures (h c.args.number) node) c.case_of.ensures.carries
 
@@ -310,13 +311,13 @@ bindings::let_in-returns-in_err-ty-clause-goes t c =
 
 pub bindings::turn-returns-clause-carries : goal.bindings::turn-returns-clause-carries
 bindings::turn-returns-clause-carries t c =
-    if_ok c.conclude.result _ _ (λ b h.
+    IfOk-weaker c.conclude.result _ _ (λ b h.
     turn_concluded c.args.at.now c.recorded_right.new.at c.open_pattern.new.at c.conclude.new.at c.args.env.now c.args.binding c.in_ok-opened.opened c.in_ok-side.side b (names_seen c.args.seen.now.items) (names_seen c.open_pattern.new.seen.items)
     c.in_ok-side.ensures.carries c.recorded_right.ensures.goes c.in_ok-opened.ensures.carries c.open_pattern.ensures.goes c.in_ok-opened.ensures.binding h) c.conclude.ensures.carries
 
 pub bindings::turn-returns-clause-general : goal.bindings::turn-returns-clause-general
 bindings::turn-returns-clause-general t c =
-    if_ok c.conclude.result _ _ (λ b h. turn_judged c.open_pattern.new.at c.conclude.new.at c.args.env.now c.args.binding c.in_ok-opened.opened c.in_ok-side.side b c.in_ok-opened.ensures.binding h) c.conclude.ensures.carries
+    IfOk-weaker c.conclude.result _ _ (λ b h. turn_judged c.open_pattern.new.at c.conclude.new.at c.args.env.now c.args.binding c.in_ok-opened.opened c.in_ok-side.side b c.in_ok-opened.ensures.binding h) c.conclude.ensures.carries
 
 pub bindings::take_turn-returns-in_default-clause-carries : goal.bindings::take_turn-returns-in_default-clause-carries
 bindings::take_turn-returns-in_default-clause-carries t c = turn_missing c.args.at.now c.args.env.now c.args.binding (names_seen c.args.seen.now.items) (map typed_of c.args.bound.now.items) c.in_default.is
@@ -341,33 +342,33 @@ bindings::take_turn-returns-clause-general t c =
 
 pub bindings::recorded_right-returns-clause-carries : goal.bindings::recorded_right-returns-clause-carries
 bindings::recorded_right-returns-clause-carries t c =
-    if_ok c.type_right.result _ _ (λ s h.
+    IfOk-weaker c.type_right.result _ _ (λ s h.
     right_node_recorded c.args.at.now c.note_plain.new.self c.type_right.new.at c.args.env.now c.args.binding.number (node_view c.args.binding.node.now) s.right.0 s.whole.0 c.in_ok-note_plain.ensures.noted c.note_plain.ensures.rest c.note_plain.ensures.goes h)
     c.type_right.ensures.carries
 
 pub bindings::together-returns-clause-carries : goal.bindings::together-returns-clause-carries
 bindings::together-returns-clause-carries t c =
     let os = c.in_ok-opened.opened.items in
-    if_ok c.conclude_all.result _ _ (λ bs h.
+    IfOk-weaker c.conclude_all.result _ _ (λ bs h.
     together_of_operands c.args.at.now c.open_all.new.at c.conclude_all.new.at c.args.env.now c.in_ok-within.within (map operand_view c.args.bindings.now) (map node_of os) (map opened_of os) (map typed_of bs.items) c.in_ok-opened.ensures.carries c.open_all.ensures.goes
     (c.in_ok-within.ensures.scope ∙ ap (λ xs. names_added (names_opened (map opened_of xs)) c.args.env.now) c.deref.ensures.value) c.in_ok-opened.ensures.nodes h) c.conclude_all.ensures.carries
 
 pub bindings::together-returns-clause-general : goal.bindings::together-returns-clause-general
 bindings::together-returns-clause-general t c =
-    if_ok c.conclude_all.result _ _ (λ bs h. judged_by_nodes c.args.env.now (map operand_view c.args.bindings.now) (map node_of c.in_ok-opened.opened.items) (generals bs.items) c.in_ok-opened.ensures.nodes h) c.conclude_all.ensures.general
+    IfOk-weaker c.conclude_all.result _ _ (λ bs h. judged_by_nodes c.args.env.now (map operand_view c.args.bindings.now) (map node_of c.in_ok-opened.opened.items) (generals bs.items) c.in_ok-opened.ensures.nodes h) c.conclude_all.ensures.general
 
 pub bindings::conclude_one-returns-clause-carries : goal.bindings::conclude_one-returns-clause-carries
 bindings::conclude_one-returns-clause-carries t c =
-    if_ok c.conclude.result _ _ (λ b h.
+    IfOk-weaker c.conclude.result _ _ (λ b h.
     conclusion_done c.args.at.now c.type_right.new.at c.conclude.new.at c.args.within.now c.args.env.now c.args.opened c.in_ok-side.side b c.in_ok-side.ensures.carries c.type_right.ensures.goes h) c.conclude.ensures.carries
 
 pub bindings::conclude_one-returns-clause-general : goal.bindings::conclude_one-returns-clause-general
-bindings::conclude_one-returns-clause-general t c = if_ok c.conclude.result _ _ (λ b h. h.judged) c.conclude.ensures.carries
+bindings::conclude_one-returns-clause-general t c = IfOk-weaker c.conclude.result _ _ (λ b h. h.judged) c.conclude.ensures.carries
 
 pub bindings::type_right-returns-clause-carries : goal.bindings::type_right-returns-clause-carries
 bindings::type_right-returns-clause-carries t c =
     let b = c.args.binding in
-    if_ok c.right_of.result _ _ (λ s h.
+    IfOk-weaker c.right_of.result _ _ (λ s h.
     right_of_node c.args.at.now c.right_of.new.at c.args.within.now b.number (node_view b.node.now) (map operand_view c.deref.result.now) (option_map operand_view c.first_operand-written.result) (operand_view c.body_in.result) s.right.0 s.whole.0
     (ap (map operand_view) c.deref.ensures.value ∙ c.in_ok-given.ensures) c.first_operand-written.ensures c.body_in.ensures h) c.right_of.ensures.carries
 
@@ -376,7 +377,7 @@ bindings::right_of-returns-clause-carries t c =
     let ms = numbers c.in_ok-parameters.parameters.items in
     let o = operand_view c.args.body in
     let written = node_if c.in_ok-annotation.annotation in
-    if_ok c.typed_body.result _ _ (λ s h.
+    IfOk-weaker c.typed_body.result _ _ (λ s h.
     right_of_operands c.args.at.now c.type_parameters.new.at c.annotation_of.new.at c.typed_body.new.at c.args.within.now c.in_ok-parameters.inner (map operand_view c.args.given.now) (option_map operand_view c.args.written) o ms written s.right.0 s.whole.0
     c.in_ok-parameters.ensures.carries c.type_parameters.ensures.goes c.in_ok-annotation.ensures.carries c.annotation_of.ensures.goes
     (subst (λ ns. TypesRightBodyOf c.annotation_of.new.at c.typed_body.new.at c.in_ok-parameters.inner o written (numbers ns) s.right.0 s.whole.0) c.deref.ensures.value h)) c.typed_body.ensures.carries
@@ -433,25 +434,25 @@ bindings::conclude_all-loop-depth-preserved t c =
 pub bindings::type_group-returns-in-None-clause-carries : goal.bindings::type_group-returns-in-None-clause-carries
 bindings::type_group-returns-in-None-clause-carries t c =
     let tree = node_view c.args.node.now in
-    if_ok c.in_turn.result _ _ (λ bs h.
+    IfOk-weaker c.in_turn.result _ _ (λ bs h.
     group_of_turns c.args.at.now c.note_missing.new.at c.in_turn.new.at c.args.env.now c.args.number tree (map operand_view c.deref-in-None.result.now) (map typed_of bs.items) (ap (map operand_view) c.deref-in-None.ensures.value ∙ c.in_ok-bindings.ensures)
     (no_token tree c.token.result c.token.ensures c.in-None.is) (missing_asks c.args.at.now c.note_missing.new.at c.in_ok-note_missing.ensures.notes) c.note_missing.ensures.goes h) c.in_turn.ensures.carries
 
 pub bindings::type_group-returns-in-None-clause-general : goal.bindings::type_group-returns-in-None-clause-general
 bindings::type_group-returns-in-None-clause-general t c =
-    if_ok c.in_turn.result _ _ (λ bs h.
+    IfOk-weaker c.in_turn.result _ _ (λ bs h.
     judged_group c.args.env.now c.args.number (node_view c.args.node.now) (map operand_view c.deref-in-None.result.now) (generals bs.items) (ap (map operand_view) c.deref-in-None.ensures.value ∙ c.in_ok-bindings.ensures) h) c.in_turn.ensures.general
 
 pub bindings::type_group-returns-clause-carries : goal.bindings::type_group-returns-clause-carries
 bindings::type_group-returns-clause-carries t c =
     let tree = node_view c.args.node.now in
-    if_ok c.together.result _ _ (λ bs h.
+    IfOk-weaker c.together.result _ _ (λ bs h.
     group_with_rec c.args.at.now c.note_missing.new.at c.together.new.at c.args.env.now c.args.number tree (tok_of c.in-Some.field-0.now) (map operand_view c.deref-in-Some.result.now) (map typed_of bs.items) (ap (map operand_view) c.deref-in-Some.ensures.value ∙ c.in_ok-bindings.ensures)
     (some_token tree c.token.result c.in-Some.field-0 c.token.ensures c.in-Some.is) (missing_asks c.args.at.now c.note_missing.new.at c.in_ok-note_missing.ensures.notes) c.note_missing.ensures.goes h) c.together.ensures.carries
 
 pub bindings::type_group-returns-clause-general : goal.bindings::type_group-returns-clause-general
 bindings::type_group-returns-clause-general t c =
-    if_ok c.together.result _ _ (λ bs h.
+    IfOk-weaker c.together.result _ _ (λ bs h.
     judged_group c.args.env.now c.args.number (node_view c.args.node.now) (map operand_view c.deref-in-Some.result.now) (generals bs.items) (ap (map operand_view) c.deref-in-Some.ensures.value ∙ c.in_ok-bindings.ensures) h) c.together.ensures.general
 
 pub exprs::type_each-loop-e-init : goal.exprs::type_each-loop-e-init
@@ -528,13 +529,13 @@ plain::type_part-returns-clause-carries t c = λ carried.
 pub apply::application-returns-in-Some-clause-carries : goal.apply::application-returns-in-Some-clause-carries
 apply::application-returns-in-Some-clause-carries t c =
     let p = path_view c.in-Some.path in
-    if_ok c.constructed.result _ _ (λ u h place carried is.
+    IfOk-weaker c.constructed.result _ _ (λ u h place carried is.
     construction_row c.args.at.now c.constructed.new.at c.args.env.now c.args.number place (node_view c.args.node.now) c.operand_in-head.result p c.deref.result.now u.ty.0 carried is c.operand_in-head.ensures (ap (map operand_view) c.deref.ensures.value ∙ c.in_ok-given.ensures)
     (sym (ap (option_map path_view) (sym c.in-Some.is) ∙ c.in_ok-path.ensures)) h) c.constructed.ensures.carries
 
 pub apply::application-returns-clause-carries : goal.apply::application-returns-clause-carries
 apply::application-returns-clause-carries t c =
-    if_ok c.applied.result _ _ (λ u h place carried is.
+    IfOk-weaker c.applied.result _ _ (λ u h place carried is.
     application_row c.args.at.now c.applied.new.at c.args.env.now c.args.number place (node_view c.args.node.now) c.operand_in-head.result c.deref-in-None.result.now u.ty.0 carried is c.operand_in-head.ensures (ap (map operand_view) c.deref-in-None.ensures.value ∙ c.in_ok-given.ensures)
     (sym (ap (option_map path_view) (sym c.in-None.is) ∙ c.in_ok-path.ensures)) h) c.applied.ensures.carries
 
@@ -544,7 +545,7 @@ exprs::typed_as-returns-clause-carries t c = λ carried.
 
 pub apply::with_argument-returns-clause-carries : goal.apply::with_argument-returns-clause-carries
 apply::with_argument-returns-clause-carries t c =
-    if_ok c.note_head.result _ _ (λ h both carried n.
+    IfOk-weaker c.note_head.result _ _ (λ h both carried n.
     head_row c.args.at.now c.constructor.new.at c.typed_as.new.at c.note_head.new.at c.args.env.now n c.args.number (path_as (path_view c.args.path.now)) c.args.first c.in_ok-found.found h c.in_ok-found.ensures.carries c.constructor.ensures.goes
     (c.in_ok-typed_as.ensures.carries carried) c.typed_as.ensures.goes both.0 both.1) (both_ok c.note_head.result _ _ c.note_head.ensures.carries c.note_head.ensures.head)
 
@@ -558,7 +559,7 @@ is_true false h = sym h
 
 pub apply::later_arguments-returns-then-not-head-clause-carries : goal.apply::later_arguments-returns-then-not-head-clause-carries
 apply::later_arguments-returns-then-not-head-clause-carries t c =
-    if_ok c.built_by_unknown.result _ _ (λ u h all.
+    IfOk-weaker c.built_by_unknown.result _ _ (λ u h all.
     unknown_later c.args.at.now c.type_each.new.at c.built_by_unknown.new.at c.args.env.now (place_of c.args.place) (map operand_view c.args.later.now) c.args.head u.ty (is_false c.args.head.known c.if-not-head.true) (c.in_ok-type_each.ensures.carries all) c.type_each.ensures.goes h) c.built_by_unknown.ensures.carries
 
 pub apply::later_arguments-returns-clause-carries : goal.apply::later_arguments-returns-clause-carries
@@ -573,26 +574,26 @@ apply::operated-returns-clause-carries t c = λ all n.
 
 pub apply::operation-returns-in-Some-clause-carries : goal.apply::operation-returns-in-Some-clause-carries
 apply::operation-returns-in-Some-clause-carries t c =
-    if_ok c.operated.result _ _ (λ u h place carried is.
+    IfOk-weaker c.operated.result _ _ (λ u h place carried is.
     operation_row c.args.at.now c.operated.new.at c.args.env.now c.args.number place (node_view c.args.node.now) c.deref.result.now c.in-Some.operator u.ty.0 carried is
     (subst (λ o. IfSome o (λ x. IsSignOf (row_at (node_view c.args.node.now)) (sign_in (row_at (node_view c.args.node.now)) (node_view c.args.node.now)) x)) c.in-Some.is c.in_ok-operator.ensures.some)
     (ap (map operand_view) c.deref.ensures.value ∙ c.in_ok-given.ensures) h) c.operated.ensures.carries
 
 pub apply::operation-returns-clause-carries : goal.apply::operation-returns-clause-carries
 apply::operation-returns-clause-carries t c =
-    if_ok c.any_type.result _ _ (λ u h place carried is.
+    IfOk-weaker c.any_type.result _ _ (λ u h place carried is.
     operation_missing c.args.at.now c.type_each.new.at c.any_type.new.at c.args.env.now c.args.number place (node_view c.args.node.now) c.deref-in-None.result.now u.ty.0 carried is (c.in_ok-operator.ensures.none c.in-None.is)
     (ap (map operand_view) c.deref-in-None.ensures.value ∙ c.in_ok-given.ensures) c.in_ok-type_each-in-None.ensures.carries c.type_each.ensures.goes h) c.any_type.ensures.carries
 
 pub apply::minus-returns-then-is_float-clause-carries : goal.apply::minus-returns-then-is_float-clause-carries
 apply::minus-returns-then-is_float-clause-carries t c =
-    if_ok c.negative_float.result _ _ (λ u h place carried is.
+    IfOk-weaker c.negative_float.result _ _ (λ u h place carried is.
     minus_float c.args.at.now c.negative_float.new.at c.args.env.now c.args.number place (node_view c.args.node.now) c.operand_in-part.result u.ty carried is c.operand_in-part.ensures (sym c.is_float.ensures ∙ c.if-is_float.true) h.0 h.1)
     (both_ok c.negative_float.result _ _ c.negative_float.ensures.carries c.negative_float.ensures.ty)
 
 pub apply::minus-returns-clause-carries : goal.apply::minus-returns-clause-carries
 apply::minus-returns-clause-carries t c =
-    if_ok c.operation.result _ _ (λ u h place carried is.
+    IfOk-weaker c.operation.result _ _ (λ u h place carried is.
     h place carried (minus_operation c.args.number (node_view c.args.node.now) c.operand_in-part.result is c.operand_in-part.ensures (sym c.is_float.ensures ∙ c.if-is_float.false))) c.operation.ensures.carries
 
 pub plain::plain-returns-clause-carries : goal.plain::plain-returns-clause-carries
@@ -600,7 +601,7 @@ plain::plain-returns-clause-carries t c =
     let nd = c.args.node.now in
     let tree = node_view nd in
     let os = c.in_ok-parts.parts.items in
-    if_ok c.behind_parts.result _ _ (λ u h place carried is.
+    IfOk-weaker c.behind_parts.result _ _ (λ u h place carried is.
     plain_row c.args.at.now c.type_parts.new.at c.behind_parts.new.at c.args.env.now c.args.number place tree (row_of (out-Node nd).row) os (numbers c.in_ok-types.types.items) u.ty.0 carried is (row_of_node nd) c.in_ok-parts.ensures
     (λ all. subst (λ qs. TypesParts c.args.at.now c.type_parts.new.at c.args.env.now (row_of (out-Node nd).row) (expressions_of c.args.at.now.item (map operand_view qs)) (numbers c.in_ok-types.types.items)) c.deref.ensures.value
     (c.in_ok-types.ensures.carries (subst (λ qs. All IsCarried (map operand_view qs)) (sym c.deref.ensures.value) all))) c.type_parts.ensures.goes
@@ -617,48 +618,48 @@ pub exprs::typed_row-returns-in-Leaf-clause-carries : goal.exprs::typed_row-retu
 exprs::typed_row-returns-in-Leaf-clause-carries t c =
     let tree = node_view c.args.node.now in
     let is : form_of (row_at tree) ≡ form.Leaf = ap form_of (row_of_node c.args.node.now) ∙ sym c.form_of.ensures ∙ c.in-Leaf.is in
-    if_ok c.leaf.result _ _ (λ u h place carried. h place carried is) c.leaf.ensures.carries
+    IfOk-weaker c.leaf.result _ _ (λ u h place carried. h place carried is) c.leaf.ensures.carries
 
 pub exprs::typed_row-returns-in-Application-clause-carries : goal.exprs::typed_row-returns-in-Application-clause-carries
 exprs::typed_row-returns-in-Application-clause-carries t c =
     let tree = node_view c.args.node.now in
     let is : form_of (row_at tree) ≡ form.Application = ap form_of (row_of_node c.args.node.now) ∙ sym c.form_of.ensures ∙ c.in-Application.is in
-    if_ok c.application.result _ _ (λ u h place carried.
+    IfOk-weaker c.application.result _ _ (λ u h place carried.
     signed_row c.args.at.now c.application.new.at c.args.env.now c.args.at.now.item c.args.number place tree (is_negated c.args.sign) u.ty.0 (usual_by c.args.number place tree form.Application carried is tt) (h place carried is)) c.application.ensures.carries
 
 pub exprs::typed_row-returns-in-Operation-clause-carries : goal.exprs::typed_row-returns-in-Operation-clause-carries
 exprs::typed_row-returns-in-Operation-clause-carries t c =
     let tree = node_view c.args.node.now in
     let is : form_of (row_at tree) ≡ form.Operation = ap form_of (row_of_node c.args.node.now) ∙ sym c.form_of.ensures ∙ c.in-Operation.is in
-    if_ok c.operation.result _ _ (λ u h place carried.
+    IfOk-weaker c.operation.result _ _ (λ u h place carried.
     signed_row c.args.at.now c.operation.new.at c.args.env.now c.args.at.now.item c.args.number place tree (is_negated c.args.sign) u.ty.0 (usual_by c.args.number place tree form.Operation carried is tt) (h place carried (by_operation tree _ is))) c.operation.ensures.carries
 
 pub exprs::typed_row-returns-in-Minus-clause-carries : goal.exprs::typed_row-returns-in-Minus-clause-carries
 exprs::typed_row-returns-in-Minus-clause-carries t c =
     let tree = node_view c.args.node.now in
     let is : form_of (row_at tree) ≡ form.Minus = ap form_of (row_of_node c.args.node.now) ∙ sym c.form_of.ensures ∙ c.in-Minus.is in
-    if_ok c.minus.result _ _ (λ u h place carried.
+    IfOk-weaker c.minus.result _ _ (λ u h place carried.
     signed_row c.args.at.now c.minus.new.at c.args.env.now c.args.at.now.item c.args.number place tree (is_negated c.args.sign) u.ty.0 (usual_by c.args.number place tree form.Minus carried is tt) (h place carried is)) c.minus.ensures.carries
 
 pub exprs::typed_row-returns-in-Parenthesised-clause-carries : goal.exprs::typed_row-returns-in-Parenthesised-clause-carries
 exprs::typed_row-returns-in-Parenthesised-clause-carries t c =
     let tree = node_view c.args.node.now in
     let is : form_of (row_at tree) ≡ form.Parenthesised = ap form_of (row_of_node c.args.node.now) ∙ sym c.form_of.ensures ∙ c.in-Parenthesised.is in
-    if_ok c.parenthesised.result _ _ (λ u h place carried.
+    IfOk-weaker c.parenthesised.result _ _ (λ u h place carried.
     signed_row c.args.at.now c.parenthesised.new.at c.args.env.now c.args.at.now.item c.args.number place tree (is_negated c.args.sign) u.ty.0 (usual_by c.args.number place tree form.Parenthesised carried is tt) (h place carried is)) c.parenthesised.ensures.carries
 
 pub exprs::typed_row-returns-in-Set-clause-carries : goal.exprs::typed_row-returns-in-Set-clause-carries
 exprs::typed_row-returns-in-Set-clause-carries t c =
     let tree = node_view c.args.node.now in
     let is : form_of (row_at tree) ≡ form.Set = ap form_of (row_of_node c.args.node.now) ∙ sym c.form_of.ensures ∙ c.in-Set.is in
-    if_ok c.set.result _ _ (λ u h place carried.
+    IfOk-weaker c.set.result _ _ (λ u h place carried.
     signed_row c.args.at.now c.set.new.at c.args.env.now c.args.at.now.item c.args.number place tree (is_negated c.args.sign) u.ty.0 (usual_by c.args.number place tree form.Set carried is tt) (h place carried is)) c.set.ensures.carries
 
 pub exprs::typed_row-returns-in-Loop-clause-carries : goal.exprs::typed_row-returns-in-Loop-clause-carries
 exprs::typed_row-returns-in-Loop-clause-carries t c =
     let tree = node_view c.args.node.now in
     let is : form_of (row_at tree) ≡ form.Loop = ap form_of (row_of_node c.args.node.now) ∙ sym c.form_of.ensures ∙ c.in-Loop.is in
-    if_ok c.for_loop.result _ _ (λ u h place carried.
+    IfOk-weaker c.for_loop.result _ _ (λ u h place carried.
     signed_row c.args.at.now c.for_loop.new.at c.args.env.now c.args.at.now.item c.args.number place tree (is_negated c.args.sign) u.ty.0 (usual_by c.args.number place tree form.Loop carried is tt) (h place carried is)) c.for_loop.ensures.carries
 
 pub fields::set-returns-clause-carries : goal.fields::set-returns-clause-carries
@@ -670,11 +671,11 @@ pub fields::set_part-returns-in_ok-inside-in-Some-clause-carries : goal.fields::
 fields::set_part-returns-in_ok-inside-in-Some-clause-carries t c =
     let there = c.in-Some.node in
     let some = subst (λ o. IfSome o (λ nd. (c.args.part.node ≡ Some nd) × (row_at (node_view nd.now) ≡ field_row))) c.in-Some.is c.field_node.ensures.some in
-    if_ok c.set_field.result _ _ (λ m h. part_set c.args.at.now c.set_field.new.at c.args.env.now c.args.part there m.0 some.0 some.1 h) c.set_field.ensures.carries
+    IfOk-weaker c.set_field.result _ _ (λ m h. part_set c.args.at.now c.set_field.new.at c.args.env.now c.args.part there m.0 some.0 some.1 h) c.set_field.ensures.carries
 
 pub fields::set_part-returns-in_ok-inside-in-None-clause-carries : goal.fields::set_part-returns-in_ok-inside-in-None-clause-carries
 fields::set_part-returns-in_ok-inside-in-None-clause-carries t c =
-    if_ok c.type_under.result _ _ (λ m h carried. part_unset c.args.at.now c.type_under.new.at c.args.env.now (operand_view c.args.part) m.0 (c.field_node.ensures.none c.in-None.is) (h carried)) c.type_under.ensures.carries
+    IfOk-weaker c.type_under.result _ _ (λ m h carried. part_unset c.args.at.now c.type_under.new.at c.args.env.now (operand_view c.args.part) m.0 (c.field_node.ensures.none c.in-None.is) (h carried)) c.type_under.ensures.carries
 
 pub fields::set_field-returns-clause-carries : goal.fields::set_field-returns-clause-carries
 fields::set_field-returns-clause-carries t c = λ place carried row.
@@ -701,14 +702,14 @@ pub exprs::typed_row-returns-in-Plain-clause-carries : goal.exprs::typed_row-ret
 exprs::typed_row-returns-in-Plain-clause-carries t c =
     let tree = node_view c.args.node.now in
     let is : form_of (row_at tree) ≡ form.Plain = ap form_of (row_of_node c.args.node.now) ∙ sym c.form_of.ensures ∙ c.in-Plain.is in
-    if_ok c.plain.result _ _ (λ u h place carried.
+    IfOk-weaker c.plain.result _ _ (λ u h place carried.
     signed_row c.args.at.now c.plain.new.at c.args.env.now c.args.at.now.item c.args.number place tree (is_negated c.args.sign) u.ty.0 (usual_by c.args.number place tree form.Plain carried is tt) (h place carried is)) c.plain.ensures.carries
 
 pub exprs::typed_row-returns-in-Record-clause-carries : goal.exprs::typed_row-returns-in-Record-clause-carries
 exprs::typed_row-returns-in-Record-clause-carries t c =
     let tree = node_view c.args.node.now in
     let is : form_of (row_at tree) ≡ form.Record = ap form_of (row_of_node c.args.node.now) ∙ sym c.form_of.ensures ∙ c.in-Record.is in
-    if_ok c.record.result _ _ (λ u h place carried.
+    IfOk-weaker c.record.result _ _ (λ u h place carried.
     signed_row c.args.at.now c.record.new.at c.args.env.now c.args.at.now.item c.args.number place tree (is_negated c.args.sign) u.ty.0 (usual_by c.args.number place tree form.Record carried is tt)
     (subst (λ q. TypesRow c.args.at.now c.record.new.at c.args.env.now (λ x. (row_expression c.args.at.now.item c.args.number q tree).typed x) (number_of c.args.at.now.item c.args.number) u.ty.0) (sym carried.placed)
     (h (record_node c.args.number place tree (by_record tree is) carried)))) c.record.ensures.carries
@@ -717,51 +718,51 @@ pub exprs::typed_row-returns-in-Let-clause-carries : goal.exprs::typed_row-retur
 exprs::typed_row-returns-in-Let-clause-carries t c =
     let tree = node_view c.args.node.now in
     let is : form_of (row_at tree) ≡ form.Let = ap form_of (row_of_node c.args.node.now) ∙ sym c.form_of.ensures ∙ c.in-Let.is in
-    if_ok c.let_in.result _ _ (λ u h place carried.
+    IfOk-weaker c.let_in.result _ _ (λ u h place carried.
     signed_row c.args.at.now c.let_in.new.at c.args.env.now c.args.at.now.item c.args.number place tree (is_negated c.args.sign) u.ty.0 (usual_by c.args.number place tree form.Let carried is tt) (h place (let_node c.args.number place tree (by_let tree is) carried))) c.let_in.ensures.carries
 
 pub exprs::typed_row-returns-in-Match-clause-carries : goal.exprs::typed_row-returns-in-Match-clause-carries
 exprs::typed_row-returns-in-Match-clause-carries t c =
     let tree = node_view c.args.node.now in
     let is : form_of (row_at tree) ≡ form.Match = ap form_of (row_of_node c.args.node.now) ∙ sym c.form_of.ensures ∙ c.in-Match.is in
-    if_ok c.match_of.result _ _ (λ u h place carried.
+    IfOk-weaker c.match_of.result _ _ (λ u h place carried.
     signed_row c.args.at.now c.match_of.new.at c.args.env.now c.args.at.now.item c.args.number place tree (is_negated c.args.sign) u.ty.0 (usual_by c.args.number place tree form.Match carried is tt) (h place (match_node c.args.number place tree (by_match tree is) carried))) c.match_of.ensures.carries
 
 pub exprs::typed_row-returns-in-Cases-clause-carries : goal.exprs::typed_row-returns-in-Cases-clause-carries
 exprs::typed_row-returns-in-Cases-clause-carries t c =
     let tree = node_view c.args.node.now in
     let is : form_of (row_at tree) ≡ form.Cases = ap form_of (row_of_node c.args.node.now) ∙ sym c.form_of.ensures ∙ c.in-Cases.is in
-    if_ok c.function_of_cases.result _ _ (λ u h place carried.
+    IfOk-weaker c.function_of_cases.result _ _ (λ u h place carried.
     signed_row c.args.at.now c.function_of_cases.new.at c.args.env.now c.args.at.now.item c.args.number place tree (is_negated c.args.sign) u.ty.0 (usual_by c.args.number place tree form.Cases carried is tt) (h place (function_node c.args.number place tree (by_function tree is) carried))) c.function_of_cases.ensures.carries
 
 pub exprs::typed_row-returns-in-Function-clause-carries : goal.exprs::typed_row-returns-in-Function-clause-carries
 exprs::typed_row-returns-in-Function-clause-carries t c =
     let tree = node_view c.args.node.now in
     let is : form_of (row_at tree) ≡ form.Function = ap form_of (row_of_node c.args.node.now) ∙ sym c.form_of.ensures ∙ c.in-Function.is in
-    if_ok c.function.result _ _ (λ u h place carried.
+    IfOk-weaker c.function.result _ _ (λ u h place carried.
     signed_row c.args.at.now c.function.new.at c.args.env.now c.args.at.now.item c.args.number place tree (is_negated c.args.sign) u.ty.0 (usual_by c.args.number place tree form.Function carried is tt) (h place (fun_node c.args.number place tree (by_fun tree is) carried))) c.function.ensures.carries
 
 pub records::record-returns-clause-carries : goal.records::record-returns-clause-carries
 records::record-returns-clause-carries t c =
     let p : Pieces = record { span = (out-Node c.args.node.now).span; first = c.operand_in.result; value = c.first_operand.result; fields = c.in_ok-operands.field-0 } in
-    if_ok c.record_of.result _ _ (λ u h there.
+    IfOk-weaker c.record_of.result _ _ (λ u h there.
     record_done c.args.at.now c.record_of.new.at c.args.env.now c.args.number c.args.node.now p _ u.ty.0 refl c.operand_in.ensures c.first_operand.ensures c.in_ok-operands.ensures c.token.ensures h there) c.record_of.ensures.carries
 
 pub records::record_of-returns-in-Some-clause-carries : goal.records::record_of-returns-in-Some-clause-carries
 records::record_of-returns-in-Some-clause-carries t c =
-    if_ok c.updated.result _ _ (λ u h carried. subst (λ o. TypesPieces (option_map (λ x. tok_of x.now) o) c.args.at.now c.updated.new.at c.args.env.now c.args.pieces.now u.ty.0) (sym c.in-Some.is) (h carried)) c.updated.ensures.carries
+    IfOk-weaker c.updated.result _ _ (λ u h carried. subst (λ o. TypesPieces (option_map (λ x. tok_of x.now) o) c.args.at.now c.updated.new.at c.args.env.now c.args.pieces.now u.ty.0) (sym c.in-Some.is) (h carried)) c.updated.ensures.carries
 
 pub records::record_of-returns-in-None-clause-carries : goal.records::record_of-returns-in-None-clause-carries
 records::record_of-returns-in-None-clause-carries t c =
-    if_ok c.made_or_loose.result _ _ (λ u h carried. subst (λ o. TypesPieces (option_map (λ x. tok_of x.now) o) c.args.at.now c.made_or_loose.new.at c.args.env.now c.args.pieces.now u.ty.0) (sym c.in-None.is) (h carried)) c.made_or_loose.ensures.carries
+    IfOk-weaker c.made_or_loose.result _ _ (λ u h carried. subst (λ o. TypesPieces (option_map (λ x. tok_of x.now) o) c.args.at.now c.made_or_loose.new.at c.args.env.now c.args.pieces.now u.ty.0) (sym c.in-None.is) (h carried)) c.made_or_loose.ensures.carries
 
 pub records::made_or_loose-returns-in-Some-clause-carries : goal.records::made_or_loose-returns-in-Some-clause-carries
 records::made_or_loose-returns-in-Some-clause-carries t c =
-    if_ok c.made.result _ _ (λ u h carried. subst (λ o. TypesMadeOr o c.args.at.now c.made.new.at c.args.env.now c.args.pieces.now u.ty.0) (ap (option_map path_view) (sym c.in-Some.is) ∙ c.in_ok-label.ensures) (h carried)) c.made.ensures.carries
+    IfOk-weaker c.made.result _ _ (λ u h carried. subst (λ o. TypesMadeOr o c.args.at.now c.made.new.at c.args.env.now c.args.pieces.now u.ty.0) (ap (option_map path_view) (sym c.in-Some.is) ∙ c.in_ok-label.ensures) (h carried)) c.made.ensures.carries
 
 pub records::made_or_loose-returns-in-None-clause-carries : goal.records::made_or_loose-returns-in-None-clause-carries
 records::made_or_loose-returns-in-None-clause-carries t c =
-    if_ok c.loose.result _ _ (λ u h carried. subst (λ o. TypesMadeOr o c.args.at.now c.loose.new.at c.args.env.now c.args.pieces.now u.ty.0) (ap (option_map path_view) (sym c.in-None.is) ∙ c.in_ok-label.ensures) (h carried)) c.loose.ensures.carries
+    IfOk-weaker c.loose.result _ _ (λ u h carried. subst (λ o. TypesMadeOr o c.args.at.now c.loose.new.at c.args.env.now c.args.pieces.now u.ty.0) (ap (option_map path_view) (sym c.in-None.is) ∙ c.in_ok-label.ensures) (h carried)) c.loose.ensures.carries
 
 pub records::made-returns-clause-carries : goal.records::made-returns-clause-carries
 records::made-returns-clause-carries t c =
@@ -771,7 +772,7 @@ records::made-returns-clause-carries t c =
     let env = c.args.env.now in
     let before = c.type_field.new.fields in
     let after = c.type_fields.new.fields in
-    if_ok c.complete.result _ _ (λ u ends carried.
+    IfOk-weaker c.complete.result _ _ (λ u ends carried.
     made_done c.args.at.now c.record_of_made.new.at b d c.complete.new.at env (here_of c.in_ok-found.found) (here_of c.fields_in-fields.result.found) (here_of before.found) (here_of after.found) (place_of p.span) p.first.number (path_as (path_view c.args.label.now)) (option_map operand_view p.value) (map operand_view p.fields.items)
     (names_written c.fields_in-fields.result.labels.items) (names_written before.labels.items) (names_written after.labels.items) u.ty.0 c.fields_in-fields.ensures.found c.in_ok-type_field.ensures.found c.in_ok-type_fields.ensures.found (ap names_written c.fields_in-fields.ensures.labels)
     c.in_ok-found.ensures.carries c.in_ok-type_field.ensures.carries c.type_field.ensures.goes
@@ -786,7 +787,7 @@ records::loose-returns-clause-carries t c =
     let env = c.args.env.now in
     let before = c.fields_in-fields.result in
     let after = c.type_fields.new.fields in
-    if_ok c.complete.result _ _ (λ u ends carried.
+    IfOk-weaker c.complete.result _ _ (λ u ends carried.
     loose_done c.args.at.now c.record_behind.new.at b d c.complete.new.at env (here_of c.in_ok-found.found) (here_of before.found) (here_of after.found) (place_of p.span) (operand_view p.first) (option_map operand_view p.value) (map operand_view p.fields.items)
     (names_written before.labels.items) (names_written after.labels.items) u.ty.0 c.fields_in-fields.ensures.found c.in_ok-type_fields.ensures.found (ap names_written c.fields_in-fields.ensures.labels)
     (c.in_ok-found.ensures.carries carried.first) (c.in_ok-type_if.ensures.carries carried.value) c.type_if.ensures.goes
@@ -796,7 +797,7 @@ records::loose-returns-clause-carries t c =
 pub records::record_behind-returns-clause-carries : goal.records::record_behind-returns-clause-carries
 records::record_behind-returns-clause-carries t c =
     let p = c.args.pieces.now in
-    if_ok c.record_of_fields.result _ _ (λ r labels carried.
+    IfOk-weaker c.record_of_fields.result _ _ (λ r labels carried.
     behind_done c.args.at.now c.begin_loose.new.at c.type_under.new.at c.record_of_fields.new.at c.args.env.now r p.first c.in_ok-type_under.field-0.0 (map operand_view p.fields.items) c.in_ok-begin_loose.ensures.carries c.begin_loose.ensures.goes
     (c.in_ok-type_under.ensures.carries carried) c.type_under.ensures.goes
     (subst (λ os. TypesRecordType r c.type_under.new.at c.record_of_fields.new.at c.args.env.now (map path_as (labels_of (map operand_view os)))) c.deref.ensures.value labels) c.record_of_fields.ensures.goes) c.record_of_fields.ensures.carries
@@ -818,7 +819,7 @@ records::updated-returns-clause-carries t c =
     let env = c.args.env.now in
     let before = c.fields_in-fields.result in
     let after = c.type_fields.new.fields in
-    if_ok c.type_of_record.result _ _ (λ u gives carried.
+    IfOk-weaker c.type_of_record.result _ _ (λ u gives carried.
     updated_done c.args.at.now b d c.type_of_record.new.at env (here_of c.in_ok-found.found) (here_of before.found) (here_of after.found) (operand_view p.first) (map operand_view p.fields.items) (names_written before.labels.items) (names_written after.labels.items) u.ty.0
     c.fields_in-fields.ensures.found c.in_ok-type_fields.ensures.found (ap names_written c.fields_in-fields.ensures.labels) (c.in_ok-found.ensures.carries carried.first)
     (subst (λ os. All IsCarriedValue (map operand_view os) → FieldsWritten b d env (here_of before.found) (value_fields_of b.item (map operand_view os)) (names_written before.labels.items) (names_written after.labels.items)) c.deref.ensures.value c.in_ok-type_fields.ensures.carries)

@@ -1,10 +1,10 @@
 use Rattle.std.proofs.Common.{map, sym, subst}
+use Rattle.std.proofs.lemmas.Result.{IfOk-weaker}
 use Rattle.syntax_tree.specs.View.{node_view}
 use Rattle.type_nodes.specs.Views.{numbers}
 use Rattle.row_parts.specs.Numbered.{operand_view}
 use Rattle.typing_rows.specs.Asked.{expressions_of, ordered_end}
 use Rattle.typing_rows.specs.Contracts.{EndsRow}
-use Rattle.expression_steps.proofs.CarryingLaws.{if_ok}
 use Rattle.expression_steps.specs.Forms.{row_at}
 use Rattle.expression_steps.proofs.EndingLaws.{field_end, plain_end}
 use Rattle.expression_steps.proofs.ends.behind_parts.Goals as goal
@@ -12,7 +12,7 @@ use Rattle.expression_steps.proofs.ends.behind_parts.Goals as goal
 pub returns-in-Field-clause-carries : goal.returns-in-Field-clause-carries
 returns-in-Field-clause-carries c =
     let es = expressions_of c.args.at.now.item (map operand_view c.args.parts.now) in
-    if_ok c.field.result _ _ (λ u h ordered. field_end c.args.node.now c.args.at.now c.field.new.at c.args.env.now es (numbers c.args.types.now) u.ty.0 c.in-Field.is h) c.field.ensures.carries
+    IfOk-weaker c.field.result _ _ (λ u h ordered. field_end c.args.node.now c.args.at.now c.field.new.at c.args.env.now es (numbers c.args.types.now) u.ty.0 c.in-Field.is h) c.field.ensures.carries
 
 pub returns-in_ok-ty-in_default : goal.returns-in_ok-ty-in_default
 returns-in_ok-ty-in_default c = record {

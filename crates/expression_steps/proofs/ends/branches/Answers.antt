@@ -1,10 +1,11 @@
 use Rattle.std.proofs.Common.{sym, subst, ◌<◌, ◌≤◌, length, map, refl, arith}
 use Rattle.std.proofs.lemmas.Option.{slice_get_read}
+use Rattle.std.proofs.lemmas.Result.{IfOk-weaker}
 use Rattle.type_nodes.specs.Views.{numbers}
 use Rattle.row_parts.specs.Numbered.{operand_view}
 use Rattle.typing_rows.specs.Asked.{expressions_of}
 use Rattle.typing_steps.proofs.Rows.{var_any}
-use Rattle.expression_steps.proofs.CarryingLaws.{if_ok, number_here, number_missing, past_end}
+use Rattle.expression_steps.proofs.CarryingLaws.{number_here, number_missing, past_end}
 use Rattle.expression_steps.proofs.EndingLaws.{parts_count, else_ends, then_ends, if_empty}
 use Rattle.expression_steps.proofs.ends.branches.Goals as goal
 
@@ -33,7 +34,7 @@ returns-in_default-clause-carries c =
     let types = c.args.types.now in
     let h = c.in_default.ensures.lookup in
     let le : length types ≤ 1 = let n = h.0 in grind (arith) in
-    if_ok c.var.result _ _ (λ m made.
+    IfOk-weaker c.var.result _ _ (λ m made.
     if_empty c.args.at.now c.var.new.self c.args.env.now (expressions_of c.args.at.now.item (map operand_view c.args.parts.now)) (numbers types) m.0 (number_missing types 1 (past_end types 1 le)) (var_any c.args.at.now c.var.new.self made c.var.ensures.rest)) c.var.ensures.made
 
 pub returns-in_default-clause-goes : goal.returns-in_default-clause-goes

@@ -1,11 +1,12 @@
 use Rattle.typing_state.proofs.Going.{goes_trans}
 use Rattle.std.proofs.Common.{map, sym, subst}
+use Rattle.std.proofs.lemmas.Result.{IfOk-weaker}
 use Rattle.type_nodes.specs.Views.{numbers}
 use Rattle.row_parts.specs.Numbered.{operand_view}
 use Rattle.typing_rows.specs.Asked.{expressions_of}
 use Rattle.typing_rows.specs.Contracts.{AsksAt}
 use Rattle.typing_steps.proofs.Rows.{var_any}
-use Rattle.expression_steps.proofs.CarryingLaws.{if_ok, number_here, number_missing}
+use Rattle.expression_steps.proofs.CarryingLaws.{number_here, number_missing}
 use Rattle.expression_steps.proofs.EndingLaws.{cons_ends, cons_empty}
 use Rattle.expression_steps.proofs.ends.cons.Goals as goal
 
@@ -20,7 +21,7 @@ returns-in_ok-has-in-Some-clause-carries c =
 pub returns-in-None-clause-carries : goal.returns-in-None-clause-carries
 returns-in-None-clause-carries c =
     let types = c.args.types.now in
-    if_ok c.var.result _ _ (λ m made.
+    IfOk-weaker c.var.result _ _ (λ m made.
     cons_empty c.args.at.now c.var.new.self c.args.env.now (expressions_of c.args.at.now.item (map operand_view c.args.parts.now)) (numbers types) m.0 (number_missing types 0 (sym c.in-None.ensures.value)) (var_any c.args.at.now c.var.new.self made c.var.ensures.rest)) c.var.ensures.made
 
 pub returns-in-None-clause-goes : goal.returns-in-None-clause-goes

@@ -1,5 +1,6 @@
 use Rattle.typing_state.proofs.Going.{goes_refl}
 use Rattle.std.proofs.Common.{◌∙◌, sym, subst}
+use Rattle.std.proofs.lemmas.Result.{IfOk-weaker}
 use Rattle.syntax_tree.specs.View.{node_view}
 use Rattle.operand_laws.specs.Operands.{number_of}
 use Rattle.typing_model.specs.Expressions.{value_asks}
@@ -9,7 +10,7 @@ use Rattle.use_typing.specs.Constants.{is_negated}
 use Rattle.typing_rows.specs.Asked.{under_minus, row_expression}
 use Rattle.typing_rows.proofs.Typed.{named_row, path_row, constant_row, hole_any}
 use Rattle.expression_steps.specs.Forms.{row_at, value_in}
-use Rattle.expression_steps.proofs.CarryingLaws.{if_ok, rows_same}
+use Rattle.expression_steps.proofs.CarryingLaws.{rows_same}
 use Rattle.expression_steps.proofs.ConstructorLaws.{no_upper}
 use Rattle.expression_steps.proofs.EndingLaws.{any_value, value_tells, leaf_name, leaf_path, leaf_constant, leaf_hole}
 use Rattle.expression_steps.proofs.leaves.leaf_value.Goals as goal
@@ -18,7 +19,7 @@ pub returns-in_ok-path-in-Name-clause-carries : goal.returns-in_ok-path-in-Name-
 returns-in_ok-path-in-Name-clause-carries c =
     let nd = c.args.node.now in
     let i = c.args.at.now.item in
-    if_ok c.value.result _ _ (λ u h number place carried is none.
+    IfOk-weaker c.value.result _ _ (λ u h number place carried is none.
     named_row c.args.at.now c.value.new.at c.args.env.now i number place (node_view nd) (is_negated c.args.sign) u.ty.0 (leaf_name nd c.in-Name.is)
     (subst (λ p. TypesOwn c.args.at.now c.value.new.at c.args.env.now (λ x t. value_asks x (number_of i number) 0 (path_as p) t) u.ty.0) c.in_ok-path-in-Name.ensures (h (number_of i number) 0))) c.value.ensures.carries
 
@@ -26,7 +27,7 @@ pub returns-in_ok-path-in-Epath-clause-carries : goal.returns-in_ok-path-in-Epat
 returns-in_ok-path-in-Epath-clause-carries c =
     let nd = c.args.node.now in
     let i = c.args.at.now.item in
-    if_ok c.value-in-Epath.result _ _ (λ u h number place carried is none.
+    IfOk-weaker c.value-in-Epath.result _ _ (λ u h number place carried is none.
     path_row c.args.at.now c.value-in-Epath.new.at c.args.env.now i number place (node_view nd) (is_negated c.args.sign) u.ty.0 (rows_same (node_view nd) ∙ leaf_path nd c.in-Epath.is) (no_upper (node_view nd) (leaf_path nd c.in-Epath.is) none)
     (subst (λ p. TypesOwn c.args.at.now c.value-in-Epath.new.at c.args.env.now (λ x t. value_asks x (number_of i number) 0 (path_as p) t) u.ty.0) c.in_ok-path-in-Epath.ensures (h (number_of i number) 0))) c.value-in-Epath.ensures.carries
 
@@ -43,7 +44,7 @@ pub returns-in_default : goal.returns-in_default
 returns-in_default c = record {
   carries =
       let nd = c.args.node.now in
-      if_ok c.any_type.result _ _ (λ u h number place carried is none.
+      IfOk-weaker c.any_type.result _ _ (λ u h number place carried is none.
       hole_any c.args.at.now c.any_type.new.at c.args.env.now c.args.at.now.item number place (node_view nd) (is_negated c.args.sign) u.ty.0 (leaf_hole nd number place carried is none c.in_default.not-Name c.in_default.not-Epath c.in_default.not-Econst) h) c.any_type.ensures.carries;
   tells = value_tells c.any_type.result (value_in (row_at (node_view c.args.node.now)) (node_view c.args.node.now)) (is_negated c.args.sign) c.args.at.now c.any_type.new.at c.args.env.now (any_value c.args.node.now c.in_default.not-Name c.in_default.not-Epath c.in_default.not-Econst) c.any_type.ensures.silent;
   goes = c.any_type.ensures.goes;

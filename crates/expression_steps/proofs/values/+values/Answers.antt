@@ -1,5 +1,6 @@
 use Rattle.std.proofs.Common.{◌≡◌, ◌≢◌, ◌∙◌, ◌+◌, ◌<◌, ◌==◌, ◌&&◌, ◌++◌, length, map, drop, false, Some, option_map, sym, ap, subst, arith}
 use Rattle.std.proofs.lemmas.Bool.{ne_eqb}
+use Rattle.std.proofs.lemmas.Result.{IfOk-weaker}
 use Rattle.syntax_tree.specs.View.{node_view}
 use Rattle.tree_model.specs.Rows.{eapp_row, ematch_row, elet_row, erecord_row}
 use Rattle.row_parts.specs.Numbered.{operand_view, token_in, path_view}
@@ -8,7 +9,6 @@ use Rattle.env_table.specs.Labels.{written_of}
 use Rattle.typing_rows.specs.Asked.{expressions_of}
 use Rattle.record_rows.specs.NonExpansive.{field_values}
 use Rattle.expression_steps.specs.RecordValues.{first_values}
-use Rattle.expression_steps.proofs.CarryingLaws.{if_ok}
 use Rattle.expression_steps.proofs.RecordValueLaws.{record_mutable, record_unset}
 use Rattle.expression_steps.proofs.ValueLaws.{IsValueOf, value_missing, value_there, value_of_row, row_app, row_match, row_let, row_record, value_assert, match_gathered, match_guarded, let_gathered, value_never, value_parts, built_not, built_of_others, built_is, values_one, none_by, some_by}
 use Rattle.expression_steps.proofs.values.+values.Goals as goal
@@ -19,22 +19,22 @@ is_value-returns-in_default t c = record { value = value_missing c.args.env.now 
 pub is_value-returns-in-Eapp : goal.is_value-returns-in-Eapp
 is_value-returns-in-Eapp t c =
     let nd = c.in-Some.node in
-    record { value = if_ok c.is_built.result _ _ (λ b h. value_of_row c.args.env.now c.args.e nd eapp_row b c.in-Some.is (row_app nd.now c.in-Eapp.is) h) c.is_built.ensures.value }
+    record { value = IfOk-weaker c.is_built.result _ _ (λ b h. value_of_row c.args.env.now c.args.e nd eapp_row b c.in-Some.is (row_app nd.now c.in-Eapp.is) h) c.is_built.ensures.value }
 
 pub is_value-returns-in-Erecord : goal.is_value-returns-in-Erecord
 is_value-returns-in-Erecord t c =
     let nd = c.in-Some.node in
-    record { value = if_ok c.is_record_value.result _ _ (λ b h. value_of_row c.args.env.now c.args.e nd erecord_row b c.in-Some.is (row_record nd.now c.in-Erecord.is) h) c.is_record_value.ensures.value }
+    record { value = IfOk-weaker c.is_record_value.result _ _ (λ b h. value_of_row c.args.env.now c.args.e nd erecord_row b c.in-Some.is (row_record nd.now c.in-Erecord.is) h) c.is_record_value.ensures.value }
 
 pub is_value-returns-in-Ematch : goal.is_value-returns-in-Ematch
 is_value-returns-in-Ematch t c =
     let nd = c.in-Some.node in
-    record { value = if_ok c.is_match_value.result _ _ (λ b h. value_of_row c.args.env.now c.args.e nd ematch_row b c.in-Some.is (row_match nd.now c.in-Ematch.is) h) c.is_match_value.ensures.value }
+    record { value = IfOk-weaker c.is_match_value.result _ _ (λ b h. value_of_row c.args.env.now c.args.e nd ematch_row b c.in-Some.is (row_match nd.now c.in-Ematch.is) h) c.is_match_value.ensures.value }
 
 pub is_value-returns-in-Elet : goal.is_value-returns-in-Elet
 is_value-returns-in-Elet t c =
     let nd = c.in-Some.node in
-    record { value = if_ok c.is_let_value.result _ _ (λ b h. value_of_row c.args.env.now c.args.e nd elet_row b c.in-Some.is (row_let nd.now c.in-Elet.is) h) c.is_let_value.ensures.value }
+    record { value = IfOk-weaker c.is_let_value.result _ _ (λ b h. value_of_row c.args.env.now c.args.e nd elet_row b c.in-Some.is (row_let nd.now c.in-Elet.is) h) c.is_let_value.ensures.value }
 
 pub is_value-returns-in-Eassert : goal.is_value-returns-in-Eassert
 is_value-returns-in-Eassert t c =
@@ -58,7 +58,7 @@ is_value-returns-in-Some-2 t c =
     let row = c.in_default-row in
     let is = ap (λ os. Some (map operand_view os)) c.deref.ensures.value ∙ some_by _ _ _ _ c.in-Some-2.is c.in_ok-value_parts-in_default-row.ensures in
     record {
-      value = if_ok c.are_values.result _ _ (λ b h. value_there c.args.env.now c.args.e nd b c.in-Some.is
+      value = IfOk-weaker c.are_values.result _ _ (λ b h. value_there c.args.env.now c.args.e nd b c.in-Some.is
           (value_parts c.args.env.now nd.now c.args.e.number c.deref.result.now b (record { application = row.not-Eapp; assertion = row.not-Eassert; matching = row.not-Ematch; binding = row.not-Elet; recording = row.not-Erecord }) is h)) c.are_values.ensures.value;
     }
 
@@ -97,7 +97,7 @@ is_built-returns t c =
     let os = c.deref.result.now in
     let one : length os ≡ 1 = let n = c.if-len-ne1.false in let got = c.len.ensures in let here = c.deref.ensures.len in let listed = c.in_ok-arguments.arguments.ok in omega arith in
     record {
-      value = if_ok c.are_values.result _ _ (λ b h.
+      value = IfOk-weaker c.are_values.result _ _ (λ b h.
           built_is c.args.env.now c.args.node.now c.args.number c.operand_in.result os b c.operand_in.ensures (ap (map operand_view) c.deref.ensures.value ∙ c.in_ok-arguments.ensures) (ap (λ k. k == 1) one)
           (sym c.is_constructor.ensures ∙ c.if-not-is_constructor.false) h) c.are_values.ensures.value;
     }
@@ -112,7 +112,7 @@ is_match_value-returns t c =
     let given = ap (map operand_view) c.deref.ensures.value ∙ c.in_ok-cases.ensures in
     let is = ap (map operand_view) c.deref-2.ensures.value ∙ c.in_ok-push_bodies.ensures.bodies c.if-not-branch.false in
     record {
-      value = if_ok c.are_values.result _ _ (λ b h.
+      value = IfOk-weaker c.are_values.result _ _ (λ b h.
           match_gathered c.args.env.now c.args.node.now c.args.number c.deref-2.result.now c.in_ok-parts.parts.items c.deref.result.now b c.in_ok-parts.ensures given (c.in_ok-push_bodies.ensures.guards ∙ c.if-not-branch.false) is h) c.are_values.ensures.value;
     }
 
@@ -121,7 +121,7 @@ is_let_value-returns t c =
     let given = ap (map operand_view) c.deref.ensures.value ∙ c.in_ok-bindings.ensures in
     let is = ap (map operand_view) c.deref-2.ensures.value ∙ c.in_ok-push_rights.ensures in
     record {
-      value = if_ok c.are_values.result _ _ (λ b h.
+      value = IfOk-weaker c.are_values.result _ _ (λ b h.
           let_gathered c.args.env.now c.args.node.now c.args.number c.deref-2.result.now c.in_ok-parts.parts.items c.deref.result.now b c.in_ok-parts.ensures given is h) c.are_values.ensures.value;
     }
 
@@ -143,7 +143,7 @@ is_record_value-returns t c =
     let same = c.deref-3.ensures.value ∙ sym c.deref.ensures.value in
     let values = ap (map operand_view) c.deref-4.ensures.value ∙ c.in_ok-values.ensures ∙ ap (λ os. first_values c.args.number tree (token_in tree 4) first ++ field_values (map operand_view os)) same in
     record {
-      value = if_ok c.are_values.result _ _ (λ b h.
+      value = IfOk-weaker c.are_values.result _ _ (λ b h.
           record_unset c.args.env.now c.args.number tree (map written_of c.deref-2.result.now) first (map operand_view c.deref.result.now) (map operand_view c.deref-4.result.now) b paths c.in_ok-first.ensures fields
           (sym c.has_mutable_label.ensures ∙ c.if-has_mutable_label.false) values h) c.are_values.ensures.value;
     }

@@ -1,6 +1,7 @@
 use Rattle.std.proofs.Common.{◌≡◌, ◌∙◌, ◌++◌, ◌∷◌, ◌+◌, ◌<◌, ℕ, true, false, List, [], length, map, drop, refl, sym, ap, subst, arith}
 use Rattle.std.specs.Prelude.{OnOk, IfOk, All, slice_get, Option, Some, None, option_map}
 use Rattle.std.proofs.lemmas.List.{drop_all}
+use Rattle.std.proofs.lemmas.Result.{IfOk-weaker}
 use Rattle.tree_model.specs.Rows.{pname_row, pconst_row, pneg_row, pcon_row, pparen_row, plist_row, precord_row, papp_row, pcons_row, ptuple_row, por_row, pas_row}
 use Rattle.syntax_tree.specs.Names.{row_of}
 use Rattle.syntax_tree.specs.View.{node_view}
@@ -31,7 +32,7 @@ use Rattle.pattern_rows.proofs.Applied.{wanted_matches, constructor_applied, not
 use Rattle.pattern_rows.proofs.Matching.{operand_matches, nothing_matches, any_matches, constant_matches, minus_matches, tuple_matches, list_matches, cons_matches, as_matches, or_matches}
 use Rattle.pattern_rows.proofs.Ordered.{in_order_none, in_order_all}
 use Rattle.pattern_typing.proofs.Constructors.{head_constructor}
-use Rattle.pattern_typing.proofs.Carrying.{if_ok, on_ok, none_of, tree_row, any_row}
+use Rattle.pattern_typing.proofs.Carrying.{on_ok, none_of, tree_row, any_row}
 use Rattle.pattern_typing.proofs.Stepping.{paren_row, as_patterns, order_step, beside_none, beside_step, beside_done, sides_compared}
 use Rattle.use_typing.specs.Uses.{GivenOrNew}
 use Rattle.record_rows.specs.Fields.{FieldsInOrderFirst}
@@ -149,14 +150,14 @@ pub match_pattern-returns-in-Some : goal.match_pattern-returns-in-Some
 match_pattern-returns-in-Some t c = record {
   names = subst (λ ts. OnOk c.match_node.result (Binds c.args.names.now.items c.match_node.new.names.items ts)) (sym (names_there c.args.p c.in-Some.node c.in-Some.is)) c.match_node.ensures.names;
   goes = c.match_node.ensures.goes;
-  carries = if_ok c.match_node.result _ _ (λ m h. operand_matches c.args.at.now c.match_node.new.at c.args.env.now c.args.p c.in-Some.node (binds_of c.args.names.now.items) (binds_of c.match_node.new.names.items) (names_seen c.args.seen.now.items) (names_seen c.match_node.new.seen.items) m.0 c.in-Some.is h) c.match_node.ensures.carries;
+  carries = IfOk-weaker c.match_node.result _ _ (λ m h. operand_matches c.args.at.now c.match_node.new.at c.args.env.now c.args.p c.in-Some.node (binds_of c.args.names.now.items) (binds_of c.match_node.new.names.items) (names_seen c.args.seen.now.items) (names_seen c.match_node.new.seen.items) m.0 c.in-Some.is h) c.match_node.ensures.carries;
 }
 
 pub match_pattern-returns-in-None : goal.match_pattern-returns-in-None
 match_pattern-returns-in-None t c = record {
   names = on_any c.anything.result (Binds c.args.names.now.items c.args.names.now.items (pattern_names (operand_view c.args.p))) (subst (λ ts. Binds c.args.names.now.items c.args.names.now.items ts) (sym (names_missing c.args.p c.in-None.is)) (binds_none c.args.names.now.items));
   goes = c.anything.ensures.goes;
-  carries = if_ok c.anything.result _ _ (λ m h. nothing_matches c.args.at.now c.anything.new.at c.args.env.now c.args.p m (binds_of c.args.names.now.items) (names_seen c.args.seen.now.items) c.in-None.is h) c.anything.ensures.carries;
+  carries = IfOk-weaker c.anything.result _ _ (λ m h. nothing_matches c.args.at.now c.anything.new.at c.args.env.now c.args.p m (binds_of c.args.names.now.items) (names_seen c.args.seen.now.items) c.in-None.is h) c.anything.ensures.carries;
 }
 
 pub match_node-returns-in-Papp : goal.match_node-returns-in-Papp
@@ -164,7 +165,7 @@ unfolding row_of
 match_node-returns-in-Papp t c = record {
   names = row_names c.applied.result c.args.number c.args.node.now row_name.Papp papp_row c.args.names.now.items c.applied.new.names.items c.in-Papp.is refl c.applied.ensures.names;
   goes = c.applied.ensures.goes;
-  carries = if_ok c.applied.result _ _ (λ m h. h (tree_row c.args.node.now row_name.Papp papp_row c.in-Papp.is refl)) c.applied.ensures.carries;
+  carries = IfOk-weaker c.applied.result _ _ (λ m h. h (tree_row c.args.node.now row_name.Papp papp_row c.in-Papp.is refl)) c.applied.ensures.carries;
 }
 
 pub match_node-returns-in-Precord : goal.match_node-returns-in-Precord
@@ -172,7 +173,7 @@ unfolding row_of
 match_node-returns-in-Precord t c = record {
   names = row_names c.«record».result c.args.number c.args.node.now row_name.Precord precord_row c.args.names.now.items c.«record».new.names.items c.in-Precord.is refl c.«record».ensures.names;
   goes = c.«record».ensures.goes;
-  carries = if_ok c.«record».result _ _ (λ m h. h (tree_row c.args.node.now row_name.Precord precord_row c.in-Precord.is refl)) c.«record».ensures.carries;
+  carries = IfOk-weaker c.«record».result _ _ (λ m h. h (tree_row c.args.node.now row_name.Precord precord_row c.in-Precord.is refl)) c.«record».ensures.carries;
 }
 
 pub match_node-returns-in-Por : goal.match_node-returns-in-Por
@@ -180,7 +181,7 @@ unfolding row_of
 match_node-returns-in-Por t c = record {
   names = row_names c.alternatives.result c.args.number c.args.node.now row_name.Por por_row c.args.names.now.items c.alternatives.new.names.items c.in-Por.is refl c.alternatives.ensures.names;
   goes = c.alternatives.ensures.goes;
-  carries = if_ok c.alternatives.result _ _ (λ m h. h (tree_row c.args.node.now row_name.Por por_row c.in-Por.is refl)) c.alternatives.ensures.carries;
+  carries = IfOk-weaker c.alternatives.result _ _ (λ m h. h (tree_row c.args.node.now row_name.Por por_row c.in-Por.is refl)) c.alternatives.ensures.carries;
 }
 
 pub match_node-returns-in-Pparen : goal.match_node-returns-in-Pparen
@@ -188,7 +189,7 @@ unfolding row_of
 match_node-returns-in-Pparen t c = record {
   names = row_names c.parenthesised.result c.args.number c.args.node.now row_name.Pparen pparen_row c.args.names.now.items c.parenthesised.new.names.items c.in-Pparen.is refl c.parenthesised.ensures.names;
   goes = c.parenthesised.ensures.goes;
-  carries = if_ok c.parenthesised.result _ _ (λ m h. h (tree_row c.args.node.now row_name.Pparen pparen_row c.in-Pparen.is refl)) c.parenthesised.ensures.carries;
+  carries = IfOk-weaker c.parenthesised.result _ _ (λ m h. h (tree_row c.args.node.now row_name.Pparen pparen_row c.in-Pparen.is refl)) c.parenthesised.ensures.carries;
 }
 
 pub match_node-returns-in-Plist : goal.match_node-returns-in-Plist
@@ -196,7 +197,7 @@ unfolding row_of
 match_node-returns-in-Plist t c = record {
   names = row_names c.list.result c.args.number c.args.node.now row_name.Plist plist_row c.args.names.now.items c.list.new.names.items c.in-Plist.is refl c.list.ensures.names;
   goes = c.list.ensures.goes;
-  carries = if_ok c.list.result _ _ (λ m h. h (tree_row c.args.node.now row_name.Plist plist_row c.in-Plist.is refl)) c.list.ensures.carries;
+  carries = IfOk-weaker c.list.result _ _ (λ m h. h (tree_row c.args.node.now row_name.Plist plist_row c.in-Plist.is refl)) c.list.ensures.carries;
 }
 
 pub match_node-returns-in-Pcons : goal.match_node-returns-in-Pcons
@@ -204,7 +205,7 @@ unfolding row_of
 match_node-returns-in-Pcons t c = record {
   names = row_names c.cons.result c.args.number c.args.node.now row_name.Pcons pcons_row c.args.names.now.items c.cons.new.names.items c.in-Pcons.is refl c.cons.ensures.names;
   goes = c.cons.ensures.goes;
-  carries = if_ok c.cons.result _ _ (λ m h. h (tree_row c.args.node.now row_name.Pcons pcons_row c.in-Pcons.is refl)) c.cons.ensures.carries;
+  carries = IfOk-weaker c.cons.result _ _ (λ m h. h (tree_row c.args.node.now row_name.Pcons pcons_row c.in-Pcons.is refl)) c.cons.ensures.carries;
 }
 
 pub match_node-returns-in-Ptuple : goal.match_node-returns-in-Ptuple
@@ -212,7 +213,7 @@ unfolding row_of
 match_node-returns-in-Ptuple t c = record {
   names = row_names c.tuple.result c.args.number c.args.node.now row_name.Ptuple ptuple_row c.args.names.now.items c.tuple.new.names.items c.in-Ptuple.is refl c.tuple.ensures.names;
   goes = c.tuple.ensures.goes;
-  carries = if_ok c.tuple.result _ _ (λ m h. h (tree_row c.args.node.now row_name.Ptuple ptuple_row c.in-Ptuple.is refl)) c.tuple.ensures.carries;
+  carries = IfOk-weaker c.tuple.result _ _ (λ m h. h (tree_row c.args.node.now row_name.Ptuple ptuple_row c.in-Ptuple.is refl)) c.tuple.ensures.carries;
 }
 
 pub match_node-returns-in-Pas : goal.match_node-returns-in-Pas
@@ -220,7 +221,7 @@ unfolding row_of
 match_node-returns-in-Pas t c = record {
   names = row_names c.named.result c.args.number c.args.node.now row_name.Pas pas_row c.args.names.now.items c.named.new.names.items c.in-Pas.is refl c.named.ensures.names;
   goes = c.named.ensures.goes;
-  carries = if_ok c.named.result _ _ (λ m h. h (tree_row c.args.node.now row_name.Pas pas_row c.in-Pas.is refl)) c.named.ensures.carries;
+  carries = IfOk-weaker c.named.result _ _ (λ m h. h (tree_row c.args.node.now row_name.Pas pas_row c.in-Pas.is refl)) c.named.ensures.carries;
 }
 
 pub match_node-returns-in-Pname : goal.match_node-returns-in-Pname
@@ -228,7 +229,7 @@ unfolding row_of
 match_node-returns-in-Pname t c = record {
   names = row_names c.name.result c.args.number c.args.node.now row_name.Pname pname_row c.args.names.now.items c.name.new.names.items c.in-Pname.is refl c.name.ensures.names;
   goes = c.name.ensures.goes;
-  carries = if_ok c.name.result _ _ (λ m h. h (tree_row c.args.node.now row_name.Pname pname_row c.in-Pname.is refl)) c.name.ensures.carries;
+  carries = IfOk-weaker c.name.result _ _ (λ m h. h (tree_row c.args.node.now row_name.Pname pname_row c.in-Pname.is refl)) c.name.ensures.carries;
 }
 
 pub match_node-returns-in-Pcon : goal.match_node-returns-in-Pcon
@@ -236,7 +237,7 @@ unfolding row_of
 match_node-returns-in-Pcon t c = record {
   names = row_names c.constant_constructor.result c.args.number c.args.node.now row_name.Pcon pcon_row c.args.names.now.items c.args.names.now.items c.in-Pcon.is refl (on_any c.constant_constructor.result (Binds c.args.names.now.items c.args.names.now.items []) (binds_none c.args.names.now.items));
   goes = c.constant_constructor.ensures.goes;
-  carries = if_ok c.constant_constructor.result _ _ (λ m h. h (binds_of c.args.names.now.items) (names_seen c.args.seen.now.items) (tree_row c.args.node.now row_name.Pcon pcon_row c.in-Pcon.is refl)) c.constant_constructor.ensures.carries;
+  carries = IfOk-weaker c.constant_constructor.result _ _ (λ m h. h (binds_of c.args.names.now.items) (names_seen c.args.seen.now.items) (tree_row c.args.node.now row_name.Pcon pcon_row c.in-Pcon.is refl)) c.constant_constructor.ensures.carries;
 }
 
 pub match_node-returns-in-Pconst : goal.match_node-returns-in-Pconst
@@ -244,7 +245,7 @@ unfolding row_of
 match_node-returns-in-Pconst t c = record {
   names = row_names c.number_row.result c.args.number c.args.node.now row_name.Pconst pconst_row c.args.names.now.items c.args.names.now.items c.in-Pconst.is refl (on_any c.number_row.result (Binds c.args.names.now.items c.args.names.now.items []) (binds_none c.args.names.now.items));
   goes = c.number_row.ensures.goes;
-  carries = if_ok c.number_row.result _ _ (λ m h. constant_matches c.args.at.now c.number_row.new.at c.args.env.now c.args.number (node_view c.args.node.now) m (binds_of c.args.names.now.items) (names_seen c.args.seen.now.items)
+  carries = IfOk-weaker c.number_row.result _ _ (λ m h. constant_matches c.args.at.now c.number_row.new.at c.args.env.now c.args.number (node_view c.args.node.now) m (binds_of c.args.names.now.items) (names_seen c.args.seen.now.items)
       (subst (λ o. NotesRow c.args.at.now c.number_row.new.at c.args.env.now c.args.number (λ n. constant false n o) m) c.token.ensures h) (tree_row c.args.node.now row_name.Pconst pconst_row c.in-Pconst.is refl)) c.number_row.ensures.carries;
 }
 
@@ -253,7 +254,7 @@ unfolding row_of
 match_node-returns-in-Pneg t c = record {
   names = row_names c.number_row-in-Pneg.result c.args.number c.args.node.now row_name.Pneg pneg_row c.args.names.now.items c.args.names.now.items c.in-Pneg.is refl (on_any c.number_row-in-Pneg.result (Binds c.args.names.now.items c.args.names.now.items []) (binds_none c.args.names.now.items));
   goes = c.number_row-in-Pneg.ensures.goes;
-  carries = if_ok c.number_row-in-Pneg.result _ _ (λ m h. minus_matches c.args.at.now c.number_row-in-Pneg.new.at c.args.env.now c.args.number (node_view c.args.node.now) m (binds_of c.args.names.now.items) (names_seen c.args.seen.now.items)
+  carries = IfOk-weaker c.number_row-in-Pneg.result _ _ (λ m h. minus_matches c.args.at.now c.number_row-in-Pneg.new.at c.args.env.now c.args.number (node_view c.args.node.now) m (binds_of c.args.names.now.items) (names_seen c.args.seen.now.items)
       (subst (λ o. NotesRow c.args.at.now c.number_row-in-Pneg.new.at c.args.env.now c.args.number (λ n. constant true n o) m) c.token-in-Pneg.ensures h) (tree_row c.args.node.now row_name.Pneg pneg_row c.in-Pneg.is refl)) c.number_row-in-Pneg.ensures.carries;
 }
 
@@ -265,7 +266,7 @@ match_node-returns-in_default t c =
     record {
       names = on_any c.anything.result (Binds c.args.names.now.items c.args.names.now.items (names_of_tree n (node_view nd))) (subst (λ ts. Binds c.args.names.now.items c.args.names.now.items ts) (sym (other_bound n nd (other_names (out-Node nd).row n (node_view nd) parts c.in_default.not-Papp c.in_default.not-Precord c.in_default.not-Por c.in_default.not-Pparen c.in_default.not-Plist c.in_default.not-Pcons c.in_default.not-Ptuple c.in_default.not-Pas c.in_default.not-Pname c.in_default.not-Pcon c.in_default.not-Pconst c.in_default.not-Pneg))) (binds_none c.args.names.now.items));
       goes = c.anything.ensures.goes;
-      carries = if_ok c.anything.result _ _ (λ m h place carried. any_matches c.args.at.now c.anything.new.at c.args.env.now n (node_view nd) m (binds_of c.args.names.now.items) (names_seen c.args.seen.now.items) h
+      carries = IfOk-weaker c.anything.result _ _ (λ m h place carried. any_matches c.args.at.now c.anything.new.at c.args.env.now n (node_view nd) m (binds_of c.args.names.now.items) (names_seen c.args.seen.now.items) h
           (any_row nd carried.rows c.in_default.not-Papp c.in_default.not-Pcon c.in_default.not-Por c.in_default.not-Pparen c.in_default.not-Plist c.in_default.not-Pcons c.in_default.not-Ptuple c.in_default.not-Pas c.in_default.not-Pname c.in_default.not-Pconst c.in_default.not-Pneg c.in_default.not-Precord) place carried) c.anything.ensures.carries;
     }
 
@@ -424,7 +425,7 @@ construction-returns-in-Some t c =
     record {
       names = c.with_argument.ensures.names;
       goes = c.with_argument.ensures.goes;
-      carries = if_ok c.with_argument.result _ _ (λ m h carried. h carried (pattern_of i head) (pattern_of_stands i head).number (head_constructor i head ∙ ap (option_map path_of) named)) c.with_argument.ensures.carries;
+      carries = IfOk-weaker c.with_argument.result _ _ (λ m h carried. h carried (pattern_of i head) (pattern_of_stands i head).number (head_constructor i head ∙ ap (option_map path_of) named)) c.with_argument.ensures.carries;
     }
 
 pub construction-returns-in_ok-match_pattern-in-None : goal.construction-returns-in_ok-match_pattern-in-None
@@ -436,7 +437,7 @@ construction-returns-in_ok-match_pattern-in-None t c =
     record {
       names = on_any c.var.result (Binds c.args.names.now.items c.match_pattern.new.names.items (pattern_names argument)) c.in_ok-match_pattern-in-None.ensures.names;
       goes = goes_trans c.args.at.now c.match_pattern.new.at c.var.new.self c.match_pattern.ensures.goes c.var.ensures.goes;
-      carries = if_ok c.var.result _ _ (λ m made carried.
+      carries = IfOk-weaker c.var.result _ _ (λ m made carried.
           nothing_applied c.args.at.now c.match_pattern.new.at c.var.new.self c.args.env.now (pattern_of i head) (pattern_of i argument) _ m.0 (binds_of c.args.names.now.items) (binds_of c.match_pattern.new.names.items) (names_seen c.args.seen.now.items) (names_seen c.match_pattern.new.seen.items)
           (head_constructor i head ∙ ap (option_map path_of) none) (c.in_ok-match_pattern-in-None.ensures.carries carried) c.match_pattern.ensures.goes (var_any c.match_pattern.new.at c.var.new.self made c.var.ensures.rest)) c.var.ensures.made;
     }

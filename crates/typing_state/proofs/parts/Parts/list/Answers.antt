@@ -1,5 +1,5 @@
 use Rattle.typing_state.proofs.Going.{goes_refl}
-use Rattle.std.proofs.Common.{ℕ, zero, suc, ◌<◌, [], ◌∷◌, subst, arith}
+use Rattle.std.proofs.Common.{ℕ, zero, suc, [], ◌∷◌, subst, arith}
 use Rattle.std.specs.Prelude.{All, codes}
 use Rattle.std.proofs.lemmas.Result.{IfOk-weaker}
 use Rattle.type_nodes.specs.Nodes.{Con, IsNode}

@@ -1,0 +1,49 @@
+-- In a text of `let` and `;;` what is asked up to a demand depends only on what is kept before it.
+use Rattle.std.proofs.Common.{◌≡◌, Bool, true, false, ◌==◌, List, [], ◌∷◌, refl, sym, ap}
+use Rattle.type_model.proofs.Applying.{or_left, or_right, eqb_same}
+use Rattle.tree_model.specs.Trees.{Tree, node}
+use Rattle.tree_model.specs.Rows.{Row, let_row, break_row}
+use Rattle.signature_model.specs.Entries.{Environment}
+use Rattle.typing_model.specs.Demands.{Site, same_site, Condition, same, instance, made, known, demand, treated, sites_of}
+use Rattle.typing_model.specs.Contexts.{Choice}
+use Rattle.typing_model.specs.Typings.{conditions_of, is_site_among, sites_before, conditions_up_to}
+use Rattle.typing_laws.specs.Plain.{is_plain_row, has_no_modules, is_let_row, has_lets_alone}
+use Rattle.typing_laws.proofs.Bools.{no_yes, and_cases, and_both}
+use Rattle.typing_laws.proofs.Together.{Kept}
+use Rattle.typing_laws.proofs.Whole.{Whole, at_end, at_demand, at_same, at_instance, at_made, at_known, at_treated}
+use Rattle.typing_laws.proofs.WholeTexts.{text_whole}
+
+same_as_itself : (s : Site) → same_site s s ≡ true
+same_as_itself s = and_both (s.node == s.node) (s.number == s.number) (eqb_same s.node) (eqb_same s.number)
+
+-- what is asked up to a demand is one where the same demands before it are kept
+up_to_one : {k m : Kept} {cs ds : List Condition} (s : Site) → Whole k m cs ds → ((x : Site) → is_site_among x (sites_before s (sites_of cs)) ≡ true → m x ≡ k x) → conditions_up_to s ds ≡ conditions_up_to s cs
+up_to_one s at_end before = refl
+up_to_one s (at_same {t = t} {u = u} h) before = ap (λ xs. same t u ∷ xs) (up_to_one s h before)
+up_to_one s (at_instance {s = z} {t = t} h) before = ap (λ xs. instance z t ∷ xs) (up_to_one s h before)
+up_to_one s (at_made {i = i} {t = t} h) before = ap (λ xs. made i t ∷ xs) (up_to_one s h before)
+up_to_one s (at_known {t = t} h) before = ap (λ xs. known t ∷ xs) (up_to_one s h before)
+up_to_one s (at_treated {i = i} {e = e} h) before = ap (λ xs. treated i e ∷ xs) (up_to_one s h before)
+up_to_one {k} {m} s (at_demand {s = t} {p = p} {d = d} {cs = cs} {ds = ds} g) before = by (same_site s t) refl (λ a j. up_to_one s (g a) j)
+  where
+    by : (b : Bool) → same_site s t ≡ b → (k t ≡ m t → ((x : Site) → is_site_among x (sites_before s (sites_of cs)) ≡ true → m x ≡ k x) → conditions_up_to s ds ≡ conditions_up_to s cs) → conditions_up_to s (demand t p d ∷ ds) ≡ conditions_up_to s (demand t p d ∷ cs)
+    by true h further = rw (h, conditions_up_to) refl
+    by false h further =
+        let first : k t ≡ m t = sym (before t (rw (h, sites_before) (or_left (same_site t t) (is_site_among t (sites_before s (sites_of cs))) (same_as_itself t)))) in
+        let rest : conditions_up_to s ds ≡ conditions_up_to s cs = further first (λ x j. before x (rw (h, sites_before) (or_right (same_site x t) (is_site_among x (sites_before s (sites_of cs))) j))) in
+        rw (h, conditions_up_to) (ap (λ xs. demand t p d ∷ xs) rest)
+
+-- so it is in such a text
+pub lets_settled : (env : Environment) (text : List Tree) (kept others : Site → Bool) (choice : Choice) (s : Site) → has_lets_alone text ≡ true →
+    ((x : Site) → is_site_among x (sites_before s (sites_of (conditions_of env text kept choice))) ≡ true → others x ≡ kept x) → conditions_up_to s (conditions_of env text others choice) ≡ conditions_up_to s (conditions_of env text kept choice)
+lets_settled env text kept others choice s lets before = up_to_one s (text_whole {k = kept} {m = others} env text choice lets) before
+
+-- `let` and `;;` are no modules
+row_plain : (r : Row) → is_let_row r ≡ true → is_plain_row r ≡ true
+row_plain let_row e = refl
+row_plain break_row e = refl
+row_plain _ e = absurd (no_yes e)
+
+pub lets_plain : (text : List Tree) → has_lets_alone text ≡ true → has_no_modules text ≡ true
+lets_plain [] e = refl
+lets_plain (node r x ps ∷ ts) e = let (first, others) = and_cases (is_let_row r) (has_lets_alone ts) e in and_both (is_plain_row r) (has_no_modules ts) (row_plain r first) (lets_plain ts others)

@@ -1,0 +1,82 @@
+-- What two sets of kept demands ask of a text of `let` and `;;` is one as far as they keep the same.
+use Rattle.std.proofs.Common.{◌≡◌, ◌∙◌, ℕ, ◌+◌, Bool, true, List, [], ◌∷◌, ◌++◌, Option, Some, None, refl, ap, subst}
+use Rattle.token_model.specs.Kinds.{Tok}
+use Rattle.tree_model.specs.Trees.{Place, Tree, node, inner, part_yield}
+use Rattle.tree_model.specs.Rows.{Row, let_row, break_row}
+use Rattle.signature_model.specs.Entries.{Environment, Entry}
+use Rattle.typing_model.specs.Demands.{made}
+use Rattle.typing_model.specs.Contexts.{Context, Choice, Bound, under, entries_with, generalised_in}
+use Rattle.typing_model.specs.Parts.{Binding, Item, Seen, seen_too, no_names, Child, token_in}
+use Rattle.typing_model.specs.Bindings.{names_of_group, held_by}
+use Rattle.typing_model.specs.Expressions.{bindings_in, is_some}
+use Rattle.typing_model.specs.Items.{inside_item, names_made, let_item, no_item, items_ask}
+use Rattle.typing_model.specs.Modules.{item_row}
+use Rattle.typing_model.specs.Meanings.{recorded_item, children_of, tree_child, item_base, items_from, items_of}
+use Rattle.typing_model.specs.Typings.{outermost, conditions_of}
+use Rattle.typing_laws.specs.Plain.{is_let_row, has_lets_alone}
+use Rattle.typing_laws.proofs.Bools.{no_yes, and_cases}
+use Rattle.typing_laws.proofs.Together.{Kept, keeping}
+use Rattle.typing_laws.proofs.Whole.{Whole, at_end, at_made, at_treated, behind, along}
+use Rattle.typing_laws.proofs.Steady.{Each, no_one, one_and, IfThere, absent, there, SameName, SteadyBinding, SteadyChild, entries_alike}
+use Rattle.typing_laws.proofs.SteadyBindings.{bindings_alike, group_names_one, held_alike}
+use Rattle.typing_laws.proofs.SteadyItems.{pair_alike}
+use Rattle.typing_laws.proofs.SteadyRows.{bindings_steady}
+use Rattle.typing_laws.proofs.SteadyTexts.{children_steady}
+
+-- an item asks the same of both, and adds the same names
+record WholeItem (k m : Kept) (i : Item) : Type 0 where
+  pub asks : (c : Context) (seen : Seen) → Whole k m (i.asks (keeping k c) seen) (i.asks (keeping m c) seen)
+  pub adds : (c : Context) → i.adds (keeping k c) ≡ i.adds (keeping m c)
+  pub named : (c : Context) → i.named (keeping k c) ≡ i.named (keeping m c)
+
+names_made_whole : {k m : Kept} (n : ℕ) (c : Context) (bs : List Bound) → Each (SameName k m) bs → Whole k m (names_made n (keeping k c) bs) (names_made n (keeping m c) bs)
+names_made_whole n c [] no_one = at_end
+names_made_whole {k} {m} n c (b ∷ bs) (one_and s each) =
+    subst (λ t. Whole k m (made n (b.has_type (keeping k c)) ∷ names_made n (keeping k c) bs) (made n t ∷ names_made n (keeping m c) bs)) (s.one c) (at_made (names_made_whole n c bs each))
+
+let_item_whole : {k m : Kept} (n : ℕ) (ts : List Tok) (is_rec : Bool) (bs : List Binding) → Each (SteadyBinding k m) bs → WholeItem k m (let_item n ts is_rec bs)
+let_item_whole {k} {m} n ts is_rec bs each = record {
+  asks = λ c seen. behind (bindings_alike (inside_item n ts c) is_rec bs each) (λ a. names_made_whole n (inside_item n ts c) (names_of_group bs) (group_names_one bs each));
+  adds = λ c.
+      entries_alike (generalised_in c.env (held_by (inside_item n ts (keeping k c)) bs)) (inside_item n ts c) [] (group_names_one bs each) ∙
+      ap (λ hs. entries_with (generalised_in c.env hs) (inside_item n ts (keeping m c)) (names_of_group bs) []) (held_alike (inside_item n ts c) bs each);
+  named = λ c. refl;
+}
+
+no_item_whole : {k m : Kept} (n : ℕ) → WholeItem k m (no_item n)
+no_item_whole n = record { asks = λ c seen. at_end; adds = λ c. refl; named = λ c. refl }
+
+row_whole : {k m : Kept} (r : Row) (n : ℕ) (q : Place) (ts : List Tok) (cs : List Child) → is_let_row r ≡ true → Each (SteadyChild k m) cs → IfThere (WholeItem k m) (item_row r n q ts cs)
+unfolding item_row
+row_whole let_row n q ts cs e h = there (let_item_whole n ts (is_some (token_in 1 cs)) (bindings_in 2 cs) (bindings_steady 2 cs h))
+row_whole break_row n q ts cs e h = there (no_item_whole n)
+row_whole _ n q ts cs e h = absurd (no_yes e)
+
+told_whole : {k m : Kept} (n : ℕ) (i : Option Item) → IfThere (WholeItem k m) i → IfThere (WholeItem k m) (recorded_item n i)
+told_whole n None absent = absent
+told_whole n (Some i) (there s) = there (record { asks = λ c seen. at_treated (s.asks c seen); adds = s.adds; named = s.named })
+
+items_whole : {k m : Kept} (i : ℕ) (ts : List Tree) → has_lets_alone ts ≡ true → Each (WholeItem k m) (items_from i ts)
+items_whole i [] e = no_one
+items_whole {k} {m} i (node r x ps ∷ ts) e =
+    let (first, others) = and_cases (is_let_row r) (has_lets_alone ts) e in
+    by (tree_child (item_base i) 0 (node r x ps)).item
+    (told_whole (item_base i) (item_row r (item_base i) x.span (part_yield (inner (node r x ps))) (children_of (item_base i + 1) r ps))
+    (row_whole r (item_base i) x.span (part_yield (inner (node r x ps))) (children_of (item_base i + 1) r ps) first (children_steady (item_base i + 1) r ps)))
+    (items_whole (i + 1) ts others)
+  where
+    by : (o : Option Item) → IfThere (WholeItem k m) o → Each (WholeItem k m) (items_from (i + 1) ts) → Each (WholeItem k m) (elim o [ None ↦ items_from (i + 1) ts | Some y ↦ y ∷ items_from (i + 1) ts ])
+    by None absent h = h
+    by (Some y) (there s) h = one_and s h
+
+items_one : {k m : Kept} (c : Context) (seen : Seen) (xs : List Item) → Each (WholeItem k m) xs → Whole k m (items_ask (keeping k c) seen xs) (items_ask (keeping m c) seen xs)
+items_one c seen [] no_one = at_end
+items_one {k} {m} c seen (i ∷ xs) (one_and s each) =
+    behind (s.asks c seen) (λ a.
+    along {A = List Entry × Seen} (λ z. items_ask (under (z.0 ++ c.env) (keeping k c)) (seen_too seen z.1) xs) (λ z. items_ask (under (z.0 ++ c.env) (keeping m c)) (seen_too seen z.1) xs)
+    (pair_alike (i.adds (keeping k c)) (i.adds (keeping m c)) (i.named (keeping k c)) (i.named (keeping m c)) (s.adds c) (s.named c))
+    (items_one (under (i.adds (keeping k c) ++ c.env) c) (seen_too seen (i.named (keeping k c))) xs each))
+
+-- the whole text
+pub text_whole : {k m : Kept} (env : Environment) (text : List Tree) (choice : Choice) → has_lets_alone text ≡ true → Whole k m (conditions_of env text k choice) (conditions_of env text m choice)
+text_whole {k} env text choice e = items_one (outermost env k choice) no_names (items_of text) (items_whole 1 text e)
