@@ -1,4 +1,7 @@
 pub mod Sites
+pub mod Orderly
+pub mod Once
+pub mod Owners
 pub mod Kept
 pub mod General
 pub mod Reading

@@ -1,23 +1,28 @@
--- Where typing was complete also for what items left, the types that were found are a principal typing.
-use Rattle.std.proofs.Common.{◌≡◌, ◌∙◌, ℕ, zero, suc, ◌+◌, ◌-◌, ◌/◌, ◌%◌, ◌^◌, ◌<◌, nat_lt, Bool, true, false, Option, Some, None, List, [], ◌∷◌, ◌++◌, length, refl, sym, ap, subst, arith, if◌then◌else◌}
+-- The types that were found are a principal typing: typing was complete also for what items left.
+use Rattle.std.proofs.Common.{◌≡◌, ◌∙◌, ◌⊎◌, inl, inr, ℕ, zero, suc, ◌+◌, ◌-◌, ◌/◌, ◌%◌, ◌^◌, ◌<◌, nat_lt, Bool, true, false, Option, Some, None, List, [], ◌∷◌, ◌++◌, length, refl, sym, ap, subst, arith, if◌then◌else◌}
 use Rattle.std.specs.Prelude.{slice_get}
 use Rattle.std.proofs.lemmas.Nat.{div-add-mod'}
-use Rattle.type_model.specs.Types.{Var}
+use Rattle.type_model.specs.Types.{Typ, Var}
 use Rattle.type_model.specs.Substitutions.{Subst, apply}
 use Rattle.type_model.proofs.Applying.{apply_agree}
 use Rattle.tree_model.specs.Trees.{Tree}
 use Rattle.signature_model.specs.Entries.{Environment}
 use Rattle.typing_model.specs.Contexts.{Choice}
-use Rattle.typing_model.specs.Typings.{IsPrincipal}
+use Rattle.typing_model.specs.Demands.{Site}
+use Rattle.typing_model.specs.Typings.{outermost, conditions_of, IsPrincipal}
+use Rattle.typing_model.specs.Typings as typings
 use Rattle.type_nodes.specs.Nodes.{Node, IsNode}
 use Rattle.type_nodes.specs.Readings.{Types, Fits}
+use Rattle.type_nodes.proofs.Identity.{identity}
 use Rattle.level_unify.proofs.Unified.{fits_loosely}
 use Rattle.typing_conditions.specs.Locals.{IsOwn}
 use Rattle.typing_conditions.specs.Sights.{Sight, Key, value_of, Letters, IsGiven, AreGiven, AreNodes, number_in}
 use Rattle.typing_conditions.proofs.Judged.{given_both, nodes_both}
-use Rattle.binding_rows.specs.Outside.{Left, AreLeft}
-use Rattle.text_laws.specs.Texts.{IsTyped, IsComplete}
-use Rattle.text_laws.specs.Reading.{plain_key, is_own, node_for, recorded_at, type_or, first_there, read_choice, letters_left}
+use Rattle.typing_conditions.specs.Judging.{FallsShort, judgements}
+use Rattle.typing_conditions.proofs.Adequate.{never_short}
+use Rattle.binding_rows.specs.Outside.{Left, letters_left, ContinuesItems}
+use Rattle.text_laws.specs.Texts.{text_asks, IsTyped}
+use Rattle.text_laws.specs.Reading.{plain_key, is_own, node_for, recorded_at, type_or, first_there, read_choice}
 use Rattle.text_laws.proofs.Kept.{met, enters}
 use Rattle.text_laws.proofs.Reading.{own_is, value_plain}
 
@@ -36,10 +41,6 @@ node_at : (xs : Letters) (nodes : List Node) → AreNodes xs nodes → (k : ℕ)
 node_at [] nodes h k x e = absurd (cc)
 node_at (y ∷ ys) nodes h zero x e = let same : y ≡ x = cc in subst (λ (z : Key × ℕ). IsNode nodes z.1) same h.0
 node_at (y ∷ ys) nodes h (suc k) x e = node_at ys nodes h.1 k x e
-
-letters_given : (nodes : List Node) (ls : List Left) (W : Types) (ch : Choice) → AreLeft nodes ls W ch → AreGiven (letters_left ls) W ch
-letters_given nodes [] W ch h = tt
-letters_given nodes (l ∷ ls) W ch h = given_both W ch l.letters (letters_left ls) h.0.letters (letters_given nodes ls W ch h.1)
 
 -- what is found is one of the letters
 pub record ComesFrom (test : Key → Bool) (keys : Letters) (m : ℕ) : Type 0 where
@@ -99,19 +100,27 @@ found_general b I own_types keys left W ch fits recorded inside given nodes n = 
         is ∙ own_types.comes W (fits_loosely b.nodes W fits) m
         ∙ apply_agree W s (I m) (λ v o. let var = own_types.only m v node o in sym (ap (λ c. if c then W v else ch.type_at (v - length b.nodes)) (below (length b.nodes) v (place_inside b.nodes v var.at))))
 
--- So where a choice was read off at the nodes' own types, and typing was complete for what items left, its types are a principal typing of the text.
-pub text_principal : {env : Environment} {text : List Tree} {kept : _} {a b : Sight} {G : Letters} (h : IsTyped env text kept a b G) → IsOwn b.nodes h.types → h.choice ≡ read_choice h.types b (G ++ letters_left h.carried.left) h.carried.left → IsComplete env text kept b G h.carried.left →
-    IsPrincipal env text kept h.choice.type_at
-text_principal {env} {text} {kept} {b = b} {G = G} h own_types read complete = record {
+-- So where a choice was read off at the nodes' own types, its types are a principal typing of the text.
+pub text_principal : {env : Environment} {text : List Tree} {kept : Site → Bool} {a b : Sight} {G : Letters} (h : IsTyped env text kept a b G) → IsOwn b.nodes h.types → h.choice ≡ read_choice h.types b (G ++ letters_left h.carried.left) h.carried.left → IsPrincipal env text kept h.choice.type_at
+text_principal {env} {text} {kept} {a} {b} {G} h own_types read = record {
   fits = record { choice = h.choice; chosen = λ n. refl; holds = (met h).holds };
-  general = λ others fits.
-      let (W, fit, agrees, left) = complete.each fits.choice fits.holds in
-      let inside = h.carried.stays.inside (enters h kept fits.choice).inside in (
-        gives (length b.nodes) W fits.choice,
-        λ n.
-            sym (fits.chosen n)
-            ∙ found_general b h.types own_types (G ++ letters_left h.carried.left) h.carried.left W fits.choice fit agrees.recorded inside.recorded
-            (given_both W fits.choice G (letters_left h.carried.left) agrees.given (letters_given b.nodes h.carried.left W fits.choice left)) (nodes_both G (letters_left h.carried.left) b.nodes inside.given complete.nodes) n
-            ∙ ap (λ (ch : Choice). apply (gives (length b.nodes) W fits.choice) (ch.type_at n)) (sym read),
-      );
+  general = λ others fits. found others fits (h.carried.complete (identity h.sound.0 a.nodes) (outermost env kept fits.choice) (enters h kept fits.choice) fits.holds);
 }
+  where
+    keys : Letters
+    keys = G ++ letters_left h.carried.left
+
+    found : (others : ℕ → Typ) (fits : typings.Fits kept (conditions_of env text kept) others) →
+        ContinuesItems (text_asks text) a b G h.carried.left h.carried.judged (identity h.sound.0 a.nodes) (outermost env kept fits.choice) ⊎ FallsShort (judgements kept (conditions_of env text kept fits.choice)) h.carried.judged →
+        (s : Subst) × ((n : ℕ) → others n ≡ apply s (h.choice.type_at n))
+    found others fits (inr short) = absurd (never_short kept (conditions_of env text kept fits.choice) h.carried.judged h.reads.kept short)
+    found others fits (inl goes) =
+        let inside = h.carried.stays.inside (enters h kept fits.choice).inside in
+        let given = given_both goes.types fits.choice G (letters_left h.carried.left) goes.agrees.given goes.left_too.1 in
+        let nodes = nodes_both G (letters_left h.carried.left) b.nodes inside.given goes.left_too.0 in (
+          gives (length b.nodes) goes.types fits.choice,
+          λ n.
+              sym (fits.chosen n)
+              ∙ found_general b h.types own_types keys h.carried.left goes.types fits.choice goes.fits goes.agrees.recorded inside.recorded given nodes n
+              ∙ ap (λ (ch : Choice). apply (gives (length b.nodes) goes.types fits.choice) (ch.type_at n)) (sym read),
+        )

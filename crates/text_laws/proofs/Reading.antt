@@ -12,16 +12,26 @@ use Rattle.signature_model.specs.Declarations.{Name}
 use Rattle.signature_model.specs.Entries.{Environment}
 use Rattle.signature_model.specs.Matching.{IsKnown}
 use Rattle.typing_model.specs.Contexts.{Choice}
+use Rattle.typing_model.specs.Demands.{Site}
+use Rattle.typing_model.specs.Meanings.{items_of}
+use Rattle.typing_model.specs.Typings.{outermost, conditions_of}
+use Rattle.typing_laws.specs.Plain.{has_no_modules, has_lets_alone}
 use Rattle.type_nodes.specs.Nodes.{Node, IsSound}
 use Rattle.type_nodes.specs.Readings.{Types, IsReading}
 use Rattle.typing_laws.proofs.Bools.{no_yes, and_cases, and_both}
 use Rattle.typing_conditions.specs.Sights.{Sight, Key, own, letter, filled, without_unknown, value_of, Letters, IsKnownFor, AreGiven, number_in}
+use Rattle.typing_conditions.specs.Judging.{Judgement, AreKept}
 use Rattle.typing_conditions.proofs.Adequate.{kept_of}
+use Rattle.site_laws.proofs.Texts.{AreSmall}
 use Rattle.typing_rows.specs.Settled.{AreFixed}
-use Rattle.binding_rows.specs.Outside.{Left, IsLeft, AreLeft, ItemsCarried}
-use Rattle.text_laws.specs.Texts.{AreApart, NoneCloses, text_asks, IsTyped}
-use Rattle.text_laws.specs.Reading.{plain_key, is_own, is_letter, is_filled, node_for, recorded_at, written_at, type_or, first_there, read_choice, letters_left, OwnersApart, AreOne}
+use Rattle.binding_rows.specs.ItemRows.{AreOwned}
+use Rattle.binding_rows.specs.Outside.{Left, IsLeft, letters_left, AreLeft, ReadsItems, ItemsCarried}
+use Rattle.text_laws.specs.Texts.{AreApart, NoneCloses, text_asks, AsksOnce, IsTyped}
+use Rattle.text_laws.specs.Reading.{plain_key, is_own, is_letter, is_filled, node_for, recorded_at, written_at, type_or, first_there, read_choice, OwnersApart, AreOne}
 use Rattle.text_laws.proofs.Sites.{kept_as_judged, kept_among}
+use Rattle.text_laws.proofs.Orderly.{none_closing}
+use Rattle.text_laws.proofs.Owners.{owners_apart}
+use Rattle.text_laws.proofs.Once.{judged_once, lets_once, lets_plain}
 
 -- a key is what it is tested for
 pub own_is : (n : ℕ) (key : Key) → is_own n key ≡ true → key ≡ own n
@@ -168,18 +178,13 @@ left_there nodes V b keys one known all front (l ∷ ls) e apart others among = 
         last (z ∷ f) zero g among = among zero g
         last (z ∷ f) (suc i) g among = last f i g (λ n e. among (suc n) e)
 
--- So items that were typed from a state in which nothing is recorded are those of a typed text, with the demands that were kept, at each reading in which no unknown type stands.
-pub text_typed : {env : Environment} {text : List Tree} {a b : Sight} {G : Letters} (p : ItemsCarried (λ ch. env) (text_asks text) a [] b G) → ((i k : ℕ) → a.types i k ≡ None) → IsSound a.nodes → AreApart p.judged → NoneCloses p.judged →
-    (V : Types) → IsReading b.nodes V → ((m : ℕ) → IsKnown (V m)) → AreOne V b (G ++ letters_left p.left) → OwnersApart p.left → IsTyped env text (kept_of p.judged) a b G
-text_typed {env} {b = b} {G = G} p none sound apart unclosed V reads known one owners = record {
-  none_recorded = none;
-  sound = sound;
-  carried = p;
-  none_closes = unclosed;
-  only = λ s e. kept_among p.judged s e;
-  types = V;
-  choice = read_choice V b (G ++ letters_left p.left) p.left;
-  reads = record {
+-- What is read off the state after a text, in which no unknown type stands, whatever is kept and was judged.
+module _ (env : Environment) (text : List Tree) {a b : Sight} {G : Letters} (p : ItemsCarried (λ ch. env) (text_asks text) a [] b G) (V : Types) (reads : IsReading b.nodes V) (known : (m : ℕ) → IsKnown (V m)) (one : AreOne V b (G ++ letters_left p.left)) (owners : OwnersApart p.left) where
+  abbrev found : Choice
+  found = read_choice V b (G ++ letters_left p.left) p.left
+
+  read_off : (kept : Site → Bool) (js : List Judgement) → AreKept kept js → ReadsItems (λ ch. env) b G p.left js V (outermost env kept found)
+  read_off kept js h = record {
     env = refl;
     reads = reads;
     agrees = record {
@@ -188,6 +193,33 @@ text_typed {env} {b = b} {G = G} p none sound apart unclosed V reads known one o
       given = given_there V b (G ++ letters_left p.left) p.left one known G (in_first G (letters_left p.left));
     };
     left_too = left_there b.nodes V b (G ++ letters_left p.left) one known p.left [] p.left refl owners (λ j k l m g h. absurd (cc)) (in_second G (letters_left p.left));
-    kept = kept_as_judged [] p.judged apart;
-  };
-}
+    kept = h;
+  }
+
+  -- Where the text makes each demand once, each site was judged once.
+  pub text_apart : AsksOnce env text → AreApart p.judged
+  text_apart once =
+      let kept = kept_of p.judged in
+      judged_once p.judged (conditions_of env text kept found) (p.follows V (outermost env kept found) (read_off kept [] tt)) (once kept found)
+
+-- So items that were typed from a state in which nothing is recorded are those of a typed text, with the demands that were kept, at each reading in which no unknown type stands.
+pub text_typed : {env : Environment} {text : List Tree} {a b : Sight} {G : Letters} (p : ItemsCarried (λ ch. env) (text_asks text) a [] b G) → ((i k : ℕ) → a.types i k ≡ None) → IsSound a.nodes → AsksOnce env text → has_no_modules text ≡ true →
+    (V : Types) → IsReading b.nodes V → ((m : ℕ) → IsKnown (V m)) → AreOne V b (G ++ letters_left p.left) → OwnersApart p.left → IsTyped env text (kept_of p.judged) a b G
+text_typed {env} {text} {b = b} {G = G} p none sound once plain V reads known one owners =
+    let kept = kept_of p.judged in
+    let there = read_off env text p V reads known one owners kept p.judged (kept_as_judged [] p.judged (text_apart env text p V reads known one owners once)) in
+    record {
+      none_recorded = none;
+      sound = sound;
+      carried = p;
+      none_closes = subst NoneCloses (p.sound V (outermost env kept (found env text p V reads known one owners)) there).same (none_closing env text kept (found env text p V reads known one owners) plain);
+      only = λ s e. kept_among p.judged s e;
+      types = V;
+      choice = found env text p V reads known one owners;
+      reads = there;
+    }
+
+-- The same of a text of `let` and `;;`, whose items aren't too large, where what was left was left by its items.
+pub lets_typed : {env : Environment} {text : List Tree} {a b : Sight} {G : Letters} (p : ItemsCarried (λ ch. env) (text_asks text) a [] b G) → AreOwned (items_of text) p.left → ((i k : ℕ) → a.types i k ≡ None) → IsSound a.nodes → has_lets_alone text ≡ true → AreSmall text →
+    (V : Types) → IsReading b.nodes V → ((m : ℕ) → IsKnown (V m)) → AreOne V b (G ++ letters_left p.left) → IsTyped env text (kept_of p.judged) a b G
+lets_typed {env} {text} p owned none sound lets small V reads known one = text_typed {text = text} p none sound (lets_once env text lets small) (lets_plain text lets) V reads known one (owners_apart text lets owned)

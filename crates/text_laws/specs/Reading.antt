@@ -1,5 +1,5 @@
 -- The choice that is read off a state, from the nodes that stand for what it chooses.
-use Rattle.std.specs.Prelude.{◌≡◌, ℕ, ◌+◌, length, ◌<◌, ◌/◌, ◌%◌, ◌^◌, ◌==◌, ◌&&◌, Bool, false, List, [], ◌∷◌, ◌++◌, slice_get, Option, Some, None, if◌then◌else◌}
+use Rattle.std.specs.Prelude.{◌≡◌, ℕ, ◌+◌, length, ◌<◌, ◌/◌, ◌%◌, ◌^◌, ◌==◌, ◌&&◌, Bool, false, List, [], ◌∷◌, slice_get, Option, Some, None, if◌then◌else◌}
 use Rattle.type_model.specs.Types.{Path, Typ, Var, Tuple, Nil}
 use Rattle.type_model.specs.Origins.{same_path}
 use Rattle.signature_model.specs.Declarations.{Name}
@@ -68,11 +68,6 @@ read_choice V b keys left = record {
   filled = λ n o. type_or V (Var n) (node_for (is_filled n o) keys);
   written = λ i x. type_or V (Tuple Nil) (written_at i x left);
 }
-
--- all letters that items left
-abbrev pub letters_left : List Left → Letters
-letters_left [] = []
-letters_left (l ∷ ls) = l.letters ++ letters_left ls
 
 -- the items whose type variables were written are different ones, and no declaration left a type
 abbrev pub OwnersApart : List Left → Type 0

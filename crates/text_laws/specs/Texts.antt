@@ -4,7 +4,7 @@ use Rattle.tree_model.specs.Trees.{Tree}
 use Rattle.type_model.specs.Types.{Typ}
 use Rattle.type_model.specs.Substitutions.{Subst, apply}
 use Rattle.signature_model.specs.Entries.{Environment}
-use Rattle.typing_model.specs.Demands.{Site, Condition, AllHold}
+use Rattle.typing_model.specs.Demands.{Site, Condition}
 use Rattle.typing_model.specs.Contexts.{Choice}
 use Rattle.typing_model.specs.Parts.{no_names}
 use Rattle.typing_model.specs.Items.{items_ask}
@@ -12,12 +12,11 @@ use Rattle.typing_model.specs.Meanings.{items_of}
 use Rattle.typing_model.specs.Typings.{outermost, conditions_of, demands_of, is_site_among, sites_before, conditions_up_to}
 use Rattle.typing_model.specs.Typings as typings
 use Rattle.type_nodes.specs.Nodes.{IsSound}
-use Rattle.type_nodes.specs.Readings.{Types, Fits}
-use Rattle.typing_conditions.specs.Sights.{Sight, Letters, AreNodes, number_in}
+use Rattle.type_nodes.specs.Readings.{Types}
+use Rattle.typing_conditions.specs.Sights.{Sight, Letters, number_in}
 use Rattle.typing_conditions.specs.Judging.{Judgement, judgements}
 use Rattle.typing_conditions.specs.Carrying.{Asks}
-use Rattle.binding_rows.specs.Outside.{AgreesOutside, Left, AreLeft, ReadsItems, ItemsCarried}
-use Rattle.text_laws.specs.Reading.{letters_left}
+use Rattle.binding_rows.specs.Outside.{ReadsItems, ItemsCarried}
 
 -- the sites that are judged, in order
 abbrev pub sites_judged : List Judgement → List Site
@@ -38,11 +37,19 @@ NoneCloses (j ∷ js) = (j.closing ≡ false) × NoneCloses js
 abbrev pub text_asks : List Tree → Asks
 text_asks text c = items_ask c no_names (items_of text)
 
--- A fact of the definitions alone: which demands a text makes doesn't depend on the types that are chosen, and what it asks up to a demand depends only on what is kept up to it.
+-- which demands a text makes doesn't depend on the types that are chosen
+abbrev pub AsksAlike : Environment → List Tree → Type 0
+AsksAlike env text = (kept : Site → Bool) (ch other : Choice) → judgements kept (conditions_of env text kept ch) ≡ judgements kept (conditions_of env text kept other)
+
+-- A fact of the definitions alone: that, and that what a text asks up to a demand depends only on what is kept up to it.
 pub record IsOrderly (env : Environment) (text : List Tree) : Type 0 where
-  pub alike : (kept : Site → Bool) (ch other : Choice) → judgements kept (conditions_of env text kept ch) ≡ judgements kept (conditions_of env text kept other)
+  pub alike : AsksAlike env text
   pub settled : (kept others : Site → Bool) (ch : Choice) (s : Site) → ((x : Site) → is_site_among x (s ∷ sites_before s (demands_of env text kept)) ≡ true → others x ≡ kept x) →
       conditions_up_to s (conditions_of env text others ch) ≡ conditions_up_to s (conditions_of env text kept ch)
+
+-- a text makes each demand once, whatever is kept and chosen
+abbrev pub AsksOnce : Environment → List Tree → Type 0
+AsksOnce env text = (kept : Site → Bool) (ch : Choice) → AreApart (judgements kept (conditions_of env text kept ch))
 
 -- The items of a text were typed from a state in which nothing is recorded, these demands were kept, of which none is that a body closes, and some choice is read off the state after them.
 pub record IsTyped (env : Environment) (text : List Tree) (kept : Site → Bool) (a b : Sight) (G : Letters) : Type 0 where
@@ -67,8 +74,3 @@ pub record IsRecorded (b : Sight) (n : ℕ) : Type 0 where
 pub record IsMostGeneralAt (at : ℕ → Type 0) (kept : Site → Bool) (asked : Choice → List Condition) (types : ℕ → Typ) : Type 0 where
   pub fits : typings.Fits kept asked types
   pub general : (others : ℕ → Typ) → typings.Fits kept asked others → (s : Subst) × ((n : ℕ) → at n → others n ≡ apply s (types n))
-
--- Typing was complete also for what items left: each choice that meets what the text asks, and keeps these demands, has there, and at what is recorded and given, the types of some types that fit.
-pub record IsComplete (env : Environment) (text : List Tree) (kept : Site → Bool) (b : Sight) (G : Letters) (left : List Left) : Type 0 where
-  pub nodes : AreNodes (letters_left left) b.nodes
-  pub each : (ch : Choice) → AllHold kept (conditions_of env text kept ch) → (W : Types) × Fits b.nodes W × AgreesOutside b G W ch × AreLeft b.nodes left W ch

@@ -1,0 +1,203 @@
+-- Conditions that make the same demands whatever types stand in them, and contexts that differ in the types that are chosen.
+use Rattle.std.proofs.Common.{◌≡◌, ◌∙◌, ℕ, Bool, true, false, ◌&&◌, List, [], ◌∷◌, ◌++◌, Option, Some, None, refl, sym, ap, subst, if◌then◌else◌}
+use Rattle.std.proofs.Math.Path.{fun_ext}
+use Rattle.tree_model.specs.Trees.{Place}
+use Rattle.type_model.specs.Types.{Typ, Path}
+use Rattle.type_model.specs.Schemes.{Scheme}
+use Rattle.signature_model.specs.Declarations.{Name}
+use Rattle.signature_model.specs.Declarations as declarations
+use Rattle.signature_model.specs.Components.{same_name}
+use Rattle.signature_model.specs.Entries.{Environment, Entry, Kind, value_kind, module_kind, entry, a_value}
+use Rattle.signature_model.specs.Lookups.{a_hole, nothing, same_kind, found, found_in, ScopeOf, known, unknown_scope, no_scope, newest_by, is_named, scope_behind, scope_by, inside, through, lookup}
+use Rattle.signature_model.specs.Records.{Written, path_for, is_label_of, has_label, has_each, belongs_to, has_name, newest_label, is_there, is_known, each_scope, first_label, record_of_label, label_entries, scope_for, record_of}
+use Rattle.signature_model.specs.Records as labels
+use Rattle.typing_model.specs.Demands.{Site, Demand, Condition, same, instance, made, known, demand, treated}
+use Rattle.typing_model.specs.Demands as demands
+use Rattle.typing_model.specs.Contexts.{Choice, Context, Bound, entries_with, with_names, monomorphic}
+use Rattle.typing_conditions.specs.Judging.{is_closing, judgements, judged_at}
+
+-- the same demands are made, in order
+pub record Same (xs ys : List Condition) : Type 0 where
+  pub each : (kept : Site → Bool) → judgements kept xs ≡ judgements kept ys
+
+-- conditions that differ in types alone
+pub alone : {xs ys : List Condition} → ((kept : Site → Bool) → judgements kept xs ≡ judgements kept ys) → Same xs ys
+alone h = record { each = h }
+
+-- conditions are alike with themselves
+pub one : (cs : List Condition) → Same cs cs
+one cs = alone (λ kept. refl)
+
+-- that a node is treated makes no demand
+pub at_treated : {i j : ℕ} {e f : Environment} {cs ds : List Condition} → Same cs ds → Same (treated i e ∷ cs) (treated j f ∷ ds)
+at_treated h = alone h.each
+
+-- nor does what holds in any case of the type of a node
+pub at_known : {t u : Typ} {cs ds : List Condition} → Same cs ds → Same (demands.known t ∷ cs) (demands.known u ∷ ds)
+at_known h = alone h.each
+
+judged_all : (kept : Site → Bool) (xs ys : List Condition) → judgements kept (xs ++ ys) ≡ judgements kept xs ++ judgements kept ys
+judged_all kept [] ys = refl
+judged_all kept (same t u ∷ xs) ys = judged_all kept xs ys
+judged_all kept (instance s t ∷ xs) ys = judged_all kept xs ys
+judged_all kept (made n t ∷ xs) ys = judged_all kept xs ys
+judged_all kept (demands.known t ∷ xs) ys = judged_all kept xs ys
+judged_all kept (demand s at d ∷ xs) ys = ap (λ js. judged_at s (kept s) (is_closing d) ∷ js) (judged_all kept xs ys)
+judged_all kept (treated n env ∷ xs) ys = judged_all kept xs ys
+
+-- and so are further ones behind
+pub behind : {xs ys us vs : List Condition} → Same xs ys → Same us vs → Same (xs ++ us) (ys ++ vs)
+behind {xs} {ys} {us} {vs} h g = alone (λ kept.
+    judged_all kept xs us ∙ ap (λ js. js ++ judgements kept us) (h.each kept) ∙ ap (λ js. judgements kept ys ++ js) (g.each kept) ∙ sym (judged_all kept ys vs))
+
+-- a demand in front
+pub at_demand : {s : Site} {p q : Place} {d e : Demand} {cs ds : List Condition} → is_closing d ≡ is_closing e → Same cs ds → Same (demand s p d ∷ cs) (demand s q e ∷ ds)
+at_demand {s} {p} {q} {d} {e} {cs} {ds} c h = alone (λ kept. ap (λ b. judged_at s (kept s) b ∷ judgements kept cs) c ∙ ap (λ js. judged_at s (kept s) (is_closing e) ∷ js) (h.each kept))
+
+-- what depends on one thing
+pub along : {A : Type 0} (f g : A → List Condition) {a b : A} → a ≡ b → Same (f a) (g a) → Same (f a) (g b)
+along f g {a} e h = subst (λ z. Same (f a) (g z)) e h
+
+-- two environments are one but for the types of values in front
+pub data NamesAlike : Environment → Environment → Type 0 where
+  as_one : {E : Environment} → NamesAlike E E
+  next : {n : Name} {at : declarations.Place} {s z : Scheme} {E F : Environment} → NamesAlike E F → NamesAlike (entry n at (a_value s) ∷ E) (entry n at (a_value z) ∷ F)
+
+-- names of values that are added, whatever their types
+pub data AddedAlike : Environment → Environment → Type 0 where
+  no_names : AddedAlike [] []
+  name : {n : Name} {at : declarations.Place} {s z : Scheme} {E F : Environment} → AddedAlike E F → AddedAlike (entry n at (a_value s) ∷ E) (entry n at (a_value z) ∷ F)
+
+pub names_too : (f g : Typ → Scheme) (c d : Context) (bs : List Bound) {E F : Environment} → NamesAlike E F → NamesAlike (entries_with f c bs E) (entries_with g d bs F)
+names_too f g c d [] h = h
+names_too f g c d (b ∷ bs) h = names_too f g c d bs (next h)
+
+pub names_added : (f g : Typ → Scheme) (c d : Context) (bs : List Bound) {E F : Environment} → AddedAlike E F → AddedAlike (entries_with f c bs E) (entries_with g d bs F)
+names_added f g c d [] h = h
+names_added f g c d (b ∷ bs) h = names_added f g c d bs (name h)
+
+pub in_front : {xs ys E F : Environment} → AddedAlike xs ys → NamesAlike E F → NamesAlike (xs ++ E) (ys ++ F)
+in_front no_names h = h
+in_front (name a) h = next (in_front a h)
+
+-- a context, and another one in which other types are chosen
+pub record Two : Type 0 where
+  pub first : Context
+  pub env : Environment
+  pub choice : Choice
+  pub names : NamesAlike first.env env
+
+abbrev pub left : Two → Context
+left c = c.first
+
+abbrev pub right : Two → Context
+right c = record c.first { env = c.env; chosen = c.choice }
+
+-- both with more names in scope
+abbrev pub more : Two → List Bound → Two
+more c bs = record { first = with_names (left c) bs; env = entries_with monomorphic (right c) bs c.env; choice = c.choice; names = names_too monomorphic monomorphic (left c) (right c) bs c.names }
+
+-- What finds no value finds the same in both.
+newest_alike : (t u : Entry → Bool) → ((e : Entry) → t e ≡ u e) → ((n : Name) (at : declarations.Place) (s : Scheme) → t (entry n at (a_value s)) ≡ false) → {E F : Environment} → NamesAlike E F → newest_by t E ≡ newest_by u F
+newest_alike t u one none (as_one {E = E}) = ap (λ v. newest_by v E) (fun_ext one)
+newest_alike t u one none (next {n = n} {at = at} {s = s} {z = z} {E = E} {F = F} h) =
+    ap (λ b. if b then Some (entry n at (a_value s)) else newest_by t E) (none n at s) ∙ newest_alike t u one none h ∙
+    sym (ap (λ b. if b then Some (entry n at (a_value z)) else newest_by u F) (sym (one (entry n at (a_value z))) ∙ none n at z))
+
+-- what stands behind a module of a path, if it is there
+abbrev behind_module : Name → List Name → Option Entry → ScopeOf Entry
+behind_module m ms o = elim o [ None ↦ no_scope | Some e ↦ through (inside e) (λ inner. scope_by is_named inside inner ms) ]
+
+pub scope_alike : {E F : Environment} (m : Name) (ms : List Name) → NamesAlike E F → scope_behind E (m ∷ ms) ≡ scope_behind F (m ∷ ms)
+scope_alike m ms h = ap (behind_module m ms) (newest_alike (is_named module_kind m) (is_named module_kind m) (λ e. refl) (λ n at s. refl) h)
+
+-- a path to a name of another kind than values finds the same
+pub lookup_alike : {E F : Environment} (path : List Name) (k : Kind) (n : Name) → same_kind k value_kind ≡ false → NamesAlike E F → lookup E path k n ≡ lookup F path k n
+lookup_alike [] k n apart h = ap found (newest_alike (is_named k n) (is_named k n) (λ e. refl) (λ m at s. ap (λ b. b && same_name n m) apart) h)
+lookup_alike (m ∷ ms) k n apart h = ap (found_in (is_named k n)) (scope_alike m ms h)
+
+-- scopes in which the same labels are found
+data ScopesAlike : ScopeOf Entry → ScopeOf Entry → Type 0 where
+  both_known : {E F : Environment} → NamesAlike E F → ScopesAlike (known E) (known F)
+  one_scope : {s : ScopeOf Entry} → ScopesAlike s s
+
+scopes_alike : {E F : Environment} (path : List Name) → NamesAlike E F → ScopesAlike (scope_behind E path) (scope_behind F path)
+scopes_alike [] h = both_known h
+scopes_alike {E} (m ∷ ms) h = subst (ScopesAlike (scope_behind E (m ∷ ms))) (scope_alike m ms h) one_scope
+
+has_label_alike : (o : Path) (n : Name) {s t : ScopeOf Entry} → ScopesAlike s t → has_label label_entries o n s ≡ has_label label_entries o n t
+has_label_alike o n (both_known h) = ap labels.is_some (newest_alike (is_label_of label_entries o n) (is_label_of label_entries o n) (λ e. refl) (λ m at s. no_label (same_name n m)) h)
+  where
+    no_label : (b : Bool) → (b && false) ≡ false
+    no_label true = refl
+    no_label false = refl
+has_label_alike o n one_scope = refl
+
+and_both : (a b c d : Bool) → a ≡ c → b ≡ d → (a && b) ≡ (c && d)
+and_both a b c d e f = cc
+
+has_each_alike : (s t : Written → ScopeOf Entry) → ((l : Written) → ScopesAlike (s l) (t l)) → (o : Path) (ls : List Written) → has_each label_entries s o ls ≡ has_each label_entries t o ls
+has_each_alike s t h o [] = refl
+has_each_alike s t h o (l ∷ ls) = and_both (has_label label_entries o l.name (s l)) (has_each label_entries s o ls) (has_label label_entries o l.name (t l)) (has_each label_entries t o ls) (has_label_alike o l.name (h l)) (has_each_alike s t h o ls)
+
+belongs_alike : (s t : Written → ScopeOf Entry) → ((l : Written) → ScopesAlike (s l) (t l)) → (ls : List Written) (o : Option Path) → belongs_to label_entries s ls o ≡ belongs_to label_entries t ls o
+belongs_alike s t h ls None = refl
+belongs_alike s t h ls (Some o) = has_each_alike s t h o ls
+
+each_scope_alike : (test : ScopeOf Entry → Bool) (s t : Written → ScopeOf Entry) → ((l : Written) → test (s l) ≡ test (t l)) → (ls : List Written) → each_scope test s ls ≡ each_scope test t ls
+each_scope_alike test s t h [] = refl
+each_scope_alike test s t h (l ∷ ls) = and_both (test (s l)) (each_scope test s ls) (test (t l)) (each_scope test t ls) (h l) (each_scope_alike test s t h ls)
+
+there_alike : {s t : ScopeOf Entry} → ScopesAlike s t → is_there s ≡ is_there t
+there_alike (both_known h) = refl
+there_alike one_scope = refl
+
+known_alike : {s t : ScopeOf Entry} → ScopesAlike s t → is_known s ≡ is_known t
+known_alike (both_known h) = refl
+known_alike one_scope = refl
+
+-- whether an entry is a label of this name that belongs to the record
+abbrev is_wanted : (Written → ScopeOf Entry) → List Written → Option Name → Entry → Bool
+is_wanted s ls n e = has_name n e.name && belongs_to label_entries s ls (record_of_label e.stands_for)
+
+newest_label_alike : (s t : Written → ScopeOf Entry) → ((l : Written) → ScopesAlike (s l) (t l)) → (ls : List Written) (n : Option Name) {x y : ScopeOf Entry} → ScopesAlike x y →
+    newest_label label_entries s ls n x ≡ newest_label label_entries t ls n y
+newest_label_alike s t h ls n {x} {y} a = by a
+  where
+    wanted : (e : Entry) → is_wanted s ls n e ≡ is_wanted t ls n e
+    wanted e = ap (λ b. has_name n e.name && b) (belongs_alike s t h ls (record_of_label e.stands_for))
+
+    no_label : (b : Bool) → (b && false) ≡ false
+    no_label true = refl
+    no_label false = refl
+
+    by : {x y : ScopeOf Entry} → ScopesAlike x y → newest_label label_entries s ls n x ≡ newest_label label_entries t ls n y
+    by (both_known g) = ap found (newest_alike (is_wanted s ls n) (is_wanted t ls n) wanted (λ m at z. no_label (has_name n m)) g)
+    by (one_scope {s = known E}) = ap found (newest_alike (is_wanted s ls n) (is_wanted t ls n) wanted (λ m at z. no_label (has_name n m)) (as_one {E = E}))
+    by (one_scope {s = unknown_scope}) = refl
+    by (one_scope {s = no_scope}) = refl
+
+first_label_alike : {E F : Environment} (s t : Written → ScopeOf Entry) → NamesAlike E F → ((l : Written) → ScopesAlike (s l) (t l)) → (all ls : List Written) → first_label label_entries E s all ls ≡ first_label label_entries F t all ls
+first_label_alike s t g h all [] = newest_label_alike s t h all None (both_known g)
+first_label_alike s t g h all (l ∷ ls) = newest_label_alike s t h all (Some l.name) (h l)
+
+-- labels find the same record type
+pub record_alike : {E F : Environment} (ls : List Written) → NamesAlike E F → record_of E ls ≡ record_of F ls
+record_alike {E} {F} ls g = by (each_scope is_there s ls) (each_scope is_there t ls) (each_scope is_known s ls) (each_scope is_known t ls)
+    (each_scope_alike is_there s t (λ l. there_alike (h l)) ls) (each_scope_alike is_known s t (λ l. known_alike (h l)) ls)
+  where
+    s : Written → ScopeOf Entry
+    s = scope_for E ls
+
+    t : Written → ScopeOf Entry
+    t = scope_for F ls
+
+    h : (l : Written) → ScopesAlike (s l) (t l)
+    h l = scopes_alike (path_for ls l) g
+
+    by : (a b c d : Bool) → a ≡ b → c ≡ d →
+        (if a then (if c then first_label label_entries E s ls ls else a_hole) else nothing) ≡ (if b then (if d then first_label label_entries F t ls ls else a_hole) else nothing)
+    by a b c d i j =
+        ap (λ x. if x then (if c then first_label label_entries E s ls ls else a_hole) else nothing) i ∙
+        ap (λ x. if b then (if x then first_label label_entries E s ls ls else a_hole) else nothing) j ∙
+        ap (λ x. if b then (if d then x else a_hole) else nothing) (first_label_alike s t g h ls ls)

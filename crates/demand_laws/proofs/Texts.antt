@@ -1,0 +1,160 @@
+-- Which demands a text of `let` and `;;` makes doesn't depend on the types that are chosen.
+use Rattle.std.proofs.Common.{◌≡◌, ℕ, ◌+◌, Bool, true, List, [], ◌∷◌, ◌++◌, Option, Some, None, refl}
+use Rattle.token_model.specs.Kinds.{Tok}
+use Rattle.tree_model.specs.Trees.{Place, Tree, Forest, Part, node, no_parts, part, taken, inner, missing, part_size, part_yield}
+use Rattle.tree_model.specs.Rows.{Row, binding_row, case_row, ffield_row, qfield_row, let_row, break_row}
+use Rattle.signature_model.specs.Entries.{Environment}
+use Rattle.typing_model.specs.Demands.{Site}
+use Rattle.typing_model.specs.Contexts.{Context, Choice, Bound, under, generalised_in}
+use Rattle.typing_model.specs.Parts.{Expression, Pattern, TypeExpression, Binding, Item, Seen, seen_too, no_names, Child, token_in, no_expression_at, no_pattern_at, no_type_at, types_in, expressions_in, patterns_in, place_of}
+use Rattle.typing_model.specs.Bindings.{names_of_group, held_by}
+use Rattle.typing_model.specs.Expressions.{expression_row, bindings_in, is_some}
+use Rattle.typing_model.specs.Patterns.{pattern_row}
+use Rattle.typing_model.specs.TypeExpressions.{type_row}
+use Rattle.typing_model.specs.Items.{inside_item, names_made, let_item, no_item, items_ask}
+use Rattle.typing_model.specs.Modules.{item_row}
+use Rattle.typing_model.specs.Meanings.{binding_of, case_of, field_of, field_pattern_of, recorded_expression, recorded_pattern, recorded_type, recorded_item, node_child, leaf_child, children_of, child_of, tree_child, item_base, items_from, items_of}
+use Rattle.typing_model.specs.Typings.{outermost, conditions_of}
+use Rattle.typing_laws.specs.Plain.{is_let_row, has_lets_alone}
+use Rattle.typing_laws.proofs.Bools.{no_yes, and_cases}
+use Rattle.typing_laws.proofs.Steady.{Each, no_one, one_and, IfThere, absent, there}
+use Rattle.typing_laws.proofs.SteadyRows.{first_there}
+use Rattle.typing_conditions.specs.Judging.{judgements}
+use Rattle.demand_laws.proofs.Alike.{Same, alone, at_treated, at_known, behind, along, AddedAlike, names_added, in_front, as_one, Two, left, right}
+use Rattle.demand_laws.proofs.Alike as alike
+use Rattle.demand_laws.proofs.Types.{AlikeType, no_type_alike}
+use Rattle.demand_laws.proofs.Patterns.{AlikePattern, AlikeFieldPattern, no_pattern_alike}
+use Rattle.demand_laws.proofs.Bindings.{AlikeExpression, AlikeBinding, bindings_alike}
+use Rattle.demand_laws.proofs.Expressions.{AlikeCase, AlikeField, no_expression_alike}
+use Rattle.demand_laws.proofs.Rows.{AlikeChild, expressions_alike, patterns_alike, types_alike, expression_alike, one_pattern_alike, bindings_alike as group_alike, expression_row_alike, pattern_row_alike, type_row_alike}
+
+-- a part that tells its environment first
+expression_told : (n : ℕ) (e : Expression) → AlikeExpression e → AlikeExpression (recorded_expression n e)
+expression_told n e s = record { types = λ c. at_treated (at_known (s.types c)); negates = λ c. at_treated (at_known (s.negates c)); values = s.values; forms = s.forms }
+
+pattern_told : (n : ℕ) (p : Pattern) → AlikePattern p → AlikePattern (recorded_pattern n p)
+pattern_told n p s = record { matches = λ c seen. at_treated (at_known (s.matches c seen)) }
+
+type_told : (n : ℕ) (t : TypeExpression) → AlikeType t → AlikeType (recorded_type n t)
+type_told n t s = record { reads = λ c. at_treated (s.reads c); reads_group = λ c. at_treated (s.reads_group c) }
+
+-- the parts that are no node of a sort of their own
+binding_alike : (r : Row) (n : ℕ) (cs : List Child) → Each AlikeChild cs → IfThere AlikeBinding (binding_of r n cs)
+binding_alike binding_row n cs h = there (record {
+  pattern = one_pattern_alike 0 cs h;
+  parameters = patterns_alike 1 cs h;
+  annotation = first_there (types_in 3 cs) (types_alike 3 cs h);
+  body = expression_alike 5 cs h;
+})
+binding_alike _ n cs h = absent
+
+case_alike : (r : Row) (n : ℕ) (cs : List Child) → Each AlikeChild cs → IfThere AlikeCase (case_of r n cs)
+case_alike case_row n cs h = there (record { pattern = one_pattern_alike 0 cs h; guard = first_there (expressions_in 2 cs) (expressions_alike 2 cs h); body = expression_alike 4 cs h })
+case_alike _ n cs h = absent
+
+field_alike : (r : Row) (n : ℕ) (cs : List Child) → Each AlikeChild cs → IfThere AlikeField (field_of r n cs)
+field_alike ffield_row n cs h = there (record { value = first_there (expressions_in 3 cs) (expressions_alike 3 cs h) })
+field_alike _ n cs h = absent
+
+field_pattern_alike : (r : Row) (n : ℕ) (cs : List Child) → Each AlikeChild cs → IfThere AlikeFieldPattern (field_pattern_of r n cs)
+field_pattern_alike qfield_row n cs h = there (record { pattern = first_there (patterns_in 3 cs) (patterns_alike 3 cs h) })
+field_pattern_alike _ n cs h = absent
+
+-- a node over such parts, and a part that is none
+node_alike : (slot : ℕ) (p : Part) (r : Row) (n : ℕ) (q : Place) (cs : List Child) → Each AlikeChild cs → AlikeChild (node_child slot p r n q cs)
+node_alike slot p r n q cs h = record {
+  expression = expression_told n (expression_row r n q cs) (expression_row_alike r n q cs h);
+  pattern = pattern_told n (pattern_row r n q cs) (pattern_row_alike r n q cs h);
+  type_expression = type_told n (type_row r n q cs) (type_row_alike r n q cs h);
+  binding = binding_alike r n cs h;
+  case = case_alike r n cs h;
+  field = field_alike r n cs h;
+  field_pattern = field_pattern_alike r n cs h;
+}
+
+leaf_alike : (slot : ℕ) (p : Part) (n : ℕ) (q : Place) → AlikeChild (leaf_child slot p n q)
+leaf_alike slot p n q = record {
+  expression = expression_told n (no_expression_at n q) (no_expression_alike n q);
+  pattern = pattern_told n (no_pattern_at n q) (no_pattern_alike n q);
+  type_expression = type_told n (no_type_at n q) (no_type_alike n q);
+  binding = absent;
+  case = absent;
+  field = absent;
+  field_pattern = absent;
+}
+
+mutual
+  children_alike : (n : ℕ) (r : Row) (ps : Forest) → Each AlikeChild (children_of n r ps)
+  children_alike n r no_parts = no_one
+  children_alike n r (part slot p ps) = one_and (child_alike n slot p) (children_alike (n + part_size r slot p) r ps)
+
+  child_alike : (n : ℕ) (slot : ℕ) (p : Part) → AlikeChild (child_of n slot p)
+  child_alike n slot (taken t) = leaf_alike slot (taken t) n (place_of t)
+  child_alike n slot (inner t) = tree_alike n slot t
+  child_alike n slot (missing p) = leaf_alike slot (missing p) n p
+
+  tree_alike : (n : ℕ) (slot : ℕ) (t : Tree) → AlikeChild (tree_child n slot t)
+  tree_alike n slot (node r x ps) = node_alike slot (inner (node r x ps)) r n x.span (children_of (n + 1) r ps) (children_alike (n + 1) r ps)
+
+-- an item makes the same demands, and adds the same names
+record AlikeItem (i : Item) : Type 0 where
+  pub asks : (c : Two) (seen : Seen) → Same (i.asks (left c) seen) (i.asks (right c) seen)
+  pub adds : (c : Two) → AddedAlike (i.adds (left c)) (i.adds (right c))
+  pub named : (c : Two) → i.named (left c) ≡ i.named (right c)
+
+made_alike : (n : ℕ) (c d : Context) (bs : List Bound) → Same (names_made n c bs) (names_made n d bs)
+made_alike n c d [] = alone (λ k. refl)
+made_alike n c d (b ∷ bs) = alone (made_alike n c d bs).each
+
+-- both contexts inside an item
+abbrev inside : ℕ → List Tok → Two → Two
+inside n ts c = record { first = inside_item n ts (left c); env = c.env; choice = c.choice; names = c.names }
+
+let_item_alike : (n : ℕ) (ts : List Tok) (is_rec : Bool) (bs : List Binding) → Each AlikeBinding bs → AlikeItem (let_item n ts is_rec bs)
+let_item_alike n ts is_rec bs each = record {
+  asks = λ c seen. behind (bindings_alike (inside n ts c) is_rec bs each) (made_alike n (left (inside n ts c)) (right (inside n ts c)) (names_of_group bs));
+  adds = λ c.
+      names_added (generalised_in c.first.env (held_by (left (inside n ts c)) bs)) (generalised_in c.env (held_by (right (inside n ts c)) bs)) (left (inside n ts c)) (right (inside n ts c)) (names_of_group bs) alike.no_names;
+  named = λ c. refl;
+}
+
+no_item_alike : (n : ℕ) → AlikeItem (no_item n)
+no_item_alike n = record { asks = λ c seen. alone (λ k. refl); adds = λ c. alike.no_names; named = λ c. refl }
+
+row_alike : (r : Row) (n : ℕ) (q : Place) (ts : List Tok) (cs : List Child) → is_let_row r ≡ true → Each AlikeChild cs → IfThere AlikeItem (item_row r n q ts cs)
+unfolding item_row
+row_alike let_row n q ts cs e h = there (let_item_alike n ts (is_some (token_in 1 cs)) (bindings_in 2 cs) (group_alike 2 cs h))
+row_alike break_row n q ts cs e h = there (no_item_alike n)
+row_alike _ n q ts cs e h = absurd (no_yes e)
+
+item_told : (n : ℕ) (i : Option Item) → IfThere AlikeItem i → IfThere AlikeItem (recorded_item n i)
+item_told n None absent = absent
+item_told n (Some i) (there s) = there (record { asks = λ c seen. at_treated (s.asks c seen); adds = s.adds; named = s.named })
+
+items_alike : (i : ℕ) (ts : List Tree) → has_lets_alone ts ≡ true → Each AlikeItem (items_from i ts)
+items_alike i [] e = no_one
+items_alike i (node r x ps ∷ ts) e =
+    let (first, others) = and_cases (is_let_row r) (has_lets_alone ts) e in
+    by (tree_child (item_base i) 0 (node r x ps)).item
+    (item_told (item_base i) (item_row r (item_base i) x.span (part_yield (inner (node r x ps))) (children_of (item_base i + 1) r ps))
+    (row_alike r (item_base i) x.span (part_yield (inner (node r x ps))) (children_of (item_base i + 1) r ps) first (children_alike (item_base i + 1) r ps)))
+    (items_alike (i + 1) ts others)
+  where
+    by : (o : Option Item) → IfThere AlikeItem o → Each AlikeItem (items_from (i + 1) ts) → Each AlikeItem (elim o [ None ↦ items_from (i + 1) ts | Some y ↦ y ∷ items_from (i + 1) ts ])
+    by None absent h = h
+    by (Some y) (there s) h = one_and s h
+
+-- both contexts behind an item
+abbrev behind_item : (c : Two) (i : Item) → AlikeItem i → Two
+behind_item c i s = record { first = under (i.adds (left c) ++ c.first.env) (left c); env = i.adds (right c) ++ c.env; choice = c.choice; names = in_front (s.adds c) c.names }
+
+items_same : (c : Two) (seen : Seen) (xs : List Item) → Each AlikeItem xs → Same (items_ask (left c) seen xs) (items_ask (right c) seen xs)
+items_same c seen [] no_one = alone (λ k. refl)
+items_same c seen (i ∷ xs) (one_and s each) =
+    behind (s.asks c seen) (along (λ names. items_ask (left (behind_item c i s)) (seen_too seen names) xs) (λ names. items_ask (right (behind_item c i s)) (seen_too seen names) xs) (s.named c)
+    (items_same (behind_item c i s) (seen_too seen (i.named (left c))) xs each))
+
+-- Which demands a text makes doesn't depend on the types that are chosen.
+pub asks_alike : (env : Environment) (text : List Tree) → has_lets_alone text ≡ true → (kept : Site → Bool) (ch other : Choice) → judgements kept (conditions_of env text kept ch) ≡ judgements kept (conditions_of env text kept other)
+asks_alike env text e kept ch other =
+    (items_same (record { first = outermost env kept ch; env = env; choice = other; names = as_one }) no_names (items_of text) (items_alike 1 text e)).each kept

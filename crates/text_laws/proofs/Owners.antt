@@ -1,0 +1,77 @@
+-- The items of a text of `let` and `;;` have numbers of their own, so what they left belongs to different ones.
+use Rattle.std.proofs.Common.{◌≡◌, ◌∙◌, ℕ, zero, suc, ◌+◌, ◌≤◌, true, Option, Some, None, List, [], ◌∷◌, refl, subst, arith}
+use Rattle.std.specs.Prelude.{slice_get}
+use Rattle.std.proofs.lemmas.Bool.{ne_eqb}
+use Rattle.tree_model.specs.Rows.{Row, let_row, break_row}
+use Rattle.tree_model.specs.Trees.{Tree, Place, node}
+use Rattle.token_model.specs.Kinds.{Tok}
+use Rattle.typing_model.specs.Parts.{Item, Child}
+use Rattle.typing_model.specs.Modules.{item_row}
+use Rattle.typing_model.specs.Meanings.{recorded_item, tree_child, item_base, items_from, items_of}
+use Rattle.typing_laws.specs.Plain.{is_let_row, has_lets_alone}
+use Rattle.typing_laws.proofs.Bools.{no_yes, and_cases}
+use Rattle.binding_rows.specs.Outside.{Left}
+use Rattle.binding_rows.specs.ItemRows.{AreOwned, none_owned, leaves_none, leaves_one}
+use Rattle.text_laws.specs.Reading.{OwnersApart}
+
+-- no item that left something has a lower number
+abbrev AreFrom : ℕ → List Left → Type 0
+AreFrom b ls = (k : ℕ) (l : Left) → slice_get ls k ≡ Some l → b ≤ l.owner
+
+-- they are different ones, from a number on
+record Owned (b : ℕ) (ls : List Left) : Type 0 where
+  apart : OwnersApart ls
+  from : AreFrom b ls
+
+owned_none : (b : ℕ) {ls : List Left} → AreOwned [] ls → Owned b ls
+owned_none b none_owned = record { apart = tt; from = λ k l e. absurd (cc) }
+
+-- one item, and others after it
+owned_more : {m : Item} {ms : List Item} {ls : List Left} (b next : ℕ) → m.node ≡ b → b + 1 ≤ next → ((ks : List Left) → AreOwned ms ks → Owned next ks) → AreOwned (m ∷ ms) ls → Owned b ls
+owned_more {ls = ls} b next is_b lt others (leaves_none h) = let o = others ls h in record { apart = o.apart; from = λ k l e. let f = o.from k l e in omega arith }
+owned_more {m = m} {ms = ms} {ls = l ∷ ls} b next is_b lt others (leaves_one owner fixed h) =
+    let o = others ls h in
+    let here : l.owner ≡ b = owner ∙ is_b in
+    record {
+      apart = ((λ k q e. ne_eqb q.owner l.owner (λ same. let f = o.from k q e in absurd (omega (arith, same, here)))), fixed, o.apart);
+      from = from o here;
+    }
+  where
+    from : Owned next ls → l.owner ≡ b → AreFrom b (l ∷ ls)
+    from o here zero q e = let same : l ≡ q = cc in subst (λ x. b ≤ x.owner) same (omega (arith, here))
+    from o here (suc k) q e = let f = o.from k q e in omega arith
+
+-- an item that may be there has a number
+abbrev IsNumbered : ℕ → Option Item → Type 0
+IsNumbered n None = Unit {0}
+IsNumbered n (Some m) = m.node ≡ n
+
+row_numbered : (r : Row) (n : ℕ) (at : Place) (ts : List Tok) (cs : List Child) → is_let_row r ≡ true → IsNumbered n (item_row r n at ts cs)
+unfolding item_row
+row_numbered let_row n at ts cs e = refl
+row_numbered break_row n at ts cs e = refl
+row_numbered _ n at ts cs e = absurd (no_yes e)
+
+recorded_numbered : (n : ℕ) (i : Option Item) → IsNumbered n i → IsNumbered n (recorded_item n i)
+recorded_numbered n None h = h
+recorded_numbered n (Some m) h = h
+
+tree_numbered : (k : ℕ) (t : Tree) (ts : List Tree) → has_lets_alone (t ∷ ts) ≡ true → IsNumbered (item_base k) (tree_child (item_base k) 0 t).item
+tree_numbered k (node r x ps) ts e =
+    recorded_numbered (item_base k) (item_row r (item_base k) x.span _ _) (row_numbered r (item_base k) x.span _ _ (and_cases (is_let_row r) (has_lets_alone ts) e).0)
+
+lets_after : (t : Tree) (ts : List Tree) → has_lets_alone (t ∷ ts) ≡ true → has_lets_alone ts ≡ true
+lets_after (node r x ps) ts e = (and_cases (is_let_row r) (has_lets_alone ts) e).1
+
+items_owned : (k : ℕ) (ts : List Tree) → has_lets_alone ts ≡ true → (ls : List Left) → AreOwned (items_from k ts) ls → Owned (item_base k) ls
+items_owned k [] e ls h = owned_none (item_base k) h
+items_owned k (t ∷ ts) e ls h = by (tree_child (item_base k) 0 t).item (tree_numbered k t ts e) (items_owned (k + 1) ts (lets_after t ts e)) ls h
+  where
+    by : (o : Option Item) → IsNumbered (item_base k) o → ((ks : List Left) → AreOwned (items_from (k + 1) ts) ks → Owned (item_base (k + 1)) ks) → (ls : List Left) →
+        AreOwned (elim o [ None ↦ items_from (k + 1) ts | Some m ↦ m ∷ items_from (k + 1) ts ]) ls → Owned (item_base k) ls
+    by None numbered others ls h = let o = others ls h in record { apart = o.apart; from = λ j l f. let g = o.from j l f in omega arith }
+    by (Some m) numbered others ls h = owned_more (item_base k) (item_base (k + 1)) numbered (omega arith) others h
+
+-- So what the items of such a text left belongs to different ones.
+pub owners_apart : (text : List Tree) → has_lets_alone text ≡ true → {ls : List Left} → AreOwned (items_of text) ls → OwnersApart ls
+owners_apart text lets {ls} h = (items_owned 1 text lets ls h).apart
