@@ -39,21 +39,21 @@ use Rattle.decl_typing.proofs.Settling.{none_settles}
 use Rattle.decl_typing.specs.Settling.{OptionSettled, SettlesOption, constructor_as, constructors_as, IsOperandIf, HasOperand, argument_at, FirstConstructors, FirstNames, NamesSettled, ConstructorsSettled}
 
 -- the first constructors and one more are read
-read_more : (c : Context) (ks : List ConstructorPart) (k : ConstructorPart) → constructors_read c ks ++ (tell k.node c ++ read_optional c k.argument) ≡ constructors_read c (ks ++ k ∷ [])
+pub read_more : (c : Context) (ks : List ConstructorPart) (k : ConstructorPart) → constructors_read c ks ++ (tell k.node c ++ read_optional c k.argument) ≡ constructors_read c (ks ++ k ∷ [])
 read_more c [] k = ap (λ cs. tell k.node c ++ cs) (sym (append-nil (read_optional c k.argument)))
 read_more c (j ∷ ks) k =
     append_assoc (tell j.node c ++ read_optional c j.argument) (constructors_read c ks) (tell k.node c ++ read_optional c k.argument) ∙ ap (λ cs. tell j.node c ++ read_optional c j.argument ++ cs) (read_more c ks k)
 
-types_more : (f : ConstructorPart → Option Typ) (ks : List ConstructorPart) (k : ConstructorPart) → map f (ks ++ k ∷ []) ≡ map f ks ++ f k ∷ []
+pub types_more : (f : ConstructorPart → Option Typ) (ks : List ConstructorPart) (k : ConstructorPart) → map f (ks ++ k ∷ []) ≡ map f ks ++ f k ∷ []
 types_more f [] k = refl
 types_more f (j ∷ ks) k = ap (λ ts. f j ∷ ts) (types_more f ks k)
 
 -- no constructor yet
-pub none_read : {B : Before} {a : Sight} (all : List ConstructorPart) → FirstConstructors B all all a a
+abbrev pub none_read : {B : Before} {a : Sight} (all : List ConstructorPart) → FirstConstructors B all all a a
 none_read {a = a} all = record { done = []; judged = []; told = []; fixes = []; types = []; reports = sym (append-nil a.reports); settled = settled_none; gives = λ ch h. refl; split = refl }
 
 -- one constructor more
-pub one_read : {B : Before} {a b d : Sight} {all left : List ConstructorPart} (k : ConstructorPart) (x : FirstConstructors B all (k ∷ left) a b) → OptionSettled (behind B x.judged x.fixes) (λ c. tell k.node c ++ read_optional c k.argument) k.argument b d → FirstConstructors B all left a d
+abbrev pub one_read : {B : Before} {a b d : Sight} {all left : List ConstructorPart} (k : ConstructorPart) (x : FirstConstructors B all (k ∷ left) a b) → OptionSettled (behind B x.judged x.fixes) (λ c. tell k.node c ++ read_optional c k.argument) k.argument b d → FirstConstructors B all left a d
 one_read {a = a} {left = left} k x y = record {
   done = x.done ++ k ∷ [];
   judged = x.judged ++ y.judged;
@@ -103,7 +103,7 @@ pub all_names : {B : Before} {a b : Sight} {all : List ConstructorPart} (seen : 
 all_names seen x = record { judged = x.judged; told = x.told; reports = x.reports; settled = settled_here (λ c h. sym (x.split ∙ append-nil x.done)) x.settled }
 
 -- all constructors, and then their names
-pub all_constructors : {B : Before} {a b d : Sight} {all : List ConstructorPart} (x : FirstConstructors B all [] a b) → NamesSettled (behind B x.judged x.fixes) all b d → ConstructorsSettled B all a d
+abbrev pub all_constructors : {B : Before} {a b d : Sight} {all : List ConstructorPart} (x : FirstConstructors B all [] a b) → NamesSettled (behind B x.judged x.fixes) all b d → ConstructorsSettled B all a d
 all_constructors {a = a} {all = all} x y =
     let whole : all ≡ x.done = x.split ∙ append-nil x.done in
     record {
@@ -168,13 +168,13 @@ part_settles a b d env names asks o n kept read = λ aloud B around.
     record { judged = x.judged; told = x.told; fixes = x.fixes; type = x.type; reports = kept ∙ x.reports; settled = settled_trans (settled_told n) x.settled; gives = x.gives }
 
 -- the part at a place
-has_there : (ps : List CodePart) (i : ℕ) (x : CodePart) → i < length ps → x ≡ slice_index_or ps i x → All HasOperand ps → HasOperand x
+pub has_there : (ps : List CodePart) (i : ℕ) (x : CodePart) → i < length ps → x ≡ slice_index_or ps i x → All HasOperand ps → HasOperand x
 has_there [] i x lt e all = absurd (omega arith)
 has_there (p ∷ ps) zero x lt e all = subst HasOperand (sym e) (All-head HasOperand p ps all)
 has_there (p ∷ ps) (suc i) x lt e all = has_there ps i x (omega arith) e (All-tail HasOperand p ps all)
 
 -- what is left begins with the part at a place
-left_there : (i : ℕ) (ps : List CodePart) (k : ℕ) (x : CodePart) → k < length ps → x ≡ slice_index_or ps k x → constructors_as i (drop k ps) ≡ constructor_as i x ∷ constructors_as i (drop (k + 1) ps)
+pub left_there : (i : ℕ) (ps : List CodePart) (k : ℕ) (x : CodePart) → k < length ps → x ≡ slice_index_or ps k x → constructors_as i (drop k ps) ≡ constructor_as i x ∷ constructors_as i (drop (k + 1) ps)
 left_there i ps k x lt here = ap (constructors_as i) (drop_more ps k x lt ∙ ap (λ y. y ∷ drop (k + 1) ps) (sym here))
 
 -- what a loop over constructors settles

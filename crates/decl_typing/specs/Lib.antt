@@ -2,3 +2,7 @@
 pub mod Fresh
 pub mod Settling
 pub mod Labels
+pub mod Denoting
+pub mod Entering
+pub mod Parts
+pub mod LabelParts

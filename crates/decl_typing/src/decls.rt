@@ -1,13 +1,20 @@
 //! Declarations of types and exceptions.
-ghost use Rattle.std.specs.Prelude.{List, [], ◌++◌, option_map, OnOk};
-ghost use Rattle.syntax_tree.specs.View.{node_view};
+ghost use Rattle.std.specs.Prelude.{◌≡◌, ℕ, List, [], ◌++◌, option_map, OnOk, IfOk};
+ghost use Rattle.syntax_tree.specs.View.{node_view, tok_of};
 ghost use Rattle.row_parts.specs.Numbered.{first_in, operand_view};
-ghost use Rattle.typing_state.specs.Goes.{Goes};
+ghost use Rattle.typing_state.specs.Goes.{Goes, OnlyFaults};
+ghost use Rattle.type_model.specs.Types.{Typ};
 ghost use Rattle.signature_model.specs.Declarations.{Name};
+ghost use Rattle.signature_model.specs.Records.{is_some};
 ghost use Rattle.typing_model.specs.Contexts.{tell};
 ghost use Rattle.typing_model.specs.Declarations.{read_optional};
-ghost use Rattle.type_expressions.specs.Items.{IsOver};
+ghost use Rattle.typing_model.specs.BuiltIns.{exn_type};
+ghost use Rattle.type_expressions.specs.Items.{IsOver, HasNodes};
 ghost use Rattle.typing_rows.specs.DeclaredContracts.{SettlesTo};
+ghost use Rattle.decl_typing.specs.Denoting.{DenotesArgument, DenotesConstructor, ClosesArgument};
+ghost use Rattle.decl_typing.specs.Entering.{IsException, DeclaresException, DeclaresPartIf, DeclaresItem, alone, entered};
+ghost use Rattle.decl_typing.specs.Parts.{ReadsConstructor, ReadsConstructors, shape_constructors};
+ghost use Rattle.decl_typing.specs.LabelParts.{ReadsLabel};
 ghost use Rattle.decl_typing.specs.Labels.{label_as, labels_as, HasBody, SettlesLabelNames, SettlesLabels};
 ghost use Rattle.decl_typing.specs.Settling.{constructor_as, constructors_as, HasOperand, SettlesArgument, SettlesConstructor, SettlesConstructors, SettlesNames, SettlesOption, SettlesPartIf};
 
@@ -27,7 +34,7 @@ use syntax_tree::{Node, Token};
 use text_terms::RcStr;
 use type_expressions::{Parameter, Variables, read_type};
 use type_nodes::{NoMemory, NodeRef, Origin};
-use typing_state::{Depth, Parts, Telling, new_entry};
+use typing_state::{Depth, Parts, Telling, new_entry, share_entry};
 
 /// What a group or an exception adds: the environment behind it, its entries in order, and the origins that it makes.
 #[derive(Drop)]
@@ -487,6 +494,7 @@ fn read_constructors(
     depth: Depth,
 ) -> Result<Shape, NoMemory>
     ensures settles { OnOk result ((names : List Name) → IsOver variables.now names → SettlesConstructors at.old at.new inner.now names parts.now) }
+    ensures means { IfOk result (λ z. (names : List Name) (ps : List ℕ) (t : Typ) → IsOver variables.now names → HasNodes variables.now ps → ReadsConstructors at.old at.new inner.now names ps parts.now t own.0 (shape_constructors z)) }
     ensures goes { Goes at.old at.new }
 {
     let mut constructors = Vec::new(at.alloc());
@@ -506,6 +514,7 @@ fn read_constructors(
 
 fn names_are_new(at: &mut Parts, parts: &[ConstructorPart<'_>]) -> Result<(), NoMemory>
     ensures settles { OnOk result (SettlesNames at.old at.new (constructors_as at.old.item parts.now)) }
+    ensures rest { OnlyFaults at.old at.new }
     ensures goes { Goes at.old at.new }
 {
     let mut seen = HashSet::new(at.alloc());
@@ -540,6 +549,7 @@ fn constructor_root(
     depth: Depth,
 ) -> Result<NodeRef, NoMemory>
     ensures settles { OnOk result ((names : List Name) → IsOver variables.now names → HasOperand part.now → SettlesOption at.old at.new inner.now names (λ c. read_optional c (constructor_as at.old.item part.now).argument) (constructor_as at.old.item part.now).argument) }
+    ensures means { IfOk result (λ m. (names : List Name) (ps : List ℕ) (t : Typ) → IsOver variables.now names → HasNodes variables.now ps → DenotesConstructor at.old at.new inner.now names ps part.now t own.0 m.0) }
     ensures goes { Goes at.old at.new }
 {
     match part.argument {
@@ -561,6 +571,7 @@ fn read_constructor(
     depth: Depth,
 ) -> Result<Option<Constructor>, NoMemory>
     ensures settles { OnOk result ((names : List Name) → IsOver variables.now names → HasOperand part.now → SettlesOption at.old at.new inner.now names (λ c. tell (constructor_as at.old.item part.now).node c ++ read_optional c (constructor_as at.old.item part.now).argument) (constructor_as at.old.item part.now).argument) }
+    ensures means { IfOk result (λ k. (names : List Name) (ps : List ℕ) (t : Typ) → IsOver variables.now names → HasNodes variables.now ps → ReadsConstructor at.old at.new inner.now names ps part.now t own.0 k) }
     ensures goes { Goes at.old at.new }
 {
     let root = constructor_root(at, part, own, inner, variables, depth)?;
@@ -587,6 +598,7 @@ fn read_label(
     depth: Depth,
 ) -> Result<Option<Label>, NoMemory>
     ensures settles { OnOk result ((names : List Name) → IsOver variables.now names → HasBody part.now → SettlesTo at.old at.new inner.now names (λ c. tell (label_as at.old.item part.now).node c ++ (label_as at.old.item part.now).body.read c) (label_as at.old.item part.now).body.node) }
+    ensures means { IfOk result (λ l. (names : List Name) (ps : List ℕ) (t : Typ) → IsOver variables.now names → HasNodes variables.now ps → ReadsLabel at.old at.new inner.now names ps part.now t «record».0 l) }
     ensures goes { Goes at.old at.new }
 {
     let field = read_type(at, part.body, inner, variables, depth)?;
@@ -913,17 +925,36 @@ pub fn type_exception(
     depth: Depth,
 ) -> Result<Declared, NoMemory>
     ensures settles { OnOk result (SettlesPartIf at.old at.new env.now (first_in number (node_view item.now) 1)) }
+    ensures means { IfOk result (λ d. DeclaresItem at.old at.new env.now (first_in number (node_view item.now) 1) at.old.constants.exn.0 d) }
     ensures goes { Goes at.old at.new }
 {
-    let mut entries = Vec::new(at.alloc());
-    if let Some(entry) = exception_part(at, first_operand(item, number, 1), env, depth)? {
-        push(&mut entries, entry)?;
-    }
+    let entry = exception_part(at, first_operand(item, number, 1), env, depth)?;
     Ok(Declared {
-        env: at.with_entries(&entries, env)?,
-        entries,
+        env: with_entry(at, &entry, env)?,
+        entries: alone(at, entry)?,
         makes: Vec::new(at.alloc()),
     })
+}
+
+/// The environment behind an entry, where there is one.
+fn with_entry(at: &Parts, entry: &Option<Rc<Entry>>, env: &Env) -> Result<Env, NoMemory>
+    ensures { IfOk result (λ r. r ≡ entered entry.now env.now) }
+{
+    match entry {
+        None => env.share(),
+        Some(entry) => env.add(at.alloc(), share_entry(entry)?),
+    }
+}
+
+/// An entry alone, where there is one.
+fn alone(at: &Parts, entry: Option<Rc<Entry>>) -> Result<Vec<Rc<Entry>>, NoMemory>
+    ensures { IfOk result (λ r. r.items ≡ alone entry) }
+{
+    let mut entries = Vec::new(at.alloc());
+    if let Some(entry) = entry {
+        push(&mut entries, entry)?;
+    }
+    Ok(entries)
 }
 
 /// The origins of the declarations of a group that are types of their own.
@@ -950,6 +981,7 @@ fn exception_part(
     depth: Depth,
 ) -> Result<Option<Rc<Entry>>, NoMemory>
     ensures settles { OnOk result (SettlesPartIf at.old at.new env.now (option_map operand_view part.entry)) }
+    ensures means { IfOk result (λ x. DeclaresPartIf at.old at.new env.now (option_map operand_view part.entry) at.old.constants.exn.0 x) }
     ensures goes { Goes at.old at.new }
 {
     let Some(part) = part else {
@@ -973,6 +1005,7 @@ fn exception(
     depth: Depth,
 ) -> Result<Option<Rc<Entry>>, NoMemory>
     ensures settles { OnOk result (SettlesConstructor at.old at.new env.now number (node_view node.now)) }
+    ensures means { IfOk result (λ x. DeclaresException at.old at.new env.now number (node_view node.now) at.old.constants.exn.0 x) }
     ensures goes { Goes at.old at.new }
 {
     let root = exception_type(at, node, number, env, depth)?;
@@ -993,21 +1026,22 @@ fn exception_entry(
     number: u32,
     name: &Token,
     root: NodeRef,
-) -> Result<Rc<Entry>, NoMemory> {
+) -> Result<Rc<Entry>, NoMemory>
+    ensures { IfOk result (λ x. IsException x.value (tok_of name.now).name root.0 (is_some (first_in number (node_view node.now) 2))) }
+{
     let constructor = Constructor {
         name: name.name.share()?,
         root,
         has_argument: first_operand(node, number, 2).is_some(),
     };
     let what = What::Exception(owned(at.alloc(), constructor)?);
-    let place = at.place(name.span);
-    new_entry(
-        at.alloc(),
-        name.name.share()?,
-        Kind::Constructor,
-        place,
+    let entry = Entry {
+        name: name.name.share()?,
+        kind: Kind::Constructor,
+        place: at.place(name.span),
         what,
-    )
+    };
+    owned(at.alloc(), entry)
 }
 
 /// The type of an exception, with its variables bound.
@@ -1019,6 +1053,7 @@ fn exception_type(
     depth: Depth,
 ) -> Result<NodeRef, NoMemory>
     ensures settles { OnOk result (SettlesArgument at.old at.new env.now [] number (node_view node.now)) }
+    ensures means { IfOk result (λ r. ClosesArgument at.old at.new env.now [] [] number (node_view node.now) exn_type at.old.constants.exn.0 r.0) }
     ensures goes { Goes at.old at.new }
 {
     let level = at.level;
@@ -1038,6 +1073,7 @@ fn exception_root(
     depth: Depth,
 ) -> Result<NodeRef, NoMemory>
     ensures settles { OnOk result (SettlesArgument at.old at.new env.now [] number (node_view node.now)) }
+    ensures means { IfOk result (λ m. DenotesArgument at.old at.new env.now [] [] number (node_view node.now) exn_type at.old.constants.exn.0 m.0) }
     ensures goes { Goes at.old at.new }
 {
     match first_operand(node, number, 2) {

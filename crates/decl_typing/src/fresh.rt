@@ -3,7 +3,7 @@ ghost use Rattle.std.specs.Prelude.{◌≡◌, if◌then◌else◌, true, OnOk};
 ghost use Rattle.std.specs.Str.{bytes_eq};
 ghost use Rattle.text_terms.specs.Bytes.{str_bytes};
 ghost use Rattle.signature_model.specs.Declarations.{Name};
-ghost use Rattle.typing_state.specs.Goes.{Goes};
+ghost use Rattle.typing_state.specs.Goes.{Goes, OnlyFaults};
 ghost use Rattle.decl_typing.specs.Fresh.{has, AsksNew};
 
 use std::alloc::AllocError;
@@ -20,6 +20,7 @@ pub fn ask_new<'a>(
 ) -> Result<(), NoMemory>
     ensures asked { OnOk result (AsksNew (has names.old (str_bytes name.now.name)) name.now at.old at.new) }
     ensures added { OnOk result ((q : Name) → has names.new q ≡ (if bytes_eq (str_bytes name.now.name) q then true else has names.old q)) }
+    ensures rest { OnlyFaults at.old at.new }
     ensures goes { Goes at.old at.new }
 {
     let text = name.name.as_str();

@@ -50,7 +50,7 @@ root_bound {nodes} {C} {N} {arity} {r} root = record {
     inside (suc k) s e = absurd (cc)
 
 -- an origin of the code with a path is that of a type of its own
-origin_is : (given : Option _) (path : Path) → HasPath given path → OriginAs given (rules.Own path)
+pub origin_is : (given : Option _) (path : Path) → HasPath given path → OriginAs given (rules.Own path)
 origin_is given path (o, e, is) = subst (λ x. OriginAs x (rules.Own path)) (sym e) is
 
 module _ {a b : Parts} {which : BuiltIn} {d : Declaration} (h : DeclaresBuiltIn a b which d) where

@@ -4,3 +4,6 @@ pub mod Grown
 pub mod Roots
 pub mod Built
 pub mod First
+pub mod Whole
+pub mod Exceptions
+pub mod Types

@@ -21,14 +21,14 @@ use Rattle.typing_conditions.proofs.Steps.{Grows}
 use Rattle.first_laws.specs.Built.{MakesRoot, alone, over_one}
 use Rattle.first_laws.proofs.Grown.{NewParts, new_none, new_more, grows_made, grows_then}
 
-all_none : (P : ℕ → Type 0) → All P []
+pub all_none : (P : ℕ → Type 0) → All P []
 all_none P k d lt = absurd (omega arith)
 
-all_one : (P : ℕ → Type 0) (m : ℕ) → P m → All P (m ∷ [])
+pub all_one : (P : ℕ → Type 0) (m : ℕ) → P m → All P (m ∷ [])
 all_one P m h zero d lt = h
 all_one P m h (suc k) d lt = absurd (omega arith)
 
-all_two : (P : ℕ → Type 0) (m n : ℕ) → P m → P n → All P (m ∷ n ∷ [])
+pub all_two : (P : ℕ → Type 0) (m n : ℕ) → P m → P n → All P (m ∷ n ∷ [])
 all_two P m n h i zero d lt = h
 all_two P m n h i (suc zero) d lt = i
 all_two P m n h i (suc (suc k)) d lt = absurd (omega arith)

@@ -30,7 +30,7 @@ one_joined a b p q j = record {
     by o w (inr (same, never)) = inr (never (no_bound o w))
 
 -- the same of several
-each_joins : (a b : Parts) (ps qs : List ℕ) → JoinsAll a b ps qs → JoinsEach (sight a) (sight b) ps qs
+pub each_joins : (a b : Parts) (ps qs : List ℕ) → JoinsAll a b ps qs → JoinsEach (sight a) (sight b) ps qs
 each_joins a b [] [] j = ap sight j
 each_joins a b [] (q ∷ qs) j = absurd j
 each_joins a b (p ∷ ps) [] j = absurd j

@@ -146,7 +146,7 @@ several_ends a b d names span (x ∷ y ∷ zs) v le is silent =
     ends_several a b d names x.0 y.0 span (numbers zs) v (subst (λ k. ArityIs v a b span (codes "(,)") 1 k) (sym (many_numbers (x ∷ y ∷ zs))) is) (silent_reports b d silent)
 
 -- whether two names are one doesn't depend on which of them comes first
-names_turned : (x y : List ℕ) → bytes_eq x y ≡ bytes_eq y x
+pub names_turned : (x y : List ℕ) → bytes_eq x y ≡ bytes_eq y x
 names_turned x y = by (bytes_eq x y) (bytes_eq y x) (bytes_eq-Decides x y).0 (bytes_eq-Decides x y).1 (bytes_eq-Decides y x).0 (bytes_eq-Decides y x).1
   where
     by : (b c : Bool) → (b ≡ true → x ≡ y) → (x ≡ y → b ≡ true) → (c ≡ true → y ≡ x) → (y ≡ x → c ≡ true) → b ≡ c

@@ -1,5 +1,5 @@
 -- Whose type variables those of a type expression are.
-use Rattle.std.specs.Prelude.{◌≡◌, List, [], ◌∷◌, map, Option, Some, None, if◌then◌else◌}
+use Rattle.std.specs.Prelude.{◌≡◌, ℕ, List, [], ◌∷◌, map, Option, Some, None, if◌then◌else◌}
 use Rattle.std.specs.Option.{option_or}
 use Rattle.std.specs.Str.{bytes_eq}
 use Rattle.text_terms.specs.Bytes.{str_bytes}
@@ -21,6 +21,15 @@ names_of ps = map (λ (p : Parameter). str_bytes p.name) ps
 abbrev pub IsOver : Variables → List Name → Type 0
 IsOver OfItem names = ⊥
 IsOver (Parameters ps) names = names_of ps.items ≡ names
+
+-- the nodes of parameters
+abbrev pub nodes_of : List Parameter → List ℕ
+nodes_of ps = map (λ (p : Parameter). p.node.0) ps
+
+-- type variables are parameters of a declaration, with these nodes
+abbrev pub HasNodes : Variables → List ℕ → Type 0
+HasNodes OfItem ms = ⊥
+HasNodes (Parameters ps) ms = nodes_of ps.items ≡ ms
 
 -- the node of the parameter of a name, of two the later one
 abbrev pub parameter_in : Name → List Parameter → Option NodeRef

@@ -8,11 +8,13 @@ ghost use Rattle.type_nodes.specs.Changes.{Makes};
 ghost use Rattle.type_nodes.specs.Nodes.{Node as plain, IsNode};
 ghost use Rattle.type_nodes.specs.Views.{numbers};
 ghost use Rattle.typing_rows.specs.Declaring.{AppliesTo};
+ghost use Rattle.declared_rows.specs.Applied.{AppliesWith};
 ghost use Rattle.typing_state.specs.Goes.{Goes, OnlyStore, Silent};
 
+use crate::unknowns::{open_unknowns, parameters_of};
 use env_table::{Declaration, Origin};
 use type_nodes::{NoMemory, NodeRef};
-use type_reading::{Changes, Copies, ForBound, ForUnknown, filled, unchanged};
+use type_reading::filled;
 use typing_state::Parts;
 
 /// The type that a declaration gives arguments, abbreviations expanded.
@@ -53,17 +55,19 @@ pub fn applied_with_unknowns(
     declaration: &Declaration,
     types: &[NodeRef],
 ) -> Result<NodeRef, NoMemory>
+    ensures means { IfOk result (λ m. AppliesWith at.old at.new declaration.now (numbers types.now) m.0) }
     ensures silent { Silent at.old at.new }
     ensures goes { Goes at.old at.new }
 {
     if let Some(origin) = &declaration.origin {
-        return at.con(origin, types);
+        return constructor_over(at, origin, types);
     }
-    let changes = Changes::none(at.alloc());
-    let how = unchanged(&changes, ForBound::Variable, ForUnknown::Open);
-    let instance = Copies::new(at).copy(at, declaration.root, how)?;
+    let instance = at.instance(declaration.root)?;
     if types.is_empty() {
+        open_unknowns(at, instance, &[])?;
         return Ok(instance);
     }
+    let parameters = parameters_of(at, instance)?;
+    open_unknowns(at, instance, &parameters)?;
     filled(at, instance, types)
 }

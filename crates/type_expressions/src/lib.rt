@@ -8,6 +8,7 @@
 mod arguments;
 mod by_name;
 mod types;
+mod unknowns;
 mod written;
 
 pub use arguments::applied;

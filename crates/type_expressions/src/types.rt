@@ -1,7 +1,7 @@
 //! Type expressions.
 #![tactic(auto, using(typing_state::proofs::Going::goes_trans, typing_state::proofs::Going::goes_refl, typing_state::proofs::Silence::store_silent), unfolding(syntax_tree::specs::Names::row_of))]
 
-ghost use Rattle.std.specs.Prelude.{◌≡◌, ◌==◌, List, [], ◌∷◌, length, map, option_map, IfOk, OnOk};
+ghost use Rattle.std.specs.Prelude.{◌≡◌, ◌==◌, ℕ, List, [], ◌∷◌, length, map, option_map, IfOk, OnOk};
 ghost use Rattle.std.specs.Option.{option_copied};
 ghost use Rattle.syntax_tree.specs.Names.{row_of};
 ghost use Rattle.syntax_tree.specs.declared.tree.Node.{out-Node};
@@ -17,7 +17,9 @@ ghost use Rattle.typing_rows.specs.Operands.{EndsName, EndsParentheses, EndsPlai
 ghost use Rattle.signature_model.specs.Declarations.{Name};
 ghost use Rattle.typing_rows.specs.DeclaredContracts.{SettlesDeclared, SettlesNamed};
 ghost use Rattle.typing_rows.specs.DeclaredOperands.{SettlesFront, SettlesGiven, SettlesName, SettlesOperand, SettlesOperands, SettlesParentheses, SettlesPart, SettlesPlainRow, SettlesRow, SettlesVariable};
-ghost use Rattle.type_expressions.specs.Items.{IsOfItem, IsOver, parameter_in};
+ghost use Rattle.declared_rows.specs.Contracts.{MakesUnknown, DenotesDeclared, DenotesNamed};
+ghost use Rattle.declared_rows.specs.Operands.{DenotesEnds, DenotesFront, DenotesGiven, DenotesName, DenotesOperand, DenotesOperands, DenotesParentheses, DenotesPart, DenotesPlain, DenotesVariable, MakesArrow};
+ghost use Rattle.type_expressions.specs.Items.{HasNodes, IsOfItem, IsOver, parameter_in};
 ghost use Rattle.type_expressions.specs.Operands.{several, parts_read};
 ghost use Rattle.typing_state.specs.Notes.{IsRecorded};
 
@@ -80,6 +82,7 @@ pub fn read_type(
 ) -> Result<NodeRef, NoMemory>
     ensures carries { IfOk result (λ m. IsOfItem variables.now → ReadsOperand at.old at.new env.now (operand_view ty.entry) m.0) }
     ensures settles { IfOk result (λ m. (names : List Name) → IsOver variables.now names → SettlesOperand at.old at.new env.now names (operand_view ty.entry)) }
+    ensures means { IfOk result (λ m. (names : List Name) (ps : List ℕ) → IsOver variables.now names → HasNodes variables.now ps → DenotesOperand at.old at.new env.now names ps (operand_view ty.entry) m.0) }
     ensures recorded { OnOk result (IsRecorded at.new ty.entry.number) }
     ensures goes { Goes at.old at.new }
 {
@@ -99,6 +102,7 @@ fn read_row(
 ) -> Result<Read, NoMemory>
     ensures carries { IfOk result (λ r. IsOfItem variables.now → ReadsPart at.old at.new env.now ty.entry.number (place_of ty.entry.span) (part_of ty.entry.node ty.entry.span) r.ty.0) }
     ensures settles { IfOk result (λ r. (names : List Name) → IsOver variables.now names → SettlesPart at.old at.new env.now names ty.entry.number (place_of ty.entry.span) (part_of ty.entry.node ty.entry.span)) }
+    ensures means { IfOk result (λ r. (names : List Name) (ps : List ℕ) → IsOver variables.now names → HasNodes variables.now ps → DenotesPart at.old at.new env.now names ps ty.entry.number (place_of ty.entry.span) (part_of ty.entry.node ty.entry.span) r.ty.0) }
     ensures goes { Goes at.old at.new }
 {
     match ty.node {
@@ -135,6 +139,7 @@ fn read_parts(
 ) -> Result<Vec<NodeRef>, NoMemory>
     ensures carries { IfOk result (λ ms. IsOfItem variables.now → ReadsFront at.old at.new env.now number (node_view node.now) (numbers ms.items)) }
     ensures settles { IfOk result (λ ms. (names : List Name) → IsOver variables.now names → SettlesFront at.old at.new env.now names number (node_view node.now) (numbers ms.items)) }
+    ensures means { IfOk result (λ ms. (names : List Name) (ps : List ℕ) → IsOver variables.now names → HasNodes variables.now ps → DenotesFront at.old at.new env.now names ps number (node_view node.now) (numbers ms.items)) }
     ensures goes { Goes at.old at.new }
 {
     match node.row {
@@ -157,6 +162,7 @@ fn read_given(
 ) -> Result<Vec<NodeRef>, NoMemory>
     ensures carries { IfOk result (λ ms. IsOfItem variables.now → ReadsGiven at.old at.new env.now (operand_view left.entry) (numbers ms.items)) }
     ensures settles { IfOk result (λ ms. (names : List Name) → IsOver variables.now names → SettlesGiven at.old at.new env.now names (operand_view left.entry) (numbers ms.items)) }
+    ensures means { IfOk result (λ ms. (names : List Name) (ps : List ℕ) → IsOver variables.now names → HasNodes variables.now ps → DenotesGiven at.old at.new env.now names ps (operand_view left.entry) (numbers ms.items)) }
     ensures recorded { OnOk result (IsRecorded at.new left.entry.number) }
     ensures goes { Goes at.old at.new }
 {
@@ -183,6 +189,7 @@ fn read_each(
 ) -> Result<Vec<NodeRef>, NoMemory>
     ensures carries { IfOk result (λ ms. IsOfItem variables.now → ReadsOperands at.old at.new env.now (map operand_view parts.now) (numbers ms.items)) }
     ensures settles { IfOk result (λ ms. (names : List Name) → IsOver variables.now names → SettlesOperands at.old at.new env.now names (map operand_view parts.now) (numbers ms.items)) }
+    ensures means { IfOk result (λ ms. (names : List Name) (ps : List ℕ) → IsOver variables.now names → HasNodes variables.now ps → DenotesOperands at.old at.new env.now names ps (map operand_view parts.now) (numbers ms.items)) }
     ensures goes { Goes at.old at.new }
 {
     let mut types = Vec::new(at.alloc());
@@ -196,6 +203,7 @@ fn read_each(
 /// A type expression that names no type: any type in an item, and in a declaration an unknown one.
 fn unresolved(at: &mut Parts, variables: &Variables) -> Result<NodeRef, NoMemory>
     ensures any { IfOk result (λ m. IsOfItem variables.now → MakesVar at.old at.new m.0 any_scope) }
+    ensures unknown { IfOk result (λ m. (names : List Name) → IsOver variables.now names → MakesUnknown at.old at.new m.0) }
     ensures rest { OnlyStore at.old at.new }
     ensures silent { Silent at.old at.new }
     ensures goes { Goes at.old at.new }
@@ -216,6 +224,7 @@ fn formed(
 ) -> Result<Read, NoMemory>
     ensures carries { IfOk result (λ r. IsOfItem variables.now → EndsRow at.old at.new env.now (node_view node.now) (numbers types.now) r.ty.0) }
     ensures settles { IfOk result (λ r. (names : List Name) → IsOver variables.now names → SettlesRow at.old at.new env.now names (node_view node.now) (numbers types.now)) }
+    ensures means { IfOk result (λ r. (names : List Name) (ps : List ℕ) → IsOver variables.now names → HasNodes variables.now ps → DenotesEnds at.old at.new env.now names ps (node_view node.now) (numbers types.now) r.ty.0) }
     ensures goes { Goes at.old at.new }
 {
     match node.row {
@@ -244,6 +253,7 @@ fn composed(
 ) -> Result<NodeRef, NoMemory>
     ensures carries { IfOk result (λ m. IsOfItem variables.now → EndsPlainRow at.old at.new (node_view node.now) (numbers types.now) m.0) }
     ensures settles { IfOk result (λ m. (names : List Name) → IsOver variables.now names → SettlesPlainRow at.old at.new names (node_view node.now) (numbers types.now)) }
+    ensures means { IfOk result (λ m. (names : List Name) (ps : List ℕ) → IsOver variables.now names → HasNodes variables.now ps → DenotesPlain at.old at.new names ps (node_view node.now) (numbers types.now) m.0) }
     ensures goes { Goes at.old at.new }
 {
     match node.row {
@@ -269,6 +279,7 @@ fn arrow_between(
     variables: &Variables,
 ) -> Result<NodeRef, NoMemory>
     ensures carries { IfOk result (λ m. IsOfItem variables.now → MakesArrowOver at.old at.new (numbers types.now) m.0) }
+    ensures arrow { IfOk result (λ m. MakesArrow at.old at.new (numbers types.now) m.0) }
     ensures silent { Silent at.old at.new }
     ensures goes { Goes at.old at.new }
 {
@@ -287,6 +298,7 @@ fn in_parentheses(
 ) -> Result<NodeRef, NoMemory>
     ensures carries { IfOk result (λ m. IsOfItem variables.now → EndsParentheses at.old at.new (place_of (out-Node node.now).span) (numbers types.now) m.0) }
     ensures settles { IfOk result (λ m. (names : List Name) → IsOver variables.now names → SettlesParentheses at.old at.new names (place_of (out-Node node.now).span) (numbers types.now)) }
+    ensures means { IfOk result (λ m. (names : List Name) (ps : List ℕ) → IsOver variables.now names → HasNodes variables.now ps → DenotesParentheses at.old at.new names ps (place_of (out-Node node.now).span) (numbers types.now) m.0) }
     ensures goes { Goes at.old at.new }
 {
     match types {
@@ -307,6 +319,7 @@ fn variable(
 ) -> Result<NodeRef, NoMemory>
     ensures carries { IfOk result (λ m. IsOfItem variables.now → ReadsVariable at.old at.new (option_map (λ t. tok_of t.now) name.entry) m.0) }
     ensures settles { IfOk result (λ m. (names : List Name) → IsOver variables.now names → SettlesVariable at.old at.new names (option_map (λ t. tok_of t.now) name.entry)) }
+    ensures means { IfOk result (λ m. (names : List Name) (ps : List ℕ) → IsOver variables.now names → HasNodes variables.now ps → DenotesVariable at.old at.new names ps (option_map (λ t. tok_of t.now) name.entry) m.0) }
     ensures goes { Goes at.old at.new }
 {
     let Some(name) = name else {
@@ -336,6 +349,7 @@ fn constructed(
 ) -> Result<Read, NoMemory>
     ensures carries { IfOk result (λ r. IsOfItem variables.now → EndsName at.old at.new env.now (path_as (path_view path.now)) (numbers types.now) r.ty.0) }
     ensures settles { IfOk result (λ r. (names : List Name) → IsOver variables.now names → SettlesName at.old at.new env.now names (path_as (path_view path.now)) (numbers types.now)) }
+    ensures means { IfOk result (λ r. (names : List Name) (ps : List ℕ) → IsOver variables.now names → HasNodes variables.now ps → DenotesName at.old at.new env.now names ps (path_as (path_view path.now)) (numbers types.now) r.ty.0) }
     ensures goes { Goes at.old at.new }
 {
     let Some(last) = path.last else {
@@ -359,6 +373,7 @@ fn named_type(
 ) -> Result<NodeRef, NoMemory>
     ensures carries { IfOk result (λ m. IsOfItem variables.now → NamesTo (option_map (λ r. r.value) (option_copied entry.entry)) at.old at.new (tok_of last.now) (numbers types.now) m.0) }
     ensures settles { IfOk result (λ m. (names : List Name) → IsOver variables.now names → SettlesNamed (option_map (λ r. r.value) (option_copied entry.entry)) at.old at.new names (tok_of last.now) (numbers types.now)) }
+    ensures means { IfOk result (λ m. (names : List Name) → IsOver variables.now names → DenotesNamed (option_map (λ r. r.value) (option_copied entry.entry)) at.old at.new names (tok_of last.now) (numbers types.now) m.0) }
     ensures goes { Goes at.old at.new }
 {
     match entry {
@@ -387,6 +402,7 @@ fn declared(
 ) -> Result<NodeRef, NoMemory>
     ensures carries { IfOk result (λ m. IsOfItem variables.now → DeclaresTo at.old at.new (tok_of last.now) entry.now (numbers types.now) m.0) }
     ensures settles { IfOk result (λ m. (names : List Name) → IsOver variables.now names → SettlesDeclared (declared_in entry.now.what) at.old at.new names (tok_of last.now) (numbers types.now)) }
+    ensures means { IfOk result (λ m. (names : List Name) → IsOver variables.now names → DenotesDeclared (declared_in entry.now.what) at.old at.new names (tok_of last.now) (numbers types.now) m.0) }
     ensures goes { Goes at.old at.new }
 {
     let Some(declaration) = declaration_behind(entry) else {

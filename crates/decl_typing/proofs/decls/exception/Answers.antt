@@ -1,6 +1,9 @@
 use Rattle.typing_state.proofs.Going.{goes_trans}
-use Rattle.syntax_tree.specs.View.{node_view}
+use Rattle.std.proofs.Common.{◌∙◌, option_map, sym, ap}
+use Rattle.token_model.specs.Kinds.{Tok}
+use Rattle.syntax_tree.specs.View.{node_view, tok_of}
 use Rattle.typing_rows.proofs.DeclaredOrdered.{index_reports}
+use Rattle.decl_typing.proofs.Entering.{exception_closes}
 use Rattle.decl_typing.proofs.Settling.{exception_settles}
 use Rattle.decl_typing.proofs.decls.exception.Goals as goal
 
@@ -32,3 +35,15 @@ returns-clause-settles c =
 pub returns-in_default-clause-settles : goal.returns-in_default-clause-settles
 returns-in_default-clause-settles c =
     exception_settles c.args.at.now c.exception_type.new.at c.note_plain.new.self c.args.env.now c.args.number (node_view c.args.node.now) (index_reports c.exception_type.new.at c.note_plain.new.self c.note_plain.ensures.rest) c.in_ok-root.ensures.settles
+
+pub returns-clause-means : goal.returns-clause-means
+returns-clause-means c = record {
+  root = c.in_ok-root.root.0;
+  name = (tok_of c.in-Some.name.now).name;
+  entry = c.in_ok-entry.ensures;
+  named = sym (ap (option_map (λ (k : Tok). k.name)) (sym (ap (option_map (λ t. tok_of t.now)) c.in-Some.is) ∙ c.token.ensures));
+  closes = exception_closes c.args.at.now c.exception_type.new.at c.note.new.self c.args.env.now c.args.number (node_view c.args.node.now) c.args.at.now.constants.exn.0 c.in_ok-root.root.0 c.note.ensures.rest c.note.ensures.goes c.in_ok-root.ensures.means;
+}
+
+pub returns-in_default-clause-means : goal.returns-in_default-clause-means
+returns-in_default-clause-means c = sym c.token.ensures ∙ ap (option_map (λ t. tok_of t.now)) c.in_default.is

@@ -1,9 +1,14 @@
 use Rattle.typing_state.proofs.Going.{goes_refl, goes_trans}
-use Rattle.std.proofs.Common.{◌≡◌, ◌∙◌, [], Some, None, option_map, refl, sym, ap}
+use Rattle.std.proofs.Common.{◌≡◌, ◌∙◌, [], Some, None, option_map, refl, sym, ap, subst}
+use Rattle.std.proofs.lemmas.Result.{IfOk-weaker}
 use Rattle.syntax_tree.specs.View.{node_view}
 use Rattle.row_parts.specs.Numbered.{first_in, operand_view}
 use Rattle.typing_rows.proofs.DeclaredOrdered.{store_reports}
-use Rattle.type_expressions.specs.Items.{names_of}
+use Rattle.typing_model.specs.BuiltIns.{exn_type}
+use Rattle.type_nodes.specs.Nodes.{IsNode, Arrow}
+use Rattle.type_nodes.specs.Changes.{Makes}
+use Rattle.type_expressions.specs.Items.{names_of, nodes_of}
+use Rattle.decl_typing.proofs.Denoting.{no_argument, some_argument}
 use Rattle.decl_typing.proofs.Settling.{on_any, no_settles, some_settles}
 use Rattle.decl_typing.proofs.decls.exception_root.Goals as goal
 
@@ -29,3 +34,17 @@ returns-in_ok-from-in-Some-clause-settles c =
     let there : first_in c.args.number t 2 ≡ Some o = sym c.first_operand.ensures ∙ ap (option_map operand_view) c.in-Some.is in
     on_any c.arrow.result _ (some_settles c.args.at.now c.read_type.new.at c.arrow.new.self c.args.env.now [] o (store_reports c.read_type.new.at c.arrow.new.self c.arrow.ensures.rest)
     (c.in_ok-from-in-Some.ensures.settles [] (ap names_of c.new.ensures.items)) c.args.number t there)
+
+pub returns-in-None-clause-means : goal.returns-in-None-clause-means
+returns-in-None-clause-means c =
+    let none : first_in c.args.number (node_view c.args.node.now) 2 ≡ None = sym c.first_operand.ensures ∙ ap (option_map operand_view) c.in-None.is in
+    no_argument c.args.at.now c.args.env.now [] [] c.args.number (node_view c.args.node.now) exn_type c.args.at.now.constants.exn.0 none
+
+pub returns-in_ok-from-in-Some-clause-means : goal.returns-in_ok-from-in-Some-clause-means
+returns-in_ok-from-in-Some-clause-means c =
+    let o = operand_view c.in-Some.argument in
+    let there : first_in c.args.number (node_view c.args.node.now) 2 ≡ Some o = sym c.first_operand.ensures ∙ ap (option_map operand_view) c.in-Some.is in
+    IfOk-weaker c.arrow.result _ _ (λ m made. some_argument c.args.at.now c.read_type.new.at c.arrow.new.self c.args.env.now [] [] o c.args.number (node_view c.args.node.now) exn_type c.in_ok-from-in-Some.from.0 c.args.at.now.constants.exn.0 m.0 there
+    (c.in_ok-from-in-Some.ensures.means [] [] (ap names_of c.new.ensures.items) (ap nodes_of c.new.ensures.items))
+    (subst (λ k. IsNode c.read_type.new.at.store.nodes c.in_ok-from-in-Some.from.0 → IsNode c.read_type.new.at.store.nodes k.exn.0 → Makes c.read_type.new.at.store c.arrow.new.self.store m.0 (Arrow c.in_ok-from-in-Some.from.0 k.exn.0)) c.read_type.ensures.goes.constants made)
+    c.arrow.ensures.rest c.arrow.ensures.goes) c.arrow.ensures.made

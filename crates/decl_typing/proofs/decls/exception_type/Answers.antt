@@ -1,8 +1,10 @@
 use Rattle.typing_state.proofs.Going.{goes_trans}
 use Rattle.decl_typing.proofs.Levels.{with_level, deeper_goes}
-use Rattle.std.proofs.Common.{[]}
+use Rattle.std.proofs.Common.{[], arith}
 use Rattle.syntax_tree.specs.View.{node_view}
 use Rattle.typing_rows.proofs.DeclaredOrdered.{store_reports}
+use Rattle.typing_model.specs.BuiltIns.{exn_type}
+use Rattle.decl_typing.proofs.Denoting.{closed_denotes}
 use Rattle.decl_typing.proofs.Settling.{settles_deeper}
 use Rattle.decl_typing.proofs.decls.exception_type.Goals as goal
 
@@ -19,3 +21,10 @@ pub returns-clause-settles : goal.returns-clause-settles
 returns-clause-settles c =
     let read = c.exception_root-read.new.at in
     settles_deeper c.args.at.now read c.generalise.new.self c.saturating_add-at.result c.args.env.now [] c.args.number (node_view c.args.node.now) (store_reports (with_level read c.args.at.now.level) c.generalise.new.self c.generalise.ensures.rest) c.in_ok-root.ensures.settles
+
+pub returns-clause-means : goal.returns-clause-means
+returns-clause-means c =
+    let at = c.args.at.now in
+    let read = c.exception_root-read.new.at in
+    closed_denotes at read c.generalise.new.self c.saturating_add-at.result c.args.env.now [] [] c.args.number (node_view c.args.node.now) exn_type at.constants.exn.0 c.in_ok-root.root.0 (λ zero. omega arith)
+    c.in_ok-root.ensures.means c.in_ok-generalise.ensures.bound c.generalise.ensures.rest c.generalise.ensures.goes

@@ -1,15 +1,16 @@
 use Rattle.std.proofs.Common.{sym, subst}
+use Rattle.std.proofs.lemmas.Result.{IfOk-weaker}
 use Rattle.type_nodes.specs.Views.{numbers}
 use Rattle.type_reading.specs.Filling.{Fills}
 use Rattle.typing_rows.specs.Declaring.{AppliesTo}
 use Rattle.typing_rows.proofs.Declared.{origin_applied, alone_applied}
-use Rattle.type_expressions.proofs.Answering.{if_ok, none_given, some_given}
+use Rattle.type_expressions.proofs.Answering.{none_given, some_given}
 use Rattle.type_expressions.proofs.Filled.{filled_applies}
 use Rattle.type_expressions.proofs.arguments.applied.Goals as goal
 
 pub returns-in-Some-clause-carries : goal.returns-in-Some-clause-carries
 returns-in-Some-clause-carries c =
-    if_ok c.constructor_over.result _ _ (λ m made. origin_applied c.args.at.now c.constructor_over.new.at c.args.declaration.now c.in-Some.origin (numbers c.args.types.now) m.0 c.in-Some.is c.constructor_over.ensures.plain made c.constructor_over.ensures.rest) c.constructor_over.ensures.made
+    IfOk-weaker c.constructor_over.result _ _ (λ m made. origin_applied c.args.at.now c.constructor_over.new.at c.args.declaration.now c.in-Some.origin (numbers c.args.types.now) m.0 c.in-Some.is c.constructor_over.ensures.plain made c.constructor_over.ensures.rest) c.constructor_over.ensures.made
 
 pub returns-then-is_empty-clause-carries : goal.returns-then-is_empty-clause-carries
 returns-then-is_empty-clause-carries c =
@@ -18,6 +19,6 @@ returns-then-is_empty-clause-carries c =
 
 pub returns-clause-carries : goal.returns-clause-carries
 returns-clause-carries c =
-    if_ok c.filled.result _ _ (λ m fills.
+    IfOk-weaker c.filled.result _ _ (λ m fills.
     some_given c.args.types.now (λ ms. Fills c.instance.new.self c.filled.new.at c.in_ok-instance.instance.0 ms m.0 → AppliesTo c.args.at.now c.filled.new.at c.args.declaration.now ms m.0) c.if-is_empty.ensures (λ y ys h.
     filled_applies c.args.at.now c.instance.new.self c.filled.new.at c.args.declaration.now c.in_ok-instance.instance.0 y ys m.0 c.in_ok-instance.ensures.instance c.in_ok-instance.ensures.sound c.instance.ensures.rest h) fills) c.filled.ensures.fills

@@ -1,14 +1,15 @@
 use Rattle.std.proofs.Common.{◌+◌, ◌*◌, map, drop}
-use Rattle.std.specs.Prelude.{All, List}
+use Rattle.std.specs.Prelude.{ℕ, All, List}
 use Rattle.signature_model.specs.Declarations.{Name}
 use Rattle.typing_rows.specs.DeclaredContracts.{SettlesFirst}
+use Rattle.declared_rows.specs.Contracts.{DenotesFirst}
 use Rattle.type_nodes.specs.Views.{numbers}
 use Rattle.row_parts.specs.Numbered.{operand_view}
 use Rattle.typing_state.specs.Goes.{Goes}
 use Rattle.typing_rows.specs.TypeContracts.{ReadsFirst}
 use Rattle.typing_rows.specs.Rows.{types_read}
 use Rattle.typing_rows.specs.Operands.{IsTypeOperand}
-use Rattle.type_expressions.specs.Items.{IsOfItem, IsOver}
+use Rattle.type_expressions.specs.Items.{HasNodes, IsOfItem, IsOver}
 use Rattle.type_expressions.proofs.types.+types.Given as goal
 
 abbrev pub decreases-read_type : goal.decreases-read_type
@@ -33,4 +34,6 @@ invariant-read_each-loop-part l = record {
       ReadsFirst l.fn.at l.at l.env (types_read l.fn.at.item (map operand_view l.parts)) (types_read l.fn.at.item (map operand_view (drop l.part-index l.parts))) (numbers l.types.items);
   settles : (names : List Name) → IsOver l.variables names → All IsTypeOperand (map operand_view l.parts) →
       SettlesFirst l.fn.at l.at l.env names (types_read l.fn.at.item (map operand_view l.parts)) (types_read l.fn.at.item (map operand_view (drop l.part-index l.parts))) (numbers l.types.items);
+  means : (names : List Name) (ps : List ℕ) → IsOver l.variables names → HasNodes l.variables ps → All IsTypeOperand (map operand_view l.parts) →
+      DenotesFirst l.fn.at l.at l.env names ps (types_read l.fn.at.item (map operand_view l.parts)) (types_read l.fn.at.item (map operand_view (drop l.part-index l.parts))) (numbers l.types.items);
 }
