@@ -3,3 +3,4 @@ pub mod FunctorLaws
 pub mod Opening
 mod Asked
 pub mod Finding
+pub mod BuiltRoots

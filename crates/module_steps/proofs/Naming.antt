@@ -1,6 +1,6 @@
 -- The names that stand, and those that are told to stand twice.
 use Rattle.std.proofs.Common.{◌≡◌, ◌∙◌, ℕ, ◌+◌, ◌<◌, ◌≤◌, Bool, true, List, [], ◌∷◌, ◌++◌, length, get_or, drop, refl, sym, ap, subst}
-use Rattle.std.specs.Prelude.{◌&&◌, if◌then◌else◌, OnOk, IfOk, Result, Ok, Err}
+use Rattle.std.specs.Prelude.{◌&&◌, if◌then◌else◌, OnOk, Result, Ok, Err}
 use Rattle.std.specs.Str.{bytes_eq}
 use Rattle.std.proofs.lemmas.List.{drop_more, drop_all}
 use Rattle.std.specs.declared.rc.Rc.{Rc}
@@ -70,10 +70,6 @@ none_left es i out = ap entries_of (drop_all i es out)
 pub always : {A E : Type 0} {P : Type 0} (r : Result A E) → P → OnOk r P
 always (Ok a) p = p
 always (Err a) p = tt
-
-pub if_ok : {A E : Type 0} {P Q : A → Type 0} (r : Result A E) → ((x : A) → P x → Q x) → IfOk r P → IfOk r Q
-if_ok (Ok a) f p = f a p
-if_ok (Err a) f p = tt
 
 pub on_ok : {A E : Type 0} {P Q : Type 0} (r : Result A E) → (P → Q) → OnOk r P → OnOk r Q
 on_ok (Ok a) f p = f p

@@ -3,16 +3,13 @@ use Rattle.std.proofs.Common.{inl, inr, ◌≡◌, ◌∙◌, ℕ, ◌+◌, ◌<
 use Rattle.std.specs.Prelude.{Result, Ok, Err, OnOk}
 use Rattle.std.proofs.lemmas.List.{drop_more, drop_all}
 use denote.Ref.{Bor}
-use Rattle.tree_model.specs.Rows.{let_row, break_row}
 use Rattle.tree_model.specs.Trees.{inner}
 use Rattle.signature_model.specs.Declarations.{Name}
 use Rattle.typing_model.specs.Parts.{Seen, no_names}
 use Rattle.syntax_tree.specs.declared.rows.RowName.{RowName}
 use Rattle.syntax_tree.specs.declared.rows.RowName.TheVariants as name
 use Rattle.syntax_tree.specs.declared.tree.Node.{Node, out-Node}
-use Rattle.syntax_tree.specs.Names as names
 use Rattle.syntax_tree.specs.View.{node_view, place_of}
-use Rattle.syntax_tree.proofs.Views.{node_view_parts}
 use Rattle.row_parts.specs.declared.slots.Operand.{Operand}
 use Rattle.row_parts.specs.Numbered.{Numbered, numbered, part_of, operand_view}
 use Rattle.env_table.specs.declared.entries.Entry.{Entry}
@@ -21,7 +18,6 @@ use Rattle.env_table.specs.declared.entries.Kind.TheVariants as kind
 use Rattle.typing_state.specs.declared.parts.Parts.{Parts}
 use Rattle.typing_state.specs.Goes.{Goes, OnlyIndex}
 use Rattle.typing_state.specs.Notes.{NotedNameless}
-use Rattle.operand_laws.specs.Formed.{row_of}
 use Rattle.typing_steps.specs.States.{is_aloud, sight}
 use Rattle.typing_steps.specs.Typing.{as_declared}
 use Rattle.typing_steps.proofs.Still.{plain_notes, notes_unseen, notes_untold}
@@ -30,25 +26,8 @@ use Rattle.core_typing.specs.Items.{Outside, OnlyBetween, IsCarriedPart, IsCarri
 use Rattle.core_typing.proofs.ItemLaws.{done_none, done_then, let_done, idle_given}
 use Rattle.module_steps.specs.declared.scenes.Scene.{Scene}
 use Rattle.module_steps.specs.Scenes.{has_name, SameNames}
-use Rattle.module_typing.specs.Items.{HasSeen, IsGiven, GivesItem, GivesItems, GivesFirst, GivesItemsFirst}
-
--- the row of a node, by that of the code
-row_there : (nd : Node) → row_of (node_view nd) ≡ names.row_of (out-Node nd).row
-row_there nd = ap row_of (node_view_parts nd)
-
-only_let : (r : RowName) → names.row_of r ≡ let_row → r ≡ name.Let
-unfolding names.row_of
-only_let name.Let e = refl
-only_let _ e = absurd (cc)
-
-only_break : (r : RowName) → names.row_of r ≡ break_row → r ≡ name.Break
-unfolding names.row_of
-only_break name.Break e = refl
-only_break _ e = absurd (cc)
-
-break_there : (nd : Node) → (out-Node nd).row ≡ name.Break → row_of (node_view nd) ≡ break_row
-unfolding names.row_of
-break_there nd e = row_there nd ∙ ap names.row_of e
+use Rattle.module_typing.proofs.NodeRows.{row_there, only_let, only_break, break_there}
+use Rattle.module_typing.specs.Items.{HasSeen, IsGiven, GivesItem, GivesItems, NamesNone, GivesFirst, GivesItemsFirst}
 
 -- a scene in which the same names stand has them
 seen_same : {s s' : Scene} {seen : Seen} → SameNames s s' → HasSeen s seen → HasSeen s' seen
@@ -107,6 +86,13 @@ other_item (Err e) a b s s' x nd some no_let no_break = tt
 other_item (Ok v) a b s s' x nd some no_let no_break = λ G E seen carried aloud at constants standing. absurd (elim (subst (IsCarriedPart x.number) (there x nd some) carried) [
   | inl item ↦ no_let (only_let (out-Node nd.now).row (sym (row_there nd.now) ∙ item.row))
   | inr break ↦ no_break (only_break (out-Node nd.now).row (sym (row_there nd.now) ∙ break))
+])
+
+-- and names something, as far as is known
+pub other_names : (s s' : Scene) (x : Operand) (nd : Bor Node) → x.node ≡ Some nd → ((out-Node nd.now).row ≡ name.Let → ⊥) → ((out-Node nd.now).row ≡ name.Break → ⊥) → NamesNone (operand_view x).part → SameNames s s'
+other_names s s' x nd some no_let no_break none = absurd (elim (subst NamesNone (there x nd some) none) [
+  | inl let_is ↦ no_let (only_let (out-Node nd.now).row (sym (row_there nd.now) ∙ let_is))
+  | inr break_is ↦ no_break (only_break (out-Node nd.now).row (sym (row_there nd.now) ∙ break_is))
 ])
 
 -- no row is two

@@ -1,5 +1,7 @@
 -- What the calls for the items of a structure carry.
-use Rattle.std.specs.Prelude.{◌≡◌, true, List, [], ◌∷◌, ◌++◌}
+use Rattle.std.specs.Prelude.{◌≡◌, ◌⊎◌, true, List, [], ◌∷◌, ◌++◌}
+use Rattle.tree_model.specs.Rows.{let_row, break_row}
+use Rattle.tree_model.specs.Trees.{Part, taken, inner, missing}
 use Rattle.signature_model.specs.Declarations.{Name}
 use Rattle.signature_model.specs.Entries.{Environment}
 use Rattle.typing_model.specs.Contexts.{Choice}
@@ -9,6 +11,7 @@ use Rattle.row_parts.specs.Numbered.{Numbered}
 use Rattle.env_table.specs.declared.entries.Entry.{Entry}
 use Rattle.env_table.specs.declared.entries.Kind.TheVariants as kind
 use Rattle.typing_state.specs.declared.parts.Parts.{Parts}
+use Rattle.operand_laws.specs.Formed.{row_of}
 use Rattle.typing_conditions.specs.Sights.{Letters}
 use Rattle.typing_steps.specs.States.{is_aloud, sight}
 use Rattle.typing_steps.specs.Typing.{as_declared}
@@ -32,6 +35,12 @@ pub record IsGiven (E : Choice → Environment) (ms : List Item) (seen : Seen) (
 -- What the call for an item of a structure gives where faults are reported, if the item is one that is carried: the definitions' own item is done.
 abbrev pub GivesItem : (a b : Parts) → (old new : Scene) → Numbered → Type 0
 GivesItem a b old new o = (G : Letters) (E : Choice → Environment) (seen : Seen) → IsCarriedItemOperand o → is_aloud a.telling ≡ true → Outside as_declared (sight a) G old.env E → HasConstants a → HasSeen old seen → IsGiven E (item_at a.item o) seen a b G new
+
+-- what names no type, module or module type where it is an item: a `let`, `;;`, and what is missing
+abbrev pub NamesNone : Part → Type 0
+NamesNone (taken t) = Unit {0}
+NamesNone (inner t) = (row_of t ≡ let_row) ⊎ (row_of t ≡ break_row)
+NamesNone (missing at) = Unit {0}
 
 -- each of some items is one that is carried
 abbrev pub AreCarriedItems : List Numbered → Type 0

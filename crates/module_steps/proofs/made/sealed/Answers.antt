@@ -1,11 +1,11 @@
+use Rattle.std.proofs.lemmas.Result.{IfOk-weaker}
 use Rattle.typing_state.proofs.Going.{goes_trans}
 use Rattle.sig_template.specs.Ways.{sig_of}
 use Rattle.sig_template.proofs.Later.{live_later}
-use Rattle.module_steps.proofs.Naming.{if_ok}
 use Rattle.module_steps.proofs.made.sealed.Goals as goal
 
 pub returns-clause-made : goal.returns-clause-made
-returns-clause-made c = if_ok c.behind.result
+returns-clause-made c = IfOk-weaker c.behind.result _ _
     (λ m is. (
       c.in_ok-anew.anew,
       is,

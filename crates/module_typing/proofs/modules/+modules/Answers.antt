@@ -3,7 +3,7 @@ use Rattle.row_parts.specs.Numbered.{operand_view}
 use Rattle.syntax_tree.specs.declared.rows.RowName.TheVariants as name
 use Rattle.syntax_tree.specs.declared.tree.Node.{out-Node}
 use Rattle.typing_state.proofs.Going.{goes_refl, goes_trans}
-use Rattle.module_typing.proofs.ItemSteps.{missing_given, break_given, let_item_given, other_item, not_of, items_start, items_next, items_end}
+use Rattle.module_typing.proofs.ItemSteps.{missing_given, break_given, let_item_given, other_item, other_names, not_of, items_start, items_next, items_end}
 use Rattle.module_typing.proofs.modules.+modules.Goals as goal
 
 pub type_item-returns-in_default-clause-carries : goal.type_item-returns-in_default-clause-carries
@@ -28,9 +28,22 @@ type_item-returns-in-Include-clause-carries t c =
     other_item c.include_item.result c.args.at.now c.include_item.new.at c.args.scene.now c.include_item.new.scene c.args.item c.in-Some.node c.in-Some.is
     (not_of row name.Include name.Let c.in-Include.is (λ e. absurd (cc))) (not_of row name.Include name.Break c.in-Include.is (λ e. absurd (cc)))
 
+pub type_item-returns-in-Module-clause-names : goal.type_item-returns-in-Module-clause-names
+type_item-returns-in-Module-clause-names t c =
+    let row = (out-Node c.in-Some.node.now).row in
+    other_names c.args.scene.now c.type_module_item.new.scene c.args.item c.in-Some.node c.in-Some.is
+    (not_of row name.Module name.Let c.in-Module.is (λ e. absurd (cc))) (not_of row name.Module name.Break c.in-Module.is (λ e. absurd (cc)))
+
+pub type_item-returns-in-Include-clause-names : goal.type_item-returns-in-Include-clause-names
+type_item-returns-in-Include-clause-names t c =
+    let row = (out-Node c.in-Some.node.now).row in
+    other_names c.args.scene.now c.include_item.new.scene c.args.item c.in-Some.node c.in-Some.is
+    (not_of row name.Include name.Let c.in-Include.is (λ e. absurd (cc))) (not_of row name.Include name.Break c.in-Include.is (λ e. absurd (cc)))
+
 pub type_item-returns-in_default-row : goal.type_item-returns-in_default-row
 type_item-returns-in_default-row t c = record {
   carries = other_item c.type_specification.result c.args.at.now c.type_specification.new.at c.args.scene.now c.type_specification.new.scene c.args.item c.in-Some.node c.in-Some.is c.in_default-row.not-Let c.in_default-row.not-Break;
+  names = other_names c.args.scene.now c.type_specification.new.scene c.args.item c.in-Some.node c.in-Some.is c.in_default-row.not-Let c.in_default-row.not-Break;
   goes = c.type_specification.ensures.goes;
 }
 
