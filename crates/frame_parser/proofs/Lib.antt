@@ -7,3 +7,4 @@ pub mod Retakes
 pub mod Known
 pub mod Ends
 pub mod Bounds
+pub mod Settles

@@ -1,5 +1,5 @@
 -- For which parsers of the definitions the code's stacks stand.
-use Rattle.std.specs.Prelude.{◌≡◌, Bool, true, false, ℕ, ◌+◌, ◌<◌, ◌≤◌, List, [], ◌∷◌, length, map, reverse, Option, Some, None, option_map}
+use Rattle.std.specs.Prelude.{◌≡◌, Bool, true, false, ℕ, ◌+◌, ◌<◌, ◌≤◌, List, [], ◌∷◌, length, drop, map, reverse, Option, Some, None, option_map}
 use Rattle.std.specs.declared.rc.Rc.{Rc}
 use Rattle.std.specs.declared.alloc.Global.{Global}
 use Rattle.token_model.specs.Kinds.{Tok}
@@ -97,14 +97,14 @@ is_left_out (Some (tells.skipped s)) = true
 is_left_out (Some (tells.too_deep s)) = true
 is_left_out (Some (tells.cut p)) = true
 
--- the tree of rows, and how many parts are missing at its end, are those of the frames
-pub record ShowsWhole (text : Text) (s : State) (w : Whole) : Type 0 where
-  pub tree : trees_of w.tree ≡ items_of (named row_name (rules.close_up (grammar text) s.stack s.place).0)
+-- the tree of rows without so many of its first items, and how many parts are missing at its end, are those of the frames
+pub record ShowsWhole (from : ℕ) (text : Text) (s : State) (w : Whole) : Type 0 where
+  pub tree : trees_of w.tree ≡ drop from (items_of (named row_name (rules.close_up (grammar text) s.stack s.place).0))
   pub holes : w.holes ≡ (rules.close_up (grammar text) s.stack s.place).1
 
--- a tree with its faults is the one of the definition
-pub record ShowsEnd (text : Text) (e : Tree × List rules.Fault) (r : Closed) : Type 0 where
-  pub tree : trees_of r.tree ≡ items_of (named row_name e.0)
+-- a tree without so many of its first items, with its faults, is the one of the definition
+pub record ShowsEnd (from : ℕ) (text : Text) (e : Tree × List rules.Fault) (r : Closed) : Type 0 where
+  pub tree : trees_of r.tree ≡ drop from (items_of (named row_name e.0))
   pub faults : map fault_of r.faults.items ≡ map told e.1
 
 -- so many tokens lead to these frames

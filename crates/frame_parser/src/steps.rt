@@ -1,5 +1,5 @@
 //! A stack begins, takes tokens one by one, and is closed.
-ghost use Rattle.std.specs.Prelude.{◌≡◌, ◌&&◌, ◌<◌, ◌≤◌, ◌+◌, ◌++◌, ◌∷◌, [], ℕ, List, Option, Some, None, length, map, reverse, option_map, IfOk, OnOk, OnErr};
+ghost use Rattle.std.specs.Prelude.{◌≡◌, ◌&&◌, ◌<◌, ◌≤◌, ◌+◌, ◌++◌, ◌∷◌, [], ℕ, List, Option, Some, None, length, drop, map, reverse, option_map, IfOk, OnOk, OnErr};
 ghost use Rattle.token_model.specs.Kinds.{Tok};
 ghost use Rattle.grammar_model.specs.Named.{named, items_of};
 ghost use Rattle.grammar_model.specs.Ocaml as ocaml;
@@ -8,6 +8,7 @@ ghost use Rattle.recovery_model.specs.Steps as rules;
 ghost use Rattle.recovery_model.specs.Steps.{last_fault};
 ghost use Rattle.recovery_model.specs.Items as model;
 ghost use Rattle.recovery_model.specs.Recovery as recovery;
+ghost use Rattle.settled_laws.specs.Settled.{settled_in};
 ghost use Rattle.syntax_tree.specs.View.{tok_of, trees_of};
 ghost use Rattle.syntax_rows.specs.View.{text_of};
 ghost use Rattle.frame_steps.specs.Told.{told, listed};
@@ -22,7 +23,8 @@ use crate::stack::{
     Closed, Item, Mark, Stack, Stepped, Taken, Tokens, share_item, tokens_in_order,
 };
 use frame_steps::{
-    Stack as Rows, Stepped as Put, SyntaxFault, Text, Whole, begun as rows_begun, close_up, put,
+    Stack as Rows, Stepped as Put, SyntaxFault, Text, Whole, begun as rows_begun, close_up,
+    count_items, put,
 };
 use std::alloc::Global;
 use syntax_tree::{Counts, NoMemory, Token};
@@ -212,6 +214,27 @@ pub fn step<C: Counts>(
     Ok(taken.stepped)
 }
 
+/// The stack behind one token more; the token's faults are put behind others. The stack that is lent stays as it is.
+/// After `NoMemory` the faults are as before, and nothing is counted.
+pub fn step_onto<C: Counts>(
+    alloc: Global,
+    stack: &Stack,
+    token: &Token,
+    faults: &mut Vec<SyntaxFault>,
+    counts: &mut C,
+) -> Result<Stack, NoMemory>
+    requires few { (text : ocaml.Text) × (ts : List Tok) × Behind text ts stack.now × (length ts < 1048576) }
+    ensures stack { IfOk result (λ r. (text : ocaml.Text) (ts : List Tok) → Behind text ts stack.now → length ts < 1048576 → Behind text (ts ++ tok_of token.now ∷ []) r) }
+    ensures faults { OnOk result ((text : ocaml.Text) (ts : List Tok) → Behind text ts stack.now → length ts < 1048576 → map fault_of faults.new.items ≡ map fault_of faults.old.items ++ map told (next_step text ts (tok_of token.now)).faults) }
+    ensures counted { OnOk result ((text : ocaml.Text) (ts : List Tok) → Behind text ts stack.now → length ts < 1048576 → C.tallies counts.new ≡ shifted_by (next_shifts text ts (tok_of token.now)) (C.tallies counts.old)) }
+    ensures refused { OnErr result ((faults.new.items ≡ faults.old.items) × (C.tallies counts.new ≡ C.tallies counts.old)) }
+{
+    let next = take_one(alloc, stack, token)?;
+    faults.extend_from_slice(&next.stepped.faults)?;
+    add_shifted(next.count, counts);
+    Ok(next.stepped.stack)
+}
+
 /// So many tokens were taken.
 fn add_shifted<C: Counts>(count: usize, counts: &mut C)
     ensures { C.tallies counts.new ≡ shifted_by count (C.tallies counts.old) }
@@ -221,49 +244,76 @@ fn add_shifted<C: Counts>(count: usize, counts: &mut C)
     }
 }
 
-/// The tree of the tokens on a stack, and the faults at its end. The stack that is lent stays as it is.
-pub fn close(alloc: Global, stack: &Stack) -> Result<Closed, NoMemory>
+/// How many items are settled behind the tokens on a stack: no token that follows changes anything in these.
+pub fn settled(stack: &Stack) -> u32
+    ensures { (text : ocaml.Text) (ts : List Tok) → Behind text ts stack.now → length ts ≤ 1048576 → result ≡ length (settled_in text ts) }
+{
+    match &stack.item {
+        None => count_items(&stack.rows),
+        Some(item) => match &item.mark {
+            Mark::Held { before, since: _ } => count_items(before),
+            Mark::Sound => count_items(&stack.rows),
+            Mark::Marked => count_items(&stack.rows),
+        },
+    }
+}
+
+/// The tree of the tokens on a stack without so many of its first items, and the faults at its end.
+/// The stack that is lent stays as it is.
+pub fn close(alloc: Global, stack: &Stack, from: usize) -> Result<Closed, NoMemory>
     requires few { (text : ocaml.Text) × (ts : List Tok) × Behind text ts stack.now × (length ts ≤ 1048576) }
-    ensures tree { IfOk result (λ r. (text : ocaml.Text) (ts : List Tok) → Behind text ts stack.now → length ts ≤ 1048576 → trees_of r.tree ≡ items_of (named ocaml.row_name (recovery.close (grammar text) (run text ts)).0)) }
+    ensures tree { IfOk result (λ r. (text : ocaml.Text) (ts : List Tok) → Behind text ts stack.now → length ts ≤ 1048576 → trees_of r.tree ≡ drop from (items_of (named ocaml.row_name (recovery.close (grammar text) (run text ts)).0))) }
     ensures faults { IfOk result (λ r. (text : ocaml.Text) (ts : List Tok) → Behind text ts stack.now → length ts ≤ 1048576 → map fault_of r.faults.items ≡ map told (recovery.close (grammar text) (run text ts)).1) }
 {
-    end(alloc, stack)
+    end(alloc, stack, from)
 }
 
 /// The end of the text.
-fn end(alloc: Global, stack: &Stack) -> Result<Closed, NoMemory>
+fn end(alloc: Global, stack: &Stack, from: usize) -> Result<Closed, NoMemory>
     requires ready { IsReady 1048576 stack.now }
-    ensures { IfOk result (λ r. (text : ocaml.Text) (p : model.Parser) (n : ℕ) → Shows text p stack.now → Comes text n p → n ≤ 1048576 → ShowsEnd text (recovery.close (grammar text) p) r) }
+    ensures { IfOk result (λ r. (text : ocaml.Text) (p : model.Parser) (n : ℕ) → Shows text p stack.now → Comes text n p → n ≤ 1048576 → ShowsEnd from text (recovery.close (grammar text) p) r) }
 {
-    let whole = close_up(alloc, &stack.rows)?;
+    let whole = close_up(alloc, &stack.rows, from)?;
     if whole.holes == 0 {
         return ended(whole, stack.rows.place(), Vec::new(alloc));
     }
     match &stack.item {
         None => ended(whole, stack.rows.place(), Vec::new(alloc)),
-        Some(item) => end_item(alloc, &stack.rows, item, whole),
+        Some(item) => end_item(alloc, &stack.rows, item, whole, from),
     }
 }
 
 /// The end in an item, where parts are missing: an item with cut tokens is gone back to.
-fn end_item(alloc: Global, rows: &Rows, item: &Item, whole: Whole) -> Result<Closed, NoMemory>
+fn end_item(
+    alloc: Global,
+    rows: &Rows,
+    item: &Item,
+    whole: Whole,
+    from: usize,
+) -> Result<Closed, NoMemory>
     requires ready { (text : ocaml.Text) × (i : model.Item) × ShowsItem text (Some i) (Some item.now) × KeepsFew text 1048576 i.mark }
-    ensures { IfOk result (λ r. (text : ocaml.Text) (s : model.State) (i : model.Item) → ShowsWhole text s whole → (stack_view rows.now.frames).place ≡ s.place → ShowsItem text (Some i) (Some item.now) → KeepsFew text 1048576 i.mark → ShowsEnd text (recovery.close_mark (grammar text) s i.col i.mark) r) }
+    ensures { IfOk result (λ r. (text : ocaml.Text) (s : model.State) (i : model.Item) → ShowsWhole from text s whole → (stack_view rows.now.frames).place ≡ s.place → ShowsItem text (Some i) (Some item.now) → KeepsFew text 1048576 i.mark → ShowsEnd from text (recovery.close_mark (grammar text) s i.col i.mark) r) }
 {
     match &item.mark {
-        Mark::Held { before, since } => end_back(alloc, item.col, before.share()?, since),
+        Mark::Held { before, since } => end_back(alloc, item.col, before.share()?, since, from),
         Mark::Sound => ended(whole, rows.place(), Vec::new(alloc)),
         Mark::Marked => ended(whole, rows.place(), Vec::new(alloc)),
     }
 }
 
 /// The end behind tokens that are taken again.
-fn end_back(alloc: Global, col: u32, before: Rows, since: &Tokens) -> Result<Closed, NoMemory>
+fn end_back(
+    alloc: Global,
+    col: u32,
+    before: Rows,
+    since: &Tokens,
+    from: usize,
+) -> Result<Closed, NoMemory>
     requires ready { (n : ℕ) × RowsReady n before × (n + length (tokens_view since.now) ≤ 1048576) }
-    ensures { IfOk result (λ r. (text : ocaml.Text) (s : model.State) (ts : List Tok) (n : ℕ) → ShowsRows text s before → reverse (tokens_view since.now) ≡ ts → IsReached text n s → n + length ts ≤ 1048576 → ShowsEnd text (recovery.ended_by (grammar text) (recovery.go_back (grammar text) col s ts)) r) }
+    ensures { IfOk result (λ r. (text : ocaml.Text) (s : model.State) (ts : List Tok) (n : ℕ) → ShowsRows text s before → reverse (tokens_view since.now) ≡ ts → IsReached text n s → n + length ts ≤ 1048576 → ShowsEnd from text (recovery.ended_by (grammar text) (recovery.go_back (grammar text) col s ts)) r) }
 {
     let back = go_back(alloc, col, before, since)?;
-    let whole = close_up(alloc, &back.stepped.stack.rows)?;
+    let whole = close_up(alloc, &back.stepped.stack.rows, from)?;
     ended(whole, back.stepped.stack.rows.place(), back.stepped.faults)
 }
 

@@ -45,7 +45,7 @@ pub fn parse<C: Counts>(
         add_faults(&stepped.faults, &mut faults)?;
         stack = stepped.stack;
     }
-    let closed = close(alloc, &stack)?;
+    let closed = close(alloc, &stack, 0)?;
     add_faults(&closed.faults, &mut faults)?;
     Ok(Parsed {
         tree: closed.tree,

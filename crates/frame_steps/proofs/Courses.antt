@@ -6,7 +6,7 @@ use Rattle.grammar_model.specs.Keys.{key_of}
 use Rattle.grammar_model.specs.Trees.{Part, missing}
 use Rattle.grammar_model.specs.Tables.{Table, What, nothing, token, operand, Edge, Last, allowed, Place, nowhere, growth, at_spot, first_place}
 use Rattle.recovery_model.specs.Numbers as numbers
-use Rattle.recovery_model.specs.Numbers.{last_row, Found, none, found, further, here, find_fit, Way, way, hole_in, way_by, or_way, more_must, must_at, find_way, out_by, find_out}
+use Rattle.recovery_model.specs.Numbers.{last_row, Found, none, found, further, here, find_fit, Way, way, hole_in, way_by, or_way, more_must, find_way, out_by, find_out}
 use Rattle.grammar_model.specs.Machine.{Frame, Stack, put, last_done, no_fit, take_at, place_in, fits_at}
 use Rattle.recovery_model.specs.Steps.{is_operand, missing_at, must_of, unreached, reached, at_frame, on_edge, filled, most_parts, reach_out}
 use Rattle.grammar_laws.proofs.ByNumbers.{take_found, last_closed, fits_by}

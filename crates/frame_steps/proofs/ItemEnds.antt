@@ -1,8 +1,7 @@
 -- An item is closed as its frames are.
-use Rattle.std.proofs.Common.{◌≡◌, ℕ, List, ◌∷◌, sym, ◌∙◌, ap, subst}
+use Rattle.std.proofs.Common.{◌≡◌, ℕ, ◌∷◌, sym, ◌∙◌, ap, subst}
 use Rattle.grammar_model.specs.Machine.{Frame, Stack}
 use Rattle.grammar_model.specs.Ocaml.{row_name}
-use Rattle.recovery_model.specs.Items.{closed_out}
 use Rattle.syntax_rows.specs.declared.ocaml.Text.{Text}
 use Rattle.parse_frames.specs.Frames as frames
 use Rattle.parse_frames.specs.Named.{IsNamed}

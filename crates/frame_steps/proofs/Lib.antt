@@ -9,6 +9,7 @@ pub mod Grows
 pub mod OneStep
 pub mod Runs
 pub mod Putting
+pub mod Outermost
 pub mod Wholes
 pub mod ItemFrames
 pub mod ItemEnds

@@ -8,7 +8,7 @@ use Rattle.recovery_model.specs.Steps.{missing_at, must_of, on_edge, one_more, f
 use Rattle.grammar_model.specs.Ocaml.{row_name}
 use Rattle.syntax_rows.specs.declared.ocaml.Text.{Text}
 use Rattle.parse_frames.specs.Frames as frames
-use Rattle.parse_frames.specs.Frames.{with_token, with_missing, begun, closed, sizes_in, heights_in}
+use Rattle.parse_frames.specs.Frames.{with_missing, closed, sizes_in, heights_in}
 use Rattle.parse_frames.specs.Named.{named_stack, IsNamed}
 use Rattle.parse_frames.proofs.Named.{put_named, waiting_named}
 use Rattle.frame_steps.specs.Course.{out, out_holes, past_musts}

@@ -6,7 +6,7 @@ use Rattle.grammar_model.specs.Tables.{Table, Last, first_place}
 use Rattle.recovery_model.specs.Numbers.{find_fit, Way, find_out}
 use Rattle.grammar_model.specs.Machine.{Frame, Stack}
 use Rattle.recovery_model.specs.Steps as recovery
-use Rattle.recovery_model.specs.Steps.{Fault, skipped, too_deep, added, stepped, step, filled, most_parts}
+use Rattle.recovery_model.specs.Steps.{Fault, skipped, too_deep, added, stepped, step}
 use Rattle.grammar_model.specs.Ocaml.{row_name}
 use Rattle.syntax_rows.specs.View.{text_of}
 use Rattle.syntax_rows.specs.declared.ocaml.Text.{Text}

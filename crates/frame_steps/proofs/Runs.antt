@@ -1,5 +1,5 @@
 -- The frames that the tokens of a text lead to are in order.
-use Rattle.std.proofs.Common.{◌≡◌, ℕ, zero, suc, ◌+◌, ◌*◌, ◌^◌, ◌≤◌, ◌<◌, Bool, true, false, ◌&&◌, List, [], ◌∷◌, ◌++◌, length, Option, Some, None, refl, sym, ap, subst, arith, if◌then◌else◌, inl, inr}
+use Rattle.std.proofs.Common.{◌≡◌, ℕ, zero, suc, ◌+◌, ◌*◌, ◌^◌, ◌≤◌, ◌<◌, Bool, true, false, ◌&&◌, List, [], ◌∷◌, length, Option, Some, None, refl, sym, ap, subst, arith, if◌then◌else◌, inl, inr}
 use Rattle.std.proofs.lemmas.Bool.{cases_lt}
 use Rattle.token_model.specs.Kinds.{Tok}
 use Rattle.grammar_model.specs.Keys.{key_of}
@@ -11,7 +11,7 @@ use Rattle.grammar_model.specs.Machine.{Frame, frame, Stack, last_done, put, fir
 use Rattle.recovery_model.specs.Steps.{is_operand, missing_at, must_of, on_edge, filled, most_parts, Fault, step}
 use Rattle.grammar_model.specs.Ocaml.{Text, grammar}
 use Rattle.grammar_laws.proofs.Formed as formed
-use Rattle.grammar_laws.proofs.Formed.{Passes, TopOf, Below, Top, top_step, top_begun}
+use Rattle.grammar_laws.proofs.Formed.{TopOf, Below, top_step, top_begun}
 use Rattle.grammar_laws.proofs.Instance.{passes}
 use Rattle.grammar_laws.proofs.Promises.{rows_tested}
 use Rattle.grammar_model.specs.Ocaml.{rows, sizes, root_of}

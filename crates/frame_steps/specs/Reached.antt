@@ -1,11 +1,10 @@
 -- The frames that steps lead to, and how many frames are closed with an item.
-use Rattle.std.specs.Prelude.{◌≡◌, ℕ, suc, ◌+◌, nat_eq, List, [], ◌∷◌, if◌then◌else◌}
+use Rattle.std.specs.Prelude.{◌≡◌, ℕ, suc, nat_eq, [], ◌∷◌, if◌then◌else◌}
 use Rattle.token_model.specs.Kinds.{Tok}
 use Rattle.grammar_model.specs.Machine.{Frame, frame, Stack}
 use Rattle.recovery_model.specs.Steps.{step}
 use Rattle.grammar_model.specs.Ocaml.{Text, grammar, row_name}
 use Rattle.recovery_model.specs.Items.{item_row, closed_item, closed_out}
-use Rattle.syntax_rows.specs.View.{text_of}
 use Rattle.parse_frames.specs.Named.{IsNamed}
 use Rattle.parse_frames.specs.Stacks.{stack_view}
 use Rattle.frame_steps.specs.View.{text_table}

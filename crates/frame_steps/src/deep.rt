@@ -7,7 +7,7 @@ ghost use Rattle.syntax_rows.specs.View.{place_of, way_of};
 ghost use Rattle.parse_frames.specs.Named.{named_frame};
 ghost use Rattle.parse_frames.specs.Frames.{frames_running};
 ghost use Rattle.parse_frames.specs.Stacks.{stack_view};
-ghost use Rattle.parse_frames.specs.View.{frames_view, frames_heights};
+ghost use Rattle.parse_frames.specs.View.{frames_view, frames_notes};
 ghost use Rattle.frame_steps.specs.Course.{opened_in, out, past_way, past_musts};
 ghost use Rattle.frame_steps.specs.Course as plain;
 ghost use Rattle.frame_steps.specs.Order.{AllLow, highest};
@@ -53,7 +53,7 @@ fn taking_frame(text: Text, frames: &FrameStack, closed: u32) -> Taker
 /// The first of these frames, or the one below it once so many more are closed, where the frame further in makes a node
 /// of this height.
 fn frame_below(text: Text, frames: &Frames, height: u16, closed: u32, below: u32) -> Taker
-    requires told { frames_heights frames.now ≡ frames_running (frames_view frames.now) }
+    requires told { frames_notes frames.now ≡ frames_running (frames_view frames.now) }
     ensures { (f : machine.Frame) (S : machine.Stack) (at : ℕ) → map (named_frame row_name) S ≡ frames_view frames.now → AllLow (f ∷ S)
         → height ≡ highest f.done + 1 → below + closed + 1 ≡ length S → IsTaker result (out (suc closed) (text_table text) f S at) }
 {

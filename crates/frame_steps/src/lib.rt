@@ -15,6 +15,6 @@ mod steps;
 
 pub use items::{Ended, close_item};
 pub use stack::{Stack, Stepped, SyntaxFault, Whole};
-pub use steps::{begun, close_up, put};
+pub use steps::{begun, close_up, count_items, put};
 pub use syntax_rows::{Key, Text, number_of_key};
 pub use syntax_tree::{NoMemory, Span, Token, Tree};

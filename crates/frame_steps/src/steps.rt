@@ -1,27 +1,25 @@
 //! A stack begins, takes tokens one by one, and is closed.
-ghost use Rattle.std.specs.Prelude.{◌≡◌, ◌<◌, ◌≤◌, ◌+◌, ◌∷◌, ◌++◌, ◌-◌, ◌^◌, [], ℕ, map, option_map, Some, IfOk, IsTrue, OnOk};
-ghost use Rattle.tree_model.specs.Rows.{Row as PlainRow};
+ghost use Rattle.std.specs.Prelude.{◌≡◌, ◌<◌, ◌≤◌, ◌+◌, ◌∷◌, ◌-◌, ◌^◌, [], ℕ, length, drop, option_map, Some, IfOk, IsTrue};
 ghost use Rattle.grammar_model.specs.Machine as machine;
 ghost use Rattle.grammar_model.specs.Ocaml as ocaml;
 ghost use Rattle.recovery_model.specs.Steps as recovery;
-ghost use Rattle.syntax_tree.specs.View.{tok_of, trees_of, node_view, child_view, forest_of};
+ghost use Rattle.settled_laws.specs.Settled.{inners, outer};
+ghost use Rattle.syntax_tree.specs.View.{tok_of, trees_of};
 ghost use Rattle.syntax_rows.specs.Numbers.{key_number};
 ghost use Rattle.frame_steps.specs.Course.{IsRefused};
-ghost use Rattle.parse_frames.specs.Frames.{heights_in, sizes_in};
-ghost use Rattle.grammar_model.specs.Named.{named, items_of, inner_of};
+ghost use Rattle.parse_frames.specs.Frames.{nodes_in};
+ghost use Rattle.grammar_model.specs.Named.{named, items_of};
 ghost use Rattle.parse_frames.specs.Stacks.{stack_view};
 ghost use Rattle.frame_steps.specs.View.{course_view, text_table, HasCourse, IsLeftOut, IsTakenBy, IsWhole, Stands, Standing, StepsTo};
 
 use crate::build::{Filled, close_frames, fill, holes_of, miss_way, take};
 use crate::deep::depth_of;
 use crate::find::{Course, fitting_course, reaching_course};
-use crate::rules::row_named;
 use crate::stack::{Stack, Stepped, SyntaxFault, Whole};
 use parse_frames::Stack as FrameStack;
-use std::alloc::{AllocError, Global};
-use std::rc::Rc;
+use std::alloc::Global;
 use syntax_rows::{Key, Text, grammar, number_of_key};
-use syntax_tree::{Child, NoMemory, Node, Part, Token, Tree};
+use syntax_tree::{NoMemory, Token, Tree};
 
 /// The stack of a text without tokens.
 pub fn begun(text: Text) -> Stack
@@ -143,22 +141,29 @@ fn take_by(
     }))
 }
 
-/// The tree of the tokens on a stack, and how many parts are missing at its end. The stack that is lent stays as it is.
-pub fn close_up(alloc: Global, stack: &Stack) -> Result<Whole, NoMemory>
+/// The tree of the tokens on a stack without so many of its first items, and how many parts are missing at its end.
+/// The stack that is lent stays as it is.
+pub fn close_up(alloc: Global, stack: &Stack, from: usize) -> Result<Whole, NoMemory>
     requires standing { Standing stack.now.text (stack_view stack.now.frames) }
     ensures tree { IfOk result (λ r. (f : machine.Frame) (S : machine.Stack) (at : ℕ) → Stands stack.now.text (f ∷ S) at (stack_view stack.now.frames)
-        → trees_of r.tree ≡ items_of (named ocaml.row_name (recovery.closed_up (text_table stack.now.text) f S at).0)) }
+        → trees_of r.tree ≡ drop from (items_of (named ocaml.row_name (recovery.closed_up (text_table stack.now.text) f S at).0))) }
     ensures holes { IfOk result (λ r. (f : machine.Frame) (S : machine.Stack) (at : ℕ) → Stands stack.now.text (f ∷ S) at (stack_view stack.now.frames)
         → r.holes ≡ (recovery.closed_up (text_table stack.now.text) f S at).1) }
 {
     let whole = close_all(alloc, stack)?;
-    let root = whole.frames.node(alloc, row_named(whole.frames.number()))?;
     Ok(Whole {
         tree: Tree {
-            items: items_of(alloc, &*root)?,
+            items: whole.frames.nodes_from(alloc, from)?,
         },
         holes: whole.holes,
     })
+}
+
+/// How many items there are: the nodes among the outermost frame's parts.
+pub fn count_items(stack: &Stack) -> u32
+    ensures { (f : machine.Frame) (S : machine.Stack) (at : ℕ) → Stands stack.now.text (f ∷ S) at (stack_view stack.now.frames) → result ≡ length (inners (outer (f ∷ S)).done) }
+{
+    stack.frames.items()
 }
 
 /// All frames but the outermost are closed, and that one has each part that must be there.
@@ -166,8 +171,7 @@ fn close_all(alloc: Global, stack: &Stack) -> Result<Filled, NoMemory>
     requires standing { Standing stack.now.text (stack_view stack.now.frames) }
     ensures whole { IfOk result (λ r. (f : machine.Frame) (S : machine.Stack) (at : ℕ) → Stands stack.now.text (f ∷ S) at (stack_view stack.now.frames)
         → IsWhole stack.now.text f S at r) }
-    ensures size { IfOk result (λ r. (name : PlainRow) → sizes_in name (stack_view r.frames).top.done < 2 ^ 32 - 1) }
-    ensures height { IfOk result (λ r. heights_in (stack_view r.frames).top.done < 2 ^ 16 - 1) }
+    ensures few { IfOk result (λ r. length (nodes_in (stack_view r.frames).top.done) < 2 ^ 32 - 1) }
 {
     let frames = &stack.frames;
     let closed = close_frames(alloc, stack.text, frames.share()?, frames.waiting())?;
@@ -176,31 +180,4 @@ fn close_all(alloc: Global, stack: &Stack) -> Result<Filled, NoMemory>
         frames: whole.frames,
         holes: closed.holes + whole.holes,
     })
-}
-
-/// The nodes among the parts of a node, in order.
-fn items_of(alloc: Global, node: &Node) -> Result<Vec<Rc<Node>>, NoMemory>
-    ensures { IfOk result (λ r. map (λ n. node_view n.value) r.items ≡ items_of (node_view node.now)) }
-{
-    let mut items = Vec::new(alloc);
-    for child in &node.children {
-        add_item(child, &mut items)?;
-    }
-    Ok(items)
-}
-
-fn add_item(child: &Child, items: &mut Vec<Rc<Node>>) -> Result<(), NoMemory>
-    ensures { OnOk result (map (λ n. node_view n.value) items.new.items ≡ map (λ n. node_view n.value) items.old.items ++ inner_of (child_view child.now).1) }
-{
-    match &child.part {
-        Part::Inner(node) => match Rc::clone(node) {
-            Ok(node) => match items.push(node) {
-                Ok(()) => Ok(()),
-                Err(_) => Err(AllocError),
-            },
-            Err(_) => Err(AllocError),
-        },
-        Part::Taken(_) => Ok(()),
-        Part::Missing(_) => Ok(()),
-    }
 }

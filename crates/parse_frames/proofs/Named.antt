@@ -9,7 +9,7 @@ use Rattle.grammar_model.specs.Trees.{Tree, Forest, Part, node, no_parts, part, 
 use Rattle.grammar_model.specs.Tables.{Table, What, nothing, token, operand, plain as no_operand, hole}
 use Rattle.grammar_model.specs.Grammar.{last_in}
 use Rattle.grammar_model.specs.Machine as machine
-use Rattle.grammar_model.specs.Machine.{frame, node_of, put, first_of, opened, start_in, start_at}
+use Rattle.grammar_model.specs.Machine.{frame, node_of, put, first_of, opened, start_at}
 use Rattle.recovery_model.specs.Steps.{missing_at}
 use Rattle.parse_frames.specs.Frames as frames
 use Rattle.parse_frames.specs.Frames.{Stack, started, with_token, with_missing, begun, closed, grown, onto, heights_in}

@@ -1,10 +1,10 @@
 -- The frames of the parser as the code keeps them: a finished operand has the name of its row and no number.
-use Rattle.std.specs.Prelude.{ℕ, ◌+◌, max, List, [], ◌∷◌, Option, Some, None}
+use Rattle.std.specs.Prelude.{ℕ, ◌+◌, ◌-◌, ◌^◌, max, min, List, [], ◌∷◌, ◌++◌, length, Option, Some, None}
 use Rattle.token_model.specs.Kinds.{Tok}
 use Rattle.tree_model.specs.Rows.{Row}
 use Rattle.tree_model.specs.Trees.{place, Tree, Forest, Part, no_parts, part, taken, inner, missing}
 use Rattle.tree_model.specs.Extents.{node_over, told_size, told_height}
-use Rattle.grammar_model.specs.Named.{slot_of}
+use Rattle.grammar_model.specs.Named.{slot_of, inner_of}
 use Rattle.grammar_model.specs.Tables.{Last, plain, row}
 
 -- a row in progress: its number, the spot of its newest part, and its parts with their slots, the newest first
@@ -99,12 +99,26 @@ abbrev pub newest_height : List (ℕ × Part) → ℕ
 newest_height [] = 0
 newest_height (d ∷ ds) = told_height d.1
 
--- for each part, the largest height of the part and those before it
-abbrev pub running_heights : List (ℕ × Part) → List ℕ
-running_heights [] = []
-running_heights (d ∷ ds) = heights_in (d ∷ ds) ∷ running_heights ds
+-- the nodes among parts, the newest first
+abbrev pub nodes_in : List (ℕ × Part) → List Tree
+nodes_in [] = []
+nodes_in (d ∷ ds) = inner_of d.1 ++ nodes_in ds
+
+-- how many there are, or 2^32 - 1 where there are more
+abbrev pub count_in : List (ℕ × Part) → ℕ
+count_in ds = min (length (nodes_in ds)) (2 ^ 32 - 1)
+
+-- of the innermost frame's parts and the frames below it, the outermost frame's parts
+abbrev pub outer_parts : List (ℕ × Part) → List Frame → List (ℕ × Part)
+outer_parts ds [] = ds
+outer_parts ds (f ∷ fs) = outer_parts f.done fs
+
+-- for each part, the largest height of a node among the part and those before it, and how many nodes there are
+abbrev pub running_notes : List (ℕ × Part) → List (ℕ × ℕ)
+running_notes [] = []
+running_notes (d ∷ ds) = (heights_in (d ∷ ds), count_in (d ∷ ds)) ∷ running_notes ds
 
 -- the same for each of these frames
-abbrev pub frames_running : List Frame → List (List ℕ)
+abbrev pub frames_running : List Frame → List (List (ℕ × ℕ))
 frames_running [] = []
-frames_running (f ∷ fs) = running_heights f.done ∷ frames_running fs
+frames_running (f ∷ fs) = running_notes f.done ∷ frames_running fs

@@ -29,18 +29,18 @@ abbrev pub parts_view : Option (Rc Cell Global) → List (ℕ × Part)
 parts_view None = []
 parts_view (Some r) = cell_view r.value
 
--- one cell's height, with those before it already seen
-abbrev pub heights_step : Cell-F (List ℕ) → List ℕ
-heights_step c = c.height ∷ shared c.before
+-- one cell's height and number of nodes, with those before it already seen
+abbrev pub notes_step : Cell-F (List (ℕ × ℕ)) → List (ℕ × ℕ)
+notes_step c = (c.height, c.nodes) ∷ shared c.before
 
--- the heights that the cells of a frame tell, the newest first
-abbrev pub cell_heights : Cell → List ℕ
-cell_heights = fold-Cell (List ℕ) heights_step
+-- the heights and numbers of nodes that a cell and those before it note, the newest first
+abbrev pub cell_notes : Cell → List (ℕ × ℕ)
+cell_notes = fold-Cell (List (ℕ × ℕ)) notes_step
 
--- the heights that the cells of a frame tell, the newest first
-abbrev pub parts_heights : Option (Rc Cell Global) → List ℕ
-parts_heights None = []
-parts_heights (Some r) = cell_heights r.value
+-- those that the cells of a frame note, the newest first
+abbrev pub parts_notes : Option (Rc Cell Global) → List (ℕ × ℕ)
+parts_notes None = []
+parts_notes (Some r) = cell_notes r.value
 
 -- one frame, with those below it already seen
 abbrev pub level_step : Level-F (List Frame) → List Frame
@@ -59,15 +59,15 @@ frames_view (Some r) = level_view r.value
 abbrev pub opening_view : Opening → ℕ × ℕ
 opening_view o = (o.number, o.first)
 
--- the heights that one frame tells, with those below it already seen
-abbrev pub level_heights_step : Level-F (List (List ℕ)) → List (List ℕ)
-level_heights_step l = parts_heights l.parts ∷ shared l.below
+-- what one frame notes, with those below it already seen
+abbrev pub level_notes_step : Level-F (List (List (ℕ × ℕ))) → List (List (ℕ × ℕ))
+level_notes_step l = parts_notes l.parts ∷ shared l.below
 
--- the heights that a frame that waits and those below it tell
-abbrev pub level_heights : Level → List (List ℕ)
-level_heights = fold-Level (List (List ℕ)) level_heights_step
+-- what a frame that waits and those below it note
+abbrev pub level_notes : Level → List (List (ℕ × ℕ))
+level_notes = fold-Level (List (List (ℕ × ℕ))) level_notes_step
 
--- the heights that frames that wait tell, the innermost first
-abbrev pub frames_heights : Option (Rc Level Global) → List (List ℕ)
-frames_heights None = []
-frames_heights (Some r) = level_heights r.value
+-- what frames that wait note, the innermost first
+abbrev pub frames_notes : Option (Rc Level Global) → List (List (ℕ × ℕ))
+frames_notes None = []
+frames_notes (Some r) = level_notes r.value

@@ -11,6 +11,8 @@ pub struct Cell {
     pub part: Part,
     /// The largest height of a node among this part and those before it, 0 where there is none.
     pub height: u16,
+    /// How many nodes there are among this part and those before it, or 2^32 - 1 where there are more.
+    pub nodes: u32,
     pub before: Parts,
 }
 
@@ -23,6 +25,7 @@ impl Drop for Cell {
                     slot: _,
                     part: _,
                     height: _,
+                    nodes: _,
                     before,
                 } => match before {
                     None => return,

@@ -2,10 +2,12 @@
 ghost use Rattle.std.specs.Prelude.{◌≡◌, length};
 ghost use Rattle.grammar_model.specs.Named.{slot_of};
 ghost use Rattle.parse_frames.specs.Frames as plain;
-ghost use Rattle.parse_frames.specs.Frames.{frames_running, running_heights};
-ghost use Rattle.parse_frames.specs.View.{frames_heights, frames_view, parts_heights, parts_view};
+ghost use Rattle.parse_frames.specs.Frames.{frames_running, running_notes};
+ghost use Rattle.parse_frames.specs.View.{frames_notes, frames_view, parts_notes, parts_view};
 
-use crate::nodes::{has_room, height_of_part, height_of_parts, node_over_parts};
+use crate::nodes::{
+    count_of_parts, has_room, height_of_part, height_of_parts, node_over_parts, nodes_from,
+};
 use crate::share::{push_frame, push_part, share_below, share_frames, share_part, share_parts};
 use crate::{Frames, Opening, Parts};
 use std::alloc::Global;
@@ -26,16 +28,16 @@ pub struct Stack {
     waiting: u32,
     place: u32,
     ghost counted: { waiting ≡ length (frames_view below) },
-    ghost told: { parts_heights parts ≡ running_heights (parts_view parts) },
-    ghost below_told: { frames_heights below ≡ frames_running (frames_view below) },
+    ghost told: { parts_notes parts ≡ running_notes (parts_view parts) },
+    ghost below_told: { frames_notes below ≡ frames_running (frames_view below) },
 }
 
 impl Stack {
-    ghost use Rattle.std.specs.Prelude.{◌<◌, ◌+◌, ◌-◌, ◌^◌, ◌&&◌, nat_lt, map, option_map, IfOk};
+    ghost use Rattle.std.specs.Prelude.{◌<◌, ◌+◌, ◌-◌, ◌^◌, ◌&&◌, nat_lt, map, drop, reverse, option_map, IfOk};
     ghost use Rattle.grammar_model.specs.Tables.{plain as no_operand, hole};
     ghost use Rattle.syntax_tree.specs.Names.{row_of};
     ghost use Rattle.syntax_tree.specs.View.{node_view, tok_of};
-    ghost use Rattle.parse_frames.specs.Frames.{started, with_token, with_missing, opened, opened_chain, begun, heights_in, newest_height, sizes_in};
+    ghost use Rattle.parse_frames.specs.Frames.{started, with_token, with_missing, opened, opened_chain, begun, count_in, heights_in, newest_height, nodes_in, outer_parts, sizes_in};
     ghost use Rattle.syntax_rows.specs.View.{last_of};
     ghost use Rattle.parse_frames.specs.View.{opening_view};
     ghost use Rattle.parse_frames.specs.Stacks.{stack_view};
@@ -79,7 +81,7 @@ impl Stack {
     /// The frames that wait below the innermost one.
     pub fn below(&self) -> &Frames
         ensures frames { frames_view result.now ≡ (stack_view self.now).below }
-        ensures told { frames_heights result.now ≡ frames_running (frames_view result.now) }
+        ensures told { frames_notes result.now ≡ frames_running (frames_view result.now) }
     {
         &self.below
     }
@@ -237,6 +239,34 @@ impl Stack {
         ensures { result ≡ (nat_lt (sizes_in (row_of name) (stack_view self.now).top.done) (2 ^ 32 - 1) && nat_lt (heights_in (stack_view self.now).top.done) (2 ^ 16 - 1)) }
     {
         has_room(name, &self.parts)
+    }
+
+    /// The parts of the outermost frame.
+    fn outermost(&self) -> &Parts
+        ensures parts { parts_view result.now ≡ outer_parts (stack_view self.now).top.done (stack_view self.now).below }
+        ensures told { parts_notes result.now ≡ running_notes (parts_view result.now) }
+    {
+        let mut parts = &self.parts;
+        let mut rest = &self.below;
+        while let Some(level) = rest {
+            parts = &level.parts;
+            rest = &level.below;
+        }
+        parts
+    }
+
+    /// How many nodes there are among the outermost frame's parts, or 2^32 - 1 where there are more.
+    pub fn items(&self) -> u32
+        ensures { result ≡ count_in (outer_parts (stack_view self.now).top.done (stack_view self.now).below) }
+    {
+        count_of_parts(self.outermost())
+    }
+
+    /// The nodes among the innermost frame's parts but for so many of the first, in order.
+    pub fn nodes_from(&self, alloc: Global, from: usize) -> Result<Vec<Rc<Node>>, NoMemory>
+        ensures { IfOk result (λ r. length (nodes_in (stack_view self.now).top.done) < 2 ^ 32 - 1 → map (λ n. node_view n.value) r.items ≡ drop from (reverse (nodes_in (stack_view self.now).top.done))) }
+    {
+        nodes_from(alloc, from, &self.parts)
     }
 
     /// The node of the innermost frame, whose row has this name.

@@ -1,41 +1,39 @@
 -- Steps of tokens: one more, the first ones, and what the last one and all of them say.
-use Rattle.std.proofs.Common.{◌≡◌, ℕ, zero, suc, ◌+◌, ◌-◌, ◌<◌, ◌≤◌, List, [], ◌∷◌, ◌++◌, length, take, map, get_or, refl, sym, ap, ◌∙◌, subst, arith, append_assoc, append-nil, Ok, Err}
+use Rattle.std.proofs.Common.{◌≡◌, ℕ, zero, suc, ◌+◌, ◌-◌, ◌≤◌, List, [], ◌∷◌, ◌++◌, length, take, map, get_or, refl, sym, ap, ◌∙◌, subst, arith, append_assoc, append-nil, Ok, Err}
 use Rattle.std.specs.Result.{OnErr}
 use Rattle.std.specs.declared.result.Result.{Result}
 use Rattle.std.proofs.lemmas.List.{take_all, take-append-le, length-map, length-take}
 use Rattle.token_model.specs.Kinds.{Tok}
 use Rattle.grammar_model.specs.Ocaml.{Text}
-use Rattle.frame_steps.specs.Told.{told}
-use Rattle.frame_steps.specs.View.{fault_of}
 use Rattle.frame_parser.specs.Behind.{Behind}
 use Rattle.syntax_tree.specs.Tallies.{Tallies, shifted_more}
 use Rattle.syntax_tree.specs.View.{tok_of}
 use Rattle.syntax_tree.specs.declared.tree.Token.{Token}
-use Rattle.frame_parser.specs.Run.{all_shifts, next_shifts, next_step, shifted_by}
+use Rattle.frame_parser.specs.Run.{all_shifts, faults, next_shifts, shifted_by}
 use Rattle.frame_parser.proofs.Lists.{shifted_add, shifts_next}
-use Rattle.frame_parser.specs.declared.stack.Stepped.{Stepped}
-use Rattle.resume_parser.specs.Kept.{AreSteps, IsCounted}
+use Rattle.resume_parser.specs.Kept.{ArePassed, IsCounted}
+use Rattle.resume_parser.specs.declared.kept.Passed.{Passed}
 
 -- there are as many steps as tokens
-pub steps_many : (text : Text) (before ts : List Tok) (ss : List Stepped) → AreSteps text before ts ss → length ss ≡ length ts
+pub steps_many : (text : Text) (before ts : List Tok) (ss : List Passed) → ArePassed text before ts ss → length ss ≡ length ts
 steps_many text before [] [] are = refl
 steps_many text before [] (s ∷ ss) are = absurd are
 steps_many text before (t ∷ ts) [] are = absurd are
 steps_many text before (t ∷ ts) (s ∷ ss) are = ap suc (steps_many text (before ++ t ∷ []) ts ss are.2)
 
 -- one step more
-pub steps_more : (text : Text) (before ts : List Tok) (ss : List Stepped) (t : Tok) (s : Stepped) → AreSteps text before ts ss → Behind text ((before ++ ts) ++ t ∷ []) s.stack
-    → map fault_of s.faults.items ≡ map told (next_step text (before ++ ts) t).faults → AreSteps text before (ts ++ t ∷ []) (ss ++ s ∷ [])
-steps_more text before [] [] t s are stack faults =
-    (subst (λ (l : List Tok). Behind text (l ++ t ∷ []) s.stack) (append-nil before) stack, subst (λ (l : List Tok). map fault_of s.faults.items ≡ map told (next_step text l t).faults) (append-nil before) faults, tt)
-steps_more text before [] (r ∷ ss) t s are stack faults = absurd are
-steps_more text before (u ∷ ts) [] t s are stack faults = absurd are
-steps_more text before (u ∷ ts) (r ∷ ss) t s are stack faults =
+pub steps_more : (text : Text) (before ts : List Tok) (ss : List Passed) (t : Tok) (s : Passed) → ArePassed text before ts ss → Behind text ((before ++ ts) ++ t ∷ []) s.stack
+    → s.faults ≡ length (faults text ((before ++ ts) ++ t ∷ [])) → ArePassed text before (ts ++ t ∷ []) (ss ++ s ∷ [])
+steps_more text before [] [] t s are stack many =
+    (subst (λ (l : List Tok). Behind text (l ++ t ∷ []) s.stack) (append-nil before) stack, subst (λ (l : List Tok). s.faults ≡ length (faults text (l ++ t ∷ []))) (append-nil before) many, tt)
+steps_more text before [] (r ∷ ss) t s are stack many = absurd are
+steps_more text before (u ∷ ts) [] t s are stack many = absurd are
+steps_more text before (u ∷ ts) (r ∷ ss) t s are stack many =
     let same : before ++ u ∷ ts ≡ (before ++ u ∷ []) ++ ts = sym (append_assoc before (u ∷ []) ts) in
-    (are.0, are.1, steps_more text (before ++ u ∷ []) ts ss t s are.2 (subst (λ (l : List Tok). Behind text (l ++ t ∷ []) s.stack) same stack) (subst (λ (l : List Tok). map fault_of s.faults.items ≡ map told (next_step text l t).faults) same faults))
+    (are.0, are.1, steps_more text (before ++ u ∷ []) ts ss t s are.2 (subst (λ (l : List Tok). Behind text (l ++ t ∷ []) s.stack) same stack) (subst (λ (l : List Tok). s.faults ≡ length (faults text (l ++ t ∷ []))) same many))
 
 -- the first steps are those of the first tokens
-pub steps_first : (text : Text) (before ts : List Tok) (ss : List Stepped) (n : ℕ) → AreSteps text before ts ss → AreSteps text before (take n ts) (take n ss)
+pub steps_first : (text : Text) (before ts : List Tok) (ss : List Passed) (n : ℕ) → ArePassed text before ts ss → ArePassed text before (take n ts) (take n ss)
 steps_first text before [] [] zero are = tt
 steps_first text before [] [] (suc n) are = tt
 steps_first text before [] (s ∷ ss) n are = absurd are
@@ -43,56 +41,34 @@ steps_first text before (t ∷ ts) [] n are = absurd are
 steps_first text before (t ∷ ts) (s ∷ ss) zero are = tt
 steps_first text before (t ∷ ts) (s ∷ ss) (suc n) are = (are.0, are.1, steps_first text (before ++ t ∷ []) ts ss n are.2)
 
--- the stack of the last step is behind all tokens
-steps_last : (text : Text) (before ts : List Tok) (ss : List Stepped) (s : Stepped) (k : ℕ) → length ss ≡ k + 1 → s ≡ get_or ss k s → AreSteps text before ts ss → Behind text (before ++ ts) s.stack
+-- what is kept of the last of these tokens
+abbrev pub IsLast : Text → List Tok → Passed → Type 0
+IsLast text ts s = Behind text ts s.stack × (s.faults ≡ length (faults text ts))
+
+-- the last step is that of the last of all tokens
+steps_last : (text : Text) (before ts : List Tok) (ss : List Passed) (s : Passed) (k : ℕ) → length ss ≡ k + 1 → s ≡ get_or ss k s → ArePassed text before ts ss → IsLast text (before ++ ts) s
 steps_last text before ts [] s k many is are = absurd (omega (arith, many))
 steps_last text before [] (r ∷ ss) s k many is are = absurd are
-steps_last text before (t ∷ []) (r ∷ []) s zero many is are = subst (λ (x : Stepped). Behind text (before ++ t ∷ []) x.stack) (sym is) are.0
+steps_last text before (t ∷ []) (r ∷ []) s zero many is are = subst (λ (x : Passed). IsLast text (before ++ t ∷ []) x) (sym is) (are.0, are.1)
 steps_last text before (t ∷ u ∷ ts) (r ∷ []) s zero many is are = absurd are.2
 steps_last text before (t ∷ ts) (r ∷ []) s (suc k) many is are = absurd (omega (arith, many))
 steps_last text before (t ∷ ts) (r ∷ q ∷ ss) s zero many is are = absurd (omega (arith, many))
 steps_last text before (t ∷ ts) (r ∷ q ∷ ss) s (suc k) many is are =
-    subst (λ (l : List Tok). Behind text l s.stack) (append_assoc before (t ∷ []) ts) (steps_last text (before ++ t ∷ []) ts (q ∷ ss) s k (omega (arith, many)) is are.2)
+    subst (λ (l : List Tok). IsLast text l s) (append_assoc before (t ∷ []) ts) (steps_last text (before ++ t ∷ []) ts (q ∷ ss) s k (omega (arith, many)) is are.2)
 
 some_count : (n : ℕ) → (n ≡ 0 → ⊥) → n ≡ (n - 1) + 1
 some_count zero none = absurd (none refl)
 some_count (suc n) none = omega arith
 
 -- the same of the code's last step
-pub last_behind : (text : Text) (ts : List Tok) (ss : List Stepped) (s : Stepped) → (length ss ≡ 0 → ⊥) → s ≡ get_or ss (length ss - 1) s → AreSteps text [] ts ss → Behind text ts s.stack
+pub last_behind : (text : Text) (ts : List Tok) (ss : List Passed) (s : Passed) → (length ss ≡ 0 → ⊥) → s ≡ get_or ss (length ss - 1) s → ArePassed text [] ts ss → IsLast text ts s
 last_behind text ts ss s some is are = steps_last text [] ts ss s (length ss - 1) (some_count (length ss) some) is are
 
 -- no steps are those of no tokens
-pub none_parsed : (text : Text) (before ts : List Tok) (ss : List Stepped) → length ss ≡ 0 → AreSteps text before ts ss → ts ≡ []
+pub none_parsed : (text : Text) (before ts : List Tok) (ss : List Passed) → length ss ≡ 0 → ArePassed text before ts ss → ts ≡ []
 none_parsed text before [] ss none are = refl
 none_parsed text before (t ∷ ts) [] none are = absurd are
 none_parsed text before (t ∷ ts) (s ∷ ss) none are = absurd (omega (arith, none))
-
--- the step of one of the tokens: the tokens up to it, and the faults that came with it
-pub record StepAt (text : Text) (before ts : List Tok) (i : ℕ) (s : Stepped) : Type 0 where
-  pub token : Tok
-  pub next : take (i + 1) ts ≡ take i ts ++ token ∷ []
-  pub faults : map fault_of s.faults.items ≡ map told (next_step text (before ++ take i ts) token).faults
-
-pub step_at : (text : Text) (before ts : List Tok) (ss : List Stepped) (i : ℕ) (s : Stepped) → AreSteps text before ts ss → i < length ss → s ≡ get_or ss i s → StepAt text before ts i s
-step_at text before [] [] i s are lt is = absurd (omega (arith, lt))
-step_at text before [] (r ∷ ss) i s are lt is = absurd are
-step_at text before (t ∷ ts) [] i s are lt is = absurd are
-step_at text before (t ∷ ts) (r ∷ ss) zero s are lt is =
-    let faults : map fault_of s.faults.items ≡ map told (next_step text before t).faults = subst (λ (x : Stepped). map fault_of x.faults.items ≡ map told (next_step text before t).faults) (sym is) are.1 in
-    record { token = t; next = refl; faults = subst (λ (l : List Tok). map fault_of s.faults.items ≡ map told (next_step text l t).faults) (sym (append-nil before)) faults }
-step_at text before (t ∷ ts) (r ∷ ss) (suc i) s are lt is =
-    let rest = step_at text (before ++ t ∷ []) ts ss i s are.2 (omega (arith, lt)) is in
-    let one : suc i + 1 ≡ suc (i + 1) = omega arith in
-    record {
-      token = rest.token;
-      next = ap (λ n. take n (t ∷ ts)) one ∙ ap (λ (l : List Tok). t ∷ l) rest.next;
-      faults = subst (λ (l : List Tok). map fault_of s.faults.items ≡ map told (next_step text l rest.token).faults) (append_assoc before (t ∷ []) (take i ts)) rest.faults;
-    }
-
--- steps that are the first ones of those of tokens are those of other tokens with the same first ones
-pub steps_same : (text : Text) (old new : List Tok) (ss : List Stepped) (n : ℕ) → AreSteps text [] old ss → take n old ≡ take n new → AreSteps text [] (take n new) (take n ss)
-steps_same text old new ss n are same = subst (λ (l : List Tok). AreSteps text [] l (take n ss)) same (steps_first text [] old ss n are)
 
 -- the first tokens are as many as they are said to be
 pub first_many : (tokens : List Token) (n : ℕ) → n ≤ length tokens → length (map tok_of (take n tokens)) ≡ n

@@ -1,5 +1,5 @@
 -- What a store of tokens holds, and what reading tokens of a text counts.
-use Rattle.std.specs.Prelude.{ℕ, zero, suc, List, [], ◌∷◌, map, Option, Some}
+use Rattle.std.specs.Prelude.{ℕ, zero, suc, max, List, [], ◌∷◌, map, Option, Some}
 use Rattle.token_model.specs.Kinds.{Tok}
 use Rattle.syntax_tree.specs.Tallies.{Tallies, lexed_more}
 use Rattle.ml_lexer.specs.Reached.{Reached}
@@ -27,3 +27,8 @@ last_end end_of at (t ∷ ts) = last_end end_of (end_of t) ts
 abbrev pub IsFront : {T : Type 0} → (List ℕ → ℕ → Option T → Type 0) → (T → ℕ) → List ℕ → ℕ → List T → Type 0
 IsFront first end_of text at [] = Unit {0}
 IsFront first end_of text at (t ∷ ts) = first text at (Some t) × IsFront first end_of text (end_of t) ts
+
+-- how far some tokens reach up to each of them, where those before them reach so far
+abbrev pub peaks_of : ℕ → List Reached → List ℕ
+peaks_of far [] = []
+peaks_of far (t ∷ ts) = max far t.reach ∷ peaks_of (max far t.reach) ts

@@ -22,23 +22,23 @@ pub returns-then-whole-eq0 : goal.returns-then-whole-eq0
 returns-then-whole-eq0 c =
     IfOk-weaker c.ended.result _ _ (λ r e text p n shows comes few.
     let rows = c.args.stack.now.rows in
-    let w = whole_shows text p.state n rows c.in_ok-whole.whole shows.rows comes.frames few c.in_ok-whole.ensures.tree c.in_ok-whole.ensures.holes in
-    close_zero text p r (sym w.holes ∙ c.if-whole-eq0.true)
-    (end_shows text p.state c.in_ok-whole.whole r c.place.result c.new.result.items [] w e.0 e.1 (c.place.ensures ∙ place_shows text p.state rows shows.rows) (ap (map fault_of) c.new.ensures.items))) c.ended.ensures
+    let w = whole_shows c.args.from text p.state n rows c.in_ok-whole.whole shows.rows comes.frames few c.in_ok-whole.ensures.tree c.in_ok-whole.ensures.holes in
+    close_zero c.args.from text p r (sym w.holes ∙ c.if-whole-eq0.true)
+    (end_shows c.args.from text p.state c.in_ok-whole.whole r c.place.result c.new.result.items [] w e.0 e.1 (c.place.ensures ∙ place_shows text p.state rows shows.rows) (ap (map fault_of) c.new.ensures.items))) c.ended.ensures
 
 pub returns-in-None : goal.returns-in-None
 returns-in-None c =
     IfOk-weaker c.ended-in-None.result _ _ (λ r e text p n shows comes few.
     let rows = c.args.stack.now.rows in
-    let w = whole_shows text p.state n rows c.in_ok-whole.whole shows.rows comes.frames few c.in_ok-whole.ensures.tree c.in_ok-whole.ensures.holes in
-    close_none text p r (subst (ShowsItem text p.item) c.in-None.is shows.item)
-    (end_shows text p.state c.in_ok-whole.whole r c.place-in-None.result c.new-in-None.result.items [] w e.0 e.1 (c.place-in-None.ensures ∙ place_shows text p.state rows shows.rows) (ap (map fault_of) c.new-in-None.ensures.items)))
+    let w = whole_shows c.args.from text p.state n rows c.in_ok-whole.whole shows.rows comes.frames few c.in_ok-whole.ensures.tree c.in_ok-whole.ensures.holes in
+    close_none c.args.from text p r (subst (ShowsItem text p.item) c.in-None.is shows.item)
+    (end_shows c.args.from text p.state c.in_ok-whole.whole r c.place-in-None.result c.new-in-None.result.items [] w e.0 e.1 (c.place-in-None.ensures ∙ place_shows text p.state rows shows.rows) (ap (map fault_of) c.new-in-None.ensures.items)))
     c.ended-in-None.ensures
 
 pub returns-in-Some : goal.returns-in-Some
 returns-in-Some c =
     IfOk-weaker c.end_item.result _ _ (λ r ens text p n shows comes few.
     let rows = c.args.stack.now.rows in
-    let w = whole_shows text p.state n rows c.in_ok-whole.whole shows.rows comes.frames few c.in_ok-whole.ensures.tree c.in_ok-whole.ensures.holes in
-    close_some text p c.in-Some.item r (λ z. c.if-whole-eq0.false (w.holes ∙ z)) (subst (ShowsItem text p.item) c.in-Some.is shows.item)
+    let w = whole_shows c.args.from text p.state n rows c.in_ok-whole.whole shows.rows comes.frames few c.in_ok-whole.ensures.tree c.in_ok-whole.ensures.holes in
+    close_some c.args.from text p c.in-Some.item r (λ z. c.if-whole-eq0.false (w.holes ∙ z)) (subst (ShowsItem text p.item) c.in-Some.is shows.item)
     (λ i is h. ens text p.state i w (place_shows text p.state rows shows.rows) h (few_within text n 1048576 i.mark (subst (ItemKeepsFew text n) is comes.item) few))) c.end_item.ensures

@@ -25,6 +25,6 @@ returns c =
     let x = go_back (grammar text) c.args.col s ts in
     let back = (c.in_ok-back.ensures text s ts n shows same reached few).step in
     let at = all_reached text ts n (parser s (Some (item c.args.col sound))) reached in
-    end_shows text x.parser.state c.in_ok-whole.whole r c.place.result c.in_ok-back.back.stepped.faults.items x.faults
-    (whole_shows text x.parser.state (n + length ts) c.in_ok-back.back.stepped.stack.rows c.in_ok-whole.whole back.stack.rows at few c.in_ok-whole.ensures.tree c.in_ok-whole.ensures.holes)
+    end_shows c.args.from text x.parser.state c.in_ok-whole.whole r c.place.result c.in_ok-back.back.stepped.faults.items x.faults
+    (whole_shows c.args.from text x.parser.state (n + length ts) c.in_ok-back.back.stepped.stack.rows c.in_ok-whole.whole back.stack.rows at few c.in_ok-whole.ensures.tree c.in_ok-whole.ensures.holes)
     e.0 e.1 (c.place.ensures ∙ place_shows text x.parser.state c.in_ok-back.back.stepped.stack.rows back.stack.rows) back.faults) c.ended.ensures

@@ -3,7 +3,7 @@ use Rattle.std.specs.Str.{IsCharBoundary}
 use Rattle.std.specs.Vec.{vec_capacity}
 use Rattle.token_model.specs.Tokens.{column}
 use Rattle.ml_lexer.specs.Reached.{FirstReached, end_of, reached_of}
-use Rattle.token_store.specs.Stored.{IsFront, last_end, lexed_by}
+use Rattle.token_store.specs.Stored.{IsFront, last_end, lexed_by, peaks_of}
 use Rattle.token_store.proofs.store.read_on.Given as goal
 
 -- the tokens so far are the first ones of the text, and there is room for one more
@@ -15,7 +15,9 @@ invariant-loop-token g l = let text = l.left ++ l.right in record {
   front : IsFront FirstReached end_of text 0 (map reached_of l.tokens.items);
   kept : take (length l.fn.tokens.items) l.tokens.items ≡ l.fn.tokens.items;
   longer : length l.fn.tokens.items ≤ length l.tokens.items;
+  peaks : l.peaks.items ≡ peaks_of 0 (map reached_of l.tokens.items);
   room : length l.tokens.items < vec_capacity l.tokens;
+  peak_room : length l.peaks.items < vec_capacity l.peaks;
   counted : g.C.Counts.tallies l.counts ≡ lexed_by (length l.tokens.items - length l.fn.tokens.items) (g.C.Counts.tallies l.fn.counts);
 }
 
