@@ -10,7 +10,7 @@ ghost use Rattle.token_model.specs.Kinds.{Tok};
 ghost use Rattle.token_model.specs.Tokens.{Lex};
 ghost use Rattle.syntax_tree.specs.Tallies.{Grows};
 ghost use Rattle.syntax_tree.specs.View.{trees_of};
-ghost use Rattle.analysis_api.specs.Typed.{more_typed, GoesOn, LongestFront};
+ghost use Rattle.analysis_api.specs.Typed.{more_typed, GoesOn, LongestFront, SameFront};
 
 use env_table::{Env, Faults, Seen};
 use std::alloc::Global;
@@ -53,12 +53,18 @@ pub trait Analyser: Drop {
         ensures items { IfOk result (λ a. items a ≡ []) }
         ensures lexed { (ts : List Tok) → Lex opens ts → (C.tallies counts.new).lexed ≤ (C.tallies counts.old).lexed + length ts }
         ensures grows { Grows (C.tallies counts.old) (C.tallies counts.new) }
-        ensures untyped { OnOk result ((C.tallies counts.new).typed ≡ (C.tallies counts.old).typed) };
+        ensures untyped { (C.tallies counts.new).typed ≡ (C.tallies counts.old).typed };
 
-    /// Finds the types and names of a text with this tree. The items at the front that it holds already stay as they are, all of them;
-    /// each item after them is typed, and counted once. After `NoMemory` it holds those that stay and some after them, which were
-    /// typed, and can be asked again. It lexes nothing.
-    fn refresh<C: Counts>(&mut self, tree: &Tree, counts: &mut C) -> Result<(), NoMemory>
+    /// Finds the types and names of a text with this tree. The items at the front that it holds already stay as they are, all of them,
+    /// of which the caller knows the first `front`; each item after them is typed, and counted once. After `NoMemory` it holds those
+    /// that stay and some after them, which were typed, and can be asked again. It lexes nothing.
+    fn refresh<C: Counts>(
+        &mut self,
+        tree: &Tree,
+        front: usize,
+        counts: &mut C,
+    ) -> Result<(), NoMemory>
+        requires front { SameFront (items self.old) (trees_of tree.now) front }
         ensures items { OnOk result (items self.new ≡ trees_of tree.now) }
         ensures typed { OnOk result ((n : ℕ) × LongestFront (items self.old) (trees_of tree.now) n × ((C.tallies counts.new).typed ≡ more_typed (length tree.now.items.items - n) (C.tallies counts.old).typed)) }
         ensures failed { OnErr result (GoesOn (items self.old) (trees_of tree.now) (items self.new) (C.tallies counts.old).typed (C.tallies counts.new).typed) }

@@ -24,7 +24,7 @@ use Rattle.token_laws.proofs.Steadies.{reached_steady}
 use Rattle.token_store.specs.Stored.{lexed_by, toks_of, IsFront}
 use Rattle.token_store.proofs.Fronts.{all_few, all_reached, lex_of, lexed_most, reached_ends, reached_many, with_reaches}
 use Rattle.grammar_model.specs.Ocaml.{program_text}
-use Rattle.resume_parser.specs.Kept.{text_in, HasParsed}
+use Rattle.resume_parser.specs.Kept.{text_in, HasParsed, IsWhole}
 use Rattle.resume_parser.specs.Retaken.{kept_behind}
 use Rattle.resume_parser.specs.declared.kept.KeptParse.{KeptParse}
 use Rattle.resume_parser.proofs.Steps.{mapped_first}
@@ -100,14 +100,24 @@ known_less same kept xs ys parse within eq h =
           ∙ sym (take-take m kept xs (omega arith)) ∙ ap (take m) eq ∙ take-take m kept ys (omega arith);
     }
 
+-- the tokens before and after reading begin with those that the change leaves
+pub first_kept : {T E : Type 0} (r : Result T E) (text : List ℕ) (from kept : ℕ) (old new : List Reached) → IsFront FirstReached end_of text 0 (steady reach_of from old)
+    → OnOk r (AllTokens FirstReached end_of text 0 new) → OnErr r (new ≡ steady reach_of from old) → kept ≡ length (steady reach_of from old)
+    → take kept (toks_of old) ≡ take kept (toks_of new)
+first_kept r text from kept old new front all refused many =
+    toks_first kept old ∙ ap (λ n. toks_of (take n old)) many ∙ ap toks_of (steady_first from old ∙ sym (read_first r text from old new front all refused)) ∙ ap (λ n. toks_of (take n new)) (sym many) ∙ sym (toks_first kept new)
+
+-- where two lists begin with the same so many, they do with fewer
+pub first_less : (m n : ℕ) (xs ys : List Tok) → m ≤ n → take n xs ≡ take n ys → take m xs ≡ take m ys
+first_less m n xs ys le same = sym (take-take m n xs le) ∙ ap (take m) same ∙ take-take m n ys le
+
 -- what the parser knows of the tokens once they are read again
 pub read_known : {T E : Type 0} (r : Result T E) (text : List ℕ) (from same kept : ℕ) (old new : List Reached) (parse : Option KeptParse) → IsFront FirstReached end_of text 0 (steady reach_of from old)
     → OnOk r (AllTokens FirstReached end_of text 0 new) → OnErr r (new ≡ steady reach_of from old) → kept ≡ length (steady reach_of from old)
     → IsParsedUpTo same (toks_of old) parse → IsParsedUpTo (min same kept) (toks_of new) parse
 read_known r text from same kept old new parse front all refused many h =
     let first = read_first r text from old new front all refused in
-    let eq : take kept (toks_of old) ≡ take kept (toks_of new) =
-    toks_first kept old ∙ ap (λ n. toks_of (take n old)) many ∙ ap toks_of (steady_first from old ∙ sym first) ∙ ap (λ n. toks_of (take n new)) (sym many) ∙ sym (toks_first kept new) in
+    let eq = first_kept r text from kept old new front all refused many in
     known_less same kept (toks_of old) (toks_of new) parse (omega (arith, many, ap length first, length-take (length (steady reach_of from old)) new, length-map new (λ (t : Reached). t.token))) eq h
 
 -- of the tokens before and after, those that the change leaves are the same
@@ -221,15 +231,16 @@ same_before text e first new is =
     ∙ sym (take-append-le first (take first text ++ e.bytes) (drop to text) longer) ∙ ap (take first) (sym made)
 
 -- what is kept of a text after an edit of it
-pub kept_edited : (text new : List ℕ) (e : Edit) (first same : ℕ) (tokens : List Reached) (parse : Option KeptParse) (noted : Option ℕ) → outcome_of text e ≡ changed first new
-    → IsKept text tokens parse noted same → IsKept new tokens parse (Some (sooner first noted)) same
-kept_edited text new e first same tokens parse None is h = record {
+pub kept_edited : (text new : List ℕ) (e : Edit) (first same : ℕ) (tokens : List Reached) (parse : Option KeptParse) (noted : Option ℕ) (there : Bool) → outcome_of text e ≡ changed first new
+    → IsKept text tokens parse noted same there → IsKept new tokens parse (Some (sooner first noted)) same there
+kept_edited text new e first same tokens parse None there is h = record {
   lexed = record { read = text; all = tokens; lexed = h.lexed; same = same_before text e first new is; left = refl };
   parsed = h.parsed;
   known = omega (arith, steady_few first tokens, h.known);
   whole = tt;
+  tree = h.tree;
 }
-kept_edited text new e first same tokens parse (Some before) is h =
+kept_edited text new e first same tokens parse (Some before) there is h =
     let s = sooner first (Some before) in
     let le : (s ≤ first) × (s ≤ before) = go (nat_lt first before) refl in
     let bytes : take s text ≡ take s new = agree_less first s text new le.0 (same_before text e first new is) in
@@ -238,6 +249,7 @@ kept_edited text new e first same tokens parse (Some before) is h =
       parsed = h.parsed;
       known = omega (arith, ap length (steady_less s before tokens le.1), steady_few s (steady reach_of before tokens), h.known);
       whole = tt;
+      tree = h.tree;
     }
   where
     go : (c : Bool) → nat_lt first before ≡ c → ((if c then first else before) ≤ first) × ((if c then first else before) ≤ before)
@@ -251,8 +263,8 @@ known_at noted from tokens same is known = subst (λ (o : Option ℕ). IsKnown o
 -- ---- reading and parsing the text again
 
 -- what is kept once the tokens are read again, or could not be
-pub kept_read : (text : List ℕ) (tokens : List Reached) (parse : Option KeptParse) (from same : ℕ) → AreLeft text from tokens → IsParsedUpTo same (toks_of tokens) parse → length (steady reach_of from tokens) ≤ same → IsKept text tokens parse (Some from) same
-kept_read text tokens parse from same left parsed known = record { lexed = left; parsed = parsed; known = known; whole = tt }
+pub kept_read : (text : List ℕ) (tokens : List Reached) (parse : Option KeptParse) (from same : ℕ) → AreLeft text from tokens → IsParsedUpTo same (toks_of tokens) parse → length (steady reach_of from tokens) ≤ same → IsKept text tokens parse (Some from) same false
+kept_read text tokens parse from same left parsed known = record { lexed = left; parsed = parsed; known = known; whole = tt; tree = tt }
 
 -- all tokens of a text are few enough for the parser
 pub few_tokens : (text : List ℕ) (tokens : List Token) (ts : List Reached) → length text ≤ text_limit → AllTokens FirstReached end_of text 0 ts → map reached_of tokens ≡ ts → length tokens ≤ 1048576
@@ -261,11 +273,11 @@ few_tokens text tokens ts short all same = omega (arith, short, all_few text 0 t
 -- a parser that has taken all tokens knows them
 whole_known : (ts : List Tok) (parse : Option KeptParse) → IsParsedWhole ts parse → IsParsedUpTo (length ts) ts parse
 whole_known ts None whole = absurd whole
-whole_known ts (Some k) whole = record { old = ts; parsed = whole; known = omega arith; within = omega arith; first = refl }
+whole_known ts (Some k) whole = record { old = ts; parsed = (whole.0.parsed, whole.1); known = omega arith; within = omega arith; first = refl }
 
 -- what is kept once all of it is of the text
 pub kept_whole : (text : List ℕ) (tokens : List Token) (ts : List Reached) (parse : Option KeptParse) (same : ℕ) → length text ≤ text_limit → AllTokens FirstReached end_of text 0 ts → map reached_of tokens ≡ ts
-    → IsParsedWhole (map tok_of tokens) parse → same ≡ length tokens → IsKept text ts parse None same
+    → IsParsedWhole (map tok_of tokens) parse → same ≡ length tokens → IsKept text ts parse None same true
 kept_whole text tokens ts parse same short all are whole many =
     let toks = toks_are tokens ts are in
     let count : length (toks_of ts) ≡ same = sym (ap length toks) ∙ length-map tokens tok_of ∙ sym many in
@@ -275,6 +287,7 @@ kept_whole text tokens ts parse same short all are whole many =
       parsed = subst (λ n. IsParsedUpTo n (toks_of ts) parse) count (whole_known (toks_of ts) parse known);
       known = omega (arith, count, length-map ts (λ (t : Reached). t.token));
       whole = (known, omega (arith, few_tokens text tokens ts short all are, count, many));
+      tree = (known, omega (arith, few_tokens text tokens ts short all are, count, many));
     }
 
 -- a parser that has not begun knows none
@@ -303,21 +316,27 @@ resumed_known P (Err e) same tokens k within text all (n, least, most, parsed, m
   first = ap (take same) (sym (mapped_first tokens n)) ∙ take-take same n (map tok_of tokens) least;
 }
 
-pub resumed_whole : {T E : Type 0} (r : Result T E) (ts : List Tok) (k : KeptParse) → OnOk r (HasParsed ts k) → text_in k ≡ program_text → OnOk r (IsParsedWhole ts (Some k))
+pub resumed_whole : {T E : Type 0} (r : Result T E) (ts : List Tok) (k : KeptParse) → OnOk r (IsWhole ts k) → text_in k ≡ program_text → OnOk r (IsParsedWhole ts (Some k))
 resumed_whole (Ok x) ts k all text = (all, text)
 resumed_whole (Err e) ts k all text = tt
+
+-- where a tree is there, its tokens have been parsed
+pub whole_parsed : {T E : Type 0} (r : Result T E) (ts : List Tok) (k : KeptParse) → OnOk r (IsWhole ts k) → OnOk r (HasParsed ts k)
+whole_parsed (Ok x) ts k whole = whole.parsed
+whole_parsed (Err e) ts k whole = tt
 
 -- what is kept of the empty text, of which nothing was read yet
 no_tokens : AllTokens FirstReached end_of [] 0 []
 unfolding FirstToken
 no_tokens = (no_gap, tt)
 
-pub kept_new : (text : List ℕ) (tokens : List Reached) → text ≡ [] → tokens ≡ [] → IsKept text tokens None (Some 0) 0
-kept_new text tokens empty none = subst (λ (l : List ℕ). IsKept l tokens None (Some 0) 0) (sym empty) (subst (λ (ts : List Reached). IsKept [] ts None (Some 0) 0) (sym none) (record {
+pub kept_new : (text : List ℕ) (tokens : List Reached) → text ≡ [] → tokens ≡ [] → IsKept text tokens None (Some 0) 0 false
+kept_new text tokens empty none = subst (λ (l : List ℕ). IsKept l tokens None (Some 0) 0 false) (sym empty) (subst (λ (ts : List Reached). IsKept [] ts None (Some 0) 0 false) (sym none) (record {
   lexed = record { read = []; all = []; lexed = no_tokens; same = refl; left = refl };
   parsed = record { old = []; parsed = refl; known = omega arith; within = omega arith; first = refl };
   known = omega arith;
   whole = tt;
+  tree = tt;
 }))
 
 -- where no change is noted

@@ -1,11 +1,12 @@
 -- A text with what is kept of it: its tokens, and what the parser made of them.
-use Rattle.std.specs.Prelude.{◌≡◌, ℕ, ◌+◌, ◌-◌, ◌*◌, ◌≤◌, List, [], length, take, Option, Some, None, if◌then◌else◌, nat_lt}
+use Rattle.std.specs.Prelude.{◌≡◌, ℕ, ◌+◌, ◌-◌, ◌*◌, ◌≤◌, List, [], length, take, Bool, true, false, Option, Some, None, if◌then◌else◌, nat_lt}
 use Rattle.token_model.specs.Kinds.{Tok}
+use Rattle.tree_model.specs.Trees.{Tree}
 use Rattle.grammar_model.specs.Ocaml.{program_text}
 use Rattle.ml_lexer.specs.Reached.{end_of, reach_of, FirstReached, Reached}
 use Rattle.ml_lexer.specs.Steady.{ends_at, steady, AllTokens}
 use Rattle.token_store.specs.Stored.{toks_of}
-use Rattle.resume_parser.specs.Kept.{text_in, HasParsed}
+use Rattle.resume_parser.specs.Kept.{text_in, trees_behind, HasParsed, IsWhole}
 use Rattle.resume_parser.specs.Retaken.{kept_behind}
 use Rattle.resume_parser.specs.declared.kept.KeptParse.{KeptParse}
 
@@ -58,15 +59,24 @@ pub record IsParsedUpTo (same : ℕ) (ts : List Tok) (parse : Option KeptParse) 
   pub within : same ≤ length ts
   pub first : take same old ≡ take same ts
 
--- the parser has begun, and has taken these tokens and no others
+-- the parser has begun, has taken these tokens and no others, and keeps their tree
 abbrev pub IsParsedWhole : List Tok → Option KeptParse → Type 0
 IsParsedWhole ts None = ⊥
-IsParsedWhole ts (Some k) = HasParsed ts k × (text_in k ≡ program_text)
+IsParsedWhole ts (Some k) = IsWhole ts k × (text_in k ≡ program_text)
 
 -- where nothing was changed, the parser has taken all tokens, and they are few enough for it
 abbrev pub IsUpToDate : Option ℕ → List Tok → Option KeptParse → Type 0
 IsUpToDate None ts parse = IsParsedWhole ts parse × (length ts ≤ 1048576)
 IsUpToDate (Some from) ts parse = Unit {0}
+
+-- where there is a tree, it is that of these tokens, and they are few enough for the parser
+abbrev pub HasTree : Bool → List Tok → Option KeptParse → Type 0
+HasTree true ts parse = IsParsedWhole ts parse × (length ts ≤ 1048576)
+HasTree false ts parse = Unit {0}
+
+-- the items of a program with these tokens
+abbrev pub trees_in : List Reached → List Tree
+trees_in ts = trees_behind program_text (toks_of ts)
 
 -- the parser knows all tokens that the change left, or all of them where nothing was changed
 abbrev pub IsKnown : Option ℕ → List Reached → ℕ → Type 0
@@ -74,8 +84,9 @@ IsKnown None ts same = length ts ≤ same
 IsKnown (Some from) ts same = length (steady reach_of from ts) ≤ same
 
 -- what ties the tokens and the parser to the text
-pub record IsKept (text : List ℕ) (tokens : List Reached) (parse : Option KeptParse) (changed : Option ℕ) (same : ℕ) : Type 0 where
+pub record IsKept (text : List ℕ) (tokens : List Reached) (parse : Option KeptParse) (changed : Option ℕ) (same : ℕ) (has_tree : Bool) : Type 0 where
   pub lexed : AreTokens text changed tokens
   pub parsed : IsParsedUpTo same (toks_of tokens) parse
   pub known : IsKnown changed tokens same
   pub whole : IsUpToDate changed (toks_of tokens) parse
+  pub tree : HasTree has_tree (toks_of tokens) parse

@@ -9,9 +9,10 @@ ghost use Rattle.ml_lexer.specs.Steady.{ends_at, steady, AllTokens};
 ghost use Rattle.syntax_tree.specs.Tallies.{Grows};
 ghost use Rattle.syntax_tree.specs.View.{tok_of};
 ghost use Rattle.token_store.specs.Stored.{lexed_by, toks_of};
+ghost use Rattle.resume_parser.specs.Kept.{trees_behind, SharesFront};
 ghost use Rattle.resume_parser.specs.Retaken.{kept_behind};
 ghost use Rattle.resume_parser.specs.declared.kept.KeptParse.{KeptParse as parser};
-ghost use Rattle.kept_text.specs.Keeping.{tok_end, AreLeft, IsParsedUpTo, IsParsedWhole};
+ghost use Rattle.kept_text.specs.Keeping.{tok_end, AreLeft, HasTree, IsParsedUpTo, IsParsedWhole};
 
 use resume_parser::{KeptParse, Text};
 use std::alloc::Global;
@@ -34,12 +35,35 @@ pub fn read_again<C: Counts>(
     ensures all { OnOk result (AllTokens FirstReached end_of (left.now ++ right.now) 0 tokens.new.tokens) }
     ensures left { AreLeft (left.now ++ right.now) from tokens.new.tokens }
     ensures same { (parse : Option parser) → IsParsedUpTo same.old (toks_of tokens.old.tokens) parse → IsParsedUpTo same.new (toks_of tokens.new.tokens) parse }
+    ensures front { take same.new (toks_of tokens.old.tokens) ≡ take same.new (toks_of tokens.new.tokens) }
+    ensures within { same.new ≤ length (toks_of tokens.old.tokens) }
     ensures known { length (steady reach_of from tokens.old.tokens) ≤ same.old → length (steady reach_of from tokens.new.tokens) ≤ same.new }
     ensures work { (n : ℕ) × (C.tallies counts.new ≡ lexed_by n (C.tallies counts.old)) × ((ts : List Tok) → Lex (left.now ++ right.now) ts → n ≤ 32 + ends_at tok_end from ts) }
 {
     let answer = tokens.relex(left, right, from, counts);
     *same = (*same).min(tokens.unchanged());
     answer
+}
+
+/// How many items the tree has.
+pub fn item_count(parse: &Option<KeptParse>) -> usize
+    ensures { (ts : List Tok) → IsParsedWhole ts parse.now → result ≡ length (trees_behind program_text ts) }
+{
+    match parse {
+        Some(begun) => begun.parsed().tree.items.len(),
+        None => 0,
+    }
+}
+
+/// How many items at the front stay as they are where all tokens but the first `same` are parsed anew. Without a tree none is known to.
+pub fn front_of(parse: &Option<KeptParse>, has_tree: bool, same: usize) -> usize
+    requires parsed { (ts : List Tok) × IsParsedUpTo same ts parse.now }
+    ensures front { (ts us : List Tok) → HasTree has_tree ts parse.now → take same ts ≡ take same us → same ≤ length ts → length us ≤ 1048576 → SharesFront (trees_behind program_text ts) (trees_behind program_text us) result }
+{
+    match parse {
+        Some(begun) if has_tree => begun.front(same),
+        _ => 0,
+    }
 }
 
 /// Parses tokens of which the first `same` are known to the parser. After `NoMemory` these are known still.

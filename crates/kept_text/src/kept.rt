@@ -12,9 +12,10 @@ ghost use Rattle.frame_steps.specs.Told.{told};
 ghost use Rattle.frame_steps.specs.View.{fault_of};
 ghost use Rattle.text_store.specs.Edits.{edit_of, IsRefusal};
 ghost use Rattle.token_store.specs.Stored.{toks_of};
-ghost use Rattle.kept_text.specs.Keeping.{read_behind, shifted_behind, sooner};
+ghost use Rattle.resume_parser.specs.Kept.{SharesFront};
+ghost use Rattle.kept_text.specs.Keeping.{read_behind, shifted_behind, sooner, trees_in};
 
-use crate::again::{parse_again, read_again};
+use crate::again::{front_of, item_count, parse_again, read_again};
 use resume_parser::{KeptParse, Parsed};
 use std::alloc::Global;
 use std::marker::Model;
@@ -34,6 +35,8 @@ pub struct KeptText {
     changed: Option<u32>,
     // how many of the first tokens the parser has taken
     same: usize,
+    // whether the parser has the tree of the tokens that are kept
+    has_tree: bool,
 }
 
 impl Model for KeptText {
@@ -43,7 +46,7 @@ impl Model for KeptText {
 
     ghost view = { λ s. record { text = s.text; tokens = s.tokens.tokens; changed = s.changed } };
 
-    ghost invariant = { λ s. IsKept s.text s.tokens.tokens s.parse s.changed s.same };
+    ghost invariant = { λ s. IsKept s.text s.tokens.tokens s.parse s.changed s.same s.has_tree };
 }
 
 /// The first changed byte once bytes from `first` on are changed.
@@ -69,6 +72,7 @@ impl KeptText {
             parse: None,
             changed: Some(0),
             same: 0,
+            has_tree: false,
         }
     }
 
@@ -93,11 +97,13 @@ impl KeptText {
 
     /// Brings the tokens and the tree up to the text: those from the first changed byte on are read and parsed, and at most 32 tokens
     /// that end before it are read once more. After `NoMemory` the next call does what is left. A token that is parsed counts as
-    /// shifted once for each time that the parser takes it, and it takes none more than twice.
-    pub fn refresh<C: Counts>(&mut self, counts: &mut C) -> Result<(), NoMemory>
+    /// shifted once for each time that the parser takes it, and it takes none more than twice. Answers how many items at the front are
+    /// known to be as they were, which are none after a call that failed.
+    pub fn refresh<C: Counts>(&mut self, counts: &mut C) -> Result<usize, NoMemory>
         ensures text { self.new.text ≡ self.old.text }
         ensures current { OnOk result (self.new.changed ≡ None) }
         ensures refused { OnErr result (self.new.changed ≡ self.old.changed) }
+        ensures front { IfOk result (λ n. SharesFront (trees_in self.old.tokens) (trees_in self.new.tokens) n) }
         ensures work { (from : ℕ) (ts : List Tok) → self.old.changed ≡ Some from → Lex self.old.text ts → (C.tallies counts.new).lexed ≤ (C.tallies counts.old).lexed + read_behind from ts }
         ensures shifted { (from : ℕ) (ts : List Tok) → self.old.changed ≡ Some from → Lex self.old.text ts → (C.tallies counts.new).shifted ≤ (C.tallies counts.old).shifted + shifted_behind from ts }
         ensures idle { self.old.changed ≡ None → C.tallies counts.new ≡ C.tallies counts.old }
@@ -105,15 +111,19 @@ impl KeptText {
         ensures grows { Grows (C.tallies counts.old) (C.tallies counts.new) }
     {
         let Some(from) = self.changed else {
-            return Ok(());
+            return Ok(item_count(&self.parse));
         };
         let (left, right) = self.text.slices();
+        let had_tree = self.has_tree;
+        self.has_tree = false;
         read_again(&mut self.tokens, &mut self.same, left, right, from, counts)?;
+        let front = front_of(&self.parse, had_tree, self.same);
         let tokens = self.tokens.tokens();
         parse_again(self.alloc, &mut self.parse, tokens, self.same, counts)?;
         self.same = tokens.len();
         self.changed = None;
-        Ok(())
+        self.has_tree = true;
+        Ok(front)
     }
 
     /// The tokens of the text. None where it was changed since they were brought up to it.
@@ -131,17 +141,17 @@ impl KeptText {
     }
 
     /// The tree of the text, and the parser's faults. None where the text was changed since they were brought up to it.
-    pub fn parsed(&self) -> Result<Option<Parsed>, NoMemory>
-        ensures current { IfOk result (λ o. is_some o ≡ is_none self.now.changed) }
-        ensures lexed { IfOk result (λ o. IfSome o (λ _. Lex self.now.text (toks_of self.now.tokens))) }
-        ensures tree { IfOk result (λ o. IfSome o (λ p. trees_of p.tree ≡ items_of (named ocaml.row_name (recover (ocaml.grammar ocaml.program_text) (toks_of self.now.tokens)).0))) }
-        ensures faults { IfOk result (λ o. IfSome o (λ p. map fault_of p.faults.items ≡ map told (recover (ocaml.grammar ocaml.program_text) (toks_of self.now.tokens)).1)) }
+    pub fn parsed(&self) -> Option<&Parsed>
+        ensures current { is_some result ≡ is_none self.now.changed }
+        ensures lexed { IfSome result (λ _. Lex self.now.text (toks_of self.now.tokens)) }
+        ensures tree { IfSome result (λ p. trees_of p.now.tree ≡ items_of (named ocaml.row_name (recover (ocaml.grammar ocaml.program_text) (toks_of self.now.tokens)).0)) }
+        ensures faults { IfSome result (λ p. map fault_of p.now.faults.items ≡ map told (recover (ocaml.grammar ocaml.program_text) (toks_of self.now.tokens)).1) }
     {
         if self.changed.is_some() {
-            return Ok(None);
+            return None;
         }
         match &self.parse {
-            Some(parse) => Ok(Some(parse.parsed()?)),
+            Some(parse) => Some(parse.parsed()),
             None => unreachable!(),
         }
     }

@@ -1,16 +1,18 @@
 -- What is said of types and of faults.
-use Rattle.std.proofs.Common.{◌≡◌, ℕ, List, [], ◌++◌, length, map, append-nil, refl, sym, ◌∙◌, ap, subst, Result, Ok, Err, IfOk, Bool, true, false, ◌&&◌}
-use Rattle.std.specs.Prelude.{Option, Some, None, option_map, is_some, reverse}
+use Rattle.std.proofs.Common.{◌≡◌, ℕ, List, [], ◌++◌, length, map, append-nil, refl, sym, ◌∙◌, ap, subst, true, false, Result, Ok, Err, IfOk}
+use Rattle.std.specs.Prelude.{Some, None, option_map, reverse}
 use Rattle.std.specs.declared.alloc.AllocError.{AllocError}
 use Rattle.tree_model.specs.Nodes.{nodes_at}
 use Rattle.plain_model.specs.Plain.{AllSeenWithin}
 use Rattle.plain_model.proofs.Within.{seen_within}
+use Rattle.query_model.specs.Faults.{TyperFault, by_typer}
 use Rattle.query_model.specs.TypedNodes.{Typed}
 use Rattle.service_model.specs.Replies as said
-use Rattle.service_model.specs.Structure.{faults_said, ErrorsAre, ErrorsBy, FaultsAre}
-use Rattle.service_model.specs.Answers.{EnclosingBy, EnclosingIs, TypesAre, typed_among, types_or_none}
-use Rattle.service_model.specs.WellTyped.{is_well_typed}
+use Rattle.service_model.specs.Structure.{faults_in, faults_said, items_in, ErrorsAre, ErrorsBy, FaultsAre}
+use Rattle.service_model.specs.Answers.{EnclosingBy, EnclosingIs, TypesAre, typed_among, typed_round, types_or_none}
+use Rattle.token_laws.proofs.Ones.{lex_one}
 use Rattle.syntax_tree.specs.View.{trees_of}
+use Rattle.frame_parser.specs.declared.whole.Parsed.{Parsed}
 use Rattle.plain_typing.specs.View.{seen_of}
 use Rattle.text_queries.specs.Faults.{fault_of}
 use Rattle.query_engine.specs.Typed.{IsNoNode}
@@ -19,7 +21,9 @@ use Rattle.query_engine.specs.declared.asked.QueryFault.TheVariants as fault
 use Rattle.json_lines.specs.Means.{said_of}
 use Rattle.json_lines.specs.declared.reply.Reply.{Reply}
 use Rattle.session.specs.Lines.{failure_in}
+use Rattle.session.specs.Queries.{AreFaultsOf, AreTypesRound, IsNotPlain, MayBeIllTyped}
 use Rattle.text_reading.specs.PlainTexts.{IsReadAs, plain_of}
+use Rattle.text_reading.specs.Structures.{parsed_in, IsParsedAs}
 use Rattle.text_reading.specs.declared.plain.PlainText.{PlainText}
 use Rattle.text_reading.specs.declared.reading.ReadText.{ReadText}
 
@@ -28,42 +32,52 @@ pub plain_within : (text : List ℕ) (read : ReadText) (p : PlainText) → IsRea
 plain_within text read p h is = seen_within (length text) h.tokens (trees_of p.tree) (map seen_of p.seen.items) h.within (sym h.plain ∙ ap (option_map plain_of) is)
 
 -- the types of a plain text
-pub enclosing_plain : (text : List ℕ) (o : ℕ) (read : ReadText) (p : PlainText) (r : Result Reply AllocError) → IsReadAs text read → read.plain ≡ Some p
-    → IfOk r (λ x. said_of x ≡ types_or_none (typed_among text (map seen_of p.seen.items) (reverse (nodes_at o (trees_of p.tree))))) → IfOk r (λ x. EnclosingIs text o (said_of x))
-enclosing_plain text o read p (Ok x) h is types =
-    (h.tokens, h.lexed, subst (λ q. EnclosingBy text o h.tokens q (said_of x)) (sym (ap (option_map plain_of) is) ∙ h.plain) types)
-enclosing_plain text o read p (Err e) h is types = tt
+pub enclosing_plain : (text : List ℕ) (o : ℕ) (read : ReadText) (p : PlainText) (s : said.Said) → IsReadAs text read → read.plain ≡ Some p
+    → s ≡ types_or_none (typed_among text (map seen_of p.seen.items) (reverse (nodes_at o (trees_of p.tree)))) → EnclosingIs text o s
+enclosing_plain text o read p s h is types =
+    (h.tokens, h.lexed, subst (λ q. EnclosingBy text o h.tokens q s) (sym (ap (option_map plain_of) is) ∙ h.plain) types)
 
-some_mapped : {A B : Type 0} (f : A → B) (o : Option A) → is_some (option_map f o) ≡ is_some o
-some_mapped f None = refl
-some_mapped f (Some x) = refl
+-- a text that isn't read as a plain one
+pub not_plain : (text : List ℕ) (read : ReadText) → IsReadAs text read → read.plain ≡ None → IsNotPlain text
+not_plain text read h is = (h.tokens, h.lexed, sym h.plain ∙ ap (option_map plain_of) is)
 
--- whether a text is well typed
-pub well_typed : (text : List ℕ) (read : ReadText) (h : IsReadAs text read) → is_some read.plain && read.short_numerals ≡ is_well_typed h.tokens
-unfolding is_well_typed
-well_typed text read h = rw (sym (some_mapped plain_of read.plain), h.plain, h.short) refl
+-- the types of a text that isn't plain
+pub enclosing_typed : (text : List ℕ) (o : ℕ) (s : said.Said) → IsNotPlain text → AreTypesRound text o s → EnclosingIs text o s
+enclosing_typed text o s (tokens, lexed, none) (ts, lex, types) = (
+  tokens,
+  lexed,
+  subst (λ q. EnclosingBy text o tokens q s) (sym none) (subst (λ us. TypesAre text (typed_round o (items_in us)) s) (lex_one text ts tokens lex lexed) types),
+)
+
+-- the types of a parsed text
+pub types_parsed : (text : List ℕ) (o : ℕ) (p : Parsed) (s : said.Said) → IsParsedAs text p → TypesAre text (typed_round o (trees_of p.tree)) s → AreTypesRound text o s
+types_parsed text o p s h types = (h.tokens, h.lexed, subst (λ items. TypesAre text (typed_round o items) s) h.items types)
 
 -- the faults of a text that is well typed
-pub errors_plain : (text : List ℕ) (read : ReadText) (r : Result Reply AllocError) (b : Bool) → IsReadAs text read → b ≡ is_some read.plain && read.short_numerals → b ≡ true
-    → IfOk r (λ x. said_of x ≡ faults_said text (map fault_of read.parsed.faults.items ++ [])) → IfOk r (λ x. ErrorsAre text (said_of x))
-errors_plain text read (Ok x) b h is holds page = (
+pub errors_plain : (text : List ℕ) (read : ReadText) (s : said.Said) → IsReadAs text read → read.is_well_typed ≡ true
+    → s ≡ faults_said text (map fault_of (parsed_in read.parsed).faults.items ++ []) → ErrorsAre text s
+errors_plain text read s h holds page = (
   h.tokens,
   h.lexed,
-  subst (λ w. ErrorsBy w text h.tokens (said_of x)) (sym holds ∙ is ∙ well_typed text read h)
-      (page ∙ ap (faults_said text) (append-nil (map fault_of read.parsed.faults.items) ∙ h.faults)),
+  subst (λ w. ErrorsBy w text h.tokens s) (sym holds ∙ h.well_typed)
+      (page ∙ ap (faults_said text) (append-nil (map fault_of (parsed_in read.parsed).faults.items) ∙ h.faults)),
 )
-errors_plain text read (Err e) b h is holds page = tt
+
+-- a text that isn't read as a well typed one
+pub may_be_ill : (text : List ℕ) (read : ReadText) → IsReadAs text read → read.is_well_typed ≡ false → MayBeIllTyped text
+may_be_ill text read h is = (h.tokens, h.lexed, sym h.well_typed ∙ is)
 
 -- the faults of another text
-pub errors_typed : (text : List ℕ) (read : ReadText) (r : Result Reply AllocError) (b : Bool) → IsReadAs text read → b ≡ is_some read.plain && read.short_numerals → b ≡ false
-    → IfOk r (λ x. FaultsAre text (map fault_of read.parsed.faults.items) (said_of x)) → IfOk r (λ x. ErrorsAre text (said_of x))
-errors_typed text read (Ok x) b h is holds page = (
-  h.tokens,
-  h.lexed,
-  subst (λ w. ErrorsBy w text h.tokens (said_of x)) (sym holds ∙ is ∙ well_typed text read h)
-      (subst (λ fs. FaultsAre text fs (said_of x)) h.faults page),
+pub errors_typed : (text : List ℕ) (s : said.Said) → MayBeIllTyped text → AreFaultsOf text s → ErrorsAre text s
+errors_typed text s (tokens, lexed, ill) (ts, lex, page) = (
+  tokens,
+  lexed,
+  subst (λ w. ErrorsBy w text tokens s) (sym ill) (subst (λ us. FaultsAre text (faults_in us) s) (lex_one text ts tokens lex lexed) page),
 )
-errors_typed text read (Err e) b h is holds page = tt
+
+-- the faults of a parsed text, with some of the typer
+pub faults_parsed : (text : List ℕ) (p : Parsed) (typed : List TyperFault) (s : said.Said) → IsParsedAs text p → s ≡ faults_said text (map fault_of p.faults.items ++ map by_typer typed) → AreFaultsOf text s
+faults_parsed text p typed s h page = (h.tokens, h.lexed, (typed, page ∙ ap (λ fs. faults_said text (fs ++ map by_typer typed)) h.faults))
 
 -- where there is no typed node
 pub no_types : (text : List ℕ) (nodes : List Typed) (e : QueryFault) (s : said.Said) → IsNoNode e nodes → failure_in e ≡ Some s → TypesAre text (map (λ n. n.span) nodes) s
@@ -71,3 +85,8 @@ no_types text nodes fault.NoNode s none is = let same : said.no_node ≡ s = cc 
 no_types text nodes fault.NotAName s none is = absurd none
 no_types text nodes (fault.Unbound ident) s none is = absurd none
 no_types text nodes fault.NoMemory s none is = cc
+
+-- what follows of what is said
+pub said_then : (P Q : said.Said → Type 0) (r : Result Reply AllocError) → ((s : said.Said) → P s → Q s) → IfOk r (λ x. P (said_of x)) → IfOk r (λ x. Q (said_of x))
+said_then P Q (Ok x) then is = then (said_of x) is
+said_then P Q (Err e) then is = tt

@@ -1,13 +1,18 @@
 -- What is said to queries of a position.
-use Rattle.std.specs.Prelude.{◌≡◌, ◌⊎◌, ℕ, List, codes}
+use Rattle.std.specs.Prelude.{◌≡◌, ◌⊎◌, ℕ, List, None, false, codes}
 use Rattle.text_terms.specs.Bytes.{str_bytes}
 use Rattle.text_model.specs.Positions.{position_of}
+use Rattle.token_model.specs.Kinds.{Tok}
+use Rattle.token_model.specs.Tokens.{Lex}
 use Rattle.tree_model.specs.Trees.{Tree}
+use Rattle.plain_model.specs.Plain.{plain_text}
 use Rattle.query_model.specs.Prefixes.{is_name_prefix}
 use Rattle.query_model.specs.TypedNodes.{innermost_at}
 use Rattle.service_model.specs.Replies as said
 use Rattle.service_model.specs.Completions.{CompletedBy}
-use Rattle.service_model.specs.Answers.{CasesBy, ItemsAre, LocatedBy, TermsBy, UsedBy}
+use Rattle.service_model.specs.Answers.{typed_round, CasesBy, ItemsAre, LocatedBy, TermsBy, TypesAre, UsedBy}
+use Rattle.service_model.specs.Structure.{faults_in, items_in, FaultsAre}
+use Rattle.service_model.specs.WellTyped.{is_well_typed}
 use Rattle.name_queries.specs.declared.shown_entries.Completion.{Completion}
 use Rattle.name_queries.specs.NewestNames.{printed}
 use Rattle.session.specs.declared.queries.Query.{Query}
@@ -20,6 +25,22 @@ AnswersQuery Occurrences text o items s = UsedBy text o items s
 AnswersQuery (Complete prefix) text o items s = CompletedBy (is_name_prefix (str_bytes prefix)) (str_bytes prefix) s
 AnswersQuery Cases text o items s = CasesBy text (innermost_at o items) s
 AnswersQuery Terms text o items s = TermsBy text (innermost_at o items) s
+
+-- a text that is not well typed as a plain one
+abbrev pub MayBeIllTyped : List ℕ → Type 0
+MayBeIllTyped text = (tokens : List Tok) × Lex text tokens × (is_well_typed tokens ≡ false)
+
+-- the faults of the text's tokens, those of the typer among them
+abbrev pub AreFaultsOf : List ℕ → said.Said → Type 0
+AreFaultsOf text s = (tokens : List Tok) × Lex text tokens × FaultsAre text (faults_in tokens) s
+
+-- a text that is not plain
+abbrev pub IsNotPlain : List ℕ → Type 0
+IsNotPlain text = (tokens : List Tok) × Lex text tokens × (plain_text tokens ≡ None)
+
+-- the types of the items' nodes that hold an offset
+abbrev pub AreTypesRound : List ℕ → ℕ → said.Said → Type 0
+AreTypesRound text o s = (tokens : List Tok) × Lex text tokens × TypesAre text (typed_round o (items_in tokens)) s
 
 -- what is said to a query at an offset of a text
 abbrev pub IsAnswered : Query → List ℕ → ℕ → said.Said → Type 0

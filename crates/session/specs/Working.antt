@@ -1,5 +1,5 @@
 -- What a session keeps, and how many tokens its answers read and items they type.
-use Rattle.std.specs.Prelude.{◌≡◌, ◌⊎◌, ℕ, ◌+◌, ◌-◌, ◌≤◌, List, length, Bool, true, false, Option, Some, None, if◌then◌else◌, refl}
+use Rattle.std.specs.Prelude.{◌≡◌, ◌⊎◌, ℕ, ◌+◌, ◌-◌, ◌≤◌, List, length, Bool, true, false, Option, Some, None, IfSome, if◌then◌else◌, refl}
 use Rattle.std.specs.Coded.{Coded, code_by, coded×, coded_bool, coded_list, coded_option, coded_ℕ}
 use Rattle.token_model.specs.Kinds.{Tok}
 use Rattle.token_model.specs.Tokens.{Lex}
@@ -29,6 +29,11 @@ abbrev pub held_code : Coded Tree → Coded Held
 held_code tree =
     code_by (List ℕ × (Option ℕ × (Bool × (Bool × List Tree)))) (coded× (coded_list coded_ℕ) (coded× (coded_option coded_ℕ) (coded× coded_bool (coded× coded_bool (coded_list tree)))))
     (λ h. (h.text, (h.changed, (h.begun, (h.known, h.holds))))) (λ p. record { text = p.0; changed = p.1.0; begun = p.1.1.0; known = p.1.1.1.0; holds = p.1.1.1.1 }) (λ _. refl)
+
+-- The typer's items, where they are known as those of the text, are, and so many of the first ones that it holds are those of the tree that is kept.
+pub record IsTied (text : List ℕ) (tree : List Tree) (known : Option (List Tree)) (holds : List Tree) (front : ℕ) : Type 0 where
+  pub of_text : IfSome known (AreItemsOf text)
+  pub of_tree : SameFront holds tree front
 
 -- what is owed is of the text, and from no later byte on than what was noted
 pub record Owes (w : Owed) (s : Held) : Type 0 where

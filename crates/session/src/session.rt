@@ -1,5 +1,5 @@
 //! One text, and the answers to request lines on it.
-ghost use Rattle.std.specs.Prelude.{◌≡◌, ◌≤◌, ◌<◌, ◌+◌, ◌-◌, ◌^◌, ◌++◌, [], List, ℕ, false, true, is_some, length, map, option_map, reverse, IfErr, IfOk, IfSome, None, OnErr, OnOk, Some};
+ghost use Rattle.std.specs.Prelude.{◌≡◌, ◌≤◌, ◌<◌, ◌+◌, ◌-◌, ◌^◌, ◌++◌, [], List, ℕ, false, true, is_some, length, map, option_map, reverse, IfErr, IfNone, IfOk, IfSome, None, OnErr, OnOk, Some};
 ghost use Rattle.text_terms.specs.Bytes.{str_bytes};
 ghost use Rattle.text_model.specs.Edits.{changed, outcome_of, text_limit};
 ghost use Rattle.std.specs.Str.{IsUtf8};
@@ -21,12 +21,12 @@ ghost use Rattle.text_store.specs.Edits.{edit_of, IsRefusal};
 ghost use Rattle.json_lines.specs.Meets.{asked_of, key_text, range_of, refusal_of};
 ghost use Rattle.service_model.specs.Replies.{outline};
 ghost use Rattle.service_model.specs.Made.{SizesAre};
-ghost use Rattle.service_model.specs.Structure.{ErrorsAre, FaultsAre, OutlineIs, faults_said};
+ghost use Rattle.service_model.specs.Structure.{ErrorsAre, OutlineIs, faults_said};
 ghost use Rattle.json_lines.specs.Means.{outline_of, outlined_of, said_of, typed_of};
 ghost use Rattle.kept_text.specs.Keeping.{sooner};
 ghost use Rattle.text_reading.specs.Structures.{AreItemsOf};
 ghost use Rattle.text_reading.specs.Types.{items_in};
-ghost use Rattle.session.specs.Queries.{IsAnswered};
+ghost use Rattle.session.specs.Queries.{AreFaultsOf, AreTypesRound, IsAnswered, IsNotPlain, MayBeIllTyped};
 ghost use Rattle.session.specs.Lines.{line_bytes, refusal_in, IsWritten, RefusesBy, RefusesEditBy, RepliesBy, Says};
 ghost use Rattle.session.specs.Working.{tries_texts, Carries, Lexes, Owes, QueryWorks, Reads, RequestWorks, Settles, Types};
 
@@ -179,13 +179,14 @@ pub struct Session<A: Analyser> {
     tried: TriedText<A>,
 }
 
-/// A session is seen as its text, how far it is read, and the items that are typed. Where the typer's items are known as those of the text, they are.
+/// A session is seen as its text, how far it is read, and the items that are typed. Where the typer's items are known as those of the text, they are;
+/// so many of the first ones are those of the tree that is kept as are said to be.
 impl<A: Analyser> Model for Session<A> {
-    ghost use Rattle.std.specs.Prelude.{IfSome, is_some};
-    ghost use Rattle.text_reading.specs.Structures.{AreItemsOf};
-    ghost use Rattle.text_reading.specs.Types.{has_begun, held, known};
+    ghost use Rattle.std.specs.Prelude.{is_some};
+    ghost use Rattle.kept_text.specs.Keeping.{trees_in};
+    ghost use Rattle.text_reading.specs.Types.{has_begun, held, known, known_front};
     ghost use Rattle.session.specs.TreeCodes.{tree_code};
-    ghost use Rattle.session.specs.Working.{held_code, Held};
+    ghost use Rattle.session.specs.Working.{held_code, Held, IsTied};
     ghost use Rattle.std.specs.Coded.{codes};
 
     ghost Value = { Held };
@@ -194,7 +195,7 @@ impl<A: Analyser> Model for Session<A> {
 
     ghost view = { λ s. record { text = s.kept.text; changed = s.kept.changed; begun = has_begun s.types; known = is_some (known A.items s.types); holds = held A.items s.types } };
 
-    ghost invariant = { λ s. IfSome (known A.items s.types) (AreItemsOf s.kept.text) };
+    ghost invariant = { λ s. IsTied s.kept.text (trees_in s.kept.tokens) (known A.items s.types) (held A.items s.types) (known_front s.types) };
 }
 
 impl<A: Analyser> Session<A> {
@@ -412,14 +413,15 @@ impl<A: Analyser> Session<A> {
         ensures idle { self.now.changed ≡ None → self.now.known ≡ true → tries_texts query.now ≡ false → C.tallies counts.new ≡ C.tallies counts.old }
         ensures counted { Grows (C.tallies counts.old) (C.tallies counts.new) }
     {
-        let parsed = tree_of(self.alloc, &self.kept, counts)?;
+        let read = tree_of(self.alloc, &self.kept, counts)?;
+        let parsed = read.get();
         let found = self.typed(&parsed.tree, counts)?;
         let analysis = found.analysis();
         answer::<A, C>(
             self.alloc,
             self.text(),
             query,
-            &parsed,
+            parsed,
             &analysis,
             offset,
             tried,
@@ -465,7 +467,7 @@ impl<A: Analyser> Session<A> {
         ensures untyped { (C.tallies counts.new).typed ≡ (C.tallies counts.old).typed }
         ensures counted { Grows (C.tallies counts.old) (C.tallies counts.new) }
     {
-        self.kept.refresh(counts)
+        self.types.follow(&mut self.kept, counts)
     }
 
     /// Finds the types and names of the text, whose tokens and tree were brought up to it, unless they are known.
@@ -481,7 +483,7 @@ impl<A: Analyser> Session<A> {
         if self.types.known().is_some() {
             return Ok(());
         }
-        match self.kept.parsed()? {
+        match self.kept.parsed() {
             Some(parsed) => self.types.refresh(self.alloc, &parsed.tree, counts),
             None => unreachable!(),
         }
@@ -571,8 +573,8 @@ impl<A: Analyser> Session<A> {
         ensures idle { self.now.changed ≡ None → C.tallies counts.new ≡ C.tallies counts.old }
         ensures counted { Grows (C.tallies counts.old) (C.tallies counts.new) }
     {
-        let parsed = tree_of(self.alloc, &self.kept, counts)?;
-        let members = text_queries::outline(self.alloc, &parsed.tree)?;
+        let read = tree_of(self.alloc, &self.kept, counts)?;
+        let members = text_queries::outline(self.alloc, &read.get().tree)?;
         shown_outline(self.alloc, self.text(), &members)
     }
 
@@ -599,12 +601,11 @@ impl<A: Analyser> Session<A> {
         ensures counted { Grows (C.tallies counts.old) (C.tallies counts.new) }
     {
         self.read_again(counts)?;
-        let read = read_text(self.alloc, &self.kept, counts)?;
-        if read.is_well_typed() {
-            return self.page_of(&read.parsed.faults, &[]);
+        if let Some(reply) = self.plain_errors(counts)? {
+            return Ok(reply);
         }
         self.type_again(counts)?;
-        self.typed_errors(&read.parsed, counts)
+        self.typed_errors(counts)
     }
 
     /// The faults of the text, as the page of them that `errors` tells.
@@ -612,20 +613,35 @@ impl<A: Analyser> Session<A> {
         ensures said { IfOk result (λ r. ErrorsAre self.now.text (said_of r)) }
         ensures counted { Grows (C.tallies counts.old) (C.tallies counts.new) }
     {
-        let read = read_text(self.alloc, &self.kept, counts)?;
-        if read.is_well_typed() {
-            return self.page_of(&read.parsed.faults, &[]);
+        match self.plain_errors(counts)? {
+            Some(reply) => Ok(reply),
+            None => self.typed_errors(counts),
         }
-        self.typed_errors(&read.parsed, counts)
     }
 
-    /// The faults of a parsed text, whose types may be wrong.
-    fn typed_errors<C: Counts>(&self, parsed: &Parsed, counts: &mut C) -> Result<Reply, NoMemory>
-        requires of_text { AreItemsOf self.now.text (trees_of parsed.now.tree) }
-        ensures said { IfOk result (λ r. FaultsAre self.now.text (map fault_of parsed.now.faults.items) (said_of r)) }
-        ensures idle { self.now.known ≡ true → C.tallies counts.new ≡ C.tallies counts.old }
+    /// The faults of a text that is well typed as a plain one. None where it isn't.
+    fn plain_errors<C: Counts>(&self, counts: &mut C) -> Result<Option<Reply>, NoMemory>
+        ensures said { IfOk result (λ o. IfSome o (λ r. ErrorsAre self.now.text (said_of r))) }
+        ensures other { IfOk result (λ o. IfNone o (MayBeIllTyped self.now.text)) }
+        ensures idle { self.now.changed ≡ None → C.tallies counts.new ≡ C.tallies counts.old }
         ensures counted { Grows (C.tallies counts.old) (C.tallies counts.new) }
     {
+        let read = read_text(self.alloc, &self.kept, counts)?;
+        if read.is_well_typed {
+            Ok(Some(self.page_of(&read.parsed.get().faults, &[])?))
+        } else {
+            Ok(None)
+        }
+    }
+
+    /// The faults of a text whose types may be wrong.
+    fn typed_errors<C: Counts>(&self, counts: &mut C) -> Result<Reply, NoMemory>
+        ensures said { IfOk result (λ r. AreFaultsOf self.now.text (said_of r)) }
+        ensures idle { self.now.changed ≡ None → self.now.known ≡ true → C.tallies counts.new ≡ C.tallies counts.old }
+        ensures counted { Grows (C.tallies counts.old) (C.tallies counts.new) }
+    {
+        let read = tree_of(self.alloc, &self.kept, counts)?;
+        let parsed = read.get();
         let found = self.typed(&parsed.tree, counts)?;
         self.page_of(&parsed.faults, &found.analysis().faults.list)
     }
@@ -647,11 +663,12 @@ impl<A: Analyser> Session<A> {
         ensures counted { Grows (C.tallies counts.old) (C.tallies counts.new) }
     {
         let read = read_text(self.alloc, &self.kept, counts)?;
-        if read.is_well_typed() {
-            return Ok(sizes_of(&read.parsed, 0));
+        let parsed = read.parsed.get();
+        if read.is_well_typed {
+            return Ok(sizes_of(parsed, 0));
         }
-        let typed = self.count_typed(&read.parsed, counts)?;
-        Ok(sizes_of(&read.parsed, typed))
+        let typed = self.count_typed(parsed, counts)?;
+        Ok(sizes_of(parsed, typed))
     }
 
     /// How many faults of the typer a parsed text has, its warnings among them.
@@ -693,12 +710,11 @@ impl<A: Analyser> Session<A> {
         ensures counted { Grows (C.tallies counts.old) (C.tallies counts.new) }
     {
         self.read_again(counts)?;
-        let read = read_text(self.alloc, &self.kept, counts)?;
-        if let Some(plain) = &read.plain {
-            return self.plain_types(plain, offset);
+        if let Some(reply) = self.plain_enclosing(offset, counts)? {
+            return Ok(reply);
         }
         self.type_again(counts)?;
-        self.types_in(&read.parsed.tree, offset, counts)
+        self.typed_enclosing(offset, counts)
     }
 
     /// The types round an offset, innermost first.
@@ -706,11 +722,38 @@ impl<A: Analyser> Session<A> {
         ensures said { IfOk result (λ r. EnclosingIs self.now.text offset (said_of r)) }
         ensures counted { Grows (C.tallies counts.old) (C.tallies counts.new) }
     {
+        match self.plain_enclosing(offset, counts)? {
+            Some(reply) => Ok(reply),
+            None => self.typed_enclosing(offset, counts),
+        }
+    }
+
+    /// The types round an offset of a plain text, innermost first. None where the text isn't plain.
+    fn plain_enclosing<C: Counts>(
+        &self,
+        offset: u32,
+        counts: &mut C,
+    ) -> Result<Option<Reply>, NoMemory>
+        ensures said { IfOk result (λ o. IfSome o (λ r. EnclosingIs self.now.text offset (said_of r))) }
+        ensures other { IfOk result (λ o. IfNone o (IsNotPlain self.now.text)) }
+        ensures idle { self.now.changed ≡ None → C.tallies counts.new ≡ C.tallies counts.old }
+        ensures counted { Grows (C.tallies counts.old) (C.tallies counts.new) }
+    {
         let read = read_text(self.alloc, &self.kept, counts)?;
         match &read.plain {
-            Some(plain) => self.plain_types(plain, offset),
-            None => self.types_in(&read.parsed.tree, offset, counts),
+            Some(plain) => Ok(Some(self.plain_types(plain, offset)?)),
+            None => Ok(None),
         }
+    }
+
+    /// The types round an offset of a text that isn't plain, innermost first.
+    fn typed_enclosing<C: Counts>(&self, offset: u32, counts: &mut C) -> Result<Reply, NoMemory>
+        ensures said { IfOk result (λ r. AreTypesRound self.now.text offset (said_of r)) }
+        ensures idle { self.now.changed ≡ None → self.now.known ≡ true → C.tallies counts.new ≡ C.tallies counts.old }
+        ensures counted { Grows (C.tallies counts.old) (C.tallies counts.new) }
+    {
+        let read = tree_of(self.alloc, &self.kept, counts)?;
+        self.types_in(&read.get().tree, offset, counts)
     }
 
     /// The types round an offset of a plain text, innermost first.

@@ -248,8 +248,8 @@ impl<'a, A: Analyser> TextTrial<'a, A> {
         ensures grows { Grows (C.tallies counts.old) (C.tallies counts.new) }
     {
         let alloc = self.alloc;
-        let parsed = self.tried.read(changed, counts)?;
-        let found = self.tried.typed(&parsed.tree, counts)?;
+        self.tried.read(changed, counts)?;
+        let (parsed, found) = self.tried.typed(counts)?;
         let marks = marks_of(alloc, &parsed.faults, &found.faults.list)?;
         Ok(self.first_new(replacement, &marks))
     }

@@ -8,7 +8,7 @@ use Rattle.service_model.specs.Structure.{items_in}
 use Rattle.syntax_tree.specs.View.{trees_of}
 use Rattle.frame_parser.specs.declared.whole.Parsed.{Parsed}
 use Rattle.text_reading.specs.PlainTexts.{IsReadAs}
-use Rattle.text_reading.specs.Structures.{AreItemsOf, IsParsedAs}
+use Rattle.text_reading.specs.Structures.{parsed_in, AreItemsOf, IsParsedAs}
 use Rattle.text_reading.specs.declared.reading.ReadText.{ReadText}
 
 -- the items of a text are one list
@@ -20,7 +20,7 @@ pub items_parsed : (text : List ℕ) (p : Parsed) → IsParsedAs text p → AreI
 items_parsed text p h = record { tokens = h.tokens; lexed = h.lexed; are = h.items }
 
 -- what a text was read as has its items
-pub items_read : (text : List ℕ) (r : ReadText) → IsReadAs text r → AreItemsOf text (trees_of r.parsed.tree)
+pub items_read : (text : List ℕ) (r : ReadText) → IsReadAs text r → AreItemsOf text (trees_of (parsed_in r.parsed).tree)
 items_read text r h = record { tokens = h.tokens; lexed = h.lexed; are = h.items }
 
 -- where nothing is known, nothing is wrong
@@ -40,3 +40,7 @@ known_again text items k (Err e) are done failed = unknown text k failed
 pub holds_items : {R : Type 0} (items : R → List Tree) (o : Option R) (k : Option (List Tree)) (text : List ℕ) (trees : List Tree) → option_map items o ≡ k → IfSome k (AreItemsOf text) → AreItemsOf text trees → IfSome o (λ a. items a ≡ trees)
 holds_items items None k text trees is known are = tt
 holds_items items (Some a) k text trees is known are = items_are_one text (items a) trees (subst (λ j. IfSome j (AreItemsOf text)) (sym is) known) are
+
+-- what is known is one list
+pub same_known : (xs ys : List Tree) (k : Option (List Tree)) → Some xs ≡ k → k ≡ Some ys → xs ≡ ys
+same_known xs ys k is known = cc

@@ -1,3 +1,4 @@
+pub mod Fronts
 pub mod Parsing
 pub mod Places
 pub mod ReadAs

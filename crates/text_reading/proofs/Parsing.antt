@@ -1,5 +1,5 @@
 -- What a text is parsed as, and how its outline is shown.
-use Rattle.std.proofs.Common.{◌≡◌, ℕ, List, [], ◌∷◌, map, refl, ap, subst, Result, Ok, Err, IfOk, Option, Some, None, IfSome}
+use Rattle.std.proofs.Common.{◌≡◌, ℕ, List, [], ◌∷◌, map, refl, ap, Result, Ok, Err, IfOk}
 use Rattle.token_model.specs.Kinds.{Tok}
 use Rattle.text_model.specs.Positions.{position_of}
 use Rattle.text_terms.specs.Bytes.{str_bytes}
@@ -43,14 +43,6 @@ pub parsed : (text : List ℕ) (ts : List Token) (r : Result Parsed AllocError) 
     → IfOk r (λ p. IsParsedAs text p)
 parsed text ts (Ok p) lexed items faults = parsed_as text (map tok_of ts) p lexed items faults
 parsed text ts (Err e) lexed items faults = tt
-
--- what is kept of a text is what its tokens are parsed as
-pub kept_as : (text : List ℕ) (ts : List Tok) (o : Option Parsed) (p : Parsed) → o ≡ Some p → IfSome o (λ _. Lex text ts)
-    → IfSome o (λ p. trees_of p.tree ≡ items_of (named row_name (recover (grammar program_text) ts).0))
-    → IfSome o (λ p. map parser.fault_of p.faults.items ≡ map told (recover (grammar program_text) ts).1)
-    → IsParsedAs text p
-kept_as text ts None p is lexed items faults = cc
-kept_as text ts (Some q) p is lexed items faults = let same : q ≡ p = cc in subst (IsParsedAs text) same (parsed_as text ts q lexed items faults)
 
 -- members that are shown one by one are shown together
 pub outline_shown : (text : List ℕ) (ms : List Member) → outline_of (map (shown_member text) ms) ≡ shown_members text (members_of ms)

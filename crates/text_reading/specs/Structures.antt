@@ -7,6 +7,13 @@ use Rattle.service_model.specs.Structure.{items_in, faults_in}
 use Rattle.syntax_tree.specs.View.{trees_of}
 use Rattle.frame_parser.specs.declared.whole.Parsed.{Parsed}
 use Rattle.text_queries.specs.Faults.{fault_of}
+use Rattle.text_reading.specs.declared.structure.ParsedText.{ParsedText}
+use Rattle.text_reading.specs.declared.structure.ParsedText.TheVariants.{Kept, New}
+
+-- the tree and the faults that are kept or new
+abbrev pub parsed_in : ParsedText → Parsed
+parsed_in (Kept p) = p.now
+parsed_in (New p) = p
 
 -- the text's tokens, with the items and the faults of these
 pub record IsParsedAs (text : List ℕ) (parsed : Parsed) : Type 0 where

@@ -19,6 +19,10 @@ held items k = items_or_none (option_map items k.typer)
 abbrev pub known : {A : Type 0} → (A → List Tree) → KeptTypes A → Option (List Tree)
 known items k = if k.is_current then option_map items k.typer else None
 
+-- how many of the items that are held are known to be those of the present tree
+abbrev pub known_front : {A : Type 0} → KeptTypes A → ℕ
+known_front k = k.front
+
 -- whether a typer has begun
 abbrev pub has_begun : {A : Type 0} → KeptTypes A → Bool
 has_begun k = is_some k.typer

@@ -15,6 +15,8 @@ mod types;
 
 pub use plain::{PlainText, typed_among};
 pub use reading::{ReadText, read_text};
-pub use structure::{parse_text, position, shown_faults, shown_outline, shown_types, tree_of};
+pub use structure::{
+    ParsedText, parse_text, position, shown_faults, shown_outline, shown_types, tree_of,
+};
 pub use tried::TriedText;
 pub use types::{Found, KeptTypes, analysed, find_types};

@@ -4,14 +4,15 @@ ghost use Rattle.std.specs.List.{list_all};
 ghost use Rattle.tree_model.specs.Trees.{AreItemsSized};
 ghost use Rattle.plain_model.specs.Plain.{plain_text};
 ghost use Rattle.service_model.specs.WellTyped as model;
-ghost use Rattle.service_model.specs.WellTyped.{is_short};
+ghost use Rattle.service_model.specs.WellTyped.{is_short, is_well_typed};
 ghost use Rattle.syntax_tree.specs.Names.{kind_of};
 ghost use Rattle.syntax_tree.specs.Tallies.{Grows};
 ghost use Rattle.syntax_tree.specs.View.{tok_of, trees_of};
 ghost use Rattle.text_reading.specs.PlainTexts.{plain_of, IsReadAs};
 
 use crate::plain::{PlainText, read_plain};
-use frame_parser::{Parsed, Text, parse};
+use crate::structure::ParsedText;
+use frame_parser::{Text, parse};
 use kept_text::KeptText;
 use ml_lexer::lex_all;
 use std::alloc::Global;
@@ -20,50 +21,40 @@ use text_store::TextStore;
 
 /// What a text is read as.
 #[derive(Drop)]
-pub struct ReadText {
-    pub parsed: Parsed,
+pub struct ReadText<'a> {
+    pub parsed: ParsedText<'a>,
     /// None where it is no plain text.
     pub plain: Option<PlainText>,
-    /// Whether each numeral is in the range of integers by its length.
-    pub short_numerals: bool,
-}
-
-impl ReadText {
     /// Whether it is a plain text in which no type is wrong.
-    pub fn is_well_typed(&self) -> bool
-        ensures { result ≡ is_some self.now.plain && self.now.short_numerals }
-    {
-        self.plain.is_some() && self.short_numerals
-    }
+    pub is_well_typed: bool,
 }
 
 /// Reads a text: what is kept of it, where that is of the present text, and else all of it anew.
-pub fn read_text<C: Counts>(
+pub fn read_text<'a, C: Counts>(
     alloc: Global,
-    kept: &KeptText,
+    kept: &'a KeptText,
     counts: &mut C,
-) -> Result<ReadText, NoMemory>
+) -> Result<ReadText<'a>, NoMemory>
     ensures read { IfOk result (λ r. IsReadAs kept.now.text r) }
     ensures sized { IfOk result (λ r. IfSome r.plain (λ p. AreItemsSized (trees_of p.tree) × (length (trees_of p.tree) < 2 ^ 32 - 1))) }
     ensures idle { kept.now.changed ≡ None → C.tallies counts.new ≡ C.tallies counts.old }
     ensures grows { Grows (C.tallies counts.old) (C.tallies counts.new) }
 {
-    let found = kept.parsed()?;
-    let Some(parsed) = found else {
+    let Some(parsed) = kept.parsed() else {
         return read_anew(alloc, kept.text(), counts);
     };
     match kept.tokens() {
-        Some(tokens) => read_tokens(alloc, tokens, parsed),
+        Some(tokens) => read_tokens(alloc, tokens, ParsedText::Kept(parsed)),
         None => read_anew(alloc, kept.text(), counts),
     }
 }
 
 /// Reads the store's text from nothing.
-fn read_anew<C: Counts>(
+fn read_anew<'a, C: Counts>(
     alloc: Global,
     store: &TextStore,
     counts: &mut C,
-) -> Result<ReadText, NoMemory>
+) -> Result<ReadText<'a>, NoMemory>
     ensures read { IfOk result (λ r. IsReadAs store.now r) }
     ensures sized { IfOk result (λ r. IfSome r.plain (λ p. AreItemsSized (trees_of p.tree) × (length (trees_of p.tree) < 2 ^ 32 - 1))) }
     ensures grows { Grows (C.tallies counts.old) (C.tallies counts.new) }
@@ -71,21 +62,28 @@ fn read_anew<C: Counts>(
     let (left, right) = store.slices();
     let tokens = lex_all(alloc, left, right, counts)?;
     let parsed = parse(alloc, Text::Program, &tokens, counts)?;
-    read_tokens(alloc, &tokens, parsed)
+    read_tokens(alloc, &tokens, ParsedText::New(parsed))
 }
 
 /// What tokens are read as that are parsed already.
-fn read_tokens(alloc: Global, tokens: &[Token], parsed: Parsed) -> Result<ReadText, NoMemory>
+#[tactic(auto, unfolding(service_model::specs::WellTyped::is_well_typed))]
+fn read_tokens<'a>(
+    alloc: Global,
+    tokens: &[Token],
+    parsed: ParsedText<'a>,
+) -> Result<ReadText<'a>, NoMemory>
     requires few { length tokens.now < 2 ^ 32 - 1 }
-    ensures parsed { IfOk result (λ r. r.parsed ≡ parsed) }
+    ensures parsed { IfOk result (λ r. r.parsed ≡ parsed.entry) }
     ensures plain { IfOk result (λ r. option_map plain_of r.plain ≡ plain_text (map tok_of tokens.now)) }
-    ensures short { IfOk result (λ r. r.short_numerals ≡ list_all is_short (map tok_of tokens.now)) }
+    ensures well_typed { IfOk result (λ r. r.is_well_typed ≡ is_well_typed (map tok_of tokens.now)) }
     ensures sized { IfOk result (λ r. IfSome r.plain (λ p. AreItemsSized (trees_of p.tree) × (length (trees_of p.tree) < 2 ^ 32 - 1))) }
 {
+    let plain = read_plain(alloc, tokens)?;
+    let is_well_typed = plain.is_some() && are_short(tokens);
     Ok(ReadText {
         parsed,
-        plain: read_plain(alloc, tokens)?,
-        short_numerals: are_short(tokens),
+        plain,
+        is_well_typed,
     })
 }
 

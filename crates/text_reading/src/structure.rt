@@ -11,7 +11,7 @@ ghost use Rattle.text_queries.specs.Outlines.{member_of};
 ghost use Rattle.text_queries.specs.Faults.{listed_of};
 ghost use Rattle.query_engine.specs.Typed.{span_of};
 ghost use Rattle.json_lines.specs.Means.{fault_of, outline_of, outlined_of, typed_of};
-ghost use Rattle.text_reading.specs.Structures.{IsParsedAs};
+ghost use Rattle.text_reading.specs.Structures.{parsed_in, IsParsedAs};
 
 use frame_parser::{Parsed, Text, parse};
 use kept_text::KeptText;
@@ -20,6 +20,25 @@ use query_engine as engine;
 use std::alloc::{AllocError, Global};
 use syntax_tree::{Counts, NoMemory, Pos};
 use text_store::TextStore;
+
+/// The tree and the faults of a text: those that are kept, or new ones.
+#[derive(Drop)]
+pub enum ParsedText<'a> {
+    Kept(&'a Parsed),
+    New(Parsed),
+}
+
+impl<'a> ParsedText<'a> {
+    /// The tree and the faults.
+    pub fn get(&self) -> &Parsed
+        ensures { result.now ≡ parsed_in self.now }
+    {
+        match self {
+            ParsedText::Kept(parsed) => parsed,
+            ParsedText::New(parsed) => parsed,
+        }
+    }
+}
 
 /// The tree and the faults of a text in two parts.
 pub fn parse_text<C: Counts>(
@@ -39,21 +58,20 @@ pub fn parse_text<C: Counts>(
 
 /// The tree and the faults of a text: those that are kept, where these are of the present text, and else those of a parse from
 /// nothing.
-pub fn tree_of<C: Counts>(
+pub fn tree_of<'a, C: Counts>(
     alloc: Global,
-    kept: &KeptText,
+    kept: &'a KeptText,
     counts: &mut C,
-) -> Result<Parsed, NoMemory>
-    ensures parsed { IfOk result (λ p. IsParsedAs kept.now.text p) }
+) -> Result<ParsedText<'a>, NoMemory>
+    ensures parsed { IfOk result (λ p. IsParsedAs kept.now.text (parsed_in p)) }
     ensures idle { kept.now.changed ≡ None → C.tallies counts.new ≡ C.tallies counts.old }
     ensures grows { Grows (C.tallies counts.old) (C.tallies counts.new) }
 {
-    let found = kept.parsed()?;
-    match found {
-        Some(parsed) => Ok(parsed),
+    match kept.parsed() {
+        Some(parsed) => Ok(ParsedText::Kept(parsed)),
         None => {
             let (left, right) = kept.text().slices();
-            parse_text(alloc, left, right, counts)
+            Ok(ParsedText::New(parse_text(alloc, left, right, counts)?))
         }
     }
 }

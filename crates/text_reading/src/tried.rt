@@ -8,22 +8,35 @@ ghost use Rattle.syntax_tree.specs.View.{trees_of};
 ghost use Rattle.text_reading.specs.Structures.{IsParsedAs};
 ghost use Rattle.text_reading.specs.Types.{IsOf};
 
-use crate::structure::tree_of;
 use crate::types::KeptTypes;
 use analysis_api::{Analyser, Analysis};
 use frame_parser::Parsed;
 use kept_text::KeptText;
 use std::alloc::{AllocError, Global};
-use syntax_tree::{Counts, NoMemory, Pos, RcStr, Tree};
+use std::marker::Model;
+use syntax_tree::{Counts, NoMemory, Pos, RcStr};
 use text_store::{Edit, TextStore};
 
 /// A text that is tried, with its tokens, its tree and its types. One that begins like the one before it is read and typed from where
-/// they differ.
+/// they differ. It is seen as its bytes; so many of the typer's items are those of the tree that is kept as are said to be.
 #[derive(Drop)]
 pub struct TriedText<A: Analyser> {
     alloc: Global,
     kept: KeptText,
     types: KeptTypes<A>,
+}
+
+impl<A: Analyser> Model for TriedText<A> {
+    ghost use Rattle.std.specs.Prelude.{List, ℕ};
+    ghost use Rattle.analysis_api.specs.Typed.{SameFront};
+    ghost use Rattle.kept_text.specs.Keeping.{trees_in};
+    ghost use Rattle.text_reading.specs.Types.{held, known_front};
+
+    ghost Value = { List ℕ };
+
+    ghost view = { λ t. t.kept.text };
+
+    ghost invariant = { λ t. SameFront (held A.items t.types) (trees_in t.kept.tokens) (known_front t.types) };
 }
 
 /// How many bytes at the start of two texts are the same.
@@ -99,7 +112,7 @@ impl<A: Analyser> TriedText<A> {
 
     /// Whether the text that is kept is this one.
     fn is_kept(&self, text: &str) -> bool
-        ensures { result ≡ true → self.now.kept.text ≡ text.now }
+        ensures { result ≡ true → self.now ≡ text.now }
     {
         let (left, right) = self.kept.text().slices();
         right.is_empty() && left == text.as_bytes()
@@ -107,7 +120,7 @@ impl<A: Analyser> TriedText<A> {
 
     /// Makes the text that is kept this one, and answers whether it is.
     fn bring(&mut self, text: &str) -> Result<bool, NoMemory>
-        ensures { IfOk result (λ is. is ≡ true → self.new.kept.text ≡ text.now) }
+        ensures { IfOk result (λ is. is ≡ true → self.new ≡ text.now) }
     {
         if let Some(edit) = edit_to(self.alloc, self.kept.text(), text)? {
             let _ = self.kept.apply(&edit);
@@ -118,7 +131,7 @@ impl<A: Analyser> TriedText<A> {
     /// Makes the text that is kept this one by an edit of all of it, which is refused for want of memory alone.
     fn replace(&mut self, text: &str) -> Result<(), NoMemory>
         requires short { length text.now ≤ text_limit }
-        ensures { OnOk result (self.new.kept.text ≡ text.now) }
+        ensures { OnOk result (self.new ≡ text.now) }
     {
         let store = self.kept.text();
         let (left, right) = store.slices();
@@ -136,7 +149,7 @@ impl<A: Analyser> TriedText<A> {
     /// Makes the text that is kept this one: from the first byte that differs on, where that can be done.
     fn take(&mut self, text: &str) -> Result<(), NoMemory>
         requires short { length text.now ≤ text_limit }
-        ensures { OnOk result (self.new.kept.text ≡ text.now) }
+        ensures { OnOk result (self.new ≡ text.now) }
     {
         if self.bring(text)? {
             return Ok(());
@@ -144,32 +157,34 @@ impl<A: Analyser> TriedText<A> {
         self.replace(text)
     }
 
-    /// The tree and the faults of a text. At most 32 tokens more are read than it has, after want of memory too, and nothing is typed.
-    pub fn read<C: Counts>(&mut self, text: &str, counts: &mut C) -> Result<Parsed, NoMemory>
+    /// Reads a text, which is the one that is tried from then on. At most 32 tokens more are read than it has, after want of memory too,
+    /// and nothing is typed.
+    pub fn read<C: Counts>(&mut self, text: &str, counts: &mut C) -> Result<(), NoMemory>
         requires short { length text.now ≤ text_limit }
-        ensures parsed { IfOk result (λ p. IsParsedAs text.now p) }
+        ensures text { OnOk result (self.new ≡ text.now) }
         ensures lexed { (ts : List Tok) → Lex text.now ts → (C.tallies counts.new).lexed ≤ (C.tallies counts.old).lexed + (32 + length ts) }
         ensures untyped { (C.tallies counts.new).typed ≡ (C.tallies counts.old).typed }
         ensures grows { Grows (C.tallies counts.old) (C.tallies counts.new) }
     {
         self.take(text)?;
-        self.kept.refresh(counts)?;
-        tree_of(self.alloc, &self.kept, counts)
+        self.types.follow(&mut self.kept, counts)
     }
 
-    /// What is found of the types and names of a text with this tree.
-    pub fn typed<C: Counts>(
-        &mut self,
-        tree: &Tree,
-        counts: &mut C,
-    ) -> Result<Analysis<'_>, NoMemory>
-        ensures found { IfOk result (IsOf A.items A.finds (trees_of tree.now)) }
+    /// The tree and the faults of the text that was read last, and what is found of its types and names.
+    pub fn typed<C: Counts>(&mut self, counts: &mut C) -> Result<(&Parsed, Analysis<'_>), NoMemory>
+        ensures parsed { IfOk result (λ r. IsParsedAs self.old r.0.now) }
+        ensures found { IfOk result (λ r. IsOf A.items A.finds (trees_of r.0.now.tree) r.1) }
         ensures grows { Grows (C.tallies counts.old) (C.tallies counts.new) }
     {
-        self.types.refresh(self.alloc, tree, counts)?;
-        match self.types.known() {
-            Some(typer) => Ok(typer.found()),
+        self.types.follow(&mut self.kept, counts)?;
+        match self.kept.parsed() {
+            Some(parsed) => self.types.refresh(self.alloc, &parsed.tree, counts)?,
             None => unreachable!(),
+        }
+        let tried = &*self;
+        match (tried.kept.parsed(), tried.types.known()) {
+            (Some(parsed), Some(typer)) => Ok((parsed, typer.found())),
+            _ => unreachable!(),
         }
     }
 }

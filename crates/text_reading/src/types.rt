@@ -1,13 +1,15 @@
 //! What is found of the types and names of a text, kept from one query to the next.
-ghost use Rattle.std.specs.Prelude.{◌≡◌, ◌+◌, ◌-◌, ◌≤◌, ℕ, List, [], None, Some, false, true, is_some, length, take, option_map, IfOk, IfSome, OnErr, OnOk};
+ghost use Rattle.std.specs.Prelude.{◌≡◌, ◌+◌, ◌-◌, ◌≤◌, ℕ, List, [], None, Some, false, true, is_some, length, min, take, option_map, IfOk, IfSome, OnErr, OnOk};
 ghost use Rattle.token_model.specs.Kinds.{Tok};
 ghost use Rattle.token_model.specs.Tokens.{Lex};
 ghost use Rattle.syntax_tree.specs.Tallies.{Grows};
 ghost use Rattle.syntax_tree.specs.View.{trees_of};
-ghost use Rattle.analysis_api.specs.Typed.{more_typed, LongestFront};
-ghost use Rattle.text_reading.specs.Types.{has_begun, held, items_in, known, opening, IsOf};
+ghost use Rattle.analysis_api.specs.Typed.{more_typed, LongestFront, SameFront};
+ghost use Rattle.kept_text.specs.Keeping.{read_behind, trees_in};
+ghost use Rattle.text_reading.specs.Types.{has_begun, held, items_in, known, known_front, opening, IsOf};
 
 use analysis_api::{Analyser, Analysis};
+use kept_text::KeptText;
 use std::alloc::Global;
 use syntax_tree::{Counts, NoMemory, Tree};
 
@@ -40,7 +42,7 @@ pub fn analysed<A: Analyser, C: Counts>(
     ensures grows { Grows (C.tallies counts.old) (C.tallies counts.new) }
 {
     let mut typer = A::new(alloc, counts)?;
-    typer.refresh(tree, counts)?;
+    typer.refresh(tree, 0, counts)?;
     Ok(typer)
 }
 
@@ -67,6 +69,8 @@ pub fn find_types<'a, A: Analyser, C: Counts>(
 pub struct KeptTypes<A: Analyser> {
     typer: Option<A>,
     is_current: bool,
+    // how many of the typer's first items are known to be those of the present tree
+    front: usize,
 }
 
 impl<A: Analyser> KeptTypes<A> {
@@ -75,10 +79,12 @@ impl<A: Analyser> KeptTypes<A> {
         ensures none { held A.items result ≡ [] }
         ensures unknown { known A.items result ≡ None }
         ensures begun { has_begun result ≡ false }
+        ensures front { known_front result ≡ 0 }
     {
         KeptTypes {
             typer: None,
             is_current: false,
+            front: 0,
         }
     }
 
@@ -87,8 +93,47 @@ impl<A: Analyser> KeptTypes<A> {
         ensures unknown { known A.items self.new ≡ None }
         ensures stays { held A.items self.new ≡ held A.items self.old }
         ensures begun { has_begun self.new ≡ has_begun self.old }
+        ensures front { known_front self.new ≡ known_front self.old }
     {
         self.is_current = false;
+    }
+
+    /// The tree has changed but for so many items at its front.
+    fn narrow(&mut self, front: usize)
+        ensures known { known A.items self.new ≡ known A.items self.old }
+        ensures stays { held A.items self.new ≡ held A.items self.old }
+        ensures begun { has_begun self.new ≡ has_begun self.old }
+        ensures front { known_front self.new ≡ min (known_front self.old) front }
+    {
+        self.front = self.front.min(front);
+    }
+
+    /// Brings the tokens and the tree of the typer's text up to it, and notes how many of the typer's items are still those of the tree.
+    /// Nothing is typed. After `NoMemory` the next call does what is left.
+    pub fn follow<C: Counts>(&mut self, kept: &mut KeptText, counts: &mut C) -> Result<(), NoMemory>
+        requires front { SameFront (held A.items self.old) (trees_in kept.old.tokens) (known_front self.old) }
+        ensures front { SameFront (held A.items self.new) (trees_in kept.new.tokens) (known_front self.new) }
+        ensures known { known A.items self.new ≡ known A.items self.old }
+        ensures stays { held A.items self.new ≡ held A.items self.old }
+        ensures begun { has_begun self.new ≡ has_begun self.old }
+        ensures text { kept.new.text ≡ kept.old.text }
+        ensures current { OnOk result (kept.new.changed ≡ None) }
+        ensures refused { OnErr result (kept.new.changed ≡ kept.old.changed) }
+        ensures work { (from : ℕ) (ts : List Tok) → kept.old.changed ≡ Some from → Lex kept.old.text ts → (C.tallies counts.new).lexed ≤ (C.tallies counts.old).lexed + read_behind from ts }
+        ensures idle { kept.old.changed ≡ None → C.tallies counts.new ≡ C.tallies counts.old }
+        ensures untyped { (C.tallies counts.new).typed ≡ (C.tallies counts.old).typed }
+        ensures grows { Grows (C.tallies counts.old) (C.tallies counts.new) }
+    {
+        match kept.refresh(counts) {
+            Ok(front) => {
+                self.narrow(front);
+                Ok(())
+            }
+            Err(short) => {
+                self.narrow(0);
+                Err(short)
+            }
+        }
     }
 
     /// The typer, where what it found is that of the present text.
@@ -106,10 +151,11 @@ impl<A: Analyser> KeptTypes<A> {
     fn take<C: Counts>(&mut self, alloc: Global, counts: &mut C) -> Result<A, NoMemory>
         ensures taken { IfOk result (λ a. A.items a ≡ held A.items self.old) }
         ensures failed { OnErr result (held A.items self.new ≡ []) }
-        ensures untyped { OnOk result ((C.tallies counts.new).typed ≡ (C.tallies counts.old).typed) }
+        ensures untyped { (C.tallies counts.new).typed ≡ (C.tallies counts.old).typed }
         ensures unknown { known A.items self.new ≡ None }
         ensures lexed { (ts : List Tok) → Lex A.opens ts → (C.tallies counts.new).lexed ≤ (C.tallies counts.old).lexed + opening (length ts) (has_begun self.old) }
         ensures fails { OnErr result (has_begun self.old ≡ false) }
+        ensures front { known_front self.new ≡ known_front self.old }
         ensures grows { Grows (C.tallies counts.old) (C.tallies counts.new) }
     {
         self.outdate();
@@ -120,14 +166,17 @@ impl<A: Analyser> KeptTypes<A> {
     }
 
     /// Brings what is found up to a text with this tree: the items at the front that are as they were stay, and the others are
-    /// typed. After `NoMemory` the next call does what is left. It lexes nothing but the prelude, until a typer has begun.
+    /// typed. After `NoMemory` the next call does what is left. It lexes nothing but the prelude, until a typer has begun. The items that
+    /// are known to be those of the tree aren't compared.
     pub fn refresh<C: Counts>(
         &mut self,
         alloc: Global,
         tree: &Tree,
         counts: &mut C,
     ) -> Result<(), NoMemory>
+        requires front { SameFront (held A.items self.old) (trees_of tree.now) (known_front self.old) }
         ensures known { OnOk result (known A.items self.new ≡ Some (trees_of tree.now)) }
+        ensures front { SameFront (held A.items self.new) (trees_of tree.now) (known_front self.new) }
         ensures typed { OnOk result ((n : ℕ) × LongestFront (held A.items self.old) (trees_of tree.now) n × ((C.tallies counts.new).typed ≡ more_typed (length tree.now.items.items - n) (C.tallies counts.old).typed)) }
         ensures unknown { OnErr result (known A.items self.new ≡ None) }
         ensures failed { OnErr result ((n : ℕ) × (held A.items self.new ≡ take n (trees_of tree.now))) }
@@ -137,8 +186,11 @@ impl<A: Analyser> KeptTypes<A> {
         ensures grows { Grows (C.tallies counts.old) (C.tallies counts.new) }
     {
         let mut typer = self.take(alloc, counts)?;
-        let answer = typer.refresh(tree, counts);
+        let answer = typer.refresh(tree, self.front, counts);
         self.is_current = answer.is_ok();
+        if self.is_current {
+            self.front = tree.items.len();
+        }
         self.typer = Some(typer);
         answer
     }

@@ -6,7 +6,7 @@ use Rattle.syntax_tree.specs.View.{tok_of}
 use Rattle.resume_parser.specs.Retaken.{kept_behind}
 use Rattle.resume_parser.specs.declared.kept.KeptParse.{KeptParse}
 use Rattle.kept_text.specs.Keeping.{IsParsedUpTo}
-use Rattle.kept_text.proofs.Keeps.{none_known, resumed, resumed_known, resumed_whole, shifted_within}
+use Rattle.kept_text.proofs.Keeps.{none_known, resumed, resumed_known, resumed_whole, shifted_within, whole_parsed}
 use Rattle.kept_text.proofs.again.parse_again.Goals as goal
 
 pub refresh-requires : goal.refresh-requires
@@ -28,7 +28,7 @@ pub returns-in-Some-clause-parsed : goal.returns-in-Some-clause-parsed
 returns-in-Some-clause-parsed g c =
     let ts = map tok_of c.args.tokens.now in
     let known = subst (λ (o : Option KeptParse). IsParsedUpTo c.args.same ts o) c.in-Some.is c.requires.parsed in
-    resumed_known _ c.refresh.result c.args.same c.args.tokens.now c.refresh.new.self (omega (arith, known.within, length-map c.args.tokens.now tok_of)) (c.refresh.ensures.text ∙ known.parsed.1) c.refresh.ensures.parsed c.refresh.ensures.refused
+    resumed_known _ c.refresh.result c.args.same c.args.tokens.now c.refresh.new.self (omega (arith, known.within, length-map c.args.tokens.now tok_of)) (c.refresh.ensures.text ∙ known.parsed.1) (whole_parsed c.refresh.result ts c.refresh.new.self c.refresh.ensures.parsed) c.refresh.ensures.refused
 
 pub returns-in_ok-begun-in-None-clause-whole : goal.returns-in_ok-begun-in-None-clause-whole
 returns-in_ok-begun-in-None-clause-whole g c =
@@ -39,7 +39,7 @@ returns-in_ok-begun-in-None-clause-parsed g c =
     let ts = map tok_of c.args.tokens.now in
     let none = none_known c.args.same ts (subst (λ (o : Option KeptParse). IsParsedUpTo c.args.same ts o) c.in-None.is c.requires.parsed) in
     subst (λ n. IsParsedUpTo n ts (Some c.refresh-answer.new.self)) (sym none)
-    (resumed_known _ c.refresh-answer.result 0 c.args.tokens.now c.refresh-answer.new.self (omega arith) (c.refresh-answer.ensures.text ∙ c.in_ok-begun-in-None.ensures.text) c.refresh-answer.ensures.parsed c.refresh-answer.ensures.refused)
+    (resumed_known _ c.refresh-answer.result 0 c.args.tokens.now c.refresh-answer.new.self (omega arith) (c.refresh-answer.ensures.text ∙ c.in_ok-begun-in-None.ensures.text) (whole_parsed c.refresh-answer.result ts c.refresh-answer.new.self c.refresh-answer.ensures.parsed) c.refresh-answer.ensures.refused)
 
 pub returns-in-Some-clause-shifted : goal.returns-in-Some-clause-shifted
 returns-in-Some-clause-shifted g c = λ k le.

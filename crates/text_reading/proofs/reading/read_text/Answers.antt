@@ -1,6 +1,7 @@
 use Rattle.std.proofs.Common.{List, ℕ, IfOk, arith, subst}
 use Rattle.token_store.specs.Stored.{toks_of}
 use Rattle.text_reading.specs.PlainTexts.{IsReadAs}
+use Rattle.text_reading.specs.declared.structure.ParsedText.TheVariants.{Kept}
 use Rattle.text_reading.proofs.ReadAs.{read_kept}
 use Rattle.text_reading.proofs.reading.read_text.Goals as goal
 
@@ -10,10 +11,10 @@ read_tokens-requires g c = record { few = omega (arith, c.in-Some-tokens.ensures
 pub returns-in-Some-tokens-clause-read : goal.returns-in-Some-tokens-clause-read
 returns-in-Some-tokens-clause-read g c =
     let kept = c.args.kept.now in
-    let found = c.in_ok-found.ensures in
+    let found = c.in-Some.ensures in
     let there = c.in-Some-tokens.ensures in
-    read_kept kept.text (toks_of kept.tokens) c.in-Some-tokens.tokens.now c.in_ok-found.found c.in-Some.parsed c.read_tokens.result c.in-Some.is there.kept there.lexed there.within found.tree found.faults
-    c.read_tokens.ensures.parsed c.read_tokens.ensures.plain c.read_tokens.ensures.short
+    read_kept kept.text (toks_of kept.tokens) c.in-Some-tokens.tokens.now (Kept c.in-Some.parsed) c.read_tokens.result there.kept there.lexed there.within found.tree found.faults c.read_tokens.ensures.parsed c.read_tokens.ensures.plain
+    c.read_tokens.ensures.well_typed
 
 pub returns-in-None-clause-read : goal.returns-in-None-clause-read
 returns-in-None-clause-read g c = subst (λ (t : List ℕ). IfOk c.read_anew-in-None.result (IsReadAs t)) c.text-in-None.ensures c.read_anew-in-None.ensures.read

@@ -1,10 +1,14 @@
-use Rattle.std.proofs.Common.{List, ℕ, ◌++◌, length, refl, sym, ap, subst, arith}
+use Rattle.std.proofs.Common.{false, List, ℕ, ◌++◌, length, refl, sym, ap, subst, arith}
 use Rattle.std.specs.Prelude.{Option}
 use Rattle.std.specs.Str.{IsUtf8}
 use Rattle.token_model.specs.Kinds.{Tok}
+use Rattle.std.proofs.lemmas.List.{length-map}
+use Rattle.syntax_tree.specs.View.{tok_of}
 use Rattle.ml_lexer.specs.Reached.{end_of, FirstReached}
 use Rattle.ml_lexer.specs.Steady.{AllTokens}
-use Rattle.kept_text.specs.Keeping.{AreLeft, AreTokens, IsKept, IsParsedUpTo}
+use Rattle.token_store.specs.Stored.{toks_of}
+use Rattle.resume_parser.specs.Kept.{SharesFront}
+use Rattle.kept_text.specs.Keeping.{trees_in, AreLeft, AreTokens, IsKept, IsParsedUpTo, Kept}
 use Rattle.kept_text.proofs.Keeps.{few_tokens, grows_lexed, grows_on, kept_read, kept_whole, known_at, parsed_shifts, read_shifts, read_untyped, toks_are, work_done}
 use Rattle.kept_text.proofs.kept.KeptText.refresh.Goals as goal
 
@@ -34,7 +38,7 @@ invariant_of-self g c =
     let was = c.self.inside in
     let ts = c.read_again.new.tokens.tokens in
     let left = subst (λ (l : List ℕ). AreLeft l c.in-Some.from ts) c.slices.ensures.text c.read_again.ensures.left in
-    subst (λ (o : Option ℕ). IsKept was.text ts was.parse o c.read_again.new.same) (sym c.in-Some.is)
+    subst (λ (o : Option ℕ). IsKept was.text ts was.parse o c.read_again.new.same false) (sym c.in-Some.is)
     (kept_read was.text ts was.parse c.in-Some.from c.read_again.new.same left (c.read_again.ensures.same was.parse c.self.invariant.parsed) (c.read_again.ensures.known (known_at was.changed c.in-Some.from was.tokens.tokens was.same c.in-Some.is c.self.invariant.known)))
 
 pub invariant_of-self-in_err-parse_again : goal.invariant_of-self-in_err-parse_again
@@ -44,7 +48,7 @@ invariant_of-self-in_err-parse_again g c =
     let parse = c.parse_again.new.parse in
     let left = subst (λ (l : List ℕ). AreLeft l c.in-Some.from ts) c.slices.ensures.text c.read_again.ensures.left in
     let known = subst (λ (l : List Tok). IsParsedUpTo c.read_again.new.same l parse) (toks_are c.tokens-tokens.result.now ts c.tokens-tokens.ensures) c.parse_again.ensures.parsed in
-    subst (λ (o : Option ℕ). IsKept was.text ts parse o c.read_again.new.same) (sym c.in-Some.is) (kept_read was.text ts parse c.in-Some.from c.read_again.new.same left known (c.read_again.ensures.known (known_at was.changed c.in-Some.from was.tokens.tokens was.same c.in-Some.is c.self.invariant.known)))
+    subst (λ (o : Option ℕ). IsKept was.text ts parse o c.read_again.new.same false) (sym c.in-Some.is) (kept_read was.text ts parse c.in-Some.from c.read_again.new.same left known (c.read_again.ensures.known (known_at was.changed c.in-Some.from was.tokens.tokens was.same c.in-Some.is c.self.invariant.known)))
 
 pub invariant_of-self-2 : goal.invariant_of-self-2
 invariant_of-self-2 g c =
@@ -111,3 +115,13 @@ returns-clause-shifted g c =
     let (n, counted, few) = c.read_again.ensures.work in
     parsed_shifts _ c.args.self.now was.text c.in-Some.from c.read_again.new.same n c.tokens-tokens.result.now ts (g.C.Counts.tallies c.args.counts.now) (g.C.Counts.tallies c.read_again.new.counts) (g.C.Counts.tallies c.parse_again.new.counts) c.self.view_is c.in-Some.is refl counted
     all c.tokens-tokens.ensures (c.read_again.ensures.known (known_at was.changed c.in-Some.from was.tokens.tokens was.same c.in-Some.is c.self.invariant.known)) c.parse_again.ensures.shifted
+
+pub returns-clause-front : goal.returns-clause-front
+returns-clause-front g c =
+    let was = c.self.inside in
+    let now = c.read_again.new.tokens.tokens in
+    let tokens = c.tokens-tokens.result.now in
+    let all = subst (λ (l : List ℕ). AllTokens FirstReached end_of l 0 now) c.slices.ensures.text c.in_ok-read_again.ensures.all in
+    let few = few_tokens was.text tokens now c.slices.ensures.short all c.tokens-tokens.ensures in
+    subst (λ (k : Kept). SharesFront (trees_in k.tokens) (trees_in now) c.front_of-front.result) c.self.view_is
+    (c.front_of-front.ensures.front (toks_of was.tokens.tokens) (toks_of now) c.self.invariant.tree c.read_again.ensures.front c.read_again.ensures.within (omega (arith, few, ap length (toks_are tokens now c.tokens-tokens.ensures), length-map tokens tok_of)))

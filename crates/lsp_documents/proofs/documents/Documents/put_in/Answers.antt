@@ -1,4 +1,5 @@
 use Rattle.std.proofs.Common.{◌≡◌, ◌∙◌, List, insert, ap, subst}
+use Rattle.std.proofs.lemmas.Result.{err_from_is_err_and}
 use Rattle.lsp_model.specs.Answers.{Piece}
 use Rattle.lsp_front.specs.Sayings.{choices_of}
 use Rattle.lsp_documents.specs.Endings.{is_shut}
@@ -24,3 +25,8 @@ returns-clause-puts g c =
     let kept = ap (state_of choices shut) (c.in_ok-insert.ensures.items ∙ ap (λ (l : List Document). insert l at c.sends.new.document) (filled old.len now old.items old.ok.0 many)) in
     let placed = subst (λ (s : State). Placed s d at sends.0 (state_of choices shut c.insert.new.self.items)) c.self.view_is (c.sends.new.document, now, sends.1, kept) in
     (sends.0, subst (λ (x : Document). Placed c.args.self.now x at sends.0 (state_of choices shut c.insert.new.self.items)) c.bring_up.ensures.same placed, sends.2)
+
+pub returns-in_err-pieces-clause-puts : goal.returns-in_err-pieces-clause-puts
+returns-in_err-pieces-clause-puts g c =
+    let p = err_from_is_err_and c.from_residual.result c.from_residual.ensures.1 in
+    rw p.1 tt

@@ -1,22 +1,32 @@
-use Rattle.std.proofs.Common.{◌+◌, ◌≤◌, ◌∙◌, length, ap, refl, subst, Bool}
+use Rattle.std.proofs.Common.{◌+◌, ◌≤◌, ◌∙◌, List, length, ap, refl, sym, subst, Bool}
 use Rattle.std.specs.Prelude.{is_some}
+use Rattle.tree_model.specs.Trees.{Tree}
 use Rattle.syntax_tree.specs.View.{trees_of}
+use Rattle.analysis_api.specs.Typed.{SameFront}
 use Rattle.token_store.specs.Stored.{toks_of}
-use Rattle.text_reading.specs.Types.{has_begun, held, known, opening}
+use Rattle.text_reading.specs.Types.{has_begun, held, known, known_front, opening}
 use Rattle.text_reading.proofs.Knowing.{items_parsed, known_again}
-use Rattle.text_reading.proofs.Parsing.{kept_as}
+use Rattle.text_reading.proofs.Parsing.{parsed_as}
 use Rattle.session.specs.Working.{Held}
 use Rattle.session.proofs.Carrying.{types_anew}
 use Rattle.session.proofs.Works.{opened, opened_in_vain}
 use Rattle.session.proofs.session.Session.type_again.Goals as goal
 
+pub refresh-requires : goal.refresh-requires
+refresh-requires g c =
+    let types = c.self.inside.types in
+    record { front = subst (λ (ts : List Tree). SameFront (held g.A.Analyser.items types) ts (known_front types)) (sym c.in-Some.ensures.tree) c.self.invariant.of_tree }
+
 pub invariant_of-self : goal.invariant_of-self
 invariant_of-self g c =
     let kept = c.self.inside.kept in
-    let there = c.in_ok-parsed.ensures in
-    let parsed = kept_as kept.text (toks_of kept.tokens) c.in_ok-parsed.field-0 c.in-Some.parsed c.in-Some.is there.lexed there.tree there.faults in
-    known_again kept.text (trees_of c.in-Some.parsed.tree) (known g.A.Analyser.items c.refresh.new.self) c.refresh.result (items_parsed kept.text c.in-Some.parsed parsed) c.refresh.ensures.known
-    c.refresh.ensures.unknown
+    let there = c.in-Some.ensures in
+    let parsed = parsed_as kept.text (toks_of kept.tokens) c.in-Some.parsed.now there.lexed there.tree there.faults in
+    let types = c.refresh.new.self in
+    record {
+      of_text = known_again kept.text (trees_of c.in-Some.parsed.now.tree) (known g.A.Analyser.items types) c.refresh.result (items_parsed kept.text c.in-Some.parsed.now parsed) c.refresh.ensures.known c.refresh.ensures.unknown;
+      of_tree = subst (λ (ts : List Tree). SameFront (held g.A.Analyser.items types) ts (known_front types)) there.tree c.refresh.ensures.front;
+    }
 
 pub returns-clause-lexes : goal.returns-clause-lexes
 returns-clause-lexes g c = λ ps lex. opened c.refresh.result (length ps) c.args.self.now.begun (has_begun c.refresh.new.self) _ _ (subst (λ (b : Bool). (g.C.Counts.tallies c.refresh.new.counts).lexed ≤ (g.C.Counts.tallies c.args.counts.now).lexed + opening (length ps) b) (ap (λ (h : Held). h.begun) c.self.view_is) (c.refresh.ensures.lexed ps lex)) c.refresh.ensures.begun
@@ -27,9 +37,9 @@ returns-clause-fails g c = λ ps lex. opened_in_vain (length ps) c.args.self.now
 pub returns-clause-types : goal.returns-clause-types
 returns-clause-types g c =
     let kept = c.self.inside.kept in
-    let there = c.in_ok-parsed.ensures in
-    let parsed = kept_as kept.text (toks_of kept.tokens) c.in_ok-parsed.field-0 c.in-Some.parsed c.in-Some.is there.lexed there.tree there.faults in
+    let there = c.in-Some.ensures in
+    let parsed = parsed_as kept.text (toks_of kept.tokens) c.in-Some.parsed.now there.lexed there.tree there.faults in
     let now : Held = record { text = kept.text; changed = kept.changed; begun = has_begun c.refresh.new.self; known = is_some (known g.A.Analyser.items c.refresh.new.self); holds = held g.A.Analyser.items c.refresh.new.self } in
-    types_anew g.A.Analyser.items c.refresh.result c.args.self.now now c.self.inside.types c.refresh.new.self kept.text c.in-Some.parsed (g.C.Counts.tallies c.args.counts.now) (g.C.Counts.tallies c.refresh.new.counts)
-    (ap (λ (h : Held). h.text) c.self.view_is) (ap (λ (h : Held). h.holds) c.self.view_is) refl (items_parsed kept.text c.in-Some.parsed parsed)
+    types_anew g.A.Analyser.items c.refresh.result c.args.self.now now c.self.inside.types c.refresh.new.self kept.text c.in-Some.parsed.now (g.C.Counts.tallies c.args.counts.now) (g.C.Counts.tallies c.refresh.new.counts)
+    (ap (λ (h : Held). h.text) c.self.view_is) (ap (λ (h : Held). h.holds) c.self.view_is) refl (items_parsed kept.text c.in-Some.parsed.now parsed)
     c.refresh.ensures.known c.refresh.ensures.typed

@@ -9,5 +9,5 @@ use Rattle.session.proofs.session.Session.typed.Goals as goal
 pub find_types-requires : goal.find_types-requires
 find_types-requires g c = record {
   known = holds_items (λ a. g.A.Analyser.items a.now) c.known.result (known g.A.Analyser.items c.self.inside.types) c.args.self.now.text (trees_of c.args.tree.now) c.known.ensures
-      (subst (λ (t : List ℕ). IfSome (known g.A.Analyser.items c.self.inside.types) (AreItemsOf t)) (ap (λ (h : Held). h.text) c.self.view_is) c.self.invariant) c.requires.of_text;
+      (subst (λ (t : List ℕ). IfSome (known g.A.Analyser.items c.self.inside.types) (AreItemsOf t)) (ap (λ (h : Held). h.text) c.self.view_is) c.self.invariant.of_text) c.requires.of_text;
 }

@@ -10,4 +10,4 @@ returns-then-is_empty g c = λ same.
     let right = c.slices.result.1.now in
     let none = nil_from_length right (eqb-true _ _ (sym c.is_empty.ensures ∙ c.if-is_empty.true)) in
     let here = (bytes_decides left c.as_bytes.result.now).0 (sym c.eq.ensures ∙ same) ∙ c.as_bytes.ensures.value in
-    sym c.text.ensures ∙ sym c.slices.ensures.text ∙ ap (λ r. left ++ r) none ∙ append-nil left ∙ here
+    sym c.self.view_is ∙ sym c.text.ensures ∙ sym c.slices.ensures.text ∙ ap (λ r. left ++ r) none ∙ append-nil left ∙ here

@@ -1,11 +1,11 @@
-use Rattle.std.proofs.Common.{ap, arith}
-use Rattle.syntax_tree.specs.Tallies.{Tallies}
+use Rattle.std.proofs.Common.{◌∙◌}
 use Rattle.text_reading.proofs.Trying.{read_most}
 use Rattle.text_reading.proofs.tried.TriedText.read.Goals as goal
 
-pub returns-in_err-refresh-clause-lexed : goal.returns-in_err-refresh-clause-lexed
-returns-in_err-refresh-clause-lexed g c = read_most c.args.text.now c.take.new.self.kept.text c.take.new.self.kept.changed (g.C.Counts.tallies c.args.counts.now) (g.C.Counts.tallies c.refresh.new.counts) c.in_ok-take.ensures c.refresh.ensures.idle c.refresh.ensures.work
+pub follow-requires : goal.follow-requires
+follow-requires g c = record { front = c.self.invariant }
 
 pub returns-clause-lexed : goal.returns-clause-lexed
-returns-clause-lexed g c = λ ts lex.
-    omega (arith, ap (λ (t : Tallies). t.lexed) (c.tree_of.ensures.idle c.in_ok-refresh.ensures.current), read_most c.args.text.now c.take.new.self.kept.text c.take.new.self.kept.changed (g.C.Counts.tallies c.args.counts.now) (g.C.Counts.tallies c.refresh.new.counts) c.in_ok-take.ensures c.refresh.ensures.idle c.refresh.ensures.work ts lex)
+returns-clause-lexed g c =
+    let kept = c.self.inside.kept in
+    read_most c.args.text.now kept.text kept.changed (g.C.Counts.tallies c.args.counts.now) (g.C.Counts.tallies c.follow.new.counts) (c.self.view_is ∙ c.in_ok-take.ensures) c.follow.ensures.idle c.follow.ensures.work
