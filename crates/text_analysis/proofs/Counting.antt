@@ -4,27 +4,20 @@ use Rattle.std.proofs.lemmas.List.{length-map}
 use Rattle.token_model.specs.Kinds.{Tok}
 use Rattle.token_model.specs.Tokens.{Lex}
 use Rattle.syntax_tree.specs.declared.tree.Token.{Token}
-use Rattle.syntax_tree.specs.Tallies.{Tallies, Grows, lexed_more, shifted_more}
+use Rattle.syntax_tree.specs.Tallies.{Tallies, Grows, lexed_more}
 use Rattle.ml_lexer.specs.Reached.{Reached, FirstReached, end_of, reached_of}
 use Rattle.ml_lexer.specs.Steady.{AllTokens}
 use Rattle.token_store.specs.Stored.{lexed_by}
 use Rattle.token_store.proofs.Fronts.{all_few, lexed_most}
-use Rattle.frame_parser.specs.Run.{shifted_by}
 
--- a counter after so many shifted tokens has the same count of typed items
-shifted_untyped : (n : ℕ) (c : Tallies) → (shifted_by n c).typed ≡ c.typed
-shifted_untyped zero c = refl
-shifted_untyped (suc n) c = shifted_untyped n (shifted_more c)
-
--- and so has one after so many lexed tokens
+-- a counter after so many lexed tokens has the same count of typed items
 lexed_untyped : (n : ℕ) (c : Tallies) → (lexed_by n c).typed ≡ c.typed
 lexed_untyped zero c = refl
 lexed_untyped (suc n) c = lexed_untyped n c
 
--- tokens that are lexed and then shifted leave the count of typed items as it is
-pub read_untyped : (a b c : Tallies) (n m : ℕ) → b ≡ lexed_by n a → c ≡ shifted_by m b → c.typed ≡ a.typed
-read_untyped a b c n m lexed shifted =
-    ap (λ (t : Tallies). t.typed) shifted ∙ shifted_untyped m b ∙ ap (λ (t : Tallies). t.typed) lexed ∙ lexed_untyped n a
+-- tokens that are lexed leave the count of typed items as it is, and so does what leaves it behind them
+pub read_untyped : (a b c : Tallies) (n : ℕ) → b ≡ lexed_by n a → c.typed ≡ b.typed → c.typed ≡ a.typed
+read_untyped a b c n lexed stays = stays ∙ ap (λ (t : Tallies). t.typed) lexed ∙ lexed_untyped n a
 
 grows_one : (a b : Tallies) → Grows a b → Grows a (lexed_more b)
 grows_one a b g = let x = g.lexed in let y = g.shifted in let z = g.typed in record { lexed = omega arith; shifted = omega arith; typed = omega arith }

@@ -2,7 +2,7 @@
 ghost use Rattle.std.specs.Prelude.{◌≡◌, ◌≤◌, true, length, map, take};
 ghost use Rattle.syntax_tree.specs.View.{tok_of, place_of, node_view, child_view, part_view, forest_of};
 ghost use Rattle.text_analysis.specs.Items.{views_of};
-ghost use Rattle.analysis_api.specs.Typed.{LongestFront};
+ghost use Rattle.analysis_api.specs.Typed.{LongestFront, SameFront};
 
 use std::rc::Rc;
 use syntax_tree::{Child, Node, Part, Token};
@@ -65,12 +65,13 @@ fn alike_nodes(left: &Node, right: &Node) -> bool
     alike_children(&left.children, &right.children)
 }
 
-/// How many items at the front of two lists are alike.
-pub fn common_front(left: &[Rc<Node>], right: &[Rc<Node>]) -> usize
+/// How many items at the front of two lists are alike. So many are known to be, and aren't compared.
+pub fn common_front(left: &[Rc<Node>], right: &[Rc<Node>], front: usize) -> usize
+    requires { SameFront (views_of left.now) (views_of right.now) front }
     ensures { LongestFront (views_of left.now) (views_of right.now) result }
 {
     let most = left.len().min(right.len());
-    for k in 0..most {
+    for k in front..most {
         if !alike_nodes(&left[k], &right[k]) {
             return k;
         }

@@ -1,6 +1,7 @@
-//! Weak variables: those that are free in the types of the names behind the last item.
-use env_table::{Entries, Entry, Env, Place, Sig, What};
-use owned_lists::push;
+//! Weak variables: those that are free in the types of the names after the last item.
+use env_table::{Entries, Entry, Place, Sig, What};
+use owned_lists::{push, shared};
+use std::alloc::Global;
 use std::collections::{HashMap, HashSet};
 use std::rc::Rc;
 use type_nodes::View;
@@ -12,9 +13,9 @@ const BOUND: u32 = 4_294_967_295;
 /// The nodes and the modules that were looked at, the nodes still to be looked at, and the variables that were found. Modules are
 /// grouped by the place of their name in a text, which few of them share.
 #[derive(Drop)]
-struct Search<'a> {
+pub struct Search {
     seen: HashSet<u64>,
-    modules: HashMap<u32, Vec<&'a Rc<Entry>>>,
+    modules: HashMap<u32, Vec<Rc<Entry>>>,
     todo: Vec<NodeRef>,
     found: Vec<NodeRef>,
 }
@@ -28,7 +29,17 @@ fn place_number(place: Place) -> u32 {
     }
 }
 
-impl<'a> Search<'a> {
+impl Search {
+    /// Nothing was looked at yet. It takes no memory.
+    pub fn new(alloc: Global) -> Search {
+        Search {
+            seen: HashSet::new(alloc),
+            modules: HashMap::new(alloc),
+            todo: Vec::new(alloc),
+            found: Vec::new(alloc),
+        }
+    }
+
     /// Looks at a node behind its links, once.
     fn look(&mut self, at: &Parts, n: NodeRef) -> Result<(), NoMemory> {
         let Some(view) = at.read(n) else {
@@ -73,7 +84,7 @@ impl<'a> Search<'a> {
 
     /// Whether a module wasn't looked at yet; it counts as looked at from now on. Many names may stand for one module, and only the
     /// first of them is followed: else a text of thirty modules, each with two names for the one before it, would never be done.
-    fn is_new(&mut self, at: &Parts, entry: &'a Rc<Entry>) -> Result<bool, NoMemory> {
+    fn is_new(&mut self, at: &Parts, entry: &Rc<Entry>) -> Result<bool, NoMemory> {
         let number = place_number(entry.place);
         if let Some(others) = self.modules.get_mut(&number) {
             for other in others.iter() {
@@ -81,18 +92,18 @@ impl<'a> Search<'a> {
                     return Ok(false);
                 }
             }
-            push(others, entry)?;
+            push(others, shared(entry)?)?;
             return Ok(true);
         }
         let mut others = Vec::new(at.alloc());
-        push(&mut others, entry)?;
+        push(&mut others, shared(entry)?)?;
         self.modules.insert(number, others)?;
         Ok(true)
     }
 
     /// Looks at the types of the values that an entry brings in, those of a module's values and of functors' bodies included.
     #[cycle(weak)]
-    fn entry(&mut self, at: &Parts, entry: &'a Rc<Entry>, depth: Depth) -> Result<(), NoMemory> {
+    fn entry(&mut self, at: &Parts, entry: &Rc<Entry>, depth: Depth) -> Result<(), NoMemory> {
         match &entry.what {
             What::Scheme(root) => {
                 self.later(&[*root])?;
@@ -110,7 +121,7 @@ impl<'a> Search<'a> {
     }
 
     #[cycle(weak)]
-    fn module(&mut self, at: &Parts, sig: &'a Sig, depth: Depth) -> Result<(), NoMemory> {
+    fn module(&mut self, at: &Parts, sig: &Sig, depth: Depth) -> Result<(), NoMemory> {
         match sig {
             Sig::Structure(_) => self.entries(at, sig.entries(), depth.inside()?),
             Sig::Functor(parameter, body) => {
@@ -122,7 +133,7 @@ impl<'a> Search<'a> {
     }
 
     #[cycle(weak)]
-    fn entries(&mut self, at: &Parts, entries: Entries<'a>, depth: Depth) -> Result<(), NoMemory> {
+    fn entries(&mut self, at: &Parts, entries: Entries<'_>, depth: Depth) -> Result<(), NoMemory> {
         let mut rest = entries;
         while let Some((entry, older)) = rest.split_first() {
             self.entry(at, entry, depth)?;
@@ -130,16 +141,34 @@ impl<'a> Search<'a> {
         }
         Ok(())
     }
+
+    /// Moves the variables that were found to a list.
+    fn move_found(&mut self, free: &mut Vec<NodeRef>) -> Result<(), NoMemory> {
+        while let Some(n) = self.found.pop() {
+            push(free, n)?;
+        }
+        Ok(())
+    }
+
+    /// Adds the variables that are free in the types of an item's names to a list, as they are after the item. What was looked at for
+    /// items before it isn't looked at again: what is free there is in the list.
+    pub fn add_free(
+        &mut self,
+        at: &Parts,
+        entries: &[Rc<Entry>],
+        free: &mut Vec<NodeRef>,
+    ) -> Result<(), NoMemory> {
+        for entry in entries {
+            self.entry(at, entry, Depth::WHOLE)?;
+        }
+        self.move_found(free)
+    }
 }
 
-/// The variables that are free in an environment, each by its root.
-pub fn weak_variables(at: &Parts, env: &Env) -> Result<Vec<NodeRef>, NoMemory> {
-    let mut search = Search {
-        seen: HashSet::new(at.alloc()),
-        modules: HashMap::new(at.alloc()),
-        todo: Vec::new(at.alloc()),
-        found: Vec::new(at.alloc()),
-    };
-    search.entries(at, env.entries(), Depth::WHOLE)?;
+/// The variables that are free in these as they are now, each by its root.
+pub fn free_in(at: &Parts, nodes: &[NodeRef]) -> Result<Vec<NodeRef>, NoMemory> {
+    let mut search = Search::new(at.alloc());
+    search.later(nodes)?;
+    search.go_on(at)?;
     Ok(search.found)
 }

@@ -1,5 +1,5 @@
 //! The prelude, typed.
-ghost use Rattle.std.specs.Prelude.{◌≡◌, ◌+◌, ◌≤◌, List, length, OnOk};
+ghost use Rattle.std.specs.Prelude.{◌≡◌, ◌+◌, ◌≤◌, List, length};
 ghost use Rattle.token_model.specs.Kinds.{Tok};
 ghost use Rattle.token_model.specs.Tokens.{Lex};
 ghost use Rattle.typing_model.specs.PreludeText.{prelude_text};
@@ -19,7 +19,7 @@ use typing_state::{Depth, Env, NoMemory, Parts};
 fn prelude_tree<C: Counts>(alloc: Global, counts: &mut C) -> Result<Tree, NoMemory>
     ensures grows { Grows (C.tallies counts.old) (C.tallies counts.new) }
     ensures lexed { (ts : List Tok) → Lex prelude_text ts → (C.tallies counts.new).lexed ≤ (C.tallies counts.old).lexed + length ts }
-    ensures untyped { OnOk result ((C.tallies counts.new).typed ≡ (C.tallies counts.old).typed) }
+    ensures untyped { (C.tallies counts.new).typed ≡ (C.tallies counts.old).typed }
 {
     let bytes = text().as_bytes();
     if bytes.len() > 1_048_576 {
@@ -29,14 +29,14 @@ fn prelude_tree<C: Counts>(alloc: Global, counts: &mut C) -> Result<Tree, NoMemo
     tokens.relex(bytes, &[], 0, counts)?;
     let mut parse = KeptParse::new(alloc, Text::Signature)?;
     parse.refresh(tokens.tokens(), 0, counts)?;
-    Ok(parse.parsed()?.tree)
+    Ok(parse.into_parsed().tree)
 }
 
 /// The environment behind the prelude, whose items are the item 0.
 pub fn with_prelude<C: Counts>(at: &mut Parts, counts: &mut C) -> Result<Env, NoMemory>
     ensures grows { Grows (C.tallies counts.old) (C.tallies counts.new) }
     ensures lexed { (ts : List Tok) → Lex prelude_text ts → (C.tallies counts.new).lexed ≤ (C.tallies counts.old).lexed + length ts }
-    ensures untyped { OnOk result ((C.tallies counts.new).typed ≡ (C.tallies counts.old).typed) }
+    ensures untyped { (C.tallies counts.new).typed ≡ (C.tallies counts.old).typed }
     ensures goes { Goes at.old at.new }
 {
     let tree = prelude_tree(at.alloc(), counts)?;

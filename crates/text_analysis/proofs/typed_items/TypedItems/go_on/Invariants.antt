@@ -1,13 +1,17 @@
-use Rattle.std.proofs.Common.{◌≡◌, ◌-◌, take}
+use Rattle.std.proofs.Common.{◌≡◌, ◌-◌, take, List}
 use Rattle.syntax_tree.specs.Tallies.{Grows}
+use Rattle.env_table.specs.declared.entries.Entry.{Entry}
+use Rattle.typing_state.specs.declared.parts.Parts.{Parts}
 use Rattle.analysis_api.specs.Typed.{more_typed}
 use Rattle.text_analysis.specs.Items.{views_of}
-use Rattle.text_analysis.proofs.kept.Typer.go_on.Given as goal
+use Rattle.text_analysis.specs.Typed.{AreTyped}
+use Rattle.text_analysis.proofs.typed_items.TypedItems.go_on.Given as goal
 
--- the items so far are those of the text, and each of them from the place on was counted
+-- the items so far are those of the text, each of them from the place on was counted, and they are typed as before
 abbrev pub invariant-loop-k : goal.invariant-loop-k
 invariant-loop-k g l =
     (views_of l.self.items.items ≡ take l.k (views_of l.items))
     × ((g.C.Counts.tallies l.counts).typed ≡ more_typed (l.k - l.place) (g.C.Counts.tallies l.fn.counts).typed)
     × ((g.C.Counts.tallies l.counts).lexed ≡ (g.C.Counts.tallies l.fn.counts).lexed)
     × Grows (g.C.Counts.tallies l.fn.counts) (g.C.Counts.tallies l.counts)
+    × ((first : Parts) (env : List Entry) → AreTyped first env l.fn.self → AreTyped first env l.self)
