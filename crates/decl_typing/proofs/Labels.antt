@@ -35,21 +35,21 @@ use Rattle.decl_typing.specs.Labels.{label_as, labels_as, HasBody, body_at, Firs
 use Rattle.decl_typing.proofs.Constructors.{new_judges, among_more}
 
 -- the first labels and one more are read
-read_more : (c : Context) (ks : List LabelPart) (k : LabelPart) → labels_read c ks ++ (tell k.node c ++ k.body.read c) ≡ labels_read c (ks ++ k ∷ [])
+pub read_more : (c : Context) (ks : List LabelPart) (k : LabelPart) → labels_read c ks ++ (tell k.node c ++ k.body.read c) ≡ labels_read c (ks ++ k ∷ [])
 read_more c [] k = ap (λ cs. tell k.node c ++ cs) (sym (append-nil (k.body.read c)))
 read_more c (j ∷ ks) k =
     append_assoc (tell j.node c ++ j.body.read c) (labels_read c ks) (tell k.node c ++ k.body.read c) ∙ ap (λ cs. tell j.node c ++ j.body.read c ++ cs) (read_more c ks k)
 
-types_more : (f : LabelPart → Typ) (ks : List LabelPart) (k : LabelPart) → map f (ks ++ k ∷ []) ≡ map f ks ++ f k ∷ []
+pub types_more : (f : LabelPart → Typ) (ks : List LabelPart) (k : LabelPart) → map f (ks ++ k ∷ []) ≡ map f ks ++ f k ∷ []
 types_more f [] k = refl
 types_more f (j ∷ ks) k = ap (λ ts. f j ∷ ts) (types_more f ks k)
 
 -- no label yet
-pub none_read : {B : Before} {a : Sight} (all : List LabelPart) → FirstLabels B all all a a
+abbrev pub none_read : {B : Before} {a : Sight} (all : List LabelPart) → FirstLabels B all all a a
 none_read {a = a} all = record { done = []; judged = []; told = []; fixes = []; types = []; reports = sym (append-nil a.reports); settled = settled_none; gives = λ ch h. refl; split = refl }
 
 -- one label more
-pub one_read : {B : Before} {a b d : Sight} {all left : List LabelPart} (k : LabelPart) (x : FirstLabels B all (k ∷ left) a b) → SettledTo (behind B x.judged x.fixes) (λ c. tell k.node c ++ k.body.read c) b d k.body.node → FirstLabels B all left a d
+abbrev pub one_read : {B : Before} {a b d : Sight} {all left : List LabelPart} (k : LabelPart) (x : FirstLabels B all (k ∷ left) a b) → SettledTo (behind B x.judged x.fixes) (λ c. tell k.node c ++ k.body.read c) b d k.body.node → FirstLabels B all left a d
 one_read {a = a} {left = left} k x y = record {
   done = x.done ++ k ∷ [];
   judged = x.judged ++ y.judged;
@@ -99,7 +99,7 @@ pub all_names : {B : Before} {a b : Sight} {all : List LabelPart} (seen : List N
 all_names seen x = record { judged = x.judged; told = x.told; reports = x.reports; settled = settled_here (λ c h. sym (x.split ∙ append-nil x.done)) x.settled }
 
 -- all labels, and then their names
-pub all_labels : {B : Before} {a b d : Sight} {all : List LabelPart} (x : FirstLabels B all [] a b) → LabelNamesSettled (behind B x.judged x.fixes) all b d → LabelsSettled B all a d
+abbrev pub all_labels : {B : Before} {a b d : Sight} {all : List LabelPart} (x : FirstLabels B all [] a b) → LabelNamesSettled (behind B x.judged x.fixes) all b d → LabelsSettled B all a d
 all_labels {a = a} {all = all} x y =
     let whole : all ≡ x.done = x.split ∙ append-nil x.done in
     record {
@@ -120,13 +120,13 @@ part_settles a b d env names p kept read has = λ aloud B around.
     record { judged = x.judged; told = x.told; fixes = x.fixes; type = x.type; reports = kept ∙ x.reports; settled = settled_trans (settled_told (label_as a.item p).node) x.settled; gives = x.gives }
 
 -- the part at a place
-has_there : (ps : List CodePart) (i : ℕ) (x : CodePart) → i < length ps → x ≡ slice_index_or ps i x → All HasBody ps → HasBody x
+pub has_there : (ps : List CodePart) (i : ℕ) (x : CodePart) → i < length ps → x ≡ slice_index_or ps i x → All HasBody ps → HasBody x
 has_there [] i x lt e all = absurd (omega arith)
 has_there (p ∷ ps) zero x lt e all = subst HasBody (sym e) (All-head HasBody p ps all)
 has_there (p ∷ ps) (suc i) x lt e all = has_there ps i x (omega arith) e (All-tail HasBody p ps all)
 
 -- what is left begins with the part at a place
-left_there : (i : ℕ) (ps : List CodePart) (k : ℕ) (x : CodePart) → k < length ps → x ≡ slice_index_or ps k x → labels_as i (drop k ps) ≡ label_as i x ∷ labels_as i (drop (k + 1) ps)
+pub left_there : (i : ℕ) (ps : List CodePart) (k : ℕ) (x : CodePart) → k < length ps → x ≡ slice_index_or ps k x → labels_as i (drop k ps) ≡ label_as i x ∷ labels_as i (drop (k + 1) ps)
 left_there i ps k x lt here = ap (labels_as i) (drop_more ps k x lt ∙ ap (λ y. y ∷ drop (k + 1) ps) (sym here))
 
 -- what a loop over labels settles

@@ -6,3 +6,6 @@ pub mod Denoting
 pub mod Entering
 pub mod LabelParts
 pub mod Made
+pub mod MadeLabels
+pub mod Parameters
+pub mod Owned

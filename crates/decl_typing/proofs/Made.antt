@@ -74,7 +74,7 @@ each_denoted a b d env names ps parts k x result e ks o lt here first goes r = �
     (one_denoted a b d env names ps x e o (ap is_aloud goes.telling ∙ aloud) around inside denotes (has_there parts k x lt here all) f r)
 
 -- what changes the faults alone leaves an assignment
-abbrev faults_still : {F : Frame} {arity : ℕ} {U : List ℕ} {A : Assignment} (b d : Parts) → OnlyFaults b d → Assigns F arity U (sight b) A → Assigned F arity U (sight b) (sight d) A
+abbrev pub faults_still : {F : Frame} {arity : ℕ} {U : List ℕ} {A : Assignment} (b d : Parts) → OnlyFaults b d → Assigns F arity U (sight b) A → Assigned F arity U (sight b) (sight d) A
 faults_still b d rest at = assigned_still (ap (λ s. s.nodes) rest.store) rest.level (λ y k e. ap (λ w. written_in w y) rest.written ∙ e) at
 
 -- all of them, and then their names

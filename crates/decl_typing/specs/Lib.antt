@@ -6,3 +6,5 @@ pub mod Denoting
 pub mod Entering
 pub mod Parts
 pub mod LabelParts
+pub mod Parameters
+pub mod Owned

@@ -1,20 +1,26 @@
 //! Declarations of types and exceptions.
-ghost use Rattle.std.specs.Prelude.{◌≡◌, ℕ, List, [], ◌++◌, option_map, OnOk, IfOk};
+ghost use Rattle.std.specs.Prelude.{◌≡◌, ℕ, List, [], ◌∷◌, ◌++◌, None, option_map, OnOk, IfOk};
 ghost use Rattle.syntax_tree.specs.View.{node_view, tok_of};
 ghost use Rattle.row_parts.specs.Numbered.{first_in, operand_view};
-ghost use Rattle.typing_state.specs.Goes.{Goes, OnlyFaults};
+ghost use Rattle.typing_state.specs.Goes.{Goes, OnlyFaults, OnlyIndex, OnlyStore};
+ghost use Rattle.type_nodes.specs.Nodes.{IsSound};
+ghost use Rattle.type_nodes.specs.Views.{numbers};
+ghost use Rattle.typing_conditions.specs.Locals.{IsPlain};
+ghost use Rattle.operand_laws.specs.Operands.{number_of};
 ghost use Rattle.type_model.specs.Types.{Typ};
 ghost use Rattle.signature_model.specs.Declarations.{Name};
 ghost use Rattle.signature_model.specs.Records.{is_some};
 ghost use Rattle.typing_model.specs.Contexts.{tell};
 ghost use Rattle.typing_model.specs.Declarations.{read_optional};
 ghost use Rattle.typing_model.specs.BuiltIns.{exn_type};
-ghost use Rattle.type_expressions.specs.Items.{IsOver, HasNodes};
+ghost use Rattle.type_expressions.specs.Items.{IsOver, HasNodes, names_of, nodes_of};
 ghost use Rattle.typing_rows.specs.DeclaredContracts.{SettlesTo};
 ghost use Rattle.decl_typing.specs.Denoting.{DenotesArgument, DenotesConstructor, ClosesArgument};
 ghost use Rattle.decl_typing.specs.Entering.{IsException, DeclaresException, DeclaresPartIf, DeclaresItem, alone, entered};
+ghost use Rattle.decl_typing.specs.Owned.{IsOwnRight, IsVariant, IsRecord, told_in, ReadsTold, MakesType, ClosesType};
+ghost use Rattle.decl_typing.specs.Parameters.{token_names, MakesParameters, MakesDeclared, MakesOwn, constructor_roots, label_roots, shape_roots, ClosesRoots};
 ghost use Rattle.decl_typing.specs.Parts.{ReadsConstructor, ReadsConstructors, shape_constructors};
-ghost use Rattle.decl_typing.specs.LabelParts.{ReadsLabel};
+ghost use Rattle.decl_typing.specs.LabelParts.{ReadsLabel, ReadsLabels, shape_labels};
 ghost use Rattle.decl_typing.specs.Labels.{label_as, labels_as, HasBody, SettlesLabelNames, SettlesLabels};
 ghost use Rattle.decl_typing.specs.Settling.{constructor_as, constructors_as, HasOperand, SettlesArgument, SettlesConstructor, SettlesConstructors, SettlesNames, SettlesOption, SettlesPartIf};
 
@@ -53,7 +59,9 @@ fn may_rename(right: &Right<'_>) -> bool {
 }
 
 /// The origin that the declaration at a node makes.
-fn origin_at(at: &Parts, number: u32, name: Option<&Token>) -> Result<Origin, NoMemory> {
+fn origin_at(at: &Parts, number: u32, name: Option<&Token>) -> Result<Origin, NoMemory>
+    ensures path { IfOk result (λ o. o.path.items ≡ number_of at.now.item number ∷ []) }
+{
     let name = match name {
         Some(token) => token.name.share()?,
         None => RcStr::from_str(at.alloc(), "")?,
@@ -66,6 +74,9 @@ fn origin_at(at: &Parts, number: u32, name: Option<&Token>) -> Result<Origin, No
 
 /// A variable for each written parameter.
 fn new_parameters(at: &mut Parts, names: &[&Token]) -> Result<Vec<Parameter>, NoMemory>
+    ensures named { IfOk result (λ ps. names_of ps.items ≡ token_names names.now) }
+    ensures means { IfOk result (λ ps. MakesParameters at.old at.new (nodes_of ps.items)) }
+    ensures rest { OnlyStore at.old at.new }
     ensures goes { Goes at.old at.new }
 {
     let mut parameters = Vec::new(at.alloc());
@@ -77,7 +88,9 @@ fn new_parameters(at: &mut Parts, names: &[&Token]) -> Result<Vec<Parameter>, No
     Ok(parameters)
 }
 
-fn nodes_of(at: &Parts, parameters: &[Parameter]) -> Result<Vec<NodeRef>, NoMemory> {
+fn nodes_of(at: &Parts, parameters: &[Parameter]) -> Result<Vec<NodeRef>, NoMemory>
+    ensures { IfOk result (λ ns. numbers ns.items ≡ nodes_of parameters.now) }
+{
     let mut nodes = Vec::new(at.alloc());
     for parameter in parameters {
         push(&mut nodes, parameter.node)?;
@@ -87,6 +100,8 @@ fn nodes_of(at: &Parts, parameters: &[Parameter]) -> Result<Vec<NodeRef>, NoMemo
 
 /// The root of a declaration: its type, behind its parameters where it has some.
 fn declared_root(at: &mut Parts, parameters: &[NodeRef], body: NodeRef) -> Result<NodeRef, NoMemory>
+    ensures means { IfOk result (λ r. MakesDeclared at.old at.new (numbers parameters.now) body.0 r.0) }
+    ensures rest { OnlyStore at.old at.new }
     ensures goes { Goes at.old at.new }
 {
     if parameters.is_empty() {
@@ -149,6 +164,8 @@ fn own_type(
     part: &DeclarationPart<'_>,
     parameters: &[Parameter],
 ) -> Result<(NodeRef, NodeRef), NoMemory>
+    ensures means { IfOk result (λ r. MakesOwn at.old at.new (nodes_of parameters.now) (number_of at.old.item part.now.number ∷ []) r.0.0 r.1.0) }
+    ensures rest { OnlyStore at.old at.new }
     ensures goes { Goes at.old at.new }
 {
     let nodes = nodes_of(at, parameters)?;
@@ -376,6 +393,7 @@ fn declared_deeper(
     inner: &Env,
     depth: Depth,
 ) -> Result<(NodeRef, NodeRef, Shape), NoMemory>
+    ensures means { IfOk result (λ r. ClosesType at.old at.new inner.now part.now r.0.0 r.1.0 r.2) }
     ensures goes { Goes at.old at.new }
 {
     let level = at.level;
@@ -389,10 +407,17 @@ fn declared_deeper(
 
 /// Binds the variables of a declaration's root and of the types of its shape.
 fn generalise_declared(at: &mut Parts, root: NodeRef, shape: &Shape) -> Result<(), NoMemory>
+    ensures closes { OnOk result (ClosesRoots at.old at.new (root.0 ∷ shape_roots shape.now)) }
+    ensures sound { OnOk result (IsSound at.new.store.nodes) }
+    ensures plain { OnOk result (IsPlain at.new.store.nodes) }
+    ensures rest { OnlyStore at.old at.new }
     ensures goes { Goes at.old at.new }
 {
     at.generalise(root)?;
-    generalise_shape(at, shape)
+    generalise_shape(at, shape)?;
+    // what is known of each store is made known by its length
+    let _nodes = at.store.len();
+    Ok(())
 }
 
 /// The root, the type and the shape of a declaration.
@@ -403,6 +428,7 @@ fn declared_in(
     inner: &Env,
     depth: Depth,
 ) -> Result<(NodeRef, NodeRef, Shape), NoMemory>
+    ensures means { IfOk result (λ r. MakesType at.old at.new inner.now part.now r.0.0 r.1.0 r.2) }
     ensures goes { Goes at.old at.new }
 {
     let parameters = new_parameters(at, &part.parameters)?;
@@ -425,6 +451,7 @@ fn right_side(
     variables: &Variables,
     depth: Depth,
 ) -> Result<(NodeRef, NodeRef), NoMemory>
+    ensures own { IfOk result (λ r. IsOwnRight part.now.right → (r ≡ own) × OnlyIndex at.old at.new) }
     ensures goes { Goes at.old at.new }
 {
     match read_other(at, part, inner, variables, depth)? {
@@ -441,6 +468,7 @@ fn read_other(
     variables: &Variables,
     depth: Depth,
 ) -> Result<Option<NodeRef>, NoMemory>
+    ensures own { IfOk result (λ o. IsOwnRight part.now.right → (o ≡ None) × OnlyIndex at.old at.new) }
     ensures goes { Goes at.old at.new }
 {
     match &part.right {
@@ -471,6 +499,7 @@ fn read_told(
     variables: &Variables,
     depth: Depth,
 ) -> Result<Shape, NoMemory>
+    ensures means { IfOk result (λ z. (names : List Name) (ps : List ℕ) (t : Typ) → IsOver variables.now names → HasNodes variables.now ps → ReadsTold at.old at.new inner.now names ps (told_in part.now.right) t own.0 z) }
     ensures goes { Goes at.old at.new }
 {
     let told = match &part.right {
@@ -495,6 +524,7 @@ fn read_constructors(
 ) -> Result<Shape, NoMemory>
     ensures settles { OnOk result ((names : List Name) → IsOver variables.now names → SettlesConstructors at.old at.new inner.now names parts.now) }
     ensures means { IfOk result (λ z. (names : List Name) (ps : List ℕ) (t : Typ) → IsOver variables.now names → HasNodes variables.now ps → ReadsConstructors at.old at.new inner.now names ps parts.now t own.0 (shape_constructors z)) }
+    ensures shape { IfOk result (λ z. IsVariant z) }
     ensures goes { Goes at.old at.new }
 {
     let mut constructors = Vec::new(at.alloc());
@@ -528,6 +558,7 @@ fn names_are_new(at: &mut Parts, parts: &[ConstructorPart<'_>]) -> Result<(), No
 
 fn labels_are_new(at: &mut Parts, parts: &[LabelPart<'_>]) -> Result<(), NoMemory>
     ensures settles { OnOk result (SettlesLabelNames at.old at.new (labels_as at.old.item parts.now)) }
+    ensures rest { OnlyFaults at.old at.new }
     ensures goes { Goes at.old at.new }
 {
     let mut seen = HashSet::new(at.alloc());
@@ -625,6 +656,8 @@ fn read_labels(
     depth: Depth,
 ) -> Result<Shape, NoMemory>
     ensures settles { OnOk result ((names : List Name) → IsOver variables.now names → SettlesLabels at.old at.new inner.now names parts.now) }
+    ensures means { IfOk result (λ z. (names : List Name) (ps : List ℕ) (t : Typ) → IsOver variables.now names → HasNodes variables.now ps → ReadsLabels at.old at.new inner.now names ps parts.now t «record».0 (shape_labels z)) }
+    ensures shape { IfOk result (λ z. IsRecord z) }
     ensures goes { Goes at.old at.new }
 {
     let mut labels = Vec::new(at.alloc());
@@ -639,6 +672,8 @@ fn read_labels(
 
 /// Binds the variables of the types of a shape.
 fn generalise_shape(at: &mut Parts, shape: &Shape) -> Result<(), NoMemory>
+    ensures closes { OnOk result (ClosesRoots at.old at.new (shape_roots shape.now)) }
+    ensures rest { OnlyStore at.old at.new }
     ensures goes { Goes at.old at.new }
 {
     match shape {
@@ -654,6 +689,8 @@ fn generalise_shape(at: &mut Parts, shape: &Shape) -> Result<(), NoMemory>
 }
 
 fn generalise_labels(at: &mut Parts, labels: &[Label]) -> Result<(), NoMemory>
+    ensures closes { OnOk result (ClosesRoots at.old at.new (label_roots labels.now)) }
+    ensures rest { OnlyStore at.old at.new }
     ensures goes { Goes at.old at.new }
 {
     for label in labels {

@@ -1,10 +1,10 @@
-use Rattle.std.proofs.Common.{◌+◌, ◌<◌, ℕ, List, [], length, sym, ap, subst, arith}
+use Rattle.std.proofs.Common.{◌+◌, ◌<◌, ℕ, List, [], length, refl, sym, ap, subst, arith}
 use Rattle.std.specs.List.{list_any}
 use Rattle.std.specs.Str.{bytes_eq}
 use Rattle.std.proofs.lemmas.List.{drop_all}
 use denote.Ref.{Bor}
-use Rattle.typing_state.proofs.Going.{goes_refl, goes_trans}
-use Rattle.typing_state.specs.Goes.{Goes}
+use Rattle.typing_state.proofs.Going.{goes_refl, goes_trans, only_faults_same, only_faults_trans}
+use Rattle.typing_state.specs.Goes.{Goes, OnlyFaults}
 use Rattle.typing_steps.specs.States.{sight}
 use Rattle.decl_typing.specs.Fresh.{has}
 use Rattle.decl_typing.specs.Labels.{labels_as, FirstLabelNames}
@@ -21,6 +21,7 @@ returns-in_err-ask_new-clause-goes c = goes_trans c.args.at.now c.loop-part.at c
 pub loop-part-init : goal.loop-part-init
 loop-part-init c = record {
   goes = goes_refl c.args.at.now;
+  rest = only_faults_same c.args.at.now c.args.at.now refl;
   settles = record {
     seen = [];
     same = λ q. ap (list_any (λ (k : Bor (List ℕ)). bytes_eq q k.now)) c.new-seen.ensures.empty;
@@ -40,6 +41,10 @@ loop-part-preserved c =
         | in-Some+in_ok-ask_new w ↦ subst (Goes at) (sym w.at-is) (goes_trans at c.loop-part.at w.ask_new.new.at c.loop-part.invariant.goes w.ask_new.ensures.goes)
         | in_default w ↦ subst (Goes at) (sym w.at-is) c.loop-part.invariant.goes
       ];
+      rest = elim c.match-part.branch [
+        | in-Some+in_ok-ask_new w ↦ subst (OnlyFaults at) (sym w.at-is) (only_faults_trans at c.loop-part.at w.ask_new.new.at c.loop-part.invariant.rest w.ask_new.ensures.rest)
+        | in_default w ↦ subst (OnlyFaults at) (sym w.at-is) c.loop-part.invariant.rest
+      ];
       settles = elim c.match-part.branch [
         | in-Some+in_ok-ask_new w ↦
             subst (λ s. SettlesFirstLabelNames at c.match-part.at ps (k + 1) (has s)) (sym w.seen-is)
@@ -58,3 +63,9 @@ returns-clause-settles c = λ aloud B.
     let f = c.loop-part.invariant.settles in
     let none = drop_all c.loop-part.part-index ps c.loop-part-test.false in
     all_names f.seen (subst (λ left. FirstLabelNames B (labels_as at.item ps) (labels_as at.item left) f.seen (sight at) (sight c.loop-part.at)) none (f.first aloud B))
+
+pub returns-clause-rest : goal.returns-clause-rest
+returns-clause-rest c = c.loop-part.invariant.rest
+
+pub returns-in_err-ask_new-clause-rest : goal.returns-in_err-ask_new-clause-rest
+returns-in_err-ask_new-clause-rest c = only_faults_trans c.args.at.now c.loop-part.at c.ask_new.new.at c.loop-part.invariant.rest c.ask_new.ensures.rest

@@ -1,0 +1,130 @@
+-- What is made of a type of its own: its root, its type, and what is told of it.
+use Rattle.std.specs.Prelude.{◌≡◌, ◌≢◌, ℕ, true, List, [], ◌∷◌, ◌++◌, All, length, map, Option, Some, None, option_map}
+use Rattle.std.specs.declared.vec.Vec.{Vec}
+use Rattle.std.specs.declared.alloc.Global.{Global}
+use Rattle.type_model.specs.Types.{Path, Typ}
+use Rattle.type_model.specs.Types.{Typ as type}
+use Rattle.signature_model.specs.Declarations.{Name, parameters_from}
+use Rattle.typing_model.specs.Contexts.{Choice}
+use Rattle.typing_model.specs.Parts as parts
+use Rattle.typing_model.specs.Declarations.{shape_asks}
+use Rattle.type_nodes.specs.Nodes.{IsSound}
+use Rattle.type_nodes.specs.Readings.{Types}
+use Rattle.env_table.specs.declared.entries.Entry.{Entry}
+use Rattle.env_table.specs.declared.entries.Shape.{Shape}
+use Rattle.env_table.specs.declared.entries.Shape.TheVariants as shape
+use Rattle.typing_state.specs.declared.parts.Parts.{Parts}
+use Rattle.typing_conditions.specs.Declared.{with_parameters}
+use Rattle.typing_conditions.specs.Frames.{Frame}
+use Rattle.typing_conditions.specs.Judging.{Judgement}
+use Rattle.typing_conditions.specs.Locals.{IsPlain, IsOwn, ClosesAll}
+use Rattle.typing_conditions.specs.Sights.{Report, Sight}
+use Rattle.typing_steps.specs.States.{is_aloud, sight}
+use Rattle.operand_laws.specs.Operands.{number_of}
+use Rattle.typing_rows.specs.Settled.{Fixes, AreFixed, Before, Around, Settled}
+use Rattle.declared_rows.specs.Assignments.{Assignment, Assigns, Assigned, Denotes}
+use Rattle.declared_rows.specs.Contracts.{Inside, KnowsTypes, AreNoted}
+use Rattle.decl_groups.specs.declared.groups.ConstructorPart.{ConstructorPart}
+use Rattle.decl_groups.specs.declared.groups.DeclarationPart.{DeclarationPart}
+use Rattle.decl_groups.specs.declared.groups.LabelPart.{LabelPart}
+use Rattle.decl_groups.specs.declared.groups.Right.{Right}
+use Rattle.decl_groups.specs.declared.groups.Right.TheVariants.{Abstract, Reexport, Own}
+use Rattle.decl_groups.specs.declared.groups.Told.{Told}
+use Rattle.decl_groups.specs.declared.groups.Told.TheVariants.{Constructors, Labels}
+use Rattle.decl_typing.specs.Settling.{constructors_as, argument_at, HasOperand}
+use Rattle.decl_typing.specs.Labels.{labels_as, body_at, HasBody}
+use Rattle.decl_typing.specs.Denoting.{raised}
+use Rattle.decl_typing.specs.Parts.{AreMade, shape_constructors}
+use Rattle.decl_typing.specs.LabelParts.{AreLabels, shape_labels}
+use Rattle.decl_typing.specs.Parameters.{token_names, shape_roots}
+
+-- a right side that is no other type
+abbrev pub IsOwnRight : Right → Type 0
+IsOwnRight Abstract = Unit {0}
+IsOwnRight (Own n k) = Unit {0}
+IsOwnRight _ = ⊥
+
+-- what a right side tells of values
+abbrev pub told_in : Right → Option Told
+told_in (Reexport n t m k) = Some k
+told_in (Own n k) = Some k
+told_in _ = None
+
+-- what is told, as the definitions take it
+abbrev pub told_as : ℕ → Told → parts.Told
+told_as i (Constructors ps) = parts.constructors (constructors_as i ps.items)
+told_as i (Labels ps) = parts.labels (labels_as i ps.items)
+
+-- each part of what is told is well formed
+abbrev pub HasParts : Option Told → Type 0
+HasParts None = Unit {0}
+HasParts (Some (Constructors ps)) = All HasOperand ps.items
+HasParts (Some (Labels ps)) = All HasBody ps.items
+
+-- a shape that constructors have: none of them has a name, or some have
+abbrev pub IsVariant : Shape → Type 0
+IsVariant shape.Opaque = Unit {0}
+IsVariant (shape.Variant ks) = ks.items ≢ []
+IsVariant (shape.Labels ls) = ⊥
+
+-- a shape that labels have
+abbrev pub IsRecord : Shape → Type 0
+IsRecord (shape.Labels ls) = Unit {0}
+IsRecord _ = ⊥
+
+-- What is told of a type is made, by an assignment and by types that are decided: each root denotes its type.
+pub data ShapeMade (A : Assignment) (owner : Typ) (fixes : Fixes) (i : ℕ) : Option Told → Shape → Type 0 where
+  nothing_made : {z : Shape} → z ≡ shape.Opaque → ShapeMade A owner fixes i None z
+  constructors_made : {ps : Vec ConstructorPart Global} {z : Shape} (types : List (Option Typ)) → ((ch : Choice) → AreFixed fixes ch → map (argument_at ch) (constructors_as i ps.items) ≡ types) → AreMade A owner ps.items types (shape_constructors z) → IsVariant z → ShapeMade A owner fixes i (Some (Constructors ps)) z
+  labels_made : {ps : Vec LabelPart Global} {z : Shape} (types : List Typ) → ((ch : Choice) → AreFixed fixes ch → map (body_at ch) (labels_as i ps.items) ≡ types) → AreLabels A owner ps.items types (shape_labels z) → IsRecord z → ShapeMade A owner fixes i (Some (Labels ps)) z
+
+-- what is asked of it is settled
+pub record ShapeSettled (B : Before) (told : Option parts.Told) (a b : Sight) : Type 0 where
+  pub judged : List Judgement
+  pub reported : List Report
+  pub fixes : Fixes
+  pub reports : b.reports ≡ a.reports ++ reported
+  pub settled : Settled B (λ c. shape_asks c told) judged reported fixes
+
+-- what is told of a type is read, in the item i
+pub record ToldRead (B : Before) (F : Frame) (arity i : ℕ) (a b : Parts) (A : Assignment) (owner : Typ) (told : Option Told) (z : Shape) : Type 0 where
+  pub settled : ShapeSettled B (option_map (told_as i) told) (sight a) (sight b)
+  pub numbers : List ℕ
+  pub on : Assigned F arity numbers (sight a) (sight b) A
+  pub made : ShapeMade on.after owner settled.fixes i told z
+  pub noted : AreNoted numbers b
+
+-- Where faults are reported, a call reads what is told of the type that e denotes.
+abbrev pub ReadsTold : (a b : Parts) → List Entry → List Name → (ps : List ℕ) → Option Told → (owner : Typ) → (e : ℕ) → Shape → Type 0
+ReadsTold a b env names ps told owner e z = HasParts told → is_aloud a.telling ≡ true → (B : Before) → Around env names B → (F : Frame) (arity : ℕ) (U : List ℕ) (A : Assignment) → Inside F arity U a A B.named env ps → AreNoted U a → Denotes A e owner → ToldRead B F arity a.item a b A owner told z
+
+-- a type of its own over so many new parameters: its body denotes the constructor of its path over them, its root is that of a declaration, and what is told of it is read
+pub record TypeMade (B : Before) (F : Frame) (k : ℕ) (a b : Parts) (A : Assignment) (path : Path) (told : Option Told) (root body : ℕ) (z : Shape) : Type 0 where
+  pub settled : ShapeSettled B (option_map (told_as a.item) told) (sight a) (sight b)
+  pub numbers : List ℕ
+  pub on : Assigned F k numbers (sight a) (sight b) A
+  pub of_body : Denotes on.after body (type.Con path (parameters_from 0 k))
+  pub of_root : Denotes on.after root (with_parameters k (type.Con path (parameters_from 0 k)))
+  pub made : ShapeMade on.after (type.Con path (parameters_from 0 k)) settled.fixes a.item told z
+  pub noted : AreNoted numbers b
+
+-- Where faults are reported, a call makes the type of a declaration that is a type of its own.
+abbrev pub MakesType : (a b : Parts) → List Entry → DeclarationPart → (root body : ℕ) → Shape → Type 0
+MakesType a b env p root body z = IsOwnRight p.right → HasParts (told_in p.right) → is_aloud a.telling ≡ true → (B : Before) → Around env (token_names p.parameters.items) B → (F : Frame) (U : List ℕ) (A : Assignment) → Assigns F 0 U (sight a) A → KnowsTypes F B.named env → AreNoted U a →
+    TypeMade B F (length p.parameters.items) a b A (number_of a.item p.number ∷ []) (told_in p.right) root body z
+
+-- the same of a call between items that then binds the variables of its roots: there is a state before that
+pub record TypeClosed (B : Before) (F : Frame) (k : ℕ) (a c : Parts) (A : Assignment) (path : Path) (told : Option Told) (root body : ℕ) (z : Shape) : Type 0 where
+  pub before : Parts
+  pub makes : TypeMade B F k (raised a) before A path told root body z
+  pub reports : (sight c).reports ≡ (sight before).reports
+  pub closes : (K : Types) → IsOwn before.store.nodes K → ClosesAll before.store.nodes c.store.nodes K (root ∷ shape_roots z) 0
+  pub sound : IsSound c.store.nodes
+  pub plain : IsPlain c.store.nodes
+  pub level : c.level ≡ a.level
+  pub noted : AreNoted makes.numbers c
+
+-- Where faults are reported, a call between items makes and closes the type of a declaration that is a type of its own.
+abbrev pub ClosesType : (a c : Parts) → List Entry → DeclarationPart → (root body : ℕ) → Shape → Type 0
+ClosesType a c env p root body z = IsOwnRight p.right → HasParts (told_in p.right) → is_aloud a.telling ≡ true → a.level ≡ 0 → (B : Before) → Around env (token_names p.parameters.items) B → (F : Frame) (U : List ℕ) (A : Assignment) → Assigns F 0 U (sight (raised a)) A → KnowsTypes F B.named env → AreNoted U a →
+    TypeClosed B F (length p.parameters.items) a c A (number_of a.item p.number ∷ []) (told_in p.right) root body z
