@@ -17,6 +17,7 @@ pub carried_alike : {F : Frame} {scope : Scope} {asks others : Asks} {a b : Sigh
 carried_alike {F} {scope} {asks} {others} {a} {b} {G} {H} same p = record {
   stays = p.stays;
   hidden = p.hidden;
+  settled = p.settled;
   judged = p.judged;
   told = p.told;
   reports = p.reports;

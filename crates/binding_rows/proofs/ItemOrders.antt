@@ -26,6 +26,7 @@ use Rattle.typing_conditions.specs.Surroundings.{Declared, IsSteady}
 use Rattle.typing_conditions.proofs.Judged.{hold_both, hold_left, hold_right, judged_both, kept_left, kept_right, tell_both, follows_both, short_left, short_right, starts_all, starts_left, starts_right, short_of_more, judged_kept}
 use Rattle.typing_conditions.proofs.Carried.{Decides, hidden_both, take_none, less_or_more}
 use Rattle.typing_conditions.proofs.First.{starts_none}
+use Rattle.typing_conditions.proofs.Surrounding.{vars_apart}
 use Rattle.typing_model.specs.Parts.{Item, Seen, no_names, seen_too}
 use Rattle.typing_model.specs.Items.{items_ask, behind_items, seen_names}
 use Rattle.typing_state.specs.declared.parts.Parts.{Parts}
@@ -33,6 +34,8 @@ use Rattle.typing_steps.specs.States.{sight}
 use Rattle.typing_steps.specs.Constants.{HasConstants}
 use Rattle.binding_rows.specs.ItemRows.{AreOwned, none_owned, leaves_none, leaves_one, ItemDone, ItemsDone, recorded_idle}
 use Rattle.binding_rows.specs.Outside.{AgreesOutside, AreMet, InEachMet, Outside, Left, letters_left, AreLeft, EntersItems, ReadsItems, ContinuesItems, StaysOutside, OnlyBetween, ItemsCarried}
+use Rattle.typing_conditions.specs.Hiding.{Settles}
+use Rattle.typing_conditions.proofs.Hiding.{settles_none, settles_both, settles_as}
 
 -- what agrees with a state agreed before
 pub agrees_earlier : {a b : Sight} {G H : Letters} {V : Types} {ch : Choice} → StaysOutside a G b H → AgreesOutside b H V ch → AgreesOutside a G V ch
@@ -90,6 +93,7 @@ pub items_trans : {E E' : Choice → Environment} {asks rest further : Asks} {a 
 items_trans {E} {E'} {asks} {rest} {further} {a} {b} {c} {G} {H} {K} after p next sound q = record {
   stays = stays_both sound p.stays q.stays;
   left = p.left ++ q.left;
+  settled = subst (Settles a c) (sym (letters_both p.left q.left)) (settles_both (letters_left p.left) (letters_left q.left) p.stays.recorded q.stays.recorded p.settled q.settled);
   judged = p.judged ++ q.judged;
   told = p.told ++ q.told;
   reports = q.reports ∙ ap (λ rs. rs ++ q.told) p.reports ∙ append_assoc a.reports p.told q.told;
@@ -215,6 +219,7 @@ pub items_between : {E : Choice → Environment} {a b : Sight} {G : Letters} →
 items_between {E} {a} {b} {G} only = record {
   stays = stays_between only;
   left = [];
+  settled = settles_none;
   judged = [];
   told = [];
   reports = only.reports ∙ sym (append-nil a.reports);
@@ -248,6 +253,7 @@ items_then {E} {asks} {a} {b} {c} {G} {H} only p = record {
     fixed = p.stays.fixed ∙ only.fixed;
   };
   left = p.left;
+  settled = settles_as (letters_left p.left) (λ i k. sym (only.types i k)) (λ i k. refl) p.settled;
   judged = p.judged;
   told = p.told;
   reports = p.reports ∙ ap (λ rs. rs ++ p.told) only.reports;
@@ -276,6 +282,7 @@ items_as : {E : Choice → Environment} {asks others : Asks} {a b : Sight} {G H 
 items_as {E} {asks} {others} {a} {b} {G} {H} same p = record {
   stays = p.stays;
   left = p.left;
+  settled = p.settled;
   judged = p.judged;
   told = p.told;
   reports = p.reports;
@@ -295,6 +302,7 @@ outside_between {D} {a} {b} {G} {env} {E} only at = record {
   level = only.level ∙ at.level;
   roots = at.roots;
   names = at.names;
+  apart = at.apart;
   steady = at.steady;
   context = λ J own. subst (IsContext b.nodes J at.roots) (sym only.level) (subst (λ ns. IsContext ns J at.roots a.level) (sym only.nodes) (at.context J (subst (λ ns. IsOwn ns J) only.nodes own)));
   covered = subst (λ ns. Covers (D.declaration ns at.roots at.names) (D.exception ns at.roots at.names) at.roots env) (sym only.nodes) at.covered;
@@ -313,6 +321,7 @@ outside_none {D} {a} steady none sound level = record {
   level = level;
   roots = [];
   names = type.Var;
+  apart = vars_apart;
   steady = steady;
   context = λ J own. record { inside = λ k r e. absurd (cc); low = λ v l o h e free. absurd (no_yes h) };
   covered = ([], no_entries);
@@ -325,6 +334,7 @@ pub items_treated : {E : Choice → Environment} {asks : Asks} {a b : Sight} {G 
 items_treated {E} {asks} {a} {b} {G} {H} n p = record {
   stays = p.stays;
   left = p.left;
+  settled = p.settled;
   judged = p.judged;
   told = p.told;
   reports = p.reports;

@@ -30,6 +30,8 @@ use Rattle.binding_rows.specs.ItemRows.{AreOwned, none_owned, leaves_one}
 use Rattle.binding_rows.specs.ItemGroups.{item_scope, ItemGroup}
 use Rattle.binding_rows.proofs.Starting.{group_frame, goes_in, surrounds_item}
 use Rattle.binding_rows.proofs.ItemClosing.{closed_nodes, item_limited, item_letters, item_part, item_written, item_closes, item_out, item_refines, after_reached, loose_before_close, still_bound}
+use Rattle.typing_conditions.specs.Hiding.{Settles}
+use Rattle.typing_conditions.proofs.Hiding.{settles_as}
 
 module _ {D : Declared} {n : ℕ} {ts : List Tok} {E : Choice → Environment} {asks : Asks} {x : Parts} {y : Sight} {G : Letters} {s d : Parts} {env : List Entry} {xs : List Binding} {ys : List ToClose} {limits : List Limit} (l : ItemGroup D n ts E asks x y G s d env xs ys limits) where
   reads_before_close : (V : Types) → IsReading d.store.nodes V → IsReading (item_limited l).nodes V
@@ -141,6 +143,7 @@ module _ {D : Declared} {n : ℕ} {ts : List Tok} {E : Choice → Environment} {
   item_carried = record {
     stays = item_stays;
     left = item_left ∷ [];
+    settled = subst (Settles (sight x) (sight d)) (sym (append-nil (item_part l).hidden)) (settles_as (item_part l).hidden (λ i p. sym (l.only.types i p)) (item_out l).types (item_part l).settled);
     judged = (item_part l).judged;
     told = (item_part l).told;
     reports = (item_out l).reports ∙ (item_part l).reports ∙ ap (λ rs. rs ++ (item_part l).told) l.only.reports;

@@ -62,6 +62,7 @@ given_written ((key, m) ∷ xs) V ch w h = (record { is = same key ∙ h.0.is; k
     same (keys.letter i k) = refl
     same (keys.filled i o) = refl
     same (keys.without_unknown key) = same key
+    same (keys.doubtful key) = same key
 
 -- what is held is the same
 names_same : (bs : List Bound) → NoneWritten bs → (ch : Choice) (w : ℕ → Name → Typ) → map (λ (b : Bound). b.has_type (context_of (record ch { written = w }))) bs ≡ map (λ (b : Bound). b.has_type (context_of ch)) bs
@@ -211,6 +212,7 @@ outside_after {D} {E = E} {x = x} {G = G} {d = d} {env = env} {xs = xs} {ys = ys
   level = (after_reached l).level ∙ lowest l;
   roots = joined (closed_nodes l) l.at.roots;
   names = l.at.names;
+  apart = l.at.apart;
   steady = l.at.steady;
   context = λ K own. subst (IsContext d.store.nodes K (joined (closed_nodes l) l.at.roots)) (sym (after_reached l).level) (joined_low d.store.nodes K x.level (closed_nodes l) l.at.roots (names_low l look K own) (roots_low l look K own));
   covered = let own = own_of d.store.nodes l.close.sound in

@@ -155,6 +155,7 @@ module _ {D : Declared} {n : ℕ} {ts : List Tok} {E : Choice → Environment} {
     item = refl;
     roots = l.at.roots;
     names = l.at.names;
+    apart = l.at.apart;
     steady = l.at.steady;
     are_roots = λ k r e. let i = in_first l.at.roots (fixed_nodes (sight x).fixed) r (k, e) in root_inward goes_in l.only l.raised r i (item_root r i);
     covered = subst (λ ns. Covers (D.declaration ns l.at.roots l.at.names) (D.exception ns l.at.roots l.at.names) l.at.roots env) (sym l.only.nodes) l.at.covered;

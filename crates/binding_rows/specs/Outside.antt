@@ -15,9 +15,11 @@ use Rattle.env_table.specs.declared.entries.Entry.{Entry}
 use Rattle.typing_conditions.specs.Locals.{IsOwn, Refines, IsContext}
 use Rattle.typing_conditions.specs.Assumptions.{SchemeFits, SchemeReads}
 use Rattle.typing_conditions.specs.Standing.{Covers, Stands}
+use Rattle.typing_conditions.specs.Declared.{UnknownApart}
 use Rattle.typing_conditions.specs.Sights.{Sight, Report, number_in, Letters, AreGiven, AreNodes, SameAt}
 use Rattle.typing_conditions.specs.Judging.{Judgement, judgements, AreKept, Follows, StartsWith, FallsShort, Meets}
 use Rattle.typing_conditions.specs.Carrying.{Asks, AreHidden}
+use Rattle.typing_conditions.specs.Hiding.{Settles}
 use Rattle.typing_conditions.specs.Surroundings.{Declared, IsSteady}
 use Rattle.typing_rows.specs.Settled.{Fixes, AreFixed}
 
@@ -49,6 +51,7 @@ pub record Outside (D : Declared) (a : Sight) (G : Letters) (env : List Entry) (
   pub level : a.level ≡ 0
   pub roots : List ℕ
   pub names : Types
+  pub apart : UnknownApart names
   pub steady : IsSteady D
   pub context : (J : Types) → IsOwn a.nodes J → IsContext a.nodes J roots a.level
   pub covered : Covers (D.declaration a.nodes roots names) (D.exception a.nodes roots names) roots env
@@ -129,11 +132,12 @@ pub record OnlyBetween (a b : Sight) : Type 0 where
   pub level : b.level ≡ a.level
   pub fixed : b.fixed ≡ a.fixed
 
--- What items ask was done, from one state between items to another. `sound`, `follows`, `complete` and `first` are those of `Carried`, with these differences: no frame is needed,
+-- What items ask was done, from one state between items to another. `settled`, `sound`, `follows`, `complete` and `first` are those of `Carried`, with these differences: no frame is needed,
 -- since the next item has one of its own, and the type variables that were written in the items are left with their nodes, since the end of an item may generalise them.
 pub record ItemsCarried (E : Choice → Environment) (asks : Asks) (a : Sight) (G : Letters) (b : Sight) (G' : Letters) : Type 0 where
   pub stays : StaysOutside a G b G'
   pub left : List Left
+  pub settled : Settles a b (letters_left left)
   pub judged : List Judgement
   pub told : List Report
   pub reports : b.reports ≡ a.reports ++ told

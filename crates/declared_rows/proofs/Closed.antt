@@ -80,24 +80,24 @@ module _ {F : Frame} {arity : ℕ} {U : List ℕ} {b : Sight} {A : Assignment} (
   bound_name {o = o} same e (a_parameter k scoped lt is) = named.a_parameter o k e scoped lt (same ∙ is)
   bound_name {nodes} {N} {v} {o} same e (an_unknown p n scope u i is) = named.an_unknown (p ++ n ∷ []) (subst (λ s. slice_get nodes v ≡ Some (Var bound_level s)) scope e) (unknown_longer p n u) (same ∙ is)
 
-  -- A root that denotes a type stands for it, once its variables are bound; names are those of the assignment, and any others at nodes from before.
-  pub root_closed : {nodes : List Node} {R C : List ℕ} {N : Types} {r : ℕ} {t : Typ} → ((K : Types) → IsOwn b.nodes K → ClosesAll b.nodes nodes K R 0) → IsPlain nodes → ((v : ℕ) → length F.start ≤ v → N v ≡ A.types v) → IsIn R r → IsIn C r → Denotes A r t →
+  -- A root that denotes a type stands for it, once its variables are bound; the names of variables in the roots are those of the assignment.
+  pub root_closed : {nodes : List Node} {R C : List ℕ} {N : Types} {r : ℕ} {t : Typ} → ((K : Types) → IsOwn b.nodes K → ClosesAll b.nodes nodes K R 0) → IsPlain nodes → ((I : Types) → IsOwn nodes I → (v : ℕ) → length F.start ≤ v → stands_in_any I R v ≡ true → N v ≡ A.types v) → IsIn R r → IsIn C r → Denotes A r t →
       RootAs nodes C N arity r t
   root_closed {nodes} {R} {C} {N} {r} {t} closes plain names listed among d = record {
     inside = let e = (closes own_b.0 own_b.1).len in let lt = open_root.inside in omega arith;
     among = among;
     known = λ I own. own.known plain r;
     is = λ I own. let own' = before I own in
-        sym d.is ∙ own'.comes A.types at.loose r ∙ apply_agree A.types N (I r) (λ v o. sym (names v (made_since I own' open_root v o)));
+        sym d.is ∙ own'.comes A.types at.loose r ∙ apply_agree A.types N (I r) (λ v o. sym (named_as I own v o));
     named = λ I own v o.
         let own' = before I own in
         let low = open_root.free I own' v o in
         let (k, e) = listed in
-        bound_name (names v (made_since I own' open_root v o)) ((closes I own').binds v low.level low.scope low.at low.free (made_above I own' open_root v low.level low.scope o low.at low.free) (any_in v I R k r e o))
+        bound_name (named_as I own v o) ((closes I own').binds v low.level low.scope low.at low.free (made_above I own' open_root v low.level low.scope o low.at low.free) (any_in v I R k r e o))
         (at.each I own' v low.level low.scope (stands I v o) low.at);
     apart = λ I own v w o p e.
         let own' = before I own in
-        at.apart I own' v w (stands I v o) (stands I w p) (sym (names v (made_since I own' open_root v o)) ∙ e ∙ names w (made_since I own' open_root w p));
+        at.apart I own' v w (stands I v o) (stands I w p) (sym (named_as I own v o) ∙ e ∙ named_as I own w p);
   }
     where
       own_b : (J : Types) × IsOwn b.nodes J
@@ -108,6 +108,9 @@ module _ {F : Frame} {arity : ℕ} {U : List ℕ} {b : Sight} {A : Assignment} (
 
       before : (I : Types) → IsOwn nodes I → IsOwn b.nodes I
       before I own = own_reopened b.nodes nodes own_b.0 I R 0 own (closes own_b.0 own_b.1)
+
+      named_as : (I : Types) → IsOwn nodes I → (v : ℕ) → occurs v (I r) ≡ true → N v ≡ A.types v
+      named_as I own v o = let (k, e) = listed in names I own v (made_since I (before I own) open_root v o) (any_in v I R k r e o)
 
       stands : (I : Types) (v : ℕ) → occurs v (I r) ≡ true → stands_in_any I A.nodes v ≡ true
       stands I v o = let (k, e) = d.known in any_in v I A.nodes k r e o

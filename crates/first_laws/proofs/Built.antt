@@ -20,7 +20,7 @@ use Rattle.typing_state.specs.declared.built_ins.BuiltIn.{BuiltIn}
 use Rattle.typing_state.specs.declared.parts.Parts.{Parts}
 use Rattle.typing_state.specs.BuiltIns.{number_of}
 use Rattle.typing_conditions.specs.Environments.{of_type, entry_as, no_names, newest}
-use Rattle.typing_conditions.specs.Declared.{RootAs, OriginAs, DeclaredAs, with_parameters, tell_nothing}
+use Rattle.typing_conditions.specs.Declared.{UnknownApart, RootAs, OriginAs, DeclaredAs, with_parameters, tell_nothing}
 use Rattle.typing_conditions.specs.Sights.{Letters}
 use Rattle.typing_conditions.proofs.Roots.{named_bound}
 use Rattle.typing_conditions.proofs.Steps.{Grows, refines_made}
@@ -32,7 +32,7 @@ use Rattle.first_laws.specs.Declaring.{OnlyTypes, AreBoundIn, Declares}
 use Rattle.first_laws.specs.Built.{arity_of, HasPath, DeclaresBuiltIn, EntersBuiltIn, entry_of}
 use Rattle.first_laws.proofs.Declared.{outside_declared}
 use Rattle.first_laws.proofs.Grown.{grows_closed, reads_grown}
-use Rattle.first_laws.proofs.Roots.{root_new, ClosedRoot, root_closed, names_with, names_older, root_as}
+use Rattle.first_laws.proofs.Roots.{root_new, ClosedRoot, root_closed, names_with, names_older, names_apart, root_as}
 
 -- the path of a built-in type is that of no unknown type
 built_in_known : (k : ℕ) → is_unknown (built_in_origin k) ≡ false
@@ -87,11 +87,12 @@ module _ {a b : Parts} {which : BuiltIn} {d : Declaration} (h : DeclaresBuiltIn 
   }
 
 -- A built-in type is declared.
-pub declares_built_in : {a b : Parts} {which : BuiltIn} {e : Entry} → EntersBuiltIn a b which e → (roots : List ℕ) (names : Types) → Declares (sight a) (sight b) roots names (e ∷ []) (entry_of which ∷ [])
-declares_built_in h roots names = record {
+pub declares_built_in : {a b : Parts} {which : BuiltIn} {e : Entry} → EntersBuiltIn a b which e → (roots : List ℕ) (names : Types) → UnknownApart names → Declares (sight a) (sight b) roots names (e ∷ []) (entry_of which ∷ [])
+declares_built_in h roots names apart = record {
   new_roots = h.declaration.value.root.0 ∷ [];
   new_names = names_with (closed h.declared) names;
   same = λ v lt. names_older (closed h.declared) names v lt;
+  apart = names_apart (closed h.declared) names apart;
   are_bound = root_bound (root h.declared roots names);
   entries = newest (entry_as (sym h.name) (sym (ap kind_of h.kind)) (of_type h.is (built_in_as h.declared roots names))) no_names;
 }
@@ -99,4 +100,4 @@ declares_built_in h roots names = record {
 -- The next item starts among the names of before and that of the built-in type.
 pub outside_built_in : {a b : Parts} {G : Letters} {env : List Entry} {E : Choice → Environment} {which : BuiltIn} {e : Entry} → Outside as_declared (sight a) G env E → EntersBuiltIn a b which e →
     Outside as_declared (sight b) G (e ∷ env) (λ ch. entry_of which ∷ E ch)
-outside_built_in at h = outside_declared at (built_in_types h.declared) (declares_built_in h at.roots at.names)
+outside_built_in at h = outside_declared at (built_in_types h.declared) (declares_built_in h at.roots at.names at.apart)

@@ -98,6 +98,7 @@ outside_declared {a} {b} {G} {env} {more} {E} {F} at on new = record {
   level = on.level ∙ at.level;
   roots = new.new_roots ++ at.roots;
   names = new.new_names;
+  apart = new.apart;
   steady = at.steady;
   context = λ K own. subst (IsContext b.nodes K (new.new_roots ++ at.roots)) (sym on.level) (bound_low b.nodes K new.new_roots at.roots a.level own new.are_bound (context_after a.nodes b.nodes before.0 K at.roots a.level before.1 own (on.refines K own) (at.context before.0 before.1)));
   covered = let own = own_of b.nodes on.sound in

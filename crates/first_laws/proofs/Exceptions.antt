@@ -24,16 +24,17 @@ use Rattle.typing_steps.specs.Typing.{as_declared}
 use Rattle.binding_rows.specs.Outside.{Outside}
 use Rattle.declared_rows.specs.Assignments.{Assigned, Denotes}
 use Rattle.declared_rows.proofs.Starting.{declaring_frame}
+use Rattle.first_laws.specs.Declaring.{AreNew}
 use Rattle.first_laws.proofs.Whole.{DenotesSome, names, whole_root, outside_whole}
 
--- The next item starts among the names of before and that of the exception. Its root r denotes the type of the constructor, which is that of exceptions or an arrow to it.
+-- The next item starts among the names of before and that of the exception, where its unknown types are new. Its root r denotes the type of the constructor, which is that of exceptions or an arrow to it.
 pub outside_exception : {a b : Sight} (c : Sight) {G : Letters} {env : List Entry} {E : Choice → Environment} (at : Outside as_declared a G env E) (I : Types) (own : IsOwn a.nodes I) (n : ℕ) (n_inside : n < length a.nodes) (none : (v : ℕ) → occurs v (I n) ≡ true → ⊥)
     {start : Sight} (from : start.nodes ≡ a.nodes) {U : List ℕ} (x : Assigned (declaring_frame a I at.roots n) 0 U start b (record { types = I; nodes = n ∷ [] }))
-    {r : ℕ} (argument : Option Typ) → Denotes x.after r (building exn_type argument) → ((K : Types) → IsOwn b.nodes K → ClosesAll b.nodes c.nodes K (r ∷ []) 0) → IsPlain c.nodes → IsSound c.nodes → c.level ≡ a.level → ((i p : ℕ) → c.types i p ≡ a.types i p) →
+    {r : ℕ} (argument : Option Typ) → Denotes x.after r (building exn_type argument) → ((K : Types) → IsOwn b.nodes K → ClosesAll b.nodes c.nodes K (r ∷ []) 0) → IsPlain c.nodes → IsSound c.nodes → c.level ≡ a.level → ((i p : ℕ) → c.types i p ≡ a.types i p) → AreNew U at.names →
     (e : Entry) (f : Named) (cell : Rc Constructor Global) → e.what ≡ what.Exception cell → cell.value.root.0 ≡ r → cell.value.has_argument ≡ is_some argument → f.name ≡ str_bytes e.name → kind_named f.stands_for ≡ kind_of e.kind → f.stands_for ≡ an_exception argument →
     Outside as_declared c G (e ∷ env) (λ ch. f ∷ E ch)
-outside_exception {a} {b} c at I own n n_inside none {start} from {U} x {r} argument denotes closes plain sound level types e f cell is root takes name kind stands =
-    outside_whole c at I own n n_inside none from x (r ∷ []) one closes plain sound level types (e ∷ []) (f ∷ [])
+outside_exception {a} {b} c at I own n n_inside none {start} from {U} x {r} argument denotes closes plain sound level types new e f cell is root takes name kind stands =
+    outside_whole c at I own n n_inside none from x (r ∷ []) one closes plain sound level types new (e ∷ []) (f ∷ [])
     (newest (entry_as name kind (subst (WhatAs (λ q sc. ⊥) (DeclaredAs c.nodes (r ∷ at.roots) N) (ExceptionAs c.nodes (r ∷ at.roots) N) e.what) (sym stands)
     (of_exception is (record { takes = takes; root = subst (λ m. RootAs c.nodes (r ∷ at.roots) N 0 m (building exn_type argument)) (sym root) root_as })))) no_names)
   where

@@ -1,5 +1,5 @@
 -- The root of a built-in type is the type that the definitions give its declaration.
-use Rattle.std.proofs.Common.{◌≡◌, ◌∙◌, ℕ, zero, suc, ◌<◌, ◌≤◌, Bool, true, false, ◌||◌, List, [], ◌∷◌, length, Some, refl, sym, ap, subst, arith}
+use Rattle.std.proofs.Common.{◌≡◌, ◌∙◌, ℕ, zero, suc, ◌<◌, ◌≤◌, Bool, true, false, ◌||◌, List, [], ◌∷◌, length, Some, refl, sym, ap, subst, arith, eqb, if◌then◌else◌}
 use Rattle.std.specs.Prelude.{slice_get, All}
 use Rattle.std.proofs.lemmas.Bool.{eqb-true}
 use Rattle.std.proofs.lemmas.Option.{slice_get_within}
@@ -15,7 +15,7 @@ use Rattle.type_nodes.specs.States.{State}
 use Rattle.level_unify.specs.Generalising.{Generalised}
 use Rattle.typing_state.specs.Types.{any_scope}
 use Rattle.typing_conditions.specs.Locals.{IsOwn}
-use Rattle.typing_conditions.specs.Declared.{RootAs, a_parameter, with_parameters}
+use Rattle.typing_conditions.specs.Declared.{UnknownApart, RootAs, a_parameter, with_parameters}
 use Rattle.typing_conditions.proofs.Making.{with_type, at_own, at_older, made_here}
 use Rattle.typing_conditions.proofs.Steps.{Grows}
 use Rattle.first_laws.specs.Built.{MakesRoot, alone, over_one}
@@ -104,6 +104,18 @@ names_with (closed_over_one name v m new at_v at_m at_r) N = with_type N v (type
 pub names_older : {path : Path} {nodes : List Node} {k r arity : ℕ} (root : ClosedRoot path nodes k r arity) (N : Types) (w : ℕ) → w < k → names_with root N w ≡ N w
 names_older (closed_alone name e) N w lt = refl
 names_older (closed_over_one name v m new at_v at_m at_r) N w lt = at_older N v (type.Var 0) w (omega arith)
+
+-- and no two of them are one unknown type
+pub names_apart : {path : Path} {nodes : List Node} {k r arity : ℕ} (root : ClosedRoot path nodes k r arity) (N : Types) → UnknownApart N → UnknownApart (names_with root N)
+names_apart (closed_alone name at_r) N apart v w o unknown e f = apart v w o unknown e f
+names_apart (closed_over_one name p m new at_p at_m at_r) N apart v w o unknown e f = apart v w o unknown (older v e) (older w f)
+  where
+    older : (u : ℕ) → with_type N p (type.Var 0) u ≡ type.Con o types.Nil → N u ≡ type.Con o types.Nil
+    older u g = by (eqb u p) g
+      where
+        by : (b : Bool) → (if b then type.Var 0 else N u) ≡ type.Con o types.Nil → N u ≡ type.Con o types.Nil
+        by true h = absurd (cc)
+        by false h = h
 
 -- a type without parameters
 module _ (nodes : List Node) (path : Path) (name : List ℕ) (r : ℕ) (at_r : slice_get nodes r ≡ Some (Con path name [])) (known : is_unknown path ≡ false) where

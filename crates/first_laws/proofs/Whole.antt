@@ -1,28 +1,32 @@
 -- After a declaration as a whole, with its roots, the names are those of before with its own.
-use Rattle.std.proofs.Common.{◌≡◌, ◌∙◌, ℕ, ◌<◌, ◌≤◌, nat_lt, Bool, true, false, List, [], ◌∷◌, ◌++◌, length, Some, ap, subst, arith, if◌then◌else◌}
+use Rattle.std.proofs.Common.{◌≡◌, ◌∙◌, ℕ, ◌<◌, ◌≤◌, nat_lt, Bool, true, false, List, [], ◌∷◌, ◌++◌, length, Some, refl, sym, ap, subst, arith, if◌then◌else◌}
 use Rattle.std.specs.Prelude.{slice_get}
 use Rattle.std.proofs.lemmas.Option.{slice_get_within}
-use Rattle.type_model.specs.Types.{Typ, occurs}
+use Rattle.type_model.specs.Types.{Path, Typ, occurs}
+use Rattle.type_model.specs.Types.{Typ as type, Typs as typs}
+use Rattle.type_model.proofs.Applying.{apply_leaves}
 use Rattle.signature_model.specs.Entries.{Environment}
 use Rattle.typing_model.specs.Contexts.{Choice}
 use Rattle.type_nodes.specs.Nodes.{IsSound}
 use Rattle.type_nodes.specs.Readings.{Types, IsReading}
 use Rattle.type_nodes.proofs.Lists.{get-append_left}
 use Rattle.env_table.specs.declared.entries.Entry.{Entry}
-use Rattle.typing_conditions.specs.Locals.{IsPlain, IsOwn, ClosesAll}
+use Rattle.typing_conditions.specs.Locals.{IsPlain, IsOwn, ClosesAll, stands_in_any}
 use Rattle.typing_conditions.specs.Standing.{IsIn}
 use Rattle.typing_conditions.specs.Environments.{EnvAs}
-use Rattle.typing_conditions.specs.Declared.{RootAs, DeclaredAs, ExceptionAs}
+use Rattle.typing_conditions.specs.Declared.{UnknownApart, RootAs, DeclaredAs, ExceptionAs}
 use Rattle.typing_conditions.specs.Sights.{Sight, Letters}
 use Rattle.typing_conditions.specs.Frames.{Frame, IsOpen}
-use Rattle.typing_conditions.proofs.Regions.{in_any}
+use Rattle.typing_conditions.proofs.Regions.{any_in, in_any}
+use Rattle.typing_conditions.proofs.Own.{own_of}
+use Rattle.typing_conditions.proofs.Closing.{own_reopened}
 use Rattle.typing_conditions.proofs.Roots.{named_bound}
 use Rattle.typing_steps.specs.Typing.{as_declared}
 use Rattle.binding_rows.specs.Outside.{Outside}
-use Rattle.declared_rows.specs.Assignments.{Assignment, Assigned, Denotes, IsDeclaring}
+use Rattle.declared_rows.specs.Assignments.{IsAssigned, a_parameter, an_unknown, Assignment, Assigned, Denotes, IsDeclaring}
 use Rattle.declared_rows.proofs.Closed.{root_closed, refines_declared, reads_declared}
 use Rattle.declared_rows.proofs.Starting.{declaring_frame, declaring}
-use Rattle.first_laws.specs.Declaring.{OnlyTypes, AreBoundIn}
+use Rattle.first_laws.specs.Declaring.{OnlyTypes, AreBoundIn, AreNew}
 use Rattle.first_laws.proofs.Declared.{outside_declared}
 
 -- the names of the variables of a state, and further ones for those that are made
@@ -40,6 +44,21 @@ further_old k N S v lt = ap (λ (b : Bool). if b then N v else S v) (below v k l
 
 further_new : (k : ℕ) (N S : Types) (v : ℕ) → k ≤ v → further k N S v ≡ S v
 further_new k N S v le = ap (λ (b : Bool). if b then N v else S v) (not_below v k le)
+
+-- types at some variables; every other one is its own name
+abbrev pub only_at : (ℕ → Bool) → Types → Types
+only_at test S v = if test v then S v else type.Var v
+
+only_there : (test : ℕ → Bool) (S : Types) (v : ℕ) → test v ≡ true → only_at test S v ≡ S v
+only_there test S v h = ap (λ (b : Bool). if b then S v else type.Var v) h
+
+-- an unknown type is the name of one of these alone
+there_alone : (test : ℕ → Bool) (S : Types) (v : ℕ) (o : Path) → only_at test S v ≡ type.Con o typs.Nil → (test v ≡ true) × (S v ≡ type.Con o typs.Nil)
+there_alone test S v o = by (test v) refl
+  where
+    by : (b : Bool) → test v ≡ b → (if b then S v else type.Var v) ≡ type.Con o typs.Nil → (test v ≡ true) × (S v ≡ type.Con o typs.Nil)
+    by true h e = (h, e)
+    by false h e = absurd (cc)
 
 in_first : (R C : List ℕ) (r : ℕ) → IsIn R r → IsIn (R ++ C) r
 in_first R C r (k, e) = (k, get-append_left R C k (slice_get_within R k r e) ∙ e)
@@ -71,13 +90,69 @@ module _ {a b : Sight} (c : Sight) {G : Letters} {env : List Entry} {E : Choice 
     reads = λ V h. reads_declared is_declaring x.assigns closes opens (λ W g. subst (λ ns. IsReading ns W) from (x.reads W g)) V h;
   }
 
-  -- the names of all variables
+  -- the own types of the nodes after, which are those of before the variables were bound too
+  abbrev own_after : Types
+  own_after = (own_of c.nodes sound).0
+
+  own_c : IsOwn c.nodes own_after
+  own_c = (own_of c.nodes sound).1
+
+  own_b : IsOwn b.nodes own_after
+  own_b = let (J, own_j) = own_of b.nodes x.assigns.reached.sound in own_reopened b.nodes c.nodes J own_after R 0 own_c (closes J own_j)
+
+  -- the names of all variables: those of before, and those that the roots denote
   abbrev pub names : Types
-  names = further (length a.nodes) at.names x.after.types
+  names = further (length a.nodes) at.names (only_at (stands_in_any own_after R) x.after.types)
+
+  -- a variable of the roots has the name that it is assigned
+  root_named : (K : Types) → IsOwn c.nodes K → (v : ℕ) → length a.nodes ≤ v → stands_in_any K R v ≡ true → names v ≡ x.after.types v
+  root_named K own_k v le h =
+      let y = in_any v K R h in
+      let same : own_after y.node ≡ K y.node = own_k.comes own_after own_c.loose y.node ∙ apply_leaves own_after (K y.node) (λ w o. let u = own_k.only y.node w (inside y.place y.node y.at) o in own_c.vars w u.level u.scope u.at) in
+      further_new (length a.nodes) at.names (only_at (stands_in_any own_after R) x.after.types) v le ∙ only_there (stands_in_any own_after R) x.after.types v (any_in v own_after R y.place y.node y.at (ap (occurs v) same ∙ y.occurs))
+    where
+      inside : (k r : ℕ) → slice_get R k ≡ Some r → r < length c.nodes
+      inside k r e = let lt = (opens k r e).inside in let l = (closes own_after own_b).len in omega arith
+
+  -- such a variable that is made is one of the assignment, and if it has an unknown type as its name, that is one of the type expressions U
+  made_known : (v : ℕ) → stands_in_any own_after R v ≡ true → stands_in_any own_after x.after.nodes v ≡ true
+  made_known v h = let y = in_any v own_after R h in let (k, e) = (denote y.place y.node y.at).denotes.known in any_in v own_after x.after.nodes k y.node e y.occurs
+
+  made_unknown : (v : ℕ) (o : Path) → stands_in_any own_after R v ≡ true → x.after.types v ≡ type.Con o typs.Nil → (p : Path) × (m : ℕ) × IsIn U m × (o ≡ p ++ m ∷ [])
+  made_unknown v o h e =
+      let y = in_any v own_after R h in
+      let low = (opens y.place y.node y.at).free own_after own_b v y.occurs in
+      by (x.assigns.each own_after own_b v low.level low.scope (made_known v h) low.at)
+    where
+      by : {scope : ℕ} → IsAssigned x.after.types U arity scope v → (p : Path) × (m : ℕ) × IsIn U m × (o ≡ p ++ m ∷ [])
+      by (a_parameter k scoped lt is) = absurd (let f : type.Con o typs.Nil ≡ type.Var k = sym e ∙ is in cc)
+      by (an_unknown p m scope unknown i is) = let f : type.Con o typs.Nil ≡ type.Con (p ++ m ∷ []) typs.Nil = sym e ∙ is in (p, m, i, cc)
+
+  -- So no two variables have one unknown type as their name, where none of before has one of U.
+  names_apart : AreNew U at.names → UnknownApart names
+  names_apart new v w o unknown e f = by (nat_lt v (length a.nodes)) (nat_lt w (length a.nodes)) e f
+    where
+      N : Types
+      N = only_at (stands_in_any own_after R) x.after.types
+
+      mixed : (u s : ℕ) → at.names u ≡ type.Con o typs.Nil → N s ≡ type.Con o typs.Nil → ⊥
+      mixed u s g h =
+          let (i, is) = there_alone (stands_in_any own_after R) x.after.types s o h in
+          let (p, m, j, ends) = made_unknown s o i is in
+          new u m p j (g ∙ ap (λ q. type.Con q typs.Nil) ends)
+
+      by : (i j : Bool) → (if i then at.names v else N v) ≡ type.Con o typs.Nil → (if j then at.names w else N w) ≡ type.Con o typs.Nil → v ≡ w
+      by true true g h = at.apart v w o unknown g h
+      by true false g h = absurd (mixed v w g h)
+      by false true g h = absurd (mixed w v h g)
+      by false false g h =
+          let (i, is) = there_alone (stands_in_any own_after R) x.after.types v o g in
+          let (j, js) = there_alone (stands_in_any own_after R) x.after.types w o h in
+          x.assigns.apart own_after own_b v w (made_known v i) (made_known w j) (is ∙ sym js)
 
   -- a root that denotes a type stands for it
   pub whole_root : {r : ℕ} {t : Typ} → IsIn R r → Denotes x.after r t → RootAs c.nodes (R ++ at.roots) names arity r t
-  whole_root {r} i d = root_closed is_declaring x.assigns closes plain (λ v le. further_new (length a.nodes) at.names x.after.types v le) i (in_first R at.roots r i) d
+  whole_root {r} i d = root_closed is_declaring x.assigns closes plain root_named i (in_first R at.roots r i) d
 
   whole_bound : AreBoundIn c.nodes R
   whole_bound = record {
@@ -85,12 +160,13 @@ module _ {a b : Sight} (c : Sight) {G : Letters} {env : List Entry} {E : Choice 
     bound = λ K own_c v h. let y = in_any v K R h in named_bound ((whole_root (y.place, y.at) (denote y.place y.node y.at).denotes).named K own_c v y.occurs);
   }
 
-  -- The next item starts among the names of before and those of the declaration, which stand for entries of the definitions.
-  pub outside_whole : (more : List Entry) (fs : Environment) → EnvAs (λ r sc. ⊥) (DeclaredAs c.nodes (R ++ at.roots) names) (ExceptionAs c.nodes (R ++ at.roots) names) more fs → Outside as_declared c G (more ++ env) (λ ch. fs ++ E ch)
-  outside_whole more fs entries = outside_declared at whole_types (record {
+  -- The next item starts among the names of before and those of the declaration, which stand for entries of the definitions, where its unknown types are new.
+  pub outside_whole : AreNew U at.names → (more : List Entry) (fs : Environment) → EnvAs (λ r sc. ⊥) (DeclaredAs c.nodes (R ++ at.roots) names) (ExceptionAs c.nodes (R ++ at.roots) names) more fs → Outside as_declared c G (more ++ env) (λ ch. fs ++ E ch)
+  outside_whole new more fs entries = outside_declared at whole_types (record {
     new_roots = R;
     new_names = names;
-    same = λ v lt. further_old (length a.nodes) at.names x.after.types v lt;
+    same = λ v lt. further_old (length a.nodes) at.names (only_at (stands_in_any own_after R) x.after.types) v lt;
+    apart = names_apart new;
     are_bound = whole_bound;
     entries = entries;
   })

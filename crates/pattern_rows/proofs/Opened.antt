@@ -1,15 +1,17 @@
 -- Letters that patterns open, and those that are closed at the end of a row.
-use Rattle.std.proofs.Common.{◌∙◌, ◌++◌, ℕ, List, [], ◌∷◌, inl, inr, sym, ap, subst, append_assoc}
+use Rattle.std.proofs.Common.{◌∙◌, ◌++◌, ℕ, Bool, List, [], ◌∷◌, inl, inr, sym, ap, subst, append_assoc}
 use Rattle.typing_model.specs.Contexts.{Choice}
 use Rattle.type_nodes.specs.Nodes.{Node}
 use Rattle.type_nodes.specs.Readings.{Types}
-use Rattle.typing_conditions.specs.Sights.{Sight, Letters, AreNodes}
+use Rattle.typing_conditions.specs.Sights.{Sight, Key, Letters, AreNodes}
 use Rattle.typing_conditions.specs.Frames.{Frame}
 use Rattle.typing_conditions.specs.Carrying.{Asks, Scope, Stays, GoesOn, Carried, CarriedTo}
 use Rattle.typing_conditions.proofs.Judged.{given_left, given_right, given_both, nodes_right, nodes_both}
 use Rattle.typing_conditions.proofs.Carried.{hidden_more, carried_trans}
 use Rattle.typing_steps.specs.Typing.{RowCarried}
 use Rattle.pattern_rows.specs.Bounds.{IsAmong}
+use Rattle.typing_conditions.specs.Hiding.{marked, is_typed, Settles}
+use Rattle.typing_conditions.proofs.Hiding.{settles_more, given_unmarked}
 
 -- letters are nodes where others are together with them
 pub nodes_left : (xs ys : Letters) (nodes : List Node) → AreNodes (xs ++ ys) nodes → AreNodes xs nodes
@@ -66,11 +68,12 @@ goes_kept own opens G {V} {W} {ch} among on = record {
   };
 }
 
--- Of the letters that a row has opened only those are kept that are among them; the others are hidden.
-pub carried_kept : {F : Frame} {scope : Scope} {asks : Asks} {a b : Sight} (own opens : Letters) {G : Letters} → IsAmong opens own → Carried F scope asks a G b (own ++ G) → Carried F scope asks a G b (opens ++ G)
-carried_kept {F} {scope} {asks} {a} {b} own opens {G} among p = record {
+-- Of the letters that a row has opened only those are kept that are among them; all are hidden, with marks.
+pub carried_marked : {F : Frame} {scope : Scope} {asks : Asks} {a b : Sight} (test : Key × ℕ → Bool) (own opens : Letters) {G : Letters} → IsAmong opens own → (p : Carried F scope asks a G b (own ++ G)) → Settles a b (p.hidden ++ marked test own) → Carried F scope asks a G b (opens ++ G)
+carried_marked {F} {scope} {asks} {a} {b} test own opens {G} among p settled = record {
   stays = stays_kept own opens among p.stays;
-  hidden = p.hidden ++ own;
+  hidden = p.hidden ++ marked test own;
+  settled = settled;
   judged = p.judged;
   told = p.told;
   reports = p.reports;
@@ -81,9 +84,9 @@ carried_kept {F} {scope} {asks} {a} {b} own opens {G} among p = record {
       recorded = l.agrees.recorded;
       known = l.agrees.known;
       written = l.agrees.written;
-      given = given_both V c.chosen own G (given_right V c.chosen p.hidden own l.hidden_too) (given_right V c.chosen opens G l.agrees.given);
+      given = given_both V c.chosen own G (given_unmarked test own V c.chosen (given_right V c.chosen p.hidden (marked test own) l.hidden_too)) (given_right V c.chosen opens G l.agrees.given);
     };
-    hidden_too = given_left V c.chosen p.hidden own l.hidden_too;
+    hidden_too = given_left V c.chosen p.hidden (marked test own) l.hidden_too;
     named = l.named;
     unbound = l.unbound;
     kept = l.kept;
@@ -95,19 +98,23 @@ carried_kept {F} {scope} {asks} {a} {b} own opens {G} among p = record {
       recorded = l.agrees.recorded;
       known = l.agrees.known;
       written = l.agrees.written;
-      given = given_both V c.chosen own G (given_right V c.chosen p.hidden own l.hidden_too) (given_right V c.chosen opens G l.agrees.given);
+      given = given_both V c.chosen own G (given_unmarked test own V c.chosen (given_right V c.chosen p.hidden (marked test own) l.hidden_too)) (given_right V c.chosen opens G l.agrees.given);
     };
-    hidden_too = given_left V c.chosen p.hidden own l.hidden_too;
+    hidden_too = given_left V c.chosen p.hidden (marked test own) l.hidden_too;
     named = l.named;
     unbound = l.unbound;
     kept = l.kept;
   });
   complete = λ named V c e h. elim (p.complete named V c e h) [
-    | inl goes ↦ inl (record { same = goes.same; types = goes.types; on = goes_kept own opens G among goes.on; hidden_too = hidden_more p.hidden own G b c.chosen goes.types (p.stays.inside e.inside).given goes.on.agrees.given goes.hidden_too })
+    | inl goes ↦ inl (record { same = goes.same; types = goes.types; on = goes_kept own opens G among goes.on; hidden_too = hidden_more test p.hidden own G b c.chosen goes.types (p.stays.inside e.inside).given goes.on.agrees.given goes.hidden_too })
     | inr short ↦ inr short
   ];
   first = p.first;
 }
+
+-- the same with a doubt where a letter isn't for the type of a recorded node
+pub carried_kept : {F : Frame} {scope : Scope} {asks : Asks} {a b : Sight} (own opens : Letters) {G : Letters} → IsAmong opens own → Carried F scope asks a G b (own ++ G) → Carried F scope asks a G b (opens ++ G)
+carried_kept {b = b} own opens among p = carried_marked (is_typed b) own opens among p (settles_more p.hidden own p.stays.recorded p.settled)
 
 -- a row among whose letters are those that stay open
 pub record RowOpened (F : Frame) (scope : Scope) (asks : Asks) (a : Sight) (G : Letters) (b : Sight) (n m : ℕ) (opens : Letters) : Type 0 where

@@ -31,6 +31,7 @@ use Rattle.typing_steps.specs.Typing.{as_declared}
 use Rattle.typing_steps.specs.Building.{TakesAs, used_by}
 use Rattle.pattern_rows.specs.Bounds.{Bind, AllBound, none_bound, one_bound}
 use Rattle.record_rows.specs.Fields.{GivesType, FieldEnded, PunsName, Puns, FieldAdds}
+use Rattle.typing_conditions.proofs.Hiding.{settles_none}
 
 -- What a key stands for is asked to be of no unknown type, and then to be the type of a node.
 pub known_made : {F : Frame} {scope : Scope} {G : Letters} {a : Sight} {m : ℕ} {type : Choice → Typ} (key : Key) → ((x : Typ) → IsKnownFor key x) → Means F a G type m →
@@ -38,6 +39,7 @@ pub known_made : {F : Frame} {scope : Scope} {G : Letters} {a : Sight} {m : ℕ}
 known_made {F} {scope} {G} {a} {m} {type} key free p = record {
   stays = stays_trans (stays_opened key p.open_node.inside) (stays_opened (without_unknown key) p.open_node.inside);
   hidden = [];
+  settled = settles_none;
   judged = [];
   told = [];
   reports = sym (append-nil a.reports);

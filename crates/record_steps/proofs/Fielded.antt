@@ -51,6 +51,7 @@ stands_on {a = a} {b = b} stays reached s =
     record {
       roots = s.roots;
       names = s.names;
+      apart = s.apart;
       are_roots = λ k r e. root_on stays reached (s.are_roots k r e);
       is = declared_after own_a.1 (stays.refines reached own_b.0 own_b.1) (λ r i. i) s.is;
     }

@@ -151,6 +151,7 @@ module _ {F : Frame} {scope : Scope} {G : Letters} {env : List Entry} (a : Parts
         record {
           roots = at.roots;
           names = at.names;
+          apart = at.apart;
           are_roots = λ i r e. root_on whole.stays at.reached (at.are_roots i r e);
           is = declared_after own_a.1 (whole.stays.refines at.reached own_b.0 own_b.1) (λ r i. i) alike;
         }

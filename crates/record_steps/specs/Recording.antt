@@ -21,7 +21,7 @@ use Rattle.env_table.specs.declared.entries.Entry.{Entry}
 use Rattle.env_table.specs.declared.entries.Label.{Label}
 use Rattle.env_table.specs.declared.faults.FaultKind.TheVariants as fault
 use Rattle.env_table.specs.Labels.{labelled, scope_for}
-use Rattle.typing_conditions.specs.Declared.{DeclaredAs}
+use Rattle.typing_conditions.specs.Declared.{UnknownApart, DeclaredAs}
 use Rattle.typing_state.specs.declared.parts.Parts.{Parts}
 use Rattle.typing_state.specs.declared.messages.Word.TheVariants as word
 use Rattle.typing_state.specs.Bound.{lost_among, TellsLost}
@@ -109,6 +109,7 @@ GivesField (Some l) a b m ty = (field : ℕ) × (ty ≡ Some field) × TakesFiel
 pub record StandsFor (F : Frame) (b : Sight) (d : Declaration) (e : rules.Declaration) : Type 0 where
   pub roots : List ℕ
   pub names : Types
+  pub apart : UnknownApart names
   pub are_roots : (k r : ℕ) → slice_get roots k ≡ Some r → IsRoot F b r
   pub is : DeclaredAs b.nodes roots names d e
 

@@ -11,20 +11,27 @@ use Rattle.typing_model.specs.Contexts.{Choice}
 use Rattle.typing_model.specs.Demands.{Site}
 use Rattle.typing_model.specs.Typings.{outermost, conditions_of, IsPrincipal}
 use Rattle.typing_model.specs.Typings as typings
-use Rattle.type_nodes.specs.Nodes.{Node, IsNode}
+use Rattle.type_nodes.specs.Nodes.{Node, IsNode, IsSound}
 use Rattle.type_nodes.specs.Readings.{Types, Fits}
 use Rattle.type_nodes.proofs.Identity.{identity}
 use Rattle.level_unify.proofs.Unified.{fits_loosely}
-use Rattle.typing_conditions.specs.Locals.{IsOwn}
+use Rattle.typing_conditions.specs.Locals.{IsPlain, IsOwn}
 use Rattle.typing_conditions.specs.Sights.{Sight, Key, value_of, Letters, IsGiven, AreGiven, AreNodes, number_in}
 use Rattle.typing_conditions.proofs.Judged.{given_both, nodes_both}
 use Rattle.typing_conditions.specs.Judging.{FallsShort, judgements}
-use Rattle.typing_conditions.proofs.Adequate.{never_short}
-use Rattle.binding_rows.specs.Outside.{Left, letters_left, ContinuesItems}
+use Rattle.typing_conditions.proofs.Adequate.{never_short, kept_of}
+use Rattle.typing_conditions.proofs.Own.{own_of}
+use Rattle.typing_conditions.proofs.Roots.{own_reads}
+use Rattle.binding_rows.specs.Outside.{Left, letters_left, ContinuesItems, ItemsCarried}
+use Rattle.binding_rows.specs.ItemRows.{AreOwned}
+use Rattle.typing_model.specs.Meanings.{items_of}
+use Rattle.typing_laws.specs.Plain.{has_lets_alone}
+use Rattle.site_laws.proofs.Texts.{AreSmall}
 use Rattle.text_laws.specs.Texts.{text_asks, IsTyped}
-use Rattle.text_laws.specs.Reading.{plain_key, is_own, node_for, recorded_at, type_or, first_there, read_choice}
+use Rattle.typing_conditions.specs.Hiding.{plain_key, is_own, ArePlaced}
+use Rattle.text_laws.specs.Reading.{node_for, recorded_at, type_or, first_there, read_choice, NoneDoubtful, DoubtfulAreOne}
 use Rattle.text_laws.proofs.Kept.{met, enters}
-use Rattle.text_laws.proofs.Reading.{own_is, value_plain}
+use Rattle.text_laws.proofs.Reading.{own_is, value_plain, text_typed, lets_typed, none_doubted}
 
 place_inside : {A : Type 0} {x : A} (xs : List A) (k : ℕ) → slice_get xs k ≡ Some x → k < length xs
 place_inside [] k e = absurd (cc)
@@ -124,3 +131,18 @@ text_principal {env} {text} {kept} {a} {b} {G} h own_types read = record {
               ∙ found_general b h.types own_types keys h.carried.left goes.types fits.choice goes.fits goes.agrees.recorded inside.recorded given nodes n
               ∙ ap (λ (ch : Choice). apply (gives (length b.nodes) goes.types fits.choice) (ch.type_at n)) (sym read),
         )
+
+-- So the types that a text of `let` and `;;` was found to have are a principal typing of it, with the demands that were kept, where open and doubtful letters have one type for one thing at the nodes' own types.
+pub lets_principal : {env : Environment} {text : List Tree} {a b : Sight} {G : Letters} (p : ItemsCarried (λ ch. env) (text_asks text) a [] b G) → AreOwned (items_of text) p.left → ((i k : ℕ) → a.types i k ≡ None) → IsSound a.nodes → has_lets_alone text ≡ true → AreSmall text → IsPlain b.nodes →
+    (J : Types) → IsOwn b.nodes J → DoubtfulAreOne J b G (letters_left p.left) → (h : IsTyped env text (kept_of p.judged) a b G) × IsPrincipal env text (kept_of p.judged) h.choice.type_at
+unfolding lets_typed text_typed
+lets_principal {env} {text} {b = b} {G = G} p owned none sound lets small plain J own rest =
+    let h = lets_typed {env = env} {text = text} p owned none sound lets small J (own_reads b.nodes J own) (own.known plain) rest in
+    (h, text_principal {env = env} {text = text} h own refl)
+
+-- The same where no letter is open and none is doubtful: nothing is asked of types then.
+pub sure_principal : {env : Environment} {text : List Tree} {a b : Sight} (p : ItemsCarried (λ ch. env) (text_asks text) a [] b []) → AreOwned (items_of text) p.left → ((i k : ℕ) → a.types i k ≡ None) → IsSound a.nodes → has_lets_alone text ≡ true → AreSmall text → IsPlain b.nodes →
+    NoneDoubtful (letters_left p.left) → ArePlaced b → (h : IsTyped env text (kept_of p.judged) a b []) × IsPrincipal env text (kept_of p.judged) h.choice.type_at
+sure_principal {env} {text} {b = b} p owned none sound lets small plain sure placed =
+    let (J, own) = own_of b.nodes (p.stays.sound sound) in
+    lets_principal {env = env} {text = text} p owned none sound lets small plain J own (none_doubted J (letters_left p.left) sure placed)

@@ -1,5 +1,5 @@
 -- Where nodes that stand for one thing have one type, a choice is read off a state.
-use Rattle.std.proofs.Common.{◌≡◌, ◌∙◌, ℕ, zero, suc, ◌+◌, ◌/◌, ◌%◌, ◌^◌, Bool, true, false, ◌==◌, Option, Some, None, List, [], ◌∷◌, ◌++◌, refl, sym, ap, subst, if◌then◌else◌, length}
+use Rattle.std.proofs.Common.{◌≡◌, ◌∙◌, ◌⊎◌, inl, inr, ℕ, zero, suc, ◌+◌, ◌/◌, ◌%◌, ◌^◌, Bool, true, false, ◌==◌, Option, Some, None, List, [], ◌∷◌, ◌++◌, refl, sym, ap, subst, if◌then◌else◌, length}
 use Rattle.std.specs.Prelude.{slice_get}
 use Rattle.std.proofs.lemmas.Bool.{eqb-true}
 use Rattle.std.proofs.lemmas.Nat.{div-mul-add, mod-mul-add, div-add-mod'}
@@ -19,7 +19,7 @@ use Rattle.typing_laws.specs.Plain.{has_no_modules, has_lets_alone}
 use Rattle.type_nodes.specs.Nodes.{Node, IsSound}
 use Rattle.type_nodes.specs.Readings.{Types, IsReading}
 use Rattle.typing_laws.proofs.Bools.{no_yes, and_cases, and_both}
-use Rattle.typing_conditions.specs.Sights.{Sight, Key, own, letter, filled, without_unknown, value_of, Letters, IsKnownFor, AreGiven, number_in}
+use Rattle.typing_conditions.specs.Sights.{Sight, Key, own, letter, filled, without_unknown, doubtful, value_of, Letters, IsKnownFor, AreGiven, number_in}
 use Rattle.typing_conditions.specs.Judging.{Judgement, AreKept}
 use Rattle.typing_conditions.proofs.Adequate.{kept_of}
 use Rattle.site_laws.proofs.Texts.{AreSmall}
@@ -27,7 +27,8 @@ use Rattle.typing_rows.specs.Settled.{AreFixed}
 use Rattle.binding_rows.specs.ItemRows.{AreOwned}
 use Rattle.binding_rows.specs.Outside.{Left, IsLeft, letters_left, AreLeft, ReadsItems, ItemsCarried}
 use Rattle.text_laws.specs.Texts.{AreApart, NoneCloses, text_asks, AsksOnce, IsTyped}
-use Rattle.text_laws.specs.Reading.{plain_key, is_own, is_letter, is_filled, node_for, recorded_at, written_at, type_or, first_there, read_choice, OwnersApart, AreOne}
+use Rattle.typing_conditions.specs.Hiding.{plain_key, is_own, is_letter, is_filled, is_doubtful, ArePlaced, HaveOneNode}
+use Rattle.text_laws.specs.Reading.{node_for, recorded_at, written_at, type_or, first_there, read_choice, OwnersApart, AreOne, NoneDoubtful, DoubtfulAreOne}
 use Rattle.text_laws.proofs.Sites.{kept_as_judged, kept_among}
 use Rattle.text_laws.proofs.Orderly.{none_closing}
 use Rattle.text_laws.proofs.Owners.{owners_apart}
@@ -39,18 +40,21 @@ own_is n (own m) e = ap own (sym (eqb-true n m e))
 own_is n (letter m j) e = absurd (no_yes e)
 own_is n (filled m p) e = absurd (no_yes e)
 own_is n (without_unknown key) e = absurd (no_yes e)
+own_is n (doubtful key) e = absurd (no_yes e)
 
 letter_is : (n k : ℕ) (key : Key) → is_letter n k key ≡ true → key ≡ letter n k
 letter_is n k (own m) e = absurd (no_yes e)
 letter_is n k (letter m j) e = let (p, q) = and_cases (n == m) (k == j) e in (λ i. letter (sym (eqb-true n m p) i) (sym (eqb-true k j q) i))
 letter_is n k (filled m p) e = absurd (no_yes e)
 letter_is n k (without_unknown key) e = absurd (no_yes e)
+letter_is n k (doubtful key) e = absurd (no_yes e)
 
 filled_is : (n : ℕ) (o : Path) (key : Key) → is_filled n o key ≡ true → key ≡ filled n o
 filled_is n o (own m) e = absurd (no_yes e)
 filled_is n o (letter m j) e = absurd (no_yes e)
 filled_is n o (filled m p) e = let (q, r) = and_cases (n == m) (same_path o p) e in (λ i. filled (sym (eqb-true n m q) i) (sym ((bytes_eq-Decides o p).0 r) i))
 filled_is n o (without_unknown key) e = absurd (no_yes e)
+filled_is n o (doubtful key) e = absurd (no_yes e)
 
 filled_itself : (n : ℕ) (o : Path) → is_filled n o (filled n o) ≡ true
 filled_itself n o = and_both (n == n) (same_path o o) (eqb_same n) ((bytes_eq-Decides o o).1 refl)
@@ -78,24 +82,34 @@ find test (y ∷ ys) k x e t = by (test (plain_key y.0)) refl k e (λ j g. find 
     by false fails zero g further = let same : y ≡ x = cc in absurd (no_yes (sym fails ∙ ap (λ (z : Key × ℕ). test (plain_key z.0)) same ∙ t))
     by false fails (suc j) g further = later (further j g) fails
 
--- a key without what it says of unknown types chooses the same
+-- a key without its marks chooses the same
 pub value_plain : (ch : Choice) (key : Key) → value_of ch key ≡ value_of ch (plain_key key)
 value_plain ch (own n) = refl
 value_plain ch (letter n k) = refl
 value_plain ch (filled n o) = refl
 value_plain ch (without_unknown key) = value_plain ch key
+value_plain ch (doubtful key) = value_plain ch key
 
 plain_is : (key z : Key) → plain_key key ≡ without_unknown z → ⊥
 plain_is (own n) z e = absurd (cc)
 plain_is (letter n k) z e = absurd (cc)
 plain_is (filled n o) z e = absurd (cc)
 plain_is (without_unknown key) z e = plain_is key z e
+plain_is (doubtful key) z e = plain_is key z e
+
+plain_sure : (key z : Key) → plain_key key ≡ doubtful z → ⊥
+plain_sure (own n) z e = absurd (cc)
+plain_sure (letter n k) z e = absurd (cc)
+plain_sure (filled n o) z e = absurd (cc)
+plain_sure (without_unknown key) z e = plain_sure key z e
+plain_sure (doubtful key) z e = plain_sure key z e
 
 known_for : (key : Key) (t : Typ) → IsKnown t → IsKnownFor key t
 known_for (own n) t h = tt
 known_for (letter n k) t h = tt
 known_for (filled n o) t h = tt
 known_for (without_unknown key) t h = h
+known_for (doubtful key) t h = known_for key t h
 
 module _ (V : Types) (b : Sight) (keys : Letters) (left : List Left) (one : AreOne V b keys) where
   abbrev ch : Choice
@@ -119,6 +133,7 @@ module _ (V : Types) (b : Sight) (keys : Letters) (left : List Left) (one : AreO
       by (letter n j) is = letter_found (is_letter n j) (letter n j) (letter_is n j) (letter_itself n j) k x at is (Var n)
       by (filled n o) is = letter_found (is_filled n o) (filled n o) (filled_is n o) (filled_itself n o) k x at is (Var n)
       by (without_unknown z) is = absurd (plain_is x.0 z is)
+      by (doubtful z) is = absurd (plain_sure x.0 z is)
 
   -- letters that are among these have the types of their nodes
   given_there : ((m : ℕ) → IsKnown (V m)) → (xs : Letters) → ((k : ℕ) (x : Key × ℕ) → slice_get xs k ≡ Some x → (j : ℕ) × (slice_get keys j ≡ Some x)) → AreGiven xs V ch
@@ -178,12 +193,38 @@ left_there nodes V b keys one known all front (l ∷ ls) e apart others among = 
         last (z ∷ f) zero g among = among zero g
         last (z ∷ f) (suc i) g among = last f i g (λ n e. among (suc n) e)
 
+-- an entry of two lists is one of the first or of the second
+split_get : (xs ys : Letters) (k : ℕ) (x : Key × ℕ) → slice_get (xs ++ ys) k ≡ Some x → ((j : ℕ) × (slice_get xs j ≡ Some x)) ⊎ ((j : ℕ) × (slice_get ys j ≡ Some x))
+split_get [] ys k x e = inr (k, e)
+split_get (z ∷ xs) ys zero x e = inl (zero, e)
+split_get (z ∷ xs) ys (suc k) x e = elim (split_get xs ys k x e) [ inl r ↦ inl (suc r.0, r.1) | inr r ↦ inr r ]
+
+-- Where letters without doubt have one node for one thing, only the others are asked for.
+pub letters_one : (V : Types) {b : Sight} (open_ones left : Letters) → HaveOneNode b left → DoubtfulAreOne V b open_ones left → AreOne V b (open_ones ++ left)
+letters_one V {b} open_ones left one h = record {
+  letters = λ j k x y e f is. elim (split_get open_ones left j x e) [
+    | inl r ↦ h.opened r.0 k x y r.1 f is
+    | inr r ↦ elim (split_get open_ones left k y f) [ inl u ↦ sym (h.opened u.0 j y x u.1 e (sym is)) | inr u ↦ both r.0 u.0 x y r.1 u.1 is (is_doubtful x.0) (is_doubtful y.0) refl refl ]
+  ];
+  recorded = λ i p m k x e f is. elim (split_get open_ones left k x f) [ inl r ↦ h.opened_recorded i p m r.0 x e r.1 is | inr r ↦ alone i p m r.0 x e r.1 is (is_doubtful x.0) refl ];
+  places = h.places;
+}
+  where
+    both : (j k : ℕ) (x y : Key × ℕ) → slice_get left j ≡ Some x → slice_get left k ≡ Some y → plain_key x.0 ≡ plain_key y.0 → (s t : Bool) → is_doubtful x.0 ≡ s → is_doubtful y.0 ≡ t → V x.1 ≡ V y.1
+    both j k x y e f is true t g h' = h.doubted j k x y e f g is
+    both j k x y e f is false true g h' = sym (h.doubted k j y x f e h' (sym is))
+    both j k x y e f is false false g h' = ap V (one.letters j k x y e f g h' is)
+
+    alone : (i p m k : ℕ) (x : Key × ℕ) → b.types i p ≡ Some m → slice_get left k ≡ Some x → plain_key x.0 ≡ own (number_in i p) → (s : Bool) → is_doubtful x.0 ≡ s → V x.1 ≡ V m
+    alone i p m k x e f is true g = h.doubted_recorded i p m k x e f g is
+    alone i p m k x e f is false g = ap V (one.recorded i p m k x e f g is)
+
 -- What is read off the state after a text, in which no unknown type stands, whatever is kept and was judged.
 module _ (env : Environment) (text : List Tree) {a b : Sight} {G : Letters} (p : ItemsCarried (λ ch. env) (text_asks text) a [] b G) (V : Types) (reads : IsReading b.nodes V) (known : (m : ℕ) → IsKnown (V m)) (one : AreOne V b (G ++ letters_left p.left)) (owners : OwnersApart p.left) where
   abbrev found : Choice
   found = read_choice V b (G ++ letters_left p.left) p.left
 
-  read_off : (kept : Site → Bool) (js : List Judgement) → AreKept kept js → ReadsItems (λ ch. env) b G p.left js V (outermost env kept found)
+  pub read_off : (kept : Site → Bool) (js : List Judgement) → AreKept kept js → ReadsItems (λ ch. env) b G p.left js V (outermost env kept found)
   read_off kept js h = record {
     env = refl;
     reads = reads;
@@ -203,9 +244,10 @@ module _ (env : Environment) (text : List Tree) {a b : Sight} {G : Letters} (p :
       judged_once p.judged (conditions_of env text kept found) (p.follows V (outermost env kept found) (read_off kept [] tt)) (once kept found)
 
 -- So items that were typed from a state in which nothing is recorded are those of a typed text, with the demands that were kept, at each reading in which no unknown type stands.
-pub text_typed : {env : Environment} {text : List Tree} {a b : Sight} {G : Letters} (p : ItemsCarried (λ ch. env) (text_asks text) a [] b G) → ((i k : ℕ) → a.types i k ≡ None) → IsSound a.nodes → AsksOnce env text → has_no_modules text ≡ true →
-    (V : Types) → IsReading b.nodes V → ((m : ℕ) → IsKnown (V m)) → AreOne V b (G ++ letters_left p.left) → OwnersApart p.left → IsTyped env text (kept_of p.judged) a b G
-text_typed {env} {text} {b = b} {G = G} p none sound once plain V reads known one owners =
+unfoldable pub text_typed : {env : Environment} {text : List Tree} {a b : Sight} {G : Letters} (p : ItemsCarried (λ ch. env) (text_asks text) a [] b G) → ((i k : ℕ) → a.types i k ≡ None) → IsSound a.nodes → AsksOnce env text → has_no_modules text ≡ true →
+    (V : Types) → IsReading b.nodes V → ((m : ℕ) → IsKnown (V m)) → DoubtfulAreOne V b G (letters_left p.left) → OwnersApart p.left → IsTyped env text (kept_of p.judged) a b G
+text_typed {env} {text} {b = b} {G = G} p none sound once plain V reads known rest owners =
+    let one = letters_one V G (letters_left p.left) (p.settled.one rest.places) rest in
     let kept = kept_of p.judged in
     let there = read_off env text p V reads known one owners kept p.judged (kept_as_judged [] p.judged (text_apart env text p V reads known one owners once)) in
     record {
@@ -220,6 +262,21 @@ text_typed {env} {text} {b = b} {G = G} p none sound once plain V reads known on
     }
 
 -- The same of a text of `let` and `;;`, whose items aren't too large, where what was left was left by its items.
-pub lets_typed : {env : Environment} {text : List Tree} {a b : Sight} {G : Letters} (p : ItemsCarried (λ ch. env) (text_asks text) a [] b G) → AreOwned (items_of text) p.left → ((i k : ℕ) → a.types i k ≡ None) → IsSound a.nodes → has_lets_alone text ≡ true → AreSmall text →
-    (V : Types) → IsReading b.nodes V → ((m : ℕ) → IsKnown (V m)) → AreOne V b (G ++ letters_left p.left) → IsTyped env text (kept_of p.judged) a b G
+unfoldable pub lets_typed : {env : Environment} {text : List Tree} {a b : Sight} {G : Letters} (p : ItemsCarried (λ ch. env) (text_asks text) a [] b G) → AreOwned (items_of text) p.left → ((i k : ℕ) → a.types i k ≡ None) → IsSound a.nodes → has_lets_alone text ≡ true → AreSmall text →
+    (V : Types) → IsReading b.nodes V → ((m : ℕ) → IsKnown (V m)) → DoubtfulAreOne V b G (letters_left p.left) → IsTyped env text (kept_of p.judged) a b G
 lets_typed {env} {text} p owned none sound lets small V reads known one = text_typed {text = text} p none sound (lets_once env text lets small) (lets_plain text lets) V reads known one (owners_apart text lets owned)
+
+-- Nothing is asked for where no letter is open and none is doubtful.
+pub none_doubted : (V : Types) {b : Sight} (left : Letters) → NoneDoubtful left → ArePlaced b → DoubtfulAreOne V b [] left
+none_doubted V left sure placed = record {
+  opened = λ j k x y e f is. absurd (cc);
+  doubted = λ j k x y e f s is. absurd (no_yes (sym (sure j x e) ∙ s));
+  opened_recorded = λ i p m k x e f is. absurd (cc);
+  doubted_recorded = λ i p m k x e f s is. absurd (no_yes (sym (sure k x f) ∙ s));
+  places = placed;
+}
+
+-- So a text of `let` and `;;`, after which no letter is open and none of those that are left is doubtful, is a typed text at each such reading.
+pub sure_typed : {env : Environment} {text : List Tree} {a b : Sight} (p : ItemsCarried (λ ch. env) (text_asks text) a [] b []) → AreOwned (items_of text) p.left → ((i k : ℕ) → a.types i k ≡ None) → IsSound a.nodes → has_lets_alone text ≡ true → AreSmall text →
+    NoneDoubtful (letters_left p.left) → ArePlaced b → (V : Types) → IsReading b.nodes V → ((m : ℕ) → IsKnown (V m)) → IsTyped env text (kept_of p.judged) a b []
+sure_typed {env} {text} p owned none sound lets small sure placed V reads known = lets_typed {text = text} p owned none sound lets small V reads known (none_doubted V (letters_left p.left) sure placed)

@@ -1,40 +1,12 @@
 -- The choice that is read off a state, from the nodes that stand for what it chooses.
-use Rattle.std.specs.Prelude.{◌≡◌, ℕ, ◌+◌, length, ◌<◌, ◌/◌, ◌%◌, ◌^◌, ◌==◌, ◌&&◌, Bool, false, List, [], ◌∷◌, slice_get, Option, Some, None, if◌then◌else◌}
-use Rattle.type_model.specs.Types.{Path, Typ, Var, Tuple, Nil}
-use Rattle.type_model.specs.Origins.{same_path}
+use Rattle.std.specs.Prelude.{◌≡◌, ℕ, ◌+◌, length, ◌<◌, ◌/◌, ◌%◌, ◌^◌, ◌==◌, Bool, true, false, List, [], ◌∷◌, ◌++◌, slice_get, Option, Some, None, if◌then◌else◌}
+use Rattle.type_model.specs.Types.{Typ, Var, Tuple, Nil}
 use Rattle.signature_model.specs.Declarations.{Name}
 use Rattle.typing_model.specs.Contexts.{Choice}
 use Rattle.type_nodes.specs.Readings.{Types}
-use Rattle.typing_conditions.specs.Sights.{Sight, Key, own, letter, filled, without_unknown, Letters, number_in}
+use Rattle.typing_conditions.specs.Sights.{Sight, Key, own, Letters, number_in}
+use Rattle.typing_conditions.specs.Hiding.{plain_key, is_own, is_letter, is_filled, is_doubtful}
 use Rattle.binding_rows.specs.Outside.{Left}
-
--- a key without what it says of unknown types
-abbrev pub plain_key : Key → Key
-plain_key (own n) = own n
-plain_key (letter n k) = letter n k
-plain_key (filled n o) = filled n o
-plain_key (without_unknown key) = plain_key key
-
--- whether a key is for the type of a node
-abbrev pub is_own : ℕ → Key → Bool
-is_own n (own m) = n == m
-is_own n (letter m j) = false
-is_own n (filled m p) = false
-is_own n (without_unknown key) = false
-
--- whether it is for a letter of a row
-abbrev pub is_letter : ℕ → ℕ → Key → Bool
-is_letter n k (own m) = false
-is_letter n k (letter m j) = n == m && k == j
-is_letter n k (filled m p) = false
-is_letter n k (without_unknown key) = false
-
--- whether it is for what an unknown type stands for at a node
-abbrev pub is_filled : ℕ → Path → Key → Bool
-is_filled n o (own m) = false
-is_filled n o (letter m j) = false
-is_filled n o (filled m p) = n == m && same_path o p
-is_filled n o (without_unknown key) = false
 
 -- the node of the first letter whose key passes a test
 abbrev pub node_for : (Key → Bool) → Letters → Option ℕ
@@ -78,4 +50,16 @@ OwnersApart (l ∷ ls) = ((k : ℕ) (m : Left) → slice_get ls k ≡ Some m →
 pub record AreOne (V : Types) (b : Sight) (keys : Letters) : Type 0 where
   pub letters : (j k : ℕ) (x y : Key × ℕ) → slice_get keys j ≡ Some x → slice_get keys k ≡ Some y → plain_key x.0 ≡ plain_key y.0 → V x.1 ≡ V y.1
   pub recorded : (i p m k : ℕ) (x : Key × ℕ) → b.types i p ≡ Some m → slice_get keys k ≡ Some x → plain_key x.0 ≡ own (number_in i p) → V x.1 ≡ V m
+  pub places : (i p m : ℕ) → b.types i p ≡ Some m → p < 2 ^ 32
+
+-- none of the letters may be that of another row too
+abbrev pub NoneDoubtful : Letters → Type 0
+NoneDoubtful xs = (k : ℕ) (x : Key × ℕ) → slice_get xs k ≡ Some x → is_doubtful x.0 ≡ false
+
+-- What is left of `AreOne` where letters without doubt have one node for one thing: open letters, and doubtful ones of those that items left, have the type of each letter with the same key, and of the node that is recorded.
+pub record DoubtfulAreOne (V : Types) (b : Sight) (open_ones left : Letters) : Type 0 where
+  pub opened : (j k : ℕ) (x y : Key × ℕ) → slice_get open_ones j ≡ Some x → slice_get (open_ones ++ left) k ≡ Some y → plain_key x.0 ≡ plain_key y.0 → V x.1 ≡ V y.1
+  pub doubted : (j k : ℕ) (x y : Key × ℕ) → slice_get left j ≡ Some x → slice_get left k ≡ Some y → is_doubtful x.0 ≡ true → plain_key x.0 ≡ plain_key y.0 → V x.1 ≡ V y.1
+  pub opened_recorded : (i p m k : ℕ) (x : Key × ℕ) → b.types i p ≡ Some m → slice_get open_ones k ≡ Some x → plain_key x.0 ≡ own (number_in i p) → V x.1 ≡ V m
+  pub doubted_recorded : (i p m k : ℕ) (x : Key × ℕ) → b.types i p ≡ Some m → slice_get left k ≡ Some x → is_doubtful x.0 ≡ true → plain_key x.0 ≡ own (number_in i p) → V x.1 ≡ V m
   pub places : (i p m : ℕ) → b.types i p ≡ Some m → p < 2 ^ 32

@@ -23,6 +23,7 @@ unfolding carried_trans
 carried_after {F} {scope} {asks} {further} {actual} {a} {b} {d} {G} {H} {K} p by_kept q = record {
   stays = both.stays;
   hidden = both.hidden;
+  settled = both.settled;
   judged = p.judged ++ q.judged;
   told = both.told;
   reports = both.reports;

@@ -1,5 +1,5 @@
 -- What is carried, through one call after another.
-use Rattle.std.proofs.Common.{◌≡◌, ◌∙◌, ◌++◌, ℕ, zero, suc, ◌+◌, ◌-◌, ◌≤◌, ◌<◌, ◌⊎◌, inl, inr, List, [], take, length, refl, sym, ap, subst, append_assoc, append-nil, arith}
+use Rattle.std.proofs.Common.{◌≡◌, ◌∙◌, ◌++◌, ℕ, zero, suc, ◌+◌, ◌-◌, ◌≤◌, ◌<◌, ◌⊎◌, inl, inr, Bool, List, [], take, length, refl, sym, ap, subst, append_assoc, append-nil, arith}
 use Rattle.std.specs.Prelude.{slice_get}
 use Rattle.std.proofs.lemmas.List.{take-append-le}
 use Rattle.std.proofs.Math.Seq.{take-append-add}
@@ -8,13 +8,15 @@ use Rattle.typing_model.specs.Demands.{Condition, AllHold}
 use Rattle.typing_model.specs.Contexts.{Choice, Context}
 use Rattle.type_nodes.specs.Nodes.{Node}
 use Rattle.type_nodes.specs.Readings.{Types}
-use Rattle.typing_conditions.specs.Sights.{Sight, Letters, AreGiven, AreNodes, SameAt, Agrees}
+use Rattle.typing_conditions.specs.Sights.{Sight, Key, Letters, AreGiven, AreNodes, SameAt, Agrees}
 use Rattle.typing_conditions.specs.Frames.{Frame}
 use Rattle.typing_conditions.specs.Judging.{Judgement, judgements, AreKept, Follows, StartsWith, FallsShort, Meets}
 use Rattle.typing_conditions.specs.Carrying.{Asks, Scope, HoldsWritten, IsUnder, Enters, GoesOn, AreHidden, Continues, Carried}
 use Rattle.typing_conditions.proofs.Judged.{hold_both, hold_left, hold_right, judged_both, kept_left, kept_right, given_left, given_right, given_both, nodes_left, nodes_both, tell_both, follows_both, short_left, short_right, short_of_more, starts_all, starts_left, starts_right}
 use Rattle.typing_conditions.proofs.Meaning.{nodes_in, given_same}
 use Rattle.typing_conditions.proofs.Stays.{stays_refl, stays_trans, stays_closed, agrees_before, named_before, bounds_before, enters_next, goes_further}
+use Rattle.typing_conditions.specs.Hiding.{marked, is_typed}
+use Rattle.typing_conditions.proofs.Hiding.{settles_none, settles_both, settles_more, given_marked, given_unmarked, nodes_marked}
 
 -- what the demands of some conditions come to: they are the first of those that were judged, or they fall short of them
 abbrev pub Decides : Context → List Judgement → List Condition → Type 0
@@ -29,15 +31,16 @@ take_none (suc k) = refl
 pub hidden_both : (xs ys : Letters) (nodes : List Node) (c : Sight) (ch : Choice) (V W : Types) → length nodes ≤ length c.nodes → SameAt nodes V W → AreNodes xs nodes × AreGiven xs V ch → AreHidden ys c W ch → AreHidden (xs ++ ys) c W ch
 hidden_both xs ys nodes c ch V W longer same p q = (nodes_both xs ys c.nodes (nodes_in xs nodes c.nodes longer p.0) q.0, given_both W ch xs ys (given_same xs nodes V W ch p.0 same p.1) q.1)
 
--- open letters that a row has no more use for are hidden too
-pub hidden_more : (xs own G : Letters) (b : Sight) (ch : Choice) (W : Types) → AreNodes (own ++ G) b.nodes → AreGiven (own ++ G) W ch → AreHidden xs b W ch → AreHidden (xs ++ own) b W ch
-hidden_more xs own G b ch W nodes given h = (nodes_both xs own b.nodes h.0 (nodes_left own G b.nodes nodes), given_both W ch xs own h.1 (given_left W ch own G given))
+-- open letters that a row has no more use for are hidden too, with marks
+pub hidden_more : (test : Key × ℕ → Bool) (xs own G : Letters) (b : Sight) (ch : Choice) (W : Types) → AreNodes (own ++ G) b.nodes → AreGiven (own ++ G) W ch → AreHidden xs b W ch → AreHidden (xs ++ marked test own) b W ch
+hidden_more test xs own G b ch W nodes given h = (nodes_both xs (marked test own) b.nodes h.0 (nodes_marked test own b.nodes (nodes_left own G b.nodes nodes)), given_both W ch xs (marked test own) h.1 (given_marked test own W ch (given_left W ch own G given)))
 
 -- nothing is asked and nothing done
 pub carried_refl : {F : Frame} {scope : Scope} {a : Sight} {G : Letters} → Carried F scope (λ c. []) a G a G
 carried_refl {F} {scope} {a} {G} = record {
   stays = stays_refl;
   hidden = [];
+  settled = settles_none;
   judged = [];
   told = [];
   reports = sym (append-nil a.reports);
@@ -59,6 +62,7 @@ unfoldable pub carried_trans : {F : Frame} {scope : Scope} {asks further : Asks}
 carried_trans {F} {scope} {asks} {further} {a} {b} {c} {G} {H} {K} p q = record {
   stays = stays_trans p.stays q.stays;
   hidden = p.hidden ++ q.hidden;
+  settled = settles_both p.hidden q.hidden p.stays.recorded q.stays.recorded p.settled q.settled;
   judged = p.judged ++ q.judged;
   told = p.told ++ q.told;
   reports = q.reports ∙ ap (λ rs. rs ++ q.told) p.reports ∙ append_assoc a.reports p.told q.told;
@@ -152,6 +156,7 @@ pub carried_under : {F : Frame} {scope inner : Scope} {asks : Asks} {a b : Sight
 carried_under {F} {scope} {inner} {asks} {a} {b} {G} {H} into held still has p = record {
   stays = p.stays;
   hidden = p.hidden;
+  settled = p.settled;
   judged = p.judged;
   told = p.told;
   reports = p.reports;
@@ -205,15 +210,16 @@ goes_closed own {G} {V} {W} {ch} on = record {
 pub carried_closed : {F : Frame} {scope : Scope} {asks : Asks} {a b : Sight} (own : Letters) {G : Letters} → Carried F scope asks a G b (own ++ G) → Carried F scope asks a G b G
 carried_closed {F} {scope} {asks} {a} {b} own {G} p = record {
   stays = stays_closed own p.stays;
-  hidden = p.hidden ++ own;
+  hidden = p.hidden ++ marked (is_typed b) own;
+  settled = settles_more p.hidden own p.stays.recorded p.settled;
   judged = p.judged;
   told = p.told;
   reports = p.reports;
   sound = λ r V c l. p.sound r V c (record {
     under = l.under;
     reads = l.reads;
-    agrees = record { recorded = l.agrees.recorded; known = l.agrees.known; written = l.agrees.written; given = given_both V c.chosen own G (given_right V c.chosen p.hidden own l.hidden_too) l.agrees.given };
-    hidden_too = given_left V c.chosen p.hidden own l.hidden_too;
+    agrees = record { recorded = l.agrees.recorded; known = l.agrees.known; written = l.agrees.written; given = given_both V c.chosen own G (given_unmarked (is_typed b) own V c.chosen (given_right V c.chosen p.hidden (marked (is_typed b) own) l.hidden_too)) l.agrees.given };
+    hidden_too = given_left V c.chosen p.hidden (marked (is_typed b) own) l.hidden_too;
     named = l.named;
     unbound = l.unbound;
     kept = l.kept;
@@ -221,14 +227,14 @@ carried_closed {F} {scope} {asks} {a} {b} own {G} p = record {
   follows = λ r V c l. p.follows r V c (record {
     under = l.under;
     reads = l.reads;
-    agrees = record { recorded = l.agrees.recorded; known = l.agrees.known; written = l.agrees.written; given = given_both V c.chosen own G (given_right V c.chosen p.hidden own l.hidden_too) l.agrees.given };
-    hidden_too = given_left V c.chosen p.hidden own l.hidden_too;
+    agrees = record { recorded = l.agrees.recorded; known = l.agrees.known; written = l.agrees.written; given = given_both V c.chosen own G (given_unmarked (is_typed b) own V c.chosen (given_right V c.chosen p.hidden (marked (is_typed b) own) l.hidden_too)) l.agrees.given };
+    hidden_too = given_left V c.chosen p.hidden (marked (is_typed b) own) l.hidden_too;
     named = l.named;
     unbound = l.unbound;
     kept = l.kept;
   });
   complete = λ named V c e h. elim (p.complete named V c e h) [
-    | inl goes ↦ inl (record { same = goes.same; types = goes.types; on = goes_closed own goes.on; hidden_too = hidden_more p.hidden own G b c.chosen goes.types (p.stays.inside e.inside).given goes.on.agrees.given goes.hidden_too })
+    | inl goes ↦ inl (record { same = goes.same; types = goes.types; on = goes_closed own goes.on; hidden_too = hidden_more (is_typed b) p.hidden own G b c.chosen goes.types (p.stays.inside e.inside).given goes.on.agrees.given goes.hidden_too })
     | inr short ↦ inr short
   ];
   first = p.first;
@@ -239,6 +245,7 @@ unfoldable pub carried_as : {F : Frame} {scope : Scope} {asks others : Asks} {a 
 carried_as {F} {scope} {asks} {others} {a} {b} {G} {H} e p = record {
   stays = p.stays;
   hidden = p.hidden;
+  settled = p.settled;
   judged = p.judged;
   told = p.told;
   reports = p.reports;

@@ -170,6 +170,7 @@ module _ {D : Declared} {F : Frame} {scope : Scope} {asks : Asks} {a b c d : Sig
     item = rest.at.item;
     roots = joined ns rest.at.roots;
     names = rest.at.names;
+    apart = rest.at.apart;
     steady = rest.at.steady;
     are_roots = joined_roots closed rest.at.roots rest.at.are_roots;
     covered = let own = own_of d.nodes l.out.sound in covers_declared (joined ns rest.at.roots) (declared_more own.0 own.1 closed) (excepted_more own.0 own.1 closed) (joined_covers closed rest.at.roots env rest.at.covered);

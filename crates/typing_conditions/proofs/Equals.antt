@@ -24,6 +24,7 @@ use Rattle.typing_conditions.proofs.Framing.{no_bound, reaches_unified, reaches_
 use Rattle.typing_conditions.proofs.Meaning.{agrees_same, inside_longer}
 use Rattle.typing_conditions.proofs.First.{first_one}
 use Rattle.typing_conditions.proofs.Refusing.{never_fit}
+use Rattle.typing_conditions.proofs.Hiding.{settles_none}
 
 -- where at most something is reported everything stays
 pub reports_stay : {F : Frame} {G : Letters} {a b : Sight} → OnlyReports a b → Stays F a G b G
@@ -103,6 +104,7 @@ unfoldable pub equal_kept : {F : Frame} {scope : Scope} {G : Letters} {found wan
 equal_kept {F} {scope} {G} {found} {wanted} {m} {n} {a} {b} s at sound p q rest tight one = record {
   stays = stays;
   hidden = [];
+  settled = settles_none;
   judged = judged_as s true;
   told = [];
   reports = rest.reports ∙ sym (append-nil a.reports);
@@ -150,6 +152,7 @@ unfoldable pub equal_told : {F : Frame} {scope : Scope} {G : Letters} {found wan
 equal_told {F} {scope} {G} {found} {wanted} {m} {n} {a} {b} s at p q rest tells never = record {
   stays = reports_stay rest;
   hidden = [];
+  settled = settles_none;
   judged = judged_as s false;
   told = tells.report ∷ [];
   reports = tells.reports;

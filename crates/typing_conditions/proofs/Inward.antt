@@ -114,6 +114,7 @@ module _ {F : Frame} {a b : Sight} {J : Types} {roots : List ℕ} {held : ℕ �
     item = at.item;
     roots = at.roots;
     names = at.names;
+    apart = at.apart;
     steady = at.steady;
     are_roots = λ k r e. root_inward r (names k r e) (at.are_roots k r e);
     covered = subst (λ ns. Covers (D.declaration ns at.roots at.names) (D.exception ns at.roots at.names) at.roots env) (sym only.nodes) at.covered;

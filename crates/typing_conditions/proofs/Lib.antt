@@ -44,3 +44,4 @@ pub mod Answering
 pub mod Inward
 pub mod Outward
 pub mod Closed
+pub mod Hiding

@@ -28,6 +28,7 @@ use Rattle.typing_conditions.proofs.Framing.{open_var, open_made, written_next}
 use Rattle.typing_conditions.proofs.First.{first_none, first_one, nothing_met}
 use Rattle.typing_conditions.proofs.Making.{with_type, at_own, at_older, in_any_scope, makes_extends, made_here, loose_before, reading_before, fits_made}
 use Rattle.typing_conditions.proofs.Meaning.{all_open, all_types, agrees_same, inside_longer}
+use Rattle.typing_conditions.proofs.Hiding.{settles_none}
 
 -- where a node was made everything stays
 pub made_stays : {F : Frame} {G : Letters} {a b : Sight} {s t : List Change} {n : ℕ} {c : Node} (more : Letters) → IsOpen F b n → Makes (state a.nodes s) (state b.nodes t) n c → OnlyNodes a b → AreNodes more b.nodes → Stays F a G b (more ++ G)
@@ -61,6 +62,7 @@ letter_made {F} {scope} {G} {a} {b} {s} {t} {n} key free r made rest = record {
   carried = record {
     stays = made_stays ((key, n) ∷ []) opened made rest (opened.inside, tt);
     hidden = [];
+    settled = settles_none;
     judged = [];
     told = [];
     reports = rest.reports ∙ sym (append-nil a.reports);
@@ -94,6 +96,7 @@ node_made : {F : Frame} {scope : Scope} {G : Letters} {a b : Sight} {s t : List 
 node_made {F} {scope} {G} {a} {b} {s} {t} {n} {c} build r opened made rest builds = record {
   stays = made_stays [] opened made rest tt;
   hidden = [];
+  settled = settles_none;
   judged = [];
   told = [];
   reports = rest.reports ∙ sym (append-nil a.reports);
@@ -177,6 +180,7 @@ pub key_known : {F : Frame} {scope : Scope} {G : Letters} {a : Sight} {m : ℕ} 
 key_known {F} {scope} {G} {a} {m} key p = record {
   stays = stays_opened (without_unknown key) p.open_node.inside;
   hidden = [];
+  settled = settles_none;
   judged = [];
   told = [];
   reports = sym (append-nil a.reports);
@@ -204,6 +208,7 @@ pub same_made : {F : Frame} {scope : Scope} {G : Letters} {a : Sight} {m : ℕ} 
 same_made {F} {scope} {G} {a} {m} {type} key free p = record {
   stays = stays_opened key p.open_node.inside;
   hidden = [];
+  settled = settles_none;
   judged = [];
   told = [];
   reports = sym (append-nil a.reports);
@@ -232,6 +237,7 @@ pub told_first : {F : Frame} {scope : Scope} {G : Letters} {a : Sight} (n : ℕ)
 told_first {F} {scope} {G} {a} n = record {
   stays = stays_refl;
   hidden = [];
+  settled = settles_none;
   judged = [];
   told = [];
   reports = sym (append-nil a.reports);

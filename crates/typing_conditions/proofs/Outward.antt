@@ -25,6 +25,7 @@ use Rattle.typing_conditions.specs.Steps.{OnlyLevel}
 use Rattle.typing_conditions.specs.Carrying.{Asks, Scope, HoldsWritten, Enters, Stays, Carried}
 use Rattle.typing_conditions.proofs.Meaning.{inside_longer, nodes_in}
 use Rattle.typing_conditions.proofs.Inward.{agrees_as, reached_inward, written_inward}
+use Rattle.typing_conditions.proofs.Hiding.{settles_as}
 
 -- What is done at the end: the level is the outer one again, and of the variables above it exactly those of these names are bound. The names are open nodes of the
 -- frame further in, and what is held for the outer level is of at most that level.
@@ -228,6 +229,7 @@ module _ {F : Frame} {scope : Scope} {asks : Asks} {a b c d : Sight} {J : Types}
   carried_out = record {
     stays = group_stays;
     hidden = l.part.hidden;
+    settled = settles_as l.part.hidden (λ i k. sym (l.only.types i k)) l.out.types l.part.settled;
     judged = l.part.judged;
     told = l.part.told;
     reports = l.out.reports ∙ l.part.reports ∙ ap (λ rs. rs ++ l.part.told) l.only.reports;

@@ -25,6 +25,8 @@ use Rattle.typing_conditions.proofs.Stays.{stays_trans, stays_closed, named_befo
 use Rattle.typing_conditions.proofs.Framing.{open_on, reaches_same, written_next}
 use Rattle.typing_conditions.proofs.Carried.{Decides, hidden_more, take_none, less_or_more}
 use Rattle.typing_conditions.proofs.First.{starts_none}
+use Rattle.typing_conditions.specs.Hiding.{marked, is_sure}
+use Rattle.typing_conditions.proofs.Hiding.{settles_both, settles_row, given_unmarked}
 
 one_some : (x y : ℕ) → Some x ≡ Some y → x ≡ y
 one_some x y e = cc
@@ -112,7 +114,8 @@ pub row_recorded : {F : Frame} {scope : Scope} {asks ends : Asks} {type : Choice
 row_recorded {F} {scope} {asks} {ends} {type} {a} {b} {d} {G} own n {p} {m} number row end r = record {
   carried = record {
     stays = stays_closed own (stays_trans it.stays (recorded (own ++ G)));
-    hidden = it.hidden ++ own;
+    hidden = it.hidden ++ mine;
+    settled = settles_both it.hidden mine it.stays.recorded (recorded G).recorded it.settled (settles_row p own refl r.none (here_now r));
     judged = it.judged;
     told = it.told;
     reports = r.reports ∙ it.reports;
@@ -127,25 +130,29 @@ row_recorded {F} {scope} {asks} {ends} {type} {a} {b} {d} {G} own n {p} {m} numb
     it : Carried F scope asks a G b (own ++ G)
     it = row.carried
 
+    -- the row's own letters, with a doubt where they may be those of another row
+    mine : Letters
+    mine = marked (is_sure (number_in b.item p) d own) own
+
     recorded : (H : Letters) → Stays F b H d H
     recorded H = records_stay r row.means.open_node.inside
 
     at_node : {H : Letters} (V : Types) (ch : Choice) → Agrees F.owner d H V ch → ch.type_at n ≡ V m
     at_node V ch g = ap ch.type_at (sym number) ∙ g.recorded b.item p m (here_now r)
 
-    sound : Reaches F a → (V : Types) (c : Context) → ReadsOff F scope d G (it.hidden ++ own) it.judged V c → Meets c.kept (tell_typed n c ++ (asks c ++ ends c)) it.judged it.told
+    sound : Reaches F a → (V : Types) (c : Context) → ReadsOff F scope d G (it.hidden ++ mine) it.judged V c → Meets c.kept (tell_typed n c ++ (asks c ++ ends c)) it.judged it.told
     sound reached V c l =
         let g : Agrees F.owner b (own ++ G) V c.chosen = record {
           recorded = λ i q x e. l.agrees.recorded i q x (still_there r i q x e);
           known = λ i q x e. l.agrees.known i q x (still_there r i q x e);
           written = λ x y e. l.agrees.written x y (r.written x ∙ e);
-          given = given_both V c.chosen own G (given_right V c.chosen it.hidden own l.hidden_too) l.agrees.given;
+          given = given_both V c.chosen own G (given_unmarked (is_sure (number_in b.item p) d own) own V c.chosen (given_right V c.chosen it.hidden mine l.hidden_too)) l.agrees.given;
         } in
         let meets = it.sound reached V c (record {
           under = l.under;
           reads = (recorded G).reads V l.reads;
           agrees = g;
-          hidden_too = given_left V c.chosen it.hidden own l.hidden_too;
+          hidden_too = given_left V c.chosen it.hidden mine l.hidden_too;
           named = named_before scope (recorded G) l.named;
           unbound = bounds_before scope c.chosen (recorded G) (it.stays.reaches reached) l.unbound;
           kept = l.kept;
@@ -158,7 +165,7 @@ row_recorded {F} {scope} {asks} {ends} {type} {a} {b} {d} {G} own n {p} {m} numb
           tells = subst (TellAll c.kept (asks c ++ ends c)) (append-nil it.told) (tell_both c.kept (asks c) (ends c) it.told [] meets.tells (end.reports_none c));
         }
 
-    follows : Reaches F a → (V : Types) (c : Context) → ReadsOff F scope d G (it.hidden ++ own) [] V c → Follows c.kept (tell_typed n c ++ (asks c ++ ends c)) it.judged
+    follows : Reaches F a → (V : Types) (c : Context) → ReadsOff F scope d G (it.hidden ++ mine) [] V c → Follows c.kept (tell_typed n c ++ (asks c ++ ends c)) it.judged
     follows reached V c l =
         subst (Follows c.kept (asks c ++ ends c)) (append-nil it.judged)
         (follows_both c.kept (asks c) (ends c) it.judged []
@@ -169,9 +176,9 @@ row_recorded {F} {scope} {asks} {ends} {type} {a} {b} {d} {G} own n {p} {m} numb
             recorded = λ i q x e. l.agrees.recorded i q x (still_there r i q x e);
             known = λ i q x e. l.agrees.known i q x (still_there r i q x e);
             written = λ x y e. l.agrees.written x y (r.written x ∙ e);
-            given = given_both V c.chosen own G (given_right V c.chosen it.hidden own l.hidden_too) l.agrees.given;
+            given = given_both V c.chosen own G (given_unmarked (is_sure (number_in b.item p) d own) own V c.chosen (given_right V c.chosen it.hidden mine l.hidden_too)) l.agrees.given;
           };
-          hidden_too = given_left V c.chosen it.hidden own l.hidden_too;
+          hidden_too = given_left V c.chosen it.hidden mine l.hidden_too;
           named = named_before scope (recorded G) l.named;
           unbound = bounds_before scope c.chosen (recorded G) (it.stays.reaches reached) l.unbound;
           kept = tt;
@@ -196,15 +203,15 @@ row_recorded {F} {scope} {asks} {ends} {type} {a} {b} {d} {G} own n {p} {m} numb
           };
         }
 
-    hidden_after : (V : Types) (c : Context) → Enters F scope a G V c → (on : Continues F asks a b (own ++ G) it.hidden it.judged V c) → AreHidden (it.hidden ++ own) d on.types c.chosen
-    hidden_after V c e on = let (nodes, given) = hidden_more it.hidden own G b c.chosen on.types (it.stays.inside e.inside).given on.on.agrees.given on.hidden_too in (subst (AreNodes (it.hidden ++ own)) (sym r.nodes) nodes, given)
+    hidden_after : (V : Types) (c : Context) → Enters F scope a G V c → (on : Continues F asks a b (own ++ G) it.hidden it.judged V c) → AreHidden (it.hidden ++ mine) d on.types c.chosen
+    hidden_after V c e on = let (nodes, given) = hidden_more (is_sure (number_in b.item p) d own) it.hidden own G b c.chosen on.types (it.stays.inside e.inside).given on.on.agrees.given on.hidden_too in (subst (AreNodes (it.hidden ++ mine)) (sym r.nodes) nodes, given)
 
     -- with what the row asks at its end nothing more is judged
     judged_ends : (c : Context) (cs : List Condition) → judgements c.kept cs ≡ [] → judgements c.kept (asks c ++ cs) ≡ judgements c.kept (asks c)
     judged_ends c cs e = judged_both c.kept (asks c) cs ∙ ap (λ js. judgements c.kept (asks c) ++ js) e ∙ append-nil (judgements c.kept (asks c))
 
     complete : HoldsWritten scope d → (V : Types) (c : Context) → Enters F scope a G V c → AllHold c.kept (tell_typed n c ++ (asks c ++ ends c)) →
-        Continues F (λ x. tell_typed n x ++ (asks x ++ ends x)) a d G (it.hidden ++ own) it.judged V c ⊎ FallsShort (judgements c.kept (asks c ++ ends c)) it.judged
+        Continues F (λ x. tell_typed n x ++ (asks x ++ ends x)) a d G (it.hidden ++ mine) it.judged V c ⊎ FallsShort (judgements c.kept (asks c ++ ends c)) it.judged
     complete named V c e h = elim (it.complete (named_before scope (recorded G) named) V c e (hold_left c.kept (asks c) (ends c) h.1.1)) [
       | inl on ↦ inl (record { same = judged_ends c (ends c) (end.silent c) ∙ on.same; types = on.types; on = goes V c h.1.0 (hold_right c.kept (asks c) (ends c) h.1.1) on; hidden_too = hidden_after V c e on })
       | inr short ↦ inr (subst (λ js. FallsShort js it.judged) (sym (judged_ends c (ends c) (end.silent c))) short)

@@ -23,6 +23,7 @@ use Rattle.typing_conditions.specs.Locals.{IsOwn, IsFreeVar}
 use Rattle.typing_conditions.specs.Assumptions.{SchemeFits, SchemeReads}
 use Rattle.typing_conditions.specs.Environments.{of_value, entry_as, no_names, newest}
 use Rattle.typing_conditions.specs.Standing.{IsIn, Covers, Stands}
+use Rattle.typing_conditions.specs.Declared.{UnknownApart}
 use Rattle.typing_conditions.proofs.Own.{own_of}
 use Rattle.typing_conditions.proofs.Environments.{env_map}
 use Rattle.typing_conditions.proofs.Steps.{same_node, refines_none}
@@ -46,6 +47,10 @@ pub covers_declared : {D D' : Declaration → rules.Declaration → Type 0} {X X
     Covers D X C env → Covers D' X' C env
 covers_declared {D} {D'} {X} {X'} C more also (E, h) = (E, env_map (λ r sc. IsIn C r) (λ r sc. IsIn C r) D D' X X' (λ r sc k. k) more also h)
 
+-- variables that are their own names have no unknown type as one
+pub vars_apart : UnknownApart type.Var
+vars_apart v w o unknown e f = absurd (cc)
+
 -- no names stand for none
 pub surrounds_none : {D : Declared} {F : Frame} {a : Sight} {G : Letters} {scope : Scope} → IsSteady D → ((ch : Choice) → scope.env ch ≡ []) → Reaches F a → 1 ≤ F.level → KnowsFixed F a → KnowsWritten F a → scope.variables ≡ in_item F.owner → Surrounds D F a G [] scope
 surrounds_none {D} {F} {a} {G} {scope} steady none reached inside fixed written item = record {
@@ -56,6 +61,7 @@ surrounds_none {D} {F} {a} {G} {scope} steady none reached inside fixed written 
   item = item;
   roots = [];
   names = type.Var;
+  apart = vars_apart;
   steady = steady;
   are_roots = λ k r e. absurd (cc);
   covered = ([], no_names);
@@ -73,6 +79,7 @@ surrounds_on {D} {F} {a} {b} {G} {H} {env} {scope} s at = record {
   item = at.item;
   roots = at.roots;
   names = at.names;
+  apart = at.apart;
   steady = at.steady;
   are_roots = λ k r e. root_on s at.reached (at.are_roots k r e);
   covered = let own = own_of b.nodes (s.reaches at.reached).sound in covers_declared at.roots (declared own.0 own.1) (excepted own.0 own.1) at.covered;
@@ -103,6 +110,7 @@ surrounds_named {D} {F} {a} {G} {env} {scope} {type} {e} {x} {n} place is p know
   item = at.item;
   roots = n.0 ∷ at.roots;
   names = at.names;
+  apart = at.apart;
   steady = at.steady;
   are_roots = are_roots;
   covered = (

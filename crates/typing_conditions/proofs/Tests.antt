@@ -15,6 +15,7 @@ use Rattle.typing_conditions.specs.Steps.{OnlyReports, IsTold}
 use Rattle.typing_conditions.specs.Carrying.{Scope, IsUnder, Enters, Continues, Carried}
 use Rattle.typing_conditions.proofs.First.{first_one}
 use Rattle.typing_conditions.proofs.Equals.{reports_stay, goes_as, judged_as, falls_short, not_both}
+use Rattle.typing_conditions.proofs.Hiding.{settles_none}
 
 -- what a test is in the contexts of a scope: whether it holds, where it is reported, and as which kind of fault
 pub record TestIs (scope : Scope) (complaint : Context → Complaint) (holds : Context → Bool) (at : Context → Place) (v : Bool) (place : Place) (kind : FaultKind) : Type 0 where
@@ -28,6 +29,7 @@ unfoldable pub test_judged : {F : Frame} {scope : Scope} {G : Letters} {complain
 test_judged {F} {scope} {G} {complaint} {holds} {at} {kind} {place} {a} {b} s true is rest tells = record {
   stays = reports_stay rest;
   hidden = [];
+  settled = settles_none;
   judged = judged_as s true;
   told = [];
   reports = tells ∙ sym (append-nil a.reports);
@@ -48,6 +50,7 @@ test_judged {F} {scope} {G} {complaint} {holds} {at} {kind} {place} {a} {b} s tr
 test_judged {F} {scope} {G} {complaint} {holds} {at} {kind} {place} {a} {b} s false is rest tells = record {
   stays = reports_stay rest;
   hidden = [];
+  settled = settles_none;
   judged = judged_as s false;
   told = tells.report ∷ [];
   reports = tells.reports;
@@ -93,6 +96,7 @@ closing_judged {F} {scope} {G} {env} {body} {a} {b} s at v rest tells = by v tel
     by true tells = record {
       stays = reports_stay rest;
       hidden = [];
+      settled = settles_none;
       judged = closing_as s true;
       told = [];
       reports = tells ∙ sym (append-nil a.reports);
@@ -104,6 +108,7 @@ closing_judged {F} {scope} {G} {env} {body} {a} {b} s at v rest tells = by v tel
     by false tells = record {
       stays = reports_stay rest;
       hidden = [];
+      settled = settles_none;
       judged = closing_as s false;
       told = tells.report ∷ [];
       reports = tells.reports;

@@ -30,6 +30,10 @@ pub data IsNamed (nodes : List Node) (N : Types) (arity v : ℕ) : Type 0 where
   a_parameter : (scope k : ℕ) → slice_get nodes v ≡ Some (Var bound_level scope) → scope ≢ 0 → k < arity → N v ≡ type.Var k → IsNamed nodes N arity v
   an_unknown : (o : Path) → slice_get nodes v ≡ Some (Var bound_level 0) → is_unknown o ≡ true → N v ≡ type.Con o types.Nil → IsNamed nodes N arity v
 
+-- no two variables have one unknown type as their name
+abbrev pub UnknownApart : Types → Type 0
+UnknownApart N = (v w : ℕ) (o : Path) → is_unknown o ≡ true → N v ≡ type.Con o types.Nil → N w ≡ type.Con o types.Nil → v ≡ w
+
 -- One of the roots C stands for a type of a declaration: that type is its own, with the name of each variable in it; no two have one name.
 pub record RootAs (nodes : List Node) (C : List ℕ) (N : Types) (arity r : ℕ) (t : Typ) : Type 0 where
   pub inside : r < length nodes

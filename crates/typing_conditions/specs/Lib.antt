@@ -11,6 +11,7 @@ pub mod Sights
 pub mod Frames
 pub mod Meanings
 pub mod Judging
+pub mod Hiding
 pub mod Carrying
 pub mod Surroundings
 pub mod Steps

@@ -42,12 +42,13 @@ abbrev pub number_in : ℕ → ℕ → ℕ
 number_in i p = i * 2 ^ 32 + p
 
 -- what a choice chooses besides the types of recorded nodes: the type of a node whose row is being typed, a letter, what an unknown type stands for;
--- and one of these in which no unknown type stands
+-- and one of these in which no unknown type stands, or which may be chosen in another row too
 pub data Key : Type 0 where
   own : ℕ → Key
   letter : ℕ → ℕ → Key
   filled : ℕ → Path → Key
   without_unknown : Key → Key
+  doubtful : Key → Key
 
 -- the type that is chosen for it
 abbrev pub value_of : Choice → Key → Typ
@@ -55,6 +56,7 @@ value_of ch (own n) = ch.type_at n
 value_of ch (letter n k) = ch.letter n k
 value_of ch (filled n o) = ch.filled n o
 value_of ch (without_unknown key) = value_of ch key
+value_of ch (doubtful key) = value_of ch key
 
 -- nodes of the store that stand for them
 abbrev pub Letters : Type 0
@@ -66,6 +68,7 @@ IsKnownFor (own n) t = Unit {0}
 IsKnownFor (letter n k) t = Unit {0}
 IsKnownFor (filled n o) t = Unit {0}
 IsKnownFor (without_unknown key) t = IsKnown t
+IsKnownFor (doubtful key) t = IsKnownFor key t
 
 -- a choice has the type of a node for what the node stands for
 pub record IsGiven (V : Types) (ch : Choice) (key : Key) (n : ℕ) : Type 0 where

@@ -18,6 +18,7 @@ use Rattle.env_table.specs.Views.{kind_of}
 use Rattle.typing_conditions.specs.Locals.{IsOwn, Refines}
 use Rattle.typing_conditions.specs.Assumptions.{SchemeFits, SchemeReads}
 use Rattle.typing_conditions.specs.Standing.{IsIn, Covers, Stands}
+use Rattle.typing_conditions.specs.Declared.{UnknownApart}
 use Rattle.typing_conditions.specs.Sights.{Sight, Letters, Agrees}
 use Rattle.typing_conditions.specs.Frames.{Frame, Reaches, IsRoot}
 use Rattle.typing_conditions.specs.Meanings.{KnowsFixed, KnowsWritten}
@@ -36,7 +37,7 @@ pub record IsSteady (D : Declared) : Type 0 where
 
 -- A state that the frame allows, where the code's names stand for those of the scope: at each reading schemes both ways, under types that fit one way.
 -- `roots` are those of the schemes and of the declarations, and `names` what the bound variables of declarations are in the definitions. Written type variables
--- are those of the frame's item. `inside`: only expressions and patterns inside an item are typed among such names, and the item's own level is below theirs.
+-- are those of the frame's item; `apart`: so an unknown type belongs to one root. `inside`: only expressions and patterns inside an item are typed among such names, and the item's own level is below theirs.
 -- The names stand for those of the scope where it holds the type variables that are written; and at a reading, where nothing that it holds is bound.
 pub record Surrounds (D : Declared) (F : Frame) (a : Sight) (G : Letters) (env : List Entry) (scope : Scope) : Type 0 where
   pub reached : Reaches F a
@@ -46,6 +47,7 @@ pub record Surrounds (D : Declared) (F : Frame) (a : Sight) (G : Letters) (env :
   pub item : scope.variables ≡ in_item F.owner
   pub roots : List ℕ
   pub names : Types
+  pub apart : UnknownApart names
   pub steady : IsSteady D
   pub are_roots : (k r : ℕ) → slice_get roots k ≡ Some r → IsRoot F a r
   pub covered : Covers (D.declaration a.nodes roots names) (D.exception a.nodes roots names) roots env

@@ -29,6 +29,7 @@ use Rattle.typing_conditions.proofs.Framing.{no_bound}
 use Rattle.typing_conditions.proofs.Meaning.{all_mean_on, agrees_same}
 use Rattle.typing_conditions.proofs.Equals.{unified_stays}
 use Rattle.typing_conditions.proofs.Refusing.{never_fit}
+use Rattle.typing_conditions.proofs.Hiding.{settles_none}
 
 -- a node that reads as a tuple has the tuple of its parts' types
 pub tuple_is : (nodes : List Node) (V : Types) (m : ℕ) (ms : List ℕ) → Loose nodes V → reading nodes m ≡ Some (Tuple ms) → V m ≡ type.Tuple (types_of (map V ms))
@@ -118,6 +119,7 @@ joined_means {F} {scope} {G} {type} {p} {q} {a} {b} W fits same h k j = by (j.jo
       record {
         stays = unified_stays j.sound j.rest j.tight h.open_node k.open_node one;
         hidden = [];
+        settled = settles_none;
         judged = [];
         told = [];
         reports = j.rest.reports ∙ sym (append-nil a.reports);

@@ -20,12 +20,14 @@ use Rattle.typing_conditions.proofs.Stays.{stays_refl, stays_trans, stays_opened
 use Rattle.typing_conditions.proofs.First.{first_one, starts_none}
 use Rattle.typing_conditions.proofs.Carried.{Decides}
 use Rattle.typing_conditions.proofs.Recording.{records_stay}
+use Rattle.typing_conditions.proofs.Hiding.{settles_none, settles_on}
 
 -- a type is itself
 pub same_itself : {F : Frame} {scope : Scope} {G : Letters} {a : Sight} (type : Choice → Typ) → Carried F scope (λ c. same (type c.chosen) (type c.chosen) ∷ []) a G a G
 same_itself {F} {scope} {G} {a} type = record {
   stays = stays_refl;
   hidden = [];
+  settled = settles_none;
   judged = [];
   told = [];
   reports = sym (append-nil a.reports);
@@ -44,6 +46,7 @@ pub ends_made : {F : Frame} {scope : Scope} {G : Letters} {a : Sight} {n m : ℕ
 ends_made {F} {scope} {G} {a} {n} {m} {type} {ends} p end = record {
   stays = stays_opened (own n) p.open_node.inside;
   hidden = [];
+  settled = settles_none;
   judged = [];
   told = [];
   reports = sym (append-nil a.reports);
@@ -88,6 +91,7 @@ unfoldable pub own_recorded : {F : Frame} {scope : Scope} {asks : Asks} {a b d :
 own_recorded {F} {scope} {asks} {a} {b} {d} {G} {H} n {p} {m} number it means r = record {
   stays = stays_trans it.stays later;
   hidden = it.hidden;
+  settled = settles_on it.hidden later.recorded it.settled;
   judged = it.judged;
   told = it.told;
   reports = r.reports ∙ it.reports;

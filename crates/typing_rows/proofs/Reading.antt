@@ -25,6 +25,8 @@ use Rattle.typing_steps.proofs.Making.{var_made}
 use Rattle.typing_steps.proofs.Still.{none_idle, carried_idle, untyped_noted}
 use Rattle.typing_steps.proofs.Testing.{carried_here}
 use Rattle.typing_rows.specs.TypeContracts.{ReadAs, ReadsTo, ReadsAll, EndsRead}
+use Rattle.typing_conditions.specs.Hiding.{marked, is_typed}
+use Rattle.typing_conditions.proofs.Hiding.{settles_more, given_unmarked}
 
 -- letters of the parts are hidden once the node has its own
 pub read_closed : {F : Frame} {scope : Scope} {asks : Asks} {a b : Sight} {G : Letters} {n m : ℕ} (more : Letters) → CarriedTo F scope asks a G b ((own n, m) ∷ (more ++ G)) (λ ch. ch.type_at n) m → ReadAs F scope asks a G b n m
@@ -46,7 +48,8 @@ read_closed {F} {scope} {asks} {a} {b} {G} {n} {m} more r = record {
       level = p.stays.level;
       fixed = p.stays.fixed;
     };
-    hidden = p.hidden ++ more;
+    hidden = p.hidden ++ marked (is_typed b) more;
+    settled = settles_more p.hidden more p.stays.recorded p.settled;
     judged = p.judged;
     told = p.told;
     reports = p.reports;
@@ -57,9 +60,9 @@ read_closed {F} {scope} {asks} {a} {b} {G} {n} {m} more r = record {
         recorded = l.agrees.recorded;
         known = l.agrees.known;
         written = l.agrees.written;
-        given = (l.agrees.given.0, given_both V c.chosen more G (given_right V c.chosen p.hidden more l.hidden_too) l.agrees.given.1);
+        given = (l.agrees.given.0, given_both V c.chosen more G (given_unmarked (is_typed b) more V c.chosen (given_right V c.chosen p.hidden (marked (is_typed b) more) l.hidden_too)) l.agrees.given.1);
       };
-      hidden_too = given_left V c.chosen p.hidden more l.hidden_too;
+      hidden_too = given_left V c.chosen p.hidden (marked (is_typed b) more) l.hidden_too;
       named = l.named;
       unbound = l.unbound;
       kept = l.kept;
@@ -71,9 +74,9 @@ read_closed {F} {scope} {asks} {a} {b} {G} {n} {m} more r = record {
         recorded = l.agrees.recorded;
         known = l.agrees.known;
         written = l.agrees.written;
-        given = (l.agrees.given.0, given_both V c.chosen more G (given_right V c.chosen p.hidden more l.hidden_too) l.agrees.given.1);
+        given = (l.agrees.given.0, given_both V c.chosen more G (given_unmarked (is_typed b) more V c.chosen (given_right V c.chosen p.hidden (marked (is_typed b) more) l.hidden_too)) l.agrees.given.1);
       };
-      hidden_too = given_left V c.chosen p.hidden more l.hidden_too;
+      hidden_too = given_left V c.chosen p.hidden (marked (is_typed b) more) l.hidden_too;
       named = l.named;
       unbound = l.unbound;
       kept = l.kept;
@@ -92,7 +95,7 @@ read_closed {F} {scope} {asks} {a} {b} {G} {n} {m} more r = record {
             given = (goes.on.agrees.given.0, given_right goes.types c.chosen more G goes.on.agrees.given.1);
           };
         };
-        hidden_too = hidden_more p.hidden more G b c.chosen goes.types (p.stays.inside e.inside).given.1 goes.on.agrees.given.1 goes.hidden_too;
+        hidden_too = hidden_more (is_typed b) p.hidden more G b c.chosen goes.types (p.stays.inside e.inside).given.1 goes.on.agrees.given.1 goes.hidden_too;
       })
       | inr short ↦ inr short
     ];

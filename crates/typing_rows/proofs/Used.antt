@@ -29,6 +29,7 @@ use Rattle.typing_conditions.proofs.Carried.{take_none}
 use Rattle.typing_conditions.proofs.First.{starts_none}
 use Rattle.typing_conditions.proofs.Making.{loose_before, reading_before}
 use Rattle.typing_conditions.proofs.Meaning.{agrees_same, inside_longer}
+use Rattle.typing_conditions.proofs.Hiding.{settles_none}
 
 -- what is chosen for a name: for a parameter by its number, for an unknown type at the node n
 abbrev pub key_by : (ℕ → Key) → ℕ → Typ → Key
@@ -110,6 +111,7 @@ root_used {F} {scope} {G} {a} {b} {C} {N} {arity} {root} {m} {t} key free s f na
     carried = record {
       stays = stays;
       hidden = [];
+      settled = settles_none;
       judged = [];
       told = [];
       reports = rest.reports ∙ sym (append-nil a.reports);

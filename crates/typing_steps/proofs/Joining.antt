@@ -38,6 +38,7 @@ use Rattle.typing_conditions.proofs.Nodes.{made_stays}
 use Rattle.typing_steps.specs.States.{sight}
 use Rattle.typing_steps.proofs.Seeing.{only_nodes, level_here}
 use Rattle.typing_steps.proofs.Limiting.{LimitAsks, Limited}
+use Rattle.typing_conditions.proofs.Hiding.{settles_none}
 
 -- two open types were made one: they are the same
 pub same_joined : {F : Frame} {scope : Scope} {G : Letters} {first second : Choice → Typ} {m n : ℕ} {a b : Sight} → IsSound b.nodes → Means F a G first m → Means F a G second n → OnlyNodes a b → Tightens a.nodes b.nodes → Unified a.nodes b.nodes m n →
@@ -45,6 +46,7 @@ pub same_joined : {F : Frame} {scope : Scope} {G : Letters} {first second : Choi
 same_joined {F} {scope} {G} {first} {second} {m} {n} {a} {b} sound p q rest tight one = record {
   stays = stays;
   hidden = [];
+  settled = settles_none;
   judged = [];
   told = [];
   reports = rest.reports ∙ sym (append-nil a.reports);
@@ -106,6 +108,7 @@ scoped_letter {F} {scope} {G} {a} {b} {s} {t} {n} {o} {asks} key free limits r m
   carried = record {
     stays = made_stays ((key, n) ∷ []) opened makes rest (opened.inside, tt);
     hidden = [];
+    settled = settles_none;
     judged = [];
     told = [];
     reports = rest.reports ∙ sym (append-nil a.reports);

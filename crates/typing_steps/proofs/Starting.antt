@@ -21,6 +21,7 @@ use Rattle.typing_state.specs.Goes.{Goes}
 use Rattle.typing_conditions.specs.Locals.{IsOwn, IsContext}
 use Rattle.typing_conditions.specs.Assumptions.{SchemeFits, SchemeReads}
 use Rattle.typing_conditions.specs.Standing.{IsIn, Covers, Stands}
+use Rattle.typing_conditions.specs.Declared.{UnknownApart}
 use Rattle.typing_conditions.proofs.Regions.{any_in}
 use Rattle.typing_conditions.proofs.Steps.{refines_none, local_made}
 use Rattle.typing_conditions.proofs.Instances.{root_within}
@@ -121,11 +122,11 @@ module _ (a : Sight) (J : Types) (roots : List ℕ) (sound : IsSound a.nodes) (o
       none_there x m e = let f : Some m ≡ None = sym e ∙ none x in cc
 
   -- the names of an environment whose roots are among the item's are those of the scope
-  pub start_surrounds : {D : Declared} {G : Letters} {env : List Entry} {scope : Scope} (names : List ℕ) (N : Types) → IsSteady D → 1 ≤ a.level → KnowsFixed (frame_at a J roots) a → ((x : Name) → a.written x ≡ None) → ((k r : ℕ) → slice_get names k ≡ Some r → IsIn roots r) →
+  pub start_surrounds : {D : Declared} {G : Letters} {env : List Entry} {scope : Scope} (names : List ℕ) (N : Types) → UnknownApart N → IsSteady D → 1 ≤ a.level → KnowsFixed (frame_at a J roots) a → ((x : Name) → a.written x ≡ None) → ((k r : ℕ) → slice_get names k ≡ Some r → IsIn roots r) →
       Covers (D.declaration a.nodes names N) (D.exception a.nodes names N) names env →
       ((M V : Types) (ch : Choice) → IsOwn a.nodes M → IsReading a.nodes V → Agrees a.item a G V ch → HoldsWritten scope a → HoldsUnbound (frame_at a J roots) scope a ch → Stands SchemeReads (D.declaration a.nodes names N) (D.exception a.nodes names N) a.nodes M names V env (scope.env ch)) →
       ((M V : Types) (ch : Choice) → IsOwn a.nodes M → Loose a.nodes V → Agrees a.item a G V ch → HoldsWritten scope a → Stands SchemeFits (D.declaration a.nodes names N) (D.exception a.nodes names N) a.nodes M names V env (scope.env ch)) → scope.variables ≡ in_item a.item → Surrounds D (frame_at a J roots) a G env scope
-  start_surrounds names N steady inside fixed none among covered reads fits item = record {
+  start_surrounds names N apart steady inside fixed none among covered reads fits item = record {
     reached = start_reached;
     inside = inside;
     fixed = fixed;
@@ -133,6 +134,7 @@ module _ (a : Sight) (J : Types) (roots : List ℕ) (sound : IsSound a.nodes) (o
     item = item;
     roots = names;
     names = N;
+    apart = apart;
     steady = steady;
     are_roots = λ k r e. let (i, f) = among k r e in start_roots i r f;
     covered = covered;

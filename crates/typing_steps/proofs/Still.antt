@@ -34,6 +34,7 @@ use Rattle.typing_conditions.proofs.Equals.{reports_stay, goes_as, unified_stays
 use Rattle.typing_steps.specs.States.{type_in, is_aloud, reports_of, written_in, fixed_of, sight}
 use Rattle.typing_steps.specs.Warning.{OnlyNotes}
 use Rattle.typing_steps.proofs.Seeing.{same_state, nodes_of_both, reports_of_both}
+use Rattle.typing_conditions.proofs.Hiding.{settles_none}
 
 -- conditions that hold in any case, of which none is a demand
 pub record IsIdle (asks : Asks) : Type 0 where
@@ -47,6 +48,7 @@ pub carried_idle : {F : Frame} {scope : Scope} {asks : Asks} {a b : Sight} {G : 
 carried_idle {F} {scope} {asks} {a} {b} {G} idle rest same = record {
   stays = reports_stay rest;
   hidden = [];
+  settled = settles_none;
   judged = [];
   told = [];
   reports = same ∙ sym (append-nil a.reports);

@@ -29,6 +29,7 @@ use Rattle.typing_conditions.proofs.Carried.{take_none}
 use Rattle.typing_conditions.proofs.First.{starts_none}
 use Rattle.typing_conditions.proofs.Making.{loose_before, reading_before}
 use Rattle.typing_conditions.proofs.Meaning.{agrees_same, inside_longer}
+use Rattle.typing_conditions.proofs.Hiding.{settles_none}
 
 -- what is chosen at a node for a name
 abbrev pub key_for : ℕ → Typ → Key
@@ -146,6 +147,7 @@ root_taken {F} {scope} {G} {a} {b} {C} {N} {arity} {root} {m} {t} n reached is_r
     carried = record {
       stays = stays;
       hidden = [];
+      settled = settles_none;
       judged = [];
       told = [];
       reports = rest.reports ∙ sym (append-nil a.reports);

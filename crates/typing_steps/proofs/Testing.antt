@@ -43,6 +43,7 @@ unfoldable pub carried_here : {F : Frame} {scope : Scope} {asks others : Asks} {
 carried_here {F} {scope} {asks} {others} {a} {b} {G} {H} e p = record {
   stays = p.stays;
   hidden = p.hidden;
+  settled = p.settled;
   judged = p.judged;
   told = p.told;
   reports = p.reports;
