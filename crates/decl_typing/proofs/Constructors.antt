@@ -117,10 +117,10 @@ all_constructors {a = a} {all = all} x y =
     }
 
 -- the demand that a name is new, as a call asks it
-pub new_judges : (a b : Parts) {B : Before} (n : ℕ) (t : Token) (again : Bool) → is_aloud a.telling ≡ true → AsksNew again t a b →
-    Judges B (λ c. ask n 0 (place_of t.span) (test (twice (str_bytes t.name)) (not again))) (sight a) (sight b) (site n 0) (not again)
-new_judges a b n t true aloud told = complaint_judges a b (twice_text (str_bytes t.name)) (twice (str_bytes t.name)) (site n 0) aloud told
-new_judges a b n t false aloud same = test_judges (twice (str_bytes t.name)) (site n 0) true (ap (λ p. (sight p).reports) same)
+pub new_judges : (a b : Parts) {B : Before} (n k : ℕ) (t : Token) (again : Bool) → is_aloud a.telling ≡ true → AsksNew again t a b →
+    Judges B (λ c. ask n k (place_of t.span) (test (twice (str_bytes t.name)) (not again))) (sight a) (sight b) (site n k) (not again)
+new_judges a b n k t true aloud told = complaint_judges a b (twice_text (str_bytes t.name)) (twice (str_bytes t.name)) (site n k) aloud told
+new_judges a b n k t false aloud same = test_judges (twice (str_bytes t.name)) (site n k) true (ap (λ p. (sight p).reports) same)
 
 -- whether two names are one doesn't depend on which of them comes first
 names_turned : (x y : List ℕ) → bytes_eq x y ≡ bytes_eq y x
@@ -204,7 +204,7 @@ each_name a b d ps k x t has now lt here there f goes asked adds = record {
   first = λ aloud B.
       let y = subst (λ left. FirstNames B (constructors_as a.item ps) left f.seen (sight a) (sight b)) (left_there a.item ps k x lt here) (f.first aloud B) in
       let n = (constructor_as a.item x).node in
-      let j = new_judges b d {B = behind B y.judged []} n t.now (has (str_bytes t.now.name)) (ap is_aloud goes.telling ∙ aloud) asked in
+      let j = new_judges b d {B = behind B y.judged []} n 0 t.now (has (str_bytes t.now.name)) (ap is_aloud goes.telling ∙ aloud) asked in
       one_name (constructor_as a.item x) (tok_of t.now) (ap (option_map (λ (u : Bor Token). tok_of u.now)) there) y
       (subst (λ (v : Bool). Judges (behind B y.judged []) (λ c. ask n 0 (place_of t.now.span) (test (twice (str_bytes t.now.name)) (not v))) (sight b) (sight d) (site n 0) (not v)) (f.same (str_bytes t.now.name)) j);
 }

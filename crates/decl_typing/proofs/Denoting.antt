@@ -8,14 +8,14 @@ use Rattle.signature_model.specs.Declarations.{Name}
 use Rattle.typing_model.specs.Contexts.{tell}
 use Rattle.typing_model.specs.Parts.{TypeExpression}
 use Rattle.typing_model.specs.Declarations.{read_optional}
-use Rattle.type_nodes.specs.Nodes.{IsNode, Arrow}
+use Rattle.type_nodes.specs.Nodes.{IsNode, IsSound, Arrow}
 use Rattle.type_nodes.specs.Changes.{Makes}
 use Rattle.level_unify.specs.Generalising.{Generalised}
 use Rattle.env_table.specs.declared.entries.Entry.{Entry}
 use Rattle.typing_state.specs.declared.parts.Parts.{Parts}
 use Rattle.typing_state.specs.Goes.{Goes, OnlyStore, OnlyIndex}
 use Rattle.typing_conditions.specs.Carrying.{Asks}
-use Rattle.typing_conditions.specs.Locals.{ClosesAll}
+use Rattle.typing_conditions.specs.Locals.{IsPlain, ClosesAll}
 use Rattle.typing_conditions.proofs.Bindings.{generalised_closes}
 use Rattle.typing_steps.specs.States.{sight}
 use Rattle.typing_steps.proofs.Seeing.{only_nodes}
@@ -94,10 +94,22 @@ told_denotes a b d env names ps asks o n result e m rest goes read = λ aloud B 
 pub only_same : (a : Parts) → OnlyIndex a a
 only_same a = record { store = refl; faults = refl; written = refl; item = refl; level = refl; telling = refl; constants = refl }
 
+-- one call after another records alone
+pub index_then : {a b c : Parts} → OnlyIndex a b → OnlyIndex b c → OnlyIndex a c
+index_then p q = record {
+  store = q.store ∙ p.store;
+  faults = q.faults ∙ p.faults;
+  written = q.written ∙ p.written;
+  item = q.item ∙ p.item;
+  level = q.level ∙ p.level;
+  telling = q.telling ∙ p.telling;
+  constants = q.constants ∙ p.constants;
+}
+
 -- a root is closed that was made one level further in
 pub closed_denotes : (at read after : Parts) (l : ℕ) (env : List Entry) (names : List Name) (ps : List ℕ) (number : ℕ) (t : Tree) (result : Typ) (e r : ℕ) → (at.level ≡ 0 → l ≡ 1) → DenotesArgument (with_level at l) read env names ps number t result e r →
-    (IsNode read.store.nodes r → Generalised read.store.nodes after.store.nodes r at.level) → OnlyStore (with_level read at.level) after → Goes (with_level read at.level) after → ClosesArgument at after env names ps number t result e r
-closed_denotes at read after l env names ps number t result e r one reads bound rest goes formed = λ aloud zero B around F arity U A inside noted denotes.
+    (IsNode read.store.nodes r → Generalised read.store.nodes after.store.nodes r at.level) → IsSound after.store.nodes → IsPlain after.store.nodes → OnlyStore (with_level read at.level) after → Goes (with_level read at.level) after → ClosesArgument at after env names ps number t result e r
+closed_denotes at read after l env names ps number t result e r one reads bound sound plain rest goes formed = λ aloud zero B around F arity U A inside noted denotes.
     let x = subst (λ k. DenotesArgument (with_level at k) read env names ps number t result e r) (one zero) reads formed aloud B around F arity U A inside noted denotes in
     let there = (x.to.on.assigns.opens r x.to.denotes.known).inside in
     record {
@@ -107,4 +119,7 @@ closed_denotes at read after l env names ps number t result e r one reads bound 
       to = x.to;
       noted = noted_on x.numbers x.noted goes;
       closes = λ K own. subst (ClosesAll read.store.nodes after.store.nodes K (r ∷ [])) zero (generalised_closes read.store.nodes after.store.nodes K r at.level own there (bound there));
+      sound = sound;
+      plain = plain;
+      level = rest.level;
     }

@@ -9,7 +9,8 @@ use Rattle.typing_model.specs.Declarations.{read_optional, constructor_row}
 use Rattle.env_table.specs.declared.entries.Entry.{Entry}
 use Rattle.typing_state.specs.declared.parts.Parts.{Parts}
 use Rattle.typing_state.specs.Goes.{Goes, OnlyIndex}
-use Rattle.typing_conditions.specs.Locals.{ClosesAll}
+use Rattle.type_nodes.specs.Nodes.{IsSound}
+use Rattle.typing_conditions.specs.Locals.{IsPlain, ClosesAll}
 use Rattle.operand_laws.specs.Operands.{number_of, parts_of}
 use Rattle.operand_laws.proofs.Sorts.{first_type_stands}
 use Rattle.typing_rows.specs.Settled.{behind}
@@ -40,6 +41,9 @@ exception_closes a b d env number t e r rest goes read formed row = λ aloud zer
       to = x.to;
       noted = noted_on x.numbers x.noted goes;
       closes = λ K own. subst (λ s. ClosesAll x.before.store.nodes s.nodes K (r ∷ []) 0) (sym rest.store) (x.closes K own);
+      sound = subst (λ s. IsSound s.nodes) (sym rest.store) x.sound;
+      plain = subst (λ s. IsPlain s.nodes) (sym rest.store) x.plain;
+      level = rest.level ∙ x.level;
     }
   where
     n : ℕ

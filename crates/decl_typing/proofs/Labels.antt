@@ -156,7 +156,7 @@ each_name a b d ps k x t has now lt here there f goes asked adds = record {
   first = λ aloud B.
       let y = subst (λ left. FirstLabelNames B (labels_as a.item ps) left f.seen (sight a) (sight b)) (left_there a.item ps k x lt here) (f.first aloud B) in
       let n = (label_as a.item x).node in
-      let j = new_judges b d {B = behind B y.judged []} n t.now (has (str_bytes t.now.name)) (ap is_aloud goes.telling ∙ aloud) asked in
+      let j = new_judges b d {B = behind B y.judged []} n 0 t.now (has (str_bytes t.now.name)) (ap is_aloud goes.telling ∙ aloud) asked in
       one_name (label_as a.item x) (tok_of t.now) (ap (option_map (λ (u : Bor Token). tok_of u.now)) there) y
       (subst (λ (v : Bool). Judges (behind B y.judged []) (λ c. ask n 0 (place_of t.now.span) (test (twice (str_bytes t.now.name)) (not v))) (sight b) (sight d) (site n 0) (not v)) (f.same (str_bytes t.now.name)) j);
 }

@@ -3,6 +3,7 @@ use Rattle.std.proofs.Common.{ℕ, refl}
 use Rattle.typing_state.specs.declared.parts.Parts.{Parts}
 use Rattle.typing_state.specs.Goes.{Goes, SameWork}
 use Rattle.typing_state.proofs.Going.{inner_goes}
+use Rattle.type_expressions.specs.Untyped.{Untyped}
 
 -- the same at another level
 abbrev pub with_level : Parts → ℕ → Parts
@@ -15,3 +16,7 @@ same_work at l = record { store = refl; index = refl; faults = refl; item = refl
 -- what was there stays through a call at another level, and the level after it
 pub deeper_goes : (at after : Parts) (l m : ℕ) → Goes (with_level at l) after → Goes at (with_level after m)
 deeper_goes at after l m g = inner_goes at (with_level at l) after (with_level after m) (same_work at l) g (same_work after m) g.telling
+
+-- so it is with the types that are recorded
+pub deeper_untyped : (at after : Parts) (l m : ℕ) → Untyped (with_level at l) after → Untyped at (with_level after m)
+deeper_untyped at after l m x = record { types = x.types }

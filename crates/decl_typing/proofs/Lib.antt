@@ -9,3 +9,5 @@ pub mod Made
 pub mod MadeLabels
 pub mod Parameters
 pub mod Owned
+pub mod Asked
+pub mod Declaring

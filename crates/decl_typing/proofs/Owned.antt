@@ -3,7 +3,7 @@ use Rattle.std.proofs.Common.{◌≡◌, ◌∙◌, ℕ, zero, suc, List, [], �
 use Rattle.std.specs.Prelude.{slice_get}
 use Rattle.std.specs.declared.vec.Vec.{Vec}
 use Rattle.std.specs.declared.alloc.Global.{Global}
-use Rattle.type_model.specs.Types.{Typ}
+use Rattle.type_model.specs.Types.{Path, Typ}
 use Rattle.type_model.specs.Types.{Typ as type}
 use Rattle.signature_model.specs.Declarations.{Name, parameters_from}
 use Rattle.typing_model.specs.Parts as parts
@@ -18,6 +18,7 @@ use Rattle.typing_state.specs.Goes.{Goes, OnlyStore, OnlyIndex}
 use Rattle.typing_state.proofs.Going.{goes_trans}
 use Rattle.typing_conditions.specs.Sights.{Sight}
 use Rattle.typing_conditions.specs.Standing.{IsIn}
+use Rattle.typing_conditions.specs.Declared.{with_parameters}
 use Rattle.typing_conditions.specs.Frames.{Frame}
 use Rattle.typing_conditions.specs.Locals.{IsPlain, ClosesAll}
 use Rattle.typing_steps.specs.States.{is_aloud, sight}
@@ -25,7 +26,8 @@ use Rattle.operand_laws.specs.Operands.{number_of}
 use Rattle.typing_rows.specs.Settled.{Before, Fixes}
 use Rattle.typing_rows.proofs.DeclaredOrdered.{store_reports, index_reports}
 use Rattle.typing_rows.proofs.Settling.{settled_none}
-use Rattle.declared_rows.specs.Assignments.{Assignment, Assigns, Denotes}
+use Rattle.declared_rows.specs.Assignments.{Assignment, Assigns, Assigned, Denotes}
+use Rattle.declared_rows.specs.Contracts.{AreParameters}
 use Rattle.declared_rows.proofs.Going.{assigned_refl, assigned_then, denotes_on}
 use Rattle.declared_rows.proofs.Ordered.{noted_on, index_still}
 use Rattle.decl_groups.specs.declared.groups.DeclarationPart.{DeclarationPart}
@@ -81,25 +83,40 @@ still_reports a b d e first then last = index_reports d e last ∙ store_reports
 abbrev settled_since : {B : Before} {told : Option parts.Told} {a b d : Sight} → b.reports ≡ a.reports → ShapeSettled B told b d → ShapeSettled B told a d
 settled_since same x = record { judged = x.judged; reported = x.reported; fixes = x.fixes; reports = x.reports ∙ ap (λ rs. rs ++ x.reported) same; settled = x.settled }
 
+-- a type of its own over new parameters, before it is read what is told of it
+record OwnSince (F : Frame) (k : ℕ) (U : List ℕ) (a e : Parts) (A : Assignment) (ps : List ℕ) (path : Path) (root body : ℕ) : Type 0 where
+  pub on : Assigned F k U (sight a) (sight e) A
+  pub are : AreParameters on.after ps
+  pub of_body : Denotes on.after body (type.Con path (parameters_from 0 k))
+  pub of_root : Denotes on.after root (with_parameters k (type.Con path (parameters_from 0 k)))
+
+own_since : (a b d e : Parts) (ps : List ℕ) (path : Path) (root body : ℕ) → MakesParameters a b ps → MakesOwn b d ps path root body → OnlyIndex d e → (F : Frame) (U : List ℕ) (A : Assignment) → Assigns F 0 U (sight a) A → OwnSince F (length ps) U a e A ps path root body
+own_since a b d e ps path root body parameters makes only F U A at =
+    let x = parameters F U A at in
+    let y = makes F (length ps) U x.on.after x.on.assigns x.are in
+    let still = index_still d e only y.on.assigns in
+    record {
+      on = assigned_then x.on (assigned_then y.on still);
+      are = λ k q there. denotes_on x.on.assigns (assigned_then y.on still) (x.are k q there);
+      of_body = denotes_on y.on.assigns still y.of_body;
+      of_root = denotes_on y.on.assigns still y.of_root;
+    }
+
 -- a type of its own is made: its parameters, its body with its root, the record of its right side, and what is told of it
 pub type_made : (a b d e f : Parts) (env : List Entry) (p : DeclarationPart) (ps : List ℕ) (root body : ℕ) (z : Shape) → length ps ≡ length p.parameters.items → MakesParameters a b ps → OnlyStore a b → Goes a b → MakesOwn b d ps (number_of b.item p.number ∷ []) root body → OnlyStore b d → Goes b d →
     OnlyIndex d e → Goes d e → ((t : Typ) → ReadsTold e f env (token_names p.parameters.items) ps (told_in p.right) t body z) → MakesType a f env p root body z
 type_made a b d e f env p ps root body z many parameters rest goes makes rest' goes' only noting read = λ right parts aloud B around F U A at types noted.
     let path = number_of a.item p.number ∷ [] in
-    let x = parameters F U A at in
-    let y = subst (λ i. MakesOwn b d ps (number_of i p.number ∷ []) root body) goes.item makes F (length ps) U x.on.after x.on.assigns x.are in
-    let still = index_still d e only y.on.assigns in
-    let before = assigned_then y.on still in
+    let x = own_since a b d e ps path root body parameters (subst (λ i. MakesOwn b d ps (number_of i p.number ∷ []) root body) goes.item makes) only F U A at in
     let whole : Goes a e = goes_trans a d e (goes_trans a b d goes goes') noting in
-    let r = read (type.Con path (parameters_from 0 (length ps))) parts (ap is_aloud whole.telling ∙ aloud) B around F (length ps) U before.after
-    (record { assigns = before.assigns; types = types; parameters = λ k q there. denotes_on x.on.assigns before (x.are k q there) }) (noted_on U noted whole) (denotes_on y.on.assigns still y.of_body) in
-    let told = subst (λ i. ToldRead B F (length ps) i e f before.after (type.Con path (parameters_from 0 (length ps))) (told_in p.right) z) whole.item r in
+    let r = read (type.Con path (parameters_from 0 (length ps))) parts (ap is_aloud whole.telling ∙ aloud) B around F (length ps) U x.on.after (record { assigns = x.on.assigns; types = types; parameters = x.are }) (noted_on U noted whole) x.of_body in
+    let told = subst (λ i. ToldRead B F (length ps) i e f x.on.after (type.Con path (parameters_from 0 (length ps))) (told_in p.right) z) whole.item r in
     subst (λ k. TypeMade B F k a f A path (told_in p.right) root body z) many (record {
       settled = settled_since (still_reports a b d e rest rest' only) told.settled;
       numbers = told.numbers;
-      on = assigned_then x.on (assigned_then before told.on);
-      of_body = denotes_on before.assigns told.on (denotes_on y.on.assigns still y.of_body);
-      of_root = denotes_on before.assigns told.on (denotes_on y.on.assigns still y.of_root);
+      on = assigned_then x.on told.on;
+      of_body = denotes_on x.on.assigns told.on x.of_body;
+      of_root = denotes_on x.on.assigns told.on x.of_root;
       made = told.made;
       noted = told.noted;
     })

@@ -1,6 +1,8 @@
 -- Parameters of a declaration, a type of its own, and roots that are closed: by what their calls do.
-use Rattle.std.proofs.Common.{◌≡◌, ◌≢◌, ◌∙◌, ◌⊎◌, inl, inr, ℕ, zero, suc, ◌+◌, List, [], ◌∷◌, ◌++◌, length, All, Some, refl, sym, ap, subst, arith, length-append}
+use Rattle.std.proofs.Common.{◌≡◌, ◌≢◌, ◌∙◌, inl, inr, ℕ, zero, suc, ◌+◌, List, [], ◌∷◌, ◌++◌, length, All, Some, refl, sym, ap, subst, arith}
 use Rattle.std.specs.Prelude.{slice_get}
+use Rattle.std.proofs.lemmas.Option.{slice_get_within}
+use Rattle.type_nodes.proofs.Lists.{get-append_left, get-append_cases, length-snoc}
 use Rattle.type_model.specs.Types.{Path, Typ}
 use Rattle.type_model.specs.Types.{Typ as type}
 use Rattle.signature_model.specs.Declarations.{parameters_from}
@@ -22,29 +24,6 @@ use Rattle.declared_rows.proofs.Made.{parameter_made}
 use Rattle.declared_rows.proofs.Own.{own_denotes, root_denotes}
 use Rattle.decl_typing.specs.Parameters.{ParametersMade, MakesParameters, MakesDeclared, MakesOwn, ClosesRoots}
 
--- only the store changes, as long as nothing does
-pub only_none : (a : Parts) → OnlyStore a a
-only_none a = record { index = refl; faults = refl; written = refl; item = refl; level = refl; telling = refl; constants = refl }
-
--- and from one call to the next
-pub only_then : {a b c : Parts} → OnlyStore a b → OnlyStore b c → OnlyStore a c
-only_then p q = record {
-  index = q.index ∙ p.index;
-  faults = q.faults ∙ p.faults;
-  written = q.written ∙ p.written;
-  item = q.item ∙ p.item;
-  level = q.level ∙ p.level;
-  telling = q.telling ∙ p.telling;
-  constants = q.constants ∙ p.constants;
-}
-
--- what is in a list with one more is in the list, or is that one
-in_longer : (ps : List ℕ) (n k p : ℕ) → slice_get (ps ++ n ∷ []) k ≡ Some p → (slice_get ps k ≡ Some p) ⊎ ((k ≡ length ps) × (n ≡ p))
-in_longer [] n zero p e = inr (refl, cc)
-in_longer [] n (suc k) p e = absurd (cc)
-in_longer (q ∷ ps) n zero p e = inl e
-in_longer (q ∷ ps) n (suc k) p e = elim (in_longer ps n k p e) [ inl i ↦ inl i | inr (f, g) ↦ inr (ap suc f, g) ]
-
 -- no parameter is made yet
 pub no_parameters : (a : Parts) → MakesParameters a a []
 no_parameters a F U A at = record { on = assigned_refl at; are = λ k p e. absurd (cc) }
@@ -54,19 +33,16 @@ pub one_parameter : (a b d : Parts) (ps : List ℕ) (n : ℕ) → MakesParameter
 one_parameter a b d ps n first made rest F U A at =
     let x = first F U A at in
     let y = parameter_made {s = b.store.trail} {u = d.store.trail} x.on.assigns scoped (subst (λ l. Makes b.store d.store n (Var l any_scope)) (level_here b x.on.assigns.reached) made) (only_nodes b d rest) in
-    subst (λ k. ParametersMade F k U a d A (ps ++ n ∷ [])) (sym longer) (record {
+    subst (λ k. ParametersMade F k U a d A (ps ++ n ∷ [])) (sym (length-snoc ps n)) (record {
       on = assigned_then x.on y.on;
-      are = λ k p e. elim (in_longer ps n k p e) [
+      are = λ k p e. elim (get-append_cases ps n k p e) [
         | inl i ↦ denotes_on x.on.assigns y.on (x.are k p i)
-        | inr (f, g) ↦ subst (λ j. Denotes y.on.after p (type.Var j)) (sym f) (subst (λ m. Denotes y.on.after m (type.Var (length ps))) g y.denotes)
+        | inr (f, g) ↦ subst (λ j. Denotes y.on.after p (type.Var j)) (sym f) (subst (λ m. Denotes y.on.after m (type.Var (length ps))) (sym g) y.denotes)
       ];
     })
   where
     scoped : any_scope ≢ 0
     scoped e = omega arith
-
-    longer : length (ps ++ n ∷ []) ≡ suc (length ps)
-    longer = length-append ps (n ∷ []) ∙ (let e : length ps + 1 ≡ suc (length ps) = omega arith in e)
 
 -- nodes of parameters are in the store
 pub parameters_inside : {F : Frame} {arity : ℕ} {U : List ℕ} {A : Assignment} (a : Parts) (ps : List ℕ) → Assigns F arity U (sight a) A → ((k p : ℕ) → slice_get ps k ≡ Some p → (t : Typ) × Denotes A p t) → All (IsNode a.store.nodes) ps
@@ -104,13 +80,7 @@ own_made a b d ps path name root body makes rest declared F arity U A at params 
 pub closes_none : (a : Parts) → ClosesRoots a a []
 closes_none a inside K own = record { len = refl; binds = λ v l o e free above h. absurd (cc); stays = λ n h. refl }
 
--- what is in the first of two lists is in both
-in_front : (rs ss : List ℕ) (k r : ℕ) → slice_get rs k ≡ Some r → slice_get (rs ++ ss) k ≡ Some r
-in_front [] ss k r e = absurd (cc)
-in_front (q ∷ rs) ss zero r e = e
-in_front (q ∷ rs) ss (suc k) r e = in_front rs ss k r e
-
--- and what is in the second has a later place
+-- what is in the second of two lists has a later place in both
 in_back : (rs ss : List ℕ) (k r : ℕ) → slice_get ss k ≡ Some r → slice_get (rs ++ ss) (length rs + k) ≡ Some r
 in_back [] ss k r e = ap (slice_get ss) (let f : 0 + k ≡ k = omega arith in f) ∙ e
 in_back (q ∷ rs) ss k r e = ap (slice_get (q ∷ rs ++ ss)) (let f : length (q ∷ rs) + k ≡ suc (length rs + k) = omega arith in f) ∙ in_back rs ss k r e
@@ -118,7 +88,7 @@ in_back (q ∷ rs) ss k r e = ap (slice_get (q ∷ rs ++ ss)) (let f : length (q
 -- some roots are closed, and then others
 pub closes_both : (a b d : Parts) (rs ss : List ℕ) → ClosesRoots a b rs → OnlyStore a b → ClosesRoots b d ss → ClosesRoots a d (rs ++ ss)
 closes_both a b d rs ss first rest others inside K own =
-    let one = first (λ k r e. inside k r (in_front rs ss k r e)) K own in
+    let one = first (λ k r e. inside k r (get-append_left rs ss k (slice_get_within rs k r e) ∙ e)) K own in
     let two = others (λ k r e. let i = inside (length rs + k) r (in_back rs ss k r e) in let l = one.len in omega arith) K (closed_own a.store.nodes b.store.nodes K rs a.level own one) in
     closes_then a.store.nodes b.store.nodes d.store.nodes K rs ss a.level one (subst (ClosesAll b.store.nodes d.store.nodes K ss) rest.level two)
 

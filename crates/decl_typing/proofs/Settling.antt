@@ -1,6 +1,5 @@
 -- What functions on declarations settle, by what their calls do.
 use Rattle.std.proofs.Common.{◌≡◌, ◌∙◌, ◌++◌, ℕ, List, [], Some, None, option_map, refl, sym, ap, subst, append-nil}
-use Rattle.std.specs.Prelude.{Result, Ok, Err, OnOk}
 use Rattle.tree_model.specs.Slots.{is_operand}
 use Rattle.tree_model.specs.Trees.{Tree}
 use Rattle.row_parts.specs.Numbered.{Numbered, first_in}
@@ -41,11 +40,6 @@ pub settles_deeper : (at read after : Parts) (l : ℕ) (env : List Entry) (names
 settles_deeper at read after l env names number t kept reads formed = λ aloud B around.
     let x = reads formed aloud B around in
     record { judged = x.judged; told = x.told; fixes = x.fixes; type = x.type; reports = kept ∙ x.reports; settled = x.settled; gives = x.gives }
-
--- what holds holds of anything that is answered
-pub on_any : {A E : Type 0} (r : Result A E) (P : Type 0) → P → OnOk r P
-on_any (Ok x) P p = p
-on_any (Err e) P p = tt
 
 -- an exception whose argument is read
 pub exception_settles : (a b d : Parts) (env : List Entry) (number : ℕ) (t : Tree) → (sight d).reports ≡ (sight b).reports → SettlesArgument a b env [] number t → SettlesConstructor a d env number t

@@ -5,13 +5,14 @@ use Rattle.type_model.specs.Types.{Typ}
 use Rattle.signature_model.specs.Declarations.{Name}
 use Rattle.typing_model.specs.Parts.{TypeExpression}
 use Rattle.typing_model.specs.Declarations.{read_optional}
+use Rattle.type_nodes.specs.Nodes.{IsSound}
 use Rattle.type_nodes.specs.Readings.{Types}
 use Rattle.env_table.specs.declared.entries.Entry.{Entry}
 use Rattle.typing_state.specs.declared.parts.Parts.{Parts}
 use Rattle.typing_conditions.specs.Carrying.{Asks}
 use Rattle.typing_conditions.specs.Declared.{building}
 use Rattle.typing_conditions.specs.Frames.{Frame}
-use Rattle.typing_conditions.specs.Locals.{IsOwn, ClosesAll}
+use Rattle.typing_conditions.specs.Locals.{IsPlain, IsOwn, ClosesAll}
 use Rattle.typing_steps.specs.States.{is_aloud, sight}
 use Rattle.operand_laws.specs.Formed.{IsFormed}
 use Rattle.typing_rows.specs.Settled.{Before, Around}
@@ -43,7 +44,7 @@ DenotesConstructor a b env names ps p result e m = HasOperand p → DenotesOptio
 abbrev pub raised : Parts → Parts
 raised a = record a { level = 1 }
 
--- The same of a call between items that closes the root: there is a state before it is closed.
+-- The same of a call between items that closes the root: there is a state before it is closed, and the store after it is sound and has no unknown type as a constructor.
 pub record OptionClosed (B : Before) (asks : Asks) (o : Option TypeExpression) (F : Frame) (arity : ℕ) (a b : Parts) (A : Assignment) (result : Typ) (r : ℕ) : Type 0 where
   pub settled : OptionSettled B asks o (sight a) (sight b)
   pub numbers : List ℕ
@@ -51,6 +52,9 @@ pub record OptionClosed (B : Before) (asks : Asks) (o : Option TypeExpression) (
   pub to : AssignedTo F arity numbers (sight (raised a)) (sight before) A r (building result settled.type)
   pub noted : AreNoted numbers b
   pub closes : (K : Types) → IsOwn before.store.nodes K → ClosesAll before.store.nodes b.store.nodes K (r ∷ []) 0
+  pub sound : IsSound b.store.nodes
+  pub plain : IsPlain b.store.nodes
+  pub level : b.level ≡ a.level
 
 -- Where faults are reported, a call between items closes a root that denotes the type of a constructor with such an argument.
 abbrev pub ClosesOption : (a b : Parts) → List Entry → List Name → (ps : List ℕ) → Asks → Option TypeExpression → (result : Typ) → (e r : ℕ) → Type 0

@@ -8,3 +8,4 @@ pub mod Parts
 pub mod LabelParts
 pub mod Parameters
 pub mod Owned
+pub mod Asked

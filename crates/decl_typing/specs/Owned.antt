@@ -2,12 +2,15 @@
 use Rattle.std.specs.Prelude.{◌≡◌, ◌≢◌, ℕ, true, List, [], ◌∷◌, ◌++◌, All, length, map, Option, Some, None, option_map}
 use Rattle.std.specs.declared.vec.Vec.{Vec}
 use Rattle.std.specs.declared.alloc.Global.{Global}
+use Rattle.token_model.specs.Kinds.{Tok}
 use Rattle.type_model.specs.Types.{Path, Typ}
 use Rattle.type_model.specs.Types.{Typ as type}
 use Rattle.signature_model.specs.Declarations.{Name, parameters_from}
-use Rattle.typing_model.specs.Contexts.{Choice}
+use Rattle.typing_model.specs.Contexts.{Context, Choice, parameters, tell}
+use Rattle.typing_model.specs.Demands.{Condition}
+use Rattle.typing_model.specs.Patterns.{ask_all}
 use Rattle.typing_model.specs.Parts as parts
-use Rattle.typing_model.specs.Declarations.{shape_asks}
+use Rattle.typing_model.specs.Declarations.{shape_asks, new_tokens, names_of_tokens}
 use Rattle.type_nodes.specs.Nodes.{IsSound}
 use Rattle.type_nodes.specs.Readings.{Types}
 use Rattle.env_table.specs.declared.entries.Entry.{Entry}
@@ -33,6 +36,7 @@ use Rattle.decl_groups.specs.declared.groups.Told.{Told}
 use Rattle.decl_groups.specs.declared.groups.Told.TheVariants.{Constructors, Labels}
 use Rattle.decl_typing.specs.Settling.{constructors_as, argument_at, HasOperand}
 use Rattle.decl_typing.specs.Labels.{labels_as, body_at, HasBody}
+use Rattle.decl_typing.specs.Asked.{tokens_as}
 use Rattle.decl_typing.specs.Denoting.{raised}
 use Rattle.decl_typing.specs.Parts.{AreMade, shape_constructors}
 use Rattle.decl_typing.specs.LabelParts.{AreLabels, shape_labels}
@@ -128,3 +132,30 @@ pub record TypeClosed (B : Before) (F : Frame) (k : ℕ) (a c : Parts) (A : Assi
 abbrev pub ClosesType : (a c : Parts) → List Entry → DeclarationPart → (root body : ℕ) → Shape → Type 0
 ClosesType a c env p root body z = IsOwnRight p.right → HasParts (told_in p.right) → is_aloud a.telling ≡ true → a.level ≡ 0 → (B : Before) → Around env (token_names p.parameters.items) B → (F : Frame) (U : List ℕ) (A : Assignment) → Assigns F 0 U (sight (raised a)) A → KnowsTypes F B.named env → AreNoted U a →
     TypeClosed B F (length p.parameters.items) a c A (number_of a.item p.number ∷ []) (told_in p.right) root body z
+
+-- the conditions of a declaration that is a type of its own: its node is made known, its parameters are new, and then what is asked of its parts, in which they are the type variables
+abbrev pub own_asks : (n : ℕ) → List Tok → Option parts.Told → Context → List Condition
+own_asks n ts told c = tell n c ++ ask_all n 1 (new_tokens [] ts) ++ shape_asks (record c { variables = parameters (names_of_tokens ts) }) told
+
+-- these conditions are settled, and its type is made and closed
+pub record TypeDeclared (B : Before) (F : Frame) (a c : Parts) (A : Assignment) (p : DeclarationPart) (root : ℕ) (z : Shape) : Type 0 where
+  pub judged : List Judgement
+  pub reported : List Report
+  pub fixes : Fixes
+  pub reports : (sight c).reports ≡ (sight a).reports ++ reported
+  pub settled : Settled B (own_asks (number_of a.item p.number) (tokens_as p.parameters.items) (option_map (told_as a.item) (told_in p.right))) judged reported fixes
+  pub numbers : List ℕ
+  pub before : Parts
+  pub on : Assigned F (length p.parameters.items) numbers (sight (raised a)) (sight before) A
+  pub of_root : Denotes on.after root (with_parameters (length p.parameters.items) (type.Con (number_of a.item p.number ∷ []) (parameters_from 0 (length p.parameters.items))))
+  pub made : ShapeMade on.after (type.Con (number_of a.item p.number ∷ []) (parameters_from 0 (length p.parameters.items))) fixes a.item (told_in p.right) z
+  pub closes : (K : Types) → IsOwn before.store.nodes K → ClosesAll before.store.nodes c.store.nodes K (root ∷ shape_roots z) 0
+  pub sound : IsSound c.store.nodes
+  pub plain : IsPlain c.store.nodes
+  pub level : c.level ≡ a.level
+  pub noted : AreNoted numbers c
+
+-- Where faults are reported, a call between items declares a type of its own.
+abbrev pub DeclaresType : (a c : Parts) → List Entry → DeclarationPart → (root : ℕ) → Shape → Type 0
+DeclaresType a c env p root z = IsOwnRight p.right → HasParts (told_in p.right) → is_aloud a.telling ≡ true → a.level ≡ 0 → (B : Before) → Around env (token_names p.parameters.items) B → (F : Frame) (U : List ℕ) (A : Assignment) → Assigns F 0 U (sight (raised a)) A → KnowsTypes F B.named env → AreNoted U a →
+    TypeDeclared B F a c A p root z

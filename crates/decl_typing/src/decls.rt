@@ -1,5 +1,5 @@
 //! Declarations of types and exceptions.
-ghost use Rattle.std.specs.Prelude.{◌≡◌, ℕ, List, [], ◌∷◌, ◌++◌, None, option_map, OnOk, IfOk};
+ghost use Rattle.std.specs.Prelude.{◌≡◌, ◌<◌, ◌^◌, ℕ, List, [], ◌∷◌, ◌++◌, length, false, Some, None, option_map, OnOk, IfOk};
 ghost use Rattle.syntax_tree.specs.View.{node_view, tok_of};
 ghost use Rattle.row_parts.specs.Numbered.{first_in, operand_view};
 ghost use Rattle.typing_state.specs.Goes.{Goes, OnlyFaults, OnlyIndex, OnlyStore};
@@ -14,10 +14,12 @@ ghost use Rattle.typing_model.specs.Contexts.{tell};
 ghost use Rattle.typing_model.specs.Declarations.{read_optional};
 ghost use Rattle.typing_model.specs.BuiltIns.{exn_type};
 ghost use Rattle.type_expressions.specs.Items.{IsOver, HasNodes, names_of, nodes_of};
+ghost use Rattle.type_expressions.specs.Untyped.{Untyped};
 ghost use Rattle.typing_rows.specs.DeclaredContracts.{SettlesTo};
 ghost use Rattle.decl_typing.specs.Denoting.{DenotesArgument, DenotesConstructor, ClosesArgument};
 ghost use Rattle.decl_typing.specs.Entering.{IsException, DeclaresException, DeclaresPartIf, DeclaresItem, alone, entered};
-ghost use Rattle.decl_typing.specs.Owned.{IsOwnRight, IsVariant, IsRecord, told_in, ReadsTold, MakesType, ClosesType};
+ghost use Rattle.decl_typing.specs.Asked.{tokens_as, SettlesTokens};
+ghost use Rattle.decl_typing.specs.Owned.{IsOwnRight, IsVariant, IsRecord, told_in, ReadsTold, MakesType, ClosesType, DeclaresType};
 ghost use Rattle.decl_typing.specs.Parameters.{token_names, MakesParameters, MakesDeclared, MakesOwn, constructor_roots, label_roots, shape_roots, ClosesRoots};
 ghost use Rattle.decl_typing.specs.Parts.{ReadsConstructor, ReadsConstructors, shape_constructors};
 ghost use Rattle.decl_typing.specs.LabelParts.{ReadsLabel, ReadsLabels, shape_labels};
@@ -329,6 +331,8 @@ fn which_rename(
 
 /// The demands that each parameter is new.
 fn parameters_are_new(at: &mut Parts, names: &[&Token]) -> Result<(), NoMemory>
+    ensures settles { OnOk result (SettlesTokens at.old at.new (tokens_as names.now)) }
+    ensures rest { OnlyFaults at.old at.new }
     ensures goes { Goes at.old at.new }
 {
     let mut seen = HashSet::new(at.alloc());
@@ -347,6 +351,10 @@ fn declare(
     inner: &Env,
     depth: Depth,
 ) -> Result<Rc<Declaration>, NoMemory>
+    ensures means { IfOk result (λ d. DeclaresType at.old at.new inner.now part.now d.value.root.0 d.value.shape) }
+    ensures arity { IfOk result (λ d. length part.now.parameters.items < 2 ^ 32 → d.value.arity ≡ length part.now.parameters.items) }
+    ensures origin { IfOk result (λ d. renames ≡ false → (o : Origin) × (d.value.origin ≡ Some o) × (o.path.items ≡ number_of at.old.item part.now.number ∷ [])) }
+    ensures untyped { OnOk result (Untyped at.old at.new) }
     ensures goes { Goes at.old at.new }
 {
     note_written(at, part, inner)?;
@@ -369,6 +377,8 @@ fn declare(
 
 /// Records a declaration, and what is missing on its right side.
 fn note_written(at: &mut Parts, part: &DeclarationPart<'_>, inner: &Env) -> Result<(), NoMemory>
+    ensures untyped { OnOk result (Untyped at.old at.new) }
+    ensures rest { OnlyIndex at.old at.new }
     ensures goes { Goes at.old at.new }
 {
     at.note_plain(part.number, inner)?;
@@ -377,6 +387,8 @@ fn note_written(at: &mut Parts, part: &DeclarationPart<'_>, inner: &Env) -> Resu
 
 /// Records nodes without names of their own, or missing operands, by their numbers.
 fn note_all(at: &mut Parts, numbers: &[u32], env: &Env) -> Result<(), NoMemory>
+    ensures untyped { OnOk result (Untyped at.old at.new) }
+    ensures rest { OnlyIndex at.old at.new }
     ensures goes { Goes at.old at.new }
 {
     for number in numbers {
@@ -394,6 +406,7 @@ fn declared_deeper(
     depth: Depth,
 ) -> Result<(NodeRef, NodeRef, Shape), NoMemory>
     ensures means { IfOk result (λ r. ClosesType at.old at.new inner.now part.now r.0.0 r.1.0 r.2) }
+    ensures untyped { OnOk result (Untyped at.old at.new) }
     ensures goes { Goes at.old at.new }
 {
     let level = at.level;
@@ -429,6 +442,7 @@ fn declared_in(
     depth: Depth,
 ) -> Result<(NodeRef, NodeRef, Shape), NoMemory>
     ensures means { IfOk result (λ r. MakesType at.old at.new inner.now part.now r.0.0 r.1.0 r.2) }
+    ensures untyped { OnOk result (Untyped at.old at.new) }
     ensures goes { Goes at.old at.new }
 {
     let parameters = new_parameters(at, &part.parameters)?;
@@ -452,6 +466,7 @@ fn right_side(
     depth: Depth,
 ) -> Result<(NodeRef, NodeRef), NoMemory>
     ensures own { IfOk result (λ r. IsOwnRight part.now.right → (r ≡ own) × OnlyIndex at.old at.new) }
+    ensures untyped { OnOk result (Untyped at.old at.new) }
     ensures goes { Goes at.old at.new }
 {
     match read_other(at, part, inner, variables, depth)? {
@@ -469,6 +484,7 @@ fn read_other(
     depth: Depth,
 ) -> Result<Option<NodeRef>, NoMemory>
     ensures own { IfOk result (λ o. IsOwnRight part.now.right → (o ≡ None) × OnlyIndex at.old at.new) }
+    ensures untyped { OnOk result (Untyped at.old at.new) }
     ensures goes { Goes at.old at.new }
 {
     match &part.right {
@@ -500,6 +516,7 @@ fn read_told(
     depth: Depth,
 ) -> Result<Shape, NoMemory>
     ensures means { IfOk result (λ z. (names : List Name) (ps : List ℕ) (t : Typ) → IsOver variables.now names → HasNodes variables.now ps → ReadsTold at.old at.new inner.now names ps (told_in part.now.right) t own.0 z) }
+    ensures untyped { OnOk result (Untyped at.old at.new) }
     ensures goes { Goes at.old at.new }
 {
     let told = match &part.right {
@@ -525,6 +542,7 @@ fn read_constructors(
     ensures settles { OnOk result ((names : List Name) → IsOver variables.now names → SettlesConstructors at.old at.new inner.now names parts.now) }
     ensures means { IfOk result (λ z. (names : List Name) (ps : List ℕ) (t : Typ) → IsOver variables.now names → HasNodes variables.now ps → ReadsConstructors at.old at.new inner.now names ps parts.now t own.0 (shape_constructors z)) }
     ensures shape { IfOk result (λ z. IsVariant z) }
+    ensures untyped { OnOk result (Untyped at.old at.new) }
     ensures goes { Goes at.old at.new }
 {
     let mut constructors = Vec::new(at.alloc());
@@ -581,6 +599,7 @@ fn constructor_root(
 ) -> Result<NodeRef, NoMemory>
     ensures settles { OnOk result ((names : List Name) → IsOver variables.now names → HasOperand part.now → SettlesOption at.old at.new inner.now names (λ c. read_optional c (constructor_as at.old.item part.now).argument) (constructor_as at.old.item part.now).argument) }
     ensures means { IfOk result (λ m. (names : List Name) (ps : List ℕ) (t : Typ) → IsOver variables.now names → HasNodes variables.now ps → DenotesConstructor at.old at.new inner.now names ps part.now t own.0 m.0) }
+    ensures untyped { OnOk result (Untyped at.old at.new) }
     ensures goes { Goes at.old at.new }
 {
     match part.argument {
@@ -603,6 +622,7 @@ fn read_constructor(
 ) -> Result<Option<Constructor>, NoMemory>
     ensures settles { OnOk result ((names : List Name) → IsOver variables.now names → HasOperand part.now → SettlesOption at.old at.new inner.now names (λ c. tell (constructor_as at.old.item part.now).node c ++ read_optional c (constructor_as at.old.item part.now).argument) (constructor_as at.old.item part.now).argument) }
     ensures means { IfOk result (λ k. (names : List Name) (ps : List ℕ) (t : Typ) → IsOver variables.now names → HasNodes variables.now ps → ReadsConstructor at.old at.new inner.now names ps part.now t own.0 k) }
+    ensures untyped { OnOk result (Untyped at.old at.new) }
     ensures goes { Goes at.old at.new }
 {
     let root = constructor_root(at, part, own, inner, variables, depth)?;
@@ -630,6 +650,7 @@ fn read_label(
 ) -> Result<Option<Label>, NoMemory>
     ensures settles { OnOk result ((names : List Name) → IsOver variables.now names → HasBody part.now → SettlesTo at.old at.new inner.now names (λ c. tell (label_as at.old.item part.now).node c ++ (label_as at.old.item part.now).body.read c) (label_as at.old.item part.now).body.node) }
     ensures means { IfOk result (λ l. (names : List Name) (ps : List ℕ) (t : Typ) → IsOver variables.now names → HasNodes variables.now ps → ReadsLabel at.old at.new inner.now names ps part.now t «record».0 l) }
+    ensures untyped { OnOk result (Untyped at.old at.new) }
     ensures goes { Goes at.old at.new }
 {
     let field = read_type(at, part.body, inner, variables, depth)?;
@@ -658,6 +679,7 @@ fn read_labels(
     ensures settles { OnOk result ((names : List Name) → IsOver variables.now names → SettlesLabels at.old at.new inner.now names parts.now) }
     ensures means { IfOk result (λ z. (names : List Name) (ps : List ℕ) (t : Typ) → IsOver variables.now names → HasNodes variables.now ps → ReadsLabels at.old at.new inner.now names ps parts.now t «record».0 (shape_labels z)) }
     ensures shape { IfOk result (λ z. IsRecord z) }
+    ensures untyped { OnOk result (Untyped at.old at.new) }
     ensures goes { Goes at.old at.new }
 {
     let mut labels = Vec::new(at.alloc());
@@ -700,7 +722,9 @@ fn generalise_labels(at: &mut Parts, labels: &[Label]) -> Result<(), NoMemory>
 }
 
 /// A count as a number of 32 bits. No text has as many parts.
-fn number_of(count: usize) -> u32 {
+fn number_of(count: usize) -> u32
+    ensures { count < 2 ^ 32 → result ≡ count }
+{
     match u32::try_from(count) {
         Ok(number) => number,
         Err(_) => u32::MAX,
@@ -963,6 +987,7 @@ pub fn type_exception(
 ) -> Result<Declared, NoMemory>
     ensures settles { OnOk result (SettlesPartIf at.old at.new env.now (first_in number (node_view item.now) 1)) }
     ensures means { IfOk result (λ d. DeclaresItem at.old at.new env.now (first_in number (node_view item.now) 1) at.old.constants.exn.0 d) }
+    ensures untyped { OnOk result (Untyped at.old at.new) }
     ensures goes { Goes at.old at.new }
 {
     let entry = exception_part(at, first_operand(item, number, 1), env, depth)?;
@@ -1019,6 +1044,7 @@ fn exception_part(
 ) -> Result<Option<Rc<Entry>>, NoMemory>
     ensures settles { OnOk result (SettlesPartIf at.old at.new env.now (option_map operand_view part.entry)) }
     ensures means { IfOk result (λ x. DeclaresPartIf at.old at.new env.now (option_map operand_view part.entry) at.old.constants.exn.0 x) }
+    ensures untyped { OnOk result (Untyped at.old at.new) }
     ensures goes { Goes at.old at.new }
 {
     let Some(part) = part else {
@@ -1043,6 +1069,7 @@ fn exception(
 ) -> Result<Option<Rc<Entry>>, NoMemory>
     ensures settles { OnOk result (SettlesConstructor at.old at.new env.now number (node_view node.now)) }
     ensures means { IfOk result (λ x. DeclaresException at.old at.new env.now number (node_view node.now) at.old.constants.exn.0 x) }
+    ensures untyped { OnOk result (Untyped at.old at.new) }
     ensures goes { Goes at.old at.new }
 {
     let root = exception_type(at, node, number, env, depth)?;
@@ -1091,6 +1118,7 @@ fn exception_type(
 ) -> Result<NodeRef, NoMemory>
     ensures settles { OnOk result (SettlesArgument at.old at.new env.now [] number (node_view node.now)) }
     ensures means { IfOk result (λ r. ClosesArgument at.old at.new env.now [] [] number (node_view node.now) exn_type at.old.constants.exn.0 r.0) }
+    ensures untyped { OnOk result (Untyped at.old at.new) }
     ensures goes { Goes at.old at.new }
 {
     let level = at.level;
@@ -1099,6 +1127,8 @@ fn exception_type(
     at.level = level;
     let root = read?;
     at.generalise(root)?;
+    // what is known of each store is made known by its length
+    let _nodes = at.store.len();
     Ok(root)
 }
 
@@ -1111,6 +1141,7 @@ fn exception_root(
 ) -> Result<NodeRef, NoMemory>
     ensures settles { OnOk result (SettlesArgument at.old at.new env.now [] number (node_view node.now)) }
     ensures means { IfOk result (λ m. DenotesArgument at.old at.new env.now [] [] number (node_view node.now) exn_type at.old.constants.exn.0 m.0) }
+    ensures untyped { OnOk result (Untyped at.old at.new) }
     ensures goes { Goes at.old at.new }
 {
     match first_operand(node, number, 2) {

@@ -6,3 +6,4 @@ pub mod Denoting
 pub mod Filled
 pub mod Answering
 pub mod Naming
+pub mod Untyped

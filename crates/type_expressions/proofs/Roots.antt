@@ -18,7 +18,7 @@ use Rattle.typing_conditions.proofs.Steps.{old_or_new}
 use Rattle.type_nodes.specs.States.{State, Keeps}
 use Rattle.type_nodes.specs.Changes.{Relevels}
 use Rattle.typing_state.specs.declared.parts.Parts.{Parts}
-use Rattle.typing_state.specs.Goes.{Goes, OnlyStore}
+use Rattle.typing_state.specs.Goes.{Goes}
 use Rattle.typing_state.proofs.Going.{with_store, put_goes}
 use Rattle.level_unify.specs.Walks.{Reached}
 use Rattle.declared_rows.specs.Unknowns.{OpensOne, OpensTo}
@@ -116,22 +116,6 @@ pub opened_goes : (at : Parts) (s : State) (n level : ℕ) → root at.store.nod
 opened_goes at s n level end x done keeps =
     let one = opened_one at.store s [] n level x.scope end x.at x.free done (λ (k, e). absurd (cc)) in
     put_goes at s keeps (record { nodes = let e = one.len in omega arith; types = opened_tight at.store.nodes s.nodes [] n one })
-
--- the store alone changes in two steps, where it does in each
-pub store_then : (a b c : Parts) → OnlyStore a b → OnlyStore b c → OnlyStore a c
-store_then a b c p q = record {
-  index = q.index ∙ p.index;
-  faults = q.faults ∙ p.faults;
-  written = q.written ∙ p.written;
-  item = q.item ∙ p.item;
-  level = q.level ∙ p.level;
-  telling = q.telling ∙ p.telling;
-  constants = q.constants ∙ p.constants;
-}
-
--- nothing changes
-pub store_same : (a : Parts) → OnlyStore a a
-store_same a = record { index = refl; faults = refl; written = refl; item = refl; level = refl; telling = refl; constants = refl }
 
 -- the roots of nodes are the same where each is
 pub roots_same : (now old : List Node) (ms : List ℕ) → ((m : ℕ) → root now m ≡ root old m) → map (root now) ms ≡ map (root old) ms

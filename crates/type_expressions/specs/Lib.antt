@@ -2,3 +2,4 @@
 pub mod Operands
 pub mod Written
 pub mod Items
+pub mod Untyped

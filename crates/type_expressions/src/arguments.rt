@@ -1,7 +1,7 @@
 //! A declaration over arguments.
 #![tactic(auto, using(typing_state::proofs::Going::goes_trans, typing_state::proofs::Going::goes_refl, typing_state::proofs::Silence::store_silent))]
 
-ghost use Rattle.std.specs.Prelude.{◌≡◌, All, false, IfOk};
+ghost use Rattle.std.specs.Prelude.{◌≡◌, All, false, IfOk, OnOk};
 ghost use Rattle.text_terms.specs.Bytes.{str_bytes};
 ghost use Rattle.signature_model.specs.Matching.{is_unknown};
 ghost use Rattle.type_nodes.specs.Changes.{Makes};
@@ -10,6 +10,7 @@ ghost use Rattle.type_nodes.specs.Views.{numbers};
 ghost use Rattle.typing_rows.specs.Declaring.{AppliesTo};
 ghost use Rattle.declared_rows.specs.Applied.{AppliesWith};
 ghost use Rattle.typing_state.specs.Goes.{Goes, OnlyStore, Silent};
+ghost use Rattle.type_expressions.specs.Untyped.{Untyped};
 
 use crate::unknowns::{open_unknowns, parameters_of};
 use env_table::{Declaration, Origin};
@@ -25,6 +26,7 @@ pub fn applied(
 ) -> Result<NodeRef, NoMemory>
     ensures carries { IfOk result (λ m. AppliesTo at.old at.new declaration.now (numbers types.now) m.0) }
     ensures silent { Silent at.old at.new }
+    ensures untyped { OnOk result (Untyped at.old at.new) }
     ensures goes { Goes at.old at.new }
 {
     if let Some(origin) = &declaration.origin {
@@ -57,6 +59,7 @@ pub fn applied_with_unknowns(
 ) -> Result<NodeRef, NoMemory>
     ensures means { IfOk result (λ m. AppliesWith at.old at.new declaration.now (numbers types.now) m.0) }
     ensures silent { Silent at.old at.new }
+    ensures untyped { OnOk result (Untyped at.old at.new) }
     ensures goes { Goes at.old at.new }
 {
     if let Some(origin) = &declaration.origin {

@@ -12,6 +12,7 @@ ghost use Rattle.typing_state.specs.Goes.{Goes, OnlyStore, Silent};
 ghost use Rattle.typing_state.specs.Types.{any_scope, level_for};
 ghost use Rattle.typing_steps.specs.Writing.{PutsVariable};
 ghost use Rattle.typing_rows.specs.Operands.{ReadsVariable};
+ghost use Rattle.type_expressions.specs.Untyped.{Untyped};
 
 use std::alloc::{AllocError, Global};
 use syntax_tree::Token;
@@ -54,6 +55,7 @@ fn put_variable(at: &mut Parts, key: String, node: NodeRef) -> Result<(), NoMemo
     ensures puts { OnOk result (get_by_text at.old.written.variables (string_bytes key) ≡ None → PutsVariable at.old at.new (string_bytes key) node) }
     ensures store { at.new.store ≡ at.old.store }
     ensures silent { Silent at.old at.new }
+    ensures untyped { OnOk result (Untyped at.old at.new) }
     ensures goes { Goes at.old at.new }
 {
     let Ok(_) = at.written.variables.insert(key, node) else {
@@ -66,6 +68,7 @@ fn put_variable(at: &mut Parts, key: String, node: NodeRef) -> Result<(), NoMemo
 pub fn written_variable(at: &mut Parts, name: &Token) -> Result<NodeRef, NoMemory>
     ensures carries { IfOk result (λ m. ReadsVariable at.old at.new (Some (tok_of name.now)) m.0) }
     ensures silent { Silent at.old at.new }
+    ensures untyped { OnOk result (Untyped at.old at.new) }
     ensures goes { Goes at.old at.new }
 {
     let key = key_of(at.alloc(), name)?;

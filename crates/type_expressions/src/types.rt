@@ -20,6 +20,7 @@ ghost use Rattle.typing_rows.specs.DeclaredOperands.{SettlesFront, SettlesGiven,
 ghost use Rattle.declared_rows.specs.Contracts.{MakesUnknown, DenotesDeclared, DenotesNamed};
 ghost use Rattle.declared_rows.specs.Operands.{DenotesEnds, DenotesFront, DenotesGiven, DenotesName, DenotesOperand, DenotesOperands, DenotesParentheses, DenotesPart, DenotesPlain, DenotesVariable, MakesArrow};
 ghost use Rattle.type_expressions.specs.Items.{HasNodes, IsOfItem, IsOver, parameter_in};
+ghost use Rattle.type_expressions.specs.Untyped.{Untyped};
 ghost use Rattle.type_expressions.specs.Operands.{several, parts_read};
 ghost use Rattle.typing_state.specs.Notes.{IsRecorded};
 
@@ -84,6 +85,7 @@ pub fn read_type(
     ensures settles { IfOk result (λ m. (names : List Name) → IsOver variables.now names → SettlesOperand at.old at.new env.now names (operand_view ty.entry)) }
     ensures means { IfOk result (λ m. (names : List Name) (ps : List ℕ) → IsOver variables.now names → HasNodes variables.now ps → DenotesOperand at.old at.new env.now names ps (operand_view ty.entry) m.0) }
     ensures recorded { OnOk result (IsRecorded at.new ty.entry.number) }
+    ensures untyped { OnOk result (Untyped at.old at.new) }
     ensures goes { Goes at.old at.new }
 {
     let read = read_row(at, ty, env, variables, depth)?;
@@ -103,6 +105,7 @@ fn read_row(
     ensures carries { IfOk result (λ r. IsOfItem variables.now → ReadsPart at.old at.new env.now ty.entry.number (place_of ty.entry.span) (part_of ty.entry.node ty.entry.span) r.ty.0) }
     ensures settles { IfOk result (λ r. (names : List Name) → IsOver variables.now names → SettlesPart at.old at.new env.now names ty.entry.number (place_of ty.entry.span) (part_of ty.entry.node ty.entry.span)) }
     ensures means { IfOk result (λ r. (names : List Name) (ps : List ℕ) → IsOver variables.now names → HasNodes variables.now ps → DenotesPart at.old at.new env.now names ps ty.entry.number (place_of ty.entry.span) (part_of ty.entry.node ty.entry.span) r.ty.0) }
+    ensures untyped { OnOk result (Untyped at.old at.new) }
     ensures goes { Goes at.old at.new }
 {
     match ty.node {
@@ -140,6 +143,7 @@ fn read_parts(
     ensures carries { IfOk result (λ ms. IsOfItem variables.now → ReadsFront at.old at.new env.now number (node_view node.now) (numbers ms.items)) }
     ensures settles { IfOk result (λ ms. (names : List Name) → IsOver variables.now names → SettlesFront at.old at.new env.now names number (node_view node.now) (numbers ms.items)) }
     ensures means { IfOk result (λ ms. (names : List Name) (ps : List ℕ) → IsOver variables.now names → HasNodes variables.now ps → DenotesFront at.old at.new env.now names ps number (node_view node.now) (numbers ms.items)) }
+    ensures untyped { OnOk result (Untyped at.old at.new) }
     ensures goes { Goes at.old at.new }
 {
     match node.row {
@@ -164,6 +168,7 @@ fn read_given(
     ensures settles { IfOk result (λ ms. (names : List Name) → IsOver variables.now names → SettlesGiven at.old at.new env.now names (operand_view left.entry) (numbers ms.items)) }
     ensures means { IfOk result (λ ms. (names : List Name) (ps : List ℕ) → IsOver variables.now names → HasNodes variables.now ps → DenotesGiven at.old at.new env.now names ps (operand_view left.entry) (numbers ms.items)) }
     ensures recorded { OnOk result (IsRecorded at.new left.entry.number) }
+    ensures untyped { OnOk result (Untyped at.old at.new) }
     ensures goes { Goes at.old at.new }
 {
     match several_in(at.alloc(), left)? {
@@ -190,6 +195,7 @@ fn read_each(
     ensures carries { IfOk result (λ ms. IsOfItem variables.now → ReadsOperands at.old at.new env.now (map operand_view parts.now) (numbers ms.items)) }
     ensures settles { IfOk result (λ ms. (names : List Name) → IsOver variables.now names → SettlesOperands at.old at.new env.now names (map operand_view parts.now) (numbers ms.items)) }
     ensures means { IfOk result (λ ms. (names : List Name) (ps : List ℕ) → IsOver variables.now names → HasNodes variables.now ps → DenotesOperands at.old at.new env.now names ps (map operand_view parts.now) (numbers ms.items)) }
+    ensures untyped { OnOk result (Untyped at.old at.new) }
     ensures goes { Goes at.old at.new }
 {
     let mut types = Vec::new(at.alloc());
@@ -225,6 +231,7 @@ fn formed(
     ensures carries { IfOk result (λ r. IsOfItem variables.now → EndsRow at.old at.new env.now (node_view node.now) (numbers types.now) r.ty.0) }
     ensures settles { IfOk result (λ r. (names : List Name) → IsOver variables.now names → SettlesRow at.old at.new env.now names (node_view node.now) (numbers types.now)) }
     ensures means { IfOk result (λ r. (names : List Name) (ps : List ℕ) → IsOver variables.now names → HasNodes variables.now ps → DenotesEnds at.old at.new env.now names ps (node_view node.now) (numbers types.now) r.ty.0) }
+    ensures untyped { OnOk result (Untyped at.old at.new) }
     ensures goes { Goes at.old at.new }
 {
     match node.row {
@@ -254,6 +261,7 @@ fn composed(
     ensures carries { IfOk result (λ m. IsOfItem variables.now → EndsPlainRow at.old at.new (node_view node.now) (numbers types.now) m.0) }
     ensures settles { IfOk result (λ m. (names : List Name) → IsOver variables.now names → SettlesPlainRow at.old at.new names (node_view node.now) (numbers types.now)) }
     ensures means { IfOk result (λ m. (names : List Name) (ps : List ℕ) → IsOver variables.now names → HasNodes variables.now ps → DenotesPlain at.old at.new names ps (node_view node.now) (numbers types.now) m.0) }
+    ensures untyped { OnOk result (Untyped at.old at.new) }
     ensures goes { Goes at.old at.new }
 {
     match node.row {
@@ -281,6 +289,7 @@ fn arrow_between(
     ensures carries { IfOk result (λ m. IsOfItem variables.now → MakesArrowOver at.old at.new (numbers types.now) m.0) }
     ensures arrow { IfOk result (λ m. MakesArrow at.old at.new (numbers types.now) m.0) }
     ensures silent { Silent at.old at.new }
+    ensures untyped { OnOk result (Untyped at.old at.new) }
     ensures goes { Goes at.old at.new }
 {
     if are_two(types) {
@@ -299,6 +308,7 @@ fn in_parentheses(
     ensures carries { IfOk result (λ m. IsOfItem variables.now → EndsParentheses at.old at.new (place_of (out-Node node.now).span) (numbers types.now) m.0) }
     ensures settles { IfOk result (λ m. (names : List Name) → IsOver variables.now names → SettlesParentheses at.old at.new names (place_of (out-Node node.now).span) (numbers types.now)) }
     ensures means { IfOk result (λ m. (names : List Name) (ps : List ℕ) → IsOver variables.now names → HasNodes variables.now ps → DenotesParentheses at.old at.new names ps (place_of (out-Node node.now).span) (numbers types.now) m.0) }
+    ensures untyped { OnOk result (Untyped at.old at.new) }
     ensures goes { Goes at.old at.new }
 {
     match types {
@@ -320,6 +330,7 @@ fn variable(
     ensures carries { IfOk result (λ m. IsOfItem variables.now → ReadsVariable at.old at.new (option_map (λ t. tok_of t.now) name.entry) m.0) }
     ensures settles { IfOk result (λ m. (names : List Name) → IsOver variables.now names → SettlesVariable at.old at.new names (option_map (λ t. tok_of t.now) name.entry)) }
     ensures means { IfOk result (λ m. (names : List Name) (ps : List ℕ) → IsOver variables.now names → HasNodes variables.now ps → DenotesVariable at.old at.new names ps (option_map (λ t. tok_of t.now) name.entry) m.0) }
+    ensures untyped { OnOk result (Untyped at.old at.new) }
     ensures goes { Goes at.old at.new }
 {
     let Some(name) = name else {
@@ -350,6 +361,7 @@ fn constructed(
     ensures carries { IfOk result (λ r. IsOfItem variables.now → EndsName at.old at.new env.now (path_as (path_view path.now)) (numbers types.now) r.ty.0) }
     ensures settles { IfOk result (λ r. (names : List Name) → IsOver variables.now names → SettlesName at.old at.new env.now names (path_as (path_view path.now)) (numbers types.now)) }
     ensures means { IfOk result (λ r. (names : List Name) (ps : List ℕ) → IsOver variables.now names → HasNodes variables.now ps → DenotesName at.old at.new env.now names ps (path_as (path_view path.now)) (numbers types.now) r.ty.0) }
+    ensures untyped { OnOk result (Untyped at.old at.new) }
     ensures goes { Goes at.old at.new }
 {
     let Some(last) = path.last else {
@@ -374,6 +386,7 @@ fn named_type(
     ensures carries { IfOk result (λ m. IsOfItem variables.now → NamesTo (option_map (λ r. r.value) (option_copied entry.entry)) at.old at.new (tok_of last.now) (numbers types.now) m.0) }
     ensures settles { IfOk result (λ m. (names : List Name) → IsOver variables.now names → SettlesNamed (option_map (λ r. r.value) (option_copied entry.entry)) at.old at.new names (tok_of last.now) (numbers types.now)) }
     ensures means { IfOk result (λ m. (names : List Name) → IsOver variables.now names → DenotesNamed (option_map (λ r. r.value) (option_copied entry.entry)) at.old at.new names (tok_of last.now) (numbers types.now) m.0) }
+    ensures untyped { OnOk result (Untyped at.old at.new) }
     ensures goes { Goes at.old at.new }
 {
     match entry {
@@ -403,6 +416,7 @@ fn declared(
     ensures carries { IfOk result (λ m. IsOfItem variables.now → DeclaresTo at.old at.new (tok_of last.now) entry.now (numbers types.now) m.0) }
     ensures settles { IfOk result (λ m. (names : List Name) → IsOver variables.now names → SettlesDeclared (declared_in entry.now.what) at.old at.new names (tok_of last.now) (numbers types.now)) }
     ensures means { IfOk result (λ m. (names : List Name) → IsOver variables.now names → DenotesDeclared (declared_in entry.now.what) at.old at.new names (tok_of last.now) (numbers types.now) m.0) }
+    ensures untyped { OnOk result (Untyped at.old at.new) }
     ensures goes { Goes at.old at.new }
 {
     let Some(declaration) = declaration_behind(entry) else {

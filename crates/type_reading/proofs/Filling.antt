@@ -4,6 +4,7 @@ use Rattle.std.proofs.lemmas.List.{drop_more, drop_all}
 use Rattle.type_terms.specs.declared.types.NodeRef.{NodeRef}
 use Rattle.type_nodes.specs.Views.{numbers}
 use Rattle.typing_state.specs.declared.parts.Parts.{Parts}
+use Rattle.typing_state.specs.Goes.{OnlyStore}
 use Rattle.type_reading.specs.Filling.{JoinsOne, JoinsAll}
 
 -- a part before the last one
@@ -60,3 +61,19 @@ pub all_joined : (a : Parts) (xs : List NodeRef) (i : ℕ) (ps : List ℕ) → l
 all_joined a xs i ps le many =
     let m = many_numbers xs in
     subst (λ us. JoinsAll a a us (drop i (numbers xs))) (sym (drop_all i ps (omega (arith, m, many, le)))) (subst (λ us. JoinsAll a a [] us) (sym (drop_all i (numbers xs) (omega (arith, m, le)))) refl)
+
+-- the store alone changes in two steps, where it does in each
+pub store_then : {a b c : Parts} → OnlyStore a b → OnlyStore b c → OnlyStore a c
+store_then p q = record {
+  index = q.index ∙ p.index;
+  faults = q.faults ∙ p.faults;
+  written = q.written ∙ p.written;
+  item = q.item ∙ p.item;
+  level = q.level ∙ p.level;
+  telling = q.telling ∙ p.telling;
+  constants = q.constants ∙ p.constants;
+}
+
+-- nothing changes
+pub store_same : (a : Parts) → OnlyStore a a
+store_same a = record { index = refl; faults = refl; written = refl; item = refl; level = refl; telling = refl; constants = refl }

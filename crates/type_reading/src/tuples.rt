@@ -5,7 +5,7 @@ ghost use Rattle.std.specs.Prelude.{◌≡◌, ℕ, List, Some, IfOk, OnOk};
 ghost use Rattle.type_nodes.specs.Nodes.{Node as plain, IsNode};
 ghost use Rattle.type_nodes.specs.Links.{reading};
 ghost use Rattle.type_nodes.specs.Views.{numbers};
-ghost use Rattle.typing_state.specs.Goes.{Goes, Silent};
+ghost use Rattle.typing_state.specs.Goes.{Goes, OnlyStore, Silent};
 ghost use Rattle.type_reading.specs.Filling.{Fills, JoinsOne};
 
 use crate::copies::copied_list;
@@ -25,6 +25,7 @@ fn parts_of(at: &Parts, tuple: NodeRef) -> Result<Vec<NodeRef>, NoMemory>
 /// Two types are made one, where they can be.
 fn joined(at: &mut Parts, a: NodeRef, b: NodeRef) -> Result<(), NoMemory>
     ensures one { OnOk result (JoinsOne at.old at.new a.0 b.0) }
+    ensures rest { OnlyStore at.old at.new }
     ensures silent { Silent at.old at.new }
     ensures goes { Goes at.old at.new }
 {
@@ -36,6 +37,7 @@ fn joined(at: &mut Parts, a: NodeRef, b: NodeRef) -> Result<(), NoMemory>
 /// The last part of a tuple, each of whose other parts is made one with one of these types.
 pub fn filled(at: &mut Parts, tuple: NodeRef, types: &[NodeRef]) -> Result<NodeRef, NoMemory>
     ensures fills { IfOk result (λ m. Fills at.old at.new tuple.0 (numbers types.now) m.0) }
+    ensures rest { OnlyStore at.old at.new }
     ensures silent { Silent at.old at.new }
     ensures goes { Goes at.old at.new }
 {

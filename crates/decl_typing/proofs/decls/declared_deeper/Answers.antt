@@ -1,5 +1,6 @@
+use Rattle.type_expressions.proofs.Untyped.{untyped_then, store_untyped}
 use Rattle.typing_state.proofs.Going.{goes_trans}
-use Rattle.decl_typing.proofs.Levels.{with_level, deeper_goes}
+use Rattle.decl_typing.proofs.Levels.{with_level, deeper_goes, deeper_untyped}
 use Rattle.std.proofs.Common.{arith}
 use Rattle.decl_typing.proofs.Owned.{type_closed}
 use Rattle.decl_typing.proofs.decls.declared_deeper.Goals as goal
@@ -17,3 +18,6 @@ pub returns-clause-means : goal.returns-clause-means
 returns-clause-means c =
     type_closed c.args.at.now c.declared_in-read.new.at c.generalise_declared.new.at c.saturating_add-at.result c.args.inner.now c.args.part.now c.in_ok-root.root.0 c.in_ok-root.body.0 c.in_ok-root.shape (λ zero. omega arith) c.in_ok-root.ensures.means c.in_ok-generalise_declared.ensures.closes
     c.in_ok-generalise_declared.ensures.sound c.in_ok-generalise_declared.ensures.plain c.generalise_declared.ensures.rest c.generalise_declared.ensures.goes
+
+pub returns-clause-untyped : goal.returns-clause-untyped
+returns-clause-untyped c = untyped_then (deeper_untyped c.args.at.now c.declared_in-read.new.at c.saturating_add-at.result c.args.at.now.level c.in_ok-root.ensures.untyped) (store_untyped (with_level c.declared_in-read.new.at c.args.at.now.level) c.generalise_declared.new.at c.generalise_declared.ensures.rest)

@@ -1,3 +1,4 @@
+use Rattle.type_expressions.proofs.Untyped.{untyped_then, store_untyped}
 use Rattle.typing_state.proofs.Going.{goes_trans}
 use Rattle.std.proofs.Common.{◌≡◌, ◌∙◌, [], ◌∷◌, length, refl, sym, ap, subst}
 use Rattle.std.proofs.lemmas.List.{length-map}
@@ -45,3 +46,6 @@ returns-clause-means c = λ right.
     subst (λ x. MakesOwn b d ps (number_of b.item part.number ∷ []) x.0.0 x.1.0) (sym side.0) (subst (λ xs. MakesOwn b d (nodes_of xs) (number_of b.item part.number ∷ []) c.in_ok-own.own.0.0 c.in_ok-own.own.1.0) c.deref-3.ensures.value c.in_ok-own.ensures.means) in
     type_made c.args.at.now b d c.right_side.new.at c.read_told.new.at c.args.inner.now part ps root body c.in_ok-shape.shape many c.in_ok-parameters.ensures.means c.new_parameters.ensures.rest c.new_parameters.ensures.goes makes c.own_type.ensures.rest c.own_type.ensures.goes side.1
     c.right_side.ensures.goes (λ t. c.in_ok-shape.ensures.means (token_names part.parameters.items) ps t named refl) right
+
+pub returns-clause-untyped : goal.returns-clause-untyped
+returns-clause-untyped c = untyped_then (untyped_then (untyped_then (store_untyped c.args.at.now c.new_parameters.new.at c.new_parameters.ensures.rest) (store_untyped c.new_parameters.new.at c.own_type.new.at c.own_type.ensures.rest)) c.in_ok-root.ensures.untyped) c.in_ok-shape.ensures.untyped

@@ -8,7 +8,8 @@ use Rattle.type_nodes.specs.Views.{numbers}
 use Rattle.type_nodes.specs.Changes.{Makes}
 use Rattle.env_table.specs.declared.NodeRef.{NodeRef}
 use Rattle.typing_state.proofs.Going.{goes_refl}
-use Rattle.decl_typing.proofs.Parameters.{only_none, root_alone, root_tuple}
+use Rattle.type_reading.proofs.Filling.{store_same}
+use Rattle.decl_typing.proofs.Parameters.{root_alone, root_tuple}
 use Rattle.decl_typing.proofs.decls.declared_root.Goals as goal
 
 -- a list that isn't empty has numbers
@@ -33,13 +34,13 @@ pub returns-clause-goes : goal.returns-clause-goes
 returns-clause-goes c = c.tuple.ensures.goes
 
 pub returns-in_err-push-clause-rest : goal.returns-in_err-push-clause-rest
-returns-in_err-push-clause-rest c = only_none c.args.at.now
+returns-in_err-push-clause-rest c = store_same c.args.at.now
 
 pub returns-in_err-push-clause-goes : goal.returns-in_err-push-clause-goes
 returns-in_err-push-clause-goes c = goes_refl c.args.at.now
 
 pub returns-in_err-push-2-clause-rest : goal.returns-in_err-push-2-clause-rest
-returns-in_err-push-2-clause-rest c = only_none c.args.at.now
+returns-in_err-push-2-clause-rest c = store_same c.args.at.now
 
 pub returns-in_err-push-2-clause-goes : goal.returns-in_err-push-2-clause-goes
 returns-in_err-push-2-clause-goes c = goes_refl c.args.at.now
@@ -49,7 +50,7 @@ returns-then-is_empty-clause-means c =
     root_alone c.args.at.now (numbers c.args.parameters.now) c.args.body.0 (ap numbers (nil_from_length c.args.parameters.now (eqb-true (length c.args.parameters.now) 0 (sym c.is_empty.ensures ∙ c.if-is_empty.true))))
 
 pub returns-then-is_empty-clause-rest : goal.returns-then-is_empty-clause-rest
-returns-then-is_empty-clause-rest c = only_none c.args.at.now
+returns-then-is_empty-clause-rest c = store_same c.args.at.now
 
 pub returns-then-is_empty-clause-goes : goal.returns-then-is_empty-clause-goes
 returns-then-is_empty-clause-goes c = goes_refl c.args.at.now

@@ -1,5 +1,6 @@
+use Rattle.type_expressions.proofs.Untyped.{untyped_then, noted_untyped, plain_untyped}
 use Rattle.typing_state.proofs.Going.{goes_trans}
-use Rattle.std.proofs.Common.{◌∙◌, option_map, sym, ap}
+use Rattle.std.proofs.Common.{◌∙◌, None, option_map, refl, sym, ap}
 use Rattle.token_model.specs.Kinds.{Tok}
 use Rattle.syntax_tree.specs.View.{node_view, tok_of}
 use Rattle.typing_rows.proofs.DeclaredOrdered.{index_reports}
@@ -47,3 +48,9 @@ returns-clause-means c = record {
 
 pub returns-in_default-clause-means : goal.returns-in_default-clause-means
 returns-in_default-clause-means c = sym c.token.ensures ∙ ap (option_map (λ t. tok_of t.now)) c.in_default.is
+
+pub returns-clause-untyped : goal.returns-clause-untyped
+returns-clause-untyped c = untyped_then c.in_ok-root.ensures.untyped (noted_untyped c.exception_type.new.at c.note.new.self c.args.number (record { env = c.args.env.now; ty = None; names = c.in_ok-names.names }) refl c.in_ok-note.ensures.noted c.note.ensures.rest)
+
+pub returns-in_default-clause-untyped : goal.returns-in_default-clause-untyped
+returns-in_default-clause-untyped c = untyped_then c.in_ok-root.ensures.untyped (plain_untyped c.exception_type.new.at c.note_plain.new.self c.args.number c.args.env.now c.in_ok-note_plain.ensures.noted c.note_plain.ensures.rest)

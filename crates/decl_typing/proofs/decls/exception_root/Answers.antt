@@ -1,3 +1,4 @@
+use Rattle.type_expressions.proofs.Untyped.{untyped_same, untyped_then, store_untyped, ok_any}
 use Rattle.typing_state.proofs.Going.{goes_refl, goes_trans}
 use Rattle.std.proofs.Common.{◌≡◌, ◌∙◌, [], Some, None, option_map, refl, sym, ap, subst}
 use Rattle.std.proofs.lemmas.Result.{IfOk-weaker}
@@ -9,7 +10,7 @@ use Rattle.type_nodes.specs.Nodes.{IsNode, Arrow}
 use Rattle.type_nodes.specs.Changes.{Makes}
 use Rattle.type_expressions.specs.Items.{names_of, nodes_of}
 use Rattle.decl_typing.proofs.Denoting.{no_argument, some_argument}
-use Rattle.decl_typing.proofs.Settling.{on_any, no_settles, some_settles}
+use Rattle.decl_typing.proofs.Settling.{no_settles, some_settles}
 use Rattle.decl_typing.proofs.decls.exception_root.Goals as goal
 
 pub returns-in-None-clause-goes : goal.returns-in-None-clause-goes
@@ -32,7 +33,7 @@ returns-in_ok-from-in-Some-clause-settles c =
     let t = node_view c.args.node.now in
     let o = operand_view c.in-Some.argument in
     let there : first_in c.args.number t 2 ≡ Some o = sym c.first_operand.ensures ∙ ap (option_map operand_view) c.in-Some.is in
-    on_any c.arrow.result _ (some_settles c.args.at.now c.read_type.new.at c.arrow.new.self c.args.env.now [] o (store_reports c.read_type.new.at c.arrow.new.self c.arrow.ensures.rest)
+    ok_any c.arrow.result _ (some_settles c.args.at.now c.read_type.new.at c.arrow.new.self c.args.env.now [] o (store_reports c.read_type.new.at c.arrow.new.self c.arrow.ensures.rest)
     (c.in_ok-from-in-Some.ensures.settles [] (ap names_of c.new.ensures.items)) c.args.number t there)
 
 pub returns-in-None-clause-means : goal.returns-in-None-clause-means
@@ -48,3 +49,9 @@ returns-in_ok-from-in-Some-clause-means c =
     (c.in_ok-from-in-Some.ensures.means [] [] (ap names_of c.new.ensures.items) (ap nodes_of c.new.ensures.items))
     (subst (λ k. IsNode c.read_type.new.at.store.nodes c.in_ok-from-in-Some.from.0 → IsNode c.read_type.new.at.store.nodes k.exn.0 → Makes c.read_type.new.at.store c.arrow.new.self.store m.0 (Arrow c.in_ok-from-in-Some.from.0 k.exn.0)) c.read_type.ensures.goes.constants made)
     c.arrow.ensures.rest c.arrow.ensures.goes) c.arrow.ensures.made
+
+pub returns-in-None-clause-untyped : goal.returns-in-None-clause-untyped
+returns-in-None-clause-untyped c = untyped_same c.args.at.now
+
+pub returns-in_ok-from-in-Some-clause-untyped : goal.returns-in_ok-from-in-Some-clause-untyped
+returns-in_ok-from-in-Some-clause-untyped c = ok_any c.arrow.result _ (untyped_then c.in_ok-from-in-Some.ensures.untyped (store_untyped c.read_type.new.at c.arrow.new.self c.arrow.ensures.rest))

@@ -1,5 +1,7 @@
+use Rattle.typing_steps.proofs.Schemes.{plain_nodes}
+use Rattle.type_expressions.proofs.Untyped.{untyped_then, store_untyped}
 use Rattle.typing_state.proofs.Going.{goes_trans}
-use Rattle.decl_typing.proofs.Levels.{with_level, deeper_goes}
+use Rattle.decl_typing.proofs.Levels.{with_level, deeper_goes, deeper_untyped}
 use Rattle.std.proofs.Common.{[], arith}
 use Rattle.syntax_tree.specs.View.{node_view}
 use Rattle.typing_rows.proofs.DeclaredOrdered.{store_reports}
@@ -27,4 +29,7 @@ returns-clause-means c =
     let at = c.args.at.now in
     let read = c.exception_root-read.new.at in
     closed_denotes at read c.generalise.new.self c.saturating_add-at.result c.args.env.now [] [] c.args.number (node_view c.args.node.now) exn_type at.constants.exn.0 c.in_ok-root.root.0 (λ zero. omega arith)
-    c.in_ok-root.ensures.means c.in_ok-generalise.ensures.bound c.generalise.ensures.rest c.generalise.ensures.goes
+    c.in_ok-root.ensures.means c.in_ok-generalise.ensures.bound c.in_ok-generalise.ensures.sound (plain_nodes c.generalise.new.self.store.nodes c.len-nodes.ensures.plain) c.generalise.ensures.rest c.generalise.ensures.goes
+
+pub returns-clause-untyped : goal.returns-clause-untyped
+returns-clause-untyped c = untyped_then (deeper_untyped c.args.at.now c.exception_root-read.new.at c.saturating_add-at.result c.args.at.now.level c.in_ok-root.ensures.untyped) (store_untyped (with_level c.exception_root-read.new.at c.args.at.now.level) c.generalise.new.self c.generalise.ensures.rest)

@@ -1,14 +1,15 @@
-use Rattle.std.proofs.Common.{◌∙◌, ◌+◌, ◌<◌, [], ◌∷◌, ◌++◌, length, take, sym, ap, subst, arith}
+use Rattle.std.proofs.Common.{◌∙◌, ◌<◌, [], ◌∷◌, ◌++◌, length, take, sym, ap, subst, arith}
 use Rattle.std.specs.Prelude.{OnOk}
 use Rattle.std.proofs.lemmas.List.{map-append, take_all, take_more}
 use Rattle.env_table.specs.declared.entries.Constructor.{Constructor}
 use Rattle.typing_state.proofs.Going.{goes_refl, goes_trans}
 use Rattle.decl_typing.specs.Parameters.{constructor_roots, label_roots, shape_roots, ClosesRoots}
-use Rattle.decl_typing.proofs.Parameters.{only_none, only_then, closes_none, closes_both, closes_root}
+use Rattle.type_reading.proofs.Filling.{store_same, store_then}
+use Rattle.decl_typing.proofs.Parameters.{closes_none, closes_both, closes_root}
 use Rattle.decl_typing.proofs.decls.generalise_shape.Goals as goal
 
 pub loop-constructor-init : goal.loop-constructor-init
-loop-constructor-init c = record { goes = goes_refl c.args.at.now; rest = only_none c.args.at.now; closes = closes_none c.args.at.now }
+loop-constructor-init c = record { goes = goes_refl c.args.at.now; rest = store_same c.args.at.now; closes = closes_none c.args.at.now }
 
 pub loop-constructor-preserved : goal.loop-constructor-preserved
 loop-constructor-preserved c =
@@ -22,7 +23,7 @@ loop-constructor-preserved c =
     let inv = c.loop-constructor.invariant in
     record {
       goes = goes_trans at mid new inv.goes c.generalise.ensures.goes;
-      rest = only_then inv.rest c.generalise.ensures.rest;
+      rest = store_then inv.rest c.generalise.ensures.rest;
       closes =
           subst (ClosesRoots at new) (sym (ap constructor_roots (take_more ks k x lt ∙ ap (λ y. take k ks ++ y ∷ []) (sym c.constructor-item.is)) ∙ map-append (λ (y : Constructor). y.root.0) (take k ks) (x ∷ [])))
           (closes_both at mid new (constructor_roots (take k ks)) (x.root.0 ∷ []) inv.closes inv.rest (closes_root mid new x.root.0 c.in_ok-generalise-in-Variant.ensures.bound));
@@ -54,13 +55,13 @@ pub returns-in-Opaque-clause-closes : goal.returns-in-Opaque-clause-closes
 returns-in-Opaque-clause-closes c = subst (λ z. ClosesRoots c.args.at.now c.args.at.now (shape_roots z)) (sym c.in-Opaque.is) (closes_none c.args.at.now)
 
 pub returns-in-Opaque-clause-rest : goal.returns-in-Opaque-clause-rest
-returns-in-Opaque-clause-rest c = only_none c.args.at.now
+returns-in-Opaque-clause-rest c = store_same c.args.at.now
 
 pub returns-in-Opaque-clause-goes : goal.returns-in-Opaque-clause-goes
 returns-in-Opaque-clause-goes c = goes_refl c.args.at.now
 
 pub returns-in_err-generalise-in-Variant-clause-rest : goal.returns-in_err-generalise-in-Variant-clause-rest
-returns-in_err-generalise-in-Variant-clause-rest c = only_then c.loop-constructor.invariant.rest c.generalise.ensures.rest
+returns-in_err-generalise-in-Variant-clause-rest c = store_then c.loop-constructor.invariant.rest c.generalise.ensures.rest
 
 pub returns-in_err-generalise-in-Variant-clause-goes : goal.returns-in_err-generalise-in-Variant-clause-goes
 returns-in_err-generalise-in-Variant-clause-goes c = goes_trans c.args.at.now c.loop-constructor.at c.generalise.new.self c.loop-constructor.invariant.goes c.generalise.ensures.goes

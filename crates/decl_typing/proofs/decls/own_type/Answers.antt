@@ -8,7 +8,8 @@ use Rattle.type_expressions.specs.Items.{nodes_of}
 use Rattle.operand_laws.specs.Operands.{number_of}
 use Rattle.typing_state.proofs.Going.{goes_trans, goes_refl}
 use Rattle.decl_typing.specs.Parameters.{MakesDeclared}
-use Rattle.decl_typing.proofs.Parameters.{only_none, only_then, own_made}
+use Rattle.type_reading.proofs.Filling.{store_same, store_then}
+use Rattle.decl_typing.proofs.Parameters.{own_made}
 use Rattle.decl_typing.proofs.decls.own_type.Goals as goal
 
 pub returns-clause-means : goal.returns-clause-means
@@ -30,7 +31,7 @@ returns-clause-means c =
     (subst (λ ms. MakesDeclared made after ms body root) given' c.in_ok-root.ensures.means)
 
 pub returns-clause-rest : goal.returns-clause-rest
-returns-clause-rest c = only_then c.con.ensures.rest c.declared_root.ensures.rest
+returns-clause-rest c = store_then c.con.ensures.rest c.declared_root.ensures.rest
 
 pub returns-clause-goes : goal.returns-clause-goes
 returns-clause-goes c = goes_trans c.args.at.now c.con.new.self c.declared_root.new.at c.con.ensures.goes c.declared_root.ensures.goes
@@ -42,19 +43,19 @@ pub returns-in_err-body-clause-goes : goal.returns-in_err-body-clause-goes
 returns-in_err-body-clause-goes c = c.con.ensures.goes
 
 pub returns-in_err-nodes-clause-rest : goal.returns-in_err-nodes-clause-rest
-returns-in_err-nodes-clause-rest c = only_none c.args.at.now
+returns-in_err-nodes-clause-rest c = store_same c.args.at.now
 
 pub returns-in_err-nodes-clause-goes : goal.returns-in_err-nodes-clause-goes
 returns-in_err-nodes-clause-goes c = goes_refl c.args.at.now
 
 pub returns-in_err-origin-clause-rest : goal.returns-in_err-origin-clause-rest
-returns-in_err-origin-clause-rest c = only_none c.args.at.now
+returns-in_err-origin-clause-rest c = store_same c.args.at.now
 
 pub returns-in_err-origin-clause-goes : goal.returns-in_err-origin-clause-goes
 returns-in_err-origin-clause-goes c = goes_refl c.args.at.now
 
 pub returns-in_err-root-clause-rest : goal.returns-in_err-root-clause-rest
-returns-in_err-root-clause-rest c = only_then c.con.ensures.rest c.declared_root.ensures.rest
+returns-in_err-root-clause-rest c = store_then c.con.ensures.rest c.declared_root.ensures.rest
 
 pub returns-in_err-root-clause-goes : goal.returns-in_err-root-clause-goes
 returns-in_err-root-clause-goes c = goes_trans c.args.at.now c.con.new.self c.declared_root.new.at c.con.ensures.goes c.declared_root.ensures.goes

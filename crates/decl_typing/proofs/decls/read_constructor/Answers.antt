@@ -1,3 +1,4 @@
+use Rattle.type_expressions.proofs.Untyped.{untyped_then, plain_untyped}
 use Rattle.typing_state.proofs.Going.{goes_refl, goes_trans}
 use Rattle.std.proofs.Common.{◌∙◌, Some, option_map, refl, sym, ap}
 use Rattle.text_terms.specs.Bytes.{str_bytes}
@@ -55,3 +56,9 @@ returns-in_ok-share-in-Some-clause-means c = λ names ps t over nodes.
         takes = c.is_some.ensures;
       };
     }
+
+pub returns-in_ok-note_plain-in-None-clause-untyped : goal.returns-in_ok-note_plain-in-None-clause-untyped
+returns-in_ok-note_plain-in-None-clause-untyped c = untyped_then c.in_ok-root.ensures.untyped (plain_untyped c.constructor_root.new.at c.note_plain.new.self c.args.part.now.number c.args.inner.now c.in_ok-note_plain-in-None.ensures.noted c.note_plain.ensures.rest)
+
+pub returns-in_ok-share-in-Some-clause-untyped : goal.returns-in_ok-share-in-Some-clause-untyped
+returns-in_ok-share-in-Some-clause-untyped c = c.in_ok-root.ensures.untyped

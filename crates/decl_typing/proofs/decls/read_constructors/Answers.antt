@@ -1,3 +1,4 @@
+use Rattle.type_expressions.proofs.Untyped.{untyped_same, untyped_then, faults_untyped}
 use Rattle.std.proofs.Common.{◌≡◌, ◌∙◌, [], rules, ◌+◌, ◌<◌, length, take, drop, Some, None, sym, ap, subst, arith, append-nil}
 use Rattle.std.proofs.lemmas.List.{drop_all, take_all, nil_from_length}
 use Rattle.std.proofs.lemmas.Bool.{eqb-true}
@@ -27,7 +28,7 @@ pub returns-then-is_empty-clause-goes : goal.returns-then-is_empty-clause-goes
 returns-then-is_empty-clause-goes c = goes_trans c.args.at.now c.loop-part.at c.names_are_new.new.at c.loop-part.invariant.goes c.names_are_new.ensures.goes
 
 pub loop-part-init : goal.loop-part-init
-loop-part-init c = record { goes = goes_refl c.args.at.now; settles = λ names over all aloud B around. none_read (constructors_as c.args.at.now.item c.args.parts.now); means = λ names ps t over nodes. none_denoted c.args.at.now c.args.inner.now names ps c.args.parts.now t c.args.own.0 c.new-constructors.result.items c.new-constructors.ensures.items }
+loop-part-init c = record { goes = goes_refl c.args.at.now; untyped = untyped_same c.args.at.now; settles = λ names over all aloud B around. none_read (constructors_as c.args.at.now.item c.args.parts.now); means = λ names ps t over nodes. none_denoted c.args.at.now c.args.inner.now names ps c.args.parts.now t c.args.own.0 c.new-constructors.result.items c.new-constructors.ensures.items }
 
 pub loop-part-preserved : goal.loop-part-preserved
 loop-part-preserved c =
@@ -37,6 +38,7 @@ loop-part-preserved c =
     let lt : k < length ps = let n = c.loop-part-test.true in omega arith in
     record {
       goes = goes_trans at c.loop-part.at c.read_constructor.new.at c.loop-part.invariant.goes c.read_constructor.ensures.goes;
+      untyped = untyped_then c.loop-part.invariant.untyped c.in_ok-constructor.ensures.untyped;
       settles = λ names over. each_constructor at c.loop-part.at c.read_constructor.new.at c.args.inner.now names ps k c.part-item.result lt c.part-item.is (c.loop-part.invariant.settles names over) c.loop-part.invariant.goes (c.in_ok-constructor.ensures.settles names over);
       means = λ names qs t over nodes. elim c.match-constructor.branch [
         | in-Some+in_ok-push w ↦
@@ -94,3 +96,9 @@ returns-then-is_empty-clause-means c = λ names qs t over nodes.
     (subst (λ left. ReadsFirst at mid c.args.inner.now names qs ps left (take k ps) t c.args.own.0 c.loop-part.constructors.items) none (c.loop-part.invariant.means names qs t over nodes)) in
     let len : length c.loop-part.constructors.items ≡ c.loop-part.constructors.len = search rules in
     subst (ReadsConstructors at c.names_are_new.new.at c.args.inner.now names qs ps t c.args.own.0) (nil_from_length c.loop-part.constructors.items (len ∙ eqb-true c.loop-part.constructors.len 0 (sym c.is_empty.ensures ∙ c.if-is_empty.true))) (all_denoted at mid c.names_are_new.new.at c.args.inner.now names qs ps t c.args.own.0 c.loop-part.constructors.items c.loop-part.invariant.goes c.names_are_new.ensures.rest c.names_are_new.ensures.goes c.in_ok-names_are_new.ensures.settles first)
+
+pub returns-then-is_empty-clause-untyped : goal.returns-then-is_empty-clause-untyped
+returns-then-is_empty-clause-untyped c = untyped_then c.loop-part.invariant.untyped (faults_untyped c.loop-part.at c.names_are_new.new.at c.names_are_new.ensures.rest)
+
+pub returns-else-is_empty-clause-untyped : goal.returns-else-is_empty-clause-untyped
+returns-else-is_empty-clause-untyped c = untyped_then c.loop-part.invariant.untyped (faults_untyped c.loop-part.at c.names_are_new.new.at c.names_are_new.ensures.rest)

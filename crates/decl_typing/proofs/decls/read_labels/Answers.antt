@@ -1,3 +1,4 @@
+use Rattle.type_expressions.proofs.Untyped.{untyped_same, untyped_then, faults_untyped}
 use Rattle.std.proofs.Common.{◌∙◌, [], ◌+◌, ◌<◌, length, take, drop, Some, None, sym, ap, subst, arith, append-nil}
 use Rattle.std.proofs.lemmas.List.{drop_all, take_all}
 use Rattle.typing_state.proofs.Going.{goes_refl, goes_trans}
@@ -23,7 +24,7 @@ pub returns-in_err-push-clause-goes : goal.returns-in_err-push-clause-goes
 returns-in_err-push-clause-goes c = goes_trans c.args.at.now c.loop-part.at c.read_label.new.at c.loop-part.invariant.goes c.read_label.ensures.goes
 
 pub loop-part-init : goal.loop-part-init
-loop-part-init c = record { goes = goes_refl c.args.at.now; settles = λ names over all aloud B around. none_read (labels_as c.args.at.now.item c.args.parts.now); means = λ names ps t over nodes. no_fields c.args.at.now c.args.inner.now names ps c.args.parts.now t c.args.record.0 c.new-labels.result.items c.new-labels.ensures.items }
+loop-part-init c = record { goes = goes_refl c.args.at.now; untyped = untyped_same c.args.at.now; settles = λ names over all aloud B around. none_read (labels_as c.args.at.now.item c.args.parts.now); means = λ names ps t over nodes. no_fields c.args.at.now c.args.inner.now names ps c.args.parts.now t c.args.record.0 c.new-labels.result.items c.new-labels.ensures.items }
 
 pub loop-part-preserved : goal.loop-part-preserved
 loop-part-preserved c =
@@ -33,6 +34,7 @@ loop-part-preserved c =
     let lt : k < length ps = let n = c.loop-part-test.true in omega arith in
     record {
       goes = goes_trans at c.loop-part.at c.read_label.new.at c.loop-part.invariant.goes c.read_label.ensures.goes;
+      untyped = untyped_then c.loop-part.invariant.untyped c.in_ok-label.ensures.untyped;
       settles = λ names over. each_label at c.loop-part.at c.read_label.new.at c.args.inner.now names ps k c.part-item.result lt c.part-item.is (c.loop-part.invariant.settles names over) c.loop-part.invariant.goes (c.in_ok-label.ensures.settles names over);
       means = λ names qs t over nodes. elim c.match-branch-2.branch [
         | in-Some+in_ok-push w ↦
@@ -67,3 +69,6 @@ returns-clause-means c = λ names qs t over nodes.
     let first = subst (λ done. ReadsFirstLabels at mid c.args.inner.now names qs ps [] done t c.args.record.0 c.loop-part.labels.items) all
     (subst (λ left. ReadsFirstLabels at mid c.args.inner.now names qs ps left (take k ps) t c.args.record.0 c.loop-part.labels.items) none (c.loop-part.invariant.means names qs t over nodes)) in
     all_fields at mid c.labels_are_new.new.at c.args.inner.now names qs ps t c.args.record.0 c.loop-part.labels.items c.loop-part.invariant.goes c.labels_are_new.ensures.rest c.labels_are_new.ensures.goes c.in_ok-labels_are_new.ensures.settles first
+
+pub returns-clause-untyped : goal.returns-clause-untyped
+returns-clause-untyped c = untyped_then c.loop-part.invariant.untyped (faults_untyped c.loop-part.at c.labels_are_new.new.at c.labels_are_new.ensures.rest)

@@ -1,3 +1,4 @@
+use Rattle.type_expressions.proofs.Untyped.{untyped_same}
 use Rattle.std.proofs.Common.{◌≡◌, ◌∙◌, ℕ, Some, None, refl, sym, ap, subst}
 use Rattle.std.specs.Prelude.{Result, Ok, Err, IfOk}
 use Rattle.std.proofs.lemmas.Result.{IfOk-weaker}
@@ -65,3 +66,12 @@ returns-in-Labels-clause-means c =
 pub returns-in_default-clause-means : goal.returns-in_default-clause-means
 returns-in_default-clause-means c = λ names ps t over nodes.
     subst (λ k. ReadsTold c.args.at.now c.args.at.now c.args.inner.now names ps k t c.args.own.0 shape.Opaque) (sym (tells_none c.args.part.now.right c.in_default.not-Reexport c.in_default.not-Own)) (nothing_read c.args.at.now c.args.inner.now names ps t c.args.own.0)
+
+pub returns-in-Constructors-clause-untyped : goal.returns-in-Constructors-clause-untyped
+returns-in-Constructors-clause-untyped c = c.read_constructors.ensures.untyped
+
+pub returns-in-Labels-clause-untyped : goal.returns-in-Labels-clause-untyped
+returns-in-Labels-clause-untyped c = c.read_labels.ensures.untyped
+
+pub returns-in_default-clause-untyped : goal.returns-in_default-clause-untyped
+returns-in_default-clause-untyped c = untyped_same c.args.at.now

@@ -1,3 +1,4 @@
+use Rattle.type_expressions.proofs.Untyped.{untyped_then, store_untyped}
 use Rattle.typing_state.proofs.Going.{goes_trans}
 use Rattle.std.proofs.Common.{◌≡◌, ◌∙◌, Some, None, refl, sym}
 use Rattle.decl_typing.proofs.decls.right_side.Goals as goal
@@ -25,3 +26,12 @@ returns-in_default-2-clause-own c = λ own. (refl, (c.in_ok-other.ensures.own ow
 
 pub returns-in_ok-declared_root-in-Some-clause-own : goal.returns-in_ok-declared_root-in-Some-clause-own
 returns-in_ok-declared_root-in-Some-clause-own c = λ own. let f : Some c.in-Some.other ≡ None = sym c.in-Some.is ∙ (c.in_ok-other.ensures.own own).0 in absurd (cc)
+
+pub returns-in_default-clause-untyped : goal.returns-in_default-clause-untyped
+returns-in_default-clause-untyped c = c.in_ok-other.ensures.untyped
+
+pub returns-in_default-2-clause-untyped : goal.returns-in_default-2-clause-untyped
+returns-in_default-2-clause-untyped c = c.in_ok-other.ensures.untyped
+
+pub returns-in_ok-declared_root-in-Some-clause-untyped : goal.returns-in_ok-declared_root-in-Some-clause-untyped
+returns-in_ok-declared_root-in-Some-clause-untyped c = untyped_then c.in_ok-other.ensures.untyped (store_untyped c.read_other.new.at c.declared_root.new.at c.declared_root.ensures.rest)

@@ -22,3 +22,6 @@ returns-clause-means c = record {
   behind = c.in_ok-with_entry.ensures;
   makes = c.new.ensures.items;
 }
+
+pub returns-clause-untyped : goal.returns-clause-untyped
+returns-clause-untyped c = c.in_ok-entry.ensures.untyped

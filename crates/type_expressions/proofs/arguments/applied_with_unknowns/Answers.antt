@@ -1,3 +1,4 @@
+use Rattle.type_expressions.proofs.Untyped.{untyped_then, store_untyped, ok_any}
 use Rattle.std.proofs.Common.{◌∙◌, ◌∷◌, ap, subst, sym}
 use Rattle.std.proofs.lemmas.Result.{IfOk-weaker}
 use Rattle.type_nodes.specs.Views.{numbers}
@@ -28,3 +29,12 @@ returns-clause-means c =
     arguments_apply c.args.at.now b d c.filled.new.at c.args.declaration.now tup y ys m.0 c.in_ok-instance.ensures.instance c.in_ok-instance.ensures.sound c.instance.ensures.rest
     (λ ps body inside reads. subst (Opens b.store.nodes d.store.nodes tup) (ap numbers c.deref.ensures.value ∙ c.in_ok-parameters.ensures ps body inside reads) (c.in_ok-open_unknowns-2.ensures.opened inside))
     c.in_ok-open_unknowns-2.ensures.sound c.open_unknowns-2.ensures.rest (λ ps body inside reads many. let f = h ps body inside reads many in (each_joins d c.filled.new.at ps (y ∷ ys) f.0, f.1))) fills) c.filled.ensures.fills
+
+pub returns-in-Some-clause-untyped : goal.returns-in-Some-clause-untyped
+returns-in-Some-clause-untyped c = ok_any c.constructor_over.result _ (store_untyped c.args.at.now c.constructor_over.new.at c.constructor_over.ensures.rest)
+
+pub returns-then-is_empty-clause-untyped : goal.returns-then-is_empty-clause-untyped
+returns-then-is_empty-clause-untyped c = untyped_then (store_untyped c.args.at.now c.instance.new.self c.instance.ensures.rest) (store_untyped c.instance.new.self c.open_unknowns.new.at c.open_unknowns.ensures.rest)
+
+pub returns-clause-untyped : goal.returns-clause-untyped
+returns-clause-untyped c = ok_any c.filled.result _ (untyped_then (store_untyped c.args.at.now c.instance.new.self c.instance.ensures.rest) (untyped_then (store_untyped c.instance.new.self c.open_unknowns-2.new.at c.open_unknowns-2.ensures.rest) (store_untyped c.open_unknowns-2.new.at c.filled.new.at c.filled.ensures.rest)))

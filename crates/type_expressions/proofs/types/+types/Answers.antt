@@ -1,3 +1,4 @@
+use Rattle.type_expressions.proofs.Untyped.{untyped_same, untyped_then, store_untyped, noted_untyped, plain_untyped, ok_any, ok_then}
 use Rattle.typing_state.proofs.Recording.{record_stays_in, record_still}
 use Rattle.std.proofs.Common.{◌≡◌, ◌∙◌, ◌<◌, length, map, refl, sym, ap, subst, arith}
 use Rattle.std.proofs.lemmas.List.{drop_all}
@@ -31,6 +32,7 @@ read_each-loop-part-preserved t c =
     let lt : i < length all = let n = c.loop-part-test.true in omega arith in
     record {
       goes = goes_trans c.args.at.now c.loop-part.at c.read_type.new.at c.loop-part.invariant.goes c.read_type.ensures.goes;
+      untyped = untyped_then c.loop-part.invariant.untyped c.in_ok-ty.ensures.untyped;
       reads = λ item operands. each_read c.args.at.now c.loop-part.at c.read_type.new.at c.args.env.now all i x c.loop-part.types.items c.push.new.list.items c.in_ok-ty.ty lt c.part-item.is c.in_ok-push.ensures.pushed operands
           (c.loop-part.invariant.reads item operands) c.loop-part.invariant.goes (c.in_ok-ty.ensures.carries item);
       settles = λ names over operands. settled.each_settles c.args.at.now c.loop-part.at c.read_type.new.at c.args.env.now names all i x c.loop-part.types.items c.push.new.list.items c.in_ok-ty.ty lt c.part-item.is c.in_ok-push.ensures.pushed operands
@@ -42,6 +44,7 @@ read_each-loop-part-preserved t c =
 pub read_each-loop-part-init : goal.read_each-loop-part-init
 read_each-loop-part-init t c = record {
   goes = goes_refl c.args.at.now;
+  untyped = untyped_same c.args.at.now;
   reads = λ item operands.
       let all = types_read c.args.at.now.item (map operand_view c.args.parts.now) in
       subst (λ ns. ReadsFirst c.args.at.now c.args.at.now c.args.env.now all all (numbers ns)) (sym c.new-types.ensures.items) (none_read c.args.at.now c.args.env.now all);
@@ -108,6 +111,7 @@ read_parts-returns-in_ok-parts-in_default t c =
       means = IfOk-weaker c.read_each.result _ _ (λ ms reads names ps over nodes.
           denoted.other_denotes c.args.at.now c.read_each.new.at c.args.env.now names ps c.args.number (node_view c.args.node.now) (numbers ms.items) (not_app_row c.args.node.now c.in_default.not-Tapp)
           (subst (λ os. DenotesOperands c.args.at.now c.read_each.new.at c.args.env.now names ps os (numbers ms.items)) (ap (map operand_view) c.deref.ensures.value ∙ c.in_ok-parts-in_default.ensures) (reads names ps over nodes))) c.read_each.ensures.means;
+      untyped = c.read_each.ensures.untyped;
       goes = c.read_each.ensures.goes;
     }
 
@@ -202,3 +206,24 @@ read_parts-returns-in-Tapp-clause-means t c =
     IfOk-weaker c.read_given.result _ _ (λ ms reads names ps over nodes.
     denoted.app_denotes c.args.at.now c.read_given.new.at c.args.env.now names ps c.args.number (node_view c.args.node.now) (numbers ms.items) (app_row c.args.node.now c.in-Tapp.is)
     (subst (λ o. DenotesGiven c.args.at.now c.read_given.new.at c.args.env.now names ps o (numbers ms.items)) c.operand_in.ensures (reads names ps over nodes))) c.read_given.ensures.means
+
+pub read_type-returns-clause-untyped : goal.read_type-returns-clause-untyped
+read_type-returns-clause-untyped t c = untyped_then c.in_ok-read.ensures.untyped (noted_untyped c.read_row.new.at c.note.new.self c.args.ty.number (record { env = c.args.env.now; ty = None; names = c.in_ok-read.read.names }) refl c.in_ok-note.ensures.noted c.note.ensures.rest)
+
+pub read_row-returns-in_ok-any-in-None-clause-untyped : goal.read_row-returns-in_ok-any-in-None-clause-untyped
+read_row-returns-in_ok-any-in-None-clause-untyped t c = store_untyped c.args.at.now c.unresolved.new.at c.unresolved.ensures.rest
+
+pub read_row-returns-in_ok-types-in-Some-clause-untyped : goal.read_row-returns-in_ok-types-in-Some-clause-untyped
+read_row-returns-in_ok-types-in-Some-clause-untyped t c = ok_then c.formed.result c.args.at.now c.read_parts.new.at c.formed.new.at c.in_ok-types-in-Some.ensures.untyped c.formed.ensures.untyped
+
+pub read_parts-returns-in-Tapp-clause-untyped : goal.read_parts-returns-in-Tapp-clause-untyped
+read_parts-returns-in-Tapp-clause-untyped t c = c.read_given.ensures.untyped
+
+pub read_given-returns-in_ok-note_plain-in-Some-clause-untyped : goal.read_given-returns-in_ok-note_plain-in-Some-clause-untyped
+read_given-returns-in_ok-note_plain-in-Some-clause-untyped t c = ok_then c.read_each.result c.args.at.now c.note_plain.new.self c.read_each.new.at (plain_untyped c.args.at.now c.note_plain.new.self c.args.left.number c.args.env.now c.in_ok-note_plain-in-Some.ensures.noted c.note_plain.ensures.rest) c.read_each.ensures.untyped
+
+pub read_given-returns-in_ok-ty-in-None-clause-untyped : goal.read_given-returns-in_ok-ty-in-None-clause-untyped
+read_given-returns-in_ok-ty-in-None-clause-untyped t c = ok_any c.one_of.result _ c.in_ok-ty-in-None.ensures.untyped
+
+pub read_each-returns-clause-untyped : goal.read_each-returns-clause-untyped
+read_each-returns-clause-untyped t c = c.loop-part.invariant.untyped

@@ -1,3 +1,4 @@
+use Rattle.type_expressions.proofs.Untyped.{store_untyped, ok_any}
 use Rattle.std.proofs.lemmas.Result.{IfOk-weaker}
 use Rattle.type_expressions.proofs.Answering.{if_any}
 use Rattle.type_expressions.proofs.Carrying.{pair_made, no_pair}
@@ -17,3 +18,9 @@ returns-then-are_two-clause-arrow c =
 
 pub returns-clause-arrow : goal.returns-clause-arrow
 returns-clause-arrow c = if_any c.unresolved.result _ (λ m. no_pair_denotes c.args.at.now c.unresolved.new.at c.args.types.now m.0 c.if-are_two.ensures)
+
+pub returns-then-are_two-clause-untyped : goal.returns-then-are_two-clause-untyped
+returns-then-are_two-clause-untyped c = ok_any c.arrow.result _ (store_untyped c.args.at.now c.arrow.new.self c.arrow.ensures.rest)
+
+pub returns-clause-untyped : goal.returns-clause-untyped
+returns-clause-untyped c = ok_any c.unresolved.result _ (store_untyped c.args.at.now c.unresolved.new.at c.unresolved.ensures.rest)

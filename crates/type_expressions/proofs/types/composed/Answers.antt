@@ -1,3 +1,4 @@
+use Rattle.type_expressions.proofs.Untyped.{store_untyped, ok_any}
 use Rattle.std.proofs.lemmas.Result.{IfOk-weaker}
 use Rattle.row_parts.specs.Numbered.{token_view}
 use Rattle.syntax_tree.specs.View.{node_view}
@@ -73,3 +74,18 @@ pub returns-in_default-clause-means : goal.returns-in_default-clause-means
 returns-in_default-clause-means c =
     IfOk-weaker c.unresolved.result _ _ (λ m unknown names ps over nodes.
     denoted.other_ends c.args.at.now c.unresolved.new.at names ps c.args.node.now (numbers c.args.types.now) m.0 c.in_default.not-Tvar c.in_default.not-Tparen c.in_default.not-Ttuple c.in_default.not-Tarrow (unknown names over)) c.unresolved.ensures.unknown
+
+pub returns-in-Tarrow-clause-untyped : goal.returns-in-Tarrow-clause-untyped
+returns-in-Tarrow-clause-untyped c = c.arrow_between.ensures.untyped
+
+pub returns-in-Tparen-clause-untyped : goal.returns-in-Tparen-clause-untyped
+returns-in-Tparen-clause-untyped c = c.in_parentheses.ensures.untyped
+
+pub returns-in-Ttuple-clause-untyped : goal.returns-in-Ttuple-clause-untyped
+returns-in-Ttuple-clause-untyped c = ok_any c.tuple.result _ (store_untyped c.args.at.now c.tuple.new.self c.tuple.ensures.rest)
+
+pub returns-in-Tvar-clause-untyped : goal.returns-in-Tvar-clause-untyped
+returns-in-Tvar-clause-untyped c = c.variable.ensures.untyped
+
+pub returns-in_default-clause-untyped : goal.returns-in_default-clause-untyped
+returns-in_default-clause-untyped c = ok_any c.unresolved.result _ (store_untyped c.args.at.now c.unresolved.new.at c.unresolved.ensures.rest)

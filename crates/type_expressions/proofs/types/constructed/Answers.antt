@@ -1,3 +1,4 @@
+use Rattle.type_expressions.proofs.Untyped.{untyped_then, store_untyped, bound_untyped}
 use Rattle.std.proofs.Common.{option_map, sym, ap, subst}
 use Rattle.syntax_tree.specs.View.{tok_of}
 use Rattle.row_parts.specs.Numbered.{path_view, token_view}
@@ -60,3 +61,9 @@ returns-clause-means c = λ names ps over nodes.
     let named = subst (λ o. DenotesNamed (option_map (λ r. r.value) o) c.bound.new.self c.named_type.new.at names t ms m) c.as_ref-2.ensures.value (c.in_ok-ty-2.ensures.means names over) in
     subst (λ l. DenotesName c.args.at.now c.named_type.new.at c.args.env.now names ps (record { qualifiers = qs; last = l }) ms m) (sym (ap token_view c.in-Some.is))
     (λ ns n. name_denotes c.args.at.now c.bound.new.self c.named_type.new.at c.args.env.now names ps (option_map (λ r. r.value) c.in_ok-entry.entry) qs t ns ms n m c.in_ok-entry.ensures.verdict named)
+
+pub returns-in_default-clause-untyped : goal.returns-in_default-clause-untyped
+returns-in_default-clause-untyped c = store_untyped c.args.at.now c.unresolved.new.at c.unresolved.ensures.rest
+
+pub returns-clause-untyped : goal.returns-clause-untyped
+returns-clause-untyped c = untyped_then (bound_untyped _ _ c.args.at.now c.bound.new.self _ _ _ c.in_ok-entry.ensures.verdict) c.in_ok-ty-2.ensures.untyped

@@ -1,3 +1,4 @@
+use Rattle.type_expressions.proofs.Untyped.{untyped_then, store_untyped, faults_untyped, ok_any, ok_then}
 use Rattle.std.proofs.Common.{◌≡◌, ◌∙◌, length, option_map, refl, sym, ap, subst}
 use Rattle.std.proofs.lemmas.Result.{IfOk-weaker}
 use Rattle.syntax_tree.specs.View.{tok_of}
@@ -102,3 +103,15 @@ returns-in-Parameters-clause-means c =
     IfOk-weaker c.applied_with_unknowns.result _ _ (λ m applies names over.
     subst (λ o. DenotesDeclared o c.args.at.now c.applied_with_unknowns.new.at names t (numbers c.args.types.now) m.0) (sym here)
     (denoted.declared_kept c.args.at.now c.arity.new.self c.applied_with_unknowns.new.at names t d (numbers c.args.types.now) m.0 c.args.last.now.span refl many (silent_reports c.arity.new.self c.applied_with_unknowns.new.at c.applied_with_unknowns.ensures.silent) applies)) c.applied_with_unknowns.ensures.means
+
+pub returns-in_default-clause-untyped : goal.returns-in_default-clause-untyped
+returns-in_default-clause-untyped c = ok_any c.unresolved.result _ (store_untyped c.args.at.now c.unresolved.new.at c.unresolved.ensures.rest)
+
+pub returns-in-Reported-clause-untyped : goal.returns-in-Reported-clause-untyped
+returns-in-Reported-clause-untyped c = ok_any c.unresolved-in-Reported.result _ (untyped_then (faults_untyped c.args.at.now c.arity.new.self c.arity.ensures.rest) (store_untyped c.arity.new.self c.unresolved-in-Reported.new.at c.unresolved-in-Reported.ensures.rest))
+
+pub returns-in-OfItem-clause-untyped : goal.returns-in-OfItem-clause-untyped
+returns-in-OfItem-clause-untyped c = ok_then c.applied.result c.args.at.now c.arity.new.self c.applied.new.at (faults_untyped c.args.at.now c.arity.new.self c.arity.ensures.rest) c.applied.ensures.untyped
+
+pub returns-in-Parameters-clause-untyped : goal.returns-in-Parameters-clause-untyped
+returns-in-Parameters-clause-untyped c = ok_then c.applied_with_unknowns.result c.args.at.now c.arity.new.self c.applied_with_unknowns.new.at (faults_untyped c.args.at.now c.arity.new.self c.arity.ensures.rest) c.applied_with_unknowns.ensures.untyped

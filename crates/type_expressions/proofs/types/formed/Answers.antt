@@ -61,3 +61,12 @@ pub returns-in_ok-ty-in_default-clause-means : goal.returns-in_ok-ty-in_default-
 returns-in_ok-ty-in_default-clause-means c = λ names ps over nodes.
     subst (λ x. DenotesEnds c.args.at.now c.composed.new.at c.args.env.now names ps (node_view c.args.node.now) (numbers c.args.types.now) x.0) (sym c.unnamed.ensures)
     (denoted.plain_ends c.args.at.now c.composed.new.at c.args.env.now names ps c.args.node.now (numbers c.args.types.now) c.in_ok-ty-in_default.ty.0 c.in_default.not-Tcon c.in_default.not-Tapp (c.in_ok-ty-in_default.ensures.means names ps over nodes))
+
+pub returns-in_ok-path-in-Tcon-clause-untyped : goal.returns-in_ok-path-in-Tcon-clause-untyped
+returns-in_ok-path-in-Tcon-clause-untyped c = c.constructed.ensures.untyped
+
+pub returns-in_ok-path-in-Tapp-clause-untyped : goal.returns-in_ok-path-in-Tapp-clause-untyped
+returns-in_ok-path-in-Tapp-clause-untyped c = c.constructed-in-Tapp.ensures.untyped
+
+pub returns-in_ok-ty-in_default-clause-untyped : goal.returns-in_ok-ty-in_default-clause-untyped
+returns-in_ok-ty-in_default-clause-untyped c = c.in_ok-ty-in_default.ensures.untyped

@@ -1,3 +1,4 @@
+use Rattle.type_expressions.proofs.Untyped.{untyped_same, untyped_then, store_untyped, faults_untyped, ok_any}
 use Rattle.std.proofs.lemmas.Result.{IfOk-weaker}
 use Rattle.type_expressions.proofs.Answering.{if_any}
 use Rattle.type_expressions.proofs.Carrying.{empty_end, single_end, several_end}
@@ -43,3 +44,12 @@ returns-in_ok-arity-in_default-clause-means c =
     IfOk-weaker c.unresolved-in_default.result _ _ (λ m unknown names ps over nodes.
     several_unknown c.args.at.now c.arity.new.self c.unresolved-in_default.new.at names ps (out-Node c.args.node.now).span c.args.types.now c.in_ok-arity-in_default.field-0 m.0 c.in_default.len_at_least c.in_ok-arity-in_default.ensures.verdict c.arity.ensures.rest (unknown names over))
     c.unresolved-in_default.ensures.unknown
+
+pub returns-in-empty-clause-untyped : goal.returns-in-empty-clause-untyped
+returns-in-empty-clause-untyped c = ok_any c.unresolved.result _ (store_untyped c.args.at.now c.unresolved.new.at c.unresolved.ensures.rest)
+
+pub returns-in-len1-clause-untyped : goal.returns-in-len1-clause-untyped
+returns-in-len1-clause-untyped c = untyped_same c.args.at.now
+
+pub returns-in_ok-arity-in_default-clause-untyped : goal.returns-in_ok-arity-in_default-clause-untyped
+returns-in_ok-arity-in_default-clause-untyped c = ok_any c.unresolved-in_default.result _ (untyped_then (faults_untyped c.args.at.now c.arity.new.self c.arity.ensures.rest) (store_untyped c.arity.new.self c.unresolved-in_default.new.at c.unresolved-in_default.ensures.rest))

@@ -1,3 +1,4 @@
+use Rattle.type_expressions.proofs.Untyped.{store_untyped, ok_any}
 use Rattle.std.proofs.Common.{option_map, sym, subst}
 use Rattle.std.specs.Option.{option_copied}
 use Rattle.std.proofs.lemmas.Result.{IfOk-weaker}
@@ -46,3 +47,9 @@ returns-in-Some-clause-means c =
     subst (λ o. DenotesNamed (option_map (λ r. r.value) (option_copied o)) c.args.at.now c.declared.new.at names (tok_of c.args.last.now) (numbers c.args.types.now) m.0) (sym c.in-Some.is)
     (subst (λ x. DenotesDeclared (declared_in x.what) c.args.at.now c.declared.new.at names (tok_of c.args.last.now) (numbers c.args.types.now) m.0) c.deref.ensures (means names over)))
     c.declared.ensures.means
+
+pub returns-in-None-clause-untyped : goal.returns-in-None-clause-untyped
+returns-in-None-clause-untyped c = ok_any c.unresolved.result _ (store_untyped c.args.at.now c.unresolved.new.at c.unresolved.ensures.rest)
+
+pub returns-in-Some-clause-untyped : goal.returns-in-Some-clause-untyped
+returns-in-Some-clause-untyped c = c.declared.ensures.untyped

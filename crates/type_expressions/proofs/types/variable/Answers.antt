@@ -1,3 +1,4 @@
+use Rattle.type_expressions.proofs.Untyped.{untyped_same, untyped_then, store_untyped, faults_untyped, ok_any}
 use Rattle.std.proofs.Common.{◌≡◌, ◌∙◌, Some, None, option_map, refl, sym, subst}
 use Rattle.std.proofs.lemmas.Result.{IfOk-weaker}
 use Rattle.syntax_tree.specs.View.{tok_of}
@@ -86,3 +87,15 @@ returns-in_ok-unbound-in-None-clause-means c =
     subst (λ o. DenotesVariable c.args.at.now c.unresolved-in-None.new.at names ps (option_map (λ t. tok_of t.now) o) m.0) (sym c.in-Some.is)
     (λ env n at. variable_unknown c.args.at.now c.unbound.new.self c.unresolved-in-None.new.at env names ps n t c.in-Some.name.now.span _ m.0 refl (subst (λ ns. index_from 0 t.name ns ≡ None) are (number_none t.name qs missing)) c.in_ok-unbound-in-None.ensures.told
     c.unbound.ensures.rest (unknown names over))) c.unresolved-in-None.ensures.unknown
+
+pub returns-in_default-clause-untyped : goal.returns-in_default-clause-untyped
+returns-in_default-clause-untyped c = ok_any c.unresolved.result _ (store_untyped c.args.at.now c.unresolved.new.at c.unresolved.ensures.rest)
+
+pub returns-in-OfItem-clause-untyped : goal.returns-in-OfItem-clause-untyped
+returns-in-OfItem-clause-untyped c = c.written_variable.ensures.untyped
+
+pub returns-in-Some-parameter_named-clause-untyped : goal.returns-in-Some-parameter_named-clause-untyped
+returns-in-Some-parameter_named-clause-untyped c = untyped_same c.args.at.now
+
+pub returns-in_ok-unbound-in-None-clause-untyped : goal.returns-in_ok-unbound-in-None-clause-untyped
+returns-in_ok-unbound-in-None-clause-untyped c = ok_any c.unresolved-in-None.result _ (untyped_then (faults_untyped c.args.at.now c.unbound.new.self c.unbound.ensures.rest) (store_untyped c.unbound.new.self c.unresolved-in-None.new.at c.unresolved-in-None.ensures.rest))

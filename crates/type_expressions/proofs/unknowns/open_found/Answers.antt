@@ -4,7 +4,8 @@ use Rattle.level_unify.proofs.Numbers.{number_get, numbers_length}
 use Rattle.typing_state.proofs.Going.{goes_refl, goes_trans}
 use Rattle.typing_state.proofs.Silence.{store_silent}
 use Rattle.declared_rows.proofs.Opens.{opens_start, opens_all}
-use Rattle.type_expressions.proofs.Roots.{opens_next, store_then, store_same}
+use Rattle.type_reading.proofs.Filling.{store_then, store_same}
+use Rattle.type_expressions.proofs.Roots.{opens_next}
 use Rattle.type_expressions.proofs.unknowns.open_found.Goals as goal
 
 pub open_one-requires-clause-inside : goal.open_one-requires-clause-inside
@@ -34,7 +35,7 @@ loop-node-preserved c =
     let e = number_get c.args.found.now c.loop-node.node-index (record { 0 = 0 }) c.loop-node-test.true in
     record {
       opens = opens_next old now c.open_one.new.at.store.nodes c.args.ty.0 ps (numbers c.args.found.now) c.loop-node.node-index _ c.requires e c.loop-node.invariant.opens c.in_ok-open_one.ensures.opened;
-      rest = store_then c.args.at.now c.loop-node.at c.open_one.new.at c.loop-node.invariant.rest c.open_one.ensures.rest;
+      rest = store_then c.loop-node.invariant.rest c.open_one.ensures.rest;
       goes = goes_trans c.args.at.now c.loop-node.at c.open_one.new.at c.loop-node.invariant.goes c.open_one.ensures.goes;
     }
 
@@ -54,10 +55,10 @@ pub returns-clause-goes : goal.returns-clause-goes
 returns-clause-goes c = c.loop-node.invariant.goes
 
 pub returns-in_err-open_one-clause-rest : goal.returns-in_err-open_one-clause-rest
-returns-in_err-open_one-clause-rest c = store_then c.args.at.now c.loop-node.at c.open_one.new.at c.loop-node.invariant.rest c.open_one.ensures.rest
+returns-in_err-open_one-clause-rest c = store_then c.loop-node.invariant.rest c.open_one.ensures.rest
 
 pub returns-in_err-open_one-clause-silent : goal.returns-in_err-open_one-clause-silent
-returns-in_err-open_one-clause-silent c = store_silent c.args.at.now c.open_one.new.at (store_then c.args.at.now c.loop-node.at c.open_one.new.at c.loop-node.invariant.rest c.open_one.ensures.rest)
+returns-in_err-open_one-clause-silent c = store_silent c.args.at.now c.open_one.new.at (store_then c.loop-node.invariant.rest c.open_one.ensures.rest)
 
 pub returns-in_err-open_one-clause-goes : goal.returns-in_err-open_one-clause-goes
 returns-in_err-open_one-clause-goes c = goes_trans c.args.at.now c.loop-node.at c.open_one.new.at c.loop-node.invariant.goes c.open_one.ensures.goes

@@ -2,11 +2,11 @@ use Rattle.std.proofs.Common.{◌≡◌, ◌∙◌, ◌++◌, ◌+◌, ◌<◌, 
 use Rattle.std.specs.Option.{IfSome}
 use Rattle.std.proofs.lemmas.Bool.{lt-ltb}
 use Rattle.type_nodes.specs.Views.{numbers}
-use Rattle.typing_state.specs.Goes.{Goes, Silent}
+use Rattle.typing_state.specs.Goes.{Goes, OnlyStore, Silent}
 use Rattle.typing_state.proofs.Going.{goes_trans}
 use Rattle.typing_state.proofs.Silence.{silent_trans}
 use Rattle.type_reading.specs.Filling.{JoinsAll}
-use Rattle.type_reading.proofs.Filling.{more_joined, part_there, all_joined, last_part}
+use Rattle.type_reading.proofs.Filling.{store_then, more_joined, part_there, all_joined, last_part}
 use Rattle.type_reading.proofs.tuples.filled.Goals.{in-Some+in_ok-joined, in_default}
 use Rattle.type_reading.proofs.tuples.filled.Goals as goal
 
@@ -22,6 +22,7 @@ loop-place-preserved c =
           let there : p ≡ get_or parts i p = subst (λ o. IfSome o (λ x. x.now ≡ get_or c.deref.result.now i x.now)) w.in-Some.is c.get.ensures.lookup.1 ∙ ap (λ l. get_or l i p) c.deref.ensures.value in
           record {
             goes = subst (Goes c.args.at.now) (sym w.at-is) (goes_trans c.args.at.now c.loop-place.at w.joined.new.at before.goes w.joined.ensures.goes);
+            rest = subst (OnlyStore c.args.at.now) (sym w.at-is) (store_then before.rest w.joined.ensures.rest);
             silent = subst (Silent c.args.at.now) (sym w.at-is) (silent_trans c.args.at.now c.loop-place.at w.joined.new.at before.silent w.joined.ensures.silent);
             fills = λ ps body e many new rest. before.fills ps body e many new
                 (more_joined c.loop-place.at w.joined.new.at parts xs i p _ ps body new c.loop-place-test.true there w.in_ok-joined.ensures.one e many
@@ -29,6 +30,7 @@ loop-place-preserved c =
           }
       | in_default w ↦ record {
         goes = subst (Goes c.args.at.now) (sym w.at-is) before.goes;
+        rest = subst (OnlyStore c.args.at.now) (sym w.at-is) before.rest;
         silent = subst (Silent c.args.at.now) (sym w.at-is) before.silent;
         fills = λ ps body e many new rest. absurd (
             let lt = part_there parts xs i ps body c.loop-place-test.true e many in
@@ -36,6 +38,9 @@ loop-place-preserved c =
             cc);
       }
     ]
+
+pub returns-in-Some-last-clause-rest : goal.returns-in-Some-last-clause-rest
+returns-in-Some-last-clause-rest c = c.loop-place.invariant.rest
 
 pub returns-in-Some-last-clause-fills : goal.returns-in-Some-last-clause-fills
 returns-in-Some-last-clause-fills c = λ ps body inside reads many.
