@@ -5,7 +5,7 @@ use Rattle.type_model.specs.Types.{types_of}
 use Rattle.type_model.specs.Types.{Typ as type}
 use Rattle.type_nodes.specs.Nodes.{Node, Var, Rigid, Link, Arrow, Tuple, Con, IsSound}
 use Rattle.type_nodes.specs.Links.{root, reading}
-use Rattle.type_print_model.specs.Printing.{Names, text_of, rest_of, separated, arguments_of, wraps_arrow, wrapped}
+use Rattle.type_print_model.specs.Printing.{Names, text_of, rest_of, separated, arguments_of}
 use Rattle.type_print_model.specs.Printing as model
 use Rattle.type_print.specs.Shown.{shown, shown_from}
 use Rattle.type_print.specs.Pieces.{Part, a_type, a_head, a_text, opened, opened_node, IsPart, rest_parts, list_parts, argument_parts, tuple_parts, arrow_parts}
