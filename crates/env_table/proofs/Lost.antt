@@ -5,10 +5,10 @@ use Rattle.text_terms.specs.declared.RcStr.{RcStr}
 use Rattle.text_terms.specs.Bytes.{str_bytes}
 use Rattle.signature_model.specs.Declarations.{Name}
 use Rattle.signature_model.specs.Entries.{module_kind}
-use Rattle.signature_model.specs.Lookups.{ScopeOf, known, unknown_scope, no_scope, through, newest_by, scope_by, lookup_by}
+use Rattle.signature_model.specs.Lookups.{FoundAmong, ScopeOf, known, unknown_scope, no_scope, found, found_in, through, newest_by, scope_by, lookup_by}
 use Rattle.env_table.specs.declared.entries.Entry.{Entry}
 use Rattle.env_table.specs.Views.{is_named, inside, module_scope}
-use Rattle.env_table.specs.Scopes.{module_behind, lost_behind, is_no_scope}
+use Rattle.env_table.specs.Scopes.{module_behind, modules_along, lost_behind, is_no_scope, scope_in}
 
 itself : (s : ScopeOf Entry) → through s (λ inner. known inner) ≡ s
 itself (known env) = refl
@@ -60,3 +60,19 @@ pub last_behind : (env : List Entry) (path outer : List Name) (m : Name) → mod
 last_behind env path [] m = rw (append-nil path)
 last_behind env path (o ∷ []) m = refl
 last_behind env path (o ∷ p ∷ outer) m = last_behind env (path ++ o ∷ []) (p ∷ outer) m ∙ rw append_assoc
+
+found_scope : (r : Option Entry) → scope_in (found r) ≡ elim r as (λ x. ScopeOf Entry) [ None ↦ no_scope | Some e ↦ inside e ]
+found_scope None = refl
+found_scope (Some e) = refl
+
+-- what is in scope in the module that a name comes to in a scope
+pub through_found : (s : ScopeOf Entry) (m : Name) → scope_in (found_in (is_named module_kind m) s) ≡ through s (module_scope m)
+through_found (known env) m = found_scope (newest_by (is_named module_kind m) env)
+through_found unknown_scope m = refl
+through_found no_scope m = refl
+
+-- one module more is found, behind those before it
+pub along_more : (env : List Entry) (ms : List RcStr) (i : ℕ) (r : RcStr) (s : ScopeOf Entry) (before all : List (FoundAmong Entry)) → i < length ms → r ≡ get_or ms i r → s ≡ scope_by is_named inside env (map str_bytes (take i ms))
+    → before ++ modules_along env (map str_bytes (take i ms)) (map str_bytes (drop i ms)) ≡ all
+    → (before ++ found_in (is_named module_kind (str_bytes r)) s ∷ []) ++ modules_along env (map str_bytes (take (i + 1) ms)) (map str_bytes (drop (i + 1) ms)) ≡ all
+along_more env ms i r s before all h is e so_far = rw (append_assoc, taken ms i r h is, e) (rw (left ms i r h is) at so_far)

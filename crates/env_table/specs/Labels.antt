@@ -7,7 +7,7 @@ use Rattle.type_model.specs.Types as types
 use Rattle.signature_model.specs.Declarations.{Name}
 use Rattle.signature_model.specs.Entries as rules
 use Rattle.signature_model.specs.Lookups.{ScopeOf, scope_by}
-use Rattle.signature_model.specs.Records.{Written, Labelled, path_for, has_name, belongs_to}
+use Rattle.signature_model.specs.Records.{Written, Labelled, first_path, path_for, has_name, belongs_to}
 use Rattle.env_table.specs.declared.entries.Kind.{Kind}
 use Rattle.env_table.specs.declared.entries.Kind.TheVariants as kind
 use Rattle.env_table.specs.declared.entries.What.{What}
@@ -33,6 +33,10 @@ record_of e = record_by_kind e.kind e.what
 -- an entry as a label
 abbrev pub labelled : Labelled Entry
 labelled = record { name_of = λ e. str_bytes e.name; record_type = record_of }
+
+-- where labels without modules of their own are looked for, among these labels
+abbrev pub front_of : List Entry → List Written → ScopeOf Entry
+front_of env all = scope_by is_named inside env (first_path all)
 
 -- where a label is looked for, among these labels
 abbrev pub scope_for : List Entry → List Written → Written → ScopeOf Entry

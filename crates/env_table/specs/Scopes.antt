@@ -2,7 +2,7 @@
 use Rattle.std.specs.Prelude.{ℕ, ◌+◌, Bool, true, false, List, [], ◌∷◌, ◌++◌, Option, Some, None, if◌then◌else◌}
 use Rattle.signature_model.specs.Declarations.{Name}
 use Rattle.signature_model.specs.Entries.{module_kind}
-use Rattle.signature_model.specs.Lookups.{ScopeOf, known, unknown_scope, no_scope, FoundAmong, nothing, scope_by, lookup_by}
+use Rattle.signature_model.specs.Lookups.{ScopeOf, known, unknown_scope, no_scope, FoundAmong, an_entry, a_hole, nothing, scope_by, lookup_by}
 use Rattle.env_table.specs.declared.entries.Entry.{Entry}
 use Rattle.env_table.specs.declared.lookup.Scope.{Scope}
 use Rattle.env_table.specs.declared.lookup.Scope.TheVariants as scope
@@ -14,6 +14,12 @@ scope_view (scope.Env env) = known env.now
 scope_view (scope.Inside es) = known (names_of es)
 scope_view scope.Unknown = unknown_scope
 scope_view scope.Absent = no_scope
+
+-- what is in scope in what a name comes to
+abbrev pub scope_in : FoundAmong Entry → ScopeOf Entry
+scope_in (an_entry e) = inside e
+scope_in a_hole = unknown_scope
+scope_in nothing = no_scope
 
 -- whether a path led to no module, so that there is no scope
 abbrev pub is_no_scope : ScopeOf Entry → Bool
@@ -32,3 +38,8 @@ abbrev pub module_behind : List Entry → List Name → List Name → FoundAmong
 module_behind env path [] = nothing
 module_behind env path (m ∷ []) = lookup_by is_named inside env path module_kind m
 module_behind env path (m ∷ n ∷ ms) = module_behind env (path ++ m ∷ []) (n ∷ ms)
+
+-- what each of some modules is, behind the names of a path and those before it
+abbrev pub modules_along : List Entry → List Name → List Name → List (FoundAmong Entry)
+modules_along env path [] = []
+modules_along env path (m ∷ ms) = lookup_by is_named inside env path module_kind m ∷ modules_along env (path ++ m ∷ []) ms

@@ -122,8 +122,8 @@ impl Env {
         bucket(&self.origins, BITS, origin_hash(origin))
     }
 
-    /// The entries with the hash of a kind and a name.
-    pub(crate) fn with_hash(&self, kind: Kind, name: &str) -> Entries<'_>
+    /// The entries with the hash of a kind and a name, the newest first: all of this kind and name are among them.
+    pub fn with_hash(&self, kind: Kind, name: &str) -> Entries<'_>
         ensures { names_of result ≡ filter (stands_at (bits_of 16 (hash_of (kind_of kind) name.now))) self.now }
     {
         bucket(&self.index, BITS, hash(kind, name))

@@ -1,16 +1,17 @@
 //! What a path of names comes to.
-ghost use Rattle.std.specs.Prelude.{◌≡◌, [], map, option_map};
+ghost use Rattle.std.specs.Prelude.{◌≡◌, [], map, option_map, IfOk};
 ghost use Rattle.text_terms.specs.Bytes.{str_bytes};
 ghost use Rattle.signature_model.specs.Entries.{module_kind};
 ghost use Rattle.signature_model.specs.Lookups.{through, found, found_in, scope_by, lookup_by};
 ghost use Rattle.env_table.specs.Views.{is_named, kind_of, inside, module_scope, found_view};
-ghost use Rattle.env_table.specs.Scopes.{scope_view, is_no_scope, lost_behind, module_behind};
+ghost use Rattle.env_table.specs.Scopes.{scope_view, scope_in, is_no_scope, lost_behind, module_behind, modules_along};
 
 use crate::entries::{Entry, Found, Kind, Path, Sig, What};
 use crate::env::Env;
 use crate::walk::{Entries, nothing, of_components};
+use std::alloc::Global;
 use std::rc::Rc;
-use text_terms::RcStr;
+use text_terms::{NoMemory, RcStr};
 
 /// The names that stand in scope behind a path of modules.
 #[derive(Clone, Copy)]
@@ -82,6 +83,24 @@ impl Env {
             Some((last, outer)) => self.scope_behind(outer).newest(Kind::Module, last.as_str()),
         }
     }
+
+    /// What each of these modules is, each of which is looked for in the one before it.
+    pub fn modules_along(
+        &self,
+        alloc: Global,
+        modules: &[RcStr],
+    ) -> Result<Vec<Found<'_>>, NoMemory>
+        ensures { IfOk result (λ fs. map found_view fs.items ≡ modules_along self.now [] (map str_bytes modules.now)) }
+    {
+        let mut along = Vec::new(alloc);
+        let mut scope = Scope::Env(self);
+        for name in modules {
+            let module = scope.newest(Kind::Module, name.as_str());
+            scope = inside_found(module);
+            along.push(module)?;
+        }
+        Ok(along)
+    }
 }
 
 pub(crate) fn found<'a>(entry: Option<&'a Rc<Entry>>) -> Found<'a>
@@ -105,7 +124,14 @@ fn is_absent(scope: Scope<'_>) -> bool
 fn inside_module<'a>(scope: Scope<'a>, name: &str) -> Scope<'a>
     ensures { scope_view result ≡ through (scope_view scope.entry) (module_scope name.now) }
 {
-    match scope.newest(Kind::Module, name) {
+    inside_found(scope.newest(Kind::Module, name))
+}
+
+/// What stands in scope in what a name comes to.
+fn inside_found(found: Found<'_>) -> Scope<'_>
+    ensures { scope_view result ≡ scope_in (found_view found.entry) }
+{
+    match found {
         Found::Entry(entry) => inside(entry),
         Found::Hole => Scope::Unknown,
         Found::Nothing => Scope::Absent,

@@ -6,7 +6,7 @@ ghost use Rattle.signature_model.specs.Lookups.{newest_by};
 ghost use Rattle.signature_model.specs.Records.{first_path, path_for, is_label_of, has_label, has_each, belongs_to, has_name, newest_label, is_there, is_known, each_scope, is_of_type, record_by};
 ghost use Rattle.env_table.specs.Views.{names_of, found_view, kind_of};
 ghost use Rattle.env_table.specs.Scopes.{scope_view};
-ghost use Rattle.env_table.specs.Labels.{labelled, record_of, written_of, scope_for, has_all, candidates};
+ghost use Rattle.env_table.specs.Labels.{labelled, record_of, written_of, front_of, scope_for, has_all, candidates};
 
 use crate::entries::{Entry, Found, Kind, Path, What};
 use crate::env::Env;
@@ -23,19 +23,21 @@ impl Env {
     pub fn record_type(&self, labels: &[Path]) -> Found<'_>
         ensures { found_view result ≡ record_by labelled (self.now) (scope_for (self.now) (map written_of labels.now)) (map written_of labels.now) }
     {
-        if !all_are_there(self, labels) {
+        let front = front_of(self, labels);
+        if !all_are_there(self, labels, front) {
             return Found::Nothing;
         }
-        if !all_are_known(self, labels) {
+        if !all_are_known(self, labels, front) {
             return Found::Hole;
         }
         match labels.first() {
-            None => newest_label(self, labels, None, Scope::Env(self)),
+            None => newest_label(self, labels, front, None, Scope::Env(self)),
             Some(first) => newest_label(
                 self,
                 labels,
+                front,
                 Some(first.last.as_str()),
-                scope_of(self, labels, first),
+                scope_of(self, labels, front, first),
             ),
         }
     }
@@ -53,33 +55,43 @@ fn first_path(labels: &[Path]) -> &[RcStr]
     &[]
 }
 
+/// Where labels without modules of their own are looked for. It is found once for all of them.
+fn front_of<'a>(env: &'a Env, labels: &[Path]) -> Scope<'a>
+    ensures { scope_view result ≡ front_of env.now (map written_of labels.now) }
+{
+    env.scope_behind(first_path(labels))
+}
+
 /// Where a label is looked for.
-fn scope_of<'a>(env: &'a Env, labels: &[Path], label: &Path) -> Scope<'a>
+fn scope_of<'a>(env: &'a Env, labels: &[Path], front: Scope<'a>, label: &Path) -> Scope<'a>
+    requires front { scope_view front ≡ front_of env.now (map written_of labels.now) }
     ensures { scope_view result ≡ scope_for env.now (map written_of labels.now) (written_of label.now) }
 {
     if label.modules.is_empty() {
-        env.scope_behind(first_path(labels))
+        front
     } else {
         env.scope_behind(&label.modules)
     }
 }
 
-fn all_are_there(env: &Env, labels: &[Path]) -> bool
+fn all_are_there(env: &Env, labels: &[Path], front: Scope<'_>) -> bool
+    requires front { scope_view front ≡ front_of env.now (map written_of labels.now) }
     ensures { result ≡ each_scope is_there (scope_for env.now (map written_of labels.now)) (map written_of labels.now) }
 {
     for label in labels {
-        if !is_there(scope_of(env, labels, label)) {
+        if !is_there(scope_of(env, labels, front, label)) {
             return false;
         }
     }
     true
 }
 
-fn all_are_known(env: &Env, labels: &[Path]) -> bool
+fn all_are_known(env: &Env, labels: &[Path], front: Scope<'_>) -> bool
+    requires front { scope_view front ≡ front_of env.now (map written_of labels.now) }
     ensures { result ≡ each_scope is_known (scope_for env.now (map written_of labels.now)) (map written_of labels.now) }
 {
     for label in labels {
-        if !is_known(scope_of(env, labels, label)) {
+        if !is_known(scope_of(env, labels, front, label)) {
             return false;
         }
     }
@@ -106,12 +118,25 @@ fn is_known(scope: Scope<'_>) -> bool
 
 /// The newest label in a scope, of the name where one is given, whose record type has every label.
 #[tactic(auto, using(crate::proofs::Newest::newest_with_all))]
-fn newest_label<'a>(env: &Env, labels: &[Path], name: Option<&str>, scope: Scope<'a>) -> Found<'a>
+fn newest_label<'a>(
+    env: &Env,
+    labels: &[Path],
+    front: Scope<'_>,
+    name: Option<&str>,
+    scope: Scope<'a>,
+) -> Found<'a>
+    requires front { scope_view front ≡ front_of env.now (map written_of labels.now) }
     ensures { found_view result ≡ newest_label labelled (scope_for env.now (map written_of labels.now)) (map written_of labels.now) (option_map (λ n. n.now) name.entry) (scope_view scope.entry) }
 {
     match scope {
-        Scope::Env(among) => found(newest_with_all(env, labels, name, candidates(among, name))),
-        Scope::Inside(entries) => found(newest_with_all(env, labels, name, entries)),
+        Scope::Env(among) => found(newest_with_all(
+            env,
+            labels,
+            front,
+            name,
+            candidates(among, name),
+        )),
+        Scope::Inside(entries) => found(newest_with_all(env, labels, front, name, entries)),
         Scope::Unknown => Found::Hole,
         Scope::Absent => Found::Nothing,
     }
@@ -130,14 +155,16 @@ fn candidates<'a>(env: &'a Env, name: Option<&str>) -> Entries<'a>
 fn newest_with_all<'a>(
     env: &Env,
     labels: &[Path],
+    front: Scope<'_>,
     name: Option<&str>,
     among: Entries<'a>,
 ) -> Option<&'a Rc<Entry>>
+    requires front { scope_view front ≡ front_of env.now (map written_of labels.now) }
     ensures { option_map (λ e. e.now.value) result ≡ newest_by (has_all env.now (map written_of labels.now) (option_map (λ n. n.now) name.entry)) (names_of among.entry) }
 {
     let mut rest = among;
     while let Some((entry, older)) = rest.split_first() {
-        if has_all(env, labels, name, entry) {
+        if has_all(env, labels, front, name, entry) {
             return Some(entry);
         }
         rest = older;
@@ -146,10 +173,11 @@ fn newest_with_all<'a>(
 }
 
 /// Whether an entry is a label, of the name where one is given, whose record type has every label.
-fn has_all(env: &Env, labels: &[Path], name: Option<&str>, entry: &Entry) -> bool
+fn has_all(env: &Env, labels: &[Path], front: Scope<'_>, name: Option<&str>, entry: &Entry) -> bool
+    requires front { scope_view front ≡ front_of env.now (map written_of labels.now) }
     ensures { result ≡ has_all env.now (map written_of labels.now) (option_map (λ n. n.now) name.entry) entry.now }
 {
-    has_name(name, entry.name.as_str()) && belongs_to(env, labels, record_of(entry))
+    has_name(name, entry.name.as_str()) && belongs_to(env, labels, front, record_of(entry))
 }
 
 fn has_name(wanted: Option<&str>, name: &str) -> bool
@@ -161,21 +189,27 @@ fn has_name(wanted: Option<&str>, name: &str) -> bool
     }
 }
 
-fn belongs_to(env: &Env, labels: &[Path], made: Option<&Origin>) -> bool
+fn belongs_to(env: &Env, labels: &[Path], front: Scope<'_>, made: Option<&Origin>) -> bool
+    requires front { scope_view front ≡ front_of env.now (map written_of labels.now) }
     ensures { result ≡ belongs_to labelled (scope_for env.now (map written_of labels.now)) (map written_of labels.now) (option_map (λ o. path_of o.now) made.entry) }
 {
     match made {
         None => false,
-        Some(made) => has_each(env, labels, made),
+        Some(made) => has_each(env, labels, front, made),
     }
 }
 
 /// Whether a record type has every label.
-fn has_each(env: &Env, labels: &[Path], made: &Origin) -> bool
+fn has_each(env: &Env, labels: &[Path], front: Scope<'_>, made: &Origin) -> bool
+    requires front { scope_view front ≡ front_of env.now (map written_of labels.now) }
     ensures { result ≡ has_each labelled (scope_for env.now (map written_of labels.now)) (path_of made.now) (map written_of labels.now) }
 {
     for label in labels {
-        if !has_label(made, label.last.as_str(), scope_of(env, labels, label)) {
+        if !has_label(
+            made,
+            label.last.as_str(),
+            scope_of(env, labels, front, label),
+        ) {
             return false;
         }
     }

@@ -7,7 +7,6 @@ ghost use Rattle.row_parts.specs.Numbered.{operand_view, path_view};
 ghost use Rattle.typing_state.specs.Goes.{Goes, Silent};
 ghost use Rattle.typing_steps.specs.Typing.{path_as};
 ghost use Rattle.operand_laws.specs.Operands.{number_of};
-ghost use Rattle.use_typing.specs.Labels.{is_named_in, toks_of};
 ghost use Rattle.record_rows.specs.Operands.{labels_at};
 ghost use Rattle.record_rows.specs.Completing.{AsksComplete};
 ghost use Rattle.record_rows.specs.ValueOperands.{PunsLabel, PunsValue};
@@ -20,7 +19,7 @@ use std::rc::Rc;
 use syntax_tree::{Span, Token};
 use typing_state::{Entry, Env, NoMemory, NodeRef, Parts};
 use use_typing::{
-    Fields, Names, RecordType, Used, equal_if, labels_behind, labels_in, note_missing,
+    Fields, Mentioned, Names, RecordType, Used, equal_if, labels_behind, labels_in, note_missing,
     record_of_labels, type_or_var, unnamed, value,
 };
 
@@ -55,7 +54,7 @@ pub fn fields_in<'a>(at: &Parts, found: RecordType) -> Fields<'a>
 {
     Fields {
         found,
-        labels: Vec::new(at.alloc()),
+        labels: Mentioned::new(at.alloc()),
     }
 }
 
@@ -155,33 +154,21 @@ pub fn complete(at: &mut Parts, fields: &Fields<'_>, span: Span) -> Result<Used,
 fn ask_complete(
     at: &mut Parts,
     found: &RecordType,
-    written: &[&Token],
+    written: &Mentioned<'_>,
     span: Span,
 ) -> Result<(), NoMemory>
-    ensures carries { OnOk result (AsksComplete (here_of found.now) (names_written written.now) at.old at.new span) }
+    ensures carries { OnOk result (AsksComplete (here_of found.now) (names_written written.now.items) at.old at.new span) }
     ensures goes { Goes at.old at.new }
 {
     let RecordType::Known(declaration, _) = found else {
         return Ok(());
     };
     for label in labels_in(declaration) {
-        if !is_written(written, label.name.as_str()) {
+        if !written.has(label.name.as_str()) {
             return at.incomplete(span, label.name.as_str());
         }
     }
     Ok(())
-}
-
-/// Whether a label is one of those that are written.
-fn is_written(written: &[&Token], label: &str) -> bool
-    ensures { result ≡ is_named_in label.now (toks_of written.now) }
-{
-    for other in written {
-        if other.name.is(label) {
-            return true;
-        }
-    }
-    false
 }
 
 /// The type of a record; any type where it isn't known.

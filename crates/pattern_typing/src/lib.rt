@@ -6,4 +6,6 @@
 
 mod patterns;
 
-pub use patterns::{BoundName, Matched, Mentioned, type_pattern};
+pub use patterns::{BoundName, Matched, type_pattern};
+/// All names that stand in patterns so far, bound or not.
+pub use use_typing::Mentioned;

@@ -1,7 +1,7 @@
 //! Patterns.
 #![tactic(auto, using(typing_state::proofs::Going::goes_trans, typing_state::proofs::Going::goes_refl, typing_state::proofs::Silence::store_silent, crate::proofs::Binding::binds_none, crate::proofs::Binding::binds_both, crate::proofs::Binding::binds_ends, crate::proofs::Binding::binds_one, crate::proofs::PatternLaws::slot_binds, crate::proofs::PatternLaws::slots_bind))]
 
-ghost use Rattle.std.specs.Prelude.{◌≡◌, ℕ, [], ◌∷◌, ◌++◌, List, map, option_map, slice_get, take, drop, None, Some, All, IfOk, OnOk};
+ghost use Rattle.std.specs.Prelude.{◌≡◌, ℕ, [], ◌∷◌, ◌++◌, List, map, option_map, slice_get, None, Some, All, IfOk, OnOk};
 ghost use Rattle.tree_model.specs.Rows.{pname_row, pcon_row, pparen_row, plist_row, precord_row, papp_row, pcons_row, ptuple_row, por_row, pas_row};
 ghost use Rattle.syntax_tree.specs.View.{place_of, tok_of, node_view};
 ghost use Rattle.row_parts.specs.Numbered.{all_operands, in_slot, in_slots, operand_view, operands_in, path_in, path_view, token_in};
@@ -42,8 +42,8 @@ use syntax_tree::{Node, RowName, Span, Token};
 use type_expressions::as_written;
 use typing_state::{Depth, Env, NoMemory, NodeRef, Parts, share_entry};
 use use_typing::{
-    Fields, RecordType, Sign, begin_field, constant, constructor, equal_if, is_again, note_label,
-    note_missing, record_of_fields, type_or_var, written_at,
+    Fields, Mentioned, RecordType, Sign, begin_field, constant, constructor, equal_if, is_again,
+    note_label, note_missing, record_of_fields, type_or_var, written_at,
 };
 
 /// A name that a pattern binds, with its type.
@@ -60,9 +60,6 @@ pub struct Matched<'a> {
     pub ty: NodeRef,
     pub names: Vec<BoundName<'a>>,
 }
-
-/// All names that stand in patterns so far, bound or not.
-pub type Mentioned<'a> = Vec<&'a Token>;
 
 /// A pattern in a row with its type.
 #[derive(Clone, Copy)]
@@ -707,14 +704,14 @@ fn match_sides<'a>(
     ensures goes { Goes at.old at.new }
 {
     let before = seen.len();
-    let mut all: Mentioned<'a> = Vec::new(at.alloc());
+    let mut all = Mentioned::new(at.alloc());
     let mut sides = Vec::new(at.alloc());
     for part in parts {
         let side = match_side(at, *part, env, seen, depth.inside()?)?;
-        keep_apart(seen, before, &mut all)?;
+        seen.keep_apart(before, &mut all)?;
         push(&mut sides, side)?;
     }
-    append(seen, all)?;
+    seen.append(&all)?;
     Ok(sides)
 }
 
@@ -764,22 +761,6 @@ fn append<T: Drop>(list: &mut Vec<T>, more: Vec<T>) -> Result<(), NoMemory>
     for item in more {
         push(list, item)?;
     }
-    Ok(())
-}
-
-/// Moves the names behind a place into a list of their own.
-fn keep_apart<'a>(
-    seen: &mut Mentioned<'a>,
-    before: usize,
-    all: &mut Mentioned<'a>,
-) -> Result<(), NoMemory>
-    ensures kept { OnOk result (seen.new.items ≡ take before seen.old.items) }
-    ensures moved { OnOk result (all.new.items ≡ all.old.items ++ drop before seen.old.items) }
-{
-    for place in before..seen.len() {
-        push(all, seen[place])?;
-    }
-    seen.truncate(before);
     Ok(())
 }
 
@@ -962,7 +943,7 @@ fn match_fields<'a>(
 {
     let mut begun = Fields {
         found,
-        labels: Vec::new(at.alloc()),
+        labels: Mentioned::new(at.alloc()),
     };
     for field in fields {
         match_field(at, env, &mut begun, *field, names, seen, depth)?;

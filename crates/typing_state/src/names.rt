@@ -146,8 +146,8 @@ impl Parts {
     ) -> Result<Vec<Option<Rc<Entry>>>, NoMemory> {
         let modules = modules_of(self.alloc, &written.qualifiers)?;
         let mut names = Vec::new(self.alloc);
-        for place in 0..modules.len() {
-            let entry = match env.module_behind(&modules[..=place]) {
+        for module in env.modules_along(self.alloc, &modules)? {
+            let entry = match module {
                 Found::Entry(entry) => Some(share_entry(entry)?),
                 _ => None,
             };

@@ -1,5 +1,6 @@
 -- The laws of names, labels and constants, and of what is read on the way.
 pub mod Reading
+pub mod Mentioning
 pub mod Telling
 pub mod Carrying
 pub mod ConstantLaws

@@ -3,4 +3,5 @@ pub mod Paths
 pub mod Uses
 pub mod Constants
 pub mod Labels
+pub mod Mentions
 pub mod Records

@@ -89,8 +89,8 @@ match_sides-loop-part-preserved t c =
       goes = goes_trans c.args.at.now c.loop-part.at c.match_side.new.at c.loop-part.invariant.goes c.match_side.ensures.goes;
       sides = map_push side_view c.loop-part.sides.items c.push.new.list.items c.in_ok-side.side (side_at (operand_view x)) (map side_at (map operand_view (drop (i + 1) all))) (map side_at (map operand_view all)) c.in_ok-push.ensures.pushed c.in_ok-side.ensures.side
           (subst (λ os. map side_view c.loop-part.sides.items ++ map side_at (map operand_view os) ≡ map side_at (map operand_view all)) cut c.loop-part.invariant.sides);
-      carries = beside_step c.args.at.now c.loop-part.at c.match_side.new.at c.args.env.now all i x c.args.seen.now.items c.loop-part.seen.items c.match_side.new.seen.items c.keep_apart.new.seen.items c.loop-part.all.items c.keep_apart.new.all.items c.loop-part.sides.items c.push.new.list.items c.in_ok-side.side c.len-before.result lt c.part-item.is c.in_ok-push.ensures.pushed c.loop-part.invariant.goes
-          (let got = c.len-before.ensures in let listed = c.args.seen.now.ok in let e : c.len-before.result ≡ length c.args.seen.now.items = omega arith in e) c.in_ok-keep_apart.ensures.kept c.in_ok-keep_apart.ensures.moved c.loop-part.invariant.carries c.in_ok-side.ensures.carries;
+      carries = beside_step c.args.at.now c.loop-part.at c.match_side.new.at c.args.env.now all i x c.args.seen.now.items c.loop-part.seen.items c.match_side.new.seen.items c.keep_apart.new.self.items c.loop-part.all.items c.keep_apart.new.others.items c.loop-part.sides.items c.push.new.list.items c.in_ok-side.side c.len-before.result lt c.part-item.is c.in_ok-push.ensures.pushed c.loop-part.invariant.goes
+          c.len-before.ensures c.in_ok-keep_apart.ensures.kept c.in_ok-keep_apart.ensures.moved c.loop-part.invariant.carries c.in_ok-side.ensures.carries;
       parts = map_push (λ (s : SideMatch). operand_view s.part) c.loop-part.sides.items c.push.new.list.items c.in_ok-side.side (operand_view x) (map operand_view (drop (i + 1) all)) (map operand_view all) c.in_ok-push.ensures.pushed (ap operand_view c.in_ok-side.ensures.part)
           (subst (λ os. parts_of_sides c.loop-part.sides.items ++ map operand_view os ≡ map operand_view all) cut c.loop-part.invariant.parts);
     }
@@ -103,7 +103,7 @@ match_sides-returns t c =
     record {
       sides = list_done (map side_view c.loop-part.sides.items) (map side_at (map operand_view all)) (map side_at (map operand_view (drop i all))) (ap (λ os. map side_at (map operand_view os)) none) c.loop-part.invariant.sides;
       goes = c.loop-part.invariant.goes;
-      carries = λ carried. beside_done c.args.at.now c.loop-part.at c.args.env.now (as_patterns c.args.at.now.item all) (as_patterns c.args.at.now.item (drop i all)) c.args.seen.now.items c.loop-part.seen.items c.loop-part.all.items c.append.new.list.items (map side_of c.loop-part.sides.items) (ap (as_patterns c.args.at.now.item) none) c.in_ok-append.ensures (c.loop-part.invariant.carries carried);
+      carries = λ carried. beside_done c.args.at.now c.loop-part.at c.args.env.now (as_patterns c.args.at.now.item all) (as_patterns c.args.at.now.item (drop i all)) c.args.seen.now.items c.loop-part.seen.items c.loop-part.all.items c.append.new.self.items (map side_of c.loop-part.sides.items) (ap (as_patterns c.args.at.now.item) none) c.in_ok-append.ensures (c.loop-part.invariant.carries carried);
       parts = list_done (parts_of_sides c.loop-part.sides.items) (map operand_view all) (map operand_view (drop i all)) (ap (map operand_view) none) c.loop-part.invariant.parts;
     }
 
