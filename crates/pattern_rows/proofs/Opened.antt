@@ -1,5 +1,6 @@
 -- Letters that patterns open, and those that are closed at the end of a row.
-use Rattle.std.proofs.Common.{◌∙◌, ◌++◌, ℕ, Bool, List, [], ◌∷◌, inl, inr, sym, ap, subst, append_assoc}
+use Rattle.std.proofs.Common.{◌≡◌, ◌∙◌, ◌++◌, ℕ, Some, Bool, List, [], ◌∷◌, inl, inr, sym, ap, subst, append_assoc}
+use Rattle.std.specs.Prelude.{slice_get}
 use Rattle.typing_model.specs.Contexts.{Choice}
 use Rattle.type_nodes.specs.Nodes.{Node}
 use Rattle.type_nodes.specs.Readings.{Types}
@@ -10,8 +11,8 @@ use Rattle.typing_conditions.proofs.Judged.{given_left, given_right, given_both,
 use Rattle.typing_conditions.proofs.Carried.{hidden_more, carried_trans}
 use Rattle.typing_steps.specs.Typing.{RowCarried}
 use Rattle.pattern_rows.specs.Bounds.{IsAmong}
-use Rattle.typing_conditions.specs.Hiding.{marked, is_typed, Settles}
-use Rattle.typing_conditions.proofs.Hiding.{settles_more, given_unmarked}
+use Rattle.typing_conditions.specs.Hiding.{marked, is_sure, HasCopy}
+use Rattle.typing_conditions.proofs.Hiding.{settles_closed, given_unmarked, copy_second, marked_copy}
 
 -- letters are nodes where others are together with them
 pub nodes_left : (xs ys : Letters) (nodes : List Node) → AreNodes (xs ++ ys) nodes → AreNodes xs nodes
@@ -44,6 +45,7 @@ stays_kept {F} {a} {b} own opens {G} among s = record {
   writes = s.writes;
   refines = s.refines;
   recorded = s.recorded;
+  keeps = s.keeps;
   written = s.written;
   given = λ V ch h. given_right V ch opens G h;
   inside = λ i.
@@ -68,12 +70,12 @@ goes_kept own opens G {V} {W} {ch} among on = record {
   };
 }
 
--- Of the letters that a row has opened only those are kept that are among them; all are hidden, with marks.
-pub carried_marked : {F : Frame} {scope : Scope} {asks : Asks} {a b : Sight} (test : Key × ℕ → Bool) (own opens : Letters) {G : Letters} → IsAmong opens own → (p : Carried F scope asks a G b (own ++ G)) → Settles a b (p.hidden ++ marked test own) → Carried F scope asks a G b (opens ++ G)
-carried_marked {F} {scope} {asks} {a} {b} test own opens {G} among p settled = record {
+-- Of the letters that a row has opened only those are kept that are among them; all are hidden, with a doubt at those that aren't sure.
+pub carried_kept : {F : Frame} {scope : Scope} {asks : Asks} {a b : Sight} (own opens : Letters) {G : Letters} → IsAmong opens own → Carried F scope asks a G b (own ++ G) → Carried F scope asks a G b (opens ++ G)
+carried_kept {F} {scope} {asks} {a} {b} own opens {G} among p = record {
   stays = stays_kept own opens among p.stays;
   hidden = p.hidden ++ marked test own;
-  settled = settled;
+  settled = settles_closed p.hidden own p.settled;
   judged = p.judged;
   told = p.told;
   reports = p.reports;
@@ -111,10 +113,14 @@ carried_marked {F} {scope} {asks} {a} {b} test own opens {G} among p settled = r
   ];
   first = p.first;
 }
+  where
+    test : Key × ℕ → Bool
+    test = is_sure a b (p.hidden ++ own)
 
--- the same with a doubt where a letter isn't for the type of a recorded node
-pub carried_kept : {F : Frame} {scope : Scope} {asks : Asks} {a b : Sight} (own opens : Letters) {G : Letters} → IsAmong opens own → Carried F scope asks a G b (own ++ G) → Carried F scope asks a G b (opens ++ G)
-carried_kept {b = b} own opens among p = carried_marked (is_typed b) own opens among p (settles_more p.hidden own p.stays.recorded p.settled)
+-- each of them is hidden then
+pub kept_copies : {F : Frame} {scope : Scope} {asks : Asks} {a b : Sight} (own opens : Letters) {G : Letters} (among : IsAmong opens own) (p : Carried F scope asks a G b (own ++ G)) (k : ℕ) (x : Key × ℕ) → slice_get own k ≡ Some x → HasCopy (carried_kept own opens among p).hidden x
+unfolding carried_kept
+kept_copies {a = a} {b = b} own opens among p k x e = copy_second p.hidden (marked (is_sure a b (p.hidden ++ own)) own) (marked_copy (is_sure a b (p.hidden ++ own)) own k x e)
 
 -- a row among whose letters are those that stay open
 pub record RowOpened (F : Frame) (scope : Scope) (asks : Asks) (a : Sight) (G : Letters) (b : Sight) (n m : ℕ) (opens : Letters) : Type 0 where

@@ -36,21 +36,17 @@ use Rattle.typing_rows.proofs.Own.{ends_made, own_recorded}
 use Rattle.pattern_rows.specs.Bounds.{Bind, none_bound, Adds}
 use Rattle.pattern_rows.specs.Contracts.{row_pattern, MatchedTo, MatchesTo, Matches, RowMatched, MatchesRow}
 use Rattle.pattern_rows.proofs.Naming.{adds_none}
-use Rattle.pattern_rows.proofs.Opened.{none_among, among_after, carried_marked}
-use Rattle.typing_conditions.specs.Hiding.{marked, is_sure}
-use Rattle.typing_conditions.proofs.Hiding.{settles_both, settles_row}
+use Rattle.pattern_rows.proofs.Opened.{none_among, among_after, carried_kept}
 
 -- the row of a node, once its type is recorded
 pub row_recorded : {F : Frame} {scope : Scope} {a b d : Sight} {G : Letters} {p : Pattern} {seen : List Name} {added : List Bind} {n number m : ℕ} {opens : Letters} → number_in b.item number ≡ n → p.node ≡ n → RowMatched F scope a G b p seen added n m opens →
     Records b d number m → MatchedTo F scope a G d (recorded_pattern n p) seen added m opens
-unfolding own_recorded
 row_recorded {F} {scope} {a} {b} {d} {G} {p} {seen} {added} {n} {number} {m} {opens} place node row r =
     let own_letters : Letters = (own n, m) ∷ row.row.own in
     let ends = carried_as row.row.all (carried_trans row.row.typed.carried (ends_made row.row.typed.means row.row.end)) in
     let of_row : Means F b (own_letters ++ G) (λ ch. ch.type_at n) m = record { open_node = row.row.typed.means.open_node; is = λ V ch loose g. g.given.0.is } in
     let whole : Carried F scope (λ c. tell_typed n c ++ p.matched c seen) a G d (opens ++ G) =
-    carried_marked (is_sure (number_in b.item number) d own_letters) own_letters opens (among_after ((own n, m) ∷ []) row.among) (own_recorded n place ends of_row r)
-    (settles_both ends.hidden (marked (is_sure (number_in b.item number) d own_letters) own_letters) ends.stays.recorded (records_stay {F = F} {G = G} r row.row.typed.means.open_node.inside).recorded ends.settled (settles_row number own_letters refl r.none (here_now r))) in
+    carried_kept own_letters opens (among_after ((own n, m) ∷ []) row.among) (own_recorded n place ends of_row r) in
     let means : Means F d (opens ++ G) (λ ch. ch.type_at n) m = record {
       open_node = open_on (records_stay {G = opens ++ G} r row.row.typed.means.open_node.inside) row.row.typed.means.open_node;
       is = λ V ch loose g. ap ch.type_at (sym place) ∙ g.recorded b.item number m (here_now r);

@@ -22,6 +22,7 @@ stays_without {a = a} {b = b} front K more G nodes s = record {
   reaches = s.reaches;
   writes = s.writes;
   recorded = s.recorded;
+  keeps = s.keeps;
   written = s.written;
   given = λ V ch g. given_right V ch more (front ++ G) g;
   inside = λ i.

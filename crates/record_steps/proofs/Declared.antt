@@ -10,7 +10,7 @@ use Rattle.signature_model.specs.Declarations as rules
 use Rattle.signature_model.specs.Declarations.{Name, type_of, parameters_from}
 use Rattle.signature_model.specs.Entries.{Environment, label_kind}
 use Rattle.signature_model.specs.Entries.{Entry as Named, Referent, kind_of as kind_named}
-use Rattle.signature_model.specs.Lookups.{FoundAmong, an_entry, a_hole, nothing, ScopeOf, known, unknown_scope, no_scope, newest_by, found}
+use Rattle.signature_model.specs.Lookups.{FoundAmong, an_entry, a_hole, nothing, ScopeOf, known, unknown_scope, no_scope, newest_by}
 use Rattle.signature_model.specs.Records.{Written, Labelled, is_there, is_known, each_scope, first_label, newest_label, has_name, belongs_to, record_by, record_of}
 use Rattle.typing_model.specs.Names.{entry_of, then_by, label_in}
 use Rattle.typing_model.specs.Records.{labels_in}
@@ -34,19 +34,7 @@ use Rattle.typing_conditions.specs.Declared.{LabelAs, OneByOne, no_more, one_mor
 use Rattle.typing_conditions.proofs.Finding.{same_label}
 use Rattle.record_steps.specs.Alike.{SameLabel, SameRecord}
 use Rattle.record_steps.proofs.Finding.{record_alike}
-
--- the newest entry that a test holds of passes it
-newest_passes : {E : Type 0} (test : E → Bool) (es : List E) (e : E) → newest_by test es ≡ Some e → test e ≡ true
-newest_passes test [] e h = absurd (cc)
-newest_passes {E} test (x ∷ es) e h = at (test x) refl (newest_passes test es e)
-  where
-    at : (t : Bool) → test x ≡ t → (newest_by test es ≡ Some e → test e ≡ true) → test e ≡ true
-    at true f later = let s : Some x ≡ Some e = sym (ap (λ t. if t then Some x else newest_by test es) f) ∙ h in let r : x ≡ e = cc in ap test (sym r) ∙ f
-    at false f later = later (sym (ap (λ t. if t then Some x else newest_by test es) f) ∙ h)
-
-found_some : {E : Type 0} (o : Option E) (e : E) → found o ≡ an_entry e → o ≡ Some e
-found_some None e h = absurd (cc)
-found_some (Some x) e h = let s : x ≡ e = cc in ap (λ y. Some y) s
+use Rattle.typing_steps.proofs.Valued.{found_some, newest_passes}
 
 -- what belongs to a record type has one
 has_one : {E : Type 0} (L : Labelled E) (scope : Written → ScopeOf E) (all : List Written) (o : Option Path) → belongs_to L scope all o ≡ true → (p : Path) × (o ≡ Some p)

@@ -1,5 +1,5 @@
 -- A field of a record: its label is new, and an instance of the label's root has the type of the field where its record is the record.
-use Rattle.std.proofs.Common.{◌≡◌, ◌∙◌, inl, inr, ◌++◌, ℕ, true, not, List, [], ◌∷◌, Option, Some, None, option_map, refl, sym, ap, subst, append-nil}
+use Rattle.std.proofs.Common.{◌≡◌, ◌∙◌, inl, inr, ◌++◌, ℕ, true, not, List, [], ◌∷◌, Option, Some, None, option_map, refl, sym, ap, subst, append-nil, ◌⊎◌}
 use Rattle.std.specs.Prelude.{slice_get}
 use Rattle.token_model.specs.Kinds.{Tok}
 use Rattle.type_model.specs.Types.{Typ}
@@ -7,7 +7,7 @@ use Rattle.type_model.specs.Types.{Typ as type}
 use Rattle.signature_model.specs.Declarations as rules
 use Rattle.signature_model.specs.Declarations.{Name, type_of}
 use Rattle.typing_model.specs.Demands.{site, demand, test, twice}
-use Rattle.typing_model.specs.Contexts.{ask}
+use Rattle.typing_model.specs.Contexts.{ask, Choice}
 use Rattle.typing_model.specs.Parts as parts
 use Rattle.typing_model.specs.Names.{then_by}
 use Rattle.typing_model.specs.Records.{is_among, ask_once, find_label, labels_in}
@@ -15,6 +15,7 @@ use Rattle.type_nodes.specs.Nodes.{Arrow}
 use Rattle.type_nodes.specs.Links.{reading}
 use Rattle.type_nodes.specs.Readings.{Types}
 use Rattle.level_unify.specs.Instances.{Instantiated}
+use Rattle.level_unify.specs.Solutions.{Loose}
 use Rattle.env_table.specs.declared.entries.Declaration.{Declaration}
 use Rattle.env_table.specs.declared.entries.Label.{Label}
 use Rattle.typing_conditions.proofs.Own.{own_of}
@@ -22,13 +23,16 @@ use Rattle.typing_conditions.specs.Declared.{LabelAs}
 use Rattle.typing_conditions.proofs.DeclaredLater.{declared_after}
 use Rattle.typing_state.specs.declared.parts.Parts.{Parts}
 use Rattle.typing_state.specs.Goes.{OnlyStore}
-use Rattle.typing_conditions.specs.Sights.{Sight, Letters, AreNodes}
+use Rattle.typing_conditions.specs.Sights.{Sight, Letters, AreNodes, AreGiven, Agrees}
 use Rattle.typing_conditions.specs.Frames.{Frame, Reaches, IsRoot}
 use Rattle.typing_conditions.specs.Meanings.{Means}
-use Rattle.typing_conditions.specs.Carrying.{Scope, Stays, Carried}
-use Rattle.typing_conditions.proofs.Framing.{root_on}
-use Rattle.typing_conditions.proofs.Carried.{carried_trans, carried_as}
+use Rattle.typing_conditions.specs.Carrying.{Scope, Stays, Carried, CarriedTo}
+use Rattle.typing_conditions.proofs.Framing.{root_on, no_bound}
+use Rattle.typing_conditions.proofs.Carried.{carried_trans, carried_as, carried_dropped, means_dropped}
 use Rattle.typing_conditions.proofs.Meaning.{means_on, nodes_in}
+use Rattle.typing_conditions.proofs.Stays.{stays_closed, agrees_before}
+use Rattle.typing_conditions.proofs.Steps.{true_or_false}
+use Rattle.typing_conditions.proofs.Equals.{loose_one}
 use Rattle.typing_steps.specs.States.{is_aloud, sight}
 use Rattle.typing_steps.specs.Building.{TakesAs, used_by}
 use Rattle.typing_steps.proofs.Seeing.{only_nodes, level_here}
@@ -56,7 +60,8 @@ stands_on {a = a} {b = b} stays reached s =
       is = declared_after own_a.1 (stays.refines reached own_b.0 own_b.1) (λ r i. i) s.is;
     }
 
--- An instance of a label's root, whose record is joined with the record's type, has the type of the field as it is used at the record's node; nothing is asked.
+-- An instance of a label's root, whose record is joined with the record's type, has the type of the field as it is used at the record's node; nothing is asked, and no letter
+-- is wanted for it where each variable of the field's type stands in the record's.
 module _ (a b : Parts) {F : Frame} {l : Label} {k : rules.Label} {owner : Typ} {C : List ℕ} {N : Types} {arity m field : ℕ} (reached : Reaches F (sight a)) (are_roots : (i r : ℕ) → slice_get C i ≡ Some r → IsRoot F (sight a) r)
     (alike : LabelAs a.store.nodes C N arity owner l k) (takes : TakesField l a b m field) where
   label_root : IsRoot F (sight a) l.root.0
@@ -66,6 +71,12 @@ module _ (a b : Parts) {F : Frame} {l : Label} {k : rules.Label} {owner : Typ} {
   instance = subst (λ j. Instantiated a.store.nodes takes.made.store.nodes l.root.0 j takes.node) (level_here a reached) (takes.instance label_root.inside)
 
   module _ {scope : Scope} {G : Letters} (n : ℕ) (q : Means F (sight a) G (used_by n owner) m) where
+    -- letters that have their types anyway are dropped
+    dropped : (own : Letters) → AreNodes own b.store.nodes → CarriedTo F scope (λ c. []) (sight a) G (sight b) (own ++ G) (used_by n k.body) field →
+        ((V : Types) (ch : Choice) → Loose b.store.nodes V → Agrees F.owner (sight b) G V ch → AreGiven own V ch) ⊎ Unit {0} → UsedAs F scope G a b n field k.body
+    dropped own inside typed (inl implied) = record { own = []; inside = tt; typed = record { carried = carried_dropped own implied typed.carried; means = means_dropped own implied typed.means } }
+    dropped own inside typed (inr other) = record { own = own; inside = inside; typed = typed }
+
     joined_so : takes.joining ≡ takes.made → reading takes.made.store.nodes takes.node ≡ Some (Arrow takes.from field) → UsedAs F scope G a b n field k.body
     joined_so same reads =
         let taking : TakenWith F scope (sight a) G (sight takes.made) n (type.Arrow owner k.body) takes.node =
@@ -76,8 +87,21 @@ module _ (a b : Parts) {F : Frame} {l : Label} {k : rules.Label} {owner : Typ} {
         let there : reading takes.joining.store.nodes takes.node ≡ Some (Arrow takes.from field) = ap (λ z. reading z.store.nodes takes.node) same ∙ reads in
         let from_here = from_means {from = used_by n owner} {to = used_by n k.body} p there in
         let record_here = means_on here.stays q in
-        let join = join_carried takes.joining b {scope = scope} takes.sound_after from_here record_here (takes.joined.0 from_here.open_node.inside record_here.open_node.inside) takes.rest_after takes.goes_after in
-        record { own = taking.own; inside = nodes_in taking.own takes.joining.store.nodes b.store.nodes join.stays.longer (subst (λ (z : Parts). AreNodes taking.own z.store.nodes) (sym same) taking.nodes); typed = record { carried = carried_trans here join; means = means_on join.stays (to_means {from = used_by n owner} {to = used_by n k.body} p there) } }
+        let joined = takes.joined.0 from_here.open_node.inside record_here.open_node.inside in
+        let join = join_carried takes.joining b {scope = scope} takes.sound_after from_here record_here joined takes.rest_after takes.goes_after in
+        let whole : Carried F scope (λ c. []) (sight a) G (sight b) (taking.own ++ G) = carried_trans here join in
+        let known : (V : Types) (ch : Choice) → Loose b.store.nodes V → Agrees F.owner (sight b) G V ch → V takes.from ≡ V m → used_by n owner ch ≡ V takes.from = λ V ch loose g one. q.is V ch (whole.stays.loose V loose) (agrees_before (stays_closed taking.own whole.stays) g) ∙ sym one in
+        let at_made : (V : Types) → Loose b.store.nodes V → Loose takes.made.store.nodes V = λ V loose. subst (λ (z : Parts). Loose z.store.nodes V) same (join.stays.loose V loose) in
+        dropped taking.own (nodes_in taking.own takes.joining.store.nodes b.store.nodes join.stays.longer (subst (λ (z : Parts). AreNodes taking.own z.store.nodes) (sym same) taking.nodes))
+        (record { carried = whole; means = means_on join.stays (to_means {from = used_by n owner} {to = used_by n k.body} p there) })
+        (elim (true_or_false taking.covered) [
+          | inl covers ↦ elim joined [
+            | inl one ↦ inl (λ V ch loose g. taking.implied covers owner k.body refl takes.from field reads V ch (at_made V loose)
+                (known V ch loose g (loose_one takes.joining.store.nodes b.store.nodes takes.from m takes.sound_after (one (no_bound from_here.open_node record_here.open_node)) V loose)))
+            | inr never ↦ inr tt
+          ]
+          | inr beside ↦ inr tt
+        ])
 
     pub field_used : UsedAs F scope G a b n field k.body
     field_used = elim takes.sides [

@@ -5,13 +5,20 @@ use Rattle.std.proofs.lemmas.Bool.{ne_eqb}
 use Rattle.tree_model.specs.Rows.{Row, let_row, break_row}
 use Rattle.tree_model.specs.Trees.{Tree, Place, node}
 use Rattle.token_model.specs.Kinds.{Tok}
+use Rattle.type_model.specs.Types.{Typ}
+use Rattle.type_model.specs.Schemes.{Scheme}
+use Rattle.typing_model.specs.Bindings.{names_of_group, held_by}
+use Rattle.typing_model.specs.Contexts.{Bound, Context, generalised_in}
+use Rattle.typing_model.specs.Items.{inside_item, value_components}
+use Rattle.typing_model.specs.Expressions.{bindings_in}
 use Rattle.typing_model.specs.Parts.{Item, Child}
+use Rattle.typing_model.specs.Typings.{outermost, no_choice}
 use Rattle.typing_model.specs.Modules.{item_row}
 use Rattle.typing_model.specs.Meanings.{recorded_item, tree_child, item_base, items_from, items_of}
 use Rattle.typing_laws.specs.Plain.{is_let_row, has_lets_alone}
 use Rattle.typing_laws.proofs.Bools.{no_yes, and_cases}
 use Rattle.binding_rows.specs.Outside.{Left}
-use Rattle.binding_rows.specs.ItemRows.{AreOwned, none_owned, leaves_none, leaves_one}
+use Rattle.binding_rows.specs.ItemRows.{AreDeclared, AreOwned, none_owned, leaves_none, leaves_types, leaves_one}
 use Rattle.text_laws.specs.Reading.{OwnersApart}
 
 -- no item that left something has a lower number
@@ -23,13 +30,22 @@ record Owned (b : ℕ) (ls : List Left) : Type 0 where
   apart : OwnersApart ls
   from : AreFrom b ls
 
+-- an item that declares neither an exception nor a type
+abbrev DeclaresNone : Item → Type 0
+DeclaresNone m = (c : Context) → AreDeclared (m.components c) → ⊥
+
+-- some context
+abbrev some_context : Context
+some_context = outermost [] (λ s. true) no_choice
+
 owned_none : (b : ℕ) {ls : List Left} → AreOwned [] ls → Owned b ls
 owned_none b none_owned = record { apart = tt; from = λ k l e. absurd (cc) }
 
--- one item, and others after it
-owned_more : {m : Item} {ms : List Item} {ls : List Left} (b next : ℕ) → m.node ≡ b → b + 1 ≤ next → ((ks : List Left) → AreOwned ms ks → Owned next ks) → AreOwned (m ∷ ms) ls → Owned b ls
-owned_more {ls = ls} b next is_b lt others (leaves_none h) = let o = others ls h in record { apart = o.apart; from = λ k l e. let f = o.from k l e in omega arith }
-owned_more {m = m} {ms = ms} {ls = l ∷ ls} b next is_b lt others (leaves_one owner fixed h) =
+-- one item, which declares nothing, and others after it
+owned_more : {m : Item} {ms : List Item} {ls : List Left} (b next : ℕ) → m.node ≡ b → DeclaresNone m → b + 1 ≤ next → ((ks : List Left) → AreOwned ms ks → Owned next ks) → AreOwned (m ∷ ms) ls → Owned b ls
+owned_more {ls = ls} b next is_b none lt others (leaves_none h) = let o = others ls h in record { apart = o.apart; from = λ k l e. let f = o.from k l e in omega arith }
+owned_more b next is_b none lt others (leaves_types declared h) = absurd (none some_context (declared some_context))
+owned_more {m = m} {ms = ms} {ls = l ∷ ls} b next is_b none lt others (leaves_one owner fixed h) =
     let o = others ls h in
     let here : l.owner ≡ b = owner ∙ is_b in
     record {
@@ -41,15 +57,20 @@ owned_more {m = m} {ms = ms} {ls = l ∷ ls} b next is_b lt others (leaves_one o
     from o here zero q e = let same : l ≡ q = cc in subst (λ x. b ≤ x.owner) same (omega (arith, here))
     from o here (suc k) q e = let f = o.from k q e in omega arith
 
--- an item that may be there has a number
+-- an item that may be there has a number, and declares nothing
 abbrev IsNumbered : ℕ → Option Item → Type 0
 IsNumbered n None = Unit {0}
-IsNumbered n (Some m) = m.node ≡ n
+IsNumbered n (Some m) = (m.node ≡ n) × DeclaresNone m
+
+-- the components of a `let` are values
+values_alone : (scheme : Typ → Scheme) (c : Context) (bs : List Bound) → AreDeclared (value_components scheme c bs) → ⊥
+values_alone scheme c [] h = h
+values_alone scheme c (b ∷ bs) h = h
 
 row_numbered : (r : Row) (n : ℕ) (at : Place) (ts : List Tok) (cs : List Child) → is_let_row r ≡ true → IsNumbered n (item_row r n at ts cs)
 unfolding item_row
-row_numbered let_row n at ts cs e = refl
-row_numbered break_row n at ts cs e = refl
+row_numbered let_row n at ts cs e = (refl, λ c. values_alone (generalised_in c.env (held_by (inside_item n ts c) (bindings_in 2 cs))) (inside_item n ts c) (names_of_group (bindings_in 2 cs)))
+row_numbered break_row n at ts cs e = (refl, λ c h. h)
 row_numbered _ n at ts cs e = absurd (no_yes e)
 
 recorded_numbered : (n : ℕ) (i : Option Item) → IsNumbered n i → IsNumbered n (recorded_item n i)
@@ -70,7 +91,7 @@ items_owned k (t ∷ ts) e ls h = by (tree_child (item_base k) 0 t).item (tree_n
     by : (o : Option Item) → IsNumbered (item_base k) o → ((ks : List Left) → AreOwned (items_from (k + 1) ts) ks → Owned (item_base (k + 1)) ks) → (ls : List Left) →
         AreOwned (elim o [ None ↦ items_from (k + 1) ts | Some m ↦ m ∷ items_from (k + 1) ts ]) ls → Owned (item_base k) ls
     by None numbered others ls h = let o = others ls h in record { apart = o.apart; from = λ j l f. let g = o.from j l f in omega arith }
-    by (Some m) numbered others ls h = owned_more (item_base k) (item_base (k + 1)) numbered (omega arith) others h
+    by (Some m) numbered others ls h = owned_more (item_base k) (item_base (k + 1)) numbered.0 numbered.1 (omega arith) others h
 
 -- So what the items of such a text left belongs to different ones.
 pub owners_apart : (text : List Tree) → has_lets_alone text ≡ true → {ls : List Left} → AreOwned (items_of text) ls → OwnersApart ls

@@ -1,5 +1,5 @@
 -- Where nodes that stand for one thing have one type, a choice is read off a state.
-use Rattle.std.proofs.Common.{◌≡◌, ◌∙◌, ◌⊎◌, inl, inr, ℕ, zero, suc, ◌+◌, ◌/◌, ◌%◌, ◌^◌, Bool, true, false, ◌==◌, Option, Some, None, List, [], ◌∷◌, ◌++◌, refl, sym, ap, subst, if◌then◌else◌, length}
+use Rattle.std.proofs.Common.{◌≡◌, ◌∙◌, inl, inr, ℕ, zero, suc, ◌+◌, ◌/◌, ◌%◌, ◌^◌, Bool, true, false, ◌==◌, Option, Some, None, List, [], ◌∷◌, ◌++◌, refl, sym, ap, subst, if◌then◌else◌, length}
 use Rattle.std.specs.Prelude.{slice_get}
 use Rattle.std.proofs.lemmas.Bool.{eqb-true}
 use Rattle.std.proofs.lemmas.Nat.{div-mul-add, mod-mul-add, div-add-mod'}
@@ -21,13 +21,15 @@ use Rattle.type_nodes.specs.Readings.{Types, IsReading}
 use Rattle.typing_laws.proofs.Bools.{no_yes, and_cases, and_both}
 use Rattle.typing_conditions.specs.Sights.{Sight, Key, own, letter, filled, without_unknown, doubtful, value_of, Letters, IsKnownFor, AreGiven, number_in}
 use Rattle.typing_conditions.specs.Judging.{Judgement, AreKept}
+use Rattle.typing_conditions.specs.Carrying.{Asks}
 use Rattle.typing_conditions.proofs.Adequate.{kept_of}
 use Rattle.site_laws.proofs.Texts.{AreSmall}
 use Rattle.typing_rows.specs.Settled.{AreFixed}
 use Rattle.binding_rows.specs.ItemRows.{AreOwned}
 use Rattle.binding_rows.specs.Outside.{Left, IsLeft, letters_left, AreLeft, ReadsItems, ItemsCarried}
 use Rattle.text_laws.specs.Texts.{AreApart, NoneCloses, text_asks, AsksOnce, IsTyped}
-use Rattle.typing_conditions.specs.Hiding.{plain_key, is_own, is_letter, is_filled, is_doubtful, ArePlaced, HaveOneNode}
+use Rattle.typing_conditions.specs.Hiding.{plain_key, is_own, is_letter, is_filled, is_doubtful, HasCopy, ArePlaced, HaveOneNode}
+use Rattle.typing_conditions.proofs.Hiding.{split_get, in_first, in_second, copy_itself}
 use Rattle.text_laws.specs.Reading.{node_for, recorded_at, written_at, type_or, first_there, read_choice, OwnersApart, AreOne, NoneDoubtful, DoubtfulAreOne}
 use Rattle.text_laws.proofs.Sites.{kept_as_judged, kept_among}
 use Rattle.text_laws.proofs.Orderly.{none_closing}
@@ -148,16 +150,6 @@ module _ (V : Types) (b : Sight) (keys : Letters) (left : List Left) (one : AreO
       let here : recorded_at b (number_in i p) ≡ Some m = (λ k. b.types (div-mul-add i (2 ^ 32) p low k) (mod-mul-add i (2 ^ 32) p low k)) ∙ e in
       ap (λ o. type_or V (Var (length b.nodes + number_in i p)) (first_there o (node_for (is_own (number_in i p)) keys))) here
 
--- entries of a list are among those with others before or after them
-in_first : (xs ys : Letters) (k : ℕ) (x : Key × ℕ) → slice_get xs k ≡ Some x → (j : ℕ) × (slice_get (xs ++ ys) j ≡ Some x)
-in_first [] ys k x e = absurd (cc)
-in_first (z ∷ xs) ys zero x e = (zero, e)
-in_first (z ∷ xs) ys (suc k) x e = let (j, f) = in_first xs ys k x e in (suc j, f)
-
-in_second : (xs ys : Letters) (k : ℕ) (x : Key × ℕ) → slice_get ys k ≡ Some x → (j : ℕ) × (slice_get (xs ++ ys) j ≡ Some x)
-in_second [] ys k x e = (k, e)
-in_second (z ∷ xs) ys k x e = let (j, f) = in_second xs ys k x e in (suc j, f)
-
 -- a type variable that is written in an item is found there
 written_found : (front : List Left) (l : Left) (ls : List Left) (x : Name) → ((k : ℕ) (m : Left) → slice_get front k ≡ Some m → (l.owner == m.owner) ≡ false) → written_at l.owner x (front ++ l ∷ ls) ≡ l.written x
 written_found [] l ls x apart = ap (λ b. if b then l.written x else written_at l.owner x ls) (eqb_same l.owner)
@@ -193,21 +185,12 @@ left_there nodes V b keys one known all front (l ∷ ls) e apart others among = 
         last (z ∷ f) zero g among = among zero g
         last (z ∷ f) (suc i) g among = last f i g (λ n e. among (suc n) e)
 
--- an entry of two lists is one of the first or of the second
-split_get : (xs ys : Letters) (k : ℕ) (x : Key × ℕ) → slice_get (xs ++ ys) k ≡ Some x → ((j : ℕ) × (slice_get xs j ≡ Some x)) ⊎ ((j : ℕ) × (slice_get ys j ≡ Some x))
-split_get [] ys k x e = inr (k, e)
-split_get (z ∷ xs) ys zero x e = inl (zero, e)
-split_get (z ∷ xs) ys (suc k) x e = elim (split_get xs ys k x e) [ inl r ↦ inl (suc r.0, r.1) | inr r ↦ inr r ]
-
 -- Where letters without doubt have one node for one thing, only the others are asked for.
-pub letters_one : (V : Types) {b : Sight} (open_ones left : Letters) → HaveOneNode b left → DoubtfulAreOne V b open_ones left → AreOne V b (open_ones ++ left)
-letters_one V {b} open_ones left one h = record {
-  letters = λ j k x y e f is. elim (split_get open_ones left j x e) [
-    | inl r ↦ h.opened r.0 k x y r.1 f is
-    | inr r ↦ elim (split_get open_ones left k y f) [ inl u ↦ sym (h.opened u.0 j y x u.1 e (sym is)) | inr u ↦ both r.0 u.0 x y r.1 u.1 is (is_doubtful x.0) (is_doubtful y.0) refl refl ]
-  ];
-  recorded = λ i p m k x e f is. elim (split_get open_ones left k x f) [ inl r ↦ h.opened_recorded i p m r.0 x e r.1 is | inr r ↦ alone i p m r.0 x e r.1 is (is_doubtful x.0) refl ];
-  places = h.places;
+left_one : (V : Types) {b : Sight} (left : Letters) → HaveOneNode b left → DoubtfulAreOne V b left → AreOne V b left
+left_one V {b} left one h = record {
+  letters = λ j k x y e f is. both j k x y e f is (is_doubtful x.0) (is_doubtful y.0) refl refl;
+  recorded = λ i p m k x e f is. alone i p m k x e f is (is_doubtful x.0) refl;
+  places = h.places.recorded;
 }
   where
     both : (j k : ℕ) (x y : Key × ℕ) → slice_get left j ≡ Some x → slice_get left k ≡ Some y → plain_key x.0 ≡ plain_key y.0 → (s t : Bool) → is_doubtful x.0 ≡ s → is_doubtful y.0 ≡ t → V x.1 ≡ V y.1
@@ -218,6 +201,20 @@ letters_one V {b} open_ones left one h = record {
     alone : (i p m k : ℕ) (x : Key × ℕ) → b.types i p ≡ Some m → slice_get left k ≡ Some x → plain_key x.0 ≡ own (number_in i p) → (s : Bool) → is_doubtful x.0 ≡ s → V x.1 ≡ V m
     alone i p m k x e f is true g = h.doubted_recorded i p m k x e f g is
     alone i p m k x e f is false g = ap V (one.recorded i p m k x e f g is)
+
+-- Letters that are open are among those that items left, so they are one with them.
+pub letters_one : (V : Types) {b : Sight} (open_ones left : Letters) → ((k : ℕ) (x : Key × ℕ) → slice_get open_ones k ≡ Some x → HasCopy left x) → HaveOneNode b left → DoubtfulAreOne V b left → AreOne V b (open_ones ++ left)
+letters_one V {b} open_ones left among one h = record {
+  letters = λ j k x y e f is. let g = copied j x e in let h' = copied k y f in sym (ap V g.node) ∙ all.letters g.place h'.place g.entry h'.entry g.at h'.at (g.key ∙ is ∙ sym h'.key) ∙ ap V h'.node;
+  recorded = λ i p m k x e f is. let g = copied k x f in sym (ap V g.node) ∙ all.recorded i p m g.place g.entry e g.at (g.key ∙ is);
+  places = h.places.recorded;
+}
+  where
+    all : AreOne V b left
+    all = left_one V left one h
+
+    copied : (k : ℕ) (x : Key × ℕ) → slice_get (open_ones ++ left) k ≡ Some x → HasCopy left x
+    copied k x e = elim (split_get open_ones left k x e) [ inl r ↦ among r.0 x r.1 | inr r ↦ copy_itself left r.0 x r.1 ]
 
 -- What is read off the state after a text, in which no unknown type stands, whatever is kept and was judged.
 module _ (env : Environment) (text : List Tree) {a b : Sight} {G : Letters} (p : ItemsCarried (λ ch. env) (text_asks text) a [] b G) (V : Types) (reads : IsReading b.nodes V) (known : (m : ℕ) → IsKnown (V m)) (one : AreOne V b (G ++ letters_left p.left)) (owners : OwnersApart p.left) where
@@ -243,11 +240,15 @@ module _ (env : Environment) (text : List Tree) {a b : Sight} {G : Letters} (p :
       let kept = kept_of p.judged in
       judged_once p.judged (conditions_of env text kept found) (p.follows V (outermost env kept found) (read_off kept [] tt)) (once kept found)
 
+-- no letter was open before the text
+pub open_left : {E : Choice → Environment} {asks : Asks} {a b : Sight} {G : Letters} (p : ItemsCarried E asks a [] b G) (k : ℕ) (x : Key × ℕ) → slice_get G k ≡ Some x → HasCopy (letters_left p.left) x
+open_left p k x e = elim (p.opened k x e) [ inl before ↦ absurd (let none : None ≡ Some before.entry = before.at in cc) | inr left ↦ left ]
+
 -- So items that were typed from a state in which nothing is recorded are those of a typed text, with the demands that were kept, at each reading in which no unknown type stands.
 unfoldable pub text_typed : {env : Environment} {text : List Tree} {a b : Sight} {G : Letters} (p : ItemsCarried (λ ch. env) (text_asks text) a [] b G) → ((i k : ℕ) → a.types i k ≡ None) → IsSound a.nodes → AsksOnce env text → has_no_modules text ≡ true →
-    (V : Types) → IsReading b.nodes V → ((m : ℕ) → IsKnown (V m)) → DoubtfulAreOne V b G (letters_left p.left) → OwnersApart p.left → IsTyped env text (kept_of p.judged) a b G
+    (V : Types) → IsReading b.nodes V → ((m : ℕ) → IsKnown (V m)) → DoubtfulAreOne V b (letters_left p.left) → OwnersApart p.left → IsTyped env text (kept_of p.judged) a b G
 text_typed {env} {text} {b = b} {G = G} p none sound once plain V reads known rest owners =
-    let one = letters_one V G (letters_left p.left) (p.settled.one rest.places) rest in
+    let one = letters_one V G (letters_left p.left) (open_left p) (p.settled.one rest.places) rest in
     let kept = kept_of p.judged in
     let there = read_off env text p V reads known one owners kept p.judged (kept_as_judged [] p.judged (text_apart env text p V reads known one owners once)) in
     record {
@@ -263,20 +264,18 @@ text_typed {env} {text} {b = b} {G = G} p none sound once plain V reads known re
 
 -- The same of a text of `let` and `;;`, whose items aren't too large, where what was left was left by its items.
 unfoldable pub lets_typed : {env : Environment} {text : List Tree} {a b : Sight} {G : Letters} (p : ItemsCarried (λ ch. env) (text_asks text) a [] b G) → AreOwned (items_of text) p.left → ((i k : ℕ) → a.types i k ≡ None) → IsSound a.nodes → has_lets_alone text ≡ true → AreSmall text →
-    (V : Types) → IsReading b.nodes V → ((m : ℕ) → IsKnown (V m)) → DoubtfulAreOne V b G (letters_left p.left) → IsTyped env text (kept_of p.judged) a b G
+    (V : Types) → IsReading b.nodes V → ((m : ℕ) → IsKnown (V m)) → DoubtfulAreOne V b (letters_left p.left) → IsTyped env text (kept_of p.judged) a b G
 lets_typed {env} {text} p owned none sound lets small V reads known one = text_typed {text = text} p none sound (lets_once env text lets small) (lets_plain text lets) V reads known one (owners_apart text lets owned)
 
--- Nothing is asked for where no letter is open and none is doubtful.
-pub none_doubted : (V : Types) {b : Sight} (left : Letters) → NoneDoubtful left → ArePlaced b → DoubtfulAreOne V b [] left
+-- Nothing is asked for where none is doubtful.
+pub none_doubted : (V : Types) {b : Sight} (left : Letters) → NoneDoubtful left → ArePlaced b → DoubtfulAreOne V b left
 none_doubted V left sure placed = record {
-  opened = λ j k x y e f is. absurd (cc);
   doubted = λ j k x y e f s is. absurd (no_yes (sym (sure j x e) ∙ s));
-  opened_recorded = λ i p m k x e f is. absurd (cc);
   doubted_recorded = λ i p m k x e f s is. absurd (no_yes (sym (sure k x f) ∙ s));
   places = placed;
 }
 
--- So a text of `let` and `;;`, after which no letter is open and none of those that are left is doubtful, is a typed text at each such reading.
-pub sure_typed : {env : Environment} {text : List Tree} {a b : Sight} (p : ItemsCarried (λ ch. env) (text_asks text) a [] b []) → AreOwned (items_of text) p.left → ((i k : ℕ) → a.types i k ≡ None) → IsSound a.nodes → has_lets_alone text ≡ true → AreSmall text →
-    NoneDoubtful (letters_left p.left) → ArePlaced b → (V : Types) → IsReading b.nodes V → ((m : ℕ) → IsKnown (V m)) → IsTyped env text (kept_of p.judged) a b []
+-- So a text of `let` and `;;`, after which none of the letters that are left is doubtful, is a typed text at each such reading.
+pub sure_typed : {env : Environment} {text : List Tree} {a b : Sight} {G : Letters} (p : ItemsCarried (λ ch. env) (text_asks text) a [] b G) → AreOwned (items_of text) p.left → ((i k : ℕ) → a.types i k ≡ None) → IsSound a.nodes → has_lets_alone text ≡ true → AreSmall text →
+    NoneDoubtful (letters_left p.left) → ArePlaced b → (V : Types) → IsReading b.nodes V → ((m : ℕ) → IsKnown (V m)) → IsTyped env text (kept_of p.judged) a b G
 sure_typed {env} {text} p owned none sound lets small sure placed V reads known = lets_typed {text = text} p owned none sound lets small V reads known (none_doubted V (letters_left p.left) sure placed)

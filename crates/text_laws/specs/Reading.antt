@@ -1,11 +1,11 @@
 -- The choice that is read off a state, from the nodes that stand for what it chooses.
-use Rattle.std.specs.Prelude.{◌≡◌, ℕ, ◌+◌, length, ◌<◌, ◌/◌, ◌%◌, ◌^◌, ◌==◌, Bool, true, false, List, [], ◌∷◌, ◌++◌, slice_get, Option, Some, None, if◌then◌else◌}
+use Rattle.std.specs.Prelude.{◌≡◌, ℕ, ◌+◌, length, ◌<◌, ◌/◌, ◌%◌, ◌^◌, ◌==◌, Bool, true, false, List, [], ◌∷◌, slice_get, Option, Some, None, if◌then◌else◌}
 use Rattle.type_model.specs.Types.{Typ, Var, Tuple, Nil}
 use Rattle.signature_model.specs.Declarations.{Name}
 use Rattle.typing_model.specs.Contexts.{Choice}
 use Rattle.type_nodes.specs.Readings.{Types}
 use Rattle.typing_conditions.specs.Sights.{Sight, Key, own, Letters, number_in}
-use Rattle.typing_conditions.specs.Hiding.{plain_key, is_own, is_letter, is_filled, is_doubtful}
+use Rattle.typing_conditions.specs.Hiding.{plain_key, is_own, is_letter, is_filled, is_doubtful, ArePlaced}
 use Rattle.binding_rows.specs.Outside.{Left}
 
 -- the node of the first letter whose key passes a test
@@ -56,10 +56,8 @@ pub record AreOne (V : Types) (b : Sight) (keys : Letters) : Type 0 where
 abbrev pub NoneDoubtful : Letters → Type 0
 NoneDoubtful xs = (k : ℕ) (x : Key × ℕ) → slice_get xs k ≡ Some x → is_doubtful x.0 ≡ false
 
--- What is left of `AreOne` where letters without doubt have one node for one thing: open letters, and doubtful ones of those that items left, have the type of each letter with the same key, and of the node that is recorded.
-pub record DoubtfulAreOne (V : Types) (b : Sight) (open_ones left : Letters) : Type 0 where
-  pub opened : (j k : ℕ) (x y : Key × ℕ) → slice_get open_ones j ≡ Some x → slice_get (open_ones ++ left) k ≡ Some y → plain_key x.0 ≡ plain_key y.0 → V x.1 ≡ V y.1
+-- What is left of `AreOne` where letters without doubt have one node for one thing: doubtful ones of those that items left have the type of each letter with the same key, and of the node that is recorded.
+pub record DoubtfulAreOne (V : Types) (b : Sight) (left : Letters) : Type 0 where
   pub doubted : (j k : ℕ) (x y : Key × ℕ) → slice_get left j ≡ Some x → slice_get left k ≡ Some y → is_doubtful x.0 ≡ true → plain_key x.0 ≡ plain_key y.0 → V x.1 ≡ V y.1
-  pub opened_recorded : (i p m k : ℕ) (x : Key × ℕ) → b.types i p ≡ Some m → slice_get open_ones k ≡ Some x → plain_key x.0 ≡ own (number_in i p) → V x.1 ≡ V m
   pub doubted_recorded : (i p m k : ℕ) (x : Key × ℕ) → b.types i p ≡ Some m → slice_get left k ≡ Some x → is_doubtful x.0 ≡ true → plain_key x.0 ≡ own (number_in i p) → V x.1 ≡ V m
-  pub places : (i p m : ℕ) → b.types i p ≡ Some m → p < 2 ^ 32
+  pub places : ArePlaced b

@@ -3,7 +3,7 @@ use Rattle.std.proofs.Common.{◌≡◌, ◌∙◌, ◌++◌, ℕ, zero, suc, �
 use Rattle.std.specs.Prelude.{slice_get}
 use Rattle.std.proofs.lemmas.List.{take-append-le}
 use Rattle.std.proofs.Math.Seq.{take-append-add}
-use Rattle.type_model.specs.Types.{occurs}
+use Rattle.type_model.specs.Types.{Typ, occurs}
 use Rattle.typing_model.specs.Demands.{Condition, AllHold}
 use Rattle.typing_model.specs.Contexts.{Choice, Context}
 use Rattle.type_nodes.specs.Nodes.{Node}
@@ -11,12 +11,15 @@ use Rattle.type_nodes.specs.Readings.{Types}
 use Rattle.typing_conditions.specs.Sights.{Sight, Key, Letters, AreGiven, AreNodes, SameAt, Agrees}
 use Rattle.typing_conditions.specs.Frames.{Frame}
 use Rattle.typing_conditions.specs.Judging.{Judgement, judgements, AreKept, Follows, StartsWith, FallsShort, Meets}
-use Rattle.typing_conditions.specs.Carrying.{Asks, Scope, HoldsWritten, IsUnder, Enters, GoesOn, AreHidden, Continues, Carried}
+use Rattle.typing_conditions.specs.Carrying.{Asks, Scope, HoldsWritten, IsUnder, Enters, GoesOn, AreHidden, Continues, Carried, ReadsOff}
 use Rattle.typing_conditions.proofs.Judged.{hold_both, hold_left, hold_right, judged_both, kept_left, kept_right, given_left, given_right, given_both, nodes_left, nodes_both, tell_both, follows_both, short_left, short_right, short_of_more, starts_all, starts_left, starts_right}
 use Rattle.typing_conditions.proofs.Meaning.{nodes_in, given_same}
 use Rattle.typing_conditions.proofs.Stays.{stays_refl, stays_trans, stays_closed, agrees_before, named_before, bounds_before, enters_next, goes_further}
-use Rattle.typing_conditions.specs.Hiding.{marked, is_typed}
-use Rattle.typing_conditions.proofs.Hiding.{settles_none, settles_both, settles_more, given_marked, given_unmarked, nodes_marked}
+use Rattle.typing_conditions.specs.Hiding.{marked}
+use Rattle.typing_conditions.proofs.Hiding.{settles_none, settles_both, given_marked, nodes_marked}
+use Rattle.typing_conditions.specs.Meanings.{Means}
+use Rattle.level_unify.proofs.Unified.{fits_loosely}
+use Rattle.level_unify.specs.Solutions.{Loose}
 
 -- what the demands of some conditions come to: they are the first of those that were judged, or they fall short of them
 abbrev pub Decides : Context → List Judgement → List Condition → Type 0
@@ -62,7 +65,7 @@ unfoldable pub carried_trans : {F : Frame} {scope : Scope} {asks further : Asks}
 carried_trans {F} {scope} {asks} {further} {a} {b} {c} {G} {H} {K} p q = record {
   stays = stays_trans p.stays q.stays;
   hidden = p.hidden ++ q.hidden;
-  settled = settles_both p.hidden q.hidden p.stays.recorded q.stays.recorded p.settled q.settled;
+  settled = settles_both p.hidden q.hidden p.stays.keeps q.stays.keeps p.settled q.settled;
   judged = p.judged ++ q.judged;
   told = p.told ++ q.told;
   reports = q.reports ∙ ap (λ rs. rs ++ q.told) p.reports ∙ append_assoc a.reports p.told q.told;
@@ -198,47 +201,51 @@ carried_under {F} {scope} {inner} {asks} {a} {b} {G} {H} into held still has p =
     enters : (V : Types) (c : Context) → Enters F scope a G V c → Enters F inner a G V (into c)
     enters V c e = record { under = has c e.under; inside = e.inside; fits = e.fits; agrees = subst (Agrees F.owner a G V) (sym (still c).1) e.agrees }
 
--- fewer letters are given
-goes_closed : {F : Frame} {a b : Sight} (own : Letters) {G : Letters} {V W : Types} {ch : Choice} → GoesOn F a b (own ++ G) V W ch → GoesOn F a b G V W ch
-goes_closed own {G} {V} {W} {ch} on = record {
-  fits = on.fits;
-  before = on.before;
-  agrees = record { recorded = on.agrees.recorded; known = on.agrees.known; written = on.agrees.written; given = given_right W ch own G on.agrees.given };
-}
+-- a choice agrees with letters that have their types by what there is besides
+dropped_agree : {owner : ℕ} {b : Sight} (own : Letters) {G : Letters} {V : Types} {ch : Choice} → AreGiven own V ch → Agrees owner b G V ch → Agrees owner b (own ++ G) V ch
+dropped_agree own {G} {V} {ch} given g = record { recorded = g.recorded; known = g.known; written = g.written; given = given_both V ch own G given g.given }
 
--- letters that a row has no more use for are hidden
-pub carried_closed : {F : Frame} {scope : Scope} {asks : Asks} {a b : Sight} (own : Letters) {G : Letters} → Carried F scope asks a G b (own ++ G) → Carried F scope asks a G b G
-carried_closed {F} {scope} {asks} {a} {b} own {G} p = record {
+-- Letters that have the types of their nodes wherever a choice agrees with what there is besides needn't be open, nor hidden.
+pub carried_dropped : {F : Frame} {scope : Scope} {asks : Asks} {a b : Sight} (own : Letters) {G : Letters} → ((V : Types) (ch : Choice) → Loose b.nodes V → Agrees F.owner b G V ch → AreGiven own V ch) → Carried F scope asks a G b (own ++ G) → Carried F scope asks a G b G
+carried_dropped {F} {scope} {asks} {a} {b} own {G} implied p = record {
   stays = stays_closed own p.stays;
-  hidden = p.hidden ++ marked (is_typed b) own;
-  settled = settles_more p.hidden own p.stays.recorded p.settled;
+  hidden = p.hidden;
+  settled = p.settled;
   judged = p.judged;
   told = p.told;
   reports = p.reports;
-  sound = λ r V c l. p.sound r V c (record {
-    under = l.under;
-    reads = l.reads;
-    agrees = record { recorded = l.agrees.recorded; known = l.agrees.known; written = l.agrees.written; given = given_both V c.chosen own G (given_unmarked (is_typed b) own V c.chosen (given_right V c.chosen p.hidden (marked (is_typed b) own) l.hidden_too)) l.agrees.given };
-    hidden_too = given_left V c.chosen p.hidden (marked (is_typed b) own) l.hidden_too;
-    named = l.named;
-    unbound = l.unbound;
-    kept = l.kept;
-  });
-  follows = λ r V c l. p.follows r V c (record {
-    under = l.under;
-    reads = l.reads;
-    agrees = record { recorded = l.agrees.recorded; known = l.agrees.known; written = l.agrees.written; given = given_both V c.chosen own G (given_unmarked (is_typed b) own V c.chosen (given_right V c.chosen p.hidden (marked (is_typed b) own) l.hidden_too)) l.agrees.given };
-    hidden_too = given_left V c.chosen p.hidden (marked (is_typed b) own) l.hidden_too;
-    named = l.named;
-    unbound = l.unbound;
-    kept = l.kept;
-  });
+  sound = λ r V c l. p.sound r V c (reads_too V c l);
+  follows = λ r V c l. p.follows r V c (reads_too V c l);
   complete = λ named V c e h. elim (p.complete named V c e h) [
-    | inl goes ↦ inl (record { same = goes.same; types = goes.types; on = goes_closed own goes.on; hidden_too = hidden_more (is_typed b) p.hidden own G b c.chosen goes.types (p.stays.inside e.inside).given goes.on.agrees.given goes.hidden_too })
+    | inl goes ↦ inl (record {
+      same = goes.same;
+      types = goes.types;
+      on = record {
+        fits = goes.on.fits;
+        before = goes.on.before;
+        agrees = record { recorded = goes.on.agrees.recorded; known = goes.on.agrees.known; written = goes.on.agrees.written; given = given_right goes.types c.chosen own G goes.on.agrees.given };
+      };
+      hidden_too = goes.hidden_too;
+    })
     | inr short ↦ inr short
   ];
   first = p.first;
 }
+  where
+    reads_too : {js : List Judgement} (V : Types) (c : Context) → ReadsOff F scope b G p.hidden js V c → ReadsOff F scope b (own ++ G) p.hidden js V c
+    reads_too V c l = record {
+      under = l.under;
+      reads = l.reads;
+      agrees = dropped_agree own (implied V c.chosen (fits_loosely b.nodes V l.reads.fits) l.agrees) l.agrees;
+      hidden_too = l.hidden_too;
+      named = l.named;
+      unbound = l.unbound;
+      kept = l.kept;
+    }
+
+-- a node has its type without them
+pub means_dropped : {F : Frame} {b : Sight} (own : Letters) {G : Letters} {type : Choice → Typ} {m : ℕ} → ((V : Types) (ch : Choice) → Loose b.nodes V → Agrees F.owner b G V ch → AreGiven own V ch) → Means F b (own ++ G) type m → Means F b G type m
+means_dropped own implied h = record { open_node = h.open_node; is = λ V ch loose g. h.is V ch loose (dropped_agree own (implied V ch loose g) g) }
 
 -- the conditions may be written in another way
 unfoldable pub carried_as : {F : Frame} {scope : Scope} {asks others : Asks} {a b : Sight} {G H : Letters} → ((c : Context) → asks c ≡ others c) → Carried F scope asks a G b H → Carried F scope others a G b H

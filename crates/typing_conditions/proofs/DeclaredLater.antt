@@ -13,7 +13,7 @@ use Rattle.typing_conditions.specs.Declared.{MakesAs, ConstructorAs, LabelAs, On
 use Rattle.typing_conditions.proofs.Roots.{root_after}
 
 -- one by one, by what holds of each
-one_by_one : {A B : Type 0} {P Q : A → B → Type 0} → ((x : A) (y : B) → P x y → Q x y) → {xs : List A} {ys : List B} → OneByOne P xs ys → OneByOne Q xs ys
+pub one_by_one : {A B : Type 0} {P Q : A → B → Type 0} → ((x : A) (y : B) → P x y → Q x y) → {xs : List A} {ys : List B} → OneByOne P xs ys → OneByOne Q xs ys
 one_by_one h no_more = no_more
 one_by_one h (one_more {x = x} {y = y} p ps) = one_more (h x y p) (one_by_one h ps)
 

@@ -2,9 +2,10 @@
 use Rattle.std.proofs.Common.{◌≡◌, ◌∙◌, ◌⊎◌, inl, inr, ℕ, ◌≤◌, Bool, true, false, List, [], ◌∷◌, length, refl, sym, ap, subst, arith, append-nil}
 use Rattle.tree_model.specs.Trees.{Place}
 use Rattle.type_model.specs.Types.{Typ}
+use Rattle.type_model.specs.Substitutions.{apply}
 use Rattle.typing_model.specs.Demands.{Site, equal, demand, AllHold}
 use Rattle.typing_model.specs.Contexts.{Choice, Context}
-use Rattle.type_nodes.specs.Nodes.{IsSound}
+use Rattle.type_nodes.specs.Nodes.{IsSound, Node}
 use Rattle.type_nodes.specs.Readings.{Types, Fits, IsReading}
 use Rattle.level_unify.specs.Solutions.{Loose, Tightens}
 use Rattle.level_unify.specs.Unification.{Unified, NeverAlike}
@@ -24,7 +25,8 @@ use Rattle.typing_conditions.proofs.Framing.{no_bound, reaches_unified, reaches_
 use Rattle.typing_conditions.proofs.Meaning.{agrees_same, inside_longer}
 use Rattle.typing_conditions.proofs.First.{first_one}
 use Rattle.typing_conditions.proofs.Refusing.{never_fit}
-use Rattle.typing_conditions.proofs.Hiding.{settles_none}
+use Rattle.typing_conditions.proofs.Hiding.{keeps_as, settles_none}
+use Rattle.typing_conditions.proofs.Roots.{own_reads}
 
 -- where at most something is reported everything stays
 pub reports_stay : {F : Frame} {G : Letters} {a b : Sight} → OnlyReports a b → Stays F a G b G
@@ -36,6 +38,7 @@ reports_stay {F} {G} {a} {b} rest = record {
   writes = written_next rest.written reaches refines;
   refines = refines;
   recorded = λ i k x e. rest.types i k ∙ e;
+  keeps = keeps_as rest.noted rest.types;
   written = λ x n e. rest.written x ∙ e;
   given = λ V ch h. h;
   inside = inside_longer a b rest.types rest.written longer;
@@ -58,6 +61,10 @@ reports_stay {F} {G} {a} {b} rest = record {
 pub goes_as : {F : Frame} {scope : Scope} {G : Letters} {V : Types} {c : Context} {a b : Sight} → OnlyReports a b → Enters F scope a G V c → GoesOn F a b G V V c.chosen
 goes_as {V = V} {a = a} {b = b} rest e = record { fits = subst (λ ns. Fits ns V) (sym rest.nodes) e.fits; before = λ k lt. refl; agrees = agrees_same a b rest.types rest.written e.inside (λ k lt. refl) e.agrees }
 
+-- nodes that were made one have one type, whatever the scopes
+pub loose_one : (old new : List Node) (m n : ℕ) → IsSound new → Unified old new m n → (V : Types) → Loose new V → V m ≡ V n
+loose_one old new m n sound one V loose = let (K, own) = own_of new sound in own.comes V loose m ∙ ap (apply V) (one.read K (own_reads new K own)).1 ∙ sym (own.comes V loose n)
+
 -- two open nodes were made one
 pub unified_stays : {F : Frame} {G : Letters} {a b : Sight} {m n : ℕ} → IsSound b.nodes → OnlyNodes a b → Tightens a.nodes b.nodes → IsOpen F a m → IsOpen F a n → Unified a.nodes b.nodes m n → Stays F a G b G
 unified_stays {F} {G} {a} {b} {m} {n} sound rest tight p q one = record {
@@ -68,6 +75,7 @@ unified_stays {F} {G} {a} {b} {m} {n} sound rest tight p q one = record {
   writes = written_next rest.written reaches refines;
   refines = refines;
   recorded = λ i k x e. rest.types i k ∙ e;
+  keeps = keeps_as rest.noted rest.types;
   written = λ x k e. rest.written x ∙ e;
   given = λ V ch h. h;
   inside = inside_longer a b rest.types rest.written longer;

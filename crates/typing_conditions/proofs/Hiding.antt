@@ -11,9 +11,9 @@ use Rattle.typing_model.specs.Contexts.{Choice}
 use Rattle.type_nodes.specs.Nodes.{Node}
 use Rattle.type_nodes.specs.Readings.{Types}
 use Rattle.typing_conditions.specs.Sights.{Sight, Key, own, letter, filled, without_unknown, doubtful, Letters, IsGiven, AreGiven, AreNodes, number_in}
-use Rattle.typing_conditions.specs.Hiding.{plain_key, same_key, is_doubtful, row_of, is_some_of, marked, is_recorded, typed_for, is_typed, have_node, sure_for, is_sure, IsBetween, HasTyped, ArePlaced, HaveOneNode, Settles}
+use Rattle.typing_conditions.specs.Hiding.{plain_key, same_key, is_doubtful, row_of, is_some_of, is_none_or, marked, recorded_for, is_noted_for, is_new, typed_for, fits_for, have_node, is_sure, Keeps, IsBetween, HasTyped, HasCopy, ArePlaced, HaveOneNode, Settles}
 
-one_some : (x y : ℕ) → Some x ≡ Some y → x ≡ y
+pub one_some : (x y : ℕ) → Some x ≡ Some y → x ≡ y
 one_some x y e = cc
 
 -- a number among those of all items is that of one place in one item
@@ -40,26 +40,65 @@ same_itself (without_unknown key) = same_itself key
 same_itself (doubtful key) = same_itself key
 
 -- an entry of two lists is one of the first or of the second
-split_get : (xs ys : Letters) (k : ℕ) (x : Key × ℕ) → slice_get (xs ++ ys) k ≡ Some x → ((j : ℕ) × (slice_get xs j ≡ Some x)) ⊎ ((j : ℕ) × (slice_get ys j ≡ Some x))
+pub split_get : (xs ys : Letters) (k : ℕ) (x : Key × ℕ) → slice_get (xs ++ ys) k ≡ Some x → ((j : ℕ) × (slice_get xs j ≡ Some x)) ⊎ ((j : ℕ) × (slice_get ys j ≡ Some x))
 split_get [] ys k x e = inr (k, e)
 split_get (z ∷ xs) ys zero x e = inl (zero, e)
 split_get (z ∷ xs) ys (suc k) x e = elim (split_get xs ys k x e) [ inl r ↦ inl (suc r.0, r.1) | inr r ↦ inr r ]
 
--- what is recorded in one state is so in another
-abbrev Keeps : Sight → Sight → Type 0
-Keeps a b = (i p m : ℕ) → a.types i p ≡ Some m → b.types i p ≡ Some m
+-- entries of a list are among those with others before or after them
+pub in_first : (xs ys : Letters) (k : ℕ) (x : Key × ℕ) → slice_get xs k ≡ Some x → (j : ℕ) × (slice_get (xs ++ ys) j ≡ Some x)
+in_first [] ys k x e = absurd (cc)
+in_first (z ∷ xs) ys zero x e = (zero, e)
+in_first (z ∷ xs) ys (suc k) x e = let (j, f) = in_first xs ys k x e in (suc j, f)
 
-none_before : (a b : Sight) → Keeps a b → (i p : ℕ) → b.types i p ≡ None → a.types i p ≡ None
-none_before a b keeps i p e = by (a.types i p) refl
+pub in_second : (xs ys : Letters) (k : ℕ) (x : Key × ℕ) → slice_get ys k ≡ Some x → (j : ℕ) × (slice_get (xs ++ ys) j ≡ Some x)
+in_second [] ys k x e = (k, e)
+in_second (z ∷ xs) ys k x e = let (j, f) = in_second xs ys k x e in (suc j, f)
+
+-- a letter is among some where one like it is
+pub copy_itself : (xs : Letters) (k : ℕ) (x : Key × ℕ) → slice_get xs k ≡ Some x → HasCopy xs x
+copy_itself xs k x e = record { place = k; entry = x; at = e; key = refl; node = refl }
+
+pub copy_of : {xs ys : Letters} {x : Key × ℕ} (h : HasCopy ys x) → HasCopy xs h.entry → HasCopy xs x
+copy_of h g = record { place = g.place; entry = g.entry; at = g.at; key = g.key ∙ h.key; node = g.node ∙ h.node }
+
+pub copy_first : (xs ys : Letters) {x : Key × ℕ} → HasCopy xs x → HasCopy (xs ++ ys) x
+copy_first xs ys h = let (j, at) = in_first xs ys h.place h.entry h.at in record { place = j; entry = h.entry; at = at; key = h.key; node = h.node }
+
+pub copy_second : (xs ys : Letters) {x : Key × ℕ} → HasCopy ys x → HasCopy (xs ++ ys) x
+copy_second xs ys h = let (j, at) = in_second xs ys h.place h.entry h.at in record { place = j; entry = h.entry; at = at; key = h.key; node = h.node }
+
+-- what is noted and recorded stays where nothing is done
+pub keeps_same : {a : Sight} → Keeps a a
+keeps_same = record { noted = λ i p h. h; same = λ i p h. refl; recorded = λ i p m e. e }
+
+-- where no type is recorded
+pub keeps_as : {a b : Sight} → ((i p : ℕ) → a.noted i p ≡ true → b.noted i p ≡ true) → ((i p : ℕ) → b.types i p ≡ a.types i p) → Keeps a b
+keeps_as noted types = record { noted = noted; same = λ i p h. types i p; recorded = λ i p m e. types i p ∙ e }
+
+-- and through one call after another
+pub keeps_both : {a b d : Sight} → Keeps a b → Keeps b d → Keeps a d
+keeps_both p q = record {
+  noted = λ i k h. q.noted i k (p.noted i k h);
+  same = λ i k h. q.same i k (p.noted i k h) ∙ p.same i k h;
+  recorded = λ i k m e. q.recorded i k m (p.recorded i k m e);
+}
+
+none_before : (a b : Sight) → Keeps a b → (i p : ℕ) → b.noted i p ≡ false → a.noted i p ≡ false
+none_before a b keeps i p e = by (a.noted i p) refl
   where
-    by : (o : Option ℕ) → a.types i p ≡ o → a.types i p ≡ None
-    by None f = f
-    by (Some m) f = absurd (let g : Some m ≡ None = sym (keeps i p m f) ∙ e in cc)
+    by : (o : Bool) → a.noted i p ≡ o → a.noted i p ≡ false
+    by false f = f
+    by true f = absurd (no_yes (sym e ∙ keeps.noted i p f))
+
+-- numbers are below 2^32 before too
+placed_before : {a b : Sight} → Keeps a b → ArePlaced b → ArePlaced a
+placed_before keeps placed = record { noted = λ i p h. placed.noted i p (keeps.noted i p h); recorded = λ i p m e. placed.recorded i p m (keeps.recorded i p m e) }
 
 -- a letter for the type of a node has the node that is recorded for it
 typed_one : {b : Sight} {x : Key × ℕ} → ArePlaced b → HasTyped b x → (i p m : ℕ) → b.types i p ≡ Some m → plain_key x.0 ≡ own (number_in i p) → x.1 ≡ m
 typed_one {b} {x} placed t i p m e is =
-    let (f, g) = one_number t.item i t.place p (placed t.item t.place x.1 t.at) (placed i p m e) (ap row_of (sym t.key ∙ is)) in
+    let (f, g) = one_number t.item i t.place p (placed.recorded t.item t.place x.1 t.at) (placed.recorded i p m e) (ap row_of (sym t.key ∙ is)) in
     one_some x.1 m (sym t.at ∙ (λ z. b.types (f z) (g z)) ∙ e)
 
 -- no letters are hidden
@@ -67,30 +106,30 @@ pub settles_none : {a b : Sight} → Settles a b []
 settles_none = record { belongs = λ k x e sure. absurd (cc); one = λ placed. record { letters = λ j k x y e f s t is. absurd (cc); recorded = λ i p m k x e f s is. absurd (cc) } }
 
 between_on : (a b d : Sight) (n : ℕ) → Keeps b d → IsBetween a b n → IsBetween a d n
-between_on a b d n keeps w = record { item = w.item; place = w.place; node = w.node; number = w.number; none = w.none; now = keeps w.item w.place w.node w.now }
+between_on a b d n keeps w = record { item = w.item; place = w.place; number = w.number; none = w.none; now = keeps.noted w.item w.place w.now }
 
 typed_on : (b d : Sight) (x : Key × ℕ) → Keeps b d → HasTyped b x → HasTyped d x
-typed_on b d x keeps t = record { item = t.item; place = t.place; key = t.key; at = keeps t.item t.place x.1 t.at }
+typed_on b d x keeps t = record { item = t.item; place = t.place; key = t.key; at = keeps.recorded t.item t.place x.1 t.at }
 
 -- hidden letters go on to a later state
 pub settles_on : {a b d : Sight} (xs : Letters) → Keeps b d → Settles a b xs → Settles a d xs
 settles_on {a} {b} {d} xs keeps s = record {
   belongs = λ k x e sure. elim (s.belongs k x e sure) [ inl w ↦ inl (between_on a b d (row_of x.0) keeps w) | inr t ↦ inr (typed_on b d x keeps t) ];
-  one = λ placed. let h = s.one (λ i p m e. placed i p m (keeps i p m e)) in record { letters = h.letters; recorded = λ i p m k x e at sure is. recorded placed h i p m k x e at sure is (s.belongs k x at sure) };
+  one = λ placed. let h = s.one (placed_before keeps placed) in record { letters = h.letters; recorded = λ i p m k x e at sure is. recorded placed h i p m k x e at sure is (s.belongs k x at sure) };
 }
   where
     recorded : ArePlaced d → HaveOneNode b xs → (i p m k : ℕ) (x : Key × ℕ) → d.types i p ≡ Some m → slice_get xs k ≡ Some x → is_doubtful x.0 ≡ false → plain_key x.0 ≡ own (number_in i p) → IsBetween a b (row_of x.0) ⊎ HasTyped b x → x.1 ≡ m
     recorded placed h i p m k x e at sure is (inr t) = typed_one placed (typed_on b d x keeps t) i p m e is
     recorded placed h i p m k x e at sure is (inl w) =
-        let later = keeps w.item w.place w.node w.now in
-        let (f, g) = one_number w.item i w.place p (placed w.item w.place w.node later) (placed i p m e) (sym w.number ∙ sym (row_plain x.0) ∙ ap row_of is) in
-        let now : b.types i p ≡ Some w.node = (λ z. b.types (sym f z) (sym g z)) ∙ w.now in
-        h.recorded i p w.node k x now at sure is ∙ one_some w.node m (sym (keeps i p w.node now) ∙ e)
+        let later = keeps.noted w.item w.place w.now in
+        let (f, g) = one_number w.item i w.place p (placed.noted w.item w.place later) (placed.recorded i p m e) (sym w.number ∙ sym (row_plain x.0) ∙ ap row_of is) in
+        let now : b.noted i p ≡ true = (λ z. b.noted (sym f z) (sym g z)) ∙ w.now in
+        h.recorded i p m k x (sym (keeps.same i p now) ∙ e) at sure is
 
 -- and they are hidden from an earlier state on
 pub settles_from : {a b d : Sight} (xs : Letters) → Keeps a b → Settles b d xs → Settles a d xs
 settles_from {a} {b} xs keeps s = record {
-  belongs = λ k x e sure. elim (s.belongs k x e sure) [ inl w ↦ inl (record { item = w.item; place = w.place; node = w.node; number = w.number; none = none_before a b keeps w.item w.place w.none; now = w.now }) | inr t ↦ inr t ];
+  belongs = λ k x e sure. elim (s.belongs k x e sure) [ inl w ↦ inl (record { item = w.item; place = w.place; number = w.number; none = none_before a b keeps w.item w.place w.none; now = w.now }) | inr t ↦ inr t ];
   one = s.one;
 }
 
@@ -116,22 +155,28 @@ settles_both {a} {b} {d} xs ys before after p q = record {
     -- one key is in both only for the type of a recorded node
     across : ArePlaced d → (x y : Key × ℕ) → (j : ℕ) × (slice_get xs j ≡ Some x) → (k : ℕ) × (slice_get ys k ≡ Some y) → is_doubtful x.0 ≡ false → is_doubtful y.0 ≡ false → plain_key x.0 ≡ plain_key y.0 →
         IsBetween a b (row_of x.0) ⊎ HasTyped b x → IsBetween b d (row_of y.0) ⊎ HasTyped d y → x.1 ≡ y.1
-    across placed x y (j, e) (k, f) s t is (inr u) v = sym ((second.one placed).recorded u.item u.place x.1 k y (after u.item u.place x.1 u.at) f t (sym is ∙ u.key))
+    across placed x y (j, e) (k, f) s t is (inr u) v = sym ((second.one placed).recorded u.item u.place x.1 k y (after.recorded u.item u.place x.1 u.at) f t (sym is ∙ u.key))
     across placed x y (j, e) (k, f) s t is (inl w) (inr v) = (first.one placed).recorded v.item v.place y.1 j x v.at e s (is ∙ v.key)
     across placed x y (j, e) (k, f) s t is (inl w) (inl v) =
         let rows : row_of x.0 ≡ row_of y.0 = sym (row_plain x.0) ∙ ap row_of is ∙ row_plain y.0 in
-        let (i, o) = one_number w.item v.item w.place v.place (placed w.item w.place w.node (after w.item w.place w.node w.now)) (placed v.item v.place v.node v.now) (sym w.number ∙ rows ∙ v.number) in
-        absurd (let none : Some w.node ≡ None = sym w.now ∙ (λ z. b.types (i z) (o z)) ∙ v.none in cc)
+        let (i, o) = one_number w.item v.item w.place v.place (placed.noted w.item w.place (after.noted w.item w.place w.now)) (placed.noted v.item v.place v.now) (sym w.number ∙ rows ∙ v.number) in
+        absurd (no_yes (sym v.none ∙ (λ z. b.noted (sym i z) (sym o z)) ∙ w.now))
 
--- states with the same records
-pub settles_as : {a b a' b' : Sight} (xs : Letters) → ((i p : ℕ) → a'.types i p ≡ a.types i p) → ((i p : ℕ) → b'.types i p ≡ b.types i p) → Settles a b xs → Settles a' b' xs
-settles_as xs before after s = record {
-  belongs = λ k x e sure. elim (s.belongs k x e sure) [
-    | inl w ↦ inl (record { item = w.item; place = w.place; node = w.node; number = w.number; none = before w.item w.place ∙ w.none; now = after w.item w.place ∙ w.now })
-    | inr t ↦ inr (record { item = t.item; place = t.place; key = t.key; at = after t.item t.place ∙ t.at })
-  ];
-  one = λ placed. let h = s.one (λ i p m e. placed i p m (after i p ∙ e)) in record { letters = h.letters; recorded = λ i p m k x e f sure is. h.recorded i p m k x (sym (after i p) ∙ e) f sure is };
-}
+-- from a state before to a state after
+pub settles_as : {a b a' b' : Sight} (xs : Letters) → Keeps a' a → Keeps b b' → Settles a b xs → Settles a' b' xs
+settles_as xs before after s = settles_from xs before (settles_on xs after s)
+
+-- each letter is among the marked ones
+pub marked_copy : (test : Key × ℕ → Bool) (xs : Letters) (k : ℕ) (x : Key × ℕ) → slice_get xs k ≡ Some x → HasCopy (marked test xs) x
+marked_copy test [] k x e = absurd (cc)
+marked_copy test (y ∷ ys) (suc k) x e = let h = marked_copy test ys k x e in record { place = suc h.place; entry = h.entry; at = h.at; key = h.key; node = h.node }
+marked_copy test (y ∷ ys) zero x e =
+    let same : y ≡ x = cc in
+    record { place = zero; entry = ((if test y then y.0 else doubtful y.0), y.1); at = refl; key = by (test y) ∙ ap (λ (z : Key × ℕ). plain_key z.0) same; node = ap (λ (z : Key × ℕ). z.1) same }
+  where
+    by : (b : Bool) → plain_key (if b then y.0 else doubtful y.0) ≡ plain_key y.0
+    by true = refl
+    by false = refl
 
 -- a letter without doubt among marked ones passes the test
 marked_there : (test : Key × ℕ → Bool) (xs : Letters) (k : ℕ) (z : Key × ℕ) → slice_get (marked test xs) k ≡ Some z → is_doubtful z.0 ≡ false → (slice_get xs k ≡ Some z) × (test z ≡ true)
@@ -165,81 +210,102 @@ pub nodes_marked : (test : Key × ℕ → Bool) (xs : Letters) (nodes : List Nod
 nodes_marked test [] nodes h = tt
 nodes_marked test (x ∷ xs) nodes h = (h.0, nodes_marked test xs nodes h.1)
 
--- a node that is recorded for a number
-recorded_there : (b : Sight) (n m : ℕ) (key : Key) → key ≡ own n → is_recorded b n m ≡ true → (i : ℕ) × (p : ℕ) × (key ≡ own (number_in i p)) × (b.types i p ≡ Some m)
-recorded_there b n m key is e = (n / 2 ^ 32, n % 2 ^ 32, is ∙ ap own (sym (div-add-mod' n (2 ^ 32))), by (b.types (n / 2 ^ 32) (n % 2 ^ 32)) refl e)
-  where
-    by : (o : Option ℕ) → b.types (n / 2 ^ 32) (n % 2 ^ 32) ≡ o → is_some_of m o ≡ true → b.types (n / 2 ^ 32) (n % 2 ^ 32) ≡ Some m
-    by None f h = absurd (no_yes h)
-    by (Some k) f h = f ∙ ap Some (sym (eqb-true m k h))
+-- a number among those of all items is that of its item and its place
+number_is : (n : ℕ) → n ≡ number_in (n / 2 ^ 32) (n % 2 ^ 32)
+number_is n = sym (div-add-mod' n (2 ^ 32))
 
-typed_there : (b : Sight) (x : Key × ℕ) → is_typed b x ≡ true → HasTyped b x
+-- a node that is recorded for a number
+recorded_some : (m : ℕ) (o : Option ℕ) → is_some_of m o ≡ true → o ≡ Some m
+recorded_some m None h = absurd (no_yes h)
+recorded_some m (Some k) h = ap Some (sym (eqb-true m k h))
+
+typed_there : (b : Sight) (x : Key × ℕ) → typed_for b x.1 (plain_key x.0) ≡ true → HasTyped b x
 typed_there b x = by (plain_key x.0) refl
   where
     by : (key : Key) → plain_key x.0 ≡ key → typed_for b x.1 key ≡ true → HasTyped b x
-    by (own n) is e = let (i, p, k, at) = recorded_there b n x.1 (plain_key x.0) is e in record { item = i; place = p; key = k; at = at }
+    by (own n) is e = record { item = n / 2 ^ 32; place = n % 2 ^ 32; key = is ∙ ap own (number_is n); at = recorded_some x.1 (recorded_for b n) e }
     by (letter n k) is e = absurd (no_yes e)
     by (filled n o) is e = absurd (no_yes e)
     by (without_unknown key) is e = absurd (no_yes e)
     by (doubtful key) is e = absurd (no_yes e)
 
--- open letters are hidden too: those for the types of recorded nodes without a doubt
-pub settles_more : {a b : Sight} (xs ys : Letters) → Keeps a b → Settles a b xs → Settles a b (xs ++ marked (is_typed b) ys)
-settles_more {a} {b} xs ys keeps s = settles_both xs (marked (is_typed b) ys) keeps (λ i p m e. e) s (record {
-  belongs = λ k x e sure. inr (there k x e sure);
-  one = λ placed. record {
-    letters = λ j k x y e f s t is. let u = there k y f t in typed_one placed (there j x e s) u.item u.place y.1 u.at (is ∙ u.key);
-    recorded = λ i p m k x e f s is. typed_one placed (there k x f s) i p m e is;
-  };
-})
+-- what is recorded is no other node
+none_other : (m k : ℕ) (o : Option ℕ) → is_none_or m o ≡ true → o ≡ Some k → m ≡ k
+none_other m k None h e = absurd (let f : None ≡ Some k = e in cc)
+none_other m k (Some j) h e = eqb-true m j h ∙ one_some j k e
+
+-- a row was noted for the first time
+new_between : (a b : Sight) (n : ℕ) → is_new a b n ≡ true → IsBetween a b n
+new_between a b n e = let (p, q) = and_cases (not (is_noted_for a n)) (is_noted_for b n) e in record { item = n / 2 ^ 32; place = n % 2 ^ 32; number = number_is n; none = none_so (is_noted_for a n) p; now = q }
   where
-    there : (k : ℕ) (x : Key × ℕ) → slice_get (marked (is_typed b) ys) k ≡ Some x → is_doubtful x.0 ≡ false → HasTyped b x
-    there k x e sure = typed_there b x (marked_there (is_typed b) ys k x e sure).1
+    none_so : (o : Bool) → not o ≡ true → o ≡ false
+    none_so false h = refl
+    none_so true h = absurd (no_yes h)
 
 -- the letters with a key have the node
-node_had : (key : Key) (m : ℕ) (all : Letters) → have_node key m all ≡ true → (k : ℕ) (x : Key × ℕ) → slice_get all k ≡ Some x → same_key key (plain_key x.0) ≡ true → m ≡ x.1
-node_had key m [] h k x e same = absurd (cc)
-node_had key m (z ∷ all) h (suc k) x e same = node_had key m all (and_cases (not (same_key key (plain_key z.0)) || m == z.1) (have_node key m all) h).1 k x e same
-node_had key m (z ∷ all) h zero x e same =
+node_had : (key : Key) (m : ℕ) (all : Letters) → have_node key m all ≡ true → (k : ℕ) (x : Key × ℕ) → slice_get all k ≡ Some x → is_doubtful x.0 ≡ false → same_key key (plain_key x.0) ≡ true → m ≡ x.1
+node_had key m [] h k x e sure same = absurd (cc)
+node_had key m (z ∷ all) h (suc k) x e sure same = node_had key m all (and_cases (is_doubtful z.0 || not (same_key key (plain_key z.0)) || m == z.1) (have_node key m all) h).1 k x e sure same
+node_had key m (z ∷ all) h zero x e sure same =
     let is : z ≡ x = cc in
-    let holds = subst (λ (y : Key × ℕ). (not (same_key key (plain_key y.0)) || m == y.1) ≡ true) is (and_cases (not (same_key key (plain_key z.0)) || m == z.1) (have_node key m all) h).0 in
-    eqb-true m x.1 (subst (λ s. (not s || m == x.1) ≡ true) same holds)
+    let holds = subst (λ (y : Key × ℕ). (is_doubtful y.0 || not (same_key key (plain_key y.0)) || m == y.1) ≡ true) is (and_cases (is_doubtful z.0 || not (same_key key (plain_key z.0)) || m == z.1) (have_node key m all) h).0 in
+    eqb-true m x.1 (subst (λ s. (not s || m == x.1) ≡ true) same (subst (λ s. (s || not (same_key key (plain_key x.0)) || m == x.1) ≡ true) sure holds))
 
--- what a letter passes that is one of a row alone
-record Sure (n : ℕ) (all : Letters) (x : Key × ℕ) : Type 0 where
-  row : row_of x.0 ≡ n
+-- what a letter passes that is without doubt among others, but for those for the types of recorded nodes
+record Sure (a b : Sight) (all : Letters) (x : Key × ℕ) : Type 0 where
+  row : IsBetween a b (row_of x.0)
+  fits : fits_for b x.1 (plain_key x.0) ≡ true
   nodes : have_node (plain_key x.0) x.1 all ≡ true
-  other : (h : ℕ) → plain_key x.0 ≡ own h → ⊥
 
-sure_parts : (n : ℕ) (b : Sight) (all : Letters) (x : Key × ℕ) → is_sure n b all x ≡ true → Sure n all x ⊎ HasTyped b x
-sure_parts n b all x = by (plain_key x.0) refl
+sure_parts : (a b : Sight) (all : Letters) (x : Key × ℕ) → is_sure a b all x ≡ true → Sure a b all x ⊎ HasTyped b x
+sure_parts a b all x = by (typed_for b x.1 (plain_key x.0)) refl
   where
-    parts : (key : Key) → plain_key x.0 ≡ key → (row_of key == n && have_node key x.1 all) ≡ true → ((h : ℕ) → key ≡ own h → ⊥) → Sure n all x
-    parts key is e other =
-        let (one, two) = and_cases (row_of key == n) (have_node key x.1 all) e in
-        record { row = sym (row_plain x.0) ∙ ap row_of is ∙ eqb-true (row_of key) n one; nodes = ap (λ k. have_node k x.1 all) is ∙ two; other = λ h f. other h (sym is ∙ f) }
+    by : (t : Bool) → typed_for b x.1 (plain_key x.0) ≡ t → (t || is_new a b (row_of (plain_key x.0)) && fits_for b x.1 (plain_key x.0) && have_node (plain_key x.0) x.1 all) ≡ true → Sure a b all x ⊎ HasTyped b x
+    by true h e = inr (typed_there b x h)
+    by false h e =
+        let (p, q) = and_cases (is_new a b (row_of (plain_key x.0)) && fits_for b x.1 (plain_key x.0)) (have_node (plain_key x.0) x.1 all) e in
+        let (r, s) = and_cases (is_new a b (row_of (plain_key x.0))) (fits_for b x.1 (plain_key x.0)) p in
+        inl (record { row = subst (IsBetween a b) (row_plain x.0) (new_between a b (row_of (plain_key x.0)) r); fits = s; nodes = q })
 
-    by : (key : Key) → plain_key x.0 ≡ key → sure_for n b all x.1 key ≡ true → Sure n all x ⊎ HasTyped b x
-    by (own h) is e = let (i, p, k, at) = recorded_there b h x.1 (plain_key x.0) is e in inr (record { item = i; place = p; key = k; at = at })
-    by (letter h k) is e = inl (parts (letter h k) is e (λ g f. absurd (cc)))
-    by (filled h o) is e = inl (parts (filled h o) is e (λ g f. absurd (cc)))
-    by (without_unknown key) is e = absurd (no_yes e)
-    by (doubtful key) is e = absurd (no_yes e)
+-- what is recorded for a key's node is the letter's
+fits_one : (b : Sight) → ArePlaced b → (x : Key × ℕ) → fits_for b x.1 (plain_key x.0) ≡ true → (i p m : ℕ) → b.types i p ≡ Some m → plain_key x.0 ≡ own (number_in i p) → x.1 ≡ m
+fits_one b placed x fits i p m e is =
+    let low = placed.recorded i p m e in
+    none_other x.1 m (recorded_for b (number_in i p)) (ap (fits_for b x.1) (sym is) ∙ fits) ((λ k. b.types (div-mul-add i (2 ^ 32) p low k) (mod-mul-add i (2 ^ 32) p low k)) ∙ e)
 
--- The letters of a row whose type is recorded: those without a doubt belong to it, or are for the types of recorded nodes.
-pub settles_row : {b d : Sight} {n m : ℕ} (p : ℕ) (all : Letters) → number_in b.item p ≡ n → b.types b.item p ≡ None → d.types b.item p ≡ Some m → Settles b d (marked (is_sure n d all) all)
-settles_row {b} {d} {n} {m} p all number none now = record {
-  belongs = λ k x e sure. elim (there k x e sure).1 [ inl s ↦ inl (record { item = b.item; place = p; node = m; number = s.row ∙ sym number; none = none; now = now }) | inr t ↦ inr t ];
+-- Open letters are hidden too, with a doubt at those that aren't sure among all that are hidden then.
+pub settles_closed : {a b : Sight} (xs ys : Letters) → Settles a b xs → Settles a b (xs ++ marked (is_sure a b (xs ++ ys)) ys)
+settles_closed {a} {b} xs ys s = record {
+  belongs = λ k x e sure. elim (split_get xs (marked test ys) k x e) [ inl r ↦ s.belongs r.0 x r.1 sure | inr r ↦ elim (there r.0 x r.1 sure).1 [ inl t ↦ inl t.row | inr t ↦ inr t ] ];
   one = λ placed. record {
-    letters = λ j k x y e f s t is. let (at, one) = there j x e s in let (at', two) = there k y f t in letters placed k x y at' is one two;
-    recorded = λ i q o k x e f s is. elim (there k x f s).1 [ inl u ↦ absurd (u.other (number_in i q) is) | inr t ↦ typed_one placed t i q o e is ];
+    letters = λ j k x y e f t u is. elim (split_get xs (marked test ys) j x e) [
+      | inl r ↦ elim (split_get xs (marked test ys) k y f) [ inl v ↦ (s.one placed).letters r.0 v.0 x y r.1 v.1 t u is | inr v ↦ sym (after placed v.0 y x v.1 u (inl r) t (sym is)) ]
+      | inr r ↦ after placed r.0 x y r.1 t (elim (split_get xs (marked test ys) k y f) [ inl v ↦ inl v | inr v ↦ inr (v.0, (there v.0 y v.1 u).0, (there v.0 y v.1 u).1) ]) u is
+    ];
+    recorded = λ i p m k x e f t is. elim (split_get xs (marked test ys) k x f) [
+      | inl r ↦ (s.one placed).recorded i p m r.0 x e r.1 t is
+      | inr r ↦ elim (there r.0 x r.1 t).1 [ inl v ↦ fits_one b placed x v.fits i p m e is | inr v ↦ typed_one placed v i p m e is ]
+    ];
   };
 }
   where
-    there : (k : ℕ) (x : Key × ℕ) → slice_get (marked (is_sure n d all) all) k ≡ Some x → is_doubtful x.0 ≡ false → (slice_get all k ≡ Some x) × (Sure n all x ⊎ HasTyped d x)
-    there k x e sure = let (at, passes) = marked_there (is_sure n d all) all k x e sure in (at, sure_parts n d all x passes)
+    test : Key × ℕ → Bool
+    test = is_sure a b (xs ++ ys)
 
-    letters : ArePlaced d → (k : ℕ) (x y : Key × ℕ) → slice_get all k ≡ Some y → plain_key x.0 ≡ plain_key y.0 → Sure n all x ⊎ HasTyped d x → Sure n all y ⊎ HasTyped d y → x.1 ≡ y.1
-    letters placed k x y at is (inl s) two = node_had (plain_key x.0) x.1 all s.nodes k y at (ap (same_key (plain_key x.0)) (sym is) ∙ same_itself x.0)
-    letters placed k x y at is (inr t) (inr u) = typed_one placed t u.item u.place y.1 u.at (is ∙ u.key)
-    letters placed k x y at is (inr t) (inl s) = absurd (s.other (number_in t.item t.place) (sym is ∙ t.key))
+    there : (k : ℕ) (x : Key × ℕ) → slice_get (marked test ys) k ≡ Some x → is_doubtful x.0 ≡ false → (slice_get ys k ≡ Some x) × (Sure a b (xs ++ ys) x ⊎ HasTyped b x)
+    there k x e sure = let (at, passes) = marked_there test ys k x e sure in (at, sure_parts a b (xs ++ ys) x passes)
+
+    -- a letter that passes has the node of each with its key
+    after : ArePlaced b → (j : ℕ) (x y : Key × ℕ) → slice_get (marked test ys) j ≡ Some x → is_doubtful x.0 ≡ false →
+        ((k : ℕ) × (slice_get xs k ≡ Some y)) ⊎ ((k : ℕ) × (slice_get ys k ≡ Some y) × (Sure a b (xs ++ ys) y ⊎ HasTyped b y)) → is_doubtful y.0 ≡ false → plain_key x.0 ≡ plain_key y.0 → x.1 ≡ y.1
+    after placed j x y e t where_is u is = by (there j x e t).1 where_is
+      where
+        same : same_key (plain_key x.0) (plain_key y.0) ≡ true
+        same = ap (same_key (plain_key x.0)) (sym is) ∙ same_itself x.0
+
+        by : Sure a b (xs ++ ys) x ⊎ HasTyped b x → ((k : ℕ) × (slice_get xs k ≡ Some y)) ⊎ ((k : ℕ) × (slice_get ys k ≡ Some y) × (Sure a b (xs ++ ys) y ⊎ HasTyped b y)) → x.1 ≡ y.1
+        by (inl v) (inl (k, f)) = let (i, g) = in_first xs ys k y f in node_had (plain_key x.0) x.1 (xs ++ ys) v.nodes i y g u same
+        by (inl v) (inr (k, f, w)) = let (i, g) = in_second xs ys k y f in node_had (plain_key x.0) x.1 (xs ++ ys) v.nodes i y g u same
+        by (inr v) (inl (k, f)) = sym ((s.one placed).recorded v.item v.place x.1 k y v.at f u (sym is ∙ v.key))
+        by (inr v) (inr (k, f, inl w)) = sym (fits_one b placed y w.fits v.item v.place x.1 v.at (sym is ∙ v.key))
+        by (inr v) (inr (k, f, inr w)) = typed_one placed v w.item w.place y.1 w.at (is ∙ w.key)

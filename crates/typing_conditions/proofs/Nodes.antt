@@ -28,7 +28,7 @@ use Rattle.typing_conditions.proofs.Framing.{open_var, open_made, written_next}
 use Rattle.typing_conditions.proofs.First.{first_none, first_one, nothing_met}
 use Rattle.typing_conditions.proofs.Making.{with_type, at_own, at_older, in_any_scope, makes_extends, made_here, loose_before, reading_before, fits_made}
 use Rattle.typing_conditions.proofs.Meaning.{all_open, all_types, agrees_same, inside_longer}
-use Rattle.typing_conditions.proofs.Hiding.{settles_none}
+use Rattle.typing_conditions.proofs.Hiding.{keeps_as, settles_none}
 
 -- where a node was made everything stays
 pub made_stays : {F : Frame} {G : Letters} {a b : Sight} {s t : List Change} {n : ℕ} {c : Node} (more : Letters) → IsOpen F b n → Makes (state a.nodes s) (state b.nodes t) n c → OnlyNodes a b → AreNodes more b.nodes → Stays F a G b (more ++ G)
@@ -40,6 +40,7 @@ made_stays {F} {G} {a} {b} {s} {t} {n} {c} more opened made rest new = record {
   writes = written_next rest.written (λ r. opened.reached) refines;
   refines = refines;
   recorded = λ i k x e. rest.types i k ∙ e;
+  keeps = keeps_as rest.noted rest.types;
   written = λ x k e. rest.written x ∙ e;
   given = λ V ch h. given_right V ch more G h;
   inside = λ h. let i = inside_longer a b rest.types rest.written extends.longer h in record { recorded = i.recorded; written = i.written; given = nodes_both more G b.nodes new i.given };

@@ -25,7 +25,7 @@ use Rattle.typing_conditions.specs.Steps.{OnlyLevel}
 use Rattle.typing_conditions.specs.Carrying.{Asks, Scope, HoldsWritten, Enters, Stays, Carried}
 use Rattle.typing_conditions.proofs.Meaning.{inside_longer, nodes_in}
 use Rattle.typing_conditions.proofs.Inward.{agrees_as, reached_inward, written_inward}
-use Rattle.typing_conditions.proofs.Hiding.{settles_as}
+use Rattle.typing_conditions.proofs.Hiding.{keeps_as, keeps_both, settles_as}
 
 -- What is done at the end: the level is the outer one again, and of the variables above it exactly those of these names are bound. The names are open nodes of the
 -- frame further in, and what is held for the outer level is of at most that level.
@@ -36,6 +36,7 @@ pub record GoesOut (F : Frame) (a : Sight) (J : Types) (roots : List ℕ) (held 
   pub sound : IsSound d.nodes
   pub lowered : b.level ≡ suc d.level
   pub types : (i p : ℕ) → d.types i p ≡ b.types i p
+  pub noted : (i p : ℕ) → b.noted i p ≡ true → d.noted i p ≡ true
   pub written : (x : Name) → d.written x ≡ b.written x
   pub reports : d.reports ≡ b.reports
   pub aloud : d.aloud ≡ b.aloud
@@ -190,6 +191,7 @@ module _ {F : Frame} {scope : Scope} {asks : Asks} {a b c d : Sight} {J : Types}
     writes = writes;
     refines = λ r. refines;
     recorded = λ i k m e. l.out.types i k ∙ l.part.stays.recorded i k m (l.only.types i k ∙ e);
+    keeps = keeps_both (keeps_as l.only.noted l.only.types) (keeps_both l.part.stays.keeps (keeps_as l.out.noted l.out.types));
     written = λ x m e. l.out.written x ∙ l.part.stays.written x m (l.only.written x ∙ e);
     given = l.part.stays.given;
     inside = λ i. closed_inside (l.part.stays.inside (record {
@@ -229,7 +231,7 @@ module _ {F : Frame} {scope : Scope} {asks : Asks} {a b c d : Sight} {J : Types}
   carried_out = record {
     stays = group_stays;
     hidden = l.part.hidden;
-    settled = settles_as l.part.hidden (λ i k. sym (l.only.types i k)) l.out.types l.part.settled;
+    settled = settles_as l.part.hidden (keeps_as l.only.noted l.only.types) (keeps_as l.out.noted l.out.types) l.part.settled;
     judged = l.part.judged;
     told = l.part.told;
     reports = l.out.reports ∙ l.part.reports ∙ ap (λ rs. rs ++ l.part.told) l.only.reports;

@@ -6,7 +6,7 @@ use Rattle.std.proofs.Math.Seq.{take-append-add}
 use Rattle.type_model.specs.Types.{Typ}
 use Rattle.type_model.proofs.Applying.{eqb_same}
 use Rattle.signature_model.specs.Matching.{IsKnown}
-use Rattle.typing_laws.proofs.Bools.{and_cases, and_both}
+use Rattle.typing_laws.proofs.Bools.{no_yes, and_cases, and_both}
 use Rattle.typing_model.specs.Demands.{Condition, same, AllHold}
 use Rattle.typing_model.specs.Contexts.{Choice, Context, tell_typed}
 use Rattle.type_nodes.specs.Nodes.{IsNode}
@@ -15,7 +15,7 @@ use Rattle.level_unify.specs.Solutions.{Loose}
 use Rattle.level_unify.proofs.Unified.{fits_loosely}
 use Rattle.typing_conditions.specs.Locals.{IsOwn, Refines}
 use Rattle.typing_conditions.proofs.Steps.{refines_none}
-use Rattle.typing_conditions.specs.Sights.{Sight, number_in, Letters, AreNodes, Agrees}
+use Rattle.typing_conditions.specs.Sights.{Sight, Key, number_in, Letters, AreNodes, Agrees}
 use Rattle.typing_conditions.specs.Frames.{Frame, Reaches}
 use Rattle.typing_conditions.specs.Judging.{judgements, Follows, StartsWith, FallsShort, TellAll, Meets}
 use Rattle.typing_conditions.specs.Steps.{Records}
@@ -25,14 +25,11 @@ use Rattle.typing_conditions.proofs.Stays.{stays_trans, stays_closed, named_befo
 use Rattle.typing_conditions.proofs.Framing.{open_on, reaches_same, written_next}
 use Rattle.typing_conditions.proofs.Carried.{Decides, hidden_more, take_none, less_or_more}
 use Rattle.typing_conditions.proofs.First.{starts_none}
-use Rattle.typing_conditions.specs.Hiding.{marked, is_sure}
-use Rattle.typing_conditions.proofs.Hiding.{settles_both, settles_row, given_unmarked}
-
-one_some : (x y : ℕ) → Some x ≡ Some y → x ≡ y
-one_some x y e = cc
+use Rattle.typing_conditions.specs.Hiding.{Keeps, marked, is_sure}
+use Rattle.typing_conditions.proofs.Hiding.{one_some, settles_on, settles_closed, given_unmarked}
 
 -- what is recorded now is the new node, or was recorded before
-now_or_before : {a b : Sight} {p m : ℕ} → Records a b p m → (i q x : ℕ) → b.types i q ≡ Some x → ((a.item ≡ i) × (p ≡ q) × (m ≡ x)) ⊎ (a.types i q ≡ Some x)
+pub now_or_before : {a b : Sight} {p m : ℕ} → Records a b p m → (i q x : ℕ) → b.types i q ≡ Some x → ((a.item ≡ i) × (p ≡ q) × (m ≡ x)) ⊎ (a.types i q ≡ Some x)
 now_or_before {a} {b} {p} {m} r i q x e = at (a.item == i && p == q) refl
   where
     at : (t : Bool) → (a.item == i && p == q) ≡ t → ((a.item ≡ i) × (p ≡ q) × (m ≡ x)) ⊎ (a.types i q ≡ Some x)
@@ -55,6 +52,19 @@ still_there {a} {b} {p} {m} r i q x e = at (a.item == i && p == q) refl
         absurd (let none : a.types i q ≡ None = here ∙ r.none in cc)
     at false f = r.types i q ∙ ap (λ t. if t then Some m else a.types i q) f ∙ e
 
+-- what was noted is so still, with the same type
+pub records_keep : {a b : Sight} {p m : ℕ} → Records a b p m → Keeps a b
+records_keep {a} {b} {p} {m} r = record { noted = r.noted; same = same; recorded = still_there r }
+  where
+    same : (i q : ℕ) → a.noted i q ≡ true → b.types i q ≡ a.types i q
+    same i q h = at (a.item == i && p == q) refl
+      where
+        at : (t : Bool) → (a.item == i && p == q) ≡ t → b.types i q ≡ a.types i q
+        at true f =
+            let both = and_cases (a.item == i) (p == q) f in
+            absurd (no_yes (sym r.fresh ∙ (λ k. a.noted (eqb-true a.item i both.0 k) (eqb-true p q both.1 k)) ∙ h))
+        at false f = r.types i q ∙ ap (λ t. if t then Some m else a.types i q) f
+
 -- where a node is recorded everything stays
 pub records_stay : {F : Frame} {G : Letters} {a b : Sight} {p m : ℕ} → Records a b p m → IsNode a.nodes m → Stays F a G b G
 records_stay {F} {G} {a} {b} {p} {m} r node = record {
@@ -65,6 +75,7 @@ records_stay {F} {G} {a} {b} {p} {m} r node = record {
   writes = written_next r.written reaches refines;
   refines = refines;
   recorded = still_there r;
+  keeps = records_keep r;
   written = λ x n e. r.written x ∙ e;
   given = λ V ch h. h;
   inside = λ h. record {
@@ -115,7 +126,7 @@ row_recorded {F} {scope} {asks} {ends} {type} {a} {b} {d} {G} own n {p} {m} numb
   carried = record {
     stays = stays_closed own (stays_trans it.stays (recorded (own ++ G)));
     hidden = it.hidden ++ mine;
-    settled = settles_both it.hidden mine it.stays.recorded (recorded G).recorded it.settled (settles_row p own refl r.none (here_now r));
+    settled = settles_closed it.hidden own (settles_on it.hidden (records_keep r) it.settled);
     judged = it.judged;
     told = it.told;
     reports = r.reports ∙ it.reports;
@@ -130,9 +141,12 @@ row_recorded {F} {scope} {asks} {ends} {type} {a} {b} {d} {G} own n {p} {m} numb
     it : Carried F scope asks a G b (own ++ G)
     it = row.carried
 
+    test : Key × ℕ → Bool
+    test = is_sure a d (it.hidden ++ own)
+
     -- the row's own letters, with a doubt where they may be those of another row
     mine : Letters
-    mine = marked (is_sure (number_in b.item p) d own) own
+    mine = marked test own
 
     recorded : (H : Letters) → Stays F b H d H
     recorded H = records_stay r row.means.open_node.inside
@@ -146,7 +160,7 @@ row_recorded {F} {scope} {asks} {ends} {type} {a} {b} {d} {G} own n {p} {m} numb
           recorded = λ i q x e. l.agrees.recorded i q x (still_there r i q x e);
           known = λ i q x e. l.agrees.known i q x (still_there r i q x e);
           written = λ x y e. l.agrees.written x y (r.written x ∙ e);
-          given = given_both V c.chosen own G (given_unmarked (is_sure (number_in b.item p) d own) own V c.chosen (given_right V c.chosen it.hidden mine l.hidden_too)) l.agrees.given;
+          given = given_both V c.chosen own G (given_unmarked test own V c.chosen (given_right V c.chosen it.hidden mine l.hidden_too)) l.agrees.given;
         } in
         let meets = it.sound reached V c (record {
           under = l.under;
@@ -176,7 +190,7 @@ row_recorded {F} {scope} {asks} {ends} {type} {a} {b} {d} {G} own n {p} {m} numb
             recorded = λ i q x e. l.agrees.recorded i q x (still_there r i q x e);
             known = λ i q x e. l.agrees.known i q x (still_there r i q x e);
             written = λ x y e. l.agrees.written x y (r.written x ∙ e);
-            given = given_both V c.chosen own G (given_unmarked (is_sure (number_in b.item p) d own) own V c.chosen (given_right V c.chosen it.hidden mine l.hidden_too)) l.agrees.given;
+            given = given_both V c.chosen own G (given_unmarked test own V c.chosen (given_right V c.chosen it.hidden mine l.hidden_too)) l.agrees.given;
           };
           hidden_too = given_left V c.chosen it.hidden mine l.hidden_too;
           named = named_before scope (recorded G) l.named;
@@ -204,7 +218,7 @@ row_recorded {F} {scope} {asks} {ends} {type} {a} {b} {d} {G} own n {p} {m} numb
         }
 
     hidden_after : (V : Types) (c : Context) → Enters F scope a G V c → (on : Continues F asks a b (own ++ G) it.hidden it.judged V c) → AreHidden (it.hidden ++ mine) d on.types c.chosen
-    hidden_after V c e on = let (nodes, given) = hidden_more (is_sure (number_in b.item p) d own) it.hidden own G b c.chosen on.types (it.stays.inside e.inside).given on.on.agrees.given on.hidden_too in (subst (AreNodes (it.hidden ++ mine)) (sym r.nodes) nodes, given)
+    hidden_after V c e on = let (nodes, given) = hidden_more test it.hidden own G b c.chosen on.types (it.stays.inside e.inside).given on.on.agrees.given on.hidden_too in (subst (AreNodes (it.hidden ++ mine)) (sym r.nodes) nodes, given)
 
     -- with what the row asks at its end nothing more is judged
     judged_ends : (c : Context) (cs : List Condition) → judgements c.kept cs ≡ [] → judgements c.kept (asks c ++ cs) ≡ judgements c.kept (asks c)

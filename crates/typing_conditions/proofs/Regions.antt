@@ -86,10 +86,10 @@ in_any v I (m ∷ ms) h = elim (or_cases (occurs v (I m)) (occurs_in v (map I ms
 abbrev pub region : List Node → Types → List ℕ → ℕ → Bool
 region nodes I roots n = nat_le (length nodes) n || all_pass (stands_in_any I roots) (I n)
 
-is_new : (a b : ℕ) → nat_le a b ≡ true → a ≤ b
+pub is_new : (a b : ℕ) → nat_le a b ≡ true → a ≤ b
 is_new a b h = leb-true a b h
 
-new_is : (a b : ℕ) → a ≤ b → nat_le a b ≡ true
+pub new_is : (a b : ℕ) → a ≤ b → nat_le a b ≡ true
 new_is a b h = le-leb a b h
 
 -- they are such a set

@@ -10,6 +10,7 @@ use Rattle.typing_conditions.specs.Sights.{Sight, Key, Letters, Agrees}
 use Rattle.typing_conditions.specs.Frames.{Frame, Reaches}
 use Rattle.typing_conditions.specs.Carrying.{Scope, HoldsWritten, HoldsUnbound, Stays, GoesOn, Enters}
 use Rattle.typing_conditions.proofs.Judged.{nodes_right}
+use Rattle.typing_conditions.proofs.Hiding.{keeps_same, keeps_both}
 
 -- where nothing is done everything stays
 pub stays_refl : {F : Frame} {a : Sight} {G : Letters} → Stays F a G a G
@@ -21,6 +22,7 @@ stays_refl {F} {a} {G} = record {
   reaches = λ r. r;
   writes = λ k. k;
   recorded = λ i p m h. h;
+  keeps = keeps_same;
   written = λ x m h. h;
   given = λ V ch h. h;
   inside = λ h. h;
@@ -42,6 +44,7 @@ stays_trans {F} {a} {b} {c} p q = record {
   reaches = λ r. q.reaches (p.reaches r);
   writes = λ k. q.writes (p.writes k);
   recorded = λ i k m h. q.recorded i k m (p.recorded i k m h);
+  keeps = keeps_both p.keeps q.keeps;
   written = λ x m h. q.written x m (p.written x m h);
   given = λ V ch h. p.given V ch (q.given V ch h);
   inside = λ h. q.inside (p.inside h);
@@ -61,6 +64,7 @@ stays_closed {F} {a} {b} own {G} s = record {
   writes = s.writes;
   refines = s.refines;
   recorded = s.recorded;
+  keeps = s.keeps;
   written = s.written;
   given = λ V ch h. h;
   inside = λ i. let j = s.inside i in record { recorded = j.recorded; written = j.written; given = nodes_right own G b.nodes j.given };
@@ -108,6 +112,7 @@ stays_opened {F} {a} {G} key {m} node = record {
   writes = λ k. k;
   refines = λ r K own. refines_none a.nodes K own;
   recorded = λ i p n h. h;
+  keeps = keeps_same;
   written = λ x n h. h;
   given = λ V ch h. h.1;
   inside = λ i. record { recorded = i.recorded; written = i.written; given = (node, i.given) };

@@ -36,7 +36,7 @@ use Rattle.typing_conditions.proofs.Carried.{take_none}
 use Rattle.typing_conditions.proofs.First.{starts_none}
 use Rattle.typing_conditions.proofs.Making.{loose_before, reading_before}
 use Rattle.typing_conditions.proofs.Meaning.{agrees_same, inside_longer}
-use Rattle.typing_conditions.proofs.Hiding.{settles_none}
+use Rattle.typing_conditions.proofs.Hiding.{keeps_as, settles_none}
 
 -- the scheme of the value that a path finds, if it finds one
 abbrev pub scheme_found : Environment → List Name → Name → Option Scheme
@@ -119,6 +119,7 @@ name_used {D} {F} {scope} {G} {env} {a} {b} {ms} {x} {m} key free at it = record
       writes = written_next it.rest.written (λ r. opened.reached) refines;
       refines = refines;
       recorded = λ i k y e. it.rest.types i k ∙ e;
+      keeps = keeps_as it.rest.noted it.rest.types;
       written = λ y k e. it.rest.written y ∙ e;
       given = λ V ch h. h.1;
       inside = λ h. let i = inside_longer a b it.rest.types it.rest.written it.taken.extends.longer h in record { recorded = i.recorded; written = i.written; given = (opened.inside, i.given) };

@@ -11,7 +11,7 @@ use Rattle.level_unify.specs.Instances.{is_bound}
 use Rattle.typing_conditions.specs.Locals.{IsOwn, Refines}
 use Rattle.typing_conditions.specs.Sights.{Report, Sight, Letters, AreGiven, AreNodes, Agrees, IsInside, SameAt}
 use Rattle.typing_conditions.specs.Frames.{Frame, Reaches}
-use Rattle.typing_conditions.specs.Hiding.{Settles}
+use Rattle.typing_conditions.specs.Hiding.{Keeps, Settles}
 use Rattle.typing_conditions.specs.Meanings.{Means, KnowsWritten}
 use Rattle.typing_conditions.specs.Judging.{Judgement, judgements, AreKept, Follows, StartsWith, FallsShort, TellAll, Meets}
 
@@ -71,6 +71,7 @@ pub record Stays (F : Frame) (a : Sight) (G : Letters) (b : Sight) (G' : Letters
   pub reaches : Reaches F a → Reaches F b
   pub writes : KnowsWritten F a → KnowsWritten F b
   pub recorded : (i p m : ℕ) → a.types i p ≡ Some m → b.types i p ≡ Some m
+  pub keeps : Keeps a b
   pub written : (x : Name) (m : ℕ) → a.written x ≡ Some m → b.written x ≡ Some m
   pub given : (V : Types) (ch : Choice) → AreGiven G' V ch → AreGiven G V ch
   pub inside : IsInside a G → IsInside b G'
@@ -97,7 +98,7 @@ pub record Continues (F : Frame) (asks : Asks) (a b : Sight) (G hidden : Letters
 -- `complete`: types that fitted before and meet the conditions, under any set of kept demands, keep the same demands and go on; or they are the first not to
 -- keep one that was kept. So a demand that wasn't kept never is, together with those before it.
 -- `first`: the same of the demands alone for the first conditions, where only they are met.
--- `settled`: hidden letters without doubt belong to rows that were recorded between, and those with one key have one node.
+-- `settled`: hidden letters without doubt belong to rows that were noted between, and those with one key have one node.
 -- All are for scopes that hold the type variables that are written after it.
 pub record Carried (F : Frame) (scope : Scope) (asks : Asks) (a : Sight) (G : Letters) (b : Sight) (G' : Letters) : Type 0 where
   pub stays : Stays F a G b G'

@@ -65,52 +65,71 @@ abbrev pub is_some_of : ℕ → Option ℕ → Bool
 is_some_of m None = false
 is_some_of m (Some k) = m == k
 
+-- whether nothing is there, or this number
+abbrev pub is_none_or : ℕ → Option ℕ → Bool
+is_none_or m None = true
+is_none_or m (Some k) = m == k
+
 -- letters with a doubt at those that don't pass a test
 abbrev pub marked : (Key × ℕ → Bool) → Letters → Letters
 marked test [] = []
 marked test (x ∷ xs) = ((if test x then x.0 else doubtful x.0), x.1) ∷ marked test xs
 
--- whether a node is the one that is recorded for a number among those of all items
-abbrev pub is_recorded : Sight → ℕ → ℕ → Bool
-is_recorded b n m = is_some_of m (b.types (n / 2 ^ 32) (n % 2 ^ 32))
+-- the node that is recorded for a number among those of all items
+abbrev pub recorded_for : Sight → ℕ → Option ℕ
+recorded_for b n = b.types (n / 2 ^ 32) (n % 2 ^ 32)
+
+-- whether anything was noted for it
+abbrev pub is_noted_for : Sight → ℕ → Bool
+is_noted_for b n = b.noted (n / 2 ^ 32) (n % 2 ^ 32)
+
+-- whether it was noted for the first time from one state to another
+abbrev pub is_new : Sight → Sight → ℕ → Bool
+is_new a b n = not (is_noted_for a n) && is_noted_for b n
 
 -- whether a letter is for the type of a node, and has the node that is recorded for it
 abbrev pub typed_for : Sight → ℕ → Key → Bool
-typed_for b m (own n) = is_recorded b n m
+typed_for b m (own n) = is_some_of m (recorded_for b n)
 typed_for b m (letter n k) = false
 typed_for b m (filled n o) = false
 typed_for b m (without_unknown key) = false
 typed_for b m (doubtful key) = false
 
--- the same of a letter
-abbrev pub is_typed : Sight → Key × ℕ → Bool
-is_typed b x = typed_for b x.1 (plain_key x.0)
+-- whether no other node is recorded for what a letter is for
+abbrev pub fits_for : Sight → ℕ → Key → Bool
+fits_for b m (own n) = is_none_or m (recorded_for b n)
+fits_for b m (letter n k) = true
+fits_for b m (filled n o) = true
+fits_for b m (without_unknown key) = true
+fits_for b m (doubtful key) = true
 
--- whether the letters with a key have this node
+-- whether the letters with a key, as far as they are without doubt, have this node
 abbrev pub have_node : Key → ℕ → Letters → Bool
 have_node key m [] = true
-have_node key m (x ∷ xs) = (not (same_key key (plain_key x.0)) || m == x.1) && have_node key m xs
+have_node key m (x ∷ xs) = (is_doubtful x.0 || not (same_key key (plain_key x.0)) || m == x.1) && have_node key m xs
 
--- whether a letter with this key and node is one of the row n alone: it is for the type of a node, or the row's letters with its key have its node
-abbrev pub sure_for : ℕ → Sight → Letters → ℕ → Key → Bool
-sure_for n b all m (own h) = is_recorded b h m
-sure_for n b all m (letter h k) = h == n && have_node (letter h k) m all
-sure_for n b all m (filled h o) = h == n && have_node (filled h o) m all
-sure_for n b all m (without_unknown key) = false
-sure_for n b all m (doubtful key) = false
+-- Whether a letter with this key and node is without doubt among others: it is for the type of a node, and has the node that is recorded for it; or its row was noted from
+-- one state to another, and all with its key have its node.
+abbrev pub sure_for : Sight → Sight → Letters → ℕ → Key → Bool
+sure_for a b all m key = typed_for b m key || is_new a b (row_of key) && fits_for b m key && have_node key m all
 
 -- the same of a letter
-abbrev pub is_sure : ℕ → Sight → Letters → Key × ℕ → Bool
-is_sure n b all x = sure_for n b all x.1 (plain_key x.0)
+abbrev pub is_sure : Sight → Sight → Letters → Key × ℕ → Bool
+is_sure a b all x = sure_for a b all x.1 (plain_key x.0)
 
--- the type of a node was recorded from one state to another
+-- what is noted and recorded in one state is so in another; and for what is noted the same is recorded
+pub record Keeps (a b : Sight) : Type 0 where
+  pub noted : (i p : ℕ) → a.noted i p ≡ true → b.noted i p ≡ true
+  pub same : (i p : ℕ) → a.noted i p ≡ true → b.types i p ≡ a.types i p
+  pub recorded : (i p m : ℕ) → a.types i p ≡ Some m → b.types i p ≡ Some m
+
+-- a node was noted from one state to another
 pub record IsBetween (a b : Sight) (n : ℕ) : Type 0 where
   pub item : ℕ
   pub place : ℕ
-  pub node : ℕ
   pub number : n ≡ number_in item place
-  pub none : a.types item place ≡ None
-  pub now : b.types item place ≡ Some node
+  pub none : a.noted item place ≡ false
+  pub now : b.noted item place ≡ true
 
 -- a letter is for the type of a node, and has the node that is recorded for it
 pub record HasTyped (b : Sight) (x : Key × ℕ) : Type 0 where
@@ -119,16 +138,25 @@ pub record HasTyped (b : Sight) (x : Key × ℕ) : Type 0 where
   pub key : plain_key x.0 ≡ own (number_in item place)
   pub at : b.types item place ≡ Some x.1
 
--- numbers in an item are below 2^32
-abbrev pub ArePlaced : Sight → Type 0
-ArePlaced b = (i p m : ℕ) → b.types i p ≡ Some m → p < 2 ^ 32
+-- a letter for the same key, whatever it says of unknown types and of doubt, and with the same node is among some
+pub record HasCopy (xs : Letters) (x : Key × ℕ) : Type 0 where
+  pub place : ℕ
+  pub entry : Key × ℕ
+  pub at : slice_get xs place ≡ Some entry
+  pub key : plain_key entry.0 ≡ plain_key x.0
+  pub node : entry.1 ≡ x.1
+
+-- numbers in an item are below 2^32, those of what is noted and of what is recorded
+pub record ArePlaced (b : Sight) : Type 0 where
+  pub noted : (i p : ℕ) → b.noted i p ≡ true → p < 2 ^ 32
+  pub recorded : (i p m : ℕ) → b.types i p ≡ Some m → p < 2 ^ 32
 
 -- letters without doubt that have one key have one node, and for the type of a node that of its type
 pub record HaveOneNode (b : Sight) (xs : Letters) : Type 0 where
   pub letters : (j k : ℕ) (x y : Key × ℕ) → slice_get xs j ≡ Some x → slice_get xs k ≡ Some y → is_doubtful x.0 ≡ false → is_doubtful y.0 ≡ false → plain_key x.0 ≡ plain_key y.0 → x.1 ≡ y.1
   pub recorded : (i p m k : ℕ) (x : Key × ℕ) → b.types i p ≡ Some m → slice_get xs k ≡ Some x → is_doubtful x.0 ≡ false → plain_key x.0 ≡ own (number_in i p) → x.1 ≡ m
 
--- Hidden letters without doubt belong to rows whose type was recorded from one state to another, or are for the types of recorded nodes; and those with one key have one node.
+-- Hidden letters without doubt belong to rows that were noted from one state to another, or are for the types of recorded nodes; and those with one key have one node.
 pub record Settles (a b : Sight) (xs : Letters) : Type 0 where
   pub belongs : (k : ℕ) (x : Key × ℕ) → slice_get xs k ≡ Some x → is_doubtful x.0 ≡ false → IsBetween a b (row_of x.0) ⊎ HasTyped b x
   pub one : ArePlaced b → HaveOneNode b xs

@@ -25,11 +25,13 @@ pub record Fixed : Type 0 where
   pub bool : ℕ
   pub exn : ℕ
 
--- What typing works on: the nodes of types; the node of the type that is recorded for an item and a number in it, which an expression or a pattern has;
+-- What typing works on: the nodes of types; the node of the type that is recorded for an item and a number in it, which an expression or a pattern has; for which of
+-- them anything was noted, with a type or without;
 -- the nodes of the type variables written so far; what was reported; whether anything is reported and recorded; the item, and the level of new variables.
 pub record Sight : Type 0 where
   pub nodes : List Node
   pub types : ℕ → ℕ → Option ℕ
+  pub noted : ℕ → ℕ → Bool
   pub written : Name → Option ℕ
   pub reports : List Report
   pub aloud : Bool

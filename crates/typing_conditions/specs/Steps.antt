@@ -8,6 +8,7 @@ use Rattle.typing_conditions.specs.Sights.{Report, Sight}
 -- only the nodes change
 pub record OnlyNodes (a b : Sight) : Type 0 where
   pub types : (i p : ℕ) → b.types i p ≡ a.types i p
+  pub noted : (i p : ℕ) → a.noted i p ≡ true → b.noted i p ≡ true
   pub written : (x : Name) → b.written x ≡ a.written x
   pub reports : b.reports ≡ a.reports
   pub aloud : b.aloud ≡ a.aloud
@@ -26,16 +27,20 @@ pub record Tells (a b : Sight) (at : Place) (kind : FaultKind) : Type 0 where
 pub record OnlyReports (a b : Sight) : Type 0 where
   pub nodes : b.nodes ≡ a.nodes
   pub types : (i p : ℕ) → b.types i p ≡ a.types i p
+  pub noted : (i p : ℕ) → a.noted i p ≡ true → b.noted i p ≡ true
   pub written : (x : Name) → b.written x ≡ a.written x
   pub aloud : b.aloud ≡ a.aloud
   pub item : b.item ≡ a.item
   pub level : b.level ≡ a.level
   pub fixed : b.fixed ≡ a.fixed
 
--- a node is recorded for a number of the item, for which none was
+-- a node is recorded for a number of the item, for which nothing was noted
 pub record Records (a b : Sight) (p m : ℕ) : Type 0 where
   pub none : a.types a.item p ≡ None
   pub types : (i q : ℕ) → b.types i q ≡ (if a.item == i && p == q then Some m else a.types i q)
+  pub fresh : a.noted a.item p ≡ false
+  pub now : b.noted a.item p ≡ true
+  pub noted : (i q : ℕ) → a.noted i q ≡ true → b.noted i q ≡ true
   pub written : (x : Name) → b.written x ≡ a.written x
   pub nodes : b.nodes ≡ a.nodes
   pub reports : b.reports ≡ a.reports
@@ -56,6 +61,7 @@ pub record Writes (a b : Sight) (x : Name) (m : ℕ) : Type 0 where
   pub others : (y : Name) (n : ℕ) → b.written y ≡ Some n → ((y ≡ x) × (n ≡ m)) ⊎ (a.written y ≡ Some n)
   pub before : (y : Name) (n : ℕ) → a.written y ≡ Some n → b.written y ≡ Some n
   pub types : (i p : ℕ) → b.types i p ≡ a.types i p
+  pub noted : (i p : ℕ) → a.noted i p ≡ true → b.noted i p ≡ true
   pub reports : b.reports ≡ a.reports
   pub aloud : b.aloud ≡ a.aloud
   pub item : b.item ≡ a.item
@@ -66,6 +72,7 @@ pub record Writes (a b : Sight) (x : Name) (m : ℕ) : Type 0 where
 pub record OnlyLevel (a b : Sight) : Type 0 where
   pub nodes : b.nodes ≡ a.nodes
   pub types : (i p : ℕ) → b.types i p ≡ a.types i p
+  pub noted : (i p : ℕ) → a.noted i p ≡ true → b.noted i p ≡ true
   pub written : (x : Name) → b.written x ≡ a.written x
   pub reports : b.reports ≡ a.reports
   pub aloud : b.aloud ≡ a.aloud

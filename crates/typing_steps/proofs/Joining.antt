@@ -155,7 +155,7 @@ with_level k a = record a { level = k }
 
 -- a call that changes the nodes alone does so whatever the level is
 at_level : (a b : Parts) (k : ℕ) → OnlyStore a b → OnlyNodes (with_level k (sight a)) (with_level k (sight b))
-at_level a b k rest = let r = only_nodes a b rest in record { types = r.types; written = r.written; reports = r.reports; aloud = r.aloud; item = r.item; level = refl; fixed = r.fixed }
+at_level a b k rest = let r = only_nodes a b rest in record { types = r.types; noted = r.noted; written = r.written; reports = r.reports; aloud = r.aloud; item = r.item; level = refl; fixed = r.fixed }
 
 level_below : (l : ℕ) → level_for l ≢ bound_level
 level_below l = below (level_for l) (min_right l (2 ^ 32 - 2))

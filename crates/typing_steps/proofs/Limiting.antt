@@ -39,7 +39,7 @@ use Rattle.typing_conditions.proofs.First.{starts_none}
 use Rattle.typing_conditions.proofs.Framing.{sound_made, written_next}
 use Rattle.typing_conditions.proofs.Making.{with_type, at_own, at_older, in_any_scope, makes_extends, made_here, reading_before, fits_made}
 use Rattle.typing_conditions.proofs.Meaning.{agrees_same, inside_longer}
-use Rattle.typing_conditions.proofs.Hiding.{settles_none}
+use Rattle.typing_conditions.proofs.Hiding.{keeps_as, settles_none}
 
 -- What is asked of a type that is limited to a scope: that its origins are in the scope.
 pub record LimitAsks (scope : ℕ) (type : Choice → Typ) (asks : Asks) : Type 0 where
@@ -175,6 +175,7 @@ module _ {F : Frame} {a b : Sight} {mid : State} {v l o m : ℕ} (at : Limited F
     reaches = λ r. limit_reached;
     writes = written_next at.rest.written (λ r. limit_reached) (λ r. refines);
     recorded = λ i k x e. at.rest.types i k ∙ e;
+    keeps = keeps_as at.rest.noted at.rest.types;
     written = λ x n e. at.rest.written x ∙ e;
     given = λ V ch h. h;
     inside = inside_longer a b at.rest.types at.rest.written longer;

@@ -1,5 +1,7 @@
 -- What is recorded for a node: its type, or that it is treated in an environment.
 use Rattle.std.proofs.Common.{◌≡◌, ◌∙◌, ℕ, Bool, true, false, ◌&&◌, ◌==◌, if◌then◌else◌, List, Option, Some, refl, ap}
+use Rattle.type_model.proofs.Applying.{eqb_same}
+use Rattle.typing_laws.proofs.Bools.{and_both}
 use Rattle.std.specs.Prelude.{option_map}
 use Rattle.type_terms.specs.declared.types.NodeRef.{NodeRef}
 use Rattle.type_nodes.specs.States.{State}
@@ -12,7 +14,19 @@ use Rattle.typing_state.specs.declared.parts.Parts.{Parts}
 use Rattle.typing_state.specs.Goes.{OnlyIndex}
 use Rattle.typing_state.specs.Notes.{NotedFirst, Noted, NotedNameless}
 use Rattle.typing_conditions.specs.Steps.{Records}
-use Rattle.typing_steps.specs.States.{type_in, is_aloud, written_in, fixed_of, sight}
+use Rattle.typing_steps.specs.States.{type_in, is_noted, is_aloud, written_in, fixed_of, sight}
+
+noted_of_first : (b : Bool) (s : Seen) (y : Option Seen) → is_noted y ≡ true → is_noted (if b then Some s else y) ≡ true
+noted_of_first true s y h = refl
+noted_of_first false s y h = h
+
+-- what is recorded for the first time is noted then, and was not before
+pub noted_now : (a b : Parts) (number : ℕ) (seen : Seen) → NotedFirst a b number seen → (sight b).noted a.item number ≡ true
+noted_now a b number seen noted = ap is_noted (noted.after a.item number ∙ ap (λ t. if t then Some seen else seen_at a.index a.item number) (and_both (a.item == a.item) (number == number) (eqb_same a.item) (eqb_same number)))
+
+-- and what was noted is so still
+pub noted_still : (a b : Parts) (number : ℕ) (seen : Seen) → NotedFirst a b number seen → (i p : ℕ) → (sight a).noted i p ≡ true → (sight b).noted i p ≡ true
+noted_still a b number seen noted i p h = ap is_noted (noted.after i p) ∙ noted_of_first (a.item == i && number == p) seen (seen_at a.index i p) h
 
 type_of_first : (b : Bool) (s : Seen) (y : Option Seen) → type_in (if b then Some s else y) ≡ (if b then type_in (Some s) else type_in y)
 type_of_first true s y = refl
@@ -23,6 +37,9 @@ first_type : (a b : Parts) (number : ℕ) (m : NodeRef) (seen : Seen) → seen.t
 first_type a b number m seen typed noted rest = record {
   none = ap type_in noted.before;
   types = λ i q. ap type_in (noted.after i q) ∙ type_of_first (a.item == i && number == q) seen (seen_at a.index i q) ∙ ap (λ t. if a.item == i && number == q then option_map (λ (k : NodeRef). k.0) t else type_in (seen_at a.index i q)) typed;
+  fresh = ap is_noted noted.before;
+  now = noted_now a b number seen noted;
+  noted = noted_still a b number seen noted;
   written = λ x. ap (λ w. written_in w x) rest.written;
   nodes = ap (λ (s : State). s.nodes) rest.store;
   reports = ap (λ f. (sight (record a { faults = f })).reports) rest.faults;

@@ -19,7 +19,7 @@ use Rattle.typing_conditions.specs.Frames.{Frame, IsOpenAt}
 use Rattle.typing_conditions.specs.Meanings.{Means}
 
 -- a node that reads as an arrow has the arrow of its sides' types
-arrow_is : (nodes : List Node) (V : Types) (m x y : ℕ) → Loose nodes V → reading nodes m ≡ Some (Arrow x y) → V m ≡ type.Arrow (V x) (V y)
+pub arrow_is : (nodes : List Node) (V : Types) (m x y : ℕ) → Loose nodes V → reading nodes m ≡ Some (Arrow x y) → V m ≡ type.Arrow (V x) (V y)
 arrow_is nodes V m x y loose e = loose_root nodes V loose m ∙ loose.each (root nodes m) (Arrow x y) e
 
 -- a node whose own type is an arrow reads as one

@@ -31,9 +31,10 @@ use Rattle.typing_conditions.proofs.Carried.{take_none}
 use Rattle.typing_conditions.proofs.First.{starts_none}
 use Rattle.typing_conditions.proofs.Framing.{no_bound}
 use Rattle.typing_conditions.proofs.Equals.{reports_stay, goes_as, unified_stays}
-use Rattle.typing_steps.specs.States.{type_in, is_aloud, reports_of, written_in, fixed_of, sight}
+use Rattle.typing_steps.specs.States.{type_in, is_noted, is_aloud, reports_of, written_in, fixed_of, sight}
 use Rattle.typing_steps.specs.Warning.{OnlyNotes}
 use Rattle.typing_steps.proofs.Seeing.{same_state, nodes_of_both, reports_of_both}
+use Rattle.typing_steps.proofs.Recording.{noted_still}
 use Rattle.typing_conditions.proofs.Hiding.{settles_none}
 
 -- conditions that hold in any case, of which none is a demand
@@ -90,6 +91,7 @@ pub untyped_noted : (a b : Parts) (number : ℕ) (seen : Seen) → seen.ty ≡ N
 untyped_noted a b number seen none noted rest = record {
   nodes = ap (λ (s : State). s.nodes) rest.store;
   types = by a.telling noted;
+  noted = still a.telling noted;
   written = λ x. ap (λ w. written_in w x) rest.written;
   aloud = ap is_aloud rest.telling;
   item = rest.item;
@@ -101,6 +103,10 @@ untyped_noted a b number seen none noted rest = record {
     by Quiet h i p = ap (λ x. type_in (seen_at x i p)) h
     by Aloud h i p = untyped_as a b number seen none h i p
 
+    still : (t : Telling) → Noted t a b number seen → (i p : ℕ) → is_noted (seen_at a.index i p) ≡ true → is_noted (seen_at b.index i p) ≡ true
+    still Quiet h i p k = ap (λ x. is_noted (seen_at x i p)) h ∙ k
+    still Aloud h i p k = noted_still a b number seen h i p k
+
 -- `note_plain`: it is recorded in which environment a node is treated
 pub plain_noted : (a b : Parts) {F : Frame} {scope : Scope} {G : Letters} (number : ℕ) (env : List Entry) (n : ℕ) (told : Context → Environment) → NotedNameless a b number env None → OnlyIndex a b →
     Carried F scope (λ c. treated n (told c) ∷ []) (sight a) G (sight b) G
@@ -109,7 +115,7 @@ plain_noted a b number env n told (names, none, noted) rest =
 
 -- nothing is recorded
 pub notes_none : (a : Parts) → OnlyNotes a a
-notes_none a = record { rest = record { store = refl; faults = refl; written = refl; item = refl; level = refl; telling = refl; constants = refl }; types = λ i p. refl }
+notes_none a = record { rest = record { store = refl; faults = refl; written = refl; item = refl; level = refl; telling = refl; constants = refl }; types = λ i p. refl; noted = λ i p h. h }
 
 -- one record after another
 pub notes_more : (a b d : Parts) → OnlyNotes a b → OnlyNotes b d → OnlyNotes a d
@@ -124,17 +130,19 @@ notes_more a b d p q = record {
     constants = q.rest.constants ∙ p.rest.constants;
   };
   types = λ i k. q.types i k ∙ p.types i k;
+  noted = λ i k h. q.noted i k (p.noted i k h);
 }
 
 -- what `note_plain` records
 pub plain_notes : (a b : Parts) (number : ℕ) (env : List Entry) → NotedNameless a b number env None → OnlyIndex a b → OnlyNotes a b
-plain_notes a b number env (names, none, noted) rest = record { rest = rest; types = (untyped_noted a b number (record { env = env; ty = None; names = names }) refl noted rest).types }
+plain_notes a b number env (names, none, noted) rest = let only = untyped_noted a b number (record { env = env; ty = None; names = names }) refl noted rest in record { rest = rest; types = only.types; noted = only.noted }
 
 -- no condition sees what is recorded without a type
 pub notes_unseen : (a b : Parts) → OnlyNotes a b → OnlyReports (sight a) (sight b)
 notes_unseen a b h = record {
   nodes = ap (λ (s : State). s.nodes) h.rest.store;
   types = h.types;
+  noted = h.noted;
   written = λ x. ap (λ w. written_in w x) h.rest.written;
   aloud = ap is_aloud h.rest.telling;
   item = h.rest.item;
@@ -151,6 +159,7 @@ pub quiet_noted : (a b : Parts) (number : ℕ) (seen : Seen) → is_aloud a.tell
 quiet_noted a b number seen quiet noted rest = record {
   nodes = ap (λ (s : State). s.nodes) rest.store;
   types = by a.telling quiet noted;
+  noted = still a.telling quiet noted;
   written = λ x. ap (λ w. written_in w x) rest.written;
   aloud = ap is_aloud rest.telling;
   item = rest.item;
@@ -161,6 +170,10 @@ quiet_noted a b number seen quiet noted rest = record {
     by : (t : Telling) → is_aloud t ≡ false → Noted t a b number seen → (i p : ℕ) → type_in (seen_at b.index i p) ≡ type_in (seen_at a.index i p)
     by Quiet e h i p = ap (λ x. type_in (seen_at x i p)) h
     by Aloud e h i p = absurd (cc)
+
+    still : (t : Telling) → is_aloud t ≡ false → Noted t a b number seen → (i p : ℕ) → is_noted (seen_at a.index i p) ≡ true → is_noted (seen_at b.index i p) ≡ true
+    still Quiet e h i p k = ap (λ x. is_noted (seen_at x i p)) h ∙ k
+    still Aloud e h i p k = absurd (cc)
 
 -- there a fault is no report
 pub quiet_told : (a b : Parts) (at : Span) (kind : FaultKind) (message : List ℕ) → is_aloud a.telling ≡ false → Told a.telling (faults_of a) (faults_of b) at kind message → (sight b).reports ≡ (sight a).reports

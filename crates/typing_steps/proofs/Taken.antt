@@ -1,23 +1,25 @@
 -- An instance of a declaration's root: the letters of a node stand for the images of its parameters, and what its unknown types are filled with there for theirs.
-use Rattle.std.proofs.Common.{◌≡◌, ◌∙◌, ◌++◌, inl, inr, ℕ, ◌<◌, true, List, [], ◌∷◌, length, refl, sym, ap, subst, append-nil, if◌then◌else◌}
+use Rattle.std.proofs.Common.{◌≡◌, ◌∙◌, ◌++◌, inl, inr, ℕ, ◌<◌, true, List, [], ◌∷◌, length, refl, sym, ap, subst, append-nil, if◌then◌else◌, Some, Bool, false, ◌&&◌}
 use Rattle.type_model.specs.Types.{Typ, Typs, occurs, occurs_any}
 use Rattle.type_model.specs.Types.{Typ as type, Typs as types}
-use Rattle.type_model.specs.Substitutions.{apply, apply_all}
+use Rattle.type_model.specs.Substitutions.{apply, apply_all, Subst}
 use Rattle.type_model.proofs.Applying.{or_left, or_right, or_cases, eqb_same}
 use Rattle.std.proofs.lemmas.Bool.{eqb-true}
-use Rattle.typing_laws.proofs.Bools.{no_yes}
-use Rattle.signature_model.specs.Matching.{used}
+use Rattle.typing_laws.proofs.Bools.{no_yes, and_cases}
+use Rattle.signature_model.specs.Matching.{used, IsKnown}
 use Rattle.typing_model.specs.Contexts.{Choice, Context}
-use Rattle.type_nodes.specs.Nodes.{Node, IsSound}
+use Rattle.type_nodes.specs.Nodes.{Node, IsSound, Arrow}
 use Rattle.type_nodes.specs.Readings.{Types}
+use Rattle.type_nodes.specs.Links.{reading}
 use Rattle.level_unify.specs.Instances.{Instantiated}
 use Rattle.level_unify.proofs.Unified.{fits_loosely}
+use Rattle.level_unify.specs.Solutions.{Loose}
 use Rattle.typing_conditions.specs.Locals.{IsOwn, Refines}
 use Rattle.typing_conditions.proofs.Own.{own_of}
 use Rattle.typing_conditions.proofs.Steps.{refines_made}
 use Rattle.typing_conditions.specs.Declared.{IsNamed, a_parameter, an_unknown, RootAs}
 use Rattle.typing_conditions.proofs.Roots.{named_bound}
-use Rattle.typing_conditions.proofs.Taking.{HasImages, images_of, take_sound, take_each, take_complete}
+use Rattle.typing_conditions.proofs.Taking.{HasImages, images_of, take_sound, take_each, take_complete, agree_at, used_named}
 use Rattle.typing_conditions.specs.Sights.{Sight, Key, letter, filled, value_of, Letters, IsKnownFor, AreGiven, AreNodes}
 use Rattle.typing_conditions.specs.Frames.{Frame, Reaches, IsOpen, IsRoot}
 use Rattle.typing_conditions.specs.Judging.{judgements, StartsWith}
@@ -29,7 +31,8 @@ use Rattle.typing_conditions.proofs.Carried.{take_none}
 use Rattle.typing_conditions.proofs.First.{starts_none}
 use Rattle.typing_conditions.proofs.Making.{loose_before, reading_before}
 use Rattle.typing_conditions.proofs.Meaning.{agrees_same, inside_longer}
-use Rattle.typing_conditions.proofs.Hiding.{settles_none}
+use Rattle.typing_conditions.proofs.Hiding.{keeps_as, settles_none}
+use Rattle.typing_steps.proofs.Sides.{arrow_is}
 
 -- what is chosen at a node for a name
 abbrev pub key_for : ℕ → Typ → Key
@@ -130,12 +133,46 @@ arrow_inside {nodes} {I} {C} {N} {arity} {r} {t} x y e root own = by (I r) refl
     by (type.Tuple ts) f = absurd (let h : type.Arrow x y ≡ type.Tuple (apply_all N ts) = sym e ∙ root.is I own ∙ ap (apply N) f in cc)
     by (type.Con o ts) f = absurd (let h : type.Arrow x y ≡ type.Con o (apply_all N ts) = sym e ∙ root.is I own ∙ ap (apply N) f in cc)
 
--- the letters of a use, which are nodes, and what it carries: nothing is asked, and its node has the type of the use; where that is an arrow, so is each type of the node
+-- whether each variable of a type stands in another
+abbrev mutual
+  all_in : Typ → Typ → Bool
+  all_in p (type.Var v) = occurs v p
+  all_in p (type.Arrow a b) = all_in p a && all_in p b
+  all_in p (type.Tuple ts) = all_in_each p ts
+  all_in p (type.Con o ts) = all_in_each p ts
+
+  -- the same of several types
+  all_in_each : Typ → Typs → Bool
+  all_in_each p types.Nil = true
+  all_in_each p (types.Cons t ts) = all_in p t && all_in_each p ts
+
+-- whether each variable of an arrow's right side stands in its left one
+abbrev side_covers : Typ → Bool
+side_covers (type.Var v) = false
+side_covers (type.Arrow p q) = all_in p q
+side_covers (type.Tuple ts) = false
+side_covers (type.Con o ts) = false
+
+mutual
+  in_all : (p t : Typ) → all_in p t ≡ true → (v : ℕ) → occurs v t ≡ true → occurs v p ≡ true
+  in_all p (type.Var w) h v o = ap (λ x. occurs x p) (eqb-true v w o) ∙ h
+  in_all p (type.Arrow a b) h v o = let (f, g) = and_cases (all_in p a) (all_in p b) h in elim (or_cases (occurs v a) (occurs v b) o) [ inl i ↦ in_all p a f v i | inr i ↦ in_all p b g v i ]
+  in_all p (type.Tuple ts) h v o = in_all_each p ts h v o
+  in_all p (type.Con c ts) h v o = in_all_each p ts h v o
+
+  in_all_each : (p : Typ) (ts : Typs) → all_in_each p ts ≡ true → (v : ℕ) → occurs_any v ts ≡ true → occurs v p ≡ true
+  in_all_each p types.Nil h v o = absurd (no_yes o)
+  in_all_each p (types.Cons t ts) h v o = let (f, g) = and_cases (all_in p t) (all_in_each p ts) h in elim (or_cases (occurs v t) (occurs_any v ts) o) [ inl i ↦ in_all p t f v i | inr i ↦ in_all_each p ts g v i ]
+
+-- the letters of a use, which are nodes, and what it carries: nothing is asked, and its node has the type of the use; where that is an arrow, so is each type of the node.
+-- Where each variable of the arrow's right side stands in its left one, the letters have their types wherever the left side has the type of the use.
 pub record TakenWith (F : Frame) (scope : Scope) (a : Sight) (G : Letters) (b : Sight) (n : ℕ) (t : Typ) (m : ℕ) : Type 0 where
   pub own : Letters
   pub nodes : AreNodes own b.nodes
   pub typed : CarriedTo F scope (λ c. []) a G b (own ++ G) (λ ch. used (ch.letter n) (ch.filled n) t) m
   pub splits : (x y : Typ) → t ≡ type.Arrow x y → (K : Types) → IsOwn b.nodes K → (p : Typ) × (q : Typ) × (K m ≡ type.Arrow p q)
+  pub covered : Bool
+  pub implied : covered ≡ true → (x y : Typ) → t ≡ type.Arrow x y → (from to : ℕ) → reading b.nodes m ≡ Some (Arrow from to) → (V : Types) (ch : Choice) → Loose b.nodes V → used (ch.letter n) (ch.filled n) x ≡ V from → AreGiven own V ch
 
 -- An instance of a root that stands for a type has that type as it is used at a node.
 pub root_taken : {F : Frame} {scope : Scope} {G : Letters} {a b : Sight} {C : List ℕ} {N : Types} {arity root m : ℕ} {t : Typ} (n : ℕ) → Reaches F a → IsRoot F a root → RootAs a.nodes C N arity root t →
@@ -164,6 +201,8 @@ root_taken {F} {scope} {G} {a} {b} {C} {N} {arity} {root} {m} {t} n reached is_r
   splits = λ x y e K own_b.
       let (p, q, is) = arrow_inside x y e as_root own.1 in
       (apply (λ v. K (images.image v)) p, apply (λ v. K (images.image v)) q, images.is K own_b.loose ∙ ap (apply (λ v. K (images.image v))) is);
+  covered = side_covers (own.0 root);
+  implied = implied;
 }
   where
     own : (J : Types) × IsOwn a.nodes J
@@ -174,6 +213,23 @@ root_taken {F} {scope} {G} {a} {b} {C} {N} {arity} {root} {m} {t} n reached is_r
 
     letters : Letters
     letters = images_in n N images.image (own.0 root)
+
+    -- what the left side's variables stand for is known by its type
+    implied : side_covers (own.0 root) ≡ true → (x y : Typ) → t ≡ type.Arrow x y → (from to : ℕ) → reading b.nodes m ≡ Some (Arrow from to) → (V : Types) (ch : Choice) → Loose b.nodes V → used (ch.letter n) (ch.filled n) x ≡ V from → AreGiven letters V ch
+    implied covers x y e from to reads V ch loose is =
+        let (p, q, inside) = arrow_inside x y e as_root own.1 in
+        let s : Subst = λ v. used (ch.letter n) (ch.filled n) (N v) in
+        let u : Subst = λ v. V (images.image v) in
+        let known : IsKnown (type.Arrow p q) = subst IsKnown inside (as_root.known own.0 own.1) in
+        let named : type.Arrow x y ≡ type.Arrow (apply N p) (apply N q) = sym e ∙ as_root.is own.0 own.1 ∙ ap (apply N) inside in
+        let left : x ≡ apply N p = cc in
+        let copy : type.Arrow (V from) (V to) ≡ type.Arrow (apply u p) (apply u q) = sym (arrow_is b.nodes V m from to loose reads) ∙ images.is V loose ∙ ap (apply u) inside in
+        let side : V from ≡ apply u p = cc in
+        let both : apply s p ≡ apply u p = sym (used_named (ch.letter n) (ch.filled n) N p known.0) ∙ ap (used (ch.letter n) (ch.filled n)) (sym left) ∙ is ∙ side in
+        let right : all_in p q ≡ true = sym (ap side_covers inside) ∙ covers in
+        at_given n N images.image V ch (own.0 root) (λ v o.
+        named_value n ch (as_root.named own.0 own.1 v o) ∙
+        elim (or_cases (occurs v p) (occurs v q) (sym (ap (occurs v) inside) ∙ o)) [ inl i ↦ agree_at s u p both v i | inr i ↦ agree_at s u p both v (in_all p q right v i) ])
 
     letter_nodes : AreNodes letters b.nodes
     letter_nodes = nodes_at n N images.image b.nodes (own.0 root) images.inside
@@ -193,6 +249,7 @@ root_taken {F} {scope} {G} {a} {b} {C} {N} {arity} {root} {m} {t} n reached is_r
       writes = written_next rest.written (λ r. opened.reached) refines;
       refines = refines;
       recorded = λ i k y e. rest.types i k ∙ e;
+      keeps = keeps_as rest.noted rest.types;
       written = λ y k e. rest.written y ∙ e;
       given = λ V ch h. given_right V ch letters G h;
       inside = λ h.

@@ -37,6 +37,7 @@ variable_put a b {x} {n} w = record {
     | inr t ↦ ap node_of (w.now y ∙ ap (λ s. cond s (Some n) (get_by_text a.written.variables y)) t) ∙ e
   ];
   types = λ i p. ap (λ k. (sight (record a { index = k })).types i p) w.index;
+  noted = λ i p h. ap (λ k. (sight (record a { index = k })).noted i p) w.index ∙ h;
   reports = ap (λ f. (sight (record a { faults = f })).reports) w.faults;
   aloud = ap is_aloud w.telling;
   item = w.item;

@@ -23,6 +23,11 @@ abbrev pub type_in : Option Seen → Option ℕ
 type_in None = None
 type_in (Some s) = option_map (λ (m : NodeRef). m.0) s.ty
 
+-- whether anything is recorded
+abbrev pub is_noted : Option Seen → Bool
+is_noted None = false
+is_noted (Some s) = true
+
 -- whether a fault is a warning, which no demand makes
 abbrev pub is_warning : FaultKind → Bool
 is_warning Missed = true
@@ -56,6 +61,7 @@ abbrev pub sight : Parts → Sight
 sight at = record {
   nodes = at.store.nodes;
   types = λ i p. type_in (seen_at at.index i p);
+  noted = λ i p. is_noted (seen_at at.index i p);
   written = written_in at.written;
   reports = reports_of (faults_of at);
   aloud = is_aloud at.telling;
