@@ -1,8 +1,8 @@
 -- The close of an item's `let`, at the lowest level: what its group touched, and the types of its names once they are generalised.
-use Rattle.std.proofs.Common.{◌-◌, ◌^◌, ◌≡◌, ◌≢◌, ◌∙◌, inl, inr, ℕ, suc, ◌<◌, ◌≤◌, true, false, ◌||◌, if◌then◌else◌, List, [], ◌++◌, map, length, Some, refl, sym, ap, subst, arith, append-nil}
+use Rattle.std.proofs.Common.{◌-◌, ◌^◌, ◌≡◌, ◌≢◌, ◌∙◌, inl, inr, ℕ, suc, ◌<◌, ◌≤◌, true, false, ◌||◌, List, [], ◌++◌, map, length, Some, refl, sym, ap, subst, arith, append-nil, ◌⊎◌}
 use Rattle.std.specs.Prelude.{slice_get}
 use Rattle.type_model.specs.Types.{occurs}
-use Rattle.type_model.proofs.Applying.{eqb_same, or_left, or_right}
+use Rattle.type_model.proofs.Applying.{or_left, or_right}
 use Rattle.type_model.specs.Schemes.{Scheme}
 use Rattle.signature_model.specs.Entries.{Environment, free_in}
 use Rattle.signature_model.specs.Matching.{IsKnown}
@@ -28,7 +28,7 @@ use Rattle.typing_conditions.proofs.Steps.{same_node, stands_after}
 use Rattle.typing_conditions.proofs.Closing.{closed_loose, own_reopened, local_closed}
 use Rattle.typing_conditions.proofs.Generalised.{Fixes, name_fits, name_reads}
 use Rattle.typing_conditions.proofs.Standing.{none_free}
-use Rattle.typing_conditions.specs.Sights.{Sight, Letters, Agrees}
+use Rattle.typing_conditions.specs.Sights.{Sight, Key, Letters, Agrees}
 use Rattle.typing_conditions.specs.Frames.{Frame, Reaches, IsHeld, IsOpenAt}
 use Rattle.typing_conditions.specs.Meanings.{AllMean, KnowsWritten}
 use Rattle.typing_conditions.specs.Carrying.{Asks, Carried}
@@ -39,17 +39,17 @@ use Rattle.typing_conditions.proofs.Meaning.{open_unbound, all_open}
 use Rattle.typing_conditions.proofs.Outward.{GoesOut}
 use Rattle.typing_steps.specs.States.{sight}
 use Rattle.binding_rows.specs.Closing.{Limit, limit_variables}
-use Rattle.binding_rows.specs.Lets.{ToClose, AllToClose, bind_nodes, names_closed, limited_nodes, held_at, held_from, GroupToClose}
+use Rattle.binding_rows.specs.Lets.{ToClose, AllToClose, bind_nodes, names_closed, limited_nodes, held_at, GroupToClose}
 use Rattle.binding_rows.proofs.Limits.{LimitsCarried}
 use Rattle.binding_rows.proofs.Closing.{limited_state, limits_asked, closed_out}
 use Rattle.binding_rows.proofs.Held.{limited_means, held_same, to_close_on, all_names_bound, bound_open, limit_shares, limited_open, nodes_none}
 use Rattle.pattern_rows.specs.Bounds.{AllBound}
+use Rattle.pattern_rows.proofs.Opened.{all_among, carried_kept, kept_copies}
+use Rattle.typing_conditions.specs.Hiding.{HasCopy}
+use Rattle.typing_conditions.proofs.Hiding.{split_get, copy_itself}
 use Rattle.binding_rows.specs.ItemGroups.{item_scope, ItemGroup}
 use Rattle.binding_rows.proofs.Starting.{in_either, fixed_none, own_start, item_roots, item_held, item_frame, group_frame, lowest, item_context, item_reached, goes_in, known_written, surrounds_item}
-
--- at their own level these nodes are held
-held_here : (level : ℕ) (ns : List ℕ) (before : ℕ → List ℕ) → held_from level ns before level ≡ ns
-held_here level ns before = ap (λ b. if b then ns else before level) (eqb_same level)
+use Rattle.binding_rows.proofs.Lets.{held_here}
 
 module _ {D : Declared} {n : ℕ} {ts : List Tok} {E : Choice → Environment} {asks : Asks} {x : Parts} {y : Sight} {G : Letters} {s d : Parts} {env : List Entry} {xs : List Binding} {ys : List ToClose} {limits : List Limit} (l : ItemGroup D n ts E asks x y G s d env xs ys limits) where
   abbrev F : Frame
@@ -101,7 +101,15 @@ module _ {D : Declared} {n : ℕ} {ts : List Tok} {E : Choice → Environment} {
 
   -- what is asked inside the item is carried in the group's frame
   pub item_part : Carried I (item_scope n ts E) asks y G item_limited item_letters
-  item_part = carried_as (λ c. append-nil (asks c)) (carried_trans item_group.carried limits_done.carried)
+  item_part = carried_kept item_group.own item_group.own (all_among item_group.own) (carried_as (λ c. append-nil (asks c)) (carried_trans item_group.carried limits_done.carried))
+
+  -- the letters that are open then were so before, or are hidden too
+  pub item_copies : (k : ℕ) (x : Key × ℕ) → slice_get item_letters k ≡ Some x → HasCopy G x ⊎ HasCopy item_part.hidden x
+  unfolding item_part
+  item_copies k x e = elim (split_get item_group.own G k x e) [
+    | inl r ↦ inr (kept_copies item_group.own item_group.own (all_among item_group.own) (carried_as (λ c. append-nil (asks c)) (carried_trans item_group.carried limits_done.carried)) r.0 x r.1)
+    | inr r ↦ inl (copy_itself G r.0 x r.1)
+  ]
 
   pub item_inside : Reaches I item_limited
   item_inside = item_part.stays.reaches (reached_inward (goes_in l) l.only l.raised)

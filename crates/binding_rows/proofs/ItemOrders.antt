@@ -32,10 +32,11 @@ use Rattle.typing_model.specs.Items.{items_ask, behind_items, seen_names}
 use Rattle.typing_state.specs.declared.parts.Parts.{Parts}
 use Rattle.typing_steps.specs.States.{sight}
 use Rattle.typing_steps.specs.Constants.{HasConstants}
-use Rattle.binding_rows.specs.ItemRows.{AreOwned, none_owned, leaves_none, leaves_one, ItemDone, ItemsDone, recorded_idle}
+use Rattle.typing_rows.specs.Noted.{AreNoted}
+use Rattle.binding_rows.specs.ItemRows.{AreOwned, none_owned, leaves_none, leaves_types, leaves_one, ItemDone, ItemsDone, recorded_idle}
 use Rattle.binding_rows.specs.Outside.{AgreesOutside, AreMet, InEachMet, Outside, Left, letters_left, AreLeft, EntersItems, ReadsItems, ContinuesItems, StaysOutside, OnlyBetween, ItemsCarried}
-use Rattle.typing_conditions.specs.Hiding.{Settles}
-use Rattle.typing_conditions.proofs.Hiding.{settles_none, settles_both, settles_as}
+use Rattle.typing_conditions.specs.Hiding.{HasCopy, Settles}
+use Rattle.typing_conditions.proofs.Hiding.{copy_itself, copy_of, copy_first, copy_second, keeps_same, keeps_as, keeps_both, settles_none, settles_both, settles_as}
 
 -- what agrees with a state agreed before
 pub agrees_earlier : {a b : Sight} {G H : Letters} {V : Types} {ch : Choice} → StaysOutside a G b H → AgreesOutside b H V ch → AgreesOutside a G V ch
@@ -54,7 +55,7 @@ left_second : (nodes : List Node) (ls ms : List Left) (V : Types) (ch : Choice) 
 left_second nodes [] ms V ch h = h
 left_second nodes (l ∷ ls) ms V ch h = left_second nodes ls ms V ch h.1
 
-append_assoc : {A : Type 0} (xs ys zs : List A) → (xs ++ ys) ++ zs ≡ xs ++ (ys ++ zs)
+pub append_assoc : {A : Type 0} (xs ys zs : List A) → (xs ++ ys) ++ zs ≡ xs ++ (ys ++ zs)
 append_assoc [] ys zs = refl
 append_assoc (x ∷ xs) ys zs = ap (λ us. x ∷ us) (append_assoc xs ys zs)
 
@@ -66,6 +67,7 @@ stays_both {a} {b} {c} sound p q = record {
   refines = λ M own. let mid = own_of b.nodes (p.sound sound) in refines_then a.nodes b.nodes c.nodes mid.0 M mid.1 own (p.refines mid.0 mid.1) (q.refines M own);
   bounds = λ v h. q.bounds v (p.bounds v h);
   recorded = λ i k m e. q.recorded i k m (p.recorded i k m e);
+  keeps = keeps_both p.keeps q.keeps;
   given = λ V ch h. p.given V ch (q.given V ch h);
   inside = λ i. q.inside (p.inside i);
   aloud = q.aloud ∙ p.aloud;
@@ -93,7 +95,11 @@ pub items_trans : {E E' : Choice → Environment} {asks rest further : Asks} {a 
 items_trans {E} {E'} {asks} {rest} {further} {a} {b} {c} {G} {H} {K} after p next sound q = record {
   stays = stays_both sound p.stays q.stays;
   left = p.left ++ q.left;
-  settled = subst (Settles a c) (sym (letters_both p.left q.left)) (settles_both (letters_left p.left) (letters_left q.left) p.stays.recorded q.stays.recorded p.settled q.settled);
+  opened = λ k x e. elim (q.opened k x e) [
+    | inl h ↦ elim (p.opened h.place h.entry h.at) [ inl before ↦ inl (copy_of h before) | inr left ↦ inr (subst (λ xs. HasCopy xs x) (sym (letters_both p.left q.left)) (copy_first (letters_left p.left) (letters_left q.left) (copy_of h left))) ]
+    | inr left ↦ inr (subst (λ xs. HasCopy xs x) (sym (letters_both p.left q.left)) (copy_second (letters_left p.left) (letters_left q.left) left))
+  ];
+  settled = subst (Settles a c) (sym (letters_both p.left q.left)) (settles_both (letters_left p.left) (letters_left q.left) p.stays.keeps q.stays.keeps p.settled q.settled);
   judged = p.judged ++ q.judged;
   told = p.told ++ q.told;
   reports = q.reports ∙ ap (λ rs. rs ++ q.told) p.reports ∙ append_assoc a.reports p.told q.told;
@@ -207,6 +213,7 @@ stays_between {a} {b} {G} only = record {
   refines = λ M own. subst (λ ns. Refines ns b.nodes M) only.nodes (refines_none b.nodes M own);
   bounds = λ v h. subst (λ ns. is_bound ns v ≡ true) (sym only.nodes) h;
   recorded = λ i k m e. only.types i k ∙ e;
+  keeps = keeps_as only.noted only.types;
   given = λ V ch h. h;
   inside = λ i. record { recorded = λ j k m e. subst (λ ns. IsNode ns m) (sym only.nodes) (i.recorded j k m (sym (only.types j k) ∙ e)); given = subst (AreNodes G) (sym only.nodes) i.given };
   aloud = only.aloud;
@@ -219,6 +226,7 @@ pub items_between : {E : Choice → Environment} {a b : Sight} {G : Letters} →
 items_between {E} {a} {b} {G} only = record {
   stays = stays_between only;
   left = [];
+  opened = λ k x e. inl (copy_itself G k x e);
   settled = settles_none;
   judged = [];
   told = [];
@@ -246,6 +254,7 @@ items_then {E} {asks} {a} {b} {c} {G} {H} only p = record {
     refines = λ M own. subst (λ ns. Refines ns c.nodes M) only.nodes (p.stays.refines M own);
     bounds = λ v h. p.stays.bounds v (start.bounds v h);
     recorded = λ i k m e. p.stays.recorded i k m (start.recorded i k m e);
+    keeps = keeps_both start.keeps p.stays.keeps;
     given = p.stays.given;
     inside = λ i. p.stays.inside (start.inside i);
     aloud = p.stays.aloud ∙ only.aloud;
@@ -253,7 +262,8 @@ items_then {E} {asks} {a} {b} {c} {G} {H} only p = record {
     fixed = p.stays.fixed ∙ only.fixed;
   };
   left = p.left;
-  settled = settles_as (letters_left p.left) (λ i k. sym (only.types i k)) (λ i k. refl) p.settled;
+  opened = p.opened;
+  settled = settles_as (letters_left p.left) start.keeps keeps_same p.settled;
   judged = p.judged;
   told = p.told;
   reports = p.reports ∙ ap (λ rs. rs ++ p.told) only.reports;
@@ -282,6 +292,7 @@ items_as : {E : Choice → Environment} {asks others : Asks} {a b : Sight} {G H 
 items_as {E} {asks} {others} {a} {b} {G} {H} same p = record {
   stays = p.stays;
   left = p.left;
+  opened = p.opened;
   settled = p.settled;
   judged = p.judged;
   told = p.told;
@@ -296,12 +307,14 @@ items_as {E} {asks} {others} {a} {b} {G} {H} same p = record {
 }
 
 -- the next item starts among the same names
-pub outside_between : {D : Declared} {a b : Sight} {G : Letters} {env : List Entry} {E : Choice → Environment} → OnlyBetween a b → Outside D a G env E → Outside D b G env E
+unfoldable pub outside_between : {D : Declared} {a b : Sight} {G : Letters} {env : List Entry} {E : Choice → Environment} → OnlyBetween a b → Outside D a G env E → Outside D b G env E
 outside_between {D} {a} {b} {G} {env} {E} only at = record {
   sound = subst IsSound (sym only.nodes) at.sound;
   level = only.level ∙ at.level;
   roots = at.roots;
   names = at.names;
+  older = at.older;
+  unknown = at.unknown;
   apart = at.apart;
   steady = at.steady;
   context = λ J own. subst (IsContext b.nodes J at.roots) (sym only.level) (subst (λ ns. IsContext ns J at.roots a.level) (sym only.nodes) (at.context J (subst (λ ns. IsOwn ns J) only.nodes own)));
@@ -321,6 +334,8 @@ outside_none {D} {a} steady none sound level = record {
   level = level;
   roots = [];
   names = type.Var;
+  older = [];
+  unknown = λ v n o e. absurd (cc);
   apart = vars_apart;
   steady = steady;
   context = λ J own. record { inside = λ k r e. absurd (cc); low = λ v l o h e free. absurd (no_yes h) };
@@ -329,11 +344,17 @@ outside_none {D} {a} steady none sound level = record {
   fits = λ J V ch own loose g. subst (Stands SchemeFits (D.declaration a.nodes [] type.Var) (D.exception a.nodes [] type.Var) a.nodes J [] V []) (sym (none ch)) (record { names = no_entries; brings = λ u w free h o. absurd (no_yes h) });
 }
 
+-- in which there is no unknown type
+pub none_older : (D : Declared) (a : Sight) (G : Letters) (E : Choice → Environment) (steady : IsSteady D) (none : (ch : Choice) → E ch ≡ []) (sound : IsSound a.nodes) (level : a.level ≡ 0) → (outside_none {D = D} {a = a} {G = G} {E = E} steady none sound level).older ≡ []
+unfolding outside_none
+none_older D a G E steady none sound level = refl
+
 -- that a node is treated asks nothing
-pub items_treated : {E : Choice → Environment} {asks : Asks} {a b : Sight} {G H : Letters} (n : ℕ) → ItemsCarried E asks a G b H → ItemsCarried E (λ c. treated n c.env ∷ [] ++ asks c) a G b H
+unfoldable pub items_treated : {E : Choice → Environment} {asks : Asks} {a b : Sight} {G H : Letters} (n : ℕ) → ItemsCarried E asks a G b H → ItemsCarried E (λ c. treated n c.env ∷ [] ++ asks c) a G b H
 items_treated {E} {asks} {a} {b} {G} {H} n p = record {
   stays = p.stays;
   left = p.left;
+  opened = p.opened;
   settled = p.settled;
   judged = p.judged;
   told = p.told;
@@ -355,7 +376,7 @@ treated_owned n p h = h
 
 -- of no items nothing is asked
 pub items_none : {E : Choice → Environment} {a : Sight} {G : Letters} (seen : Seen) → ItemsCarried E (λ c. items_ask c seen []) a G a G
-items_none seen = items_between (record { nodes = refl; types = λ i p. refl; reports = refl; aloud = refl; level = refl; fixed = refl })
+items_none seen = items_between (record { nodes = refl; types = λ i p. refl; noted = λ i p h. h; reports = refl; aloud = refl; level = refl; fixed = refl })
 
 -- An item before others: the state after it, and what changes before the next one begins, are those at which the others start.
 pub items_more : {D : Declared} {E : Choice → Environment} {m : Item} {seen names : Seen} {a b : Parts} {c d : Sight} {G K : Letters} {after : List Entry} (ms : List Item) → IsSound a.store.nodes → (done : ItemDone D E m seen names a b G after) → OnlyBetween (sight b) c →
@@ -375,34 +396,37 @@ done_between only done = record {
   carried = items_then only done.carried;
   owners = done.owners;
   outside = done.outside;
+  noted = done.noted;
   adds = done.adds;
   named = done.named;
   constants = done.constants;
 }
 
 -- An item that asks nothing but that its node is treated, adds nothing and names nothing: `;;`.
-pub idle_done : {D : Declared} {E : Choice → Environment} {a b : Parts} {G : Letters} {env : List Entry} (n : ℕ) (seen : Seen) → OnlyBetween (sight a) (sight b) → Outside D (sight a) G env E → HasConstants b → ItemDone D E (recorded_idle n) seen no_names a b G env
-unfolding items_treated items_between
-idle_done {E = E} {G = G} n seen only at constants = record {
+pub idle_done : {D : Declared} {E : Choice → Environment} {a b : Parts} {G : Letters} {env : List Entry} (n : ℕ) (seen : Seen) → OnlyBetween (sight a) (sight b) → (at : Outside D (sight a) G env E) → HasConstants b → AreNoted at.older b → ItemDone D E (recorded_idle n) seen no_names a b G env
+unfolding items_treated items_between outside_between
+idle_done {E = E} {G = G} n seen only at constants noted = record {
   letters = G;
   env = E;
   carried = items_treated n (items_between only);
   owners = leaves_none none_owned;
   outside = outside_between only at;
+  noted = noted;
   adds = λ V c env loose agrees met. env;
   named = λ V c env loose agrees met. refl;
   constants = constants;
 }
 
 -- Between items: none of them.
-pub done_none : {D : Declared} {E : Choice → Environment} {a b : Parts} {G : Letters} {env : List Entry} (seen : Seen) → OnlyBetween (sight a) (sight b) → Outside D (sight a) G env E → HasConstants b → ItemsDone D E [] seen seen a b G env
-unfolding items_between
-done_none {E = E} {G = G} seen only at constants = record {
+pub done_none : {D : Declared} {E : Choice → Environment} {a b : Parts} {G : Letters} {env : List Entry} (seen : Seen) → OnlyBetween (sight a) (sight b) → (at : Outside D (sight a) G env E) → HasConstants b → AreNoted at.older b → ItemsDone D E [] seen seen a b G env
+unfolding items_between outside_between
+done_none {E = E} {G = G} seen only at constants noted = record {
   letters = G;
   env = E;
   carried = items_between only;
   owners = none_owned;
   outside = outside_between only at;
+  noted = noted;
   behind = λ V c env loose agrees met. env;
   named = λ V c env loose agrees met. refl;
   constants = constants;
@@ -417,6 +441,7 @@ done_one {m = m} {seen = seen} done = record {
   carried = items_as (λ x. sym (append-nil (m.asks x seen))) done.carried;
   owners = done.owners;
   outside = done.outside;
+  noted = done.noted;
   behind = λ V c env loose agrees met. done.adds V c env loose agrees (record { kept = met.kept; holds = hold_left c.kept (m.asks c seen) [] met.holds });
   named = λ V c env loose agrees met. ap (seen_too seen) (done.named V c env loose agrees (record { kept = met.kept; holds = hold_left c.kept (m.asks c seen) [] met.holds }));
   constants = done.constants;
@@ -447,6 +472,7 @@ pub record WasMet {D : Declared} {E : Choice → Environment} {ms : List Item} {
 owned_both : {ms ns : List Item} {ls ks : List Left} → AreOwned ms ls → AreOwned ns ks → AreOwned (ms ++ ns) (ls ++ ks)
 owned_both none_owned q = q
 owned_both (leaves_none p) q = leaves_none (owned_both p q)
+owned_both (leaves_types declared p) q = leaves_types declared (owned_both p q)
 owned_both (leaves_one owner fixed p) q = leaves_one owner fixed (owned_both p q)
 
 -- Items after others.
@@ -459,6 +485,7 @@ done_then {E = E} {ms = ms} {ns = ns} {seen = seen} {names = names} {a = a} {b =
   carried = items_as (λ x. asked_both x seen ms ns) (items_trans (λ x. behind_items x ms) p.carried comes sound q.carried);
   owners = owned_both p.owners q.owners;
   outside = q.outside;
+  noted = q.noted;
   behind = λ V x env loose agrees met. sym (behind_both x ms ns) ∙ (let n = before V x env loose agrees met in q.behind V (under (behind_items x ms) x) n.env loose agrees (record { kept = kept_right x.kept p.carried.judged q.carried.judged met.kept; holds = n.holds }));
   named = λ V x env loose agrees met. sym (named_both x seen ms ns) ∙ (let n = before V x env loose agrees met in ap (seen_names (under (behind_items x ms) x) ns) n.named ∙ q.named V (under (behind_items x ms) x) n.env loose agrees (record { kept = kept_right x.kept p.carried.judged q.carried.judged met.kept; holds = n.holds }));
   constants = q.constants;

@@ -1,5 +1,5 @@
 -- The `let` of an item, from the calls that type its group, limit its names' types to what was made before it, and close it.
-use Rattle.std.proofs.Common.{inl, inr, ◌≡◌, ◌≢◌, ◌∙◌, ℕ, suc, ◌+◌, ◌-◌, ◌^◌, ◌<◌, ◌≤◌, min, Bool, true, List, [], ◌∷◌, ◌++◌, map, None, Some, refl, sym, ap, subst, arith, if◌then◌else◌}
+use Rattle.std.proofs.Common.{inl, inr, ◌≡◌, ◌≢◌, ◌∙◌, ℕ, ◌+◌, ◌-◌, ◌^◌, ◌<◌, ◌≤◌, min, Bool, true, List, [], ◌∷◌, ◌++◌, map, None, Some, refl, sym, ap, subst, arith}
 use Rattle.token_model.specs.Kinds.{Tok}
 use Rattle.tree_model.specs.Slots.{is_operand}
 use Rattle.tree_model.specs.Trees.{Place, Tree, yield_of}
@@ -26,11 +26,9 @@ use Rattle.typing_state.specs.Goes.{Goes}
 use Rattle.typing_state.specs.Types.{level_for}
 use Rattle.operand_laws.specs.Formed.{row_of}
 use Rattle.operand_laws.specs.Operands.{number_of, parts_of}
-use Rattle.typing_conditions.proofs.Groups.{added}
 use Rattle.typing_conditions.specs.Sights.{Sight, Letters}
 use Rattle.typing_conditions.specs.Frames.{Frame}
 use Rattle.typing_conditions.specs.Meanings.{AllMean, none_mean, one_means}
-use Rattle.typing_conditions.specs.Steps.{OnlyLevel}
 use Rattle.typing_conditions.specs.Carrying.{Asks, Scope, HoldsWritten, Carried}
 use Rattle.typing_conditions.specs.Surroundings.{Declared, context_of}
 use Rattle.typing_conditions.proofs.Carried.{carried_trans, carried_as}
@@ -42,27 +40,28 @@ use Rattle.typing_steps.proofs.Joining.{with_level}
 use Rattle.typing_steps.proofs.Starting.{constants_kept}
 use Rattle.pattern_rows.specs.Bounds.{Bind, AllBound, none_bound, one_bound}
 use Rattle.binding_rows.specs.Operands.{bindings_of}
-use Rattle.binding_rows.specs.Decided.{IsAmong}
 use Rattle.binding_rows.specs.Groups.{TypesGroup}
 use Rattle.binding_rows.proofs.Terms.{bindings_stand, rec_stands}
-use Rattle.binding_rows.specs.CaseScopes.{names_added}
 use Rattle.binding_rows.specs.Closing.{Limit}
-use Rattle.binding_rows.specs.Lets.{ToClose, AllToClose, none_to_close, one_to_close, bind_nodes, bind_entries, names_closed, held_at, GroupToClose}
+use Rattle.binding_rows.specs.Lets.{ToClose, bind_nodes, names_closed, held_at, GroupToClose}
 use Rattle.binding_rows.specs.LetGroups.{TypesToClose}
 use Rattle.binding_rows.specs.LetNodes.{typed_as}
 use Rattle.binding_rows.proofs.Held.{to_close_on, all_names_bound}
-use Rattle.binding_rows.proofs.LetNodes.{types_to_close}
+use Rattle.binding_rows.proofs.LetNodes.{types_to_close, entries_added}
 use Rattle.binding_rows.specs.Scopes.{CanBeMade, AreMade, all_made}
 use Rattle.binding_rows.specs.Outside.{AgreesOutside, Outside}
 use Rattle.binding_rows.specs.ItemGroups.{item_scope, group_asks, env_after, ItemGroup}
 use Rattle.binding_rows.specs.ItemRows.{IsItemNode, TypesItem, recorded_let, ItemDone, AreWrittenIn, GivesLet}
 use Rattle.binding_rows.proofs.Scoped.{scopes_carried, inside_carried, scoped_level, inside_level}
+use Rattle.typing_rows.specs.Noted.{AreNoted}
+use Rattle.typing_rows.proofs.Noted.{noted_on}
 use Rattle.binding_rows.proofs.ItemClosing.{item_letters, item_typed, item_bound}
 use Rattle.binding_rows.proofs.Items.{among_group, item_stays, item_carried, item_owned}
-use Rattle.binding_rows.proofs.ItemsAfter.{outside_after}
+use Rattle.binding_rows.proofs.ItemsAfter.{outside_after, after_older}
 use Rattle.binding_rows.proofs.ItemOrders.{agrees_earlier, items_treated, treated_owned, outside_between, done_between}
 use Rattle.binding_rows.proofs.ItemTurns.{item_begins}
 use Rattle.binding_rows.proofs.Unwritten.{names_unwritten}
+use Rattle.binding_rows.proofs.Lets.{entries_same, held_chosen, level_raised, only_raised}
 
 -- the types of names, by what is chosen
 abbrev types_of_names : List Bound → List (Choice → Typ)
@@ -120,18 +119,6 @@ names_chosen : {F : Frame} {a : Sight} {G : Letters} {bs : List Bound} {ns : Lis
 names_chosen none_bound c = refl
 names_chosen (one_bound h hs) c = (λ i. h.chosen c i ∷ names_chosen hs c i)
 
--- the definitions hold the types of the nodes that are limited
-held_chosen : {D : Declared} {env : List Entry} {F : Frame} {a : Sight} {G : Letters} {xs : List Binding} {ys : List ToClose} → AllToClose D env F a G xs ys → (c : Context) → IsAmong D env c → held_by c xs ≡ held_at c.chosen xs ys
-held_chosen none_to_close c among = refl
-held_chosen (one_to_close {x = x} h hs) c among = (λ i. if h.decides c among i then held_chosen hs c among i else c.chosen.type_at x.body.node ∷ names_chosen h.names c i ++ held_chosen hs c among i)
-
--- the entries of names are the same for the same schemes
-entries_same : {F : Frame} {a : Sight} {G : Letters} {bs : List Bound} {ns : List Bind} → AllBound F a G bs ns → (c : Context) (s s' : Typ → Scheme) (E E' : Environment) → s ≡ s' → E ≡ E' → entries_with s c bs E ≡ entries_with s' (context_of c.chosen) bs E'
-entries_same none_bound c s s' E E' p e = e
-entries_same (one_bound {x = x} h hs) c s s' E E' p e =
-    entries_same hs c s s' (entry x.name (in_text x.place) (a_value (s (x.has_type c))) ∷ E) (entry x.name (in_text x.place) (a_value (s' (x.has_type (context_of c.chosen)))) ∷ E') p
-    (λ k. entry x.name (in_text x.place) (a_value (p k (h.chosen c k))) ∷ e k)
-
 -- The environment after an item is that of the definitions.
 pub item_adds : {D : Declared} {n : ℕ} {ts : List Tok} {E : Choice → Environment} {asks : Asks} {x : Parts} {y : Sight} {G : Letters} {s d : Parts} {env : List Entry} {xs : List Binding} {ys : List ToClose} {limits : List Limit} (l : ItemGroup D n ts E asks x y G s d env xs ys limits) (is_rec : Bool) →
     (V : Types) (c : Context) → c.env ≡ E c.chosen → Loose x.store.nodes V → AgreesOutside (sight x) G V c.chosen → (let_item n ts is_rec xs).adds c ++ c.env ≡ env_after E xs ys c.chosen
@@ -139,18 +126,6 @@ item_adds {n = n} {ts = ts} {E = E} {xs = xs} {ys = ys} l is_rec V c same loose 
     entries_before (generalised_in c.env (held_by (inside_item n ts c) xs)) (inside_item n ts c) (names_of_group xs) [] c.env
     ∙ entries_same (item_bound l) (inside_item n ts c) (generalised_in c.env (held_by (inside_item n ts c) xs)) (generalised_in (E c.chosen) (held_at c.chosen xs ys)) c.env (E c.chosen)
     (λ i. generalised_in (same i) (held_chosen (item_typed l) (inside_item n ts c) (among_group l V c same loose agrees) i)) same
-
--- names come into scope as their entries do
-entries_added : (ns : List Bind) (env : List Entry) → names_added ns env ≡ added (bind_entries ns) env
-entries_added [] env = refl
-entries_added (m ∷ ns) env = entries_added ns (m.entry ∷ env)
-
--- the level is raised, and nothing else is done
-only_raised : (x y : Parts) → y ≡ record x { level = x.level + 1 } → OnlyLevel (sight x) (sight y)
-only_raised x y e = subst (λ z. OnlyLevel (sight x) (sight z)) (sym e) (record { nodes = refl; types = λ i p. refl; written = λ n. refl; reports = refl; aloud = refl; item = refl; fixed = refl })
-
-level_raised : (x y : Parts) → y ≡ record x { level = x.level + 1 } → y.level ≡ suc x.level
-level_raised x y e = ap (λ (p : Parts). p.level) e ∙ (let s : x.level + 1 ≡ suc x.level = omega arith in s)
 
 -- the item of the definitions, by its node
 pub item_term : (i n : ℕ) (at : Place) (t : Tree) (ts : List Tok) → IsItemNode n t → recorded_item (number_of i n) (item_row (row_of t) (number_of i n) at ts (parts_of i n t)) ≡ Some (recorded_let i ts n t)
@@ -160,18 +135,19 @@ item_term i n at t ts node =
     ∙ (λ k. recorded_item (number_of i n) (Some (let_item (number_of i n) ts (rec_stands i n t k) (bindings_stand i n t node.formed (ap (λ r. is_operand r 2) node.row) k))))
 
 -- The `let` of an item: where faults are reported, what it asks is carried, and the next item starts among its names.
-pub item_row_of_node : (x d : Parts) (env after : List Entry) (n : ℕ) (t : Tree) (ts : List Tok) (G : Letters) (E : Choice → Environment) (seen : Seen) → IsItemNode n t → (h : TypesItem x d env after n t) → is_aloud x.telling ≡ true → Outside as_declared (sight x) G env E → HasConstants x →
+pub item_row_of_node : (x d : Parts) (env after : List Entry) (n : ℕ) (t : Tree) (ts : List Tok) (G : Letters) (E : Choice → Environment) (seen : Seen) → IsItemNode n t → (h : TypesItem x d env after n t) → is_aloud x.telling ≡ true → (at : Outside as_declared (sight x) G env E) → HasConstants x → AreNoted at.older x →
     ((z : Name) → (sight x).written z ≡ None) → HoldsWritten (item_scope (number_of x.item n) ts E) (sight d) → ItemDone as_declared E (recorded_let x.item ts n t) seen no_names x d G after
-item_row_of_node x d env after n t ts G E seen node h aloud at constants cleared named = record {
+item_row_of_node x d env after n t ts G E seen node h aloud at constants noted cleared named = subst (λ es. ItemDone as_declared E (recorded_let x.item ts n t) seen no_names x d G es) (sym (h.scope ∙ entries_added (names_closed h.bindings) env)) (record {
   letters = item_letters group;
   env = env_after E (bindings_of x.item (operands_in n t 2)) h.bindings;
   carried = items_treated (number_of x.item n) (item_carried group);
   owners = treated_owned (number_of x.item n) (item_carried group) (item_owned group (recorded_let x.item ts n t) refl);
-  outside = subst (λ es. Outside as_declared (sight d) (item_letters group) es (env_after E (bindings_of x.item (operands_in n t 2)) h.bindings)) (sym (h.scope ∙ entries_added (names_closed h.bindings) env)) (outside_after group (names_unwritten x.item (operands_in n t 2)));
+  outside = outside_after group (names_unwritten x.item (operands_in n t 2));
+  noted = subst (λ U. AreNoted U d) (sym (after_older group (names_unwritten x.item (operands_in n t 2)))) (noted_on at.older noted h.goes);
   adds = λ V c same loose agrees met. item_adds group (is_some (token_in t 1)) V c same ((item_stays group).loose V loose) (agrees_earlier (item_stays group) agrees);
   named = λ V c same loose agrees met. refl;
   constants = constants_kept x d h.goes constants;
-}
+})
   where
     here : h.begun.item ≡ x.item
     here = ap (λ (p : Parts). p.item) h.raised
@@ -201,9 +177,10 @@ written_goes a b w g = record { store = g.store; types = g.types; faults = g.fau
 
 -- The call for an item's `let`: its node is noted, the type variables that were written are forgotten, and its `let` is typed, in which only its own type variables are written.
 pub let_given : (a b c d : Parts) (w : Written) (env after : List Entry) (n : ℕ) (t : Tree) → OnlyNotes a b → Goes a b → c ≡ record b { written = w } → ((z : Name) → written_in w z ≡ None) → TypesItem c d env after n t → AreWrittenIn (yield_of t) d.written → GivesLet a d env after n t
-let_given a b c d w env after n t notes goes same none typed own G E seen node aloud at constants =
+unfolding outside_between
+let_given a b c d w env after n t notes goes same none typed own G E seen node aloud at constants noted =
     let only = item_begins a b c w notes same in
     let here : c.item ≡ a.item = ap (λ (p : Parts). p.item) same ∙ notes.rest.item in
     let goes' : Goes a c = subst (Goes a) (sym same) (written_goes a b w goes) in
     done_between only (subst (λ i. ItemDone as_declared E (recorded_let i (yield_of t) n t) seen no_names c d G after) here
-    (item_row_of_node c d env after n t (yield_of t) G E seen node typed (only.aloud ∙ aloud) (outside_between only at) (constants_kept a c goes' constants) (λ z. ap (λ (p : Parts). written_in p.written z) same ∙ none z) own))
+    (item_row_of_node c d env after n t (yield_of t) G E seen node typed (only.aloud ∙ aloud) (outside_between only at) (constants_kept a c goes' constants) (noted_on at.older noted goes') (λ z. ap (λ (p : Parts). written_in p.written z) same ∙ none z) own))

@@ -16,11 +16,13 @@ use Rattle.typing_state.specs.Types.{level_for, MadeOne, JoinedIfNodes}
 use Rattle.typing_steps.specs.States.{written_in, sight}
 use Rattle.typing_steps.specs.Warning.{OnlyNotes}
 use Rattle.typing_steps.proofs.Still.{notes_unseen, notes_untold}
-use Rattle.pattern_rows.specs.Bounds.{Bind}
-use Rattle.binding_rows.specs.Closing.{Limit, limit_nodes}
+use Rattle.binding_rows.specs.Closing.{Limit}
 use Rattle.binding_rows.specs.Lets.{ToClose, bind_nodes, names_closed}
 use Rattle.binding_rows.specs.Scopes.{ScopesAll, ScopesNodes, InsideAll, InsideNodes, NamesFirst}
 use Rattle.binding_rows.specs.Outside.{OnlyBetween}
+use Rattle.binding_rows.proofs.ItemOrders.{append_assoc}
+use Rattle.binding_rows.proofs.LetLoops.{nodes_both}
+use Rattle.binding_rows.proofs.LetTurns.{nodes_then}
 
 -- no type is limited to a scope
 pub scopes_none : (a : Parts) (level scope : ℕ) → ScopesNodes a a level scope []
@@ -37,10 +39,6 @@ scopes_one {b = b} {m = m} (mid, n, makes, joins) rest goes sound = record {
 all_then : (a b c : Parts) (level scope : ℕ) (ls ms : List Limit) → ScopesAll a b level scope ls → ScopesAll b c level scope ms → ScopesAll a c level scope (ls ++ ms)
 all_then a b c level scope [] ms same q = subst (λ x. ScopesAll x c level scope ms) same q
 all_then a b c level scope (l ∷ ls) ms (x, one, p) q = (x, one, all_then x b c level scope ls ms p q)
-
-nodes_then : (ls ms : List Limit) → limit_nodes (ls ++ ms) ≡ limit_nodes ls ++ limit_nodes ms
-nodes_then [] ms = refl
-nodes_then (l ∷ ls) ms = ap (λ ns. l.node ∷ ns) (nodes_then ls ms)
 
 -- some types are, and then others
 pub scopes_then : {a b c : Parts} {level scope : ℕ} {ms ns : List ℕ} → ScopesNodes a b level scope ms → ScopesNodes b c level scope ns → ScopesNodes a c level scope (ms ++ ns)
@@ -66,14 +64,6 @@ all_inside a b c level scope (l ∷ ls) ms (x, one, here, p) q = (x, one, here, 
 pub inside_then : {a b c : Parts} {level scope : ℕ} {ms ns : List ℕ} → InsideNodes a b level scope ms → InsideNodes b c level scope ns → InsideNodes a c level scope (ms ++ ns)
 inside_then {a} {b} {c} {level} {scope} p q = record { limits = p.limits ++ q.limits; all = all_inside a b c level scope p.limits q.limits p.all q.all; nodes = nodes_then p.limits q.limits ∙ (λ i. p.nodes i ++ q.nodes i) }
 
-append_assoc : {A : Type 0} (xs ys zs : List A) → (xs ++ ys) ++ zs ≡ xs ++ (ys ++ zs)
-append_assoc [] ys zs = refl
-append_assoc (x ∷ xs) ys zs = ap (λ us. x ∷ us) (append_assoc xs ys zs)
-
-nodes_both : (xs ys : List Bind) → bind_nodes (xs ++ ys) ≡ bind_nodes xs ++ bind_nodes ys
-nodes_both [] ys = refl
-nodes_both (x ∷ xs) ys = ap (λ ms. x.node.0 ∷ ms) (nodes_both xs ys)
-
 -- nothing was done with names yet
 pub names_start : {R : List ℕ → Type 0} (all : List ToClose) → R [] → NamesFirst R all all
 names_start all none = record { done = []; does = none; splits = refl }
@@ -94,7 +84,7 @@ names_end {R} all left none first = subst R (sym (first.splits ∙ ap (λ ys. fi
 pub item_begins : (a b c : Parts) (w : Written) → OnlyNotes a b → c ≡ record b { written = w } → OnlyBetween (sight a) (sight c)
 item_begins a b c w notes same =
     let only = notes_unseen a b notes in
-    subst (λ x. OnlyBetween (sight a) (sight x)) (sym same) (record { nodes = only.nodes; types = only.types; reports = notes_untold a b notes; aloud = only.aloud; level = only.level; fixed = only.fixed })
+    subst (λ x. OnlyBetween (sight a) (sight x)) (sym same) (record { nodes = only.nodes; types = only.types; noted = only.noted; reports = notes_untold a b notes; aloud = only.aloud; level = only.level; fixed = only.fixed })
 
 -- no type variable is written once they are forgotten
 pub none_written : (w : Written) → w.variables.entries ≡ [] → (z : Name) → written_in w z ≡ None

@@ -29,9 +29,9 @@ use Rattle.binding_rows.specs.Outside.{AgreesOutside, AreInside, Left, IsLeft, E
 use Rattle.binding_rows.specs.ItemRows.{AreOwned, none_owned, leaves_one}
 use Rattle.binding_rows.specs.ItemGroups.{item_scope, ItemGroup}
 use Rattle.binding_rows.proofs.Starting.{group_frame, goes_in, surrounds_item}
-use Rattle.binding_rows.proofs.ItemClosing.{closed_nodes, item_limited, item_letters, item_part, item_written, item_closes, item_out, item_refines, after_reached, loose_before_close, still_bound}
+use Rattle.binding_rows.proofs.ItemClosing.{closed_nodes, item_limited, item_letters, item_part, item_copies, item_written, item_closes, item_out, item_refines, after_reached, loose_before_close, still_bound}
 use Rattle.typing_conditions.specs.Hiding.{Settles}
-use Rattle.typing_conditions.proofs.Hiding.{settles_as}
+use Rattle.typing_conditions.proofs.Hiding.{copy_first, keeps_as, keeps_both, settles_as}
 
 module _ {D : Declared} {n : ℕ} {ts : List Tok} {E : Choice → Environment} {asks : Asks} {x : Parts} {y : Sight} {G : Letters} {s d : Parts} {env : List Entry} {xs : List Binding} {ys : List ToClose} {limits : List Limit} (l : ItemGroup D n ts E asks x y G s d env xs ys limits) where
   reads_before_close : (V : Types) → IsReading d.store.nodes V → IsReading (item_limited l).nodes V
@@ -64,6 +64,7 @@ module _ {D : Declared} {n : ℕ} {ts : List Tok} {E : Choice → Environment} {
     reads = λ V h. subst (λ ns. IsReading ns V) l.only.nodes ((item_part l).stays.reads V (reads_before_close V h));
     refines = item_refines l;
     recorded = λ i k m e. (item_out l).types i k ∙ (item_part l).stays.recorded i k m (l.only.types i k ∙ e);
+    keeps = keeps_both (keeps_as l.only.noted l.only.types) (keeps_both (item_part l).stays.keeps (keeps_as (item_out l).noted (item_out l).types));
     given = (item_part l).stays.given;
     inside = λ i. inside_end ((item_part l).stays.inside (inside_start i));
     aloud = (item_out l).aloud ∙ (item_part l).stays.aloud ∙ l.only.aloud;
@@ -143,7 +144,8 @@ module _ {D : Declared} {n : ℕ} {ts : List Tok} {E : Choice → Environment} {
   item_carried = record {
     stays = item_stays;
     left = item_left ∷ [];
-    settled = subst (Settles (sight x) (sight d)) (sym (append-nil (item_part l).hidden)) (settles_as (item_part l).hidden (λ i p. sym (l.only.types i p)) (item_out l).types (item_part l).settled);
+    opened = λ k x e. elim (item_copies l k x e) [ inl before ↦ inl before | inr left ↦ inr (copy_first (item_part l).hidden [] left) ];
+    settled = subst (Settles (sight x) (sight d)) (sym (append-nil (item_part l).hidden)) (settles_as (item_part l).hidden (keeps_as l.only.noted l.only.types) (keeps_as (item_out l).noted (item_out l).types) (item_part l).settled);
     judged = (item_part l).judged;
     told = (item_part l).told;
     reports = (item_out l).reports ∙ (item_part l).reports ∙ ap (λ rs. rs ++ (item_part l).told) l.only.reports;

@@ -212,6 +212,8 @@ outside_after {D} {E = E} {x = x} {G = G} {d = d} {env = env} {xs = xs} {ys = ys
   level = (after_reached l).level ∙ lowest l;
   roots = joined (closed_nodes l) l.at.roots;
   names = l.at.names;
+  older = l.at.older;
+  unknown = l.at.unknown;
   apart = l.at.apart;
   steady = l.at.steady;
   context = λ K own. subst (IsContext d.store.nodes K (joined (closed_nodes l) l.at.roots)) (sym (after_reached l).level) (joined_low d.store.nodes K x.level (closed_nodes l) l.at.roots (names_low l look K own) (roots_low l look K own));
@@ -230,3 +232,9 @@ outside_after {D} {E = E} {x = x} {G = G} {d = d} {env = env} {xs = xs} {ys = ys
 
     more_exceptions : (K : Types) → IsOwn d.store.nodes K → (c : Constructor) (o : Option Typ) → D.exception d.store.nodes l.at.roots l.at.names c o → D.exception d.store.nodes (joined (closed_nodes l) l.at.roots) l.at.names c o
     more_exceptions K own c o h = l.at.steady.exception own (refines_none d.store.nodes K own) (joined_more (closed_nodes l) l.at.roots) h
+
+-- and the unknown types among the names are those of before
+pub after_older : {D : Declared} {n : ℕ} {ts : List Tok} {E : Choice → Environment} {asks : Asks} {x : Parts} {y : Sight} {G : Letters} {s d : Parts} {env : List Entry} {xs : List Binding} {ys : List ToClose} {limits : List Limit} (l : ItemGroup D n ts E asks x y G s d env xs ys limits) (look : NoneWritten (names_of_group xs)) →
+    (outside_after l look).older ≡ l.at.older
+unfolding outside_after
+after_older l look = refl

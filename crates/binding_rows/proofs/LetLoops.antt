@@ -38,7 +38,7 @@ pub limits_end : (a b : Parts) (level : ℕ) (all left : List ToClose) → left 
 limits_end a b level all left none first = subst (LimitsNodes a b level) (sym (first.splits ∙ ap (λ ys. first.done ++ limited_nodes ys) none ∙ append-nil first.done)) first.limits
 
 -- the nodes of names and of others
-nodes_both : (xs ys : List Bind) → bind_nodes (xs ++ ys) ≡ bind_nodes xs ++ bind_nodes ys
+pub nodes_both : (xs ys : List Bind) → bind_nodes (xs ++ ys) ≡ bind_nodes xs ++ bind_nodes ys
 nodes_both [] ys = refl
 nodes_both (x ∷ xs) ys = ap (λ ms. x.node.0 ∷ ms) (nodes_both xs ys)
 

@@ -51,7 +51,7 @@ pub types_to_close : (a b : Parts) (env : List Entry) (is_rec : Bool) (xs : List
 types_to_close a b env is_rec xs ys judged typed = λ aloud F scope G s. let g = typed aloud F scope G s in record { own = g.own; carried = g.carried; typed = all_to_close ys judged g.typed }
 
 -- names come into scope as their entries do
-entries_added : (ns : List Bind) (env : List Entry) → names_added ns env ≡ added (bind_entries ns) env
+pub entries_added : (ns : List Bind) (env : List Entry) → names_added ns env ≡ added (bind_entries ns) env
 entries_added [] env = refl
 entries_added (n ∷ ns) env = entries_added ns (n.entry ∷ env)
 

@@ -25,7 +25,7 @@ all_then : (a b c : Parts) (level : ℕ) (ls ms : List Limit) → LimitsAll a b 
 all_then a b c level [] ms same q = subst (λ x. LimitsAll x c level ms) same q
 all_then a b c level (l ∷ ls) ms (x, one, p) q = (x, one, all_then x b c level ls ms p q)
 
-nodes_then : (ls ms : List Limit) → limit_nodes (ls ++ ms) ≡ limit_nodes ls ++ limit_nodes ms
+pub nodes_then : (ls ms : List Limit) → limit_nodes (ls ++ ms) ≡ limit_nodes ls ++ limit_nodes ms
 nodes_then [] ms = refl
 nodes_then (l ∷ ls) ms = ap (λ ns. l.node ∷ ns) (nodes_then ls ms)
 

@@ -1,5 +1,5 @@
 -- A `let` with a body: its group one level further in, its names closed, and then the body among them.
-use Rattle.std.proofs.Common.{◌≡◌, ◌∙◌, ◌⊎◌, inl, inr, ℕ, zero, suc, ◌<◌, ◌≤◌, min, Bool, true, false, if◌then◌else◌, List, [], ◌∷◌, ◌++◌, map, Some, refl, sym, ap, subst, arith, append-nil, ◌+◌, ◌^◌, ◌-◌}
+use Rattle.std.proofs.Common.{◌≡◌, ◌∙◌, ◌⊎◌, inl, inr, ℕ, suc, ◌<◌, ◌≤◌, min, Bool, true, false, if◌then◌else◌, List, ◌∷◌, ◌++◌, map, Some, refl, sym, ap, subst, arith, append-nil, ◌+◌, ◌^◌, ◌-◌}
 use Rattle.std.specs.Prelude.{slice_get}
 use Rattle.std.proofs.lemmas.Bool.Decides.{eqb_tells}
 use Rattle.tree_model.specs.Trees.{Place}
@@ -50,21 +50,7 @@ use Rattle.binding_rows.proofs.Alike.{carried_alike}
 use Rattle.binding_rows.proofs.Limits.{LimitsCarried}
 use Rattle.binding_rows.proofs.Closing.{limited_state, limits_asked, closed_out}
 use Rattle.binding_rows.proofs.Held.{limited_means, held_same, to_close_on, all_names_bound, bound_open, closed_names, limit_shares, limited_open, open_root, fixed_held, fixed_roots, named_occurs, named_none, nodes_none, occurs_first, occurs_second, occurs_neither, written_there, there_written}
-
--- a node of two lists is one of the first or of the second
-in_either : (ms ns : List ℕ) (n : ℕ) → IsIn (ms ++ ns) n → IsIn ms n ⊎ IsIn ns n
-in_either [] ns n h = inr h
-in_either (m ∷ ms) ns n (zero, e) = inl (zero, e)
-in_either (m ∷ ms) ns n (suc k, e) = elim (in_either ms ns n (k, e)) [ inl h ↦ inl (suc h.0, h.1) | inr h ↦ inr h ]
-
-in_first : (ms ns : List ℕ) (n : ℕ) → IsIn ms n → IsIn (ms ++ ns) n
-in_first [] ns n (k, e) = absurd (cc)
-in_first (m ∷ ms) ns n (zero, e) = (zero, e)
-in_first (m ∷ ms) ns n (suc k, e) = let h = in_first ms ns n (k, e) in (suc h.0, h.1)
-
-in_second : (ms ns : List ℕ) (n : ℕ) → IsIn ns n → IsIn (ms ++ ns) n
-in_second [] ns n h = h
-in_second (m ∷ ms) ns n h = let i = in_second ms ns n h in (suc i.0, i.1)
+use Rattle.binding_rows.proofs.Starting.{in_either, in_first, in_second}
 
 -- a node of three lists is of one of them
 in_one : (ms ns ks : List ℕ) (n : ℕ) → IsIn (together ms ns ks) n → IsIn ms n ⊎ (IsIn ns n ⊎ IsIn ks n)
@@ -85,7 +71,7 @@ unfolding together
 of_third ms ns ks n h = in_second ms (ns ++ ks) n (in_second ns ks n h)
 
 -- at their own level these nodes are held
-held_here : (level : ℕ) (ns : List ℕ) (before : ℕ → List ℕ) → held_from level ns before level ≡ ns
+pub held_here : (level : ℕ) (ns : List ℕ) (before : ℕ → List ℕ) → held_from level ns before level ≡ ns
 held_here level ns before = ap (λ b. if b then ns else before level) (eqb_same level)
 
 -- below it what was held before
@@ -98,12 +84,12 @@ names_chosen none_bound c = refl
 names_chosen (one_bound h hs) c = (λ i. h.chosen c i ∷ names_chosen hs c i)
 
 -- the definitions hold the types of the nodes that are limited
-held_chosen : {D : Declared} {env : List Entry} {F : Frame} {a : Sight} {G : Letters} {xs : List Binding} {ys : List ToClose} → AllToClose D env F a G xs ys → (c : Context) → IsAmong D env c → held_by c xs ≡ held_at c.chosen xs ys
+pub held_chosen : {D : Declared} {env : List Entry} {F : Frame} {a : Sight} {G : Letters} {xs : List Binding} {ys : List ToClose} → AllToClose D env F a G xs ys → (c : Context) → IsAmong D env c → held_by c xs ≡ held_at c.chosen xs ys
 held_chosen none_to_close c among = refl
 held_chosen (one_to_close {x = x} h hs) c among = (λ i. if h.decides c among i then held_chosen hs c among i else c.chosen.type_at x.body.node ∷ names_chosen h.names c i ++ held_chosen hs c among i)
 
 -- the entries of names are the same for the same schemes
-entries_same : {F : Frame} {a : Sight} {G : Letters} {bs : List Bound} {ns : List Bind} → AllBound F a G bs ns → (c : Context) (s s' : Typ → Scheme) (E E' : Environment) → s ≡ s' → E ≡ E' → entries_with s c bs E ≡ entries_with s' (context_of c.chosen) bs E'
+pub entries_same : {F : Frame} {a : Sight} {G : Letters} {bs : List Bound} {ns : List Bind} → AllBound F a G bs ns → (c : Context) (s s' : Typ → Scheme) (E E' : Environment) → s ≡ s' → E ≡ E' → entries_with s c bs E ≡ entries_with s' (context_of c.chosen) bs E'
 entries_same none_bound c s s' E E' p e = e
 entries_same (one_bound {x = x} h hs) c s s' E E' p e =
     entries_same hs c s s' (entry x.name (in_text x.place) (a_value (s (x.has_type c))) ∷ E) (entry x.name (in_text x.place) (a_value (s' (x.has_type (context_of c.chosen)))) ∷ E') p
@@ -314,10 +300,10 @@ let_typed {xs = xs} n at is_rec e l body = record {
 }
 
 -- the level is raised, and nothing else is done
-only_raised : (x y : Parts) → y ≡ record x { level = x.level + 1 } → OnlyLevel (sight x) (sight y)
-only_raised x y e = subst (λ z. OnlyLevel (sight x) (sight z)) (sym e) (record { nodes = refl; types = λ i p. refl; written = λ n. refl; reports = refl; aloud = refl; item = refl; fixed = refl })
+pub only_raised : (x y : Parts) → y ≡ record x { level = x.level + 1 } → OnlyLevel (sight x) (sight y)
+only_raised x y e = subst (λ z. OnlyLevel (sight x) (sight z)) (sym e) (record { nodes = refl; types = λ i p. refl; noted = λ i p h. h; written = λ n. refl; reports = refl; aloud = refl; item = refl; fixed = refl })
 
-level_raised : (x y : Parts) → y ≡ record x { level = x.level + 1 } → y.level ≡ suc x.level
+pub level_raised : (x y : Parts) → y ≡ record x { level = x.level + 1 } → y.level ≡ suc x.level
 level_raised x y e = ap (λ (p : Parts). p.level) e ∙ (let s : x.level + 1 ≡ suc x.level = omega arith in s)
 
 -- The row of the code's `let`: the level is raised, below which there is one more, the group is typed and closed, and then the body is typed among its names.

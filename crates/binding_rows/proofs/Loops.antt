@@ -16,7 +16,7 @@ use Rattle.binding_rows.proofs.Turns.{turns_none, turns_further, turns_all}
 use Rattle.binding_rows.proofs.Together.{opens_none, opens_further, opens_all}
 
 -- what is left of a list
-cut_at : (os : List Operand) (k : ℕ) (x : Operand) → k < length os → x ≡ slice_index_or os k x → drop k os ≡ x ∷ drop (k + 1) os
+pub cut_at : (os : List Operand) (k : ℕ) (x : Operand) → k < length os → x ≡ slice_index_or os k x → drop k os ≡ x ∷ drop (k + 1) os
 cut_at os k x lt e = drop_more os k x lt ∙ ap (λ y. y ∷ drop (k + 1) os) (sym e)
 
 -- an operand that is read from a list of bindings

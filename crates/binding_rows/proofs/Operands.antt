@@ -109,7 +109,7 @@ pub turn_missing : (a : Parts) (env : List Entry) (o : Operand) (seen : List Nam
 turn_missing a env o seen ys none = λ carried. subst (λ x. TypesTurnIf a a env seen seen ys ys x) (sym (nothing_there a.item o none)) (record { adds = refl; sees = refl; still = refl })
 
 -- an operand whose node is there
-view_there : (o : Operand) (nd : Bor Node) → o.node ≡ Some nd → numbered o.number (place_of o.span) (inner (node_view nd.now)) ≡ operand_view o
+pub view_there : (o : Operand) (nd : Bor Node) → o.node ≡ Some nd → numbered o.number (place_of o.span) (inner (node_view nd.now)) ≡ operand_view o
 view_there o nd there = ap (λ m. numbered o.number (place_of o.span) (part_of m o.span)) (sym there)
 
 -- it is the binding of that node

@@ -6,10 +6,10 @@ use Rattle.tree_model.specs.Trees.{Place, Tree}
 use Rattle.type_model.specs.Types.{Typ}
 use Rattle.type_model.specs.Types.{Typ as type}
 use Rattle.row_parts.specs.Numbered.{operands_in, filled_in}
-use Rattle.typing_model.specs.Contexts.{Choice, Context, with_names}
+use Rattle.typing_model.specs.Contexts.{Choice, with_names}
 use Rattle.typing_model.specs.Parts.{Expression, Pattern, expression_in}
 use Rattle.typing_model.specs.Patterns.{all_names}
-use Rattle.typing_model.specs.Bindings.{matched_apart, arrows}
+use Rattle.typing_model.specs.Bindings.{matched_apart}
 use Rattle.typing_model.specs.Expressions.{expression_row, is_of, fun_expression}
 use Rattle.type_nodes.specs.Nodes.{Arrow, IsNode}
 use Rattle.type_nodes.specs.Changes.{Makes}
@@ -40,6 +40,7 @@ use Rattle.pattern_rows.proofs.Naming.{all_bound_on, all_bound_both}
 use Rattle.binding_rows.specs.CaseScopes.{with_bound, names_added}
 use Rattle.binding_rows.specs.Parameters.{TypesParameters, MatchesApartFirst, ParametersSoFar, arrows_by, MakesArrows}
 use Rattle.binding_rows.proofs.Scopes.{surrounds_bound, among_names, names_both, only_warned}
+use Rattle.binding_rows.proofs.Typed.{arrows_same}
 
 -- a parameter, and the warnings of its pattern
 pub parameter_typed : (a b d : Parts) (env : List Entry) (p : Pattern) (added : List Bind) (m : ℕ) → MatchesTo a b env p [] added m → OnlyWarnings b d → MatchesTo a d env p [] added m
@@ -137,11 +138,6 @@ arrows_more a b d ms to x m whole first made rest = λ F scope G types t all has
         let y = first F scope G types t hs has in
         let z = arrow_over b d {scope = scope} (means_on y.carried.stays h) y.means made rest in
         record { carried = carried_trans y.carried z.carried; means = z.means }
-
--- the arrow of the definitions is that over the types of the parameters
-arrows_same : (c : Context) (ps : List Pattern) (to : Choice → Typ) → arrows_by (types_at ps) to c.chosen ≡ arrows c ps (to c.chosen)
-arrows_same c [] to = refl
-arrows_same c (p ∷ ps) to = ap (λ t. type.Arrow (c.chosen.type_at p.node) t) (arrows_same c ps to)
 
 -- fun p p -> e: the body is typed among the names of the parameters
 pub fun_typed : (a b d f : Parts) (env inner : List Entry) (n : ℕ) (at : Place) (ps : List Pattern) (e : Expression) (ms : List ℕ) (to m : ℕ) → TypesParameters a b env inner ps ms → Goes a b → TypesTo b d inner (λ c. e.typed c) (λ ch. ch.type_at e.node) to →

@@ -63,7 +63,7 @@ opened_names none_opened = none_bound
 opened_names (one_opened h hs) = all_bound_both h.names (opened_names hs)
 
 -- the arrow of the definitions is that over the types of the parameters
-arrows_same : (c : Context) (ps : List Pattern) (to : Choice → Typ) → arrows_by (types_at ps) to c.chosen ≡ arrows c ps (to c.chosen)
+pub arrows_same : (c : Context) (ps : List Pattern) (to : Choice → Typ) → arrows_by (types_at ps) to c.chosen ≡ arrows c ps (to c.chosen)
 arrows_same c [] to = refl
 arrows_same c (p ∷ ps) to = ap (λ t. type.Arrow (c.chosen.type_at p.node) t) (arrows_same c ps to)
 

@@ -3,10 +3,9 @@ use Rattle.std.proofs.Common.{◌≡◌, ◌∙◌, ◌++◌, ◌+◌, ◌<◌, 
 use Rattle.std.specs.Prelude.{All, slice_index_or}
 use Rattle.std.specs.Option.{option_to_list}
 use Rattle.std.specs.List.{cons_option}
-use Rattle.std.proofs.lemmas.List.{drop_more}
 use Rattle.std.proofs.lemmas.List.Elements.{All-head, All-tail}
 use denote.Ref.{Bor}
-use Rattle.tree_model.specs.Trees.{Tree, inner}
+use Rattle.tree_model.specs.Trees.{Tree}
 use Rattle.syntax_tree.specs.View.{place_of, node_view}
 use Rattle.syntax_tree.specs.declared.tree.Node.{Node}
 use Rattle.typing_model.specs.Contexts.{Context}
@@ -22,6 +21,8 @@ use Rattle.binding_rows.specs.Carried.{IsBindingNode, IsBinding, NumberedNode, I
 use Rattle.binding_rows.specs.Operands.{binding_of, binding_by, binding_over, bindings_over, bindings_left}
 use Rattle.binding_rows.specs.Decided.{FindsValue, verdicts, JudgesNode, JudgesOperand, JudgesOperands, JudgesOperandsFirst, JudgesNodes, JudgesNodesFirst, JudgesGroup}
 use Rattle.binding_rows.proofs.Terms.{binding_term, nodes_are_bindings, nodes_over}
+use Rattle.binding_rows.proofs.Loops.{cut_at}
+use Rattle.binding_rows.proofs.Operands.{view_there}
 
 -- a binding with parameters is generalised
 pub judged_with : (env : List Entry) (n : ℕ) (t : Tree) → is_some (first_in n t 1) ≡ true → JudgesNode env n t true
@@ -40,10 +41,6 @@ judged_without env n t o found none here value node i c among =
     by [] e = refl
     by (o ∷ os) e = absurd (cc)
 
--- an operand whose node is there
-view_there : (o : Operand) (nd : Bor Node) → o.node ≡ Some nd → numbered o.number (place_of o.span) (inner (node_view nd.now)) ≡ operand_view o
-view_there o nd there = ap (λ m. numbered o.number (place_of o.span) (part_of m o.span)) (sym there)
-
 -- one that is missing
 pub judged_missing : (env : List Entry) (o : Operand) (found : List Bool) → o.node ≡ None → JudgesOperand env (operand_view o) found found
 judged_missing env o found none carried i c among =
@@ -56,10 +53,6 @@ judged_there env o nd before now found there grown judged carried i c among =
     let here : IsBindingNode o.number t = subst IsBinding (sym (view_there o nd there)) carried in
     grown ∙ ap (λ b. before ++ b ∷ []) (sym (judged here i c among)) ∙
     ap (λ x. before ++ verdicts c (option_to_list x)) (sym (ap (binding_of i) (sym (view_there o nd there)) ∙ binding_term i o.number (place_of o.span) t here.formed here.row))
-
--- what is left of a list
-cut_at : (os : List Operand) (k : ℕ) (x : Operand) → k < length os → x ≡ slice_index_or os k x → drop k os ≡ x ∷ drop (k + 1) os
-cut_at os k x lt e = drop_more os k x lt ∙ ap (λ y. y ∷ drop (k + 1) os) (sym e)
 
 -- an operand that is read from a list
 read_from : (P : Numbered → Type 0) (os : List Operand) (k : ℕ) (x : Operand) → k < length os → x ≡ slice_index_or os k x → All P (map operand_view os) → P (operand_view x)

@@ -1,6 +1,7 @@
 -- What an item's own `let` is typed among, at the lowest level, and what is carried of items.
 use Rattle.std.specs.Prelude.{◌≡◌, ◌⊎◌, ℕ, true, false, List, [], ◌∷◌, ◌++◌, take, slice_get, Option, Some, None}
-use Rattle.type_model.specs.Types.{occurs}
+use Rattle.type_model.specs.Types.{Path, occurs}
+use Rattle.type_model.specs.Types.{Typ as type, Typs as types}
 use Rattle.signature_model.specs.Declarations.{Name}
 use Rattle.signature_model.specs.Entries.{Environment}
 use Rattle.signature_model.specs.Matching.{IsKnown}
@@ -14,12 +15,12 @@ use Rattle.level_unify.specs.Instances.{is_bound}
 use Rattle.env_table.specs.declared.entries.Entry.{Entry}
 use Rattle.typing_conditions.specs.Locals.{IsOwn, Refines, IsContext}
 use Rattle.typing_conditions.specs.Assumptions.{SchemeFits, SchemeReads}
-use Rattle.typing_conditions.specs.Standing.{Covers, Stands}
+use Rattle.typing_conditions.specs.Standing.{IsIn, Covers, Stands}
 use Rattle.typing_conditions.specs.Declared.{UnknownApart}
-use Rattle.typing_conditions.specs.Sights.{Sight, Report, number_in, Letters, AreGiven, AreNodes, SameAt}
+use Rattle.typing_conditions.specs.Sights.{Sight, Key, Report, number_in, Letters, AreGiven, AreNodes, SameAt}
 use Rattle.typing_conditions.specs.Judging.{Judgement, judgements, AreKept, Follows, StartsWith, FallsShort, Meets}
 use Rattle.typing_conditions.specs.Carrying.{Asks, AreHidden}
-use Rattle.typing_conditions.specs.Hiding.{Settles}
+use Rattle.typing_conditions.specs.Hiding.{Keeps, HasCopy, Settles}
 use Rattle.typing_conditions.specs.Surroundings.{Declared, IsSteady}
 use Rattle.typing_rows.specs.Settled.{Fixes, AreFixed}
 
@@ -44,14 +45,20 @@ pub record AreInside (a : Sight) (G : Letters) : Type 0 where
   pub recorded : (i p m : ℕ) → a.types i p ≡ Some m → IsNode a.nodes m
   pub given : AreNodes G a.nodes
 
+-- an unknown type that is a name is one of these type expressions, by their numbers
+abbrev pub AreOf : List ℕ → Types → Type 0
+AreOf U N = (v n : ℕ) (o : Path) → N v ≡ type.Con (o ++ n ∷ []) types.Nil → IsIn U n
+
 -- A state between items, where the code's names stand for those of the definitions: at each reading schemes both ways, under types that fit one way. Its level is the lowest,
--- and the free variables of the names' types, which are weak, are of that level. `Surrounds` is the same inside an item.
+-- and the free variables of the names' types, which are weak, are of that level. The unknown types among the names are those of the type expressions `older`. `Surrounds` is the same inside an item.
 pub record Outside (D : Declared) (a : Sight) (G : Letters) (env : List Entry) (E : Choice → Environment) : Type 0 where
   pub sound : IsSound a.nodes
   pub level : a.level ≡ 0
   pub roots : List ℕ
   pub names : Types
   pub apart : UnknownApart names
+  pub older : List ℕ
+  pub unknown : AreOf older names
   pub steady : IsSteady D
   pub context : (J : Types) → IsOwn a.nodes J → IsContext a.nodes J roots a.level
   pub covered : Covers (D.declaration a.nodes roots names) (D.exception a.nodes roots names) roots env
@@ -117,6 +124,7 @@ pub record StaysOutside (a : Sight) (G : Letters) (b : Sight) (G' : Letters) : T
   pub refines : (K : Types) → IsOwn b.nodes K → Refines a.nodes b.nodes K
   pub bounds : (v : ℕ) → is_bound a.nodes v ≡ true → is_bound b.nodes v ≡ true
   pub recorded : (i p m : ℕ) → a.types i p ≡ Some m → b.types i p ≡ Some m
+  pub keeps : Keeps a b
   pub given : (V : Types) (ch : Choice) → AreGiven G' V ch → AreGiven G V ch
   pub inside : AreInside a G → AreInside b G'
   pub aloud : b.aloud ≡ a.aloud
@@ -127,16 +135,18 @@ pub record StaysOutside (a : Sight) (G : Letters) (b : Sight) (G' : Letters) : T
 pub record OnlyBetween (a b : Sight) : Type 0 where
   pub nodes : b.nodes ≡ a.nodes
   pub types : (i p : ℕ) → b.types i p ≡ a.types i p
+  pub noted : (i p : ℕ) → a.noted i p ≡ true → b.noted i p ≡ true
   pub reports : b.reports ≡ a.reports
   pub aloud : b.aloud ≡ a.aloud
   pub level : b.level ≡ a.level
   pub fixed : b.fixed ≡ a.fixed
 
--- What items ask was done, from one state between items to another. `settled`, `sound`, `follows`, `complete` and `first` are those of `Carried`, with these differences: no frame is needed,
+-- What items ask was done, from one state between items to another: letters that are open then were so before or are among those that items left; `settled`, `sound`, `follows`, `complete` and `first` are those of `Carried`, with these differences: no frame is needed,
 -- since the next item has one of its own, and the type variables that were written in the items are left with their nodes, since the end of an item may generalise them.
 pub record ItemsCarried (E : Choice → Environment) (asks : Asks) (a : Sight) (G : Letters) (b : Sight) (G' : Letters) : Type 0 where
   pub stays : StaysOutside a G b G'
   pub left : List Left
+  pub opened : (k : ℕ) (x : Key × ℕ) → slice_get G' k ≡ Some x → HasCopy G x ⊎ HasCopy (letters_left left) x
   pub settled : Settles a b (letters_left left)
   pub judged : List Judgement
   pub told : List Report

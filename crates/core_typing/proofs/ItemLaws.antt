@@ -13,7 +13,8 @@ use Rattle.binding_rows.proofs.ItemRows.{let_given}
 use Rattle.binding_rows.proofs.ItemTurns.{none_written}
 -- for the crate that types items
 pub use Rattle.binding_rows.proofs.ItemOrders.{done_none, done_then}
-pub use Rattle.binding_rows.proofs.ItemKinds.{let_done, idle_given}
+pub use Rattle.binding_rows.proofs.ItemKinds.{let_done, idle_given, exception_done, noted_between}
+pub use Rattle.typing_rows.proofs.Noted.{noted_on}
 
 -- The node of an item is noted, the type variables that were written are forgotten, and its `let` is typed; then its names are in scope.
 pub item_gives : {A E : Type 0} (r : Result A E) (a b c d : Parts) (w : Written) (env after then : List Entry) (n : ℕ) (t : Tree) → NotedNameless a b n env None → OnlyIndex a b → Goes a b → w.variables.entries ≡ [] → c ≡ record b { written = w } →

@@ -105,7 +105,7 @@ fn in_turn<'a>(
     ensures general { IfOk result (λ bs. JudgesOperands env.now (map operand_view bindings.now) (generals bs.items)) }
     ensures goes { Goes at.old at.new }
 {
-    let mut seen = Vec::new(at.alloc());
+    let mut seen = Mentioned::new(at.alloc());
     let mut bound = Vec::new(at.alloc());
     for binding in bindings {
         take_turn(at, *binding, &mut bound, &mut seen, env, depth)?;

@@ -154,7 +154,7 @@ pub root_some : (a b d : Parts) (env : List Entry) (names : List Name) (p : Code
 root_some a b d env names p o there kept read has =
     subst (λ (x : Option Operand). SettlesOption a d env names (λ c. read_optional c (option_map (type_of a.item) (option_map operand_view x))) (option_map (type_of a.item) (option_map operand_view x))) (sym there) (λ aloud B around.
     let x = read (subst IsOperandIf there has) aloud B around in
-    record { judged = x.judged; told = x.told; fixes = x.fixes; type = Some x.type; reports = kept ∙ x.reports; settled = x.settled; gives = λ ch h. ap Some (x.gives ch h) })
+    record { judged = x.judged; told = x.told; fixes = x.fixes; type = Some x.type; given = refl; reports = kept ∙ x.reports; settled = x.settled; gives = λ ch h. ap Some (x.gives ch h) })
 
 -- and of one that has none
 pub root_none : (a : Parts) (env : List Entry) (names : List Name) (p : CodePart) → p.argument ≡ None → SettlesOption a a env names (λ c. read_optional c (constructor_as a.item p).argument) (constructor_as a.item p).argument
@@ -165,7 +165,7 @@ root_none a env names p none =
 pub part_settles : (a b d : Parts) (env : List Entry) (names : List Name) (asks : Asks) (o : Option TypeExpression) (n : ℕ) → (sight d).reports ≡ (sight b).reports → SettlesOption a b env names asks o → SettlesOption a d env names (λ c. tell n c ++ asks c) o
 part_settles a b d env names asks o n kept read = λ aloud B around.
     let x = read aloud (behind B [] []) around in
-    record { judged = x.judged; told = x.told; fixes = x.fixes; type = x.type; reports = kept ∙ x.reports; settled = settled_trans (settled_told n) x.settled; gives = x.gives }
+    record { judged = x.judged; told = x.told; fixes = x.fixes; type = x.type; given = x.given; reports = kept ∙ x.reports; settled = settled_trans (settled_told n) x.settled; gives = x.gives }
 
 -- the part at a place
 pub has_there : (ps : List CodePart) (i : ℕ) (x : CodePart) → i < length ps → x ≡ slice_index_or ps i x → All HasOperand ps → HasOperand x

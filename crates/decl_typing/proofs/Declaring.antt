@@ -22,7 +22,7 @@ use Rattle.typing_rows.proofs.DeclaredOrdered.{index_reports}
 use Rattle.typing_rows.proofs.Settling.{settled_trans, settled_here, settled_told}
 use Rattle.declared_rows.specs.Assignments.{Assignment, Assigns, Assigned, Denotes}
 use Rattle.declared_rows.proofs.Going.{assigned_still, assigned_then}
-use Rattle.declared_rows.proofs.Ordered.{noted_on}
+use Rattle.typing_rows.proofs.Noted.{noted_on}
 use Rattle.decl_groups.specs.declared.groups.DeclarationPart.{DeclarationPart}
 use Rattle.decl_typing.specs.Asked.{tokens_as, SettlesTokens}
 use Rattle.decl_typing.specs.Denoting.{raised}

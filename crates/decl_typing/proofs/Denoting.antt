@@ -28,16 +28,17 @@ use Rattle.typing_rows.proofs.Settling.{settled_none, settled_trans, settled_tol
 use Rattle.declared_rows.specs.Operands.{DenotesOperand}
 use Rattle.declared_rows.proofs.Going.{assigned_refl, denotes_on, to_after, to_before}
 use Rattle.declared_rows.proofs.Made.{arrow_denotes}
-use Rattle.declared_rows.proofs.Ordered.{noted_on, index_still}
+use Rattle.typing_rows.proofs.Noted.{noted_on}
+use Rattle.declared_rows.proofs.Ordered.{index_still}
 use Rattle.decl_typing.specs.Denoting.{DenotesOption, DenotesArgument, DenotesConstructor, ClosesArgument}
 use Rattle.decl_typing.specs.Settling.{IsOperandIf}
 use Rattle.decl_groups.specs.declared.groups.ConstructorPart.{ConstructorPart as CodePart}
-use Rattle.decl_typing.proofs.Levels.{with_level}
+use Rattle.decl_typing.proofs.Levels.{with_level, level_noted}
 
 -- there is no argument: the root is that of the result
 pub none_denotes : (a : Parts) (env : List Entry) (names : List Name) (ps : List ℕ) (result : Typ) (e : ℕ) → DenotesOption a a env names ps (λ c. read_optional c None) None result e e
 none_denotes a env names ps result e = λ aloud B around F arity U A inside noted denotes. record {
-  settled = record { judged = []; told = []; fixes = []; type = None; reports = sym (append-nil (sight a).reports); settled = settled_none; gives = λ ch h. refl };
+  settled = record { judged = []; told = []; fixes = []; type = None; given = refl; reports = sym (append-nil (sight a).reports); settled = settled_none; gives = λ ch h. refl };
   numbers = U;
   to = record { on = assigned_refl inside.assigns; denotes = denotes };
   noted = noted;
@@ -52,7 +53,7 @@ some_denotes a b d env names ps o result x e m operand read makes rest goes = λ
     let last = denotes_on inside.assigns y.to.on denotes in
     let made = makes (here.opens x y.to.denotes.known).inside (here.opens e last.known).inside in
     record {
-      settled = record { judged = y.settled.judged; told = y.settled.told; fixes = y.settled.fixes; type = Some y.settled.type; reports = store_reports b d rest ∙ y.settled.reports; settled = y.settled.settled; gives = λ ch h. ap Some (y.settled.gives ch h) };
+      settled = record { judged = y.settled.judged; told = y.settled.told; fixes = y.settled.fixes; type = Some y.settled.type; given = refl; reports = store_reports b d rest ∙ y.settled.reports; settled = y.settled.settled; gives = λ ch h. ap Some (y.settled.gives ch h) };
       numbers = y.numbers;
       to = to_after y.to.on (arrow_denotes {s = b.store.trail} {u = d.store.trail} here y.to.denotes last made (only_nodes b d rest));
       noted = noted_on y.numbers y.noted goes;
@@ -84,7 +85,7 @@ pub told_denotes : (a b d : Parts) (env : List Entry) (names : List Name) (ps : 
 told_denotes a b d env names ps asks o n result e m rest goes read = λ aloud B around F arity U A inside noted denotes.
     let x = read aloud (behind B [] []) around F arity U A inside noted denotes in
     record {
-      settled = record { judged = x.settled.judged; told = x.settled.told; fixes = x.settled.fixes; type = x.settled.type; reports = index_reports b d rest ∙ x.settled.reports; settled = settled_trans (settled_told n) x.settled.settled; gives = x.settled.gives };
+      settled = record { judged = x.settled.judged; told = x.settled.told; fixes = x.settled.fixes; type = x.settled.type; given = x.settled.given; reports = index_reports b d rest ∙ x.settled.reports; settled = settled_trans (settled_told n) x.settled.settled; gives = x.settled.gives };
       numbers = x.numbers;
       to = to_before x.to (index_still b d rest x.to.on.assigns);
       noted = noted_on x.numbers x.noted goes;
@@ -110,14 +111,14 @@ index_then p q = record {
 pub closed_denotes : (at read after : Parts) (l : ℕ) (env : List Entry) (names : List Name) (ps : List ℕ) (number : ℕ) (t : Tree) (result : Typ) (e r : ℕ) → (at.level ≡ 0 → l ≡ 1) → DenotesArgument (with_level at l) read env names ps number t result e r →
     (IsNode read.store.nodes r → Generalised read.store.nodes after.store.nodes r at.level) → IsSound after.store.nodes → IsPlain after.store.nodes → OnlyStore (with_level read at.level) after → Goes (with_level read at.level) after → ClosesArgument at after env names ps number t result e r
 closed_denotes at read after l env names ps number t result e r one reads bound sound plain rest goes formed = λ aloud zero B around F arity U A inside noted denotes.
-    let x = subst (λ k. DenotesArgument (with_level at k) read env names ps number t result e r) (one zero) reads formed aloud B around F arity U A inside noted denotes in
+    let x = subst (λ k. DenotesArgument (with_level at k) read env names ps number t result e r) (one zero) reads formed aloud B around F arity U A inside (level_noted at 1 U noted) denotes in
     let there = (x.to.on.assigns.opens r x.to.denotes.known).inside in
     record {
-      settled = record { judged = x.settled.judged; told = x.settled.told; fixes = x.settled.fixes; type = x.settled.type; reports = store_reports (with_level read at.level) after rest ∙ x.settled.reports; settled = x.settled.settled; gives = x.settled.gives };
+      settled = record { judged = x.settled.judged; told = x.settled.told; fixes = x.settled.fixes; type = x.settled.type; given = x.settled.given; reports = store_reports (with_level read at.level) after rest ∙ x.settled.reports; settled = x.settled.settled; gives = x.settled.gives };
       numbers = x.numbers;
       before = read;
       to = x.to;
-      noted = noted_on x.numbers x.noted goes;
+      noted = noted_on x.numbers (level_noted read at.level x.numbers x.noted) goes;
       closes = λ K own. subst (ClosesAll read.store.nodes after.store.nodes K (r ∷ [])) zero (generalised_closes read.store.nodes after.store.nodes K r at.level own there (bound there));
       sound = sound;
       plain = plain;

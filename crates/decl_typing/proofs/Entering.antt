@@ -2,6 +2,7 @@
 use Rattle.std.proofs.Common.{◌≡◌, ◌∙◌, ℕ, List, [], ◌∷◌, ◌++◌, option_map, sym, ap, subst}
 use Rattle.tree_model.specs.Slots.{is_operand}
 use Rattle.tree_model.specs.Trees.{Tree}
+use Rattle.signature_model.specs.Records.{is_some}
 use Rattle.typing_model.specs.BuiltIns.{exn_type}
 use Rattle.typing_model.specs.Contexts.{parameters, tell}
 use Rattle.typing_model.specs.Parts.{TypeExpression, ConstructorPart}
@@ -16,7 +17,7 @@ use Rattle.operand_laws.proofs.Sorts.{first_type_stands}
 use Rattle.typing_rows.specs.Settled.{behind}
 use Rattle.typing_rows.proofs.DeclaredOrdered.{index_reports}
 use Rattle.typing_rows.proofs.Settling.{settled_trans, settled_here, settled_told}
-use Rattle.declared_rows.proofs.Ordered.{noted_on}
+use Rattle.typing_rows.proofs.Noted.{noted_on}
 use Rattle.decl_typing.specs.Denoting.{ClosesArgument}
 use Rattle.decl_typing.specs.Entering.{ClosesException}
 use Rattle.decl_typing.specs.Settling.{argument_of}
@@ -32,6 +33,7 @@ exception_closes a b d env number t e r rest goes read formed row = λ aloud zer
         told = x.settled.told;
         fixes = x.settled.fixes;
         type = x.settled.type;
+        given = x.settled.given ∙ ap is_some (sym same);
         reports = index_reports b d rest ∙ x.settled.reports;
         settled = settled_here (λ c h. ap (λ o. tell n c ++ read_optional c o) (sym same) ∙ ap (λ v. tell n c ++ read_optional (record c { variables = v }) k.argument) (h.variables ∙ ap parameters around.1)) (settled_trans (settled_told n) x.settled.settled);
         gives = λ ch h. ap (option_map (λ (y : TypeExpression). ch.type_at y.node)) same ∙ x.settled.gives ch h;

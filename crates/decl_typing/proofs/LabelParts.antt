@@ -17,7 +17,8 @@ use Rattle.typing_rows.proofs.Settling.{settled_trans, settled_told}
 use Rattle.declared_rows.specs.Operands.{DenotesOperand}
 use Rattle.declared_rows.proofs.Going.{denotes_on, to_after, to_before}
 use Rattle.declared_rows.proofs.Made.{arrow_denotes}
-use Rattle.declared_rows.proofs.Ordered.{noted_on, index_still}
+use Rattle.typing_rows.proofs.Noted.{noted_on}
+use Rattle.declared_rows.proofs.Ordered.{index_still}
 use Rattle.decl_groups.specs.declared.groups.LabelPart.{LabelPart as CodePart}
 use Rattle.decl_typing.specs.Labels.{label_as, HasBody}
 use Rattle.decl_typing.specs.LabelParts.{DenotesField}

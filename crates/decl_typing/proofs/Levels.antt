@@ -1,9 +1,10 @@
 -- Calls at another level.
-use Rattle.std.proofs.Common.{ℕ, refl}
+use Rattle.std.proofs.Common.{ℕ, List, refl}
 use Rattle.typing_state.specs.declared.parts.Parts.{Parts}
 use Rattle.typing_state.specs.Goes.{Goes, SameWork}
 use Rattle.typing_state.proofs.Going.{inner_goes}
 use Rattle.type_expressions.specs.Untyped.{Untyped}
+use Rattle.typing_rows.specs.Noted.{AreNoted}
 
 -- the same at another level
 abbrev pub with_level : Parts → ℕ → Parts
@@ -20,3 +21,7 @@ deeper_goes at after l m g = inner_goes at (with_level at l) after (with_level a
 -- so it is with the types that are recorded
 pub deeper_untyped : (at after : Parts) (l m : ℕ) → Untyped (with_level at l) after → Untyped at (with_level after m)
 deeper_untyped at after l m x = record { types = x.types }
+
+-- and with what something is recorded for
+pub level_noted : (at : Parts) (l : ℕ) (U : List ℕ) → AreNoted U at → AreNoted U (with_level at l)
+level_noted at l U noted k i = let x = noted k i in record { item = x.item; place = x.place; small = x.small; number = x.number; seen = x.seen; at = x.at }

@@ -1,9 +1,12 @@
 -- What constructors that are read denote, one after the other.
-use Rattle.std.proofs.Common.{◌≡◌, ◌∙◌, ◌+◌, ◌<◌, ℕ, true, List, [], ◌∷◌, ◌++◌, length, take, drop, Option, Some, None, sym, ap, subst}
+use Rattle.std.proofs.Common.{◌≡◌, ◌∙◌, ◌+◌, ◌<◌, ℕ, true, List, [], ◌∷◌, ◌++◌, length, take, drop, Option, Some, None, option_map, refl, sym, ap, subst}
 use Rattle.std.specs.Prelude.{slice_index_or}
 use Rattle.std.proofs.lemmas.List.{take_more}
 use Rattle.type_model.specs.Types.{Typ}
 use Rattle.signature_model.specs.Declarations.{Name}
+use Rattle.signature_model.specs.Records.{is_some}
+use Rattle.row_parts.specs.Numbered.{operand_view}
+use Rattle.operand_laws.specs.Operands.{type_of}
 use Rattle.typing_model.specs.Parts.{ConstructorPart}
 use Rattle.env_table.specs.declared.entries.Constructor.{Constructor}
 use Rattle.env_table.specs.declared.entries.Entry.{Entry}
@@ -17,7 +20,8 @@ use Rattle.typing_rows.specs.Settled.{Before, Around, behind}
 use Rattle.declared_rows.specs.Assignments.{Assignment, Assigns, Assigned, Denotes}
 use Rattle.declared_rows.specs.Contracts.{Inside}
 use Rattle.declared_rows.proofs.Going.{assigned_refl, assigned_then, assigned_still, denotes_on}
-use Rattle.declared_rows.proofs.Ordered.{inside_on, noted_on}
+use Rattle.typing_rows.proofs.Noted.{noted_on}
+use Rattle.declared_rows.proofs.Ordered.{inside_on}
 use Rattle.decl_groups.specs.declared.groups.ConstructorPart.{ConstructorPart as CodePart}
 use Rattle.decl_typing.specs.Settling.{constructor_as, constructors_as, HasOperand, SettlesNames}
 use Rattle.decl_typing.specs.Parts.{ConstructorIf, ReadsConstructor, ReadsConstructors, ReadsFirst, AreMade, none_made, one_made, nameless, FirstDenoted}
@@ -26,7 +30,7 @@ use Rattle.decl_typing.proofs.Constructors.{none_read, one_read, all_constructor
 -- constructors that were made denote their types later on
 pub made_on : {F : Frame} {arity arity' : ℕ} {U U' : List ℕ} {a b : Sight} {A : Assignment} {result : Typ} {ps : List CodePart} {ts : List (Option Typ)} {ks : List Constructor} → Assigns F arity' U' a A → (x : Assigned F arity U a b A) → AreMade A result ps ts ks → AreMade x.after result ps ts ks
 made_on at x none_made = none_made
-made_on at x (one_made r is d more) = one_made r is (denotes_on at x d) (made_on at x more)
+made_on at x (one_made r is given d more) = one_made r is given (denotes_on at x d) (made_on at x more)
 made_on at x (nameless none more) = nameless none (made_on at x more)
 
 -- a constructor that may be made
@@ -34,12 +38,17 @@ abbrev pub listed : Option Constructor → List Constructor
 listed None = []
 listed (Some k) = k ∷ []
 
+-- what is there is there as it is read
+pub there_as_well : {X Y : Type 0} (f : X → Y) (o : Option X) → is_some (option_map f o) ≡ is_some o
+there_as_well f None = refl
+there_as_well f (Some x) = refl
+
 -- one more
-pub made_more : {A : Assignment} {result : Typ} {ps : List CodePart} {ts : List (Option Typ)} {ks : List Constructor} (p : CodePart) (t : Option Typ) (o : Option Constructor) (r : ℕ) → ConstructorIf p r o → Denotes A r (building result t) → AreMade A result ps ts ks → AreMade A result (ps ++ p ∷ []) (ts ++ t ∷ []) (ks ++ listed o)
-made_more p t None r none d none_made = nameless none none_made
-made_more p t (Some k) r is d none_made = one_made r is d none_made
-made_more p t o r is d (one_made s was e more) = one_made s was e (made_more p t o r is d more)
-made_more p t o r is d (nameless none more) = nameless none (made_more p t o r is d more)
+pub made_more : {A : Assignment} {result : Typ} {ps : List CodePart} {ts : List (Option Typ)} {ks : List Constructor} (p : CodePart) (t : Option Typ) (o : Option Constructor) (r : ℕ) → ConstructorIf p r o → is_some t ≡ is_some p.argument → Denotes A r (building result t) → AreMade A result ps ts ks → AreMade A result (ps ++ p ∷ []) (ts ++ t ∷ []) (ks ++ listed o)
+made_more p t None r none given d none_made = nameless none none_made
+made_more p t (Some k) r is given d none_made = one_made r is given d none_made
+made_more p t o r is given d (one_made s was had e more) = one_made s was had e (made_more p t o r is given d more)
+made_more p t o r is given d (nameless none more) = nameless none (made_more p t o r is given d more)
 
 -- one constructor more is read
 pub one_denoted : {B : Before} {F : Frame} {arity : ℕ} {A : Assignment} {result : Typ} {all left : List ConstructorPart} {ps : List CodePart} {ks : List Constructor} (a b d : Parts) (env : List Entry) (names : List Name) (nodes : List ℕ) (x : CodePart) (e : ℕ) (o : Option Constructor) {U : List ℕ} →
@@ -51,7 +60,7 @@ one_denoted {B} {F} {arity} a b d env names nodes x e o aloud around inside deno
       settled = one_read (constructor_as b.item x) f.settled y.settled;
       numbers = y.numbers;
       on = assigned_then f.on y.to.on;
-      made = made_more x y.settled.type o r.root r.made y.to.denotes (made_on f.on.assigns y.to.on f.made);
+      made = made_more x y.settled.type o r.root r.made (y.settled.given ∙ there_as_well (type_of b.item) (option_map operand_view x.argument) ∙ there_as_well operand_view x.argument) y.to.denotes (made_on f.on.assigns y.to.on f.made);
       noted = y.noted;
     }
 

@@ -17,7 +17,8 @@ use Rattle.typing_rows.specs.Settled.{Before, Around, behind}
 use Rattle.declared_rows.specs.Assignments.{Assignment, Assigns, Assigned, Denotes}
 use Rattle.declared_rows.specs.Contracts.{Inside}
 use Rattle.declared_rows.proofs.Going.{assigned_refl, assigned_then, denotes_on}
-use Rattle.declared_rows.proofs.Ordered.{inside_on, noted_on}
+use Rattle.typing_rows.proofs.Noted.{noted_on}
+use Rattle.declared_rows.proofs.Ordered.{inside_on}
 use Rattle.decl_groups.specs.declared.groups.LabelPart.{LabelPart as CodePart}
 use Rattle.decl_typing.specs.Labels.{label_as, labels_as, HasBody, SettlesLabelNames}
 use Rattle.decl_typing.specs.LabelParts.{LabelIf, ReadsLabel, ReadsLabels, ReadsFirstLabels, AreLabels, no_labels, one_label, nameless_label, FirstFields}

@@ -29,7 +29,8 @@ use Rattle.typing_rows.proofs.Settling.{settled_none}
 use Rattle.declared_rows.specs.Assignments.{Assignment, Assigns, Assigned, Denotes}
 use Rattle.declared_rows.specs.Contracts.{AreParameters}
 use Rattle.declared_rows.proofs.Going.{assigned_refl, assigned_then, denotes_on}
-use Rattle.declared_rows.proofs.Ordered.{noted_on, index_still}
+use Rattle.typing_rows.proofs.Noted.{noted_on}
+use Rattle.declared_rows.proofs.Ordered.{index_still}
 use Rattle.decl_groups.specs.declared.groups.DeclarationPart.{DeclarationPart}
 use Rattle.decl_groups.specs.declared.groups.ConstructorPart.{ConstructorPart}
 use Rattle.decl_groups.specs.declared.groups.LabelPart.{LabelPart}
@@ -39,7 +40,7 @@ use Rattle.decl_typing.specs.Parts.{AreMade, none_made, one_made, nameless, Read
 use Rattle.decl_typing.specs.LabelParts.{AreLabels, no_labels, one_label, nameless_label, ReadsLabels, shape_labels}
 use Rattle.decl_typing.specs.Parameters.{token_names, MakesParameters, MakesOwn, ClosesRoots, constructor_roots, label_roots, shape_roots}
 use Rattle.decl_typing.specs.Owned.{IsVariant, IsRecord, ShapeSettled, ShapeMade, nothing_made, constructors_made, labels_made, told_in, ToldRead, ReadsTold, TypeMade, MakesType, ClosesType}
-use Rattle.decl_typing.proofs.Levels.{with_level}
+use Rattle.decl_typing.proofs.Levels.{with_level, level_noted}
 
 -- nothing is told
 pub nothing_read : (a : Parts) (env : List Entry) (names : List Name) (ps : List ℕ) (owner : Typ) (e : ℕ) → ReadsTold a a env names ps None owner e shape.Opaque
@@ -124,8 +125,8 @@ type_made a b d e f env p ps root body z many parameters rest goes makes rest' g
 -- the roots of constructors, of labels and of a shape are known
 constructors_known : {A : Assignment} {result : Typ} {ps : List ConstructorPart} {ts : List (Option Typ)} {ks : List Constructor} → AreMade A result ps ts ks → (j r : ℕ) → slice_get (constructor_roots ks) j ≡ Some r → IsIn A.nodes r
 constructors_known none_made j r e = absurd (cc)
-constructors_known {A} (one_made {k = k} s is d more) zero r e = let f : k.root.0 ≡ r = cc in subst (IsIn A.nodes) (sym is.root ∙ f) d.known
-constructors_known (one_made s is d more) (suc j) r e = constructors_known more j r e
+constructors_known {A} (one_made {k = k} s is given d more) zero r e = let f : k.root.0 ≡ r = cc in subst (IsIn A.nodes) (sym is.root ∙ f) d.known
+constructors_known (one_made s is given d more) (suc j) r e = constructors_known more j r e
 constructors_known (nameless none more) j r e = constructors_known more j r e
 
 labels_known : {A : Assignment} {owner : Typ} {ps : List LabelPart} {ts : List Typ} {ls : List Label} → AreLabels A owner ps ts ls → (j r : ℕ) → slice_get (label_roots ls) j ≡ Some r → IsIn A.nodes r
@@ -147,7 +148,7 @@ shape_known (shape.Labels ls) (labels_made types gives made is) j r e = labels_k
 pub type_closed : (at read after : Parts) (l : ℕ) (env : List Entry) (p : DeclarationPart) (root body : ℕ) (z : Shape) → (at.level ≡ 0 → l ≡ 1) → MakesType (with_level at l) read env p root body z → ClosesRoots (with_level read at.level) after (root ∷ shape_roots z) → IsSound after.store.nodes → IsPlain after.store.nodes →
     OnlyStore (with_level read at.level) after → Goes (with_level read at.level) after → ClosesType at after env p root body z
 type_closed at read after l env p root body z one makes closes sound plain rest goes = λ right parts aloud zero B around F U A assigns types noted.
-    let x = subst (λ k. MakesType (with_level at k) read env p root body z) (one zero) makes right parts aloud B around F U A assigns types noted in
+    let x = subst (λ k. MakesType (with_level at k) read env p root body z) (one zero) makes right parts aloud B around F U A assigns types (level_noted at 1 U noted) in
     record {
       before = read;
       makes = x;
@@ -156,7 +157,7 @@ type_closed at read after l env p root body z one makes closes sound plain rest 
       sound = sound;
       plain = plain;
       level = rest.level;
-      noted = noted_on x.numbers x.noted goes;
+      noted = noted_on x.numbers (level_noted read at.level x.numbers x.noted) goes;
     }
   where
     inside : {F : Frame} {arity i : ℕ} {U : List ℕ} {A : Assignment} {owner t : Typ} {fixes : Fixes} {told : Option Told} → Assigns F arity U (sight read) A → Denotes A root t → ShapeMade A owner fixes i told z → (k r : ℕ) → slice_get (root ∷ shape_roots z) k ≡ Some r → IsNode read.store.nodes r

@@ -42,7 +42,7 @@ pub record ReadsConstructor (a b : Parts) (env : List Entry) (names : List Name)
 -- Constructors are made of parts whose arguments have these types, by an assignment: one of each with a name, in order, whose root denotes its type.
 pub data AreMade (A : Assignment) (result : Typ) : List CodePart → List (Option Typ) → List Constructor → Type 0 where
   none_made : AreMade A result [] [] []
-  one_made : {p : CodePart} {ps : List CodePart} {t : Option Typ} {ts : List (Option Typ)} {k : Constructor} {ks : List Constructor} (r : ℕ) → AsConstructor p r k → Denotes A r (building result t) → AreMade A result ps ts ks → AreMade A result (p ∷ ps) (t ∷ ts) (k ∷ ks)
+  one_made : {p : CodePart} {ps : List CodePart} {t : Option Typ} {ts : List (Option Typ)} {k : Constructor} {ks : List Constructor} (r : ℕ) → AsConstructor p r k → is_some t ≡ is_some p.argument → Denotes A r (building result t) → AreMade A result ps ts ks → AreMade A result (p ∷ ps) (t ∷ ts) (k ∷ ks)
   nameless : {p : CodePart} {ps : List CodePart} {t : Option Typ} {ts : List (Option Typ)} {ks : List Constructor} → p.name ≡ None → AreMade A result ps ts ks → AreMade A result (p ∷ ps) (t ∷ ts) ks
 
 -- the first constructors are read, and some are left

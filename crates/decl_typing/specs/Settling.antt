@@ -7,6 +7,7 @@ use Rattle.row_parts.specs.declared.slots.Operand.{Operand}
 use Rattle.row_parts.specs.Numbered.{Numbered, first_in, operand_view}
 use Rattle.type_model.specs.Types.{Typ}
 use Rattle.signature_model.specs.Declarations.{Name}
+use Rattle.signature_model.specs.Records.{is_some}
 use Rattle.typing_model.specs.Contexts.{Choice}
 use Rattle.typing_model.specs.Demands.{Condition}
 use Rattle.typing_model.specs.Parts.{TypeExpression, ConstructorPart, constructors}
@@ -29,6 +30,7 @@ pub record OptionSettled (B : Before) (asks : Asks) (o : Option TypeExpression) 
   pub told : List Report
   pub fixes : Fixes
   pub type : Option Typ
+  pub given : is_some type ≡ is_some o
   pub reports : b.reports ≡ a.reports ++ told
   pub settled : Settled B asks judged told fixes
   pub gives : (ch : Choice) → AreFixed fixes ch → option_map (λ (t : TypeExpression). ch.type_at t.node) o ≡ type

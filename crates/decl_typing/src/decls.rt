@@ -75,7 +75,7 @@ fn origin_at(at: &Parts, number: u32, name: Option<&Token>) -> Result<Origin, No
 }
 
 /// A variable for each written parameter.
-fn new_parameters(at: &mut Parts, names: &[&Token]) -> Result<Vec<Parameter>, NoMemory>
+pub fn new_parameters(at: &mut Parts, names: &[&Token]) -> Result<Vec<Parameter>, NoMemory>
     ensures named { IfOk result (λ ps. names_of ps.items ≡ token_names names.now) }
     ensures means { IfOk result (λ ps. MakesParameters at.old at.new (nodes_of ps.items)) }
     ensures rest { OnlyStore at.old at.new }

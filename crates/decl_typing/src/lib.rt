@@ -10,4 +10,4 @@ mod decls;
 mod fresh;
 mod reexports;
 
-pub use decls::{Declared, type_decls, type_exception};
+pub use decls::{Declared, new_parameters, type_decls, type_exception};

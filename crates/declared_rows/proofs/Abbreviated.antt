@@ -297,20 +297,20 @@ module _ {F : Frame} {a b : Sight} {arity : ℕ} {U : List ℕ} {A : Assignment}
           let le = joined.least.bound J own w other.level 0 v l o (opens.opens w (Var low.level low.scope) low.at other) other.free e free (ap (occurs v) j_w ∙ eqb_same v) in omega arith
 
       -- each variable is a parameter or an unknown type
-      old_assigned : (J : Types) → IsOwn d.nodes J → (v l o : ℕ) → slice_get d.nodes v ≡ Some (Var l o) → l ≢ bound_level → (x : OldOrigin J v) → IsAssigned S (n ∷ U) arity o v
+      old_assigned : (J : Types) → IsOwn d.nodes J → (v l o : ℕ) → slice_get d.nodes v ≡ Some (Var l o) → l ≢ bound_level → (x : OldOrigin J v) → IsAssigned S A.older (n ∷ U) arity o v
       old_assigned J own v l o e free x = by (at.each I own_a x.variable x.level x.scope x.stands x.here)
         where
-          by : IsAssigned A.types U arity x.scope x.variable → IsAssigned S (n ∷ U) arity o v
+          by : IsAssigned A.types A.older U arity x.scope x.variable → IsAssigned S A.older (n ∷ U) arity o v
           by (assigned.a_parameter k scoped lt is) = assigned.a_parameter k (old_high J own v l o e free x scoped) lt (s_old J own v x ∙ is)
-          by (assigned.an_unknown p m scope u (k, i) is) = assigned.an_unknown p m (let le = old_low J own v l o e free x in omega arith) u (suc k, i) (s_old J own v x ∙ is)
+          by (assigned.an_unknown p m scope u (k, i) new is) = assigned.an_unknown p m (let le = old_low J own v l o e free x in omega arith) u (suc k, i) new (s_old J own v x ∙ is)
 
-      new_assigned : (J : Types) → IsOwn d.nodes J → (v l o : ℕ) → slice_get d.nodes v ≡ Some (Var l o) → l ≢ bound_level → (x : NewOrigin J v) → IsAssigned S (n ∷ U) arity o v
-      new_assigned J own v l o e free x = assigned.an_unknown x.path n (new_low J own v l o e free x) x.unknown (zero, refl) (s_new J own v x)
+      new_assigned : (J : Types) → IsOwn d.nodes J → (v l o : ℕ) → slice_get d.nodes v ≡ Some (Var l o) → l ≢ bound_level → (x : NewOrigin J v) → IsAssigned S A.older (n ∷ U) arity o v
+      new_assigned J own v l o e free x = assigned.an_unknown x.path n (new_low J own v l o e free x) x.unknown (zero, refl) (λ i. new_one (at.taken n i)) (s_new J own v x)
 
       -- and no two are the same one
-      none_old : (v w : ℕ) (path : Path) → IsAssigned A.types U arity v w → A.types w ≡ type.Con (path ++ n ∷ []) types.Nil → ⊥
+      none_old : (v w : ℕ) (path : Path) → IsAssigned A.types A.older U arity v w → A.types w ≡ type.Con (path ++ n ∷ []) types.Nil → ⊥
       none_old v w path (assigned.a_parameter k scoped lt is) e = let f : type.Var k ≡ type.Con (path ++ n ∷ []) types.Nil = sym is ∙ e in cc
-      none_old v w path (assigned.an_unknown p m scope u i is) e =
+      none_old v w path (assigned.an_unknown p m scope u i new is) e =
           let f : type.Con (p ++ m ∷ []) types.Nil ≡ type.Con (path ++ n ∷ []) types.Nil = sym is ∙ e in
           let g : p ++ m ∷ [] ≡ path ++ n ∷ [] = cc in
           new_one (subst (IsIn U) (last_path p path m n g) i)
@@ -337,7 +337,7 @@ module _ {F : Frame} {a b : Sight} {arity : ℕ} {U : List ℕ} {A : Assignment}
       open_older_d m i = open_on joined.stays (open_c m (open_older m (at.opens m i)))
 
       abbrev after : Assignment
-      after = record { types = S; nodes = body ∷ A.nodes }
+      after = record { types = S; nodes = body ∷ A.nodes; older = A.older }
 
       open_after : (m : ℕ) → IsIn after.nodes m → IsOpen F d m
       open_after m (zero, e) = let f : body ≡ m = cc in subst (IsOpen F d) f open_body_d
@@ -362,10 +362,12 @@ module _ {F : Frame} {a b : Sight} {arity : ℕ} {U : List ℕ} {A : Assignment}
             loose = loose_sd;
             opens = open_after;
             each = λ J own v l o h e. let free = free_of J own v l o h e in elim (origin J own v h) [ inl x ↦ old_assigned J own v l o e free x | inr x ↦ new_assigned J own v l o e free x ];
+            taken = λ k i. let (j, e) = at.taken k i in (suc j, e);
             apart = λ J own v w h i e. apart_by J own v w (origin J own v h) (origin J own w i) e;
           };
           same = s_older;
           keeps = λ m (k, e). (suc k, e);
+          older = refl;
           longer = let p = extends.longer in let q = opens.len in let s = joined.len in omega arith;
           reads = λ V h. reading_before a.nodes b.nodes V extends (reading_before_opening K own_b open_tup.inside opens z.any V (joined.stays.reads V h));
         };

@@ -76,9 +76,9 @@ module _ {F : Frame} {arity : ℕ} {U : List ℕ} {b : Sight} {A : Assignment} (
   made_above K own o v (suc l) scope h e free = omega arith
 
   -- the name of a variable that is bound now
-  bound_name : {nodes : List Node} {N : Types} {v o : ℕ} → N v ≡ A.types v → slice_get nodes v ≡ Some (Var bound_level o) → IsAssigned A.types U arity o v → IsNamed nodes N arity v
+  bound_name : {nodes : List Node} {N : Types} {v o : ℕ} → N v ≡ A.types v → slice_get nodes v ≡ Some (Var bound_level o) → IsAssigned A.types A.older U arity o v → IsNamed nodes N arity v
   bound_name {o = o} same e (a_parameter k scoped lt is) = named.a_parameter o k e scoped lt (same ∙ is)
-  bound_name {nodes} {N} {v} {o} same e (an_unknown p n scope u i is) = named.an_unknown (p ++ n ∷ []) (subst (λ s. slice_get nodes v ≡ Some (Var bound_level s)) scope e) (unknown_longer p n u) (same ∙ is)
+  bound_name {nodes} {N} {v} {o} same e (an_unknown p n scope u i new is) = named.an_unknown (p ++ n ∷ []) (subst (λ s. slice_get nodes v ≡ Some (Var bound_level s)) scope e) (unknown_longer p n u) (same ∙ is)
 
   -- A root that denotes a type stands for it, once its variables are bound; the names of variables in the roots are those of the assignment.
   pub root_closed : {nodes : List Node} {R C : List ℕ} {N : Types} {r : ℕ} {t : Typ} → ((K : Types) → IsOwn b.nodes K → ClosesAll b.nodes nodes K R 0) → IsPlain nodes → ((I : Types) → IsOwn nodes I → (v : ℕ) → length F.start ≤ v → stands_in_any I R v ≡ true → N v ≡ A.types v) → IsIn R r → IsIn C r → Denotes A r t →

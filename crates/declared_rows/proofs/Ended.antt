@@ -5,14 +5,12 @@ use Rattle.token_model.specs.Kinds.{Tok}
 use Rattle.tree_model.specs.Rows.{Row, tvar_row, tcon_row, tparen_row, tapp_row, ttuple_row, tarrow_row}
 use Rattle.tree_model.specs.Slots.{is_operand}
 use Rattle.tree_model.specs.Trees.{Place, Tree}
-use Rattle.syntax_tree.specs.declared.rows.RowName.{RowName}
 use Rattle.syntax_tree.specs.declared.rows.RowName.TheVariants as name
 use Rattle.syntax_tree.specs.Names as names
 use Rattle.syntax_tree.specs.View.{node_view, place_of}
 use Rattle.syntax_tree.specs.declared.tree.Node.{Node, out-Node}
 use Rattle.row_parts.specs.Numbered.{Numbered, operands_in, all_operands, filled_in, first_of, token_in, path_in}
 use Rattle.signature_model.specs.Declarations.{Name}
-use Rattle.typing_model.specs.Contexts.{Context, unresolved}
 use Rattle.typing_model.specs.TypeExpressions.{nodes_of, in_parentheses}
 use Rattle.type_nodes.specs.Nodes.{IsNode, Tuple}
 use Rattle.type_nodes.specs.Changes.{Makes}
@@ -30,6 +28,7 @@ use Rattle.declared_rows.specs.Contracts.{DenotesEnd, MakesUnknown}
 use Rattle.declared_rows.specs.Operands.{DenotesEnds, DenotesVariable, DenotesName, DenotesParentheses, DenotesPlain, MakesArrow}
 use Rattle.declared_rows.proofs.Judged.{unknown_denoted}
 use Rattle.declared_rows.proofs.Ends.{alone_ends, tuple_end, arrow_end}
+use Rattle.typing_rows.proofs.DeclaredEnded.{no_constructor, no_end, no_type}
 
 -- a row in the place of the node's
 ends_as : (a b : Parts) (env : List Entry) (ns : List Name) (ps : List ℕ) (t : Tree) (r : Row) (number : ℕ) (at : Place) (ms : List ℕ) (m : ℕ) → row_of t ≡ r → DenotesEnd a b env ns ps (λ c. end_asks r a.item number at t c) (front_nodes r a.item number t) ms (number_of a.item number) m →
@@ -67,26 +66,6 @@ arrow_ends a b ns ps t ms m row made plain env number at formed placed =
     ends_as a b env ns ps t tarrow_row number at ms m row (subst (λ os. DenotesEnd a b env ns ps (λ c. end_asks tarrow_row a.item number at t c) (nodes_of (types_read a.item os)) ms (number_of a.item number) m) (sym (arrow_sides number t formed row))
     (arrow_end a b env ns ps (type_of a.item (filled_in number t 0)).node (type_of a.item (filled_in number t 2)).node ms (number_of a.item number) m made))
 
-no_end : (r : Row) (i n : ℕ) (at : Place) (t : Tree) (c : Context) → IsNoType r → unresolved c (number_of i n) ≡ end_asks r i n at t c
-no_end tvar_row i n at t c h = absurd h
-no_end tcon_row i n at t c h = absurd h
-no_end tparen_row i n at t c h = absurd h
-no_end tapp_row i n at t c h = absurd h
-no_end ttuple_row i n at t c h = absurd h
-no_end tarrow_row i n at t c h = absurd h
-no_end _ i n at t c h = refl
-
--- the row of the code is none of type expressions
-no_type : (r : RowName) → (r ≡ name.Tvar → ⊥) → (r ≡ name.Tparen → ⊥) → (r ≡ name.Ttuple → ⊥) → (r ≡ name.Tarrow → ⊥) → HasNoConstructor (names.row_of r) → IsNoType (names.row_of r)
-unfolding names.row_of
-no_type name.Tvar v p t a h = absurd (v refl)
-no_type name.Tparen v p t a h = absurd (p refl)
-no_type name.Ttuple v p t a h = absurd (t refl)
-no_type name.Tarrow v p t a h = absurd (a refl)
-no_type name.Tcon v p t a h = absurd h
-no_type name.Tapp v p t a h = absurd h
-no_type _ v p t a h = tt
-
 -- another row, which is no type expression
 pub other_ends : (a b : Parts) (ns : List Name) (ps : List ℕ) (nd : Node) (ms : List ℕ) (m : ℕ) → ((out-Node nd).row ≡ name.Tvar → ⊥) → ((out-Node nd).row ≡ name.Tparen → ⊥) → ((out-Node nd).row ≡ name.Ttuple → ⊥) → ((out-Node nd).row ≡ name.Tarrow → ⊥) → MakesUnknown a b m →
     DenotesPlain a b ns ps (node_view nd) ms m
@@ -94,12 +73,6 @@ other_ends a b ns ps nd ms m v p t x made plain env number at formed placed = λ
     let row = view_row nd (out-Node nd).row refl in
     let none = subst IsNoType (sym row) (no_type (out-Node nd).row v p t x (subst HasNoConstructor row plain)) in
     unknown_denoted a b _ (number_of a.item number) m (λ c h. no_end (row_of (node_view nd)) a.item number at (node_view nd) c none) ns around.1 inside.assigns made
-
-no_constructor : (r : RowName) → (r ≡ name.Tcon → ⊥) → (r ≡ name.Tapp → ⊥) → HasNoConstructor (names.row_of r)
-unfolding names.row_of
-no_constructor name.Tcon c a = absurd (c refl)
-no_constructor name.Tapp c a = absurd (a refl)
-no_constructor _ c a = tt
 
 -- a node without a constructor
 pub plain_ends : (a b : Parts) (env : List Entry) (ns : List Name) (ps : List ℕ) (nd : Node) (ms : List ℕ) (m : ℕ) → ((out-Node nd).row ≡ name.Tcon → ⊥) → ((out-Node nd).row ≡ name.Tapp → ⊥) → DenotesPlain a b ns ps (node_view nd) ms m → DenotesEnds a b env ns ps (node_view nd) ms m

@@ -1,7 +1,6 @@
 -- The ends of type expressions without constructors in a declaration: what is settled, and what their nodes denote.
-use Rattle.std.proofs.Common.{◌≡◌, ◌∙◌, ◌++◌, ◌==◌, ℕ, suc, true, false, List, [], ◌∷◌, length, Option, Some, None, refl, sym, ap, subst, arith}
+use Rattle.std.proofs.Common.{◌≡◌, ◌∙◌, ◌==◌, ℕ, suc, true, false, List, [], ◌∷◌, length, Some, None, refl, sym, ap, subst}
 use Rattle.std.specs.Prelude.{codes, slice_get, All}
-use Rattle.std.proofs.lemmas.Bool.{ne_eqb}
 use Rattle.token_model.specs.Kinds.{Tok}
 use Rattle.tree_model.specs.Trees.{Place}
 use Rattle.text_terms.specs.declared.Span.{Span}
@@ -9,8 +8,8 @@ use Rattle.syntax_tree.specs.View.{place_of}
 use Rattle.type_model.specs.Types.{Typ, types_of}
 use Rattle.type_model.specs.Types.{Typ as type}
 use Rattle.signature_model.specs.Declarations.{Name}
-use Rattle.typing_model.specs.Demands.{site, type_variable_word, Condition, same, demand, test, unbound, arity}
-use Rattle.typing_model.specs.Contexts.{Context, parameters, type_at, ask, unresolved}
+use Rattle.typing_model.specs.Demands.{site, type_variable_word, same, demand, test, unbound, arity}
+use Rattle.typing_model.specs.Contexts.{parameters, type_at, unresolved}
 use Rattle.typing_model.specs.Parts as parts
 use Rattle.typing_model.specs.Parts.{TypeExpression}
 use Rattle.typing_model.specs.TypeExpressions.{index_from, variable_asks, types_of_nodes, nodes_of, in_parentheses}
@@ -37,13 +36,7 @@ use Rattle.declared_rows.specs.Operands.{DenotesAlone, DenotesParentheses, Makes
 use Rattle.declared_rows.proofs.Made.{all_inside, all_known, arrow_denotes, tuple_denotes}
 use Rattle.declared_rows.proofs.Going.{assigned_refl}
 use Rattle.declared_rows.proofs.Judged.{settled_as, to_more, unknown_denoted, end_here, faults_assigns, same_faults, judged_denoted}
-
--- what is asked of a type variable, by the number of its parameter
-abbrev by_number : Context → ℕ → Tok → Option ℕ → List Condition
-by_number c n t o = elim o [
-  | None ↦ ask n 0 (parts.place_of t) (test (unbound type_variable_word t.name) false) ++ unresolved c n
-  | Some k ↦ ask n 0 (parts.place_of t) (test (unbound type_variable_word t.name) true) ++ same (type_at c n) (type.Var k) ∷ []
-]
+use Rattle.typing_rows.proofs.DeclaredComposed.{by_number, not_one}
 
 -- 'a, which is a parameter
 pub variable_denotes : (a : Parts) (env : List Entry) (names : List Name) (ps : List ℕ) (n : ℕ) (t : Tok) (k m : ℕ) → index_from 0 t.name names ≡ Some k → slice_get ps k ≡ Some m → DenotesAlone a a env names ps (λ c. variable_asks c n t c.variables) n m
@@ -86,9 +79,6 @@ one_inside a names ps at m env n t ts = λ aloud B around us gives many F arity 
       to = λ new. to_more n (record { on = assigned_refl here; denotes = d });
     }
     by (u ∷ ts) gives many all here = absurd (let e : suc (suc (length (nodes_of ts))) ≡ 1 = many in cc)
-
-not_one : (k : ℕ) → (1 == suc (suc k)) ≡ false
-not_one k = ne_eqb 1 (suc (suc k)) (λ e. absurd (omega arith))
 
 -- ( t, t ), which is no type
 pub several_inside : (a b d : Parts) (names : List Name) (ps : List ℕ) (x y : ℕ) (span : Span) (ms : List ℕ) (v : Verdict) (m : ℕ) → ArityIs v a b span (codes "(,)") 1 (length (x ∷ y ∷ ms)) → OnlyFaults a b → MakesUnknown b d m → DenotesParentheses a d names ps (place_of span) (x ∷ y ∷ ms) m

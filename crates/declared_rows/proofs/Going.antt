@@ -15,7 +15,7 @@ use Rattle.declared_rows.specs.Assignments.{Assignment, Assigns, Denotes, AllDen
 
 -- nothing is done
 abbrev pub assigned_refl : {F : Frame} {arity : ℕ} {U : List ℕ} {a : Sight} {A : Assignment} → Assigns F arity U a A → Assigned F arity U a a A
-assigned_refl {A = A} at = record { after = A; assigns = at; same = λ n lt. refl; keeps = λ m i. i; longer = omega arith; reads = λ V h. h }
+assigned_refl {A = A} at = record { after = A; assigns = at; same = λ n lt. refl; keeps = λ m i. i; older = refl; longer = omega arith; reads = λ V h. h }
 
 -- one step after another
 abbrev pub assigned_then : {F : Frame} {arity arity' : ℕ} {U U' : List ℕ} {a b d : Sight} {A : Assignment} (x : Assigned F arity U a b A) → Assigned F arity' U' b d x.after → Assigned F arity' U' a d A
@@ -24,6 +24,7 @@ assigned_then x y = record {
   assigns = y.assigns;
   same = λ n lt. y.same n (let l = x.longer in omega arith) ∙ x.same n lt;
   keeps = λ m i. y.keeps m (x.keeps m i);
+  older = y.older ∙ x.older;
   longer = let l = x.longer in let m = y.longer in omega arith;
   reads = λ V h. x.reads V (y.reads V h);
 }
@@ -52,11 +53,12 @@ module _ {F : Frame} {a b : Sight} (nodes : b.nodes ≡ a.nodes) (level : b.leve
     loose = subst (λ ns. Loose ns A.types) (sym nodes) at.loose;
     opens = λ m i. open_next reached_still (λ r K own. subst (λ ns. Refines a.nodes ns K) (sym nodes) (refines_none a.nodes K (subst (λ ns. IsOwn ns K) nodes own))) (at.opens m i);
     each = λ J own v l o h e. at.each J (subst (λ ns. IsOwn ns J) nodes own) v l o h (subst (λ ns. slice_get ns v ≡ Some (Var l o)) nodes e);
+    taken = at.taken;
     apart = λ J own v w h i e. at.apart J (subst (λ ns. IsOwn ns J) nodes own) v w h i e;
   }
 
   abbrev pub assigned_still : {arity : ℕ} {U : List ℕ} {A : Assignment} → Assigns F arity U a A → Assigned F arity U a b A
-  assigned_still {A = A} at = record { after = A; assigns = assigns_still at; same = λ n lt. refl; keeps = λ m i. i; longer = let e = ap length nodes in omega arith; reads = λ V h. subst (λ ns. IsReading ns V) nodes h }
+  assigned_still {A = A} at = record { after = A; assigns = assigns_still at; same = λ n lt. refl; keeps = λ m i. i; older = refl; longer = let e = ap length nodes in omega arith; reads = λ V h. subst (λ ns. IsReading ns V) nodes h }
 
 -- a type after a step before it
 abbrev pub to_after : {F : Frame} {arity arity' : ℕ} {U U' : List ℕ} {a b d : Sight} {A : Assignment} {m : ℕ} {t : Typ} (x : Assigned F arity U a b A) → AssignedTo F arity' U' b d x.after m t → AssignedTo F arity' U' a d A m t

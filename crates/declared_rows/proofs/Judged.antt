@@ -30,11 +30,12 @@ assigns_more n at = record {
   loose = at.loose;
   opens = at.opens;
   each = λ J own v l o h e. assigned_same refl (λ k (i, e). (suc i, e)) (omega arith) (at.each J own v l o h e);
+  taken = λ k i. let (j, e) = at.taken k i in (suc j, e);
   apart = at.apart;
 }
 
 abbrev pub to_more : {F : Frame} {arity : ℕ} {U : List ℕ} {a b : Sight} {A : Assignment} {m : ℕ} {t : Typ} (n : ℕ) → AssignedTo F arity U a b A m t → AssignedTo F arity (n ∷ U) a b A m t
-to_more n x = record { on = record { after = x.on.after; assigns = assigns_more n x.on.assigns; same = x.on.same; keeps = x.on.keeps; longer = x.on.longer; reads = x.on.reads }; denotes = x.denotes }
+to_more n x = record { on = record { after = x.on.after; assigns = assigns_more n x.on.assigns; same = x.on.same; keeps = x.on.keeps; older = x.on.older; longer = x.on.longer; reads = x.on.reads }; denotes = x.denotes }
 
 -- conditions with one type for a node, which may be written in another way
 abbrev pub settled_as : {B : Before} {others : Asks} {a b : Sight} {n : ℕ} (t : Typ) (u : Context → Typ) → ((c : Context) → IsBehind B c → u c ≡ t) → ((c : Context) → IsBehind B c → same (type_at c n) (u c) ∷ [] ≡ others c) → b.reports ≡ a.reports → SettledTo B others a b n

@@ -2,6 +2,7 @@ pub mod Opening
 pub mod Made
 pub mod Going
 pub mod Closed
+pub mod Continuing
 pub mod Joined
 pub mod Opened
 pub mod Parts

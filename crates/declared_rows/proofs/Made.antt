@@ -28,9 +28,9 @@ use Rattle.declared_rows.specs.Assignments.{IsAssigned, a_parameter, an_unknown,
 use Rattle.declared_rows.proofs.Opening.{open_scoped, loose_made}
 
 -- what is assigned stays so with the same type, among more type expressions and parameters
-pub assigned_same : {S W : Types} {U U' : List ℕ} {arity arity' o v : ℕ} → W v ≡ S v → ((n : ℕ) → IsIn U n → IsIn U' n) → arity ≤ arity' → IsAssigned S U arity o v → IsAssigned W U' arity' o v
+pub assigned_same : {S W : Types} {older U U' : List ℕ} {arity arity' o v : ℕ} → W v ≡ S v → ((n : ℕ) → IsIn U n → IsIn U' n) → arity ≤ arity' → IsAssigned S older U arity o v → IsAssigned W older U' arity' o v
 assigned_same e more le (a_parameter k scoped lt is) = a_parameter k scoped (omega arith) (e ∙ is)
-assigned_same e more le (an_unknown p n scope u i is) = an_unknown p n scope u (more n i) (e ∙ is)
+assigned_same e more le (an_unknown p n scope u i new is) = an_unknown p n scope u (more n i) new (e ∙ is)
 
 -- the nodes' own types at older nodes are the same
 pub own_older : {old new : List Node} {J K : Types} → IsOwn old J → IsOwn new K → Extends old new → (m : ℕ) → m < length old → K m ≡ J m
@@ -47,10 +47,10 @@ any_same J K (m ∷ ms) v e = let f = e 0 m refl in let g = any_same J K ms v (�
 module _ {F : Frame} {a b : Sight} {s u : List Change} {arity arity' : ℕ} {U U' : List ℕ} {A : Assignment} {n : ℕ} {c : Node} (t : Typ) (at : Assigns F arity U a A) (made : Makes (state a.nodes s) (state b.nodes u) n c) (open_node : IsOpen F b n)
     (more : (k : ℕ) → IsIn U k → IsIn U' k) (le : arity ≤ arity') (fits : FitsLoosely (with_type A.types n t) n c)
     (vars : (K : Types) → IsOwn b.nodes K → (v : ℕ) → occurs v (K n) ≡ true → (stands_in_any K A.nodes v ≡ true) ⊎ ((l : ℕ) × (o : ℕ) × (v ≡ n) × (c ≡ Var l o)))
-    (named : (l o : ℕ) → c ≡ Var l o → IsAssigned (with_type A.types n t) U' arity' o n)
+    (named : (l o : ℕ) → c ≡ Var l o → IsAssigned (with_type A.types n t) A.older U' arity' o n)
     (other : (l o v : ℕ) (J : Types) → c ≡ Var l o → IsOwn a.nodes J → stands_in_any J A.nodes v ≡ true → A.types v ≡ t → ⊥) where
   abbrev pub with_node : Assignment
-  with_node = record { types = with_type A.types n t; nodes = n ∷ A.nodes }
+  with_node = record { types = with_type A.types n t; nodes = n ∷ A.nodes; older = A.older }
 
   older : (m : ℕ) → m < length a.nodes → with_node.types m ≡ A.types m
   older m lt = at_older A.types n t m (let e = made.added.number in omega arith)
@@ -92,13 +92,13 @@ module _ {F : Frame} {a b : Sight} {s u : List Change} {arity arity' : ℕ} {U U
     ]
   ]
 
-  each : (K : Types) → IsOwn b.nodes K → (v l o : ℕ) → stands_in_any K with_node.nodes v ≡ true → slice_get b.nodes v ≡ Some (Var l o) → IsAssigned with_node.types U' arity' o v
+  each : (K : Types) → IsOwn b.nodes K → (v l o : ℕ) → stands_in_any K with_node.nodes v ≡ true → slice_get b.nodes v ≡ Some (Var l o) → IsAssigned with_node.types A.older U' arity' o v
   each K own v l o h e = elim (which K own v h) [
     | inl p ↦ assigned_same (older v p.inside) more le (at.each own_a.0 own_a.1 v l o p.stands (sym (extends.node v p.inside) ∙ e))
     | inr (l', o', p, is) ↦
         let f : Var l o ≡ Var l' o' = one_element (Var l o) (Var l' o') (slice_get b.nodes v) e (ap (slice_get b.nodes) p ∙ made_here (state a.nodes s) (state b.nodes u) n c made ∙ ap (λ x. Some x) is) in
         let g : o' ≡ o = cc in
-        subst (λ k. IsAssigned with_node.types U' arity' k v) g (subst (IsAssigned with_node.types U' arity' o') (sym p) (named l' o' is))
+        subst (λ k. IsAssigned with_node.types A.older U' arity' k v) g (subst (IsAssigned with_node.types A.older U' arity' o') (sym p) (named l' o' is))
   ]
 
   opens : (m : ℕ) → IsIn with_node.nodes m → IsOpen F b m
@@ -114,10 +114,12 @@ module _ {F : Frame} {a b : Sight} {s u : List Change} {arity arity' : ℕ} {U U
       loose = loose_made (state a.nodes s) (state b.nodes u) n c at.reached.sound made A.types t at.loose fits;
       opens = opens;
       each = each;
+      taken = λ k i. more k (at.taken k i);
       apart = apart;
     };
     same = older;
     keeps = λ m (k, e). (suc k, e);
+    older = refl;
     longer = extends.longer;
     reads = λ V h. reading_before a.nodes b.nodes V extends h;
   }
@@ -156,21 +158,21 @@ parameter_made {F} {a} {b} {s} {u} {arity} {o} {n} {U} {A} at scoped made rest =
     (λ l o' e. a_parameter arity (let f : o ≡ o' = cc in λ z. scoped (f ∙ z)) (omega arith) (at_own A.types n (type.Var arity)))
     (λ l o' v J e own h is. let x = in_any v J A.nodes h in let var = own.only x.node v (at.opens x.node (x.place, x.at)).inside x.occurs in no_other (at.each J own v var.level var.scope h var.at) is)
   where
-    no_other : {v scope : ℕ} → IsAssigned A.types U arity scope v → A.types v ≡ type.Var arity → ⊥
+    no_other : {v scope : ℕ} → IsAssigned A.types A.older U arity scope v → A.types v ≡ type.Var arity → ⊥
     no_other (a_parameter k scoped' lt is) e = let f : type.Var k ≡ type.Var arity = sym is ∙ e in let g : k ≡ arity = cc in omega arith
-    no_other (an_unknown p m scope known i is) e = let f : type.Con (p ++ m ∷ []) types.Nil ≡ type.Var arity = sym is ∙ e in cc
+    no_other (an_unknown p m scope known i new is) e = let f : type.Con (p ++ m ∷ []) types.Nil ≡ type.Var arity = sym is ∙ e in cc
 
 -- An unknown type of a further type expression is made.
 pub unknown_made : {F : Frame} {a b : Sight} {s u : List Change} {arity n : ℕ} {U : List ℕ} {A : Assignment} (k : ℕ) → Assigns F arity U a A → (IsIn U k → ⊥) → Makes (state a.nodes s) (state b.nodes u) n (Var F.level 0) → OnlyNodes a b →
     AssignedTo F arity (k ∷ U) a b A n (unknown (k ∷ []))
 unknown_made {F} {a} {b} {s} {u} {arity} {n} {U} {A} k at new_one made rest =
     made_to (unknown (k ∷ [])) at made (open_scoped 0 at.reached made rest) (λ j (i, e). (suc i, e)) (omega arith) tt (λ K own v h. inr (F.level, 0, itself made K own v h, refl))
-    (λ l o e. an_unknown ((2 ^ 64 + 1) ∷ []) k (let f : 0 ≡ o = cc in sym f) refl (zero, refl) (at_own A.types n (unknown (k ∷ []))))
+    (λ l o e. an_unknown ((2 ^ 64 + 1) ∷ []) k (let f : 0 ≡ o = cc in sym f) refl (zero, refl) (λ i. new_one (at.taken k i)) (at_own A.types n (unknown (k ∷ []))))
     (λ l o v J e own h is. let x = in_any v J A.nodes h in let var = own.only x.node v (at.opens x.node (x.place, x.at)).inside x.occurs in no_other (at.each J own v var.level var.scope h var.at) is)
   where
-    no_other : {v scope : ℕ} → IsAssigned A.types U arity scope v → A.types v ≡ unknown (k ∷ []) → ⊥
+    no_other : {v scope : ℕ} → IsAssigned A.types A.older U arity scope v → A.types v ≡ unknown (k ∷ []) → ⊥
     no_other (a_parameter j scoped lt is) e = let f : type.Var j ≡ unknown (k ∷ []) = sym is ∙ e in cc
-    no_other (an_unknown p m scope known i is) e =
+    no_other (an_unknown p m scope known i new is) e =
         let f : type.Con (p ++ m ∷ []) types.Nil ≡ unknown (k ∷ []) = sym is ∙ e in
         let g : p ++ m ∷ [] ≡ ((2 ^ 64 + 1) ∷ []) ++ k ∷ [] = cc in
         new_one (subst (IsIn U) (last_path p ((2 ^ 64 + 1) ∷ []) m k g) i)

@@ -1,7 +1,5 @@
 -- A constructor of types by its path, in a declaration: its node denotes what the declaration that is found gives the arguments.
-use Rattle.std.proofs.Common.{◌≡◌, ◌∙◌, ◌==◌, ℕ, Bool, true, false, List, [], ◌∷◌, length, Option, Some, None, refl, sym, ap, subst, if◌then◌else◌}
-use Rattle.std.specs.declared.rc.Rc.{Rc}
-use Rattle.std.specs.declared.alloc.Global.{Global}
+use Rattle.std.proofs.Common.{◌≡◌, ◌∙◌, ℕ, Bool, true, false, List, [], ◌∷◌, length, Option, Some, None, refl, sym, ap, subst, if◌then◌else◌}
 use Rattle.token_model.specs.Kinds.{Tok}
 use Rattle.text_terms.specs.declared.Span.{Span}
 use Rattle.syntax_tree.specs.View.{place_of}
@@ -14,8 +12,8 @@ use Rattle.signature_model.specs.Entries.{Entry as Named, Referent, kind_of as k
 use Rattle.signature_model.specs.Changes.{argument}
 use Rattle.signature_model.specs.Matching.{used}
 use Rattle.signature_model.specs.Lookups.{FoundAmong, an_entry, a_hole, nothing, lookup}
-use Rattle.typing_model.specs.Demands.{site, type_word, Condition, same, test, arity}
-use Rattle.typing_model.specs.Contexts.{Context, parameters, is_kept, ask, type_at, unresolved, filled_at, filled_in}
+use Rattle.typing_model.specs.Demands.{site, type_word, same, arity}
+use Rattle.typing_model.specs.Contexts.{Context, type_at, unresolved, filled_at}
 use Rattle.typing_model.specs.Parts as parts
 use Rattle.typing_model.specs.Names.{names_of, referent_of, then_by, declaration_in}
 use Rattle.typing_model.specs.TypeExpressions.{types_of_nodes, declared_type, constructor_asks}
@@ -28,7 +26,6 @@ use Rattle.env_table.specs.declared.entries.What as whats
 use Rattle.env_table.specs.declared.entries.What.TheVariants as what
 use Rattle.env_table.specs.Views.{kind_of}
 use Rattle.typing_state.specs.declared.parts.Parts.{Parts}
-use Rattle.typing_state.specs.declared.demands.Verdict.{Verdict}
 use Rattle.typing_state.specs.declared.demands.Verdict.TheVariants.{Kept, Reported}
 use Rattle.typing_state.specs.declared.messages.Word.TheVariants as word
 use Rattle.typing_state.specs.Demands.{ArityIs}
@@ -38,7 +35,6 @@ use Rattle.typing_conditions.specs.Environments.{WhatAs, of_value, of_constructo
 use Rattle.typing_conditions.proofs.Environments.{ComesTo, to_entry, to_hole, to_nothing, lookup_alike}
 use Rattle.typing_conditions.specs.Frames.{Frame}
 use Rattle.typing_conditions.proofs.Equals.{judged_as}
-use Rattle.typing_conditions.proofs.Judged.{kept_right}
 use Rattle.typing_steps.specs.States.{is_aloud, sight}
 use Rattle.typing_steps.specs.Demands.{is_found_here}
 use Rattle.typing_steps.specs.Demands as verdicts
@@ -49,30 +45,14 @@ use Rattle.typing_rows.specs.Settled.{Before, IsBehind, behind, Around, GivesAll
 use Rattle.typing_rows.specs.Around.{TypeAs, TypesAs}
 use Rattle.typing_rows.specs.DeclaredContracts.{declared_by}
 use Rattle.typing_rows.proofs.Settling.{all_left}
-use Rattle.typing_rows.proofs.Judging.{Judges, arity_judges, bound_judges}
-use Rattle.typing_rows.proofs.DeclaredNamed.{found_type, FindsType}
+use Rattle.typing_rows.proofs.Judging.{bound_judges}
+use Rattle.typing_rows.proofs.DeclaredNamed.{found_type, FindsType, counted, kept_last, over_fixed}
 use Rattle.declared_rows.specs.Assignments.{Assignment, Assigns, AllDenote}
 use Rattle.declared_rows.specs.Contracts.{KnownAs, IsKnownBy, Inside, EndDenoted, DenotesEnd, MakesUnknown, DenotesDeclared, DenotesNamed}
 use Rattle.declared_rows.specs.Applied.{AppliesWith, over_types}
 use Rattle.declared_rows.proofs.Judged.{settled_as, unknown_denoted, end_here, same_faults, faults_assigns, judged_denoted}
-
--- the demand on the number of arguments
-counted : (a b : Parts) {B : Before} (t : Tok) (n k given many : ℕ) (span : Span) (v : Verdict) → place_of span ≡ parts.place_of t → many ≡ given → is_aloud a.telling ≡ true → ArityIs v a b span t.name k given →
-    Judges B (λ c. ask n 1 (parts.place_of t) (test (arity t.name k many) (k == many))) (sight a) (sight b) (site n 1) (verdicts.is_kept v)
-counted a b {B} t n k given many span v place counts aloud is =
-    subst (λ p. Judges B (λ c. ask n 1 p (test (arity t.name k many) (k == many))) (sight a) (sight b) (site n 1) (verdicts.is_kept v)) place
-    (subst (λ m. Judges B (λ c. ask n 1 (place_of span) (test (arity t.name k m) (k == m))) (sight a) (sight b) (site n 1) (verdicts.is_kept v)) (sym counts) (arity_judges a b (site n 1) v aloud is))
-
--- the last judgement before a context is kept so
-kept_last : (B : Before) {c : Context} (n k : ℕ) (v : Bool) → IsBehind (behind B (judged_as (site n k) v) []) c → is_kept c n k ≡ v
-kept_last B {c} n k v h = (kept_right c.kept B.judged (judged_as (site n k) v) h.kept).0
-
-over_fixed : {B : Before} {c : Context} (names : List Name) (n : ℕ) (ns : List ℕ) (ts : List Typ) (u : Typ) → B.names ≡ names → GivesAll B.fixes ns ts → IsBehind B c →
-    used (argument (types_of (types_of_nodes c ns))) (filled_at c n) u ≡ over_types n ts u
-over_fixed {B} {c} names n ns ts u are gives h =
-    let same = gives c.chosen h.fixed in
-    let fill = ap (λ v. filled_in c n v) (h.variables ∙ ap parameters are) in
-    λ i. used (argument (types_of (same i))) (fill i) u
+use Rattle.typing_rows.proofs.Named.{after_lookup, path_to}
+use Rattle.typing_rows.proofs.Declared.{of_declared}
 
 -- The node of a name denotes its declaration over the arguments, where there are as many as it takes.
 pub declared_kept : (a b d : Parts) (names : List Name) (t : Tok) (decl : Declaration) (ms : List ℕ) (m : ℕ) (span : Span) → place_of span ≡ parts.place_of t → ArityIs Kept a b span t.name decl.arity (length ms) → (sight d).reports ≡ (sight b).reports → AppliesWith b d decl ms m → DenotesDeclared (Some decl) a d names t ms m
@@ -88,10 +68,6 @@ pub declared_reported : (a b d : Parts) (names : List Name) (t : Tok) (decl : De
 declared_reported a b d names t decl ms m span place is rest made = λ aloud B n ns ts u are gives many F arity U A here known all.
     judged_denoted a b d (counted a b t n decl.arity (length ms) (length ns) span Reported place many aloud is) rest here
     (unknown_denoted b d _ n m (λ c h. sym (ap (λ (v : Bool). if v then same (type_at c n) (used (argument (types_of (types_of_nodes c ns))) (filled_at c n) u) ∷ [] else unresolved c n) (kept_last B n 1 false h))) names are (faults_assigns a b rest here) made)
-
-of_declared : (d : Rc Declaration Global) → declared_in (what.Type d) ≡ Some d.value
-unfolding whats.out-What denote.Hole.Carrier.out
-of_declared d = refl
 
 -- The declaration of a type that is found stands for one of the definitions.
 module _ {R : ℕ → Scheme → Type 0} {D : Declaration → rules.Declaration → Type 0} {X : Constructor → Option Typ → Type 0} where
@@ -115,14 +91,6 @@ module _ {R : ℕ → Scheme → Type 0} {D : Declaration → rules.Declaration 
       entry_known d h (ap (λ (q : Entry). kind_of q.kind) s ∙ is) (ap (λ (q : Entry). declared_in q.what) s ∙ there)
   found_known x d f is to_hole there = absurd (cc)
   found_known x d f is to_nothing there = absurd (cc)
-
--- the path of a name that is there
-abbrev path_to : List Tok → Tok → parts.Written
-path_to qs t = record { qualifiers = qs; last = Some t }
-
--- what is asked once the path is looked up
-abbrev after_lookup : Context → ℕ → List Tok → Tok → List ℕ → List Condition
-after_lookup c n qs t ns = declared_type c n t ns (if is_kept c n 0 then then_by (referent_of (lookup c.env (names_of qs) type_kind t.name)) declaration_in else None)
 
 -- the faults alone change in the look-up
 lookup_faults : (a b : Parts) (given : Option Entry) (lost : Option Tok) (t : Tok) (f : FoundAmong Entry) → BoundIs f given a b lost t word.Type → OnlyFaults a b

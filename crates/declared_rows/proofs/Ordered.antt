@@ -1,7 +1,6 @@
 -- Type expressions of a declaration in order, and a node with its parts: what they denote.
-use Rattle.std.proofs.Common.{◌≡◌, ◌∙◌, ◌++◌, ◌&&◌, ℕ, zero, suc, true, List, [], ◌∷◌, length, map, Some, None, refl, sym, ap, subst, append_assoc, append-nil, arith, if◌then◌else◌}
+use Rattle.std.proofs.Common.{◌≡◌, ◌∙◌, ◌++◌, ℕ, suc, true, List, [], ◌∷◌, refl, sym, ap, subst, append_assoc, append-nil, ◌<◌, ◌^◌}
 use Rattle.type_model.specs.Types.{Typ}
-use Rattle.type_model.proofs.Applying.{eqb_same}
 use Rattle.signature_model.specs.Declarations.{Name}
 use Rattle.typing_model.specs.Contexts.{Context, tell}
 use Rattle.typing_model.specs.Parts.{TypeExpression}
@@ -9,7 +8,6 @@ use Rattle.typing_model.specs.TypeExpressions.{read_all, nodes_of}
 use Rattle.env_table.specs.declared.entries.Declaration.{Declaration}
 use Rattle.env_table.specs.declared.entries.Entry.{Entry}
 use Rattle.env_table.specs.declared.seen.Seen.{Seen}
-use Rattle.typed_index.specs.Seen.{seen_at, with_note}
 use Rattle.typing_state.specs.declared.parts.Parts.{Parts}
 use Rattle.typing_state.specs.declared.parts.Telling.{Telling}
 use Rattle.typing_state.specs.declared.parts.Telling.TheVariants.{Aloud, Quiet}
@@ -22,7 +20,8 @@ use Rattle.typing_steps.specs.States.{is_aloud, written_in, sight}
 use Rattle.operand_laws.specs.Operands.{number_of}
 use Rattle.typing_rows.specs.Settled.{Before, IsBehind, behind}
 use Rattle.typing_rows.proofs.Settling.{settled_none, settled_trans, settled_here, settled_told, fixed_left, fixed_right, gives_right, all_right}
-use Rattle.typing_rows.proofs.DeclaredOrdered.{index_reports}
+use Rattle.typing_rows.proofs.DeclaredOrdered.{index_reports, map_last, one_longer}
+use Rattle.typing_rows.proofs.Noted.{noted_on, not_noted, more_noted}
 use Rattle.declared_rows.specs.Assignments.{Assignment, Assigns, Assigned, none_denote, one_denotes}
 use Rattle.declared_rows.specs.Contracts.{AreNoted, Inside, AllDenoted, DenotesTo, DenotesAll, DenotesFirst, DenotesRow, DenotesEnd}
 use Rattle.declared_rows.specs.Operands.{DenotesAlone}
@@ -31,10 +30,6 @@ use Rattle.declared_rows.proofs.Going.{assigned_still, denotes_on, to_after, to_
 -- what stands around a type expression stands around the next one
 pub inside_on : {F : Frame} {arity : ℕ} {U U' : List ℕ} {a b : Parts} {A : Assignment} {named : Declaration → Typ} {env : List Entry} {ps : List ℕ} → Inside F arity U a A named env ps → (x : Assigned F arity U' (sight a) (sight b) A) → Inside F arity U' b x.after named env ps
 inside_on h x = record { assigns = x.assigns; types = h.types; parameters = λ k p e. denotes_on h.assigns x (h.parameters k p e) }
-
--- what is recorded stays so
-pub noted_on : {a b : Parts} (U : List ℕ) → AreNoted U a → Goes a b → AreNoted U b
-noted_on {b = b} U noted goes = λ k i. let (p, seen, e, there) = noted k i in (p, seen, e ∙ ap (λ j. number_of j p) (sym goes.item), ap (λ j. seen_at b.index j p) goes.item ∙ goes.recorded _ p seen there)
 
 -- what is recorded leaves an assignment
 abbrev pub index_still : {F : Frame} {arity : ℕ} {U : List ℕ} {A : Assignment} (b d : Parts) → OnlyIndex b d → Assigns F arity U (sight b) A → Assigned F arity U (sight b) (sight d) A
@@ -74,38 +69,22 @@ first_note b d number seen aloud noted = by b.telling aloud noted
     by Aloud aloud noted = noted
     by Quiet aloud noted = absurd (cc)
 
-here_noted : (i p : ℕ) (seen : Seen) (f : ℕ → ℕ → _) → with_note i p seen f i p ≡ Some seen
-here_noted i p seen f = (λ k. if eqb_same i k && eqb_same p k then Some seen else f i p)
-
 -- Once its node is recorded, which it wasn't before, a type expression denotes its type.
-pub noted_denotes : (a b d : Parts) (env : List Entry) (names : List Name) (ps : List ℕ) (asks : Asks) (number m : ℕ) (seen : Seen) → DenotesRow a b env names ps asks (number_of a.item number) m → Goes a b → Noted b.telling b d number seen → OnlyIndex b d → Goes b d →
+pub noted_denotes : (a b d : Parts) (env : List Entry) (names : List Name) (ps : List ℕ) (asks : Asks) (number m : ℕ) (seen : Seen) → number < 2 ^ 32 → DenotesRow a b env names ps asks (number_of a.item number) m → Goes a b → Noted b.telling b d number seen → OnlyIndex b d → Goes b d →
     DenotesTo a d env names ps (λ c. tell (number_of a.item number) c ++ asks c) (number_of a.item number) m
-noted_denotes a b d env names ps asks number m seen read goes note rest goes' = λ aloud B around F arity U A inside noted.
+noted_denotes a b d env names ps asks number m seen small read goes note rest goes' = λ aloud B around F arity U A inside noted.
     let n = number_of a.item number in
     let x = read aloud (behind B [] []) around F arity U A inside noted in
     let first = first_note b d number seen (ap is_aloud goes.telling ∙ aloud) note in
-    let to = x.to (λ i. fresh x.numbers x.noted first i) in
+    let item : n ≡ number_of b.item number = ap (λ j. number_of j number) (sym goes.item) in
+    let to = x.to (λ i. not_noted x.numbers x.noted small first (subst (IsIn x.numbers) item i)) in
     let still = index_still b d rest to.on.assigns in
     record {
       settled = record { judged = x.settled.judged; told = x.settled.told; fixes = x.settled.fixes; type = x.settled.type; reports = index_reports b d rest ∙ x.settled.reports; settled = settled_trans (settled_told n) x.settled.settled; gives = x.settled.gives };
       numbers = n ∷ x.numbers;
       to = to_before to still;
-      noted = all_noted x.numbers (noted_on x.numbers x.noted goes') first;
+      noted = subst (λ k. AreNoted (k ∷ x.numbers) d) (sym item) (more_noted x.numbers (noted_on x.numbers x.noted goes') small first);
     }
-  where
-    fresh : (U : List ℕ) → AreNoted U b → NotedFirst b d number seen → IsIn U (number_of a.item number) → ⊥
-    fresh U noted first i =
-        let (p, old, e, there) = noted (number_of a.item number) i in
-        let f : number_of b.item number ≡ number_of b.item p = ap (λ j. number_of j number) goes.item ∙ e in
-        let g : number ≡ p = omega arith in
-        let h : None ≡ Some old = sym first.before ∙ ap (seen_at b.index b.item) g ∙ there in
-        absurd (cc)
-
-    all_noted : (U : List ℕ) → AreNoted U d → NotedFirst b d number seen → AreNoted (number_of a.item number ∷ U) d
-    all_noted U noted first k (zero, e) =
-        let s : number_of a.item number ≡ k = cc in
-        (number, seen, sym s ∙ ap (λ j. number_of j number) (sym (goes'.item ∙ goes.item)), first.after d.item number ∙ ap (λ j. with_note b.item number seen (seen_at b.index) j number) goes'.item ∙ here_noted b.item number seen (seen_at b.index))
-    all_noted U noted first k (suc i, e) = noted k (i, e)
 
 -- no type expression yet
 pub none_denoted : (a : Parts) (env : List Entry) (names : List Name) (ps : List ℕ) (all : List TypeExpression) → DenotesFirst a a env names ps all all []
@@ -121,14 +100,6 @@ none_denoted a env names ps all = λ aloud B around F arity U A inside noted. re
   asks = λ c. refl;
   gives = refl;
 }
-
-map_last : (f : ℕ → Typ) (ns : List ℕ) (n : ℕ) → map f (ns ++ n ∷ []) ≡ map f ns ++ f n ∷ []
-map_last f [] n = refl
-map_last f (k ∷ ns) n = ap (λ ts. f k ∷ ts) (map_last f ns n)
-
-one_longer : (ns : List ℕ) (n : ℕ) → length (ns ++ n ∷ []) ≡ suc (length ns)
-one_longer [] n = refl
-one_longer (k ∷ ns) n = ap suc (one_longer ns n)
 
 -- one type expression more
 pub one_denoted : (a b d : Parts) (env : List Entry) (names : List Name) (ps : List ℕ) (all left : List TypeExpression) (t : TypeExpression) (ms : List ℕ) (m : ℕ) → DenotesFirst a b env names ps all (t ∷ left) ms → Goes a b → DenotesTo b d env names ps (λ c. t.read c) t.node m →

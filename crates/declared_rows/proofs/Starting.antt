@@ -92,15 +92,16 @@ module _ (a : Sight) (I : Types) (own : IsOwn a.nodes I) (roots : List ℕ) (ins
   frame_is = record { own = own; context = context_at 1; free = omega arith }
 
   -- the first assignment, in which the node denotes its own type
-  abbrev pub first_assignment : Assignment
-  first_assignment = record { types = I; nodes = n ∷ [] }
+  abbrev pub first_assignment : List ℕ → Assignment
+  first_assignment older = record { types = I; nodes = n ∷ []; older = older }
 
-  pub first_assigns : (b : Sight) → b.nodes ≡ a.nodes → b.level ≡ 1 → IsSound a.nodes → Assigns F 0 [] b first_assignment
-  first_assigns b nodes level sound = record {
+  pub first_assigns : (older : List ℕ) (b : Sight) → b.nodes ≡ a.nodes → b.level ≡ 1 → IsSound a.nodes → Assigns F 0 older b (first_assignment older)
+  first_assigns older b nodes level sound = record {
     reached = reached;
     loose = subst (λ ns. Loose ns I) (sym nodes) own.loose;
     opens = λ m (k, e). by k m e;
     each = λ J own_j v l o h e. absurd (no_var J own_j v h);
+    taken = λ k i. i;
     apart = λ J own_j v w h i e. absurd (no_var J own_j v h);
   }
     where

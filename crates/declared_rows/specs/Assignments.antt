@@ -11,23 +11,25 @@ use Rattle.typing_conditions.specs.Standing.{IsIn}
 use Rattle.typing_conditions.specs.Sights.{Sight, SameAt}
 use Rattle.typing_conditions.specs.Frames.{Frame, Reaches, IsOpen}
 
--- A variable of this scope is assigned a type: that of a parameter, which has its number, or an unknown type of one of the type expressions U, whose number its path ends with.
-pub data IsAssigned (S : Types) (U : List ℕ) (arity scope v : ℕ) : Type 0 where
-  a_parameter : (k : ℕ) → scope ≢ 0 → k < arity → S v ≡ type.Var k → IsAssigned S U arity scope v
-  an_unknown : (o : Path) (n : ℕ) → scope ≡ 0 → is_unknown o ≡ true → IsIn U n → S v ≡ type.Con (o ++ n ∷ []) types.Nil → IsAssigned S U arity scope v
+-- A variable of this scope is assigned a type: that of a parameter, which has its number, or an unknown type of one of the type expressions U that is no older one, whose number its path ends with.
+pub data IsAssigned (S : Types) (older U : List ℕ) (arity scope v : ℕ) : Type 0 where
+  a_parameter : (k : ℕ) → scope ≢ 0 → k < arity → S v ≡ type.Var k → IsAssigned S older U arity scope v
+  an_unknown : (o : Path) (n : ℕ) → scope ≡ 0 → is_unknown o ≡ true → IsIn U n → (IsIn older n → ⊥) → S v ≡ type.Con (o ++ n ∷ []) types.Nil → IsAssigned S older U arity scope v
 
--- types for the nodes of a state, and nodes of which it is known what they denote
+-- types for the nodes of a state, nodes of which it is known what they denote, and the type expressions of before the declaration that may have unknown types
 pub record Assignment : Type 0 where
   pub types : Types
   pub nodes : List ℕ
+  pub older : List ℕ
 
 -- An assignment in a declaration over so many parameters: its types fit, its nodes may be unified, and each variable that stands in them is a parameter or an unknown
--- type of one of the type expressions U; no two are the same one.
+-- type of one of the type expressions U that is no older one; no two are the same one. The older type expressions are among U.
 pub record Assigns (F : Frame) (arity : ℕ) (U : List ℕ) (a : Sight) (A : Assignment) : Type 0 where
   pub reached : Reaches F a
   pub loose : Loose a.nodes A.types
   pub opens : (m : ℕ) → IsIn A.nodes m → IsOpen F a m
-  pub each : (J : Types) → IsOwn a.nodes J → (v l o : ℕ) → stands_in_any J A.nodes v ≡ true → slice_get a.nodes v ≡ Some (Var l o) → IsAssigned A.types U arity o v
+  pub each : (J : Types) → IsOwn a.nodes J → (v l o : ℕ) → stands_in_any J A.nodes v ≡ true → slice_get a.nodes v ≡ Some (Var l o) → IsAssigned A.types A.older U arity o v
+  pub taken : (k : ℕ) → IsIn A.older k → IsIn U k
   pub apart : (J : Types) → IsOwn a.nodes J → (v w : ℕ) → stands_in_any J A.nodes v ≡ true → stands_in_any J A.nodes w ≡ true → A.types v ≡ A.types w → v ≡ w
 
 -- a node denotes a type by an assignment
@@ -46,6 +48,7 @@ pub record Assigned (F : Frame) (arity : ℕ) (U : List ℕ) (a b : Sight) (A : 
   pub assigns : Assigns F arity U b after
   pub same : SameAt a.nodes A.types after.types
   pub keeps : (m : ℕ) → IsIn A.nodes m → IsIn after.nodes m
+  pub older : after.older ≡ A.older
   pub longer : length a.nodes ≤ length b.nodes
   pub reads : (V : Types) → IsReading b.nodes V → IsReading a.nodes V
 

@@ -15,8 +15,6 @@ use Rattle.type_nodes.specs.Readings.{Types}
 use Rattle.env_table.specs.declared.entries.Constructor.{Constructor}
 use Rattle.env_table.specs.declared.entries.Declaration.{Declaration}
 use Rattle.env_table.specs.declared.entries.Entry.{Entry}
-use Rattle.env_table.specs.declared.seen.Seen.{Seen}
-use Rattle.typed_index.specs.Seen.{seen_at}
 use Rattle.typing_state.specs.declared.parts.Parts.{Parts}
 use Rattle.typing_state.specs.Goes.{OnlyStore}
 use Rattle.typing_state.specs.Types.{MakesVar}
@@ -26,10 +24,10 @@ use Rattle.typing_conditions.specs.Declared.{DeclaredAs}
 use Rattle.typing_conditions.specs.Frames.{Frame}
 use Rattle.typing_conditions.specs.Carrying.{Asks}
 use Rattle.typing_steps.specs.States.{is_aloud, sight}
-use Rattle.operand_laws.specs.Operands.{number_of}
 use Rattle.typing_rows.specs.Declaring.{declared_in}
 use Rattle.typing_rows.specs.Settled.{Before, Around, GivesAll, SettledTo, AllSettled}
 use Rattle.typing_rows.specs.DeclaredContracts.{declared_by}
+pub use Rattle.typing_rows.specs.Noted.{AreNoted}
 use Rattle.declared_rows.specs.Assignments.{Assignment, Assigns, Denotes, AllDenote, AssignedTo, AllAssigned}
 
 -- a declaration of the code stands for one of the definitions that has the type by which the code's is known
@@ -52,10 +50,6 @@ pub record IsKnownBy (F : Frame) (d : Declaration) (u : Typ) : Type 0 where
 -- these nodes denote the parameters, by their numbers
 abbrev pub AreParameters : Assignment → List ℕ → Type 0
 AreParameters A ps = (k p : ℕ) → slice_get ps k ≡ Some p → Denotes A p (type.Var k)
-
--- something is recorded for each of these type expressions of the present item
-abbrev pub AreNoted : List ℕ → Parts → Type 0
-AreNoted U a = (k : ℕ) → IsIn U k → (p : ℕ) × (seen : Seen) × (k ≡ number_of a.item p) × (seen_at a.index a.item p ≡ Some seen)
 
 -- what stands around a type expression of a declaration: an assignment, names of types, and the nodes of the parameters
 pub record Inside (F : Frame) (arity : ℕ) (U : List ℕ) (a : Parts) (A : Assignment) (named : Declaration → Typ) (env : List Entry) (ps : List ℕ) : Type 0 where

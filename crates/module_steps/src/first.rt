@@ -5,8 +5,7 @@ ghost use Rattle.typing_state.specs.BuiltIns.{number_of};
 ghost use Rattle.typing_state.specs.Goes.{Goes, OnlyStore};
 ghost use Rattle.typing_steps.specs.Constants.{HasConstants};
 ghost use Rattle.typing_steps.specs.States.{sight};
-ghost use Rattle.typing_steps.specs.Typing.{as_declared};
-ghost use Rattle.binding_rows.specs.Outside.{Outside};
+ghost use Rattle.first_laws.specs.Declaring.{StartsAmong};
 ghost use Rattle.first_laws.specs.Built.{arity_of, MakesRoot, DeclaresBuiltIn, EntersBuiltIn, EntersAll};
 ghost use Rattle.module_steps.specs.First.{IsBuiltIn, HasBuiltIns};
 
@@ -93,7 +92,7 @@ fn with_all(at: &mut Parts, all: &[BuiltIn]) -> Result<Env, NoMemory>
 /// The environment of the built-in types alone, the last one newest.
 pub fn built_ins(at: &mut Parts) -> Result<Env, NoMemory>
     ensures entries { IfOk result (λ env. HasBuiltIns BuiltIn.ALL [] env) }
-    ensures outside { IfOk result (λ env. at.old.level ≡ 0 → Outside as_declared (sight at.new) [] env (λ ch. built_in_names)) }
+    ensures outside { IfOk result (λ env. at.old.level ≡ 0 → StartsAmong (sight at.new) [] env (λ ch. built_in_names) []) }
     ensures constants { OnOk result (HasConstants at.old → HasConstants at.new) }
     ensures goes { Goes at.old at.new }
 {

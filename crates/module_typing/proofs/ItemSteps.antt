@@ -18,35 +18,27 @@ use Rattle.env_table.specs.declared.entries.Kind.TheVariants as kind
 use Rattle.typing_state.specs.declared.parts.Parts.{Parts}
 use Rattle.typing_state.specs.Goes.{Goes, OnlyIndex}
 use Rattle.typing_state.specs.Notes.{NotedNameless}
-use Rattle.typing_steps.specs.States.{is_aloud, sight}
+use Rattle.typing_steps.specs.States.{is_aloud}
 use Rattle.typing_steps.specs.Typing.{as_declared}
-use Rattle.typing_steps.proofs.Still.{plain_notes, notes_unseen, notes_untold}
 use Rattle.typing_steps.proofs.Starting.{constants_kept}
-use Rattle.core_typing.specs.Items.{Outside, OnlyBetween, IsCarriedPart, IsCarriedItemOperand, IsItemNode, ItemsDone, GivesLet, item_at, items_at}
-use Rattle.core_typing.proofs.ItemLaws.{done_none, done_then, let_done, idle_given}
+use Rattle.core_typing.specs.Items.{IsCarriedPart, IsCarriedItemOperand, IsItemNode, IsExceptionNode, ItemsDone, GivesLet, GivesException, item_at, items_at}
+use Rattle.core_typing.proofs.ItemLaws.{done_none, done_then, let_done, idle_given, exception_done, noted_between, noted_on}
 use Rattle.module_steps.specs.declared.scenes.Scene.{Scene}
 use Rattle.module_steps.specs.Scenes.{has_name, SameNames}
-use Rattle.module_typing.proofs.NodeRows.{row_there, only_let, only_break, break_there}
+use Rattle.module_typing.proofs.NodeRows.{row_there, only_let, only_break, only_exception, break_there}
 use Rattle.module_typing.specs.Items.{HasSeen, IsGiven, GivesItem, GivesItems, NamesNone, GivesFirst, GivesItemsFirst}
 
 -- a scene in which the same names stand has them
 seen_same : {s s' : Scene} {seen : Seen} → SameNames s s' → HasSeen s seen → HasSeen s' seen
 seen_same same h = record { types = λ n. same kind.TypeName n ∙ h.types n; modules = λ n. same kind.Module n ∙ h.modules n; module_types = λ n. same kind.ModuleType n ∙ h.module_types n }
 
--- a node is noted without a type
-between : (a b : Parts) (number : ℕ) (env : List Entry) → NotedNameless a b number env None → OnlyIndex a b → OnlyBetween (sight a) (sight b)
-between a b number env noted rest =
-    let notes = plain_notes a b number env noted rest in
-    let only = notes_unseen a b notes in
-    record { nodes = only.nodes; types = only.types; reports = notes_untold a b notes; aloud = only.aloud; level = only.level; fixed = only.fixed }
-
 -- what is missing is noted, and nothing else is done
 pub missing_given : {A F : Type 0} (r : Result A F) (a b : Parts) (s : Scene) (x : Operand) → x.node ≡ None → OnOk r (NotedNameless a b x.number s.env None) → OnlyIndex a b → Goes a b → OnOk r (GivesItem a b s s (operand_view x))
 missing_given (Err e) a b s x none noted rest goes = tt
-missing_given (Ok v) a b s x none noted rest goes = λ G E seen carried aloud at constants standing.
+missing_given (Ok v) a b s x none noted rest goes = λ G E seen carried aloud at constants older standing.
     subst (λ p. IsGiven E (item_at a.item (numbered x.number (place_of x.span) p)) seen a b G s) (sym (ap (λ o. part_of o x.span) none)) (record {
       names = seen;
-      done = done_none seen (between a b x.number s.env noted rest) at (constants_kept a b goes constants);
+      done = done_none seen (noted_between a b x.number s.env noted rest) at (constants_kept a b goes constants) (noted_on at.older older goes);
       standing = standing;
     })
 
@@ -57,42 +49,70 @@ there x nd e = ap (λ o. part_of o x.span) e
 -- `;;` is noted
 pub break_given : {A F : Type 0} (r : Result A F) (a b : Parts) (s : Scene) (x : Operand) (nd : Bor Node) → x.node ≡ Some nd → (out-Node nd.now).row ≡ name.Break → OnOk r (NotedNameless a b x.number s.env None) → OnlyIndex a b → Goes a b → OnOk r (GivesItem a b s s (operand_view x))
 break_given (Err e) a b s x nd some row noted rest goes = tt
-break_given (Ok v) a b s x nd some row noted rest goes = λ G E seen carried aloud at constants standing.
+break_given (Ok v) a b s x nd some row noted rest goes = λ G E seen carried aloud at constants older standing.
     subst (λ p. IsGiven E (item_at a.item (numbered x.number (place_of x.span) p)) seen a b G s) (sym (there x nd some)) (record {
       names = seen;
-      done = idle_given a b s.env x.number (place_of x.span) (node_view nd.now) G E seen (break_there nd.now row) (between a b x.number s.env noted rest) at (constants_kept a b goes constants);
+      done = idle_given a b s.env x.number (place_of x.span) (node_view nd.now) G E seen (break_there nd.now row) (noted_between a b x.number s.env noted rest) at (constants_kept a b goes constants) (noted_on at.older older goes);
       standing = standing;
     })
 
 -- A `let` is typed.
 pub let_item_given : {A F : Type 0} (r : Result A F) (a b : Parts) (s s' : Scene) (x : Operand) (nd : Bor Node) → x.node ≡ Some nd → (out-Node nd.now).row ≡ name.Let → OnOk r (GivesLet a b s.env s'.env x.number (node_view nd.now)) → SameNames s s' → OnOk r (GivesItem a b s s' (operand_view x))
 let_item_given (Err e) a b s s' x nd some row gives same = tt
-let_item_given (Ok v) a b s s' x nd some row gives same = λ G E seen carried aloud at constants standing.
+let_item_given (Ok v) a b s s' x nd some row gives same = λ G E seen carried aloud at constants older standing.
     subst (λ p. IsGiven E (item_at a.item (numbered x.number (place_of x.span) p)) seen a b G s') (sym (there x nd some)) (record {
       names = seen;
-      done = let_done a b s.env s'.env x.number (place_of x.span) (node_view nd.now) G E seen (is_let carried) aloud at constants gives;
+      done = let_done a b s.env s'.env x.number (place_of x.span) (node_view nd.now) G E seen (is_let carried) aloud at constants older gives;
       standing = seen_same same standing;
     })
   where
     is_let : IsCarriedItemOperand (operand_view x) → IsItemNode x.number (node_view nd.now)
     is_let carried = elim (subst (IsCarriedPart x.number) (there x nd some) carried) [
       | inl item ↦ item
-      | inr break ↦ absurd (let b : name.Let ≡ name.Break = sym row ∙ only_break (out-Node nd.now).row (sym (row_there nd.now) ∙ break) in cc)
+      | inr other ↦ elim other [
+        | inl break ↦ absurd (let b : name.Let ≡ name.Break = sym row ∙ only_break (out-Node nd.now).row (sym (row_there nd.now) ∙ break) in cc)
+        | inr thrown ↦ absurd (let b : name.Let ≡ name.Exception = sym row ∙ only_exception (out-Node nd.now).row (sym (row_there nd.now) ∙ thrown.row) in cc)
+      ]
+    ]
+
+-- An exception is declared.
+pub exception_given : {A F : Type 0} (r : Result A F) (a b : Parts) (s s' : Scene) (x : Operand) (nd : Bor Node) → x.node ≡ Some nd → (out-Node nd.now).row ≡ name.Exception → OnOk r (GivesException a b s.env s'.env x.number (node_view nd.now)) → SameNames s s' → OnOk r (GivesItem a b s s' (operand_view x))
+exception_given (Err e) a b s s' x nd some row gives same = tt
+exception_given (Ok v) a b s s' x nd some row gives same = λ G E seen carried aloud at constants older standing.
+    subst (λ p. IsGiven E (item_at a.item (numbered x.number (place_of x.span) p)) seen a b G s') (sym (there x nd some)) (record {
+      names = seen;
+      done = exception_done a b s.env s'.env x.number (place_of x.span) (node_view nd.now) G E seen (is_exception carried) aloud at constants older gives;
+      standing = seen_same same standing;
+    })
+  where
+    is_exception : IsCarriedItemOperand (operand_view x) → IsExceptionNode x.number (node_view nd.now)
+    is_exception carried = elim (subst (IsCarriedPart x.number) (there x nd some) carried) [
+      | inl item ↦ absurd (let b : name.Exception ≡ name.Let = sym row ∙ only_let (out-Node nd.now).row (sym (row_there nd.now) ∙ item.row) in cc)
+      | inr other ↦ elim other [
+        | inl break ↦ absurd (let b : name.Exception ≡ name.Break = sym row ∙ only_break (out-Node nd.now).row (sym (row_there nd.now) ∙ break) in cc)
+        | inr thrown ↦ thrown
+      ]
     ]
 
 -- an item of another row isn't one that is carried
-pub other_item : {A F : Type 0} (r : Result A F) (a b : Parts) (s s' : Scene) (x : Operand) (nd : Bor Node) → x.node ≡ Some nd → ((out-Node nd.now).row ≡ name.Let → ⊥) → ((out-Node nd.now).row ≡ name.Break → ⊥) → OnOk r (GivesItem a b s s' (operand_view x))
-other_item (Err e) a b s s' x nd some no_let no_break = tt
-other_item (Ok v) a b s s' x nd some no_let no_break = λ G E seen carried aloud at constants standing. absurd (elim (subst (IsCarriedPart x.number) (there x nd some) carried) [
+pub other_item : {A F : Type 0} (r : Result A F) (a b : Parts) (s s' : Scene) (x : Operand) (nd : Bor Node) → x.node ≡ Some nd → ((out-Node nd.now).row ≡ name.Let → ⊥) → ((out-Node nd.now).row ≡ name.Break → ⊥) → ((out-Node nd.now).row ≡ name.Exception → ⊥) → OnOk r (GivesItem a b s s' (operand_view x))
+other_item (Err e) a b s s' x nd some no_let no_break no_exception = tt
+other_item (Ok v) a b s s' x nd some no_let no_break no_exception = λ G E seen carried aloud at constants older standing. absurd (elim (subst (IsCarriedPart x.number) (there x nd some) carried) [
   | inl item ↦ no_let (only_let (out-Node nd.now).row (sym (row_there nd.now) ∙ item.row))
-  | inr break ↦ no_break (only_break (out-Node nd.now).row (sym (row_there nd.now) ∙ break))
+  | inr other ↦ elim other [
+    | inl break ↦ no_break (only_break (out-Node nd.now).row (sym (row_there nd.now) ∙ break))
+    | inr thrown ↦ no_exception (only_exception (out-Node nd.now).row (sym (row_there nd.now) ∙ thrown.row))
+  ]
 ])
 
 -- and names something, as far as is known
-pub other_names : (s s' : Scene) (x : Operand) (nd : Bor Node) → x.node ≡ Some nd → ((out-Node nd.now).row ≡ name.Let → ⊥) → ((out-Node nd.now).row ≡ name.Break → ⊥) → NamesNone (operand_view x).part → SameNames s s'
-other_names s s' x nd some no_let no_break none = absurd (elim (subst NamesNone (there x nd some) none) [
+pub other_names : (s s' : Scene) (x : Operand) (nd : Bor Node) → x.node ≡ Some nd → ((out-Node nd.now).row ≡ name.Let → ⊥) → ((out-Node nd.now).row ≡ name.Break → ⊥) → ((out-Node nd.now).row ≡ name.Exception → ⊥) → NamesNone (operand_view x).part → SameNames s s'
+other_names s s' x nd some no_let no_break no_exception none = absurd (elim (subst NamesNone (there x nd some) none) [
   | inl let_is ↦ no_let (only_let (out-Node nd.now).row (sym (row_there nd.now) ∙ let_is))
-  | inr break_is ↦ no_break (only_break (out-Node nd.now).row (sym (row_there nd.now) ∙ break_is))
+  | inr other ↦ elim other [
+    | inl break_is ↦ no_break (only_break (out-Node nd.now).row (sym (row_there nd.now) ∙ break_is))
+    | inr thrown ↦ no_exception (only_exception (out-Node nd.now).row (sym (row_there nd.now) ∙ thrown))
+  ]
 ])
 
 -- no row is two
@@ -101,11 +121,11 @@ not_of r q p e other f = other (sym e ∙ f)
 
 -- before the first item of a structure
 pub items_start : (a : Parts) (env : List Entry) (s : Scene) (all : List Numbered) → s.env ≡ env → ((k : Kind) (n : Name) → has_name s k n ≡ false) → GivesItemsFirst a a env s all all
-items_start a env s all same none G E carried aloud at constants = record {
+items_start a env s all same none G E carried aloud at constants older = record {
   items = [];
   given = record {
     names = no_names;
-    done = done_none no_names (record { nodes = refl; types = λ i p. refl; reports = refl; aloud = refl; level = refl; fixed = refl }) (subst (λ es. Outside as_declared (sight a) G es E) (sym same) at) constants;
+    done = subst (λ es. ItemsDone as_declared E [] no_names no_names a a G es) (sym same) (done_none no_names (record { nodes = refl; types = λ i p. refl; noted = λ i p h. h; reports = refl; aloud = refl; level = refl; fixed = refl }) at constants older);
     standing = record { types = λ n. none kind.TypeName n; modules = λ n. none kind.Module n; module_types = λ n. none kind.ModuleType n };
   };
   splits = refl;
@@ -115,10 +135,10 @@ items_start a env s all same none G E carried aloud at constants = record {
 -- one item more
 pub items_next : (a b d : Parts) (env : List Entry) (s s' : Scene) (all : List Numbered) (os : List Operand) (i : ℕ) (x : Operand) → i < length os → x ≡ slice_index_or os i x → Goes a b → GivesItemsFirst a b env s all (map operand_view (drop i os)) →
     GivesItem b d s s' (operand_view x) → GivesItemsFirst a d env s' all (map operand_view (drop (i + 1) os))
-items_next a b d env s s' all os i x lt here goes first gives G E carried aloud at constants =
+items_next a b d env s s' all os i x lt here goes first gives G E carried aloud at constants older =
     let cut : drop i os ≡ x ∷ drop (i + 1) os = drop_more os i x lt ∙ ap (λ o. o ∷ drop (i + 1) os) (sym here) in
-    let f : GivesFirst E G a b s all (operand_view x ∷ map operand_view (drop (i + 1) os)) = subst (λ us. GivesFirst E G a b s all (map operand_view us)) cut (first G E carried aloud at constants) in
-    let g = gives f.given.done.letters f.given.done.env f.given.names f.carried.0 (ap is_aloud goes.telling ∙ aloud) f.given.done.outside f.given.done.constants f.given.standing in
+    let f : GivesFirst E G a b s all (operand_view x ∷ map operand_view (drop (i + 1) os)) = subst (λ us. GivesFirst E G a b s all (map operand_view us)) cut (first G E carried aloud at constants older) in
+    let g = gives f.given.done.letters f.given.done.env f.given.names f.carried.0 (ap is_aloud goes.telling ∙ aloud) f.given.done.outside f.given.done.constants f.given.done.noted f.given.standing in
     let whole : f.items ++ (item_at a.item (operand_view x) ++ items_at a.item (map operand_view (drop (i + 1) os))) ≡ items_at a.item all = f.splits in
     record {
       items = f.items ++ item_at b.item (operand_view x);
@@ -130,6 +150,6 @@ items_next a b d env s s' all os i x lt here goes first gives G E carried aloud 
 
 -- all items are done
 pub items_end : (a b : Parts) (env : List Entry) (s : Scene) (all : List Numbered) (os : List Operand) (i : ℕ) → length os ≤ i → GivesItemsFirst a b env s all (map operand_view (drop i os)) → GivesItems a b env all
-items_end a b env s all os i past first G E carried aloud at constants =
-    let f : GivesFirst E G a b s all [] = subst (λ us. GivesFirst E G a b s all (map operand_view us)) (drop_all i os past) (first G E carried aloud at constants) in
+items_end a b env s all os i past first G E carried aloud at constants older =
+    let f : GivesFirst E G a b s all [] = subst (λ us. GivesFirst E G a b s all (map operand_view us)) (drop_all i os past) (first G E carried aloud at constants older) in
     (s.env, f.given.names, subst (λ ms. ItemsDone as_declared E ms no_names f.given.names a b G s.env) (sym (append-nil f.items) ∙ f.splits) f.given.done)

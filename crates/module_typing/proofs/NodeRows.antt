@@ -1,6 +1,6 @@
 -- The rows of nodes that are items, by those of the code.
 use Rattle.std.proofs.Common.{◌≡◌, ◌∙◌, refl, ap}
-use Rattle.tree_model.specs.Rows.{let_row, break_row}
+use Rattle.tree_model.specs.Rows.{let_row, exception_row, break_row}
 use Rattle.syntax_tree.specs.declared.rows.RowName.{RowName}
 use Rattle.syntax_tree.specs.declared.rows.RowName.TheVariants as name
 use Rattle.syntax_tree.specs.declared.tree.Node.{Node, out-Node}
@@ -23,6 +23,11 @@ unfolding names.row_of
 only_break name.Break e = refl
 only_break _ e = absurd (cc)
 
+pub only_exception : (r : RowName) → names.row_of r ≡ exception_row → r ≡ name.Exception
+unfolding names.row_of
+only_exception name.Exception e = refl
+only_exception _ e = absurd (cc)
+
 pub let_there : (nd : Node) → (out-Node nd).row ≡ name.Let → row_of (node_view nd) ≡ let_row
 unfolding names.row_of
 let_there nd e = row_there nd ∙ ap names.row_of e
@@ -30,3 +35,7 @@ let_there nd e = row_there nd ∙ ap names.row_of e
 pub break_there : (nd : Node) → (out-Node nd).row ≡ name.Break → row_of (node_view nd) ≡ break_row
 unfolding names.row_of
 break_there nd e = row_there nd ∙ ap names.row_of e
+
+pub exception_there : (nd : Node) → (out-Node nd).row ≡ name.Exception → row_of (node_view nd) ≡ exception_row
+unfolding names.row_of
+exception_there nd e = row_there nd ∙ ap names.row_of e

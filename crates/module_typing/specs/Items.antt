@@ -1,6 +1,6 @@
 -- What the calls for the items of a structure carry.
 use Rattle.std.specs.Prelude.{◌≡◌, ◌⊎◌, true, List, [], ◌∷◌, ◌++◌}
-use Rattle.tree_model.specs.Rows.{let_row, break_row}
+use Rattle.tree_model.specs.Rows.{let_row, exception_row, break_row}
 use Rattle.tree_model.specs.Trees.{Part, taken, inner, missing}
 use Rattle.signature_model.specs.Declarations.{Name}
 use Rattle.signature_model.specs.Entries.{Environment}
@@ -16,7 +16,7 @@ use Rattle.typing_conditions.specs.Sights.{Letters}
 use Rattle.typing_steps.specs.States.{is_aloud, sight}
 use Rattle.typing_steps.specs.Typing.{as_declared}
 use Rattle.typing_steps.specs.Constants.{HasConstants}
-use Rattle.core_typing.specs.Items.{Outside, IsCarriedItemOperand, ItemsDone, item_at, items_at}
+use Rattle.core_typing.specs.Items.{Outside, AreNoted, IsCarriedItemOperand, ItemsDone, item_at, items_at}
 use Rattle.module_steps.specs.declared.scenes.Scene.{Scene}
 use Rattle.module_steps.specs.Scenes.{has_name}
 
@@ -34,12 +34,12 @@ pub record IsGiven (E : Choice → Environment) (ms : List Item) (seen : Seen) (
 
 -- What the call for an item of a structure gives where faults are reported, if the item is one that is carried: the definitions' own item is done.
 abbrev pub GivesItem : (a b : Parts) → (old new : Scene) → Numbered → Type 0
-GivesItem a b old new o = (G : Letters) (E : Choice → Environment) (seen : Seen) → IsCarriedItemOperand o → is_aloud a.telling ≡ true → Outside as_declared (sight a) G old.env E → HasConstants a → HasSeen old seen → IsGiven E (item_at a.item o) seen a b G new
+GivesItem a b old new o = (G : Letters) (E : Choice → Environment) (seen : Seen) → IsCarriedItemOperand o → is_aloud a.telling ≡ true → (at : Outside as_declared (sight a) G old.env E) → HasConstants a → AreNoted at.older a → HasSeen old seen → IsGiven E (item_at a.item o) seen a b G new
 
--- what names no type, module or module type where it is an item: a `let`, `;;`, and what is missing
+-- what names no type, module or module type where it is an item: a `let`, `;;`, an exception, and what is missing
 abbrev pub NamesNone : Part → Type 0
 NamesNone (taken t) = Unit {0}
-NamesNone (inner t) = (row_of t ≡ let_row) ⊎ (row_of t ≡ break_row)
+NamesNone (inner t) = (row_of t ≡ let_row) ⊎ ((row_of t ≡ break_row) ⊎ (row_of t ≡ exception_row))
 NamesNone (missing at) = Unit {0}
 
 -- each of some items is one that is carried
@@ -49,7 +49,7 @@ AreCarriedItems (o ∷ os) = IsCarriedItemOperand o × AreCarriedItems os
 
 -- the same of the items of a whole structure, in order, if all of them are carried
 abbrev pub GivesItems : (a b : Parts) → (env : List Entry) → List Numbered → Type 0
-GivesItems a b env os = (G : Letters) (E : Choice → Environment) → AreCarriedItems os → is_aloud a.telling ≡ true → Outside as_declared (sight a) G env E → HasConstants a → (after : List Entry) × (names : Seen) × ItemsDone as_declared E (items_at a.item os) no_names names a b G after
+GivesItems a b env os = (G : Letters) (E : Choice → Environment) → AreCarriedItems os → is_aloud a.telling ≡ true → (at : Outside as_declared (sight a) G env E) → HasConstants a → AreNoted at.older a → (after : List Entry) × (names : Seen) × ItemsDone as_declared E (items_at a.item os) no_names names a b G after
 
 -- the first of some items are done, and these are left
 pub record GivesFirst (E : Choice → Environment) (G : Letters) (a b : Parts) (now : Scene) (all left : List Numbered) : Type 0 where
@@ -60,4 +60,4 @@ pub record GivesFirst (E : Choice → Environment) (G : Letters) (a b : Parts) (
 
 -- the same, if all of them are carried, from where a structure starts
 abbrev pub GivesItemsFirst : (a b : Parts) → (env : List Entry) → (now : Scene) → (all left : List Numbered) → Type 0
-GivesItemsFirst a b env now all left = (G : Letters) (E : Choice → Environment) → AreCarriedItems all → is_aloud a.telling ≡ true → Outside as_declared (sight a) G env E → HasConstants a → GivesFirst E G a b now all left
+GivesItemsFirst a b env now all left = (G : Letters) (E : Choice → Environment) → AreCarriedItems all → is_aloud a.telling ≡ true → (at : Outside as_declared (sight a) G env E) → HasConstants a → AreNoted at.older a → GivesFirst E G a b now all left

@@ -14,7 +14,8 @@ use module_steps::{
 use row_parts::{Operand, first_operand, operand_in, operands, token, tokens_or_missing};
 use sig_template::structure;
 use signature_typing::{
-    Kept, include_item, read_module_type, type_named, type_parameters, type_specification,
+    Kept, exception_item, include_item, read_module_type, type_named, type_parameters,
+    type_specification,
 };
 use std::rc::Rc;
 use syntax_tree::{Node, RowName};
@@ -59,6 +60,7 @@ pub fn type_item(
     match node.row {
         RowName::Let => let_item(at, node, item.number, scene, depth),
         RowName::Break => at.note_plain(item.number, &scene.env),
+        RowName::Exception => exception_item(at, node, item.number, scene, depth),
         RowName::Module => type_module_item(at, node, item.number, scene, depth),
         RowName::Include => include_item(at, node, item.number, scene),
         _ => type_specification(at, item, scene, depth),

@@ -1,21 +1,20 @@
 -- The items of a program that the parser gives are carried, or of another kind.
-use Rattle.std.proofs.Common.{◌≡◌, ◌∙◌, ◌==◌, ◌⊎◌, inl, inr, ℕ, Bool, true, false, not, List, ◌∷◌, Some, None, refl, sym, ap, subst, if◌then◌else◌}
+use Rattle.std.proofs.Common.{◌≡◌, ◌∙◌, ◌==◌, ◌⊎◌, inl, inr, ℕ, Bool, true, false, not, List, [], ◌∷◌, Option, Some, None, refl, sym, ap, subst, if◌then◌else◌}
 use Rattle.std.specs.Prelude.{All}
 use Rattle.std.proofs.lemmas.Bool.{eqb-true}
 use Rattle.std.proofs.lemmas.List.Elements.{All-nil, All-cons, All-head, All-tail}
 use Rattle.token_model.specs.Kinds.{Tok}
 use Rattle.tree_model.specs.Rows as names
-use Rattle.tree_model.specs.Rows.{let_row, type_row, exception_row, module_row, modtype_row, open_row, include_row, break_row, mstruct_row}
+use Rattle.tree_model.specs.Rows.{let_row, type_row, exception_row, module_row, modtype_row, open_row, include_row, break_row, con_row, mstruct_row}
 use Rattle.tree_model.specs.Slots.{is_operand}
 use Rattle.tree_model.specs.Trees as plain
-use Rattle.tree_model.specs.Trees.{AreItemsSized}
 use Rattle.tree_model.specs.Extents.{told_size}
-use Rattle.row_parts.specs.Numbered.{Numbered, behind, with_slot, node_with, missing_operand, operand_at, operands_from, operands_in, in_slot}
+use Rattle.row_parts.specs.Numbered.{Numbered, behind, with_slot, node_with, missing_operand, operand_at, operands_from, operands_in, in_slot, first_of, first_in, token_in}
 use Rattle.grammar_model.specs.Trees.{Tree, Forest, Part, node, no_parts, part, taken, inner, missing, row_of}
 use Rattle.grammar_model.specs.Tables.{What, nothing, token, operand, Last}
 use Rattle.grammar_model.specs.Grammar.{last_in, StandsIn, BeginsWith, WellFormed, IsFilled, Follows, IsPartFormed}
 use Rattle.grammar_model.specs.Named.{slot_of, named, named_parts, named_part, forest_items, items_of}
-use Rattle.grammar_model.specs.Words.{item, binding}
+use Rattle.grammar_model.specs.Words.{item, binding, constructor}
 use Rattle.grammar_model.specs.Ocaml.{Text, program_text, grammar, row_name}
 use Rattle.recovery_model.specs.Recovery.{recover}
 use Rattle.recovery_laws.proofs.Promises.{well_formed}
@@ -23,12 +22,12 @@ use Rattle.typing_model.specs.First.{program_items}
 use Rattle.operand_laws.specs.Formed.{row_of as named_row_of, IsFormed, IsPartFormed as IsPartFormedAt}
 use Rattle.operand_laws.proofs.Going.{operands_formed}
 use Rattle.operand_laws.proofs.Parsed.{items_formed}
-use Rattle.typing_rows.specs.CarriedRows.{Sort, a_binding, IsOfSort}
-use Rattle.binding_rows.specs.ItemRows.{IsItemNode, IsCarriedItem}
+use Rattle.typing_rows.specs.CarriedRows.{a_binding, IsOfSort}
+use Rattle.binding_rows.specs.ItemRows.{IsItemNode, IsExceptionNode, IsCarriedItem}
 use Rattle.binding_rows.proofs.Nodes.{all_bindings}
-use Rattle.parsed_rows.specs.Items.{IsOtherItemRow, IsParsedItem, IsParsedPart, IsParsedOperand, IsSmall}
+use Rattle.parsed_rows.specs.Items.{IsOtherItemRow, IsNamelessPart, IsNameless, IsOtherItem, IsParsedItem, IsParsedPart, IsParsedOperand, IsSmall}
 use Rattle.parsed_rows.proofs.Sized.{items_sized}
-use Rattle.parsed_rows.proofs.Tabled.{is_let_row, is_item_row, is_structure_row, spot_structure, structure_alone, binding_fits, item_fits, spot_binding, let_alone, row_of_item, spot_item, program_alone, then_of}
+use Rattle.parsed_rows.proofs.Tabled.{is_let_row, is_item_row, is_structure_row, spot_structure, structure_alone, is_exception_row, constructor_fits, spot_constructor, exception_alone, is_con_row, row_of_constructor, binding_fits, item_fits, spot_binding, let_alone, row_of_item, spot_item, program_alone, then_of}
 use Rattle.parsed_rows.proofs.Rows.{HasSort, part_of_sort}
 
 -- the parts in a slot are of a kind
@@ -112,23 +111,91 @@ let_item text n (node r f) h row shape =
       bindings = all_bindings (operands_in n (named row_name (node r f)) 2) (λ k d lt. record { formed = operands_formed n (named row_name (node r f)) 2 shape k d lt; rows = slot_operands 2 n (IsOfSort a_binding) (named row_name (node r f)) sorts k d lt });
     }
 
+-- a part that is a constructor, if it is a node
+abbrev HasConstructor : Text → Part → Type 0
+HasConstructor text (taken t) = Unit {0}
+HasConstructor text (inner T) = (grammar text).sort (row_of T) ≡ constructor
+HasConstructor text (missing at) = Unit {0}
+
+-- a part of that row, if it is a node
+abbrev IsConPart : plain.Part → Type 0
+IsConPart (plain.taken t) = Unit {0}
+IsConPart (plain.inner t) = named_row_of t ≡ con_row
+IsConPart (plain.missing at) = Unit {0}
+
+constructor_at : (text : Text) (w : What) (c : Part) → constructor_fits w ≡ true → StandsIn (grammar text) w c → HasConstructor text c
+constructor_at text nothing c fits h = absurd h
+constructor_at text (token ks) (taken t) fits h = tt
+constructor_at text (token ks) (inner t) fits h = absurd h
+constructor_at text (token ks) (missing at) fits h = tt
+constructor_at text (operand s n) (taken t) fits h = absurd h
+constructor_at text (operand s n) (inner t) fits h = h.0 ∙ eqb-true s constructor fits
+constructor_at text (operand s n) (missing at) fits h = tt
+
+only_con : (r : names.Row) → is_con_row r ≡ true → r ≡ con_row
+only_con con_row e = refl
+only_con _ e = absurd (cc)
+
+con_part : (text : Text) (c : Part) → HasConstructor text c → IsConPart (named_part row_name c)
+con_part text (taken t) is = tt
+con_part text (inner (node r f)) is = only_con (row_name r) (row_of_constructor text r is)
+con_part text (missing at) is = tt
+
+constructors_follow : (text : Text) (r at : ℕ) (last : Last) (f : Forest) → is_exception_row (row_name r) ≡ true → Follows (grammar text) r at last f → AreAllIn 1 IsConPart (named_parts row_name f)
+constructors_follow text r at last no_parts is h = tt
+constructors_follow text r at last (part p c f) is h =
+    (λ e. con_part text c (constructor_at text ((grammar text).what r p) c (spot_constructor text r p is) h.1), constructors_follow text r p (last_in ((grammar text).what r p) c) f is h.3)
+
+-- the constructor of an exception of the grammar
+exception_parts : (text : Text) (r : ℕ) (f : Forest) → is_exception_row (row_name r) ≡ true → IsFilled (grammar text) r f → AreAllIn 1 IsConPart (named_parts row_name f)
+exception_parts text r no_parts is h = tt
+exception_parts text r (part p c f) is h =
+    let stands = begins_at text r p c ((grammar text).has_left r) (not_true ((grammar text).has_left r) (exception_alone text r is)) h.0 in
+    (λ e. con_part text c (constructor_at text ((grammar text).what r p) c (spot_constructor text r p is) stands), constructors_follow text r p (last_in ((grammar text).what r p) c) f is h.2)
+
+-- an exception whose constructor has a name is carried
+exception_by : (n : ℕ) (t : plain.Tree) → IsFormed n t → named_row_of t ≡ exception_row → (os : List Numbered) → operands_in n t 1 ≡ os → All (IsOperandOf IsConPart) os → IsExceptionNode n t ⊎ IsNameless (first_of os)
+exception_by n t formed row [] e all = inr tt
+exception_by n t formed row (o ∷ os) e all = by o.part refl (All-head (IsOperandOf IsConPart) o os all)
+  where
+    by : (p : plain.Part) → o.part ≡ p → IsConPart p → IsExceptionNode n t ⊎ IsNamelessPart o.part
+    by (plain.taken k) is con = inr (subst IsNamelessPart (sym is) tt)
+    by (plain.inner u) is con = named_by (token_in u 0) refl
+      where
+        named_by : (k : Option Tok) → token_in u 0 ≡ k → IsExceptionNode n t ⊎ IsNamelessPart o.part
+        named_by None none = inr (subst IsNamelessPart (sym is) none)
+        named_by (Some k) there = inl (record { formed = formed; row = row; operand = o; there = ap first_of e; constructor = u; part = is; is = con; name = k; named = there })
+    by (plain.missing at) is con = inr (subst IsNamelessPart (sym is) tt)
+
+-- an exception of the grammar is carried, or has no name
+exception_item : (text : Text) (n : ℕ) (T : Tree) → WellFormed (grammar text) T → row_name (row_of T) ≡ exception_row → IsFormed n (named row_name T) → IsExceptionNode n (named row_name T) ⊎ IsNameless (first_in n (named row_name T) 1)
+exception_item text n (node r f) h row shape =
+    let t : plain.Tree = named row_name (node r f) in
+    exception_by n t shape row (operands_in n t 1) refl (slot_operands 1 n IsConPart t (exception_parts text r f (ap is_exception_row row) h))
+
 -- the row of an item is one of eight
-item_rows : (r : names.Row) → is_item_row r ≡ true → (r ≡ let_row) ⊎ ((r ≡ break_row) ⊎ IsOtherItemRow r)
+item_rows : (r : names.Row) → is_item_row r ≡ true → (r ≡ let_row) ⊎ ((r ≡ break_row) ⊎ ((r ≡ exception_row) ⊎ IsOtherItemRow r))
 item_rows let_row h = inl refl
 item_rows break_row h = inr (inl refl)
-item_rows type_row h = inr (inr tt)
-item_rows exception_row h = inr (inr tt)
-item_rows module_row h = inr (inr tt)
-item_rows modtype_row h = inr (inr tt)
-item_rows open_row h = inr (inr tt)
-item_rows include_row h = inr (inr tt)
+item_rows type_row h = inr (inr (inr tt))
+item_rows exception_row h = inr (inr (inl refl))
+item_rows module_row h = inr (inr (inr tt))
+item_rows modtype_row h = inr (inr (inr tt))
+item_rows open_row h = inr (inr (inr tt))
+item_rows include_row h = inr (inr (inr tt))
 item_rows _ h = absurd (cc)
 
 -- an item of the grammar is carried, or of another kind
 pub parsed_item : (text : Text) (n : ℕ) (T : Tree) → WellFormed (grammar text) T → (grammar text).sort (row_of T) ≡ item → IsFormed n (named row_name T) → IsParsedItem n (named row_name T)
 parsed_item text n (node r f) h sort shape = elim (item_rows (row_name r) (row_of_item text r sort)) [
   | inl row ↦ inl (inl (let_item text n (node r f) h row shape))
-  | inr other ↦ elim other [ inl row ↦ inl (inr row) | inr row ↦ inr row ]
+  | inr rest ↦ elim rest [
+    | inl row ↦ inl (inr (inl row))
+    | inr other ↦ elim other [
+      | inl row ↦ elim (exception_item text n (node r f) h row shape) [ inl thrown ↦ inl (inr (inr thrown)) | inr nameless ↦ inr (inr (row, nameless)) ]
+      | inr row ↦ inr (inl row)
+    ]
+  ]
 ]
 
 -- a part that is an item, if it is a node
@@ -177,7 +244,7 @@ program_carried ts small =
     items_carried program_text T (well_formed program_text ts).root (well_formed program_text ts).formed small
 
 -- and where no item of it is of another kind, all are carried
-pub lets_carried : (ts : List Tok) → All IsSmall (program_items ts) → All (λ t. IsOtherItemRow (named_row_of t) → ⊥) (program_items ts) → All (IsCarriedItem 0) (program_items ts)
+pub lets_carried : (ts : List Tok) → All IsSmall (program_items ts) → All (λ t. IsOtherItem 0 t → ⊥) (program_items ts) → All (IsCarriedItem 0) (program_items ts)
 lets_carried ts small none k d lt = elim (program_carried ts small k d lt) [ inl carried ↦ carried | inr other ↦ absurd (none k d lt other) ]
 
 -- a part of a structure: an item of the grammar, if it is a node

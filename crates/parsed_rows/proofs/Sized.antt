@@ -1,10 +1,10 @@
 -- The named form of a tree tells its true sizes.
-use Rattle.std.proofs.Common.{◌≡◌, ℕ, List, [], ◌∷◌, ◌<◌, ◌^◌}
+use Rattle.std.proofs.Common.{ℕ}
 use Rattle.std.specs.Prelude.{All}
 use Rattle.std.proofs.lemmas.List.Elements.{All-head, All-tail}
 use Rattle.tree_model.specs.Rows.{Row}
 use Rattle.tree_model.specs.Trees as plain
-use Rattle.tree_model.specs.Trees.{size_of, IsSized, AreSized, IsPartSized, AreItemsSized}
+use Rattle.tree_model.specs.Trees.{IsSized, AreSized, IsPartSized, AreItemsSized}
 use Rattle.tree_model.proofs.Extents.{node_over_sized}
 use Rattle.grammar_model.specs.Trees.{Tree, Forest, Part, node, no_parts, part, taken, inner, missing}
 use Rattle.grammar_model.specs.Named.{named, named_parts, named_part, forest_items, items_of}

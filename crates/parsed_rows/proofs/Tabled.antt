@@ -3,13 +3,13 @@ use Rattle.std.proofs.Common.{◌≡◌, ◌==◌, ◌||◌, ◌&&◌, ℕ, Bool
 use Rattle.std.specs.Prelude.{slice_get}
 use Rattle.std.proofs.lemmas.Bool.{and_parts}
 use Rattle.tree_model.specs.Rows as names
-use Rattle.tree_model.specs.Rows.{let_row, type_row, exception_row, module_row, modtype_row, open_row, include_row, break_row, pname_row, pany_row, pconst_row, pneg_row, pcon_row, pparen_row, plist_row, precord_row, papp_row, pcons_row, ptuple_row, por_row, pas_row, qfield_row, binding_row, case_row, ffield_row, name_row, econ_row, epath_row, econst_row, hole_row, eparen_row, ebegin_row, elist_row, erecord_row, prefix_row, field_row, eapp_row, eassert_row, ewhile_row, efor_row, eneg_row, infix_row, econs_row, etuple_row, eset_row, eif_row, eseq_row, elet_row, ematch_row, etry_row, efun_row, efunction_row, mstruct_row}
+use Rattle.tree_model.specs.Rows.{let_row, type_row, exception_row, module_row, modtype_row, open_row, include_row, break_row, con_row, pname_row, pany_row, pconst_row, pneg_row, pcon_row, pparen_row, plist_row, precord_row, papp_row, pcons_row, ptuple_row, por_row, pas_row, qfield_row, binding_row, case_row, ffield_row, name_row, econ_row, epath_row, econst_row, hole_row, eparen_row, ebegin_row, elist_row, erecord_row, prefix_row, field_row, eapp_row, eassert_row, ewhile_row, efor_row, eneg_row, infix_row, econs_row, etuple_row, eset_row, eif_row, eseq_row, elet_row, ematch_row, etry_row, efun_row, efunction_row, mstruct_row}
 use Rattle.grammar_model.specs.Tables.{What, nothing, token, operand}
 use Rattle.grammar_model.specs.Rows.{Row, row_at, or_else, is_left, no_row}
 use Rattle.grammar_model.specs.Checks.{each, each_spot, all_of}
 use Rattle.grammar_model.specs.Keys.{minus_key, minus_point_key}
 use Rattle.grammar_model.specs.Named.{slot_of}
-use Rattle.grammar_model.specs.Words.{row_names, item, expression, pattern, binding, case, field, field_pattern}
+use Rattle.grammar_model.specs.Words.{row_names, item, expression, pattern, binding, case, constructor, field, field_pattern}
 use Rattle.grammar_model.specs.Ocaml.{rows, Text, grammar, row_name}
 use Rattle.grammar_laws.proofs.Instance.{each_row, spot_get}
 use Rattle.typing_rows.specs.CarriedRows.{Sort, an_expression, a_pattern, a_type, a_field_pattern, a_field, a_case, a_binding, sort_in}
@@ -230,6 +230,55 @@ spot_binding text r p is =
 -- which has no left operand
 pub let_alone : (text : Text) (r : ℕ) → is_let_row (row_name r) ≡ true → not ((grammar text).has_left r) ≡ true
 let_alone text r is = (bindings_known text r is).0
+
+-- the name of the rows of exceptions
+abbrev pub is_exception_row : names.Row → Bool
+is_exception_row exception_row = true
+is_exception_row _ = false
+
+-- an operand is a constructor
+abbrev pub constructor_fits : What → Bool
+constructor_fits nothing = true
+constructor_fits (token ks) = true
+constructor_fits (operand s n) = s == constructor
+
+abbrev exceptions_fit : ℕ → Row → Bool
+exceptions_fit i w = if is_exception_row (name_of w) then not (is_left w.left) && each_spot 0 w.spots (λ p s. constructor_fits s.what) else true
+
+each_exception_fits : each 0 rows exceptions_fit ≡ true
+unfolding rows
+each_exception_fits = refl
+
+exceptions_known : (text : Text) (r : ℕ) → is_exception_row (row_name r) ≡ true → (not ((grammar text).has_left r) ≡ true) × (each_spot 0 (row_at rows r).spots (λ p s. constructor_fits s.what) ≡ true)
+exceptions_known text r is =
+    let spots = each_spot 0 (row_at rows r).spots (λ p s. constructor_fits s.what) in
+    let first = not ((grammar text).has_left r) in
+    and_parts first spots (then_of (is_exception_row (row_name r)) (first && spots) is (each_row exceptions_fit rows each_exception_fits (λ j. refl) r))
+
+-- so it is in the rows of exceptions
+pub spot_constructor : (text : Text) (r p : ℕ) → is_exception_row (row_name r) ≡ true → constructor_fits ((grammar text).what r p) ≡ true
+spot_constructor text r p is = spot_get (λ q s. constructor_fits s.what) (row_at rows r).spots 0 (exceptions_known text r is).1 p (λ j. refl)
+
+-- which have no left operand
+pub exception_alone : (text : Text) (r : ℕ) → is_exception_row (row_name r) ≡ true → not ((grammar text).has_left r) ≡ true
+exception_alone text r is = (exceptions_known text r is).0
+
+-- the name of the row of constructors
+abbrev pub is_con_row : names.Row → Bool
+is_con_row con_row = true
+is_con_row _ = false
+
+abbrev con_name_fits : ℕ → Row → Bool
+con_name_fits i w = if w.sort == constructor then is_con_row (name_of w) else true
+
+each_con_name_fits : each 0 rows con_name_fits ≡ true
+unfolding rows
+each_con_name_fits = refl
+
+-- a row of constructors has it
+pub row_of_constructor : (text : Text) (r : ℕ) → (grammar text).sort r ≡ constructor → is_con_row (row_name r) ≡ true
+row_of_constructor text r e =
+    then_of ((grammar text).sort r == constructor) (is_con_row (row_name r)) (same_number ((grammar text).sort r) constructor e) (each_row con_name_fits rows each_con_name_fits (λ j. refl) r)
 
 -- a name of a row of items
 abbrev pub is_item_row : names.Row → Bool

@@ -67,7 +67,7 @@ chained_whole {first} {env} {at} {now} {plain} items ps n past are = subst (λ t
 pub chained_named : {first : Parts} {env : List Entry} {items : List Tree} {ps : List Point} {at : Parts} {s s' : Scene} {plain : Bool} → AreChained first env items ps at s plain → s'.env ≡ s.env → plain ≡ false → AreChained first env items ps at s' plain
 chained_named {plain = plain} are scope other = record {
   ends = record {
-    given = λ G E carried aloud at constants. absurd (let e : plain ≡ true = are.ends.known carried in cc);
+    given = λ G E carried aloud at constants older. absurd (let e : plain ≡ true = are.ends.known carried in cc);
     unrecorded = are.ends.unrecorded;
     plain = λ e. absurd (cc);
     known = are.ends.known;

@@ -15,10 +15,11 @@ use Rattle.row_parts.specs.Numbered.{node_with}
 use Rattle.env_table.specs.declared.entries.Entry.{Entry}
 use Rattle.env_table.specs.declared.entries.Kind.TheVariants as kind
 use Rattle.typing_state.specs.declared.parts.Parts.{Parts}
-use Rattle.typing_steps.specs.States.{is_aloud, sight, type_in, reports_of, fixed_of}
+use Rattle.typing_steps.specs.States.{is_aloud, sight, type_in, is_noted, reports_of, fixed_of}
 use Rattle.typing_steps.specs.Constants.{HasConstants, HasType}
 use Rattle.operand_laws.specs.Operands.{number_of}
-use Rattle.binding_rows.specs.Outside.{Outside, OnlyBetween}
+use Rattle.typing_rows.specs.Noted.{AreNoted}
+use Rattle.binding_rows.specs.Outside.{OnlyBetween}
 use Rattle.binding_rows.specs.ItemRows.{IsCarriedItemOperand, ItemsDone, item_if, item_at}
 use Rattle.binding_rows.proofs.ItemOrders.{done_none, done_then}
 use Rattle.module_steps.specs.declared.scenes.Scene.{Scene}
@@ -69,11 +70,16 @@ constants_alike {a} {b} alike h = record {
     one : (f : Constants → NodeRef) → {t : Typ} → HasType a.store.nodes (f a.constants) t → HasType b.store.nodes (f b.constants) t
     one f {t} h = subst (λ k. HasType b.store.nodes (f k) t) (sym alike.constants) (subst (λ ns. HasType ns (f a.constants) t) (sym alike.nodes) h)
 
+-- and something is recorded for the same nodes
+noted_alike : {a b : Parts} → IsAs a b → (U : List ℕ) → AreNoted U a → AreNoted U b
+noted_alike alike U noted k i = let x = noted k i in record { item = x.item; place = x.place; small = x.small; number = x.number; seen = x.seen; at = alike.index x.item x.place ∙ x.at }
+
 -- and differs from it as between items
 between_alike : {a b : Parts} → IsAs a b → is_aloud b.telling ≡ is_aloud a.telling → b.level ≡ a.level → OnlyBetween (sight a) (sight b)
 between_alike alike telling level = record {
   nodes = alike.nodes;
   types = λ i p. ap type_in (alike.index i p);
+  noted = λ i p h. ap is_noted (alike.index i p) ∙ h;
   reports = ap reports_of alike.faults;
   aloud = telling;
   level = level;
@@ -86,7 +92,7 @@ done_alike : {E : Choice → Environment} {ms : List Item} {first a b : Parts} {
 done_alike {E} {ms} {first} {a} {b} {G} {s} {s'} sound alike telling level scope same g = record {
   names = g.names;
   done = subst (λ es. ItemsDone as_declared E ms no_names g.names first b G es) (sym scope) (subst (λ ns. ItemsDone as_declared E ns no_names g.names first b G s.env) (append-nil ms)
-      (done_then {last = g.names} sound g.done (done_none g.names (between_alike alike telling level) g.done.outside (constants_alike alike g.done.constants))));
+      (done_then {last = g.names} sound g.done (done_none g.names (between_alike alike telling level) g.done.outside (constants_alike alike g.done.constants) (noted_alike alike g.done.outside.older g.done.noted))));
   standing = record {
     types = λ n. same kind.TypeName n ∙ g.standing.types n;
     modules = λ n. same kind.Module n ∙ g.standing.modules n;
@@ -96,25 +102,25 @@ done_alike {E} {ms} {first} {a} {b} {G} {s} {s'} sound alike telling level scope
 
 -- Before the first item.
 pub given_none : (first : Parts) (env : List Entry) (s : Scene) → s.env ≡ env → NoneStands s → Given first env [] first s
-given_none first env s same none G E carried aloud at constants = record {
+given_none first env s same none G E carried aloud at constants older = record {
   names = no_names;
-  done = done_none no_names (between_alike {a = first} {b = first} (record { nodes = refl; index = λ i p. refl; faults = refl; constants = refl }) refl refl) (subst (λ es. Outside as_declared (sight first) G es E) (sym same) at) constants;
+  done = subst (λ es. ItemsDone as_declared E [] no_names no_names first first G es) (sym same) (done_none no_names (between_alike {a = first} {b = first} (record { nodes = refl; index = λ i p. refl; faults = refl; constants = refl }) refl refl) at constants older);
   standing = record { types = λ n. none kind.TypeName n; modules = λ n. none kind.Module n; module_types = λ n. none kind.ModuleType n };
 }
 
 -- What items are typed to holds of a state that is as the one after them, at the lowest level and where faults are reported.
 pub given_back : {first a b : Parts} {env : List Entry} {s s' : Scene} (items : List Tree) → IsAs a b → is_aloud b.telling ≡ true → b.level ≡ 0 → s'.env ≡ s.env → (AreCarriedItems (operands_of items) → SameNames s s') → Given first env items a s → Given first env items b s'
-given_back {first} {a} {b} {env} {s} {s'} items alike telling level scope same given G E carried aloud at constants =
-    let g = given G E carried aloud at constants in
+given_back {first} {a} {b} {env} {s} {s'} items alike telling level scope same given G E carried aloud at constants older =
+    let g = given G E carried aloud at constants older in
     done_alike at.sound alike (telling ∙ sym (g.done.carried.stays.aloud ∙ aloud)) (level ∙ sym g.done.outside.level) scope (same carried) g
 
 -- One item more is typed.
 pub given_more : {first a b d : Parts} {env : List Entry} {s s' : Scene} (items : List Tree) (t : Tree) → Given first env items a s → IsAs a b → b.telling ≡ a.telling → b.level ≡ a.level → b.item ≡ length items + 1 → GivesItem b d s s' (node_with 0 t) →
     Given first env (items ++ t ∷ []) d s'
-given_more {first} {a} {b} {d} {env} {s} {s'} items t given alike telling level number gives G E carried aloud at constants =
+given_more {first} {a} {b} {d} {env} {s} {s'} items t given alike telling level number gives G E carried aloud at constants older =
     let split = carried_split items t carried in
-    let g = done_alike {s' = s} at.sound alike (ap is_aloud telling) level refl (λ k n. refl) (given G E split.0 aloud at constants) in
-    let one = gives g.done.letters g.done.env g.names split.1 (g.done.carried.stays.aloud ∙ aloud) g.done.outside g.done.constants g.standing in
+    let g = done_alike {s' = s} at.sound alike (ap is_aloud telling) level refl (λ k n. refl) (given G E split.0 aloud at constants older) in
+    let one = gives g.done.letters g.done.env g.names split.1 (g.done.carried.stays.aloud ∙ aloud) g.done.outside g.done.constants g.done.noted g.standing in
     let items_are : items_of items ++ item_at b.item (node_with 0 t) ≡ items_of (items ++ t ∷ []) = ap (λ n. items_of items ++ item_at n (node_with 0 t)) number ∙ sym (items_more_of items t) in
     record {
       names = one.names;

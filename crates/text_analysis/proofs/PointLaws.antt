@@ -165,8 +165,8 @@ points_before {first} {env} {ps} {a} items t are few = record {
 -- One item more is typed.
 pub ends_more : {first a b d : Parts} {env : List Entry} {s s' : Scene} {plain plain' : Bool} (items : List Tree) (t : Tree) → EndsAt first env items a s plain → IsAs a b → b.telling ≡ a.telling → b.level ≡ a.level → b.item ≡ length items + 1 → GivesItem b d s s' (node_with 0 t) → Goes b d →
     (NamesNone (inner t) → SameNames s s') → (plain' ≡ true → (plain ≡ true) × NamesNone (inner t)) → (IsCarriedItemOperand (node_with 0 t) → plain ≡ true → plain' ≡ true) → EndsAt first env (items ++ t ∷ []) d s' plain'
-ends_more items t ends alike telling level item gives goes same plain known = record {
-  given = given_more items t ends.given alike telling level item gives;
+ends_more {first} {a} {b} {d} {env} {s} {s'} items t ends alike telling level item gives goes same plain known = record {
+  given = given_more {first = first} {a = a} {b = b} {d = d} {env = env} {s = s} {s' = s'} items t ends.given alike telling level item gives;
   unrecorded = λ i p past. let n : length (items ++ t ∷ []) ≡ length items + 1 = length-append items (t ∷ []) in goes.index i p (λ e. absurd (let f : i ≡ length items + 1 = e ∙ item in omega arith)) ∙ alike.index i p ∙ ends.unrecorded i p (omega arith);
   plain = λ e k n. let h = plain e in same h.1 k n ∙ ends.plain h.0 k n;
   known = λ c. let h = carried_split items t c in known h.1 (ends.known h.0);
@@ -175,7 +175,7 @@ ends_more items t ends alike telling level item gives goes same plain known = re
 -- The state after the first items is brought back.
 pub ends_back : {first a b : Parts} {env : List Entry} {items : List Tree} {s : Scene} (p : Point) → LeadsBack first env items p a → GoesBack p a b → s.env ≡ p.env → (p.is_plain ≡ true → NoneStands s) → EndsAt first env items b s p.is_plain
 ends_back {first} {a} {b} {env} {items} {s} p leads back scope none = record {
-  given = given_back items (record {
+  given = given_back {first = first} {a = leads.before} {b = b} {env = env} {s = leads.scene} {s' = s} items (record {
     nodes = (back.store leads.within).nodes ∙ leads.nodes;
     index = λ i q. back.index i q ∙ leads.index i q;
     faults = back.faults ∙ leads.faults;

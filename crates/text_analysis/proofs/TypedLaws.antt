@@ -15,19 +15,22 @@ use Rattle.env_table.specs.declared.entries.Kind.TheVariants as kind
 use Rattle.binding_rows.specs.ItemRows.{IsCarriedItemOperand}
 use Rattle.module_steps.specs.declared.scenes.Scene.{Scene}
 use Rattle.module_typing.specs.Items.{NamesNone}
-use Rattle.module_typing.proofs.NodeRows.{row_there, only_let, only_break, let_there, break_there}
+use Rattle.module_typing.proofs.NodeRows.{row_there, only_let, only_break, only_exception, let_there, break_there, exception_there}
 use Rattle.text_analysis.specs.Items.{views_of}
 use Rattle.text_analysis.specs.Given.{NoneStands}
 
 -- what names nothing, by the row of its node
-pub names_nothing : (nd : Node) → ((out-Node nd).row ≡ name.Let) ⊎ ((out-Node nd).row ≡ name.Break) → NamesNone (inner (node_view nd))
-names_nothing nd is = elim is [ inl e ↦ inl (let_there nd e) | inr e ↦ inr (break_there nd e) ]
+pub names_nothing : (nd : Node) → ((out-Node nd).row ≡ name.Let) ⊎ (((out-Node nd).row ≡ name.Break) ⊎ ((out-Node nd).row ≡ name.Exception)) → NamesNone (inner (node_view nd))
+names_nothing nd is = elim is [ inl e ↦ inl (let_there nd e) | inr other ↦ elim other [ inl e ↦ inr (inl (break_there nd e)) | inr e ↦ inr (inr (exception_there nd e)) ] ]
 
 -- no other row is carried
-pub not_carried : (nd : Node) → ((out-Node nd).row ≡ name.Let → ⊥) → ((out-Node nd).row ≡ name.Break → ⊥) → IsCarriedItemOperand (node_with 0 (node_view nd)) → ⊥
-not_carried nd no_let no_break c = elim c [
+pub not_carried : (nd : Node) → ((out-Node nd).row ≡ name.Let → ⊥) → ((out-Node nd).row ≡ name.Break → ⊥) → ((out-Node nd).row ≡ name.Exception → ⊥) → IsCarriedItemOperand (node_with 0 (node_view nd)) → ⊥
+not_carried nd no_let no_break no_exception c = elim c [
   | inl item ↦ no_let (only_let (out-Node nd).row (sym (row_there nd) ∙ item.row))
-  | inr break_is ↦ no_break (only_break (out-Node nd).row (sym (row_there nd) ∙ break_is))
+  | inr other ↦ elim other [
+    | inl break_is ↦ no_break (only_break (out-Node nd).row (sym (row_there nd) ∙ break_is))
+    | inr thrown ↦ no_exception (only_exception (out-Node nd).row (sym (row_there nd) ∙ thrown.row))
+  ]
 ]
 
 -- other components leave the names as they are

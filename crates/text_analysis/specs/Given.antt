@@ -17,6 +17,7 @@ use Rattle.typing_steps.specs.States.{is_aloud, sight}
 use Rattle.typing_steps.specs.Typing.{as_declared}
 use Rattle.typing_steps.specs.Constants.{HasConstants}
 use Rattle.binding_rows.specs.Outside.{Outside}
+use Rattle.typing_rows.specs.Noted.{AreNoted}
 use Rattle.module_steps.specs.declared.scenes.Scene.{Scene}
 use Rattle.module_steps.specs.Scenes.{has_name}
 use Rattle.module_typing.specs.Items.{IsGiven, AreCarriedItems}
@@ -27,8 +28,8 @@ operands_of items = map (node_with 0) items
 
 -- What the calls for the items of a text give, from the state after the prelude to the one after the last item: where all items are carried, the definitions' own items are done. The premises on
 -- the first state are what is known of it once the prelude is carried.
-abbrev pub Given : (first : Parts) → (env : List Entry) → (items : List Tree) → (at : Parts) → (now : Scene) → Type 0
-Given first env items at now = (G : Letters) (E : Choice → Environment) → AreCarriedItems (operands_of items) → is_aloud first.telling ≡ true → Outside as_declared (sight first) G env E → HasConstants first → IsGiven E (items_of items) no_names first at G now
+abbrev pub Given : (first : Parts) → (env : List Entry) → (items : List Tree) → (last : Parts) → (now : Scene) → Type 0
+Given first env items last now = (G : Letters) (E : Choice → Environment) → AreCarriedItems (operands_of items) → is_aloud first.telling ≡ true → (at : Outside as_declared (sight first) G env E) → HasConstants first → AreNoted at.older first → IsGiven E (items_of items) no_names first last G now
 
 -- no name of a type, a module or a module type is in a scene
 abbrev pub NoneStands : Scene → Type 0

@@ -62,7 +62,7 @@ fn names_none(item: &Node) -> bool
     ensures none { result ≡ true → NamesNone (inner (node_view item.now)) }
     ensures carried { IsCarriedItemOperand (node_with 0 (node_view item.now)) → result ≡ true }
 {
-    matches!(item.row, RowName::Let | RowName::Break)
+    matches!(item.row, RowName::Let | RowName::Break | RowName::Exception)
 }
 
 /// Adds the variables that are free in the types of the names from a place on.

@@ -1,5 +1,5 @@
 -- What functions of type expressions denote in a declaration, by what their calls do.
-use Rattle.std.proofs.Common.{◌≡◌, ◌∙◌, ◌++◌, ◌+◌, ◌<◌, ◌≤◌, ◌==◌, ℕ, zero, suc, Bool, true, false, List, [], ◌∷◌, length, map, drop, get_or, Some, None, refl, sym, ap, subst, arith, if◌then◌else◌}
+use Rattle.std.proofs.Common.{◌≡◌, ◌∙◌, ◌++◌, ◌+◌, ◌<◌, ◌≤◌, ◌^◌, ◌==◌, ℕ, zero, suc, Bool, true, false, List, [], ◌∷◌, length, map, drop, get_or, Some, None, refl, sym, ap, subst, arith, if◌then◌else◌}
 use Rattle.std.specs.Prelude.{All, Option, slice_index_or, slice_get, codes}
 use Rattle.std.specs.Option.{option_or}
 use Rattle.std.specs.Str.{bytes_eq}
@@ -43,7 +43,8 @@ use Rattle.declared_rows.specs.Contracts.{DenotesTo, DenotesAll, DenotesFirst, D
 use Rattle.declared_rows.specs.Operands.{DenotesOperand, DenotesPart, DenotesOperands, DenotesGiven, DenotesFront, DenotesEnds, DenotesVariable, DenotesParentheses, MakesArrow}
 use Rattle.declared_rows.proofs.Going.{assigned_then}
 use Rattle.declared_rows.proofs.Ends.{unknown_alone, none_inside, one_inside, several_inside}
-use Rattle.declared_rows.proofs.Ordered.{inside_on, noted_on, index_still, alone_row, node_row, noted_denotes, one_denoted, all_denoted_here, denotes_as, alone_denoted}
+use Rattle.typing_rows.proofs.Noted.{noted_on}
+use Rattle.declared_rows.proofs.Ordered.{inside_on, index_still, alone_row, node_row, noted_denotes, one_denoted, all_denoted_here, denotes_as, alone_denoted}
 use Rattle.type_expressions.specs.declared.types.Parameter.{Parameter}
 use Rattle.type_expressions.specs.Items.{names_of, parameter_in}
 use Rattle.type_expressions.specs.Items as items
@@ -53,13 +54,13 @@ use Rattle.type_expressions.proofs.Carrying.{part_read, alone_operand, several_o
 use Rattle.type_expressions.proofs.Settling.{names_turned}
 
 -- a type expression, once its node is recorded
-pub operand_denotes : (a b d : Parts) (env : List Entry) (names : List Name) (ps : List ℕ) (o : Operand) (m : ℕ) (seen : Seen) → DenotesPart a b env names ps o.number (place_of o.span) (part_of o.node o.span) m → Goes a b → Noted b.telling b d o.number seen → OnlyIndex b d → Goes b d → DenotesOperand a d env names ps (operand_view o) m
-operand_denotes a b d env names ps o m seen read goes noted rest goes' operand =
+pub operand_denotes : (a b d : Parts) (env : List Entry) (names : List Name) (ps : List ℕ) (o : Operand) (m : ℕ) (seen : Seen) → o.number < 2 ^ 32 → DenotesPart a b env names ps o.number (place_of o.span) (part_of o.node o.span) m → Goes a b → Noted b.telling b d o.number seen → OnlyIndex b d → Goes b d → DenotesOperand a d env names ps (operand_view o) m
+operand_denotes a b d env names ps o m seen small read goes noted rest goes' operand =
     let n = number_of a.item o.number in
     let asks : Context → List Condition = λ c. part_asks a.item o.number (place_of o.span) (part_of o.node o.span) c in
     subst (λ k. DenotesTo a d env names ps (λ c. (type_of a.item (operand_view o)).read c) k m) (sym (type_of_stands a.item (operand_view o)).number)
     (denotes_as a d env names ps (λ c. tell n c ++ asks c) (λ c. (type_of a.item (operand_view o)).read c) n m (λ c. part_read a.item o.number (place_of o.span) (part_of o.node o.span) c operand.formed)
-    (noted_denotes a b d env names ps asks o.number m seen (read operand.formed operand.placed) goes noted rest goes'))
+    (noted_denotes a b d env names ps asks o.number m seen small (read operand.formed operand.placed) goes noted rest goes'))
 
 -- a type expression that is missing
 pub missing_denotes : (a b : Parts) (env : List Entry) (names : List Name) (ps : List ℕ) (o : Operand) (m : ℕ) → o.node ≡ None → MakesUnknown a b m → Goes a b → DenotesPart a b env names ps o.number (place_of o.span) (part_of o.node o.span) m

@@ -1,7 +1,7 @@
 //! Type expressions.
 #![tactic(auto, using(typing_state::proofs::Going::goes_trans, typing_state::proofs::Going::goes_refl, typing_state::proofs::Silence::store_silent), unfolding(syntax_tree::specs::Names::row_of))]
 
-ghost use Rattle.std.specs.Prelude.{◌≡◌, ◌==◌, ℕ, List, [], ◌∷◌, length, map, option_map, IfOk, OnOk};
+ghost use Rattle.std.specs.Prelude.{◌≡◌, ◌==◌, ◌<◌, ◌^◌, ℕ, List, [], ◌∷◌, length, map, option_map, IfOk, OnOk};
 ghost use Rattle.std.specs.Option.{option_copied};
 ghost use Rattle.syntax_tree.specs.Names.{row_of};
 ghost use Rattle.syntax_tree.specs.declared.tree.Node.{out-Node};
@@ -72,6 +72,13 @@ struct Read {
     names: Vec<Option<Rc<Entry>>>,
 }
 
+/// Makes known that a number has 32 bits.
+fn small(number: u32) -> u32
+    ensures { number < 2 ^ 32 }
+{
+    number
+}
+
 /// The type that a type expression, or a missing one, stands for. It is recorded with the names in it.
 #[cycle(types)]
 pub fn read_type(
@@ -89,6 +96,7 @@ pub fn read_type(
     ensures goes { Goes at.old at.new }
 {
     let read = read_row(at, ty, env, variables, depth)?;
+    let _number = small(ty.number);
     at.note(ty.number, env, None, read.names)?;
     Ok(read.ty)
 }

@@ -64,7 +64,7 @@ same_declared {I = I} {e = e} {f = f} owned p q =
     let arity : e.arity ≡ f.arity = p.arity ∙ sym q.arity in
     (arity, body_same e.arity (type_of e) (type_of f) (p.root.is I owned ∙ sym (q.root.is I owned) ∙ ap (λ k. with_parameters k (type_of f)) (sym arity)))
 
-of_declared : (d : Rc Declaration Global) → declared_in (what.Type d) ≡ Some d.value
+pub of_declared : (d : Rc Declaration Global) → declared_in (what.Type d) ≡ Some d.value
 unfolding whats.out-What denote.Hole.Carrier.out
 of_declared d = refl
 

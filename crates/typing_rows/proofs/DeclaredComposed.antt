@@ -46,7 +46,7 @@ judged_then {a = a} {s = s} {v = v} x y = record {
 }
 
 -- what is asked of a type variable, by the number of its parameter
-abbrev by_number : Context → ℕ → Tok → Option ℕ → List Condition
+abbrev pub by_number : Context → ℕ → Tok → Option ℕ → List Condition
 by_number c n t o = elim o [
   | None ↦ ask n 0 (parts.place_of t) (test (unbound type_variable_word t.name) false) ++ unresolved c n
   | Some k ↦ ask n 0 (parts.place_of t) (test (unbound type_variable_word t.name) true) ++ same (type_at c n) (type.Var k) ∷ []
@@ -83,7 +83,7 @@ ends_single a names at m env n t ts = λ aloud B around us gives many. by ts giv
     by {B} {us} [] gives many = same_to n (first_type us) (λ c. type_at c t.node) (λ c h. ap first_type (gives c.chosen h.fixed)) refl
     by (u ∷ ts) gives many = absurd (let e : suc (suc (length (nodes_of ts))) ≡ 1 = many in cc)
 
-not_one : (k : ℕ) → (1 == suc (suc k)) ≡ false
+pub not_one : (k : ℕ) → (1 == suc (suc k)) ≡ false
 not_one k = ne_eqb 1 (suc (suc k)) (λ e. absurd (omega arith))
 
 -- ( t, t ), which is no type

@@ -65,7 +65,7 @@ arrow_ends a b ps t ms row kept plain env number at formed placed =
     ends_as a b env ps t tarrow_row number at ms row (subst (λ os. SettlesEnd a b env ps (λ c. end_asks tarrow_row a.item number at t c) (nodes_of (types_read a.item os)) ms (number_of a.item number)) (sym (arrow_sides number t formed row))
     (ends_arrow a b env ps (type_of a.item (filled_in number t 0)).node (type_of a.item (filled_in number t 2)).node ms (number_of a.item number) kept))
 
-no_end : (r : Row) (i n : ℕ) (at : Place) (t : Tree) (c : Context) → IsNoType r → unresolved c (number_of i n) ≡ end_asks r i n at t c
+pub no_end : (r : Row) (i n : ℕ) (at : Place) (t : Tree) (c : Context) → IsNoType r → unresolved c (number_of i n) ≡ end_asks r i n at t c
 no_end tvar_row i n at t c h = absurd h
 no_end tcon_row i n at t c h = absurd h
 no_end tparen_row i n at t c h = absurd h
@@ -75,7 +75,7 @@ no_end tarrow_row i n at t c h = absurd h
 no_end _ i n at t c h = refl
 
 -- the row of the code is none of type expressions
-no_type : (r : RowName) → (r ≡ name.Tvar → ⊥) → (r ≡ name.Tparen → ⊥) → (r ≡ name.Ttuple → ⊥) → (r ≡ name.Tarrow → ⊥) → HasNoConstructor (names.row_of r) → IsNoType (names.row_of r)
+pub no_type : (r : RowName) → (r ≡ name.Tvar → ⊥) → (r ≡ name.Tparen → ⊥) → (r ≡ name.Ttuple → ⊥) → (r ≡ name.Tarrow → ⊥) → HasNoConstructor (names.row_of r) → IsNoType (names.row_of r)
 unfolding names.row_of
 no_type name.Tvar v p t a h = absurd (v refl)
 no_type name.Tparen v p t a h = absurd (p refl)
@@ -93,7 +93,7 @@ other_ends a b ps nd ms v p t x kept plain env number at formed placed = λ alou
     let none = subst IsNoType (sym row) (no_type (out-Node nd).row v p t x (subst HasNoConstructor row plain)) in
     to_here (λ c h. no_end (row_of (node_view nd)) a.item number at (node_view nd) c none) (unresolved_to ps (number_of a.item number) around.1 kept)
 
-no_constructor : (r : RowName) → (r ≡ name.Tcon → ⊥) → (r ≡ name.Tapp → ⊥) → HasNoConstructor (names.row_of r)
+pub no_constructor : (r : RowName) → (r ≡ name.Tcon → ⊥) → (r ≡ name.Tapp → ⊥) → HasNoConstructor (names.row_of r)
 unfolding names.row_of
 no_constructor name.Tcon c a = absurd (c refl)
 no_constructor name.Tapp c a = absurd (a refl)

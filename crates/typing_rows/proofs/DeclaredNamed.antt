@@ -1,7 +1,5 @@
 -- A constructor of types by its path, in a declaration: the demand that it is bound, that it takes as many arguments as are given, and what its declaration is over them.
 use Rattle.std.proofs.Common.{◌≡◌, ◌∙◌, ◌++◌, ◌==◌, ℕ, Bool, true, false, List, [], ◌∷◌, length, Option, Some, None, refl, sym, ap, subst, if◌then◌else◌}
-use Rattle.std.specs.declared.rc.Rc.{Rc}
-use Rattle.std.specs.declared.alloc.Global.{Global}
 use Rattle.token_model.specs.Kinds.{Tok}
 use Rattle.text_terms.specs.declared.Span.{Span}
 use Rattle.syntax_tree.specs.View.{place_of}
@@ -15,7 +13,7 @@ use Rattle.signature_model.specs.Entries.{Entry as Named, Referent, kind_of as k
 use Rattle.signature_model.specs.Changes.{argument}
 use Rattle.signature_model.specs.Matching.{used}
 use Rattle.signature_model.specs.Lookups.{FoundAmong, an_entry, a_hole, nothing, lookup}
-use Rattle.typing_model.specs.Demands.{site, type_word, Condition, same, test, arity}
+use Rattle.typing_model.specs.Demands.{site, type_word, same, test, arity}
 use Rattle.typing_model.specs.Contexts.{Context, parameters, is_kept, ask, type_at, unresolved, filled_at, filled_in}
 use Rattle.typing_model.specs.Parts as parts
 use Rattle.typing_model.specs.Names.{names_of, referent_of, then_by, declaration_in}
@@ -51,16 +49,18 @@ use Rattle.typing_rows.proofs.Settling.{all_left}
 use Rattle.typing_rows.proofs.Judging.{Judges, arity_judges, bound_judges}
 use Rattle.typing_rows.proofs.DeclaredOrdered.{to_here, same_to, unresolved_to}
 use Rattle.typing_rows.proofs.DeclaredComposed.{judged_then}
+use Rattle.typing_rows.proofs.Named.{after_lookup, path_to}
+use Rattle.typing_rows.proofs.Declared.{of_declared}
 
 -- the demand on the number of arguments
-counted : (a b : Parts) {B : Before} (t : Tok) (n k given many : ℕ) (span : Span) (v : Verdict) → place_of span ≡ parts.place_of t → many ≡ given → is_aloud a.telling ≡ true → ArityIs v a b span t.name k given →
+pub counted : (a b : Parts) {B : Before} (t : Tok) (n k given many : ℕ) (span : Span) (v : Verdict) → place_of span ≡ parts.place_of t → many ≡ given → is_aloud a.telling ≡ true → ArityIs v a b span t.name k given →
     Judges B (λ c. ask n 1 (parts.place_of t) (test (arity t.name k many) (k == many))) (sight a) (sight b) (site n 1) (verdicts.is_kept v)
 counted a b {B} t n k given many span v place counts aloud is =
     subst (λ p. Judges B (λ c. ask n 1 p (test (arity t.name k many) (k == many))) (sight a) (sight b) (site n 1) (verdicts.is_kept v)) place
     (subst (λ m. Judges B (λ c. ask n 1 (place_of span) (test (arity t.name k m) (k == m))) (sight a) (sight b) (site n 1) (verdicts.is_kept v)) (sym counts) (arity_judges a b (site n 1) v aloud is))
 
 -- the last judgement before a context is kept so
-kept_last : (B : Before) {c : Context} (n k : ℕ) (v : Bool) → IsBehind (behind B (judged_as (site n k) v) []) c → is_kept c n k ≡ v
+pub kept_last : (B : Before) {c : Context} (n k : ℕ) (v : Bool) → IsBehind (behind B (judged_as (site n k) v) []) c → is_kept c n k ≡ v
 kept_last B {c} n k v h = (kept_right c.kept B.judged (judged_as (site n k) v) h.kept).0
 
 -- a declaration over nodes that have one type each, where parameters are in scope
@@ -68,7 +68,7 @@ abbrev over_types : ℕ → List Typ → Typ → Typ
 over_types n ts u = used (argument (types_of ts)) (λ (o : Path). type.Con (o ++ n ∷ []) types.Nil) u
 
 -- so it has one type
-over_fixed : {B : Before} {c : Context} (names : List Name) (n : ℕ) (ns : List ℕ) (ts : List Typ) (u : Typ) → B.names ≡ names → GivesAll B.fixes ns ts → IsBehind B c →
+pub over_fixed : {B : Before} {c : Context} (names : List Name) (n : ℕ) (ns : List ℕ) (ts : List Typ) (u : Typ) → B.names ≡ names → GivesAll B.fixes ns ts → IsBehind B c →
     used (argument (types_of (types_of_nodes c ns))) (filled_at c n) u ≡ over_types n ts u
 over_fixed {B} {c} names n ns ts u are gives h =
     let same = gives c.chosen h.fixed in
@@ -88,10 +88,6 @@ declared_reported a b d names t decl ms span place is kept = λ aloud B n ns ts 
     judged_then (counted a b t n decl.arity (length ms) (length ns) span Reported place many aloud is)
     (to_here (λ c h. sym (ap (λ (v : Bool). if v then same (type_at c n) (used (argument (types_of (types_of_nodes c ns))) (filled_at c n) u) ∷ [] else unresolved c n) (kept_last B n 1 false h)))
     (unresolved_to names n are kept))
-
-of_declared : (d : Rc Declaration Global) → declared_in (what.Type d) ≡ Some d.value
-unfolding whats.out-What denote.Hole.Carrier.out
-of_declared d = refl
 
 module _ (R : ℕ → Scheme → Type 0) (named : Declaration → Typ) (X : Constructor → Option Typ → Type 0) where
   -- what the definitions have for an entry that is a type
@@ -126,14 +122,6 @@ module _ (R : ℕ → Scheme → Type 0) (named : Declaration → Typ) (X : Cons
   found_type e f is (to_entry {e = d} {f = g} h) = let s : d ≡ e = cc in subst (λ z. FindsType z (an_entry g)) s (entry_declaration h (ap (λ (z : Entry). kind_of z.kind) s ∙ is))
   found_type e f is to_hole = absurd (cc)
   found_type e f is to_nothing = absurd (cc)
-
--- the path of a name that is there
-abbrev path_to : List Tok → Tok → parts.Written
-path_to qs t = record { qualifiers = qs; last = Some t }
-
--- what is asked once the path is looked up
-abbrev after_lookup : Context → ℕ → List Tok → Tok → List ℕ → List Condition
-after_lookup c n qs t ns = declared_type c n t ns (if is_kept c n 0 then then_by (referent_of (lookup c.env (names_of qs) type_kind t.name)) declaration_in else None)
 
 -- The path was looked up.
 module _ (a b e : Parts) (env : List Entry) (names : List Name) (given : Option Entry) (qs : List Tok) (t : Tok) (ns ms : List ℕ) (n : ℕ) (names_to : SettlesNamed given b e names t ms)

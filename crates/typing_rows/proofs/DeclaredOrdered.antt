@@ -95,11 +95,11 @@ none_settled a env names all = λ aloud B around. record {
   gives = refl;
 }
 
-map_last : (f : ℕ → Typ) (ns : List ℕ) (n : ℕ) → map f (ns ++ n ∷ []) ≡ map f ns ++ f n ∷ []
+pub map_last : (f : ℕ → Typ) (ns : List ℕ) (n : ℕ) → map f (ns ++ n ∷ []) ≡ map f ns ++ f n ∷ []
 map_last f [] n = refl
 map_last f (k ∷ ns) n = ap (λ ts. f k ∷ ts) (map_last f ns n)
 
-one_longer : (ns : List ℕ) (n : ℕ) → length (ns ++ n ∷ []) ≡ suc (length ns)
+pub one_longer : (ns : List ℕ) (n : ℕ) → length (ns ++ n ∷ []) ≡ suc (length ns)
 one_longer [] n = refl
 one_longer (k ∷ ns) n = ap suc (one_longer ns n)
 

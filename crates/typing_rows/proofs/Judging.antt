@@ -57,6 +57,7 @@ test_held {B} {at} x s = record {
     holds = ((λ kept. refl), tt);
     tells = subst (λ t. TellBy t at (test x true) (λ later. later ≡ []) []) (sym k.0) refl;
   };
+  follows = λ c b f. (refl, λ k. refl);
   complete = complete;
   first = first_single [] (λ c. demand s at (test x true)) complete;
 }
@@ -76,6 +77,7 @@ test_reported {B} {at} x s r place kind = record {
     holds = ((λ kept. absurd (not_both k.0 kept)), tt);
     tells = subst (λ t. TellBy t at (test x false) (λ later. later ≡ []) (r ∷ [])) (sym k.0) (r, [], refl, record { place = place; kind = kind }, refl);
   };
+  follows = λ c b f. (refl, λ k. refl);
   complete = complete;
   first = first_single [] (λ c. demand s at (test x false)) complete;
 }

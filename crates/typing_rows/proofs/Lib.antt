@@ -22,6 +22,7 @@ pub mod Filled
 pub mod Declared
 pub mod Abbreviated
 pub mod Named
+pub mod Noted
 pub mod Placed
 pub mod TypeGiven
 pub mod Ended

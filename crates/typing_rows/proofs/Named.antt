@@ -120,11 +120,11 @@ declared_reported a b d t x decl ms m span place here is only made rest aloud F 
         }
 
 -- the path of a name that is there
-abbrev path_to : List Tok → Tok → parts.Written
+abbrev pub path_to : List Tok → Tok → parts.Written
 path_to qs t = record { qualifiers = qs; last = Some t }
 
 -- what is asked once the path is looked up
-abbrev after_lookup : Context → ℕ → List Tok → Tok → List ℕ → List Condition
+abbrev pub after_lookup : Context → ℕ → List Tok → Tok → List ℕ → List Condition
 after_lookup c n qs t ns = declared_type c n t ns (if is_kept c n 0 then then_by (referent_of (lookup c.env (names_of qs) type_kind t.name)) declaration_in else None)
 
 -- The path was looked up.

@@ -1,10 +1,7 @@
 -- A node whose type is what the choice has for it: at the end of its row, and where it is recorded.
-use Rattle.std.proofs.Common.{◌≡◌, ◌∙◌, ◌⊎◌, inl, inr, ℕ, zero, suc, Bool, true, false, ◌&&◌, ◌==◌, if◌then◌else◌, [], ◌∷◌, ◌++◌, take, refl, sym, ap, subst, append-nil, Some}
-use Rattle.std.proofs.lemmas.Bool.{eqb-true}
+use Rattle.std.proofs.Common.{◌≡◌, ◌∙◌, ◌⊎◌, inl, inr, ℕ, zero, suc, [], ◌∷◌, ◌++◌, take, refl, sym, ap, subst, append-nil}
 use Rattle.type_model.specs.Types.{Typ}
-use Rattle.type_model.proofs.Applying.{eqb_same}
 use Rattle.signature_model.specs.Matching.{IsKnown}
-use Rattle.typing_laws.proofs.Bools.{and_cases, and_both}
 use Rattle.typing_model.specs.Demands.{same, AllHold}
 use Rattle.typing_model.specs.Contexts.{Choice, Context, tell_typed}
 use Rattle.type_nodes.specs.Readings.{Types, Fits}
@@ -19,7 +16,7 @@ use Rattle.typing_conditions.proofs.Judged.{follows_silent, starts_all}
 use Rattle.typing_conditions.proofs.Stays.{stays_refl, stays_trans, stays_opened, agrees_before, named_before, bounds_before}
 use Rattle.typing_conditions.proofs.First.{first_one, starts_none}
 use Rattle.typing_conditions.proofs.Carried.{Decides}
-use Rattle.typing_conditions.proofs.Recording.{records_stay}
+use Rattle.typing_conditions.proofs.Recording.{now_or_before, here_now, records_stay}
 use Rattle.typing_conditions.proofs.Hiding.{settles_none, settles_on}
 
 -- a type is itself
@@ -69,29 +66,13 @@ ends_made {F} {scope} {G} {a} {n} {m} {type} {ends} p end = record {
   first = λ named k V c e h. inl (subst (StartsWith []) (sym (end.silent_first k c)) (starts_all []));
 }
 
-one_some : (x y : ℕ) → Some x ≡ Some y → x ≡ y
-one_some x y e = cc
-
--- what is recorded after a record is its node, or was recorded before
-pub now_or_before : {a b : Sight} {p m : ℕ} → Records a b p m → (i q x : ℕ) → b.types i q ≡ Some x → ((a.item ≡ i) × (p ≡ q) × (m ≡ x)) ⊎ (a.types i q ≡ Some x)
-now_or_before {a} {b} {p} {m} r i q x e = at (a.item == i && p == q) refl
-  where
-    at : (t : Bool) → (a.item == i && p == q) ≡ t → ((a.item ≡ i) × (p ≡ q) × (m ≡ x)) ⊎ (a.types i q ≡ Some x)
-    at true f =
-        let both = and_cases (a.item == i) (p == q) f in
-        inl (eqb-true a.item i both.0, eqb-true p q both.1, one_some m x (sym (ap (λ t. if t then Some m else a.types i q) f) ∙ sym (r.types i q) ∙ e))
-    at false f = inr (sym (ap (λ t. if t then Some m else a.types i q) f) ∙ sym (r.types i q) ∙ e)
-
-pub here_now : {a b : Sight} {p m : ℕ} → Records a b p m → b.types a.item p ≡ Some m
-here_now {a} {b} {p} {m} r = r.types a.item p ∙ ap (λ t. if t then Some m else a.types a.item p) (and_both (a.item == a.item) (p == p) (eqb_same a.item) (eqb_same p))
-
 -- A node for which the choice has its type already is recorded. It tells what it is before all that was asked.
 unfoldable pub own_recorded : {F : Frame} {scope : Scope} {asks : Asks} {a b d : Sight} {G H : Letters} (n : ℕ) {p m : ℕ} → number_in b.item p ≡ n → Carried F scope asks a G b H → Means F b H (λ ch. ch.type_at n) m → Records b d p m →
     Carried F scope (λ c. tell_typed n c ++ asks c) a G d H
 own_recorded {F} {scope} {asks} {a} {b} {d} {G} {H} n {p} {m} number it means r = record {
   stays = stays_trans it.stays later;
   hidden = it.hidden;
-  settled = settles_on it.hidden later.recorded it.settled;
+  settled = settles_on it.hidden later.keeps it.settled;
   judged = it.judged;
   told = it.told;
   reports = r.reports ∙ it.reports;

@@ -1,5 +1,5 @@
 -- A type expression once it is read: the choice has the type of its node.
-use Rattle.std.proofs.Common.{◌≡◌, ◌∙◌, ◌++◌, ℕ, List, [], ◌∷◌, inl, inr, sym, ap, append-nil}
+use Rattle.std.proofs.Common.{◌≡◌, ◌∙◌, ◌++◌, ℕ, Bool, List, [], ◌∷◌, inl, inr, sym, ap, append-nil}
 use Rattle.type_model.specs.Types.{Typ}
 use Rattle.typing_model.specs.Demands.{same}
 use Rattle.typing_model.specs.Contexts.{Choice, Context, in_item, type_at, tell, unresolved, unresolved_in}
@@ -10,7 +10,7 @@ use Rattle.typing_state.specs.Goes.{Goes, OnlyStore, OnlyIndex}
 use Rattle.typing_state.specs.Notes.{Noted}
 use Rattle.typing_state.specs.Types.{MakesVar, any_scope}
 use Rattle.std.specs.Prelude.{None}
-use Rattle.typing_conditions.specs.Sights.{Sight, own, Letters}
+use Rattle.typing_conditions.specs.Sights.{Sight, Key, own, Letters}
 use Rattle.typing_conditions.specs.Frames.{Frame, Reaches}
 use Rattle.typing_conditions.specs.Carrying.{Asks, Scope, Carried, CarriedTo}
 use Rattle.typing_conditions.proofs.Judged.{given_left, given_right, given_both, nodes_right}
@@ -25,8 +25,8 @@ use Rattle.typing_steps.proofs.Making.{var_made}
 use Rattle.typing_steps.proofs.Still.{none_idle, carried_idle, untyped_noted}
 use Rattle.typing_steps.proofs.Testing.{carried_here}
 use Rattle.typing_rows.specs.TypeContracts.{ReadAs, ReadsTo, ReadsAll, EndsRead}
-use Rattle.typing_conditions.specs.Hiding.{marked, is_typed}
-use Rattle.typing_conditions.proofs.Hiding.{settles_more, given_unmarked}
+use Rattle.typing_conditions.specs.Hiding.{marked, is_sure}
+use Rattle.typing_conditions.proofs.Hiding.{settles_closed, given_unmarked}
 
 -- letters of the parts are hidden once the node has its own
 pub read_closed : {F : Frame} {scope : Scope} {asks : Asks} {a b : Sight} {G : Letters} {n m : ℕ} (more : Letters) → CarriedTo F scope asks a G b ((own n, m) ∷ (more ++ G)) (λ ch. ch.type_at n) m → ReadAs F scope asks a G b n m
@@ -40,6 +40,7 @@ read_closed {F} {scope} {asks} {a} {b} {G} {n} {m} more r = record {
       writes = p.stays.writes;
       refines = p.stays.refines;
       recorded = p.stays.recorded;
+      keeps = p.stays.keeps;
       written = p.stays.written;
       given = λ V ch h. h.1;
       inside = λ i. let j = p.stays.inside i in record { recorded = j.recorded; written = j.written; given = (j.given.0, nodes_right more G b.nodes j.given.1) };
@@ -48,8 +49,8 @@ read_closed {F} {scope} {asks} {a} {b} {G} {n} {m} more r = record {
       level = p.stays.level;
       fixed = p.stays.fixed;
     };
-    hidden = p.hidden ++ marked (is_typed b) more;
-    settled = settles_more p.hidden more p.stays.recorded p.settled;
+    hidden = p.hidden ++ marked test more;
+    settled = settles_closed p.hidden more p.settled;
     judged = p.judged;
     told = p.told;
     reports = p.reports;
@@ -60,9 +61,9 @@ read_closed {F} {scope} {asks} {a} {b} {G} {n} {m} more r = record {
         recorded = l.agrees.recorded;
         known = l.agrees.known;
         written = l.agrees.written;
-        given = (l.agrees.given.0, given_both V c.chosen more G (given_unmarked (is_typed b) more V c.chosen (given_right V c.chosen p.hidden (marked (is_typed b) more) l.hidden_too)) l.agrees.given.1);
+        given = (l.agrees.given.0, given_both V c.chosen more G (given_unmarked test more V c.chosen (given_right V c.chosen p.hidden (marked test more) l.hidden_too)) l.agrees.given.1);
       };
-      hidden_too = given_left V c.chosen p.hidden (marked (is_typed b) more) l.hidden_too;
+      hidden_too = given_left V c.chosen p.hidden (marked test more) l.hidden_too;
       named = l.named;
       unbound = l.unbound;
       kept = l.kept;
@@ -74,9 +75,9 @@ read_closed {F} {scope} {asks} {a} {b} {G} {n} {m} more r = record {
         recorded = l.agrees.recorded;
         known = l.agrees.known;
         written = l.agrees.written;
-        given = (l.agrees.given.0, given_both V c.chosen more G (given_unmarked (is_typed b) more V c.chosen (given_right V c.chosen p.hidden (marked (is_typed b) more) l.hidden_too)) l.agrees.given.1);
+        given = (l.agrees.given.0, given_both V c.chosen more G (given_unmarked test more V c.chosen (given_right V c.chosen p.hidden (marked test more) l.hidden_too)) l.agrees.given.1);
       };
-      hidden_too = given_left V c.chosen p.hidden (marked (is_typed b) more) l.hidden_too;
+      hidden_too = given_left V c.chosen p.hidden (marked test more) l.hidden_too;
       named = l.named;
       unbound = l.unbound;
       kept = l.kept;
@@ -95,7 +96,7 @@ read_closed {F} {scope} {asks} {a} {b} {G} {n} {m} more r = record {
             given = (goes.on.agrees.given.0, given_right goes.types c.chosen more G goes.on.agrees.given.1);
           };
         };
-        hidden_too = hidden_more (is_typed b) p.hidden more G b c.chosen goes.types (p.stays.inside e.inside).given.1 goes.on.agrees.given.1 goes.hidden_too;
+        hidden_too = hidden_more test p.hidden more G b c.chosen goes.types (p.stays.inside e.inside).given.1 goes.on.agrees.given.1 goes.hidden_too;
       })
       | inr short ↦ inr short
     ];
@@ -106,6 +107,9 @@ read_closed {F} {scope} {asks} {a} {b} {G} {n} {m} more r = record {
   where
     p : Carried F scope asks a G b ((own n, m) ∷ (more ++ G))
     p = r.carried
+
+    test : Key × ℕ → Bool
+    test = is_sure a b (p.hidden ++ more)
 
 -- a row that has a type, and whose node then has it
 pub same_read : {F : Frame} {scope : Scope} {asks : Asks} {a b : Sight} {G H : Letters} {type : Choice → Typ} {m : ℕ} (n : ℕ) → CarriedTo F scope asks a G b H type m →

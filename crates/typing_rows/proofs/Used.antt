@@ -29,7 +29,7 @@ use Rattle.typing_conditions.proofs.Carried.{take_none}
 use Rattle.typing_conditions.proofs.First.{starts_none}
 use Rattle.typing_conditions.proofs.Making.{loose_before, reading_before}
 use Rattle.typing_conditions.proofs.Meaning.{agrees_same, inside_longer}
-use Rattle.typing_conditions.proofs.Hiding.{settles_none}
+use Rattle.typing_conditions.proofs.Hiding.{keeps_as, settles_none}
 
 -- what is chosen for a name: for a parameter by its number, for an unknown type at the node n
 abbrev pub key_by : (ℕ → Key) → ℕ → Typ → Key
@@ -152,6 +152,7 @@ root_used {F} {scope} {G} {a} {b} {C} {N} {arity} {root} {m} {t} key free s f na
       writes = written_next rest.written (λ r. opened.reached) refines;
       refines = refines;
       recorded = λ i k y e. rest.types i k ∙ e;
+      keeps = keeps_as rest.noted rest.types;
       written = λ y k e. rest.written y ∙ e;
       given = λ V ch h. given_right V ch letters G h;
       inside = λ h.

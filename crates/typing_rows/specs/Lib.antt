@@ -16,3 +16,4 @@ pub mod Settled
 pub mod Around
 pub mod DeclaredContracts
 pub mod DeclaredOperands
+pub mod Noted

@@ -3,7 +3,7 @@ use Rattle.row_parts.specs.Numbered.{operand_view}
 use Rattle.syntax_tree.specs.declared.rows.RowName.TheVariants as name
 use Rattle.syntax_tree.specs.declared.tree.Node.{out-Node}
 use Rattle.typing_state.proofs.Going.{goes_refl, goes_trans}
-use Rattle.module_typing.proofs.ItemSteps.{missing_given, break_given, let_item_given, other_item, other_names, not_of, items_start, items_next, items_end}
+use Rattle.module_typing.proofs.ItemSteps.{missing_given, break_given, let_item_given, exception_given, other_item, other_names, not_of, items_start, items_next, items_end}
 use Rattle.module_typing.proofs.modules.+modules.Goals as goal
 
 pub type_item-returns-in_default-clause-carries : goal.type_item-returns-in_default-clause-carries
@@ -11,6 +11,9 @@ type_item-returns-in_default-clause-carries t c = missing_given c.note_plain.res
 
 pub type_item-returns-in-Let-clause-carries : goal.type_item-returns-in-Let-clause-carries
 type_item-returns-in-Let-clause-carries t c = let_item_given c.let_item.result c.args.at.now c.let_item.new.at c.args.scene.now c.let_item.new.scene c.args.item c.in-Some.node c.in-Some.is c.in-Let.is c.let_item.ensures.carries c.let_item.ensures.names
+
+pub type_item-returns-in-Exception-clause-carries : goal.type_item-returns-in-Exception-clause-carries
+type_item-returns-in-Exception-clause-carries t c = exception_given c.exception_item.result c.args.at.now c.exception_item.new.at c.args.scene.now c.exception_item.new.scene c.args.item c.in-Some.node c.in-Some.is c.in-Exception.is c.exception_item.ensures.carries c.exception_item.ensures.names
 
 pub type_item-returns-in-Break-clause-carries : goal.type_item-returns-in-Break-clause-carries
 type_item-returns-in-Break-clause-carries t c =
@@ -20,30 +23,30 @@ pub type_item-returns-in-Module-clause-carries : goal.type_item-returns-in-Modul
 type_item-returns-in-Module-clause-carries t c =
     let row = (out-Node c.in-Some.node.now).row in
     other_item c.type_module_item.result c.args.at.now c.type_module_item.new.at c.args.scene.now c.type_module_item.new.scene c.args.item c.in-Some.node c.in-Some.is
-    (not_of row name.Module name.Let c.in-Module.is (λ e. absurd (cc))) (not_of row name.Module name.Break c.in-Module.is (λ e. absurd (cc)))
+    (not_of row name.Module name.Let c.in-Module.is (λ e. absurd (cc))) (not_of row name.Module name.Break c.in-Module.is (λ e. absurd (cc))) (not_of row name.Module name.Exception c.in-Module.is (λ e. absurd (cc)))
 
 pub type_item-returns-in-Include-clause-carries : goal.type_item-returns-in-Include-clause-carries
 type_item-returns-in-Include-clause-carries t c =
     let row = (out-Node c.in-Some.node.now).row in
     other_item c.include_item.result c.args.at.now c.include_item.new.at c.args.scene.now c.include_item.new.scene c.args.item c.in-Some.node c.in-Some.is
-    (not_of row name.Include name.Let c.in-Include.is (λ e. absurd (cc))) (not_of row name.Include name.Break c.in-Include.is (λ e. absurd (cc)))
+    (not_of row name.Include name.Let c.in-Include.is (λ e. absurd (cc))) (not_of row name.Include name.Break c.in-Include.is (λ e. absurd (cc))) (not_of row name.Include name.Exception c.in-Include.is (λ e. absurd (cc)))
 
 pub type_item-returns-in-Module-clause-names : goal.type_item-returns-in-Module-clause-names
 type_item-returns-in-Module-clause-names t c =
     let row = (out-Node c.in-Some.node.now).row in
     other_names c.args.scene.now c.type_module_item.new.scene c.args.item c.in-Some.node c.in-Some.is
-    (not_of row name.Module name.Let c.in-Module.is (λ e. absurd (cc))) (not_of row name.Module name.Break c.in-Module.is (λ e. absurd (cc)))
+    (not_of row name.Module name.Let c.in-Module.is (λ e. absurd (cc))) (not_of row name.Module name.Break c.in-Module.is (λ e. absurd (cc))) (not_of row name.Module name.Exception c.in-Module.is (λ e. absurd (cc)))
 
 pub type_item-returns-in-Include-clause-names : goal.type_item-returns-in-Include-clause-names
 type_item-returns-in-Include-clause-names t c =
     let row = (out-Node c.in-Some.node.now).row in
     other_names c.args.scene.now c.include_item.new.scene c.args.item c.in-Some.node c.in-Some.is
-    (not_of row name.Include name.Let c.in-Include.is (λ e. absurd (cc))) (not_of row name.Include name.Break c.in-Include.is (λ e. absurd (cc)))
+    (not_of row name.Include name.Let c.in-Include.is (λ e. absurd (cc))) (not_of row name.Include name.Break c.in-Include.is (λ e. absurd (cc))) (not_of row name.Include name.Exception c.in-Include.is (λ e. absurd (cc)))
 
 pub type_item-returns-in_default-row : goal.type_item-returns-in_default-row
 type_item-returns-in_default-row t c = record {
-  carries = other_item c.type_specification.result c.args.at.now c.type_specification.new.at c.args.scene.now c.type_specification.new.scene c.args.item c.in-Some.node c.in-Some.is c.in_default-row.not-Let c.in_default-row.not-Break;
-  names = other_names c.args.scene.now c.type_specification.new.scene c.args.item c.in-Some.node c.in-Some.is c.in_default-row.not-Let c.in_default-row.not-Break;
+  carries = other_item c.type_specification.result c.args.at.now c.type_specification.new.at c.args.scene.now c.type_specification.new.scene c.args.item c.in-Some.node c.in-Some.is c.in_default-row.not-Let c.in_default-row.not-Break c.in_default-row.not-Exception;
+  names = other_names c.args.scene.now c.type_specification.new.scene c.args.item c.in-Some.node c.in-Some.is c.in_default-row.not-Let c.in_default-row.not-Break c.in_default-row.not-Exception;
   goes = c.type_specification.ensures.goes;
 }
 

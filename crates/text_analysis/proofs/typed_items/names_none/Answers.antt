@@ -7,5 +7,5 @@ returns-in-Let-clause-none c = λ e. names_nothing c.args.item.now c.in-Let.is
 pub returns-in_default : goal.returns-in_default
 returns-in_default c = record {
   none = λ e. absurd (cc);
-  carried = λ h. absurd (not_carried c.args.item.now c.in_default.not-Let c.in_default.not-Break h);
+  carried = λ h. absurd (not_carried c.args.item.now c.in_default.not-Let c.in_default.not-Break c.in_default.not-Exception h);
 }

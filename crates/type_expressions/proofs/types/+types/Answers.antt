@@ -173,7 +173,7 @@ read_each-returns-clause-means t c = λ names ps over nodes operands.
 
 pub read_type-returns-clause-means : goal.read_type-returns-clause-means
 read_type-returns-clause-means t c = λ names ps over nodes.
-    denoted.operand_denotes c.args.at.now c.read_row.new.at c.note.new.self c.args.env.now names ps c.args.ty c.in_ok-read.read.ty.0 (record { env = c.args.env.now; ty = None; names = c.in_ok-read.read.names }) (c.in_ok-read.ensures.means names ps over nodes) c.read_row.ensures.goes c.in_ok-note.ensures.noted c.note.ensures.rest c.note.ensures.goes
+    denoted.operand_denotes c.args.at.now c.read_row.new.at c.note.new.self c.args.env.now names ps c.args.ty c.in_ok-read.read.ty.0 (record { env = c.args.env.now; ty = None; names = c.in_ok-read.read.names }) c.small-number.ensures (c.in_ok-read.ensures.means names ps over nodes) c.read_row.ensures.goes c.in_ok-note.ensures.noted c.note.ensures.rest c.note.ensures.goes
 
 pub read_row-returns-in_ok-any-in-None-clause-means : goal.read_row-returns-in_ok-any-in-None-clause-means
 read_row-returns-in_ok-any-in-None-clause-means t c = λ names ps over nodes.

@@ -1,0 +1,4 @@
+pub mod Frames
+pub mod Exceptions
+pub mod Shapes
+pub mod Types
