@@ -1,42 +1,25 @@
 -- Names of type variables, in sets and among tokens.
-use Rattle.std.proofs.Common.{◌≡◌, ◌∙◌, ℕ, zero, suc, ◌+◌, ◌<◌, Bool, true, false, ◌||◌, List, [], ◌∷◌, ◌++◌, length, map, drop, Some, refl, sym, ap, subst, String, append-nil, append_assoc}
-use Rattle.std.specs.Prelude.{slice_get, slice_index_or, is_some, cond, Option, None, option_map}
+use Rattle.std.proofs.Common.{◌≡◌, ◌∙◌, ℕ, zero, suc, ◌+◌, Bool, true, false, ◌||◌, List, [], ◌∷◌, ◌++◌, Some, refl, sym, ap, subst, String, append-nil, append_assoc}
+use Rattle.std.specs.Prelude.{slice_get, is_some, cond, Option, None, option_map}
 use Rattle.std.specs.List.{list_any}
 use Rattle.std.specs.Map.{lookup, keys_of}
 use Rattle.std.specs.Str.{bytes_eq}
 use Rattle.std.specs.String.{string_bytes}
 use Rattle.std.specs.HashMap.{HashMap, keys, get_by_text}
 use Rattle.std.specs.HashSet.{HashSet}
-use Rattle.std.proofs.lemmas.List.{drop_more}
 use Rattle.std.proofs.lemmas.Slice.Eq.{bytes_eq-Decides}
 use denote.Ref.{Bor}
 use Rattle.token_model.specs.Kinds.{Tok}
-use Rattle.tree_model.specs.Trees.{part_yield, forest_yield}
-use Rattle.syntax_tree.specs.Names.{kind_of}
-use Rattle.syntax_tree.specs.View.{child_view, part_view, forest_of}
-use Rattle.syntax_tree.specs.declared.kinds.TokenKind.{TokenKind}
 use Rattle.syntax_tree.specs.declared.kinds.TokenKind.TheVariants as code
-use Rattle.syntax_tree.specs.declared.tree.Child.{Child}
-use Rattle.syntax_tree.proofs.Views.{child_view_parts}
 use Rattle.signature_model.specs.Declarations.{Name}
+use Rattle.operand_laws.proofs.Variables.{or_then, written_both, among_both}
 use Rattle.pattern_typing.proofs.Carrying.{names_turned}
 use Rattle.typing_model.specs.Records.{is_among}
-use Rattle.typing_model.specs.Items.{variable_by, variables_written}
+use Rattle.typing_model.specs.Items.{variables_written}
 use Rattle.type_terms.specs.declared.types.NodeRef.{NodeRef}
 use Rattle.typing_state.specs.declared.parts.Written.{Written}
 use Rattle.binding_rows.specs.ItemRows.{AreWrittenIn}
 use Rattle.binding_steps.specs.Variables.{AreNamedIn, has}
-
--- the name of a token that is a type variable
-pub variable_there : (k : TokenKind) (n : Name) → k ≡ code.TyVar → variable_by (kind_of k) n ≡ n ∷ []
-unfolding kind_of
-variable_there k n e = ap (λ x. variable_by (kind_of x) n) e
-
--- and another token has none
-pub variable_lost : (k : TokenKind) (n : Name) → (k ≡ code.TyVar → ⊥) → variable_by (kind_of k) n ≡ []
-unfolding kind_of
-variable_lost code.TyVar n other = absurd (other refl)
-variable_lost _ n other = refl
 
 put_or : (a b : Bool) → cond b true a ≡ (a || (b || false))
 put_or true true = refl
@@ -48,36 +31,12 @@ put_or false false = refl
 pub name_put : (old new : Bool) (n q : Name) → new ≡ cond (bytes_eq n q) true old → new ≡ (old || is_among q (n ∷ []))
 name_put old new n q e = e ∙ ap (λ b. cond b true old) (names_turned n q) ∙ put_or old (bytes_eq q n)
 
--- one or another, and a third
-pub or_none : (a : Bool) → (a || false) ≡ a
-or_none true = refl
-or_none false = refl
-
-or_then : (a b c : Bool) → ((a || b) || c) ≡ (a || (b || c))
-or_then true b c = refl
-or_then false b c = refl
-
-written_both : (ts us : List Tok) → variables_written (ts ++ us) ≡ variables_written ts ++ variables_written us
-written_both [] us = refl
-written_both (t ∷ ts) us = ap (λ ns. variable_by t.kind t.name ++ ns) (written_both ts us) ∙ sym (append_assoc (variable_by t.kind t.name) (variables_written ts) (variables_written us))
-
-among_both : (q : Name) (ns ms : List Name) → is_among q (ns ++ ms) ≡ (is_among q ns || is_among q ms)
-among_both q [] ms = refl
-among_both q (n ∷ ns) ms = ap (λ b. bytes_eq q n || b) (among_both q ns ms) ∙ sym (or_then (bytes_eq q n) (is_among q ns) (is_among q ms))
-
 -- the names of more tokens join others
 pub names_joined : (old new : Bool) (q : Name) (ts us : List Tok) → new ≡ (old || is_among q (variables_written ts)) → (new || is_among q (variables_written us)) ≡ (old || is_among q (variables_written (ts ++ us)))
 names_joined old new q ts us e =
     ap (λ b. b || is_among q (variables_written us)) e
     ∙ or_then old (is_among q (variables_written ts)) (is_among q (variables_written us))
     ∙ ap (λ b. old || b) (sym (ap (is_among q) (written_both ts us) ∙ among_both q (variables_written ts) (variables_written us)))
-
--- the tokens of the children that are left
-pub children_left : (cs : List Child) (i : ℕ) (x : Child) → i < length cs → x ≡ slice_index_or cs i x →
-    forest_yield (forest_of (map child_view (drop i cs))) ≡ part_yield (part_view x.part) ++ forest_yield (forest_of (map child_view (drop (i + 1) cs)))
-children_left cs i x lt e =
-    ap (λ ds. forest_yield (forest_of (map child_view ds))) (drop_more cs i x lt ∙ ap (λ y. y ∷ drop (i + 1) cs) (sym e))
-    ∙ ap (λ p. forest_yield (forest_of (p ∷ map child_view (drop (i + 1) cs)))) (child_view_parts x)
 
 -- names of a list are in a set
 abbrev pub AllIn : {Y S : Type 0} → HashSet (Bor (List ℕ)) S → List (String Y) → Type 0

@@ -15,7 +15,7 @@ ghost use Rattle.match_warnings.specs.Warnings.{spans_of};
 
 use crate::parameters::with_names;
 use match_warnings::Rows;
-use pattern_typing::{Matched, type_pattern};
+use pattern_typing::{Matched, Mentioned, type_pattern};
 use row_parts::Operand;
 use syntax_tree::{RowName, Span};
 use typing_state::{Depth, Env, NoMemory, NodeRef, Parts};
@@ -78,7 +78,7 @@ fn type_matched<'a>(
     ensures carries { IfOk result (λ m. IsCarriedPattern (operand_view pattern.entry) → MatchesAs at.old at.new env.now (pattern_of at.old.item (operand_view pattern.entry)) (binds_of m.names.items) matched.0) }
     ensures goes { Goes at.old at.new }
 {
-    let mut seen = Vec::new(at.alloc());
+    let mut seen = Mentioned::new(at.alloc());
     let bound = type_pattern(at, pattern, env, &mut seen, depth.inside()?)?;
     at.equal(pattern.span, bound.ty, matched, env)?;
     Ok(bound)

@@ -127,7 +127,7 @@ pub fn open_all<'a>(
     ensures nodes { IfOk result (λ all. map node_of all.items ≡ nodes_there (map operand_view bindings.now)) }
     ensures goes { Goes at.old at.new }
 {
-    let mut seen = Vec::new(at.alloc());
+    let mut seen = Mentioned::new(at.alloc());
     let mut all = Vec::new(at.alloc());
     for binding in bindings {
         open_if(at, *binding, &mut all, &mut seen, env, depth)?;

@@ -17,7 +17,7 @@ ghost use Rattle.match_warnings.specs.Warnings.{missed_at, WarnsOf};
 
 use match_warnings::report_pattern;
 use owned_lists::push;
-use pattern_typing::{BoundName, Matched, type_pattern};
+use pattern_typing::{BoundName, Matched, Mentioned, type_pattern};
 use row_parts::Operand;
 use std::alloc::Global;
 use typing_state::{Depth, Env, NoMemory, NodeRef, Parts, share_entry};
@@ -53,7 +53,7 @@ fn type_parameter<'a>(
     ensures goes { Goes at.old at.new }
 {
     let faults_before = at.faults.list.len();
-    let mut seen = Vec::new(at.alloc());
+    let mut seen = Mentioned::new(at.alloc());
     let matched = type_pattern(at, parameter, env, &mut seen, depth.inside()?)?;
     warn_parameter(at, parameter, faults_before, env, depth)?;
     Ok(matched)

@@ -24,15 +24,15 @@ use Rattle.typing_conditions.specs.Declared.{UnknownApart, RootAs, OriginAs, Dec
 use Rattle.typing_conditions.specs.Sights.{Letters}
 use Rattle.typing_conditions.proofs.Roots.{named_bound}
 use Rattle.typing_conditions.proofs.Steps.{Grows, refines_made}
-use Rattle.typing_steps.specs.States.{type_in, sight}
+use Rattle.typing_steps.specs.States.{type_in, is_noted, sight}
 use Rattle.typing_steps.specs.Typing.{as_declared}
 use Rattle.typing_steps.proofs.Schemes.{known_path}
-use Rattle.binding_rows.specs.Outside.{Outside}
-use Rattle.first_laws.specs.Declaring.{OnlyTypes, AreBoundIn, Declares}
+use Rattle.binding_rows.specs.Outside.{AreOf, Outside}
+use Rattle.first_laws.specs.Declaring.{OnlyTypes, AreBoundIn, Declares, StartsAmong}
 use Rattle.first_laws.specs.Built.{arity_of, HasPath, DeclaresBuiltIn, EntersBuiltIn, entry_of}
-use Rattle.first_laws.proofs.Declared.{outside_declared}
+use Rattle.first_laws.proofs.Declared.{outside_declared, declared_older}
 use Rattle.first_laws.proofs.Grown.{grows_closed, reads_grown}
-use Rattle.first_laws.proofs.Roots.{root_new, ClosedRoot, root_closed, names_with, names_older, names_apart, root_as}
+use Rattle.first_laws.proofs.Roots.{root_new, ClosedRoot, root_closed, names_with, names_older, names_apart, names_of_before, root_as}
 
 -- the path of a built-in type is that of no unknown type
 built_in_known : (k : ℕ) → is_unknown (built_in_origin k) ≡ false
@@ -69,6 +69,7 @@ module _ {a b : Parts} {which : BuiltIn} {d : Declaration} (h : DeclaresBuiltIn 
     sound = h.sound;
     level = h.rest.level;
     types = λ i p. ap (λ x. type_in (seen_at x i p)) h.rest.index;
+    noted = λ i p k. ap (λ x. is_noted (seen_at x i p)) h.rest.index ∙ k;
     refines = λ K own. refines_made a.store.nodes b.store.nodes K own grows;
     reads = λ V reads. reads_grown a.store.nodes b.store.nodes grows V reads;
   }
@@ -87,17 +88,22 @@ module _ {a b : Parts} {which : BuiltIn} {d : Declaration} (h : DeclaresBuiltIn 
   }
 
 -- A built-in type is declared.
-pub declares_built_in : {a b : Parts} {which : BuiltIn} {e : Entry} → EntersBuiltIn a b which e → (roots : List ℕ) (names : Types) → UnknownApart names → Declares (sight a) (sight b) roots names (e ∷ []) (entry_of which ∷ [])
-declares_built_in h roots names apart = record {
+pub declares_built_in : {a b : Parts} {which : BuiltIn} {e : Entry} → EntersBuiltIn a b which e → (roots : List ℕ) (names : Types) → UnknownApart names → (older : List ℕ) → AreOf older names → Declares (sight a) (sight b) roots names (e ∷ []) (entry_of which ∷ [])
+declares_built_in h roots names apart older of = record {
   new_roots = h.declaration.value.root.0 ∷ [];
   new_names = names_with (closed h.declared) names;
   same = λ v lt. names_older (closed h.declared) names v lt;
   apart = names_apart (closed h.declared) names apart;
+  older = older;
+  unknown = names_of_before (closed h.declared) names older of;
   are_bound = root_bound (root h.declared roots names);
   entries = newest (entry_as (sym h.name) (sym (ap kind_of h.kind)) (of_type h.is (built_in_as h.declared roots names))) no_names;
 }
 
 -- The next item starts among the names of before and that of the built-in type.
-pub outside_built_in : {a b : Parts} {G : Letters} {env : List Entry} {E : Choice → Environment} {which : BuiltIn} {e : Entry} → Outside as_declared (sight a) G env E → EntersBuiltIn a b which e →
-    Outside as_declared (sight b) G (e ∷ env) (λ ch. entry_of which ∷ E ch)
-outside_built_in at h = outside_declared at (built_in_types h.declared) (declares_built_in h at.roots at.names at.apart)
+pub outside_built_in : {a b : Parts} {G : Letters} {env : List Entry} {E : Choice → Environment} {which : BuiltIn} {e : Entry} (at : Outside as_declared (sight a) G env E) → EntersBuiltIn a b which e →
+    StartsAmong (sight b) G (e ∷ env) (λ ch. entry_of which ∷ E ch) at.older
+unfolding declares_built_in
+outside_built_in at h =
+    let declares = declares_built_in h at.roots at.names at.apart at.older at.unknown in
+    record { outside = outside_declared at (built_in_types h.declared) declares; older = declared_older at (built_in_types h.declared) declares }

@@ -26,8 +26,9 @@ use Rattle.typing_conditions.proofs.Standing.{more_in, stands_fits_on, stands_re
 use Rattle.typing_conditions.proofs.DeclaredLater.{declared_after, exception_after}
 use Rattle.typing_steps.specs.Typing.{as_declared}
 use Rattle.binding_rows.specs.Outside.{AgreesOutside, Outside}
-use Rattle.first_laws.specs.Declaring.{OnlyTypes, AreBoundIn, Declares}
+use Rattle.first_laws.specs.Declaring.{OnlyTypes, AreBoundIn, SpecifiedAs, Declares}
 use Rattle.first_laws.proofs.Renamed.{declared_renamed, exception_renamed}
+use Rattle.first_laws.proofs.Specified.{specified_fits, specified_reads}
 
 -- what stands in two lists of nodes together stands in one of them
 any_cases : (u : ℕ) (J : Types) (rs ss : List ℕ) → stands_in_any J (rs ++ ss) u ≡ true → (stands_in_any J rs u ≡ true) ⊎ (stands_in_any J ss u ≡ true)
@@ -63,14 +64,14 @@ bound_low nodes K rs C level own bound low = record {
   ];
 }
 
--- entries that are no values, after those of an environment
-module _ (R : List Node → Types → ℕ → Scheme → Type 0) (D D' : Declaration → rules.Declaration → Type 0) (X X' : Constructor → Option Typ → Type 0) (nodes : List Node) (rs C : List ℕ) (more : List Entry) (F : Environment)
-    (bound : AreBoundIn nodes rs) (entries : EnvAs (λ r sc. ⊥) D' X' more F)
+-- entries whose values stand for schemes by S, after those of an environment
+module _ (R : List Node → Types → ℕ → Scheme → Type 0) (S : ℕ → Scheme → Type 0) (D D' : Declaration → rules.Declaration → Type 0) (X X' : Constructor → Option Typ → Type 0) (nodes : List Node) (rs C : List ℕ) (more : List Entry) (F : Environment)
+    (bound : AreBoundIn nodes rs) (entries : EnvAs S D' X' more F)
     (on_declaration : (d : Declaration) (e : rules.Declaration) → D d e → D' d e) (on_exception : (c : Constructor) (o : Option Typ) → X c o → X' c o) where
-  stands_more : (J V : Types) (env : List Entry) (E : Environment) → IsOwn nodes J → Stands R D X nodes J C V env E → Stands R D' X' nodes J (rs ++ C) V (more ++ env) (F ++ E)
-  stands_more J V env E own s = record {
+  stands_more : (J V : Types) (env : List Entry) (E : Environment) → ((r : ℕ) (sc : Scheme) → S r sc → R nodes V r sc × IsIn (rs ++ C) r) → IsOwn nodes J → Stands R D X nodes J C V env E → Stands R D' X' nodes J (rs ++ C) V (more ++ env) (F ++ E)
+  stands_more J V env E on_scheme own s = record {
     names = env_append (λ r sc. R nodes V r sc × IsIn (rs ++ C) r) D' X'
-        (env_map (λ r sc. ⊥) (λ r sc. R nodes V r sc × IsIn (rs ++ C) r) D' D' X' X' (λ r sc h. absurd h) (λ d e h. h) (λ c o h. h) entries)
+        (env_map S (λ r sc. R nodes V r sc × IsIn (rs ++ C) r) D' D' X' X' on_scheme (λ d e h. h) (λ c o h. h) entries)
         (env_map (λ r sc. R nodes V r sc × IsIn C r) (λ r sc. R nodes V r sc × IsIn (rs ++ C) r) D D' X X' (λ r sc h. (h.0, in_second rs C r h.1)) on_declaration on_exception s.names);
     brings = λ u w free h o. elim (any_cases u J rs C h) [
       | inl i ↦ absurd (let (scope, f) = bound.bound J own u i in free.free (same_node nodes u free.level free.scope bound_level scope free.at f))
@@ -78,16 +79,16 @@ module _ (R : List Node → Types → ℕ → Scheme → Type 0) (D D' : Declara
     ];
   }
 
-  covers_more : (env : List Entry) → Covers D X C env → Covers D' X' (rs ++ C) (more ++ env)
-  covers_more env (E, h) = (
+  covers_more : (env : List Entry) → ((r : ℕ) (sc : Scheme) → S r sc → IsIn (rs ++ C) r) → Covers D X C env → Covers D' X' (rs ++ C) (more ++ env)
+  covers_more env on_scheme (E, h) = (
     F ++ E,
     env_append (λ r sc. IsIn (rs ++ C) r) D' X'
-        (env_map (λ r sc. ⊥) (λ r sc. IsIn (rs ++ C) r) D' D' X' X' (λ r sc h. absurd h) (λ d e h. h) (λ c o h. h) entries)
+        (env_map S (λ r sc. IsIn (rs ++ C) r) D' D' X' X' on_scheme (λ d e h. h) (λ c o h. h) entries)
         (env_map (λ r sc. IsIn C r) (λ r sc. IsIn (rs ++ C) r) D D' X X' (λ r sc i. in_second rs C r i) on_declaration on_exception h),
   )
 
 -- what is recorded after a step that records nothing was recorded before
-agrees_before : {a b : Sight} {G : Letters} {V : Types} {ch : Choice} → OnlyTypes a b → AgreesOutside b G V ch → AgreesOutside a G V ch
+pub agrees_before : {a b : Sight} {G : Letters} {V : Types} {ch : Choice} → OnlyTypes a b → AgreesOutside b G V ch → AgreesOutside a G V ch
 agrees_before on g = record { recorded = λ i p m e. g.recorded i p m (on.types i p ∙ e); known = λ i p m e. g.known i p m (on.types i p ∙ e); given = g.given }
 
 -- After declarations the next item starts among the names of before and those that are declared.
@@ -99,23 +100,28 @@ outside_declared {a} {b} {G} {env} {more} {E} {F} at on new = record {
   roots = new.new_roots ++ at.roots;
   names = new.new_names;
   apart = new.apart;
+  older = new.older;
+  unknown = new.unknown;
   steady = at.steady;
   context = λ K own. subst (IsContext b.nodes K (new.new_roots ++ at.roots)) (sym on.level) (bound_low b.nodes K new.new_roots at.roots a.level own new.are_bound (context_after a.nodes b.nodes before.0 K at.roots a.level before.1 own (on.refines K own) (at.context before.0 before.1)));
   covered = let own = own_of b.nodes on.sound in
-      covers_more SchemeReads (DeclaredAs a.nodes at.roots at.names) (DeclaredAs b.nodes (new.new_roots ++ at.roots) new.new_names) (ExceptionAs a.nodes at.roots at.names) (ExceptionAs b.nodes (new.new_roots ++ at.roots) new.new_names)
-      b.nodes new.new_roots at.roots more F new.are_bound new.entries (later own.0 own.1) (later_exception own.0 own.1) env at.covered;
+      covers_more SchemeReads specified (DeclaredAs a.nodes at.roots at.names) (DeclaredAs b.nodes (new.new_roots ++ at.roots) new.new_names) (ExceptionAs a.nodes at.roots at.names) (ExceptionAs b.nodes (new.new_roots ++ at.roots) new.new_names)
+      b.nodes new.new_roots at.roots more F new.are_bound new.entries (later own.0 own.1) (later_exception own.0 own.1) env (λ r sc h. h.root.among) at.covered;
   reads = λ K V ch own reads g.
-      stands_more SchemeReads (DeclaredAs a.nodes at.roots at.names) (DeclaredAs b.nodes (new.new_roots ++ at.roots) new.new_names) (ExceptionAs a.nodes at.roots at.names) (ExceptionAs b.nodes (new.new_roots ++ at.roots) new.new_names)
-      b.nodes new.new_roots at.roots more F new.are_bound new.entries (later K own) (later_exception K own) K V env (E ch) own
+      stands_more SchemeReads specified (DeclaredAs a.nodes at.roots at.names) (DeclaredAs b.nodes (new.new_roots ++ at.roots) new.new_names) (ExceptionAs a.nodes at.roots at.names) (ExceptionAs b.nodes (new.new_roots ++ at.roots) new.new_names)
+      b.nodes new.new_roots at.roots more F new.are_bound new.entries (later K own) (later_exception K own) K V env (E ch) (λ r sc h. (specified_reads K own h V reads, h.root.among)) own
       (stands_reads_on (DeclaredAs a.nodes at.roots at.names) (ExceptionAs a.nodes at.roots at.names) a.nodes b.nodes before.0 K at.roots before.1 own (on.refines K own) inside V env (E ch) reads
       (at.reads before.0 V ch before.1 (on.reads V reads) (agrees_before on g)));
   fits = λ K V ch own loose g.
-      stands_more SchemeFits (DeclaredAs a.nodes at.roots at.names) (DeclaredAs b.nodes (new.new_roots ++ at.roots) new.new_names) (ExceptionAs a.nodes at.roots at.names) (ExceptionAs b.nodes (new.new_roots ++ at.roots) new.new_names)
-      b.nodes new.new_roots at.roots more F new.are_bound new.entries (later K own) (later_exception K own) K V env (E ch) own
+      stands_more SchemeFits specified (DeclaredAs a.nodes at.roots at.names) (DeclaredAs b.nodes (new.new_roots ++ at.roots) new.new_names) (ExceptionAs a.nodes at.roots at.names) (ExceptionAs b.nodes (new.new_roots ++ at.roots) new.new_names)
+      b.nodes new.new_roots at.roots more F new.are_bound new.entries (later K own) (later_exception K own) K V env (E ch) (λ r sc h. (specified_fits K own h V loose, h.root.among)) own
       (stands_fits_on (DeclaredAs a.nodes at.roots at.names) (ExceptionAs a.nodes at.roots at.names) a.nodes b.nodes before.0 K at.roots before.1 own (on.refines K own) inside V V env (E ch) (λ k lt. refl) loose
       (at.fits before.0 V ch before.1 ((on.refines K own).loose V loose) (agrees_before on g)));
 }
   where
+    specified : ℕ → Scheme → Type 0
+    specified = SpecifiedAs b.nodes (new.new_roots ++ at.roots) new.new_names
+
     before : (I : Types) × IsOwn a.nodes I
     before = own_of a.nodes at.sound
 
@@ -127,3 +133,8 @@ outside_declared {a} {b} {G} {env} {more} {E} {F} at on new = record {
 
     later_exception : (K : Types) → IsOwn b.nodes K → (c : Constructor) (o : Option Typ) → ExceptionAs a.nodes at.roots at.names c o → ExceptionAs b.nodes (new.new_roots ++ at.roots) new.new_names c o
     later_exception K own c o h = exception_after before.1 (on.refines K own) (in_second new.new_roots at.roots) (exception_renamed new.same h)
+
+-- where the unknown types among the names are those of the type expressions that are said
+pub declared_older : {a b : Sight} {G : Letters} {env more : List Entry} {E : Choice → Environment} {F : Environment} (at : Outside as_declared a G env E) (on : OnlyTypes a b) (new : Declares a b at.roots at.names more F) → (outside_declared at on new).older ≡ new.older
+unfolding outside_declared
+declared_older at on new = refl

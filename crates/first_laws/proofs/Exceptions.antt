@@ -1,6 +1,5 @@
 -- After an exception is declared the names are those of before with its own.
-use Rattle.std.proofs.Common.{◌≡◌, ℕ, zero, suc, ◌<◌, true, List, [], ◌∷◌, length, Option, Some, refl, sym, subst}
-use Rattle.std.specs.Prelude.{slice_get}
+use Rattle.std.proofs.Common.{◌≡◌, ℕ, zero, ◌<◌, true, List, [], ◌∷◌, length, Option, refl, sym, subst}
 use Rattle.std.specs.declared.rc.Rc.{Rc}
 use Rattle.std.specs.declared.alloc.Global.{Global}
 use Rattle.text_terms.specs.Bytes.{str_bytes}
@@ -24,26 +23,27 @@ use Rattle.typing_steps.specs.Typing.{as_declared}
 use Rattle.binding_rows.specs.Outside.{Outside}
 use Rattle.declared_rows.specs.Assignments.{Assigned, Denotes}
 use Rattle.declared_rows.proofs.Starting.{declaring_frame}
-use Rattle.first_laws.specs.Declaring.{AreNew}
-use Rattle.first_laws.proofs.Whole.{DenotesSome, names, whole_root, outside_whole}
+use Rattle.first_laws.specs.Declaring.{NoneTyped, OnlyTypes, SpecifiedAs, StartsAmong}
+use Rattle.first_laws.proofs.Whole.{one_denotes, names, whole_types, whole_root, outside_whole}
 
--- The next item starts among the names of before and that of the exception, where its unknown types are new. Its root r denotes the type of the constructor, which is that of exceptions or an arrow to it.
-pub outside_exception : {a b : Sight} (c : Sight) {G : Letters} {env : List Entry} {E : Choice → Environment} (at : Outside as_declared a G env E) (I : Types) (own : IsOwn a.nodes I) (n : ℕ) (n_inside : n < length a.nodes) (none : (v : ℕ) → occurs v (I n) ≡ true → ⊥)
-    {start : Sight} (from : start.nodes ≡ a.nodes) {U : List ℕ} (x : Assigned (declaring_frame a I at.roots n) 0 U start b (record { types = I; nodes = n ∷ [] }))
-    {r : ℕ} (argument : Option Typ) → Denotes x.after r (building exn_type argument) → ((K : Types) → IsOwn b.nodes K → ClosesAll b.nodes c.nodes K (r ∷ []) 0) → IsPlain c.nodes → IsSound c.nodes → c.level ≡ a.level → ((i p : ℕ) → c.types i p ≡ a.types i p) → AreNew U at.names →
-    (e : Entry) (f : Named) (cell : Rc Constructor Global) → e.what ≡ what.Exception cell → cell.value.root.0 ≡ r → cell.value.has_argument ≡ is_some argument → f.name ≡ str_bytes e.name → kind_named f.stands_for ≡ kind_of e.kind → f.stands_for ≡ an_exception argument →
-    Outside as_declared c G (e ∷ env) (λ ch. f ∷ E ch)
-outside_exception {a} {b} c at I own n n_inside none {start} from {U} x {r} argument denotes closes plain sound level types new e f cell is root takes name kind stands =
-    outside_whole c at I own n n_inside none from x (r ∷ []) one closes plain sound level types new (e ∷ []) (f ∷ [])
-    (newest (entry_as name kind (subst (WhatAs (λ q sc. ⊥) (DeclaredAs c.nodes (r ∷ at.roots) N) (ExceptionAs c.nodes (r ∷ at.roots) N) e.what) (sym stands)
-    (of_exception is (record { takes = takes; root = subst (λ m. RootAs c.nodes (r ∷ at.roots) N 0 m (building exn_type argument)) (sym root) root_as })))) no_names)
-  where
-    one : (k s : ℕ) → slice_get (r ∷ []) k ≡ Some s → DenotesSome (declaring_frame a I at.roots n) 0 U start b (record { types = I; nodes = n ∷ [] }) x s
-    one zero s e = let g : r ≡ s = cc in record { type = building exn_type argument; denotes = subst (λ m. Denotes x.after m (building exn_type argument)) g denotes }
-    one (suc k) s e = absurd (cc)
+-- An exception whose root r denotes the type of its constructor, which is that of exceptions or an arrow to it.
+module _ {a b : Sight} (c : Sight) {G : Letters} {env : List Entry} {E : Choice → Environment} (at : Outside as_declared a G env E) (I : Types) (own : IsOwn a.nodes I) (n : ℕ) (n_inside : n < length a.nodes) (none : (v : ℕ) → occurs v (I n) ≡ true → ⊥)
+    {start : Sight} (from : start.nodes ≡ a.nodes) {U : List ℕ} (x : Assigned (declaring_frame a I at.roots n) 0 U start b (record { types = I; nodes = n ∷ []; older = at.older }))
+    {r : ℕ} (argument : Option Typ) (denotes : Denotes x.after r (building exn_type argument)) (closes : (K : Types) → IsOwn b.nodes K → ClosesAll b.nodes c.nodes K (r ∷ []) 0) (plain : IsPlain c.nodes) (sound : IsSound c.nodes) (level : c.level ≡ a.level) (types : NoneTyped a c) where
+  -- types alone were made
+  pub exception_types : OnlyTypes a c
+  exception_types = whole_types c at I own n n_inside none from x (r ∷ []) (one_denotes x (building exn_type argument) denotes) closes plain sound level types
 
-    N : Types
-    N = names c at I own n n_inside none from x (r ∷ []) one closes plain sound level types
+  abbrev N : Types
+  N = names c at I own n n_inside none from x (r ∷ []) (one_denotes x (building exn_type argument) denotes) closes plain sound level types
 
-    root_as : RootAs c.nodes (r ∷ at.roots) N 0 r (building exn_type argument)
-    root_as = whole_root c at I own n n_inside none from x (r ∷ []) one closes plain sound level types (zero, refl) denotes
+  root_as : RootAs c.nodes (r ∷ at.roots) N 0 r (building exn_type argument)
+  root_as = whole_root c at I own n n_inside none from x (r ∷ []) (one_denotes x (building exn_type argument) denotes) closes plain sound level types (zero, refl) denotes
+
+  -- The next item starts among the names of before and that of the exception.
+  pub outside_exception : (e : Entry) (f : Named) (cell : Rc Constructor Global) → e.what ≡ what.Exception cell → cell.value.root.0 ≡ r → cell.value.has_argument ≡ is_some argument → f.name ≡ str_bytes e.name → kind_named f.stands_for ≡ kind_of e.kind → f.stands_for ≡ an_exception argument →
+      StartsAmong c G (e ∷ env) (λ ch. f ∷ E ch) U
+  outside_exception e f cell is root takes name kind stands =
+      outside_whole c at I own n n_inside none from x (r ∷ []) (one_denotes x (building exn_type argument) denotes) closes plain sound level types (e ∷ []) (f ∷ [])
+      (newest (entry_as name kind (subst (WhatAs (SpecifiedAs c.nodes (r ∷ at.roots) N) (DeclaredAs c.nodes (r ∷ at.roots) N) (ExceptionAs c.nodes (r ∷ at.roots) N) e.what) (sym stands)
+      (of_exception is (record { takes = takes; root = subst (λ m. RootAs c.nodes (r ∷ at.roots) N 0 m (building exn_type argument)) (sym root) root_as })))) no_names)

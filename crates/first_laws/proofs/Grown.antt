@@ -1,5 +1,5 @@
 -- New nodes, the parts of which are new, and of which one is generalised: the nodes of before are as they were.
-use Rattle.std.proofs.Common.{◌≡◌, ◌∙◌, ℕ, ◌≤◌, true, nat_le, List, length, get_or, Some, sym, ap, subst, arith, inl, inr}
+use Rattle.std.proofs.Common.{◌≡◌, ◌∙◌, ℕ, ◌≤◌, nat_le, List, length, get_or, Some, sym, ap, subst, arith, inl, inr}
 use Rattle.std.specs.Prelude.{slice_get, All}
 use Rattle.std.proofs.lemmas.Option.{slice_get_within}
 use Rattle.type_nodes.specs.Nodes.{Node, Var, bound_level, parts, IsClosed}
@@ -11,6 +11,7 @@ use Rattle.level_unify.specs.Generalising.{Generalised}
 use Rattle.level_unify.proofs.Steps.{cell_at}
 use Rattle.typing_conditions.proofs.Making.{makes_extends}
 use Rattle.typing_conditions.proofs.Steps.{Grows}
+use Rattle.typing_conditions.proofs.Regions.{is_new, new_is}
 
 -- nodes from a number on have parts from it on
 pub record NewParts (k : ℕ) (nodes : List Node) : Type 0 where
@@ -36,12 +37,6 @@ grows_made old new n c made = let x = makes_extends old new n c made in record {
 -- one step after another
 pub grows_then : (old mid new : List Node) → Grows old mid → Grows mid new → Grows old new
 grows_then old mid new p q = record { longer = let l = p.longer in let l' = q.longer in omega arith; node = λ n lt. q.node n (let l = p.longer in omega arith) ∙ p.node n lt }
-
-new_is : (a b : ℕ) → a ≤ b → nat_le a b ≡ true
-new_is a b le = grind arith
-
-is_new : (a b : ℕ) → nat_le a b ≡ true → a ≤ b
-is_new a b e = grind arith
 
 -- Generalising a new type binds new variables alone.
 pub grows_closed : (old mid new : List Node) (r level : ℕ) → Grows old mid → NewParts (length old) mid → length old ≤ r → Generalised mid new r level → Grows old new

@@ -1,4 +1,5 @@
 pub mod Renamed
+pub mod Specified
 pub mod Declared
 pub mod Grown
 pub mod Roots
@@ -7,3 +8,5 @@ pub mod First
 pub mod Whole
 pub mod Exceptions
 pub mod Types
+pub mod Values
+pub mod SettledItems

@@ -7,13 +7,9 @@ use Rattle.type_nodes.specs.Readings.{Types}
 use Rattle.env_table.specs.declared.entries.Constructor.{Constructor}
 use Rattle.env_table.specs.declared.entries.Declaration.{Declaration}
 use Rattle.env_table.specs.declared.entries.Shape.{Shape}
-use Rattle.typing_conditions.specs.Declared.{MakesAs, ConstructorAs, LabelAs, OneByOne, no_more, one_more, ShapeAs, tell_nothing, tell_constructors, tell_labels, DeclaredAs, ExceptionAs}
+use Rattle.typing_conditions.specs.Declared.{MakesAs, ConstructorAs, LabelAs, ShapeAs, tell_nothing, tell_constructors, tell_labels, DeclaredAs, ExceptionAs}
 use Rattle.typing_conditions.proofs.Roots.{root_renamed}
-
--- one by one, by what holds of each
-one_by_one : {A B : Type 0} {P Q : A → B → Type 0} → ((x : A) (y : B) → P x y → Q x y) → {xs : List A} {ys : List B} → OneByOne P xs ys → OneByOne Q xs ys
-one_by_one h no_more = no_more
-one_by_one h (one_more {x = x} {y = y} p ps) = one_more (h x y p) (one_by_one h ps)
+use Rattle.typing_conditions.proofs.DeclaredLater.{one_by_one}
 
 module _ {nodes : List Node} {N M : Types} {C : List ℕ} (same : (v : ℕ) → v < length nodes → M v ≡ N v) where
   makes_renamed : {arity : ℕ} {c : Constructor} {result : Typ} {argument : Option Typ} → MakesAs nodes C N arity c result argument → MakesAs nodes C M arity c result argument

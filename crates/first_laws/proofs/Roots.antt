@@ -1,5 +1,5 @@
 -- The root of a built-in type is the type that the definitions give its declaration.
-use Rattle.std.proofs.Common.{◌≡◌, ◌∙◌, ℕ, zero, suc, ◌<◌, ◌≤◌, Bool, true, false, ◌||◌, List, [], ◌∷◌, length, Some, refl, sym, ap, subst, arith, eqb, if◌then◌else◌}
+use Rattle.std.proofs.Common.{◌≡◌, ◌∙◌, ℕ, zero, suc, ◌<◌, ◌≤◌, Bool, true, false, ◌||◌, List, [], ◌∷◌, ◌++◌, length, Some, refl, sym, ap, subst, arith, eqb, if◌then◌else◌}
 use Rattle.std.specs.Prelude.{slice_get, All}
 use Rattle.std.proofs.lemmas.Bool.{eqb-true}
 use Rattle.std.proofs.lemmas.Option.{slice_get_within}
@@ -15,7 +15,9 @@ use Rattle.type_nodes.specs.States.{State}
 use Rattle.level_unify.specs.Generalising.{Generalised}
 use Rattle.typing_state.specs.Types.{any_scope}
 use Rattle.typing_conditions.specs.Locals.{IsOwn}
+use Rattle.typing_conditions.specs.Standing.{IsIn}
 use Rattle.typing_conditions.specs.Declared.{UnknownApart, RootAs, a_parameter, with_parameters}
+use Rattle.binding_rows.specs.Outside.{AreOf}
 use Rattle.typing_conditions.proofs.Making.{with_type, at_own, at_older, made_here}
 use Rattle.typing_conditions.proofs.Steps.{Grows}
 use Rattle.first_laws.specs.Built.{MakesRoot, alone, over_one}
@@ -116,6 +118,15 @@ names_apart (closed_over_one name p m new at_p at_m at_r) N apart v w o unknown 
         by : (b : Bool) → (if b then type.Var 0 else N u) ≡ type.Con o types.Nil → N u ≡ type.Con o types.Nil
         by true h = absurd (cc)
         by false h = h
+
+-- and each unknown type among them was one before
+pub names_of_before : {path : Path} {nodes : List Node} {k r arity : ℕ} (root : ClosedRoot path nodes k r arity) (N : Types) (U : List ℕ) → AreOf U N → AreOf U (names_with root N)
+names_of_before (closed_alone name at_r) N U of v n o e = of v n o e
+names_of_before (closed_over_one name p m new at_p at_m at_r) N U of v n o e = by (eqb v p) e
+  where
+    by : (b : Bool) → (if b then type.Var 0 else N v) ≡ type.Con (o ++ n ∷ []) types.Nil → IsIn U n
+    by true h = absurd (cc)
+    by false h = of v n o h
 
 -- a type without parameters
 module _ (nodes : List Node) (path : Path) (name : List ℕ) (r : ℕ) (at_r : slice_get nodes r ≡ Some (Con path name [])) (known : is_unknown path ≡ false) where

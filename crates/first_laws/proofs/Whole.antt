@@ -1,5 +1,5 @@
 -- After a declaration as a whole, with its roots, the names are those of before with its own.
-use Rattle.std.proofs.Common.{◌≡◌, ◌∙◌, ℕ, ◌<◌, ◌≤◌, nat_lt, Bool, true, false, List, [], ◌∷◌, ◌++◌, length, Some, refl, sym, ap, subst, arith, if◌then◌else◌}
+use Rattle.std.proofs.Common.{◌≡◌, ◌∙◌, ℕ, zero, suc, ◌<◌, ◌≤◌, nat_lt, Bool, true, false, List, [], ◌∷◌, ◌++◌, length, Some, refl, sym, ap, subst, arith, if◌then◌else◌}
 use Rattle.std.specs.Prelude.{slice_get}
 use Rattle.std.proofs.lemmas.Option.{slice_get_within}
 use Rattle.type_model.specs.Types.{Path, Typ, occurs}
@@ -22,12 +22,13 @@ use Rattle.typing_conditions.proofs.Own.{own_of}
 use Rattle.typing_conditions.proofs.Closing.{own_reopened}
 use Rattle.typing_conditions.proofs.Roots.{named_bound}
 use Rattle.typing_steps.specs.Typing.{as_declared}
-use Rattle.binding_rows.specs.Outside.{Outside}
+use Rattle.binding_rows.specs.Outside.{AreOf, Outside}
 use Rattle.declared_rows.specs.Assignments.{IsAssigned, a_parameter, an_unknown, Assignment, Assigned, Denotes, IsDeclaring}
+use Rattle.declared_rows.proofs.Made.{last_path}
 use Rattle.declared_rows.proofs.Closed.{root_closed, refines_declared, reads_declared}
 use Rattle.declared_rows.proofs.Starting.{declaring_frame, declaring}
-use Rattle.first_laws.specs.Declaring.{OnlyTypes, AreBoundIn, AreNew}
-use Rattle.first_laws.proofs.Declared.{outside_declared}
+use Rattle.first_laws.specs.Declaring.{NoneTyped, OnlyTypes, AreBoundIn, SpecifiedAs, Declares, StartsAmong}
+use Rattle.first_laws.proofs.Declared.{outside_declared, declared_older}
 
 -- the names of the variables of a state, and further ones for those that are made
 abbrev pub further : ℕ → Types → Types → Types
@@ -68,12 +69,17 @@ pub record DenotesSome (F : Frame) (arity : ℕ) (U : List ℕ) (a b : Sight) (A
   pub type : Typ
   pub denotes : Denotes x.after r type
 
+-- a node alone that denotes a type
+pub one_denotes : {F : Frame} {arity : ℕ} {U : List ℕ} {a b : Sight} {A : Assignment} (x : Assigned F arity U a b A) {r : ℕ} (t : Typ) → Denotes x.after r t → (k s : ℕ) → slice_get (r ∷ []) k ≡ Some s → DenotesSome F arity U a b A x s
+one_denotes x {r} t denotes zero s e = let g : r ≡ s = cc in record { type = t; denotes = subst (λ m. Denotes x.after m t) g denotes }
+one_denotes x t denotes (suc k) s e = absurd (cc)
+
 -- A declaration over so many parameters: from the state a between items to b, the one before its variables are bound, and c, the one after; its roots R denote types,
 -- n is a node without variables, as that of the type of exceptions.
 module _ {a b : Sight} (c : Sight) {G : Letters} {env : List Entry} {E : Choice → Environment} (at : Outside as_declared a G env E) (I : Types) (own : IsOwn a.nodes I) (n : ℕ) (n_inside : n < length a.nodes) (none : (v : ℕ) → occurs v (I n) ≡ true → ⊥)
-    {start : Sight} (from : start.nodes ≡ a.nodes) {arity : ℕ} {U : List ℕ} (x : Assigned (declaring_frame a I at.roots n) arity U start b (record { types = I; nodes = n ∷ [] }))
-    (R : List ℕ) (denote : (k r : ℕ) → slice_get R k ≡ Some r → DenotesSome (declaring_frame a I at.roots n) arity U start b (record { types = I; nodes = n ∷ [] }) x r) (closes : (K : Types) → IsOwn b.nodes K → ClosesAll b.nodes c.nodes K R 0) (plain : IsPlain c.nodes)
-    (sound : IsSound c.nodes) (level : c.level ≡ a.level) (types : (i p : ℕ) → c.types i p ≡ a.types i p) where
+    {start : Sight} (from : start.nodes ≡ a.nodes) {arity : ℕ} {U : List ℕ} (x : Assigned (declaring_frame a I at.roots n) arity U start b (record { types = I; nodes = n ∷ []; older = at.older }))
+    (R : List ℕ) (denote : (k r : ℕ) → slice_get R k ≡ Some r → DenotesSome (declaring_frame a I at.roots n) arity U start b (record { types = I; nodes = n ∷ []; older = at.older }) x r) (closes : (K : Types) → IsOwn b.nodes K → ClosesAll b.nodes c.nodes K R 0) (plain : IsPlain c.nodes)
+    (sound : IsSound c.nodes) (level : c.level ≡ a.level) (types : NoneTyped a c) where
   is_declaring : IsDeclaring (declaring_frame a I at.roots n)
   is_declaring = declaring a I own at.roots (at.context I own).inside n n_inside none
 
@@ -85,7 +91,8 @@ module _ {a b : Sight} (c : Sight) {G : Letters} {env : List Entry} {E : Choice 
   whole_types = record {
     sound = sound;
     level = level;
-    types = types;
+    types = types.types;
+    noted = types.noted;
     refines = λ K own_c. refines_declared is_declaring x.assigns closes opens K own_c;
     reads = λ V h. reads_declared is_declaring x.assigns closes opens (λ W g. subst (λ ns. IsReading ns W) from (x.reads W g)) V h;
   }
@@ -114,23 +121,31 @@ module _ {a b : Sight} (c : Sight) {G : Letters} {env : List Entry} {E : Choice 
       inside : (k r : ℕ) → slice_get R k ≡ Some r → r < length c.nodes
       inside k r e = let lt = (opens k r e).inside in let l = (closes own_after own_b).len in omega arith
 
-  -- such a variable that is made is one of the assignment, and if it has an unknown type as its name, that is one of the type expressions U
+  -- an unknown type of one of the type expressions U that is no older one
+  record MadeHere (o : Path) : Type 0 where
+    front : Path
+    number : ℕ
+    listed : IsIn U number
+    new : IsIn at.older number → ⊥
+    is : o ≡ front ++ number ∷ []
+
+  -- such a variable that is made is one of the assignment, and if it has an unknown type as its name, that is made here
   made_known : (v : ℕ) → stands_in_any own_after R v ≡ true → stands_in_any own_after x.after.nodes v ≡ true
   made_known v h = let y = in_any v own_after R h in let (k, e) = (denote y.place y.node y.at).denotes.known in any_in v own_after x.after.nodes k y.node e y.occurs
 
-  made_unknown : (v : ℕ) (o : Path) → stands_in_any own_after R v ≡ true → x.after.types v ≡ type.Con o typs.Nil → (p : Path) × (m : ℕ) × IsIn U m × (o ≡ p ++ m ∷ [])
+  made_unknown : (v : ℕ) (o : Path) → stands_in_any own_after R v ≡ true → x.after.types v ≡ type.Con o typs.Nil → MadeHere o
   made_unknown v o h e =
       let y = in_any v own_after R h in
       let low = (opens y.place y.node y.at).free own_after own_b v y.occurs in
       by (x.assigns.each own_after own_b v low.level low.scope (made_known v h) low.at)
     where
-      by : {scope : ℕ} → IsAssigned x.after.types U arity scope v → (p : Path) × (m : ℕ) × IsIn U m × (o ≡ p ++ m ∷ [])
+      by : {scope : ℕ} → IsAssigned x.after.types x.after.older U arity scope v → MadeHere o
       by (a_parameter k scoped lt is) = absurd (let f : type.Con o typs.Nil ≡ type.Var k = sym e ∙ is in cc)
-      by (an_unknown p m scope unknown i is) = let f : type.Con o typs.Nil ≡ type.Con (p ++ m ∷ []) typs.Nil = sym e ∙ is in (p, m, i, cc)
+      by (an_unknown p m scope unknown i new is) = let f : type.Con o typs.Nil ≡ type.Con (p ++ m ∷ []) typs.Nil = sym e ∙ is in record { front = p; number = m; listed = i; new = λ j. new (subst (λ ks. IsIn ks m) (sym x.older) j); is = cc }
 
-  -- So no two variables have one unknown type as their name, where none of before has one of U.
-  names_apart : AreNew U at.names → UnknownApart names
-  names_apart new v w o unknown e f = by (nat_lt v (length a.nodes)) (nat_lt w (length a.nodes)) e f
+  -- So no two variables have one unknown type as their name.
+  names_apart : UnknownApart names
+  names_apart v w o unknown e f = by (nat_lt v (length a.nodes)) (nat_lt w (length a.nodes)) e f
     where
       N : Types
       N = only_at (stands_in_any own_after R) x.after.types
@@ -138,8 +153,8 @@ module _ {a b : Sight} (c : Sight) {G : Letters} {env : List Entry} {E : Choice 
       mixed : (u s : ℕ) → at.names u ≡ type.Con o typs.Nil → N s ≡ type.Con o typs.Nil → ⊥
       mixed u s g h =
           let (i, is) = there_alone (stands_in_any own_after R) x.after.types s o h in
-          let (p, m, j, ends) = made_unknown s o i is in
-          new u m p j (g ∙ ap (λ q. type.Con q typs.Nil) ends)
+          let m = made_unknown s o i is in
+          m.new (at.unknown u m.number m.front (g ∙ ap (λ q. type.Con q typs.Nil) m.is))
 
       by : (i j : Bool) → (if i then at.names v else N v) ≡ type.Con o typs.Nil → (if j then at.names w else N w) ≡ type.Con o typs.Nil → v ≡ w
       by true true g h = at.apart v w o unknown g h
@@ -149,6 +164,17 @@ module _ {a b : Sight} (c : Sight) {G : Letters} {env : List Entry} {E : Choice 
           let (i, is) = there_alone (stands_in_any own_after R) x.after.types v o g in
           let (j, js) = there_alone (stands_in_any own_after R) x.after.types w o h in
           x.assigns.apart own_after own_b v w (made_known v i) (made_known w j) (is ∙ sym js)
+
+  -- The unknown types among all names are those of U.
+  names_of : AreOf U names
+  names_of v m o e = by (nat_lt v (length a.nodes)) e
+    where
+      by : (i : Bool) → (if i then at.names v else only_at (stands_in_any own_after R) x.after.types v) ≡ type.Con (o ++ m ∷ []) typs.Nil → IsIn U m
+      by true g = x.assigns.taken m (subst (λ ks. IsIn ks m) (sym x.older) (at.unknown v m o g))
+      by false g =
+          let (i, is) = there_alone (stands_in_any own_after R) x.after.types v (o ++ m ∷ []) g in
+          let y = made_unknown v (o ++ m ∷ []) i is in
+          subst (IsIn U) (last_path y.front o y.number m (sym y.is)) y.listed
 
   -- a root that denotes a type stands for it
   pub whole_root : {r : ℕ} {t : Typ} → IsIn R r → Denotes x.after r t → RootAs c.nodes (R ++ at.roots) names arity r t
@@ -160,13 +186,17 @@ module _ {a b : Sight} (c : Sight) {G : Letters} {env : List Entry} {E : Choice 
     bound = λ K own_c v h. let y = in_any v K R h in named_bound ((whole_root (y.place, y.at) (denote y.place y.node y.at).denotes).named K own_c v y.occurs);
   }
 
-  -- The next item starts among the names of before and those of the declaration, which stand for entries of the definitions, where its unknown types are new.
-  pub outside_whole : AreNew U at.names → (more : List Entry) (fs : Environment) → EnvAs (λ r sc. ⊥) (DeclaredAs c.nodes (R ++ at.roots) names) (ExceptionAs c.nodes (R ++ at.roots) names) more fs → Outside as_declared c G (more ++ env) (λ ch. fs ++ E ch)
-  outside_whole new more fs entries = outside_declared at whole_types (record {
-    new_roots = R;
-    new_names = names;
-    same = λ v lt. further_old (length a.nodes) at.names (only_at (stands_in_any own_after R) x.after.types) v lt;
-    apart = names_apart new;
-    are_bound = whole_bound;
-    entries = entries;
-  })
+  -- The next item starts among the names of before and those of the declaration, which stand for entries of the definitions.
+  pub outside_whole : (more : List Entry) (fs : Environment) → EnvAs (SpecifiedAs c.nodes (R ++ at.roots) names) (DeclaredAs c.nodes (R ++ at.roots) names) (ExceptionAs c.nodes (R ++ at.roots) names) more fs → StartsAmong c G (more ++ env) (λ ch. fs ++ E ch) U
+  outside_whole more fs entries =
+      let declares : Declares a c at.roots at.names more fs = record {
+        new_roots = R;
+        new_names = names;
+        same = λ v lt. further_old (length a.nodes) at.names (only_at (stands_in_any own_after R) x.after.types) v lt;
+        apart = names_apart;
+        older = U;
+        unknown = names_of;
+        are_bound = whole_bound;
+        entries = entries;
+      } in
+      record { outside = outside_declared at whole_types declares; older = declared_older at whole_types declares }

@@ -3,6 +3,7 @@ pub mod There
 pub mod Tokens
 pub mod Going
 pub mod Sorts
+pub mod Variables
 pub mod SlotBySlot
 pub mod Standing
 pub mod Applied

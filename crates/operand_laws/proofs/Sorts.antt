@@ -3,10 +3,10 @@ use Rattle.std.proofs.Common.{◌≡◌, ◌∙◌, ℕ, true, List, [], ◌∷�
 use Rattle.std.specs.List.{cons_option}
 use Rattle.tree_model.specs.Slots.{is_operand}
 use Rattle.tree_model.specs.Trees.{Place, Tree, node, inner}
-use Rattle.row_parts.specs.Numbered.{Numbered, numbered, operands_in, first_in, filled_in}
+use Rattle.row_parts.specs.Numbered.{numbered, operands_in, first_in, filled_in}
 use Rattle.row_parts.specs.Numbered as operands
 use Rattle.typing_model.specs.Parts as parts
-use Rattle.typing_model.specs.Parts.{Child, Expression, Pattern, TypeExpression, expressions_in, expression_in, patterns_in, pattern_in, types_in, type_in, no_expression_at, no_pattern_at, no_type_at}
+use Rattle.typing_model.specs.Parts.{Child, expressions_in, expression_in, patterns_in, pattern_in, types_in, type_in, no_expression_at, no_pattern_at, no_type_at}
 use Rattle.typing_model.specs.Meanings.{child_of, recorded_expression, recorded_pattern, recorded_type}
 use Rattle.typing_model.specs.Expressions.{expression_row}
 use Rattle.typing_model.specs.Patterns.{pattern_row}

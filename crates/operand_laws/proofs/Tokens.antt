@@ -4,7 +4,7 @@ use Rattle.token_model.specs.Kinds.{Tok}
 use Rattle.tree_model.specs.Rows.{Row}
 use Rattle.tree_model.specs.Trees.{Tree, Forest, Part, node, no_parts, part, taken, inner, missing, part_size}
 use Rattle.row_parts.specs.Numbered as operands
-use Rattle.row_parts.specs.Numbered.{with_token, token_at, tokens_from, tokens_or_none_from}
+use Rattle.row_parts.specs.Numbered.{with_token, tokens_from, tokens_or_none_from}
 use Rattle.typing_model.specs.Parts as parts
 use Rattle.typing_model.specs.Parts.{Child}
 use Rattle.typing_model.specs.Meanings.{children_of, child_of}

@@ -1,15 +1,22 @@
 //! Items without module expressions.
-ghost use Rattle.typing_state.specs.Goes.{Goes};
+ghost use Rattle.std.specs.Prelude.{IfOk, OnOk};
+ghost use Rattle.syntax_tree.specs.View.{node_view, tok_of};
+ghost use Rattle.typing_state.specs.Goes.{Goes, OnlyIndex};
+ghost use Rattle.type_expressions.specs.Untyped.{Untyped};
+ghost use Rattle.signature_typing.specs.Values.{DenotesValue, ClosesValue, IsValue, SpecifiesValue};
+ghost use Rattle.binding_rows.specs.ItemRows.{GivesException};
+ghost use Rattle.module_steps.specs.Scenes.{SameNames};
 
-use decl_typing::{type_decls, type_exception};
+use crate::variables::add_variables;
+use decl_typing::{new_parameters, type_decls, type_exception};
 use env_table::{Entry, Kind, What};
 use module_steps::{Scene, module_path, module_type_path};
-use owned_lists::push;
+use owned_lists::{owned, push};
 use row_parts::{operand_in, operands, token};
 use std::rc::Rc;
-use syntax_tree::{Node, Part, Token, TokenKind};
-use type_expressions::{Parameter, Variables, read_type};
-use typing_state::{Depth, Env, NoMemory, NodeRef, Parts, new_entry};
+use syntax_tree::{Node, Token};
+use type_expressions::{Variables, read_type};
+use typing_state::{Depth, Env, NoMemory, NodeRef, Parts, share_entry};
 
 /// type d and d
 pub fn type_group(
@@ -45,7 +52,7 @@ fn names_of_types<'a>(at: &Parts, node: &'a Node, number: u32) -> Result<Vec<&'a
     Ok(names)
 }
 
-/// exception A of t
+/// exception A of t: its name is in scope after it.
 pub fn exception_item(
     at: &mut Parts,
     node: &Node,
@@ -53,34 +60,13 @@ pub fn exception_item(
     scene: &mut Scene,
     depth: Depth,
 ) -> Result<(), NoMemory>
+    ensures carries { OnOk result (GivesException at.old at.new scene.old.env scene.new.env number (node_view node.now)) }
+    ensures names { SameNames scene.old scene.new }
     ensures goes { Goes at.old at.new }
 {
     at.note_plain(number, &scene.env)?;
     let declared = type_exception(at, node, number, &scene.env, depth)?;
     scene.add(declared.env, &declared.entries)
-}
-
-/// The type variables that stand in a tree, once each, added to those found so far.
-fn variables_in<'a>(node: &'a Node, found: &mut Vec<&'a Token>) -> Result<(), NoMemory> {
-    for child in &node.children {
-        match &child.part {
-            Part::Inner(inner) => variables_in(inner, found)?,
-            Part::Taken(token) => {
-                if token.kind == TokenKind::TyVar {
-                    push_once(found, token)?;
-                }
-            }
-            Part::Missing(_) => {}
-        }
-    }
-    Ok(())
-}
-
-fn push_once<'a>(found: &mut Vec<&'a Token>, token: &'a Token) -> Result<(), NoMemory> {
-    if found.iter().any(|other| other.name.is(token.name.as_str())) {
-        return Ok(());
-    }
-    push(found, token)
 }
 
 /// val x : t: its type variables are the scheme's own
@@ -91,6 +77,8 @@ pub fn value_item(
     scene: &mut Scene,
     depth: Depth,
 ) -> Result<(), NoMemory>
+    ensures means { OnOk result (SpecifiesValue at.old at.new scene.old.env scene.new.env number (node_view node.now)) }
+    ensures untyped { OnOk result (Untyped at.old at.new) }
     ensures goes { Goes at.old at.new }
 {
     let root = specified_scheme(at, node, number, &scene.env, depth)?;
@@ -99,21 +87,28 @@ pub fn value_item(
     };
     let entry = value_entry(at, name, root)?;
     note_value(at, number, &scene.env, &entry)?;
-    let mut entries = Vec::new(at.alloc());
-    push(&mut entries, entry)?;
-    let env = at.with_entries(&entries, &scene.env)?;
+    let env = scene.env.add(at.alloc(), share_entry(&entry)?)?;
+    let entries = vec![in at.alloc(); entry]?;
     scene.add(env, &entries)
 }
 
 /// The entry of a value of this name and scheme.
-fn value_entry(at: &Parts, name: &Token, root: NodeRef) -> Result<Rc<Entry>, NoMemory> {
-    let place = at.place(name.span);
-    let what = What::Scheme(root);
-    new_entry(at.alloc(), name.name.share()?, Kind::Value, place, what)
+fn value_entry(at: &Parts, name: &Token, root: NodeRef) -> Result<Rc<Entry>, NoMemory>
+    ensures { IfOk result (λ x. IsValue x.value (tok_of name.now).name root.0) }
+{
+    let entry = Entry {
+        name: name.name.share()?,
+        kind: Kind::Value,
+        place: at.place(name.span),
+        what: What::Scheme(root),
+    };
+    owned(at.alloc(), entry)
 }
 
 /// Records a value's specification with its entry.
 fn note_value(at: &mut Parts, number: u32, env: &Env, entry: &Rc<Entry>) -> Result<(), NoMemory>
+    ensures rest { OnlyIndex at.old at.new }
+    ensures untyped { OnOk result (Untyped at.old at.new) }
     ensures goes { Goes at.old at.new }
 {
     let names = at.one_name(Some(entry))?;
@@ -128,13 +123,18 @@ fn specified_scheme(
     env: &Env,
     depth: Depth,
 ) -> Result<NodeRef, NoMemory>
+    ensures means { IfOk result (λ r. ClosesValue at.old at.new env.now number (node_view node.now) r.0) }
+    ensures untyped { OnOk result (Untyped at.old at.new) }
     ensures goes { Goes at.old at.new }
 {
-    at.level = at.level.saturating_add(1);
+    let level = at.level;
+    at.level = level.saturating_add(1);
     let read = specified(at, node, number, env, depth);
-    at.level = at.level.saturating_sub(1);
+    at.level = level;
     let root = read?;
     at.generalise(root)?;
+    // what is known of each store is made known by its length
+    let _nodes = at.store.len();
     Ok(root)
 }
 
@@ -146,16 +146,13 @@ fn specified(
     env: &Env,
     depth: Depth,
 ) -> Result<NodeRef, NoMemory>
+    ensures means { IfOk result (λ m. DenotesValue at.old at.new env.now number (node_view node.now) m.0) }
+    ensures untyped { OnOk result (Untyped at.old at.new) }
     ensures goes { Goes at.old at.new }
 {
     let mut names = Vec::new(at.alloc());
-    variables_in(node, &mut names)?;
-    let mut parameters = Vec::new(at.alloc());
-    for name in names {
-        let node = at.var()?;
-        let name = name.name.share()?;
-        push(&mut parameters, Parameter { name, node })?;
-    }
+    add_variables(node, &mut names)?;
+    let parameters = new_parameters(at, &names)?;
     let variables = Variables::Parameters(parameters);
     read_type(at, operand_in(node, number, 3), env, &variables, depth)
 }

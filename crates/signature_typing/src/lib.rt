@@ -7,6 +7,7 @@
 mod clauses;
 mod items;
 mod signatures;
+mod variables;
 
-pub use items::include_item;
+pub use items::{exception_item, include_item};
 pub use signatures::{Kept, read_module_type, type_named, type_parameters, type_specification};

@@ -4,7 +4,8 @@ use Rattle.syntax_tree.specs.View.{child_view, forest_of, part_view}
 use Rattle.typing_model.specs.Records.{is_among}
 use Rattle.typing_model.specs.Items.{variables_written}
 use Rattle.binding_steps.specs.Variables.{has}
-use Rattle.binding_steps.proofs.VariableLaws.{names_joined, children_left}
+use Rattle.operand_laws.proofs.Variables.{children_left}
+use Rattle.binding_steps.proofs.VariableLaws.{names_joined}
 use Rattle.binding_steps.proofs.variables.+variables.Goals as goal
 
 pub add_node-loop-child-preserved : goal.add_node-loop-child-preserved

@@ -4,7 +4,7 @@ use Rattle.text_terms.specs.Bytes.{str_bytes}
 use Rattle.signature_model.specs.Declarations.{Name}
 use Rattle.typing_model.specs.Records.{is_among}
 use Rattle.binding_steps.specs.Variables.{has}
-use Rattle.binding_steps.proofs.VariableLaws.{variable_there, variable_lost, or_none}
+use Rattle.operand_laws.proofs.Variables.{variable_there, variable_lost, or_none}
 use Rattle.binding_steps.proofs.variables.add_token.Goals as goal
 
 pub returns-in-TyVar : goal.returns-in-TyVar

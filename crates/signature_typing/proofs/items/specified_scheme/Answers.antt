@@ -1,12 +1,27 @@
+use Rattle.std.proofs.Common.{arith}
+use Rattle.syntax_tree.specs.View.{node_view}
+use Rattle.typing_steps.proofs.Schemes.{plain_nodes}
 use Rattle.typing_state.proofs.Going.{goes_trans}
-use Rattle.decl_typing.proofs.Levels.{with_level, deeper_goes}
+use Rattle.type_expressions.proofs.Untyped.{untyped_then, store_untyped}
+use Rattle.decl_typing.proofs.Levels.{with_level, deeper_goes, deeper_untyped}
+use Rattle.signature_typing.proofs.Values.{value_closed}
 use Rattle.signature_typing.proofs.items.specified_scheme.Goals as goal
 
-pub returns : goal.returns
-returns c = record { goes = goes_trans c.args.at.now (with_level c.specified-read.new.at c.saturating_sub-at.result) c.generalise.new.self (deeper_goes c.args.at.now c.specified-read.new.at c.saturating_add-at.result c.saturating_sub-at.result c.specified-read.ensures.goes) c.generalise.ensures.goes }
+pub returns-clause-goes : goal.returns-clause-goes
+returns-clause-goes c = goes_trans c.args.at.now (with_level c.specified-read.new.at c.args.at.now.level) c.generalise.new.self (deeper_goes c.args.at.now c.specified-read.new.at c.saturating_add-at.result c.args.at.now.level c.specified-read.ensures.goes) c.generalise.ensures.goes
 
-pub returns-in_err-generalise : goal.returns-in_err-generalise
-returns-in_err-generalise c = record { goes = goes_trans c.args.at.now (with_level c.specified-read.new.at c.saturating_sub-at.result) c.generalise.new.self (deeper_goes c.args.at.now c.specified-read.new.at c.saturating_add-at.result c.saturating_sub-at.result c.specified-read.ensures.goes) c.generalise.ensures.goes }
+pub returns-in_err-generalise-clause-goes : goal.returns-in_err-generalise-clause-goes
+returns-in_err-generalise-clause-goes c = goes_trans c.args.at.now (with_level c.specified-read.new.at c.args.at.now.level) c.generalise.new.self (deeper_goes c.args.at.now c.specified-read.new.at c.saturating_add-at.result c.args.at.now.level c.specified-read.ensures.goes) c.generalise.ensures.goes
 
-pub returns-in_err-root : goal.returns-in_err-root
-returns-in_err-root c = record { goes = deeper_goes c.args.at.now c.specified-read.new.at c.saturating_add-at.result c.saturating_sub-at.result c.specified-read.ensures.goes }
+pub returns-in_err-root-clause-goes : goal.returns-in_err-root-clause-goes
+returns-in_err-root-clause-goes c = deeper_goes c.args.at.now c.specified-read.new.at c.saturating_add-at.result c.args.at.now.level c.specified-read.ensures.goes
+
+pub returns-clause-means : goal.returns-clause-means
+returns-clause-means c =
+    let at = c.args.at.now in
+    let read = c.specified-read.new.at in
+    value_closed at read c.generalise.new.self c.saturating_add-at.result c.args.env.now c.args.number (node_view c.args.node.now) c.in_ok-root.root.0 (λ zero. omega arith)
+    c.in_ok-root.ensures.means c.in_ok-generalise.ensures.bound c.in_ok-generalise.ensures.sound (plain_nodes c.generalise.new.self.store.nodes c.len-nodes.ensures.plain) c.generalise.ensures.rest c.generalise.ensures.goes
+
+pub returns-clause-untyped : goal.returns-clause-untyped
+returns-clause-untyped c = untyped_then (deeper_untyped c.args.at.now c.specified-read.new.at c.saturating_add-at.result c.args.at.now.level c.in_ok-root.ensures.untyped) (store_untyped (with_level c.specified-read.new.at c.args.at.now.level) c.generalise.new.self c.generalise.ensures.rest)

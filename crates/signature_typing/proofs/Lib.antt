@@ -1,0 +1,2 @@
+-- Laws of specifications.
+pub mod Values
