@@ -39,10 +39,9 @@ refused_said text had c (Ok y) (split.WouldFault at) is refused told = inr (at, 
 refused_said text had c (Ok y) split.NoMemory is refused told = absurd told
 
 -- what is said of a candidate at a typed node is said of the node
-pub candidate_said : (text : List ℕ) (c : Replacement) (n : Option Typed) (r : Result Reply AllocError) → IsPlacedAt c.span n → IfOk r (λ y. IsSaidOfCandidate text c (said_of y)) → IfOk r (λ y. CasesBy text n (said_of y))
-candidate_said text c None r at told = absurd at
-candidate_said text c (Some n) (Ok y) at (inl (same, adds)) =
+pub candidate_said : (text : List ℕ) (c : Replacement) (n : Option Typed) (s : said.Said) → IsPlacedAt c.span n → IsSaidOfCandidate text c s → CasesBy text n s
+candidate_said text c None s at told = absurd at
+candidate_said text c (Some n) s at (inl (same, adds)) =
     subst (CasesAt text n) (sym same) (ap (shown_place text) at, subst (λ p. AddsNoFault text p (str_bytes c.text)) at adds)
-candidate_said text c (Some n) (Ok y) at (inr (o, same, told)) =
+candidate_said text c (Some n) s at (inr (o, same, told)) =
     subst (CasesAt text n) (sym same) (o, str_bytes c.text, refl, subst (λ p. TrialTells text p (str_bytes c.text) (Some o)) at told)
-candidate_said text c (Some n) (Err e) at told = tt

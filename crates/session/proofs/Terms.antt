@@ -1,19 +1,17 @@
 -- Terms in place of a hole, as they are said.
-use Rattle.std.proofs.Common.{ℕ, List, [], ◌∷◌, inl, inr, map, arith, sym, ap, subst, All, Option, Some, None, Result, Ok, Err, IfOk}
+use Rattle.std.proofs.Common.{ℕ, List, [], ◌∷◌, inl, inr, map, arith, sym, ap, subst, All, Option, Some, None}
 use Rattle.std.proofs.lemmas.List.Elements.{All-head, All-tail, All-cons}
-use Rattle.std.specs.declared.alloc.AllocError.{AllocError}
 use Rattle.text_terms.specs.declared.Span.{Span}
 use Rattle.query_model.specs.TypedNodes.{Typed}
 use Rattle.service_model.specs.Answers.{TermsAt, TermsBy, shown_place}
+use Rattle.service_model.specs.Replies as said
 use Rattle.service_model.specs.Trials.{AddsNoFault, TrialTells}
 use Rattle.tree_model.specs.Trees.{Place}
 use Rattle.syntax_tree.specs.View.{place_of}
 use Rattle.query_engine.specs.Typed.{IsPlacedAt}
 use Rattle.query_engine.specs.declared.trials.Replacement.{Replacement}
-use Rattle.construct_terms.specs.Terms.{AreKept, IsAt, told_by}
-use Rattle.json_lines.specs.Means.{said_of}
-use Rattle.json_lines.specs.declared.reply.Reply.{Reply}
-use Rattle.session.specs.Changes.{AreSaidTerms, Tells, text_in}
+use Rattle.construct_terms.specs.Terms.{told_by, AreKept, IsAt}
+use Rattle.session.specs.Changes.{text_in, AreSaidTerms, Tells}
 
 -- where a trial tells no place, no fault is added
 pub untold : (text : List ℕ) (x : Place) (bytes : List ℕ) → TrialTells text x bytes None → AddsNoFault text x bytes
@@ -31,8 +29,7 @@ kept_fit text x (c ∷ cs) kept (inl (told, (rest, same, are))) at =
 kept_fit text x (c ∷ cs) kept (inr (p, told, are)) at = kept_fit text x cs kept are (All-tail (IsAt x) c cs at)
 
 -- terms at the span of a typed node are said of it
-pub said_at : (text : List ℕ) (x : Span) (n : Option Typed) (r : Result Reply AllocError) → IsPlacedAt x n → IfOk r (λ y. AreSaidTerms text x (said_of y)) → IfOk r (λ y. TermsBy text n (said_of y))
-said_at text x None r at said = absurd at
-said_at text x (Some n) (Ok y) at (texts, same, fit) =
+pub said_at : (text : List ℕ) (x : Span) (n : Option Typed) (s : said.Said) → IsPlacedAt x n → AreSaidTerms text x s → TermsBy text n s
+said_at text x None s at said = absurd at
+said_at text x (Some n) s at (texts, same, fit) =
     subst (TermsAt text n) (sym same) (ap (shown_place text) at, subst (λ p. All (AddsNoFault text p) texts) at fit)
-said_at text x (Some n) (Err e) at said = tt

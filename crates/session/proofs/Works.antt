@@ -11,7 +11,7 @@ use Rattle.token_model.specs.Tokens.{Lex}
 use Rattle.service_model.specs.Requests.{Asked, Reading, Refusal, asks, reading, refused, tell}
 use Rattle.service_model.specs.Replies as said
 use Rattle.service_model.specs.Answers.{Answered, Replies, tell_outcome}
-use Rattle.work_model.specs.Work.{edited, ends_at, is_query, read_again, since_after, sooner, tries, IsAnew, LineReads, Owed, ReadsBy, WorksAt}
+use Rattle.work_model.specs.Work.{asked_line, edited, ends_at, is_query, read_again, since_after, sooner, tries, IsAnew, LineReads, Owed, ReadsBy, StaysApart, WorksAt}
 use Rattle.ml_lexer.specs.Steady.{ends_at as lexer_ends}
 use Rattle.syntax_tree.specs.Tallies.{Tallies}
 use Rattle.kept_text.specs.Keeping.{tok_end}
@@ -19,11 +19,11 @@ use Rattle.kept_text.specs.Keeping as kept
 use Rattle.text_reading.specs.Types.{opening}
 use Rattle.json_lines.specs.Meets.{IsToldOf}
 use Rattle.session.specs.Lines.{line_bytes, refusal_in, RefusesBy, RefusesEditBy, RepliesBy, Says}
-use Rattle.session.specs.Working.{in_vain, is_memory, Carries, Held, Lexes, Owes, QueryWorks, Reads, RequestWorks, Rests, Settles, Types}
+use Rattle.session.specs.Working.{in_vain, is_memory, Carries, Held, Lexes, Owes, QueryWorks, Reads, RequestWorks, Rests, Settles, TypesSome}
 use Rattle.session.specs.declared.session.Line.{Line}
 use Rattle.session.specs.declared.session.Line.TheVariants.{Written, Memory}
 use Rattle.session.proofs.Answering.{replies_query}
-use Rattle.session.proofs.Carrying.{apart_carry, rest_carry, short_carry, types_carry}
+use Rattle.session.proofs.Carrying.{apart_carry, rest_carry, types_carry}
 
 -- ---- reading
 
@@ -111,13 +111,13 @@ on_ok_after P Q (Err e) p = tt
 
 -- a query that is answered with a line, or for which memory is short
 pub line_works : {T E : Type 0} (r : Result T E) (opens : List ℕ) (tried : Bool) (l : Line) (old new : Held) (a b : Tallies) → OnErr r (l ≡ Memory) → OnOk r (new.changed ≡ None) → Settles old new
-    → OnOk r (tried ≡ false → Reads opens false old new a b) → (tried ≡ false → Reads opens true old new a b) → OnOk r (tried ≡ false → Types old new a b) → QueryWorks opens true tried l old new a b
-line_works (Ok x) opens tried l old new a b memory current settles reads fails types = (λ not. current, settles, λ not. reads_more opens (is_memory l) old new a b (reads not), λ not written. types not)
+    → OnOk r (tried ≡ false → Reads opens false old new a b) → (tried ≡ false → Reads opens true old new a b) → (tried ≡ false → TypesSome old new a b) → QueryWorks opens true tried l old new a b
+line_works (Ok x) opens tried l old new a b memory current settles reads fails types = (λ not. current, settles, λ not. reads_more opens (is_memory l) old new a b (reads not), types)
 line_works (Err e) opens tried l old new a b memory current settles reads fails types = (
   λ not. let bad : true ≡ false = sym (ap is_memory memory) ∙ not in cc,
   settles,
   λ not. subst (λ (k : Line). Reads opens (is_memory k) old new a b) (sym memory) (fails not),
-  λ not written. let bad : true ≡ false = sym (ap is_memory memory) ∙ written in cc,
+  types,
 )
 
 -- ---- requests
@@ -131,9 +131,9 @@ still_owed : (w : Owed) (old new : Held) → Owes w old → new.text ≡ old.tex
 still_owed w old new owes text (inl none) = record { text = owes.text ∙ sym text; noted = λ n is. let bad : None ≡ Some n = sym none ∙ is in cc }
 still_owed w old new owes text (inr same) = record { text = owes.text ∙ sym text; noted = λ n is. owes.noted n (sym same ∙ is) }
 
--- the same with other numbers of items
-short_owed : (w : Owed) (apart : ℕ) (s : Held) → Owes w s → Owes (record { text = w.text; since = w.since; asked = w.asked; apart = apart }) s
-short_owed w apart s owes = record { text = owes.text; noted = owes.noted }
+-- the same with other texts and numbers of items
+short_owed : (w : Owed) (asked : List (List ℕ)) (apart : ℕ) (s : Held) → Owes w s → Owes (record { text = w.text; since = w.since; asked = asked; apart = apart }) s
+short_owed w asked apart s owes = record { text = owes.text; noted = owes.noted }
 
 -- what was answered is answered at the text that is owed
 answered_at : (old new : Held) (w : Owed) (a : Asked) (bytes : List ℕ) → w.text ≡ old.text → new.text ≡ old.text → (s : said.Said) × Replies old.text a s new.text × (bytes ≡ said.line_of s) → Answered w.text (asks a) bytes w.text
@@ -156,7 +156,7 @@ away_works opens a Memory old new b c away leaves replies stays rests = λ w ps 
     let here : is_query w.text a ≡ false = ap (λ (t : List ℕ). is_query t a) owes.text ∙ away in (
       w,
       0,
-      inr (refl, refl, refl, refl, (0, subst (λ (q : Bool). ReadsBy q (tries a) w 0) (sym here) refl, omega (arith, ap (λ (q : Bool). if q then length ps else 0) here))),
+      inr (refl, refl, refl, sym (ap (λ (q : Bool). if q then w.text ∷ w.asked else w.asked) here), λ not. refl, (0, subst (λ (q : Bool). ReadsBy q (tries a) w 0) (sym here) refl, omega (arith, ap (λ (q : Bool). if q then length ps else 0) here))),
       still_owed w old new owes stays (inr rests.changed),
       omega (arith, ap (λ (t : Tallies). t.lexed) rests.counted, ap (opening (length ps)) rests.begun),
       rest_carry w old new b c rests.holds (ap (λ (t : Tallies). t.typed) rests.counted),
@@ -173,10 +173,10 @@ query_reads opens a failed true old new b c w ps owes lex here tried reads =
     (n, subst (λ (q : Bool). ReadsBy q (tries a) w n) (sym here) (subst (λ (t : Bool). ReadsBy true t w n) (sym tried) tt), omega (arith, opening_most (length ps) new.begun))
 
 -- what a query types that has a place
-query_types : (tried : Bool) (w : Owed) (old new : Held) (b c : Tallies) → w.text ≡ old.text → (tried ≡ false → Types old new b c)
-    → (apart : ℕ) × (tried ≡ false → apart ≡ w.apart) × Carries w (record { text = w.text; since = None; asked = w.text ∷ w.asked; apart = apart }) old new b c
-query_types false w old new b c text types = (w.apart, λ not. refl, types_carry w None old new b c text (types refl))
-query_types true w old new b c text types = (w.apart + (c.typed + length old.holds), λ not. cc, apart_carry w None old new b c)
+query_types : (tried : Bool) (w : Owed) (since : Option ℕ) (old new : Held) (b c : Tallies) → w.text ≡ old.text → (tried ≡ false → TypesSome old new b c)
+    → (apart : ℕ) × (tried ≡ false → apart ≡ w.apart) × Carries w (record { text = w.text; since = since; asked = w.text ∷ w.asked; apart = apart }) old new b c
+query_types false w since old new b c text types = (w.apart, λ not. refl, types_carry w since old new b c text (types refl))
+query_types true w since old new b c text types = (w.apart + (c.typed + length old.holds), λ not. cc, apart_carry w since old new b c)
 
 -- a query that has a place
 pub here_works : (opens : List ℕ) (a : Asked) (tried : Bool) (l : Line) (old new : Held) (b c : Tallies) → is_query old.text a ≡ true → tries a ≡ tried → ((w : Owed) → since_after w a ≡ (if is_query w.text a then None else w.since))
@@ -184,7 +184,7 @@ pub here_works : (opens : List ℕ) (a : Asked) (tried : Bool) (l : Line) (old n
 here_works opens a tried (Written v) old new b c there tries_so leaves replies stays (current, settles, reads, types) = λ w ps owes lex.
     let here : is_query w.text a ≡ true = ap (λ (t : List ℕ). is_query t a) owes.text ∙ there in
     let (n, line, most) = query_reads opens a false tried old new b c w ps owes lex here tries_so reads in
-    let (apart, same, carries) = query_types tried w old new b c owes.text (λ not. types not refl) in (
+    let (apart, same, carries) = query_types tried w None old new b c owes.text types in (
       record { text = w.text; since = None; asked = w.text ∷ w.asked; apart = apart },
       n,
       inl (answered_at old new w a v.items owes.text stays replies, sym (leaves w ∙ ap (λ (q : Bool). if q then None else w.since) here), sym (ap (λ (q : Bool). if q then w.text ∷ w.asked else w.asked) here), λ not. same (sym tries_so ∙ not), line),
@@ -195,13 +195,13 @@ here_works opens a tried (Written v) old new b c there tries_so leaves replies s
 here_works opens a tried Memory old new b c there tries_so leaves replies stays (current, settles, reads, types) = λ w ps owes lex.
     let here : is_query w.text a ≡ true = ap (λ (t : List ℕ). is_query t a) owes.text ∙ there in
     let (n, line, most) = query_reads opens a true tried old new b c w ps owes lex here tries_so reads in
-    let apart = w.apart + (c.typed + length old.holds) in (
-      record { text = w.text; since = w.since; asked = w.asked; apart = apart },
+    let (apart, same, carries) = query_types tried w w.since old new b c owes.text types in (
+      record { text = w.text; since = w.since; asked = w.text ∷ w.asked; apart = apart },
       n + length ps,
-      inr (refl, refl, refl, refl, (n, line, omega (arith, ap (λ (q : Bool). if q then length ps else 0) here))),
-      short_owed w apart new (still_owed w old new owes stays settles),
+      inr (refl, refl, refl, sym (ap (λ (q : Bool). if q then w.text ∷ w.asked else w.asked) here), λ not. same (sym tries_so ∙ not), (n, line, omega (arith, ap (λ (q : Bool). if q then length ps else 0) here))),
+      short_owed w (w.text ∷ w.asked) apart new (still_owed w old new owes stays settles),
       most,
-      short_carry w old new b c,
+      carries,
     )
 
 -- a query by whether it has a place
@@ -259,7 +259,7 @@ untold_works old new range bytes (Written v) w p owes same outcome replies =
       subst (Owes w) (sym same) owes,
       λ c. rest_carry w old new c c (ap (λ (h : Held). h.holds) same) refl,
     )
-untold_works old new range bytes Memory w p owes same outcome replies = (w, inr (refl, refl, refl, refl, (0, refl, refl)), subst (Owes w) (sym same) owes, λ c. rest_carry w old new c c (ap (λ (h : Held). h.holds) same) refl)
+untold_works old new range bytes Memory w p owes same outcome replies = (w, inr (refl, refl, refl, refl, λ not. refl, (0, refl, refl)), subst (Owes w) (sym same) owes, λ c. rest_carry w old new c c (ap (λ (h : Held). h.holds) same) refl)
 
 -- why an edit is refused, where memory isn't short
 pub refused_outcome : (o : edit.Outcome) (refusal : TextRefusal) (l : Line) → IsRefusal o refusal → RefusesEditBy (refusal_in refusal) l → is_memory l ≡ false → (r : edit.Refusal) × (o ≡ edit.refused r)
@@ -285,9 +285,29 @@ reads_none : (r : Reading) (w : Owed) → LineReads w r 0
 reads_none (asks a) w = reads_none_by (is_query w.text a) (tries a) w
 reads_none (refused r) w = refl
 
+-- nothing may be typed for any
+stays_apart : (r : Reading) (n : ℕ) → StaysApart r n n
+stays_apart (asks a) n = λ not. refl
+stays_apart (refused r) n = refl
+
+idle_by : (query : Bool) (w : Owed) (s : Held) (c : Tallies) → w.text ≡ s.text → Carries w (record { text = w.text; since = w.since; asked = if query then w.text ∷ w.asked else w.asked; apart = w.apart }) s s c c
+idle_by true w s c text = types_carry w w.since s s c c text (inl (refl, refl))
+idle_by false w s c text = λ start within. within
+
+idle_carry : (r : Reading) (w : Owed) (s : Held) (c : Tallies) → w.text ≡ s.text → Carries w (record { text = w.text; since = w.since; asked = asked_line w r; apart = w.apart }) s s c c
+idle_carry (asks a) w s c text = idle_by (is_query w.text a) w s c text
+idle_carry (refused r) w s c text = λ start within. within
+
 -- one for which memory is short
 pub memory_works : (r : Reading) (l : Line) (s : Held) (w : Owed) (p : ℕ) (c : Tallies) → Owes w s → l ≡ Memory → (v : Owed) × (n : ℕ) × WorksAt p w r (line_bytes l) v n × Owes v s × Lexes p n s s c c × Carries w v s s c c
-memory_works r l s w p c owes is = (w, read_again p w.text r, inr (ap line_bytes is, refl, refl, refl, (0, reads_none r w, omega arith)), owes, omega arith, rest_carry w s s c c refl refl)
+memory_works r l s w p c owes is = (
+  record { text = w.text; since = w.since; asked = asked_line w r; apart = w.apart },
+  read_again p w.text r,
+  inr (ap line_bytes is, refl, refl, refl, stays_apart r w.apart, (0, reads_none r w, omega arith)),
+  short_owed w (asked_line w r) w.apart s owes,
+  omega arith,
+  idle_carry r w s c owes.text,
+)
 
 -- a line that is no request, or one for which memory is short
 pub malformed_works : (line : List ℕ) (r : Option Refusal) (l : Line) (s : Held) (w : Owed) (p : ℕ) (c : Tallies) → Owes w s → IsToldOf r (reading line) → RefusesBy r l

@@ -1,5 +1,6 @@
 -- What is said of changes of a text, and what a trial of one tells.
-use Rattle.std.specs.Prelude.{◌≡◌, ◌⊎◌, ℕ, List, All, Option, Some}
+use Rattle.std.specs.Prelude.{◌≡◌, ◌⊎◌, ℕ, List, All, Bool, true, false, Option, Some, Result, Ok, Err}
+use Rattle.std.specs.declared.alloc.AllocError.{AllocError}
 use Rattle.text_terms.specs.Bytes.{str_bytes}
 use Rattle.text_terms.specs.declared.Span.{Span}
 use Rattle.text_model.specs.Positions.{position_of}
@@ -9,8 +10,15 @@ use Rattle.case_analysis.specs.declared.SplitFault.{SplitFault}
 use Rattle.case_analysis.specs.declared.SplitFault.TheVariants as split
 use Rattle.construct_terms.specs.declared.ConstructFault.{ConstructFault}
 use Rattle.construct_terms.specs.declared.ConstructFault.TheVariants as construct
+use Rattle.construct_terms.specs.Terms.{IsAt}
+use Rattle.json_lines.specs.Means.{said_of}
+use Rattle.json_lines.specs.declared.reply.Reply.{Reply}
 use Rattle.service_model.specs.Replies as said
 use Rattle.service_model.specs.Trials.{AddsNoFault, TrialTells}
+use Rattle.session.specs.declared.changes.Candidates.{Candidates}
+use Rattle.session.specs.declared.changes.Candidates.TheVariants.{Cases, Terms}
+use Rattle.session.specs.declared.changes.Proposal.{Proposal}
+use Rattle.session.specs.declared.changes.Proposal.TheVariants.{Said, Tried}
 
 -- what a trial tells of a text, a span, the bytes that go there, and a place or none
 abbrev pub Tells : List ℕ → Span → List ℕ → Option ℕ → Type 0
@@ -45,3 +53,33 @@ text_in r = str_bytes r.text
 -- what is said of terms in place of a span: texts each of which adds no fault
 abbrev pub AreSaidTerms : List ℕ → Span → said.Said → Type 0
 AreSaidTerms text x s = (texts : List (List ℕ)) × (s ≡ said.terms (position_of text x.start) (position_of text x.end) texts) × All (AddsNoFault text (place_of x)) texts
+
+-- what is said of changes that are tried
+abbrev pub AreSaidOf : List ℕ → Candidates → said.Said → Type 0
+AreSaidOf text (Cases c) s = IsSaidOfCandidate text c s
+AreSaidOf text (Terms x cs) s = AreSaidTerms text x s
+
+-- what is said of a proposal: what it says, where nothing is to be tried
+abbrev pub IsSaidOf : List ℕ → Proposal → said.Said → Type 0
+IsSaidOf text (Said r) s = s ≡ said_of r
+IsSaidOf text (Tried m cs) s = AreSaidOf text cs s
+
+-- changes in place of a hole go in its place
+abbrev pub ArePlaced : Candidates → Type 0
+ArePlaced (Cases c) = Unit {0}
+ArePlaced (Terms x cs) = All (IsAt x) cs.items
+
+-- what is to be tried are changes of this text
+abbrev pub FitsText : List ℕ → Proposal → Type 0
+FitsText text (Said r) = Unit {0}
+FitsText text (Tried m cs) = (m.text.items ≡ text) × ArePlaced cs
+
+-- whether nothing is to be tried
+abbrev pub is_said : Proposal → Bool
+is_said (Said r) = true
+is_said (Tried m cs) = false
+
+-- nothing is to be tried before this is said
+abbrev pub IsSaidAlone : Result Reply AllocError → Result Proposal AllocError → Type 0
+IsSaidAlone (Ok r) p = p ≡ Ok (Said r)
+IsSaidAlone (Err e) p = p ≡ Err e

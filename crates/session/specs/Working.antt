@@ -7,7 +7,7 @@ use Rattle.tree_model.specs.Trees.{Tree}
 use Rattle.service_model.specs.Requests.{Asked, asks}
 use Rattle.work_model.specs.Work.{Owed, AreLast, IsAnew, RetypedOver, WorksAt}
 use Rattle.syntax_tree.specs.Tallies.{Tallies}
-use Rattle.analysis_api.specs.Typed.{more_typed, LongestFront, SameFront}
+use Rattle.analysis_api.specs.Typed.{more_typed, GoesOn, LongestFront, SameFront}
 use Rattle.text_reading.specs.Structures.{AreItemsOf}
 use Rattle.text_reading.specs.Types.{opening}
 use Rattle.session.specs.Lines.{line_bytes}
@@ -66,7 +66,12 @@ abbrev pub Types : Held → Held → Tallies → Tallies → Type 0
 Types old new before after = ((new.holds ≡ old.holds) × (after.typed ≡ before.typed))
     ⊎ ((n : ℕ) × AreItemsOf old.text new.holds × LongestFront old.holds new.holds n × (after.typed ≡ more_typed (length new.holds - n) before.typed))
 
--- What a typer holds against the text at the last query that was answered: the count of typed items is at most so many, and still is where those of this text are added that aren't at the front of what it holds.
+-- Nothing was typed, or the typer holds some of the text's items now: those at its front that it held before, and some after them, which were typed.
+abbrev pub TypesSome : Held → Held → Tallies → Tallies → Type 0
+TypesSome old new before after = ((new.holds ≡ old.holds) × (after.typed ≡ before.typed))
+    ⊎ ((items : List Tree) × AreItemsOf old.text items × GoesOn old.holds items new.holds before.typed after.typed)
+
+-- What a typer holds against the text at the last query: the count of typed items is at most so many, and still is where those of this text are added that aren't at the front of what it holds.
 pub record Covers (asked : List (List ℕ)) (holds : List Tree) (typed most : ℕ) : Type 0 where
   pub within : typed ≤ most
   pub front : (items : List Tree) → AreLast asked items → (n : ℕ) × SameFront holds items n × (typed + length items ≤ most + n)
@@ -90,7 +95,7 @@ pub record Rests (old new : Held) (before after : Tallies) : Type 0 where
 abbrev pub QueryWorks : List ℕ → Bool → Bool → Line → Held → Held → Tallies → Tallies → Type 0
 QueryWorks opens false tried l old new before after = Rests old new before after
 QueryWorks opens true tried l old new before after = (is_memory l ≡ false → new.changed ≡ None) × Settles old new × (tried ≡ false → Reads opens (is_memory l) old new before after)
-    × (tried ≡ false → is_memory l ≡ false → Types old new before after)
+    × (tried ≡ false → TypesSome old new before after)
 
 -- whether a query may try other texts
 abbrev pub tries_texts : Query → Bool

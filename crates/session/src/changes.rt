@@ -3,15 +3,16 @@ ghost use Rattle.std.specs.Prelude.{◌≡◌, All, map, IfOk};
 ghost use Rattle.text_terms.specs.Bytes.{str_bytes};
 ghost use Rattle.query_model.specs.TypedNodes.{innermost_at};
 ghost use Rattle.service_model.specs.Answers.{CasesBy, TermsBy};
+ghost use Rattle.service_model.specs.Replies as said;
 ghost use Rattle.syntax_tree.specs.Tallies.{Grows};
 ghost use Rattle.syntax_tree.specs.View.{trees_of};
 ghost use Rattle.json_lines.specs.Means.{said_of};
 ghost use Rattle.construct_terms.specs.Terms.{IsAt};
-ghost use Rattle.session.specs.Changes.{AreSaidTerms, IsCasesFailure, IsSaidOfCandidate, IsTermsFailure, text_in};
+ghost use Rattle.session.specs.Changes.{text_in, ArePlaced, AreSaidOf, AreSaidTerms, FitsText, IsCasesFailure, IsSaidOf, IsSaidOfCandidate, IsTermsFailure};
 ghost use Rattle.text_reading.specs.Structures.{IsParsedAs};
 
 use crate::queries::asked;
-use crate::trials::TextTrial;
+use crate::trials::{MarkedText, TextTrial};
 use analysis_api::{Analyser, Analysis};
 use case_analysis::{SplitFault, destruct, split};
 use construct_terms::{ConstructFault, construct, terms};
@@ -22,6 +23,28 @@ use std::alloc::{AllocError, Global};
 use syntax_tree::{Counts, NoMemory, RcStr, Span};
 use text_reading::{TriedText, position};
 use text_store::TextStore;
+
+/// Changes of a text that are to be tried, all that a query has.
+#[derive(Drop)]
+pub enum Candidates {
+    /// Cases in place of a node.
+    Cases(Replacement),
+    /// Terms in place of a hole, each at its span.
+    Terms {
+        span: Span,
+        changes: Vec<Replacement>,
+    },
+}
+
+/// What a query gives before any text is tried: its reply, or the changes that are tried first.
+#[derive(Drop)]
+pub enum Proposal {
+    Said(Reply),
+    Tried {
+        text: MarkedText,
+        candidates: Candidates,
+    },
+}
 
 /// The bytes of the store's text.
 fn bytes_of(alloc: Global, store: &TextStore) -> Result<Vec<u8>, NoMemory>
@@ -60,7 +83,7 @@ fn cases_tried<A: Analyser, C: Counts>(
     trial: &mut TextTrial<'_, A>,
     counts: &mut C,
 ) -> Result<Reply, NoMemory>
-    requires text { trial.old.text.now ≡ store.now }
+    requires text { trial.old.of.now.text.items ≡ store.now }
     ensures said { IfOk result (λ r. IsSaidOfCandidate store.now candidate (said_of r)) }
     ensures grows { Grows (C.tallies counts.old) (C.tallies counts.new) }
 {
@@ -75,27 +98,24 @@ fn cases_tried<A: Analyser, C: Counts>(
 }
 
 /// Cases in place of the innermost typed node at an offset.
-pub fn cases<A: Analyser, C: Counts>(
+pub fn cases(
     alloc: Global,
     store: &TextStore,
     parsed: &Parsed,
     analysis: &Analysis<'_>,
     offset: u32,
-    tried: &mut TriedText<A>,
-    counts: &mut C,
-) -> Result<Reply, NoMemory>
+) -> Result<Proposal, NoMemory>
     requires parsed { IsParsedAs store.now parsed.now }
-    ensures said { IfOk result (λ r. CasesBy store.now (innermost_at offset (trees_of parsed.now.tree)) (said_of r)) }
-    ensures grows { Grows (C.tallies counts.old) (C.tallies counts.new) }
+    ensures answers { IfOk result (λ p. (s : said.Said) → IsSaidOf store.now p s → CasesBy store.now (innermost_at offset (trees_of parsed.now.tree)) s) }
+    ensures fits { IfOk result (FitsText store.now) }
 {
     let text = bytes_of(alloc, store)?;
     match split(alloc, &asked(&parsed.tree, analysis), &text, offset) {
-        Ok(candidate) => {
-            let faults = &analysis.faults.list;
-            let mut trial = TextTrial::<A>::new(alloc, &text, &parsed.faults, faults, tried)?;
-            cases_tried(store, candidate, &mut trial, counts)
-        }
-        Err(fault) => cases_failure(store, fault),
+        Ok(candidate) => Ok(Proposal::Tried {
+            text: MarkedText::new(alloc, text, &parsed.faults, &analysis.faults.list)?,
+            candidates: Candidates::Cases(candidate),
+        }),
+        Err(fault) => Ok(Proposal::Said(cases_failure(store, fault)?)),
     }
 }
 
@@ -131,7 +151,7 @@ fn terms_tried<A: Analyser, C: Counts>(
     trial: &mut TextTrial<'_, A>,
     counts: &mut C,
 ) -> Result<Reply, NoMemory>
-    requires text { trial.old.text.now ≡ store.now }
+    requires text { trial.old.of.now.text.items ≡ store.now }
     requires placed { All (IsAt span) candidates.items }
     ensures said { IfOk result (λ r. AreSaidTerms store.now span (said_of r)) }
     ensures grows { Grows (C.tallies counts.old) (C.tallies counts.new) }
@@ -145,26 +165,46 @@ fn terms_tried<A: Analyser, C: Counts>(
 }
 
 /// Terms in place of the hole at an offset.
-pub fn terms_in<A: Analyser, C: Counts>(
+pub fn terms_in(
     alloc: Global,
     store: &TextStore,
     parsed: &Parsed,
     analysis: &Analysis<'_>,
     offset: u32,
-    tried: &mut TriedText<A>,
-    counts: &mut C,
-) -> Result<Reply, NoMemory>
+) -> Result<Proposal, NoMemory>
     requires parsed { IsParsedAs store.now parsed.now }
-    ensures said { IfOk result (λ r. TermsBy store.now (innermost_at offset (trees_of parsed.now.tree)) (said_of r)) }
-    ensures grows { Grows (C.tallies counts.old) (C.tallies counts.new) }
+    ensures answers { IfOk result (λ p. (s : said.Said) → IsSaidOf store.now p s → TermsBy store.now (innermost_at offset (trees_of parsed.now.tree)) s) }
+    ensures fits { IfOk result (FitsText store.now) }
 {
     let text = bytes_of(alloc, store)?;
     match terms(alloc, &asked(&parsed.tree, analysis), &text, offset) {
-        Ok((span, candidates)) => {
-            let faults = &analysis.faults.list;
-            let mut trial = TextTrial::<A>::new(alloc, &text, &parsed.faults, faults, tried)?;
-            terms_tried(alloc, store, span, candidates, &mut trial, counts)
+        Ok((span, changes)) => Ok(Proposal::Tried {
+            text: MarkedText::new(alloc, text, &parsed.faults, &analysis.faults.list)?,
+            candidates: Candidates::Terms { span, changes },
+        }),
+        Err(fault) => Ok(Proposal::Said(terms_failure(fault)?)),
+    }
+}
+
+/// What is said of the changes of a text, all of them tried.
+pub fn try_all<A: Analyser, C: Counts>(
+    alloc: Global,
+    store: &TextStore,
+    text: &MarkedText,
+    candidates: Candidates,
+    tried: &mut TriedText<A>,
+    counts: &mut C,
+) -> Result<Reply, NoMemory>
+    requires text { text.now.text.items ≡ store.now }
+    requires placed { ArePlaced candidates }
+    ensures said { IfOk result (λ r. AreSaidOf store.now candidates (said_of r)) }
+    ensures grows { Grows (C.tallies counts.old) (C.tallies counts.new) }
+{
+    let mut trial = TextTrial::new(alloc, text, tried);
+    match candidates {
+        Candidates::Cases(candidate) => cases_tried(store, candidate, &mut trial, counts),
+        Candidates::Terms { span, changes } => {
+            terms_tried(alloc, store, span, changes, &mut trial, counts)
         }
-        Err(fault) => terms_failure(fault),
     }
 }

@@ -1,11 +1,12 @@
 //! Queries of a position on the names of a text.
-ghost use Rattle.std.specs.Prelude.{◌≡◌, false, Some, map, IfOk};
+ghost use Rattle.std.specs.Prelude.{◌≡◌, false, true, Some, map, IfOk};
 ghost use Rattle.query_model.specs.Prefixes.{is_name_prefix};
 ghost use Rattle.service_model.specs.Answers.{LocatedBy, UsedBy, shown_place};
+ghost use Rattle.service_model.specs.Replies as said;
 ghost use Rattle.service_model.specs.Completions.{CompletedBy};
-ghost use Rattle.syntax_tree.specs.Tallies.{Grows};
 ghost use Rattle.syntax_tree.specs.View.{place_of, trees_of};
 ghost use Rattle.json_lines.specs.Means.{entry_kind_text, entry_of, failure_said, said_of, span_of};
+ghost use Rattle.session.specs.Changes.{is_said, FitsText, IsSaidAlone, IsSaidOf};
 ghost use Rattle.session.specs.Lines.{failure_in};
 ghost use Rattle.name_queries.specs.NewestNames.{printed};
 ghost use Rattle.session.specs.Queries.{AnswersQuery, IsSaidOfPlace, said_entry};
@@ -13,7 +14,7 @@ ghost use Rattle.session.specs.Working.{tries_texts};
 ghost use Rattle.text_reading.specs.Structures.{IsParsedAs};
 ghost use Rattle.text_reading.specs.Types.{IsOf};
 
-use crate::changes::{cases, terms_in};
+use crate::changes::{Proposal, cases, terms_in};
 use analysis_api::{Analyser, Analysis};
 use env_table::Place;
 use frame_parser::Parsed;
@@ -21,8 +22,8 @@ use json_lines::{Entry, EntryKind, Failure, File, PosSpan, Reply};
 use name_queries::{Completion, CompletionKind, complete_prefix, locate, occurrences};
 use query_engine::{Asked, QueryFault};
 use std::alloc::{AllocError, Global};
-use syntax_tree::{Counts, NoMemory, Pos, RcStr, Span, Tree};
-use text_reading::{TriedText, position};
+use syntax_tree::{NoMemory, Pos, RcStr, Span, Tree};
+use text_reading::position;
 use text_store::TextStore;
 
 /// A query of a position.
@@ -66,30 +67,38 @@ pub fn asked<'a>(tree: &'a Tree, analysis: &Analysis<'a>) -> Asked<'a>
     }
 }
 
-/// Answers a query of an offset of a text with this tree, by what a typer found that holds its items.
-pub fn answer<A: Analyser, C: Counts>(
+/// A reply before which no text is tried.
+fn said(reply: Result<Reply, NoMemory>) -> Result<Proposal, NoMemory>
+    ensures { IsSaidAlone reply result }
+{
+    match reply {
+        Ok(reply) => Ok(Proposal::Said(reply)),
+        Err(short) => Err(short),
+    }
+}
+
+/// What a query of an offset gives before any text is tried, of a text with this tree and by what a typer found that holds its items.
+pub fn propose<A: Analyser>(
     alloc: Global,
     store: &TextStore,
     query: &Query,
     parsed: &Parsed,
     analysis: &Analysis<'_>,
     offset: u32,
-    tried: &mut TriedText<A>,
-    counts: &mut C,
-) -> Result<Reply, NoMemory>
+) -> Result<Proposal, NoMemory>
     requires parsed { IsParsedAs store.now parsed.now }
     requires found { IsOf A.items A.finds (trees_of parsed.now.tree) analysis.now }
-    ensures said { IfOk result (λ r. AnswersQuery query.now store.now offset (trees_of parsed.now.tree) (said_of r)) }
-    ensures idle { tries_texts query.now ≡ false → C.tallies counts.new ≡ C.tallies counts.old }
-    ensures grows { Grows (C.tallies counts.old) (C.tallies counts.new) }
+    ensures answers { IfOk result (λ p. (s : said.Said) → IsSaidOf store.now p s → AnswersQuery query.now store.now offset (trees_of parsed.now.tree) s) }
+    ensures fits { IfOk result (FitsText store.now) }
+    ensures alone { tries_texts query.now ≡ false → IfOk result (λ p. is_said p ≡ true) }
 {
     let asked = asked(&parsed.tree, analysis);
     match query {
-        Query::Locate => located::<A>(alloc, store, &asked, offset),
-        Query::Occurrences => used(alloc, store, &asked, offset),
-        Query::Complete(prefix) => completed(alloc, &asked, offset, prefix.as_str()),
-        Query::Cases => cases::<A, C>(alloc, store, parsed, analysis, offset, tried, counts),
-        Query::Terms => terms_in::<A, C>(alloc, store, parsed, analysis, offset, tried, counts),
+        Query::Locate => said(located::<A>(alloc, store, &asked, offset)),
+        Query::Occurrences => said(used(alloc, store, &asked, offset)),
+        Query::Complete(prefix) => said(completed(alloc, &asked, offset, prefix.as_str())),
+        Query::Cases => cases(alloc, store, parsed, analysis, offset),
+        Query::Terms => terms_in(alloc, store, parsed, analysis, offset),
     }
 }
 

@@ -19,6 +19,7 @@ ghost use Rattle.plain_typing.specs.View.{seen_of};
 ghost use Rattle.text_queries.specs.Faults.{fault_of, typer_fault_of};
 ghost use Rattle.text_store.specs.Edits.{edit_of, IsRefusal};
 ghost use Rattle.json_lines.specs.Meets.{asked_of, key_text, range_of, refusal_of};
+ghost use Rattle.service_model.specs.Replies as said;
 ghost use Rattle.service_model.specs.Replies.{outline};
 ghost use Rattle.service_model.specs.Made.{SizesAre};
 ghost use Rattle.service_model.specs.Structure.{ErrorsAre, OutlineIs, faults_said};
@@ -26,11 +27,14 @@ ghost use Rattle.json_lines.specs.Means.{outline_of, outlined_of, said_of, typed
 ghost use Rattle.kept_text.specs.Keeping.{sooner};
 ghost use Rattle.text_reading.specs.Structures.{AreItemsOf};
 ghost use Rattle.text_reading.specs.Types.{items_in};
+ghost use Rattle.session.specs.Changes.{is_said, ArePlaced, AreSaidOf, FitsText, IsSaidOf};
 ghost use Rattle.session.specs.Queries.{AreFaultsOf, AreTypesRound, IsAnswered, IsNotPlain, MayBeIllTyped};
 ghost use Rattle.session.specs.Lines.{line_bytes, refusal_in, IsWritten, RefusesBy, RefusesEditBy, RepliesBy, Says};
-ghost use Rattle.session.specs.Working.{tries_texts, Carries, Lexes, Owes, QueryWorks, Reads, RequestWorks, Settles, Types};
+ghost use Rattle.session.specs.Working.{tries_texts, Carries, Lexes, Owes, QueryWorks, Reads, RequestWorks, Settles, Types, TypesSome};
 
-use crate::queries::{Query, answer, asked, failure_of};
+use crate::changes::{Candidates, Proposal, try_all};
+use crate::queries::{Query, asked, failure_of, propose};
+use crate::trials::MarkedText;
 use analysis_api::Analyser;
 use env_table::Fault;
 use frame_parser::{Parsed, SyntaxFault};
@@ -42,7 +46,6 @@ use kept_text::KeptText;
 use query_engine::{Asked, enclosing_types};
 use std::alloc::{AllocError, Global};
 use std::marker::Model;
-use std::mem;
 use syntax_tree::{Counts, NoMemory, Pos, RcStr, Tree, enclosing};
 use text_reading::{
     Found, KeptTypes, PlainText, TriedText, find_types, read_text, shown_faults, shown_outline,
@@ -175,7 +178,8 @@ pub struct Session<A: Analyser> {
     alloc: Global,
     kept: KeptText,
     types: KeptTypes<A>,
-    /// What is kept of the changed texts that were tried, for the next query that tries some. No reply depends on it.
+    /// The tokens and the tree of the changed text that was tried last, for the next query that tries some. It has no typer but while
+    /// texts are tried, when it borrows that of the session. No reply depends on it.
     tried: TriedText<A>,
 }
 
@@ -413,23 +417,59 @@ impl<A: Analyser> Session<A> {
         ensures idle { self.now.changed ≡ None → self.now.known ≡ true → tries_texts query.now ≡ false → C.tallies counts.new ≡ C.tallies counts.old }
         ensures counted { Grows (C.tallies counts.old) (C.tallies counts.new) }
     {
+        match self.propose(query, offset, counts)? {
+            Proposal::Said(reply) => Ok(reply),
+            Proposal::Tried { text, candidates } => {
+                try_all(self.alloc, self.text(), &text, candidates, tried, counts)
+            }
+        }
+    }
+
+    /// What a query of an offset gives before any text is tried. What was found of the present text isn't lent any more afterwards, so
+    /// that the typer may go on to another one.
+    fn propose<C: Counts>(
+        &self,
+        query: &Query,
+        offset: u32,
+        counts: &mut C,
+    ) -> Result<Proposal, NoMemory>
+        ensures answers { IfOk result (λ p. (s : said.Said) → IsSaidOf self.now.text p s → IsAnswered query.now self.now.text offset s) }
+        ensures fits { IfOk result (FitsText self.now.text) }
+        ensures alone { tries_texts query.now ≡ false → IfOk result (λ p. is_said p ≡ true) }
+        ensures idle { self.now.changed ≡ None → self.now.known ≡ true → C.tallies counts.new ≡ C.tallies counts.old }
+        ensures counted { Grows (C.tallies counts.old) (C.tallies counts.new) }
+    {
         let read = tree_of(self.alloc, &self.kept, counts)?;
         let parsed = read.get();
         let found = self.typed(&parsed.tree, counts)?;
         let analysis = found.analysis();
-        answer::<A, C>(
-            self.alloc,
-            self.text(),
-            query,
-            parsed,
-            &analysis,
-            offset,
-            tried,
-            counts,
-        )
+        propose::<A>(self.alloc, self.text(), query, parsed, &analysis, offset)
     }
 
-    /// The same, with what the session keeps of the texts that were tried.
+    /// What is said of changes of the text, all of them tried. The session's own typer types them, and holds the items of the last one
+    /// then, or some of its first ones after `NoMemory`: so the next query goes on from the first item that differs from these. The
+    /// tokens and the tree stay.
+    fn try_changes<C: Counts>(
+        &mut self,
+        text: &MarkedText,
+        candidates: Candidates,
+        counts: &mut C,
+    ) -> Result<Reply, NoMemory>
+        requires text { text.now.text.items ≡ self.old.text }
+        requires placed { ArePlaced candidates }
+        ensures said { IfOk result (λ r. AreSaidOf self.old.text candidates (said_of r)) }
+        ensures text { self.new.text ≡ self.old.text }
+        ensures changed { self.new.changed ≡ self.old.changed }
+        ensures counted { Grows (C.tallies counts.old) (C.tallies counts.new) }
+    {
+        self.tried.borrow_typer(&mut self.types);
+        let store = self.kept.text();
+        let reply = try_all(self.alloc, store, text, candidates, &mut self.tried, counts);
+        self.types = self.tried.return_typer();
+        reply
+    }
+
+    /// Answers a query of an offset, what changes it has being tried by the session's own typer.
     fn ask_again<C: Counts>(
         &mut self,
         query: &Query,
@@ -437,14 +477,16 @@ impl<A: Analyser> Session<A> {
         counts: &mut C,
     ) -> Result<Reply, NoMemory>
         ensures said { IfOk result (λ r. IsAnswered query.now self.old.text offset (said_of r)) }
-        ensures stays { self.new ≡ self.old }
+        ensures text { self.new.text ≡ self.old.text }
+        ensures changed { self.new.changed ≡ self.old.changed }
+        ensures stays { tries_texts query.now ≡ false → self.new ≡ self.old }
         ensures idle { self.old.changed ≡ None → self.old.known ≡ true → tries_texts query.now ≡ false → C.tallies counts.new ≡ C.tallies counts.old }
         ensures counted { Grows (C.tallies counts.old) (C.tallies counts.new) }
     {
-        let mut tried = mem::replace(&mut self.tried, TriedText::new(self.alloc));
-        let reply = self.ask_trying(query, offset, &mut tried, counts);
-        self.tried = tried;
-        reply
+        match self.propose(query, offset, counts)? {
+            Proposal::Said(reply) => Ok(reply),
+            Proposal::Tried { text, candidates } => self.try_changes(&text, candidates, counts),
+        }
     }
 
     /// A typer that holds the items of the present text, whose tree this is: the one that is kept, where it knows them, and else a
@@ -478,6 +520,7 @@ impl<A: Analyser> Session<A> {
         ensures lexes { (ps : List Tok) → Lex A.opens ps → OnOk result (Lexes (length ps) 0 self.old self.new (C.tallies counts.old) (C.tallies counts.new)) }
         ensures fails { (ps : List Tok) → Lex A.opens ps → Lexes (length ps) (length ps) self.old self.new (C.tallies counts.old) (C.tallies counts.new) }
         ensures types { OnOk result (Types self.old self.new (C.tallies counts.old) (C.tallies counts.new)) }
+        ensures goes { TypesSome self.old self.new (C.tallies counts.old) (C.tallies counts.new) }
         ensures counted { Grows (C.tallies counts.old) (C.tallies counts.new) }
     {
         if self.types.known().is_some() {
@@ -498,6 +541,7 @@ impl<A: Analyser> Session<A> {
         ensures reads { OnOk result (Reads A.opens false self.old self.new (C.tallies counts.old) (C.tallies counts.new)) }
         ensures fails { Reads A.opens true self.old self.new (C.tallies counts.old) (C.tallies counts.new) }
         ensures types { OnOk result (Types self.old self.new (C.tallies counts.old) (C.tallies counts.new)) }
+        ensures goes { TypesSome self.old self.new (C.tallies counts.old) (C.tallies counts.new) }
         ensures known { OnOk result (self.new.known ≡ true) }
         ensures counted { Grows (C.tallies counts.old) (C.tallies counts.new) }
     {
@@ -534,7 +578,7 @@ impl<A: Analyser> Session<A> {
         ensures settles { Settles self.old self.new }
         ensures reads { OnOk result (tries_texts query.now ≡ false → Reads A.opens false self.old self.new (C.tallies counts.old) (C.tallies counts.new)) }
         ensures fails { tries_texts query.now ≡ false → Reads A.opens true self.old self.new (C.tallies counts.old) (C.tallies counts.new) }
-        ensures types { OnOk result (tries_texts query.now ≡ false → Types self.old self.new (C.tallies counts.old) (C.tallies counts.new)) }
+        ensures goes { tries_texts query.now ≡ false → TypesSome self.old self.new (C.tallies counts.old) (C.tallies counts.new) }
         ensures counted { Grows (C.tallies counts.old) (C.tallies counts.new) }
     {
         self.refresh(counts)?;
@@ -560,7 +604,7 @@ impl<A: Analyser> Session<A> {
         ensures settles { Settles self.old self.new }
         ensures reads { OnOk result (Reads A.opens false self.old self.new (C.tallies counts.old) (C.tallies counts.new)) }
         ensures fails { Reads A.opens true self.old self.new (C.tallies counts.old) (C.tallies counts.new) }
-        ensures types { OnOk result (Types self.old self.new (C.tallies counts.old) (C.tallies counts.new)) }
+        ensures goes { TypesSome self.old self.new (C.tallies counts.old) (C.tallies counts.new) }
         ensures counted { Grows (C.tallies counts.old) (C.tallies counts.new) }
     {
         self.read_again(counts)?;
@@ -597,7 +641,7 @@ impl<A: Analyser> Session<A> {
         ensures settles { Settles self.old self.new }
         ensures reads { OnOk result (Reads A.opens false self.old self.new (C.tallies counts.old) (C.tallies counts.new)) }
         ensures fails { Reads A.opens true self.old self.new (C.tallies counts.old) (C.tallies counts.new) }
-        ensures types { OnOk result (Types self.old self.new (C.tallies counts.old) (C.tallies counts.new)) }
+        ensures goes { TypesSome self.old self.new (C.tallies counts.old) (C.tallies counts.new) }
         ensures counted { Grows (C.tallies counts.old) (C.tallies counts.new) }
     {
         self.read_again(counts)?;
@@ -706,7 +750,7 @@ impl<A: Analyser> Session<A> {
         ensures settles { Settles self.old self.new }
         ensures reads { OnOk result (Reads A.opens false self.old self.new (C.tallies counts.old) (C.tallies counts.new)) }
         ensures fails { Reads A.opens true self.old self.new (C.tallies counts.old) (C.tallies counts.new) }
-        ensures types { OnOk result (Types self.old self.new (C.tallies counts.old) (C.tallies counts.new)) }
+        ensures goes { TypesSome self.old self.new (C.tallies counts.old) (C.tallies counts.new) }
         ensures counted { Grows (C.tallies counts.old) (C.tallies counts.new) }
     {
         self.read_again(counts)?;

@@ -33,15 +33,20 @@ struct Mark {
     kind: &'static str,
 }
 
-/// A text, with the marks of the faults that it has, of which an `A` finds the typer's, and what is kept of the changed text that was
-/// tried last.
+/// A text with the marks of its faults: those of the parser, and some of the typer.
+#[derive(Drop)]
+pub struct MarkedText {
+    text: Vec<u8>,
+    known: HashSet<Mark>,
+    ghost knows: { ∥ Knows text.items (keys known) ∥₁ },
+}
+
+/// A text of which changes are tried, and what is kept of the changed text that was tried last, whose types an `A` finds.
 #[derive(Drop)]
 pub struct TextTrial<'a, A: Analyser> {
     alloc: Global,
-    text: &'a [u8],
-    known: HashSet<Mark>,
+    of: &'a MarkedText,
     tried: &'a mut TriedText<A>,
-    ghost knows: { ∥ Knows text.now (keys known) ∥₁ },
 }
 
 fn mark_of_parsed(fault: SyntaxFault) -> Mark
@@ -196,26 +201,20 @@ fn changed_text(
     Ok(Some(changed))
 }
 
-impl<'a, A: Analyser> TextTrial<'a, A> {
+impl MarkedText {
     /// A text with its faults: those of the parser, and some of the typer.
     pub fn new(
         alloc: Global,
-        text: &'a [u8],
+        text: Vec<u8>,
         parsed: &[SyntaxFault],
         typed: &[Fault],
-        tried: &'a mut TriedText<A>,
-    ) -> Result<TextTrial<'a, A>, NoMemory>
-        requires parsed { IsParserOf text.now parsed.now }
-        ensures { IfOk result (λ t. t.text.now ≡ text.now) }
+    ) -> Result<MarkedText, NoMemory>
+        requires parsed { IsParserOf text.items parsed.now }
+        ensures { IfOk result (λ m. m.text.items ≡ text.items) }
     {
         let marks = marks_of(alloc, parsed, typed)?;
         let known = set_of(alloc, &marks)?;
-        Ok(TextTrial {
-            alloc,
-            text,
-            known,
-            tried,
-        })
+        Ok(MarkedText { text, known })
     }
 
     /// The first place in the text of a mark of the changed text that isn't known.
@@ -232,6 +231,15 @@ impl<'a, A: Analyser> TextTrial<'a, A> {
         }
         first
     }
+}
+
+impl<'a, A: Analyser> TextTrial<'a, A> {
+    /// What is kept of the text that was tried last may be of any text.
+    pub fn new(alloc: Global, of: &'a MarkedText, tried: &'a mut TriedText<A>) -> TextTrial<'a, A>
+        ensures { result.of.now ≡ of.now }
+    {
+        TextTrial { alloc, of, tried }
+    }
 
     /// The same, of a changed text within the limit.
     fn first_in<C: Counts>(
@@ -240,25 +248,25 @@ impl<'a, A: Analyser> TextTrial<'a, A> {
         changed: &str,
         counts: &mut C,
     ) -> Result<Option<u32>, NoMemory>
-        requires made { changed.now ≡ apply self.old.text.now replacement.now.span.start replacement.now.span.end (str_bytes replacement.now.text) }
+        requires made { changed.now ≡ apply self.old.of.now.text.items replacement.now.span.start replacement.now.span.end (str_bytes replacement.now.text) }
         requires short { length changed.now ≤ text_limit }
         requires put { replacement.now.span.start + length (str_bytes replacement.now.text) < 2 ^ 32 }
-        ensures first { IfOk result (FirstAdded self.old.text.now (place_of replacement.now.span) (str_bytes replacement.now.text)) }
-        ensures text { self.new.text.now ≡ self.old.text.now }
+        ensures first { IfOk result (FirstAdded self.old.of.now.text.items (place_of replacement.now.span) (str_bytes replacement.now.text)) }
+        ensures text { self.new.of.now ≡ self.old.of.now }
         ensures grows { Grows (C.tallies counts.old) (C.tallies counts.new) }
     {
         let alloc = self.alloc;
         self.tried.read(changed, counts)?;
         let (parsed, found) = self.tried.typed(counts)?;
         let marks = marks_of(alloc, &parsed.faults, &found.faults.list)?;
-        Ok(self.first_new(replacement, &marks))
+        Ok(self.of.first_new(replacement, &marks))
     }
 }
 
 impl<'a, A: Analyser> Trial for TextTrial<'a, A> {
     ghost use Rattle.session.specs.Changes.{Tells};
 
-    ghost text = { λ t. t.text.now };
+    ghost text = { λ t. t.of.now.text.items };
 
     ghost tells = { Tells };
 
@@ -267,7 +275,7 @@ impl<'a, A: Analyser> Trial for TextTrial<'a, A> {
         replacement: &Replacement,
         counts: &mut C,
     ) -> Result<Option<u32>, NoMemory> {
-        let Some(changed) = changed_text(self.alloc, self.text, replacement)? else {
+        let Some(changed) = changed_text(self.alloc, &self.of.text, replacement)? else {
             return Ok(Some(replacement.span.start));
         };
         match std::str::from_utf8(&changed) {

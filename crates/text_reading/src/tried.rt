@@ -1,12 +1,12 @@
 //! A text that is tried in place of another, with what is kept of it from one such text to the next.
-ghost use Rattle.std.specs.Prelude.{◌≡◌, ◌≤◌, ◌+◌, [], ◌++◌, List, true, length, IfOk, OnOk};
+ghost use Rattle.std.specs.Prelude.{◌≡◌, ◌≤◌, ◌+◌, [], ◌++◌, List, None, true, length, IfOk, OnOk};
 ghost use Rattle.text_model.specs.Edits.{text_limit};
 ghost use Rattle.token_model.specs.Kinds.{Tok};
 ghost use Rattle.token_model.specs.Tokens.{Lex};
 ghost use Rattle.syntax_tree.specs.Tallies.{Grows};
 ghost use Rattle.syntax_tree.specs.View.{trees_of};
 ghost use Rattle.text_reading.specs.Structures.{IsParsedAs};
-ghost use Rattle.text_reading.specs.Types.{IsOf};
+ghost use Rattle.text_reading.specs.Types.{held, known, known_front, IsOf};
 
 use crate::types::KeptTypes;
 use analysis_api::{Analyser, Analysis};
@@ -155,6 +155,23 @@ impl<A: Analyser> TriedText<A> {
             return Ok(());
         }
         self.replace(text)
+    }
+
+    /// Takes the typer of another text, which types those that are tried from then on.
+    pub fn borrow_typer(&mut self, types: &mut KeptTypes<A>)
+        ensures stays { self.new ≡ self.old }
+        ensures left { (known A.items types.new ≡ None) × (held A.items types.new ≡ []) × (known_front types.new ≡ 0) }
+    {
+        self.types = types.hand_over();
+    }
+
+    /// Gives that typer back. The items that it holds are those of a text that was tried, and none is known to be one of another text.
+    pub fn return_typer(&mut self) -> KeptTypes<A>
+        ensures stays { self.new ≡ self.old }
+        ensures unknown { known A.items result ≡ None }
+        ensures front { known_front result ≡ 0 }
+    {
+        self.types.hand_over()
     }
 
     /// Reads a text, which is the one that is tried from then on. At most 32 tokens more are read than it has, after want of memory too,

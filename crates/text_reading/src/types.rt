@@ -4,13 +4,14 @@ ghost use Rattle.token_model.specs.Kinds.{Tok};
 ghost use Rattle.token_model.specs.Tokens.{Lex};
 ghost use Rattle.syntax_tree.specs.Tallies.{Grows};
 ghost use Rattle.syntax_tree.specs.View.{trees_of};
-ghost use Rattle.analysis_api.specs.Typed.{more_typed, LongestFront, SameFront};
+ghost use Rattle.analysis_api.specs.Typed.{more_typed, GoesOn, LongestFront, SameFront};
 ghost use Rattle.kept_text.specs.Keeping.{read_behind, trees_in};
 ghost use Rattle.text_reading.specs.Types.{has_begun, held, items_in, known, known_front, opening, IsOf};
 
 use analysis_api::{Analyser, Analysis};
 use kept_text::KeptText;
 use std::alloc::Global;
+use std::mem;
 use syntax_tree::{Counts, NoMemory, Tree};
 
 /// A typer that has found the types and names of a text: one that is kept, or one that is new.
@@ -108,6 +109,20 @@ impl<A: Analyser> KeptTypes<A> {
         self.front = self.front.min(front);
     }
 
+    /// Gives the typer away, with the items that it holds. None of these is known to be one of the tree of the text that it goes to.
+    pub fn hand_over(&mut self) -> KeptTypes<A>
+        ensures unknown { known A.items result ≡ None }
+        ensures given { held A.items result ≡ held A.items self.old }
+        ensures begun { has_begun result ≡ has_begun self.old }
+        ensures front { known_front result ≡ 0 }
+        ensures left { (known A.items self.new ≡ None) × (held A.items self.new ≡ []) × (known_front self.new ≡ 0) }
+    {
+        let mut types = mem::replace(self, KeptTypes::new());
+        types.outdate();
+        types.narrow(0);
+        types
+    }
+
     /// Brings the tokens and the tree of the typer's text up to it, and notes how many of the typer's items are still those of the tree.
     /// Nothing is typed. After `NoMemory` the next call does what is left.
     pub fn follow<C: Counts>(&mut self, kept: &mut KeptText, counts: &mut C) -> Result<(), NoMemory>
@@ -166,8 +181,8 @@ impl<A: Analyser> KeptTypes<A> {
     }
 
     /// Brings what is found up to a text with this tree: the items at the front that are as they were stay, and the others are
-    /// typed. After `NoMemory` the next call does what is left. It lexes nothing but the prelude, until a typer has begun. The items that
-    /// are known to be those of the tree aren't compared.
+    /// typed. After `NoMemory` it holds those that stay and some after them, which were typed, and the next call does what is left. It lexes
+    /// nothing but the prelude, until a typer has begun. The items that are known to be those of the tree aren't compared.
     pub fn refresh<C: Counts>(
         &mut self,
         alloc: Global,
@@ -179,7 +194,7 @@ impl<A: Analyser> KeptTypes<A> {
         ensures front { SameFront (held A.items self.new) (trees_of tree.now) (known_front self.new) }
         ensures typed { OnOk result ((n : ℕ) × LongestFront (held A.items self.old) (trees_of tree.now) n × ((C.tallies counts.new).typed ≡ more_typed (length tree.now.items.items - n) (C.tallies counts.old).typed)) }
         ensures unknown { OnErr result (known A.items self.new ≡ None) }
-        ensures failed { OnErr result ((n : ℕ) × (held A.items self.new ≡ take n (trees_of tree.now))) }
+        ensures failed { OnErr result (GoesOn (held A.items self.old) (trees_of tree.now) (held A.items self.new) (C.tallies counts.old).typed (C.tallies counts.new).typed) }
         ensures lexed { (ts : List Tok) → Lex A.opens ts → (C.tallies counts.new).lexed ≤ (C.tallies counts.old).lexed + opening (length ts) (has_begun self.old) }
         ensures begun { OnOk result (has_begun self.new ≡ true) }
         ensures stays_begun { has_begun self.old ≡ true → has_begun self.new ≡ true }

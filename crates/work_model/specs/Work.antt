@@ -11,7 +11,7 @@ use Rattle.service_model.specs.Answers.{Answered, tell_outcome}
 use Rattle.service_model.specs.Runs.{is_blank_line}
 use Rattle.service_model.specs.Structure.{items_in}
 
--- The text, and the first byte that may have changed since the last query that was answered, or none, where nothing has changed; the texts at the queries that were answered, the last one first; and how many items were typed by lines of which nothing is said.
+-- The text, and the first byte that may have changed since the last query that was answered, or none, where nothing has changed; the texts at the queries, the last one first, those for which memory was short among them; and how many items were typed by lines of which nothing is said.
 pub record Owed : Type 0 where
   pub text : List ℕ
   pub since : Option ℕ
@@ -85,12 +85,12 @@ abbrev pub since_line : Owed → Reading → Option ℕ
 since_line w (asks a) = since_after w a
 since_line w (refused r) = w.since
 
--- the texts at the queries behind a line that was answered
+-- the texts at the queries behind a line
 abbrev pub asked_line : Owed → Reading → List (List ℕ)
 asked_line w (asks a) = if is_query w.text a then w.text ∷ w.asked else w.asked
 asked_line w (refused r) = w.asked
 
--- of what an answered line types something is said, unless it may try other texts
+-- of what a line types something is said, unless it may try other texts
 abbrev pub StaysApart : Reading → ℕ → ℕ → Type 0
 StaysApart (asks a) before now = tries a ≡ false → now ≡ before
 StaysApart (refused r) before now = now ≡ before
@@ -105,11 +105,11 @@ abbrev pub read_again : ℕ → List ℕ → Reading → ℕ
 read_again p text (asks a) = if is_query text a then p else 0
 read_again p text (refused r) = 0
 
--- What a line says is answered with the piece, or memory is short; it leaves what is owed behind it, and may read n tokens. Of what is typed where memory is short nothing is said.
+-- What a line says is answered with the piece, or memory is short; it leaves what is owed behind it, and may read n tokens.
 abbrev pub WorksAt : ℕ → Owed → Reading → List ℕ → Owed → ℕ → Type 0
 WorksAt p w r piece v n =
     (Answered w.text r piece v.text × (v.since ≡ since_line w r) × (v.asked ≡ asked_line w r) × StaysApart r w.apart v.apart × LineReads w r n)
-    ⊎ ((piece ≡ memory_line) × (v.text ≡ w.text) × (v.since ≡ w.since) × (v.asked ≡ w.asked) × ((m : ℕ) × LineReads w r m × (n ≡ m + read_again p w.text r)))
+    ⊎ ((piece ≡ memory_line) × (v.text ≡ w.text) × (v.since ≡ w.since) × (v.asked ≡ asked_line w r) × StaysApart r w.apart v.apart × ((m : ℕ) × LineReads w r m × (n ≡ m + read_again p w.text r)))
 
 -- the same of a line; one of blanks is passed over
 abbrev pub WorksBy : Bool → ℕ → Owed → List ℕ → List ℕ → Owed → ℕ → Type 0

@@ -3,9 +3,9 @@ use Rattle.session.proofs.changes.cases_tried.Goals as goal
 
 pub returns-in-Ok-clause-said : goal.returns-in-Ok-clause-said
 returns-in-Ok-clause-said g c =
-    kept_said c.args.store.now c.args.trial.now.text.now c.args.candidate c.in-Ok.change (c.position.result.line, c.position.result.col) (c.position-in-Ok.result.line, c.position-in-Ok.result.col)
+    kept_said c.args.store.now c.args.trial.now.of.now.text.items c.args.candidate c.in-Ok.change (c.position.result.line, c.position.result.col) (c.position-in-Ok.result.line, c.position-in-Ok.result.col)
     c.in-Ok.ensures.kept.0 c.requires.text c.position.ensures c.position-in-Ok.ensures c.in-Ok.ensures.kept.1
 
 pub returns-in-Err-clause-said : goal.returns-in-Err-clause-said
 returns-in-Err-clause-said g c =
-    refused_said c.args.store.now c.args.trial.now.text.now c.args.candidate c.cases_failure.result c.in-Err.fault c.requires.text c.in-Err.ensures.refused c.cases_failure.ensures
+    refused_said c.args.store.now c.args.trial.now.of.now.text.items c.args.candidate c.cases_failure.result c.in-Err.fault c.requires.text c.in-Err.ensures.refused c.cases_failure.ensures

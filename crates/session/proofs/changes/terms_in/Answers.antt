@@ -4,7 +4,5 @@ use Rattle.syntax_tree.specs.View.{trees_of}
 use Rattle.session.proofs.Terms.{said_at}
 use Rattle.session.proofs.changes.terms_in.Goals as goal
 
--- src/changes.rt:155:1
-pub returns-in-Ok-clause-said : goal.returns-in-Ok-clause-said
-returns-in-Ok-clause-said g c =
-    said_at c.args.store.now c.in-Ok.span (innermost_at c.args.offset (trees_of c.args.parsed.now.tree)) c.terms_tried.result (search rules) c.terms_tried.ensures.said
+pub returns-in_ok-new-in-Ok-clause-answers : goal.returns-in_ok-new-in-Ok-clause-answers
+returns-in_ok-new-in-Ok-clause-answers c = λ s told. said_at c.args.store.now c.in-Ok.span (innermost_at c.args.offset (trees_of c.args.parsed.now.tree)) s (search rules) told

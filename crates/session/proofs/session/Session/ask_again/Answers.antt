@@ -1,9 +1,28 @@
-use Rattle.std.proofs.Common.{subst, List, ℕ, IfOk, ap}
+use Rattle.std.proofs.Common.{subst, sym, refl}
 use Rattle.json_lines.specs.Means.{said_of}
+use Rattle.session.specs.Changes.{AreSaidOf, FitsText, IsSaidOf}
 use Rattle.session.specs.Queries.{IsAnswered}
-use Rattle.session.specs.Working.{Held}
+use Rattle.session.specs.declared.changes.Proposal.{Proposal}
+use Rattle.session.proofs.Proposing.{never_tried}
+use Rattle.session.proofs.Typing.{said_then}
 use Rattle.session.proofs.session.Session.ask_again.Goals as goal
 
-pub returns-clause-said : goal.returns-clause-said
-returns-clause-said g c =
-    subst (λ (t : List ℕ). IfOk c.ask_trying-reply.result (λ r. IsAnswered c.args.query.now t c.args.offset (said_of r))) (ap (λ (h : Held). h.text) c.self.view_is) c.ask_trying-reply.ensures.said
+pub try_changes-requires : goal.try_changes-requires
+try_changes-requires g c =
+    let fits = subst (FitsText c.args.self.now.text) c.in-Tried.is c.in_ok-reply.ensures.fits in
+    record { text = fits.0; placed = fits.1 }
+
+pub returns-in-Said-clause-said : goal.returns-in-Said-clause-said
+returns-in-Said-clause-said g c = c.in_ok-reply.ensures.answers (said_of c.in-Said.reply) (subst (λ (p : Proposal). IsSaidOf c.args.self.now.text p (said_of c.in-Said.reply)) (sym c.in-Said.is) refl)
+
+pub returns-in-Tried-clause-said : goal.returns-in-Tried-clause-said
+returns-in-Tried-clause-said g c =
+    let text = c.args.self.now.text in
+    said_then (AreSaidOf text c.in-Tried.candidates) (IsAnswered c.args.query.now text c.args.offset) c.try_changes.result
+    (λ s told. c.in_ok-reply.ensures.answers s (subst (λ (p : Proposal). IsSaidOf text p s) (sym c.in-Tried.is) told)) c.try_changes.ensures.said
+
+pub returns-in-Tried-clause-stays : goal.returns-in-Tried-clause-stays
+returns-in-Tried-clause-stays g c = λ not. absurd (never_tried _ _ (c.in_ok-reply.ensures.alone not) c.in-Tried.is refl)
+
+pub returns-in-Tried-clause-idle : goal.returns-in-Tried-clause-idle
+returns-in-Tried-clause-idle g c = λ changed known not. absurd (never_tried _ _ (c.in_ok-reply.ensures.alone not) c.in-Tried.is refl)

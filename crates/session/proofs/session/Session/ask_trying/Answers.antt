@@ -1,37 +1,26 @@
-use Rattle.std.proofs.Common.{subst, sym, List, ℕ, IfOk, ap}
-use Rattle.tree_model.specs.Trees.{Tree}
-use Rattle.syntax_tree.specs.View.{trees_of}
-use Rattle.frame_parser.specs.declared.whole.Parsed.{Parsed}
+use Rattle.std.proofs.Common.{◌∙◌, subst, sym, refl, List, ℕ, IfOk}
 use Rattle.json_lines.specs.Means.{said_of}
-use Rattle.text_reading.specs.Structures.{IsParsedAs}
-use Rattle.text_reading.specs.Types.{IsOf}
-use Rattle.text_reading.proofs.Knowing.{items_parsed}
-use Rattle.session.specs.Queries.{AnswersQuery}
-use Rattle.session.specs.Working.{Held}
-use Rattle.session.proofs.Naming.{of_items}
+use Rattle.session.specs.Changes.{AreSaidOf, FitsText, IsSaidOf}
+use Rattle.session.specs.Queries.{IsAnswered}
+use Rattle.session.specs.declared.changes.Proposal.{Proposal}
+use Rattle.session.proofs.Proposing.{never_tried}
+use Rattle.session.proofs.Typing.{said_then}
 use Rattle.session.proofs.session.Session.ask_trying.Goals as goal
 
-pub typed-requires : goal.typed-requires
-typed-requires g c =
-    let text = c.args.self.now.text in
-    let parsed = c.get-parsed.result.now in
-    let are = subst (λ (p : Parsed). IsParsedAs c.self.inside.kept.text p) (sym c.get-parsed.ensures) c.in_ok-read.ensures.parsed in
-    record { of_text = items_parsed text parsed (subst (λ (t : List ℕ). IsParsedAs t parsed) (ap (λ (h : Held). h.text) c.self.view_is) are) }
+pub try_all-requires : goal.try_all-requires
+try_all-requires g c =
+    let fits = subst (FitsText c.args.self.now.text) c.in-Tried.is c.in_ok-reply.ensures.fits in
+    record { text = fits.0 ∙ sym c.text.ensures; placed = fits.1 }
 
-pub answer-requires : goal.answer-requires
-answer-requires g c =
-    let parsed = c.get-parsed.result.now in
-    let are = subst (λ (p : Parsed). IsParsedAs c.self.inside.kept.text p) (sym c.get-parsed.ensures) c.in_ok-read.ensures.parsed in
-    let here = subst (λ (t : List ℕ). IsParsedAs t parsed) (ap (λ (h : Held). h.text) c.self.view_is) are in
-    record {
-      parsed = subst (λ (t : List ℕ). IsParsedAs t parsed) (sym c.text.ensures) here;
-      found = subst (λ (ts : List Tree). IsOf g.A.Analyser.items g.A.Analyser.finds ts c.analysis-analysis.result) c.in_ok-found.ensures.items c.analysis-analysis.ensures;
-    }
+pub returns-in-Said-clause-said : goal.returns-in-Said-clause-said
+returns-in-Said-clause-said g c = c.in_ok-reply.ensures.answers (said_of c.in-Said.reply) (subst (λ (p : Proposal). IsSaidOf c.args.self.now.text p (said_of c.in-Said.reply)) (sym c.in-Said.is) refl)
 
-pub returns-clause-said : goal.returns-clause-said
-returns-clause-said g c =
+pub returns-in-Tried-clause-said : goal.returns-in-Tried-clause-said
+returns-in-Tried-clause-said g c =
     let text = c.args.self.now.text in
-    let parsed = c.get-parsed.result.now in
-    let are = subst (λ (p : Parsed). IsParsedAs c.self.inside.kept.text p) (sym c.get-parsed.ensures) c.in_ok-read.ensures.parsed in
-    of_items text parsed (AnswersQuery c.args.query.now text c.args.offset) c.answer.result (subst (λ (t : List ℕ). IsParsedAs t parsed) (ap (λ (h : Held). h.text) c.self.view_is) are)
-    (subst (λ (t : List ℕ). IfOk c.answer.result (λ r. AnswersQuery c.args.query.now t c.args.offset (trees_of parsed.tree) (said_of r))) c.text.ensures c.answer.ensures.said)
+    said_then (AreSaidOf text c.in-Tried.candidates) (IsAnswered c.args.query.now text c.args.offset) c.try_all.result
+    (λ s told. c.in_ok-reply.ensures.answers s (subst (λ (p : Proposal). IsSaidOf text p s) (sym c.in-Tried.is) told))
+    (subst (λ (t : List ℕ). IfOk c.try_all.result (λ r. AreSaidOf t c.in-Tried.candidates (said_of r))) c.text.ensures c.try_all.ensures.said)
+
+pub returns-in-Tried-clause-idle : goal.returns-in-Tried-clause-idle
+returns-in-Tried-clause-idle g c = λ changed known not. absurd (never_tried _ _ (c.in_ok-reply.ensures.alone not) c.in-Tried.is refl)

@@ -6,7 +6,7 @@ use Rattle.json_lines.specs.Means.{said_of}
 use Rattle.json_lines.specs.declared.reply.Reply.{Reply}
 use Rattle.session.specs.Queries.{AreTypesRound, IsNotPlain}
 use Rattle.session.proofs.Typing.{enclosing_typed, said_then}
-use Rattle.session.proofs.Carrying.{types_after, types_none, types_then}
+use Rattle.session.proofs.Carrying.{some_after, some_none, some_then}
 use Rattle.session.proofs.Works.{on_ok, reads_idle, reads_more, reads_typed}
 use Rattle.session.proofs.session.Session.enclosing_now.Goals as goal
 
@@ -46,10 +46,21 @@ returns-clause-fails g c = reads_more g.A.Analyser.opens true c.args.self.now c.
 
 -- ---- what is typed
 
-pub returns-in-Some-clause-types : goal.returns-in-Some-clause-types
-returns-in-Some-clause-types g c = (types_none c.args.self.now c.read_again.new.self (g.C.Counts.tallies c.args.counts.now) (g.C.Counts.tallies c.read_again.new.counts) (g.C.Counts.tallies c.plain_enclosing.new.counts) c.read_again.ensures.rest.3 c.read_again.ensures.untyped (c.plain_enclosing.ensures.idle c.in_ok-read_again.ensures.current))
+-- ---- what is typed
 
-pub returns-clause-types : goal.returns-clause-types
-returns-clause-types g c = on_ok c.typed_enclosing.result (types_then c.args.self.now c.type_again.new.self c.type_again.new.self (g.C.Counts.tallies c.args.counts.now) (g.C.Counts.tallies c.type_again.new.counts) (g.C.Counts.tallies c.typed_enclosing.new.counts)
-    (types_after c.args.self.now c.read_again.new.self c.type_again.new.self (g.C.Counts.tallies c.args.counts.now) (g.C.Counts.tallies c.plain_enclosing.new.counts) (g.C.Counts.tallies c.type_again.new.counts) c.read_again.ensures.rest.0 c.read_again.ensures.rest.3 (ap (λ (t : Tallies). t.typed) (c.plain_enclosing.ensures.idle c.in_ok-read_again.ensures.current) ∙ c.read_again.ensures.untyped) c.in_ok-type_again.ensures.types)
-    refl (ap (λ (t : Tallies). t.typed) (c.typed_enclosing.ensures.idle c.type_again.ensures.rest.1 c.in_ok-type_again.ensures.known)))
+pub returns-in_err-read_again-clause-goes : goal.returns-in_err-read_again-clause-goes
+returns-in_err-read_again-clause-goes g c = some_none c.args.self.now c.read_again.new.self (g.C.Counts.tallies c.args.counts.now) (g.C.Counts.tallies c.read_again.new.counts) (g.C.Counts.tallies c.read_again.new.counts) c.read_again.ensures.rest.3 c.read_again.ensures.untyped refl
+
+pub returns-in_err-reply-clause-goes : goal.returns-in_err-reply-clause-goes
+returns-in_err-reply-clause-goes g c = some_none c.args.self.now c.read_again.new.self (g.C.Counts.tallies c.args.counts.now) (g.C.Counts.tallies c.read_again.new.counts) (g.C.Counts.tallies c.plain_enclosing.new.counts) c.read_again.ensures.rest.3 c.read_again.ensures.untyped (c.plain_enclosing.ensures.idle c.in_ok-read_again.ensures.current)
+
+pub returns-in-Some-clause-goes : goal.returns-in-Some-clause-goes
+returns-in-Some-clause-goes g c = some_none c.args.self.now c.read_again.new.self (g.C.Counts.tallies c.args.counts.now) (g.C.Counts.tallies c.read_again.new.counts) (g.C.Counts.tallies c.plain_enclosing.new.counts) c.read_again.ensures.rest.3 c.read_again.ensures.untyped (c.plain_enclosing.ensures.idle c.in_ok-read_again.ensures.current)
+
+pub returns-in_err-type_again-clause-goes : goal.returns-in_err-type_again-clause-goes
+returns-in_err-type_again-clause-goes g c = some_after c.args.self.now c.read_again.new.self c.type_again.new.self (g.C.Counts.tallies c.args.counts.now) (g.C.Counts.tallies c.plain_enclosing.new.counts) (g.C.Counts.tallies c.type_again.new.counts) c.read_again.ensures.rest.0 c.read_again.ensures.rest.3 (ap (λ (t : Tallies). t.typed) (c.plain_enclosing.ensures.idle c.in_ok-read_again.ensures.current) ∙ c.read_again.ensures.untyped) c.type_again.ensures.goes
+
+pub returns-clause-goes : goal.returns-clause-goes
+returns-clause-goes g c = some_then c.args.self.now c.type_again.new.self c.type_again.new.self (g.C.Counts.tallies c.args.counts.now) (g.C.Counts.tallies c.type_again.new.counts) (g.C.Counts.tallies c.typed_enclosing.new.counts)
+    (some_after c.args.self.now c.read_again.new.self c.type_again.new.self (g.C.Counts.tallies c.args.counts.now) (g.C.Counts.tallies c.plain_enclosing.new.counts) (g.C.Counts.tallies c.type_again.new.counts) c.read_again.ensures.rest.0 c.read_again.ensures.rest.3 (ap (λ (t : Tallies). t.typed) (c.plain_enclosing.ensures.idle c.in_ok-read_again.ensures.current) ∙ c.read_again.ensures.untyped) c.type_again.ensures.goes)
+    refl (ap (λ (t : Tallies). t.typed) (c.typed_enclosing.ensures.idle c.type_again.ensures.rest.1 c.in_ok-type_again.ensures.known))

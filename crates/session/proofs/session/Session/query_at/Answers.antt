@@ -24,7 +24,7 @@ pub returns-in-Ok-clause-works : goal.returns-in-Ok-clause-works
 returns-in-Ok-clause-works g c =
     let there = ap (λ (t : List ℕ). offset t c.args.at.line c.args.at.col) (sym c.text.ensures) ∙ c.in-Ok.ensures.value in
     subst (λ (o : Option ℕ). QueryWorks g.A.Analyser.opens (is_some o) (tries_texts c.args.query.now) c.line_of.result c.args.self.now c.ask_now-reply.new.self (g.C.Counts.tallies c.args.counts.now) (g.C.Counts.tallies c.ask_now-reply.new.counts)) (sym there)
-    (line_works c.ask_now-reply.result g.A.Analyser.opens (tries_texts c.args.query.now) c.line_of.result c.args.self.now c.ask_now-reply.new.self (g.C.Counts.tallies c.args.counts.now) (g.C.Counts.tallies c.ask_now-reply.new.counts) c.line_of.ensures.memory c.ask_now-reply.ensures.current c.ask_now-reply.ensures.settles c.ask_now-reply.ensures.reads c.ask_now-reply.ensures.fails c.ask_now-reply.ensures.types)
+    (line_works c.ask_now-reply.result g.A.Analyser.opens (tries_texts c.args.query.now) c.line_of.result c.args.self.now c.ask_now-reply.new.self (g.C.Counts.tallies c.args.counts.now) (g.C.Counts.tallies c.ask_now-reply.new.counts) c.line_of.ensures.memory c.ask_now-reply.ensures.current c.ask_now-reply.ensures.settles c.ask_now-reply.ensures.reads c.ask_now-reply.ensures.fails c.ask_now-reply.ensures.goes)
 
 pub returns-in-Err-clause-works : goal.returns-in-Err-clause-works
 returns-in-Err-clause-works g c =

@@ -1,5 +1,5 @@
-use Rattle.std.proofs.Common.{true}
-use Rattle.session.proofs.Carrying.{types_after_ok}
+use Rattle.std.proofs.Common.{refl, true}
+use Rattle.session.proofs.Carrying.{some_after, some_none, types_after_ok}
 use Rattle.session.proofs.Works.{reads_more, reads_typed, reads_typed_ok}
 use Rattle.session.proofs.session.Session.refresh.Goals as goal
 
@@ -17,3 +17,9 @@ returns-in_err-read_again-clause-fails g c = reads_more g.A.Analyser.opens true 
 pub returns-clause-types : goal.returns-clause-types
 returns-clause-types g c = types_after_ok c.type_again.result c.args.self.now c.read_again.new.self c.type_again.new.self (g.C.Counts.tallies c.args.counts.now) (g.C.Counts.tallies c.read_again.new.counts) (g.C.Counts.tallies c.type_again.new.counts)
     c.read_again.ensures.rest.0 c.read_again.ensures.rest.3 c.read_again.ensures.untyped c.type_again.ensures.types
+
+pub returns-in_err-read_again-clause-goes : goal.returns-in_err-read_again-clause-goes
+returns-in_err-read_again-clause-goes g c = some_none c.args.self.now c.read_again.new.self (g.C.Counts.tallies c.args.counts.now) (g.C.Counts.tallies c.read_again.new.counts) (g.C.Counts.tallies c.read_again.new.counts) c.read_again.ensures.rest.3 c.read_again.ensures.untyped refl
+
+pub returns-clause-goes : goal.returns-clause-goes
+returns-clause-goes g c = some_after c.args.self.now c.read_again.new.self c.type_again.new.self (g.C.Counts.tallies c.args.counts.now) (g.C.Counts.tallies c.read_again.new.counts) (g.C.Counts.tallies c.type_again.new.counts) c.read_again.ensures.rest.0 c.read_again.ensures.rest.3 c.read_again.ensures.untyped c.type_again.ensures.goes

@@ -8,7 +8,7 @@ use Rattle.text_reading.specs.Types.{has_begun, held, known, known_front, openin
 use Rattle.text_reading.proofs.Knowing.{items_parsed, known_again}
 use Rattle.text_reading.proofs.Parsing.{parsed_as}
 use Rattle.session.specs.Working.{Held}
-use Rattle.session.proofs.Carrying.{types_anew}
+use Rattle.session.proofs.Carrying.{some_anew, types_anew}
 use Rattle.session.proofs.Works.{opened, opened_in_vain}
 use Rattle.session.proofs.session.Session.type_again.Goals as goal
 
@@ -43,3 +43,15 @@ returns-clause-types g c =
     types_anew g.A.Analyser.items c.refresh.result c.args.self.now now c.self.inside.types c.refresh.new.self kept.text c.in-Some.parsed.now (g.C.Counts.tallies c.args.counts.now) (g.C.Counts.tallies c.refresh.new.counts)
     (ap (λ (h : Held). h.text) c.self.view_is) (ap (λ (h : Held). h.holds) c.self.view_is) refl (items_parsed kept.text c.in-Some.parsed.now parsed)
     c.refresh.ensures.known c.refresh.ensures.typed
+
+pub returns-clause-goes : goal.returns-clause-goes
+returns-clause-goes g c =
+    let kept = c.self.inside.kept in
+    let there = c.in-Some.ensures in
+    let parsed = parsed_as kept.text (toks_of kept.tokens) c.in-Some.parsed.now there.lexed there.tree there.faults in
+    let now : Held = record { text = kept.text; changed = kept.changed; begun = has_begun c.refresh.new.self; known = is_some (known g.A.Analyser.items c.refresh.new.self); holds = held g.A.Analyser.items c.refresh.new.self } in
+    let own = items_parsed kept.text c.in-Some.parsed.now parsed in
+    some_anew g.A.Analyser.items c.refresh.result c.args.self.now now c.self.inside.types c.refresh.new.self kept.text c.in-Some.parsed.now (g.C.Counts.tallies c.args.counts.now) (g.C.Counts.tallies c.refresh.new.counts)
+    (ap (λ (h : Held). h.text) c.self.view_is) (ap (λ (h : Held). h.holds) c.self.view_is) refl own
+    (types_anew g.A.Analyser.items c.refresh.result c.args.self.now now c.self.inside.types c.refresh.new.self kept.text c.in-Some.parsed.now (g.C.Counts.tallies c.args.counts.now) (g.C.Counts.tallies c.refresh.new.counts)
+    (ap (λ (h : Held). h.text) c.self.view_is) (ap (λ (h : Held). h.holds) c.self.view_is) refl own c.refresh.ensures.known c.refresh.ensures.typed) c.refresh.ensures.failed

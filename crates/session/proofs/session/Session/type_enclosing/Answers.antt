@@ -23,7 +23,7 @@ pub returns-in-Ok-clause-works : goal.returns-in-Ok-clause-works
 returns-in-Ok-clause-works g c =
     let there = ap (λ (t : List ℕ). offset t c.args.at.line c.args.at.col) (sym c.text.ensures) ∙ c.in-Ok.ensures.value in
     subst (λ (o : Option ℕ). QueryWorks g.A.Analyser.opens (is_some o) false c.line_of.result c.args.self.now c.enclosing_now-reply.new.self (g.C.Counts.tallies c.args.counts.now) (g.C.Counts.tallies c.enclosing_now-reply.new.counts)) (sym there)
-    (line_works c.enclosing_now-reply.result g.A.Analyser.opens false c.line_of.result c.args.self.now c.enclosing_now-reply.new.self (g.C.Counts.tallies c.args.counts.now) (g.C.Counts.tallies c.enclosing_now-reply.new.counts) c.line_of.ensures.memory c.enclosing_now-reply.ensures.current c.enclosing_now-reply.ensures.settles (on_ok_after _ _ c.enclosing_now-reply.result c.enclosing_now-reply.ensures.reads) (λ not. c.enclosing_now-reply.ensures.fails) (on_ok_after _ _ c.enclosing_now-reply.result c.enclosing_now-reply.ensures.types))
+    (line_works c.enclosing_now-reply.result g.A.Analyser.opens false c.line_of.result c.args.self.now c.enclosing_now-reply.new.self (g.C.Counts.tallies c.args.counts.now) (g.C.Counts.tallies c.enclosing_now-reply.new.counts) c.line_of.ensures.memory c.enclosing_now-reply.ensures.current c.enclosing_now-reply.ensures.settles (on_ok_after _ _ c.enclosing_now-reply.result c.enclosing_now-reply.ensures.reads) (λ not. c.enclosing_now-reply.ensures.fails) (λ not. c.enclosing_now-reply.ensures.goes))
 
 pub returns-in-Err-clause-works : goal.returns-in-Err-clause-works
 returns-in-Err-clause-works g c =

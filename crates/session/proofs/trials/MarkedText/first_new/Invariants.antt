@@ -6,10 +6,10 @@ use Rattle.text_terms.specs.Bytes.{str_bytes}
 use Rattle.service_model.specs.Trials.{IsLeast, moved_mark, new_starts}
 use Rattle.syntax_tree.specs.View.{place_of}
 use Rattle.session.specs.Trials.{mark_in}
-use Rattle.session.proofs.trials.TextTrial.first_new.Given as goal
+use Rattle.session.proofs.trials.MarkedText.first_new.Given as goal
 
 abbrev pub invariant-loop-mark : goal.invariant-loop-mark
-invariant-loop-mark g l =
+invariant-loop-mark l =
     let known = map mark_in (keys l.self.known) in
     let moved = moved_mark (place_of l.replacement.span) (length (str_bytes l.replacement.text)) in
     (r : Option ℕ) → IsLeast r (option_to_list l.first ++ new_starts known (map moved (map mark_in (drop l.mark-index l.marks)))) → IsLeast r (new_starts known (map moved (map mark_in l.marks)))
