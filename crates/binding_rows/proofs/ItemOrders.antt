@@ -306,6 +306,22 @@ items_as {E} {asks} {others} {a} {b} {G} {H} same p = record {
   first = λ k V x e h. subst (λ cs. Decides x p.judged (take k cs)) (same x) (p.first k V x e (subst (λ cs. AllHold x.kept (take k cs)) (sym (same x)) h));
 }
 
+-- What an item asks before the items inside it, and what these ask: it is carried, and where it is met, so is what the items inside ask.
+pub record Inside (E : Choice → Environment) (asks inner : Asks) (a d : Sight) (G H : Letters) (judged : List Judgement) : Type 0 where
+  pub carried : ItemsCarried E (λ x. asks x ++ inner x) a G d H
+  pub met : (x : Context) → AreMet x (asks x ++ inner x) carried.judged → AreMet x (inner x) judged
+
+-- Between them, and after them, nodes are recorded.
+pub items_inside : {E : Choice → Environment} {asks inner : Asks} {a b c d e : Sight} {G H : Letters} → IsSound a.nodes → ItemsCarried E asks a G b G → OnlyBetween b c → (p : ItemsCarried E inner c G d H) → OnlyBetween d e → Inside E asks inner a e G H p.judged
+unfolding items_trans items_then items_as items_between
+items_inside {E} {asks} {inner} {c = c} sound first only p last =
+    let sound_c = subst IsSound (sym only.nodes) (first.stays.sound sound) in
+    let noted = items_as (λ x. append-nil (inner x)) (items_trans (λ x. x.env) p (λ V x same loose agrees met. record { env = same; asks = refl }) sound_c (items_between {E = E} last)) in
+    record {
+      carried = items_trans (λ x. x.env) first (λ V x same loose agrees met. record { env = same; asks = refl }) sound (items_then only noted);
+      met = λ x m. record { kept = kept_left x.kept p.judged [] (kept_right x.kept first.judged (p.judged ++ []) m.kept); holds = hold_right x.kept (asks x) (inner x) m.holds };
+    }
+
 -- the next item starts among the same names
 unfoldable pub outside_between : {D : Declared} {a b : Sight} {G : Letters} {env : List Entry} {E : Choice → Environment} → OnlyBetween a b → Outside D a G env E → Outside D b G env E
 outside_between {D} {a} {b} {G} {env} {E} only at = record {
@@ -432,6 +448,21 @@ done_none {E = E} {G = G} seen only at constants noted = record {
   constants = constants;
 }
 
+-- Before the first of some items.
+unfoldable pub done_here : {D : Declared} {E : Choice → Environment} {a : Parts} {G : Letters} {env : List Entry} (seen : Seen) (at : Outside D (sight a) G env E) → HasConstants a → AreNoted at.older a → ItemsDone D E [] seen seen a a G env
+unfolding items_none items_between
+done_here {E = E} {G = G} seen at constants noted = record {
+  letters = G;
+  env = E;
+  carried = items_none seen;
+  owners = none_owned;
+  outside = at;
+  noted = noted;
+  behind = λ V c env loose agrees met. env;
+  named = λ V c env loose agrees met. refl;
+  constants = constants;
+}
+
 -- one item
 pub done_one : {D : Declared} {E : Choice → Environment} {m : Item} {seen names : Seen} {a b : Parts} {G : Letters} {after : List Entry} → ItemDone D E m seen names a b G after → ItemsDone D E (m ∷ []) seen (seen_too seen names) a b G after
 unfolding items_as
@@ -448,7 +479,7 @@ done_one {m = m} {seen = seen} done = record {
 }
 
 -- what some items and others ask
-asked_both : (c : Context) (seen : Seen) (ms ns : List Item) → items_ask c seen ms ++ items_ask (under (behind_items c ms) c) (seen_names c ms seen) ns ≡ items_ask c seen (ms ++ ns)
+pub asked_both : (c : Context) (seen : Seen) (ms ns : List Item) → items_ask c seen ms ++ items_ask (under (behind_items c ms) c) (seen_names c ms seen) ns ≡ items_ask c seen (ms ++ ns)
 asked_both c seen [] ns = refl
 asked_both c seen (m ∷ ms) ns =
     append_assoc (m.asks c seen) (items_ask (under (m.adds c ++ c.env) c) (seen_too seen (m.named c)) ms) (items_ask (under (behind_items c (m ∷ ms)) c) (seen_names c (m ∷ ms) seen) ns)
@@ -463,10 +494,32 @@ named_both c seen [] ns = refl
 named_both c seen (m ∷ ms) ns = named_both (under (m.adds c ++ c.env) c) (seen_too seen (m.named c)) ms ns
 
 -- The first items were met, and so are the others, in the context after them.
-pub record WasMet {D : Declared} {E : Choice → Environment} {ms : List Item} {seen names : Seen} {a b : Parts} {G : Letters} {mid : List Entry} (p : ItemsDone D E ms seen names a b G mid) (x : Context) (ns : List Item) : Type 0 where
-  pub env : behind_items x ms ≡ p.env x.chosen
-  pub named : seen_names x ms seen ≡ names
-  pub holds : AllHold x.kept (items_ask (under (behind_items x ms) x) names ns)
+record BothMet {D : Declared} {E : Choice → Environment} {ms ns : List Item} {seen names last : Seen} {a b c : Parts} {G : Letters} {mid after : List Entry} (p : ItemsDone D E ms seen names a b G mid) (q : ItemsDone D p.env ns names last b c p.letters after) (x : Context) : Type 0 where
+  env : behind_items x ms ≡ p.env x.chosen
+  named : seen_names x ms seen ≡ names
+  first : AreMet x (items_ask x seen ms) p.carried.judged
+  second : AreMet (under (behind_items x ms) x) (items_ask (under (behind_items x ms) x) names ns) q.carried.judged
+
+-- what is asked after items, where they are met
+asked_next : {D : Declared} {E : Choice → Environment} {ms : List Item} {seen names : Seen} {a b : Parts} {G : Letters} {mid : List Entry} (p : ItemsDone D E ms seen names a b G mid) (ns : List Item) →
+    InEachMet E (λ x. items_ask x seen ms) (sight b) p.letters p.carried.judged (IsNext p.env (λ x. items_ask (under (behind_items x ms) x) (seen_names x ms seen) ns) (λ x. items_ask x names ns) (λ x. behind_items x ms))
+asked_next {ms = ms} p ns V x env loose agrees met = record { env = p.behind V x env loose agrees met; asks = ap (λ zs. items_ask (under (behind_items x ms) x) zs ns) (p.named V x env loose agrees met) }
+
+both_met : {D : Declared} {E : Choice → Environment} {ms ns : List Item} {seen names last : Seen} {a b c : Parts} {G : Letters} {mid after : List Entry} (p : ItemsDone D E ms seen names a b G mid) (q : ItemsDone D p.env ns names last b c p.letters after) →
+    InEachMet E (λ x. items_ask x seen (ms ++ ns)) (sight c) q.letters (p.carried.judged ++ q.carried.judged) (BothMet p q)
+both_met {ms = ms} {ns = ns} {seen = seen} p q V x env loose agrees met =
+    let held = subst (AllHold x.kept) (sym (asked_both x seen ms ns)) met.holds in
+    let one : AreMet x (items_ask x seen ms) p.carried.judged = record { kept = kept_left x.kept p.carried.judged q.carried.judged met.kept; holds = hold_left x.kept (items_ask x seen ms) (items_ask (under (behind_items x ms) x) (seen_names x ms seen) ns) held } in
+    let n = asked_next p ns V x env (q.carried.stays.loose V loose) (agrees_earlier q.carried.stays agrees) one in
+    record {
+      env = n.env;
+      named = p.named V x env (q.carried.stays.loose V loose) (agrees_earlier q.carried.stays agrees) one;
+      first = one;
+      second = record {
+        kept = kept_right x.kept p.carried.judged q.carried.judged met.kept;
+        holds = subst (AllHold x.kept) n.asks (hold_right x.kept (items_ask x seen ms) (items_ask (under (behind_items x ms) x) (seen_names x ms seen) ns) held);
+      };
+    }
 
 -- what some items left and what others left was left by them together
 owned_both : {ms ns : List Item} {ls ks : List Left} → AreOwned ms ls → AreOwned ns ks → AreOwned (ms ++ ns) (ls ++ ks)
@@ -479,28 +532,39 @@ owned_both (leaves_one owner fixed p) q = leaves_one owner fixed (owned_both p q
 pub done_then : {D : Declared} {E : Choice → Environment} {ms ns : List Item} {seen names last : Seen} {a b c : Parts} {G : Letters} {mid after : List Entry} → IsSound a.store.nodes → (p : ItemsDone D E ms seen names a b G mid) → ItemsDone D p.env ns names last b c p.letters after →
     ItemsDone D E (ms ++ ns) seen last a c G after
 unfolding items_as items_trans
-done_then {E = E} {ms = ms} {ns = ns} {seen = seen} {names = names} {a = a} {b = b} {c = c} {G = G} sound p q = record {
+done_then {E = E} {ms = ms} {ns = ns} {seen = seen} {names = names} sound p q = record {
   letters = q.letters;
   env = q.env;
-  carried = items_as (λ x. asked_both x seen ms ns) (items_trans (λ x. behind_items x ms) p.carried comes sound q.carried);
+  carried = items_as (λ x. asked_both x seen ms ns) (items_trans (λ x. behind_items x ms) p.carried (asked_next p ns) sound q.carried);
   owners = owned_both p.owners q.owners;
   outside = q.outside;
   noted = q.noted;
-  behind = λ V x env loose agrees met. sym (behind_both x ms ns) ∙ (let n = before V x env loose agrees met in q.behind V (under (behind_items x ms) x) n.env loose agrees (record { kept = kept_right x.kept p.carried.judged q.carried.judged met.kept; holds = n.holds }));
-  named = λ V x env loose agrees met. sym (named_both x seen ms ns) ∙ (let n = before V x env loose agrees met in ap (seen_names (under (behind_items x ms) x) ns) n.named ∙ q.named V (under (behind_items x ms) x) n.env loose agrees (record { kept = kept_right x.kept p.carried.judged q.carried.judged met.kept; holds = n.holds }));
+  behind = λ V x env loose agrees met. sym (behind_both x ms ns) ∙ (let n = both_met p q V x env loose agrees met in q.behind V (under (behind_items x ms) x) n.env loose agrees n.second);
+  named = λ V x env loose agrees met. sym (named_both x seen ms ns) ∙ (let n = both_met p q V x env loose agrees met in ap (seen_names (under (behind_items x ms) x) ns) n.named ∙ q.named V (under (behind_items x ms) x) n.env loose agrees n.second);
   constants = q.constants;
 }
-  where
-    comes : InEachMet E (λ x. items_ask x seen ms) (sight b) p.letters p.carried.judged (IsNext p.env (λ x. items_ask (under (behind_items x ms) x) (seen_names x ms seen) ns) (λ x. items_ask x names ns) (λ x. behind_items x ms))
-    comes V x env loose agrees met = record { env = p.behind V x env loose agrees met; asks = ap (λ zs. items_ask (under (behind_items x ms) x) zs ns) (p.named V x env loose agrees met) }
 
-    before : (V : Types) (x : Context) → x.env ≡ E x.chosen → Loose c.store.nodes V → AgreesOutside (sight c) q.letters V x.chosen → AreMet x (items_ask x seen (ms ++ ns)) (p.carried.judged ++ q.carried.judged) → WasMet p x ns
-    before V x env loose agrees met =
-        let held = subst (AllHold x.kept) (sym (asked_both x seen ms ns)) met.holds in
-        let one : AreMet x (items_ask x seen ms) p.carried.judged = record { kept = kept_left x.kept p.carried.judged q.carried.judged met.kept; holds = hold_left x.kept (items_ask x seen ms) (items_ask (under (behind_items x ms) x) (seen_names x ms seen) ns) held } in
-        let n = comes V x env (q.carried.stays.loose V loose) (agrees_earlier q.carried.stays agrees) one in
-        record {
-          env = n.env;
-          named = p.named V x env (q.carried.stays.loose V loose) (agrees_earlier q.carried.stays agrees) one;
-          holds = subst (AllHold x.kept) n.asks (hold_right x.kept (items_ask x seen ms) (items_ask (under (behind_items x ms) x) (seen_names x ms seen) ns) held);
-        }
+-- What holds of the names after the last of them holds of the names after all.
+pub then_outside : {D : Declared} {E : Choice → Environment} {ms ns : List Item} {seen names last : Seen} {a b c : Parts} {G : Letters} {mid after : List Entry} (sound : IsSound a.store.nodes) (p : ItemsDone D E ms seen names a b G mid) (q : ItemsDone D p.env ns names last b c p.letters after)
+    (P : (H : Letters) (E' : Choice → Environment) → Outside D (sight c) H after E' → Type 0) → P q.letters q.env q.outside → P (done_then sound p q).letters (done_then sound p q).env (done_then sound p q).outside
+unfolding done_then
+then_outside sound p q P h = h
+
+-- What holds in each context in which the first are met, and in the one after them in which the others are, holds where all are.
+pub then_each : {D : Declared} {E : Choice → Environment} {ms ns : List Item} {seen names last : Seen} {a b c : Parts} {G : Letters} {mid after : List Entry} (sound : IsSound a.store.nodes) (p : ItemsDone D E ms seen names a b G mid) (q : ItemsDone D p.env ns names last b c p.letters after)
+    {P Q R : Context → Type 0} → ((x : Context) → P x → Q (under (behind_items x ms) x) → R x) → InEachMet E (λ x. items_ask x seen ms) (sight b) p.letters p.carried.judged P → InEachMet p.env (λ x. items_ask x names ns) (sight c) q.letters q.carried.judged Q →
+    InEachMet E (λ x. items_ask x seen (ms ++ ns)) (sight c) (done_then sound p q).letters (done_then sound p q).carried.judged R
+unfolding items_as items_trans done_then
+then_each {ms = ms} sound p q {P} {Q} {R} gives one two V x env loose agrees met =
+    let n = both_met p q V x env loose agrees met in
+    gives x (one V x env (q.carried.stays.loose V loose) (agrees_earlier q.carried.stays agrees) n.first) (two V (under (behind_items x ms) x) n.env loose agrees n.second)
+
+-- The same of one item.
+pub one_outside : {D : Declared} {E : Choice → Environment} {m : Item} {seen names : Seen} {a b : Parts} {G : Letters} {after : List Entry} (done : ItemDone D E m seen names a b G after) (P : (H : Letters) (E' : Choice → Environment) → Outside D (sight b) H after E' → Type 0) → P done.letters done.env done.outside → P (done_one done).letters (done_one done).env (done_one done).outside
+unfolding done_one
+one_outside done P h = h
+
+pub one_each : {D : Declared} {E : Choice → Environment} {m : Item} {seen names : Seen} {a b : Parts} {G : Letters} {after : List Entry} (done : ItemDone D E m seen names a b G after) {P : Context → Type 0} → InEachMet E (λ x. m.asks x seen) (sight b) done.letters done.carried.judged P →
+    InEachMet E (λ x. items_ask x seen (m ∷ [])) (sight b) (done_one done).letters (done_one done).carried.judged P
+unfolding items_as done_one
+one_each {m = m} {seen = seen} done each V x env loose agrees met = each V x env loose agrees (record { kept = met.kept; holds = hold_left x.kept (m.asks x seen) [] met.holds })

@@ -5,7 +5,7 @@ use Rattle.tree_model.specs.Rows.{let_row, exception_row, break_row, con_row}
 use Rattle.tree_model.specs.Trees.{Tree, Part, taken, inner, missing, yield_of}
 use Rattle.signature_model.specs.Declarations.{Name}
 use Rattle.signature_model.specs.Entries.{Environment}
-use Rattle.signature_model.specs.Signatures.{Components, Component, Exception, TypeName}
+use Rattle.signature_model.specs.Signatures.{Components, Done, Component, Value, TypeName, Exception, Module, ModuleType}
 use Rattle.typing_model.specs.Contexts.{Choice, Context, tell}
 use Rattle.typing_model.specs.Parts.{Item, Seen, no_names}
 use Rattle.typing_model.specs.Declarations.{constructor_row}
@@ -67,18 +67,21 @@ recorded_idle n = let i = no_item n in record i { asks = λ c seen. tell n c ++ 
 abbrev pub recorded_exception : (i n k : ℕ) → Tree → Item
 recorded_exception i n k t = let m = exception_item (number_of i n) (Some (constructor_row (number_of i k) (parts_of i k t))) in record m { asks = λ c seen. tell (number_of i n) c ++ m.asks c seen }
 
--- the first component of an item is an exception or a type
+-- the first component of an item is no value, or a value with no variable but those that its scheme binds, as one that is specified
 abbrev pub AreDeclared : Components → Type 0
-AreDeclared (Component n at (Exception o) cs) = Unit {0}
+AreDeclared Done = ⊥
+AreDeclared (Component n at (Value s) cs) = (v : ℕ) → s.bound v ≡ true
 AreDeclared (Component n at (TypeName d) cs) = Unit {0}
-AreDeclared _ = ⊥
+AreDeclared (Component n at (Exception o) cs) = Unit {0}
+AreDeclared (Component n at (Module s) cs) = Unit {0}
+AreDeclared (Component n at (ModuleType made s) cs) = Unit {0}
 
 -- What was left was left by some of the items, in order, each with the type variables of its own node, and without types of declarations; or by one that declares
--- something.
+-- or specifies something, which may leave the types of several declarations.
 pub data AreOwned : List Item → List Left → Type 0 where
   none_owned : AreOwned [] []
   leaves_none : {m : Item} {ms : List Item} {ls : List Left} → AreOwned ms ls → AreOwned (m ∷ ms) ls
-  leaves_types : {m : Item} {ms : List Item} {l : Left} {ls : List Left} → ((c : Context) → AreDeclared (m.components c)) → AreOwned ms ls → AreOwned (m ∷ ms) (l ∷ ls)
+  leaves_types : {m : Item} {ms : List Item} {l : Left} {ls : List Left} → ((c : Context) → AreDeclared (m.components c)) → AreOwned (m ∷ ms) ls → AreOwned (m ∷ ms) (l ∷ ls)
   leaves_one : {m : Item} {ms : List Item} {l : Left} {ls : List Left} → l.owner ≡ m.node → l.fixed ≡ [] → AreOwned ms ls → AreOwned (m ∷ ms) (l ∷ ls)
 
 -- What an item gives where the names `seen` stand before it in its structure: what it asks is carried, and the next item starts among its names. In each context

@@ -41,7 +41,7 @@ use Rattle.binding_rows.specs.ItemRows.{recorded_exception, AreDeclared, ItemDon
 use Rattle.binding_rows.specs.Outside.{Outside}
 use Rattle.binding_rows.proofs.ItemKinds.{noted_between}
 use Rattle.binding_rows.proofs.ItemOrders.{items_treated, treated_owned, outside_between, done_between}
-use Rattle.first_laws.specs.Declaring.{OnlyTypes, StartsAmong}
+use Rattle.first_laws.specs.Declaring.{OnlyTypes, StartsAfter}
 use Rattle.first_laws.proofs.Exceptions.{outside_exception, exception_types}
 use Rattle.first_laws.proofs.SettledItems.{fixed_met, items_settled, settled_owned}
 use Rattle.decl_typing.specs.declared.decls.Declared.{Declared}
@@ -78,7 +78,7 @@ module _ (b d : Parts) {G : Letters} {env : List Entry} {E : Choice → Environm
   on_types : OnlyTypes (sight b) (sight d)
   on_types = exception_types (sight d) at (own_types b at constants) (own_at b at constants) (exn_node b at constants) (exn_inside b at constants) (exn_closed b at constants) refl z.to.on z.settled.type z.to.denotes z.closes z.plain z.sound z.level (record { types = untyped.types; noted = still_noted goes })
 
-  next_starts : StartsAmong (sight d) G (y ∷ env) (λ ch. named_entry ∷ E ch) z.numbers
+  next_starts : StartsAfter at (sight d) G (y ∷ []) (named_entry ∷ []) z.numbers
   next_starts = outside_exception (sight d) at (own_types b at constants) (own_at b at constants) (exn_node b at constants) (exn_inside b at constants) (exn_closed b at constants) refl z.to.on z.settled.type z.to.denotes z.closes z.plain z.sound z.level (record { types = untyped.types; noted = still_noted goes })
       y named_entry one.entry.cell one.entry.what one.entry.root takes name_is (sym (ap kind_of one.entry.kind)) refl
 

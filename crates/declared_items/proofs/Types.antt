@@ -29,7 +29,7 @@ use Rattle.typing_rows.proofs.Noted.{still_noted}
 use Rattle.declared_rows.specs.Assignments.{Assignment, Denotes}
 use Rattle.binding_rows.specs.Outside.{Outside}
 use Rattle.first_laws.specs.Built.{HasPath}
-use Rattle.first_laws.specs.Declaring.{StartsAmong}
+use Rattle.first_laws.specs.Declaring.{StartsAfter}
 use Rattle.first_laws.proofs.Types.{own_type_as, constructors_as, labels_as, outside_type}
 use Rattle.first_laws.proofs.Whole.{DenotesSome, names, whole_root}
 use Rattle.decl_groups.specs.declared.groups.ConstructorPart.{ConstructorPart}
@@ -120,7 +120,7 @@ module _ (b d : Parts) {G : Letters} {env : List Entry} {E : Choice → Environm
 
   -- And the next item starts among the names of before and its entries, whatever these are.
   pub type_starts : (x : Declaration) → x.root.0 ≡ root → x.shape ≡ z → x.arity ≡ arity → HasPath x.origin path → HasPath x.defines path → (more : List Entry) (fs : Environment) → EnvAs (λ r sc. ⊥) (λ y e. (y ≡ x) × (e ≡ rule)) (λ y o. ⊥) more fs →
-      StartsAmong (sight d) G (more ++ env) (λ ch. fs ++ E ch) declared.numbers
+      StartsAfter at (sight d) G more fs declared.numbers
   type_starts x is told count origin defines more fs entries =
       outside_type (sight d) at (own_types b at constants) (own_at b at constants) (exn_node b at constants) (exn_inside b at constants) (exn_closed b at constants) refl declared.on roots denote declared.closes declared.plain declared.sound declared.level (record { types = untyped.types; noted = still_noted goes })
       x rule (declaration_as x is told count origin defines) more fs entries

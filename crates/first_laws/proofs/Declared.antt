@@ -26,12 +26,12 @@ use Rattle.typing_conditions.proofs.Standing.{more_in, stands_fits_on, stands_re
 use Rattle.typing_conditions.proofs.DeclaredLater.{declared_after, exception_after}
 use Rattle.typing_steps.specs.Typing.{as_declared}
 use Rattle.binding_rows.specs.Outside.{AgreesOutside, Outside}
-use Rattle.first_laws.specs.Declaring.{OnlyTypes, AreBoundIn, SpecifiedAs, Declares}
+use Rattle.first_laws.specs.Declaring.{OnlyTypes, AreBoundIn, SpecifiedAs, Declares, Grows}
 use Rattle.first_laws.proofs.Renamed.{declared_renamed, exception_renamed}
 use Rattle.first_laws.proofs.Specified.{specified_fits, specified_reads}
 
 -- what stands in two lists of nodes together stands in one of them
-any_cases : (u : ℕ) (J : Types) (rs ss : List ℕ) → stands_in_any J (rs ++ ss) u ≡ true → (stands_in_any J rs u ≡ true) ⊎ (stands_in_any J ss u ≡ true)
+pub any_cases : (u : ℕ) (J : Types) (rs ss : List ℕ) → stands_in_any J (rs ++ ss) u ≡ true → (stands_in_any J rs u ≡ true) ⊎ (stands_in_any J ss u ≡ true)
 any_cases u J [] ss h = inr h
 any_cases u J (r ∷ rs) ss h = elim (or_cases (occurs u (J r)) (stands_in_any J (rs ++ ss) u) h) [
   | inl i ↦ inl (or_left (occurs u (J r)) (stands_in_any J rs u) i)
@@ -39,12 +39,12 @@ any_cases u J (r ∷ rs) ss h = elim (or_cases (occurs u (J r)) (stands_in_any J
 ]
 
 -- a node of the second of two lists is in both together
-in_second : (rs ss : List ℕ) (r : ℕ) → IsIn ss r → IsIn (rs ++ ss) r
+pub in_second : (rs ss : List ℕ) (r : ℕ) → IsIn ss r → IsIn (rs ++ ss) r
 in_second [] ss r i = i
 in_second (x ∷ rs) ss r i = more_in (rs ++ ss) x r (in_second rs ss r i)
 
 -- what holds of the nodes of two lists holds of those of both together
-each_of_two : (rs ss : List ℕ) (P : ℕ → Type 0) → ((k r : ℕ) → slice_get rs k ≡ Some r → P r) → ((k r : ℕ) → slice_get ss k ≡ Some r → P r) → (k r : ℕ) → slice_get (rs ++ ss) k ≡ Some r → P r
+pub each_of_two : (rs ss : List ℕ) (P : ℕ → Type 0) → ((k r : ℕ) → slice_get rs k ≡ Some r → P r) → ((k r : ℕ) → slice_get ss k ≡ Some r → P r) → (k r : ℕ) → slice_get (rs ++ ss) k ≡ Some r → P r
 each_of_two [] ss P p q k r e = q k r e
 each_of_two (x ∷ rs) ss P p q zero r e = p zero r e
 each_of_two (x ∷ rs) ss P p q (suc k) r e = each_of_two rs ss P (λ j m f. p (suc j) m f) q k r e
@@ -138,3 +138,8 @@ outside_declared {a} {b} {G} {env} {more} {E} {F} at on new = record {
 pub declared_older : {a b : Sight} {G : Letters} {env more : List Entry} {E : Choice → Environment} {F : Environment} (at : Outside as_declared a G env E) (on : OnlyTypes a b) (new : Declares a b at.roots at.names more F) → (outside_declared at on new).older ≡ new.older
 unfolding outside_declared
 declared_older at on new = refl
+
+-- so names were added, with their roots
+pub declared_grows : {a b : Sight} {G : Letters} {env more : List Entry} {E : Choice → Environment} {F : Environment} (at : Outside as_declared a G env E) (on : OnlyTypes a b) (new : Declares a b at.roots at.names more F) → Grows at (outside_declared at on new) more F
+unfolding outside_declared
+declared_grows at on new = record { on = on; new_roots = new.new_roots; roots = refl; same = new.same; are_bound = new.are_bound; entries = new.entries }

@@ -23,7 +23,7 @@ use Rattle.typing_steps.specs.Typing.{as_declared}
 use Rattle.binding_rows.specs.Outside.{Outside}
 use Rattle.declared_rows.specs.Assignments.{Assigned, Denotes}
 use Rattle.declared_rows.proofs.Starting.{declaring_frame}
-use Rattle.first_laws.specs.Declaring.{NoneTyped, OnlyTypes, SpecifiedAs, StartsAmong}
+use Rattle.first_laws.specs.Declaring.{NoneTyped, OnlyTypes, SpecifiedAs, StartsAfter}
 use Rattle.first_laws.proofs.Whole.{one_denotes, names, whole_types, whole_root, outside_whole}
 
 -- An exception whose root r denotes the type of its constructor, which is that of exceptions or an arrow to it.
@@ -42,7 +42,7 @@ module _ {a b : Sight} (c : Sight) {G : Letters} {env : List Entry} {E : Choice 
 
   -- The next item starts among the names of before and that of the exception.
   pub outside_exception : (e : Entry) (f : Named) (cell : Rc Constructor Global) → e.what ≡ what.Exception cell → cell.value.root.0 ≡ r → cell.value.has_argument ≡ is_some argument → f.name ≡ str_bytes e.name → kind_named f.stands_for ≡ kind_of e.kind → f.stands_for ≡ an_exception argument →
-      StartsAmong c G (e ∷ env) (λ ch. f ∷ E ch) U
+      StartsAfter at c G (e ∷ []) (f ∷ []) U
   outside_exception e f cell is root takes name kind stands =
       outside_whole c at I own n n_inside none from x (r ∷ []) (one_denotes x (building exn_type argument) denotes) closes plain sound level types (e ∷ []) (f ∷ [])
       (newest (entry_as name kind (subst (WhatAs (SpecifiedAs c.nodes (r ∷ at.roots) N) (DeclaredAs c.nodes (r ∷ at.roots) N) (ExceptionAs c.nodes (r ∷ at.roots) N) e.what) (sym stands)

@@ -5,6 +5,7 @@ pub mod Grown
 pub mod Roots
 pub mod Built
 pub mod First
+pub mod Within
 pub mod Whole
 pub mod Exceptions
 pub mod Types

@@ -33,7 +33,7 @@ use Rattle.typing_steps.specs.Typing.{as_declared}
 use Rattle.typing_rows.specs.Around.{TypeAs, TypesAs}
 use Rattle.typing_rows.specs.Settled.{Fixes, AreFixed, IsBehind, among, Settled}
 use Rattle.typing_rows.proofs.Surrounding.{known_by, declared_known}
-use Rattle.binding_rows.specs.ItemRows.{AreDeclared, AreOwned, none_owned, leaves_types}
+use Rattle.binding_rows.specs.ItemRows.{AreDeclared, AreOwned, none_owned, leaves_none, leaves_types}
 use Rattle.binding_rows.specs.Outside.{AgreesOutside, InEachMet, Outside, Left, EntersItems, ContinuesItems, StaysOutside, ItemsCarried}
 use Rattle.first_laws.specs.Declaring.{OnlyTypes}
 use Rattle.first_laws.proofs.Declared.{agrees_before}
@@ -124,4 +124,4 @@ module _ {a b : Sight} {G : Letters} {env : List Entry} {E : Choice → Environm
     -- it is an item's that declares something
     pub settled_owned : (m : Item) → ((c : Context) → AreDeclared (m.components c)) → AreOwned (m ∷ []) items_settled.left
     unfolding items_settled
-    settled_owned m declared = leaves_types declared none_owned
+    settled_owned m declared = leaves_types declared (leaves_none none_owned)

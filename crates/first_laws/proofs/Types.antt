@@ -27,7 +27,7 @@ use Rattle.typing_steps.specs.Typing.{as_declared}
 use Rattle.binding_rows.specs.Outside.{Outside}
 use Rattle.declared_rows.specs.Assignments.{Assignment, Assigned, Denotes}
 use Rattle.declared_rows.proofs.Starting.{declaring_frame}
-use Rattle.first_laws.specs.Declaring.{NoneTyped, SpecifiedAs, StartsAmong}
+use Rattle.first_laws.specs.Declaring.{NoneTyped, SpecifiedAs, StartsAfter}
 use Rattle.first_laws.specs.Built.{HasPath}
 use Rattle.first_laws.proofs.Built.{origin_is}
 use Rattle.first_laws.proofs.Whole.{DenotesSome, names, whole_root, outside_whole}
@@ -74,7 +74,7 @@ module _ {a b : Sight} (c : Sight) {G : Letters} {env : List Entry} {E : Choice 
   labels_as {owner} h = one_by_one {P = LabelDenotes x.after R owner} {Q = LabelAs c.nodes (R ++ at.roots) N arity owner} (λ y k p. record { name = p.name; mutable = p.mutable; root = whole_root c at I own n n_inside none from x R denote closes plain sound level types p.root p.denotes }) h
 
   -- The next item starts among the names of before, and those of this one declaration.
-  pub outside_type : (d : Declaration) (e : rules.Declaration) → DeclaredAs c.nodes (R ++ at.roots) N d e → (more : List Entry) (fs : Environment) → EnvAs (λ r sc. ⊥) (λ d' e'. (d' ≡ d) × (e' ≡ e)) (λ y o. ⊥) more fs → StartsAmong c G (more ++ env) (λ ch. fs ++ E ch) U
+  pub outside_type : (d : Declaration) (e : rules.Declaration) → DeclaredAs c.nodes (R ++ at.roots) N d e → (more : List Entry) (fs : Environment) → EnvAs (λ r sc. ⊥) (λ d' e'. (d' ≡ d) × (e' ≡ e)) (λ y o. ⊥) more fs → StartsAfter at c G more fs U
   outside_type d e alike more fs entries = outside_whole c at I own n n_inside none from x R denote closes plain sound level types more fs
       (env_map (λ (r : ℕ) (sc : Scheme). ⊥) (SpecifiedAs c.nodes (R ++ at.roots) N) (λ (d' : Declaration) (e' : rules.Declaration). (d' ≡ d) × (e' ≡ e)) (DeclaredAs c.nodes (R ++ at.roots) N) (λ (y : Constructor) (o : Option Typ). ⊥) (ExceptionAs c.nodes (R ++ at.roots) N)
       (λ r sc h. absurd h) (λ d' e' h. subst (λ q. DeclaredAs c.nodes (R ++ at.roots) N q e') (sym h.0) (subst (DeclaredAs c.nodes (R ++ at.roots) N d) (sym h.1) alike)) (λ y o h. absurd h) entries)

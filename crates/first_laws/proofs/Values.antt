@@ -21,7 +21,7 @@ use Rattle.typing_steps.specs.Typing.{as_declared}
 use Rattle.binding_rows.specs.Outside.{Outside}
 use Rattle.declared_rows.specs.Assignments.{Assigned, Denotes}
 use Rattle.declared_rows.proofs.Starting.{declaring_frame}
-use Rattle.first_laws.specs.Declaring.{NoneTyped, OnlyTypes, SpecifiedAs, StartsAmong}
+use Rattle.first_laws.specs.Declaring.{NoneTyped, OnlyTypes, SpecifiedAs, StartsAfter}
 use Rattle.first_laws.proofs.Whole.{one_denotes, names, whole_types, whole_root, outside_whole}
 
 -- A value whose root r denotes its type, in which no unknown type stands.
@@ -39,7 +39,7 @@ module _ {a b : Sight} (c : Sight) {G : Letters} {env : List Entry} {E : Choice 
   root_as = whole_root c at I own n n_inside none from x (r ∷ []) (one_denotes x t denotes) closes plain sound level types (zero, refl) denotes
 
   -- The next item starts among the names of before and that of the value.
-  pub outside_value : (e : Entry) (f : Named) (cell : NodeRef) → e.what ≡ what.Scheme cell → cell.0 ≡ r → f.name ≡ str_bytes e.name → kind_named f.stands_for ≡ kind_of e.kind → f.stands_for ≡ a_value (all_bound t) → StartsAmong c G (e ∷ env) (λ ch. f ∷ E ch) U
+  pub outside_value : (e : Entry) (f : Named) (cell : NodeRef) → e.what ≡ what.Scheme cell → cell.0 ≡ r → f.name ≡ str_bytes e.name → kind_named f.stands_for ≡ kind_of e.kind → f.stands_for ≡ a_value (all_bound t) → StartsAfter at c G (e ∷ []) (f ∷ []) U
   outside_value e f cell is root name kind stands =
       outside_whole c at I own n n_inside none from x (r ∷ []) (one_denotes x t denotes) closes plain sound level types (e ∷ []) (f ∷ [])
       (newest (entry_as name kind (subst (WhatAs (SpecifiedAs c.nodes (r ∷ at.roots) N) (DeclaredAs c.nodes (r ∷ at.roots) N) (ExceptionAs c.nodes (r ∷ at.roots) N) e.what) (sym stands)

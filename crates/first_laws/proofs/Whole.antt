@@ -27,8 +27,8 @@ use Rattle.declared_rows.specs.Assignments.{IsAssigned, a_parameter, an_unknown,
 use Rattle.declared_rows.proofs.Made.{last_path}
 use Rattle.declared_rows.proofs.Closed.{root_closed, refines_declared, reads_declared}
 use Rattle.declared_rows.proofs.Starting.{declaring_frame, declaring}
-use Rattle.first_laws.specs.Declaring.{NoneTyped, OnlyTypes, AreBoundIn, SpecifiedAs, Declares, StartsAmong}
-use Rattle.first_laws.proofs.Declared.{outside_declared, declared_older}
+use Rattle.first_laws.specs.Declaring.{NoneTyped, OnlyTypes, AreBoundIn, SpecifiedAs, Declares, StartsAfter}
+use Rattle.first_laws.proofs.Declared.{outside_declared, declared_older, declared_grows}
 
 -- the names of the variables of a state, and further ones for those that are made
 abbrev pub further : ℕ → Types → Types → Types
@@ -187,7 +187,7 @@ module _ {a b : Sight} (c : Sight) {G : Letters} {env : List Entry} {E : Choice 
   }
 
   -- The next item starts among the names of before and those of the declaration, which stand for entries of the definitions.
-  pub outside_whole : (more : List Entry) (fs : Environment) → EnvAs (SpecifiedAs c.nodes (R ++ at.roots) names) (DeclaredAs c.nodes (R ++ at.roots) names) (ExceptionAs c.nodes (R ++ at.roots) names) more fs → StartsAmong c G (more ++ env) (λ ch. fs ++ E ch) U
+  pub outside_whole : (more : List Entry) (fs : Environment) → EnvAs (SpecifiedAs c.nodes (R ++ at.roots) names) (DeclaredAs c.nodes (R ++ at.roots) names) (ExceptionAs c.nodes (R ++ at.roots) names) more fs → StartsAfter at c G more fs U
   outside_whole more fs entries =
       let declares : Declares a c at.roots at.names more fs = record {
         new_roots = R;
@@ -199,4 +199,4 @@ module _ {a b : Sight} (c : Sight) {G : Letters} {env : List Entry} {E : Choice 
         are_bound = whole_bound;
         entries = entries;
       } in
-      record { outside = outside_declared at whole_types declares; older = declared_older at whole_types declares }
+      record { outside = outside_declared at whole_types declares; older = declared_older at whole_types declares; grows = declared_grows at whole_types declares }

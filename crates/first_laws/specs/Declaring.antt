@@ -59,3 +59,18 @@ pub record Declares (a b : Sight) (roots : List ℕ) (names : Types) (more : Lis
 pub record StartsAmong (c : Sight) (G : Letters) (env : List Entry) (E : Choice → Environment) (U : List ℕ) : Type 0 where
   pub outside : Outside as_declared c G env E
   pub older : outside.older ≡ U
+
+-- From one state between items to a later one names were added that are declared: the entries `more`, which stand for F. There are further roots, in which all variables are bound, and the variables of before have the names that they had.
+pub record Grows {a b : Sight} {G H : Letters} {env after : List Entry} {E E' : Choice → Environment} (at : Outside as_declared a G env E) (to : Outside as_declared b H after E') (more : List Entry) (F : Environment) : Type 0 where
+  pub on : OnlyTypes a b
+  pub new_roots : List ℕ
+  pub roots : to.roots ≡ new_roots ++ at.roots
+  pub same : (v : ℕ) → v < length a.nodes → to.names v ≡ at.names v
+  pub are_bound : AreBoundIn b.nodes new_roots
+  pub entries : EnvAs (SpecifiedAs b.nodes to.roots to.names) (DeclaredAs b.nodes to.roots to.names) (ExceptionAs b.nodes to.roots to.names) more F
+
+-- The next item starts among the names of before and these, which stand for F, where the unknown types among them are those of the type expressions U.
+pub record StartsAfter {a : Sight} {G : Letters} {env : List Entry} {E : Choice → Environment} (at : Outside as_declared a G env E) (c : Sight) (H : Letters) (more : List Entry) (F : Environment) (U : List ℕ) : Type 0 where
+  pub outside : Outside as_declared c H (more ++ env) (λ ch. F ++ E ch)
+  pub older : outside.older ≡ U
+  pub grows : Grows at outside more F

@@ -3,10 +3,8 @@ use Rattle.std.proofs.Common.{inl, inr, ◌≡◌, ◌∙◌, ℕ, ◌+◌, ◌<
 use Rattle.std.specs.Prelude.{Result, Ok, Err, OnOk}
 use Rattle.std.proofs.lemmas.List.{drop_more, drop_all}
 use denote.Ref.{Bor}
-use Rattle.tree_model.specs.Trees.{inner}
 use Rattle.signature_model.specs.Declarations.{Name}
-use Rattle.typing_model.specs.Parts.{Seen, no_names}
-use Rattle.syntax_tree.specs.declared.rows.RowName.{RowName}
+use Rattle.typing_model.specs.Parts.{no_names}
 use Rattle.syntax_tree.specs.declared.rows.RowName.TheVariants as name
 use Rattle.syntax_tree.specs.declared.tree.Node.{Node, out-Node}
 use Rattle.syntax_tree.specs.View.{node_view, place_of}
@@ -25,12 +23,11 @@ use Rattle.core_typing.specs.Items.{IsCarriedPart, IsCarriedItemOperand, IsItemN
 use Rattle.core_typing.proofs.ItemLaws.{done_none, done_then, let_done, idle_given, exception_done, noted_between, noted_on}
 use Rattle.module_steps.specs.declared.scenes.Scene.{Scene}
 use Rattle.module_steps.specs.Scenes.{has_name, SameNames}
-use Rattle.module_typing.proofs.NodeRows.{row_there, only_let, only_break, only_exception, break_there}
-use Rattle.module_typing.specs.Items.{HasSeen, IsGiven, GivesItem, GivesItems, NamesNone, GivesFirst, GivesItemsFirst}
-
--- a scene in which the same names stand has them
-seen_same : {s s' : Scene} {seen : Seen} → SameNames s s' → HasSeen s seen → HasSeen s' seen
-seen_same same h = record { types = λ n. same kind.TypeName n ∙ h.types n; modules = λ n. same kind.Module n ∙ h.modules n; module_types = λ n. same kind.ModuleType n ∙ h.module_types n }
+use Rattle.signature_typing.specs.Specifications.{IsGiven}
+use Rattle.signature_typing.proofs.NodeRows.{row_there, only_exception}
+use Rattle.signature_typing.proofs.SpecificationSteps.{seen_same, there}
+use Rattle.module_typing.proofs.NodeRows.{only_let, only_break, break_there}
+use Rattle.module_typing.specs.Items.{GivesItem, GivesItems, NamesNone, GivesFirst, GivesItemsFirst}
 
 -- what is missing is noted, and nothing else is done
 pub missing_given : {A F : Type 0} (r : Result A F) (a b : Parts) (s : Scene) (x : Operand) → x.node ≡ None → OnOk r (NotedNameless a b x.number s.env None) → OnlyIndex a b → Goes a b → OnOk r (GivesItem a b s s (operand_view x))
@@ -41,10 +38,6 @@ missing_given (Ok v) a b s x none noted rest goes = λ G E seen carried aloud at
       done = done_none seen (noted_between a b x.number s.env noted rest) at (constants_kept a b goes constants) (noted_on at.older older goes);
       standing = standing;
     })
-
--- an item that is there, as an operand
-there : (x : Operand) (nd : Bor Node) → x.node ≡ Some nd → part_of x.node x.span ≡ inner (node_view nd.now)
-there x nd e = ap (λ o. part_of o x.span) e
 
 -- `;;` is noted
 pub break_given : {A F : Type 0} (r : Result A F) (a b : Parts) (s : Scene) (x : Operand) (nd : Bor Node) → x.node ≡ Some nd → (out-Node nd.now).row ≡ name.Break → OnOk r (NotedNameless a b x.number s.env None) → OnlyIndex a b → Goes a b → OnOk r (GivesItem a b s s (operand_view x))
@@ -114,10 +107,6 @@ other_names s s' x nd some no_let no_break no_exception none = absurd (elim (sub
     | inr thrown ↦ no_exception (only_exception (out-Node nd.now).row (sym (row_there nd.now) ∙ thrown))
   ]
 ])
-
--- no row is two
-pub not_of : (r q p : RowName) → r ≡ q → (q ≡ p → ⊥) → r ≡ p → ⊥
-not_of r q p e other f = other (sym e ∙ f)
 
 -- before the first item of a structure
 pub items_start : (a : Parts) (env : List Entry) (s : Scene) (all : List Numbered) → s.env ≡ env → ((k : Kind) (n : Name) → has_name s k n ≡ false) → GivesItemsFirst a a env s all all

@@ -6,13 +6,10 @@ use Rattle.syntax_tree.specs.declared.rows.RowName.TheVariants as name
 use Rattle.syntax_tree.specs.declared.tree.Node.{Node, out-Node}
 use Rattle.syntax_tree.specs.Names as names
 use Rattle.syntax_tree.specs.View.{node_view}
-use Rattle.syntax_tree.proofs.Views.{node_view_parts}
 use Rattle.operand_laws.specs.Formed.{row_of}
+pub use Rattle.signature_typing.proofs.NodeRows.{row_there, only_exception}
 
--- the row of a node, by that of the code
-pub row_there : (nd : Node) → row_of (node_view nd) ≡ names.row_of (out-Node nd).row
-row_there nd = ap row_of (node_view_parts nd)
-
+-- a row of the code by that of the definitions
 pub only_let : (r : RowName) → names.row_of r ≡ let_row → r ≡ name.Let
 unfolding names.row_of
 only_let name.Let e = refl
@@ -22,11 +19,6 @@ pub only_break : (r : RowName) → names.row_of r ≡ break_row → r ≡ name.B
 unfolding names.row_of
 only_break name.Break e = refl
 only_break _ e = absurd (cc)
-
-pub only_exception : (r : RowName) → names.row_of r ≡ exception_row → r ≡ name.Exception
-unfolding names.row_of
-only_exception name.Exception e = refl
-only_exception _ e = absurd (cc)
 
 pub let_there : (nd : Node) → (out-Node nd).row ≡ name.Let → row_of (node_view nd) ≡ let_row
 unfolding names.row_of

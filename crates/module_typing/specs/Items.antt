@@ -2,14 +2,11 @@
 use Rattle.std.specs.Prelude.{◌≡◌, ◌⊎◌, true, List, [], ◌∷◌, ◌++◌}
 use Rattle.tree_model.specs.Rows.{let_row, exception_row, break_row}
 use Rattle.tree_model.specs.Trees.{Part, taken, inner, missing}
-use Rattle.signature_model.specs.Declarations.{Name}
 use Rattle.signature_model.specs.Entries.{Environment}
 use Rattle.typing_model.specs.Contexts.{Choice}
 use Rattle.typing_model.specs.Parts.{Item, Seen, no_names}
-use Rattle.typing_model.specs.Records.{is_among}
 use Rattle.row_parts.specs.Numbered.{Numbered}
 use Rattle.env_table.specs.declared.entries.Entry.{Entry}
-use Rattle.env_table.specs.declared.entries.Kind.TheVariants as kind
 use Rattle.typing_state.specs.declared.parts.Parts.{Parts}
 use Rattle.operand_laws.specs.Formed.{row_of}
 use Rattle.typing_conditions.specs.Sights.{Letters}
@@ -18,19 +15,7 @@ use Rattle.typing_steps.specs.Typing.{as_declared}
 use Rattle.typing_steps.specs.Constants.{HasConstants}
 use Rattle.core_typing.specs.Items.{Outside, AreNoted, IsCarriedItemOperand, ItemsDone, item_at, items_at}
 use Rattle.module_steps.specs.declared.scenes.Scene.{Scene}
-use Rattle.module_steps.specs.Scenes.{has_name}
-
--- the names of types, modules and module types that stand in a scene are these
-pub record HasSeen (s : Scene) (seen : Seen) : Type 0 where
-  pub types : (n : Name) → has_name s kind.TypeName n ≡ is_among n seen.types
-  pub modules : (n : Name) → has_name s kind.Module n ≡ is_among n seen.modules
-  pub module_types : (n : Name) → has_name s kind.ModuleType n ≡ is_among n seen.module_types
-
--- items are done where these names stand before them, and the scene after them has the names that then stand
-pub record IsGiven (E : Choice → Environment) (ms : List Item) (seen : Seen) (a b : Parts) (G : Letters) (after : Scene) : Type 0 where
-  pub names : Seen
-  pub done : ItemsDone as_declared E ms seen names a b G after.env
-  pub standing : HasSeen after names
+pub use Rattle.signature_typing.specs.Specifications.{HasSeen, IsGiven}
 
 -- What the call for an item of a structure gives where faults are reported, if the item is one that is carried: the definitions' own item is done.
 abbrev pub GivesItem : (a b : Parts) → (old new : Scene) → Numbered → Type 0

@@ -3,6 +3,7 @@ ghost use Rattle.std.specs.Prelude.{map, OnOk};
 ghost use Rattle.row_parts.specs.Numbered.{operand_view};
 ghost use Rattle.typing_state.specs.Goes.{Goes};
 ghost use Rattle.module_steps.specs.Scenes.{SameNames};
+ghost use Rattle.signature_typing.specs.Specifications.{GivesSpecification};
 ghost use Rattle.module_typing.specs.Items.{GivesItem, GivesItems, NamesNone};
 
 use crate::items::let_item;
@@ -51,6 +52,7 @@ pub fn type_item(
     depth: Depth,
 ) -> Result<(), NoMemory>
     ensures carries { OnOk result (GivesItem at.old at.new scene.old scene.new (operand_view item.entry)) }
+    ensures specifies { OnOk result (GivesSpecification at.old at.new scene.old scene.new (operand_view item.entry)) }
     ensures names { NamesNone (operand_view item.entry).part → SameNames scene.old scene.new }
     ensures goes { Goes at.old at.new }
 {

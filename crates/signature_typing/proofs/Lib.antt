@@ -1,2 +1,10 @@
 -- Laws of specifications.
 pub mod Values
+pub mod ValueItems
+pub mod Specifications
+pub mod NodeRows
+pub mod SpecificationSteps
+pub mod ValueSteps
+pub mod Unmade
+pub mod Newest
+pub mod ModuleItems

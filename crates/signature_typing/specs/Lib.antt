@@ -1,3 +1,6 @@
--- What the typing of module types does, in the words of faults and signatures, and what a specification makes.
+-- What the typing of module types does, in the words of faults and signatures, and what specifications make and give.
 pub mod ModuleTypes
 pub mod Values
+pub mod ValueItems
+pub mod Specifications
+pub mod ValueSignatures

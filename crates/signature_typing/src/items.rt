@@ -1,9 +1,12 @@
 //! Items without module expressions.
 ghost use Rattle.std.specs.Prelude.{IfOk, OnOk};
 ghost use Rattle.syntax_tree.specs.View.{node_view, tok_of};
+ghost use Rattle.row_parts.specs.Numbered.{token_in};
 ghost use Rattle.typing_state.specs.Goes.{Goes, OnlyIndex};
 ghost use Rattle.type_expressions.specs.Untyped.{Untyped};
 ghost use Rattle.signature_typing.specs.Values.{DenotesValue, ClosesValue, IsValue, SpecifiesValue};
+ghost use Rattle.signature_typing.specs.ValueItems.{GivesValue};
+ghost use Rattle.signature_typing.specs.ValueSignatures.{AddsIf};
 ghost use Rattle.binding_rows.specs.ItemRows.{GivesException};
 ghost use Rattle.module_steps.specs.Scenes.{SameNames};
 
@@ -77,7 +80,10 @@ pub fn value_item(
     scene: &mut Scene,
     depth: Depth,
 ) -> Result<(), NoMemory>
+    ensures carries { OnOk result (GivesValue at.old at.new scene.old.env scene.new.env number (node_view node.now)) }
     ensures means { OnOk result (SpecifiesValue at.old at.new scene.old.env scene.new.env number (node_view node.now)) }
+    ensures adds { OnOk result (AddsIf (token_in (node_view node.now) 1) scene.old scene.new) }
+    ensures names { SameNames scene.old scene.new }
     ensures untyped { OnOk result (Untyped at.old at.new) }
     ensures goes { Goes at.old at.new }
 {

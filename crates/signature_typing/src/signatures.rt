@@ -1,7 +1,11 @@
 //! Module types, and the items of signatures.
-ghost use Rattle.std.specs.Prelude.{IfOk};
+ghost use Rattle.std.specs.Prelude.{map, IfOk, OnOk};
+ghost use Rattle.row_parts.specs.Numbered.{operand_view};
 ghost use Rattle.typing_state.specs.Goes.{Goes};
 ghost use Rattle.signature_typing.specs.ModuleTypes.{IsUnknownType};
+ghost use Rattle.signature_typing.specs.Specifications.{GivesSpecification, GivesSpecifications};
+ghost use Rattle.signature_typing.specs.ValueSignatures.{GivesAdded, GivesAllAdded};
+ghost use Rattle.sig_template.specs.Structures.{entries_of};
 
 use crate::clauses::behind_clauses;
 use crate::items::{exception_item, include_specification, open_item, type_group, value_item};
@@ -33,6 +37,8 @@ pub fn type_specification(
     scene: &mut Scene,
     depth: Depth,
 ) -> Result<(), NoMemory>
+    ensures carries { OnOk result (GivesSpecification at.old at.new scene.old scene.new (operand_view item.entry)) }
+    ensures adds { OnOk result (GivesAdded at.old at.new scene.old scene.new (operand_view item.entry)) }
     ensures goes { Goes at.old at.new }
 {
     let Some(node) = item.node else {
@@ -58,6 +64,8 @@ fn type_specifications(
     env: &Env,
     depth: Depth,
 ) -> Result<Kept, NoMemory>
+    ensures carries { OnOk result (GivesSpecifications at.old at.new env.now (map operand_view items.now)) }
+    ensures adds { IfOk result (λ k. GivesAllAdded at.old at.new env.now (map operand_view items.now) (entries_of k.components.items) k.makes.items) }
     ensures goes { Goes at.old at.new }
 {
     let mut scene = Scene::new(at.alloc(), env.share()?);

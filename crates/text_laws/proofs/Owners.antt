@@ -5,10 +5,11 @@ use Rattle.std.proofs.lemmas.Bool.{ne_eqb}
 use Rattle.tree_model.specs.Rows.{Row, let_row, break_row}
 use Rattle.tree_model.specs.Trees.{Tree, Place, node}
 use Rattle.token_model.specs.Kinds.{Tok}
-use Rattle.type_model.specs.Types.{Typ}
-use Rattle.type_model.specs.Schemes.{Scheme}
+use Rattle.type_model.specs.Types.{Typ, Var}
+use Rattle.signature_model.specs.Declarations.{built_in}
+use Rattle.signature_model.specs.Entries.{entry, a_value}
 use Rattle.typing_model.specs.Bindings.{names_of_group, held_by}
-use Rattle.typing_model.specs.Contexts.{Bound, Context, generalised_in}
+use Rattle.typing_model.specs.Contexts.{Bound, Context, monomorphic, generalised_in}
 use Rattle.typing_model.specs.Items.{inside_item, value_components}
 use Rattle.typing_model.specs.Expressions.{bindings_in}
 use Rattle.typing_model.specs.Parts.{Item, Child}
@@ -30,13 +31,13 @@ record Owned (b : ℕ) (ls : List Left) : Type 0 where
   apart : OwnersApart ls
   from : AreFrom b ls
 
--- an item that declares neither an exception nor a type
-abbrev DeclaresNone : Item → Type 0
-DeclaresNone m = (c : Context) → AreDeclared (m.components c) → ⊥
+-- a context in which a variable is free in the names
+abbrev open_context : Context
+open_context = outermost (entry [] (built_in zero) (a_value (monomorphic (Var zero))) ∷ []) (λ s. true) no_choice
 
--- some context
-abbrev some_context : Context
-some_context = outermost [] (λ s. true) no_choice
+-- an item that declares and specifies nothing, as the first of its names shows in that context
+abbrev DeclaresNone : Item → Type 0
+DeclaresNone m = AreDeclared (m.components open_context) → ⊥
 
 owned_none : (b : ℕ) {ls : List Left} → AreOwned [] ls → Owned b ls
 owned_none b none_owned = record { apart = tt; from = λ k l e. absurd (cc) }
@@ -44,7 +45,7 @@ owned_none b none_owned = record { apart = tt; from = λ k l e. absurd (cc) }
 -- one item, which declares nothing, and others after it
 owned_more : {m : Item} {ms : List Item} {ls : List Left} (b next : ℕ) → m.node ≡ b → DeclaresNone m → b + 1 ≤ next → ((ks : List Left) → AreOwned ms ks → Owned next ks) → AreOwned (m ∷ ms) ls → Owned b ls
 owned_more {ls = ls} b next is_b none lt others (leaves_none h) = let o = others ls h in record { apart = o.apart; from = λ k l e. let f = o.from k l e in omega arith }
-owned_more b next is_b none lt others (leaves_types declared h) = absurd (none some_context (declared some_context))
+owned_more b next is_b none lt others (leaves_types declared h) = absurd (none (declared open_context))
 owned_more {m = m} {ms = ms} {ls = l ∷ ls} b next is_b none lt others (leaves_one owner fixed h) =
     let o = others ls h in
     let here : l.owner ≡ b = owner ∙ is_b in
@@ -62,15 +63,15 @@ abbrev IsNumbered : ℕ → Option Item → Type 0
 IsNumbered n None = Unit {0}
 IsNumbered n (Some m) = (m.node ≡ n) × DeclaresNone m
 
--- the components of a `let` are values
-values_alone : (scheme : Typ → Scheme) (c : Context) (bs : List Bound) → AreDeclared (value_components scheme c bs) → ⊥
-values_alone scheme c [] h = h
-values_alone scheme c (b ∷ bs) h = h
+-- the components of a `let` are values, in whose schemes the variable that is free in the names isn't bound
+values_alone : (held : List Typ) (c : Context) (bs : List Bound) → AreDeclared (value_components (generalised_in open_context.env held) c bs) → ⊥
+values_alone held c [] h = h
+values_alone held c (b ∷ bs) h = no_yes (h zero)
 
 row_numbered : (r : Row) (n : ℕ) (at : Place) (ts : List Tok) (cs : List Child) → is_let_row r ≡ true → IsNumbered n (item_row r n at ts cs)
 unfolding item_row
-row_numbered let_row n at ts cs e = (refl, λ c. values_alone (generalised_in c.env (held_by (inside_item n ts c) (bindings_in 2 cs))) (inside_item n ts c) (names_of_group (bindings_in 2 cs)))
-row_numbered break_row n at ts cs e = (refl, λ c h. h)
+row_numbered let_row n at ts cs e = (refl, values_alone (held_by (inside_item n ts open_context) (bindings_in 2 cs)) (inside_item n ts open_context) (names_of_group (bindings_in 2 cs)))
+row_numbered break_row n at ts cs e = (refl, λ h. h)
 row_numbered _ n at ts cs e = absurd (no_yes e)
 
 recorded_numbered : (n : ℕ) (i : Option Item) → IsNumbered n i → IsNumbered n (recorded_item n i)

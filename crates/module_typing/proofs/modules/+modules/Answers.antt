@@ -3,7 +3,9 @@ use Rattle.row_parts.specs.Numbered.{operand_view}
 use Rattle.syntax_tree.specs.declared.rows.RowName.TheVariants as name
 use Rattle.syntax_tree.specs.declared.tree.Node.{out-Node}
 use Rattle.typing_state.proofs.Going.{goes_refl, goes_trans}
-use Rattle.module_typing.proofs.ItemSteps.{missing_given, break_given, let_item_given, exception_given, other_item, other_names, not_of, items_start, items_next, items_end}
+use Rattle.signature_typing.proofs.NodeRows.{not_of}
+use Rattle.signature_typing.proofs.SpecificationSteps.{missing_specified, exception_specified, other_specification}
+use Rattle.module_typing.proofs.ItemSteps.{missing_given, break_given, let_item_given, exception_given, other_item, other_names, items_start, items_next, items_end}
 use Rattle.module_typing.proofs.modules.+modules.Goals as goal
 
 pub type_item-returns-in_default-clause-carries : goal.type_item-returns-in_default-clause-carries
@@ -43,10 +45,42 @@ type_item-returns-in-Include-clause-names t c =
     other_names c.args.scene.now c.include_item.new.scene c.args.item c.in-Some.node c.in-Some.is
     (not_of row name.Include name.Let c.in-Include.is (λ e. absurd (cc))) (not_of row name.Include name.Break c.in-Include.is (λ e. absurd (cc))) (not_of row name.Include name.Exception c.in-Include.is (λ e. absurd (cc)))
 
+pub type_item-returns-in_default-clause-specifies : goal.type_item-returns-in_default-clause-specifies
+type_item-returns-in_default-clause-specifies t c = missing_specified c.note_plain.result c.args.at.now c.note_plain.new.self c.args.scene.now c.args.item c.in_default.is c.note_plain.ensures.noted c.note_plain.ensures.rest c.note_plain.ensures.goes
+
+pub type_item-returns-in-Exception-clause-specifies : goal.type_item-returns-in-Exception-clause-specifies
+type_item-returns-in-Exception-clause-specifies t c =
+    exception_specified c.exception_item.result c.args.at.now c.exception_item.new.at c.args.scene.now c.exception_item.new.scene c.args.item c.in-Some.node c.in-Some.is c.in-Exception.is c.exception_item.ensures.carries c.exception_item.ensures.names
+
+pub type_item-returns-in-Break-clause-specifies : goal.type_item-returns-in-Break-clause-specifies
+type_item-returns-in-Break-clause-specifies t c =
+    let row = (out-Node c.in-Some.node.now).row in
+    other_specification c.note_plain-in-Break.result c.args.at.now c.note_plain-in-Break.new.self c.args.scene.now c.args.scene.now c.args.item c.in-Some.node c.in-Some.is
+    (not_of row name.Break name.Val c.in-Break.is (λ e. absurd (cc))) (not_of row name.Break name.Exception c.in-Break.is (λ e. absurd (cc)))
+
+pub type_item-returns-in-Let-clause-specifies : goal.type_item-returns-in-Let-clause-specifies
+type_item-returns-in-Let-clause-specifies t c =
+    let row = (out-Node c.in-Some.node.now).row in
+    other_specification c.let_item.result c.args.at.now c.let_item.new.at c.args.scene.now c.let_item.new.scene c.args.item c.in-Some.node c.in-Some.is
+    (not_of row name.Let name.Val c.in-Let.is (λ e. absurd (cc))) (not_of row name.Let name.Exception c.in-Let.is (λ e. absurd (cc)))
+
+pub type_item-returns-in-Module-clause-specifies : goal.type_item-returns-in-Module-clause-specifies
+type_item-returns-in-Module-clause-specifies t c =
+    let row = (out-Node c.in-Some.node.now).row in
+    other_specification c.type_module_item.result c.args.at.now c.type_module_item.new.at c.args.scene.now c.type_module_item.new.scene c.args.item c.in-Some.node c.in-Some.is
+    (not_of row name.Module name.Val c.in-Module.is (λ e. absurd (cc))) (not_of row name.Module name.Exception c.in-Module.is (λ e. absurd (cc)))
+
+pub type_item-returns-in-Include-clause-specifies : goal.type_item-returns-in-Include-clause-specifies
+type_item-returns-in-Include-clause-specifies t c =
+    let row = (out-Node c.in-Some.node.now).row in
+    other_specification c.include_item.result c.args.at.now c.include_item.new.at c.args.scene.now c.include_item.new.scene c.args.item c.in-Some.node c.in-Some.is
+    (not_of row name.Include name.Val c.in-Include.is (λ e. absurd (cc))) (not_of row name.Include name.Exception c.in-Include.is (λ e. absurd (cc)))
+
 pub type_item-returns-in_default-row : goal.type_item-returns-in_default-row
 type_item-returns-in_default-row t c = record {
   carries = other_item c.type_specification.result c.args.at.now c.type_specification.new.at c.args.scene.now c.type_specification.new.scene c.args.item c.in-Some.node c.in-Some.is c.in_default-row.not-Let c.in_default-row.not-Break c.in_default-row.not-Exception;
   names = other_names c.args.scene.now c.type_specification.new.scene c.args.item c.in-Some.node c.in-Some.is c.in_default-row.not-Let c.in_default-row.not-Break c.in_default-row.not-Exception;
+  specifies = c.type_specification.ensures.carries;
   goes = c.type_specification.ensures.goes;
 }
 

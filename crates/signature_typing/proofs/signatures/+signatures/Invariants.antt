@@ -1,5 +1,8 @@
-use Rattle.std.proofs.Common.{◌+◌, ◌*◌}
+use Rattle.std.proofs.Common.{◌+◌, ◌*◌, drop, map}
+use Rattle.row_parts.specs.Numbered.{operand_view}
 use Rattle.typing_state.specs.Goes.{Goes}
+use Rattle.signature_typing.specs.Specifications.{SpecifiesItemsFirst}
+use Rattle.signature_typing.specs.ValueSignatures.{GivesAddedFirst}
 use Rattle.signature_typing.proofs.signatures.+signatures.Given as goal
 
 abbrev pub decreases-type_specification : goal.decreases-type_specification
@@ -9,7 +12,11 @@ abbrev pub decreases-type_specifications : goal.decreases-type_specifications
 decreases-type_specifications l = 10 * l.depth.0 + 9
 
 abbrev pub invariant-type_specifications-loop-item : goal.invariant-type_specifications-loop-item
-invariant-type_specifications-loop-item l = Goes l.fn.at l.at
+invariant-type_specifications-loop-item l = record {
+  goes : Goes l.fn.at l.at;
+  gives : SpecifiesItemsFirst l.fn.at l.at l.env l.scene (map operand_view l.items) (map operand_view (drop l.item-index l.items));
+  adds : GivesAddedFirst l.fn.at l.at l.env l.scene (map operand_view l.items) (map operand_view (drop l.item-index l.items));
+}
 
 abbrev pub decreases-read_module_type : goal.decreases-read_module_type
 decreases-read_module_type l = 10 * l.depth.0 + 1
