@@ -21,6 +21,7 @@ carried_alike {F} {scope} {asks} {others} {a} {b} {G} {H} same p = record {
   judged = p.judged;
   told = p.told;
   reports = p.reports;
+  counted = p.counted;
   sound = λ r V c l. subst (λ cs. Meets c.kept cs p.judged p.told) (read p.judged V c l) (p.sound r V c l);
   follows = λ r V c l. subst (λ cs. Follows c.kept cs p.judged) (read [] V c l) (p.follows r V c l);
   complete = λ named V c e h. elim (p.complete named V c e (subst (AllHold c.kept) (sym (entered named V c e)) h)) [

@@ -60,7 +60,7 @@ constructor_stands i n t x =
     ∙ constructor_there i x.operand.number x.constructor x.is
 
 -- the item of an operand that is an exception
-exception_there : (i n : ℕ) (at : Place) (t : Tree) (x : IsExceptionNode n t) → item_at i (numbered n at (inner t)) ≡ recorded_exception i n x.operand.number x.constructor ∷ []
+pub exception_there : (i n : ℕ) (at : Place) (t : Tree) (x : IsExceptionNode n t) → item_at i (numbered n at (inner t)) ≡ recorded_exception i n x.operand.number x.constructor ∷ []
 unfolding item_row
 exception_there i n at (node r x ps) e = ap item_if (by e.row (constructor_stands i n (node r x ps) e))
   where

@@ -23,7 +23,7 @@ use Rattle.typing_conditions.specs.Sights.{Sight, Letters, AreGiven, AreNodes, S
 use Rattle.typing_conditions.specs.Judging.{Judgement, Meets, AreKept, Follows, judgements, StartsWith, FallsShort}
 use Rattle.typing_conditions.specs.Carrying.{Asks, AreHidden}
 use Rattle.typing_conditions.specs.Surroundings.{Declared, IsSteady}
-use Rattle.typing_conditions.proofs.Judged.{hold_both, hold_left, hold_right, judged_both, kept_left, kept_right, tell_both, follows_both, short_left, short_right, starts_all, starts_left, starts_right, short_of_more, judged_kept}
+use Rattle.typing_conditions.proofs.Judged.{hold_both, hold_left, hold_right, judged_both, counted_both, kept_left, kept_right, tell_both, follows_both, short_left, short_right, starts_all, starts_left, starts_right, short_of_more, judged_kept}
 use Rattle.typing_conditions.proofs.Carried.{Decides, hidden_both, take_none, less_or_more}
 use Rattle.typing_conditions.proofs.First.{starts_none}
 use Rattle.typing_conditions.proofs.Surrounding.{vars_apart}
@@ -103,6 +103,7 @@ items_trans {E} {E'} {asks} {rest} {further} {a} {b} {c} {G} {H} {K} after p nex
   judged = p.judged ++ q.judged;
   told = p.told ++ q.told;
   reports = q.reports ∙ ap (λ rs. rs ++ q.told) p.reports ∙ append_assoc a.reports p.told q.told;
+  counted = counted_both p.judged q.judged p.told q.told p.counted q.counted;
   sound = λ V x l.
       let one = p.sound V x (record {
         env = l.env;
@@ -231,6 +232,7 @@ items_between {E} {a} {b} {G} only = record {
   judged = [];
   told = [];
   reports = only.reports ∙ sym (append-nil a.reports);
+  counted = refl;
   sound = λ V c l. record { same = refl; holds = tt; tells = refl };
   follows = λ V c l. refl;
   complete = λ V c e h. inl (record {
@@ -267,6 +269,7 @@ items_then {E} {asks} {a} {b} {c} {G} {H} only p = record {
   judged = p.judged;
   told = p.told;
   reports = p.reports ∙ ap (λ rs. rs ++ p.told) only.reports;
+  counted = p.counted;
   sound = p.sound;
   follows = p.follows;
   complete = λ V x e h. elim (p.complete V x (enters V x e) h) [
@@ -297,6 +300,7 @@ items_as {E} {asks} {others} {a} {b} {G} {H} same p = record {
   judged = p.judged;
   told = p.told;
   reports = p.reports;
+  counted = p.counted;
   sound = λ V x l. subst (λ cs. Meets x.kept cs p.judged p.told) (same x) (p.sound V x l);
   follows = λ V x l. subst (λ cs. Follows x.kept cs p.judged) (same x) (p.follows V x l);
   complete = λ V x e h. elim (p.complete V x e (subst (AllHold x.kept) (sym (same x)) h)) [
@@ -375,6 +379,7 @@ items_treated {E} {asks} {a} {b} {G} {H} n p = record {
   judged = p.judged;
   told = p.told;
   reports = p.reports;
+  counted = p.counted;
   sound = λ V c l. let h = p.sound V c l in record { same = h.same; holds = (tt, h.holds); tells = h.tells };
   follows = p.follows;
   complete = λ V c e h. elim (p.complete V c e h.1) [ inl goes ↦ inl (record { same = goes.same; types = goes.types; fits = goes.fits; before = goes.before; agrees = goes.agrees; left_too = goes.left_too }) | inr short ↦ inr short ];
@@ -404,7 +409,7 @@ items_more {m = m} {seen = seen} ms sound done only more = items_trans (λ x. m.
     }) sound (items_then only more)
 
 -- an item is done where it was done from a state that differs only as between items
-pub done_between : {D : Declared} {E : Choice → Environment} {m : Item} {seen names : Seen} {a b d : Parts} {G : Letters} {after : List Entry} → OnlyBetween (sight a) (sight b) → ItemDone D E m seen names b d G after → ItemDone D E m seen names a d G after
+unfoldable pub done_between : {D : Declared} {E : Choice → Environment} {m : Item} {seen names : Seen} {a b d : Parts} {G : Letters} {after : List Entry} → OnlyBetween (sight a) (sight b) → ItemDone D E m seen names b d G after → ItemDone D E m seen names a d G after
 unfolding items_then
 done_between only done = record {
   letters = done.letters;
@@ -434,7 +439,7 @@ idle_done {E = E} {G = G} n seen only at constants noted = record {
 }
 
 -- Between items: none of them.
-pub done_none : {D : Declared} {E : Choice → Environment} {a b : Parts} {G : Letters} {env : List Entry} (seen : Seen) → OnlyBetween (sight a) (sight b) → (at : Outside D (sight a) G env E) → HasConstants b → AreNoted at.older b → ItemsDone D E [] seen seen a b G env
+unfoldable pub done_none : {D : Declared} {E : Choice → Environment} {a b : Parts} {G : Letters} {env : List Entry} (seen : Seen) → OnlyBetween (sight a) (sight b) → (at : Outside D (sight a) G env E) → HasConstants b → AreNoted at.older b → ItemsDone D E [] seen seen a b G env
 unfolding items_between outside_between
 done_none {E = E} {G = G} seen only at constants noted = record {
   letters = G;

@@ -149,6 +149,7 @@ module _ {D : Declared} {n : ℕ} {ts : List Tok} {E : Choice → Environment} {
     judged = (item_part l).judged;
     told = (item_part l).told;
     reports = (item_out l).reports ∙ (item_part l).reports ∙ ap (λ rs. rs ++ (item_part l).told) l.only.reports;
+    counted = (item_part l).counted;
     sound = λ V c r. (item_part l).sound (reached_inward (goes_in l) l.only l.raised) V (inside_item n ts c) (reads_off V c r);
     follows = λ V c r. (item_part l).follows (reached_inward (goes_in l) l.only l.raised) V (inside_item n ts c) (reads_off V c r);
     complete = λ V c e h. elim ((item_part l).complete named_there V (inside_item n ts c) (enters_group V c e) h) [

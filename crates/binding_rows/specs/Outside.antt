@@ -1,5 +1,5 @@
 -- What an item's own `let` is typed among, at the lowest level, and what is carried of items.
-use Rattle.std.specs.Prelude.{◌≡◌, ◌⊎◌, ℕ, true, false, List, [], ◌∷◌, ◌++◌, take, slice_get, Option, Some, None}
+use Rattle.std.specs.Prelude.{◌≡◌, ◌⊎◌, ℕ, true, false, List, [], ◌∷◌, ◌++◌, length, take, slice_get, Option, Some, None}
 use Rattle.type_model.specs.Types.{Path, occurs}
 use Rattle.type_model.specs.Types.{Typ as type, Typs as types}
 use Rattle.signature_model.specs.Declarations.{Name}
@@ -18,7 +18,7 @@ use Rattle.typing_conditions.specs.Assumptions.{SchemeFits, SchemeReads}
 use Rattle.typing_conditions.specs.Standing.{IsIn, Covers, Stands}
 use Rattle.typing_conditions.specs.Declared.{UnknownApart}
 use Rattle.typing_conditions.specs.Sights.{Sight, Key, Report, number_in, Letters, AreGiven, AreNodes, SameAt}
-use Rattle.typing_conditions.specs.Judging.{Judgement, judgements, AreKept, Follows, StartsWith, FallsShort, Meets}
+use Rattle.typing_conditions.specs.Judging.{Judgement, judgements, refused, AreKept, Follows, StartsWith, FallsShort, Meets}
 use Rattle.typing_conditions.specs.Carrying.{Asks, AreHidden}
 use Rattle.typing_conditions.specs.Hiding.{Keeps, HasCopy, Settles}
 use Rattle.typing_conditions.specs.Surroundings.{Declared, IsSteady}
@@ -141,7 +141,7 @@ pub record OnlyBetween (a b : Sight) : Type 0 where
   pub level : b.level ≡ a.level
   pub fixed : b.fixed ≡ a.fixed
 
--- What items ask was done, from one state between items to another: letters that are open then were so before or are among those that items left; `settled`, `sound`, `follows`, `complete` and `first` are those of `Carried`, with these differences: no frame is needed,
+-- What items ask was done, from one state between items to another: letters that are open then were so before or are among those that items left; `settled`, `counted`, `sound`, `follows`, `complete` and `first` are those of `Carried`, with these differences: no frame is needed,
 -- since the next item has one of its own, and the type variables that were written in the items are left with their nodes, since the end of an item may generalise them.
 pub record ItemsCarried (E : Choice → Environment) (asks : Asks) (a : Sight) (G : Letters) (b : Sight) (G' : Letters) : Type 0 where
   pub stays : StaysOutside a G b G'
@@ -151,6 +151,7 @@ pub record ItemsCarried (E : Choice → Environment) (asks : Asks) (a : Sight) (
   pub judged : List Judgement
   pub told : List Report
   pub reports : b.reports ≡ a.reports ++ told
+  pub counted : length told ≡ refused judged
   pub sound : (V : Types) (c : Context) → ReadsItems E b G' left judged V c → Meets c.kept (asks c) judged told
   pub follows : (V : Types) (c : Context) → ReadsItems E b G' left [] V c → Follows c.kept (asks c) judged
   pub complete : (V : Types) (c : Context) → EntersItems E a G V c → AllHold c.kept (asks c) → ContinuesItems asks a b G' left judged V c ⊎ FallsShort (judgements c.kept (asks c)) judged

@@ -15,7 +15,7 @@ use Rattle.typing_model.specs.Items.{inside_item, names_made, let_item, no_item,
 use Rattle.typing_model.specs.Modules.{item_row}
 use Rattle.typing_model.specs.Meanings.{binding_of, case_of, field_of, field_pattern_of, recorded_expression, recorded_pattern, recorded_type, recorded_item, node_child, leaf_child, children_of, child_of, tree_child, item_base, items_from, items_of}
 use Rattle.typing_model.specs.Typings.{outermost, conditions_of}
-use Rattle.typing_laws.specs.Plain.{is_let_row, has_lets_alone}
+use Rattle.typing_model.specs.Plain.{is_let_row, has_lets_alone}
 use Rattle.typing_laws.proofs.Bools.{no_yes, and_cases}
 use Rattle.typing_laws.proofs.Steady.{Each, no_one, one_and, IfThere, absent, there}
 use Rattle.typing_laws.proofs.SteadyRows.{first_there}

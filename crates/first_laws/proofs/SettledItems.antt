@@ -112,6 +112,7 @@ module _ {a b : Sight} {G : Letters} {env : List Entry} {E : Choice → Environm
       judged = judged;
       told = told;
       reports = reports;
+      counted = settled.counted;
       sound = λ V c l. subst (λ cs. Meets c.kept cs judged told) (same c) (settled.sound (into c) (stands_behind V c l.env (loose_before V (fits_loosely b.nodes V l.reads.fits)) (agrees_before on l.agrees)) l.kept l.left_too.0.fixed);
       follows = λ V c l. subst (λ cs. Follows c.kept cs judged) (same c) (settled.follows (into c) (stands_behind V c l.env (loose_before V (fits_loosely b.nodes V l.reads.fits)) (agrees_before on l.agrees)) l.left_too.0.fixed);
       complete = λ V c e h. elim (settled.complete (into c) (stands_behind V c e.env (fits_loosely a.nodes V e.fits) e.agrees) (subst (AllHold c.kept) (sym (same c)) h)) [

@@ -79,6 +79,7 @@ carried_kept {F} {scope} {asks} {a} {b} own opens {G} among p = record {
   judged = p.judged;
   told = p.told;
   reports = p.reports;
+  counted = p.counted;
   sound = λ r V c l. p.sound r V c (record {
     under = l.under;
     reads = l.reads;

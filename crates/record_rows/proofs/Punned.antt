@@ -43,6 +43,7 @@ known_made {F} {scope} {G} {a} {m} {type} key free p = record {
   judged = [];
   told = [];
   reports = sym (append-nil a.reports);
+  counted = refl;
   sound = λ r V c l.
       let g = l.agrees.given in
       let before = agrees_before (stays_trans (stays_opened {F = F} key p.open_node.inside) (stays_opened {F = F} (without_unknown key) p.open_node.inside)) l.agrees in

@@ -33,6 +33,7 @@ made_one {m = m} {n = n} {a = a} {b = b} sound p q rest tight one = record {
   judged = [];
   told = [];
   reports = rest.reports ∙ sym (append-nil a.reports);
+  counted = refl;
   sound = λ r V c l. record { same = refl; holds = tt; tells = refl };
   follows = λ r V c l. refl;
   complete = λ named V c e h.

@@ -6,3 +6,4 @@ pub mod Kept
 pub mod General
 pub mod Reading
 pub mod Principal
+pub mod Silent

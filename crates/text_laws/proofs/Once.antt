@@ -6,7 +6,7 @@ use Rattle.tree_model.specs.Rows.{Row, let_row, break_row}
 use Rattle.signature_model.specs.Entries.{Environment}
 use Rattle.typing_model.specs.Demands.{Site, same_site, Condition, same, instance, made, known, demand, treated, sites_of}
 use Rattle.typing_model.specs.Typings.{is_site_among, conditions_of}
-use Rattle.typing_laws.specs.Plain.{is_plain_row, has_no_modules, is_let_row, has_lets_alone}
+use Rattle.typing_model.specs.Plain.{is_plain_row, has_no_modules, is_let_row, has_lets_alone}
 use Rattle.typing_laws.proofs.Bools.{no_yes, and_cases, and_both}
 use Rattle.typing_conditions.specs.Judging.{Judgement, judgements, Follows}
 use Rattle.typing_conditions.proofs.Adequate.{kept_of}

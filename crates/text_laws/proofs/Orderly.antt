@@ -6,7 +6,7 @@ use Rattle.signature_model.specs.Entries.{Environment}
 use Rattle.typing_model.specs.Demands.{Site, same_site, Demand, equal, test, agrees, matches, closes, Condition, sites_of}
 use Rattle.typing_model.specs.Contexts.{Choice}
 use Rattle.typing_model.specs.Typings.{conditions_of, no_choice, demands_of, is_site_among, sites_before}
-use Rattle.typing_laws.specs.Plain.{has_no_modules, has_lets_alone}
+use Rattle.typing_model.specs.Plain.{has_no_modules, has_lets_alone}
 use Rattle.typing_laws.proofs.Together.{is_end}
 use Rattle.typing_laws.proofs.Settled.{lets_settled}
 use Rattle.typing_laws.proofs.Quiet.{Quiet, silence, q_demand, q_same, q_instance, q_made, q_known, q_treated}

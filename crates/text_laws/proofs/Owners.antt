@@ -16,7 +16,7 @@ use Rattle.typing_model.specs.Parts.{Item, Child}
 use Rattle.typing_model.specs.Typings.{outermost, no_choice}
 use Rattle.typing_model.specs.Modules.{item_row}
 use Rattle.typing_model.specs.Meanings.{recorded_item, tree_child, item_base, items_from, items_of}
-use Rattle.typing_laws.specs.Plain.{is_let_row, has_lets_alone}
+use Rattle.typing_model.specs.Plain.{is_let_row, has_lets_alone}
 use Rattle.typing_laws.proofs.Bools.{no_yes, and_cases}
 use Rattle.binding_rows.specs.Outside.{Left}
 use Rattle.binding_rows.specs.ItemRows.{AreDeclared, AreOwned, none_owned, leaves_none, leaves_types, leaves_one}

@@ -25,7 +25,7 @@ use Rattle.typing_conditions.proofs.Roots.{own_reads}
 use Rattle.binding_rows.specs.Outside.{Left, letters_left, ContinuesItems, ItemsCarried}
 use Rattle.binding_rows.specs.ItemRows.{AreOwned}
 use Rattle.typing_model.specs.Meanings.{items_of}
-use Rattle.typing_laws.specs.Plain.{has_lets_alone}
+use Rattle.typing_model.specs.Plain.{has_lets_alone}
 use Rattle.site_laws.proofs.Texts.{AreSmall}
 use Rattle.text_laws.specs.Texts.{text_asks, IsTyped}
 use Rattle.typing_conditions.specs.Hiding.{plain_key, is_own, ArePlaced}

@@ -15,7 +15,7 @@ use Rattle.typing_model.specs.Contexts.{Choice}
 use Rattle.typing_model.specs.Demands.{Site}
 use Rattle.typing_model.specs.Meanings.{items_of}
 use Rattle.typing_model.specs.Typings.{outermost, conditions_of}
-use Rattle.typing_laws.specs.Plain.{has_no_modules, has_lets_alone}
+use Rattle.typing_model.specs.Plain.{has_no_modules, has_lets_alone}
 use Rattle.type_nodes.specs.Nodes.{Node, IsSound}
 use Rattle.type_nodes.specs.Readings.{Types, IsReading}
 use Rattle.typing_laws.proofs.Bools.{no_yes, and_cases, and_both}

@@ -27,6 +27,7 @@ carried_after {F} {scope} {asks} {further} {actual} {a} {b} {d} {G} {H} {K} p by
   judged = p.judged ++ q.judged;
   told = both.told;
   reports = both.reports;
+  counted = both.counted;
   sound = λ r V c l. subst (λ cs. Meets c.kept (asks c ++ cs) both.judged both.told) (sym (at_end V c l)) (both.sound r V c l);
   follows = follows;
   complete = complete;

@@ -12,7 +12,7 @@ use Rattle.typing_conditions.specs.Sights.{Sight, Key, Letters, AreGiven, AreNod
 use Rattle.typing_conditions.specs.Frames.{Frame}
 use Rattle.typing_conditions.specs.Judging.{Judgement, judgements, AreKept, Follows, StartsWith, FallsShort, Meets}
 use Rattle.typing_conditions.specs.Carrying.{Asks, Scope, HoldsWritten, IsUnder, Enters, GoesOn, AreHidden, Continues, Carried, ReadsOff}
-use Rattle.typing_conditions.proofs.Judged.{hold_both, hold_left, hold_right, judged_both, kept_left, kept_right, given_left, given_right, given_both, nodes_left, nodes_both, tell_both, follows_both, short_left, short_right, short_of_more, starts_all, starts_left, starts_right}
+use Rattle.typing_conditions.proofs.Judged.{hold_both, hold_left, hold_right, judged_both, counted_both, kept_left, kept_right, given_left, given_right, given_both, nodes_left, nodes_both, tell_both, follows_both, short_left, short_right, short_of_more, starts_all, starts_left, starts_right}
 use Rattle.typing_conditions.proofs.Meaning.{nodes_in, given_same}
 use Rattle.typing_conditions.proofs.Stays.{stays_refl, stays_trans, stays_closed, agrees_before, named_before, bounds_before, enters_next, goes_further}
 use Rattle.typing_conditions.specs.Hiding.{marked}
@@ -47,6 +47,7 @@ carried_refl {F} {scope} {a} {G} = record {
   judged = [];
   told = [];
   reports = sym (append-nil a.reports);
+  counted = refl;
   sound = λ r V c l. record { same = refl; holds = tt; tells = refl };
   follows = λ r V c l. refl;
   complete = λ named V c e h. inl (record { same = refl; types = V; on = record { fits = e.fits; before = λ n lt. refl; agrees = e.agrees }; hidden_too = (tt, tt) });
@@ -69,6 +70,7 @@ carried_trans {F} {scope} {asks} {further} {a} {b} {c} {G} {H} {K} p q = record 
   judged = p.judged ++ q.judged;
   told = p.told ++ q.told;
   reports = q.reports ∙ ap (λ rs. rs ++ q.told) p.reports ∙ append_assoc a.reports p.told q.told;
+  counted = counted_both p.judged q.judged p.told q.told p.counted q.counted;
   sound = λ r V x l.
       let one = p.sound r V x (record {
         under = l.under;
@@ -163,6 +165,7 @@ carried_under {F} {scope} {inner} {asks} {a} {b} {G} {H} into held still has p =
   judged = p.judged;
   told = p.told;
   reports = p.reports;
+  counted = p.counted;
   sound = λ r V c l.
       let kept = (still c).0 in let chosen = (still c).1 in
       let m = p.sound r V (into c) (record {
@@ -214,6 +217,7 @@ carried_dropped {F} {scope} {asks} {a} {b} own {G} implied p = record {
   judged = p.judged;
   told = p.told;
   reports = p.reports;
+  counted = p.counted;
   sound = λ r V c l. p.sound r V c (reads_too V c l);
   follows = λ r V c l. p.follows r V c (reads_too V c l);
   complete = λ named V c e h. elim (p.complete named V c e h) [
@@ -256,6 +260,7 @@ carried_as {F} {scope} {asks} {others} {a} {b} {G} {H} e p = record {
   judged = p.judged;
   told = p.told;
   reports = p.reports;
+  counted = p.counted;
   sound = λ r V c l. subst (λ cs. Meets c.kept cs p.judged p.told) (e c) (p.sound r V c l);
   follows = λ r V c l. subst (λ cs. Follows c.kept cs p.judged) (e c) (p.follows r V c l);
   complete = λ named V c en h. elim (p.complete named V c en (subst (AllHold c.kept) (sym (e c)) h)) [

@@ -116,6 +116,7 @@ equal_kept {F} {scope} {G} {found} {wanted} {m} {n} {a} {b} s at sound p q rest 
   judged = judged_as s true;
   told = [];
   reports = rest.reports ∙ sym (append-nil a.reports);
+  counted = refl;
   sound = λ r V c l.
       let old = one.read V l.reads in
       let g = agrees_before stays l.agrees in
@@ -164,6 +165,7 @@ equal_told {F} {scope} {G} {found} {wanted} {m} {n} {a} {b} s at p q rest tells 
   judged = judged_as s false;
   told = tells.report ∷ [];
   reports = tells.reports;
+  counted = refl;
   sound = λ r V c l. record {
     same = ap (judged_as s) l.kept.0;
     holds = ((λ kept. absurd (not_both l.kept.0 kept)), tt);

@@ -1,12 +1,12 @@
 -- Conditions one after the other, with their judgements and reports.
-use Rattle.std.proofs.Common.{◌≡◌, ◌∙◌, ℕ, zero, suc, take, Bool, true, false, List, [], ◌∷◌, ◌++◌, refl, sym, ap, subst, append_assoc, append-nil}
+use Rattle.std.proofs.Common.{◌≡◌, ◌∙◌, ℕ, zero, suc, ◌+◌, take, Bool, true, false, List, [], ◌∷◌, ◌++◌, length, refl, sym, ap, subst, append_assoc, append-nil, length-append, arith}
 use Rattle.tree_model.specs.Trees.{Place}
 use Rattle.type_nodes.specs.Readings.{Types}
 use Rattle.type_nodes.specs.Nodes.{Node}
 use Rattle.typing_model.specs.Demands.{Site, Demand, Condition, same, instance, made, known, demand, treated, AllHold}
 use Rattle.typing_model.specs.Contexts.{Choice}
 use Rattle.typing_conditions.specs.Sights.{Report, Letters, AreGiven, AreNodes}
-use Rattle.typing_conditions.specs.Judging.{Judgement, is_closing, judgements, AreKept, JudgedBy, Follows, StartsWith, FallsShort, TellAll, TellBy, judged_at}
+use Rattle.typing_conditions.specs.Judging.{Judgement, is_closing, judgements, refused, AreKept, JudgedBy, Follows, StartsWith, FallsShort, TellAll, TellBy, judged_at}
 
 -- conditions that hold hold together
 pub hold_both : (kept : Site → Bool) (xs ys : List Condition) → AllHold kept xs → AllHold kept ys → AllHold kept (xs ++ ys)
@@ -32,6 +32,14 @@ judged_both kept (made n t ∷ xs) ys = judged_both kept xs ys
 judged_both kept (known t ∷ xs) ys = judged_both kept xs ys
 judged_both kept (demand s at d ∷ xs) ys = ap (λ js. judged_at s (kept s) (is_closing d) ∷ js) (judged_both kept xs ys)
 judged_both kept (treated n env ∷ xs) ys = judged_both kept xs ys
+
+-- as many reports as refused demands, of one list and then of another
+pub counted_both : (xs ys : List Judgement) (rs ts : List Report) → length rs ≡ refused xs → length ts ≡ refused ys → length (rs ++ ts) ≡ refused (xs ++ ys)
+counted_both xs ys rs ts e f = length-append rs ts ∙ (λ i. e i + f i) ∙ sym (both xs)
+  where
+    both : (zs : List Judgement) → refused (zs ++ ys) ≡ refused zs + refused ys
+    both [] = omega arith
+    both (z ∷ zs) = let h = both zs in omega (arith, h)
 
 -- what keeps judgements keeps the first of them
 pub kept_left : (kept : Site → Bool) (xs ys : List Judgement) → AreKept kept (xs ++ ys) → AreKept kept xs

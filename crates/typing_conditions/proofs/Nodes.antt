@@ -67,6 +67,7 @@ letter_made {F} {scope} {G} {a} {b} {s} {t} {n} key free r made rest = record {
     judged = [];
     told = [];
     reports = rest.reports ∙ sym (append-nil a.reports);
+    counted = refl;
     sound = λ r V c l. nothing_met c.kept;
     follows = λ r V c l. refl;
     complete = λ named V c e h. inl (record { same = refl; types = with_type V n (value_of c.chosen key); on = goes V c e; hidden_too = (tt, tt) });
@@ -101,6 +102,7 @@ node_made {F} {scope} {G} {a} {b} {s} {t} {n} {c} build r opened made rest build
   judged = [];
   told = [];
   reports = rest.reports ∙ sym (append-nil a.reports);
+  counted = refl;
   sound = λ r V x l. nothing_met x.kept;
   follows = λ r V x l. refl;
   complete = λ named V x e h. inl (record {
@@ -185,6 +187,7 @@ key_known {F} {scope} {G} {a} {m} key p = record {
   judged = [];
   told = [];
   reports = sym (append-nil a.reports);
+  counted = refl;
   sound = λ r V c l. record { same = refl; holds = (subst IsKnown (sym l.agrees.given.0.is) l.agrees.given.0.known, tt); tells = refl };
   follows = λ r V c l. refl;
   complete = λ named. complete;
@@ -213,6 +216,7 @@ same_made {F} {scope} {G} {a} {m} {type} key free p = record {
   judged = [];
   told = [];
   reports = sym (append-nil a.reports);
+  counted = refl;
   sound = λ r V c l.
       let before = agrees_before (stays_opened {F = F} key p.open_node.inside) l.agrees in
       record { same = refl; holds = (l.agrees.given.0.is ∙ sym (p.is V c.chosen (fits_loosely a.nodes V l.reads.fits) before), tt); tells = refl };
@@ -242,6 +246,7 @@ told_first {F} {scope} {G} {a} n = record {
   judged = [];
   told = [];
   reports = sym (append-nil a.reports);
+  counted = refl;
   sound = λ r V c l. record { same = refl; holds = (tt, tt); tells = refl };
   follows = λ r V c l. refl;
   complete = λ named. complete;

@@ -235,6 +235,7 @@ module _ {F : Frame} {scope : Scope} {asks : Asks} {a b c d : Sight} {J : Types}
     judged = l.part.judged;
     told = l.part.told;
     reports = l.out.reports ∙ l.part.reports ∙ ap (λ rs. rs ++ l.part.told) l.only.reports;
+    counted = l.part.counted;
     sound = λ r V x at. l.part.sound (reached_inward l.goes_in l.only l.raised) V x (record {
       under = at.under;
       reads = let (K, own_k, closes) = any_closing in reads_closed c.nodes d.nodes K V names F.level closes at.reads;

@@ -130,6 +130,7 @@ row_recorded {F} {scope} {asks} {ends} {type} {a} {b} {d} {G} own n {p} {m} numb
     judged = it.judged;
     told = it.told;
     reports = r.reports ∙ it.reports;
+    counted = it.counted;
     sound = sound;
     follows = follows;
     complete = complete;

@@ -33,6 +33,7 @@ test_judged {F} {scope} {G} {complaint} {holds} {at} {kind} {place} {a} {b} s tr
   judged = judged_as s true;
   told = [];
   reports = tells ∙ sym (append-nil a.reports);
+  counted = refl;
   sound = λ r V c l. record {
     same = ap (judged_as s) l.kept.0;
     holds = ((λ kept. is.truth c l.under), tt);
@@ -54,6 +55,7 @@ test_judged {F} {scope} {G} {complaint} {holds} {at} {kind} {place} {a} {b} s fa
   judged = judged_as s false;
   told = tells.report ∷ [];
   reports = tells.reports;
+  counted = refl;
   sound = λ r V c l. record {
     same = ap (judged_as s) l.kept.0;
     holds = ((λ kept. absurd (not_both l.kept.0 kept)), tt);
@@ -100,6 +102,7 @@ closing_judged {F} {scope} {G} {env} {body} {a} {b} s at v rest tells = by v tel
       judged = closing_as s true;
       told = [];
       reports = tells ∙ sym (append-nil a.reports);
+      counted = refl;
       sound = λ r V c l. record { same = ap (closing_as s) l.kept.0; holds = ((λ kept. tt), tt); tells = subst (λ t. TellBy t at (closes (env c) (body c)) (λ later. later ≡ []) []) (sym l.kept.0) refl };
       follows = λ r V c l. (refl, λ k. refl);
       complete = λ named. complete true;
@@ -112,6 +115,7 @@ closing_judged {F} {scope} {G} {env} {body} {a} {b} s at v rest tells = by v tel
       judged = closing_as s false;
       told = tells.report ∷ [];
       reports = tells.reports;
+      counted = refl;
       sound = λ r V c l. record {
         same = ap (closing_as s) l.kept.0;
         holds = ((λ kept. tt), tt);

@@ -86,6 +86,7 @@ name_used {D} {F} {scope} {G} {env} {a} {b} {ms} {x} {m} key free at it = record
     judged = [];
     told = [];
     reports = it.rest.reports ∙ sym (append-nil a.reports);
+    counted = refl;
     sound = λ r V c l. record {
       same = used_silent c.kept (scheme_found c.env ms x) (value_of c.chosen key);
       holds = sound V c l;

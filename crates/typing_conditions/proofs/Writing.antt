@@ -114,6 +114,7 @@ module _ (F : Frame) (a b : Sight) (s t : List Change) (n : ℕ) (x : Name) (r :
       judged = [];
       told = [];
       reports = w.reports ∙ sym (append-nil a.reports);
+      counted = refl;
       sound = λ r V c l. nothing_met c.kept;
       follows = λ r V c l. refl;
       complete = λ named V c e h. inl (record { same = refl; types = with_type V n (c.chosen.written F.owner x); on = goes V c e; hidden_too = (tt, tt) });

@@ -13,7 +13,7 @@ use Rattle.typing_conditions.specs.Sights.{Report, Sight, Letters, AreGiven, Are
 use Rattle.typing_conditions.specs.Frames.{Frame, Reaches}
 use Rattle.typing_conditions.specs.Hiding.{Keeps, Settles}
 use Rattle.typing_conditions.specs.Meanings.{Means, KnowsWritten}
-use Rattle.typing_conditions.specs.Judging.{Judgement, judgements, AreKept, Follows, StartsWith, FallsShort, TellAll, Meets}
+use Rattle.typing_conditions.specs.Judging.{Judgement, judgements, refused, AreKept, Follows, StartsWith, FallsShort, TellAll, Meets}
 
 -- what a part asks, by the context in which it stands
 abbrev pub Asks : Type 0
@@ -94,6 +94,7 @@ pub record Continues (F : Frame) (asks : Asks) (a b : Sight) (G hidden : Letters
 -- What conditions ask was done, from one state to another, where the letters G are open before and G' after.
 -- `sound`: where typing in the frame reached the state before, each reading of the state after meets the conditions, under the demands that were kept, and what
 -- was reported are the others, in order.
+-- `counted`: there are as many reports as demands that weren't kept, whatever may be read off.
 -- `follows`: each reading of the state after, whatever demands are kept, asks the demands that were judged, in order, as long as they are kept as they were judged.
 -- `complete`: types that fitted before and meet the conditions, under any set of kept demands, keep the same demands and go on; or they are the first not to
 -- keep one that was kept. So a demand that wasn't kept never is, together with those before it.
@@ -107,6 +108,7 @@ pub record Carried (F : Frame) (scope : Scope) (asks : Asks) (a : Sight) (G : Le
   pub judged : List Judgement
   pub told : List Report
   pub reports : b.reports ≡ a.reports ++ told
+  pub counted : length told ≡ refused judged
   pub sound : Reaches F a → (V : Types) (c : Context) → ReadsOff F scope b G' hidden judged V c → Meets c.kept (asks c) judged told
   pub follows : Reaches F a → (V : Types) (c : Context) → ReadsOff F scope b G' hidden [] V c → Follows c.kept (asks c) judged
   pub complete : HoldsWritten scope b → (V : Types) (c : Context) → Enters F scope a G V c → AllHold c.kept (asks c) → Continues F asks a b G' hidden judged V c ⊎ FallsShort (judgements c.kept (asks c)) judged

@@ -1,5 +1,5 @@
 -- Which demands are kept, in order, and what is reported of the others.
-use Rattle.std.specs.Prelude.{◌≡◌, ◌≢◌, ◌⊎◌, Bool, true, false, List, [], ◌∷◌, ◌++◌}
+use Rattle.std.specs.Prelude.{◌≡◌, ◌≢◌, ◌⊎◌, ℕ, ◌+◌, Bool, true, false, if◌then◌else◌, List, [], ◌∷◌, ◌++◌}
 use Rattle.tree_model.specs.Trees.{Place}
 use Rattle.typing_model.specs.Demands.{Site, Demand, equal, test, agrees, matches, closes, Complaint, Condition, same, instance, made, known, demand, treated, AllHold}
 use Rattle.typing_model.specs.Demands as complaint
@@ -34,6 +34,11 @@ judgements kept (made n t ∷ cs) = judgements kept cs
 judgements kept (known t ∷ cs) = judgements kept cs
 judgements kept (demand s at d ∷ cs) = judged_at s (kept s) (is_closing d) ∷ judgements kept cs
 judgements kept (treated n env ∷ cs) = judgements kept cs
+
+-- how many demands aren't kept
+abbrev pub refused : List Judgement → ℕ
+refused [] = 0
+refused (j ∷ js) = (if j.kept then 0 else 1) + refused js
 
 -- a set of kept demands has these judgements
 abbrev pub AreKept : (Site → Bool) → List Judgement → Type 0

@@ -24,7 +24,7 @@ use Rattle.typing_model.specs.Modules.{item_row}
 use Rattle.typing_model.specs.Meanings.{recorded_item, children_of, tree_child, item_base, items_from, items_of}
 use Rattle.typing_model.specs.Typings.{outermost}
 use Rattle.typing_laws.specs.Renaming.{renaming, StandsIn, at_node, AreRenamedChoices}
-use Rattle.typing_laws.specs.Plain.{is_plain_row, is_plain_item, has_no_modules}
+use Rattle.typing_model.specs.Plain.{is_plain_row, is_plain_item, has_no_modules}
 use Rattle.type_print_model.specs.Variables.{is_among}
 use Rattle.type_print_model.specs.Paths.{Naming}
 use Rattle.type_print_model.specs.Printing.{Prints}

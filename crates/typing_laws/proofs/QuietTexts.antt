@@ -22,7 +22,7 @@ use Rattle.typing_model.specs.Items.{inside_item, names_made, let_item, type_ite
 use Rattle.typing_model.specs.Modules.{item_row}
 use Rattle.typing_model.specs.Meanings.{binding_of, case_of, field_of, field_pattern_of, constructor_of, label_of, declaration_of, recorded_item, node_child, leaf_child, children_of, child_of, tree_child, item_base, items_from, items_of}
 use Rattle.typing_model.specs.Typings.{outermost, conditions_of, no_choice, body_in, body_asked, body_at, is_closing}
-use Rattle.typing_laws.specs.Plain.{is_plain_row, is_plain_item, has_no_modules}
+use Rattle.typing_model.specs.Plain.{is_plain_row, is_plain_item, has_no_modules}
 use Rattle.typing_laws.proofs.Bools.{no_yes, and_cases}
 use Rattle.typing_laws.proofs.Together.{is_end}
 use Rattle.typing_laws.proofs.Steady.{Each, no_one, one_and, each_append, IfThere, absent, there}

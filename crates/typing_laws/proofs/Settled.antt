@@ -7,7 +7,7 @@ use Rattle.signature_model.specs.Entries.{Environment}
 use Rattle.typing_model.specs.Demands.{Site, same_site, Condition, same, instance, made, known, demand, treated, sites_of}
 use Rattle.typing_model.specs.Contexts.{Choice}
 use Rattle.typing_model.specs.Typings.{conditions_of, is_site_among, sites_before, conditions_up_to}
-use Rattle.typing_laws.specs.Plain.{is_plain_row, has_no_modules, is_let_row, has_lets_alone}
+use Rattle.typing_model.specs.Plain.{is_plain_row, has_no_modules, is_let_row, has_lets_alone}
 use Rattle.typing_laws.proofs.Bools.{no_yes, and_cases, and_both}
 use Rattle.typing_laws.proofs.Together.{Kept}
 use Rattle.typing_laws.proofs.Whole.{Whole, at_end, at_demand, at_same, at_instance, at_made, at_known, at_treated}

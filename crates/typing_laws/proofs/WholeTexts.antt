@@ -13,7 +13,7 @@ use Rattle.typing_model.specs.Items.{inside_item, names_made, let_item, no_item,
 use Rattle.typing_model.specs.Modules.{item_row}
 use Rattle.typing_model.specs.Meanings.{recorded_item, children_of, tree_child, item_base, items_from, items_of}
 use Rattle.typing_model.specs.Typings.{outermost, conditions_of}
-use Rattle.typing_laws.specs.Plain.{is_let_row, has_lets_alone}
+use Rattle.typing_model.specs.Plain.{is_let_row, has_lets_alone}
 use Rattle.typing_laws.proofs.Bools.{no_yes, and_cases}
 use Rattle.typing_laws.proofs.Together.{Kept, keeping}
 use Rattle.typing_laws.proofs.Whole.{Whole, at_end, at_made, at_treated, behind, along}

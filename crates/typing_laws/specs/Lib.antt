@@ -1,4 +1,3 @@
--- For the laws of typings: substitutions and renamings of signatures and environments, and texts without modules.
+-- For the laws of typings: substitutions and renamings of signatures and environments.
 pub mod Under
 pub mod Renaming
-pub mod Plain

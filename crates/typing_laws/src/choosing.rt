@@ -14,7 +14,7 @@ ghost use Rattle.typing_model.specs.Contexts.{Choice};
 ghost use Rattle.typing_model.specs.Typings.{conditions_of, outermost, IsMostGeneralChoice};
 ghost use Rattle.typing_model.specs.Items.{behind_items};
 ghost use Rattle.typing_model.specs.Meanings.{items_of};
-ghost use Rattle.typing_laws.specs.Plain.{has_no_modules};
+ghost use Rattle.typing_model.specs.Plain.{has_no_modules};
 ghost use Rattle.typing_laws.specs.Renaming.{renaming, StandsIn, AreRenamedChoices, IsOf};
 ghost use Rattle.typing_laws.specs.Under.{IsUnder};
 

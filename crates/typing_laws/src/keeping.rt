@@ -4,7 +4,7 @@ ghost use Rattle.std.specs.Prelude.{◌≡◌, Bool, true, false, List};
 ghost use Rattle.tree_model.specs.Trees.{Tree};
 ghost use Rattle.signature_model.specs.Entries.{Environment};
 ghost use Rattle.typing_model.specs.Demands.{Site};
-ghost use Rattle.typing_laws.specs.Plain.{has_no_modules};
+ghost use Rattle.typing_model.specs.Plain.{has_no_modules};
 ghost use Rattle.typing_model.specs.Typings.{demands_of, is_site_among, sites_before, kept_before, is_closing, IsKept};
 
 /// Where two sets of kept demands ask for a demand and keep the same ones before it, both keep it or neither does; a body's closing

@@ -1,4 +1,4 @@
--- Which typings a text has: its demands, its faults, and the first environment.
+-- Which typings a text has: its demands, its faults, the first environment, and texts that can be typed.
 pub mod Demands
 pub mod Contexts
 pub mod Parts
@@ -15,5 +15,7 @@ pub mod Modules
 pub mod Meanings
 pub mod Typings
 pub mod Faults
+pub mod Plain
 pub mod PreludeText
 pub mod First
+pub mod Typable

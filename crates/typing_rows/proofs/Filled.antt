@@ -123,6 +123,7 @@ joined_means {F} {scope} {G} {type} {p} {q} {a} {b} W fits same h k j = by (j.jo
         judged = [];
         told = [];
         reports = j.rest.reports ∙ sym (append-nil a.reports);
+        counted = refl;
         sound = λ r V c l. record { same = refl; holds = tt; tells = refl };
         follows = λ r V c l. refl;
         complete = λ named V c e asked.

@@ -52,6 +52,7 @@ pub record Judges (B : Before) (asks : Asks) (a b : Sight) (s : Site) (v : Bool)
 -- a test that holds
 test_held : {B : Before} {at : Place} (x : Complaint) (s : Site) → Settled B (λ c. demand s at (test x true) ∷ []) (judged_as s true) [] []
 test_held {B} {at} x s = record {
+  counted = refl;
   sound = λ c b k f. record {
     same = ap (judged_as s) k.0;
     holds = ((λ kept. refl), tt);
@@ -72,6 +73,7 @@ test_held {B} {at} x s = record {
 -- a test that doesn't hold, and is reported
 test_reported : {B : Before} {at : Place} (x : Complaint) (s : Site) (r : Report) → r.at ≡ at → r.kind ≡ judging.kind_of x → Settled B (λ c. demand s at (test x false) ∷ []) (judged_as s false) (r ∷ []) []
 test_reported {B} {at} x s r place kind = record {
+  counted = refl;
   sound = λ c b k f. record {
     same = ap (judged_as s) k.0;
     holds = ((λ kept. absurd (not_both k.0 kept)), tt);

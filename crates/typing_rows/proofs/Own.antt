@@ -28,6 +28,7 @@ same_itself {F} {scope} {G} {a} type = record {
   judged = [];
   told = [];
   reports = sym (append-nil a.reports);
+  counted = refl;
   sound = λ r V c l. record { same = refl; holds = (refl, tt); tells = refl };
   follows = λ r V c l. refl;
   complete = λ named. complete;
@@ -47,6 +48,7 @@ ends_made {F} {scope} {G} {a} {n} {m} {type} {ends} p end = record {
   judged = [];
   told = [];
   reports = sym (append-nil a.reports);
+  counted = refl;
   sound = λ r V c l.
       let before = agrees_before (stays_opened {F = F} (own n) p.open_node.inside) l.agrees in
       record { same = end.silent c; holds = end.holds c (l.agrees.given.0.is ∙ sym (p.is V c.chosen (fits_loosely a.nodes V l.reads.fits) before)); tells = end.reports_none c };
@@ -76,6 +78,7 @@ own_recorded {F} {scope} {asks} {a} {b} {d} {G} {H} n {p} {m} number it means r 
   judged = it.judged;
   told = it.told;
   reports = r.reports ∙ it.reports;
+  counted = it.counted;
   sound = λ r' V c l.
       let g = agrees_before later l.agrees in
       let meets = it.sound r' V c (record {

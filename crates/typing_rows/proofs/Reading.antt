@@ -54,6 +54,7 @@ read_closed {F} {scope} {asks} {a} {b} {G} {n} {m} more r = record {
     judged = p.judged;
     told = p.told;
     reports = p.reports;
+    counted = p.counted;
     sound = λ r V c l. p.sound r V c (record {
       under = l.under;
       reads = l.reads;

@@ -8,7 +8,7 @@ use Rattle.typing_model.specs.Contexts.{Choice, Context, type_at, tell}
 use Rattle.typing_conditions.specs.Sights.{Report}
 use Rattle.typing_conditions.specs.Judging.{Judgement, judgements, AreKept, Follows, StartsWith, FallsShort, Meets}
 use Rattle.typing_conditions.specs.Carrying.{Asks}
-use Rattle.typing_conditions.proofs.Judged.{hold_both, hold_left, hold_right, judged_both, judged_kept, kept_left, kept_right, tell_both, follows_both, short_left, short_right, short_of_more, starts_all, starts_left, starts_right}
+use Rattle.typing_conditions.proofs.Judged.{hold_both, hold_left, hold_right, judged_both, counted_both, judged_kept, kept_left, kept_right, tell_both, follows_both, short_left, short_right, short_of_more, starts_all, starts_left, starts_right}
 use Rattle.typing_conditions.proofs.Carried.{Decides, take_none, less_or_more}
 use Rattle.typing_conditions.proofs.First.{starts_none, first_none, nothing_met}
 use Rattle.typing_rows.specs.Settled.{Fixes, AreFixed, Before, IsBehind, behind, Settled, Gives, GivesAll}
@@ -39,6 +39,7 @@ next_behind B c js fs b k f = record { types = b.types; variables = b.variables;
 -- nothing is asked
 pub settled_none : {B : Before} → Settled B (λ c. []) [] [] []
 settled_none = record {
+  counted = refl;
   sound = λ c b k f. nothing_met c.kept;
   follows = λ c b f. refl;
   complete = λ c b h. inl (refl, tt);
@@ -48,6 +49,7 @@ settled_none = record {
 -- one list of conditions after another, which stands behind it
 unfoldable pub settled_trans : {B : Before} {asks further : Asks} {js ks : List Judgement} {rs ss : List Report} {fs gs : Fixes} → Settled B asks js rs fs → Settled (behind B js fs) further ks ss gs → Settled B (λ c. asks c ++ further c) (js ++ ks) (rs ++ ss) (fs ++ gs)
 settled_trans {B} {asks} {further} {js} {ks} {rs} {ss} {fs} {gs} p q = record {
+  counted = counted_both js ks rs ss p.counted q.counted;
   sound = λ c b k f.
       let one = p.sound c b (kept_left c.kept js ks k) (fixed_left c.chosen fs gs f) in
       let two = q.sound c (next_behind B c js fs b (kept_left c.kept js ks k) (fixed_left c.chosen fs gs f)) (kept_right c.kept js ks k) (fixed_right c.chosen fs gs f) in
@@ -105,6 +107,7 @@ settled_trans {B} {asks} {further} {js} {ks} {rs} {ss} {fs} {gs} p q = record {
 -- conditions may be written in another way, where they are the same in each context that stands there
 unfoldable pub settled_here : {B : Before} {asks others : Asks} {js : List Judgement} {rs : List Report} {fs : Fixes} → ((c : Context) → IsBehind B c → asks c ≡ others c) → Settled B asks js rs fs → Settled B others js rs fs
 settled_here {B} {asks} {others} {js} {rs} {fs} e p = record {
+  counted = p.counted;
   sound = λ c b k f. subst (λ cs. Meets c.kept cs js rs) (e c b) (p.sound c b k f);
   follows = λ c b f. subst (λ cs. Follows c.kept cs js) (e c b) (p.follows c b f);
   complete = λ c b h. subst (λ cs. ((judgements c.kept cs ≡ js) × AreFixed fs c.chosen) ⊎ FallsShort (judgements c.kept cs) js) (e c b) (p.complete c b (subst (AllHold c.kept) (sym (e c b)) h));
@@ -126,6 +129,7 @@ first_single {B} {js} fs ask complete (suc k) c b h =
 -- a node has a type that is one in all contexts that stand there
 pub settled_same : {B : Before} (n : ℕ) (t : Typ) (u : Context → Typ) → ((c : Context) → IsBehind B c → u c ≡ t) → Settled B (λ c. same (type_at c n) (u c) ∷ []) [] [] ((n, t) ∷ [])
 settled_same {B} n t u e = record {
+  counted = refl;
   sound = λ c b k f. record { same = refl; holds = (f.0 ∙ sym (e c b), tt); tells = refl };
   follows = λ c b f. refl;
   complete = complete;
@@ -138,6 +142,7 @@ settled_same {B} n t u e = record {
 -- where only the environment in which a node is treated is made known
 pub settled_told : {B : Before} (n : ℕ) → Settled B (λ c. tell n c) [] [] []
 settled_told {B} n = record {
+  counted = refl;
   sound = λ c b k f. record { same = refl; holds = (tt, tt); tells = refl };
   follows = λ c b f. refl;
   complete = complete;

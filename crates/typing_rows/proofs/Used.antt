@@ -115,6 +115,7 @@ root_used {F} {scope} {G} {a} {b} {C} {N} {arity} {root} {m} {t} key free s f na
       judged = [];
       told = [];
       reports = rest.reports ∙ sym (append-nil a.reports);
+      counted = refl;
       sound = λ r V c l. record { same = refl; holds = tt; tells = refl };
       follows = λ r V c l. refl;
       complete = λ named V c e h. inl (complete V c e);

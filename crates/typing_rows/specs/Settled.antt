@@ -5,7 +5,7 @@ use Rattle.typing_model.specs.Demands.{AllHold}
 use Rattle.signature_model.specs.Declarations.{Name}
 use Rattle.typing_model.specs.Contexts.{Choice, Context, parameters}
 use Rattle.typing_conditions.specs.Sights.{Report, Sight}
-use Rattle.typing_conditions.specs.Judging.{Judgement, judgements, AreKept, Follows, StartsWith, FallsShort, Meets}
+use Rattle.typing_conditions.specs.Judging.{Judgement, judgements, refused, AreKept, Follows, StartsWith, FallsShort, Meets}
 use Rattle.typing_conditions.specs.Carrying.{Asks}
 use Rattle.env_table.specs.declared.entries.Declaration.{Declaration}
 use Rattle.env_table.specs.declared.entries.Entry.{Entry}
@@ -49,11 +49,13 @@ abbrev pub behind : Before → List Judgement → Fixes → Before
 behind B js fs = record { env = B.env; named = B.named; names = B.names; judged = B.judged ++ js; fixes = B.fixes ++ fs }
 
 -- Conditions are settled, with these judgements and reports, and with one type for each of these nodes.
+-- `counted`: there are as many reports as demands that weren't kept.
 -- `sound`: a choice that has these types meets the conditions, under the demands that were kept, and what was reported are the others, in order.
 -- `follows`: the same of the order of the judgements, whatever is kept, as long as it is what was judged.
 -- `complete`: a choice that meets the conditions, under any set of kept demands, keeps the same demands and has these types; or it is the first not to keep one
 -- that was kept. `first`: the same of the demands alone for the first conditions, where only they are met.
 pub record Settled (B : Before) (asks : Asks) (judged : List Judgement) (told : List Report) (fixes : Fixes) : Type 0 where
+  pub counted : length told ≡ refused judged
   pub sound : (c : Context) → IsBehind B c → AreKept c.kept judged → AreFixed fixes c.chosen → Meets c.kept (asks c) judged told
   pub follows : (c : Context) → IsBehind B c → AreFixed fixes c.chosen → Follows c.kept (asks c) judged
   pub complete : (c : Context) → IsBehind B c → AllHold c.kept (asks c) → ((judgements c.kept (asks c) ≡ judged) × AreFixed fixes c.chosen) ⊎ FallsShort (judgements c.kept (asks c)) judged

@@ -7,3 +7,4 @@ pub mod Types
 pub mod Demands
 pub mod Places
 pub mod Bound
+pub mod Fresh

@@ -2,6 +2,7 @@
 ghost use Rattle.std.specs.Prelude.{◌≡◌, [], ◌∷◌, IfOk};
 ghost use Rattle.text_terms.specs.Bytes.{str_bytes};
 ghost use Rattle.typing_state.specs.BuiltIns.{number_of, name_of, first_of};
+ghost use Rattle.typing_state.specs.Fresh.{MakesConstant, MakesConstants};
 
 use std::alloc::Global;
 use text_terms::RcStr;
@@ -103,13 +104,17 @@ pub struct Constants {
     pub exn: NodeRef,
 }
 
-fn constant(alloc: Global, store: &mut Store, which: BuiltIn) -> Result<NodeRef, NoMemory> {
+fn constant(alloc: Global, store: &mut Store, which: BuiltIn) -> Result<NodeRef, NoMemory>
+    ensures { IfOk result (λ n. MakesConstant which store.old store.new n.0) }
+{
     store.con(&which.origin(alloc)?, &[])
 }
 
 impl Constants {
     /// New nodes in a store.
-    pub fn new(alloc: Global, store: &mut Store) -> Result<Constants, NoMemory> {
+    pub fn new(alloc: Global, store: &mut Store) -> Result<Constants, NoMemory>
+        ensures made { IfOk result (λ k. MakesConstants store.old store.new k) }
+    {
         Ok(Constants {
             int: constant(alloc, store, BuiltIn::Int)?,
             char: constant(alloc, store, BuiltIn::Char)?,

@@ -1,7 +1,8 @@
 //! What the typing of a text works on.
-ghost use Rattle.std.specs.Prelude.{◌≡◌, ℕ, ◌+◌, ◌*◌, ◌^◌, None, Some, OnOk, OnErr};
+ghost use Rattle.std.specs.Prelude.{◌≡◌, ℕ, ◌+◌, ◌*◌, ◌^◌, None, Some, IfOk, OnOk, OnErr};
 ghost use Rattle.text_terms.specs.Bytes.{str_bytes};
 ghost use Rattle.typed_index.specs.Seen.{seen_at};
+ghost use Rattle.typing_state.specs.Fresh.{IsNew};
 ghost use Rattle.typing_state.specs.Goes.{Goes, faults_of, OnlyFaults, OnlyIndex, Told};
 ghost use Rattle.typing_state.specs.Notes.{Noted, NotedNameless, IsRecorded};
 
@@ -48,8 +49,10 @@ pub struct Parts {
 }
 
 impl Parts {
-    /// A store with the built-in types, and nothing recorded.
-    pub fn new(alloc: Global) -> Result<Parts, NoMemory> {
+    /// A store with the built-in types, and nothing recorded or reported.
+    pub fn new(alloc: Global) -> Result<Parts, NoMemory>
+        ensures fresh { IfOk result IsNew }
+    {
         let mut store = Store::new(alloc);
         let constants = Constants::new(alloc, &mut store)?;
         Ok(Parts {

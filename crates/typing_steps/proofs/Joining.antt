@@ -50,6 +50,7 @@ same_joined {F} {scope} {G} {first} {second} {m} {n} {a} {b} sound p q rest tigh
   judged = [];
   told = [];
   reports = rest.reports ∙ sym (append-nil a.reports);
+  counted = refl;
   sound = λ r V c l.
       let old = one.read V l.reads in
       let g = agrees_before stays l.agrees in
@@ -112,6 +113,7 @@ scoped_letter {F} {scope} {G} {a} {b} {s} {t} {n} {o} {asks} key free limits r m
     judged = [];
     told = [];
     reports = rest.reports ∙ sym (append-nil a.reports);
+    counted = refl;
     sound = λ r V c l. record {
       same = limits.silent c;
       holds = limits.holds c (subst (IsInScope o) (sym l.agrees.given.0.is) (l.reads.fits.each n (Var F.level o) (made_here (state a.nodes s) (state b.nodes t) n (Var F.level o) makes) not_bound));

@@ -205,6 +205,7 @@ limit_asked {F} {a} {b} {mid} {v} {l} {o} {m} {scope} {G} {type} {asks} at p lim
   judged = [];
   told = [];
   reports = at.rest.reports ∙ sym (append-nil a.reports);
+  counted = refl;
   sound = λ reached V c r.
       let before = (one at p.open_node).read V r.reads in
       let here : IsInScope o (V v) = before.0.fits.each v (Var l o) (there at p.open_node) at.free in

@@ -34,7 +34,8 @@ use Rattle.typing_conditions.proofs.DeclaredLater.{declared_after, exception_aft
 use Rattle.typing_conditions.specs.Surroundings.{Declared, IsSteady, Surrounds}
 use Rattle.typing_steps.specs.Typing.{as_declared}
 use Rattle.typing_conditions.proofs.Inward.{fixed_nodes}
-use Rattle.typing_conditions.proofs.Making.{made_here}
+use Rattle.typing_conditions.proofs.Making.{makes_extends, made_here, loose_before}
+use Rattle.typing_state.specs.Fresh.{IsNew}
 use Rattle.typing_steps.specs.States.{sight}
 use Rattle.typing_steps.specs.Constants.{HasType, HasConstants}
 use Rattle.typing_steps.specs.Starts.{frame_at}
@@ -60,6 +61,27 @@ constants_kept a b goes h = subst (λ k. HasConstants (record b { constants = k 
   bool = type_kept a.store.nodes b.store.nodes _ _ goes.types h.bool;
   exn = type_kept a.store.nodes b.store.nodes _ _ goes.types h.exn;
 })
+
+-- what has a type has it still where one node more is made
+type_after : {old new : State} {k : ℕ} {c : Node} (n : NodeRef) (t : Typ) → Makes old new k c → HasType old.nodes n t → HasType new.nodes n t
+type_after {old} {new} {k} {c} n t made h =
+    let extends = makes_extends old new k c made in
+    record { inside = (let i = h.inside in let l = extends.longer in omega arith); is = λ V loose. h.is V (loose_before old.nodes new.nodes V extends loose) }
+
+-- So a new state has the built-in types.
+pub new_constants : (at : Parts) → IsNew at → HasConstants at
+new_constants at new =
+    let k = new.constants in
+    let c = at.constants in
+    record {
+      int = type_after c.int _ k.exn (type_after c.int _ k.bool (type_after c.int _ k.unit (type_after c.int _ k.float (type_after c.int _ k.string (type_after c.int _ k.char (constant_made _ _ c.int _ _ k.int))))));
+      char = type_after c.char _ k.exn (type_after c.char _ k.bool (type_after c.char _ k.unit (type_after c.char _ k.float (type_after c.char _ k.string (constant_made _ _ c.char _ _ k.char)))));
+      string = type_after c.string _ k.exn (type_after c.string _ k.bool (type_after c.string _ k.unit (type_after c.string _ k.float (constant_made _ _ c.string _ _ k.string))));
+      float = type_after c.float _ k.exn (type_after c.float _ k.bool (type_after c.float _ k.unit (constant_made _ _ c.float _ _ k.float)));
+      unit = type_after c.unit _ k.exn (type_after c.unit _ k.bool (constant_made _ _ c.unit _ _ k.unit));
+      bool = type_after c.bool _ k.exn (constant_made _ _ c.bool _ _ k.bool);
+      exn = constant_made _ _ c.exn _ _ k.exn;
+    }
 
 -- a root that has a type without variables means it
 pub type_means : (a : Parts) {F : Frame} (n : NodeRef) (t : Typ) → Reaches F (sight a) → IsIn F.roots n.0 → ((v : ℕ) → occurs v t ≡ false) → HasType a.store.nodes n t → Means F (sight a) [] (λ ch. t) n.0

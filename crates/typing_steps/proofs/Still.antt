@@ -53,6 +53,7 @@ carried_idle {F} {scope} {asks} {a} {b} {G} idle rest same = record {
   judged = [];
   told = [];
   reports = same ∙ sym (append-nil a.reports);
+  counted = refl;
   sound = λ r V c l. record { same = idle.silent c; holds = idle.holds c; tells = idle.reports_none c };
   follows = λ r V c l. follows_silent c.kept (asks c) (idle.silent c);
   complete = λ named V c e h. inl (record { same = idle.silent c; types = V; on = goes_as rest e; hidden_too = (tt, tt) });

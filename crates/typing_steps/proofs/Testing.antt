@@ -47,6 +47,7 @@ carried_here {F} {scope} {asks} {others} {a} {b} {G} {H} e p = record {
   judged = p.judged;
   told = p.told;
   reports = p.reports;
+  counted = p.counted;
   sound = λ r V c l. subst (λ cs. Meets c.kept cs p.judged p.told) (at_end p.judged V c l) (p.sound r V c l);
   follows = λ r V c l. subst (λ cs. Follows c.kept cs p.judged) (at_end [] V c l) (p.follows r V c l);
   complete = λ named V c en h. elim (p.complete named V c en (subst (AllHold c.kept) (sym (at_start named V c en)) h)) [
