@@ -1,4 +1,9 @@
 //! Groups of declarations as they are written.
+ghost use Rattle.std.specs.Prelude.{◌≡◌, map, option_map, IfOk};
+ghost use Rattle.syntax_tree.specs.View.{node_view};
+ghost use Rattle.row_parts.specs.Numbered.{operand_view, operands_in};
+ghost use Rattle.decl_groups.specs.Written.{constructor_in, label_in, nodes_as, told_at, alias_in, own_by, right_of, declaration_in, declarations_in, constructor_view, label_view, told_view, right_view, declaration_view};
+
 use owned_lists::push;
 use row_parts::{Operand, first_operand, operand_in, operands, token, tokens};
 use std::alloc::Global;
@@ -57,7 +62,9 @@ pub struct DeclarationPart<'a> {
     pub missing: Vec<u32>,
 }
 
-fn constructor_part<'a>(node: &'a Node, number: u32) -> ConstructorPart<'a> {
+fn constructor_part<'a>(node: &'a Node, number: u32) -> ConstructorPart<'a>
+    ensures { constructor_view result ≡ constructor_in number (node_view node.now) }
+{
     ConstructorPart {
         number,
         name: token(node, 0),
@@ -65,7 +72,9 @@ fn constructor_part<'a>(node: &'a Node, number: u32) -> ConstructorPart<'a> {
     }
 }
 
-fn label_part<'a>(node: &'a Node, number: u32) -> LabelPart<'a> {
+fn label_part<'a>(node: &'a Node, number: u32) -> LabelPart<'a>
+    ensures { label_view result ≡ label_in number (node_view node.now) }
+{
     LabelPart {
         number,
         is_mutable: token(node, 0).is_some(),
@@ -78,9 +87,11 @@ fn constructors<'a>(
     alloc: Global,
     node: &'a Node,
     number: u32,
-) -> Result<Vec<ConstructorPart<'a>>, NoMemory> {
+) -> Result<Vec<ConstructorPart<'a>>, NoMemory>
+    ensures { IfOk result (λ ps. map constructor_view ps.items ≡ nodes_as constructor_in (operands_in number (node_view node.now) 1)) }
+{
     let mut found = Vec::new(alloc);
-    for part in operands(alloc, node, number, 1)? {
+    for part in operands(alloc, node, number, 1)?.iter() {
         if let Some(inner) = part.node {
             let constructor = constructor_part(inner, part.number);
             push(&mut found, constructor)?;
@@ -89,9 +100,11 @@ fn constructors<'a>(
     Ok(found)
 }
 
-fn labels<'a>(alloc: Global, node: &'a Node, number: u32) -> Result<Vec<LabelPart<'a>>, NoMemory> {
+fn labels<'a>(alloc: Global, node: &'a Node, number: u32) -> Result<Vec<LabelPart<'a>>, NoMemory>
+    ensures { IfOk result (λ ps. map label_view ps.items ≡ nodes_as label_in (operands_in number (node_view node.now) 1)) }
+{
     let mut found = Vec::new(alloc);
-    for part in operands(alloc, node, number, 1)? {
+    for part in operands(alloc, node, number, 1)?.iter() {
         if let Some(inner) = part.node {
             push(&mut found, label_part(inner, part.number))?;
         }
@@ -100,7 +113,9 @@ fn labels<'a>(alloc: Global, node: &'a Node, number: u32) -> Result<Vec<LabelPar
 }
 
 /// What a row tells of values; None of a row that tells nothing.
-fn told_by<'a>(alloc: Global, node: &'a Node, number: u32) -> Result<Option<Told<'a>>, NoMemory> {
+fn told_by<'a>(alloc: Global, node: &'a Node, number: u32) -> Result<Option<Told<'a>>, NoMemory>
+    ensures { IfOk result (λ k. option_map told_view k ≡ told_at number (node_view node.now)) }
+{
     match node.row {
         RowName::Variant => Ok(Some(Told::Constructors(constructors(alloc, node, number)?))),
         RowName::Record => Ok(Some(Told::Labels(labels(alloc, node, number)?))),
@@ -109,7 +124,9 @@ fn told_by<'a>(alloc: Global, node: &'a Node, number: u32) -> Result<Option<Told
 }
 
 /// What stands behind the type of an alias.
-fn alias<'a>(alloc: Global, node: &'a Node, number: u32) -> Result<Right<'a>, NoMemory> {
+fn alias<'a>(alloc: Global, node: &'a Node, number: u32) -> Result<Right<'a>, NoMemory>
+    ensures { IfOk result (λ r. right_view r ≡ alias_in number (node_view node.now)) }
+{
     let ty = operand_in(node, number, 0);
     if let Some(kind) = first_operand(node, number, 2) {
         if let Some(inner) = kind.node {
@@ -121,18 +138,27 @@ fn alias<'a>(alloc: Global, node: &'a Node, number: u32) -> Result<Right<'a>, No
     Ok(Right::Abbreviation(number, ty))
 }
 
-fn right_side<'a>(alloc: Global, operand: Option<Operand<'a>>) -> Result<Right<'a>, NoMemory> {
+fn right_side<'a>(alloc: Global, operand: Option<Operand<'a>>) -> Result<Right<'a>, NoMemory>
+    ensures { IfOk result (λ r. right_view r ≡ right_of (option_map operand_view operand.entry)) }
+{
     let Some(part) = operand else {
         return Ok(Right::Abstract);
     };
     let Some(node) = part.node else {
         return Ok(Right::Abstract);
     };
-    if node.row == RowName::Alias {
-        return alias(alloc, node, part.number);
+    match node.row {
+        RowName::Alias => alias(alloc, node, part.number),
+        _ => own(alloc, node, part.number),
     }
-    match told_by(alloc, node, part.number)? {
-        Some(told) => Ok(Right::Own(part.number, told)),
+}
+
+/// A right side that is no alias: what its row tells.
+fn own<'a>(alloc: Global, node: &'a Node, number: u32) -> Result<Right<'a>, NoMemory>
+    ensures { IfOk result (λ r. right_view r ≡ own_by number (told_at number (node_view node.now))) }
+{
+    match told_by(alloc, node, number)? {
+        Some(told) => Ok(Right::Own(number, told)),
         None => Ok(Right::Abstract),
     }
 }
@@ -174,7 +200,9 @@ fn declaration_part<'a>(
     alloc: Global,
     node: &'a Node,
     number: u32,
-) -> Result<DeclarationPart<'a>, NoMemory> {
+) -> Result<DeclarationPart<'a>, NoMemory>
+    ensures { IfOk result (λ d. declaration_view d ≡ declaration_in number (node_view node.now)) }
+{
     let head = operand_in(node, number, 0);
     let (parameters, name) = match head.node {
         Some(inner) => (tokens(alloc, inner, 1)?, token(inner, 4)),
@@ -196,9 +224,11 @@ pub fn declarations_of<'a>(
     alloc: Global,
     item: &'a Node,
     number: u32,
-) -> Result<Vec<DeclarationPart<'a>>, NoMemory> {
+) -> Result<Vec<DeclarationPart<'a>>, NoMemory>
+    ensures { IfOk result (λ ds. map declaration_view ds.items ≡ declarations_in number (node_view item.now)) }
+{
     let mut found = Vec::new(alloc);
-    for part in operands(alloc, item, number, 2)? {
+    for part in operands(alloc, item, number, 2)?.iter() {
         if let Some(node) = part.node {
             let declaration = declaration_part(alloc, node, part.number)?;
             push(&mut found, declaration)?;

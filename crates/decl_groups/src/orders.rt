@@ -1,4 +1,7 @@
 //! In which order the types of a group are read that are other names of types: each behind those that it mentions.
+ghost use Rattle.std.specs.Prelude.{◌≡◌, slice_get};
+ghost use Rattle.decl_groups.specs.Marks.{mark_of};
+
 use crate::groups::{DeclarationPart, Right, Standing, arguments_in_front, is_several};
 use env_table::{Env, Found, Kind};
 use owned_lists::push;
@@ -283,7 +286,9 @@ impl Mentions {
 }
 
 /// Whether a place is marked.
-pub fn is_set(marks: &[bool], place: usize) -> bool {
+pub fn is_set(marks: &[bool], place: usize) -> bool
+    ensures { result ≡ mark_of (slice_get marks.now place) }
+{
     match marks.get(place) {
         Some(mark) => *mark,
         None => false,

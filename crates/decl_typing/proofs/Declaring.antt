@@ -1,8 +1,9 @@
 -- A declaration that is a type of its own: its node is recorded, its parameters are asked, and its type is made and closed.
-use Rattle.std.proofs.Common.{◌≡◌, ◌∙◌, ◌++◌, ℕ, List, [], ◌∷◌, length, option_map, refl, ap, subst, append_assoc}
+use Rattle.std.proofs.Common.{◌≡◌, ◌∙◌, ◌++◌, ℕ, List, [], ◌∷◌, length, Option, Some, option_map, refl, ap, subst, append_assoc}
 use denote.Ref.{Bor}
 use Rattle.syntax_tree.specs.declared.tree.Token.{Token}
 use Rattle.text_terms.specs.Bytes.{str_bytes}
+use Rattle.type_model.specs.Types.{Path}
 use Rattle.type_model.specs.Types.{Typ as type}
 use Rattle.signature_model.specs.Declarations.{parameters_from}
 use Rattle.typing_model.specs.Contexts.{parameters, tell}
@@ -26,8 +27,9 @@ use Rattle.typing_rows.proofs.Noted.{noted_on}
 use Rattle.decl_groups.specs.declared.groups.DeclarationPart.{DeclarationPart}
 use Rattle.decl_typing.specs.Asked.{tokens_as, SettlesTokens}
 use Rattle.decl_typing.specs.Denoting.{raised}
-use Rattle.decl_typing.specs.Parameters.{token_names}
-use Rattle.decl_typing.specs.Owned.{told_in, told_as, ShapeMade, ClosesType, DeclaresType}
+use Rattle.decl_typing.specs.Parameters.{token_names, shape_roots}
+use Rattle.decl_typing.specs.Owned.{told_in, told_as, ShapeMade, ClosesType, OriginOf, DeclaresType}
+use Rattle.decl_typing.proofs.Defining.{body_reads}
 
 -- the names of tokens are those of the definitions' tokens
 names_same : (ts : List (Bor Token)) → token_names ts ≡ names_of_tokens (tokens_as ts)
@@ -42,8 +44,8 @@ abbrev asked_still : {F : Frame} {U : List ℕ} {A : Assignment} (a b d : Parts)
 asked_still a b d first then at = assigned_still (ap (λ s. s.nodes) (then.store ∙ first.store)) refl (λ y k e. ap (λ w. written_in w y) (then.written ∙ first.written) ∙ e) at
 
 -- its type is made after its parameters were asked
-pub type_declared : (a b d f : Parts) (env : List Entry) (p : DeclarationPart) (root body : ℕ) (z : Shape) → OnlyIndex a b → Goes a b → SettlesTokens b d (tokens_as p.parameters.items) → OnlyFaults b d → Goes b d → ClosesType d f env p root body z → DeclaresType a f env p root z
-type_declared a b d f env p root body z first goes asked then goes' closes = λ right parts aloud zero B around F U A at types noted.
+pub type_declared : (a b d f : Parts) (env : List Entry) (p : DeclarationPart) (root body : ℕ) (defines : Option Path) (z : Shape) → OnlyIndex a b → Goes a b → SettlesTokens b d (tokens_as p.parameters.items) → OnlyFaults b d → Goes b d → ClosesType d f env p root body z → OriginOf f body defines → DeclaresType a f env p root defines z
+type_declared a b d f env p root body defines z first goes asked then goes' closes origin = λ right parts aloud zero B around F U A at types noted.
     let n = number_of a.item p.number in
     let k = length p.parameters.items in
     let ts = tokens_as p.parameters.items in
@@ -55,6 +57,8 @@ type_declared a b d f env p root body z first goes asked then goes' closes = λ 
     let m = x.makes in
     let shape = subst (λ i. Settled (behind (behind B [] []) t.judged []) (λ c. shape_asks c (option_map (told_as i) (told_in p.right))) m.settled.judged m.settled.reported m.settled.fixes) item m.settled.settled in
     let on = assigned_then still m.on in
+    let (inside, shown) = body_reads f.store.nodes (root ∷ shape_roots z) m.on.assigns m.of_body x.closes x.sound in
+    let (name, ms, reads) = shown in
     record {
       judged = t.judged ++ m.settled.judged;
       reported = t.told ++ m.settled.reported;
@@ -65,6 +69,7 @@ type_declared a b d f env p root body z first goes asked then goes' closes = λ 
       before = x.before;
       on = on;
       of_root = subst (λ i. Denotes on.after root (with_parameters k (type.Con (number_of i p.number ∷ []) (parameters_from 0 k)))) item m.of_root;
+      path = origin (number_of d.item p.number ∷ []) name ms inside reads ∙ ap (λ i. Some (number_of i p.number ∷ [])) item;
       made = subst (λ i. ShapeMade on.after (type.Con (number_of i p.number ∷ []) (parameters_from 0 k)) m.settled.fixes i (told_in p.right) z) item m.made;
       closes = x.closes;
       sound = x.sound;

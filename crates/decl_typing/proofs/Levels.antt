@@ -1,7 +1,7 @@
 -- Calls at another level.
 use Rattle.std.proofs.Common.{ℕ, List, refl}
 use Rattle.typing_state.specs.declared.parts.Parts.{Parts}
-use Rattle.typing_state.specs.Goes.{Goes, SameWork}
+use Rattle.typing_state.specs.Goes.{Goes, OnlyStore, SameWork}
 use Rattle.typing_state.proofs.Going.{inner_goes}
 use Rattle.type_expressions.specs.Untyped.{Untyped}
 use Rattle.typing_rows.specs.Noted.{AreNoted}
@@ -25,3 +25,7 @@ deeper_untyped at after l m x = record { types = x.types }
 -- and with what something is recorded for
 pub level_noted : (at : Parts) (l : ℕ) (U : List ℕ) → AreNoted U at → AreNoted U (with_level at l)
 level_noted at l U noted k i = let x = noted k i in record { item = x.item; place = x.place; small = x.small; number = x.number; seen = x.seen; at = x.at }
+
+-- what changes the store alone at another level does so
+pub deeper_store : (at after : Parts) (l : ℕ) → OnlyStore (with_level at l) after → OnlyStore at (with_level after at.level)
+deeper_store at after l x = record { index = x.index; faults = x.faults; written = x.written; item = x.item; level = refl; telling = x.telling; constants = x.constants }

@@ -11,3 +11,5 @@ pub mod Parameters
 pub mod Owned
 pub mod Asked
 pub mod Declaring
+pub mod Defining
+pub mod Entries

@@ -1,6 +1,6 @@
 -- A type of its own: what its calls do, one after the other.
-use Rattle.std.proofs.Common.{◌≡◌, ◌∙◌, ℕ, zero, suc, List, [], ◌∷◌, ◌++◌, length, Option, Some, None, refl, sym, ap, subst, append-nil}
-use Rattle.std.specs.Prelude.{slice_get}
+use Rattle.std.proofs.Common.{◌≡◌, ◌∙◌, ◌<◌, ℕ, zero, suc, List, [], ◌∷◌, ◌++◌, length, Option, Some, None, refl, sym, ap, subst, append-nil}
+use Rattle.std.specs.Prelude.{slice_get, slice_index_or}
 use Rattle.std.specs.declared.vec.Vec.{Vec}
 use Rattle.std.specs.declared.alloc.Global.{Global}
 use Rattle.type_model.specs.Types.{Path, Typ}
@@ -26,7 +26,9 @@ use Rattle.operand_laws.specs.Operands.{number_of}
 use Rattle.typing_rows.specs.Settled.{Before, Fixes}
 use Rattle.typing_rows.proofs.DeclaredOrdered.{store_reports, index_reports}
 use Rattle.typing_rows.proofs.Settling.{settled_none}
-use Rattle.declared_rows.specs.Assignments.{Assignment, Assigns, Assigned, Denotes}
+use Rattle.level_unify.specs.Generalising.{Generalised}
+use Rattle.typing_conditions.proofs.Bindings.{generalised_closes}
+use Rattle.declared_rows.specs.Assignments.{Assignment, Assigns, Assigned, Denotes, AssignedTo}
 use Rattle.declared_rows.specs.Contracts.{AreParameters}
 use Rattle.declared_rows.proofs.Going.{assigned_refl, assigned_then, denotes_on}
 use Rattle.typing_rows.proofs.Noted.{noted_on}
@@ -39,7 +41,8 @@ use Rattle.decl_groups.specs.declared.groups.Told.TheVariants.{Constructors, Lab
 use Rattle.decl_typing.specs.Parts.{AreMade, none_made, one_made, nameless, ReadsConstructors, shape_constructors}
 use Rattle.decl_typing.specs.LabelParts.{AreLabels, no_labels, one_label, nameless_label, ReadsLabels, shape_labels}
 use Rattle.decl_typing.specs.Parameters.{token_names, MakesParameters, MakesOwn, ClosesRoots, constructor_roots, label_roots, shape_roots}
-use Rattle.decl_typing.specs.Owned.{IsVariant, IsRecord, ShapeSettled, ShapeMade, nothing_made, constructors_made, labels_made, told_in, ToldRead, ReadsTold, TypeMade, MakesType, ClosesType}
+use Rattle.decl_typing.specs.Owned.{IsOwnRight, AreOwnRights, IsVariant, IsRecord, ShapeSettled, ShapeMade, nothing_made, constructors_made, labels_made, told_in, ToldRead, ReadsTold, TypeMade, MakesType, ClosesType, MakesOwnRoot, RootClosed}
+use Rattle.decl_typing.specs.Denoting.{raised}
 use Rattle.decl_typing.proofs.Levels.{with_level, level_noted}
 
 -- nothing is told
@@ -163,3 +166,29 @@ type_closed at read after l env p root body z one makes closes sound plain rest 
     inside : {F : Frame} {arity i : ℕ} {U : List ℕ} {A : Assignment} {owner t : Typ} {fixes : Fixes} {told : Option Told} → Assigns F arity U (sight read) A → Denotes A root t → ShapeMade A owner fixes i told z → (k r : ℕ) → slice_get (root ∷ shape_roots z) k ≡ Some r → IsNode read.store.nodes r
     inside at d made zero r e = let f : root ≡ r = cc in subst (IsNode read.store.nodes) f (at.opens root d.known).inside
     inside at d made (suc k) r e = (at.opens r (shape_known z made k r e)).inside
+
+-- the root of a type of its own over new parameters
+pub own_root_made : (a b d : Parts) (p : DeclarationPart) (ps : List ℕ) (root body : ℕ) → length ps ≡ length p.parameters.items → MakesParameters a b ps → Goes a b → MakesOwn b d ps (number_of b.item p.number ∷ []) root body → MakesOwnRoot a d p root
+own_root_made a b d p ps root body many parameters goes makes F U A at =
+    let x = parameters F U A at in
+    let y = makes F (length ps) U x.on.after x.on.assigns x.are in
+    subst (λ k. AssignedTo F k U (sight a) (sight d) A root (with_parameters k (type.Con (number_of a.item p.number ∷ []) (parameters_from 0 k)))) many
+    (subst (λ i. AssignedTo F (length ps) U (sight a) (sight d) A root (with_parameters (length ps) (type.Con (number_of i p.number ∷ []) (parameters_from 0 (length ps))))) goes.item (record { on = assigned_then x.on y.on; denotes = y.of_root }))
+
+-- it is closed between items
+pub own_root_closed : (at made after : Parts) (l : ℕ) (p : DeclarationPart) (root : ℕ) → (at.level ≡ 0 → l ≡ 1) → MakesOwnRoot (with_level at l) made p root → (IsNode made.store.nodes root → Generalised made.store.nodes after.store.nodes root at.level) → IsSound after.store.nodes → IsPlain after.store.nodes →
+    OnlyStore (with_level made at.level) after → at.level ≡ 0 → (F : Frame) (U : List ℕ) (A : Assignment) → Assigns F 0 U (sight (raised at)) A → RootClosed F U at after A p root
+own_root_closed at made after l p root one makes bound sound plain rest lowest F U A assigns =
+    let x = subst (λ k. MakesOwnRoot (with_level at k) made p root) (one lowest) makes F U A assigns in
+    record {
+      before = made;
+      to = x;
+      closes = λ K own. generalised_closes made.store.nodes after.store.nodes K root 0 own (x.on.assigns.opens root x.denotes.known).inside (subst (Generalised made.store.nodes after.store.nodes root) lowest (bound (x.on.assigns.opens root x.denotes.known).inside));
+      sound = sound;
+      plain = plain;
+      level = rest.level;
+    }
+
+-- one of some declarations, none of which is another type
+pub own_there : (ps : List DeclarationPart) (k : ℕ) (p : DeclarationPart) → k < length ps → p ≡ slice_index_or ps k p → AreOwnRights ps → IsOwnRight p.right
+own_there ps k p lt here own = subst (λ q. IsOwnRight q.right) (sym here) (own k p lt)

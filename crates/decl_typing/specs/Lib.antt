@@ -9,3 +9,5 @@ pub mod LabelParts
 pub mod Parameters
 pub mod Owned
 pub mod Asked
+pub mod Entries
+pub mod Groups

@@ -1,5 +1,6 @@
 -- What is made of a type of its own: its root, its type, and what is told of it.
-use Rattle.std.specs.Prelude.{◌≡◌, ◌≢◌, ℕ, true, List, [], ◌∷◌, ◌++◌, All, length, map, Option, Some, None, option_map}
+use Rattle.std.specs.Prelude.{◌≡◌, ◌≢◌, ℕ, ◌<◌, ◌^◌, true, List, [], ◌∷◌, ◌++◌, All, length, map, Option, Some, None, option_map}
+use Rattle.std.specs.declared.rc.Rc.{Rc}
 use Rattle.std.specs.declared.vec.Vec.{Vec}
 use Rattle.std.specs.declared.alloc.Global.{Global}
 use Rattle.token_model.specs.Kinds.{Tok}
@@ -11,12 +12,15 @@ use Rattle.typing_model.specs.Demands.{Condition}
 use Rattle.typing_model.specs.Patterns.{ask_all}
 use Rattle.typing_model.specs.Parts as parts
 use Rattle.typing_model.specs.Declarations.{shape_asks, new_tokens, names_of_tokens}
-use Rattle.type_nodes.specs.Nodes.{IsSound}
+use Rattle.type_nodes.specs.Nodes.{Con, IsNode, IsSound}
+use Rattle.type_nodes.specs.Links.{reading}
 use Rattle.type_nodes.specs.Readings.{Types}
+use Rattle.env_table.specs.declared.entries.Declaration.{Declaration}
 use Rattle.env_table.specs.declared.entries.Entry.{Entry}
 use Rattle.env_table.specs.declared.entries.Shape.{Shape}
 use Rattle.env_table.specs.declared.entries.Shape.TheVariants as shape
 use Rattle.typing_state.specs.declared.parts.Parts.{Parts}
+use Rattle.typing_state.specs.Goes.{OnlyStore}
 use Rattle.typing_conditions.specs.Declared.{with_parameters}
 use Rattle.typing_conditions.specs.Frames.{Frame}
 use Rattle.typing_conditions.specs.Judging.{Judgement}
@@ -25,7 +29,7 @@ use Rattle.typing_conditions.specs.Sights.{Report, Sight}
 use Rattle.typing_steps.specs.States.{is_aloud, sight}
 use Rattle.operand_laws.specs.Operands.{number_of}
 use Rattle.typing_rows.specs.Settled.{Fixes, AreFixed, Before, Around, Settled}
-use Rattle.declared_rows.specs.Assignments.{Assignment, Assigns, Assigned, Denotes}
+use Rattle.declared_rows.specs.Assignments.{Assignment, Assigns, Assigned, Denotes, AssignedTo}
 use Rattle.declared_rows.specs.Contracts.{Inside, KnowsTypes, AreNoted}
 use Rattle.decl_groups.specs.declared.groups.ConstructorPart.{ConstructorPart}
 use Rattle.decl_groups.specs.declared.groups.DeclarationPart.{DeclarationPart}
@@ -47,6 +51,10 @@ abbrev pub IsOwnRight : Right → Type 0
 IsOwnRight Abstract = Unit {0}
 IsOwnRight (Own n k) = Unit {0}
 IsOwnRight _ = ⊥
+
+-- no declaration of some has a right side that is another type
+abbrev pub AreOwnRights : List DeclarationPart → Type 0
+AreOwnRights ps = All (λ (p : DeclarationPart). IsOwnRight p.right) ps
 
 -- what a right side tells of values
 abbrev pub told_in : Right → Option Told
@@ -137,8 +145,12 @@ ClosesType a c env p root body z = IsOwnRight p.right → HasParts (told_in p.ri
 abbrev pub own_asks : (n : ℕ) → List Tok → Option parts.Told → Context → List Condition
 own_asks n ts told c = tell n c ++ ask_all n 1 (new_tokens [] ts) ++ shape_asks (record c { variables = parameters (names_of_tokens ts) }) told
 
--- these conditions are settled, and its type is made and closed
-pub record TypeDeclared (B : Before) (F : Frame) (a c : Parts) (A : Assignment) (p : DeclarationPart) (root : ℕ) (z : Shape) : Type 0 where
+-- the path that is answered of a node which reads as a constructor is that constructor's
+abbrev pub OriginOf : Parts → ℕ → Option Path → Type 0
+OriginOf a n given = (path name ms : List ℕ) → IsNode a.store.nodes n → reading a.store.nodes n ≡ Some (Con path name ms) → given ≡ Some path
+
+-- these conditions are settled, and its type is made and closed; it defines its own path
+pub record TypeDeclared (B : Before) (F : Frame) (a c : Parts) (A : Assignment) (p : DeclarationPart) (root : ℕ) (defines : Option Path) (z : Shape) : Type 0 where
   pub judged : List Judgement
   pub reported : List Report
   pub fixes : Fixes
@@ -148,6 +160,7 @@ pub record TypeDeclared (B : Before) (F : Frame) (a c : Parts) (A : Assignment) 
   pub before : Parts
   pub on : Assigned F (length p.parameters.items) numbers (sight (raised a)) (sight before) A
   pub of_root : Denotes on.after root (with_parameters (length p.parameters.items) (type.Con (number_of a.item p.number ∷ []) (parameters_from 0 (length p.parameters.items))))
+  pub path : defines ≡ Some (number_of a.item p.number ∷ [])
   pub made : ShapeMade on.after (type.Con (number_of a.item p.number ∷ []) (parameters_from 0 (length p.parameters.items))) fixes a.item (told_in p.right) z
   pub closes : (K : Types) → IsOwn before.store.nodes K → ClosesAll before.store.nodes c.store.nodes K (root ∷ shape_roots z) 0
   pub sound : IsSound c.store.nodes
@@ -156,6 +169,33 @@ pub record TypeDeclared (B : Before) (F : Frame) (a c : Parts) (A : Assignment) 
   pub noted : AreNoted numbers c
 
 -- Where faults are reported, a call between items declares a type of its own.
-abbrev pub DeclaresType : (a c : Parts) → List Entry → DeclarationPart → (root : ℕ) → Shape → Type 0
-DeclaresType a c env p root z = IsOwnRight p.right → HasParts (told_in p.right) → is_aloud a.telling ≡ true → a.level ≡ 0 → (B : Before) → Around env (token_names p.parameters.items) B → (F : Frame) (U : List ℕ) (A : Assignment) → Assigns F 0 U (sight (raised a)) A → KnowsTypes F B.named env → AreNoted U a →
-    TypeDeclared B F a c A p root z
+abbrev pub DeclaresType : (a c : Parts) → List Entry → DeclarationPart → (root : ℕ) → Option Path → Shape → Type 0
+DeclaresType a c env p root defines z = IsOwnRight p.right → HasParts (told_in p.right) → is_aloud a.telling ≡ true → a.level ≡ 0 → (B : Before) → Around env (token_names p.parameters.items) B → (F : Frame) (U : List ℕ) (A : Assignment) → Assigns F 0 U (sight (raised a)) A → KnowsTypes F B.named env → AreNoted U a →
+    TypeDeclared B F a c A p root defines z
+
+-- the root of a type of its own over new parameters is made
+abbrev pub MakesOwnRoot : (a b : Parts) → DeclarationPart → (root : ℕ) → Type 0
+MakesOwnRoot a b p root = (F : Frame) (U : List ℕ) (A : Assignment) → Assigns F 0 U (sight a) A →
+    AssignedTo F (length p.parameters.items) U (sight a) (sight b) A root (with_parameters (length p.parameters.items) (type.Con (number_of a.item p.number ∷ []) (parameters_from 0 (length p.parameters.items))))
+
+-- between items it is made and closed
+pub record RootClosed (F : Frame) (U : List ℕ) (a c : Parts) (A : Assignment) (p : DeclarationPart) (root : ℕ) : Type 0 where
+  pub before : Parts
+  pub to : AssignedTo F (length p.parameters.items) U (sight (raised a)) (sight before) A root (with_parameters (length p.parameters.items) (type.Con (number_of a.item p.number ∷ []) (parameters_from 0 (length p.parameters.items))))
+  pub closes : (K : Types) → IsOwn before.store.nodes K → ClosesAll before.store.nodes c.store.nodes K (root ∷ []) 0
+  pub sound : IsSound c.store.nodes
+  pub plain : IsPlain c.store.nodes
+  pub level : c.level ≡ a.level
+
+-- A call between items makes a declaration that is a type of its own, of which nothing more is known.
+pub record MakesOpaque (a c : Parts) (p : DeclarationPart) (d : Declaration) : Type 0 where
+  pub closes : a.level ≡ 0 → (F : Frame) (U : List ℕ) (A : Assignment) → Assigns F 0 U (sight (raised a)) A → RootClosed F U a c A p d.root.0
+  pub shape : d.shape ≡ shape.Opaque
+  pub arity : length p.parameters.items < 2 ^ 32 → d.arity ≡ length p.parameters.items
+  pub origin : option_map (λ o. o.path.items) d.origin ≡ Some (number_of a.item p.number ∷ [])
+  pub defines : option_map (λ o. o.path.items) d.defines ≡ Some (number_of a.item p.number ∷ [])
+
+-- One after the other, declarations are made that are types of their own, and all but the store is as before.
+pub data AreOpaque : (a c : Parts) → List DeclarationPart → List (Rc Declaration Global) → Type 0 where
+  none_opaque : {a : Parts} → AreOpaque a a [] []
+  one_opaque : {a b c : Parts} {p : DeclarationPart} {ps : List DeclarationPart} {d : Rc Declaration Global} {ds : List (Rc Declaration Global)} → MakesOpaque a b p d.value → OnlyStore a b → AreOpaque b c ps ds → AreOpaque a c (p ∷ ps) (d ∷ ds)

@@ -1,5 +1,6 @@
 //! Declarations of types and exceptions.
-ghost use Rattle.std.specs.Prelude.{◌≡◌, ◌<◌, ◌^◌, ℕ, List, [], ◌∷◌, ◌++◌, length, false, Some, None, option_map, OnOk, IfOk};
+ghost use Rattle.std.specs.Prelude.{◌≡◌, ◌<◌, ◌^◌, ℕ, List, [], ◌∷◌, ◌++◌, length, map, reverse, false, Some, None, option_map, OnOk, IfOk};
+ghost use Rattle.text_terms.specs.Bytes.{str_bytes};
 ghost use Rattle.syntax_tree.specs.View.{node_view, tok_of};
 ghost use Rattle.row_parts.specs.Numbered.{first_in, operand_view};
 ghost use Rattle.typing_state.specs.Goes.{Goes, OnlyFaults, OnlyIndex, OnlyStore};
@@ -19,7 +20,11 @@ ghost use Rattle.typing_rows.specs.DeclaredContracts.{SettlesTo};
 ghost use Rattle.decl_typing.specs.Denoting.{DenotesArgument, DenotesConstructor, ClosesArgument};
 ghost use Rattle.decl_typing.specs.Entering.{IsException, DeclaresException, DeclaresPartIf, DeclaresItem, alone, entered};
 ghost use Rattle.decl_typing.specs.Asked.{tokens_as, SettlesTokens};
-ghost use Rattle.decl_typing.specs.Owned.{IsOwnRight, IsVariant, IsRecord, told_in, ReadsTold, MakesType, ClosesType, DeclaresType};
+ghost use Rattle.decl_typing.specs.Owned.{IsOwnRight, AreOwnRights, IsVariant, IsRecord, told_in, ReadsTold, MakesType, ClosesType, OriginOf, DeclaresType, MakesOwnRoot, MakesOpaque, AreOpaque};
+ghost use Rattle.decl_typing.specs.Entries.{TypeEntryIf, IsToldEntry, second_names, names_told, constructor_names, label_names, names_told_if, values_of, AddsTold, AddsEntries, EntersNames, GroupEntered, QuietlyEntered};
+ghost use Rattle.decl_groups.specs.declared.groups.DeclarationPart.{DeclarationPart as CodePart};
+ghost use Rattle.decl_groups.specs.Marks.{AreUnset};
+ghost use Rattle.decl_typing.specs.Groups.{DeclaresEach, AddsOwn, DeclaresGroup, DeclaresTypes};
 ghost use Rattle.decl_typing.specs.Parameters.{token_names, MakesParameters, MakesDeclared, MakesOwn, constructor_roots, label_roots, shape_roots, ClosesRoots};
 ghost use Rattle.decl_typing.specs.Parts.{ReadsConstructor, ReadsConstructors, shape_constructors};
 ghost use Rattle.decl_typing.specs.LabelParts.{ReadsLabel, ReadsLabels, shape_labels};
@@ -42,7 +47,7 @@ use syntax_tree::{Node, Token};
 use text_terms::RcStr;
 use type_expressions::{Parameter, Variables, read_type};
 use type_nodes::{NoMemory, NodeRef, Origin};
-use typing_state::{Depth, Parts, Telling, new_entry, share_entry};
+use typing_state::{Depth, Parts, Telling, share_entry};
 
 /// What a group or an exception adds: the environment behind it, its entries in order, and the origins that it makes.
 #[derive(Drop)]
@@ -53,7 +58,9 @@ pub struct Declared {
 }
 
 /// Whether a declaration is another type where nothing stands against it.
-fn may_rename(right: &Right<'_>) -> bool {
+fn may_rename(right: &Right<'_>) -> bool
+    ensures own { IsOwnRight right.now → result ≡ false }
+{
     match right {
         Right::Abbreviation(_, _) => true,
         _ => false,
@@ -118,7 +125,9 @@ fn declared_root(at: &mut Parts, parameters: &[NodeRef], body: NodeRef) -> Resul
 }
 
 /// The origin of a type that is a constructor.
-fn origin_of(at: &Parts, ty: NodeRef) -> Result<Option<Origin>, NoMemory> {
+fn origin_of(at: &Parts, ty: NodeRef) -> Result<Option<Origin>, NoMemory>
+    ensures { IfOk result (λ x. OriginOf at.now ty.0 (option_map (λ (o : Origin). o.path.items) x)) }
+{
     match at.read(ty) {
         Some(type_nodes::View::Con(origin, _)) => {
             let path = origin.path.iter().copied().collect(at.alloc());
@@ -133,6 +142,9 @@ fn origin_of(at: &Parts, ty: NodeRef) -> Result<Option<Origin>, NoMemory> {
 
 /// A declaration that is a type of its own, of which nothing more is known.
 fn opaque(at: &mut Parts, part: &DeclarationPart<'_>) -> Result<Rc<Declaration>, NoMemory>
+    ensures means { IfOk result (λ d. MakesOpaque at.old at.new part.now d.value) }
+    ensures rest { OnlyStore at.old at.new }
+    ensures untyped { OnOk result (Untyped at.old at.new) }
     ensures goes { Goes at.old at.new }
 {
     let level = at.level;
@@ -141,6 +153,8 @@ fn opaque(at: &mut Parts, part: &DeclarationPart<'_>) -> Result<Rc<Declaration>,
     at.level = level;
     let root = made?;
     at.generalise(root)?;
+    // what is known of each store is made known by its length
+    let _nodes = at.store.len();
     let declaration = Declaration {
         arity: number_of(part.parameters.len()),
         origin: Some(origin_at(at, part.number, part.name)?),
@@ -153,6 +167,9 @@ fn opaque(at: &mut Parts, part: &DeclarationPart<'_>) -> Result<Rc<Declaration>,
 
 /// The root of a declaration that is a type of its own over new parameters.
 fn own_root(at: &mut Parts, part: &DeclarationPart<'_>) -> Result<NodeRef, NoMemory>
+    ensures means { IfOk result (λ r. MakesOwnRoot at.old at.new part.now r.0) }
+    ensures rest { OnlyStore at.old at.new }
+    ensures untyped { OnOk result (Untyped at.old at.new) }
     ensures goes { Goes at.old at.new }
 {
     let parameters = new_parameters(at, &part.parameters)?;
@@ -185,6 +202,7 @@ fn another(
     env: &Env,
     depth: Depth,
 ) -> Result<Rc<Declaration>, NoMemory>
+    ensures untyped { OnOk result (Untyped at.old at.new) }
     ensures goes { Goes at.old at.new }
 {
     let level = at.level;
@@ -210,6 +228,7 @@ fn another_type(
     env: &Env,
     depth: Depth,
 ) -> Result<(NodeRef, NodeRef), NoMemory>
+    ensures untyped { OnOk result (Untyped at.old at.new) }
     ensures goes { Goes at.old at.new }
 {
     let parameters = new_parameters(at, &part.parameters)?;
@@ -224,14 +243,29 @@ fn type_entry(
     at: &Parts,
     part: &DeclarationPart<'_>,
     declaration: &Rc<Declaration>,
-) -> Result<Option<Rc<Entry>>, NoMemory> {
+) -> Result<Option<Rc<Entry>>, NoMemory>
+    ensures { IfOk result (TypeEntryIf declaration.now.value part.now.name) }
+{
     let Some(name) = part.name else {
         return Ok(None);
     };
     let what = What::Type(shared(declaration)?);
-    let place = at.place(name.span);
-    let entry = new_entry(at.alloc(), name.name.share()?, Kind::TypeName, place, what)?;
-    Ok(Some(entry))
+    Ok(Some(entry_of(at, name, Kind::TypeName, what)?))
+}
+
+/// The entry of a name of this kind.
+fn entry_of(at: &Parts, name: &Token, kind: Kind, what: What) -> Result<Rc<Entry>, NoMemory>
+    ensures name { IfOk result (λ e. str_bytes e.value.name ≡ str_bytes name.now.name) }
+    ensures kind { IfOk result (λ e. e.value.kind ≡ kind) }
+    ensures what { IfOk result (λ e. e.value.what ≡ what) }
+{
+    let entry = Entry {
+        name: name.name.share()?,
+        kind,
+        place: at.place(name.span),
+        what,
+    };
+    owned(at.alloc(), entry)
 }
 
 /// The environment with the names of a group, in order.
@@ -240,12 +274,15 @@ fn with_names(
     parts: &[DeclarationPart<'_>],
     declared: &[Rc<Declaration>],
     env: &Env,
-) -> Result<Env, NoMemory> {
+) -> Result<Env, NoMemory>
+    ensures { IfOk result (λ r. EntersNames parts.now declared.now env.now r) }
+{
     let mut inner = env.share()?;
-    for (part, declaration) in parts.iter().zip(declared.iter()) {
-        if let Some(entry) = type_entry(at, part, declaration)? {
-            inner = inner.add(at.alloc(), entry)?;
-        }
+    for (place, part) in parts.iter().enumerate() {
+        let Some(declaration) = declared.get(place) else {
+            return Ok(inner);
+        };
+        inner = with_entry(at, &type_entry(at, part, declaration)?, &inner)?;
     }
     Ok(inner)
 }
@@ -260,6 +297,8 @@ fn sketched(
     env: &Env,
     depth: Depth,
 ) -> Result<Vec<Rc<Declaration>>, NoMemory>
+    ensures own { IfOk result (λ ds. AreOwnRights parts.now → AreOpaque at.old at.new parts.now ds.items) }
+    ensures untyped { OnOk result (Untyped at.old at.new) }
     ensures goes { Goes at.old at.new }
 {
     let mut declared = Vec::new(at.alloc());
@@ -284,6 +323,8 @@ fn sketch(
     inner: Env,
     depth: Depth,
 ) -> Result<Env, NoMemory>
+    ensures own { AreOwnRights parts.now → (at.new ≡ at.old) × (declared.new.items ≡ declared.old.items) }
+    ensures untyped { OnOk result (Untyped at.old at.new) }
     ensures goes { Goes at.old at.new }
 {
     let Some(part) = parts.get(place) else {
@@ -311,7 +352,9 @@ fn which_rename(
     at: &Parts,
     parts: &[DeclarationPart<'_>],
     mentions: &Mentions,
-) -> Result<Vec<bool>, NoMemory> {
+) -> Result<Vec<bool>, NoMemory>
+    ensures own { IfOk result (λ rs. AreOwnRights parts.now → AreUnset rs.items) }
+{
     let mut renames = Vec::new(at.alloc());
     for part in parts {
         push(&mut renames, may_rename(&part.right))?;
@@ -351,7 +394,7 @@ fn declare(
     inner: &Env,
     depth: Depth,
 ) -> Result<Rc<Declaration>, NoMemory>
-    ensures means { IfOk result (λ d. DeclaresType at.old at.new inner.now part.now d.value.root.0 d.value.shape) }
+    ensures means { IfOk result (λ d. DeclaresType at.old at.new inner.now part.now d.value.root.0 (option_map (λ (o : Origin). o.path.items) d.value.defines) d.value.shape) }
     ensures arity { IfOk result (λ d. length part.now.parameters.items < 2 ^ 32 → d.value.arity ≡ length part.now.parameters.items) }
     ensures origin { IfOk result (λ d. renames ≡ false → (o : Origin) × (d.value.origin ≡ Some o) × (o.path.items ≡ number_of at.old.item part.now.number ∷ [])) }
     ensures untyped { OnOk result (Untyped at.old at.new) }
@@ -732,25 +775,37 @@ fn number_of(count: usize) -> u32
 }
 
 /// The name tokens of what a declaration tells, with their numbers.
-fn told_names<'a>(alloc: Global, told: &Told<'a>) -> Result<Vec<(u32, &'a Token)>, NoMemory> {
+fn told_names<'a>(alloc: Global, told: &Told<'a>) -> Result<Vec<(u32, &'a Token)>, NoMemory>
+    ensures { IfOk result (λ ns. second_names ns.items ≡ names_told told.now) }
+{
     let mut names = Vec::new(alloc);
     match told {
-        Told::Constructors(parts) => {
-            for part in parts {
-                if let Some(name) = part.name {
-                    push(&mut names, (part.number, name))?;
-                }
-            }
-        }
+        Told::Constructors(parts) => push_constructors(&mut names, parts)?,
         Told::Labels(parts) => push_labels(&mut names, parts)?,
     }
     Ok(names)
 }
 
+fn push_constructors<'a>(
+    names: &mut Vec<(u32, &'a Token)>,
+    parts: &[ConstructorPart<'a>],
+) -> Result<(), NoMemory>
+    ensures { OnOk result (second_names names.new.items ≡ second_names names.old.items ++ constructor_names parts.now) }
+{
+    for part in parts {
+        if let Some(name) = part.name {
+            push(names, (part.number, name))?;
+        }
+    }
+    Ok(())
+}
+
 fn push_labels<'a>(
     names: &mut Vec<(u32, &'a Token)>,
     parts: &[LabelPart<'a>],
-) -> Result<(), NoMemory> {
+) -> Result<(), NoMemory>
+    ensures { OnOk result (second_names names.new.items ≡ second_names names.old.items ++ label_names parts.now) }
+{
     for part in parts {
         if let Some(name) = part.name {
             push(names, (part.number, name))?;
@@ -765,14 +820,14 @@ fn told_entry(
     declaration: &Rc<Declaration>,
     place: u32,
     name: &Token,
-) -> Result<Rc<Entry>, NoMemory> {
+) -> Result<Rc<Entry>, NoMemory>
+    ensures { IfOk result (λ e. IsToldEntry declaration.now.value place (str_bytes name.now.name) e.value) }
+{
     let owner = shared(declaration)?;
-    let (kind, what) = match &declaration.shape {
-        Shape::Labels(_) => (Kind::Label, What::Label(owner, place)),
-        _ => (Kind::Constructor, What::Constructor(owner, place)),
-    };
-    let span = at.place(name.span);
-    new_entry(at.alloc(), name.name.share()?, kind, span, what)
+    match &declaration.shape {
+        Shape::Labels(_) => entry_of(at, name, Kind::Label, What::Label(owner, place)),
+        _ => entry_of(at, name, Kind::Constructor, What::Constructor(owner, place)),
+    }
 }
 
 /// The entries of what a declaration tells, in order; each is recorded for its node.
@@ -783,6 +838,9 @@ fn told_entries(
     inner: &Env,
     entries: &mut Vec<Rc<Entry>>,
 ) -> Result<(), NoMemory>
+    ensures entries { OnOk result (AddsTold declaration.now.value (names_told_if (told_in part.now.right)) entries.old.items entries.new.items) }
+    ensures rest { OnlyIndex at.old at.new }
+    ensures untyped { OnOk result (Untyped at.old at.new) }
     ensures goes { Goes at.old at.new }
 {
     let told = match &part.right {
@@ -790,10 +848,11 @@ fn told_entries(
         Right::Own(_, told) => told,
         _ => return Ok(()),
     };
-    for (place, (number, name)) in told_names(at.alloc(), told)?.iter().enumerate() {
+    for (place, named) in told_names(at.alloc(), told)?.iter().enumerate() {
+        let (number, name) = *named;
         let entry = told_entry(at, declaration, number_of(place), name)?;
         let names = at.one_name(Some(&entry))?;
-        at.note(*number, inner, None, names)?;
+        at.note(number, inner, None, names)?;
         push(entries, entry)?;
     }
     Ok(())
@@ -807,6 +866,9 @@ fn part_entries(
     inner: &Env,
     entries: &mut Vec<Rc<Entry>>,
 ) -> Result<(), NoMemory>
+    ensures entries { OnOk result (AddsEntries declaration.now.value part.now entries.old.items entries.new.items) }
+    ensures rest { OnlyIndex at.old at.new }
+    ensures untyped { OnOk result (Untyped at.old at.new) }
     ensures goes { Goes at.old at.new }
 {
     let entry = type_entry(at, part, declaration)?;
@@ -826,6 +888,8 @@ fn declare_all(
     inner: &Env,
     depth: Depth,
 ) -> Result<Vec<Rc<Entry>>, NoMemory>
+    ensures own { IfOk result (λ es. AreOwnRights parts.now → AreUnset renames.now → DeclaresEach inner.now at.old at.new parts.now [] es.items) }
+    ensures untyped { OnOk result (Untyped at.old at.new) }
     ensures goes { Goes at.old at.new }
 {
     let mut entries = Vec::new(at.alloc());
@@ -844,6 +908,8 @@ fn report_reexport(
     part: &DeclarationPart<'_>,
     renamed: bool,
 ) -> Result<(), NoMemory>
+    ensures own { IsOwnRight part.now.right → at.new ≡ at.old }
+    ensures untyped { OnOk result (Untyped at.old at.new) }
     ensures goes { Goes at.old at.new }
 {
     if renamed {
@@ -865,6 +931,8 @@ fn report_cycles(
     parts: &[DeclarationPart<'_>],
     renames: &[bool],
 ) -> Result<(), NoMemory>
+    ensures own { AreOwnRights parts.now → at.new ≡ at.old }
+    ensures untyped { OnOk result (Untyped at.old at.new) }
     ensures goes { Goes at.old at.new }
 {
     for (place, part) in parts.iter().enumerate() {
@@ -886,6 +954,8 @@ pub fn group_env(
     env: &Env,
     depth: Depth,
 ) -> Result<Env, NoMemory>
+    ensures own { IfOk result (λ r. AreOwnRights parts.now → GroupEntered at.old at.new parts.now env.now r) }
+    ensures untyped { OnOk result (Untyped at.old at.new) }
     ensures goes { Goes at.old at.new }
 {
     let declared = sketched(at, parts, mentions, renames, env, depth)?;
@@ -901,6 +971,8 @@ fn group_env_quietly(
     env: &Env,
     depth: Depth,
 ) -> Result<Env, NoMemory>
+    ensures own { IfOk result (λ r. AreOwnRights parts.now → QuietlyEntered at.old at.new parts.now env.now r) }
+    ensures untyped { OnOk result (Untyped at.old at.new) }
     ensures goes { Goes at.old at.new }
 {
     let telling = at.telling;
@@ -919,6 +991,7 @@ pub fn type_decls(
     env: &Env,
     depth: Depth,
 ) -> Result<Declared, NoMemory>
+    ensures own { IfOk result (λ d. DeclaresTypes env.now at.old at.new number (node_view item.now) d) }
     ensures goes { Goes at.old at.new }
 {
     let missing = missing_in(at.alloc(), item, number, 2)?;
@@ -934,6 +1007,8 @@ fn declared_behind(
     env: &Env,
     depth: Depth,
 ) -> Result<Declared, NoMemory>
+    ensures own { IfOk result (λ d. AreOwnRights parts.now → DeclaresGroup env.now at.old at.new parts.now d) }
+    ensures untyped { OnOk result (AreOwnRights parts.now → Untyped at.old at.new) }
     ensures goes { Goes at.old at.new }
 {
     let mentions = Mentions::new(at.alloc(), parts, env)?;
@@ -950,6 +1025,8 @@ fn all_renames(
     env: &Env,
     depth: Depth,
 ) -> Result<Vec<bool>, NoMemory>
+    ensures own { AreOwnRights parts.now → at.new ≡ at.old }
+    ensures unset { IfOk result (λ rs. AreOwnRights parts.now → AreUnset rs.items) }
     ensures goes { Goes at.old at.new }
 {
     let renames = which_rename(at, parts, mentions)?;
@@ -965,13 +1042,15 @@ fn added(
     inner: &Env,
     depth: Depth,
 ) -> Result<Declared, NoMemory>
+    ensures own { IfOk result (λ d. AreOwnRights parts.now → AreUnset renames.now → AddsOwn inner.now env.now at.old at.new parts.now d) }
+    ensures untyped { OnOk result (Untyped at.old at.new) }
     ensures goes { Goes at.old at.new }
 {
     let entries = declare_all(at, parts, renames, inner, depth)?;
     report_cycles(at, parts, renames)?;
     let makes = origins_made(at, parts, renames)?;
     Ok(Declared {
-        env: at.with_entries(&entries, env)?,
+        env: with_entries(at, &entries, env)?,
         entries,
         makes,
     })
@@ -1008,6 +1087,17 @@ fn with_entry(at: &Parts, entry: &Option<Rc<Entry>>, env: &Env) -> Result<Env, N
     }
 }
 
+/// The environment with entries, in order.
+fn with_entries(at: &Parts, entries: &[Rc<Entry>], env: &Env) -> Result<Env, NoMemory>
+    ensures { IfOk result (λ r. r ≡ reverse (values_of entries.now) ++ env.now) }
+{
+    let mut inner = env.share()?;
+    for entry in entries {
+        inner = inner.add(at.alloc(), share_entry(entry)?)?;
+    }
+    Ok(inner)
+}
+
 /// An entry alone, where there is one.
 fn alone(at: &Parts, entry: Option<Rc<Entry>>) -> Result<Vec<Rc<Entry>>, NoMemory>
     ensures { IfOk result (λ r. r.items ≡ alone entry) }
@@ -1024,7 +1114,9 @@ fn origins_made(
     at: &Parts,
     parts: &[DeclarationPart<'_>],
     renames: &[bool],
-) -> Result<Vec<Origin>, NoMemory> {
+) -> Result<Vec<Origin>, NoMemory>
+    ensures { IfOk result (λ os. AreUnset renames.now → map (λ (o : Origin). o.path.items) os.items ≡ map (λ (p : CodePart). number_of at.now.item p.number ∷ []) parts.now) }
+{
     let mut makes = Vec::new(at.alloc());
     for (place, part) in parts.iter().enumerate() {
         if !is_set(renames, place) {

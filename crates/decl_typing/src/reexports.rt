@@ -1,5 +1,7 @@
 //! Re-exports: whether a declaration tells the same as the type that it names.
+ghost use Rattle.std.specs.Prelude.{◌≡◌, None, IfOk};
 ghost use Rattle.typing_state.specs.Goes.{Goes};
+ghost use Rattle.decl_typing.specs.Owned.{IsOwnRight, AreOwnRights};
 
 use crate::decls::group_env;
 use decl_groups::{ConstructorPart, DeclarationPart, LabelPart, Mentions, Right, Told, set};
@@ -33,6 +35,8 @@ pub fn with_reexports(
     env: &Env,
     depth: Depth,
 ) -> Result<Vec<bool>, NoMemory>
+    ensures own { AreOwnRights parts.now → at.new ≡ at.old }
+    ensures same { IfOk result (λ rs. AreOwnRights parts.now → rs ≡ renames) }
     ensures goes { Goes at.old at.new }
 {
     let mut renames = renames;
@@ -55,6 +59,8 @@ fn with_reexport(
     env: &Env,
     depth: Depth,
 ) -> Result<Option<Vec<bool>>, NoMemory>
+    ensures own { IsOwnRight part.now.right → at.new ≡ at.old }
+    ensures none { IfOk result (λ rs. IsOwnRight part.now.right → rs ≡ None) }
     ensures goes { Goes at.old at.new }
 {
     let Right::Reexport(_, ty, _, told) = &part.right else {

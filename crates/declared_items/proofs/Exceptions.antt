@@ -37,10 +37,10 @@ use Rattle.typing_rows.specs.Noted.{AreNoted}
 use Rattle.typing_rows.proofs.Noted.{noted_on, still_noted}
 use Rattle.typing_rows.proofs.Placed.{first_operand}
 use Rattle.declared_rows.proofs.Continuing.{fits_declared}
-use Rattle.binding_rows.specs.ItemRows.{recorded_exception, AreDeclared, ItemDone, GivesException}
+use Rattle.binding_rows.specs.ItemRows.{recorded_exception, AreDeclared, GivesException}
 use Rattle.binding_rows.specs.Outside.{Outside}
 use Rattle.binding_rows.proofs.ItemKinds.{noted_between}
-use Rattle.binding_rows.proofs.ItemOrders.{items_treated, treated_owned, outside_between, done_between}
+use Rattle.binding_rows.proofs.ItemOrders.{items_treated, treated_owned, outside_between}
 use Rattle.first_laws.specs.Declaring.{OnlyTypes, StartsAfter}
 use Rattle.first_laws.proofs.Exceptions.{outside_exception, exception_types}
 use Rattle.first_laws.proofs.SettledItems.{fixed_met, items_settled, settled_owned}
@@ -48,6 +48,8 @@ use Rattle.decl_typing.specs.declared.decls.Declared.{Declared}
 use Rattle.decl_typing.specs.Denoting.{OptionClosed}
 use Rattle.decl_typing.specs.Entering.{DeclaresOne, DeclaresPart, DeclaresPartIf, DeclaresException, DeclaresItem, entered}
 use Rattle.decl_typing.proofs.Made.{there_as_well}
+use Rattle.declared_items.specs.Adding.{ItemAdded, AddsException}
+use Rattle.declared_items.proofs.Adding.{item_added_between}
 use Rattle.declared_items.proofs.Frames.{own_types, own_at, exn_node, exn_inside, exn_closed, item_frame, frame_declares, starts, names_before, inside_none, exn_denotes}
 
 -- the token of a name, and the name
@@ -91,27 +93,31 @@ module _ (b d : Parts) {G : Letters} {env : List Entry} {E : Choice → Environm
   declared : (c : Context) → AreDeclared (exception_components c part)
   declared c = subst (λ o. AreDeclared (exception_components c (record part { name = o }))) (sym part_named) tt
 
-  -- The item is done.
-  pub exception_is_done : (n : ℕ) (seen : Seen) → ItemDone as_declared E (recorded_exception b.item n k u) seen no_names b d G (y ∷ env)
+  -- The item is done, and it adds its name, whatever is chosen.
+  pub exception_is_done : (n : ℕ) (seen : Seen) → ItemAdded E (recorded_exception b.item n k u) seen no_names b d G (y ∷ env)
   unfolding items_treated items_settled
   exception_is_done n seen =
       let N = number_of b.item n in
       let carried = items_settled at on_types (own_types b at constants) (own_at b at constants) [] z.settled.settled (λ c. exception_asks c part) (λ c. refl) z.settled.reports (ap is_aloud goes.telling) (ap fixed_of goes.constants)
       (λ V fits. fits_declared (frame_declares b at constants) z.to.on.assigns z.closes V fits) N in
       record {
-        letters = G;
-        env = λ ch. named_entry ∷ E ch;
-        carried = items_treated N carried;
-        owners = treated_owned N carried (settled_owned at on_types (own_types b at constants) (own_at b at constants) [] z.settled.settled (λ c. exception_asks c part) (λ c. refl) z.settled.reports (ap is_aloud goes.telling) (ap fixed_of goes.constants)
-            (λ V fits. fits_declared (frame_declares b at constants) z.to.on.assigns z.closes V fits) N (recorded_exception b.item n k u) declared);
-        outside = next_starts.outside;
-        noted = subst (λ U. AreNoted U d) (sym next_starts.older) z.noted;
-        adds = λ V c same loose agrees met.
-            let fixed = fixed_met at on_types (own_types b at constants) (own_at b at constants) [] z.settled.settled (λ c. exception_asks c part) (λ c. refl) V c same loose agrees (record { kept = met.kept; holds = met.holds.1 }) in
-            let one_more = adds_one c (z.settled.gives c.chosen fixed) in
-            (λ i. one_more i ++ same i);
-        named = λ V c same loose agrees met. refl;
-        constants = constants_kept b d goes constants;
+        done = record {
+          letters = G;
+          env = λ ch. named_entry ∷ E ch;
+          carried = items_treated N carried;
+          owners = treated_owned N carried (settled_owned at on_types (own_types b at constants) (own_at b at constants) [] z.settled.settled (λ c. exception_asks c part) (λ c. refl) z.settled.reports (ap is_aloud goes.telling) (ap fixed_of goes.constants)
+              (λ V fits. fits_declared (frame_declares b at constants) z.to.on.assigns z.closes V fits) N (recorded_exception b.item n k u) declared);
+          outside = next_starts.outside;
+          noted = subst (λ U. AreNoted U d) (sym next_starts.older) z.noted;
+          adds = λ V c same loose agrees met.
+              let fixed = fixed_met at on_types (own_types b at constants) (own_at b at constants) [] z.settled.settled (λ c. exception_asks c part) (λ c. refl) V c same loose agrees (record { kept = met.kept; holds = met.holds.1 }) in
+              let one_more = adds_one c (z.settled.gives c.chosen fixed) in
+              (λ i. one_more i ++ same i);
+          named = λ V c same loose agrees met. refl;
+          constants = constants_kept b d goes constants;
+        };
+        alike = record { added = named_entry ∷ []; names = λ ch. refl; letters = λ V ch given. given };
+        untyped = untyped;
       }
 
 -- where a constructor with a name is declared, there is an entry
@@ -119,11 +125,11 @@ one_there : (b d : Parts) (env : List Entry) (k : ℕ) (u : Tree) (e : ℕ) (o :
 one_there b d env k u e None name named none = absurd (let f : Some name ≡ None = sym named ∙ none in cc)
 one_there b d env k u e (Some y) name named one = (y.value, one, λ es. refl)
 
--- The call for an exception of an item, from where the item's node is noted to where its name is in scope.
-pub exception_given : {A F : Type 0} (r : Result A F) (a b d : Parts) (env after : List Entry) (n : ℕ) (t : Tree) (declared : Declared) → NotedNameless a b n env None → OnlyIndex a b → Goes a b → DeclaresItem b d env (first_in n t 1) b.constants.exn.0 declared → Untyped b d → Goes b d → OnOk r (after ≡ declared.env) → OnOk r (GivesException a d env after n t)
+-- The call for an exception of an item, from where the item's node is noted to where its name is in scope: it adds that name.
+pub exception_added : {A F : Type 0} (r : Result A F) (a b d : Parts) (env after : List Entry) (n : ℕ) (t : Tree) (declared : Declared) → NotedNameless a b n env None → OnlyIndex a b → Goes a b → DeclaresItem b d env (first_in n t 1) b.constants.exn.0 declared → Untyped b d → Goes b d → OnOk r (after ≡ declared.env) → OnOk r (AddsException a d env after n t)
 unfolding outside_between is_operand
-exception_given (Err x) a b d env after n t declared noted rest goes item untyped goes' is = tt
-exception_given (Ok v) a b d env after n t declared noted rest goes item untyped goes' is = λ G E seen x aloud at constants older.
+exception_added (Err x) a b d env after n t declared noted rest goes item untyped goes' is = tt
+exception_added (Ok v) a b d env after n t declared noted rest goes item untyped goes' is = λ G E seen x aloud at constants older.
     let only = noted_between a b n env noted rest in
     let at_b = outside_between only at in
     let constants_b = constants_kept a b goes constants in
@@ -133,6 +139,11 @@ exception_given (Ok v) a b d env after n t declared noted rest goes item untyped
     let part : DeclaresPart b d env k x.operand.part b.constants.exn.0 item.entry = subst (λ o. DeclaresPartIf b d env o b.constants.exn.0 item.entry) x.there item.declares in
     let (y, one, enters) = one_there b d env k u b.constants.exn.0 item.entry x.name x.named (subst (λ p. DeclaresPart b d env k p b.constants.exn.0 item.entry) x.part part) in
     let z = one.closes formed x.is (only.aloud ∙ aloud) at_b.level (names_before b at_b constants_b []) (refl, refl) (item_frame b at_b constants_b) 0 at.older (starts b at_b constants_b) (inside_none b at_b constants_b) (noted_on at.older older goes) (exn_denotes b at_b constants_b) in
-    let done = exception_is_done b d at_b constants_b k u x.name x.named formed (first_type_stands b.item k u 2 formed (ap (λ q. is_operand q 2) x.is)) y one z untyped goes' n seen in
-    subst (λ es. ItemDone as_declared E (recorded_exception a.item n k u) seen no_names a d G es) (sym (is ∙ item.behind ∙ enters env))
-    (done_between only (subst (λ i. ItemDone as_declared E (recorded_exception i n k u) seen no_names b d G (y ∷ env)) rest.item done))
+    let added = exception_is_done b d at_b constants_b k u x.name x.named formed (first_type_stands b.item k u 2 formed (ap (λ q. is_operand q 2) x.is)) y one z untyped goes' n seen in
+    subst (λ es. ItemAdded E (recorded_exception a.item n k u) seen no_names a d G es) (sym (is ∙ item.behind ∙ enters env))
+    (item_added_between only (subst (λ i. ItemAdded E (recorded_exception i n k u) seen no_names b d G (y ∷ env)) rest.item added))
+
+-- So it is done.
+pub exception_given : {A F : Type 0} (r : Result A F) (a d : Parts) (env after : List Entry) (n : ℕ) (t : Tree) → OnOk r (AddsException a d env after n t) → OnOk r (GivesException a d env after n t)
+exception_given (Err x) a d env after n t adds = tt
+exception_given (Ok v) a d env after n t adds = λ G E seen x aloud at constants older. (adds G E seen x aloud at constants older).done

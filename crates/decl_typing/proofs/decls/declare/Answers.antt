@@ -1,4 +1,4 @@
-use Rattle.std.proofs.Common.{◌≡◌, ◌∙◌, ◌<◌, [], ◌∷◌, true, false, length, rules, sym, ap, subst}
+use Rattle.std.proofs.Common.{◌≡◌, ◌∙◌, ◌<◌, [], ◌∷◌, true, false, length, option_map, rules, sym, ap, subst}
 use Rattle.std.proofs.lemmas.Result.{IfOk-weaker}
 use Rattle.env_table.specs.declared.entries.Declaration.{Declaration}
 use Rattle.operand_laws.specs.Operands.{number_of}
@@ -33,9 +33,9 @@ returns-clause-untyped c = ok_any c.owned.result _ (untyped_then (untyped_then c
 
 pub returns-clause-means : goal.returns-clause-means
 returns-clause-means c =
-    let made = type_declared c.args.at.now c.note_written.new.at c.parameters_are_new.new.at c.declared_deeper.new.at c.args.inner.now c.args.part.now c.in_ok-root.root.0 c.in_ok-root.body.0 c.in_ok-root.shape c.note_written.ensures.rest c.note_written.ensures.goes
-    (subst (λ ts. SettlesTokens c.note_written.new.at c.parameters_are_new.new.at (tokens_as ts)) c.deref.ensures.value c.in_ok-parameters_are_new.ensures.settles) c.parameters_are_new.ensures.rest c.parameters_are_new.ensures.goes c.in_ok-root.ensures.means in
-    IfOk-weaker c.owned.result _ _ (λ d is. subst (λ (x : Declaration). DeclaresType c.args.at.now c.declared_deeper.new.at c.args.inner.now c.args.part.now x.root.0 x.shape) (sym is) made) c.owned.ensures
+    let made = type_declared c.args.at.now c.note_written.new.at c.parameters_are_new.new.at c.declared_deeper.new.at c.args.inner.now c.args.part.now c.in_ok-root.root.0 c.in_ok-root.body.0 (option_map (λ o. o.path.items) c.in_ok-origin_of.field-0) c.in_ok-root.shape c.note_written.ensures.rest c.note_written.ensures.goes
+    (subst (λ ts. SettlesTokens c.note_written.new.at c.parameters_are_new.new.at (tokens_as ts)) c.deref.ensures.value c.in_ok-parameters_are_new.ensures.settles) c.parameters_are_new.ensures.rest c.parameters_are_new.ensures.goes c.in_ok-root.ensures.means c.in_ok-origin_of.ensures in
+    IfOk-weaker c.owned.result _ _ (λ d is. subst (λ (x : Declaration). DeclaresType c.args.at.now c.declared_deeper.new.at c.args.inner.now c.args.part.now x.root.0 (option_map (λ o. o.path.items) x.defines) x.shape) (sym is) made) c.owned.ensures
 
 pub returns-clause-arity : goal.returns-clause-arity
 returns-clause-arity c =

@@ -1,8 +1,8 @@
 use Rattle.typing_state.proofs.Going.{goes_trans}
 use Rattle.decl_typing.proofs.reexports.with_reexports.Goals as goal
 
-pub returns : goal.returns
-returns c = record { goes = c.loop-place.invariant }
+pub returns-clause-goes : goal.returns-clause-goes
+returns-clause-goes c = c.loop-place.invariant.goes
 
-pub returns-in_err-more : goal.returns-in_err-more
-returns-in_err-more c = record { goes = goes_trans c.args.at.now c.loop-place.at c.with_reexport.new.at c.loop-place.invariant c.with_reexport.ensures.goes }
+pub returns-in_err-more-clause-goes : goal.returns-in_err-more-clause-goes
+returns-in_err-more-clause-goes c = goes_trans c.args.at.now c.loop-place.at c.with_reexport.new.at c.loop-place.invariant.goes c.with_reexport.ensures.goes
