@@ -11,7 +11,8 @@ use Rattle.grammar_model.specs.Named.{named, named_parts, named_part, forest_ite
 use Rattle.parsed_rows.specs.Items.{IsSmall}
 
 mutual
-  tree_sized : (name : ℕ → Row) (T : Tree) → IsSized (named name T)
+  -- each tree does
+  pub tree_sized : (name : ℕ → Row) (T : Tree) → IsSized (named name T)
   tree_sized name (node r f) = node_over_sized (name r) (named_parts name f) (parts_sized name f)
 
   parts_sized : (name : ℕ → Row) (f : Forest) → AreSized (named_parts name f)

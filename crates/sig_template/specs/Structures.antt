@@ -8,7 +8,10 @@ use Rattle.text_terms.specs.Bytes.{str_bytes}
 use Rattle.signature_model.specs.Declarations.{Name}
 use Rattle.env_table.specs.declared.entries.What.{out-What}
 use Rattle.env_table.specs.declared.entries.Entry.{Entry}
+use Rattle.env_table.specs.declared.entries.Sig.{Sig}
 use Rattle.env_table.specs.declared.entries.Sig.TheOpen.{What-F}
+use Rattle.env_table.specs.declared.entries.Sig.TheVariants as sig
+use Rattle.env_table.specs.declared.entries.Components.{Components, out-Components}
 use Rattle.sig_template.specs.declared.structures.Met.{Met}
 
 -- the entries behind owners
@@ -61,3 +64,7 @@ newest_alone (e ∷ es) = if is_replaced e es then newest_alone es else e ∷ ne
 pub record AreMet (met : Met) (es : List Entry) : Type 0 where
   pub values : (n : Name) → contains_text met.values n ≡ any_named is_value n es
   pub exceptions : (n : Name) → contains_text met.exceptions n ≡ any_named is_exception n es
+
+-- a signature is a structure of these components, in order
+abbrev pub IsStructureOf : Sig → List Entry → Type 0
+IsStructureOf s es = (c : Components) × (s ≡ sig.Structure c) × (entries_of (out-Components c).entries.items ≡ es)

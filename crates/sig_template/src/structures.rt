@@ -5,7 +5,7 @@ ghost use Rattle.std.specs.HashSet.{contains_text};
 ghost use Rattle.text_terms.specs.Bytes.{str_bytes};
 ghost use Rattle.env_table.specs.declared.entries.Entry.{Entry};
 ghost use Rattle.env_table.specs.Views.{inside_sig, names_in};
-ghost use Rattle.sig_template.specs.Structures.{is_replaced, newest_alone, AreMet, entries_of};
+ghost use Rattle.sig_template.specs.Structures.{is_replaced, newest_alone, AreMet, entries_of, IsStructureOf};
 
 use env_table::{Components, Entry, Sig, What};
 use owned_lists::{owned, push, shared};
@@ -76,7 +76,8 @@ pub fn newest_alone(alloc: Global, entries: &[Rc<Entry>]) -> Result<Vec<Rc<Entry
 
 /// The signature of a structure with these components, in order.
 pub fn structure(alloc: Global, entries: &[Rc<Entry>]) -> Result<Rc<Sig>, NoMemory>
-    ensures { IfOk result (λ s. names_in (inside_sig s.value) ≡ reverse (newest_alone (entries_of entries.now))) }
+    ensures names { IfOk result (λ s. names_in (inside_sig s.value) ≡ reverse (newest_alone (entries_of entries.now))) }
+    ensures is { IfOk result (λ s. IsStructureOf s.value (newest_alone (entries_of entries.now))) }
 {
     let entries = newest_alone(alloc, entries)?;
     owned(alloc, Sig::Structure(Components { entries }))

@@ -1,5 +1,5 @@
 //! Templates: made anew at a node, with a type given, and applied.
-ghost use Rattle.std.specs.Prelude.{◌≡◌, IfOk, IfSome, option_map};
+ghost use Rattle.std.specs.Prelude.{◌≡◌, [], IfOk, IfSome, option_map};
 ghost use Rattle.type_terms.specs.Views.{path_of};
 ghost use Rattle.signature_model.specs.Changes.{in_front, realised};
 ghost use Rattle.signature_model.specs.Templates.{origins_at, without, only};
@@ -58,6 +58,7 @@ fn without(at: &Parts, origin: &Origin, origins: &[Origin]) -> Result<Vec<Origin
 pub fn made_at(at: &mut Parts, template: &Template, node: u64) -> Result<Template, NoMemory>
     ensures made { IfOk result (λ t. paths_of t.made.items ≡ origins_at (paths_of template.now.made.items) node) }
     ensures sig { IfOk result (λ t. AreLive at.old.store.nodes template.now.sig.value → IsChangedSig at.new.store.nodes (λ _. in_front (paths_of template.now.made.items) node) template.now.sig.value t.sig.value) }
+    ensures same { IfOk result (λ t. paths_of template.now.made.items ≡ [] → (t.sig.value ≡ template.now.sig.value) × (at.new ≡ at.old)) }
     ensures goes { Goes at.old at.new }
 {
     let made = origins_at(at, &template.made, node)?;

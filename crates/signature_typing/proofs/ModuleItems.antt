@@ -7,14 +7,13 @@ use Rattle.token_model.specs.Kinds.{Tok}
 use Rattle.signature_model.specs.Declarations.{in_text}
 use Rattle.signature_model.specs.Entries.{Environment, entry, a_module}
 use Rattle.signature_model.specs.Entries.{Entry as Named}
-use Rattle.signature_model.specs.Signatures.{Signature, Structure}
+use Rattle.signature_model.specs.Signatures.{Structure}
 use Rattle.typing_model.specs.Contexts.{Choice, Context, tell}
 use Rattle.typing_model.specs.Items.{items_ask, newest_alone}
 use Rattle.typing_model.specs.Meanings.{recorded_module_type}
 use Rattle.typing_model.specs.Modules.{ask_new, module_specification, signature_text}
 use Rattle.typing_model.specs.Parts.{Item, Seen, no_names, place_of}
 use Rattle.level_unify.specs.Solutions.{Loose}
-use Rattle.type_nodes.specs.Readings.{Types}
 use Rattle.env_table.specs.declared.entries.Entry.{Entry}
 use Rattle.env_table.specs.declared.entries.Kind.TheVariants as kind
 use Rattle.env_table.specs.declared.entries.Sig.{Sig}

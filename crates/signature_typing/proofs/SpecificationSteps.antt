@@ -23,13 +23,14 @@ use Rattle.typing_steps.specs.States.{is_aloud, sight}
 use Rattle.typing_steps.specs.Typing.{as_declared}
 use Rattle.typing_steps.proofs.Starting.{constants_kept}
 use Rattle.typing_rows.proofs.Noted.{noted_on}
-use Rattle.binding_rows.specs.ItemRows.{IsExceptionNode, ItemsDone, GivesException}
-use Rattle.binding_rows.proofs.ItemKinds.{noted_between, exception_done}
-use Rattle.binding_rows.proofs.ItemOrders.{done_none, done_then}
+use Rattle.binding_rows.specs.ItemRows.{recorded_exception, IsExceptionNode, ItemsDone}
+use Rattle.binding_rows.proofs.ItemKinds.{noted_between, none_too, exception_there}
+use Rattle.declared_items.specs.Adding.{ItemsAdded, AddsException}
+use Rattle.declared_items.proofs.Adding.{items_added_none, items_added_one, items_added_then}
 use Rattle.module_steps.specs.declared.scenes.Scene.{Scene}
 use Rattle.module_steps.specs.Scenes.{has_name, SameNames}
 use Rattle.signature_typing.specs.ValueItems.{IsValueNode, GivesValue}
-use Rattle.signature_typing.specs.Specifications.{specification_at, specifications_at, IsSpecifiedPart, IsKnownPart, AllMet, HasSeen, IsGiven, GivesSpecification, GivesSpecifications, SpecifiesFirst, SpecifiesItemsFirst}
+use Rattle.signature_typing.specs.Specifications.{specification_at, specifications_at, IsSpecifiedPart, IsKnownPart, AllMet, HasSeen, IsSpecified, GivesSpecification, GivesSpecifications, SpecifiesFirst, SpecifiesItemsFirst}
 use Rattle.signature_typing.proofs.NodeRows.{row_there, only_val, only_exception}
 use Rattle.signature_typing.proofs.Specifications.{exception_as_item, met_after, value_specified}
 
@@ -45,20 +46,22 @@ there x nd e = ap (λ o. part_of o x.span) e
 pub missing_specified : {A F : Type 0} (r : Result A F) (a b : Parts) (s : Scene) (x : Operand) → x.node ≡ None → OnOk r (NotedNameless a b x.number s.env None) → OnlyIndex a b → Goes a b → OnOk r (GivesSpecification a b s s (operand_view x))
 missing_specified (Err e) a b s x none noted rest goes = tt
 missing_specified (Ok v) a b s x none noted rest goes = λ G E seen carried aloud at constants older standing ns V c met known.
-    subst (λ p. IsGiven E (specification_at a.item (numbered x.number (place_of x.span) p)) seen a b G s) (sym (ap (λ o. part_of o x.span) none)) (record {
+    subst (λ p. IsSpecified E (specification_at a.item (numbered x.number (place_of x.span) p)) seen a b G s) (sym (ap (λ o. part_of o x.span) none)) (record {
       names = seen;
-      done = done_none seen (noted_between a b x.number s.env noted rest) at (constants_kept a b goes constants) (noted_on at.older older goes);
+      added = items_added_none seen (noted_between a b x.number s.env noted rest) at (constants_kept a b goes constants) (noted_on at.older older goes);
       standing = standing;
     })
 
--- An exception is declared.
-pub exception_specified : {A F : Type 0} (r : Result A F) (a b : Parts) (s s' : Scene) (x : Operand) (nd : Bor Node) → x.node ≡ Some nd → (out-Node nd.now).row ≡ name.Exception → OnOk r (GivesException a b s.env s'.env x.number (node_view nd.now)) → SameNames s s' → OnOk r (GivesSpecification a b s s' (operand_view x))
-exception_specified (Err e) a b s s' x nd some row gives same = tt
-exception_specified (Ok v) a b s s' x nd some row gives same = λ G E seen carried aloud at constants older standing ns V c met known.
+-- An exception is declared: it adds its name.
+pub exception_specified : {A F : Type 0} (r : Result A F) (a b : Parts) (s s' : Scene) (x : Operand) (nd : Bor Node) → x.node ≡ Some nd → (out-Node nd.now).row ≡ name.Exception → OnOk r (AddsException a b s.env s'.env x.number (node_view nd.now)) → SameNames s s' → OnOk r (GivesSpecification a b s s' (operand_view x))
+exception_specified (Err e) a b s s' x nd some row adds same = tt
+exception_specified (Ok v) a b s s' x nd some row adds same = λ G E seen carried aloud at constants older standing ns V c met known.
     let item = is_exception carried in
-    subst (λ p. IsGiven E (specification_at a.item (numbered x.number (place_of x.span) p)) seen a b G s') (sym (there x nd some)) (record {
+    let t = node_view nd.now in
+    subst (λ p. IsSpecified E (specification_at a.item (numbered x.number (place_of x.span) p)) seen a b G s') (sym (there x nd some)) (record {
       names = seen;
-      done = subst (λ ms. ItemsDone as_declared E ms seen seen a b G s'.env) (exception_as_item a.item x.number (place_of x.span) (node_view nd.now) item.row) (exception_done a b s.env s'.env x.number (place_of x.span) (node_view nd.now) G E seen item aloud at constants older gives);
+      added = subst (λ ms. ItemsAdded E ms seen seen a b G s'.env) (sym (exception_there a.item x.number (place_of x.span) t item) ∙ exception_as_item a.item x.number (place_of x.span) t item.row)
+          (subst (λ names. ItemsAdded E (recorded_exception a.item x.number item.operand.number item.constructor ∷ []) seen names a b G s'.env) (none_too seen) (items_added_one (adds G E seen item aloud at constants older)));
       standing = seen_same same standing;
     })
   where
@@ -76,9 +79,9 @@ value_given (Ok v) a b s s' x nd some row gives same = λ G E seen carried aloud
     let e = there x nd some in
     let here : AllMet E (sight a) G (λ y. items_ask y seen (specification_at a.item (numbered x.number (place_of x.span) (inner (node_view nd.now))) ++ ns)) V c =
     subst (λ p. AllMet E (sight a) G (λ y. items_ask y seen (specification_at a.item (numbered x.number (place_of x.span) p) ++ ns)) V c) e met in
-    subst (λ p. IsGiven E (specification_at a.item (numbered x.number (place_of x.span) p)) seen a b G s') (sym e) (record {
+    subst (λ p. IsSpecified E (specification_at a.item (numbered x.number (place_of x.span) p)) seen a b G s') (sym e) (record {
       names = seen;
-      done = value_specified a b s.env s'.env x.number (place_of x.span) (node_view nd.now) G E seen item aloud at constants older gives ns V c here (subst (IsKnownPart c.chosen a.item x.number) e known item.row);
+      added = value_specified a b s.env s'.env x.number (place_of x.span) (node_view nd.now) G E seen item aloud at constants older gives ns V c here (subst (IsKnownPart c.chosen a.item x.number) e known item.row);
       standing = seen_same same standing;
     })
   where
@@ -102,7 +105,7 @@ specifications_start a env s all same none G E carried aloud at constants older 
   items = [];
   given = record {
     names = no_names;
-    done = subst (λ es. ItemsDone as_declared E [] no_names no_names a a G es) (sym same) (done_none no_names (record { nodes = refl; types = λ i p. refl; noted = λ i p h. h; reports = refl; aloud = refl; level = refl; fixed = refl }) at constants older);
+    added = subst (λ es. ItemsAdded E [] no_names no_names a a G es) (sym same) (items_added_none no_names (record { nodes = refl; types = λ i p. refl; noted = λ i p h. h; reports = refl; aloud = refl; level = refl; fixed = refl }) at constants older);
     standing = record { types = λ n. none kind.TypeName n; modules = λ n. none kind.Module n; module_types = λ n. none kind.ModuleType n };
   };
   splits = refl;
@@ -111,27 +114,32 @@ specifications_start a env s all same none G E carried aloud at constants older 
 }
 
 -- one item more
-pub specifications_next : (a b d : Parts) (env : List Entry) (s s' : Scene) (all : List Numbered) (os : List Operand) (i : ℕ) (x : Operand) → i < length os → x ≡ slice_index_or os i x → Goes a b → SpecifiesItemsFirst a b env s all (map operand_view (drop i os)) →
-    GivesSpecification b d s s' (operand_view x) → SpecifiesItemsFirst a d env s' all (map operand_view (drop (i + 1) os))
-specifications_next a b d env s s' all os i x lt here goes first gives G E carried aloud at constants older V c met known =
-    let later = map operand_view (drop (i + 1) os) in
-    let cut : drop i os ≡ x ∷ drop (i + 1) os = drop_more os i x lt ∙ ap (λ o. o ∷ drop (i + 1) os) (sym here) in
-    let f : SpecifiesFirst E G c.chosen a b s all (operand_view x ∷ later) = subst (λ us. SpecifiesFirst E G c.chosen a b s all (map operand_view us)) cut (first G E carried aloud at constants older V c met known) in
+pub specified_next : (a b d : Parts) (env : List Entry) (s s' : Scene) (all later : List Numbered) (o : Numbered) → Goes a b → SpecifiesItemsFirst a b env s all (o ∷ later) → GivesSpecification b d s s' o → SpecifiesItemsFirst a d env s' all later
+specified_next a b d env s s' all later o goes first gives G E carried aloud at constants older V c met known =
+    let f : SpecifiesFirst E G c.chosen a b s all (o ∷ later) = first G E carried aloud at constants older V c met known in
+    let done = f.given.added.done in
     let rest = specifications_at a.item later in
-    let left : f.items ++ (specification_at b.item (operand_view x) ++ rest) ≡ specifications_at a.item all = ap (λ n. f.items ++ (specification_at n (operand_view x) ++ rest)) goes.item ∙ f.splits in
-    let m = met_after f.given.done (specification_at b.item (operand_view x) ++ rest) V c (subst (λ ms. AllMet E (sight a) G (λ y. items_ask y no_names ms) V c) (sym left) met) in
-    let g = gives f.given.done.letters f.given.done.env f.given.names f.carried.0 (ap is_aloud goes.telling ∙ aloud) f.given.done.outside f.given.done.constants f.given.done.noted f.given.standing
-    rest m.types _ m.met (subst (λ n. IsKnownPart c.chosen n x.number (operand_view x).part) (sym goes.item) f.known.0) in
+    let left : f.items ++ (specification_at b.item o ++ rest) ≡ specifications_at a.item all = ap (λ n. f.items ++ (specification_at n o ++ rest)) goes.item ∙ f.splits in
+    let m = met_after done (specification_at b.item o ++ rest) V c (subst (λ ms. AllMet E (sight a) G (λ y. items_ask y no_names ms) V c) (sym left) met) in
+    let g = gives done.letters done.env f.given.names f.carried.0 (ap is_aloud goes.telling ∙ aloud) done.outside done.constants done.noted f.given.standing rest m.types _ m.met (subst (λ n. IsKnownPart c.chosen n o.number o.part) (sym goes.item) f.known.0) in
     record {
-      items = f.items ++ specification_at b.item (operand_view x);
-      given = record { names = g.names; done = done_then {last = g.names} at.sound f.given.done g.done; standing = g.standing };
-      splits = append_assoc f.items (specification_at b.item (operand_view x)) rest ∙ left;
+      items = f.items ++ specification_at b.item o;
+      given = record { names = g.names; added = items_added_then {last = g.names} at.sound f.given.added g.added; standing = g.standing };
+      splits = append_assoc f.items (specification_at b.item o) rest ∙ left;
       carried = f.carried.1;
       known = f.known.1;
     }
+
+-- the same of one among operands of the code
+pub specifications_next : (a b d : Parts) (env : List Entry) (s s' : Scene) (all : List Numbered) (os : List Operand) (i : ℕ) (x : Operand) → i < length os → x ≡ slice_index_or os i x → Goes a b → SpecifiesItemsFirst a b env s all (map operand_view (drop i os)) →
+    GivesSpecification b d s s' (operand_view x) → SpecifiesItemsFirst a d env s' all (map operand_view (drop (i + 1) os))
+specifications_next a b d env s s' all os i x lt here goes first gives =
+    let later = map operand_view (drop (i + 1) os) in
+    let cut : drop i os ≡ x ∷ drop (i + 1) os = drop_more os i x lt ∙ ap (λ o. o ∷ drop (i + 1) os) (sym here) in
+    specified_next a b d env s s' all later (operand_view x) goes (subst (λ us. SpecifiesItemsFirst a b env s all (map operand_view us)) cut first) gives
 
 -- all items are done
 pub specifications_end : (a b : Parts) (env : List Entry) (s : Scene) (all : List Numbered) (os : List Operand) (i : ℕ) → length os ≤ i → SpecifiesItemsFirst a b env s all (map operand_view (drop i os)) → GivesSpecifications a b env all
 specifications_end a b env s all os i past first G E carried aloud at constants older V c met known =
     let f : SpecifiesFirst E G c.chosen a b s all [] = subst (λ us. SpecifiesFirst E G c.chosen a b s all (map operand_view us)) (drop_all i os past) (first G E carried aloud at constants older V c met known) in
-    (s.env, f.given.names, subst (λ ms. ItemsDone as_declared E ms no_names f.given.names a b G s.env) (sym (append-nil f.items) ∙ f.splits) f.given.done)
+    (s.env, f.given.names, subst (λ ms. ItemsDone as_declared E ms no_names f.given.names a b G s.env) (sym (append-nil f.items) ∙ f.splits) f.given.added.done)

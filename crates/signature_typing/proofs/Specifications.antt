@@ -1,5 +1,5 @@
 -- What items of a signature give, one after the other, where one typing of the definitions is known.
-use Rattle.std.proofs.Common.{◌≡◌, ◌∙◌, inl, inr, ℕ, ◌+◌, Bool, true, false, List, [], ◌∷◌, ◌++◌, Some, None, sym, ap, subst}
+use Rattle.std.proofs.Common.{◌≡◌, ◌∙◌, inl, inr, ℕ, ◌+◌, Bool, true, false, if◌then◌else◌, List, [], ◌∷◌, ◌++◌, length, Some, None, refl, sym, ap, subst, append-nil, arith}
 use Rattle.tree_model.specs.Rows.{exception_row}
 use Rattle.tree_model.specs.Slots.{is_operand}
 use Rattle.tree_model.specs.Trees.{Tree, Place, node, inner, part_yield}
@@ -23,9 +23,9 @@ use Rattle.operand_laws.specs.Formed.{row_of, is_needed}
 use Rattle.operand_laws.specs.Operands.{number_of, parts_of}
 use Rattle.operand_laws.proofs.Sorts.{type_stands}
 use Rattle.operand_laws.proofs.Tokens.{token_stands}
-use Rattle.typing_conditions.specs.Judging.{Judgement, judged_at, judgements, AreKept, FallsShort}
+use Rattle.typing_conditions.specs.Judging.{Judgement, judged_at, judgements, refused, AreKept, FallsShort}
 use Rattle.typing_conditions.specs.Carrying.{Asks}
-use Rattle.typing_conditions.specs.Sights.{Letters}
+use Rattle.typing_conditions.specs.Sights.{Sight, Report, Letters}
 use Rattle.typing_conditions.proofs.Own.{own_of}
 use Rattle.typing_conditions.proofs.Roots.{own_reads}
 use Rattle.typing_conditions.proofs.Judged.{hold_left, hold_right, judged_both, judged_kept}
@@ -34,9 +34,11 @@ use Rattle.typing_steps.specs.States.{is_aloud, sight}
 use Rattle.typing_steps.specs.Typing.{as_declared}
 use Rattle.typing_rows.specs.Noted.{AreNoted}
 use Rattle.binding_rows.specs.ItemRows.{ItemsDone, item_if, item_at}
-use Rattle.binding_rows.specs.Outside.{Outside, ContinuesItems, AreMet}
+use Rattle.binding_rows.specs.Outside.{Outside, ContinuesItems, ItemsCarried, AreMet}
 use Rattle.binding_rows.proofs.ItemKinds.{none_too}
-use Rattle.binding_rows.proofs.ItemOrders.{asked_both, done_one}
+use Rattle.binding_rows.proofs.ItemOrders.{asked_both}
+use Rattle.declared_items.specs.Adding.{ItemsAdded}
+use Rattle.declared_items.proofs.Adding.{items_added_one}
 use Rattle.signature_typing.specs.Values.{type_specified}
 use Rattle.signature_typing.specs.ValueItems.{IsValueNode, recorded_value, ValueAdded, GivesValue}
 use Rattle.signature_typing.specs.Specifications.{specification_at, AreSure, AllMet}
@@ -150,10 +152,26 @@ value_is_added a b env after n place t G E seen item aloud at constants noted gi
     ] in
     v.added (subst IsKnown is known)
 
--- So a value at an operand is done.
+-- where each judgement keeps its demand none is refused
+sure_kept : (js : List Judgement) → AreSure js → refused js ≡ 0
+sure_kept [] h = refl
+sure_kept (j ∷ js) h = let later = sure_kept js h.2 in (λ i. (if h.0 i then 0 else 1) + later i)
+
+none_told : (rs : List Report) → length rs ≡ 0 → rs ≡ []
+none_told [] e = refl
+none_told (r ∷ rs) e = absurd (omega (arith, e))
+
+-- Of items of which one typing is known that keeps every demand nothing is reported.
+pub met_silent : {E : Choice → Environment} {asks : Asks} {a b : Sight} {G H : Letters} (p : ItemsCarried E asks a G b H) (V : Types) (c : Context) → AllMet E a G asks V c → b.reports ≡ a.reports
+met_silent {asks = asks} {a = a} p V c met = elim (p.complete V c met.enters met.holds) [
+  | inl goes ↦ p.reports ∙ ap (λ rs. a.reports ++ rs) (none_told p.told (p.counted ∙ ap refused (sym goes.same) ∙ sure_kept (judgements c.kept (asks c)) met.sure)) ∙ append-nil a.reports
+  | inr short ↦ absurd (never_sure (judgements c.kept (asks c)) p.judged met.sure short)
+]
+
+-- So a value at an operand is done, and adds its name.
 pub value_specified : (a b : Parts) (env after : List Entry) (n : ℕ) (place : Place) (t : Tree) (G : Letters) (E : Choice → Environment) (seen : Seen) → IsValueNode n t → is_aloud a.telling ≡ true → (at : Outside as_declared (sight a) G env E) → HasConstants a → AreNoted at.older a → GivesValue a b env after n t →
     (ns : List Item) (V : Types) (c : Context) → AllMet E (sight a) G (λ x. items_ask x seen (specification_at a.item (numbered n place (inner t)) ++ ns)) V c → IsKnown (c.chosen.type_at (type_specified a.item n t).node) →
-    ItemsDone as_declared E (specification_at a.item (numbered n place (inner t))) seen seen a b G after
+    ItemsAdded E (specification_at a.item (numbered n place (inner t))) seen seen a b G after
 value_specified a b env after n place t G E seen item aloud at constants noted gives ns V c m known =
     let v = value_is_added a b env after n place t G E seen item aloud at constants noted gives ns V c m known in
-    subst (λ ms. ItemsDone as_declared E ms seen seen a b G after) (sym (value_there a.item n place t item)) (subst (λ names. ItemsDone as_declared E (recorded_value a.item n t ∷ []) seen names a b G after) (none_too seen) (done_one v.done))
+    subst (λ ms. ItemsAdded E ms seen seen a b G after) (sym (value_there a.item n place t item)) (subst (λ names. ItemsAdded E (recorded_value a.item n t ∷ []) seen names a b G after) (none_too seen) (items_added_one (record { done = v.done; alike = v.alike; untyped = record { types = v.grows.on.types } })))

@@ -94,6 +94,7 @@ module _ (a b : Parts) {G : Letters} {env : List Entry} {E : Choice → Environm
           named = λ V c same loose agrees met. refl;
           constants = constants_kept a b goes constants;
         };
+        alike = record { added = named_entry ∷ []; names = λ ch. refl; letters = λ V ch given. given };
         entry = y;
         named = named_entry;
         scope = refl;

@@ -38,6 +38,8 @@ use Rattle.binding_rows.specs.Outside.{InEachMet, Outside}
 use Rattle.binding_rows.proofs.ItemOrders.{done_here, done_one, one_outside, one_each, done_then, then_outside, then_each}
 use Rattle.first_laws.specs.Declaring.{SpecifiedAs, Grows, StartsAfter}
 use Rattle.first_laws.proofs.Within.{grows_none, grows_both, entries_on, outside_within}
+use Rattle.declared_items.specs.Adding.{AddsAlike}
+use Rattle.declared_items.proofs.Adding.{adds_none, adds_then}
 use Rattle.sig_template.specs.Structures as shown
 use Rattle.module_steps.specs.declared.scenes.Scene.{Scene}
 use Rattle.signature_typing.specs.ValueItems.{IsValueNode, AllValues, ValueAdded, GivesValue}
@@ -104,8 +106,9 @@ made_both x (m ∷ ms) ns =
 -- before the first item
 none_added : (a : Parts) {G : Letters} {env : List Entry} {E : Choice → Environment} (at : Outside as_declared (sight a) G env E) → HasConstants a → AreNoted at.older a → ValuesAdded a at [] a env []
 unfolding done_here
-none_added a at constants noted = record {
+none_added a {G} {E = E} at constants noted = record {
   done = done_here no_names at constants noted;
+  alike = adds_none E G;
   more = [];
   added = [];
   grows = grows_none at;
@@ -118,8 +121,9 @@ none_added a at constants noted = record {
 
 -- one value
 pub one_added : {a b : Parts} {G : Letters} {env after : List Entry} {E : Choice → Environment} {at : Outside as_declared (sight a) G env E} {m : Item} (v : ValueAdded a at m no_names b after) → ValuesAdded a at (m ∷ []) b after (v.entry ∷ [])
-one_added {a} {b} {at = at} {m = m} v = record {
+one_added {a} {b} {G} {E = E} {at = at} {m = m} v = record {
   done = done_one v.done;
+  alike = one_outside v.done (λ H E' o. AddsAlike E E' G H) v.alike;
   more = v.entry ∷ [];
   added = v.named ∷ [];
   grows = one_outside v.done (λ H E' o. Grows at o (v.entry ∷ []) (v.named ∷ [])) v.grows;
@@ -132,8 +136,9 @@ one_added {a} {b} {at = at} {m = m} v = record {
 
 -- values after others
 pub added_then : {a b d : Parts} {G : Letters} {env mid after es fs : List Entry} {E : Choice → Environment} {at : Outside as_declared (sight a) G env E} {ms ns : List Item} (p : ValuesAdded a at ms b mid es) → ValuesAdded b p.done.outside ns d after fs → ValuesAdded a at (ms ++ ns) d after (es ++ fs)
-added_then {d = d} {es = es} {fs = fs} {at = at} {ms = ms} {ns = ns} p q = record {
+added_then {d = d} {G = G} {es = es} {fs = fs} {E = E} {at = at} {ms = ms} {ns = ns} p q = record {
   done = done_then at.sound p.done q.done;
+  alike = then_outside at.sound p.done q.done (λ H E' o. AddsAlike E E' G H) (adds_then p.alike q.alike);
   more = q.more ++ p.more;
   added = q.added ++ p.added;
   grows = then_outside at.sound p.done q.done (λ H E' o. Grows at o (q.more ++ p.more) (q.added ++ p.added)) (grows_both p.grows q.grows);

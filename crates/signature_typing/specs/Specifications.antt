@@ -1,6 +1,7 @@
 -- What items of a signature give, in order (OCaml manual, 11.10).
 use Rattle.std.specs.Prelude.{◌≡◌, ◌⊎◌, ℕ, true, false, List, [], ◌∷◌, ◌++◌}
 use Rattle.tree_model.specs.Rows.{val_row}
+use Rattle.tree_model.specs.Extents.{extent_of}
 use Rattle.tree_model.specs.Trees.{Tree, Part, taken, inner, missing}
 use Rattle.signature_model.specs.Declarations.{Name}
 use Rattle.signature_model.specs.Entries.{Environment}
@@ -13,7 +14,7 @@ use Rattle.typing_model.specs.Records.{is_among}
 use Rattle.type_nodes.specs.Readings.{Types}
 use Rattle.env_table.specs.declared.entries.Entry.{Entry}
 use Rattle.env_table.specs.declared.entries.Kind.TheVariants as kind
-use Rattle.row_parts.specs.Numbered.{Numbered}
+use Rattle.row_parts.specs.Numbered.{Numbered, behind, node_with}
 use Rattle.typing_state.specs.declared.parts.Parts.{Parts}
 use Rattle.operand_laws.specs.Formed.{row_of}
 use Rattle.operand_laws.specs.Operands.{child_at}
@@ -26,6 +27,7 @@ use Rattle.typing_steps.specs.Typing.{as_declared}
 use Rattle.typing_rows.specs.Noted.{AreNoted}
 use Rattle.binding_rows.specs.ItemRows.{IsExceptionNode, ItemsDone, item_if}
 use Rattle.binding_rows.specs.Outside.{Outside, EntersItems}
+use Rattle.declared_items.specs.Adding.{ItemsAdded}
 use Rattle.module_steps.specs.declared.scenes.Scene.{Scene}
 use Rattle.module_steps.specs.Scenes.{has_name}
 use Rattle.signature_typing.specs.Values.{type_specified}
@@ -39,6 +41,11 @@ specification_at i o = item_if (child_at i 0 o).signature_item
 abbrev pub specifications_at : ℕ → List Numbered → List Item
 specifications_at i [] = []
 specifications_at i (o ∷ os) = specification_at i o ++ specifications_at i os
+
+-- the items of a signature as operands, one after the other, where the first has this number
+abbrev pub specified_from : ℕ → List Tree → List Numbered
+specified_from n [] = []
+specified_from n (t ∷ ts) = node_with n t ∷ specified_from (behind n (extent_of t).size) ts
 
 -- an item of a signature whose conditions are carried: a value or an exception that has a name
 abbrev pub IsCarriedSpecification : ℕ → Tree → Type 0
@@ -89,11 +96,17 @@ pub record IsGiven (E : Choice → Environment) (ms : List Item) (seen : Seen) (
   pub done : ItemsDone as_declared E ms seen names a b G after.env
   pub standing : HasSeen after names
 
+-- The same of items of a signature, which add the same names whatever is chosen.
+pub record IsSpecified (E : Choice → Environment) (ms : List Item) (seen : Seen) (a b : Parts) (G : Letters) (after : Scene) : Type 0 where
+  pub names : Seen
+  pub added : ItemsAdded E ms seen names a b G after.env
+  pub standing : HasSeen after names
+
 -- What the call for an item of a signature gives where faults are reported, if the item is one that is carried and one typing of the definitions is known of it and of the items after it: it is done.
 abbrev pub GivesSpecification : (a b : Parts) → (old new : Scene) → Numbered → Type 0
 GivesSpecification a b old new o =
     (G : Letters) (E : Choice → Environment) (seen : Seen) → IsSpecifiedPart o.number o.part → is_aloud a.telling ≡ true → (at : Outside as_declared (sight a) G old.env E) → HasConstants a → AreNoted at.older a → HasSeen old seen →
-    (ns : List Item) (V : Types) (c : Context) → AllMet E (sight a) G (λ x. items_ask x seen (specification_at a.item o ++ ns)) V c → IsKnownPart c.chosen a.item o.number o.part → IsGiven E (specification_at a.item o) seen a b G new
+    (ns : List Item) (V : Types) (c : Context) → AllMet E (sight a) G (λ x. items_ask x seen (specification_at a.item o ++ ns)) V c → IsKnownPart c.chosen a.item o.number o.part → IsSpecified E (specification_at a.item o) seen a b G new
 
 -- The same of the items of a whole signature, in order.
 abbrev pub GivesSpecifications : (a b : Parts) → (env : List Entry) → List Numbered → Type 0
@@ -104,7 +117,7 @@ GivesSpecifications a b env os =
 -- the first of some items are done, and these are left
 pub record SpecifiesFirst (E : Choice → Environment) (G : Letters) (ch : Choice) (a b : Parts) (now : Scene) (all left : List Numbered) : Type 0 where
   pub items : List Item
-  pub given : IsGiven E items no_names a b G now
+  pub given : IsSpecified E items no_names a b G now
   pub splits : items ++ specifications_at a.item left ≡ specifications_at a.item all
   pub carried : AreCarriedSpecifications left
   pub known : AreKnownAt ch a.item left

@@ -28,6 +28,7 @@ use Rattle.typing_rows.specs.Noted.{AreNoted}
 use Rattle.binding_rows.specs.ItemRows.{ItemDone}
 use Rattle.binding_rows.specs.Outside.{AgreesOutside, InEachMet, Outside}
 use Rattle.first_laws.specs.Declaring.{Grows}
+use Rattle.declared_items.specs.Adding.{AddsAlike}
 use Rattle.signature_typing.specs.Values.{type_specified}
 
 -- an item `val x : t` that has a name
@@ -50,9 +51,10 @@ AllValues (Component n at (Exception o) cs) = ⊥
 AllValues (Component n at (Module s) cs) = ⊥
 AllValues (Component n at (ModuleType made s) cs) = ⊥
 
--- A value is an item that is done, and adds one entry, which stands for the one of its component.
+-- A value is an item that is done, and adds one entry, which stands for the one of its component, whatever is chosen.
 pub record ValueAdded (a : Parts) {G : Letters} {env : List Entry} {E : Choice → Environment} (at : Outside as_declared (sight a) G env E) (m : Item) (seen : Seen) (b : Parts) (after : List Entry) : Type 0 where
   pub done : ItemDone as_declared E m seen no_names a b G after
+  pub alike : AddsAlike E done.env G done.letters
   pub entry : Entry
   pub named : Named
   pub scope : after ≡ entry ∷ env

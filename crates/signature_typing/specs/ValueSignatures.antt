@@ -23,6 +23,7 @@ use Rattle.binding_rows.specs.Outside.{InEachMet, Outside}
 use Rattle.first_laws.specs.Declaring.{SpecifiedAs, Grows}
 use Rattle.sig_template.specs.Structures.{entries_of}
 use Rattle.module_steps.specs.declared.scenes.Scene.{Scene}
+use Rattle.declared_items.specs.Adding.{AddsAlike}
 use Rattle.signature_typing.specs.ValueItems.{IsValueNode, AllValues}
 use Rattle.signature_typing.specs.Specifications.{specification_at, specifications_at, IsKnownPart, AreKnownAt, AllMet}
 
@@ -52,6 +53,7 @@ AreValues (o ∷ os) = IsValuePart o.number o.part × AreValues os
 -- Items were done, which name no type and no module; the entries `shown` stand for those of their components, among the names that were added.
 pub record ValuesAdded (a : Parts) {G : Letters} {env : List Entry} {E : Choice → Environment} (at : Outside as_declared (sight a) G env E) (ms : List Item) (b : Parts) (after shown : List Entry) : Type 0 where
   pub done : ItemsDone as_declared E ms no_names no_names a b G after
+  pub alike : AddsAlike E done.env G done.letters
   pub more : List Entry
   pub added : Environment
   pub grows : Grows at done.outside more added

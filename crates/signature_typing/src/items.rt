@@ -8,6 +8,7 @@ ghost use Rattle.signature_typing.specs.Values.{DenotesValue, ClosesValue, IsVal
 ghost use Rattle.signature_typing.specs.ValueItems.{GivesValue};
 ghost use Rattle.signature_typing.specs.ValueSignatures.{AddsIf};
 ghost use Rattle.binding_rows.specs.ItemRows.{GivesException};
+ghost use Rattle.declared_items.specs.Adding.{AddsException};
 ghost use Rattle.module_steps.specs.Scenes.{SameNames};
 
 use crate::variables::add_variables;
@@ -64,6 +65,7 @@ pub fn exception_item(
     depth: Depth,
 ) -> Result<(), NoMemory>
     ensures carries { OnOk result (GivesException at.old at.new scene.old.env scene.new.env number (node_view node.now)) }
+    ensures adds { OnOk result (AddsException at.old at.new scene.old.env scene.new.env number (node_view node.now)) }
     ensures names { SameNames scene.old scene.new }
     ensures goes { Goes at.old at.new }
 {

@@ -50,7 +50,7 @@ type_item-returns-in_default-clause-specifies t c = missing_specified c.note_pla
 
 pub type_item-returns-in-Exception-clause-specifies : goal.type_item-returns-in-Exception-clause-specifies
 type_item-returns-in-Exception-clause-specifies t c =
-    exception_specified c.exception_item.result c.args.at.now c.exception_item.new.at c.args.scene.now c.exception_item.new.scene c.args.item c.in-Some.node c.in-Some.is c.in-Exception.is c.exception_item.ensures.carries c.exception_item.ensures.names
+    exception_specified c.exception_item.result c.args.at.now c.exception_item.new.at c.args.scene.now c.exception_item.new.scene c.args.item c.in-Some.node c.in-Some.is c.in-Exception.is c.exception_item.ensures.adds c.exception_item.ensures.names
 
 pub type_item-returns-in-Break-clause-specifies : goal.type_item-returns-in-Break-clause-specifies
 type_item-returns-in-Break-clause-specifies t c =

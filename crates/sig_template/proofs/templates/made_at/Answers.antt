@@ -1,8 +1,15 @@
 use Rattle.typing_state.proofs.Going.{goes_refl}
-use Rattle.std.proofs.Common.{◌≡◌, ◌∙◌, ap, length, rules}
+use Rattle.std.proofs.Common.{◌≡◌, ◌∙◌, List, [], ◌∷◌, true, refl, ap, length, rules}
+use Rattle.std.specs.Prelude.{◌==◌}
+use Rattle.type_terms.specs.declared.types.Origin.{Origin}
 use Rattle.type_reading.specs.Copying.{paths_of}
 use Rattle.sig_template.proofs.Same.{shared_same, copied_same}
 use Rattle.sig_template.proofs.templates.made_at.Goals as goal
+
+-- where no paths are made there are no origins
+none_made : (os : List Origin) → paths_of os ≡ [] → length os ≡ 0
+none_made [] e = refl
+none_made (o ∷ os) e = absurd (cc)
 
 pub returns-then-is_empty-clause-sig : goal.returns-then-is_empty-clause-sig
 returns-then-is_empty-clause-sig c = λ live.
@@ -32,3 +39,12 @@ returns-in_err-changed-clause-goes c = c.changed.ensures.goes
 
 pub returns-clause-goes : goal.returns-clause-goes
 returns-clause-goes c = c.changed.ensures.goes
+
+pub returns-then-is_empty-clause-same : goal.returns-then-is_empty-clause-same
+returns-then-is_empty-clause-same c = λ none. (c.in_ok-share_sig.ensures, refl)
+
+pub returns-clause-same : goal.returns-clause-same
+returns-clause-same c = λ none. absurd (
+    let f = c.if-is_empty.false in
+    let h : c.is_empty.result ≡ true = c.is_empty.ensures ∙ ap (λ n. n == 0) (c.args.template.now.made.ok.0 ∙ none_made c.args.template.now.made.items none) in cc
+    )

@@ -13,7 +13,7 @@ type_specification-returns-in_default-clause-carries t c =
     missing_specified c.note_plain.result c.args.at.now c.note_plain.new.self c.args.scene.now c.args.item c.in_default.is c.note_plain.ensures.noted c.note_plain.ensures.rest c.note_plain.ensures.goes
 
 pub type_specification-returns-in-Exception-clause-carries : goal.type_specification-returns-in-Exception-clause-carries
-type_specification-returns-in-Exception-clause-carries t c = exception_specified c.exception_item.result c.args.at.now c.exception_item.new.at c.args.scene.now c.exception_item.new.scene c.args.item c.in-Some.node c.in-Some.is c.in-Exception.is c.exception_item.ensures.carries c.exception_item.ensures.names
+type_specification-returns-in-Exception-clause-carries t c = exception_specified c.exception_item.result c.args.at.now c.exception_item.new.at c.args.scene.now c.exception_item.new.scene c.args.item c.in-Some.node c.in-Some.is c.in-Exception.is c.exception_item.ensures.adds c.exception_item.ensures.names
 
 pub type_specification-returns-in-Val-clause-carries : goal.type_specification-returns-in-Val-clause-carries
 type_specification-returns-in-Val-clause-carries t c = value_given c.value_item.result c.args.at.now c.value_item.new.at c.args.scene.now c.value_item.new.scene c.args.item c.in-Some.node c.in-Some.is c.in-Val.is c.value_item.ensures.carries c.value_item.ensures.names
