@@ -8,6 +8,7 @@ use Rattle.type_nodes.specs.Changes.{Makes}
 use Rattle.type_nodes.proofs.Lists.{length-snoc}
 use Rattle.level_unify.specs.Generalising.{Generalised}
 use Rattle.env_table.specs.declared.entries.Declaration.{Declaration}
+use Rattle.env_table.specs.declared.entries.Entry.{Entry}
 use Rattle.env_table.specs.declared.entries.Shape.TheVariants as shape
 use Rattle.typing_model.specs.BuiltIns.{built_in_origin}
 use Rattle.typing_state.specs.declared.built_ins.BuiltIn.{BuiltIn}
@@ -16,7 +17,7 @@ use Rattle.typing_state.specs.BuiltIns.{number_of}
 use Rattle.typing_state.specs.Goes.{Goes, OnlyStore}
 use Rattle.typing_state.specs.Types.{any_scope, level_for}
 use Rattle.typing_state.specs.declared.parts.Parts.{Parts}
-use Rattle.first_laws.specs.Built.{arity_of, MakesRoot, alone, over_one, HasPath, DeclaresBuiltIn}
+use Rattle.first_laws.specs.Built.{arity_of, MakesRoot, alone, over_one, HasPath, DeclaresBuiltIn, EntersAll}
 use Rattle.first_laws.proofs.Roots.{all_one, all_two}
 
 made_inside : (old new : State) (n : ℕ) (c : Node) → Makes old new n c → n < length new.nodes
@@ -84,3 +85,13 @@ built_in_declared a b c w d i j level one zero made inner closed sound rest arit
       defines = defines;
       shape = opaque;
     }
+
+-- nothing is recorded where built-in types are declared
+pub entered_index : (ws : List BuiltIn) (a b : Parts) (before env : List Entry) → EntersAll ws a before b env → b.index ≡ a.index
+entered_index [] a b before env e = ap (λ (p : Parts). p.index) e.0
+entered_index (w ∷ ws) a b before env e = entered_index ws e.0 b (e.1 ∷ before) env e.3 ∙ e.2.declared.rest.index
+
+-- and nothing is reported
+pub entered_faults : (ws : List BuiltIn) (a b : Parts) (before env : List Entry) → EntersAll ws a before b env → b.faults ≡ a.faults
+entered_faults [] a b before env e = ap (λ (p : Parts). p.faults) e.0
+entered_faults (w ∷ ws) a b before env e = entered_faults ws e.0 b (e.1 ∷ before) env e.3 ∙ e.2.declared.rest.faults

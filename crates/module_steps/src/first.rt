@@ -89,11 +89,13 @@ fn with_all(at: &mut Parts, all: &[BuiltIn]) -> Result<Env, NoMemory>
     Ok(env)
 }
 
-/// The environment of the built-in types alone, the last one newest.
+/// The environment of the built-in types alone, the last one newest. Nothing is recorded or reported.
 pub fn built_ins(at: &mut Parts) -> Result<Env, NoMemory>
     ensures entries { IfOk result (λ env. HasBuiltIns BuiltIn.ALL [] env) }
     ensures outside { IfOk result (λ env. at.old.level ≡ 0 → StartsAmong (sight at.new) [] env (λ ch. built_in_names) []) }
     ensures constants { OnOk result (HasConstants at.old → HasConstants at.new) }
+    ensures index { OnOk result (at.old.level ≡ 0 → at.new.index ≡ at.old.index) }
+    ensures faults { OnOk result (at.old.level ≡ 0 → at.new.faults ≡ at.old.faults) }
     ensures goes { Goes at.old at.new }
 {
     // the store is sound, as its length makes known

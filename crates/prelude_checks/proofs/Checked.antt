@@ -5,7 +5,7 @@ use Rattle.type_model.specs.Types.{Path, Typ, Typs, Var, Arrow, Tuple, Con, Nil,
 use Rattle.typing_model.specs.Demands.{Demand, equal, test, agrees, matches, closes, Condition, same, instance, made, known, demand, treated, AllHold}
 use Rattle.typing_model.specs.First.{every_site}
 
-both : (a b : Bool) → (a && b) ≡ true → (a ≡ true) × (b ≡ true)
+pub both : (a b : Bool) → (a && b) ≡ true → (a ≡ true) × (b ≡ true)
 both true b h = (refl, h)
 both false b h = absurd (cc)
 
@@ -59,13 +59,13 @@ mutual
   types_one Nil (Cons u us) h = absurd (cc)
   types_one (Cons t ts) Nil h = absurd (cc)
 
--- whether a demand is a test that holds, and whether conditions are such tests or equations that hold
+-- whether a demand is a test that holds, and whether conditions are such tests or equations that hold; none is a demand that a body closes
 abbrev is_met : Demand → Bool
 is_met (equal t u) = one_type t u
 is_met (test c b) = b
 is_met (agrees c n s t) = false
 is_met (matches s t) = false
-is_met (closes e s) = true
+is_met (closes e s) = false
 
 abbrev pub all_hold : List Condition → Bool
 all_hold [] = true
@@ -86,5 +86,5 @@ holding (demand s p (equal t u) ∷ cs) h = let r = both (one_type t u) (all_hol
 holding (demand s p (test c b) ∷ cs) h = let r = both b (all_hold cs) h in ((λ k. r.0), holding cs r.1)
 holding (demand s p (agrees c n x y) ∷ cs) h = absurd (cc)
 holding (demand s p (matches x y) ∷ cs) h = absurd (cc)
-holding (demand s p (closes e x) ∷ cs) h = ((λ k. tt), holding cs h)
+holding (demand s p (closes e x) ∷ cs) h = absurd (cc)
 holding (treated n e ∷ cs) h = (tt, holding cs h)

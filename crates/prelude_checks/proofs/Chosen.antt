@@ -566,9 +566,13 @@ part4 =
     (681, int_type) ∷ []
 
 -- the type of a number in a table
-abbrev type_in : List (ℕ × Typ) → ℕ → Typ
+abbrev pub type_in : List (ℕ × Typ) → ℕ → Typ
 type_in [] n = Var 0
 type_in ((k, t) ∷ rest) n = if n == k then t else type_in rest n
 
+-- the types of all type expressions
+abbrev pub chosen : List (ℕ × Typ)
+chosen = part0 ++ part1 ++ part2 ++ part3 ++ part4
+
 abbrev pub choice : Choice
-choice = record { type_at = type_in (part0 ++ part1 ++ part2 ++ part3 ++ part4); letter = λ n k. Var 0; written = λ n x. Var 0; filled = λ n o. Var 0 }
+choice = record { type_at = type_in chosen; letter = λ n k. Var 0; written = λ n x. Var 0; filled = λ n o. Var 0 }

@@ -3,8 +3,14 @@ pub mod Chosen
 pub mod Checked
 pub mod Lexed
 pub mod Typed
+pub mod Known
+pub mod Items
+pub mod Fitting
+pub mod Places
 pub mod Spelled
 pub mod Prelude
 pub mod Made
 pub mod Reference
 pub mod Ones
+pub mod Behind
+pub mod Steps

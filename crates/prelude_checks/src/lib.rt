@@ -1,10 +1,16 @@
 //! The prelude's own text, read by the definitions, and texts behind it, from their bytes on: there is one first environment, and
 //! what is found of a text without modules is one.
-//! It stands on the definitions of texts, trees and typings, on their laws, and on the lemmas of `ml_lexer`.
-//! No program calls it, and no proof cites it.
+//! It stands on the definitions of texts, trees and typings, on their laws, and on the lemmas of `ml_lexer`; for the names after the
+//! prelude also on what specifications give (`signature_typing`).
+//! No program calls it. A clause of `text_analysis` and its proof cite `specs/Known` and `Behind`: by `prelude_starts` the names after
+//! the prelude's items are those of the first environment, if each of these is a carried item (`IsPreludeCarried`). No type and no
+//! module is that yet, so the premise doesn't hold. `Typed`, `Known` and `Fitting` have the typing that it starts from; in `Places`
+//! names are compared without where they are defined.
 #![tactic(auto)]
 
 ghost use Rattle.std.specs.Prelude.{◌≡◌, ℕ, Bool, true, List, codes};
+ghost use Rattle.token_model.specs.Kinds.{Tok};
+ghost use Rattle.token_model.specs.Tokens.{Lex};
 ghost use Rattle.tree_model.specs.Trees.{Tree};
 ghost use Rattle.type_model.specs.Types.{Path, Typ};
 ghost use Rattle.signature_model.specs.Declarations.{Name};
@@ -18,10 +24,12 @@ ghost use Rattle.typing_model.specs.Meanings.{items_of};
 ghost use Rattle.typing_model.specs.Typings.{conditions_of, outermost, IsMostGeneralChoice};
 ghost use Rattle.typing_model.specs.First.{IsFirst, IsSetting, IsFound};
 ghost use Rattle.typing_model.specs.Demands.{Site};
-ghost use Rattle.typing_laws.specs.Plain.{has_no_modules};
+ghost use Rattle.typing_model.specs.Plain.{has_no_modules};
+ghost use Rattle.typing_model.specs.PreludeText.{prelude_text};
 ghost use Rattle.model_checks.specs.Kept.{kept_at, reference_kept};
 ghost use Rattle.model_checks.specs.Open.{open_types};
 ghost use Rattle.prelude_checks.specs.Found.{reference_open};
+ghost use Rattle.prelude_checks.specs.Known.{IsPreludeTyped};
 
 /// The text of the whole prelude has tokens, and a typing that keeps all of its demands: there is a first environment.
 pub fn the_prelude_has_a_first_environment()
@@ -32,6 +40,12 @@ pub fn the_prelude_has_a_first_environment()
 /// principal typing.
 pub fn a_reference_is_found()
     ensures { IsFound (codes "let r = ref []") (kept_at reference_kept) (open_types reference_open) }
+{}
+
+/// The prelude's text is typed with every demand kept and no unknown type in the types of its values, and each of its items is that of
+/// an operand.
+pub fn the_prelude_is_typed()
+    ensures { (ts : List Tok) → Lex prelude_text ts → (ch : Choice) × IsPreludeTyped ts ch }
 {}
 
 /// There is one first environment.

@@ -12,6 +12,8 @@ mod Likeness
 mod OneName
 -- The points before items.
 mod PointLaws
+-- What reading the prelude gives.
+mod Reading
 -- Parts of different sorts.
 mod Sorts
 -- Calls that type items.

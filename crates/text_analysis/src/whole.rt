@@ -1,10 +1,17 @@
 //! The prelude, typed.
-ghost use Rattle.std.specs.Prelude.{◌≡◌, ◌+◌, ◌≤◌, List, length};
+ghost use Rattle.std.specs.Prelude.{◌≡◌, ◌+◌, ◌≤◌, List, length, IfOk};
 ghost use Rattle.token_model.specs.Kinds.{Tok};
 ghost use Rattle.token_model.specs.Tokens.{Lex};
+ghost use Rattle.grammar_model.specs.Ocaml.{interface_text};
+ghost use Rattle.signature_model.specs.Entries.{Environment};
 ghost use Rattle.typing_model.specs.PreludeText.{prelude_text};
+ghost use Rattle.typing_model.specs.First.{IsFirst};
+ghost use Rattle.typing_state.specs.Fresh.{IsNew};
 ghost use Rattle.typing_state.specs.Goes.{Goes};
 ghost use Rattle.syntax_tree.specs.Tallies.{Grows};
+ghost use Rattle.syntax_tree.specs.View.{trees_of};
+ghost use Rattle.resume_parser.specs.Kept.{trees_behind};
+ghost use Rattle.prelude_checks.specs.Known.{IsPreludeCarried, StartsFirst};
 
 use crate::prelude::text;
 use module_typing::{Scene, built_ins, type_item};
@@ -15,8 +22,10 @@ use syntax_tree::{Counts, Tree};
 use token_store::TokenStore;
 use typing_state::{Depth, Env, NoMemory, Parts};
 
-/// The tree of the prelude. No more than its own tokens are lexed, also where memory runs out.
+/// The tree of the prelude, whose items are those of an interface of its tokens. No more than its own tokens are lexed, also where
+/// memory runs out.
 fn prelude_tree<C: Counts>(alloc: Global, counts: &mut C) -> Result<Tree, NoMemory>
+    ensures tree { IfOk result (λ t. (ts : List Tok) → Lex prelude_text ts → trees_of t ≡ trees_behind interface_text ts) }
     ensures grows { Grows (C.tallies counts.old) (C.tallies counts.new) }
     ensures lexed { (ts : List Tok) → Lex prelude_text ts → (C.tallies counts.new).lexed ≤ (C.tallies counts.old).lexed + length ts }
     ensures untyped { (C.tallies counts.new).typed ≡ (C.tallies counts.old).typed }
@@ -32,11 +41,13 @@ fn prelude_tree<C: Counts>(alloc: Global, counts: &mut C) -> Result<Tree, NoMemo
     Ok(parse.into_parsed().tree)
 }
 
-/// The environment behind the prelude, whose items are the item 0.
+/// The environment after the prelude, whose items are the item 0. Where nothing was typed before and each of these items is carried,
+/// its names are those of the first environment, whatever is chosen. Types and modules aren't carried yet (`IsPreludeCarried`).
 pub fn with_prelude<C: Counts>(at: &mut Parts, counts: &mut C) -> Result<Env, NoMemory>
     ensures grows { Grows (C.tallies counts.old) (C.tallies counts.new) }
     ensures lexed { (ts : List Tok) → Lex prelude_text ts → (C.tallies counts.new).lexed ≤ (C.tallies counts.old).lexed + length ts }
     ensures untyped { (C.tallies counts.new).typed ≡ (C.tallies counts.old).typed }
+    ensures outside { IfOk result (λ env. IsPreludeCarried → IsNew at.old → (first : Environment) → IsFirst first → StartsFirst at.new env first) }
     ensures goes { Goes at.old at.new }
 {
     let tree = prelude_tree(at.alloc(), counts)?;

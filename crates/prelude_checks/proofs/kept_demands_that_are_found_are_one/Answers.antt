@@ -3,7 +3,7 @@ use Rattle.tree_model.specs.Trees.{Tree}
 use Rattle.signature_model.specs.Entries.{Environment}
 use Rattle.typing_model.specs.Demands.{Site}
 use Rattle.typing_model.specs.Typings.{IsKept}
-use Rattle.typing_laws.specs.Plain.{has_no_modules}
+use Rattle.typing_model.specs.Plain.{has_no_modules}
 use Rattle.typing_laws.proofs.Bools.{no_yes}
 use Rattle.typing_laws.proofs.Decided.{are_one}
 use Rattle.typing_laws.proofs.QuietTexts.{no_closings}

@@ -1,5 +1,6 @@
-use Rattle.std.proofs.Common.{◌∙◌, refl, arith}
+use Rattle.std.proofs.Common.{◌∙◌, refl, ap, arith}
 use Rattle.typing_model.specs.PreludeText.{prelude_text}
+use Rattle.text_analysis.proofs.Reading.{tree_read}
 use Rattle.text_analysis.proofs.Counting.{few_tokens, grows_lexed, grows_read, lexed_within, read_untyped}
 use Rattle.text_analysis.proofs.whole.prelude_tree.Goals as goal
 
@@ -54,3 +55,7 @@ returns-in_err-refresh-clause-untyped g c = read_untyped (g.C.Counts.tallies c.a
 
 pub returns-clause-untyped : goal.returns-clause-untyped
 returns-clause-untyped g c = read_untyped (g.C.Counts.tallies c.args.counts.now) (g.C.Counts.tallies c.relex.new.counts) (g.C.Counts.tallies c.refresh.new.counts) c.relex.ensures.work.0 c.relex.ensures.work.1 c.refresh.ensures.untyped
+
+pub returns-clause-tree : goal.returns-clause-tree
+returns-clause-tree g c = tree_read c.as_bytes-bytes.result.now c.tokens-2.result.now c.relex.new.self.tokens c.refresh.new.self c.into_parsed.result.tree (c.as_bytes-bytes.ensures.value ∙ c.text.ensures) c.in_ok-relex.ensures.tokens c.tokens-2.ensures
+    (c.refresh.ensures.text ∙ c.in_ok-parse.ensures.text) c.in_ok-refresh.ensures.parsed (ap (λ p. p.tree) c.into_parsed.ensures)
