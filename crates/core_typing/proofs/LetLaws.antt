@@ -1,8 +1,6 @@
 -- Groups of bindings as the code types them, binding by binding.
-use Rattle.std.proofs.Common.{inl, ◌≡◌, ◌∙◌, ◌==◌, ◌+◌, ◌-◌, ◌^◌, ◌<◌, arith, ℕ, true, false, List, [], ◌∷◌, length, map, refl, sym, ap, subst}
-use Rattle.std.specs.Prelude.{slice_index_or, Result, Ok, Err, OnOk, IfOk}
-use Rattle.std.specs.List.{remove}
-use Rattle.std.proofs.lemmas.Bool.{eqb-true}
+use Rattle.std.proofs.Common.{inl, ◌≡◌, ◌∙◌, ◌+◌, ◌-◌, ◌^◌, ◌<◌, arith, ℕ, List, [], ◌∷◌, length, map, refl, sym, ap, subst}
+use Rattle.std.specs.Prelude.{Result, Ok, Err, OnOk, IfOk}
 use Rattle.tree_model.specs.Rows.{Row, elet_row}
 use Rattle.tree_model.specs.Trees.{Place, Tree}
 use Rattle.signature_model.specs.Declarations.{Name}
@@ -82,15 +80,10 @@ conclusion_done a b d env outside o side bound typed goes h =
     subst (ConcludesNode a d env o.binding.number (node_view o.binding.node.now) (opened_of o)) (concluded_as b d outside o side bound h)
     (conclusion_of_node a b d env o.binding.number (node_view o.binding.node.now) (opened_of o) side.right.0 side.whole.0 typed goes h.asked)
 
--- the first of a list is taken out
-pub taken_first : {A : Type 0} (xs ys : List A) (x : A) → (length xs == 0) ≡ false → x ≡ slice_index_or xs 0 x → ys ≡ remove xs 0 → xs ≡ x ∷ ys
-taken_first [] ys x some e is = absurd (cc)
-taken_first (z ∷ zs) ys x some e is = (λ i. sym e i ∷ sym is i)
-
--- none is left
-pub none_left : {A : Type 0} (xs : List A) → (length xs == 0) ≡ true → xs ≡ []
-none_left [] e = refl
-none_left (x ∷ xs) e = absurd (let n : length (x ∷ xs) ≡ 0 = eqb-true (length (x ∷ xs)) 0 e in omega arith)
+-- nothing is left of a list without elements
+pub no_more : {A : Type 0} (xs : List A) → length xs ≡ 0 → xs ≡ []
+no_more [] e = refl
+no_more (x ∷ xs) e = absurd (omega (arith, e))
 
 same_general : (bs : List Bound) → generals bs ≡ map (λ (y : ToClose). y.general) (map closing_of bs)
 same_general [] = refl

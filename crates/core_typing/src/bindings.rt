@@ -202,10 +202,8 @@ fn conclude_all<'a>(
     ensures general { IfOk result (λ bs. JudgesNodes env.now (map node_of opened.entry.items) (generals bs.items)) }
     ensures goes { Goes at.old at.new }
 {
-    let mut left = opened;
     let mut bound = Vec::new(at.alloc());
-    while !left.is_empty() {
-        let one = left.remove(0);
+    for one in opened {
         let done = conclude_one(at, one, within, env, depth)?;
         push(&mut bound, done)?;
     }

@@ -1,5 +1,5 @@
 use Rattle.typing_state.proofs.Recording.{record_stays_in}
-use Rattle.std.proofs.Common.{◌≡◌, ◌∙◌, ◌++◌, ◌<◌, length, map, drop, sym, ap, subst, arith, length-append, refl, rules, ◌==◌, ℕ, List, Bool, true, false}
+use Rattle.std.proofs.Common.{◌≡◌, ◌∙◌, ◌++◌, ◌∷◌, ◌<◌, length, map, drop, sym, ap, subst, arith, length-append, refl, rules, ℕ, List, Bool, true, false}
 use Rattle.std.specs.Prelude.{option_map, All, Some, not}
 use Rattle.syntax_tree.specs.Names.{row_of}
 use Rattle.syntax_tree.specs.View.{node_view, place_of, tok_of}
@@ -43,6 +43,7 @@ use Rattle.typing_steps.proofs.Recording.{type_noted}
 use Rattle.typing_rows.specs.Fields.{EndsSettable}
 use Rattle.expression_steps.proofs.CarryingLaws.{both_ok, usual_by, by_operation, paren_row, plain_row, operation_row, operation_missing, minus_float, minus_operation, application_row, construction_row, first_carried, later_carried, head_row, known_later, unknown_later, typed_as_if as typed_where_wanted, constructed_row, argument_typed, each_step, given_step, parts_step}
 use Rattle.std.specs.Option.{IfSome}
+use Rattle.std.specs.Vec.Iter.{into_iter_items}
 use Rattle.std.proofs.lemmas.Result.{IfOk-weaker}
 use Rattle.expression_steps.specs.Operators.{sign_in, IsSignOf}
 use Rattle.expression_steps.specs.declared.forms.RowForm.TheVariants as form
@@ -50,6 +51,7 @@ use Rattle.type_terms.specs.declared.types.NodeRef.{NodeRef}
 use Rattle.typing_model.specs.Parts.{Case}
 use Rattle.operand_laws.specs.Operands.{number_of}
 use Rattle.typing_rows.specs.Asked.{row_expression}
+use Rattle.binding_rows.specs.Decided.{JudgesNodesFirst}
 use Rattle.binding_rows.specs.Cases.{cases_of, TypesGuard}
 use Rattle.binding_rows.specs.Parameters.{MakesArrows}
 use Rattle.binding_rows.proofs.Ordered.{cases_none, cases_all}
@@ -62,7 +64,7 @@ use Rattle.core_typing.proofs.CaseLaws.{node_if, by_match, by_function, by_fun, 
 use Rattle.pattern_typing.specs.Matching.{names_seen}
 use Rattle.binding_rows.specs.CaseScopes.{names_added}
 use Rattle.binding_rows.specs.Groups.{names_opened}
-use Rattle.binding_rows.specs.Operands.{TypesRightBodyOf}
+use Rattle.binding_rows.specs.Operands.{TypesRightBodyOf, ConcludesNodesFirst}
 use Rattle.binding_rows.proofs.Nodes.{let_node}
 use Rattle.binding_rows.proofs.Loops.{turns_start, turns_step, turns_end}
 use Rattle.binding_rows.proofs.Operands.{body_of_operand, right_of_operands, right_of_node, right_node_recorded, turn_missing, turn_there as turn_found, concludes_start, concludes_step, concludes_end, together_of_operands, group_of_turns, group_with_rec}
@@ -71,7 +73,7 @@ use Rattle.binding_rows.specs.Lets.{names_closed}
 use Rattle.binding_rows.specs.LetNodes.{ClosesBindings}
 use Rattle.binding_steps.specs.Bindings.{typed_of, closing_of, opened_of, node_of, generals}
 use Rattle.binding_steps.proofs.ClosingLaws.{mapped_more}
-use Rattle.core_typing.proofs.LetLaws.{by_let, let_done, missing_asks, turn_concluded, turn_judged, conclusion_done, taken_first, none_left}
+use Rattle.core_typing.proofs.LetLaws.{by_let, let_done, missing_asks, turn_concluded, turn_judged, conclusion_done, no_more}
 use Rattle.typing_model.specs.Parts.{Field}
 use Rattle.typing_rows.specs.Contracts.{TypesEach}
 use Rattle.use_typing.specs.Records.{TypesRecordType}
@@ -387,48 +389,49 @@ bindings::typed_body-returns-clause-carries t c =
     body_of_operand c.args.at.now c.type_under.new.at c.whole.new.at c.args.inner.now (operand_view c.args.body) (node_if c.args.annotation) (numbers c.args.parameters.now) c.in_ok-right.right.0 c.in_ok-whole.whole.0 c.in_ok-right.ensures.carries c.type_under.ensures.goes
     c.in_ok-whole.ensures.carries
 
-pub bindings::conclude_all-loop-depth-init : goal.bindings::conclude_all-loop-depth-init
-bindings::conclude_all-loop-depth-init t c =
+pub bindings::conclude_all-loop-one-init : goal.bindings::conclude_all-loop-one-init
+bindings::conclude_all-loop-one-init t c =
     let os = c.args.opened.items in
+    let same = c.into_iter-one-iterator.ensures.into_iter_gives.0 in
+    let len : length os ≡ c.args.opened.len = search rules in
     record {
       goes = goes_refl c.args.at.now;
-      carries = λ are. concludes_start c.args.at.now c.args.within.now (map node_of os) (map opened_of os) (map typed_of c.new-bound.result.items) (ap (map typed_of) c.new-bound.ensures.items) are;
-      general = λ are. nodes_judged_start c.args.env.now (map node_of os) (generals c.new-bound.result.items) (ap generals c.new-bound.ensures.items) are;
+      counted = c.into_iter-one-iterator.ensures.into_iter_gives.1 ∙ sym len ∙ ap length (sym same);
+      carries = λ are. subst (λ xs. ConcludesNodesFirst c.args.at.now c.args.at.now c.args.within.now (map node_of os) (map node_of xs) (map opened_of os) (map opened_of xs) (map typed_of c.new-bound.result.items)) (sym same)
+          (concludes_start c.args.at.now c.args.within.now (map node_of os) (map opened_of os) (map typed_of c.new-bound.result.items) (ap (map typed_of) c.new-bound.ensures.items) are);
+      general = λ are. subst (λ xs. JudgesNodesFirst c.args.env.now (map node_of os) (map node_of xs) (generals c.new-bound.result.items)) (sym same) (nodes_judged_start c.args.env.now (map node_of os) (generals c.new-bound.result.items) (ap generals c.new-bound.ensures.items) are);
     }
 
 pub bindings::conclude_all-returns-clause-carries : goal.bindings::conclude_all-returns-clause-carries
 bindings::conclude_all-returns-clause-carries t c =
     let os = c.args.opened.items in
-    let left = c.loop-depth.left in
-    let len : length left.items ≡ left.len = search rules in
-    let none = none_left left.items (ap (λ n. n == 0) len ∙ (sym c.is_empty.ensures ∙ c.loop-depth-test.false)) in
-    concludes_end c.args.at.now c.loop-depth.at c.args.within.now (map node_of os) (map node_of left.items) (map opened_of os) (map opened_of left.items) (map typed_of c.loop-depth.bound.items) (ap (map node_of) none) c.loop-depth.invariant.carries
+    let left = into_iter_items c.loop-one.one-iterator in
+    let none = no_more left (sym c.loop-one.invariant.counted ∙ c.in-None.ensures.steps.0) in
+    concludes_end c.args.at.now c.loop-one.at c.args.within.now (map node_of os) (map node_of left) (map opened_of os) (map opened_of left) (map typed_of c.loop-one.bound.items) (ap (map node_of) none) c.loop-one.invariant.carries
 
 pub bindings::conclude_all-returns-clause-general : goal.bindings::conclude_all-returns-clause-general
 bindings::conclude_all-returns-clause-general t c =
-    let left = c.loop-depth.left in
-    let len : length left.items ≡ left.len = search rules in
-    let none = none_left left.items (ap (λ n. n == 0) len ∙ (sym c.is_empty.ensures ∙ c.loop-depth-test.false)) in
-    nodes_judged_end c.args.env.now (map node_of c.args.opened.items) (map node_of left.items) (generals c.loop-depth.bound.items) (ap (map node_of) none) c.loop-depth.invariant.general
+    let left = into_iter_items c.loop-one.one-iterator in
+    let none = no_more left (sym c.loop-one.invariant.counted ∙ c.in-None.ensures.steps.0) in
+    nodes_judged_end c.args.env.now (map node_of c.args.opened.items) (map node_of left) (generals c.loop-one.bound.items) (ap (map node_of) none) c.loop-one.invariant.general
 
-pub bindings::conclude_all-loop-depth-preserved : goal.bindings::conclude_all-loop-depth-preserved
-bindings::conclude_all-loop-depth-preserved t c =
-    let left = c.loop-depth.left in
-    let len : length left.items ≡ left.len = search rules in
-    let some = ap (λ n. n == 0) len ∙ (sym c.is_empty.ensures ∙ c.loop-depth-test.true) in
+pub bindings::conclude_all-loop-one-preserved : goal.bindings::conclude_all-loop-one-preserved
+bindings::conclude_all-loop-one-preserved t c =
+    let left = into_iter_items c.loop-one.one-iterator in
     let os = c.args.opened.items in
-    let rest = c.remove-one.new.self.items in
-    let one = c.remove-one.result in
-    let cut = taken_first left.items rest one some c.remove-one.ensures.value c.remove-one.ensures.items in
-    let before = c.loop-depth.bound.items in
+    let rest = into_iter_items c.next.new.self in
+    let one = c.in-Some.one in
+    let cut : left ≡ one ∷ rest = c.in-Some.ensures.steps.0 in
+    let before = c.loop-one.bound.items in
     let now = c.push.new.list.items in
     record {
-      goes = goes_trans c.args.at.now c.loop-depth.at c.conclude_one.new.at c.loop-depth.invariant.goes c.conclude_one.ensures.goes;
-      carries = λ are. concludes_step c.args.at.now c.loop-depth.at c.conclude_one.new.at c.args.within.now (map node_of os) (map node_of left.items) (map node_of rest) (node_of one) (map opened_of os) (map opened_of left.items) (map opened_of rest) (opened_of one)
-          (map typed_of before) (map typed_of now) (typed_of c.in_ok-done.done) (ap (map node_of) cut) (ap (map opened_of) cut) (mapped_more typed_of before now c.in_ok-done.done c.in_ok-push.ensures.pushed) c.loop-depth.invariant.goes (c.loop-depth.invariant.carries are)
+      goes = goes_trans c.args.at.now c.loop-one.at c.conclude_one.new.at c.loop-one.invariant.goes c.conclude_one.ensures.goes;
+      counted = let was = c.loop-one.invariant.counted in let gone = c.in-Some.ensures.steps.1 in let short = ap length cut in omega arith;
+      carries = λ are. concludes_step c.args.at.now c.loop-one.at c.conclude_one.new.at c.args.within.now (map node_of os) (map node_of left) (map node_of rest) (node_of one) (map opened_of os) (map opened_of left) (map opened_of rest) (opened_of one)
+          (map typed_of before) (map typed_of now) (typed_of c.in_ok-done.done) (ap (map node_of) cut) (ap (map opened_of) cut) (mapped_more typed_of before now c.in_ok-done.done c.in_ok-push.ensures.pushed) c.loop-one.invariant.goes (c.loop-one.invariant.carries are)
           c.in_ok-done.ensures.carries;
-      general = λ are. nodes_judged_step c.args.env.now (map node_of os) (map node_of left.items) (map node_of rest) (node_of one) (generals before) (generals now) c.in_ok-done.done.generalises (ap (map node_of) cut) (mapped_more (λ b. b.generalises) before now c.in_ok-done.done c.in_ok-push.ensures.pushed)
-          (c.loop-depth.invariant.general are) c.in_ok-done.ensures.general;
+      general = λ are. nodes_judged_step c.args.env.now (map node_of os) (map node_of left) (map node_of rest) (node_of one) (generals before) (generals now) c.in_ok-done.done.generalises (ap (map node_of) cut) (mapped_more (λ b. b.generalises) before now c.in_ok-done.done c.in_ok-push.ensures.pushed)
+          (c.loop-one.invariant.general are) c.in_ok-done.ensures.general;
     }
 
 pub bindings::type_group-returns-in-None-clause-carries : goal.bindings::type_group-returns-in-None-clause-carries

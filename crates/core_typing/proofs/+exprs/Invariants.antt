@@ -6,6 +6,7 @@ use Rattle.typing_state.specs.Goes.{Goes}
 use Rattle.match_warnings.specs.Warnings.{spans_of}
 use Rattle.core_typing.specs.Cases.{places_there}
 use Rattle.std.specs.Prelude.{All, option_map}
+use Rattle.std.specs.Vec.Iter.{into_iter_items, into_iter_len}
 use Rattle.type_terms.specs.declared.types.NodeRef.{NodeRef}
 use Rattle.binding_rows.specs.CaseCarried.{IsCase}
 use Rattle.binding_rows.specs.Cases.{cases_of, TypesCasesFirst}
@@ -175,9 +176,6 @@ decreases-bindings::right_of l = 16 * l.depth.0 + 6
 abbrev pub decreases-bindings::typed_body : goal.decreases-bindings::typed_body
 decreases-bindings::typed_body l = 16 * l.depth.0 + 5
 
-abbrev pub decreases-bindings::conclude_all-loop-depth : goal.decreases-bindings::conclude_all-loop-depth
-decreases-bindings::conclude_all-loop-depth l = length l.left.items
-
 abbrev pub invariant-cases::type_each_case-loop-case : goal.invariant-cases::type_each_case-loop-case
 invariant-cases::type_each_case-loop-case l = record {
   goes : Goes l.fn.at l.at;
@@ -192,12 +190,13 @@ invariant-bindings::in_turn-loop-binding l = record {
   general : JudgesOperandsFirst l.env l.bindings (drop l.binding-index l.bindings) (generals l.bound.items);
 }
 
-abbrev pub invariant-bindings::conclude_all-loop-depth : goal.invariant-bindings::conclude_all-loop-depth
-invariant-bindings::conclude_all-loop-depth l = record {
+abbrev pub invariant-bindings::conclude_all-loop-one : goal.invariant-bindings::conclude_all-loop-one
+invariant-bindings::conclude_all-loop-one l = record {
   goes : Goes l.fn.at l.at;
+  counted : into_iter_len l.one-iterator ≡ length (into_iter_items l.one-iterator);
   carries : All IsNumberedBinding (map node_of l.fn.opened.items) →
-      ConcludesNodesFirst l.fn.at l.at l.within (map node_of l.fn.opened.items) (map node_of l.left.items) (map opened_of l.fn.opened.items) (map opened_of l.left.items) (map typed_of l.bound.items);
-  general : All IsNumberedBinding (map node_of l.fn.opened.items) → JudgesNodesFirst l.env (map node_of l.fn.opened.items) (map node_of l.left.items) (generals l.bound.items);
+      ConcludesNodesFirst l.fn.at l.at l.within (map node_of l.fn.opened.items) (map node_of (into_iter_items l.one-iterator)) (map opened_of l.fn.opened.items) (map opened_of (into_iter_items l.one-iterator)) (map typed_of l.bound.items);
+  general : All IsNumberedBinding (map node_of l.fn.opened.items) → JudgesNodesFirst l.env (map node_of l.fn.opened.items) (map node_of (into_iter_items l.one-iterator)) (generals l.bound.items);
 }
 
 abbrev pub decreases-records::record : goal.decreases-records::record
