@@ -1,10 +1,11 @@
 //! Cases in place of the innermost typed node, and their trial.
-ghost use Rattle.std.specs.Prelude.{◌≡◌, IfErr, IfOk, Some, None, map, option_map, option_and_then};
+ghost use Rattle.std.specs.Prelude.{◌≡◌, ◌∷◌, [], List, ℕ, IfErr, IfOk, Some, None, map, option_map, option_and_then};
 ghost use Rattle.text_terms.specs.Bytes.{str_bytes};
 ghost use Rattle.query_model.specs.TypedNodes.{innermost_at};
 ghost use Rattle.syntax_tree.specs.Names.{row_of};
 ghost use Rattle.syntax_tree.specs.Tallies.{Grows};
 ghost use Rattle.syntax_tree.specs.View.{place_of, trees_of};
+ghost use Rattle.asked_node.specs.Trials.{AreReplaced};
 ghost use Rattle.query_engine.specs.Typed.{IsPlacedAt};
 ghost use Rattle.type_alternatives.specs.Alternatives.{outermost_of, values_of};
 ghost use Rattle.type_alternatives.specs.Templates.{hidden_among};
@@ -15,8 +16,8 @@ ghost use Rattle.case_analysis.specs.Splits.{answer_of, answer_by, source_at, su
 use crate::SplitFault;
 use crate::subjects::{Subject, subject_at};
 use crate::writing::{source_of, split_text};
-use asked_node::{AskedNode, Typing, asked_at};
-use query_engine::{Asked, Replacement, Trial};
+use asked_node::{AskedNode, Trial, Typing, asked_at};
+use query_engine::{Asked, Replacement};
 use std::alloc::Global;
 use syntax_tree::{Counts, RcStr, Span};
 use type_alternatives::{Alternative, Alternatives, alternatives_of, first_hidden};
@@ -142,6 +143,7 @@ pub fn destruct<T: Trial, C: Counts>(
     ensures kept { IfOk result (λ made. (made ≡ candidate) × T.tells (T.text trial.old) candidate.span (str_bytes candidate.text) None) }
     ensures refused { IfErr result (λ e. IsRefusedByTrial (T.tells (T.text trial.old) candidate.span (str_bytes candidate.text)) e) }
     ensures text { T.text trial.new ≡ T.text trial.old }
+    ensures spends { (tried : List (List ℕ)) × AreReplaced (T.text trial.old) (candidate ∷ []) tried × T.spends trial.old tried trial.new (C.tallies counts.old) (C.tallies counts.new) }
     ensures grows { Grows (C.tallies counts.old) (C.tallies counts.new) }
 {
     match trial.first_new_fault(&candidate, counts) {

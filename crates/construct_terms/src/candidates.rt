@@ -1,9 +1,10 @@
 //! The candidates in place of a hole, and those that add no fault.
-ghost use Rattle.std.specs.Prelude.{◌≡◌, ◌++◌, ◌∷◌, [], All, IfErr, IfOk, OnOk, option_map};
+ghost use Rattle.std.specs.Prelude.{◌≡◌, ◌++◌, ◌∷◌, [], All, List, ℕ, IfErr, IfOk, OnOk, option_map};
 ghost use Rattle.query_model.specs.TypedNodes.{innermost_at};
 ghost use Rattle.syntax_tree.specs.Names.{row_of};
 ghost use Rattle.syntax_tree.specs.Tallies.{Grows};
 ghost use Rattle.syntax_tree.specs.View.{trees_of};
+ghost use Rattle.asked_node.specs.Trials.{AreReplaced};
 ghost use Rattle.query_engine.specs.Typed.{IsPlacedAt};
 ghost use Rattle.asked_node.specs.Node.{typing_of};
 ghost use Rattle.construct_terms.specs.Terms.{AreKept, IsAt, IsRefusedAt, told_by};
@@ -12,8 +13,8 @@ ghost use Rattle.construct_terms.specs.Wanted.{texts_of, in_front, AreTermsBy, T
 use crate::ConstructFault;
 use crate::holes::{Hole, hole_of, in_front};
 use crate::writing::{Hollow, terms_by};
-use asked_node::{AskedNode, asked_at};
-use query_engine::{Asked, Replacement, Trial};
+use asked_node::{AskedNode, Trial, asked_at};
+use query_engine::{Asked, Replacement};
 use std::alloc::{AllocError, Global};
 use syntax_tree::{Counts, NoMemory, Span};
 use type_alternatives::alternatives_of;
@@ -87,6 +88,7 @@ pub fn construct<T: Trial, C: Counts>(
 ) -> Result<Vec<Replacement>, NoMemory>
     ensures kept { IfOk result (λ kept. AreKept (told_by (T.tells (T.text trial.old))) candidates.items kept.items) }
     ensures text { T.text trial.new ≡ T.text trial.old }
+    ensures spends { (tried : List (List ℕ)) × AreReplaced (T.text trial.old) candidates.items tried × T.spends trial.old tried trial.new (C.tallies counts.old) (C.tallies counts.new) }
     ensures grows { Grows (C.tallies counts.old) (C.tallies counts.new) }
 {
     let mut kept = Vec::new(alloc);

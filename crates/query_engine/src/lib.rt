@@ -2,7 +2,7 @@
 //! It is built on the trees of `syntax_tree`, the environments of `env_table`, what `typed_index` has recorded, and the texts of
 //! `type_print`, and keeps nothing.
 //! Above, `enclosing_types` shows the types that are recorded round an offset, and `innermost` the node that has one; `text_queries` and
-//! `name_queries` take the names of items and the texts of types; `Trial` is what tries a changed text.
+//! `name_queries` take the names of items and the texts of types.
 #![tactic(auto)]
 
 mod asked;
@@ -17,6 +17,6 @@ pub use asked::{Asked, QueryFault};
 pub use inner_nodes::{innermost, node_with};
 pub use names::{is_slot, names_under};
 pub use slots::{Binder, OutlineKind, binder_for, inner_slot};
-pub use trials::{Replacement, Trial};
+pub use trials::Replacement;
 pub use typed_nodes::{TypedNode, holds_offset, number_behind, typed_around};
 pub use types::{Typed, enclosing_types, type_text};

@@ -1,20 +1,20 @@
 -- What is typed at a line is no more than it may type.
-use Rattle.std.proofs.Common.{◌≡◌, inl, inr, ℕ, zero, suc, ◌+◌, ◌-◌, ◌≤◌, min, List, ◌∷◌, length, take, refl, sym, ◌∙◌, ap, subst, arith, Bool, true, false, Result, Ok, Err, OnOk}
-use Rattle.std.specs.Prelude.{option_map, OnErr, Option, Some, None, if◌then◌else◌}
-use Rattle.std.proofs.lemmas.List.{length-map, length-take-le, take-take, take_all}
-use Rattle.token_model.specs.Tokens.{Lex}
+use Rattle.std.proofs.Common.{◌≡◌, inl, inr, ℕ, zero, suc, ◌+◌, ◌-◌, ◌≤◌, min, List, [], ◌∷◌, ◌++◌, length, take, refl, sym, ◌∙◌, ap, subst, arith, Bool, Result, Ok, Err, OnOk}
+use Rattle.std.specs.Prelude.{Option, Some}
+use Rattle.std.proofs.lemmas.List.{length-map, length-take-le, take-take}
 use Rattle.tree_model.specs.Trees.{Tree}
-use Rattle.work_model.specs.Work.{Owed, AreItems, Retyped}
+use Rattle.work_model.specs.Work.{Owed, AreItems, Retyped, RetypedOver}
 use Rattle.syntax_tree.specs.Tallies.{Tallies, counted}
 use Rattle.syntax_tree.specs.View.{node_view, trees_of}
 use Rattle.frame_parser.specs.declared.whole.Parsed.{Parsed}
 use Rattle.analysis_api.specs.Typed.{more_typed, GoesOn, LongestFront, SameFront}
 use Rattle.text_reading.specs.Structures.{AreItemsOf}
-use Rattle.text_reading.specs.Types.{held, items_or_none, known}
+use Rattle.text_reading.specs.Types.{held, known}
 use Rattle.text_reading.specs.declared.types.KeptTypes.{KeptTypes}
-use Rattle.text_reading.proofs.Fronts.{front_none}
-use Rattle.text_reading.proofs.Knowing.{items_are_one}
-use Rattle.session.specs.Working.{Carries, Covers, Held, Types, TypesSome}
+use Rattle.text_reading.proofs.Knowing.{items_are_one, known_held}
+use Rattle.text_reading.specs.Trials as trials
+use Rattle.text_reading.specs.Trials.{Tried, TriesAll}
+use Rattle.session.specs.Working.{Carries, Covers, Held, QuerySpends, Types, TypesSome}
 
 -- ---- fronts
 
@@ -51,15 +51,6 @@ typed_most zero n = omega arith
 typed_most (suc k) n = omega (arith, counted_most (more_typed k n), typed_most k n)
 
 -- ---- one function after the other
-
--- the items that are known are those that are held
-known_held : {A : Type 0} (items : A → List Tree) (k : KeptTypes A) (ts : List Tree) → known items k ≡ Some ts → held items k ≡ ts
-known_held items k ts is = by k.is_current (option_map items k.typer) is
-  where
-    by : (c : Bool) (o : Option (List Tree)) → (if c then o else None) ≡ Some ts → items_or_none o ≡ ts
-    by true (Some xs) is = cc
-    by true None is = cc
-    by false o is = cc
 
 -- what was typed after nothing was
 types_after : (old mid new : Held) (a b c : Tallies) → mid.text ≡ old.text → mid.holds ≡ old.holds → b.typed ≡ a.typed → Types mid new b c → Types old new a c
@@ -104,90 +95,70 @@ some_then old mid new a b c (inr (items, are, goes)) holds typed = inr (
   subst (λ (hs : List Tree). GoesOn old.holds items hs a.typed c.typed) (sym holds) (subst (λ (n : ℕ). GoesOn old.holds items mid.holds a.typed n) (sym typed) goes),
 )
 
--- all of it is some
-some_all : (old new : Held) (a b : Tallies) → Types old new a b → TypesSome old new a b
-some_all old new a b (inl none) = inl none
-some_all old new a b (inr (n, are, longest, typed)) =
-    let right = longest.front.right in inr (
-      new.holds,
-      are,
-      record {
-        same = n;
-        front = longest;
-        more = length new.holds - n;
-        within = omega (arith, right);
-        holds = sym (take_all (n + (length new.holds - n)) new.holds (omega (arith, right)));
-        typed = typed;
-      },
-    )
-
--- a typer that was given the tree of the text, for want of memory too
-pub some_anew : {A T E : Type 0} (items : A → List Tree) (r : Result T E) (old new : Held) (before after : KeptTypes A) (text : List ℕ) (p : Parsed) (a b : Tallies) → text ≡ old.text → held items before ≡ old.holds → held items after ≡ new.holds
-    → AreItemsOf text (trees_of p.tree) → OnOk r (Types old new a b) → OnErr r (GoesOn (held items before) (trees_of p.tree) (held items after) a.typed b.typed) → TypesSome old new a b
-some_anew items (Ok x) old new before after text p a b same were are own types failed = some_all old new a b types
-some_anew items (Err e) old new before after text p a b same were are own types failed = inr (
-  trees_of p.tree,
-  subst (λ (t : List ℕ). AreItemsOf t (trees_of p.tree)) same own,
-  subst (λ (hs : List Tree). GoesOn hs (trees_of p.tree) new.holds a.typed b.typed) were (subst (λ (hs : List Tree). GoesOn (held items before) (trees_of p.tree) hs a.typed b.typed) are failed),
-)
-
 pub types_after_ok : {T E : Type 0} (r : Result T E) (old mid new : Held) (a b c : Tallies) → mid.text ≡ old.text → mid.holds ≡ old.holds → b.typed ≡ a.typed → OnOk r (Types mid new b c) → OnOk r (Types old new a c)
 types_after_ok (Ok x) old mid new a b c text holds typed types = types_after old mid new a b c text holds typed types
 types_after_ok (Err e) old mid new a b c text holds typed types = tt
 
 -- ---- lines
 
--- at a query
-query_covers : (w : Owed) (old new : Held) (b c : Tallies) (start here earlier n : ℕ) → w.text ≡ old.text → TypesSome old new b c → Retyped w.asked w.text here → Covers w.asked old.holds b.typed (start + (w.apart + earlier)) → n ≡ here + earlier
-    → Covers (w.text ∷ w.asked) new.holds c.typed (start + (w.apart + n))
-query_covers w old new b c start here earlier n text (inl (holds, none)) step cover is =
+-- at a text that is typed
+query_covers : (text : List ℕ) (asked : List (List ℕ)) (olds news : List Tree) (before after start here earlier n : ℕ) → trials.TypesSome text olds news before after → Retyped asked text here → Covers asked olds before (start + earlier) → n ≡ here + earlier
+    → Covers (text ∷ asked) news after (start + n)
+query_covers text asked olds news before after start here earlier n (inl (holds, none)) step cover is =
     let (m, front, most) = cover.front step.olds step.were in
     let k = min m step.same in
-    let both : SameFront old.holds step.items k = front_both old.holds step.olds step.items m step.same front (record { left = step.left; right = step.right; same = step.front }) in
+    let both : SameFront olds step.items k = front_both olds step.olds step.items m step.same front (record { left = step.left; right = step.right; same = step.front }) in
     record {
       within = omega (arith, none, cover.within, is);
-      front = λ items are. let one : step.items ≡ items = items_one w.text step.items items step.are are in (
+      front = λ items are. let one : step.items ≡ items = items_one text step.items items step.are are in (
         k,
-        subst (λ (xs : List Tree). SameFront new.holds xs k) one (subst (λ (hs : List Tree). SameFront hs step.items k) (sym holds) both),
+        subst (λ (xs : List Tree). SameFront news xs k) one (subst (λ (hs : List Tree). SameFront hs step.items k) (sym holds) both),
         omega (arith, ap length one, step.others, most, cover.within, none, is, step.left),
       );
     }
-query_covers w old new b c start here earlier n text (inr (items, are, goes)) step cover is =
+query_covers text asked olds news before after start here earlier n (inr (items, are, goes)) step cover is =
     let (m, front, most) = cover.front step.olds step.were in
-    let both : SameFront old.holds step.items (min m step.same) = front_both old.holds step.olds step.items m step.same front (record { left = step.left; right = step.right; same = step.front }) in
-    let own : AreItems w.text items = (are.tokens, subst (λ (t : List ℕ). Lex t are.tokens) (sym text) are.lexed, are.are) in
-    let one : step.items ≡ items = items_one w.text step.items items step.are own in
-    let least : min m step.same ≤ goes.same = goes.front.longest (min m step.same) (subst (λ (xs : List Tree). SameFront old.holds xs (min m step.same)) one both) in
-    let typed : c.typed ≤ b.typed + goes.more = omega (arith, goes.typed, typed_most goes.more b.typed) in
+    let both : SameFront olds step.items (min m step.same) = front_both olds step.olds step.items m step.same front (record { left = step.left; right = step.right; same = step.front }) in
+    let own : AreItems text items = (are.tokens, are.lexed, are.are) in
+    let one : step.items ≡ items = items_one text step.items items step.are own in
+    let least : min m step.same ≤ goes.same = goes.front.longest (min m step.same) (subst (λ (xs : List Tree). SameFront olds xs (min m step.same)) one both) in
+    let typed : after ≤ before + goes.more = omega (arith, goes.typed, typed_most goes.more before) in
     let all : length items ≤ here + step.same = omega (arith, step.others, ap length one) in
     record {
       within = omega (arith, typed, all, least, goes.within, most, is, step.left, front.right);
-      front = λ others there. let same : items ≡ others = items_one w.text items others own there in (
+      front = λ others there. let same : items ≡ others = items_one text items others own there in (
         goes.same + goes.more,
-        subst (λ (xs : List Tree). SameFront new.holds xs (goes.same + goes.more)) same (front_held items new.holds (goes.same + goes.more) goes.within goes.holds),
+        subst (λ (xs : List Tree). SameFront news xs (goes.same + goes.more)) same (front_held items news (goes.same + goes.more) goes.within goes.holds),
         omega (arith, typed, all, least, goes.within, most, is, step.left, front.right, ap length same),
       );
     }
 
--- a query, answered or not
-pub types_carry : (w : Owed) (since : Option ℕ) (old new : Held) (b c : Tallies) → w.text ≡ old.text → TypesSome old new b c → Carries w (record { text = w.text; since = since; asked = w.text ∷ w.asked; apart = w.apart }) old new b c
+-- at texts that are tried one after the other
+tries_cover : (opens : List ℕ) (asked texts : List (List ℕ)) (s t : Tried) (a b : Tallies) (start : ℕ) → ((n : ℕ) → RetypedOver asked n → Covers asked s.holds a.typed (start + n)) → TriesAll opens texts s t a b
+    → (n : ℕ) → RetypedOver (texts ++ asked) n → Covers (texts ++ asked) t.holds b.typed (start + n)
+tries_cover opens asked [] s t a b start within (same, idle) n over =
+    subst (λ (u : Tried). Covers asked u.holds b.typed (start + n)) (sym same) (subst (λ (c : Tallies). Covers asked s.holds c.typed (start + n)) (sym idle) (within n over))
+tries_cover opens asked (text ∷ texts) s t a b start within (mid, between, before, one) n over =
+    let (here, earlier, step, rest, is) = over in
+    query_covers text (texts ++ asked) mid.holds t.holds between.typed b.typed start here earlier n one.types step (tries_cover opens asked texts s mid a between start within before earlier rest) is
+
+-- a query that tries no text, answered or not
+pub types_carry : (w : Owed) (since : Option ℕ) (old new : Held) (b c : Tallies) → w.text ≡ old.text → TypesSome old new b c → Carries w (record { text = w.text; since = since; asked = w.text ∷ w.asked }) old new b c
 types_carry w since old new b c text types = λ start within n over.
     let (here, earlier, step, before, is) = over in
-    query_covers w old new b c start here earlier n text types step (within earlier before) is
+    query_covers w.text w.asked old.holds new.holds b.typed c.typed start here earlier n (subst (λ (t : List ℕ). trials.TypesSome t old.holds new.holds b.typed c.typed) (sym text) types) step (within earlier before) is
 
--- a query of which nothing is said
-pub apart_carry : (w : Owed) (since : Option ℕ) (old new : Held) (b c : Tallies) → Carries w (record { text = w.text; since = since; asked = w.text ∷ w.asked; apart = w.apart + (c.typed + length old.holds) }) old new b c
-apart_carry w since old new b c = λ start within n over.
-    let (here, earlier, step, before, is) = over in
-    let cover = within earlier before in
-    let (m, front, most) = cover.front step.olds step.were in
-    record {
-      within = omega arith;
-      front = λ items are. let one : step.items ≡ items = items_one w.text step.items items step.are are in
-          (0, front_none new.holds items, omega (arith, ap length one, step.others, step.left, most, front.left, is));
-    }
+-- a query that tries texts
+pub spends_carry : (opens : List ℕ) (failed : Bool) (texts : List (List ℕ)) (w : Owed) (since : Option ℕ) (old new : Held) (b c : Tallies) → w.text ≡ old.text → QuerySpends opens failed texts old new b c
+    → Carries w (record { text = w.text; since = since; asked = texts ++ w.text ∷ w.asked }) old new b c
+spends_carry opens failed texts w since old new b c text spends = λ start within n over.
+    let asked = w.text ∷ w.asked in
+    let tries = spends.tries in
+    let own = types_carry w since old spends.mid b spends.between text spends.types start within in
+    let first : (k : ℕ) → RetypedOver asked k → Covers asked tries.first.holds spends.between.typed (start + k) = λ k so. subst (λ (hs : List Tree). Covers asked hs spends.between.typed (start + k)) (sym tries.holds) (own k so) in
+    subst (λ (hs : List Tree). Covers (texts ++ asked) hs c.typed (start + n)) (sym tries.now_holds) (tries_cover opens asked texts tries.first tries.last spends.between c start first tries.tries n over)
 
 -- a line at which nothing is typed
 pub rest_carry : (w : Owed) (old new : Held) (b c : Tallies) → new.holds ≡ old.holds → c.typed ≡ b.typed → Carries w w old new b c
 rest_carry w old new b c holds typed = λ start within n over.
-    subst (λ k. Covers w.asked new.holds k (start + (w.apart + n))) (sym typed) (subst (λ (hs : List Tree). Covers w.asked hs b.typed (start + (w.apart + n))) (sym holds) (within n over))
+    subst (λ k. Covers w.asked new.holds k (start + n)) (sym typed) (subst (λ (hs : List Tree). Covers w.asked hs b.typed (start + n)) (sym holds) (within n over))

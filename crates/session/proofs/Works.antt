@@ -1,29 +1,33 @@
 -- How many tokens a session's answers read and items they type, and what is owed behind them.
-use Rattle.std.proofs.Common.{◌≡◌, inl, inr, ℕ, ◌+◌, ◌-◌, ◌≤◌, min, nat_lt, List, [], ◌∷◌, length, refl, sym, ◌∙◌, ap, subst, arith, Bool, true, false, Result, Ok, Err, OnOk}
+use Rattle.std.proofs.Common.{◌≡◌, ◌⊎◌, inl, inr, ℕ, ◌+◌, ◌-◌, ◌≤◌, min, nat_lt, List, [], ◌∷◌, ◌++◌, length, refl, sym, ◌∙◌, ap, subst, arith, Bool, true, false, Result, Ok, Err, OnOk}
 use Rattle.std.specs.Prelude.{Option, Some, None, OnErr, if◌then◌else◌}
 use Rattle.std.proofs.lemmas.Bool.{ltb-true, ltb-false}
+use Rattle.std.proofs.lemmas.List.Elements.{All-nil}
 use Rattle.text_model.specs.Edits as edit
+use Rattle.text_model.specs.Positions.{offset}
 use Rattle.text_store.specs.Edits.{IsRefusal}
 use Rattle.text_store.specs.declared.edits.TextRefusal.{TextRefusal}
 use Rattle.text_store.specs.declared.edits.TextRefusal.TheVariants as code
 use Rattle.token_model.specs.Kinds.{Tok}
 use Rattle.token_model.specs.Tokens.{Lex}
-use Rattle.service_model.specs.Requests.{Asked, Reading, Refusal, asks, reading, refused, tell}
+use Rattle.service_model.specs.Requests.{Asked, Reading, Refusal, asks, case_analysis, complete_prefix, construct, errors, locate, occurrences, outline, reading, refused, tell, type_enclosing}
 use Rattle.service_model.specs.Replies as said
 use Rattle.service_model.specs.Answers.{Answered, Replies, tell_outcome}
-use Rattle.work_model.specs.Work.{asked_line, edited, ends_at, is_query, read_again, since_after, sooner, tries, IsAnew, LineReads, Owed, ReadsBy, StaysApart, WorksAt}
+use Rattle.work_model.specs.Work as work
+use Rattle.work_model.specs.Work.{edited, ends_at, is_query, read_again, since_after, sooner, IsAnew, IsBehind, IsTried, LineWorks, MayTry, Owed, ReadsAll, WorksAt, WorksIf}
 use Rattle.ml_lexer.specs.Steady.{ends_at as lexer_ends}
 use Rattle.syntax_tree.specs.Tallies.{Tallies}
 use Rattle.kept_text.specs.Keeping.{tok_end}
 use Rattle.kept_text.specs.Keeping as kept
+use Rattle.text_reading.specs.Trials.{Tried, TriesAll}
 use Rattle.text_reading.specs.Types.{opening}
 use Rattle.json_lines.specs.Meets.{IsToldOf}
 use Rattle.session.specs.Lines.{line_bytes, refusal_in, RefusesBy, RefusesEditBy, RepliesBy, Says}
-use Rattle.session.specs.Working.{in_vain, is_memory, Carries, Held, Lexes, Owes, QueryWorks, Reads, RequestWorks, Rests, Settles, TypesSome}
+use Rattle.session.specs.Working.{in_vain, is_memory, Carries, Held, Lexes, Owes, QuerySpends, QueryWorks, Reads, RequestWorks, Rests, Settles, TriesNone, TriesTexts, TypesSome}
 use Rattle.session.specs.declared.session.Line.{Line}
 use Rattle.session.specs.declared.session.Line.TheVariants.{Written, Memory}
 use Rattle.session.proofs.Answering.{replies_query}
-use Rattle.session.proofs.Carrying.{apart_carry, rest_carry, types_carry}
+use Rattle.session.proofs.Carrying.{rest_carry, spends_carry, types_carry}
 
 -- ---- reading
 
@@ -102,38 +106,94 @@ pub on_ok : {T E P : Type 0} (r : Result T E) → P → OnOk r P
 on_ok (Ok x) p = p
 on_ok (Err e) p = tt
 
--- what holds of a result under no premise
-pub on_ok_after : {T E : Type 0} (P Q : Type 0) (r : Result T E) → OnOk r P → OnOk r (Q → P)
-on_ok_after P Q (Ok x) p = λ q. p
-on_ok_after P Q (Err e) p = tt
+-- ---- texts that are tried
+
+-- no text was
+pub texts_none : (opens : List ℕ) (old new : Held) (a b : Tallies) → new ≡ old → b ≡ a → TriesTexts opens [] old new a b
+texts_none opens old new a b same idle =
+    let here : Tried = record { text = old.text; begun = old.begun; ready = old.known; holds = old.holds } in
+    record { first = here; last = here; tries = (refl, idle); begun = refl; holds = refl; still_begun = ap (λ (h : Held). h.begun) same; now_holds = ap (λ (h : Held). h.holds) same; ready = inl refl }
+
+-- a query before which no text was
+query_none : (opens : List ℕ) (failed : Bool) (old new : Held) (a b : Tallies) → Reads opens failed old new a b → TypesSome old new a b → QuerySpends opens failed [] old new a b
+query_none opens failed old new a b reads types = record { mid = new; between = b; reads = reads; types = types; tries = texts_none opens new new b b refl refl }
+
+-- one that failed before any was tried
+pub query_short : (opens : List ℕ) (old new : Held) (a b : Tallies) → Reads opens true old new a b → TypesSome old new a b → QuerySpends opens true [] old new a b
+query_short opens old new a b reads types = query_none opens true old new a b reads types
+
+-- one that didn't fail before, and may have then
+pub query_tries : (opens : List ℕ) (failed : Bool) (texts : List (List ℕ)) (old mid new : Held) (a b c : Tallies) → Reads opens false old mid a b → TypesSome old mid a b → TriesTexts opens texts mid new b c → QuerySpends opens failed texts old new a c
+query_tries opens failed texts old mid new a b c reads types tries = record { mid = mid; between = b; reads = reads_more opens failed old mid a b reads; types = types; tries = tries }
+
+-- of tokens all end at the first place or behind
+all_end : (ts : List Tok) → length ts ≤ ends_at 0 ts
+all_end [] = omega arith
+all_end (t ∷ ts) = by (nat_lt t.end 0) refl (all_end ts)
+  where
+    by : (c : Bool) → nat_lt t.end 0 ≡ c → length ts ≤ ends_at 0 ts → length (t ∷ ts) ≤ (if c then 0 else 1) + ends_at 0 ts
+    by true is rest = let less = ltb-true t.end 0 is in absurd (omega (arith, less))
+    by false is rest = omega (arith, rest)
+
+-- how many tokens are read of texts that are tried, where a typer has begun
+begun_read : (opens : List ℕ) (ps : List Tok) (texts : List (List ℕ)) (s t : Tried) (a b : Tallies) → Lex opens ps → TriesAll opens texts s t a b → s.begun ≡ true → (t.begun ≡ true) × (n : ℕ) × ReadsAll texts n × (b.lexed ≤ a.lexed + n)
+begun_read opens ps [] s t a b lex (same, idle) begun = (ap (λ (u : Tried). u.begun) same ∙ begun, 0, refl, omega (arith, ap (λ (c : Tallies). c.lexed) idle))
+begun_read opens ps (text ∷ texts) s t a b lex (mid, between, before, one) begun =
+    let (there, earlier, reads, most) = begun_read opens ps texts s mid a between lex before begun in
+    let here = b.lexed - between.lexed in
+    let behind : IsBehind text 0 here = λ ts own. omega (arith, one.lexed there ps ts lex own, all_end ts) in
+    (one.begun there, here + earlier, (here, earlier, behind, reads, refl), omega (arith, most))
+
+-- or where there are none
+texts_read : (opens : List ℕ) (ps : List Tok) (texts : List (List ℕ)) (s t : Tried) (a b : Tallies) → Lex opens ps → TriesAll opens texts s t a b → (texts ≡ []) ⊎ (s.begun ≡ true)
+    → (n : ℕ) × ReadsAll texts n × (b.lexed + opening (length ps) t.begun ≤ a.lexed + opening (length ps) s.begun + n)
+texts_read opens ps [] s t a b lex (same, idle) ready = (0, refl, omega (arith, ap (λ (c : Tallies). c.lexed) idle, ap (λ (u : Tried). opening (length ps) u.begun) same))
+texts_read opens ps (text ∷ texts) s t a b lex tries (inl none) = let bad : text ∷ texts ≡ [] = none in cc
+texts_read opens ps (text ∷ texts) s t a b lex tries (inr begun) =
+    let (there, n, reads, most) = begun_read opens ps (text ∷ texts) s t a b lex tries begun in
+    (n, reads, omega (arith, most, ap (opening (length ps)) there))
 
 -- ---- lines
 
--- a query that is answered with a line, or for which memory is short
-pub line_works : {T E : Type 0} (r : Result T E) (opens : List ℕ) (tried : Bool) (l : Line) (old new : Held) (a b : Tallies) → OnErr r (l ≡ Memory) → OnOk r (new.changed ≡ None) → Settles old new
-    → OnOk r (tried ≡ false → Reads opens false old new a b) → (tried ≡ false → Reads opens true old new a b) → (tried ≡ false → TypesSome old new a b) → QueryWorks opens true tried l old new a b
-line_works (Ok x) opens tried l old new a b memory current settles reads fails types = (λ not. current, settles, λ not. reads_more opens (is_memory l) old new a b (reads not), types)
-line_works (Err e) opens tried l old new a b memory current settles reads fails types = (
+-- a query that tries no text, and is answered with a line, or memory is short for it
+pub line_works : {T E : Type 0} (r : Result T E) (opens : List ℕ) (l : Line) (old new : Held) (a b : Tallies) → OnErr r (l ≡ Memory) → OnOk r (new.changed ≡ None) → Settles old new
+    → OnOk r (Reads opens false old new a b) → Reads opens true old new a b → TypesSome old new a b → QueryWorks opens true TriesNone l old new a b
+line_works (Ok x) opens l old new a b memory current settles reads fails types = (λ not. current, settles, [], refl, query_none opens (is_memory l) old new a b (reads_more opens (is_memory l) old new a b reads) types)
+line_works (Err e) opens l old new a b memory current settles reads fails types = (
   λ not. let bad : true ≡ false = sym (ap is_memory memory) ∙ not in cc,
   settles,
-  λ not. subst (λ (k : Line). Reads opens (is_memory k) old new a b) (sym memory) (fails not),
-  types,
+  [],
+  refl,
+  query_none opens (is_memory l) old new a b (subst (λ (k : Line). Reads opens (is_memory k) old new a b) (sym memory) fails) types,
+)
+
+-- one that may try texts
+pub ask_works : {T E : Type 0} (r : Result T E) (opens : List ℕ) (May : List (List ℕ) → Type 0) (l : Line) (old new : Held) (a b : Tallies) → OnErr r (l ≡ Memory) → OnOk r (new.changed ≡ None) → Settles old new
+    → OnOk r ((texts : List (List ℕ)) × May texts × QuerySpends opens false texts old new a b) → (texts : List (List ℕ)) × May texts × QuerySpends opens true texts old new a b → QueryWorks opens true May l old new a b
+ask_works (Ok x) opens May l old new a b memory current settles (texts, may, spends) fails =
+    (λ not. current, settles, texts, may, query_tries opens (is_memory l) texts old spends.mid new a spends.between b spends.reads spends.types spends.tries)
+ask_works (Err e) opens May l old new a b memory current settles spends (texts, may, short) = (
+  λ not. let bad : true ≡ false = sym (ap is_memory memory) ∙ not in cc,
+  settles,
+  texts,
+  may,
+  subst (λ (k : Line). QuerySpends opens (is_memory k) texts old new a b) (sym memory) short,
 )
 
 -- ---- requests
 
 -- what is owed behind a query that was answered
-none_owed : (w : Owed) (asked : List (List ℕ)) (apart : ℕ) (s : Held) → s.changed ≡ None → w.text ≡ s.text → Owes (record { text = w.text; since = None; asked = asked; apart = apart }) s
-none_owed w asked apart s none text = record { text = text; noted = λ n is. let bad : None ≡ Some n = sym none ∙ is in cc }
+none_owed : (w : Owed) (asked : List (List ℕ)) (s : Held) → s.changed ≡ None → w.text ≡ s.text → Owes (record { text = w.text; since = None; asked = asked }) s
+none_owed w asked s none text = record { text = text; noted = λ n is. let bad : None ≡ Some n = sym none ∙ is in cc }
 
 -- what is owed is owed still
 still_owed : (w : Owed) (old new : Held) → Owes w old → new.text ≡ old.text → Settles old new → Owes w new
 still_owed w old new owes text (inl none) = record { text = owes.text ∙ sym text; noted = λ n is. let bad : None ≡ Some n = sym none ∙ is in cc }
 still_owed w old new owes text (inr same) = record { text = owes.text ∙ sym text; noted = λ n is. owes.noted n (sym same ∙ is) }
 
--- the same with other texts and numbers of items
-short_owed : (w : Owed) (asked : List (List ℕ)) (apart : ℕ) (s : Held) → Owes w s → Owes (record { text = w.text; since = w.since; asked = asked; apart = apart }) s
-short_owed w asked apart s owes = record { text = owes.text; noted = owes.noted }
+-- the same with other texts
+short_owed : (w : Owed) (asked : List (List ℕ)) (s : Held) → Owes w s → Owes (record { text = w.text; since = w.since; asked = asked }) s
+short_owed w asked s owes = record { text = owes.text; noted = owes.noted }
 
 -- what was answered is answered at the text that is owed
 answered_at : (old new : Held) (w : Owed) (a : Asked) (bytes : List ℕ) → w.text ≡ old.text → new.text ≡ old.text → (s : said.Said) × Replies old.text a s new.text × (bytes ≡ said.line_of s) → Answered w.text (asks a) bytes w.text
@@ -147,7 +207,7 @@ away_works opens a (Written v) old new b c away leaves replies stays rests = λ 
     let here : is_query w.text a ≡ false = ap (λ (t : List ℕ). is_query t a) owes.text ∙ away in (
       w,
       0,
-      inl (answered_at old new w a v.items owes.text stays replies, sym (leaves w ∙ ap (λ (q : Bool). if q then None else w.since) here), sym (ap (λ (q : Bool). if q then w.text ∷ w.asked else w.asked) here), λ not. refl, subst (λ (q : Bool). ReadsBy q (tries a) w 0) (sym here) refl),
+      inl (answered_at old new w a v.items owes.text stays replies, sym (leaves w ∙ ap (λ (q : Bool). if q then None else w.since) here), subst (λ (q : Bool). WorksIf q w a w.asked 0) (sym here) (refl, refl)),
       still_owed w old new owes stays (inr rests.changed),
       omega (arith, ap (λ (t : Tallies). t.lexed) rests.counted, ap (opening (length ps)) rests.begun),
       rest_carry w old new b c rests.holds (ap (λ (t : Tallies). t.typed) rests.counted),
@@ -156,66 +216,65 @@ away_works opens a Memory old new b c away leaves replies stays rests = λ w ps 
     let here : is_query w.text a ≡ false = ap (λ (t : List ℕ). is_query t a) owes.text ∙ away in (
       w,
       0,
-      inr (refl, refl, refl, sym (ap (λ (q : Bool). if q then w.text ∷ w.asked else w.asked) here), λ not. refl, (0, subst (λ (q : Bool). ReadsBy q (tries a) w 0) (sym here) refl, omega (arith, ap (λ (q : Bool). if q then length ps else 0) here))),
+      inr (refl, refl, refl, (0, subst (λ (q : Bool). WorksIf q w a w.asked 0) (sym here) (refl, refl), omega (arith, ap (λ (q : Bool). if q then length ps else 0) here))),
       still_owed w old new owes stays (inr rests.changed),
       omega (arith, ap (λ (t : Tallies). t.lexed) rests.counted, ap (opening (length ps)) rests.begun),
       rest_carry w old new b c rests.holds (ap (λ (t : Tallies). t.typed) rests.counted),
     )
 
 -- how many tokens a query reads that has a place
-query_reads : (opens : List ℕ) (a : Asked) (failed tried : Bool) (old new : Held) (b c : Tallies) (w : Owed) (ps : List Tok) → Owes w old → Lex opens ps → is_query w.text a ≡ true → tries a ≡ tried
-    → (tried ≡ false → Reads opens failed old new b c) → (n : ℕ) × LineReads w (asks a) n × Lexes (length ps) (n + in_vain failed (length ps)) old new b c
-query_reads opens a failed false old new b c w ps owes lex here tried reads =
-    let (n, anew, most) = reads refl w ps owes lex in
-    (n, subst (λ (q : Bool). ReadsBy q (tries a) w n) (sym here) (subst (λ (t : Bool). ReadsBy true t w n) (sym tried) anew), most)
-query_reads opens a failed true old new b c w ps owes lex here tried reads =
-    let n = (c.lexed - b.lexed) + length ps in
-    (n, subst (λ (q : Bool). ReadsBy q (tries a) w n) (sym here) (subst (λ (t : Bool). ReadsBy true t w n) (sym tried) tt), omega (arith, opening_most (length ps) new.begun))
-
--- what a query types that has a place
-query_types : (tried : Bool) (w : Owed) (since : Option ℕ) (old new : Held) (b c : Tallies) → w.text ≡ old.text → (tried ≡ false → TypesSome old new b c)
-    → (apart : ℕ) × (tried ≡ false → apart ≡ w.apart) × Carries w (record { text = w.text; since = since; asked = w.text ∷ w.asked; apart = apart }) old new b c
-query_types false w since old new b c text types = (w.apart, λ not. refl, types_carry w since old new b c text (types refl))
-query_types true w since old new b c text types = (w.apart + (c.typed + length old.holds), λ not. cc, apart_carry w since old new b c)
+query_reads : (opens : List ℕ) (failed : Bool) (texts : List (List ℕ)) (old new : Held) (b c : Tallies) (w : Owed) (ps : List Tok) → Owes w old → Lex opens ps → QuerySpends opens failed texts old new b c
+    → (n : ℕ) × work.Reads w texts n × Lexes (length ps) (n + in_vain failed (length ps)) old new b c
+query_reads opens failed texts old new b c w ps owes lex spends =
+    let tries = spends.tries in
+    let (own, anew, most) = spends.reads w ps owes lex in
+    let ready : (texts ≡ []) ⊎ (tries.first.begun ≡ true) = still tries.ready in
+    let (others, all, read) = texts_read opens ps texts tries.first tries.last spends.between c lex tries.tries ready in
+    (own + others, (own, others, anew, all, refl), omega (arith, most, read, ap (opening (length ps)) tries.begun, ap (opening (length ps)) tries.still_begun))
+  where
+    still : (texts ≡ []) ⊎ (spends.mid.begun ≡ true) → (texts ≡ []) ⊎ (spends.tries.first.begun ≡ true)
+    still (inl none) = inl none
+    still (inr begun) = inr (spends.tries.begun ∙ begun)
 
 -- a query that has a place
-pub here_works : (opens : List ℕ) (a : Asked) (tried : Bool) (l : Line) (old new : Held) (b c : Tallies) → is_query old.text a ≡ true → tries a ≡ tried → ((w : Owed) → since_after w a ≡ (if is_query w.text a then None else w.since))
-    → RepliesBy old.text a l new.text → new.text ≡ old.text → QueryWorks opens true tried l old new b c → RequestWorks opens a l old new b c
-here_works opens a tried (Written v) old new b c there tries_so leaves replies stays (current, settles, reads, types) = λ w ps owes lex.
+pub here_works : (opens : List ℕ) (a : Asked) (l : Line) (old new : Held) (b c : Tallies) → is_query old.text a ≡ true → ((w : Owed) → since_after w a ≡ (if is_query w.text a then None else w.since))
+    → RepliesBy old.text a l new.text → new.text ≡ old.text → QueryWorks opens true (MayTry old.text a) l old new b c → RequestWorks opens a l old new b c
+here_works opens a (Written v) old new b c there leaves replies stays (current, settles, texts, may, spends) = λ w ps owes lex.
     let here : is_query w.text a ≡ true = ap (λ (t : List ℕ). is_query t a) owes.text ∙ there in
-    let (n, line, most) = query_reads opens a false tried old new b c w ps owes lex here tries_so reads in
-    let (apart, same, carries) = query_types tried w None old new b c owes.text types in (
-      record { text = w.text; since = None; asked = w.text ∷ w.asked; apart = apart },
+    let (n, reads, most) = query_reads opens false texts old new b c w ps owes lex spends in
+    let tried : MayTry w.text a texts = subst (λ (t : List ℕ). MayTry t a texts) (sym owes.text) may in
+    let asked = texts ++ w.text ∷ w.asked in (
+      record { text = w.text; since = None; asked = asked },
       n,
-      inl (answered_at old new w a v.items owes.text stays replies, sym (leaves w ∙ ap (λ (q : Bool). if q then None else w.since) here), sym (ap (λ (q : Bool). if q then w.text ∷ w.asked else w.asked) here), λ not. same (sym tries_so ∙ not), line),
-      none_owed w (w.text ∷ w.asked) apart new (current refl) (owes.text ∙ sym stays),
+      inl (answered_at old new w a v.items owes.text stays replies, sym (leaves w ∙ ap (λ (q : Bool). if q then None else w.since) here), subst (λ (q : Bool). WorksIf q w a asked n) (sym here) (texts, tried, refl, reads)),
+      none_owed w asked new (current refl) (owes.text ∙ sym stays),
       omega (arith, most),
-      carries,
+      spends_carry opens false texts w None old new b c owes.text spends,
     )
-here_works opens a tried Memory old new b c there tries_so leaves replies stays (current, settles, reads, types) = λ w ps owes lex.
+here_works opens a Memory old new b c there leaves replies stays (current, settles, texts, may, spends) = λ w ps owes lex.
     let here : is_query w.text a ≡ true = ap (λ (t : List ℕ). is_query t a) owes.text ∙ there in
-    let (n, line, most) = query_reads opens a true tried old new b c w ps owes lex here tries_so reads in
-    let (apart, same, carries) = query_types tried w w.since old new b c owes.text types in (
-      record { text = w.text; since = w.since; asked = w.text ∷ w.asked; apart = apart },
+    let (n, reads, most) = query_reads opens true texts old new b c w ps owes lex spends in
+    let tried : MayTry w.text a texts = subst (λ (t : List ℕ). MayTry t a texts) (sym owes.text) may in
+    let asked = texts ++ w.text ∷ w.asked in (
+      record { text = w.text; since = w.since; asked = asked },
       n + length ps,
-      inr (refl, refl, refl, sym (ap (λ (q : Bool). if q then w.text ∷ w.asked else w.asked) here), λ not. same (sym tries_so ∙ not), (n, line, omega (arith, ap (λ (q : Bool). if q then length ps else 0) here))),
-      short_owed w (w.text ∷ w.asked) apart new (still_owed w old new owes stays settles),
+      inr (refl, refl, refl, (n, subst (λ (q : Bool). WorksIf q w a asked n) (sym here) (texts, tried, refl, reads), omega (arith, ap (λ (q : Bool). if q then length ps else 0) here))),
+      short_owed w asked new (still_owed w old new owes stays settles),
       most,
-      carries,
+      spends_carry opens true texts w w.since old new b c owes.text spends,
     )
 
 -- a query by whether it has a place
-pub query_works : (opens : List ℕ) (a : Asked) (there tried : Bool) (l : Line) (old new : Held) (b c : Tallies) → is_query old.text a ≡ there → tries a ≡ tried → ((w : Owed) → since_after w a ≡ (if is_query w.text a then None else w.since))
-    → RepliesBy old.text a l new.text → new.text ≡ old.text → QueryWorks opens there tried l old new b c → RequestWorks opens a l old new b c
-query_works opens a false tried l old new b c is tries_so leaves replies stays rests = away_works opens a l old new b c is leaves replies stays rests
-query_works opens a true tried l old new b c is tries_so leaves replies stays works = here_works opens a tried l old new b c is tries_so leaves replies stays works
+pub query_works : (opens : List ℕ) (a : Asked) (there : Bool) (l : Line) (old new : Held) (b c : Tallies) → is_query old.text a ≡ there → ((w : Owed) → since_after w a ≡ (if is_query w.text a then None else w.since))
+    → RepliesBy old.text a l new.text → new.text ≡ old.text → QueryWorks opens there (MayTry old.text a) l old new b c → RequestWorks opens a l old new b c
+query_works opens a false l old new b c is leaves replies stays rests = away_works opens a l old new b c is leaves replies stays rests
+query_works opens a true l old new b c is leaves replies stays works = here_works opens a l old new b c is leaves replies stays works
 
 -- a request that asks such a query
-pub request_works : (opens : List ℕ) (a : Asked) (P : said.Said → Type 0) (there tried : Bool) (l : Line) (old new : Held) (b c : Tallies) → is_query old.text a ≡ there → tries a ≡ tried
-    → ((w : Owed) → since_after w a ≡ (if is_query w.text a then None else w.since)) → ((s : said.Said) → P s → Replies old.text a s old.text) → Says P l → new.text ≡ old.text → QueryWorks opens there tried l old new b c
+pub request_works : (opens : List ℕ) (a : Asked) (P : said.Said → Type 0) (there : Bool) (l : Line) (old new : Held) (b c : Tallies) → is_query old.text a ≡ there
+    → ((w : Owed) → since_after w a ≡ (if is_query w.text a then None else w.since)) → ((s : said.Said) → P s → Replies old.text a s old.text) → Says P l → new.text ≡ old.text → QueryWorks opens there (MayTry old.text a) l old new b c
     → RequestWorks opens a l old new b c
-request_works opens a P there tried l old new b c is tries_so leaves replies says stays works =
-    query_works opens a there tried l old new b c is tries_so leaves (replies_query old.text new.text a P l stays replies says) stays works
+request_works opens a P there l old new b c is leaves replies says stays works = query_works opens a there l old new b c is leaves (replies_query old.text new.text a P l stays replies says) stays works
 
 -- ---- edits
 
@@ -240,8 +299,8 @@ pub told_works : (old new : Held) (range : Option ((ℕ × ℕ) × (ℕ × ℕ))
 told_works old new range bytes first (Written v) w p owes outcome noted holds written (s, replies, is) =
     let there : tell_outcome w.text range bytes ≡ edit.changed first new.text = ap (λ (t : List ℕ). tell_outcome t range bytes) owes.text ∙ outcome in
     let since = Some (sooner first w.since) in (
-      record { text = new.text; since = since; asked = w.asked; apart = w.apart },
-      inl ((s, subst (λ (t : List ℕ). Replies t (tell range bytes) s new.text) (sym owes.text) replies, is), sym (ap (λ (o : edit.Outcome). edited o w.since) there), refl, λ not. refl, refl),
+      record { text = new.text; since = since; asked = w.asked },
+      inl ((s, subst (λ (t : List ℕ). Replies t (tell range bytes) s new.text) (sym owes.text) replies, is), sym (ap (λ (o : edit.Outcome). edited o w.since) there), (refl, refl)),
       record { text = refl; noted = λ n is. (sooner first w.since, refl, omega (arith, sooner_noted first w.since old.changed owes.noted, same_some (kept.sooner first old.changed) n (sym noted ∙ is))) },
       λ c. rest_carry w old new c c holds refl,
     )
@@ -255,11 +314,11 @@ untold_works old new range bytes (Written v) w p owes same outcome replies =
     let (r, is) = outcome refl in
     let here : tell_outcome w.text range bytes ≡ edit.refused r = ap (λ (t : List ℕ). tell_outcome t range bytes) owes.text ∙ is in (
       w,
-      inl (answered_at old new w (tell range bytes) v.items owes.text (ap (λ (h : Held). h.text) same) replies, sym (ap (λ (o : edit.Outcome). edited o w.since) here), refl, λ not. refl, refl),
+      inl (answered_at old new w (tell range bytes) v.items owes.text (ap (λ (h : Held). h.text) same) replies, sym (ap (λ (o : edit.Outcome). edited o w.since) here), (refl, refl)),
       subst (Owes w) (sym same) owes,
       λ c. rest_carry w old new c c (ap (λ (h : Held). h.holds) same) refl,
     )
-untold_works old new range bytes Memory w p owes same outcome replies = (w, inr (refl, refl, refl, refl, λ not. refl, (0, refl, refl)), subst (Owes w) (sym same) owes, λ c. rest_carry w old new c c (ap (λ (h : Held). h.holds) same) refl)
+untold_works old new range bytes Memory w p owes same outcome replies = (w, inr (refl, refl, refl, (0, (refl, refl), refl)), subst (Owes w) (sym same) owes, λ c. rest_carry w old new c c (ap (λ (h : Held). h.holds) same) refl)
 
 -- why an edit is refused, where memory isn't short
 pub refused_outcome : (o : edit.Outcome) (refusal : TextRefusal) (l : Line) → IsRefusal o refusal → RefusesEditBy (refusal_in refusal) l → is_memory l ≡ false → (r : edit.Refusal) × (o ≡ edit.refused r)
@@ -276,35 +335,47 @@ anew_none : (text : List ℕ) (since : Option ℕ) → IsAnew text since 0
 anew_none text None = refl
 anew_none text (Some place) = λ ts lex. omega arith
 
-reads_none_by : (query tried : Bool) (w : Owed) → ReadsBy query tried w 0
-reads_none_by false tried w = refl
-reads_none_by true false w = anew_none w.text w.since
-reads_none_by true true w = tt
+-- nor tried
+try_none : (text : List ℕ) (a : Asked) → MayTry text a []
+try_none text (tell range bytes) = refl
+try_none text (type_enclosing at) = refl
+try_none text (complete_prefix at prefix) = refl
+try_none text (locate at) = refl
+try_none text (occurrences at) = refl
+try_none text outline = refl
+try_none text errors = refl
+try_none text (case_analysis at) = (All-nil (IsTried text (offset text at.0 at.1)), omega arith)
+try_none text (construct at) = All-nil (IsTried text (offset text at.0 at.1))
 
-reads_none : (r : Reading) (w : Owed) → LineReads w r 0
-reads_none (asks a) w = reads_none_by (is_query w.text a) (tries a) w
-reads_none (refused r) w = refl
+-- the texts at the queries after a line that tries none
+abbrev asked_none : Owed → Reading → List (List ℕ)
+asked_none w (asks a) = if is_query w.text a then w.text ∷ w.asked else w.asked
+asked_none w (refused r) = w.asked
+
+works_none_by : (query : Bool) (w : Owed) (a : Asked) → WorksIf query w a (if query then w.text ∷ w.asked else w.asked) 0
+works_none_by false w a = (refl, refl)
+works_none_by true w a = ([], try_none w.text a, refl, (0, 0, anew_none w.text w.since, refl, refl))
+
+works_none : (r : Reading) (w : Owed) → LineWorks w r (asked_none w r) 0
+works_none (asks a) w = works_none_by (is_query w.text a) w a
+works_none (refused r) w = (refl, refl)
 
 -- nothing may be typed for any
-stays_apart : (r : Reading) (n : ℕ) → StaysApart r n n
-stays_apart (asks a) n = λ not. refl
-stays_apart (refused r) n = refl
-
-idle_by : (query : Bool) (w : Owed) (s : Held) (c : Tallies) → w.text ≡ s.text → Carries w (record { text = w.text; since = w.since; asked = if query then w.text ∷ w.asked else w.asked; apart = w.apart }) s s c c
+idle_by : (query : Bool) (w : Owed) (s : Held) (c : Tallies) → w.text ≡ s.text → Carries w (record { text = w.text; since = w.since; asked = if query then w.text ∷ w.asked else w.asked }) s s c c
 idle_by true w s c text = types_carry w w.since s s c c text (inl (refl, refl))
 idle_by false w s c text = λ start within. within
 
-idle_carry : (r : Reading) (w : Owed) (s : Held) (c : Tallies) → w.text ≡ s.text → Carries w (record { text = w.text; since = w.since; asked = asked_line w r; apart = w.apart }) s s c c
+idle_carry : (r : Reading) (w : Owed) (s : Held) (c : Tallies) → w.text ≡ s.text → Carries w (record { text = w.text; since = w.since; asked = asked_none w r }) s s c c
 idle_carry (asks a) w s c text = idle_by (is_query w.text a) w s c text
 idle_carry (refused r) w s c text = λ start within. within
 
 -- one for which memory is short
 pub memory_works : (r : Reading) (l : Line) (s : Held) (w : Owed) (p : ℕ) (c : Tallies) → Owes w s → l ≡ Memory → (v : Owed) × (n : ℕ) × WorksAt p w r (line_bytes l) v n × Owes v s × Lexes p n s s c c × Carries w v s s c c
 memory_works r l s w p c owes is = (
-  record { text = w.text; since = w.since; asked = asked_line w r; apart = w.apart },
+  record { text = w.text; since = w.since; asked = asked_none w r },
   read_again p w.text r,
-  inr (ap line_bytes is, refl, refl, refl, stays_apart r w.apart, (0, reads_none r w, omega arith)),
-  short_owed w (asked_line w r) w.apart s owes,
+  inr (ap line_bytes is, refl, refl, (0, works_none r w, omega arith)),
+  short_owed w (asked_none w r) s owes,
   omega arith,
   idle_carry r w s c owes.text,
 )
@@ -312,6 +383,6 @@ memory_works r l s w p c owes is = (
 -- a line that is no request, or one for which memory is short
 pub malformed_works : (line : List ℕ) (r : Option Refusal) (l : Line) (s : Held) (w : Owed) (p : ℕ) (c : Tallies) → Owes w s → IsToldOf r (reading line) → RefusesBy r l
     → (v : Owed) × (n : ℕ) × WorksAt p w (reading line) (line_bytes l) v n × Owes v s × Lexes p n s s c c × Carries w v s s c c
-malformed_works line (Some r) (Written v) s w p c owes is written = (w, 0, subst (λ x. WorksAt p w x v.items w 0) (sym is) (inl ((written, refl), refl, refl, refl, refl)), owes, omega arith, rest_carry w s s c c refl refl)
+malformed_works line (Some r) (Written v) s w p c owes is written = (w, 0, subst (λ x. WorksAt p w x v.items w 0) (sym is) (inl ((written, refl), refl, (refl, refl))), owes, omega arith, rest_carry w s s c c refl refl)
 malformed_works line (Some r) Memory s w p c owes is written = memory_works (reading line) Memory s w p c owes refl
 malformed_works line None l s w p c owes is written = memory_works (reading line) l s w p c owes written

@@ -1,10 +1,12 @@
 -- What is said of changes of a text, and what a trial of one tells.
-use Rattle.std.specs.Prelude.{◌≡◌, ◌⊎◌, ℕ, List, All, Bool, true, false, Option, Some, Result, Ok, Err}
+use Rattle.std.specs.Prelude.{◌≡◌, ◌⊎◌, ℕ, List, [], ◌∷◌, All, Bool, true, false, Option, Some, Result, Ok, Err}
 use Rattle.std.specs.declared.alloc.AllocError.{AllocError}
 use Rattle.text_terms.specs.Bytes.{str_bytes}
 use Rattle.text_terms.specs.declared.Span.{Span}
 use Rattle.text_model.specs.Positions.{position_of}
+use Rattle.query_model.specs.TypedNodes.{Typed}
 use Rattle.syntax_tree.specs.View.{place_of}
+use Rattle.query_engine.specs.Typed.{IsPlacedAt}
 use Rattle.query_engine.specs.declared.trials.Replacement.{Replacement}
 use Rattle.case_analysis.specs.declared.SplitFault.{SplitFault}
 use Rattle.case_analysis.specs.declared.SplitFault.TheVariants as split
@@ -83,3 +85,17 @@ is_said (Tried m cs) = false
 abbrev pub IsSaidAlone : Result Reply AllocError → Result Proposal AllocError → Type 0
 IsSaidAlone (Ok r) p = p ≡ Ok (Said r)
 IsSaidAlone (Err e) p = p ≡ Err e
+
+-- all changes that are to be tried
+abbrev pub candidates_in : Candidates → List Replacement
+candidates_in (Cases c) = c ∷ []
+candidates_in (Terms x cs) = cs.items
+
+-- those of a proposal
+abbrev pub changes_in : Proposal → List Replacement
+changes_in (Said r) = []
+changes_in (Tried m cs) = candidates_in cs
+
+-- a change goes in place of a typed node
+abbrev pub IsPlaced : Option Typed → Replacement → Type 0
+IsPlaced n r = IsPlacedAt r.span n

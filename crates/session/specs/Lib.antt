@@ -2,6 +2,5 @@
 pub mod Changes
 pub mod Lines
 pub mod Queries
-pub mod TreeCodes
 pub mod Trials
 pub mod Working

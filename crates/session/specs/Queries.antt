@@ -1,5 +1,5 @@
 -- What is said to queries of a position.
-use Rattle.std.specs.Prelude.{◌≡◌, ◌⊎◌, ℕ, List, None, false, codes}
+use Rattle.std.specs.Prelude.{◌≡◌, ◌⊎◌, ◌≤◌, All, ℕ, List, [], length, Option, None, false, codes}
 use Rattle.text_terms.specs.Bytes.{str_bytes}
 use Rattle.text_model.specs.Positions.{position_of}
 use Rattle.token_model.specs.Kinds.{Tok}
@@ -7,7 +7,7 @@ use Rattle.token_model.specs.Tokens.{Lex}
 use Rattle.tree_model.specs.Trees.{Tree}
 use Rattle.plain_model.specs.Plain.{plain_text}
 use Rattle.query_model.specs.Prefixes.{is_name_prefix}
-use Rattle.query_model.specs.TypedNodes.{innermost_at}
+use Rattle.query_model.specs.TypedNodes.{Typed, innermost_at}
 use Rattle.service_model.specs.Replies as said
 use Rattle.service_model.specs.Completions.{CompletedBy}
 use Rattle.service_model.specs.Answers.{typed_round, CasesBy, ItemsAre, LocatedBy, TermsBy, TypesAre, UsedBy}
@@ -15,6 +15,8 @@ use Rattle.service_model.specs.Structure.{faults_in, items_in, FaultsAre}
 use Rattle.service_model.specs.WellTyped.{is_well_typed}
 use Rattle.name_queries.specs.declared.shown_entries.Completion.{Completion}
 use Rattle.name_queries.specs.NewestNames.{printed}
+use Rattle.session.specs.Changes.{changes_in, IsPlaced}
+use Rattle.session.specs.declared.changes.Proposal.{Proposal}
 use Rattle.session.specs.declared.queries.Query.{Query}
 use Rattle.session.specs.declared.queries.Query.TheVariants.{Locate, Occurrences, Complete, Cases, Terms}
 
@@ -53,3 +55,9 @@ IsSaidOfPlace text s = ((o : ℕ) × (s ≡ said.place (codes "buffer") (positio
 -- a name that is told, as it is said
 abbrev pub said_entry : Completion → said.Entry
 said_entry c = record { desc = str_bytes c.desc; kind = printed c.kind; name = str_bytes c.name }
+
+-- the changes that a query proposes go in place of a typed node, and cases are one change
+abbrev pub ProposesAt : Query → Option Typed → Proposal → Type 0
+ProposesAt Cases n p = All (IsPlaced n) (changes_in p) × (length (changes_in p) ≤ 1)
+ProposesAt Terms n p = All (IsPlaced n) (changes_in p)
+ProposesAt _ n p = changes_in p ≡ []

@@ -1,14 +1,16 @@
 -- What a session keeps, and how many tokens its answers read and items they type.
-use Rattle.std.specs.Prelude.{◌≡◌, ◌⊎◌, ℕ, ◌+◌, ◌-◌, ◌≤◌, List, length, Bool, true, false, Option, Some, None, IfSome, if◌then◌else◌, refl}
+use Rattle.std.specs.Prelude.{◌≡◌, ◌⊎◌, All, ℕ, ◌+◌, ◌-◌, ◌≤◌, List, [], length, Bool, true, false, Option, Some, None, IfSome, if◌then◌else◌, refl}
 use Rattle.std.specs.Coded.{Coded, code_by, coded×, coded_bool, coded_list, coded_option, coded_ℕ}
 use Rattle.token_model.specs.Kinds.{Tok}
 use Rattle.token_model.specs.Tokens.{Lex}
 use Rattle.tree_model.specs.Trees.{Tree}
 use Rattle.service_model.specs.Requests.{Asked, asks}
-use Rattle.work_model.specs.Work.{Owed, AreLast, IsAnew, RetypedOver, WorksAt}
+use Rattle.work_model.specs.Work.{Owed, AreLast, IsAnew, IsTried, RetypedOver, WorksAt}
 use Rattle.syntax_tree.specs.Tallies.{Tallies}
-use Rattle.analysis_api.specs.Typed.{more_typed, GoesOn, LongestFront, SameFront}
+use Rattle.analysis_api.specs.Typed.{more_typed, LongestFront, SameFront}
 use Rattle.text_reading.specs.Structures.{AreItemsOf}
+use Rattle.text_reading.specs.Trials as trials
+use Rattle.text_reading.specs.Trials.{Tried, TriesAll}
 use Rattle.text_reading.specs.Types.{opening}
 use Rattle.session.specs.Lines.{line_bytes}
 use Rattle.session.specs.declared.session.Line.{Line}
@@ -66,10 +68,9 @@ abbrev pub Types : Held → Held → Tallies → Tallies → Type 0
 Types old new before after = ((new.holds ≡ old.holds) × (after.typed ≡ before.typed))
     ⊎ ((n : ℕ) × AreItemsOf old.text new.holds × LongestFront old.holds new.holds n × (after.typed ≡ more_typed (length new.holds - n) before.typed))
 
--- Nothing was typed, or the typer holds some of the text's items now: those at its front that it held before, and some after them, which were typed.
+-- what `text_reading` says of some items that are typed, of this text
 abbrev pub TypesSome : Held → Held → Tallies → Tallies → Type 0
-TypesSome old new before after = ((new.holds ≡ old.holds) × (after.typed ≡ before.typed))
-    ⊎ ((items : List Tree) × AreItemsOf old.text items × GoesOn old.holds items new.holds before.typed after.typed)
+TypesSome old new before after = trials.TypesSome old.text old.holds new.holds before.typed after.typed
 
 -- What a typer holds against the text at the last query: the count of typed items is at most so many, and still is where those of this text are added that aren't at the front of what it holds.
 pub record Covers (asked : List (List ℕ)) (holds : List Tree) (typed most : ℕ) : Type 0 where
@@ -78,7 +79,7 @@ pub record Covers (asked : List (List ℕ)) (holds : List Tree) (typed most : �
 
 -- the count is within what the queries so far may type, from this count on
 abbrev pub Within : ℕ → Owed → Held → Tallies → Type 0
-Within start w s counts = (n : ℕ) → RetypedOver w.asked n → Covers w.asked s.holds counts.typed (start + (w.apart + n))
+Within start w s counts = (n : ℕ) → RetypedOver w.asked n → Covers w.asked s.holds counts.typed (start + n)
 
 -- and stays so
 abbrev pub Carries : Owed → Owed → Held → Held → Tallies → Tallies → Type 0
@@ -91,11 +92,39 @@ pub record Rests (old new : Held) (before after : Tallies) : Type 0 where
   pub holds : new.holds ≡ old.holds
   pub counted : after ≡ before
 
--- What a query has done that is answered with a line, by whether it has a place in the text, and whether it may try other texts.
-abbrev pub QueryWorks : List ℕ → Bool → Bool → Line → Held → Held → Tallies → Tallies → Type 0
-QueryWorks opens false tried l old new before after = Rests old new before after
-QueryWorks opens true tried l old new before after = (is_memory l ≡ false → new.changed ≡ None) × Settles old new × (tried ≡ false → Reads opens (is_memory l) old new before after)
-    × (tried ≡ false → TypesSome old new before after)
+-- these texts were tried by the session's typer, which has begun, or none was
+pub record TriesTexts (opens : List ℕ) (texts : List (List ℕ)) (old new : Held) (before after : Tallies) : Type 0 where
+  pub first : Tried
+  pub last : Tried
+  pub tries : TriesAll opens texts first last before after
+  pub begun : first.begun ≡ old.begun
+  pub holds : first.holds ≡ old.holds
+  pub still_begun : new.begun ≡ last.begun
+  pub now_holds : new.holds ≡ last.holds
+  pub ready : (texts ≡ []) ⊎ (old.begun ≡ true)
+
+-- What was owed was read, the text was typed where that was wanted, and then these texts were tried.
+pub record QuerySpends (opens : List ℕ) (failed : Bool) (texts : List (List ℕ)) (old new : Held) (before after : Tallies) : Type 0 where
+  pub mid : Held
+  pub between : Tallies
+  pub reads : Reads opens failed old mid before between
+  pub types : TypesSome old mid before between
+  pub tries : TriesTexts opens texts mid new between after
+
+-- What a query has done that is answered with a line, by whether it has a place in the text, and which texts it may try.
+abbrev pub QueryWorks : List ℕ → Bool → (List (List ℕ) → Type 0) → Line → Held → Held → Tallies → Tallies → Type 0
+QueryWorks opens false May l old new before after = Rests old new before after
+QueryWorks opens true May l old new before after = (is_memory l ≡ false → new.changed ≡ None) × Settles old new × (texts : List (List ℕ)) × May texts × QuerySpends opens (is_memory l) texts old new before after
+
+-- no text is tried
+abbrev pub TriesNone : List (List ℕ) → Type 0
+TriesNone texts = texts ≡ []
+
+-- which texts a query at an offset may try
+abbrev pub TriesBy : Query → List ℕ → Option ℕ → List (List ℕ) → Type 0
+TriesBy Cases text place texts = All (IsTried text place) texts × (length texts ≤ 1)
+TriesBy Terms text place texts = All (IsTried text place) texts
+TriesBy _ text place texts = texts ≡ []
 
 -- whether a query may try other texts
 abbrev pub tries_texts : Query → Bool

@@ -1,5 +1,5 @@
 //! Queries that propose a change of the text: cases in place of a node, and terms in place of a hole.
-ghost use Rattle.std.specs.Prelude.{◌≡◌, All, map, IfOk};
+ghost use Rattle.std.specs.Prelude.{◌≡◌, ◌≤◌, ◌∷◌, [], All, List, ℕ, length, map, IfOk};
 ghost use Rattle.text_terms.specs.Bytes.{str_bytes};
 ghost use Rattle.query_model.specs.TypedNodes.{innermost_at};
 ghost use Rattle.service_model.specs.Answers.{CasesBy, TermsBy};
@@ -7,8 +7,10 @@ ghost use Rattle.service_model.specs.Replies as said;
 ghost use Rattle.syntax_tree.specs.Tallies.{Grows};
 ghost use Rattle.syntax_tree.specs.View.{trees_of};
 ghost use Rattle.json_lines.specs.Means.{said_of};
+ghost use Rattle.asked_node.specs.Trials.{AreReplaced};
 ghost use Rattle.construct_terms.specs.Terms.{IsAt};
-ghost use Rattle.session.specs.Changes.{text_in, ArePlaced, AreSaidOf, AreSaidTerms, FitsText, IsCasesFailure, IsSaidOf, IsSaidOfCandidate, IsTermsFailure};
+ghost use Rattle.text_reading.specs.Trials.{TriesAll};
+ghost use Rattle.session.specs.Changes.{candidates_in, changes_in, text_in, IsPlaced, ArePlaced, AreSaidOf, AreSaidTerms, FitsText, IsCasesFailure, IsSaidOf, IsSaidOfCandidate, IsTermsFailure};
 ghost use Rattle.text_reading.specs.Structures.{IsParsedAs};
 
 use crate::queries::asked;
@@ -85,6 +87,8 @@ fn cases_tried<A: Analyser, C: Counts>(
 ) -> Result<Reply, NoMemory>
     requires text { trial.old.of.now.text.items ≡ store.now }
     ensures said { IfOk result (λ r. IsSaidOfCandidate store.now candidate (said_of r)) }
+    ensures tries { (texts : List (List ℕ)) × AreReplaced store.now (candidate ∷ []) texts × TriesAll A.opens texts trial.old.tried.now trial.new.tried.now (C.tallies counts.old) (C.tallies counts.new) }
+    ensures same_reference { trial.new.tried.ghost_name ≡ trial.old.tried.ghost_name }
     ensures grows { Grows (C.tallies counts.old) (C.tallies counts.new) }
 {
     match destruct(candidate, trial, counts) {
@@ -108,6 +112,7 @@ pub fn cases(
     requires parsed { IsParsedAs store.now parsed.now }
     ensures answers { IfOk result (λ p. (s : said.Said) → IsSaidOf store.now p s → CasesBy store.now (innermost_at offset (trees_of parsed.now.tree)) s) }
     ensures fits { IfOk result (FitsText store.now) }
+    ensures placed { IfOk result (λ p. All (IsPlaced (innermost_at offset (trees_of parsed.now.tree))) (changes_in p) × (length (changes_in p) ≤ 1)) }
 {
     let text = bytes_of(alloc, store)?;
     match split(alloc, &asked(&parsed.tree, analysis), &text, offset) {
@@ -154,6 +159,8 @@ fn terms_tried<A: Analyser, C: Counts>(
     requires text { trial.old.of.now.text.items ≡ store.now }
     requires placed { All (IsAt span) candidates.items }
     ensures said { IfOk result (λ r. AreSaidTerms store.now span (said_of r)) }
+    ensures tries { (texts : List (List ℕ)) × AreReplaced store.now candidates.items texts × TriesAll A.opens texts trial.old.tried.now trial.new.tried.now (C.tallies counts.old) (C.tallies counts.new) }
+    ensures same_reference { trial.new.tried.ghost_name ≡ trial.old.tried.ghost_name }
     ensures grows { Grows (C.tallies counts.old) (C.tallies counts.new) }
 {
     let changes = construct(alloc, candidates, trial, counts)?;
@@ -175,6 +182,7 @@ pub fn terms_in(
     requires parsed { IsParsedAs store.now parsed.now }
     ensures answers { IfOk result (λ p. (s : said.Said) → IsSaidOf store.now p s → TermsBy store.now (innermost_at offset (trees_of parsed.now.tree)) s) }
     ensures fits { IfOk result (FitsText store.now) }
+    ensures placed { IfOk result (λ p. All (IsPlaced (innermost_at offset (trees_of parsed.now.tree))) (changes_in p)) }
 {
     let text = bytes_of(alloc, store)?;
     match terms(alloc, &asked(&parsed.tree, analysis), &text, offset) {
@@ -198,6 +206,7 @@ pub fn try_all<A: Analyser, C: Counts>(
     requires text { text.now.text.items ≡ store.now }
     requires placed { ArePlaced candidates }
     ensures said { IfOk result (λ r. AreSaidOf store.now candidates (said_of r)) }
+    ensures tries { (texts : List (List ℕ)) × AreReplaced store.now (candidates_in candidates) texts × TriesAll A.opens texts tried.old tried.new (C.tallies counts.old) (C.tallies counts.new) }
     ensures grows { Grows (C.tallies counts.old) (C.tallies counts.new) }
 {
     let mut trial = TextTrial::new(alloc, text, tried);

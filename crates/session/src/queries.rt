@@ -1,6 +1,7 @@
 //! Queries of a position on the names of a text.
 ghost use Rattle.std.specs.Prelude.{◌≡◌, false, true, Some, map, IfOk};
 ghost use Rattle.query_model.specs.Prefixes.{is_name_prefix};
+ghost use Rattle.query_model.specs.TypedNodes.{innermost_at};
 ghost use Rattle.service_model.specs.Answers.{LocatedBy, UsedBy, shown_place};
 ghost use Rattle.service_model.specs.Replies as said;
 ghost use Rattle.service_model.specs.Completions.{CompletedBy};
@@ -9,7 +10,7 @@ ghost use Rattle.json_lines.specs.Means.{entry_kind_text, entry_of, failure_said
 ghost use Rattle.session.specs.Changes.{is_said, FitsText, IsSaidAlone, IsSaidOf};
 ghost use Rattle.session.specs.Lines.{failure_in};
 ghost use Rattle.name_queries.specs.NewestNames.{printed};
-ghost use Rattle.session.specs.Queries.{AnswersQuery, IsSaidOfPlace, said_entry};
+ghost use Rattle.session.specs.Queries.{AnswersQuery, IsSaidOfPlace, ProposesAt, said_entry};
 ghost use Rattle.session.specs.Working.{tries_texts};
 ghost use Rattle.text_reading.specs.Structures.{IsParsedAs};
 ghost use Rattle.text_reading.specs.Types.{IsOf};
@@ -90,6 +91,7 @@ pub fn propose<A: Analyser>(
     requires found { IsOf A.items A.finds (trees_of parsed.now.tree) analysis.now }
     ensures answers { IfOk result (λ p. (s : said.Said) → IsSaidOf store.now p s → AnswersQuery query.now store.now offset (trees_of parsed.now.tree) s) }
     ensures fits { IfOk result (FitsText store.now) }
+    ensures placed { IfOk result (ProposesAt query.now (innermost_at offset (trees_of parsed.now.tree))) }
     ensures alone { tries_texts query.now ≡ false → IfOk result (λ p. is_said p ≡ true) }
 {
     let asked = asked(&parsed.tree, analysis);

@@ -26,11 +26,12 @@ ghost use Rattle.service_model.specs.Structure.{ErrorsAre, OutlineIs, faults_sai
 ghost use Rattle.json_lines.specs.Means.{outline_of, outlined_of, said_of, typed_of};
 ghost use Rattle.kept_text.specs.Keeping.{sooner};
 ghost use Rattle.text_reading.specs.Structures.{AreItemsOf};
+ghost use Rattle.asked_node.specs.Trials.{AreReplaced};
 ghost use Rattle.text_reading.specs.Types.{items_in};
-ghost use Rattle.session.specs.Changes.{is_said, ArePlaced, AreSaidOf, FitsText, IsSaidOf};
+ghost use Rattle.session.specs.Changes.{candidates_in, changes_in, is_said, ArePlaced, AreSaidOf, FitsText, IsSaidOf};
 ghost use Rattle.session.specs.Queries.{AreFaultsOf, AreTypesRound, IsAnswered, IsNotPlain, MayBeIllTyped};
 ghost use Rattle.session.specs.Lines.{line_bytes, refusal_in, IsWritten, RefusesBy, RefusesEditBy, RepliesBy, Says};
-ghost use Rattle.session.specs.Working.{tries_texts, Carries, Lexes, Owes, QueryWorks, Reads, RequestWorks, Settles, Types, TypesSome};
+ghost use Rattle.session.specs.Working.{tries_texts, Carries, Lexes, Owes, QuerySpends, QueryWorks, Reads, RequestWorks, Settles, TriesBy, TriesNone, TriesTexts, Types, TypesSome};
 
 use crate::changes::{Candidates, Proposal, try_all};
 use crate::queries::{Query, asked, failure_of, propose};
@@ -189,7 +190,7 @@ impl<A: Analyser> Model for Session<A> {
     ghost use Rattle.std.specs.Prelude.{is_some};
     ghost use Rattle.kept_text.specs.Keeping.{trees_in};
     ghost use Rattle.text_reading.specs.Types.{has_begun, held, known, known_front};
-    ghost use Rattle.session.specs.TreeCodes.{tree_code};
+    ghost use Rattle.text_reading.specs.TreeCodes.{tree_code};
     ghost use Rattle.session.specs.Working.{held_code, Held, IsTied};
     ghost use Rattle.std.specs.Coded.{codes};
 
@@ -436,6 +437,7 @@ impl<A: Analyser> Session<A> {
         ensures answers { IfOk result (λ p. (s : said.Said) → IsSaidOf self.now.text p s → IsAnswered query.now self.now.text offset s) }
         ensures fits { IfOk result (FitsText self.now.text) }
         ensures alone { tries_texts query.now ≡ false → IfOk result (λ p. is_said p ≡ true) }
+        ensures tries { IfOk result (λ p. (texts : List (List ℕ)) → AreReplaced self.now.text (changes_in p) texts → TriesBy query.now self.now.text (Some offset) texts) }
         ensures idle { self.now.changed ≡ None → self.now.known ≡ true → C.tallies counts.new ≡ C.tallies counts.old }
         ensures counted { Grows (C.tallies counts.old) (C.tallies counts.new) }
     {
@@ -460,6 +462,7 @@ impl<A: Analyser> Session<A> {
         ensures said { IfOk result (λ r. AreSaidOf self.old.text candidates (said_of r)) }
         ensures text { self.new.text ≡ self.old.text }
         ensures changed { self.new.changed ≡ self.old.changed }
+        ensures tries { (texts : List (List ℕ)) × AreReplaced self.old.text (candidates_in candidates) texts × (self.old.begun ≡ true → TriesTexts A.opens texts self.old self.new (C.tallies counts.old) (C.tallies counts.new)) }
         ensures counted { Grows (C.tallies counts.old) (C.tallies counts.new) }
     {
         self.tried.borrow_typer(&mut self.types);
@@ -479,8 +482,7 @@ impl<A: Analyser> Session<A> {
         ensures said { IfOk result (λ r. IsAnswered query.now self.old.text offset (said_of r)) }
         ensures text { self.new.text ≡ self.old.text }
         ensures changed { self.new.changed ≡ self.old.changed }
-        ensures stays { tries_texts query.now ≡ false → self.new ≡ self.old }
-        ensures idle { self.old.changed ≡ None → self.old.known ≡ true → tries_texts query.now ≡ false → C.tallies counts.new ≡ C.tallies counts.old }
+        ensures tries { self.old.changed ≡ None → self.old.known ≡ true → self.old.begun ≡ true → (texts : List (List ℕ)) × TriesBy query.now self.old.text (Some offset) texts × TriesTexts A.opens texts self.old self.new (C.tallies counts.old) (C.tallies counts.new) }
         ensures counted { Grows (C.tallies counts.old) (C.tallies counts.new) }
     {
         match self.propose(query, offset, counts)? {
@@ -517,6 +519,7 @@ impl<A: Analyser> Session<A> {
         requires current { self.old.changed ≡ None }
         ensures rest { (self.new.text ≡ self.old.text) × (self.new.changed ≡ None) }
         ensures known { OnOk result (self.new.known ≡ true) }
+        ensures begun { OnOk result (self.new.begun ≡ true) }
         ensures lexes { (ps : List Tok) → Lex A.opens ps → OnOk result (Lexes (length ps) 0 self.old self.new (C.tallies counts.old) (C.tallies counts.new)) }
         ensures fails { (ps : List Tok) → Lex A.opens ps → Lexes (length ps) (length ps) self.old self.new (C.tallies counts.old) (C.tallies counts.new) }
         ensures types { OnOk result (Types self.old self.new (C.tallies counts.old) (C.tallies counts.new)) }
@@ -543,6 +546,7 @@ impl<A: Analyser> Session<A> {
         ensures types { OnOk result (Types self.old self.new (C.tallies counts.old) (C.tallies counts.new)) }
         ensures goes { TypesSome self.old self.new (C.tallies counts.old) (C.tallies counts.new) }
         ensures known { OnOk result (self.new.known ≡ true) }
+        ensures begun { OnOk result (self.new.begun ≡ true) }
         ensures counted { Grows (C.tallies counts.old) (C.tallies counts.new) }
     {
         self.read_again(counts)?;
@@ -553,7 +557,7 @@ impl<A: Analyser> Session<A> {
     fn query_at<C: Counts>(&mut self, query: &Query, at: Pos, counts: &mut C) -> Line
         ensures says { Says (PlacedIs (offset self.old.text at.line at.col) (IsAnswered query.now self.old.text)) result }
         ensures text { self.new.text ≡ self.old.text }
-        ensures works { QueryWorks A.opens (is_some (offset self.old.text at.line at.col)) (tries_texts query.now) result self.old self.new (C.tallies counts.old) (C.tallies counts.new) }
+        ensures works { QueryWorks A.opens (is_some (offset self.old.text at.line at.col)) (TriesBy query.now self.old.text (offset self.old.text at.line at.col)) result self.old self.new (C.tallies counts.old) (C.tallies counts.new) }
         ensures counted { Grows (C.tallies counts.old) (C.tallies counts.new) }
     {
         match self.text().offset_of(at) {
@@ -576,9 +580,8 @@ impl<A: Analyser> Session<A> {
         ensures text { self.new.text ≡ self.old.text }
         ensures current { OnOk result (self.new.changed ≡ None) }
         ensures settles { Settles self.old self.new }
-        ensures reads { OnOk result (tries_texts query.now ≡ false → Reads A.opens false self.old self.new (C.tallies counts.old) (C.tallies counts.new)) }
-        ensures fails { tries_texts query.now ≡ false → Reads A.opens true self.old self.new (C.tallies counts.old) (C.tallies counts.new) }
-        ensures goes { tries_texts query.now ≡ false → TypesSome self.old self.new (C.tallies counts.old) (C.tallies counts.new) }
+        ensures spends { OnOk result ((texts : List (List ℕ)) × TriesBy query.now self.old.text (Some offset) texts × QuerySpends A.opens false texts self.old self.new (C.tallies counts.old) (C.tallies counts.new)) }
+        ensures fails { (texts : List (List ℕ)) × TriesBy query.now self.old.text (Some offset) texts × QuerySpends A.opens true texts self.old self.new (C.tallies counts.old) (C.tallies counts.new) }
         ensures counted { Grows (C.tallies counts.old) (C.tallies counts.new) }
     {
         self.refresh(counts)?;
@@ -589,7 +592,7 @@ impl<A: Analyser> Session<A> {
     fn outline_line<C: Counts>(&mut self, counts: &mut C) -> Line
         ensures says { Says (OutlineIs self.old.text) result }
         ensures text { self.new.text ≡ self.old.text }
-        ensures works { QueryWorks A.opens true false result self.old self.new (C.tallies counts.old) (C.tallies counts.new) }
+        ensures works { QueryWorks A.opens true TriesNone result self.old self.new (C.tallies counts.old) (C.tallies counts.new) }
         ensures counted { Grows (C.tallies counts.old) (C.tallies counts.new) }
     {
         let reply = self.outline_now(counts);
@@ -626,7 +629,7 @@ impl<A: Analyser> Session<A> {
     fn errors_line<C: Counts>(&mut self, counts: &mut C) -> Line
         ensures says { Says (ErrorsAre self.old.text) result }
         ensures text { self.new.text ≡ self.old.text }
-        ensures works { QueryWorks A.opens true false result self.old self.new (C.tallies counts.old) (C.tallies counts.new) }
+        ensures works { QueryWorks A.opens true TriesNone result self.old self.new (C.tallies counts.old) (C.tallies counts.new) }
         ensures counted { Grows (C.tallies counts.old) (C.tallies counts.new) }
     {
         let reply = self.errors_now(counts);
@@ -730,7 +733,7 @@ impl<A: Analyser> Session<A> {
     fn type_enclosing<C: Counts>(&mut self, at: Pos, counts: &mut C) -> Line
         ensures says { Says (PlacedIs (offset self.old.text at.line at.col) (EnclosingIs self.old.text)) result }
         ensures text { self.new.text ≡ self.old.text }
-        ensures works { QueryWorks A.opens (is_some (offset self.old.text at.line at.col)) false result self.old self.new (C.tallies counts.old) (C.tallies counts.new) }
+        ensures works { QueryWorks A.opens (is_some (offset self.old.text at.line at.col)) TriesNone result self.old self.new (C.tallies counts.old) (C.tallies counts.new) }
         ensures counted { Grows (C.tallies counts.old) (C.tallies counts.new) }
     {
         match self.text().offset_of(at) {

@@ -10,12 +10,14 @@ ghost use Rattle.service_model.specs.Trials.{FirstAdded, Fits, IsLeast, mark_of,
 ghost use Rattle.syntax_tree.specs.Tallies.{Grows};
 ghost use Rattle.syntax_tree.specs.View.{place_of};
 ghost use Rattle.text_queries.specs.Faults.{fault_of, typer_fault_of};
+ghost use Rattle.text_reading.specs.Trials.{TriesAll};
 ghost use Rattle.session.specs.Trials.{HasMarks, IsParserOf, Knows, lesser, mark_in};
 
 use analysis_api::Analyser;
+use asked_node::Trial;
 use env_table::Fault;
 use frame_parser::SyntaxFault;
-use query_engine::{Replacement, Trial};
+use query_engine::Replacement;
 use std::alloc::{AllocError, Global};
 use std::collections::HashSet;
 use syntax_tree::{Counts, NoMemory, Span};
@@ -236,7 +238,9 @@ impl MarkedText {
 impl<'a, A: Analyser> TextTrial<'a, A> {
     /// What is kept of the text that was tried last may be of any text.
     pub fn new(alloc: Global, of: &'a MarkedText, tried: &'a mut TriedText<A>) -> TextTrial<'a, A>
-        ensures { result.of.now ≡ of.now }
+        ensures of { result.of.now ≡ of.now }
+        ensures tried { result.tried.now ≡ tried.old }
+        ensures same_reference { result.tried.ghost_name ≡ tried.entry.ghost_name }
     {
         TextTrial { alloc, of, tried }
     }
@@ -253,22 +257,34 @@ impl<'a, A: Analyser> TextTrial<'a, A> {
         requires put { replacement.now.span.start + length (str_bytes replacement.now.text) < 2 ^ 32 }
         ensures first { IfOk result (FirstAdded self.old.of.now.text.items (place_of replacement.now.span) (str_bytes replacement.now.text)) }
         ensures text { self.new.of.now ≡ self.old.of.now }
+        ensures same_reference { self.new.tried.ghost_name ≡ self.old.tried.ghost_name }
+        ensures tries { TriesAll A.opens (changed.now ∷ []) self.old.tried.now self.new.tried.now (C.tallies counts.old) (C.tallies counts.new) }
         ensures grows { Grows (C.tallies counts.old) (C.tallies counts.new) }
     {
         let alloc = self.alloc;
-        self.tried.read(changed, counts)?;
-        let (parsed, found) = self.tried.typed(counts)?;
+        self.tried.type_text(changed, counts)?;
+        let (parsed, found) = self.tried.found();
         let marks = marks_of(alloc, &parsed.faults, &found.faults.list)?;
         Ok(self.of.first_new(replacement, &marks))
     }
 }
 
 impl<'a, A: Analyser> Trial for TextTrial<'a, A> {
+    ghost use Rattle.std.specs.Prelude.{◌≡◌, refl};
+    ghost use Rattle.std.proofs.Common.{◌∙◌};
+    ghost use Rattle.text_reading.specs.Trials.{TriesAll};
+    ghost use Rattle.text_reading.proofs.Spent.{tries_join};
     ghost use Rattle.session.specs.Changes.{Tells};
 
     ghost text = { λ t. t.of.now.text.items };
 
     ghost tells = { Tells };
+
+    ghost spends = { λ t texts u before after. (u.tried.ghost_name ≡ t.tried.ghost_name) × TriesAll A.opens texts t.tried.now u.tried.now before after };
+
+    ghost starts = { λ t a. (refl, (refl, refl)) };
+
+    ghost joins = { λ s t u xs ys a b c first then. (then.0 ∙ first.0, tries_join A.opens s.tried.now t.tried.now u.tried.now xs ys a b c first.1 then.1) };
 
     fn first_new_fault<C: Counts>(
         &mut self,

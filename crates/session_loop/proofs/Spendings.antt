@@ -1,5 +1,5 @@
 -- A run's work goes on by a line.
-use Rattle.std.proofs.Common.{◌≡◌, ℕ, suc, ◌+◌, ◌≤◌, List, [], ◌∷◌, ◌++◌, length, take, false, Option, Some, None, IfSome, refl, sym, ◌∙◌, ap, subst, arith, append_assoc}
+use Rattle.std.proofs.Common.{◌≡◌, ℕ, suc, ◌+◌, List, [], ◌∷◌, ◌++◌, length, take, false, Option, Some, None, IfSome, refl, sym, ◌∙◌, ap, subst, arith, append_assoc}
 use Rattle.std.specs.Io.KnownBytes.{Appends}
 use Rattle.std.proofs.KnownBytes.{Appends-nil, Appends-trans}
 use Rattle.std.proofs.lemmas.List.{append-nil, take_all}
@@ -111,7 +111,7 @@ spent_last opens start x y before held now lines [] out piece s t step put puts 
   spends = λ ps lex.
       let (v, n, ran, owes, most, within) = spends ps lex in
       let (u, m, works, owed, lexes, carries) = more v ps owes lex in
-      (v, n, ran, omega (arith, most, lexes, works.2), λ k over. subst (λ (o : Owed). y.typed ≤ start.typed + (o.apart + k)) works.1 (carries start.typed within k (subst (λ (o : Owed). RetypedOver o.asked k) (sym works.1) over)).within);
+      (v, n, ran, omega (arith, most, lexes, works.2), λ k over. (carries start.typed within k (subst (λ (o : Owed). RetypedOver o.asked k) (sym works.1) over)).within);
 }
 spent_last opens start x y before held now lines (b ∷ bs) out piece s t step put puts spends more =
     spent_whole opens start y before now (lines ++ (b ∷ bs) ∷ []) (lines ++ (b ∷ bs) ∷ []) [] (out ++ piece) (sym (append-nil (lines ++ (b ∷ bs) ∷ []))) (Appends-trans before held now out piece put puts)

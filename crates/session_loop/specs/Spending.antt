@@ -12,7 +12,7 @@ use Rattle.session.specs.Working.{Carries, Held, Lexes, Owes, Within}
 -- The lines put these bytes; no more tokens were lexed than they may read, and those of the prelude, whose bytes are the first ones; and no more items were typed than they may type.
 abbrev pub Spends : List ℕ → Tallies → Tallies → List (List ℕ) → List ℕ → Type 0
 Spends opens before after lines out = (ps : List Tok) → Lex opens ps → (v : Owed) × (n : ℕ) × RunWorks (length ps) at_first lines out v n × (after.lexed ≤ before.lexed + (length ps + n))
-    × ((m : ℕ) → RetypedOver v.asked m → after.typed ≤ before.typed + (v.apart + m))
+    × ((m : ℕ) → RetypedOver v.asked m → after.typed ≤ before.typed + m)
 
 -- the same of a session that goes on
 abbrev pub SpendsOn : List ℕ → Tallies → Tallies → Held → List (List ℕ) → List ℕ → Type 0

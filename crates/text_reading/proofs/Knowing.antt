@@ -1,6 +1,6 @@
 -- Whose items those are whose types are known.
-use Rattle.std.proofs.Common.{◌≡◌, ◌∙◌, ℕ, List, ap, sym, subst, Option, Some, None, IfSome, Result, Ok, Err, OnOk}
-use Rattle.std.specs.Prelude.{OnErr, option_map}
+use Rattle.std.proofs.Common.{◌≡◌, ◌∙◌, ℕ, List, ap, sym, subst, Bool, true, false, Option, Some, None, IfSome, Result, Ok, Err, OnOk}
+use Rattle.std.specs.Prelude.{OnErr, option_map, if◌then◌else◌}
 use Rattle.std.specs.declared.alloc.AllocError.{AllocError}
 use Rattle.tree_model.specs.Trees.{Tree}
 use Rattle.token_laws.proofs.Ones.{lex_one}
@@ -9,7 +9,9 @@ use Rattle.syntax_tree.specs.View.{trees_of}
 use Rattle.frame_parser.specs.declared.whole.Parsed.{Parsed}
 use Rattle.text_reading.specs.PlainTexts.{IsReadAs}
 use Rattle.text_reading.specs.Structures.{parsed_in, AreItemsOf, IsParsedAs}
+use Rattle.text_reading.specs.Types.{held, items_or_none, known}
 use Rattle.text_reading.specs.declared.reading.ReadText.{ReadText}
+use Rattle.text_reading.specs.declared.types.KeptTypes.{KeptTypes}
 
 -- the items of a text are one list
 pub items_are_one : (text : List ℕ) (xs ys : List Tree) → AreItemsOf text xs → AreItemsOf text ys → xs ≡ ys
@@ -44,3 +46,12 @@ holds_items items (Some a) k text trees is known are = items_are_one text (items
 -- what is known is one list
 pub same_known : (xs ys : List Tree) (k : Option (List Tree)) → Some xs ≡ k → k ≡ Some ys → xs ≡ ys
 same_known xs ys k is known = cc
+
+-- the items that are known are those that are held
+pub known_held : {A : Type 0} (items : A → List Tree) (k : KeptTypes A) (ts : List Tree) → known items k ≡ Some ts → held items k ≡ ts
+known_held items k ts is = by k.is_current (option_map items k.typer) is
+  where
+    by : (c : Bool) (o : Option (List Tree)) → (if c then o else None) ≡ Some ts → items_or_none o ≡ ts
+    by true (Some xs) is = cc
+    by true None is = cc
+    by false o is = cc

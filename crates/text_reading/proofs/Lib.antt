@@ -4,3 +4,4 @@ pub mod Places
 pub mod ReadAs
 pub mod Trying
 pub mod Knowing
+pub mod Spent

@@ -1,12 +1,11 @@
 //! A text that is tried in place of another, with what is kept of it from one such text to the next.
-ghost use Rattle.std.specs.Prelude.{◌≡◌, ◌≤◌, ◌+◌, [], ◌++◌, List, None, true, length, IfOk, OnOk};
+ghost use Rattle.std.specs.Prelude.{◌≡◌, ◌≤◌, [], None, true, length, IfOk, OnOk};
 ghost use Rattle.text_model.specs.Edits.{text_limit};
-ghost use Rattle.token_model.specs.Kinds.{Tok};
-ghost use Rattle.token_model.specs.Tokens.{Lex};
 ghost use Rattle.syntax_tree.specs.Tallies.{Grows};
 ghost use Rattle.syntax_tree.specs.View.{trees_of};
 ghost use Rattle.text_reading.specs.Structures.{IsParsedAs};
-ghost use Rattle.text_reading.specs.Types.{held, known, known_front, IsOf};
+ghost use Rattle.text_reading.specs.Trials.{Tries};
+ghost use Rattle.text_reading.specs.Types.{has_begun, held, known, known_front, IsOf};
 
 use crate::types::KeptTypes;
 use analysis_api::{Analyser, Analysis};
@@ -18,7 +17,8 @@ use syntax_tree::{Counts, NoMemory, Pos, RcStr};
 use text_store::{Edit, TextStore};
 
 /// A text that is tried, with its tokens, its tree and its types. One that begins like the one before it is read and typed from where
-/// they differ. It is seen as its bytes; so many of the typer's items are those of the tree that is kept as are said to be.
+/// they differ. It is seen as its bytes, whether a typer has begun, whether its tree and types are known, and the items that the typer
+/// holds (`Tried`). The known items are those of the tree that is kept, and so many of the first ones that are held as are said to be.
 #[derive(Drop)]
 pub struct TriedText<A: Analyser> {
     alloc: Global,
@@ -27,16 +27,20 @@ pub struct TriedText<A: Analyser> {
 }
 
 impl<A: Analyser> Model for TriedText<A> {
-    ghost use Rattle.std.specs.Prelude.{List, ℕ};
-    ghost use Rattle.analysis_api.specs.Typed.{SameFront};
+    ghost use Rattle.std.specs.Prelude.{is_none, is_some, ◌&&◌};
+    ghost use Rattle.std.specs.Coded.{codes};
     ghost use Rattle.kept_text.specs.Keeping.{trees_in};
-    ghost use Rattle.text_reading.specs.Types.{held, known_front};
+    ghost use Rattle.text_reading.specs.TreeCodes.{tree_code};
+    ghost use Rattle.text_reading.specs.Trials.{tried_code, IsBound, Tried};
+    ghost use Rattle.text_reading.specs.Types.{has_begun, held, known, known_front};
 
-    ghost Value = { List ℕ };
+    ghost Value = { Tried };
 
-    ghost view = { λ t. t.kept.text };
+    ghost coded = { tried_code (tree_code (Prim.hlevel codes) (Prim.hlevel codes) (Prim.hlevel codes)) };
 
-    ghost invariant = { λ t. SameFront (held A.items t.types) (trees_in t.kept.tokens) (known_front t.types) };
+    ghost view = { λ t. record { text = t.kept.text; begun = has_begun t.types; ready = is_none t.kept.changed && is_some (known A.items t.types); holds = held A.items t.types } };
+
+    ghost invariant = { λ t. IsBound (trees_in t.kept.tokens) (known A.items t.types) (held A.items t.types) (known_front t.types) };
 }
 
 /// How many bytes at the start of two texts are the same.
@@ -112,7 +116,7 @@ impl<A: Analyser> TriedText<A> {
 
     /// Whether the text that is kept is this one.
     fn is_kept(&self, text: &str) -> bool
-        ensures { result ≡ true → self.now ≡ text.now }
+        ensures { result ≡ true → self.now.text ≡ text.now }
     {
         let (left, right) = self.kept.text().slices();
         right.is_empty() && left == text.as_bytes()
@@ -120,7 +124,8 @@ impl<A: Analyser> TriedText<A> {
 
     /// Makes the text that is kept this one, and answers whether it is.
     fn bring(&mut self, text: &str) -> Result<bool, NoMemory>
-        ensures { IfOk result (λ is. is ≡ true → self.new ≡ text.now) }
+        ensures text { IfOk result (λ is. is ≡ true → self.new.text ≡ text.now) }
+        ensures typer { (self.new.begun ≡ self.old.begun) × (self.new.holds ≡ self.old.holds) }
     {
         if let Some(edit) = edit_to(self.alloc, self.kept.text(), text)? {
             let _ = self.kept.apply(&edit);
@@ -131,7 +136,8 @@ impl<A: Analyser> TriedText<A> {
     /// Makes the text that is kept this one by an edit of all of it, which is refused for want of memory alone.
     fn replace(&mut self, text: &str) -> Result<(), NoMemory>
         requires short { length text.now ≤ text_limit }
-        ensures { OnOk result (self.new ≡ text.now) }
+        ensures text { OnOk result (self.new.text ≡ text.now) }
+        ensures typer { (self.new.begun ≡ self.old.begun) × (self.new.holds ≡ self.old.holds) }
     {
         let store = self.kept.text();
         let (left, right) = store.slices();
@@ -149,7 +155,8 @@ impl<A: Analyser> TriedText<A> {
     /// Makes the text that is kept this one: from the first byte that differs on, where that can be done.
     fn take(&mut self, text: &str) -> Result<(), NoMemory>
         requires short { length text.now ≤ text_limit }
-        ensures { OnOk result (self.new ≡ text.now) }
+        ensures text { OnOk result (self.new.text ≡ text.now) }
+        ensures typer { (self.new.begun ≡ self.old.begun) × (self.new.holds ≡ self.old.holds) }
     {
         if self.bring(text)? {
             return Ok(());
@@ -157,50 +164,53 @@ impl<A: Analyser> TriedText<A> {
         self.replace(text)
     }
 
-    /// Takes the typer of another text, which types those that are tried from then on.
+    /// Takes the typer of another text, with the items that it holds; it types those that are tried from then on.
     pub fn borrow_typer(&mut self, types: &mut KeptTypes<A>)
-        ensures stays { self.new ≡ self.old }
+        ensures text { self.new.text ≡ self.old.text }
+        ensures given { (self.new.begun ≡ has_begun types.old) × (self.new.holds ≡ held A.items types.old) }
         ensures left { (known A.items types.new ≡ None) × (held A.items types.new ≡ []) × (known_front types.new ≡ 0) }
     {
         self.types = types.hand_over();
     }
 
-    /// Gives that typer back. The items that it holds are those of a text that was tried, and none is known to be one of another text.
+    /// Gives that typer back, with the items that it holds. They are those of a text that was tried, and none is known to be one of
+    /// another text.
     pub fn return_typer(&mut self) -> KeptTypes<A>
-        ensures stays { self.new ≡ self.old }
+        ensures text { self.new.text ≡ self.old.text }
+        ensures given { (has_begun result ≡ self.old.begun) × (held A.items result ≡ self.old.holds) }
         ensures unknown { known A.items result ≡ None }
         ensures front { known_front result ≡ 0 }
     {
         self.types.hand_over()
     }
 
-    /// Reads a text, which is the one that is tried from then on. At most 32 tokens more are read than it has, after want of memory too,
-    /// and nothing is typed.
-    pub fn read<C: Counts>(&mut self, text: &str, counts: &mut C) -> Result<(), NoMemory>
+    /// Reads and types a text, which is the one that is tried from then on. Where the typer has begun, at most 32 tokens more are read
+    /// than the text has; else the prelude is read too. Nothing is typed, or the first of its items after the longest front of what the
+    /// typer held. Both hold after want of memory too.
+    pub fn type_text<C: Counts>(&mut self, text: &str, counts: &mut C) -> Result<(), NoMemory>
         requires short { length text.now ≤ text_limit }
-        ensures text { OnOk result (self.new ≡ text.now) }
-        ensures lexed { (ts : List Tok) → Lex text.now ts → (C.tallies counts.new).lexed ≤ (C.tallies counts.old).lexed + (32 + length ts) }
-        ensures untyped { (C.tallies counts.new).typed ≡ (C.tallies counts.old).typed }
+        ensures text { OnOk result (self.new.text ≡ text.now) }
+        ensures ready { OnOk result (self.new.ready ≡ true) }
+        ensures tries { Tries A.opens text.now self.old self.new (C.tallies counts.old) (C.tallies counts.new) }
         ensures grows { Grows (C.tallies counts.old) (C.tallies counts.new) }
     {
         self.take(text)?;
-        self.types.follow(&mut self.kept, counts)
-    }
-
-    /// The tree and the faults of the text that was read last, and what is found of its types and names.
-    pub fn typed<C: Counts>(&mut self, counts: &mut C) -> Result<(&Parsed, Analysis<'_>), NoMemory>
-        ensures parsed { IfOk result (λ r. IsParsedAs self.old r.0.now) }
-        ensures found { IfOk result (λ r. IsOf A.items A.finds (trees_of r.0.now.tree) r.1) }
-        ensures grows { Grows (C.tallies counts.old) (C.tallies counts.new) }
-    {
+        self.types.outdate();
         self.types.follow(&mut self.kept, counts)?;
         match self.kept.parsed() {
-            Some(parsed) => self.types.refresh(self.alloc, &parsed.tree, counts)?,
+            Some(parsed) => self.types.refresh(self.alloc, &parsed.tree, counts),
             None => unreachable!(),
         }
-        let tried = &*self;
-        match (tried.kept.parsed(), tried.types.known()) {
-            (Some(parsed), Some(typer)) => Ok((parsed, typer.found())),
+    }
+
+    /// The tree and the faults of the text that was typed last, and what is found of its types and names.
+    pub fn found(&self) -> (&Parsed, Analysis<'_>)
+        requires ready { self.now.ready ≡ true }
+        ensures parsed { IsParsedAs self.now.text result.0.now }
+        ensures found { IsOf A.items A.finds (trees_of result.0.now.tree) result.1 }
+    {
+        match (self.kept.parsed(), self.types.known()) {
+            (Some(parsed), Some(typer)) => (parsed, typer.found()),
             _ => unreachable!(),
         }
     }

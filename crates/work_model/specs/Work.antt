@@ -1,26 +1,27 @@
--- How many tokens a run may lex and how many items it may type, by its lines and their replies: the prelude's tokens once, and for each query what is behind what has changed since the last one.
-use Rattle.std.specs.Prelude.{◌≡◌, ◌⊎◌, ℕ, ◌+◌, ◌≤◌, min, nat_lt, List, [], ◌∷◌, ◌++◌, length, take, Bool, true, false, is_some, Option, Some, None, if◌then◌else◌}
+-- How many tokens a run may lex and how many items it may type, by its lines, their replies and the texts that its queries try: the prelude's tokens once; for each query what is after the first change since the last one; and for each text that it tries all of that.
+use Rattle.std.specs.Prelude.{◌≡◌, ◌⊎◌, All, ℕ, ◌+◌, ◌≤◌, min, nat_lt, List, [], ◌∷◌, ◌++◌, length, take, Bool, true, false, is_some, Option, Some, None, if◌then◌else◌}
 use Rattle.text_model.specs.Edits as edit
+use Rattle.text_model.specs.Edits.{apply}
 use Rattle.text_model.specs.Positions.{offset}
 use Rattle.token_model.specs.Kinds.{Tok}
 use Rattle.token_model.specs.Tokens.{Lex}
 use Rattle.tree_model.specs.Trees.{Tree}
+use Rattle.query_model.specs.TypedNodes.{Typed, innermost_at}
 use Rattle.service_model.specs.Requests.{Asked, tell, type_enclosing, complete_prefix, locate, occurrences, outline, errors, case_analysis, construct, Reading, asks, refused, reading}
 use Rattle.service_model.specs.Replies.{memory_line}
 use Rattle.service_model.specs.Answers.{Answered, tell_outcome}
 use Rattle.service_model.specs.Runs.{is_blank_line}
 use Rattle.service_model.specs.Structure.{items_in}
 
--- The text, and the first byte that may have changed since the last query that was answered, or none, where nothing has changed; the texts at the queries, the last one first, those for which memory was short among them; and how many items were typed by lines of which nothing is said.
+-- The text, and the first byte that may have changed since the last query that was answered, or none, where nothing has changed; and the texts at the queries, those for which memory was short among them, each with the texts that it tried after it, the latest text first.
 pub record Owed : Type 0 where
   pub text : List ℕ
   pub since : Option ℕ
   pub asked : List (List ℕ)
-  pub apart : ℕ
 
 -- before the first line: the empty text, of which nothing was read
 abbrev pub at_first : Owed
-at_first = record { text = []; since = Some 0; asked = []; apart = 0 }
+at_first = record { text = []; since = Some 0; asked = [] }
 
 -- ---- tokens
 
@@ -50,20 +51,39 @@ is_query text errors = true
 is_query text (case_analysis at) = is_some (offset text at.0 at.1)
 is_query text (construct at) = is_some (offset text at.0 at.1)
 
--- whether a request may try other texts
-abbrev pub tries : Asked → Bool
-tries (case_analysis at) = true
-tries (construct at) = true
-tries _ = false
+-- ---- texts that are tried
 
--- What a request reads, by whether it is a query and whether it may try other texts; of one that may, nothing is said.
-abbrev pub ReadsBy : Bool → Bool → Owed → ℕ → Type 0
-ReadsBy false tried w n = n ≡ 0
-ReadsBy true false w n = IsAnew w.text w.since n
-ReadsBy true true w n = Unit {0}
+-- This is a text with other bytes, as many as may be, in place of the innermost typed node at an offset; none is, where there is no offset.
+abbrev pub IsTried : List ℕ → Option ℕ → List ℕ → Type 0
+IsTried text None tried = ⊥
+IsTried text (Some place) tried = (tokens : List Tok) × (n : Typed) × (bytes : List ℕ) × Lex text tokens × (innermost_at place (items_in tokens) ≡ Some n) × (tried ≡ apply text n.span.start n.span.end bytes)
 
-abbrev pub Reads : Owed → Asked → ℕ → Type 0
-Reads w a n = ReadsBy (is_query w.text a) (tries a) w n
+-- Which texts a request may try, the latest first: `case-analysis` one at most, `construct` any number. Which bytes go in place of the node stays open.
+abbrev pub MayTry : List ℕ → Asked → List (List ℕ) → Type 0
+MayTry text (case_analysis at) tried = All (IsTried text (offset text at.0 at.1)) tried × (length tried ≤ 1)
+MayTry text (construct at) tried = All (IsTried text (offset text at.0 at.1)) tried
+MayTry text _ tried = tried ≡ []
+
+-- for each of these texts at most all of its tokens, and 32 more
+abbrev pub ReadsAll : List (List ℕ) → ℕ → Type 0
+ReadsAll [] n = n ≡ 0
+ReadsAll (text ∷ before) n = (here : ℕ) × (earlier : ℕ) × IsBehind text 0 here × ReadsAll before earlier × (n ≡ here + earlier)
+
+-- what a query reads: what has changed of its own text, and these texts that it tries
+abbrev pub Reads : Owed → List (List ℕ) → ℕ → Type 0
+Reads w tried n = (own : ℕ) × (others : ℕ) × IsAnew w.text w.since own × ReadsAll tried others × (n ≡ own + others)
+
+-- ---- lines
+
+-- What a request reads, and the texts at the queries after it, by whether it is a query.
+abbrev pub WorksIf : Bool → Owed → Asked → List (List ℕ) → ℕ → Type 0
+WorksIf false w a asked n = (asked ≡ w.asked) × (n ≡ 0)
+WorksIf true w a asked n = (tried : List (List ℕ)) × MayTry w.text a tried × (asked ≡ tried ++ w.text ∷ w.asked) × Reads w tried n
+
+-- the same of a line
+abbrev pub LineWorks : Owed → Reading → List (List ℕ) → ℕ → Type 0
+LineWorks w (asks a) asked n = WorksIf (is_query w.text a) w a asked n
+LineWorks w (refused r) asked n = (asked ≡ w.asked) × (n ≡ 0)
 
 -- the first changed byte where bytes from one place on are changed and had been from another, or nothing had been
 abbrev pub sooner : ℕ → Option ℕ → ℕ
@@ -85,21 +105,6 @@ abbrev pub since_line : Owed → Reading → Option ℕ
 since_line w (asks a) = since_after w a
 since_line w (refused r) = w.since
 
--- the texts at the queries behind a line
-abbrev pub asked_line : Owed → Reading → List (List ℕ)
-asked_line w (asks a) = if is_query w.text a then w.text ∷ w.asked else w.asked
-asked_line w (refused r) = w.asked
-
--- of what a line types something is said, unless it may try other texts
-abbrev pub StaysApart : Reading → ℕ → ℕ → Type 0
-StaysApart (asks a) before now = tries a ≡ false → now ≡ before
-StaysApart (refused r) before now = now ≡ before
-
--- what a line reads
-abbrev pub LineReads : Owed → Reading → ℕ → Type 0
-LineReads w (asks a) n = Reads w a n
-LineReads w (refused r) n = n ≡ 0
-
 -- the prelude's tokens, of which there are p, may be read once more where memory was short in a query
 abbrev pub read_again : ℕ → List ℕ → Reading → ℕ
 read_again p text (asks a) = if is_query text a then p else 0
@@ -108,8 +113,8 @@ read_again p text (refused r) = 0
 -- What a line says is answered with the piece, or memory is short; it leaves what is owed behind it, and may read n tokens.
 abbrev pub WorksAt : ℕ → Owed → Reading → List ℕ → Owed → ℕ → Type 0
 WorksAt p w r piece v n =
-    (Answered w.text r piece v.text × (v.since ≡ since_line w r) × (v.asked ≡ asked_line w r) × StaysApart r w.apart v.apart × LineReads w r n)
-    ⊎ ((piece ≡ memory_line) × (v.text ≡ w.text) × (v.since ≡ w.since) × (v.asked ≡ asked_line w r) × StaysApart r w.apart v.apart × ((m : ℕ) × LineReads w r m × (n ≡ m + read_again p w.text r)))
+    (Answered w.text r piece v.text × (v.since ≡ since_line w r) × LineWorks w r v.asked n)
+    ⊎ ((piece ≡ memory_line) × (v.text ≡ w.text) × (v.since ≡ w.since) × ((m : ℕ) × LineWorks w r v.asked m × (n ≡ m + read_again p w.text r)))
 
 -- the same of a line; one of blanks is passed over
 abbrev pub WorksBy : Bool → ℕ → Owed → List ℕ → List ℕ → Owed → ℕ → Type 0
@@ -128,12 +133,12 @@ RunWorks p w (line ∷ lines) out v n = (piece : List ℕ) × (mid : Owed) × (r
 abbrev pub AreItems : List ℕ → List Tree → Type 0
 AreItems text items = (tokens : List Tok) × Lex text tokens × (items ≡ items_in tokens)
 
--- these are the items at the last of some queries, and none before the first
+-- these are the items of the text that was asked about or tried last, and none before the first
 abbrev pub AreLast : List (List ℕ) → List Tree → Type 0
 AreLast [] items = items ≡ []
 AreLast (text ∷ before) items = AreItems text items
 
--- A text has at most n items but for some at its front, which are, with their trees, those that the text at the last query had there.
+-- A text has at most n items but for some at its front, which are, with their trees, those that the last text before it had there.
 pub record Retyped (asked : List (List ℕ)) (text : List ℕ) (n : ℕ) : Type 0 where
   pub olds : List Tree
   pub were : AreLast asked olds
@@ -145,7 +150,7 @@ pub record Retyped (asked : List (List ℕ)) (text : List ℕ) (n : ℕ) : Type 
   pub front : take same olds ≡ take same items
   pub others : length items ≤ n + same
 
--- n is the sum of such numbers over the queries so far
+-- n is the sum of such numbers over the queries so far, and the texts that they tried
 abbrev pub RetypedOver : List (List ℕ) → ℕ → Type 0
 RetypedOver [] n = n ≡ 0
 RetypedOver (text ∷ before) n = (here : ℕ) × (earlier : ℕ) × Retyped before text here × RetypedOver before earlier × (n ≡ here + earlier)

@@ -1,3 +1,5 @@
+use Rattle.std.proofs.Common.{List, ℕ, [], ◌∷◌, subst}
+use Rattle.asked_node.specs.Trials.{AreReplaced}
 use Rattle.session.proofs.Cases.{kept_said, refused_said}
 use Rattle.session.proofs.changes.cases_tried.Goals as goal
 
@@ -9,3 +11,19 @@ returns-in-Ok-clause-said g c =
 pub returns-in-Err-clause-said : goal.returns-in-Err-clause-said
 returns-in-Err-clause-said g c =
     refused_said c.args.store.now c.args.trial.now.of.now.text.items c.args.candidate c.cases_failure.result c.in-Err.fault c.requires.text c.in-Err.ensures.refused c.cases_failure.ensures
+
+pub returns-in-Ok-clause-tries : goal.returns-in-Ok-clause-tries
+returns-in-Ok-clause-tries g c =
+    let (texts, are, spent) = c.destruct.ensures.spends in
+    (texts, subst (λ (t : List ℕ). AreReplaced t (c.args.candidate ∷ []) texts) c.requires.text are, spent.1)
+
+pub returns-in-Err-clause-tries : goal.returns-in-Err-clause-tries
+returns-in-Err-clause-tries g c =
+    let (texts, are, spent) = c.destruct.ensures.spends in
+    (texts, subst (λ (t : List ℕ). AreReplaced t (c.args.candidate ∷ []) texts) c.requires.text are, spent.1)
+
+pub returns-in-Ok-clause-same_reference : goal.returns-in-Ok-clause-same_reference
+returns-in-Ok-clause-same_reference g c = let (texts, are, spent) = c.destruct.ensures.spends in spent.0
+
+pub returns-in-Err-clause-same_reference : goal.returns-in-Err-clause-same_reference
+returns-in-Err-clause-same_reference g c = let (texts, are, spent) = c.destruct.ensures.spends in spent.0

@@ -1,8 +1,16 @@
 use Rattle.std.proofs.Common.{rules}
 use Rattle.query_model.specs.TypedNodes.{innermost_at}
 use Rattle.syntax_tree.specs.View.{trees_of}
+use Rattle.query_engine.specs.Typed.{IsPlacedAt}
+use Rattle.session.proofs.Proposing.{all_placed}
 use Rattle.session.proofs.Terms.{said_at}
 use Rattle.session.proofs.changes.terms_in.Goals as goal
 
 pub returns-in_ok-new-in-Ok-clause-answers : goal.returns-in_ok-new-in-Ok-clause-answers
 returns-in_ok-new-in-Ok-clause-answers c = λ s told. said_at c.args.store.now c.in-Ok.span (innermost_at c.args.offset (trees_of c.args.parsed.now.tree)) s (search rules) told
+
+pub returns-in_ok-new-in-Ok-clause-placed : goal.returns-in_ok-new-in-Ok-clause-placed
+returns-in_ok-new-in-Ok-clause-placed c =
+    let node = innermost_at c.args.offset (trees_of c.args.parsed.now.tree) in
+    let at : IsPlacedAt c.in-Ok.span node = search rules in
+    all_placed node c.in-Ok.span c.in-Ok.changes.items at (search rules)

@@ -1,5 +1,6 @@
 use Rattle.std.proofs.Common.{◌≡◌, ◌∙◌, ℕ, List, IfOk, ap, sym, subst, true, false}
 use Rattle.query_model.specs.Prefixes.{is_name_prefix}
+use Rattle.query_model.specs.TypedNodes.{innermost_at}
 use Rattle.text_terms.specs.Bytes.{str_bytes}
 use Rattle.service_model.specs.Replies as said
 use Rattle.service_model.specs.Answers.{LocatedBy, UsedBy}
@@ -8,10 +9,10 @@ use Rattle.syntax_tree.specs.View.{trees_of}
 use Rattle.syntax_tree.specs.declared.tree.Tree.{Tree}
 use Rattle.json_lines.specs.Means.{said_of}
 use Rattle.session.specs.Changes.{IsSaidOf}
-use Rattle.session.specs.Queries.{AnswersQuery}
+use Rattle.session.specs.Queries.{AnswersQuery, ProposesAt}
 use Rattle.session.specs.Working.{tries_texts}
 use Rattle.session.specs.declared.queries.Query.{Query}
-use Rattle.session.proofs.Proposing.{alone_answers, alone_fits, alone_is}
+use Rattle.session.proofs.Proposing.{alone_answers, alone_fits, alone_is, alone_placed}
 use Rattle.session.proofs.queries.propose.Goals as goal
 
 pub returns-in-Locate-clause-answers : goal.returns-in-Locate-clause-answers
@@ -74,3 +75,18 @@ returns-in-Cases-clause-alone g c = λ not. let bad : true ≡ false = sym (ap t
 
 pub returns-in-Terms-clause-alone : goal.returns-in-Terms-clause-alone
 returns-in-Terms-clause-alone g c = λ not. let bad : true ≡ false = sym (ap tries_texts c.in-Terms.is) ∙ not in cc
+
+pub returns-in-Locate-clause-placed : goal.returns-in-Locate-clause-placed
+returns-in-Locate-clause-placed g c = subst (λ (q : Query). IfOk c.said.result (ProposesAt q (innermost_at c.args.offset (trees_of c.args.parsed.now.tree)))) (sym c.in-Locate.is) (alone_placed c.located.result c.said.result c.said.ensures)
+
+pub returns-in-Occurrences-clause-placed : goal.returns-in-Occurrences-clause-placed
+returns-in-Occurrences-clause-placed g c = subst (λ (q : Query). IfOk c.said-in-Occurrences.result (ProposesAt q (innermost_at c.args.offset (trees_of c.args.parsed.now.tree)))) (sym c.in-Occurrences.is) (alone_placed c.used.result c.said-in-Occurrences.result c.said-in-Occurrences.ensures)
+
+pub returns-in-Complete-clause-placed : goal.returns-in-Complete-clause-placed
+returns-in-Complete-clause-placed g c = subst (λ (q : Query). IfOk c.said-in-Complete.result (ProposesAt q (innermost_at c.args.offset (trees_of c.args.parsed.now.tree)))) (sym c.in-Complete.is) (alone_placed c.completed.result c.said-in-Complete.result c.said-in-Complete.ensures)
+
+pub returns-in-Cases-clause-placed : goal.returns-in-Cases-clause-placed
+returns-in-Cases-clause-placed g c = subst (λ (q : Query). IfOk c.cases.result (ProposesAt q (innermost_at c.args.offset (trees_of c.args.parsed.now.tree)))) (sym c.in-Cases.is) c.cases.ensures.placed
+
+pub returns-in-Terms-clause-placed : goal.returns-in-Terms-clause-placed
+returns-in-Terms-clause-placed g c = subst (λ (q : Query). IfOk c.terms_in.result (ProposesAt q (innermost_at c.args.offset (trees_of c.args.parsed.now.tree)))) (sym c.in-Terms.is) c.terms_in.ensures.placed

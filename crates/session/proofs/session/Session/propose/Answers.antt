@@ -9,7 +9,7 @@ use Rattle.text_reading.proofs.Knowing.{items_parsed}
 use Rattle.session.specs.Changes.{FitsText, IsSaidOf}
 use Rattle.session.specs.Queries.{AnswersQuery}
 use Rattle.session.specs.Working.{Held}
-use Rattle.session.proofs.Proposing.{items_answer}
+use Rattle.session.proofs.Proposing.{items_answer, may_try}
 use Rattle.session.proofs.session.Session.propose.Goals as goal
 
 pub typed-requires : goal.typed-requires
@@ -39,3 +39,10 @@ returns-clause-answers g c =
 
 pub returns-clause-fits : goal.returns-clause-fits
 returns-clause-fits g c = subst (λ (t : List ℕ). IfOk c.propose.result (FitsText t)) c.text.ensures c.propose.ensures.fits
+
+pub returns-clause-tries : goal.returns-clause-tries
+returns-clause-tries g c =
+    let text = c.args.self.now.text in
+    let parsed = c.get-parsed.result.now in
+    let are = subst (λ (p : Parsed). IsParsedAs c.self.inside.kept.text p) (sym c.get-parsed.ensures) c.in_ok-read.ensures.parsed in
+    may_try c.args.query.now text c.args.offset parsed c.propose.result (subst (λ (t : List ℕ). IsParsedAs t parsed) (ap (λ (h : Held). h.text) c.self.view_is) are) c.propose.ensures.placed

@@ -1,12 +1,12 @@
 use Rattle.std.proofs.Common.{◌∙◌, ap, refl, sym, subst, codes, List, ℕ}
-use Rattle.std.specs.Prelude.{Option, is_some}
+use Rattle.std.specs.Prelude.{Option, Some, is_some}
 use Rattle.text_model.specs.Positions.{offset}
 use Rattle.service_model.specs.Replies as said
 use Rattle.service_model.specs.Answers.{PlacedIs}
 use Rattle.session.specs.Queries.{IsAnswered}
-use Rattle.session.specs.Working.{QueryWorks, tries_texts}
+use Rattle.session.specs.Working.{QueryWorks, TriesBy}
 use Rattle.session.proofs.Answering.{says, says_line, says_so}
-use Rattle.session.proofs.Works.{line_works}
+use Rattle.session.proofs.Works.{ask_works}
 use Rattle.session.proofs.session.Session.query_at.Goals as goal
 
 pub returns-in-Ok-clause-says : goal.returns-in-Ok-clause-says
@@ -23,11 +23,11 @@ returns-in-Err-clause-says g c =
 pub returns-in-Ok-clause-works : goal.returns-in-Ok-clause-works
 returns-in-Ok-clause-works g c =
     let there = ap (λ (t : List ℕ). offset t c.args.at.line c.args.at.col) (sym c.text.ensures) ∙ c.in-Ok.ensures.value in
-    subst (λ (o : Option ℕ). QueryWorks g.A.Analyser.opens (is_some o) (tries_texts c.args.query.now) c.line_of.result c.args.self.now c.ask_now-reply.new.self (g.C.Counts.tallies c.args.counts.now) (g.C.Counts.tallies c.ask_now-reply.new.counts)) (sym there)
-    (line_works c.ask_now-reply.result g.A.Analyser.opens (tries_texts c.args.query.now) c.line_of.result c.args.self.now c.ask_now-reply.new.self (g.C.Counts.tallies c.args.counts.now) (g.C.Counts.tallies c.ask_now-reply.new.counts) c.line_of.ensures.memory c.ask_now-reply.ensures.current c.ask_now-reply.ensures.settles c.ask_now-reply.ensures.reads c.ask_now-reply.ensures.fails c.ask_now-reply.ensures.goes)
+    subst (λ (o : Option ℕ). QueryWorks g.A.Analyser.opens (is_some o) (TriesBy c.args.query.now c.args.self.now.text o) c.line_of.result c.args.self.now c.ask_now-reply.new.self (g.C.Counts.tallies c.args.counts.now) (g.C.Counts.tallies c.ask_now-reply.new.counts)) (sym there)
+    (ask_works c.ask_now-reply.result g.A.Analyser.opens (TriesBy c.args.query.now c.args.self.now.text (Some c.in-Ok.offset)) c.line_of.result c.args.self.now c.ask_now-reply.new.self (g.C.Counts.tallies c.args.counts.now) (g.C.Counts.tallies c.ask_now-reply.new.counts) c.line_of.ensures.memory c.ask_now-reply.ensures.current c.ask_now-reply.ensures.settles c.ask_now-reply.ensures.spends c.ask_now-reply.ensures.fails)
 
 pub returns-in-Err-clause-works : goal.returns-in-Err-clause-works
 returns-in-Err-clause-works g c =
     let nowhere = ap (λ (t : List ℕ). offset t c.args.at.line c.args.at.col) (sym c.text.ensures) ∙ c.in-Err.ensures.value in
-    subst (λ (o : Option ℕ). QueryWorks g.A.Analyser.opens (is_some o) (tries_texts c.args.query.now) c.error_line.result c.args.self.now c.args.self.now (g.C.Counts.tallies c.args.counts.now) (g.C.Counts.tallies c.args.counts.now)) (sym nowhere)
+    subst (λ (o : Option ℕ). QueryWorks g.A.Analyser.opens (is_some o) (TriesBy c.args.query.now c.args.self.now.text o) c.error_line.result c.args.self.now c.args.self.now (g.C.Counts.tallies c.args.counts.now) (g.C.Counts.tallies c.args.counts.now)) (sym nowhere)
     (record { changed = refl; begun = refl; holds = refl; counted = refl })

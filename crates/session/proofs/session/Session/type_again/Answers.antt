@@ -4,11 +4,13 @@ use Rattle.tree_model.specs.Trees.{Tree}
 use Rattle.syntax_tree.specs.View.{trees_of}
 use Rattle.analysis_api.specs.Typed.{SameFront}
 use Rattle.token_store.specs.Stored.{toks_of}
+use Rattle.text_reading.specs.Trials.{TypesSome}
 use Rattle.text_reading.specs.Types.{has_begun, held, known, known_front, opening}
 use Rattle.text_reading.proofs.Knowing.{items_parsed, known_again}
 use Rattle.text_reading.proofs.Parsing.{parsed_as}
+use Rattle.text_reading.proofs.Spent.{typed_some}
 use Rattle.session.specs.Working.{Held}
-use Rattle.session.proofs.Carrying.{some_anew, types_anew}
+use Rattle.session.proofs.Carrying.{types_anew}
 use Rattle.session.proofs.Works.{opened, opened_in_vain}
 use Rattle.session.proofs.session.Session.type_again.Goals as goal
 
@@ -48,10 +50,14 @@ pub returns-clause-goes : goal.returns-clause-goes
 returns-clause-goes g c =
     let kept = c.self.inside.kept in
     let there = c.in-Some.ensures in
-    let parsed = parsed_as kept.text (toks_of kept.tokens) c.in-Some.parsed.now there.lexed there.tree there.faults in
-    let now : Held = record { text = kept.text; changed = kept.changed; begun = has_begun c.refresh.new.self; known = is_some (known g.A.Analyser.items c.refresh.new.self); holds = held g.A.Analyser.items c.refresh.new.self } in
-    let own = items_parsed kept.text c.in-Some.parsed.now parsed in
-    some_anew g.A.Analyser.items c.refresh.result c.args.self.now now c.self.inside.types c.refresh.new.self kept.text c.in-Some.parsed.now (g.C.Counts.tallies c.args.counts.now) (g.C.Counts.tallies c.refresh.new.counts)
-    (ap (λ (h : Held). h.text) c.self.view_is) (ap (λ (h : Held). h.holds) c.self.view_is) refl own
-    (types_anew g.A.Analyser.items c.refresh.result c.args.self.now now c.self.inside.types c.refresh.new.self kept.text c.in-Some.parsed.now (g.C.Counts.tallies c.args.counts.now) (g.C.Counts.tallies c.refresh.new.counts)
-    (ap (λ (h : Held). h.text) c.self.view_is) (ap (λ (h : Held). h.holds) c.self.view_is) refl own c.refresh.ensures.known c.refresh.ensures.typed) c.refresh.ensures.failed
+    let before = c.self.inside.types in
+    let after = c.refresh.new.self in
+    let a = g.C.Counts.tallies c.args.counts.now in
+    let b = g.C.Counts.tallies c.refresh.new.counts in
+    let own = items_parsed kept.text c.in-Some.parsed.now (parsed_as kept.text (toks_of kept.tokens) c.in-Some.parsed.now there.lexed there.tree there.faults) in
+    let some : TypesSome kept.text (held g.A.Analyser.items before) (held g.A.Analyser.items after) a.typed b.typed =
+    typed_some g.A.Analyser.items c.refresh.result before after kept.text c.in-Some.parsed.now a b own c.refresh.ensures.known c.refresh.ensures.typed c.refresh.ensures.failed in
+    subst (λ (h : Held). TypesSome h.text h.holds (held g.A.Analyser.items after) a.typed b.typed) c.self.view_is some
+
+pub returns-clause-begun : goal.returns-clause-begun
+returns-clause-begun g c = c.refresh.ensures.begun

@@ -5,8 +5,8 @@ use Rattle.text_model.specs.Positions.{position_of}
 use Rattle.text_reading.proofs.Trying.{whole_text}
 use Rattle.text_reading.proofs.tried.TriedText.replace.Goals as goal
 
-pub returns-in-Ok : goal.returns-in-Ok
-returns-in-Ok g c =
+pub returns-in-Ok-clause-text : goal.returns-in-Ok-clause-text
+returns-in-Ok-clause-text g c =
     let t = c.text-store.result.now in
     let left = c.slices.result.0.now in
     let right = c.slices.result.1.now in

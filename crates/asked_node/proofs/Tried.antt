@@ -1,0 +1,16 @@
+-- Which texts were tried.
+use Rattle.std.proofs.Common.{◌≡◌, ℕ, List, [], ◌∷◌, refl, arith}
+use Rattle.std.proofs.lemmas.List.Elements.{All-cons, All-nil}
+use Rattle.asked_node.specs.Trials.{AreReplaced, IsReplaced, replaced}
+use Rattle.query_engine.specs.declared.trials.Replacement.{Replacement}
+
+-- none
+pub tried_none : (text : List ℕ) (rs : List Replacement) → AreReplaced text rs []
+tried_none text rs = record { each = All-nil (IsReplaced text rs); few = omega arith }
+
+-- one
+pub tried_one : (text tried : List ℕ) (r : Replacement) → tried ≡ replaced text r → AreReplaced text (r ∷ []) (tried ∷ [])
+tried_one text tried r is = record {
+  each = All-cons (IsReplaced text (r ∷ [])) tried [] (r, (0, omega arith, refl), is) (All-nil (IsReplaced text (r ∷ [])));
+  few = omega arith;
+}
