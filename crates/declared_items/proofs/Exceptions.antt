@@ -16,7 +16,6 @@ use Rattle.typing_model.specs.Contexts.{Choice, Context}
 use Rattle.typing_model.specs.Declarations.{constructor_row, exception_asks, entries_of_exception}
 use Rattle.typing_model.specs.Items.{exception_components}
 use Rattle.typing_model.specs.Parts.{ConstructorPart, TypeExpression, Seen, no_names, place_of}
-use Rattle.typing_model.specs.Parts as parts
 use Rattle.env_table.specs.declared.entries.Entry.{Entry}
 use Rattle.env_table.specs.Views.{kind_of}
 use Rattle.row_parts.specs.Numbered.{first_in, token_in}

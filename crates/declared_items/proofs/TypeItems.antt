@@ -33,13 +33,15 @@ use Rattle.typing_steps.specs.States.{is_aloud, sight, fixed_of, reports_of}
 use Rattle.typing_steps.specs.Typing.{as_declared}
 use Rattle.typing_steps.proofs.Starting.{constants_kept}
 use Rattle.operand_laws.specs.Operands.{number_of, parts_of}
+use Rattle.type_expressions.specs.Untyped.{Untyped}
+use Rattle.type_expressions.proofs.Untyped.{untyped_then}
 use Rattle.typing_rows.specs.Around.{TypesAs}
 use Rattle.typing_rows.specs.Noted.{AreNoted}
 use Rattle.typing_rows.specs.Settled.{AreFixed, IsBehind}
 use Rattle.typing_rows.proofs.Noted.{noted_on}
 use Rattle.typing_rows.proofs.Surrounding.{known_by}
 use Rattle.declared_rows.proofs.Continuing.{fits_declared}
-use Rattle.binding_rows.specs.ItemRows.{AreDeclared, AreOwned, none_owned, leaves_none, leaves_types, ItemDone}
+use Rattle.binding_rows.specs.ItemRows.{AreDeclared, AreOwned, none_owned, leaves_none, leaves_types}
 use Rattle.binding_rows.specs.Outside.{AgreesOutside, Outside, Left, EntersItems, ItemsCarried, OnlyBetween}
 use Rattle.binding_rows.proofs.ItemOrders.{agrees_earlier, stays_between, outside_between, items_treated, items_inside}
 use Rattle.first_laws.specs.Declaring.{OnlyTypes, StartsAfter}
@@ -55,6 +57,7 @@ use Rattle.decl_typing.specs.Entries.{values_of, EntriesOf}
 use Rattle.decl_typing.specs.Groups.{DeclaresGroup, DeclaresTypes}
 use Rattle.decl_typing.specs.Owned.{IsOwnRight, AreOwnRights, told_in, told_as, own_asks, TypeDeclared}
 use Rattle.decl_typing.specs.Parameters.{token_names}
+use Rattle.declared_items.specs.Adding.{ItemAdded}
 use Rattle.declared_items.specs.Items.{recorded_types, recorded_type}
 use Rattle.declared_items.specs.Shapes.{shape_by, own_declaration}
 use Rattle.declared_items.specs.Written.{IsOwnNode, IsOwnTypeNode}
@@ -237,28 +240,32 @@ module _ (b d : Parts) {G : Letters} {env : List Entry} {E : Choice → Environm
       ap reverse (append-nil (type_entry (declaration_of c group part) (Some node.name) ++ entries_of_shape (declaration_of c group part) (declaration_of c group part).shape)
       ∙ ap (λ e. type_entry e (Some node.name) ++ entries_of_shape e e.shape) declares)
 
-  -- The item is done, where it was judged before whether its name is new.
-  pub type_is_done : (a first : Parts) (n : ℕ) (seen : Seen) → IsSound a.store.nodes → ItemsCarried E (λ c. names_asked seen.types group) (sight a) G (sight first) G → OnlyBetween (sight first) (sight b) →
-      ItemDone as_declared E (recorded_types n group) seen (record no_names { types = names_of_declarations group }) a d G (reverse (values_of declared.entries.items) ++ env)
+  -- The item is done, and adds its entries, whatever is chosen, where it was judged before whether its name is new.
+  pub type_is_done : (a first : Parts) (n : ℕ) (seen : Seen) → IsSound a.store.nodes → Untyped a b → ItemsCarried E (λ c. names_asked seen.types group) (sight a) G (sight first) G → OnlyBetween (sight first) (sight b) →
+      ItemAdded E (recorded_types n group) seen (record no_names { types = names_of_declarations group }) a d G (reverse (values_of declared.entries.items) ++ env)
   unfolding items_treated within_settled outside_between
-  type_is_done a first n seen sound asked only =
+  type_is_done a first n seen sound untyped asked only =
       let last = index_between one.own.rest one.own.types one.own.notes in
       let inside = items_inside sound asked only (carried n) last in
       let whole = items_treated n inside.carried in
       record {
-        letters = G;
-        env = λ ch. F ++ E ch;
-        carried = whole;
-        owners = owned_all whole.left (λ c. tt);
-        outside = outside_between last next.outside;
-        noted = subst (λ U. AreNoted U d) (sym (next.older ∙ declared_there.older)) (noted_on z.numbers z.noted one.own.notes);
-        adds = λ V c same loose agrees met.
-            let within = inside.met c (record { kept = met.kept; holds = met.holds.1 }) in
-            let fixed = within_met on surround names z.settled asks same_asks earlier later V c same (subst (λ ns. Loose ns V) last.nodes loose) (agrees_earlier (stays_between last) agrees) within in
-            let more = adds_own c fixed in
-            (λ i. more i ++ same i);
-        named = λ V c same loose agrees met. refl;
-        constants = constants_kept between d one.own.notes (constants_kept begun between one.own.goes constants_inner);
+        done = record {
+          letters = G;
+          env = λ ch. F ++ E ch;
+          carried = whole;
+          owners = owned_all whole.left (λ c. tt);
+          outside = outside_between last next.outside;
+          noted = subst (λ U. AreNoted U d) (sym (next.older ∙ declared_there.older)) (noted_on z.numbers z.noted one.own.notes);
+          adds = λ V c same loose agrees met.
+              let within = inside.met c (record { kept = met.kept; holds = met.holds.1 }) in
+              let fixed = within_met on surround names z.settled asks same_asks earlier later V c same (subst (λ ns. Loose ns V) last.nodes loose) (agrees_earlier (stays_between last) agrees) within in
+              let more = adds_own c fixed in
+              (λ i. more i ++ same i);
+          named = λ V c same loose agrees met. refl;
+          constants = constants_kept between d one.own.notes (constants_kept begun between one.own.goes constants_inner);
+        };
+        alike = record { added = F; names = λ ch. refl; letters = λ V ch given. given };
+        untyped = untyped_then untyped (untyped_then one.untyped (untyped_then one.own.untyped one.own.types));
       }
 
   -- and its declaration is the one that the definitions take from its node
@@ -283,12 +290,12 @@ one_written [] w e = absurd (cc)
 one_written (p ∷ []) w e = (p, refl, (let f : declaration_view p ≡ w = cc in f))
 one_written (p ∷ q ∷ ps) w e = absurd (cc)
 
--- The item is done by a call that declares what is written, from b on, if the demand that its name is new was carried before it, from a on.
-pub type_given : (a first b d : Parts) {G : Letters} {env : List Entry} {E : Choice → Environment} (n : ℕ) (t : Tree) (x : IsOwnTypeNode n t) (declared : Declared) → DeclaresTypes env b d n t declared → IsSound a.store.nodes → b.item ≡ a.item → OnlyBetween (sight first) (sight b) → (at : Outside as_declared (sight b) G env E) → HasConstants b → AreNoted at.older b →
+-- The item is done by a call that declares what is written, from b on, if the demand that its name is new was carried before it, from a on. It adds the same entries whatever is chosen.
+pub type_given : (a first b d : Parts) {G : Letters} {env : List Entry} {E : Choice → Environment} (n : ℕ) (t : Tree) (x : IsOwnTypeNode n t) (declared : Declared) → DeclaresTypes env b d n t declared → IsSound a.store.nodes → b.item ≡ a.item → Untyped a b → OnlyBetween (sight first) (sight b) → (at : Outside as_declared (sight b) G env E) → HasConstants b → AreNoted at.older b →
     is_aloud b.telling ≡ true → (seen : Seen) → ItemsCarried E (λ c. names_asked seen.types (declaration_row (number_of a.item x.operand.number) (parts_of a.item x.operand.number x.declaration) ∷ [])) (sight a) G (sight first) G →
-    ItemDone as_declared E (recorded_type a.item n x.operand.number x.declaration) seen (record no_names { types = x.is.name.name ∷ [] }) a d G declared.env
+    ItemAdded E (recorded_type a.item n x.operand.number x.declaration) seen (record no_names { types = x.is.name.name ∷ [] }) a d G declared.env
 unfolding outside_between
-type_given a first b d {G} {env} {E} n t x declared types sound item only at constants older aloud seen asked =
+type_given a first b d {G} {env} {E} n t x declared types sound item untyped only at constants older aloud seen asked =
     let k = x.operand.number in
     let u = x.declaration in
     let one_operand : declarations_in n t ≡ declaration_in k u ∷ [] = ap (nodes_as declaration_in) x.only ∙ ap (λ q. node_first declaration_in k q []) x.part in
@@ -305,7 +312,7 @@ type_given a first b d {G} {env} {E} n t x declared types sound item only at con
     let row = type_written types.noted d at_noted constants_noted older_noted loud k u x.is p is declared one in
     let rows : declaration_row (number_of one.begun.item k) (parts_of one.begun.item k u) ≡ declaration_row (number_of a.item k) (parts_of a.item k u) = (λ j. declaration_row (number_of (i j) k) (parts_of (i j) k u)) in
     let same = sym rows ∙ row in
-    subst (λ es. ItemDone as_declared E (recorded_type a.item n k u) seen (record no_names { types = x.is.name.name ∷ [] }) a d G es) (sym one.behind)
-    (subst (λ y. ItemDone as_declared E (recorded_types (number_of a.item n) (y ∷ [])) seen (record no_names { types = x.is.name.name ∷ [] }) a d G (reverse (values_of declared.entries.items) ++ env)) (sym same)
-    (type_is_done types.noted d at_noted constants_noted older_noted loud k u x.is p is declared one a first (number_of a.item n) seen sound
+    subst (λ es. ItemAdded E (recorded_type a.item n k u) seen (record no_names { types = x.is.name.name ∷ [] }) a d G es) (sym one.behind)
+    (subst (λ y. ItemAdded E (recorded_types (number_of a.item n) (y ∷ [])) seen (record no_names { types = x.is.name.name ∷ [] }) a d G (reverse (values_of declared.entries.items) ++ env)) (sym same)
+    (type_is_done types.noted d at_noted constants_noted older_noted loud k u x.is p is declared one a first (number_of a.item n) seen sound (untyped_then untyped types.untyped)
     (subst (λ y. ItemsCarried E (λ c. names_asked seen.types (y ∷ [])) (sight a) G (sight first) G) same asked) (between_both only further)))

@@ -1,5 +1,5 @@
 -- Behind the prelude the next item starts among the names of the first environment.
-use Rattle.std.proofs.Common.{◌≡◌, ◌∙◌, ℕ, true, List, [], map, Some, None, refl, sym, ap, subst, append-nil}
+use Rattle.std.proofs.Common.{inr, ◌≡◌, ◌∙◌, ℕ, true, List, [], map, Some, None, refl, sym, ap, subst, append-nil}
 use Rattle.std.specs.Prelude.{All}
 use Rattle.token_model.specs.Kinds.{Tok}
 use Rattle.token_model.specs.Tokens.{Lex}
@@ -43,15 +43,20 @@ use Rattle.prelude_checks.proofs.Ones.{first_one}
 use Rattle.prelude_checks.proofs.Places.{starts_there}
 use Rattle.prelude_checks.proofs.Prelude.{lexed}
 use Rattle.prelude_checks.proofs.Tokens.{tokens}
+use Rattle.prelude_checks.proofs.TypeRows.{type_by}
 use Rattle.prelude_checks.proofs.Typed.{typed}
 
 -- the operands of a tree whose root fits are its items
 numbered_tree : (t : Tree) → IsSized t → tree_fits t ≡ true → specifications_at 0 (specified_from 0 (items_of t)) ≡ specifications_of t
 numbered_tree (node r x ps) sized fits = items_numbered r 0 ps sized.1 fits
 
--- and they are carried, where those of the parser are well formed
-carried_tree : OfRow type_row → OfRow gmodule_row → (t : Tree) → IsSized t → tree_fits t ≡ true → All (IsFormed 0) (items_of t) → AreCarriedSpecifications (specified_from 0 (items_of t))
-carried_tree types modules (node r x ps) sized fits formed = items_carried types modules 0 ps formed sized.1 fits
+-- its declarations of types are carried
+types_carried : OfRow type_row
+types_carried n t formed row h = inr (inr (type_by n t formed row h))
+
+-- and so is each item, where the modules are, and the items of the parser are well formed
+carried_tree : OfRow gmodule_row → (t : Tree) → IsSized t → tree_fits t ≡ true → All (IsFormed 0) (items_of t) → AreCarriedSpecifications (specified_from 0 (items_of t))
+carried_tree modules (node r x ps) sized fits formed = items_carried types_carried modules 0 ps formed sized.1 fits
 
 small_tree : (t : Tree) → IsSized t → tree_fits t ≡ true → All IsSmall (items_of t)
 small_tree (node r x ps) sized fits = items_small 0 ps sized.1 fits
@@ -70,13 +75,13 @@ prelude_here = record {
 pub prelude_known : (ts : List Tok) → Lex prelude_text ts → (ch : Choice) × IsPreludeTyped ts ch
 prelude_known ts lex = subst (λ us. (ch : Choice) × IsPreludeTyped us ch) (lex_one prelude_text tokens ts lexed lex) (choice, prelude_here)
 
--- Each item of the prelude is one that is carried, where its declarations of types and its modules are.
-pub prelude_carried : OfRow type_row → OfRow gmodule_row → (ts : List Tok) → Lex prelude_text ts → AreCarriedSpecifications (prelude_operands ts)
-prelude_carried types modules ts lex =
+-- Each item of the prelude is one that is carried, where its modules are.
+pub prelude_carried : OfRow gmodule_row → (ts : List Tok) → Lex prelude_text ts → AreCarriedSpecifications (prelude_operands ts)
+prelude_carried modules ts lex =
     let T = (recover (grammar interface_text) tokens).0 in
     let sized = tree_sized row_name T in
     subst (λ us. AreCarriedSpecifications (prelude_operands us)) (lex_one prelude_text tokens ts lexed lex)
-    (carried_tree types modules (named row_name T) sized fitting
+    (carried_tree modules (named row_name T) sized fitting
     (items_formed interface_text T (well_formed interface_text tokens).formed (items_sized row_name T (small_tree (named row_name T) sized fitting))))
 
 -- Items that add the same names whatever is chosen, where one typing of the definitions is known: the next item starts among the names behind them, as names of the prelude.

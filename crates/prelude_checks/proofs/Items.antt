@@ -219,13 +219,13 @@ exception_by : (n : ℕ) (t : Tree) → IsFormed n t → row_of t ≡ exception_
 exception_by n t formed row None e h = absurd (cc)
 exception_by n t formed row (Some o) e h = part_by n t formed row o e o.part refl h
 
--- what is left to be known of declarations of types and of modules: such an item is one that is carried
+-- what is known of the items of one row: one that fits is carried
 abbrev pub OfRow : Row → Type 0
 OfRow r = (n : ℕ) (t : Tree) → IsFormed n t → row_of t ≡ r → row_fits r n t ≡ true → IsCarriedSpecification n t
 
 carried_by : OfRow type_row → OfRow gmodule_row → (n : ℕ) (t : Tree) → IsFormed n t → (r : Row) → row_of t ≡ r → row_fits r n t ≡ true → IsCarriedSpecification n t
 carried_by types modules n t formed val_row row h = inl (value_by n t formed row (token_in t 1) refl h)
-carried_by types modules n t formed exception_row row h = inr (exception_by n t formed row (first_in n t 1) refl h)
+carried_by types modules n t formed exception_row row h = inr (inl (exception_by n t formed row (first_in n t 1) refl h))
 carried_by types modules n t formed type_row row h = types n t formed row h
 carried_by types modules n t formed gmodule_row row h = modules n t formed row h
 carried_by types modules n t formed _ row h = absurd (cc)

@@ -5,6 +5,7 @@ pub mod Lexed
 pub mod Typed
 pub mod Known
 pub mod Items
+pub mod TypeRows
 pub mod Fitting
 pub mod Places
 pub mod Spelled

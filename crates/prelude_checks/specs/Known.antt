@@ -40,7 +40,7 @@ pub record IsPreludeTyped (ts : List Tok) (ch : Choice) : Type 0 where
   pub sure : AreSure (judgements every_site (items_ask (prelude_context ch) no_names (prelude_items ts)))
   pub stands : (env : Environment) → IsFirst env → env ≡ behind_prelude ts ch
 
--- each item of the prelude is one that is carried; none that declares a type or a module is yet
+-- each item of the prelude is one that is carried; none that declares a module is yet
 abbrev pub IsPreludeCarried : Type 0
 IsPreludeCarried = (ts : List Tok) → Lex prelude_text ts → AreCarriedSpecifications (prelude_operands ts)
 

@@ -3,8 +3,8 @@
 //! It stands on the definitions of texts, trees and typings, on their laws, and on the lemmas of `ml_lexer`; for the names after the
 //! prelude also on what specifications give (`signature_typing`).
 //! No program calls it. A clause of `text_analysis` and its proof cite `specs/Known` and `Behind`: by `prelude_starts` the names after
-//! the prelude's items are those of the first environment, if each of these is a carried item (`IsPreludeCarried`). No type and no
-//! module is that yet, so the premise doesn't hold. `Typed`, `Known` and `Fitting` have the typing that it starts from; in `Places`
+//! the prelude's items are those of the first environment, if each of these is a carried item (`IsPreludeCarried`). No module is
+//! that yet, so the premise doesn't hold. `Typed`, `Known` and `Fitting` have the typing that it starts from; in `Places`
 //! names are compared without where they are defined.
 #![tactic(auto)]
 

@@ -8,3 +8,4 @@ pub mod ValueSteps
 pub mod Unmade
 pub mod Newest
 pub mod ModuleItems
+pub mod TypeItems

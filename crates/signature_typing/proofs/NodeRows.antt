@@ -1,6 +1,6 @@
 -- The rows of nodes that are items of a signature, by those of the code.
 use Rattle.std.proofs.Common.{◌≡◌, ◌∙◌, refl, sym, ap}
-use Rattle.tree_model.specs.Rows.{val_row, exception_row}
+use Rattle.tree_model.specs.Rows.{val_row, exception_row, type_row}
 use Rattle.syntax_tree.specs.declared.rows.RowName.{RowName}
 use Rattle.syntax_tree.specs.declared.rows.RowName.TheVariants as name
 use Rattle.syntax_tree.specs.declared.tree.Node.{Node, out-Node}
@@ -22,6 +22,11 @@ pub only_val : (r : RowName) → names.row_of r ≡ val_row → r ≡ name.Val
 unfolding names.row_of
 only_val name.Val e = refl
 only_val _ e = absurd (cc)
+
+pub only_type : (r : RowName) → names.row_of r ≡ type_row → r ≡ name.TypeRow
+unfolding names.row_of
+only_type name.TypeRow e = refl
+only_type _ e = absurd (cc)
 
 -- no row is two
 pub not_of : (r q p : RowName) → r ≡ q → (q ≡ p → ⊥) → r ≡ p → ⊥

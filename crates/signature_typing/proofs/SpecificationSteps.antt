@@ -6,7 +6,7 @@ use denote.Ref.{Bor}
 use Rattle.tree_model.specs.Trees.{inner}
 use Rattle.signature_model.specs.Declarations.{Name}
 use Rattle.typing_model.specs.Items.{items_ask}
-use Rattle.typing_model.specs.Parts.{Seen, no_names}
+use Rattle.typing_model.specs.Parts.{Seen, no_names, seen_too}
 use Rattle.syntax_tree.specs.declared.rows.RowName.TheVariants as name
 use Rattle.syntax_tree.specs.declared.tree.Node.{Node, out-Node}
 use Rattle.syntax_tree.specs.Names as names
@@ -26,13 +26,15 @@ use Rattle.typing_rows.proofs.Noted.{noted_on}
 use Rattle.binding_rows.specs.ItemRows.{recorded_exception, IsExceptionNode, ItemsDone}
 use Rattle.binding_rows.proofs.ItemKinds.{noted_between, none_too, exception_there}
 use Rattle.declared_items.specs.Adding.{ItemsAdded, AddsException}
+use Rattle.declared_items.specs.Written.{IsOwnTypeNode}
 use Rattle.declared_items.proofs.Adding.{items_added_none, items_added_one, items_added_then}
 use Rattle.module_steps.specs.declared.scenes.Scene.{Scene}
 use Rattle.module_steps.specs.Scenes.{has_name, SameNames}
 use Rattle.signature_typing.specs.ValueItems.{IsValueNode, GivesValue}
 use Rattle.signature_typing.specs.Specifications.{specification_at, specifications_at, IsSpecifiedPart, IsKnownPart, AllMet, HasSeen, IsSpecified, GivesSpecification, GivesSpecifications, SpecifiesFirst, SpecifiesItemsFirst}
-use Rattle.signature_typing.proofs.NodeRows.{row_there, only_val, only_exception}
-use Rattle.signature_typing.proofs.Specifications.{exception_as_item, met_after, value_specified}
+use Rattle.signature_typing.specs.TypeItems.{GivesType}
+use Rattle.signature_typing.proofs.NodeRows.{row_there, only_val, only_exception, only_type}
+use Rattle.signature_typing.proofs.Specifications.{exception_as_item, type_there, met_after, value_specified}
 
 -- a scene in which the same names stand has them
 pub seen_same : {s s' : Scene} {seen : Seen} → SameNames s s' → HasSeen s seen → HasSeen s' seen
@@ -68,7 +70,10 @@ exception_specified (Ok v) a b s s' x nd some row adds same = λ G E seen carrie
     is_exception : IsSpecifiedPart x.number (operand_view x).part → IsExceptionNode x.number (node_view nd.now)
     is_exception carried = elim (subst (IsSpecifiedPart x.number) (there x nd some) carried) [
       | inl value ↦ absurd (let b : name.Exception ≡ name.Val = sym row ∙ only_val (out-Node nd.now).row (sym (row_there nd.now) ∙ value.row) in cc)
-      | inr thrown ↦ thrown
+      | inr other ↦ elim other [
+        | inl thrown ↦ thrown
+        | inr own ↦ absurd (let b : name.Exception ≡ name.TypeRow = sym row ∙ only_type (out-Node nd.now).row (sym (row_there nd.now) ∙ own.row) in cc)
+      ]
     ]
 
 -- A value is specified.
@@ -88,15 +93,43 @@ value_given (Ok v) a b s s' x nd some row gives same = λ G E seen carried aloud
     is_value : IsSpecifiedPart x.number (operand_view x).part → IsValueNode x.number (node_view nd.now)
     is_value carried = elim (subst (IsSpecifiedPart x.number) (there x nd some) carried) [
       | inl value ↦ value
-      | inr thrown ↦ absurd (let b : name.Val ≡ name.Exception = sym row ∙ only_exception (out-Node nd.now).row (sym (row_there nd.now) ∙ thrown.row) in cc)
+      | inr other ↦ elim other [
+        | inl thrown ↦ absurd (let b : name.Val ≡ name.Exception = sym row ∙ only_exception (out-Node nd.now).row (sym (row_there nd.now) ∙ thrown.row) in cc)
+        | inr own ↦ absurd (let b : name.Val ≡ name.TypeRow = sym row ∙ only_type (out-Node nd.now).row (sym (row_there nd.now) ∙ own.row) in cc)
+      ]
+    ]
+
+-- One type of its own is declared: it adds its entries, and its name stands then.
+pub own_type_given : {A F : Type 0} (r : Result A F) (a b : Parts) (s s' : Scene) (x : Operand) (nd : Bor Node) → x.node ≡ Some nd → (out-Node nd.now).row ≡ name.TypeRow → OnOk r (GivesType a b s s' x.number (node_view nd.now)) → OnOk r (GivesSpecification a b s s' (operand_view x))
+own_type_given (Err e) a b s s' x nd some row gives = tt
+own_type_given (Ok v) a b s s' x nd some row gives = λ G E seen carried aloud at constants older standing ns V c met known.
+    let item = is_type carried in
+    let given = gives G E seen item aloud at constants older standing in
+    let names = seen_too seen (record no_names { types = item.is.name.name ∷ [] }) in
+    subst (λ p. IsSpecified E (specification_at a.item (numbered x.number (place_of x.span) p)) seen a b G s') (sym (there x nd some)) (record {
+      names = names;
+      added = subst (λ ms. ItemsAdded E ms seen names a b G s'.env) (sym (type_there a.item x.number (place_of x.span) (node_view nd.now) item)) (items_added_one given.added);
+      standing = given.standing;
+    })
+  where
+    is_type : IsSpecifiedPart x.number (operand_view x).part → IsOwnTypeNode x.number (node_view nd.now)
+    is_type carried = elim (subst (IsSpecifiedPart x.number) (there x nd some) carried) [
+      | inl value ↦ absurd (let b : name.TypeRow ≡ name.Val = sym row ∙ only_val (out-Node nd.now).row (sym (row_there nd.now) ∙ value.row) in cc)
+      | inr other ↦ elim other [
+        | inl thrown ↦ absurd (let b : name.TypeRow ≡ name.Exception = sym row ∙ only_exception (out-Node nd.now).row (sym (row_there nd.now) ∙ thrown.row) in cc)
+        | inr own ↦ own
+      ]
     ]
 
 -- an item of another row isn't one that is carried
-pub other_specification : {A F : Type 0} (r : Result A F) (a b : Parts) (s s' : Scene) (x : Operand) (nd : Bor Node) → x.node ≡ Some nd → ((out-Node nd.now).row ≡ name.Val → ⊥) → ((out-Node nd.now).row ≡ name.Exception → ⊥) → OnOk r (GivesSpecification a b s s' (operand_view x))
-other_specification (Err e) a b s s' x nd some no_val no_exception = tt
-other_specification (Ok v) a b s s' x nd some no_val no_exception = λ G E seen carried aloud at constants older standing ns V c met known. absurd (elim (subst (IsSpecifiedPart x.number) (there x nd some) carried) [
+pub other_specification : {A F : Type 0} (r : Result A F) (a b : Parts) (s s' : Scene) (x : Operand) (nd : Bor Node) → x.node ≡ Some nd → ((out-Node nd.now).row ≡ name.Val → ⊥) → ((out-Node nd.now).row ≡ name.Exception → ⊥) → ((out-Node nd.now).row ≡ name.TypeRow → ⊥) → OnOk r (GivesSpecification a b s s' (operand_view x))
+other_specification (Err e) a b s s' x nd some no_val no_exception no_type = tt
+other_specification (Ok v) a b s s' x nd some no_val no_exception no_type = λ G E seen carried aloud at constants older standing ns V c met known. absurd (elim (subst (IsSpecifiedPart x.number) (there x nd some) carried) [
   | inl value ↦ no_val (only_val (out-Node nd.now).row (sym (row_there nd.now) ∙ value.row))
-  | inr thrown ↦ no_exception (only_exception (out-Node nd.now).row (sym (row_there nd.now) ∙ thrown.row))
+  | inr other ↦ elim other [
+    | inl thrown ↦ no_exception (only_exception (out-Node nd.now).row (sym (row_there nd.now) ∙ thrown.row))
+    | inr own ↦ no_type (only_type (out-Node nd.now).row (sym (row_there nd.now) ∙ own.row))
+  ]
 ])
 
 -- before the first item of a signature

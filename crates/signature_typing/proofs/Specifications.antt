@@ -1,6 +1,7 @@
 -- What items of a signature give, one after the other, where one typing of the definitions is known.
-use Rattle.std.proofs.Common.{◌≡◌, ◌∙◌, inl, inr, ℕ, ◌+◌, Bool, true, false, if◌then◌else◌, List, [], ◌∷◌, ◌++◌, length, Some, None, refl, sym, ap, subst, append-nil, arith}
-use Rattle.tree_model.specs.Rows.{exception_row}
+use Rattle.std.proofs.Common.{◌≡◌, ◌∙◌, inl, inr, ℕ, ◌+◌, Bool, true, false, if◌then◌else◌, List, [], ◌∷◌, ◌++◌, length, filter_map, Some, None, refl, sym, ap, subst, append-nil, arith}
+use Rattle.std.specs.List.{cons_option}
+use Rattle.tree_model.specs.Rows.{exception_row, decl_row}
 use Rattle.tree_model.specs.Slots.{is_operand}
 use Rattle.tree_model.specs.Trees.{Tree, Place, node, inner, part_yield}
 use Rattle.signature_model.specs.Entries.{Environment}
@@ -8,20 +9,23 @@ use Rattle.signature_model.specs.Matching.{IsKnown}
 use Rattle.typing_laws.proofs.Bools.{no_yes}
 use Rattle.typing_model.specs.Demands.{Site, Condition, AllHold}
 use Rattle.typing_model.specs.Contexts.{Choice, Context, under}
-use Rattle.typing_model.specs.Parts.{Item, Seen, no_names, seen_too, type_in}
-use Rattle.typing_model.specs.Items.{items_ask, behind_items, seen_names}
+use Rattle.typing_model.specs.Parts as parts
+use Rattle.typing_model.specs.Parts.{Child, Item, Seen, no_names, seen_too, type_in}
+use Rattle.typing_model.specs.Declarations.{declaration_row}
+use Rattle.typing_model.specs.Items.{items_ask, behind_items, seen_names, type_item}
 use Rattle.typing_model.specs.Modules.{item_row, signature_item_row, value_item}
-use Rattle.typing_model.specs.Meanings.{recorded_item}
+use Rattle.typing_model.specs.Meanings as meanings
+use Rattle.typing_model.specs.Meanings.{children_of, child_of, recorded_item}
 use Rattle.type_nodes.specs.Nodes.{IsSound}
 use Rattle.type_nodes.specs.Readings.{Types}
 use Rattle.level_unify.proofs.Unified.{fits_loosely}
 use Rattle.env_table.specs.declared.entries.Entry.{Entry}
-use Rattle.row_parts.specs.Numbered.{numbered}
+use Rattle.row_parts.specs.Numbered.{Numbered, numbered}
 use Rattle.row_parts.specs.Numbered as numbers
 use Rattle.typing_state.specs.declared.parts.Parts.{Parts}
 use Rattle.operand_laws.specs.Formed.{row_of, is_needed}
-use Rattle.operand_laws.specs.Operands.{number_of, parts_of}
-use Rattle.operand_laws.proofs.Sorts.{type_stands}
+use Rattle.operand_laws.specs.Operands.{number_of, parts_of, child_at}
+use Rattle.operand_laws.proofs.Sorts.{chosen_stand, type_stands}
 use Rattle.operand_laws.proofs.Tokens.{token_stands}
 use Rattle.typing_conditions.specs.Judging.{Judgement, judged_at, judgements, refused, AreKept, FallsShort}
 use Rattle.typing_conditions.specs.Carrying.{Asks}
@@ -38,6 +42,8 @@ use Rattle.binding_rows.specs.Outside.{Outside, ContinuesItems, ItemsCarried, Ar
 use Rattle.binding_rows.proofs.ItemKinds.{none_too}
 use Rattle.binding_rows.proofs.ItemOrders.{asked_both}
 use Rattle.declared_items.specs.Adding.{ItemsAdded}
+use Rattle.declared_items.specs.Items.{recorded_type}
+use Rattle.declared_items.specs.Written.{IsOwnTypeNode}
 use Rattle.declared_items.proofs.Adding.{items_added_one}
 use Rattle.signature_typing.specs.Values.{type_specified}
 use Rattle.signature_typing.specs.ValueItems.{IsValueNode, recorded_value, ValueAdded, GivesValue}
@@ -57,6 +63,25 @@ unfolding item_row signature_item_row
 exception_as_item i n at (node r x ps) e =
     ap (λ q. item_if (recorded_item (number_of i n) (item_row q (number_of i n) x.span (part_yield (inner (node r x ps))) (parts_of i n (node r x ps))))) e
     ∙ sym (ap (λ q. item_if (recorded_item (number_of i n) (signature_item_row q (number_of i n) x.span (part_yield (inner (node r x ps))) (parts_of i n (node r x ps))))) e)
+
+-- a declaration that is an operand
+declaration_there : (i n : ℕ) (t : Tree) → row_of t ≡ decl_row → (child_of (number_of i n) 2 (inner t)).declaration ≡ Some (declaration_row (number_of i n) (parts_of i n t))
+declaration_there i n (node r x ps) e = ap (λ q. meanings.declaration_of q (number_of i n) (children_of (number_of i n + 1) r ps)) e
+
+-- the one declaration of an item
+declarations_stand : (i n : ℕ) (t : Tree) (x : IsOwnTypeNode n t) → filter_map (λ (k : Child). k.declaration) (parts.in_slot 2 (parts_of i n t)) ≡ declaration_row (number_of i x.operand.number) (parts_of i x.operand.number x.declaration) ∷ []
+unfolding is_operand
+declarations_stand i n t x =
+    chosen_stand (λ (k : Child). k.declaration) i n t 2 x.formed (ap (λ r. is_operand r 2) x.row)
+    ∙ ap (filter_map (λ (o : Numbered). (child_at i 2 o).declaration)) x.only
+    ∙ ap (λ d. cons_option d []) (ap (λ p. (child_of (number_of i x.operand.number) 2 p).declaration) x.part ∙ declaration_there i x.operand.number x.declaration x.is.row)
+
+-- the item of an operand that declares one type of its own
+pub type_there : (i n : ℕ) (at : Place) (t : Tree) (x : IsOwnTypeNode n t) → specification_at i (numbered n at (inner t)) ≡ recorded_type i n x.operand.number x.declaration ∷ []
+unfolding signature_item_row
+type_there i n at (node r x ps) e =
+    ap (λ q. item_if (recorded_item (number_of i n) (signature_item_row q (number_of i n) x.span (part_yield (inner (node r x ps))) (parts_of i n (node r x ps))))) e.row
+    ∙ ap (λ ds. item_if (recorded_item (number_of i n) (Some (type_item (number_of i n) ds)))) (declarations_stand i n (node r x ps) e)
 
 -- a judgement among those that are sure
 sure_there : (before : List Judgement) (s : Site) (kept closing : Bool) (left : List Judgement) → AreSure (before ++ judged_at s kept closing ∷ left) → (kept ≡ true) × (closing ≡ false)

@@ -4,3 +4,4 @@ pub mod Values
 pub mod ValueItems
 pub mod Specifications
 pub mod ValueSignatures
+pub mod TypeItems

@@ -28,6 +28,7 @@ use Rattle.typing_rows.specs.Noted.{AreNoted}
 use Rattle.binding_rows.specs.ItemRows.{IsExceptionNode, ItemsDone, item_if}
 use Rattle.binding_rows.specs.Outside.{Outside, EntersItems}
 use Rattle.declared_items.specs.Adding.{ItemsAdded}
+use Rattle.declared_items.specs.Written.{IsOwnTypeNode}
 use Rattle.module_steps.specs.declared.scenes.Scene.{Scene}
 use Rattle.module_steps.specs.Scenes.{has_name}
 use Rattle.signature_typing.specs.Values.{type_specified}
@@ -47,9 +48,9 @@ abbrev pub specified_from : ℕ → List Tree → List Numbered
 specified_from n [] = []
 specified_from n (t ∷ ts) = node_with n t ∷ specified_from (behind n (extent_of t).size) ts
 
--- an item of a signature whose conditions are carried: a value or an exception that has a name
+-- an item of a signature whose conditions are carried: a value or an exception that has a name, or one type of its own
 abbrev pub IsCarriedSpecification : ℕ → Tree → Type 0
-IsCarriedSpecification n t = IsValueNode n t ⊎ IsExceptionNode n t
+IsCarriedSpecification n t = IsValueNode n t ⊎ (IsExceptionNode n t ⊎ IsOwnTypeNode n t)
 
 -- the same of what is at an operand; what is missing is no item
 abbrev pub IsSpecifiedPart : ℕ → Part → Type 0

@@ -1,28 +1,31 @@
 //! Items without module expressions.
-ghost use Rattle.std.specs.Prelude.{IfOk, OnOk};
+ghost use Rattle.std.specs.Prelude.{◌≡◌, map, IfOk, OnOk};
 ghost use Rattle.syntax_tree.specs.View.{node_view, tok_of};
 ghost use Rattle.row_parts.specs.Numbered.{token_in};
-ghost use Rattle.typing_state.specs.Goes.{Goes, OnlyIndex};
+ghost use Rattle.typing_state.specs.Goes.{Goes, OnlyFaults, OnlyIndex};
+ghost use Rattle.decl_groups.specs.Written.{declaration_view};
 ghost use Rattle.type_expressions.specs.Untyped.{Untyped};
 ghost use Rattle.signature_typing.specs.Values.{DenotesValue, ClosesValue, IsValue, SpecifiesValue};
 ghost use Rattle.signature_typing.specs.ValueItems.{GivesValue};
 ghost use Rattle.signature_typing.specs.ValueSignatures.{AddsIf};
 ghost use Rattle.binding_rows.specs.ItemRows.{GivesException};
 ghost use Rattle.declared_items.specs.Adding.{AddsException};
-ghost use Rattle.module_steps.specs.Scenes.{SameNames};
+ghost use Rattle.module_steps.specs.Scenes.{SameNames, OnlyNames};
+ghost use Rattle.signature_typing.specs.TypeItems.{names_written, AsksEach, GivesType};
 
 use crate::variables::add_variables;
+use decl_groups::{DeclarationPart, declarations_of};
 use decl_typing::{new_parameters, type_decls, type_exception};
 use env_table::{Entry, Kind, What};
 use module_steps::{Scene, module_path, module_type_path};
 use owned_lists::{owned, push};
-use row_parts::{operand_in, operands, token};
+use row_parts::{operand_in, token};
 use std::rc::Rc;
 use syntax_tree::{Node, Token};
 use type_expressions::{Variables, read_type};
 use typing_state::{Depth, Env, NoMemory, NodeRef, Parts, share_entry};
 
-/// type d and d
+/// type d and d: the names of its types are asked first.
 pub fn type_group(
     at: &mut Parts,
     node: &Node,
@@ -30,30 +33,42 @@ pub fn type_group(
     scene: &mut Scene,
     depth: Depth,
 ) -> Result<(), NoMemory>
+    ensures carries { OnOk result (GivesType at.old at.new scene.old scene.new number (node_view node.now)) }
     ensures goes { Goes at.old at.new }
 {
     at.note_plain(number, &scene.env)?;
-    for name in names_of_types(at, node, number)? {
-        scene.ask_new(at, Kind::TypeName, Some(name))?;
-    }
+    let parts = declarations_of(at.alloc(), node, number)?;
+    let names = names_in(at, &parts)?;
+    ask_names(at, &names, scene)?;
     let declared = type_decls(at, node, number, &scene.env, depth)?;
     scene.add_made(at, &declared.makes)?;
     scene.add(declared.env, &declared.entries)
 }
 
-/// The names of the declarations of an item.
-fn names_of_types<'a>(at: &Parts, node: &'a Node, number: u32) -> Result<Vec<&'a Token>, NoMemory> {
+/// The names of declarations.
+fn names_in<'a>(at: &Parts, parts: &[DeclarationPart<'a>]) -> Result<Vec<&'a Token>, NoMemory>
+    ensures { IfOk result (λ ns. map (λ t. tok_of t.now) ns.items ≡ names_written (map declaration_view parts.now)) }
+{
     let mut names = Vec::new(at.alloc());
-    for part in operands(at.alloc(), node, number, 2)? {
-        if let Some(declaration) = part.node {
-            if let Some(head) = operand_in(declaration, part.number, 0).node {
-                if let Some(name) = token(head, 4) {
-                    push(&mut names, name)?;
-                }
-            }
+    for part in parts {
+        if let Some(name) = part.name {
+            push(&mut names, name)?;
         }
     }
     Ok(names)
+}
+
+/// The demands that names of types are new, in order.
+fn ask_names(at: &mut Parts, names: &[&Token], scene: &mut Scene) -> Result<(), NoMemory>
+    ensures asked { OnOk result (AsksEach (map (λ t. t.now) names.now) scene.old scene.new at.old at.new) }
+    ensures scene { OnlyNames scene.old scene.new }
+    ensures rest { OnlyFaults at.old at.new }
+    ensures goes { Goes at.old at.new }
+{
+    for name in names {
+        scene.ask_new(at, Kind::TypeName, Some(*name))?;
+    }
+    Ok(())
 }
 
 /// exception A of t: its name is in scope after it.

@@ -42,7 +42,7 @@ fn prelude_tree<C: Counts>(alloc: Global, counts: &mut C) -> Result<Tree, NoMemo
 }
 
 /// The environment after the prelude, whose items are the item 0. Where nothing was typed before and each of these items is carried,
-/// its names are those of the first environment, whatever is chosen. Types and modules aren't carried yet (`IsPreludeCarried`).
+/// its names are those of the first environment, whatever is chosen. Modules aren't carried yet (`IsPreludeCarried`).
 pub fn with_prelude<C: Counts>(at: &mut Parts, counts: &mut C) -> Result<Env, NoMemory>
     ensures grows { Grows (C.tallies counts.old) (C.tallies counts.new) }
     ensures lexed { (ts : List Tok) → Lex prelude_text ts → (C.tallies counts.new).lexed ≤ (C.tallies counts.old).lexed + length ts }

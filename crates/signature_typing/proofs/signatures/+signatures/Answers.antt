@@ -4,7 +4,7 @@ use Rattle.syntax_tree.specs.declared.rows.RowName.TheVariants as name
 use Rattle.syntax_tree.specs.declared.tree.Node.{out-Node}
 use Rattle.typing_state.proofs.Going.{goes_refl, goes_trans}
 use Rattle.signature_typing.proofs.NodeRows.{not_of}
-use Rattle.signature_typing.proofs.SpecificationSteps.{missing_specified, exception_specified, value_given, other_specification, specifications_start, specifications_next, specifications_end}
+use Rattle.signature_typing.proofs.SpecificationSteps.{missing_specified, exception_specified, value_given, own_type_given, other_specification, specifications_start, specifications_next, specifications_end}
 use Rattle.signature_typing.proofs.ValueSteps.{value_adds, missing_is_none, other_is_none, added_start, added_next, added_end}
 use Rattle.signature_typing.proofs.signatures.+signatures.Goals as goal
 
@@ -19,33 +19,31 @@ pub type_specification-returns-in-Val-clause-carries : goal.type_specification-r
 type_specification-returns-in-Val-clause-carries t c = value_given c.value_item.result c.args.at.now c.value_item.new.at c.args.scene.now c.value_item.new.scene c.args.item c.in-Some.node c.in-Some.is c.in-Val.is c.value_item.ensures.carries c.value_item.ensures.names
 
 pub type_specification-returns-in-TypeRow-clause-carries : goal.type_specification-returns-in-TypeRow-clause-carries
-type_specification-returns-in-TypeRow-clause-carries t c =
-    let row = (out-Node c.in-Some.node.now).row in
-    other_specification c.type_group.result c.args.at.now c.type_group.new.at c.args.scene.now c.type_group.new.scene c.args.item c.in-Some.node c.in-Some.is (not_of row name.TypeRow name.Val c.in-TypeRow.is (λ e. absurd (cc))) (not_of row name.TypeRow name.Exception c.in-TypeRow.is (λ e. absurd (cc)))
+type_specification-returns-in-TypeRow-clause-carries t c = own_type_given c.type_group.result c.args.at.now c.type_group.new.at c.args.scene.now c.type_group.new.scene c.args.item c.in-Some.node c.in-Some.is c.in-TypeRow.is c.type_group.ensures.carries
 
 pub type_specification-returns-in-Gmodule-clause-carries : goal.type_specification-returns-in-Gmodule-clause-carries
 type_specification-returns-in-Gmodule-clause-carries t c =
     let row = (out-Node c.in-Some.node.now).row in
-    other_specification c.type_module_specification.result c.args.at.now c.type_module_specification.new.at c.args.scene.now c.type_module_specification.new.scene c.args.item c.in-Some.node c.in-Some.is (not_of row name.Gmodule name.Val c.in-Gmodule.is (λ e. absurd (cc))) (not_of row name.Gmodule name.Exception c.in-Gmodule.is (λ e. absurd (cc)))
+    other_specification c.type_module_specification.result c.args.at.now c.type_module_specification.new.at c.args.scene.now c.type_module_specification.new.scene c.args.item c.in-Some.node c.in-Some.is (not_of row name.Gmodule name.Val c.in-Gmodule.is (λ e. absurd (cc))) (not_of row name.Gmodule name.Exception c.in-Gmodule.is (λ e. absurd (cc))) (not_of row name.Gmodule name.TypeRow c.in-Gmodule.is (λ e. absurd (cc)))
 
 pub type_specification-returns-in-Modtype-clause-carries : goal.type_specification-returns-in-Modtype-clause-carries
 type_specification-returns-in-Modtype-clause-carries t c =
     let row = (out-Node c.in-Some.node.now).row in
-    other_specification c.type_module_type_item.result c.args.at.now c.type_module_type_item.new.at c.args.scene.now c.type_module_type_item.new.scene c.args.item c.in-Some.node c.in-Some.is (not_of row name.Modtype name.Val c.in-Modtype.is (λ e. absurd (cc))) (not_of row name.Modtype name.Exception c.in-Modtype.is (λ e. absurd (cc)))
+    other_specification c.type_module_type_item.result c.args.at.now c.type_module_type_item.new.at c.args.scene.now c.type_module_type_item.new.scene c.args.item c.in-Some.node c.in-Some.is (not_of row name.Modtype name.Val c.in-Modtype.is (λ e. absurd (cc))) (not_of row name.Modtype name.Exception c.in-Modtype.is (λ e. absurd (cc))) (not_of row name.Modtype name.TypeRow c.in-Modtype.is (λ e. absurd (cc)))
 
 pub type_specification-returns-in-Open-clause-carries : goal.type_specification-returns-in-Open-clause-carries
 type_specification-returns-in-Open-clause-carries t c =
     let row = (out-Node c.in-Some.node.now).row in
-    other_specification c.open_item.result c.args.at.now c.open_item.new.at c.args.scene.now c.open_item.new.scene c.args.item c.in-Some.node c.in-Some.is (not_of row name.Open name.Val c.in-Open.is (λ e. absurd (cc))) (not_of row name.Open name.Exception c.in-Open.is (λ e. absurd (cc)))
+    other_specification c.open_item.result c.args.at.now c.open_item.new.at c.args.scene.now c.open_item.new.scene c.args.item c.in-Some.node c.in-Some.is (not_of row name.Open name.Val c.in-Open.is (λ e. absurd (cc))) (not_of row name.Open name.Exception c.in-Open.is (λ e. absurd (cc))) (not_of row name.Open name.TypeRow c.in-Open.is (λ e. absurd (cc)))
 
 pub type_specification-returns-in-Include-clause-carries : goal.type_specification-returns-in-Include-clause-carries
 type_specification-returns-in-Include-clause-carries t c =
     let row = (out-Node c.in-Some.node.now).row in
-    other_specification c.include_specification.result c.args.at.now c.include_specification.new.at c.args.scene.now c.include_specification.new.scene c.args.item c.in-Some.node c.in-Some.is (not_of row name.Include name.Val c.in-Include.is (λ e. absurd (cc))) (not_of row name.Include name.Exception c.in-Include.is (λ e. absurd (cc)))
+    other_specification c.include_specification.result c.args.at.now c.include_specification.new.at c.args.scene.now c.include_specification.new.scene c.args.item c.in-Some.node c.in-Some.is (not_of row name.Include name.Val c.in-Include.is (λ e. absurd (cc))) (not_of row name.Include name.Exception c.in-Include.is (λ e. absurd (cc))) (not_of row name.Include name.TypeRow c.in-Include.is (λ e. absurd (cc)))
 
 pub type_specification-returns-in_default-row-clause-carries : goal.type_specification-returns-in_default-row-clause-carries
 type_specification-returns-in_default-row-clause-carries t c =
-    other_specification c.note_plain-in_default-row.result c.args.at.now c.note_plain-in_default-row.new.self c.args.scene.now c.args.scene.now c.args.item c.in-Some.node c.in-Some.is c.in_default-row.not-Val c.in_default-row.not-Exception
+    other_specification c.note_plain-in_default-row.result c.args.at.now c.note_plain-in_default-row.new.self c.args.scene.now c.args.scene.now c.args.item c.in-Some.node c.in-Some.is c.in_default-row.not-Val c.in_default-row.not-Exception c.in_default-row.not-TypeRow
 
 pub type_specifications-loop-item-init : goal.type_specifications-loop-item-init
 type_specifications-loop-item-init t c = record {

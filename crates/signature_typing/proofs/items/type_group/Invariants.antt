@@ -1,5 +1,0 @@
-use Rattle.typing_state.specs.Goes.{Goes}
-use Rattle.signature_typing.proofs.items.type_group.Given as goal
-
-abbrev pub invariant-loop-name : goal.invariant-loop-name
-invariant-loop-name l = Goes l.fn.at l.at
