@@ -111,6 +111,10 @@ abbrev pub IsClosed : List Taken → (body m : Made) → Type 0
 IsClosed [] body m = m ≡ body
 IsClosed (p ∷ ps) body m = IsFunctor (p ∷ ps) body m
 
+-- a module has the signature of a template that makes nothing, and makes nothing
+abbrev pub IsItself : Template → Made → Type 0
+IsItself t m = (m.sig.value ≡ sig_of t) × (paths_of m.makes.items ≡ [])
+
 -- the environment behind parameters
 abbrev pub env_behind : List Taken → List Entry → List Entry
 env_behind [] env = env

@@ -1,8 +1,9 @@
 //! Parameters of functors, and functors over them.
 ghost use Rattle.std.specs.Prelude.{◌≡◌, [], ◌∷◌, option_map, IfOk};
 ghost use Rattle.typing_state.specs.Goes.{Goes};
+ghost use Rattle.sig_template.specs.Changed.{made_of};
 ghost use Rattle.module_steps.specs.Listed.{seen_values};
-ghost use Rattle.module_steps.specs.Modules.{templates_of, IsFunctorOver, IsFunctor, IsClosed, env_behind, named, TakesName};
+ghost use Rattle.module_steps.specs.Modules.{templates_of, IsFunctorOver, IsFunctor, IsClosed, IsItself, env_behind, named, TakesName};
 
 use crate::closing::ask_closed;
 use crate::made::Made;
@@ -166,6 +167,7 @@ pub fn specified(
     template: Rc<Template>,
     number: u32,
 ) -> Result<Made, NoMemory>
+    ensures own { IfOk result (λ m. taken.now ≡ [] → made_of template.value ≡ [] → IsItself template.value m × (at.new ≡ at.old)) }
     ensures goes { Goes at.old at.new }
 {
     if taken.is_empty() {

@@ -1,9 +1,8 @@
 -- Behind the prelude the next item starts among the names of the first environment.
-use Rattle.std.proofs.Common.{inr, ◌≡◌, ◌∙◌, ℕ, true, List, [], map, Some, None, refl, sym, ap, subst, append-nil}
+use Rattle.std.proofs.Common.{◌≡◌, ◌∙◌, ℕ, true, List, [], map, Some, None, refl, sym, ap, subst, append-nil}
 use Rattle.std.specs.Prelude.{All}
 use Rattle.token_model.specs.Kinds.{Tok}
 use Rattle.token_model.specs.Tokens.{Lex}
-use Rattle.tree_model.specs.Rows.{type_row, gmodule_row}
 use Rattle.tree_model.specs.Trees.{Tree, node, IsSized}
 use Rattle.grammar_model.specs.Named.{named, items_of}
 use Rattle.grammar_model.specs.Ocaml.{interface_text, grammar, row_name}
@@ -37,34 +36,39 @@ use Rattle.prelude_checks.specs.Known.{prelude_operands, prelude_context, IsPrel
 use Rattle.prelude_checks.proofs.Checked.{holding}
 use Rattle.prelude_checks.proofs.Chosen.{choice}
 use Rattle.prelude_checks.proofs.Fitting.{fitting}
-use Rattle.prelude_checks.proofs.Items.{tree_fits, items_small, items_numbered, items_carried, items_known, OfRow}
+use Rattle.prelude_checks.proofs.Items.{tree_fits, items_small, items_numbered, items_carried, items_known}
 use Rattle.prelude_checks.proofs.Known.{choice_known, sure}
+use Rattle.prelude_checks.proofs.ModuleRows.{modules_carried}
 use Rattle.prelude_checks.proofs.Ones.{first_one}
 use Rattle.prelude_checks.proofs.Places.{starts_there}
 use Rattle.prelude_checks.proofs.Prelude.{lexed}
 use Rattle.prelude_checks.proofs.Tokens.{tokens}
-use Rattle.prelude_checks.proofs.TypeRows.{type_by}
+use Rattle.prelude_checks.proofs.TypeRows.{types_carried}
 use Rattle.prelude_checks.proofs.Typed.{typed}
 
 -- the operands of a tree whose root fits are its items
 numbered_tree : (t : Tree) → IsSized t → tree_fits t ≡ true → specifications_at 0 (specified_from 0 (items_of t)) ≡ specifications_of t
 numbered_tree (node r x ps) sized fits = items_numbered r 0 ps sized.1 fits
 
--- its declarations of types are carried
-types_carried : OfRow type_row
-types_carried n t formed row h = inr (inr (type_by n t formed row h))
-
--- and so is each item, where the modules are, and the items of the parser are well formed
-carried_tree : OfRow gmodule_row → (t : Tree) → IsSized t → tree_fits t ≡ true → All (IsFormed 0) (items_of t) → AreCarriedSpecifications (specified_from 0 (items_of t))
-carried_tree modules (node r x ps) sized fits formed = items_carried types_carried modules 0 ps formed sized.1 fits
+-- and each is carried, where they are well formed
+carried_tree : (t : Tree) → IsSized t → tree_fits t ≡ true → All (IsFormed 0) (items_of t) → AreCarriedSpecifications (specified_from 0 (items_of t))
+carried_tree (node r x ps) sized fits formed = items_carried types_carried modules_carried 0 ps formed sized.1 fits
 
 small_tree : (t : Tree) → IsSized t → tree_fits t ≡ true → All IsSmall (items_of t)
 small_tree (node r x ps) sized fits = items_small 0 ps sized.1 fits
+
+-- Each item of the prelude is one that is carried: the items of the parser are well formed.
+carried_here : AreCarriedSpecifications (prelude_operands tokens)
+carried_here =
+    let T = (recover (grammar interface_text) tokens).0 in
+    let sized = tree_sized row_name T in
+    carried_tree (named row_name T) sized fitting (items_formed interface_text T (well_formed interface_text tokens).formed (items_sized row_name T (small_tree (named row_name T) sized fitting)))
 
 -- The prelude is typed with the choice that is there.
 prelude_here : IsPreludeTyped tokens choice
 prelude_here = record {
   items = numbered_tree (named row_name (recover (grammar interface_text) tokens).0) (tree_sized row_name (recover (grammar interface_text) tokens).0) fitting;
+  carried = carried_here;
   known = items_known choice choice_known 0 0 (items_of (named row_name (recover (grammar interface_text) tokens).0));
   holds = holding (items_ask (prelude_context choice) no_names (prelude_items tokens)) typed;
   sure = sure (items_ask (prelude_context choice) no_names (prelude_items tokens)) typed;
@@ -75,15 +79,6 @@ prelude_here = record {
 pub prelude_known : (ts : List Tok) → Lex prelude_text ts → (ch : Choice) × IsPreludeTyped ts ch
 prelude_known ts lex = subst (λ us. (ch : Choice) × IsPreludeTyped us ch) (lex_one prelude_text tokens ts lexed lex) (choice, prelude_here)
 
--- Each item of the prelude is one that is carried, where its modules are.
-pub prelude_carried : OfRow gmodule_row → (ts : List Tok) → Lex prelude_text ts → AreCarriedSpecifications (prelude_operands ts)
-prelude_carried modules ts lex =
-    let T = (recover (grammar interface_text) tokens).0 in
-    let sized = tree_sized row_name T in
-    subst (λ us. AreCarriedSpecifications (prelude_operands us)) (lex_one prelude_text tokens ts lexed lex)
-    (carried_tree modules (named row_name T) sized fitting
-    (items_formed interface_text T (well_formed interface_text tokens).formed (items_sized row_name T (small_tree (named row_name T) sized fitting))))
-
 -- Items that add the same names whatever is chosen, where one typing of the definitions is known: the next item starts among the names behind them, as names of the prelude.
 starts_behind : (a b : Parts) (now : Scene) (ms : List Item) (g : IsSpecified (λ ch. built_in_names) ms no_names a b [] now) (V : Types) (c : Context) → AllMet (λ ch. built_in_names) (sight a) [] (λ x. items_ask x no_names ms) V c →
     StartsAmong (sight b) [] now.env (λ ch. map entry_there (behind_items c ms)) g.added.done.outside.older
@@ -93,16 +88,16 @@ starts_behind a b now ms g V c met =
     starts_there (λ V ch given. g.added.alike.letters V ch tt) (λ ch. ap (map entry_there) (same ch)) g.added.done.outside
 
 -- Where the items of the prelude were typed after the built-in types, from a state in which no type is recorded, the next item starts among the names of the first environment.
-pub prelude_starts : (a b : Parts) (env : List Entry) (now : Scene) (ts : List Tok) → Lex prelude_text ts → a.item ≡ 0 → SpecifiesItemsFirst a b env now (prelude_operands ts) [] → AreCarriedSpecifications (prelude_operands ts) → is_aloud a.telling ≡ true → StartsAmong (sight a) [] env (λ ch. built_in_names) [] → HasConstants a →
+pub prelude_starts : (a b : Parts) (env : List Entry) (now : Scene) (ts : List Tok) → Lex prelude_text ts → a.item ≡ 0 → SpecifiesItemsFirst a b env now (prelude_operands ts) [] → is_aloud a.telling ≡ true → StartsAmong (sight a) [] env (λ ch. built_in_names) [] → HasConstants a →
     ((i p : ℕ) → (sight a).types i p ≡ None) → (sight a).reports ≡ [] → (first : Environment) → IsFirst first → StartsFirst b now.env first
-prelude_starts a b env now ts lex zero gives carried aloud at constants none quiet first is =
+prelude_starts a b env now ts lex zero gives aloud at constants none quiet first is =
     let (ch, k) = prelude_known ts lex in
     let os = prelude_operands ts in
     let E : Choice → Environment = λ ch. built_in_names in
     let c = prelude_context ch in
     let here : specifications_at a.item os ≡ prelude_items ts = ap (λ i. specifications_at i os) zero ∙ k.items in
     let (V, met) = first_met a E (λ x. items_ask x no_names (specifications_at a.item os)) c at.outside.sound none refl (subst (λ ms. AllHold every_site (items_ask c no_names ms)) (sym here) k.holds) (subst (λ ms. AreSure (judgements every_site (items_ask c no_names ms))) (sym here) k.sure) in
-    let f = gives [] E carried aloud at.outside constants (subst (λ U. AreNoted U a) (sym at.older) (none_noted a)) V c met (subst (λ i. AreKnownAt ch i os) (sym zero) k.known) in
+    let f = gives [] E k.carried aloud at.outside constants (subst (λ U. AreNoted U a) (sym at.older) (none_noted a)) V c met (subst (λ i. AreKnownAt ch i os) (sym zero) k.known) in
     let all : f.items ≡ specifications_at a.item os = sym (append-nil f.items) ∙ f.splits in
     let all_met = subst (λ ms. AllMet E (sight a) [] (λ x. items_ask x no_names ms) V c) (sym all) met in
     let starts = starts_behind a b now f.items f.given V c all_met in

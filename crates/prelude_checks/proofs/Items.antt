@@ -19,8 +19,8 @@ use Rattle.signature_model.specs.Matching.{IsKnown}
 use Rattle.parsed_rows.specs.Items.{IsSmall}
 use Rattle.binding_rows.specs.ItemRows.{IsExceptionNode, item_if}
 use Rattle.grammar_model.specs.Named.{forest_items}
-use Rattle.signature_typing.specs.ValueItems.{IsValueNode}
-use Rattle.signature_typing.specs.Specifications.{specification_at, specifications_at, specified_from, IsCarriedSpecification, AreCarriedSpecifications, AreKnownAt}
+use Rattle.signature_typing.specs.ValueItems.{IsValueNode, values_of}
+use Rattle.signature_typing.specs.Specifications.{specification_at, specifications_at, specified_from, IsCarriedSpecification, AreCarriedSpecifications, IsKnownValue, AreKnownValues, AreKnownAt}
 use Rattle.prelude_checks.proofs.Checked.{both}
 
 -- whether a token is there
@@ -246,7 +246,17 @@ items_carried types modules n (part s (inner t) ps) formed sized h =
     )
 items_carried types modules n (part s (missing at) ps) formed sized h = absurd (cc)
 
--- Where no unknown type stands in any type of a choice, none stands in those of values.
-pub items_known : (ch : Choice) → ((n : ℕ) → IsKnown (ch.type_at n)) → (i n : ℕ) (ts : List Tree) → AreKnownAt ch i (specified_from n ts)
-items_known ch known i n [] = tt
-items_known ch known i n (t ∷ ts) = ((λ row. known _), items_known ch known i (behind n (extent_of t).size) ts)
+-- Where no unknown type stands in any type of a choice, none stands in those of values, nor in those of the values in modules.
+module _ (ch : Choice) (known : (n : ℕ) → IsKnown (ch.type_at n)) (i : ℕ) where
+  value_known : (n : ℕ) (p : Part) → IsKnownValue ch i n p
+  value_known n (taken t) = tt
+  value_known n (inner t) = λ row. known _
+  value_known n (missing at) = tt
+
+  values_known : (os : List Numbered) → AreKnownValues ch i os
+  values_known [] = tt
+  values_known (o ∷ os) = (value_known o.number o.part, values_known os)
+
+  pub items_known : (n : ℕ) (ts : List Tree) → AreKnownAt ch i (specified_from n ts)
+  items_known n [] = tt
+  items_known n (t ∷ ts) = (record { value = value_known n (inner t); within = λ row. values_known (values_of n t) }, items_known (behind n (extent_of t).size) ts)

@@ -6,6 +6,7 @@ pub mod Typed
 pub mod Known
 pub mod Items
 pub mod TypeRows
+pub mod ModuleRows
 pub mod Fitting
 pub mod Places
 pub mod Spelled

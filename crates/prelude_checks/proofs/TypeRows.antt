@@ -1,5 +1,5 @@
 -- A declaration of a type in the prelude is a type of its own.
-use Rattle.std.proofs.Common.{◌≡◌, ℕ, ◌<◌, ◌^◌, Bool, true, false, List, [], ◌∷◌, length, Option, Some, None, refl}
+use Rattle.std.proofs.Common.{inl, inr, ◌≡◌, ℕ, ◌<◌, ◌^◌, Bool, true, false, List, [], ◌∷◌, length, Option, Some, None, refl}
 use Rattle.std.specs.Prelude.{All, nat_lt}
 use Rattle.std.proofs.lemmas.Bool.{ltb-true}
 use Rattle.std.proofs.lemmas.List.Elements.{All-nil, All-cons, All-head}
@@ -12,7 +12,7 @@ use Rattle.operand_laws.proofs.Going.{operands_formed}
 use Rattle.decl_groups.specs.Written.{parameters_in, name_in}
 use Rattle.declared_items.specs.Written.{IsOfRow, AreOfRow, TellsOwn, IsOwnPart, IsOwnSide, IsOwnNode, IsOwnTypeNode}
 use Rattle.prelude_checks.proofs.Checked.{both}
-use Rattle.prelude_checks.proofs.Items.{is_there, is_con, is_label, each_of, is_own, side_fits, is_head, head_fits, is_declaration, declaration_fits, type_fits}
+use Rattle.prelude_checks.proofs.Items.{is_there, is_con, is_label, each_of, is_own, side_fits, is_head, head_fits, is_declaration, declaration_fits, type_fits, OfRow}
 
 -- operands whose rows pass a test that one row alone passes
 one_of : (test : Row → Bool) (q : Row) → ((r : Row) → test r ≡ true → r ≡ q) → (p : Part) → elim (row_at p) [ None ↦ false | Some r ↦ test r ] ≡ true → IsOfRow q p
@@ -86,5 +86,9 @@ type_operands n t formed row (o ∷ []) is shapes h = type_part n t formed row o
 type_operands n t formed row (o ∷ p ∷ os) is shapes h = absurd (cc)
 
 -- A declaration whose row fits is a type of its own.
-pub type_by : (n : ℕ) (t : Tree) → IsFormed n t → row_of t ≡ type_row → type_fits (operands_in n t 2) ≡ true → IsOwnTypeNode n t
+type_by : (n : ℕ) (t : Tree) → IsFormed n t → row_of t ≡ type_row → type_fits (operands_in n t 2) ≡ true → IsOwnTypeNode n t
 type_by n t formed row h = type_operands n t formed row (operands_in n t 2) refl (operands_formed n t 2 formed) h
+
+-- So it is an item that is carried.
+pub types_carried : OfRow type_row
+types_carried n t formed row h = inr (inr (inl (type_by n t formed row h)))

@@ -1,7 +1,6 @@
 -- What is known of the prelude's items by computation, and what its typing gives.
 use Rattle.std.specs.Prelude.{◌≡◌, ℕ, true, List, [], None}
 use Rattle.token_model.specs.Kinds.{Tok}
-use Rattle.token_model.specs.Tokens.{Lex}
 use Rattle.grammar_model.specs.Named.{named, items_of}
 use Rattle.grammar_model.specs.Ocaml.{interface_text, grammar, row_name}
 use Rattle.recovery_model.specs.Recovery.{recover}
@@ -12,7 +11,6 @@ use Rattle.typing_model.specs.Demands.{AllHold}
 use Rattle.typing_model.specs.First.{every_site, prelude_items, behind_prelude, IsFirst}
 use Rattle.typing_model.specs.Items.{items_ask}
 use Rattle.typing_model.specs.Parts.{no_names}
-use Rattle.typing_model.specs.PreludeText.{prelude_text}
 use Rattle.typing_model.specs.Typings.{outermost}
 use Rattle.row_parts.specs.Numbered.{Numbered}
 use Rattle.env_table.specs.declared.entries.Entry.{Entry}
@@ -32,17 +30,14 @@ prelude_operands ts = specified_from 0 (items_of (named row_name (recover (gramm
 abbrev pub prelude_context : Choice → Context
 prelude_context ch = outermost built_in_names every_site ch
 
--- A typing of the prelude: its operands are its items, no unknown type stands in the types of its values, what it asks holds with every demand kept, and the first environment is what it leaves.
+-- A typing of the prelude: its operands are its items, each is one that is carried, no unknown type stands in the types of its values, what it asks holds with every demand kept, and the first environment is what it leaves.
 pub record IsPreludeTyped (ts : List Tok) (ch : Choice) : Type 0 where
   pub items : specifications_at 0 (prelude_operands ts) ≡ prelude_items ts
+  pub carried : AreCarriedSpecifications (prelude_operands ts)
   pub known : AreKnownAt ch 0 (prelude_operands ts)
   pub holds : AllHold every_site (items_ask (prelude_context ch) no_names (prelude_items ts))
   pub sure : AreSure (judgements every_site (items_ask (prelude_context ch) no_names (prelude_items ts)))
   pub stands : (env : Environment) → IsFirst env → env ≡ behind_prelude ts ch
-
--- each item of the prelude is one that is carried; none that declares a module is yet
-abbrev pub IsPreludeCarried : Type 0
-IsPreludeCarried = (ts : List Tok) → Lex prelude_text ts → AreCarriedSpecifications (prelude_operands ts)
 
 -- nothing has been typed yet: no type is recorded, nothing was reported, faults are reported, at the lowest level, in the item 0, and the built-in types have their nodes
 pub record IsFresh (a : Parts) : Type 0 where

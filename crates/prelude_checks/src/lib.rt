@@ -3,9 +3,9 @@
 //! It stands on the definitions of texts, trees and typings, on their laws, and on the lemmas of `ml_lexer`; for the names after the
 //! prelude also on what specifications give (`signature_typing`).
 //! No program calls it. A clause of `text_analysis` and its proof cite `specs/Known` and `Behind`: by `prelude_starts` the names after
-//! the prelude's items are those of the first environment, if each of these is a carried item (`IsPreludeCarried`). No module is
-//! that yet, so the premise doesn't hold. `Typed`, `Known` and `Fitting` have the typing that it starts from; in `Places`
-//! names are compared without where they are defined.
+//! the prelude's items are those of the first environment. `Typed`, `Known` and `Fitting` have the typing that it starts from;
+//! `Items`, `TypeRows` and `ModuleRows` that each of these items is a carried one; in `Places` names are compared without where they
+//! are defined.
 #![tactic(auto)]
 
 ghost use Rattle.std.specs.Prelude.{◌≡◌, ℕ, Bool, true, List, codes};
@@ -43,7 +43,7 @@ pub fn a_reference_is_found()
 {}
 
 /// The prelude's text is typed with every demand kept and no unknown type in the types of its values, and each of its items is that of
-/// an operand.
+/// an operand, which is a carried item.
 pub fn the_prelude_is_typed()
     ensures { (ts : List Tok) → Lex prelude_text ts → (ch : Choice) × IsPreludeTyped ts ch }
 {}

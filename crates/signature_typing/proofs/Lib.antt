@@ -9,3 +9,6 @@ pub mod Unmade
 pub mod Newest
 pub mod ModuleItems
 pub mod TypeItems
+pub mod Asking
+pub mod ModuleTerms
+pub mod ModuleReads

@@ -1,6 +1,6 @@
 -- The rows of nodes that are items of a signature, by those of the code.
 use Rattle.std.proofs.Common.{◌≡◌, ◌∙◌, refl, sym, ap}
-use Rattle.tree_model.specs.Rows.{val_row, exception_row, type_row}
+use Rattle.tree_model.specs.Rows.{val_row, exception_row, type_row, gmodule_row, ysig_row}
 use Rattle.syntax_tree.specs.declared.rows.RowName.{RowName}
 use Rattle.syntax_tree.specs.declared.rows.RowName.TheVariants as name
 use Rattle.syntax_tree.specs.declared.tree.Node.{Node, out-Node}
@@ -27,6 +27,16 @@ pub only_type : (r : RowName) → names.row_of r ≡ type_row → r ≡ name.Typ
 unfolding names.row_of
 only_type name.TypeRow e = refl
 only_type _ e = absurd (cc)
+
+pub only_module : (r : RowName) → names.row_of r ≡ gmodule_row → r ≡ name.Gmodule
+unfolding names.row_of
+only_module name.Gmodule e = refl
+only_module _ e = absurd (cc)
+
+pub only_signature : (r : RowName) → names.row_of r ≡ ysig_row → r ≡ name.Ysig
+unfolding names.row_of
+only_signature name.Ysig e = refl
+only_signature _ e = absurd (cc)
 
 -- no row is two
 pub not_of : (r q p : RowName) → r ≡ q → (q ≡ p → ⊥) → r ≡ p → ⊥

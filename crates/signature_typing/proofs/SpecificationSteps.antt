@@ -30,10 +30,10 @@ use Rattle.declared_items.specs.Written.{IsOwnTypeNode}
 use Rattle.declared_items.proofs.Adding.{items_added_none, items_added_one, items_added_then}
 use Rattle.module_steps.specs.declared.scenes.Scene.{Scene}
 use Rattle.module_steps.specs.Scenes.{has_name, SameNames}
-use Rattle.signature_typing.specs.ValueItems.{IsValueNode, GivesValue}
-use Rattle.signature_typing.specs.Specifications.{specification_at, specifications_at, IsSpecifiedPart, IsKnownPart, AllMet, HasSeen, IsSpecified, GivesSpecification, GivesSpecifications, SpecifiesFirst, SpecifiesItemsFirst}
+use Rattle.signature_typing.specs.ValueItems.{IsValueNode, IsValuesModuleNode, GivesValue}
+use Rattle.signature_typing.specs.Specifications.{specification_at, specifications_at, IsSpecifiedPart, IsKnownPart, AllMet, HasSeen, IsSpecified, GivesSpecification, GivesValuesModule, GivesSpecifications, SpecifiesFirst, SpecifiesItemsFirst}
 use Rattle.signature_typing.specs.TypeItems.{GivesType}
-use Rattle.signature_typing.proofs.NodeRows.{row_there, only_val, only_exception, only_type}
+use Rattle.signature_typing.proofs.NodeRows.{row_there, only_val, only_exception, only_type, only_module}
 use Rattle.signature_typing.proofs.Specifications.{exception_as_item, type_there, met_after, value_specified}
 
 -- a scene in which the same names stand has them
@@ -72,7 +72,10 @@ exception_specified (Ok v) a b s s' x nd some row adds same = λ G E seen carrie
       | inl value ↦ absurd (let b : name.Exception ≡ name.Val = sym row ∙ only_val (out-Node nd.now).row (sym (row_there nd.now) ∙ value.row) in cc)
       | inr other ↦ elim other [
         | inl thrown ↦ thrown
-        | inr own ↦ absurd (let b : name.Exception ≡ name.TypeRow = sym row ∙ only_type (out-Node nd.now).row (sym (row_there nd.now) ∙ own.row) in cc)
+        | inr rest ↦ elim rest [
+          | inl own ↦ absurd (let b : name.Exception ≡ name.TypeRow = sym row ∙ only_type (out-Node nd.now).row (sym (row_there nd.now) ∙ own.row) in cc)
+          | inr module_is ↦ absurd (let b : name.Exception ≡ name.Gmodule = sym row ∙ only_module (out-Node nd.now).row (sym (row_there nd.now) ∙ module_is.row) in cc)
+        ]
       ]
     ]
 
@@ -86,7 +89,7 @@ value_given (Ok v) a b s s' x nd some row gives same = λ G E seen carried aloud
     subst (λ p. AllMet E (sight a) G (λ y. items_ask y seen (specification_at a.item (numbered x.number (place_of x.span) p) ++ ns)) V c) e met in
     subst (λ p. IsSpecified E (specification_at a.item (numbered x.number (place_of x.span) p)) seen a b G s') (sym e) (record {
       names = seen;
-      added = value_specified a b s.env s'.env x.number (place_of x.span) (node_view nd.now) G E seen item aloud at constants older gives ns V c here (subst (IsKnownPart c.chosen a.item x.number) e known item.row);
+      added = value_specified a b s.env s'.env x.number (place_of x.span) (node_view nd.now) G E seen item aloud at constants older gives ns V c here ((subst (IsKnownPart c.chosen a.item x.number) e known).value item.row);
       standing = seen_same same standing;
     })
   where
@@ -95,7 +98,10 @@ value_given (Ok v) a b s s' x nd some row gives same = λ G E seen carried aloud
       | inl value ↦ value
       | inr other ↦ elim other [
         | inl thrown ↦ absurd (let b : name.Val ≡ name.Exception = sym row ∙ only_exception (out-Node nd.now).row (sym (row_there nd.now) ∙ thrown.row) in cc)
-        | inr own ↦ absurd (let b : name.Val ≡ name.TypeRow = sym row ∙ only_type (out-Node nd.now).row (sym (row_there nd.now) ∙ own.row) in cc)
+        | inr rest ↦ elim rest [
+          | inl own ↦ absurd (let b : name.Val ≡ name.TypeRow = sym row ∙ only_type (out-Node nd.now).row (sym (row_there nd.now) ∙ own.row) in cc)
+          | inr module_is ↦ absurd (let b : name.Val ≡ name.Gmodule = sym row ∙ only_module (out-Node nd.now).row (sym (row_there nd.now) ∙ module_is.row) in cc)
+        ]
       ]
     ]
 
@@ -117,18 +123,45 @@ own_type_given (Ok v) a b s s' x nd some row gives = λ G E seen carried aloud a
       | inl value ↦ absurd (let b : name.TypeRow ≡ name.Val = sym row ∙ only_val (out-Node nd.now).row (sym (row_there nd.now) ∙ value.row) in cc)
       | inr other ↦ elim other [
         | inl thrown ↦ absurd (let b : name.TypeRow ≡ name.Exception = sym row ∙ only_exception (out-Node nd.now).row (sym (row_there nd.now) ∙ thrown.row) in cc)
-        | inr own ↦ own
+        | inr rest ↦ elim rest [
+          | inl own ↦ own
+          | inr module_is ↦ absurd (let b : name.TypeRow ≡ name.Gmodule = sym row ∙ only_module (out-Node nd.now).row (sym (row_there nd.now) ∙ module_is.row) in cc)
+        ]
+      ]
+    ]
+
+-- A module of a signature of values is specified.
+pub module_given : {A F : Type 0} (r : Result A F) (a b : Parts) (s s' : Scene) (x : Operand) (nd : Bor Node) → x.node ≡ Some nd → (out-Node nd.now).row ≡ name.Gmodule → OnOk r (GivesValuesModule a b s s' x.number (node_view nd.now)) → OnOk r (GivesSpecification a b s s' (operand_view x))
+module_given (Err e) a b s s' x nd some row gives = tt
+module_given (Ok v) a b s s' x nd some row gives = λ G E seen carried aloud at constants older standing ns V c met known.
+    let e = there x nd some in
+    subst (λ p. IsSpecified E (specification_at a.item (numbered x.number (place_of x.span) p)) seen a b G s') (sym e)
+    (gives G E seen (is_module carried) aloud at constants older standing ns V c (subst (λ p. AllMet E (sight a) G (λ y. items_ask y seen (specification_at a.item (numbered x.number (place_of x.span) p) ++ ns)) V c) e met)
+    ((subst (IsKnownPart c.chosen a.item x.number) e known).within (is_module carried).row))
+  where
+    is_module : IsSpecifiedPart x.number (operand_view x).part → IsValuesModuleNode x.number (node_view nd.now)
+    is_module carried = elim (subst (IsSpecifiedPart x.number) (there x nd some) carried) [
+      | inl value ↦ absurd (let b : name.Gmodule ≡ name.Val = sym row ∙ only_val (out-Node nd.now).row (sym (row_there nd.now) ∙ value.row) in cc)
+      | inr other ↦ elim other [
+        | inl thrown ↦ absurd (let b : name.Gmodule ≡ name.Exception = sym row ∙ only_exception (out-Node nd.now).row (sym (row_there nd.now) ∙ thrown.row) in cc)
+        | inr rest ↦ elim rest [
+          | inl own ↦ absurd (let b : name.Gmodule ≡ name.TypeRow = sym row ∙ only_type (out-Node nd.now).row (sym (row_there nd.now) ∙ own.row) in cc)
+          | inr module_is ↦ module_is
+        ]
       ]
     ]
 
 -- an item of another row isn't one that is carried
-pub other_specification : {A F : Type 0} (r : Result A F) (a b : Parts) (s s' : Scene) (x : Operand) (nd : Bor Node) → x.node ≡ Some nd → ((out-Node nd.now).row ≡ name.Val → ⊥) → ((out-Node nd.now).row ≡ name.Exception → ⊥) → ((out-Node nd.now).row ≡ name.TypeRow → ⊥) → OnOk r (GivesSpecification a b s s' (operand_view x))
-other_specification (Err e) a b s s' x nd some no_val no_exception no_type = tt
-other_specification (Ok v) a b s s' x nd some no_val no_exception no_type = λ G E seen carried aloud at constants older standing ns V c met known. absurd (elim (subst (IsSpecifiedPart x.number) (there x nd some) carried) [
+pub other_specification : {A F : Type 0} (r : Result A F) (a b : Parts) (s s' : Scene) (x : Operand) (nd : Bor Node) → x.node ≡ Some nd → ((out-Node nd.now).row ≡ name.Val → ⊥) → ((out-Node nd.now).row ≡ name.Exception → ⊥) → ((out-Node nd.now).row ≡ name.TypeRow → ⊥) → ((out-Node nd.now).row ≡ name.Gmodule → ⊥) → OnOk r (GivesSpecification a b s s' (operand_view x))
+other_specification (Err e) a b s s' x nd some no_val no_exception no_type no_module = tt
+other_specification (Ok v) a b s s' x nd some no_val no_exception no_type no_module = λ G E seen carried aloud at constants older standing ns V c met known. absurd (elim (subst (IsSpecifiedPart x.number) (there x nd some) carried) [
   | inl value ↦ no_val (only_val (out-Node nd.now).row (sym (row_there nd.now) ∙ value.row))
   | inr other ↦ elim other [
     | inl thrown ↦ no_exception (only_exception (out-Node nd.now).row (sym (row_there nd.now) ∙ thrown.row))
-    | inr own ↦ no_type (only_type (out-Node nd.now).row (sym (row_there nd.now) ∙ own.row))
+    | inr rest ↦ elim rest [
+      | inl own ↦ no_type (only_type (out-Node nd.now).row (sym (row_there nd.now) ∙ own.row))
+      | inr module_is ↦ no_module (only_module (out-Node nd.now).row (sym (row_there nd.now) ∙ module_is.row))
+    ]
   ]
 ])
 

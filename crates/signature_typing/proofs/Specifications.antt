@@ -94,7 +94,7 @@ never_sure xs ys sure f =
     let (kept, bare) = sure_there f.before f.site f.mine f.closing f.left (subst AreSure f.short sure) in
     elim f.why [ inl (mine, theirs) ↦ no_yes (sym mine ∙ kept) | inr (closing, other) ↦ no_yes (sym bare ∙ closing) ]
 
-sure_left : (xs ys : List Judgement) → AreSure (xs ++ ys) → AreSure xs
+pub sure_left : (xs ys : List Judgement) → AreSure (xs ++ ys) → AreSure xs
 sure_left [] ys h = tt
 sure_left (x ∷ xs) ys h = (h.0, h.1, sure_left xs ys h.2)
 

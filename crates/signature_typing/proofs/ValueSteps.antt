@@ -42,9 +42,9 @@ use Rattle.declared_items.specs.Adding.{AddsAlike}
 use Rattle.declared_items.proofs.Adding.{adds_none, adds_then}
 use Rattle.sig_template.specs.Structures as shown
 use Rattle.module_steps.specs.declared.scenes.Scene.{Scene}
-use Rattle.signature_typing.specs.ValueItems.{IsValueNode, AllValues, ValueAdded, GivesValue}
-use Rattle.signature_typing.specs.Specifications.{specification_at, specifications_at, IsKnownPart, AllMet}
-use Rattle.signature_typing.specs.ValueSignatures.{AddsNewest, AddsIf, IsValuePart, ValuesAdded, GivesAdded, GivesAllAdded, AddsFirst, GivesAddedFirst}
+use Rattle.signature_typing.specs.ValueItems.{IsValueNode, IsValuePart, AllValues, ValueAdded, GivesValue}
+use Rattle.signature_typing.specs.Specifications.{specification_at, specifications_at, IsKnownValue, AllMet}
+use Rattle.signature_typing.specs.ValueSignatures.{AddsNewest, AddsIf, ValuesAdded, GivesAdded, GivesAllAdded, AddsFirst, GivesAddedFirst}
 use Rattle.signature_typing.proofs.NodeRows.{row_there, only_val}
 use Rattle.signature_typing.proofs.Newest.{values_by, values_back}
 use Rattle.signature_typing.proofs.Unmade.{made_nothing}
@@ -159,7 +159,7 @@ value_adds (Ok u) a b s s' x nd some gives adds = λ G E carried aloud at consta
     let item : IsValueNode x.number t = subst (IsValuePart x.number) e carried in
     let here : AllMet E (sight a) G (λ y. items_ask y no_names (specification_at a.item (numbered x.number (place_of x.span) (inner t)) ++ ns)) V c =
     subst (λ p. AllMet E (sight a) G (λ y. items_ask y no_names (specification_at a.item (numbered x.number (place_of x.span) p) ++ ns)) V c) e met in
-    let v = value_is_added a b s.env s'.env x.number (place_of x.span) t G E no_names item aloud at constants older gives ns V c here (subst (IsKnownPart c.chosen a.item x.number) e known item.row) in
+    let v = value_is_added a b s.env s'.env x.number (place_of x.span) t G E no_names item aloud at constants older gives ns V c here (subst (IsKnownValue c.chosen a.item x.number) e known item.row) in
     let z : AddsNewest s s' = subst (λ o. AddsIf o s s') item.named adds in
     let same : z.entry ≡ v.entry = (let f : z.entry ∷ s.env ≡ v.entry ∷ s.env = sym z.env ∙ v.scope in cc) in
     record {
@@ -209,7 +209,7 @@ added_next a b d env s s' all os i x lt here goes first gives G E values aloud a
     let left : f.items ++ (specification_at b.item (operand_view x) ++ rest) ≡ specifications_at a.item all = ap (λ n. f.items ++ (specification_at n (operand_view x) ++ rest)) goes.item ∙ f.splits in
     let m = met_after f.adds.done (specification_at b.item (operand_view x) ++ rest) V c (subst (λ ms. AllMet E (sight a) G (λ y. items_ask y no_names ms) V c) (sym left) met) in
     let done = f.adds.done in
-    let g = gives done.letters done.env f.values.0 (ap is_aloud goes.telling ∙ aloud) done.outside done.constants done.noted rest m.types _ m.met (subst (λ n. IsKnownPart c.chosen n x.number (operand_view x).part) (sym goes.item) f.known.0) in
+    let g = gives done.letters done.env f.values.0 (ap is_aloud goes.telling ∙ aloud) done.outside done.constants done.noted rest m.types _ m.met (subst (λ n. IsKnownValue c.chosen n x.number (operand_view x).part) (sym goes.item) f.known.0) in
     record {
       items = f.items ++ specification_at b.item (operand_view x);
       adds = subst (λ es. ValuesAdded a at (f.items ++ specification_at b.item (operand_view x)) d s'.env es) (sym g.components) (added_then f.adds g.adds);

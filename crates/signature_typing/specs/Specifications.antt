@@ -1,6 +1,6 @@
 -- What items of a signature give, in order (OCaml manual, 11.10).
 use Rattle.std.specs.Prelude.{◌≡◌, ◌⊎◌, ℕ, true, false, List, [], ◌∷◌, ◌++◌}
-use Rattle.tree_model.specs.Rows.{val_row}
+use Rattle.tree_model.specs.Rows.{val_row, gmodule_row}
 use Rattle.tree_model.specs.Extents.{extent_of}
 use Rattle.tree_model.specs.Trees.{Tree, Part, taken, inner, missing}
 use Rattle.signature_model.specs.Declarations.{Name}
@@ -32,7 +32,7 @@ use Rattle.declared_items.specs.Written.{IsOwnTypeNode}
 use Rattle.module_steps.specs.declared.scenes.Scene.{Scene}
 use Rattle.module_steps.specs.Scenes.{has_name}
 use Rattle.signature_typing.specs.Values.{type_specified}
-use Rattle.signature_typing.specs.ValueItems.{IsValueNode}
+use Rattle.signature_typing.specs.ValueItems.{IsValueNode, IsValuesModuleNode, values_of}
 
 -- the item of the definitions that an operand of a signature is, if it is one
 abbrev pub specification_at : ℕ → Numbered → List Item
@@ -48,9 +48,9 @@ abbrev pub specified_from : ℕ → List Tree → List Numbered
 specified_from n [] = []
 specified_from n (t ∷ ts) = node_with n t ∷ specified_from (behind n (extent_of t).size) ts
 
--- an item of a signature whose conditions are carried: a value or an exception that has a name, or one type of its own
+-- an item of a signature whose conditions are carried: a value or an exception that has a name, one type of its own, or a module with a name that has a signature of values
 abbrev pub IsCarriedSpecification : ℕ → Tree → Type 0
-IsCarriedSpecification n t = IsValueNode n t ⊎ (IsExceptionNode n t ⊎ IsOwnTypeNode n t)
+IsCarriedSpecification n t = IsValueNode n t ⊎ (IsExceptionNode n t ⊎ (IsOwnTypeNode n t ⊎ IsValuesModuleNode n t))
 
 -- the same of what is at an operand; what is missing is no item
 abbrev pub IsSpecifiedPart : ℕ → Part → Type 0
@@ -64,10 +64,26 @@ AreCarriedSpecifications [] = Unit {0}
 AreCarriedSpecifications (o ∷ os) = IsSpecifiedPart o.number o.part × AreCarriedSpecifications os
 
 -- where a value is specified, no unknown type stands in the type that is chosen for it
-abbrev pub IsKnownPart : Choice → (i n : ℕ) → Part → Type 0
-IsKnownPart ch i n (taken t) = Unit {0}
-IsKnownPart ch i n (inner t) = row_of t ≡ val_row → IsKnown (ch.type_at (type_specified i n t).node)
-IsKnownPart ch i n (missing at) = Unit {0}
+abbrev pub IsKnownValue : Choice → (i n : ℕ) → Part → Type 0
+IsKnownValue ch i n (taken t) = Unit {0}
+IsKnownValue ch i n (inner t) = row_of t ≡ val_row → IsKnown (ch.type_at (type_specified i n t).node)
+IsKnownValue ch i n (missing at) = Unit {0}
+
+-- the same of several operands
+abbrev pub AreKnownValues : Choice → (i : ℕ) → List Numbered → Type 0
+AreKnownValues ch i [] = Unit {0}
+AreKnownValues ch i (o ∷ os) = IsKnownValue ch i o.number o.part × AreKnownValues ch i os
+
+-- where a module is specified, the same of what its signature specifies
+abbrev pub AreKnownWithin : Choice → (i n : ℕ) → Part → Type 0
+AreKnownWithin ch i n (taken t) = Unit {0}
+AreKnownWithin ch i n (inner t) = row_of t ≡ gmodule_row → AreKnownValues ch i (values_of n t)
+AreKnownWithin ch i n (missing at) = Unit {0}
+
+-- an item of a signature specifies what is known
+pub record IsKnownPart (ch : Choice) (i n : ℕ) (p : Part) : Type 0 where
+  pub value : IsKnownValue ch i n p
+  pub within : AreKnownWithin ch i n p
 
 -- the same of the items of a signature
 abbrev pub AreKnownAt : Choice → (i : ℕ) → List Numbered → Type 0
@@ -128,3 +144,9 @@ abbrev pub SpecifiesItemsFirst : (a b : Parts) → (env : List Entry) → (now :
 SpecifiesItemsFirst a b env now all left =
     (G : Letters) (E : Choice → Environment) → AreCarriedSpecifications all → is_aloud a.telling ≡ true → (at : Outside as_declared (sight a) G env E) → HasConstants a → AreNoted at.older a →
     (V : Types) (c : Context) → AllMet E (sight a) G (λ x. items_ask x no_names (specifications_at a.item all)) V c → AreKnownAt c.chosen a.item all → SpecifiesFirst E G c.chosen a b now all left
+
+-- What a call gives for a module of a signature of values, as that for an item: it is done, and its name stands after it.
+abbrev pub GivesValuesModule : (a b : Parts) → (old new : Scene) → (n : ℕ) → Tree → Type 0
+GivesValuesModule a b old new n t =
+    (G : Letters) (E : Choice → Environment) (seen : Seen) → IsValuesModuleNode n t → is_aloud a.telling ≡ true → (at : Outside as_declared (sight a) G old.env E) → HasConstants a → AreNoted at.older a → HasSeen old seen →
+    (ns : List Item) (V : Types) (c : Context) → AllMet E (sight a) G (λ x. items_ask x seen (specification_at a.item (node_with n t) ++ ns)) V c → AreKnownValues c.chosen a.item (values_of n t) → IsSpecified E (specification_at a.item (node_with n t)) seen a b G new

@@ -1,8 +1,8 @@
 -- What an item `val x : t` gives (OCaml manual, 11.10).
 use Rattle.std.specs.Prelude.{◌≡◌, ◌⊎◌, ℕ, true, List, [], ◌∷◌, ◌++◌, Some}
 use Rattle.token_model.specs.Kinds.{Tok}
-use Rattle.tree_model.specs.Rows.{val_row}
-use Rattle.tree_model.specs.Trees.{Tree, yield_of}
+use Rattle.tree_model.specs.Rows.{val_row, gmodule_row, ysig_row}
+use Rattle.tree_model.specs.Trees.{Tree, Part, taken, inner, missing, yield_of}
 use Rattle.type_model.specs.Types.{Typ}
 use Rattle.signature_model.specs.Entries.{Environment, entries_in}
 use Rattle.signature_model.specs.Entries.{Entry as Named}
@@ -15,7 +15,7 @@ use Rattle.typing_model.specs.Modules.{value_item}
 use Rattle.type_nodes.specs.Readings.{Types}
 use Rattle.level_unify.specs.Solutions.{Loose}
 use Rattle.env_table.specs.declared.entries.Entry.{Entry}
-use Rattle.row_parts.specs.Numbered.{token_in}
+use Rattle.row_parts.specs.Numbered.{Numbered, operands_in, filled_in, token_in}
 use Rattle.typing_state.specs.declared.parts.Parts.{Parts}
 use Rattle.operand_laws.specs.Formed.{row_of, IsFormed}
 use Rattle.operand_laws.specs.Operands.{number_of}
@@ -37,6 +37,42 @@ pub record IsValueNode (n : ℕ) (t : Tree) : Type 0 where
   pub row : row_of t ≡ val_row
   pub name : Tok
   pub named : token_in t 1 ≡ Some name
+
+-- a value that has a name is at an operand
+abbrev pub IsValuePart : ℕ → Part → Type 0
+IsValuePart n (taken t) = ⊥
+IsValuePart n (inner t) = IsValueNode n t
+IsValuePart n (missing at) = ⊥
+
+-- each of some operands is one
+abbrev pub AreValues : List Numbered → Type 0
+AreValues [] = Unit {0}
+AreValues (o ∷ os) = IsValuePart o.number o.part × AreValues os
+
+-- the items of a signature `sig .. end` at an operand
+abbrev pub items_within : ℕ → Part → List Numbered
+items_within n (taken t) = []
+items_within n (inner t) = operands_in n t 1
+items_within n (missing at) = []
+
+-- a signature `sig .. end` of values that have names is at an operand
+abbrev pub IsValuesSignature : ℕ → Part → Type 0
+IsValuesSignature n (taken t) = ⊥
+IsValuesSignature n (inner t) = (row_of t ≡ ysig_row) × AreValues (operands_in n t 1)
+IsValuesSignature n (missing at) = ⊥
+
+-- an item `module M : sig .. end` that has a name and no parameters, whose signature is one of values
+pub record IsValuesModuleNode (n : ℕ) (t : Tree) : Type 0 where
+  pub formed : IsFormed n t
+  pub row : row_of t ≡ gmodule_row
+  pub name : Tok
+  pub named : token_in t 1 ≡ Some name
+  pub alone : operands_in n t 5 ≡ []
+  pub values : IsValuesSignature (filled_in n t 8).number (filled_in n t 8).part
+
+-- the values in it
+abbrev pub values_of : ℕ → Tree → List Numbered
+values_of n t = items_within (filled_in n t 8).number (filled_in n t 8).part
 
 -- a value as it is recorded: its node is treated, and then its type is read
 abbrev pub recorded_value : (i n : ℕ) → Tree → Item

@@ -1,10 +1,11 @@
 //! Module types, and the items of signatures.
-ghost use Rattle.std.specs.Prelude.{map, IfOk, OnOk};
+ghost use Rattle.std.specs.Prelude.{◌≡◌, [], map, IfOk, OnOk};
+ghost use Rattle.syntax_tree.specs.View.{node_view};
 ghost use Rattle.row_parts.specs.Numbered.{operand_view};
 ghost use Rattle.typing_state.specs.Goes.{Goes};
-ghost use Rattle.signature_typing.specs.ModuleTypes.{IsUnknownType};
-ghost use Rattle.signature_typing.specs.Specifications.{GivesSpecification, GivesSpecifications};
-ghost use Rattle.signature_typing.specs.ValueSignatures.{GivesAdded, GivesAllAdded};
+ghost use Rattle.signature_typing.specs.ModuleTypes.{IsTemplateOf, IsUnknownType};
+ghost use Rattle.signature_typing.specs.Specifications.{GivesSpecification, GivesSpecifications, GivesValuesModule};
+ghost use Rattle.signature_typing.specs.ValueSignatures.{GivesAdded, GivesAllAdded, GivesModule, GivesStructure};
 ghost use Rattle.sig_template.specs.Structures.{entries_of};
 
 use crate::clauses::behind_clauses;
@@ -97,6 +98,7 @@ pub fn read_module_type(
     env: &Env,
     depth: Depth,
 ) -> Result<Rc<Template>, NoMemory>
+    ensures values { IfOk result (λ t. GivesStructure at.old at.new env.now (operand_view y.entry) t.value) }
     ensures goes { Goes at.old at.new }
 {
     let Some(node) = y.node else {
@@ -140,7 +142,9 @@ pub fn read_module_type(
 }
 
 /// sig g end
-fn template_of(at: &Parts, kept: Kept) -> Result<Rc<Template>, NoMemory> {
+fn template_of(at: &Parts, kept: Kept) -> Result<Rc<Template>, NoMemory>
+    ensures { IfOk result (λ t. IsTemplateOf (entries_of kept.components.items) kept.makes.items t.value) }
+{
     let template = Template {
         made: kept.makes,
         sig: structure(at.alloc(), &kept.components)?,
@@ -157,6 +161,7 @@ pub fn type_parameters(
     env: &Env,
     depth: Depth,
 ) -> Result<Vec<Taken>, NoMemory>
+    ensures none { IfOk result (λ ps. types.now ≡ [] → (ps.items ≡ []) × (at.new ≡ at.old)) }
     ensures goes { Goes at.old at.new }
 {
     let mut taken = Vec::new(at.alloc());
@@ -203,6 +208,7 @@ pub fn type_module_specification(
     scene: &mut Scene,
     depth: Depth,
 ) -> Result<(), NoMemory>
+    ensures carries { OnOk result (GivesValuesModule at.old at.new scene.old scene.new number (node_view node.now)) }
     ensures goes { Goes at.old at.new }
 {
     let name = token(node, 1);
@@ -222,6 +228,7 @@ fn type_specified(
     env: &Env,
     depth: Depth,
 ) -> Result<(Made, Vec<Option<Rc<Entry>>>), NoMemory>
+    ensures values { IfOk result (λ r. GivesModule at.old at.new env.now number (node_view node.now) r.0.sig.value) }
     ensures goes { Goes at.old at.new }
 {
     let names = tokens_or_missing(at.alloc(), node, 3)?;

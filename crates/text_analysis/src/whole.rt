@@ -11,7 +11,7 @@ ghost use Rattle.typing_state.specs.Goes.{Goes};
 ghost use Rattle.syntax_tree.specs.Tallies.{Grows};
 ghost use Rattle.syntax_tree.specs.View.{trees_of};
 ghost use Rattle.resume_parser.specs.Kept.{trees_behind};
-ghost use Rattle.prelude_checks.specs.Known.{IsPreludeCarried, StartsFirst};
+ghost use Rattle.prelude_checks.specs.Known.{StartsFirst};
 
 use crate::prelude::text;
 use module_typing::{Scene, built_ins, type_item};
@@ -41,13 +41,13 @@ fn prelude_tree<C: Counts>(alloc: Global, counts: &mut C) -> Result<Tree, NoMemo
     Ok(parse.into_parsed().tree)
 }
 
-/// The environment after the prelude, whose items are the item 0. Where nothing was typed before and each of these items is carried,
-/// its names are those of the first environment, whatever is chosen. Modules aren't carried yet (`IsPreludeCarried`).
+/// The environment after the prelude, whose items are the item 0. Where nothing was typed before, its names are those of the first
+/// environment, whatever is chosen.
 pub fn with_prelude<C: Counts>(at: &mut Parts, counts: &mut C) -> Result<Env, NoMemory>
     ensures grows { Grows (C.tallies counts.old) (C.tallies counts.new) }
     ensures lexed { (ts : List Tok) → Lex prelude_text ts → (C.tallies counts.new).lexed ≤ (C.tallies counts.old).lexed + length ts }
     ensures untyped { (C.tallies counts.new).typed ≡ (C.tallies counts.old).typed }
-    ensures outside { IfOk result (λ env. IsPreludeCarried → IsNew at.old → (first : Environment) → IsFirst first → StartsFirst at.new env first) }
+    ensures outside { IfOk result (λ env. IsNew at.old → (first : Environment) → IsFirst first → StartsFirst at.new env first) }
     ensures goes { Goes at.old at.new }
 {
     let tree = prelude_tree(at.alloc(), counts)?;

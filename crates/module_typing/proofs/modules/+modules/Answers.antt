@@ -56,25 +56,25 @@ pub type_item-returns-in-Break-clause-specifies : goal.type_item-returns-in-Brea
 type_item-returns-in-Break-clause-specifies t c =
     let row = (out-Node c.in-Some.node.now).row in
     other_specification c.note_plain-in-Break.result c.args.at.now c.note_plain-in-Break.new.self c.args.scene.now c.args.scene.now c.args.item c.in-Some.node c.in-Some.is
-    (not_of row name.Break name.Val c.in-Break.is (λ e. absurd (cc))) (not_of row name.Break name.Exception c.in-Break.is (λ e. absurd (cc))) (not_of row name.Break name.TypeRow c.in-Break.is (λ e. absurd (cc)))
+    (not_of row name.Break name.Val c.in-Break.is (λ e. absurd (cc))) (not_of row name.Break name.Exception c.in-Break.is (λ e. absurd (cc))) (not_of row name.Break name.TypeRow c.in-Break.is (λ e. absurd (cc))) (not_of row name.Break name.Gmodule c.in-Break.is (λ e. absurd (cc)))
 
 pub type_item-returns-in-Let-clause-specifies : goal.type_item-returns-in-Let-clause-specifies
 type_item-returns-in-Let-clause-specifies t c =
     let row = (out-Node c.in-Some.node.now).row in
     other_specification c.let_item.result c.args.at.now c.let_item.new.at c.args.scene.now c.let_item.new.scene c.args.item c.in-Some.node c.in-Some.is
-    (not_of row name.Let name.Val c.in-Let.is (λ e. absurd (cc))) (not_of row name.Let name.Exception c.in-Let.is (λ e. absurd (cc))) (not_of row name.Let name.TypeRow c.in-Let.is (λ e. absurd (cc)))
+    (not_of row name.Let name.Val c.in-Let.is (λ e. absurd (cc))) (not_of row name.Let name.Exception c.in-Let.is (λ e. absurd (cc))) (not_of row name.Let name.TypeRow c.in-Let.is (λ e. absurd (cc))) (not_of row name.Let name.Gmodule c.in-Let.is (λ e. absurd (cc)))
 
 pub type_item-returns-in-Module-clause-specifies : goal.type_item-returns-in-Module-clause-specifies
 type_item-returns-in-Module-clause-specifies t c =
     let row = (out-Node c.in-Some.node.now).row in
     other_specification c.type_module_item.result c.args.at.now c.type_module_item.new.at c.args.scene.now c.type_module_item.new.scene c.args.item c.in-Some.node c.in-Some.is
-    (not_of row name.Module name.Val c.in-Module.is (λ e. absurd (cc))) (not_of row name.Module name.Exception c.in-Module.is (λ e. absurd (cc))) (not_of row name.Module name.TypeRow c.in-Module.is (λ e. absurd (cc)))
+    (not_of row name.Module name.Val c.in-Module.is (λ e. absurd (cc))) (not_of row name.Module name.Exception c.in-Module.is (λ e. absurd (cc))) (not_of row name.Module name.TypeRow c.in-Module.is (λ e. absurd (cc))) (not_of row name.Module name.Gmodule c.in-Module.is (λ e. absurd (cc)))
 
 pub type_item-returns-in-Include-clause-specifies : goal.type_item-returns-in-Include-clause-specifies
 type_item-returns-in-Include-clause-specifies t c =
     let row = (out-Node c.in-Some.node.now).row in
     other_specification c.include_item.result c.args.at.now c.include_item.new.at c.args.scene.now c.include_item.new.scene c.args.item c.in-Some.node c.in-Some.is
-    (not_of row name.Include name.Val c.in-Include.is (λ e. absurd (cc))) (not_of row name.Include name.Exception c.in-Include.is (λ e. absurd (cc))) (not_of row name.Include name.TypeRow c.in-Include.is (λ e. absurd (cc)))
+    (not_of row name.Include name.Val c.in-Include.is (λ e. absurd (cc))) (not_of row name.Include name.Exception c.in-Include.is (λ e. absurd (cc))) (not_of row name.Include name.TypeRow c.in-Include.is (λ e. absurd (cc))) (not_of row name.Include name.Gmodule c.in-Include.is (λ e. absurd (cc)))
 
 pub type_item-returns-in_default-row : goal.type_item-returns-in_default-row
 type_item-returns-in_default-row t c = record {

@@ -1,11 +1,18 @@
-use Rattle.std.proofs.Common.{arith, ◌∙◌, ◌<◌, length, map}
+use Rattle.std.proofs.Common.{arith, ◌≡◌, ◌∙◌, ◌<◌, length, map, refl, ap, subst}
 use Rattle.row_parts.specs.Numbered.{operand_view}
+use Rattle.syntax_tree.specs.View.{node_view}
 use Rattle.syntax_tree.specs.declared.rows.RowName.TheVariants as name
 use Rattle.syntax_tree.specs.declared.tree.Node.{out-Node}
 use Rattle.typing_state.proofs.Going.{goes_refl, goes_trans}
+use Rattle.sig_template.specs.Structures.{entries_of}
+use Rattle.module_steps.specs.Listed.{seen_values}
+use Rattle.module_steps.specs.Modules.{env_behind}
+use Rattle.module_steps.proofs.Naming.{always}
+use Rattle.signature_typing.specs.ValueSignatures.{GivesAllAdded}
 use Rattle.signature_typing.proofs.NodeRows.{not_of}
-use Rattle.signature_typing.proofs.SpecificationSteps.{missing_specified, exception_specified, value_given, own_type_given, other_specification, specifications_start, specifications_next, specifications_end}
+use Rattle.signature_typing.proofs.SpecificationSteps.{missing_specified, exception_specified, value_given, own_type_given, module_given, other_specification, specifications_start, specifications_next, specifications_end}
 use Rattle.signature_typing.proofs.ValueSteps.{value_adds, missing_is_none, other_is_none, added_start, added_next, added_end}
+use Rattle.signature_typing.proofs.ModuleReads.{signature_read, other_structure, missing_structure, module_read, module_specified}
 use Rattle.signature_typing.proofs.signatures.+signatures.Goals as goal
 
 pub type_specification-returns-in_default-clause-carries : goal.type_specification-returns-in_default-clause-carries
@@ -23,27 +30,26 @@ type_specification-returns-in-TypeRow-clause-carries t c = own_type_given c.type
 
 pub type_specification-returns-in-Gmodule-clause-carries : goal.type_specification-returns-in-Gmodule-clause-carries
 type_specification-returns-in-Gmodule-clause-carries t c =
-    let row = (out-Node c.in-Some.node.now).row in
-    other_specification c.type_module_specification.result c.args.at.now c.type_module_specification.new.at c.args.scene.now c.type_module_specification.new.scene c.args.item c.in-Some.node c.in-Some.is (not_of row name.Gmodule name.Val c.in-Gmodule.is (λ e. absurd (cc))) (not_of row name.Gmodule name.Exception c.in-Gmodule.is (λ e. absurd (cc))) (not_of row name.Gmodule name.TypeRow c.in-Gmodule.is (λ e. absurd (cc)))
+    module_given c.type_module_specification.result c.args.at.now c.type_module_specification.new.at c.args.scene.now c.type_module_specification.new.scene c.args.item c.in-Some.node c.in-Some.is c.in-Gmodule.is c.type_module_specification.ensures.carries
 
 pub type_specification-returns-in-Modtype-clause-carries : goal.type_specification-returns-in-Modtype-clause-carries
 type_specification-returns-in-Modtype-clause-carries t c =
     let row = (out-Node c.in-Some.node.now).row in
-    other_specification c.type_module_type_item.result c.args.at.now c.type_module_type_item.new.at c.args.scene.now c.type_module_type_item.new.scene c.args.item c.in-Some.node c.in-Some.is (not_of row name.Modtype name.Val c.in-Modtype.is (λ e. absurd (cc))) (not_of row name.Modtype name.Exception c.in-Modtype.is (λ e. absurd (cc))) (not_of row name.Modtype name.TypeRow c.in-Modtype.is (λ e. absurd (cc)))
+    other_specification c.type_module_type_item.result c.args.at.now c.type_module_type_item.new.at c.args.scene.now c.type_module_type_item.new.scene c.args.item c.in-Some.node c.in-Some.is (not_of row name.Modtype name.Val c.in-Modtype.is (λ e. absurd (cc))) (not_of row name.Modtype name.Exception c.in-Modtype.is (λ e. absurd (cc))) (not_of row name.Modtype name.TypeRow c.in-Modtype.is (λ e. absurd (cc))) (not_of row name.Modtype name.Gmodule c.in-Modtype.is (λ e. absurd (cc)))
 
 pub type_specification-returns-in-Open-clause-carries : goal.type_specification-returns-in-Open-clause-carries
 type_specification-returns-in-Open-clause-carries t c =
     let row = (out-Node c.in-Some.node.now).row in
-    other_specification c.open_item.result c.args.at.now c.open_item.new.at c.args.scene.now c.open_item.new.scene c.args.item c.in-Some.node c.in-Some.is (not_of row name.Open name.Val c.in-Open.is (λ e. absurd (cc))) (not_of row name.Open name.Exception c.in-Open.is (λ e. absurd (cc))) (not_of row name.Open name.TypeRow c.in-Open.is (λ e. absurd (cc)))
+    other_specification c.open_item.result c.args.at.now c.open_item.new.at c.args.scene.now c.open_item.new.scene c.args.item c.in-Some.node c.in-Some.is (not_of row name.Open name.Val c.in-Open.is (λ e. absurd (cc))) (not_of row name.Open name.Exception c.in-Open.is (λ e. absurd (cc))) (not_of row name.Open name.TypeRow c.in-Open.is (λ e. absurd (cc))) (not_of row name.Open name.Gmodule c.in-Open.is (λ e. absurd (cc)))
 
 pub type_specification-returns-in-Include-clause-carries : goal.type_specification-returns-in-Include-clause-carries
 type_specification-returns-in-Include-clause-carries t c =
     let row = (out-Node c.in-Some.node.now).row in
-    other_specification c.include_specification.result c.args.at.now c.include_specification.new.at c.args.scene.now c.include_specification.new.scene c.args.item c.in-Some.node c.in-Some.is (not_of row name.Include name.Val c.in-Include.is (λ e. absurd (cc))) (not_of row name.Include name.Exception c.in-Include.is (λ e. absurd (cc))) (not_of row name.Include name.TypeRow c.in-Include.is (λ e. absurd (cc)))
+    other_specification c.include_specification.result c.args.at.now c.include_specification.new.at c.args.scene.now c.include_specification.new.scene c.args.item c.in-Some.node c.in-Some.is (not_of row name.Include name.Val c.in-Include.is (λ e. absurd (cc))) (not_of row name.Include name.Exception c.in-Include.is (λ e. absurd (cc))) (not_of row name.Include name.TypeRow c.in-Include.is (λ e. absurd (cc))) (not_of row name.Include name.Gmodule c.in-Include.is (λ e. absurd (cc)))
 
 pub type_specification-returns-in_default-row-clause-carries : goal.type_specification-returns-in_default-row-clause-carries
 type_specification-returns-in_default-row-clause-carries t c =
-    other_specification c.note_plain-in_default-row.result c.args.at.now c.note_plain-in_default-row.new.self c.args.scene.now c.args.scene.now c.args.item c.in-Some.node c.in-Some.is c.in_default-row.not-Val c.in_default-row.not-Exception c.in_default-row.not-TypeRow
+    other_specification c.note_plain-in_default-row.result c.args.at.now c.note_plain-in_default-row.new.self c.args.scene.now c.args.scene.now c.args.item c.in-Some.node c.in-Some.is c.in_default-row.not-Val c.in_default-row.not-Exception c.in_default-row.not-TypeRow c.in_default-row.not-Gmodule
 
 pub type_specifications-loop-item-init : goal.type_specifications-loop-item-init
 type_specifications-loop-item-init t c = record {
@@ -105,3 +111,75 @@ type_specification-returns-in-Open-clause-adds t c =
 pub type_specification-returns-in-Include-clause-adds : goal.type_specification-returns-in-Include-clause-adds
 type_specification-returns-in-Include-clause-adds t c =
     other_is_none c.include_specification.result c.args.at.now c.include_specification.new.at c.args.scene.now c.include_specification.new.scene c.args.item c.in-Some.node c.in-Some.is (not_of (out-Node c.in-Some.node.now).row name.Include name.Val c.in-Include.is (λ e. absurd (cc)))
+
+pub type_parameters-loop-place-init : goal.type_parameters-loop-place-init
+type_parameters-loop-place-init t c = record { goes = goes_refl c.args.at.now; none = λ e. (c.new-taken.ensures.items, refl) }
+
+pub type_parameters-loop-place-preserved : goal.type_parameters-loop-place-preserved
+type_parameters-loop-place-preserved t c = record {
+  goes = goes_trans c.args.at.now c.read_module_type.new.at c.taken_as.new.at (goes_trans c.args.at.now c.loop-place.at c.read_module_type.new.at c.loop-place.invariant.goes c.read_module_type.ensures.goes) c.taken_as.ensures.goes;
+  none = λ e. absurd (let lt = c.loop-place-test.true in let zero : length c.args.types.now ≡ 0 = ap length e in omega arith);
+}
+
+pub type_parameters-returns-clause-goes : goal.type_parameters-returns-clause-goes
+type_parameters-returns-clause-goes t c = c.loop-place.invariant.goes
+
+pub type_parameters-returns-in_err-template-clause-goes : goal.type_parameters-returns-in_err-template-clause-goes
+type_parameters-returns-in_err-template-clause-goes t c = goes_trans c.args.at.now c.loop-place.at c.read_module_type.new.at c.loop-place.invariant.goes c.read_module_type.ensures.goes
+
+pub type_parameters-returns-in_err-parameter-clause-goes : goal.type_parameters-returns-in_err-parameter-clause-goes
+type_parameters-returns-in_err-parameter-clause-goes t c =
+    goes_trans c.args.at.now c.read_module_type.new.at c.taken_as.new.at (goes_trans c.args.at.now c.loop-place.at c.read_module_type.new.at c.loop-place.invariant.goes c.read_module_type.ensures.goes) c.taken_as.ensures.goes
+
+pub type_parameters-returns-in_err-env-2-clause-goes : goal.type_parameters-returns-in_err-env-2-clause-goes
+type_parameters-returns-in_err-env-2-clause-goes t c =
+    goes_trans c.args.at.now c.read_module_type.new.at c.taken_as.new.at (goes_trans c.args.at.now c.loop-place.at c.read_module_type.new.at c.loop-place.invariant.goes c.read_module_type.ensures.goes) c.taken_as.ensures.goes
+
+pub type_parameters-returns-in_err-push-clause-goes : goal.type_parameters-returns-in_err-push-clause-goes
+type_parameters-returns-in_err-push-clause-goes t c =
+    goes_trans c.args.at.now c.read_module_type.new.at c.taken_as.new.at (goes_trans c.args.at.now c.loop-place.at c.read_module_type.new.at c.loop-place.invariant.goes c.read_module_type.ensures.goes) c.taken_as.ensures.goes
+
+pub type_parameters-returns-clause-none : goal.type_parameters-returns-clause-none
+type_parameters-returns-clause-none t c = c.loop-place.invariant.none
+
+pub read_module_type-returns-in_default-clause-values : goal.read_module_type-returns-in_default-clause-values
+read_module_type-returns-in_default-clause-values t c = missing_structure c.unknown_type.result c.args.at.now c.note_plain.new.self c.args.env.now c.args.y c.in_default.is
+
+pub read_module_type-returns-in-Ypath-clause-values : goal.read_module_type-returns-in-Ypath-clause-values
+read_module_type-returns-in-Ypath-clause-values t c =
+    other_structure c.module_type_path.result c.args.at.now c.module_type_path.new.at c.args.env.now c.args.y c.in-Some.node c.in-Some.is (not_of (out-Node c.in-Some.node.now).row name.Ypath name.Ysig c.in-Ypath.is (λ e. absurd (cc)))
+
+pub read_module_type-returns-in_ok-kept-in-Ysig-clause-values : goal.read_module_type-returns-in_ok-kept-in-Ysig-clause-values
+read_module_type-returns-in_ok-kept-in-Ysig-clause-values t c =
+    let kept = c.in_ok-kept-in-Ysig.kept in
+    signature_read c.template_of.result c.args.at.now c.note_plain-in-Ysig.new.self c.type_specifications.new.at c.args.env.now c.args.y c.in-Some.node c.in_ok-items-in-Ysig.items.items kept c.in-Some.is c.in_ok-note_plain-in-Ysig.ensures.noted c.note_plain-in-Ysig.ensures.rest c.note_plain-in-Ysig.ensures.goes c.in_ok-items-in-Ysig.ensures
+    (subst (λ os. GivesAllAdded c.note_plain-in-Ysig.new.self c.type_specifications.new.at c.args.env.now (map operand_view os) (entries_of kept.components.items) kept.makes.items) c.deref.ensures.value c.in_ok-kept-in-Ysig.ensures.adds) c.template_of.ensures
+
+pub read_module_type-returns-in_ok-inside-in-Yparen-clause-values : goal.read_module_type-returns-in_ok-inside-in-Yparen-clause-values
+read_module_type-returns-in_ok-inside-in-Yparen-clause-values t c =
+    other_structure c.read_module_type.result c.args.at.now c.read_module_type.new.at c.args.env.now c.args.y c.in-Some.node c.in-Some.is (not_of (out-Node c.in-Some.node.now).row name.Yparen name.Ysig c.in-Yparen.is (λ e. absurd (cc)))
+
+pub read_module_type-returns-in_ok-clauses-in-Ywith-clause-values : goal.read_module_type-returns-in_ok-clauses-in-Ywith-clause-values
+read_module_type-returns-in_ok-clauses-in-Ywith-clause-values t c =
+    other_structure c.behind_clauses.result c.args.at.now c.behind_clauses.new.at c.args.env.now c.args.y c.in-Some.node c.in-Some.is (not_of (out-Node c.in-Some.node.now).row name.Ywith name.Ysig c.in-Ywith.is (λ e. absurd (cc)))
+
+pub read_module_type-returns-in_ok-body-in-Yfunctor-clause-values : goal.read_module_type-returns-in_ok-body-in-Yfunctor-clause-values
+read_module_type-returns-in_ok-body-in-Yfunctor-clause-values t c =
+    other_structure c.functor_template.result c.args.at.now c.read_module_type-in-Yfunctor.new.at c.args.env.now c.args.y c.in-Some.node c.in-Some.is (not_of (out-Node c.in-Some.node.now).row name.Yfunctor name.Ysig c.in-Yfunctor.is (λ e. absurd (cc)))
+
+pub read_module_type-returns-in_ok-note_plain-in_default-row : goal.read_module_type-returns-in_ok-note_plain-in_default-row
+read_module_type-returns-in_ok-note_plain-in_default-row t c = record {
+  values = other_structure c.unknown_type-in_default-row.result c.args.at.now c.note_plain-in_default-row.new.self c.args.env.now c.args.y c.in-Some.node c.in-Some.is c.in_default-row.not-Ysig;
+  goes = c.note_plain-in_default-row.ensures.goes;
+}
+
+pub type_specified-returns-clause-values : goal.type_specified-returns-clause-values
+type_specified-returns-clause-values t c =
+    module_read c.args.at.now c.type_parameters.new.at c.read_module_type.new.at c.specified.new.at c.args.env.now c.in_ok-inner.inner c.args.number (node_view c.args.node.now) c.in_ok-types.types.items c.in_ok-taken.taken.items c.operand_in.result c.in_ok-template.template.value c.in_ok-specified.field-0.sig.value
+    c.in_ok-types.ensures (λ e. c.in_ok-taken.ensures.none (c.deref-2.ensures.value ∙ e)) (c.in_ok-inner.ensures ∙ ap (λ ps. env_behind ps c.args.env.now) c.deref-4.ensures.value) c.operand_in.ensures c.in_ok-template.ensures.values
+    (λ none made. let o = c.in_ok-specified.ensures.own (c.deref-5.ensures.value ∙ none) made in (o.0.0, o.1))
+
+pub type_module_specification-returns-clause-carries : goal.type_module_specification-returns-clause-carries
+type_module_specification-returns-clause-carries t c =
+    always c.add_made.result (module_specified c.args.at.now c.ask_new.new.at c.type_specified.new.at c.add_named.new.at c.args.scene.now c.ask_new.new.self c.add_named.new.self c.add_made.new.self c.args.number (node_view c.args.node.now) c.token-name.result c.in_ok-made.made.sig (seen_values c.in_ok-made.seen.items)
+    c.token-name.ensures c.in_ok-ask_new.ensures.asked c.ask_new.ensures.rest c.ask_new.ensures.faults c.ask_new.ensures.goes c.in_ok-made.ensures.values c.in_ok-add_named.ensures.added c.add_named.ensures.names c.add_named.ensures.rest c.add_named.ensures.goes c.add_made.ensures.env c.add_made.ensures.names)

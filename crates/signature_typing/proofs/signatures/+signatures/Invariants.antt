@@ -1,4 +1,4 @@
-use Rattle.std.proofs.Common.{◌+◌, ◌*◌, drop, map}
+use Rattle.std.proofs.Common.{◌≡◌, ◌+◌, ◌*◌, [], drop, map}
 use Rattle.row_parts.specs.Numbered.{operand_view}
 use Rattle.typing_state.specs.Goes.{Goes}
 use Rattle.signature_typing.specs.Specifications.{SpecifiesItemsFirst}
@@ -25,7 +25,10 @@ abbrev pub decreases-type_parameters : goal.decreases-type_parameters
 decreases-type_parameters l = 10 * l.depth.0 + 2
 
 abbrev pub invariant-type_parameters-loop-place : goal.invariant-type_parameters-loop-place
-invariant-type_parameters-loop-place l = Goes l.fn.at l.at
+invariant-type_parameters-loop-place l = record {
+  goes : Goes l.fn.at l.at;
+  none : l.types ≡ [] → (l.taken.items ≡ []) × (l.at ≡ l.fn.at);
+}
 
 abbrev pub decreases-type_named : goal.decreases-type_named
 decreases-type_named l = 10 * l.depth.0 + 3

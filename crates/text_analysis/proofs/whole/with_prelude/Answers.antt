@@ -28,7 +28,7 @@ loop-item-preserved g c =
     prelude_next t c.saturating_add-number.result c.loop-item.invariant cut (c.saturating_add-number.ensures ∙ ap (behind c.loop-item.number) size) c.type_item.ensures.goes operand c.in_ok-type_item.ensures.specifies
 
 pub returns-clause-outside : goal.returns-clause-outside
-returns-clause-outside g c = λ carried new. prelude_ends c.loop-item.invariant (ap (map (λ n. node_view n.value)) (drop_all c.loop-item.item-index c.deref-item-items.result.now c.loop-item-test.false)) carried (fresh_new c.args.at.now new)
+returns-clause-outside g c = λ new. prelude_ends c.loop-item.invariant (ap (map (λ n. node_view n.value)) (drop_all c.loop-item.item-index c.deref-item-items.result.now c.loop-item-test.false)) (fresh_new c.args.at.now new)
 
 pub returns-clause-goes : goal.returns-clause-goes
 returns-clause-goes g c = goes_trans c.args.at.now c.loop-item.invariant.begun c.loop-item.at c.loop-item.invariant.before c.loop-item.invariant.goes
