@@ -1,2 +1,4 @@
 -- How many items an analysis types.
 pub mod Typed
+pub mod Faults
+pub mod Warnings

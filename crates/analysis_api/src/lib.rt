@@ -2,15 +2,19 @@
 //! It keeps nothing itself, and knows nothing of how types are found: the typer is one `Analyser`, and a session takes any.
 //! It is built on the tables that an analysis fills: the nodes of types, environments, and the records of a tree's nodes.
 //! The layer above may use the fields of an `Analysis`, and an `Analyser`: `refresh` says which trees it holds, and that each item
-//! is counted as typed but for those at the front that are as they were, and no others.
+//! is counted as typed but for those at the front that are as they were, and no others; `found` that items which can be typed have no faults, and which faults items of `let` have.
 #![tactic(auto)]
 
-ghost use Rattle.std.specs.Prelude.{◌≡◌, ℕ, List, [], ◌+◌, ◌-◌, ◌≤◌, length, IfOk, OnOk, OnErr};
+ghost use Rattle.std.specs.Prelude.{◌≡◌, ℕ, List, [], ◌+◌, ◌-◌, ◌≤◌, length, map, true, IfOk, OnOk, OnErr};
 ghost use Rattle.token_model.specs.Kinds.{Tok};
 ghost use Rattle.token_model.specs.Tokens.{Lex};
+ghost use Rattle.typing_model.specs.Typable.{AreTypable};
+ghost use Rattle.fault_model.specs.Refused.{standing, AreOfLets, AreRefused};
 ghost use Rattle.syntax_tree.specs.Tallies.{Grows};
 ghost use Rattle.syntax_tree.specs.View.{trees_of};
 ghost use Rattle.analysis_api.specs.Typed.{more_typed, GoesOn, LongestFront, SameFront};
+ghost use Rattle.analysis_api.specs.Faults.{typer_fault_of};
+ghost use Rattle.analysis_api.specs.Warnings.{are_warnings};
 
 use env_table::{Env, Faults, Seen};
 use std::alloc::Global;
@@ -48,16 +52,17 @@ pub trait Analyser: Drop {
     /// The bytes of the prelude.
     ghost opens: { List ℕ };
 
-    /// What every text has at hand, and no item. The prelude's tokens are counted, and no item.
+    /// What every text has at hand, and no item. The prelude's tokens are counted, each once, as lexed and as shifted, and no item.
     fn new<C: Counts>(alloc: Global, counts: &mut C) -> Result<Self, NoMemory>
         ensures items { IfOk result (λ a. items a ≡ []) }
         ensures lexed { (ts : List Tok) → Lex opens ts → (C.tallies counts.new).lexed ≤ (C.tallies counts.old).lexed + length ts }
+        ensures shifted { (ts : List Tok) → Lex opens ts → (C.tallies counts.new).shifted ≤ (C.tallies counts.old).shifted + length ts }
         ensures grows { Grows (C.tallies counts.old) (C.tallies counts.new) }
         ensures untyped { (C.tallies counts.new).typed ≡ (C.tallies counts.old).typed };
 
     /// Finds the types and names of a text with this tree. The items at the front that it holds already stay as they are, all of them,
     /// of which the caller knows the first `front`; each item after them is typed, and counted once. After `NoMemory` it holds those
-    /// that stay and some after them, which were typed, and can be asked again. It lexes nothing.
+    /// that stay and some after them, which were typed, and can be asked again. It lexes and parses nothing.
     fn refresh<C: Counts>(
         &mut self,
         tree: &Tree,
@@ -69,11 +74,15 @@ pub trait Analyser: Drop {
         ensures typed { OnOk result ((n : ℕ) × LongestFront (items self.old) (trees_of tree.now) n × ((C.tallies counts.new).typed ≡ more_typed (length tree.now.items.items - n) (C.tallies counts.old).typed)) }
         ensures failed { OnErr result (GoesOn (items self.old) (trees_of tree.now) (items self.new) (C.tallies counts.old).typed (C.tallies counts.new).typed) }
         ensures unlexed { (C.tallies counts.new).lexed ≡ (C.tallies counts.old).lexed }
+        ensures unshifted { (C.tallies counts.new).shifted ≡ (C.tallies counts.old).shifted }
         ensures grows { Grows (C.tallies counts.old) (C.tallies counts.new) };
 
-    /// What is found of the items that it holds, after a `refresh` that succeeded.
+    /// What is found of the items that it holds, after a `refresh` that succeeded. Of items that can be typed, which are `let` and `;;` alone,
+    /// these are warnings and no faults; and of items that are `let` and `;;` the faults are those of the demands that aren't kept, in order.
     fn found(&self) -> Analysis<'_>
-        ensures { finds self.now result };
+        ensures found { finds self.now result }
+        ensures silent { AreTypable (items self.now) → are_warnings result.faults.now.list.items ≡ true }
+        ensures refused { AreOfLets (items self.now) → ∥ AreRefused (items self.now) (standing (map typer_fault_of result.faults.now.list.items)) ∥₁ };
 
     /// The text of the prelude, whose names every text has at hand; its lines are counted from 1.
     fn prelude() -> &'static str

@@ -18,6 +18,7 @@ carried_alike {F} {scope} {asks} {others} {a} {b} {G} {H} same p = record {
   stays = p.stays;
   hidden = p.hidden;
   settled = p.settled;
+  clear = p.clear;
   judged = p.judged;
   told = p.told;
   reports = p.reports;

@@ -15,7 +15,7 @@ use Rattle.typing_conditions.specs.Sights.{Sight, Letters}
 use Rattle.typing_conditions.specs.Frames.{Frame}
 use Rattle.typing_conditions.specs.Carrying.{Scope, Stays, Carried, CarriedTo}
 use Rattle.typing_conditions.specs.Surroundings.{Surrounds}
-use Rattle.typing_conditions.proofs.Carried.{carried_refl, carried_trans, carried_as}
+use Rattle.typing_conditions.proofs.Carried.{carried_refl, carried_trans, carried_as, done_then, done_as, done_last}
 use Rattle.typing_conditions.proofs.Meaning.{means_on, means_more}
 use Rattle.typing_conditions.proofs.Stays.{stays_trans}
 use Rattle.typing_conditions.proofs.Surrounding.{surrounds_on}
@@ -44,7 +44,7 @@ matches_as a b d env p at added found wanted place matched goes asked = λ aloud
     let H = matched.opens ++ G in
     let y = asked (ap is_aloud goes.telling ∙ aloud) F scope H (site n k) (λ ch. ch.type_at p.node) t x.typed.means (means_on x.typed.carried.stays has) in
     let z = subst (λ l. Carried F scope (λ c. ask n k l (equal (type_at c p.node) (t c.chosen))) (sight b) H (sight d) H) (sym place) y in
-    record { own = matched.opens; carried = carried_trans x.typed.carried z; names = all_bound_on z.stays x.names }
+    record { own = matched.opens; carried = carried_trans x.typed.carried z; done = done_then x.typed.carried z x.done; names = all_bound_on z.stays x.names }
 
 -- no guard
 pub guard_none : (a : Parts) (env : List Entry) → TypesGuard a a env None
@@ -79,10 +79,14 @@ parts_typed a b d e env p guard body added matched bodies m first goes guarded g
     let names = surrounds_bound x.names (surrounds_on x.carried.stays s) in
     let y = guarded loud F (with_bound p.names scope) (x.own ++ G) n (k + 1) names in
     let z = typed (ap is_aloud goes'.telling ∙ loud) F (with_bound p.names scope) (x.own ++ G) n (k + 2) result (surrounds_on y.stays names) (means_if_on result bodies (stays_trans x.carried.stays y.stays) has) in
+    let guards = among_names x.names y in
+    let bodies_too = among_names x.names z.carried in
+    let front = carried_trans x.carried guards in
     record {
       own = x.own;
       carried = carried_as (λ c. sym (append_assoc (p.matched c [] ++ ask n k p.at (equal (type_at c p.node) (subject c.chosen)) ++ guard_asks (with_names c p.names) n (k + 1) guard) (body.typed (with_names c p.names)) (has_if_known c n (k + 2) body (type_by c.chosen result))))
-          (carried_trans (carried_trans x.carried (among_names x.names y)) (among_names x.names z.carried));
+          (carried_trans front bodies_too);
+      done = done_as _ (carried_trans front bodies_too) (done_then front bodies_too (done_then x.carried guards x.done));
       means = z.means;
     }
 
@@ -97,7 +101,7 @@ pub case_typed : (a b d : Parts) (env : List Entry) (number : ℕ) (x : Case) (m
 case_typed a b d env number x matched bodies m noted rest goes typed = λ aloud F scope G n k subject result s of_subject has.
     let y = plain_noted a b {F = F} {scope = scope} {G = G} number env x.node (λ c. c.env) noted rest in
     let z = typed (ap is_aloud goes.telling ∙ aloud) F scope G n k subject result (surrounds_on y.stays s) (means_on y.stays of_subject) (means_if_on result bodies y.stays has) in
-    record { own = z.own; carried = carried_as (λ c. case_as c n k (subject c.chosen) (type_by c.chosen result) x) (carried_trans y z.carried); means = z.means }
+    record { own = z.own; carried = carried_as (λ c. case_as c n k (subject c.chosen) (type_by c.chosen result) x) (carried_trans y z.carried); done = done_as _ (carried_trans y z.carried) (done_last y z.carried z.done); means = z.means }
 
 -- A case that is missing: its node is noted, and nothing is asked.
 pub missing_case : (a b : Parts) (number : ℕ) (env : List Entry) → NotedNameless a b number env None → OnlyIndex a b → (F : Frame) (scope : Scope) (G : Letters) → Carried F scope (λ c. []) (sight a) G (sight b) G

@@ -9,7 +9,7 @@ use Rattle.typing_state.specs.declared.parts.Parts.{Parts}
 use Rattle.typing_state.specs.Goes.{Goes, OnlyIndex}
 use Rattle.typing_state.specs.Notes.{NotedNameless}
 use Rattle.typing_conditions.specs.Steps.{OnlyReports}
-use Rattle.typing_conditions.proofs.Carried.{carried_trans}
+use Rattle.typing_conditions.proofs.Carried.{carried_trans, done_last}
 use Rattle.typing_conditions.proofs.Surrounding.{surrounds_on}
 use Rattle.typing_steps.specs.States.{is_aloud, sight}
 use Rattle.typing_steps.proofs.Still.{none_idle, carried_idle, state_still}
@@ -33,7 +33,7 @@ pub group_typed : (a b d : Parts) (env : List Entry) (is_rec : Bool) (xs : List 
 group_typed a b d env is_rec xs ys missing goes typed = λ aloud F scope G s.
     let p = missing F scope G in
     let q = typed (ap is_aloud goes.telling ∙ aloud) F scope G (surrounds_on p.stays s) in
-    record { own = q.own; carried = carried_trans p q.carried; typed = q.typed }
+    record { own = q.own; carried = carried_trans p q.carried; done = done_last p q.carried q.done; typed = q.typed }
 
 -- without `rec`, by the token of the row
 pub group_in_turn : (a b d : Parts) (env : List Entry) (o : Option Tok) (xs : List Binding) (ys : List TypedBinding) → o ≡ None → AsksNothing a b → Goes a b → TypesBindings b d env (λ c. bound_in_turn c [] xs) xs ys → TypesGroup a d env (is_some o) xs ys

@@ -33,7 +33,7 @@ use Rattle.typing_conditions.specs.Frames.{Frame, Reaches, IsHeld, IsOpenAt}
 use Rattle.typing_conditions.specs.Meanings.{AllMean, KnowsWritten}
 use Rattle.typing_conditions.specs.Carrying.{Asks, Carried}
 use Rattle.typing_conditions.specs.Surroundings.{Declared}
-use Rattle.typing_conditions.proofs.Carried.{carried_trans, carried_as}
+use Rattle.typing_conditions.proofs.Carried.{carried_trans, carried_as, as_hides, done_then}
 use Rattle.typing_conditions.proofs.Inward.{fixed_nodes, reached_inward, written_inward}
 use Rattle.typing_conditions.proofs.Meaning.{open_unbound, all_open}
 use Rattle.typing_conditions.proofs.Outward.{GoesOut}
@@ -44,9 +44,9 @@ use Rattle.binding_rows.proofs.Limits.{LimitsCarried}
 use Rattle.binding_rows.proofs.Closing.{limited_state, limits_asked, closed_out}
 use Rattle.binding_rows.proofs.Held.{limited_means, held_same, to_close_on, all_names_bound, bound_open, limit_shares, limited_open, nodes_none}
 use Rattle.pattern_rows.specs.Bounds.{AllBound}
-use Rattle.pattern_rows.proofs.Opened.{all_among, carried_kept, kept_copies}
-use Rattle.typing_conditions.specs.Hiding.{HasCopy}
-use Rattle.typing_conditions.proofs.Hiding.{split_get, copy_itself}
+use Rattle.typing_conditions.proofs.Keeping.{all_among, carried_kept, kept_copies}
+use Rattle.typing_conditions.specs.Hiding.{HasCopy, ArePlaced, AreDone, AreSure}
+use Rattle.typing_conditions.proofs.Hiding.{split_get, copy_itself, done_sure}
 use Rattle.binding_rows.specs.ItemGroups.{item_scope, ItemGroup}
 use Rattle.binding_rows.proofs.Starting.{in_either, fixed_none, own_start, item_roots, item_held, item_frame, group_frame, lowest, item_context, item_reached, goes_in, known_written, surrounds_item}
 use Rattle.binding_rows.proofs.Lets.{held_here}
@@ -99,15 +99,26 @@ module _ {D : Declared} {n : ℕ} {ts : List Tok} {E : Choice → Environment} {
   pub item_out : GoesOut F (sight x) (own_start l).0 (item_roots l) (item_held l) closed_nodes item_limited (sight d)
   item_out = closed_out l.close level (sight x) (own_start l).0 (item_roots l) (item_held l) limits_done.limited (λ m i. subst (λ ns. IsIn ns m) (held_here x.level (limit_variables limits) (λ k. [])) i) (bound_open item_bound)
 
+  -- what is asked inside the item, with the letters of the group open
+  item_open : Carried I (item_scope n ts E) asks y G item_limited item_letters
+  item_open = carried_as (λ c. append-nil (asks c)) (carried_trans item_group.carried limits_done.carried)
+
+  -- these are without doubt: their rows are done
+  item_sure : I.known ≡ true → ArePlaced item_limited → AreSure y item_limited item_open.hidden item_group.own
+  unfolding item_open carried_as item_group
+  item_sure known placed =
+      done_sure item_open.hidden item_open.settled placed (item_open.clear known placed)
+      (subst (λ hidden. AreDone item_limited hidden item_group.own) (sym (as_hides (λ c. append-nil (asks c)) (carried_trans item_group.carried limits_done.carried))) (done_then item_group.carried limits_done.carried item_group.done))
+
   -- what is asked inside the item is carried in the group's frame
   pub item_part : Carried I (item_scope n ts E) asks y G item_limited item_letters
-  item_part = carried_kept item_group.own item_group.own (all_among item_group.own) (carried_as (λ c. append-nil (asks c)) (carried_trans item_group.carried limits_done.carried))
+  item_part = carried_kept item_group.own item_group.own (all_among item_group.own) item_open item_sure
 
   -- the letters that are open then were so before, or are hidden too
   pub item_copies : (k : ℕ) (x : Key × ℕ) → slice_get item_letters k ≡ Some x → HasCopy G x ⊎ HasCopy item_part.hidden x
   unfolding item_part
   item_copies k x e = elim (split_get item_group.own G k x e) [
-    | inl r ↦ inr (kept_copies item_group.own item_group.own (all_among item_group.own) (carried_as (λ c. append-nil (asks c)) (carried_trans item_group.carried limits_done.carried)) r.0 x r.1)
+    | inl r ↦ inr (kept_copies item_group.own item_group.own (all_among item_group.own) item_open item_sure r.0 x r.1)
     | inr r ↦ inl (copy_itself G r.0 x r.1)
   ]
 

@@ -73,26 +73,26 @@ pub none_too : (seen : Seen) → seen_too seen no_names ≡ seen
 none_too seen = λ k. record { types = append-nil seen.types k; modules = append-nil seen.modules k; module_types = append-nil seen.module_types k }
 
 -- one item that names none
-idle_one : {E : Choice → Environment} {m : Item} {a b : Parts} {G : Letters} {after : List Entry} (seen : Seen) → ItemDone as_declared E m seen no_names a b G after → ItemsDone as_declared E (m ∷ []) seen seen a b G after
-idle_one {E} {m} {a} {b} {G} {after} seen done = subst (λ names. ItemsDone as_declared E (m ∷ []) seen names a b G after) (none_too seen) (done_one done)
+idle_one : {K : Type 0} {E : Choice → Environment} {m : Item} {a b : Parts} {G : Letters} {after : List Entry} (seen : Seen) → ItemDone as_declared K E m seen no_names a b G after → ItemsDone as_declared K E (m ∷ []) seen seen a b G after
+idle_one {K} {E} {m} {a} {b} {G} {after} seen done = subst (λ names. ItemsDone as_declared K E (m ∷ []) seen names a b G after) (none_too seen) (done_one done)
 
 -- A `let` at an operand is done; it names no type and no module.
 pub let_done : (a b : Parts) (env after : List Entry) (n : ℕ) (place : Place) (t : Tree) (G : Letters) (E : Choice → Environment) (seen : Seen) → IsItemNode n t → is_aloud a.telling ≡ true → (at : Outside as_declared (sight a) G env E) → HasConstants a → AreNoted at.older a → GivesLet a b env after n t →
-    ItemsDone as_declared E (item_at a.item (numbered n place (inner t))) seen seen a b G after
+    ItemsDone as_declared (at.known ≡ true) E (item_at a.item (numbered n place (inner t))) seen seen a b G after
 let_done a b env after n place t G E seen item aloud outside constants noted gives =
-    subst (λ ms. ItemsDone as_declared E ms seen seen a b G after) (sym (let_there a.item n place t item)) (idle_one seen (gives G E seen item aloud outside constants noted))
+    subst (λ ms. ItemsDone as_declared (outside.known ≡ true) E ms seen seen a b G after) (sym (let_there a.item n place t item)) (idle_one seen (gives G E seen item aloud outside constants noted))
 
 -- So is `;;`.
-pub idle_given : (a b : Parts) (env : List Entry) (n : ℕ) (place : Place) (t : Tree) (G : Letters) (E : Choice → Environment) (seen : Seen) → row_of t ≡ break_row → OnlyBetween (sight a) (sight b) → (at : Outside as_declared (sight a) G env E) → HasConstants b → AreNoted at.older b →
-    ItemsDone as_declared E (item_at a.item (numbered n place (inner t))) seen seen a b G env
-idle_given a b env n place t G E seen row only outside constants noted =
-    subst (λ ms. ItemsDone as_declared E ms seen seen a b G env) (sym (idle_there a.item n place t row)) (idle_one seen (idle_done (number_of a.item n) seen only outside constants noted))
+pub idle_given : {K : Type 0} (a b : Parts) (env : List Entry) (n : ℕ) (place : Place) (t : Tree) (G : Letters) (E : Choice → Environment) (seen : Seen) → row_of t ≡ break_row → OnlyBetween (sight a) (sight b) → (at : Outside as_declared (sight a) G env E) → HasConstants b → AreNoted at.older b → (K → at.known ≡ true) →
+    ItemsDone as_declared K E (item_at a.item (numbered n place (inner t))) seen seen a b G env
+idle_given {K} a b env n place t G E seen row only outside constants noted known =
+    subst (λ ms. ItemsDone as_declared K E ms seen seen a b G env) (sym (idle_there a.item n place t row)) (idle_one seen (idle_done (number_of a.item n) seen only outside constants noted known))
 
 -- And so is an exception.
 pub exception_done : (a b : Parts) (env after : List Entry) (n : ℕ) (place : Place) (t : Tree) (G : Letters) (E : Choice → Environment) (seen : Seen) → IsExceptionNode n t → is_aloud a.telling ≡ true → (at : Outside as_declared (sight a) G env E) → HasConstants a → AreNoted at.older a → GivesException a b env after n t →
-    ItemsDone as_declared E (item_at a.item (numbered n place (inner t))) seen seen a b G after
+    ItemsDone as_declared ⊥ E (item_at a.item (numbered n place (inner t))) seen seen a b G after
 exception_done a b env after n place t G E seen item aloud outside constants noted gives =
-    subst (λ ms. ItemsDone as_declared E ms seen seen a b G after) (sym (exception_there a.item n place t item)) (idle_one seen (gives G E seen item aloud outside constants noted))
+    subst (λ ms. ItemsDone as_declared ⊥ E ms seen seen a b G after) (sym (exception_there a.item n place t item)) (idle_one seen (gives G E seen item aloud outside constants noted))
 
 -- A node is recorded without a type, and the next item begins.
 pub noted_between : (a b : Parts) (number : ℕ) (env : List Entry) → NotedNameless a b number env None → OnlyIndex a b → OnlyBetween (sight a) (sight b)

@@ -1,5 +1,5 @@
 -- What is carried of items, one after the other.
-use Rattle.std.proofs.Common.{◌<◌, ◌≡◌, ◌∙◌, ◌⊎◌, inl, inr, ℕ, zero, suc, ◌+◌, ◌≤◌, true, List, [], ◌∷◌, ◌++◌, take, length, refl, sym, ap, subst, arith, append-nil}
+use Rattle.std.proofs.Common.{◌<◌, ◌≡◌, ◌∙◌, ◌⊎◌, inl, inr, ℕ, zero, suc, ◌+◌, ◌≤◌, true, List, [], ◌∷◌, ◌++◌, take, length, refl, sym, ap, subst, arith, append-nil, false}
 use Rattle.std.proofs.lemmas.List.{take-append-le}
 use Rattle.std.proofs.Math.Seq.{take-append-add}
 use Rattle.type_model.specs.Types.{Typ as type}
@@ -22,7 +22,7 @@ use Rattle.typing_conditions.proofs.Steps.{refines_none, refines_then}
 use Rattle.typing_conditions.specs.Sights.{Sight, Letters, AreGiven, AreNodes, SameAt}
 use Rattle.typing_conditions.specs.Judging.{Judgement, Meets, AreKept, Follows, judgements, StartsWith, FallsShort}
 use Rattle.typing_conditions.specs.Carrying.{Asks, AreHidden}
-use Rattle.typing_conditions.specs.Surroundings.{Declared, IsSteady}
+use Rattle.typing_conditions.specs.Surroundings.{Declared, IsSteady, KnowsNames}
 use Rattle.typing_conditions.proofs.Judged.{hold_both, hold_left, hold_right, judged_both, counted_both, kept_left, kept_right, tell_both, follows_both, short_left, short_right, starts_all, starts_left, starts_right, short_of_more, judged_kept}
 use Rattle.typing_conditions.proofs.Carried.{Decides, hidden_both, take_none, less_or_more}
 use Rattle.typing_conditions.proofs.First.{starts_none}
@@ -35,8 +35,8 @@ use Rattle.typing_steps.specs.Constants.{HasConstants}
 use Rattle.typing_rows.specs.Noted.{AreNoted}
 use Rattle.binding_rows.specs.ItemRows.{AreOwned, none_owned, leaves_none, leaves_types, leaves_one, ItemDone, ItemsDone, recorded_idle}
 use Rattle.binding_rows.specs.Outside.{AgreesOutside, AreMet, InEachMet, Outside, Left, letters_left, AreLeft, EntersItems, ReadsItems, ContinuesItems, StaysOutside, OnlyBetween, ItemsCarried}
-use Rattle.typing_conditions.specs.Hiding.{HasCopy, Settles}
-use Rattle.typing_conditions.proofs.Hiding.{copy_itself, copy_of, copy_first, copy_second, keeps_same, keeps_as, keeps_both, settles_none, settles_both, settles_as}
+use Rattle.typing_conditions.specs.Hiding.{HasCopy, NoneDoubtful, Settles}
+use Rattle.typing_conditions.proofs.Hiding.{none_doubtful, none_both, placed_before, copy_itself, copy_of, copy_first, copy_second, keeps_same, keeps_as, keeps_both, settles_none, settles_both, settles_as}
 
 -- what agrees with a state agreed before
 pub agrees_earlier : {a b : Sight} {G H : Letters} {V : Types} {ch : Choice} → StaysOutside a G b H → AgreesOutside b H V ch → AgreesOutside a G V ch
@@ -339,6 +339,8 @@ outside_between {D} {a} {b} {G} {env} {E} only at = record {
   steady = at.steady;
   context = λ J own. subst (IsContext b.nodes J at.roots) (sym only.level) (subst (λ ns. IsContext ns J at.roots a.level) (sym only.nodes) (at.context J (subst (λ ns. IsOwn ns J) only.nodes own)));
   covered = subst (λ ns. Covers (D.declaration ns at.roots at.names) (D.exception ns at.roots at.names) at.roots env) (sym only.nodes) at.covered;
+  known = at.known;
+  knows = λ known. subst (λ ns. KnowsNames D ns at.roots at.names env) (sym only.nodes) (at.knows known);
   reads = λ J V ch own reads g.
       subst (λ ns. Stands SchemeReads (D.declaration ns at.roots at.names) (D.exception ns at.roots at.names) ns J at.roots V env (E ch)) (sym only.nodes)
       (at.reads J V ch (subst (λ ns. IsOwn ns J) only.nodes own) (subst (λ ns. IsReading ns V) only.nodes reads) (agrees_earlier (stays_between only) g));
@@ -360,6 +362,8 @@ outside_none {D} {a} steady none sound level = record {
   steady = steady;
   context = λ J own. record { inside = λ k r e. absurd (cc); low = λ v l o h e free. absurd (no_yes h) };
   covered = ([], no_entries);
+  known = false;
+  knows = λ known. absurd (no_yes known);
   reads = λ J V ch own reads g. subst (Stands SchemeReads (D.declaration a.nodes [] type.Var) (D.exception a.nodes [] type.Var) a.nodes J [] V []) (sym (none ch)) (record { names = no_entries; brings = λ u w free h o. absurd (no_yes h) });
   fits = λ J V ch own loose g. subst (Stands SchemeFits (D.declaration a.nodes [] type.Var) (D.exception a.nodes [] type.Var) a.nodes J [] V []) (sym (none ch)) (record { names = no_entries; brings = λ u w free h o. absurd (no_yes h) });
 }
@@ -395,12 +399,17 @@ pub treated_owned : {E : Choice → Environment} {asks : Asks} {a b : Sight} {G 
 unfolding items_treated
 treated_owned n p h = h
 
+-- nor is any letter in doubt because of it
+pub treated_clear : {E : Choice → Environment} {asks : Asks} {a b : Sight} {G H : Letters} (n : ℕ) (p : ItemsCarried E asks a G b H) → NoneDoubtful (letters_left p.left) → NoneDoubtful (letters_left (items_treated n p).left)
+unfolding items_treated
+treated_clear n p h = h
+
 -- of no items nothing is asked
 pub items_none : {E : Choice → Environment} {a : Sight} {G : Letters} (seen : Seen) → ItemsCarried E (λ c. items_ask c seen []) a G a G
 items_none seen = items_between (record { nodes = refl; types = λ i p. refl; noted = λ i p h. h; reports = refl; aloud = refl; level = refl; fixed = refl })
 
 -- An item before others: the state after it, and what changes before the next one begins, are those at which the others start.
-pub items_more : {D : Declared} {E : Choice → Environment} {m : Item} {seen names : Seen} {a b : Parts} {c d : Sight} {G K : Letters} {after : List Entry} (ms : List Item) → IsSound a.store.nodes → (done : ItemDone D E m seen names a b G after) → OnlyBetween (sight b) c →
+pub items_more : {D : Declared} {L : Type 0} {E : Choice → Environment} {m : Item} {seen names : Seen} {a b : Parts} {c d : Sight} {G K : Letters} {after : List Entry} (ms : List Item) → IsSound a.store.nodes → (done : ItemDone D L E m seen names a b G after) → OnlyBetween (sight b) c →
     ItemsCarried done.env (λ x. items_ask x (seen_too seen names) ms) c done.letters d K → ItemsCarried E (λ x. items_ask x seen (m ∷ ms)) (sight a) G d K
 items_more {m = m} {seen = seen} ms sound done only more = items_trans (λ x. m.adds x ++ x.env) done.carried
     (λ V x env loose agrees met. record {
@@ -409,14 +418,16 @@ items_more {m = m} {seen = seen} ms sound done only more = items_trans (λ x. m.
     }) sound (items_then only more)
 
 -- an item is done where it was done from a state that differs only as between items
-unfoldable pub done_between : {D : Declared} {E : Choice → Environment} {m : Item} {seen names : Seen} {a b d : Parts} {G : Letters} {after : List Entry} → OnlyBetween (sight a) (sight b) → ItemDone D E m seen names b d G after → ItemDone D E m seen names a d G after
+unfoldable pub done_between : {D : Declared} {K : Type 0} {E : Choice → Environment} {m : Item} {seen names : Seen} {a b d : Parts} {G : Letters} {after : List Entry} → OnlyBetween (sight a) (sight b) → ItemDone D K E m seen names b d G after → ItemDone D K E m seen names a d G after
 unfolding items_then
 done_between only done = record {
   letters = done.letters;
   env = done.env;
   carried = items_then only done.carried;
   owners = done.owners;
+  clear = done.clear;
   outside = done.outside;
+  knows = done.knows;
   noted = done.noted;
   adds = done.adds;
   named = done.named;
@@ -424,14 +435,16 @@ done_between only done = record {
 }
 
 -- An item that asks nothing but that its node is treated, adds nothing and names nothing: `;;`.
-pub idle_done : {D : Declared} {E : Choice → Environment} {a b : Parts} {G : Letters} {env : List Entry} (n : ℕ) (seen : Seen) → OnlyBetween (sight a) (sight b) → (at : Outside D (sight a) G env E) → HasConstants b → AreNoted at.older b → ItemDone D E (recorded_idle n) seen no_names a b G env
+pub idle_done : {D : Declared} {K : Type 0} {E : Choice → Environment} {a b : Parts} {G : Letters} {env : List Entry} (n : ℕ) (seen : Seen) → OnlyBetween (sight a) (sight b) → (at : Outside D (sight a) G env E) → HasConstants b → AreNoted at.older b → (K → at.known ≡ true) → ItemDone D K E (recorded_idle n) seen no_names a b G env
 unfolding items_treated items_between outside_between
-idle_done {E = E} {G = G} n seen only at constants noted = record {
+idle_done {E = E} {G = G} n seen only at constants noted known = record {
   letters = G;
   env = E;
   carried = items_treated n (items_between only);
   owners = leaves_none none_owned;
+  clear = λ k placed. none_doubtful;
   outside = outside_between only at;
+  knows = known;
   noted = noted;
   adds = λ V c env loose agrees met. env;
   named = λ V c env loose agrees met. refl;
@@ -439,14 +452,16 @@ idle_done {E = E} {G = G} n seen only at constants noted = record {
 }
 
 -- Between items: none of them.
-unfoldable pub done_none : {D : Declared} {E : Choice → Environment} {a b : Parts} {G : Letters} {env : List Entry} (seen : Seen) → OnlyBetween (sight a) (sight b) → (at : Outside D (sight a) G env E) → HasConstants b → AreNoted at.older b → ItemsDone D E [] seen seen a b G env
+unfoldable pub done_none : {D : Declared} {K : Type 0} {E : Choice → Environment} {a b : Parts} {G : Letters} {env : List Entry} (seen : Seen) → OnlyBetween (sight a) (sight b) → (at : Outside D (sight a) G env E) → HasConstants b → AreNoted at.older b → (K → at.known ≡ true) → ItemsDone D K E [] seen seen a b G env
 unfolding items_between outside_between
-done_none {E = E} {G = G} seen only at constants noted = record {
+done_none {E = E} {G = G} seen only at constants noted known = record {
   letters = G;
   env = E;
   carried = items_between only;
   owners = none_owned;
+  clear = λ k placed. none_doubtful;
   outside = outside_between only at;
+  knows = known;
   noted = noted;
   behind = λ V c env loose agrees met. env;
   named = λ V c env loose agrees met. refl;
@@ -454,29 +469,49 @@ done_none {E = E} {G = G} seen only at constants noted = record {
 }
 
 -- Before the first of some items.
-unfoldable pub done_here : {D : Declared} {E : Choice → Environment} {a : Parts} {G : Letters} {env : List Entry} (seen : Seen) (at : Outside D (sight a) G env E) → HasConstants a → AreNoted at.older a → ItemsDone D E [] seen seen a a G env
+unfoldable pub done_here : {D : Declared} {K : Type 0} {E : Choice → Environment} {a : Parts} {G : Letters} {env : List Entry} (seen : Seen) (at : Outside D (sight a) G env E) → HasConstants a → AreNoted at.older a → (K → at.known ≡ true) → ItemsDone D K E [] seen seen a a G env
 unfolding items_none items_between
-done_here {E = E} {G = G} seen at constants noted = record {
+done_here {E = E} {G = G} seen at constants noted known = record {
   letters = G;
   env = E;
   carried = items_none seen;
   owners = none_owned;
+  clear = λ k placed. none_doubtful;
   outside = at;
+  knows = known;
   noted = noted;
   behind = λ V c env loose agrees met. env;
   named = λ V c env loose agrees met. refl;
   constants = constants;
 }
 
+-- What is known where something holds is known where what it follows from does.
+pub weaker : {D : Declared} {K L : Type 0} {E : Choice → Environment} {ms : List Item} {seen names : Seen} {a b : Parts} {G : Letters} {after : List Entry} → (L → K) → ItemsDone D K E ms seen names a b G after → ItemsDone D L E ms seen names a b G after
+weaker follows done = record {
+  letters = done.letters;
+  env = done.env;
+  carried = done.carried;
+  owners = done.owners;
+  clear = λ l. done.clear (follows l);
+  outside = done.outside;
+  knows = λ l. done.knows (follows l);
+  noted = done.noted;
+  behind = done.behind;
+  named = done.named;
+  constants = done.constants;
+}
+
 -- one item
-pub done_one : {D : Declared} {E : Choice → Environment} {m : Item} {seen names : Seen} {a b : Parts} {G : Letters} {after : List Entry} → ItemDone D E m seen names a b G after → ItemsDone D E (m ∷ []) seen (seen_too seen names) a b G after
+pub done_one : {D : Declared} {K : Type 0} {E : Choice → Environment} {m : Item} {seen names : Seen} {a b : Parts} {G : Letters} {after : List Entry} → ItemDone D K E m seen names a b G after → ItemsDone D K E (m ∷ []) seen (seen_too seen names) a b G after
 unfolding items_as
 done_one {m = m} {seen = seen} done = record {
   letters = done.letters;
   env = done.env;
   carried = items_as (λ x. sym (append-nil (m.asks x seen))) done.carried;
   owners = done.owners;
+  clear = done.clear;
   outside = done.outside;
+  knows = done.knows;
   noted = done.noted;
   behind = λ V c env loose agrees met. done.adds V c env loose agrees (record { kept = met.kept; holds = hold_left c.kept (m.asks c seen) [] met.holds });
   named = λ V c env loose agrees met. ap (seen_too seen) (done.named V c env loose agrees (record { kept = met.kept; holds = hold_left c.kept (m.asks c seen) [] met.holds }));
@@ -499,18 +534,18 @@ named_both c seen [] ns = refl
 named_both c seen (m ∷ ms) ns = named_both (under (m.adds c ++ c.env) c) (seen_too seen (m.named c)) ms ns
 
 -- The first items were met, and so are the others, in the context after them.
-record BothMet {D : Declared} {E : Choice → Environment} {ms ns : List Item} {seen names last : Seen} {a b c : Parts} {G : Letters} {mid after : List Entry} (p : ItemsDone D E ms seen names a b G mid) (q : ItemsDone D p.env ns names last b c p.letters after) (x : Context) : Type 0 where
+record BothMet {D : Declared} {K L : Type 0} {E : Choice → Environment} {ms ns : List Item} {seen names last : Seen} {a b c : Parts} {G : Letters} {mid after : List Entry} (p : ItemsDone D K E ms seen names a b G mid) (q : ItemsDone D L p.env ns names last b c p.letters after) (x : Context) : Type 0 where
   env : behind_items x ms ≡ p.env x.chosen
   named : seen_names x ms seen ≡ names
   first : AreMet x (items_ask x seen ms) p.carried.judged
   second : AreMet (under (behind_items x ms) x) (items_ask (under (behind_items x ms) x) names ns) q.carried.judged
 
 -- what is asked after items, where they are met
-asked_next : {D : Declared} {E : Choice → Environment} {ms : List Item} {seen names : Seen} {a b : Parts} {G : Letters} {mid : List Entry} (p : ItemsDone D E ms seen names a b G mid) (ns : List Item) →
+asked_next : {D : Declared} {K : Type 0} {E : Choice → Environment} {ms : List Item} {seen names : Seen} {a b : Parts} {G : Letters} {mid : List Entry} (p : ItemsDone D K E ms seen names a b G mid) (ns : List Item) →
     InEachMet E (λ x. items_ask x seen ms) (sight b) p.letters p.carried.judged (IsNext p.env (λ x. items_ask (under (behind_items x ms) x) (seen_names x ms seen) ns) (λ x. items_ask x names ns) (λ x. behind_items x ms))
 asked_next {ms = ms} p ns V x env loose agrees met = record { env = p.behind V x env loose agrees met; asks = ap (λ zs. items_ask (under (behind_items x ms) x) zs ns) (p.named V x env loose agrees met) }
 
-both_met : {D : Declared} {E : Choice → Environment} {ms ns : List Item} {seen names last : Seen} {a b c : Parts} {G : Letters} {mid after : List Entry} (p : ItemsDone D E ms seen names a b G mid) (q : ItemsDone D p.env ns names last b c p.letters after) →
+both_met : {D : Declared} {K L : Type 0} {E : Choice → Environment} {ms ns : List Item} {seen names last : Seen} {a b c : Parts} {G : Letters} {mid after : List Entry} (p : ItemsDone D K E ms seen names a b G mid) (q : ItemsDone D L p.env ns names last b c p.letters after) →
     InEachMet E (λ x. items_ask x seen (ms ++ ns)) (sight c) q.letters (p.carried.judged ++ q.carried.judged) (BothMet p q)
 both_met {ms = ms} {ns = ns} {seen = seen} p q V x env loose agrees met =
     let held = subst (AllHold x.kept) (sym (asked_both x seen ms ns)) met.holds in
@@ -534,15 +569,17 @@ owned_both (leaves_types declared p) q = leaves_types declared (owned_both p q)
 owned_both (leaves_one owner fixed p) q = leaves_one owner fixed (owned_both p q)
 
 -- Items after others.
-pub done_then : {D : Declared} {E : Choice → Environment} {ms ns : List Item} {seen names last : Seen} {a b c : Parts} {G : Letters} {mid after : List Entry} → IsSound a.store.nodes → (p : ItemsDone D E ms seen names a b G mid) → ItemsDone D p.env ns names last b c p.letters after →
-    ItemsDone D E (ms ++ ns) seen last a c G after
+pub done_then : {D : Declared} {K L M : Type 0} {E : Choice → Environment} {ms ns : List Item} {seen names last : Seen} {a b c : Parts} {G : Letters} {mid after : List Entry} → IsSound a.store.nodes → (p : ItemsDone D K E ms seen names a b G mid) → ItemsDone D L p.env ns names last b c p.letters after →
+    (M → K) → (M → L) → ItemsDone D M E (ms ++ ns) seen last a c G after
 unfolding items_as items_trans
-done_then {E = E} {ms = ms} {ns = ns} {seen = seen} {names = names} sound p q = record {
+done_then {E = E} {ms = ms} {ns = ns} {seen = seen} {names = names} sound p q first second = record {
   letters = q.letters;
   env = q.env;
   carried = items_as (λ x. asked_both x seen ms ns) (items_trans (λ x. behind_items x ms) p.carried (asked_next p ns) sound q.carried);
   owners = owned_both p.owners q.owners;
+  clear = λ m placed. subst NoneDoubtful (sym (letters_both p.carried.left q.carried.left)) (none_both (letters_left p.carried.left) (letters_left q.carried.left) (p.clear (first m) (placed_before q.carried.stays.keeps placed)) (q.clear (second m) placed));
   outside = q.outside;
+  knows = λ m. q.knows (second m);
   noted = q.noted;
   behind = λ V x env loose agrees met. sym (behind_both x ms ns) ∙ (let n = both_met p q V x env loose agrees met in q.behind V (under (behind_items x ms) x) n.env loose agrees n.second);
   named = λ V x env loose agrees met. sym (named_both x seen ms ns) ∙ (let n = both_met p q V x env loose agrees met in ap (seen_names (under (behind_items x ms) x) ns) n.named ∙ q.named V (under (behind_items x ms) x) n.env loose agrees n.second);
@@ -550,26 +587,26 @@ done_then {E = E} {ms = ms} {ns = ns} {seen = seen} {names = names} sound p q = 
 }
 
 -- What holds of the names after the last of them holds of the names after all.
-pub then_outside : {D : Declared} {E : Choice → Environment} {ms ns : List Item} {seen names last : Seen} {a b c : Parts} {G : Letters} {mid after : List Entry} (sound : IsSound a.store.nodes) (p : ItemsDone D E ms seen names a b G mid) (q : ItemsDone D p.env ns names last b c p.letters after)
-    (P : (H : Letters) (E' : Choice → Environment) → Outside D (sight c) H after E' → Type 0) → P q.letters q.env q.outside → P (done_then sound p q).letters (done_then sound p q).env (done_then sound p q).outside
+pub then_outside : {D : Declared} {K L M : Type 0} {E : Choice → Environment} {ms ns : List Item} {seen names last : Seen} {a b c : Parts} {G : Letters} {mid after : List Entry} (sound : IsSound a.store.nodes) (p : ItemsDone D K E ms seen names a b G mid) (q : ItemsDone D L p.env ns names last b c p.letters after)
+    (first : M → K) (second : M → L) (P : (H : Letters) (E' : Choice → Environment) → Outside D (sight c) H after E' → Type 0) → P q.letters q.env q.outside → P (done_then sound p q first second).letters (done_then sound p q first second).env (done_then sound p q first second).outside
 unfolding done_then
-then_outside sound p q P h = h
+then_outside sound p q first second P h = h
 
 -- What holds in each context in which the first are met, and in the one after them in which the others are, holds where all are.
-pub then_each : {D : Declared} {E : Choice → Environment} {ms ns : List Item} {seen names last : Seen} {a b c : Parts} {G : Letters} {mid after : List Entry} (sound : IsSound a.store.nodes) (p : ItemsDone D E ms seen names a b G mid) (q : ItemsDone D p.env ns names last b c p.letters after)
-    {P Q R : Context → Type 0} → ((x : Context) → P x → Q (under (behind_items x ms) x) → R x) → InEachMet E (λ x. items_ask x seen ms) (sight b) p.letters p.carried.judged P → InEachMet p.env (λ x. items_ask x names ns) (sight c) q.letters q.carried.judged Q →
-    InEachMet E (λ x. items_ask x seen (ms ++ ns)) (sight c) (done_then sound p q).letters (done_then sound p q).carried.judged R
+pub then_each : {D : Declared} {K L M : Type 0} {E : Choice → Environment} {ms ns : List Item} {seen names last : Seen} {a b c : Parts} {G : Letters} {mid after : List Entry} (sound : IsSound a.store.nodes) (p : ItemsDone D K E ms seen names a b G mid) (q : ItemsDone D L p.env ns names last b c p.letters after)
+    (first : M → K) (second : M → L) {P Q R : Context → Type 0} → ((x : Context) → P x → Q (under (behind_items x ms) x) → R x) → InEachMet E (λ x. items_ask x seen ms) (sight b) p.letters p.carried.judged P → InEachMet p.env (λ x. items_ask x names ns) (sight c) q.letters q.carried.judged Q →
+    InEachMet E (λ x. items_ask x seen (ms ++ ns)) (sight c) (done_then sound p q first second).letters (done_then sound p q first second).carried.judged R
 unfolding items_as items_trans done_then
-then_each {ms = ms} sound p q {P} {Q} {R} gives one two V x env loose agrees met =
+then_each {ms = ms} sound p q first second {P} {Q} {R} gives one two V x env loose agrees met =
     let n = both_met p q V x env loose agrees met in
     gives x (one V x env (q.carried.stays.loose V loose) (agrees_earlier q.carried.stays agrees) n.first) (two V (under (behind_items x ms) x) n.env loose agrees n.second)
 
 -- The same of one item.
-pub one_outside : {D : Declared} {E : Choice → Environment} {m : Item} {seen names : Seen} {a b : Parts} {G : Letters} {after : List Entry} (done : ItemDone D E m seen names a b G after) (P : (H : Letters) (E' : Choice → Environment) → Outside D (sight b) H after E' → Type 0) → P done.letters done.env done.outside → P (done_one done).letters (done_one done).env (done_one done).outside
+pub one_outside : {D : Declared} {K : Type 0} {E : Choice → Environment} {m : Item} {seen names : Seen} {a b : Parts} {G : Letters} {after : List Entry} (done : ItemDone D K E m seen names a b G after) (P : (H : Letters) (E' : Choice → Environment) → Outside D (sight b) H after E' → Type 0) → P done.letters done.env done.outside → P (done_one done).letters (done_one done).env (done_one done).outside
 unfolding done_one
 one_outside done P h = h
 
-pub one_each : {D : Declared} {E : Choice → Environment} {m : Item} {seen names : Seen} {a b : Parts} {G : Letters} {after : List Entry} (done : ItemDone D E m seen names a b G after) {P : Context → Type 0} → InEachMet E (λ x. m.asks x seen) (sight b) done.letters done.carried.judged P →
+pub one_each : {D : Declared} {K : Type 0} {E : Choice → Environment} {m : Item} {seen names : Seen} {a b : Parts} {G : Letters} {after : List Entry} (done : ItemDone D K E m seen names a b G after) {P : Context → Type 0} → InEachMet E (λ x. m.asks x seen) (sight b) done.letters done.carried.judged P →
     InEachMet E (λ x. items_ask x seen (m ∷ [])) (sight b) (done_one done).letters (done_one done).carried.judged P
 unfolding items_as done_one
 one_each {m = m} {seen = seen} done each V x env loose agrees met = each V x env loose agrees (record { kept = met.kept; holds = hold_left x.kept (m.asks x seen) [] met.holds })

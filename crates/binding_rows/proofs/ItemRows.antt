@@ -31,7 +31,7 @@ use Rattle.typing_conditions.specs.Frames.{Frame}
 use Rattle.typing_conditions.specs.Meanings.{AllMean, none_mean, one_means}
 use Rattle.typing_conditions.specs.Carrying.{Asks, Scope, HoldsWritten, Carried}
 use Rattle.typing_conditions.specs.Surroundings.{Declared, context_of}
-use Rattle.typing_conditions.proofs.Carried.{carried_trans, carried_as}
+use Rattle.typing_conditions.proofs.Carried.{carried_trans, carried_as, done_as, done_then}
 use Rattle.typing_steps.specs.States.{is_aloud, written_in, sight}
 use Rattle.typing_steps.specs.Typing.{as_declared}
 use Rattle.typing_steps.specs.Constants.{HasConstants}
@@ -56,9 +56,9 @@ use Rattle.binding_rows.proofs.Scoped.{scopes_carried, inside_carried, scoped_le
 use Rattle.typing_rows.specs.Noted.{AreNoted}
 use Rattle.typing_rows.proofs.Noted.{noted_on}
 use Rattle.binding_rows.proofs.ItemClosing.{item_letters, item_typed, item_bound}
-use Rattle.binding_rows.proofs.Items.{among_group, item_stays, item_carried, item_owned}
-use Rattle.binding_rows.proofs.ItemsAfter.{outside_after, after_older}
-use Rattle.binding_rows.proofs.ItemOrders.{agrees_earlier, items_treated, treated_owned, outside_between, done_between}
+use Rattle.binding_rows.proofs.Items.{among_group, item_stays, item_carried, item_clear, item_owned}
+use Rattle.binding_rows.proofs.ItemsAfter.{outside_after, after_older, after_known}
+use Rattle.binding_rows.proofs.ItemOrders.{agrees_earlier, items_treated, treated_owned, treated_clear, outside_between, done_between}
 use Rattle.binding_rows.proofs.ItemTurns.{item_begins}
 use Rattle.binding_rows.proofs.Unwritten.{names_unwritten}
 use Rattle.binding_rows.proofs.Lets.{entries_same, held_chosen, level_raised, only_raised}
@@ -106,6 +106,7 @@ group_made {I = I} {scope = scope} {y = y} {G = G} {xs = xs} {ys = ys} a s n is_
     record {
       own = group.own;
       carried = carried_as (λ c. ap (λ cs. bindings_ask c is_rec xs ++ cs) (made_names (all_names_bound group.typed) n c)) (carried_trans group.carried scoped);
+      done = done_as (λ c. ap (λ cs. bindings_ask c is_rec xs ++ cs) (made_names (all_names_bound group.typed) n c)) (carried_trans group.carried scoped) (done_then group.carried scoped group.done);
       typed = to_close_on scoped.stays group.typed;
     }
 
@@ -136,13 +137,15 @@ item_term i n at t ts node =
 
 -- The `let` of an item: where faults are reported, what it asks is carried, and the next item starts among its names.
 pub item_row_of_node : (x d : Parts) (env after : List Entry) (n : ℕ) (t : Tree) (ts : List Tok) (G : Letters) (E : Choice → Environment) (seen : Seen) → IsItemNode n t → (h : TypesItem x d env after n t) → is_aloud x.telling ≡ true → (at : Outside as_declared (sight x) G env E) → HasConstants x → AreNoted at.older x →
-    ((z : Name) → (sight x).written z ≡ None) → HoldsWritten (item_scope (number_of x.item n) ts E) (sight d) → ItemDone as_declared E (recorded_let x.item ts n t) seen no_names x d G after
-item_row_of_node x d env after n t ts G E seen node h aloud at constants noted cleared named = subst (λ es. ItemDone as_declared E (recorded_let x.item ts n t) seen no_names x d G es) (sym (h.scope ∙ entries_added (names_closed h.bindings) env)) (record {
+    ((z : Name) → (sight x).written z ≡ None) → HoldsWritten (item_scope (number_of x.item n) ts E) (sight d) → ItemDone as_declared (at.known ≡ true) E (recorded_let x.item ts n t) seen no_names x d G after
+item_row_of_node x d env after n t ts G E seen node h aloud at constants noted cleared named = subst (λ es. ItemDone as_declared (at.known ≡ true) E (recorded_let x.item ts n t) seen no_names x d G es) (sym (h.scope ∙ entries_added (names_closed h.bindings) env)) (record {
   letters = item_letters group;
   env = env_after E (bindings_of x.item (operands_in n t 2)) h.bindings;
   carried = items_treated (number_of x.item n) (item_carried group);
   owners = treated_owned (number_of x.item n) (item_carried group) (item_owned group (recorded_let x.item ts n t) refl);
+  clear = λ known placed. treated_clear (number_of x.item n) (item_carried group) (item_clear group known placed);
   outside = outside_after group (names_unwritten x.item (operands_in n t 2));
+  knows = λ known. after_known group (names_unwritten x.item (operands_in n t 2)) ∙ known;
   noted = subst (λ U. AreNoted U d) (sym (after_older group (names_unwritten x.item (operands_in n t 2)))) (noted_on at.older noted h.goes);
   adds = λ V c same loose agrees met. item_adds group (is_some (token_in t 1)) V c same ((item_stays group).loose V loose) (agrees_earlier (item_stays group) agrees);
   named = λ V c same loose agrees met. refl;
@@ -182,5 +185,5 @@ let_given a b c d w env after n t notes goes same none typed own G E seen node a
     let only = item_begins a b c w notes same in
     let here : c.item ≡ a.item = ap (λ (p : Parts). p.item) same ∙ notes.rest.item in
     let goes' : Goes a c = subst (Goes a) (sym same) (written_goes a b w goes) in
-    done_between only (subst (λ i. ItemDone as_declared E (recorded_let i (yield_of t) n t) seen no_names c d G after) here
+    done_between only (subst (λ i. ItemDone as_declared (at.known ≡ true) E (recorded_let i (yield_of t) n t) seen no_names c d G after) here
     (item_row_of_node c d env after n t (yield_of t) G E seen node typed (only.aloud ∙ aloud) (outside_between only at) (constants_kept a c goes' constants) (noted_on at.older noted goes') (λ z. ap (λ (p : Parts). written_in p.written z) same ∙ none z) own))

@@ -1,5 +1,5 @@
 -- An item's `let` is carried from the state where it starts to the one after it.
-use Rattle.std.proofs.Common.{◌≡◌, ◌∙◌, inl, inr, ℕ, ◌≤◌, false, List, [], ◌∷◌, ◌++◌, length, Option, None, Some, refl, sym, ap, subst, append-nil, arith}
+use Rattle.std.proofs.Common.{◌≡◌, ◌∙◌, inl, inr, ℕ, ◌≤◌, false, List, [], ◌∷◌, ◌++◌, length, Option, None, Some, refl, sym, ap, subst, append-nil, arith, true}
 use Rattle.type_model.specs.Types.{occurs}
 use Rattle.signature_model.specs.Declarations.{Name}
 use Rattle.signature_model.specs.Entries.{Environment}
@@ -25,13 +25,13 @@ use Rattle.typing_steps.specs.States.{sight}
 use Rattle.binding_rows.specs.Closing.{Limit}
 use Rattle.binding_rows.specs.Decided.{IsAmong}
 use Rattle.binding_rows.specs.Lets.{ToClose}
-use Rattle.binding_rows.specs.Outside.{AgreesOutside, AreInside, Left, IsLeft, EntersItems, ReadsItems, StaysOutside, ItemsCarried}
+use Rattle.binding_rows.specs.Outside.{letters_left, AgreesOutside, AreInside, Left, IsLeft, EntersItems, ReadsItems, StaysOutside, ItemsCarried}
 use Rattle.binding_rows.specs.ItemRows.{AreOwned, none_owned, leaves_one}
 use Rattle.binding_rows.specs.ItemGroups.{item_scope, ItemGroup}
 use Rattle.binding_rows.proofs.Starting.{group_frame, goes_in, surrounds_item}
 use Rattle.binding_rows.proofs.ItemClosing.{closed_nodes, item_limited, item_letters, item_part, item_copies, item_written, item_closes, item_out, item_refines, after_reached, loose_before_close, still_bound}
-use Rattle.typing_conditions.specs.Hiding.{Settles}
-use Rattle.typing_conditions.proofs.Hiding.{copy_first, keeps_as, keeps_both, settles_as}
+use Rattle.typing_conditions.specs.Hiding.{ArePlaced, NoneDoubtful, Settles}
+use Rattle.typing_conditions.proofs.Hiding.{placed_before, copy_first, keeps_as, keeps_both, settles_as}
 
 module _ {D : Declared} {n : ℕ} {ts : List Tok} {E : Choice → Environment} {asks : Asks} {x : Parts} {y : Sight} {G : Letters} {s d : Parts} {env : List Entry} {xs : List Binding} {ys : List ToClose} {limits : List Limit} (l : ItemGroup D n ts E asks x y G s d env xs ys limits) where
   reads_before_close : (V : Types) → IsReading d.store.nodes V → IsReading (item_limited l).nodes V
@@ -172,6 +172,11 @@ module _ {D : Declared} {n : ℕ} {ts : List Tok} {E : Choice → Environment} {
     ];
     first = λ k V c e h. (item_part l).first named_there k V (inside_item n ts c) (enters_group V c e) h;
   }
+
+  -- Where all that is to be known of names is, no letter that is left is in doubt.
+  pub item_clear : l.at.known ≡ true → ArePlaced (sight d) → NoneDoubtful (letters_left item_carried.left)
+  unfolding item_carried
+  item_clear known placed = subst NoneDoubtful (sym (append-nil (item_part l).hidden)) ((item_part l).clear known (placed_before (keeps_as (item_out l).noted (item_out l).types) placed))
 
   -- It is the item's own that was left.
   pub item_owned : (m : Item) → n ≡ m.node → AreOwned (m ∷ []) item_carried.left

@@ -36,7 +36,7 @@ use Rattle.typing_conditions.specs.Sights.{Sight, Letters, Key, AreGiven, Agrees
 use Rattle.typing_conditions.specs.Sights as keys
 use Rattle.typing_conditions.specs.Frames.{Frame}
 use Rattle.typing_conditions.specs.Carrying.{Asks}
-use Rattle.typing_conditions.specs.Surroundings.{Declared, context_of}
+use Rattle.typing_conditions.specs.Surroundings.{Declared, HasOwnLabels, context_of}
 use Rattle.typing_conditions.proofs.Surrounding.{stands_declared, covers_declared}
 use Rattle.typing_steps.specs.States.{sight}
 use Rattle.binding_rows.specs.Closing.{Limit}
@@ -219,6 +219,15 @@ outside_after {D} {E = E} {x = x} {G = G} {d = d} {env = env} {xs = xs} {ys = ys
   context = λ K own. subst (IsContext d.store.nodes K (joined (closed_nodes l) l.at.roots)) (sym (after_reached l).level) (joined_low d.store.nodes K x.level (closed_nodes l) l.at.roots (names_low l look K own) (roots_low l look K own));
   covered = let own = own_of d.store.nodes l.close.sound in
       covers_declared (joined (closed_nodes l) l.at.roots) (more own.0 own.1) (more_exceptions own.0 own.1) (joined_covers (item_bound l) l.at.roots env (covers_declared l.at.roots (declared l look own.0 own.1) (excepted l look own.0 own.1) l.at.covered));
+  known = l.at.known;
+  knows = λ known.
+      let own = own_of d.store.nodes l.close.sound in
+      let names = l.at.knows known in
+      record {
+        plain = names.plain;
+        covered = covers_declared (joined (closed_nodes l) l.at.roots) (more_known own.0 own.1) (more_exceptions own.0 own.1)
+            (joined_covers (item_bound l) l.at.roots env (covers_declared l.at.roots (declared_known own.0 own.1) (excepted l look own.0 own.1) names.covered));
+      };
   reads = λ K V ch own reads g.
       stands_declared (more K own) (more_exceptions K own) (stands_names SchemeReads (D.declaration d.store.nodes l.at.roots l.at.names) (D.exception d.store.nodes l.at.roots l.at.names) d.store.nodes K V (generalised_in (E ch) (held_at ch xs ys)) (context_of ch) own
       (names_read l look K V ch own reads g) l.at.roots env (E ch) (old_reads l look K V ch own reads g));
@@ -230,6 +239,12 @@ outside_after {D} {E = E} {x = x} {G = G} {d = d} {env = env} {xs = xs} {ys = ys
     more : (K : Types) → IsOwn d.store.nodes K → (e : Declaration) (f : rules.Declaration) → D.declaration d.store.nodes l.at.roots l.at.names e f → D.declaration d.store.nodes (joined (closed_nodes l) l.at.roots) l.at.names e f
     more K own e f h = l.at.steady.declaration own (refines_none d.store.nodes K own) (joined_more (closed_nodes l) l.at.roots) h
 
+    more_known : (K : Types) → IsOwn d.store.nodes K → (e : Declaration) (f : rules.Declaration) → D.declaration d.store.nodes l.at.roots l.at.names e f × HasOwnLabels f → D.declaration d.store.nodes (joined (closed_nodes l) l.at.roots) l.at.names e f × HasOwnLabels f
+    more_known K own e f h = (more K own e f h.0, h.1)
+
+    declared_known : (K : Types) → IsOwn d.store.nodes K → (e : Declaration) (f : rules.Declaration) → D.declaration x.store.nodes l.at.roots l.at.names e f × HasOwnLabels f → D.declaration d.store.nodes l.at.roots l.at.names e f × HasOwnLabels f
+    declared_known K own e f h = (declared l look K own e f h.0, h.1)
+
     more_exceptions : (K : Types) → IsOwn d.store.nodes K → (c : Constructor) (o : Option Typ) → D.exception d.store.nodes l.at.roots l.at.names c o → D.exception d.store.nodes (joined (closed_nodes l) l.at.roots) l.at.names c o
     more_exceptions K own c o h = l.at.steady.exception own (refines_none d.store.nodes K own) (joined_more (closed_nodes l) l.at.roots) h
 
@@ -238,3 +253,9 @@ pub after_older : {D : Declared} {n : ℕ} {ts : List Tok} {E : Choice → Envir
     (outside_after l look).older ≡ l.at.older
 unfolding outside_after
 after_older l look = refl
+
+-- and as much is known of them
+pub after_known : {D : Declared} {n : ℕ} {ts : List Tok} {E : Choice → Environment} {asks : Asks} {x : Parts} {y : Sight} {G : Letters} {s d : Parts} {env : List Entry} {xs : List Binding} {ys : List ToClose} {limits : List Limit} (l : ItemGroup D n ts E asks x y G s d env xs ys limits) (look : NoneWritten (names_of_group xs)) →
+    (outside_after l look).known ≡ l.at.known
+unfolding outside_after
+after_known l look = refl

@@ -48,7 +48,7 @@ all_to_close (y ∷ ys) judged (one_typed {x = x} {xs = xs} h hs) = one_to_close
 
 -- so is a group that is typed
 pub types_to_close : (a b : Parts) (env : List Entry) (is_rec : Bool) (xs : List Binding) (ys : List ToClose) → ((c : Context) → IsAmong as_declared env c → map (λ (y : ToClose). y.general) ys ≡ verdicts c xs) → TypesGroup a b env is_rec xs (map typed_as ys) → TypesToClose a b env (λ c. bindings_ask c is_rec xs) xs ys
-types_to_close a b env is_rec xs ys judged typed = λ aloud F scope G s. let g = typed aloud F scope G s in record { own = g.own; carried = g.carried; typed = all_to_close ys judged g.typed }
+types_to_close a b env is_rec xs ys judged typed = λ aloud F scope G s. let g = typed aloud F scope G s in record { own = g.own; carried = g.carried; done = g.done; typed = all_to_close ys judged g.typed }
 
 -- names come into scope as their entries do
 pub entries_added : (ns : List Bind) (env : List Entry) → names_added ns env ≡ added (bind_entries ns) env

@@ -30,15 +30,16 @@ use Rattle.typing_conditions.specs.Meanings.{AllMean}
 use Rattle.typing_conditions.specs.Steps.{OnlyLevel}
 use Rattle.typing_conditions.specs.Carrying.{Asks, Scope, HoldsWritten, IsUnder, Carried, CarriedTo}
 use Rattle.typing_conditions.specs.Surroundings.{Declared, Surrounds, context_of, with_closed}
-use Rattle.typing_conditions.proofs.Answering.{then_to}
-use Rattle.typing_conditions.proofs.Carried.{carried_trans, carried_as, carried_under}
+use Rattle.typing_conditions.specs.Hiding.{AreDone}
+use Rattle.typing_conditions.proofs.Carried.{carried_trans, carried_as, carried_under, done_then, done_as}
 use Rattle.typing_conditions.proofs.Closed.{HasHeld, HoldsRest, surrounds_closed}
 use Rattle.typing_conditions.proofs.Inward.{fixed_nodes, agrees_as, surrounds_inward}
 use Rattle.typing_conditions.proofs.Meaning.{all_open, open_unbound}
-use Rattle.typing_conditions.proofs.Outward.{GoesOut, GroupTyped, inner_reached, open_outward, carried_out}
+use Rattle.typing_conditions.proofs.Outward.{GoesOut, GroupTyped, inner_reached, open_outward, carried_out, done_out}
 use Rattle.typing_conditions.proofs.Recording.{ends_same}
 use Rattle.typing_conditions.proofs.Stays.{agrees_before, named_before}
 use Rattle.typing_conditions.proofs.Surrounding.{surrounds_on}
+use Rattle.typing_conditions.proofs.Hiding.{owns_done}
 use Rattle.typing_steps.specs.States.{is_aloud, sight}
 use Rattle.typing_steps.specs.Typing.{RowCarried, TypesTo, TypesRow}
 use Rattle.pattern_rows.specs.Bounds.{Bind, AllBound, none_bound, one_bound}
@@ -182,6 +183,11 @@ module _ {D : Declared} {F : Frame} {scope : Scope} {asks : Asks} {x y : Sight} 
   pub group_closed : Carried F scope asks x G (sight d) letters
   group_closed = carried_out group_typed
 
+  -- and the rows of its letters are done
+  rows_closed : AreDone (sight d) group_closed.hidden group.own
+  unfolding group_closed group_typed
+  rows_closed = done_out group_typed (done_as (λ c. append-nil (asks c)) (carried_trans group.carried limits_done.carried) (done_then group.carried limits_done.carried group.done))
+
   -- the types that the definitions hold
   abbrev pub types : Choice → List Typ
   types = held_types F.owner scope.held xs ys
@@ -278,11 +284,17 @@ module _ {D : Declared} {F : Frame} {scope : Scope} {asks : Asks} {x y : Sight} 
       CarriedTo F (with_closed (names_of_group xs) types scope) body_asks (sight d) letters f letters type m) → CarriedTo F scope (λ c. asks c ++ body_asks (within_let c xs)) x G f letters type m
   let_closed {body_asks} body =
       let r = body surrounds_body in
-      then_to group_closed (record {
-        carried = carried_alike (λ V c loose u g named. let h = body_under V c loose u g named in ap body_asks (λ i. record c { env = sym h.env i; variables = sym h.variables i; held = sym h.held i }))
-            (carried_under body_context refl (λ c. (refl, refl)) (λ c u. record { env = refl; variables = refl; held = refl }) r.carried);
+      record {
+        carried = carried_trans group_closed (carried_alike (λ V c loose u g named. let h = body_under V c loose u g named in ap body_asks (λ i. record c { env = sym h.env i; variables = sym h.variables i; held = sym h.held i }))
+            (carried_under body_context refl (λ c. (refl, refl)) (λ c u. record { env = refl; variables = refl; held = refl }) r.carried));
         means = r.means;
-      })
+      }
+
+  -- the rows of the group's letters are done still
+  pub let_done : {body_asks : Asks} {f : Sight} {type : Choice → Typ} {m : ℕ} (body : Surrounds D F (sight d) letters (added (bind_entries (names_closed ys)) env) (with_closed (names_of_group xs) types scope) →
+      CarriedTo F (with_closed (names_of_group xs) types scope) body_asks (sight d) letters f letters type m) → AreDone f (let_closed body).carried.hidden group.own
+  unfolding let_closed
+  let_done body = done_then group_closed _ rows_closed
 
 -- The row of a `let` with a body: what its group and its body ask is carried, and its type is that of the body.
 pub let_typed : {D : Declared} {F : Frame} {scope : Scope} {x y : Sight} {G : Letters} {a d : Parts} {f : Sight} {env : List Entry} {xs : List Binding} {ys : List ToClose} {limits : List Limit} {m : ℕ} (n : ℕ) (at : Place) (is_rec : Bool) (e : Expression)
@@ -296,6 +308,7 @@ let_typed {xs = xs} n at is_rec e l body = record {
   ends = λ c. is_of c n (c.chosen.type_at e.node);
   all = λ c. refl;
   typed = let_closed l (body (letters l));
+  owns = λ known. owns_done (let_done l (body (letters l)));
   end = ends_same n (λ ch. ch.type_at e.node);
 }
 

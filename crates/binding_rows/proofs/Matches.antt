@@ -1,5 +1,5 @@
 -- The rows over cases: `match`, `try` and `function`.
-use Rattle.std.proofs.Common.{◌≡◌, ◌∙◌, ◌++◌, ℕ, List, [], ◌∷◌, Some, None, refl, sym, ap, subst, append_assoc}
+use Rattle.std.proofs.Common.{◌≡◌, ◌∙◌, ◌++◌, ℕ, List, [], ◌∷◌, Some, None, refl, sym, ap, subst, append_assoc, arith, append-nil, Option}
 use Rattle.tree_model.specs.Rows.{case_row, ematch_row, etry_row, efunction_row}
 use Rattle.tree_model.specs.Slots.{is_operand}
 use Rattle.tree_model.specs.Trees.{Place, Tree, inner, node}
@@ -16,12 +16,15 @@ use Rattle.type_nodes.specs.Changes.{Makes}
 use Rattle.env_table.specs.declared.entries.Entry.{Entry}
 use Rattle.typing_state.specs.declared.parts.Parts.{Parts}
 use Rattle.typing_state.specs.Goes.{Goes, OnlyStore}
-use Rattle.typing_conditions.specs.Sights.{letter}
-use Rattle.typing_conditions.specs.Carrying.{CarriedTo}
-use Rattle.typing_conditions.proofs.Answering.{then_to, then_made}
+use Rattle.typing_conditions.specs.Sights.{letter, Sight, Letters}
+use Rattle.typing_conditions.specs.Carrying.{CarriedTo, Scope}
+use Rattle.typing_conditions.specs.Hiding.{Owns}
+use Rattle.typing_conditions.specs.Frames.{Frame}
 use Rattle.typing_conditions.proofs.Meaning.{means_on, means_more}
 use Rattle.typing_conditions.proofs.Recording.{ends_same}
 use Rattle.typing_conditions.proofs.Surrounding.{surrounds_on}
+use Rattle.typing_conditions.proofs.Carried.{carried_trans, carried_as, owns_last, owns_then, owns_as}
+use Rattle.typing_conditions.proofs.Hiding.{below_none, below_more}
 use Rattle.typing_steps.specs.States.{is_aloud, sight}
 use Rattle.typing_steps.specs.Typing.{TypesTo, TypesAny, TypesRow}
 use Rattle.typing_steps.proofs.Making.{arrow_over}
@@ -31,7 +34,8 @@ use Rattle.operand_laws.proofs.Sorts.{first_expression_stands, pattern_stands, c
 use Rattle.typing_rows.specs.Asked.{row_expression}
 use Rattle.typing_rows.proofs.Terms.{one, as_row}
 use Rattle.typing_model.specs.Meanings as meanings
-use Rattle.binding_rows.specs.Cases.{case_of, cases_of, case_over, cases_from, bodies_type, result_type, TypesCases}
+use Rattle.binding_rows.specs.Cases.{case_of, cases_of, case_over, cases_from, bodies_type, result_type, TypesCases, CasesTo}
+use Rattle.pattern_rows.proofs.Opened.{grouped_to_hides}
 
 -- what cases ask where no type of the bodies is known
 cases_first : (c : Context) (n : ℕ) (subject : Typ) (xs : List Case) → cases_from c n 0 subject None xs ≡ cases_ask c n subject xs
@@ -42,6 +46,10 @@ cases_first c n subject (x ∷ xs) = refl
 result_first : (c : Context) (n : ℕ) (xs : List Case) → result_type n (bodies_type None xs) c.chosen ≡ first_body c n xs
 result_first c n [] = refl
 result_first c n (x ∷ xs) = refl
+
+-- the letters of cases alone
+cases_own : {F : Frame} {scope : Scope} {a b : Sight} {G : Letters} {n m : ℕ} {subject : Choice → Typ} {result : Option (Choice → Typ)} {xs : List Case} (y : CasesTo F scope a G b n subject result xs m) (k : ℕ) → Owns n k b y.typed.carried.hidden y.own
+cases_own {b = b} {n = n} y k = subst (Owns n k b y.typed.carried.hidden) (append-nil y.own) (y.owns k [] (below_none n 1))
 
 -- match e with p -> e
 pub match_typed : (a b d : Parts) (env : List Entry) (n : ℕ) (at : Place) (e : Expression) (xs : List Case) (ty m : ℕ) → TypesTo a b env (λ c. e.typed c) (λ ch. ch.type_at e.node) ty → Goes a b → TypesCases b d env xs ty None m →
@@ -55,7 +63,8 @@ match_typed a b d env n at e xs ty m first goes cases = λ aloud F scope G s.
       first = λ c. e.typed c ++ cases_from c n 0 (type_at c e.node) None xs;
       ends = λ c. is_of c n (result_type n (bodies_type None xs) c.chosen);
       all = λ c k. e.typed c ++ cases_first c n (type_at c e.node) xs k ++ is_of c n (result_first c n xs k);
-      typed = then_to x.carried y.typed;
+      typed = record { carried = carried_trans x.carried y.typed.carried; means = y.typed.means };
+      owns = λ all_known. owns_last x.carried y.typed.carried (cases_own y m);
       end = ends_same n (result_type n (bodies_type None xs));
     }
 
@@ -72,7 +81,8 @@ try_typed a b d env n at e xs ty m first goes cases = λ aloud F scope G s.
       first = λ c. e.typed c ++ later_cases c n 0 exn_type (type_at c e.node) xs;
       ends = λ c. is_of c n (type_at c e.node);
       all = λ c. refl;
-      typed = then_to x.carried y.typed;
+      typed = record { carried = carried_trans x.carried y.typed.carried; means = y.typed.means };
+      owns = λ all_known. owns_last x.carried y.typed.carried (cases_own y m);
       end = ends_same n (λ ch. ch.type_at e.node);
     }
 
@@ -84,13 +94,20 @@ function_typed a b d f env n at xs from to m any goes cases made rest = λ aloud
     let x = any F scope G (letter n 0) (λ t. tt) s.reached in
     let y = cases (ap is_aloud goes.telling ∙ aloud) F scope ((letter n 0, from) ∷ G) n (λ ch. ch.letter n 0) None (surrounds_on x.carried.stays s) x.means tt in
     let z = arrow_over d f {scope = scope} (means_on y.typed.carried.stays x.means) y.typed.means made rest in
+    let same = sym (append_assoc y.own ((letter n 0, from) ∷ []) G) in
+    let front = carried_trans x.carried y.typed.carried in
+    let both = carried_trans front z.carried in
+    let here : CarriedTo F scope (λ c. cases_from c n 0 (contexts.letter c n 0) None xs) (sight a) G (sight f) (y.own ++ ((letter n 0, from) ∷ G)) whole m =
+    record { carried = carried_as (λ c. append-nil (cases_from c n 0 (contexts.letter c n 0) None xs)) both; means = z.means } in
     record {
       own = y.own ++ (letter n 0, from) ∷ [];
       type = whole;
       first = λ c. cases_from c n 0 (contexts.letter c n 0) None xs;
       ends = λ c. is_of c n (whole c.chosen);
       all = λ c k. cases_first c n (contexts.letter c n 0) xs k ++ is_of c n (type.Arrow (contexts.letter c n 0) (result_first c n xs k));
-      typed = subst (λ H. CarriedTo F scope (λ c. cases_from c n 0 (contexts.letter c n 0) None xs) (sight a) G (sight f) H whole m) (sym (append_assoc y.own ((letter n 0, from) ∷ []) G)) (then_made (then_to x.carried y.typed).carried z);
+      typed = subst (λ H. CarriedTo F scope (λ c. cases_from c n 0 (contexts.letter c n 0) None xs) (sight a) G (sight f) H whole m) same here;
+      owns = λ all_known. subst (λ zs. Owns n m (sight f) zs (y.own ++ (letter n 0, from) ∷ [])) (sym (grouped_to_hides same here))
+          (owns_as _ both (owns_then front z.carried (owns_last x.carried y.typed.carried (y.owns m ((letter n 0, from) ∷ []) (below_more 0 1 from (omega arith) (omega arith) (below_none n 0))))));
       end = ends_same n whole;
     }
 

@@ -22,9 +22,10 @@ use Rattle.typing_conditions.specs.Meanings.{Means, AllMean, none_mean, one_mean
 use Rattle.typing_conditions.specs.Carrying.{Scope, Carried, CarriedTo}
 use Rattle.typing_conditions.specs.Surroundings.{Surrounds}
 use Rattle.typing_conditions.proofs.Recording.{ends_same}
-use Rattle.typing_conditions.proofs.Carried.{carried_refl, carried_trans, carried_as}
+use Rattle.typing_conditions.proofs.Carried.{carried_refl, carried_trans, carried_as, done_then, done_as, done_last}
 use Rattle.typing_conditions.proofs.Meaning.{means_on, all_mean_on, all_mean_more}
 use Rattle.typing_conditions.proofs.Surrounding.{surrounds_on}
+use Rattle.typing_conditions.proofs.Hiding.{done_none, done_both, owns_done}
 use Rattle.typing_steps.specs.States.{is_aloud, sight}
 use Rattle.typing_steps.specs.Typing.{as_declared, TypesTo, TypesRow}
 use Rattle.typing_steps.specs.Warning.{OnlyWarnings}
@@ -41,6 +42,7 @@ use Rattle.binding_rows.specs.CaseScopes.{with_bound, names_added}
 use Rattle.binding_rows.specs.Parameters.{TypesParameters, MatchesApartFirst, ParametersSoFar, arrows_by, MakesArrows}
 use Rattle.binding_rows.proofs.Scopes.{surrounds_bound, among_names, names_both, only_warned}
 use Rattle.binding_rows.proofs.Typed.{arrows_same}
+use Rattle.pattern_rows.proofs.Opened.{done_grouped}
 
 -- a parameter, and the warnings of its pattern
 pub parameter_typed : (a b d : Parts) (env : List Entry) (p : Pattern) (added : List Bind) (m : ℕ) → MatchesTo a b env p [] added m → OnlyWarnings b d → MatchesTo a d env p [] added m
@@ -51,6 +53,7 @@ parameter_typed a b d env p added m matched warned = record {
       let w = only_warned b d {F = F} {scope = scope} {G = matched.opens ++ G} warned in
       record {
         typed = record { carried = carried_as (λ c. append-nil (p.matched c [])) (carried_trans x.typed.carried w); means = means_on w.stays x.typed.means };
+        done = done_as _ (carried_trans x.typed.carried w) (done_then x.typed.carried w x.done);
         names = all_bound_on w.stays x.names;
       };
 }
@@ -66,6 +69,7 @@ parameters_none a env ps ms none = record {
     bounds = [];
     own = [];
     carried = carried_refl;
+    rows_done = done_none;
     means = subst (AllMean F (sight a) G []) (sym none) none_mean;
     names = none_bound;
     asks = λ c. refl;
@@ -88,6 +92,7 @@ apart_more a b d env all left rest p added more ms longer m split grown goes fir
       bounds = x.bounds ++ p.names;
       own = one.opens ++ x.own;
       carried = subst (λ H. Carried F scope (λ c. x.done c ++ p.matched c []) (sight a) G (sight d) H) same (carried_trans x.carried y.typed.carried);
+      rows_done = done_grouped same (carried_trans x.carried y.typed.carried) (done_both (done_last x.carried y.typed.carried y.done) (done_then x.carried y.typed.carried x.rows_done));
       means = subst (AllMean F (sight d) ((one.opens ++ x.own) ++ G) (x.types ++ type ∷ [])) (sym grown)
           (subst (λ H. AllMean F (sight d) H (x.types ++ type ∷ []) (ms ++ m ∷ [])) same (all_mean_more (all_mean_on y.typed.carried.stays x.means) y.typed.means));
       names = subst (λ H. AllBound F (sight d) H (x.bounds ++ p.names) (added ++ more)) same (all_bound_both (all_bound_on y.typed.carried.stays x.names) y.names);
@@ -115,6 +120,7 @@ parameters_all a b env inner all left ms none first = record {
       record {
         own = x.own;
         carried = carried_as (λ c. sym (append-nil (x.done c)) ∙ ap (λ ps. x.done c ++ matched_apart c ps) (sym none) ∙ sym (x.asks c)) x.carried;
+        done = done_as _ x.carried x.rows_done;
         means = subst (λ ts. AllMean F (sight b) (x.own ++ G) ts ms) (sym (append-nil x.types) ∙ ap (λ ps. x.types ++ types_at ps) (sym none) ∙ sym x.gives) x.means;
         names = subst (λ bs. AllBound F (sight b) (x.own ++ G) bs first.added) (sym (append-nil x.bounds) ∙ ap (λ ps. x.bounds ++ all_names ps) (sym none) ∙ sym x.binds) x.names;
       };
@@ -147,7 +153,8 @@ fun_typed a b d f env inner n at ps e ms to m parameters goes body made = λ alo
     let names = subst (λ q. Surrounds as_declared F (sight b) (x.own ++ G) q (with_bound (all_names ps) scope)) (sym parameters.scope) (surrounds_bound x.names (surrounds_on x.carried.stays s)) in
     let y = body (ap is_aloud goes.telling ∙ aloud) F (with_bound (all_names ps) scope) (x.own ++ G) names in
     let z = made F scope (x.own ++ G) (types_at ps) (λ ch. ch.type_at e.node) (all_mean_on y.carried.stays x.means) y.means in
-    let front = carried_trans x.carried (among_names x.names y.carried) in
+    let bodies = among_names x.names y.carried in
+    let front = carried_trans x.carried bodies in
     let whole = carried_as (λ c. append-nil (matched_apart c ps ++ e.typed (with_names c (all_names ps)))) (carried_trans front z.carried) in
     record {
       own = x.own;
@@ -156,6 +163,7 @@ fun_typed a b d f env inner n at ps e ms to m parameters goes body made = λ alo
       ends = λ c. is_of c n (arrows_by (types_at ps) (λ ch. ch.type_at e.node) c.chosen);
       all = λ c. ap (λ t. matched_apart c ps ++ e.typed (with_names c (all_names ps)) ++ is_of c n t) (arrows_same c ps (λ ch. ch.type_at e.node));
       typed = record { carried = whole; means = z.means };
+      owns = λ all_known. owns_done (done_as _ (carried_trans front z.carried) (done_then front z.carried (done_then x.carried bodies x.done)));
       end = ends_same n (arrows_by (types_at ps) (λ ch. ch.type_at e.node));
     }
 

@@ -16,10 +16,12 @@ use Rattle.typing_conditions.specs.Frames.{Frame}
 use Rattle.typing_conditions.specs.Meanings.{Means, AllMean}
 use Rattle.typing_conditions.specs.Carrying.{Scope, Carried, CarriedTo}
 use Rattle.typing_conditions.specs.Surroundings.{Surrounds}
+use Rattle.typing_conditions.specs.Hiding.{AreDone}
 use Rattle.typing_conditions.proofs.Answering.{then_to, then_made}
-use Rattle.typing_conditions.proofs.Carried.{carried_refl, carried_trans, carried_as}
+use Rattle.typing_conditions.proofs.Carried.{carried_refl, carried_trans, carried_as, done_then, done_as, done_last}
 use Rattle.typing_conditions.proofs.Meaning.{means_on, all_mean_on}
 use Rattle.typing_conditions.proofs.Surrounding.{surrounds_on}
+use Rattle.typing_conditions.proofs.Hiding.{done_none, done_both}
 use Rattle.typing_steps.specs.States.{is_aloud, sight}
 use Rattle.typing_steps.specs.Typing.{as_declared, TypesTo, AsksEqual}
 use Rattle.typing_steps.proofs.Still.{plain_noted}
@@ -32,14 +34,15 @@ use Rattle.binding_rows.specs.Parameters.{TypesParameters, arrows_by, MakesArrow
 use Rattle.binding_rows.proofs.Scopes.{surrounds_bound, among_names}
 use Rattle.binding_rows.proofs.Cases.{means_if_on}
 use Rattle.binding_rows.specs.Rights.{written_by, right_by, right_parts_ask, has_written, ReadsAnnotation, MakesWhole, TypesRightBody, TypesRightParts, TypesRight}
+use Rattle.pattern_rows.proofs.Opened.{grouped_to_hides}
 
 -- no type is written
 pub annotation_none : (a : Parts) (env : List Entry) → ReadsAnnotation a a env None None
-annotation_none a env = λ aloud F scope G s. record { own = []; carried = carried_refl; means = tt }
+annotation_none a env = λ aloud F scope G s. record { own = []; carried = carried_refl; done = done_none; means = tt }
 
 -- a type is written
 pub annotation_some : (a b : Parts) (env : List Entry) (w : TypeExpression) (m : ℕ) → ReadsTo a b env (λ c. w.read c) w.node m → ReadsAnnotation a b env (Some w) (Some m)
-annotation_some a b env w m read = λ aloud F scope G s. let x = read aloud F scope G s in record { own = (own w.node, m) ∷ []; carried = x.carried; means = x.means }
+annotation_some a b env w m read = λ aloud F scope G s. let x = read aloud F scope G s in record { own = (own w.node, m) ∷ []; carried = x.carried; done = x.done; means = x.means }
 
 -- without a written type the binding's type is over that of the body
 pub whole_plain : (a b : Parts) (e : Expression) (ms : List ℕ) (right m : ℕ) → MakesArrows a b ms right m → MakesWhole a b e None ms right m
@@ -84,12 +87,16 @@ right_typed a b d f env inner ps o e ms written right m parameters goes annotati
     let names = subst (λ q. Surrounds as_declared F (sight d) H q (with_bound (all_names ps) scope)) (sym parameters.scope) (surrounds_bound bound here) in
     let z = body (ap is_aloud goes'.telling ∙ loud) F (with_bound (all_names ps) scope) H n o (types_at ps) names y.means (all_mean_on y.carried.stays x.means) in
     let w : Carried F scope (λ c. e.typed (with_names c (all_names ps)) ++ has_written c.chosen n e o) (sight d) H (sight f) H = among_names bound z.typed.carried in
+    let front = carried_trans x.carried y.carried in
+    let both = carried_trans front w in
+    let here : CarriedTo F scope (λ c. right_parts_ask c n ps o e) (sight a) G (sight f) H (arrows_by (types_at ps) (right_by o e)) m = record {
+      carried = carried_as (λ c. sym (append_assoc (matched_apart c ps ++ read_annotation c o) (e.typed (with_names c (all_names ps))) (has_written c.chosen n e o))) both;
+      means = z.typed.means;
+    } in
     record {
       own = y.own ++ x.own;
-      typed = subst (λ K. CarriedTo F scope (λ c. right_parts_ask c n ps o e) (sight a) G (sight f) K (arrows_by (types_at ps) (right_by o e)) m) same (record {
-        carried = carried_as (λ c. sym (append_assoc (matched_apart c ps ++ read_annotation c o) (e.typed (with_names c (all_names ps))) (has_written c.chosen n e o))) (carried_trans (carried_trans x.carried y.carried) w);
-        means = z.typed.means;
-      });
+      typed = subst (λ K. CarriedTo F scope (λ c. right_parts_ask c n ps o e) (sight a) G (sight f) K (arrows_by (types_at ps) (right_by o e)) m) same here;
+      done = subst (λ zs. AreDone (sight f) zs (y.own ++ x.own)) (sym (grouped_to_hides same here)) (done_as _ both (done_then front w (done_both (done_last x.carried y.carried y.done) (done_then x.carried y.carried x.done))));
       right_means = subst (λ K. Means F (sight f) K (λ ch. ch.type_at e.node) right) same z.right_means;
     }
 
@@ -108,6 +115,7 @@ right_of_parts a b env x right m typed = λ aloud F scope G s.
         carried = carried_as (λ c. ap (λ cs. matched_apart c x.parameters ++ read_annotation c x.annotation ++ x.body.typed (with_names c (all_names x.parameters)) ++ cs) (has_same c x x.annotation)) y.typed.carried;
         means = y.typed.means;
       };
+      done = done_as _ y.typed.carried y.done;
       right_means = y.right_means;
     }
 
@@ -117,4 +125,4 @@ pub right_recorded : (a b d : Parts) (env : List Entry) (number : ℕ) (x : Bind
 right_recorded a b d env number x right m noted rest goes typed = λ aloud F scope G s.
     let y = plain_noted a b {F = F} {scope = scope} {G = G} number env x.node (λ c. c.env) noted rest in
     let z = typed (ap is_aloud goes.telling ∙ aloud) F scope G (surrounds_on y.stays s) in
-    record { own = z.own; typed = then_to y z.typed; right_means = z.right_means }
+    record { own = z.own; typed = record { carried = carried_trans y z.typed.carried; means = z.typed.means }; done = done_last y z.typed.carried z.done; right_means = z.right_means }

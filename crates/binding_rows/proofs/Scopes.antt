@@ -1,5 +1,5 @@
 -- Parts that are typed among the names of patterns, and calls after which nothing is asked.
-use Rattle.std.proofs.Common.{◌≡◌, ◌++◌, List, [], ◌∷◌, refl}
+use Rattle.std.proofs.Common.{◌≡◌, ◌++◌, List, [], ◌∷◌, refl, subst, sym}
 use Rattle.signature_model.specs.Declarations.{in_text}
 use Rattle.signature_model.specs.Entries.{Environment, entry, a_value}
 use Rattle.typing_model.specs.Contexts.{Context, Bound, monomorphic, entries_with, with_names}
@@ -9,7 +9,8 @@ use Rattle.typing_conditions.specs.Sights.{Sight, Letters}
 use Rattle.typing_conditions.specs.Frames.{Frame}
 use Rattle.typing_conditions.specs.Carrying.{Asks, Scope, Carried}
 use Rattle.typing_conditions.specs.Surroundings.{Declared, Surrounds, context_of}
-use Rattle.typing_conditions.proofs.Carried.{carried_under}
+use Rattle.typing_conditions.specs.Hiding.{AreDone}
+use Rattle.typing_conditions.proofs.Carried.{carried_under, under_hides}
 use Rattle.typing_conditions.proofs.Surrounding.{surrounds_named}
 use Rattle.typing_steps.specs.States.{sight}
 use Rattle.typing_steps.specs.Warning.{OnlyWarnings}
@@ -34,6 +35,11 @@ names_same (one_bound {x = x} h hs) c E E' e =
 pub among_names : {F : Frame} {scope : Scope} {asks : Asks} {a b d : Sight} {G H K : Letters} {bs : List Bound} {ys : List Bind} → AllBound F d K bs ys → Carried F (with_bound bs scope) asks a G b H → Carried F scope (λ c. asks (with_names c bs)) a G b H
 among_names {scope = scope} {bs = bs} bound p =
     carried_under (λ c. with_names c bs) refl (λ c. (refl, refl)) (λ c u. record { env = names_same bound c c.env (scope.env c.chosen) u.env; variables = u.variables; held = u.held }) p
+
+-- and it hides the same: the rows of letters are done as they were
+pub done_among : {F : Frame} (scope : Scope) {asks : Asks} {a b d : Sight} {G H K own : Letters} {bs : List Bound} {ys : List Bind} (bound : AllBound F d K bs ys) (p : Carried F (with_bound bs scope) asks a G b H) → AreDone b p.hidden own → AreDone b (among_names {scope = scope} bound p).hidden own
+unfolding among_names
+done_among scope {b = b} {own = own} bound p h = subst (λ xs. AreDone b xs own) (sym (under_hides _ _ _ _ p)) h
 
 -- some names, and then others
 pub names_both : (ys zs : List Bind) (env : List Entry) → names_added (ys ++ zs) env ≡ names_added zs (names_added ys env)

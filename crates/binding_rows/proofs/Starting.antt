@@ -24,7 +24,7 @@ use Rattle.typing_conditions.specs.Sights.{Sight, Letters, Agrees}
 use Rattle.typing_conditions.specs.Frames.{Frame, Reaches, IsRoot, inner_frame, GoesIn}
 use Rattle.typing_conditions.specs.Meanings.{KnowsFixed, KnowsWritten}
 use Rattle.typing_conditions.specs.Carrying.{Asks}
-use Rattle.typing_conditions.specs.Surroundings.{Declared, Surrounds}
+use Rattle.typing_conditions.specs.Surroundings.{Declared, KnowsNames, Surrounds}
 use Rattle.typing_conditions.proofs.Framing.{reached_start}
 use Rattle.typing_conditions.proofs.Inward.{fixed_nodes, reached_inward, root_inward, written_inward, fixed_inward}
 use Rattle.typing_steps.specs.States.{sight}
@@ -85,7 +85,7 @@ module _ {D : Declared} {n : ℕ} {ts : List Tok} {E : Choice → Environment} {
 
   -- the item's own frame, at the lowest level; the type variables in it are those of the item's node
   abbrev pub item_frame : Frame
-  item_frame = record { start = x.store.nodes; types = own_start.0; roots = item_roots; held = λ k. []; level = x.level; owner = n }
+  item_frame = record { start = x.store.nodes; types = own_start.0; roots = item_roots; held = λ k. []; level = x.level; owner = n; known = l.at.known }
 
   -- and that of its group
   abbrev pub group_frame : Frame
@@ -159,6 +159,7 @@ module _ {D : Declared} {n : ℕ} {ts : List Tok} {E : Choice → Environment} {
     steady = l.at.steady;
     are_roots = λ k r e. let i = in_first l.at.roots (fixed_nodes (sight x).fixed) r (k, e) in root_inward goes_in l.only l.raised r i (item_root r i);
     covered = subst (λ ns. Covers (D.declaration ns l.at.roots l.at.names) (D.exception ns l.at.roots l.at.names) l.at.roots env) (sym l.only.nodes) l.at.covered;
+    known = λ known. subst (λ ns. KnowsNames D ns l.at.roots l.at.names env) (sym l.only.nodes) (l.at.knows known);
     reads = λ M V ch own reads g named unbound.
         subst (λ ns. Stands SchemeReads (D.declaration ns l.at.roots l.at.names) (D.exception ns l.at.roots l.at.names) ns M l.at.roots V env (E ch)) (sym l.only.nodes)
         (l.at.reads M V ch (subst (λ ns. IsOwn ns M) l.only.nodes own) (subst (λ ns. IsReading ns V) l.only.nodes reads) (agrees_before_item g));

@@ -13,9 +13,10 @@ use Rattle.typing_conditions.specs.Sights.{Sight, Letters}
 use Rattle.typing_conditions.specs.Frames.{Frame}
 use Rattle.typing_conditions.specs.Carrying.{Carried}
 use Rattle.typing_conditions.specs.Surroundings.{Surrounds}
-use Rattle.typing_conditions.proofs.Carried.{carried_refl, carried_trans, carried_as}
+use Rattle.typing_conditions.proofs.Carried.{carried_refl, carried_trans, carried_as, done_then, done_as, done_last}
 use Rattle.typing_conditions.proofs.Meaning.{means_on}
 use Rattle.typing_conditions.proofs.Surrounding.{surrounds_on}
+use Rattle.typing_conditions.proofs.Hiding.{done_none, done_both}
 use Rattle.typing_steps.specs.States.{is_aloud, sight}
 use Rattle.typing_steps.specs.Typing.{as_declared}
 use Rattle.typing_steps.proofs.Still.{plain_noted}
@@ -23,10 +24,11 @@ use Rattle.pattern_rows.specs.Bounds.{Bind}
 use Rattle.pattern_rows.specs.Contracts.{MatchesTo}
 use Rattle.pattern_rows.proofs.Naming.{all_bound_on}
 use Rattle.binding_rows.specs.CaseScopes.{with_bound, names_added}
-use Rattle.binding_rows.proofs.Scopes.{surrounds_bound, among_names, names_both}
+use Rattle.binding_rows.proofs.Scopes.{surrounds_bound, among_names, names_both, done_among}
 use Rattle.binding_rows.specs.Rights.{whole_by, TypesRight}
 use Rattle.binding_rows.specs.Groups.{TypedBinding, AllTyped, none_typed, OpenedBinding, IsOpened, AllOpened, none_opened, one_opened, names_opened, AsksWhole, TypesBindings, OpensBinding, OpenAdded, NoneAdded, OpensIf, OpensAll, OpensFirst, conclusion_asks, conclusions_ask, ConcludesBinding, ConcludesAll, ConcludesFirst}
 use Rattle.binding_rows.proofs.Typed.{all_typed_on, all_typed_more, all_opened_on, all_opened_more, opened_names, is_opened_on, whole_same}
+use Rattle.pattern_rows.proofs.Opened.{done_grouped}
 
 -- the pattern of a binding with its number
 pub open_typed : (a b d : Parts) (env : List Entry) (number : ℕ) (x : Binding) (seen : List Name) (added : List Bind) (found : ℕ) → NotedNameless a b number env None → OnlyIndex a b → Goes a b → MatchesTo b d env x.pattern seen added found →
@@ -34,7 +36,7 @@ pub open_typed : (a b d : Parts) (env : List Entry) (number : ℕ) (x : Binding)
 open_typed a b d env number x seen added found noted rest goes matched = λ aloud F scope G s.
     let p = plain_noted a b {F = F} {scope = scope} {G = G} number env x.node (λ c. c.env) noted rest in
     let q = matched.typed (ap is_aloud goes.telling ∙ aloud) F scope G (surrounds_on p.stays s) in
-    record { own = matched.opens; carried = carried_trans p q.typed.carried; opened = record { means = q.typed.means; names = q.names } }
+    record { own = matched.opens; carried = carried_trans p q.typed.carried; done = done_last p q.typed.carried q.done; opened = record { means = q.typed.means; names = q.names } }
 
 -- no pattern yet
 pub opens_none : (a : Parts) (env : List Entry) (all : List Binding) (now : List Name) (ys : List OpenedBinding) → now ≡ [] → ys ≡ [] → OpensFirst a a env all all now ys
@@ -43,6 +45,7 @@ opens_none a env all now ys unseen none = λ aloud F scope G s. record {
   first = [];
   own = [];
   carried = carried_refl;
+  rows_done = done_none;
   opened = subst (AllOpened F (sight a) G []) (sym none) none_opened;
   asks = λ c. ap (λ ns. patterns_first c ns all) (sym unseen);
   splits = refl;
@@ -60,6 +63,7 @@ opens_more a b d env all left rest x now then ys zs split goes first one = λ al
       first = p.first ++ x ∷ [];
       own = q.own ++ p.own;
       carried = subst (λ H. Carried F scope (λ c. p.done c ++ (tell x.node c ++ x.pattern.matched c now)) (sight a) G (sight d) H) same (carried_trans p.carried q.carried);
+      rows_done = done_grouped same (carried_trans p.carried q.carried) (done_both (done_last p.carried q.carried q.done) (done_then p.carried q.carried p.rows_done));
       opened = subst (λ us. AllOpened F (sight d) ((q.own ++ p.own) ++ G) (p.first ++ x ∷ []) us) (sym one.adds)
           (subst (λ H. AllOpened F (sight d) H (p.first ++ x ∷ []) (ys ++ one.one ∷ [])) same (all_opened_more (all_opened_on q.carried.stays p.opened) q.opened));
       asks = λ c.
@@ -88,6 +92,7 @@ opens_all a b env all left now ys none first = λ aloud F scope G s.
     record {
       own = p.own;
       carried = carried_as (λ c. sym (append-nil (p.done c)) ∙ ap (λ xs. p.done c ++ patterns_first c now xs) (sym none) ∙ sym (p.asks c)) p.carried;
+      done = done_as _ p.carried p.rows_done;
       opened = subst (λ xs. AllOpened F (sight b) (p.own ++ G) xs ys) (sym (append-nil p.first) ∙ ap (λ xs. p.first ++ xs) (sym none) ∙ sym p.splits) p.opened;
     }
 
@@ -111,7 +116,7 @@ conclusion_typed a b d env x o right whole typed goes asked = λ aloud F scope G
     let p = typed aloud F scope G s in
     let here = is_opened_on p.typed.carried.stays opened in
     let q = asked (ap is_aloud goes.telling ∙ aloud) F scope (p.own ++ G) x.node (whole_by x) here.means p.typed.means in
-    record { own = p.own; carried = carried_trans p.typed.carried q; typed = record { names = all_bound_on q.stays here.names; right = means_on q.stays p.right_means } }
+    record { own = p.own; carried = carried_trans p.typed.carried q; done = done_then p.typed.carried q p.done; typed = record { names = all_bound_on q.stays here.names; right = means_on q.stays p.right_means } }
 
 -- no right side yet
 pub concludes_none : (a : Parts) (env : List Entry) (all : List Binding) (os : List OpenedBinding) (ys : List TypedBinding) → ys ≡ [] → ConcludesFirst a a env all all os os ys
@@ -120,6 +125,7 @@ concludes_none a env all os ys none = λ aloud F scope G s opened. record {
   first = [];
   own = [];
   carried = carried_refl;
+  rows_done = done_none;
   opened = opened;
   typed = subst (AllTyped F (sight a) G []) (sym none) none_typed;
   asks = λ c. refl;
@@ -143,6 +149,7 @@ concludes_more a b d env all left rest x opened os others o ys zs y split split'
       first = p.first ++ x ∷ [];
       own = q.own ++ p.own;
       carried = subst (λ H. Carried F scope (λ c. p.done c ++ conclusion_asks c x) (sight a) G (sight d) H) same (carried_trans p.carried q.carried);
+      rows_done = done_grouped same (carried_trans p.carried q.carried) (done_both (done_last p.carried q.carried q.done) (done_then p.carried q.carried p.rows_done));
       opened = subst (λ H. AllOpened F (sight d) H rest others) same (all_opened_on q.carried.stays hs);
       typed = subst (λ us. AllTyped F (sight d) ((q.own ++ p.own) ++ G) (p.first ++ x ∷ []) us) (sym grown)
           (subst (λ H. AllTyped F (sight d) H (p.first ++ x ∷ []) (ys ++ y ∷ [])) same (all_typed_more (all_typed_on q.carried.stays p.typed) q.typed));
@@ -157,6 +164,7 @@ concludes_all a b env all left opened os ys none first = λ aloud F scope G s ar
     record {
       own = p.own;
       carried = carried_as (λ c. sym (append-nil (p.done c)) ∙ ap (λ xs. p.done c ++ conclusions_ask c xs) (sym none) ∙ sym (p.asks c)) p.carried;
+      done = done_as _ p.carried p.rows_done;
       typed = subst (λ xs. AllTyped F (sight b) (p.own ++ G) xs ys) (sym (append-nil p.first) ∙ ap (λ xs. p.first ++ xs) (sym none) ∙ sym p.splits) p.typed;
     }
 
@@ -175,10 +183,12 @@ together_typed a b d env inner xs os ys opens goes brought concludes = λ aloud 
     let q = concludes (ap is_aloud goes.telling ∙ aloud) F (with_bound (names_of_group xs) scope) (p.own ++ G) names p.opened in
     let w : Carried F scope (λ c. conclusions_ask (with_names c (names_of_group xs)) xs) (sight b) (p.own ++ G) (sight d) (q.own ++ (p.own ++ G)) = among_names bound q.carried in
     let same = sym (append_assoc q.own p.own G) in
+    let both = carried_trans p.carried w in
+    let here : Carried F scope (λ c. bound_together c xs) (sight a) G (sight d) (q.own ++ (p.own ++ G)) = carried_as (λ c. ap (λ cs. patterns_first c [] xs ++ cs) (conclusions_same c (names_of_group xs) xs)) both in
     record {
       own = q.own ++ p.own;
-      carried = subst (λ H. Carried F scope (λ c. bound_together c xs) (sight a) G (sight d) H) same
-          (carried_as (λ c. ap (λ cs. patterns_first c [] xs ++ cs) (conclusions_same c (names_of_group xs) xs)) (carried_trans p.carried w));
+      carried = subst (λ H. Carried F scope (λ c. bound_together c xs) (sight a) G (sight d) H) same here;
+      done = done_grouped same here (done_as _ both (done_both (done_last p.carried w (done_among scope bound q.carried q.done)) (done_then p.carried w p.done)));
       typed = subst (λ H. AllTyped F (sight d) H xs ys) same q.typed;
     }
 

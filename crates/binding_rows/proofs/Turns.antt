@@ -9,9 +9,10 @@ use Rattle.env_table.specs.declared.entries.Entry.{Entry}
 use Rattle.typing_state.specs.declared.parts.Parts.{Parts}
 use Rattle.typing_state.specs.Goes.{Goes}
 use Rattle.typing_conditions.specs.Carrying.{Carried}
-use Rattle.typing_conditions.proofs.Carried.{carried_refl, carried_trans, carried_as}
+use Rattle.typing_conditions.proofs.Carried.{carried_refl, carried_trans, carried_as, done_then, done_as, done_last}
 use Rattle.typing_conditions.proofs.Meaning.{means_on}
 use Rattle.typing_conditions.proofs.Surrounding.{surrounds_on}
+use Rattle.typing_conditions.proofs.Hiding.{done_none, done_both}
 use Rattle.typing_steps.specs.States.{is_aloud, sight}
 use Rattle.pattern_rows.specs.Bounds.{Bind}
 use Rattle.pattern_rows.specs.Contracts.{MatchesTo}
@@ -19,6 +20,7 @@ use Rattle.pattern_rows.proofs.Naming.{all_bound_on}
 use Rattle.binding_rows.specs.Rights.{whole_by, TypesRight}
 use Rattle.binding_rows.specs.Groups.{TypedBinding, IsTyped, AllTyped, none_typed, AsksWhole, TypesBindings, turn_asks, TypesTurn, TurnAdded, NoneAdded, TypesTurnIf, TypesTurnsFirst}
 use Rattle.binding_rows.proofs.Typed.{all_typed_on, all_typed_more, whole_same}
+use Rattle.pattern_rows.proofs.Opened.{done_grouped}
 
 -- a binding: its right side with its number, its pattern, and the demand on the pattern
 pub turn_typed : (a b d e : Parts) (env : List Entry) (x : Binding) (seen : List Name) (added : List Bind) (right whole found : ℕ) → TypesRight a b env (λ c. tell x.node c ++ right_side c x) x right whole → Goes a b →
@@ -29,10 +31,13 @@ turn_typed a b d e env x seen added right whole found typed goes matched goes' a
     let q = matched.typed loud F scope (p.own ++ G) (surrounds_on p.typed.carried.stays s) in
     let r = asked (ap is_aloud goes'.telling ∙ loud) F scope (matched.opens ++ (p.own ++ G)) x.node (whole_by x) q.typed.means (means_on q.typed.carried.stays p.typed.means) in
     let same = sym (append_assoc matched.opens p.own G) in
+    let front = carried_trans p.typed.carried q.typed.carried in
+    let both = carried_trans front r in
+    let here : Carried F scope (λ c. turn_asks c seen x) (sight a) G (sight e) (matched.opens ++ (p.own ++ G)) = carried_as (λ c. ap (λ cs. tell x.node c ++ right_side c x ++ x.pattern.matched c seen ++ cs) (whole_same c x)) both in
     record {
       own = matched.opens ++ p.own;
-      carried = subst (λ H. Carried F scope (λ c. turn_asks c seen x) (sight a) G (sight e) H) same
-          (carried_as (λ c. ap (λ cs. tell x.node c ++ right_side c x ++ x.pattern.matched c seen ++ cs) (whole_same c x)) (carried_trans (carried_trans p.typed.carried q.typed.carried) r));
+      carried = subst (λ H. Carried F scope (λ c. turn_asks c seen x) (sight a) G (sight e) H) same here;
+      done = done_grouped same here (done_as _ both (done_then front r (done_both (done_last p.typed.carried q.typed.carried q.done) (done_then p.typed.carried q.typed.carried p.done))));
       typed = subst (λ H. IsTyped F (sight e) H x (record { names = added; right = right })) same (record { names = all_bound_on r.stays q.names; right = means_on r.stays (means_on q.typed.carried.stays p.right_means) });
     }
 
@@ -43,6 +48,7 @@ turns_none a env all now ys unseen none = λ aloud F scope G s. record {
   first = [];
   own = [];
   carried = carried_refl;
+  rows_done = done_none;
   typed = subst (AllTyped F (sight a) G []) (sym none) none_typed;
   asks = λ c. ap (λ ns. bound_in_turn c ns all) (sym unseen);
   splits = refl;
@@ -60,6 +66,7 @@ turns_more a b d env all left rest x now then ys zs split goes first one = λ al
       first = p.first ++ x ∷ [];
       own = q.own ++ p.own;
       carried = subst (λ H. Carried F scope (λ c. p.done c ++ turn_asks c now x) (sight a) G (sight d) H) same (carried_trans p.carried q.carried);
+      rows_done = done_grouped same (carried_trans p.carried q.carried) (done_both (done_last p.carried q.carried q.done) (done_then p.carried q.carried p.rows_done));
       typed = subst (λ us. AllTyped F (sight d) ((q.own ++ p.own) ++ G) (p.first ++ x ∷ []) us) (sym one.adds)
           (subst (λ H. AllTyped F (sight d) H (p.first ++ x ∷ []) (ys ++ one.one ∷ [])) same (all_typed_more (all_typed_on q.carried.stays p.typed) q.typed));
       asks = λ c.
@@ -88,5 +95,6 @@ turns_all a b env all left now ys none first = λ aloud F scope G s.
     record {
       own = p.own;
       carried = carried_as (λ c. sym (append-nil (p.done c)) ∙ ap (λ xs. p.done c ++ bound_in_turn c now xs) (sym none) ∙ sym (p.asks c)) p.carried;
+      done = done_as _ p.carried p.rows_done;
       typed = subst (λ xs. AllTyped F (sight b) (p.own ++ G) xs ys) (sym (append-nil p.first) ∙ ap (λ xs. p.first ++ xs) (sym none) ∙ sym p.splits) p.typed;
     }

@@ -15,6 +15,7 @@ use Rattle.typing_conditions.specs.Sights.{Sight, Letters}
 use Rattle.typing_conditions.specs.Frames.{Frame}
 use Rattle.typing_conditions.specs.Meanings.{Means}
 use Rattle.typing_conditions.specs.Carrying.{Asks, Scope, Carried, CarriedTo}
+use Rattle.typing_conditions.specs.Hiding.{AreBelow, AreDone, Owns}
 use Rattle.typing_conditions.specs.Surroundings.{Surrounds}
 use Rattle.typing_steps.specs.States.{is_aloud, sight}
 use Rattle.typing_steps.specs.Typing.{as_declared, TypesAny}
@@ -85,6 +86,7 @@ result_type n (Some t) = t
 pub record MatchedAs (F : Frame) (scope : Scope) (a : Sight) (G : Letters) (b : Sight) (p : Pattern) (n k : ℕ) (t : Choice → Typ) (added : List Bind) : Type 0 where
   pub own : Letters
   pub carried : Carried F scope (λ c. p.matched c [] ++ ask n k p.at (equal (type_at c p.node) (t c.chosen))) a G b (own ++ G)
+  pub done : AreDone b carried.hidden own
   pub names : AllBound F b (own ++ G) p.names added
 
 -- the same of a call, where faults are reported
@@ -116,6 +118,7 @@ TypesBody a b env body bodies m = is_aloud a.telling ≡ true → (F : Frame) (s
 pub record PartsCarried (F : Frame) (scope : Scope) (a : Sight) (G : Letters) (b : Sight) (n k : ℕ) (subject : Choice → Typ) (result : Option (Choice → Typ)) (p : Pattern) (guard : Option Expression) (body : Expression) (m : ℕ) : Type 0 where
   pub own : Letters
   pub carried : Carried F scope (λ c. parts_of_case_ask c n k (subject c.chosen) (type_by c.chosen result) p guard body) a G b (own ++ G)
+  pub done : AreDone b carried.hidden own
   pub means : Means F b (own ++ G) (body_type result body) m
 
 -- the same of a call; `matched` is the node of the type of what is matched
@@ -131,6 +134,7 @@ TypesCasePartsTo a b env x matched bodies now = (m : ℕ) × (now ≡ Some m) ×
 pub record CaseCarried (F : Frame) (scope : Scope) (a : Sight) (G : Letters) (b : Sight) (n k : ℕ) (subject : Choice → Typ) (result : Option (Choice → Typ)) (x : Case) (m : ℕ) : Type 0 where
   pub own : Letters
   pub carried : Carried F scope (λ c. case_asks c n k (subject c.chosen) (type_by c.chosen result) x) a G b (own ++ G)
+  pub done : AreDone b carried.hidden own
   pub means : Means F b (own ++ G) (body_type result x.body) m
 
 -- the same of a call
@@ -147,6 +151,7 @@ TypesCaseIf a b env (Some x) matched bodies now = (m : ℕ) × (now ≡ Some m) 
 pub record CasesCarried (F : Frame) (scope : Scope) (a : Sight) (G : Letters) (b : Sight) (n : ℕ) (subject : Choice → Typ) (result : Option (Choice → Typ)) (xs : List Case) (bodies : Option ℕ) : Type 0 where
   pub own : Letters
   pub carried : Carried F scope (λ c. cases_from c n 0 (subject c.chosen) (type_by c.chosen result) xs) a G b (own ++ G)
+  pub done : AreDone b carried.hidden own
   pub means : MeansIf F b (own ++ G) (bodies_type result xs) bodies
 
 -- the same of a call; `known` is the node of the type of the bodies before it
@@ -161,6 +166,7 @@ pub record CasesFirst (F : Frame) (scope : Scope) (a : Sight) (G : Letters) (b :
   pub now : Option (Choice → Typ)
   pub own : Letters
   pub carried : Carried F scope done a G b (own ++ G)
+  pub rows_done : AreDone b carried.hidden own
   pub means : MeansIf F b (own ++ G) now bodies
   pub asks : (c : Context) → cases_from c n 0 (subject c.chosen) (type_by c.chosen result) all ≡ done c ++ cases_from c n k (subject c.chosen) (type_by c.chosen now) left
   pub gives : bodies_type result all ≡ bodies_type now left
@@ -170,10 +176,12 @@ abbrev pub TypesCasesFirst : (a b : Parts) → List Entry → (all left : List C
 TypesCasesFirst a b env all left matched known bodies = is_aloud a.telling ≡ true → (F : Frame) (scope : Scope) (G : Letters) (n : ℕ) (subject : Choice → Typ) (result : Option (Choice → Typ)) → Surrounds as_declared F (sight a) G env scope → Means F (sight a) G subject matched →
     MeansIf F (sight a) G result known → CasesFirst F scope (sight a) G (sight b) n subject result all left bodies
 
--- the cases of a row, with letters of its own: what they ask is carried, and then a node has the type of the bodies, or any type
+-- The cases of a row, with letters of its own: what they ask is carried, and then a node has the type of the bodies, or any type. `owns`: its letters are of rows that are done, but
+-- for letter 1 of the row; with the row's letter 0 besides, too.
 pub record CasesTo (F : Frame) (scope : Scope) (a : Sight) (G : Letters) (b : Sight) (n : ℕ) (subject : Choice → Typ) (result : Option (Choice → Typ)) (xs : List Case) (m : ℕ) : Type 0 where
   pub own : Letters
   pub typed : CarriedTo F scope (λ c. cases_from c n 0 (subject c.chosen) (type_by c.chosen result) xs) a G b (own ++ G) (result_type n (bodies_type result xs)) m
+  pub owns : (k : ℕ) (before : Letters) → AreBelow n 1 before → Owns n k b typed.carried.hidden (own ++ before)
 
 -- the same of a call
 abbrev pub TypesCases : (a b : Parts) → List Entry → List Case → (matched : ℕ) → (known : Option ℕ) → (m : ℕ) → Type 0

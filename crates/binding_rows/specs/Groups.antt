@@ -12,6 +12,7 @@ use Rattle.typing_conditions.specs.Sights.{Sight, Letters}
 use Rattle.typing_conditions.specs.Frames.{Frame}
 use Rattle.typing_conditions.specs.Meanings.{Means}
 use Rattle.typing_conditions.specs.Carrying.{Asks, Scope, Carried}
+use Rattle.typing_conditions.specs.Hiding.{AreDone}
 use Rattle.typing_conditions.specs.Surroundings.{Surrounds}
 use Rattle.typing_steps.specs.States.{is_aloud, sight}
 use Rattle.typing_steps.specs.Typing.{as_declared}
@@ -71,12 +72,14 @@ AsksWhole a b p found whole = is_aloud a.telling ≡ true → (F : Frame) (scope
 pub record BindingCarried (F : Frame) (scope : Scope) (asks : Asks) (a : Sight) (G : Letters) (b : Sight) (x : Binding) (y : TypedBinding) : Type 0 where
   pub own : Letters
   pub carried : Carried F scope asks a G b (own ++ G)
+  pub done : AreDone b carried.hidden own
   pub typed : IsTyped F b (own ++ G) x y
 
 -- bindings are typed, with letters of their own, where this is asked
 pub record BindingsCarried (F : Frame) (scope : Scope) (asks : Asks) (a : Sight) (G : Letters) (b : Sight) (xs : List Binding) (ys : List TypedBinding) : Type 0 where
   pub own : Letters
   pub carried : Carried F scope asks a G b (own ++ G)
+  pub done : AreDone b carried.hidden own
   pub typed : AllTyped F b (own ++ G) xs ys
 
 -- the same of a call, where faults are reported
@@ -115,6 +118,7 @@ pub record TurnsFirst (F : Frame) (scope : Scope) (a : Sight) (G : Letters) (b :
   pub first : List Binding
   pub own : Letters
   pub carried : Carried F scope done a G b (own ++ G)
+  pub rows_done : AreDone b carried.hidden own
   pub typed : AllTyped F b (own ++ G) first ys
   pub asks : (c : Context) → bound_in_turn c [] all ≡ done c ++ bound_in_turn c now left
   pub splits : all ≡ first ++ left
@@ -127,6 +131,7 @@ TypesTurnsFirst a b env all left now ys = is_aloud a.telling ≡ true → (F : F
 pub record OpenedCarried (F : Frame) (scope : Scope) (a : Sight) (G : Letters) (b : Sight) (seen : List Name) (x : Binding) (y : OpenedBinding) : Type 0 where
   pub own : Letters
   pub carried : Carried F scope (λ c. tell x.node c ++ x.pattern.matched c seen) a G b (own ++ G)
+  pub done : AreDone b carried.hidden own
   pub opened : IsOpened F b (own ++ G) x y
 
 -- the same of a call
@@ -149,6 +154,7 @@ OpensIf a b env seen seen' ys ys' (Some x) = OpenAdded a b env seen seen' ys ys'
 pub record OpenedAll (F : Frame) (scope : Scope) (a : Sight) (G : Letters) (b : Sight) (xs : List Binding) (ys : List OpenedBinding) : Type 0 where
   pub own : Letters
   pub carried : Carried F scope (λ c. patterns_first c [] xs) a G b (own ++ G)
+  pub done : AreDone b carried.hidden own
   pub opened : AllOpened F b (own ++ G) xs ys
 
 -- the same of a call
@@ -161,6 +167,7 @@ pub record OpenedFirst (F : Frame) (scope : Scope) (a : Sight) (G : Letters) (b 
   pub first : List Binding
   pub own : Letters
   pub carried : Carried F scope done a G b (own ++ G)
+  pub rows_done : AreDone b carried.hidden own
   pub opened : AllOpened F b (own ++ G) first ys
   pub asks : (c : Context) → patterns_first c [] all ≡ done c ++ patterns_first c now left
   pub splits : all ≡ first ++ left
@@ -194,6 +201,7 @@ pub record ConcludedFirst (F : Frame) (scope : Scope) (a : Sight) (G : Letters) 
   pub first : List Binding
   pub own : Letters
   pub carried : Carried F scope done a G b (own ++ G)
+  pub rows_done : AreDone b carried.hidden own
   pub opened : AllOpened F b (own ++ G) left os
   pub typed : AllTyped F b (own ++ G) first ys
   pub asks : (c : Context) → conclusions_ask c all ≡ done c ++ conclusions_ask c left

@@ -31,7 +31,8 @@ use Rattle.binding_rows.specs.Decided.{JudgesGroup}
 use Rattle.binding_rows.specs.Lets.{ToClose, bind_nodes, names_closed}
 use Rattle.binding_rows.specs.LetNodes.{typed_as, ClosesBindings}
 use Rattle.binding_rows.specs.Scopes.{AreMade}
-use Rattle.binding_rows.specs.Outside.{InEachMet, Outside, Left, ItemsCarried}
+use Rattle.typing_conditions.specs.Hiding.{ArePlaced, NoneDoubtful}
+use Rattle.binding_rows.specs.Outside.{InEachMet, Outside, Left, letters_left, ItemsCarried}
 use Rattle.typing_rows.specs.Noted.{AreNoted}
 
 -- an item `let b and b` of which bindings are carried
@@ -86,25 +87,29 @@ pub data AreOwned : List Item → List Left → Type 0 where
 
 -- What an item gives where the names `seen` stand before it in its structure: what it asks is carried, and the next item starts among its names. In each context
 -- that the state after it allows, and in which what it asks is met, it adds these entries, and names the types, modules and module types `names`. Something is recorded
--- for each type expression that has unknown types among the names.
-pub record ItemDone (D : Declared) (E : Choice → Environment) (m : Item) (seen names : Seen) (a b : Parts) (G : Letters) (after : List Entry) : Type 0 where
+-- for each type expression that has unknown types among the names. Where K holds, all that is to be known of names is known after it too, and no letter that it left is in doubt.
+pub record ItemDone (D : Declared) (K : Type 0) (E : Choice → Environment) (m : Item) (seen names : Seen) (a b : Parts) (G : Letters) (after : List Entry) : Type 0 where
   pub letters : Letters
   pub env : Choice → Environment
   pub carried : ItemsCarried E (λ c. m.asks c seen) (sight a) G (sight b) letters
   pub owners : AreOwned (m ∷ []) carried.left
+  pub clear : K → ArePlaced (sight b) → NoneDoubtful (letters_left carried.left)
   pub outside : Outside D (sight b) letters after env
+  pub knows : K → outside.known ≡ true
   pub noted : AreNoted outside.older b
   pub adds : InEachMet E (λ c. m.asks c seen) (sight b) letters carried.judged (λ c. m.adds c ++ c.env ≡ env c.chosen)
   pub named : InEachMet E (λ c. m.asks c seen) (sight b) letters carried.judged (λ c. m.named c ≡ names)
   pub constants : HasConstants b
 
 -- The same of items in order: the environment after them, and all `names` that then stand in the structure.
-pub record ItemsDone (D : Declared) (E : Choice → Environment) (ms : List Item) (seen names : Seen) (a b : Parts) (G : Letters) (after : List Entry) : Type 0 where
+pub record ItemsDone (D : Declared) (K : Type 0) (E : Choice → Environment) (ms : List Item) (seen names : Seen) (a b : Parts) (G : Letters) (after : List Entry) : Type 0 where
   pub letters : Letters
   pub env : Choice → Environment
   pub carried : ItemsCarried E (λ c. items_ask c seen ms) (sight a) G (sight b) letters
   pub owners : AreOwned ms carried.left
+  pub clear : K → ArePlaced (sight b) → NoneDoubtful (letters_left carried.left)
   pub outside : Outside D (sight b) letters after env
+  pub knows : K → outside.known ≡ true
   pub noted : AreNoted outside.older b
   pub behind : InEachMet E (λ c. items_ask c seen ms) (sight b) letters carried.judged (λ c. behind_items c ms ≡ env c.chosen)
   pub named : InEachMet E (λ c. items_ask c seen ms) (sight b) letters carried.judged (λ c. seen_names c ms seen ≡ names)
@@ -117,7 +122,7 @@ AreWrittenIn ts w = (x : Name) (m : ℕ) → written_in w x ≡ Some m → (k : 
 -- What a call gives for an item's `let` by its node, from where the item starts to where the next one does: where faults are reported, the definitions' own item, whatever names stand before it. Its type variables are those among its tokens.
 abbrev pub GivesLet : (a b : Parts) → (env after : List Entry) → (n : ℕ) → Tree → Type 0
 GivesLet a b env after n t =
-    (G : Letters) (E : Choice → Environment) (seen : Seen) → IsItemNode n t → is_aloud a.telling ≡ true → (at : Outside as_declared (sight a) G env E) → HasConstants a → AreNoted at.older a → ItemDone as_declared E (recorded_let a.item (yield_of t) n t) seen no_names a b G after
+    (G : Letters) (E : Choice → Environment) (seen : Seen) → IsItemNode n t → is_aloud a.telling ≡ true → (at : Outside as_declared (sight a) G env E) → HasConstants a → AreNoted at.older a → ItemDone as_declared (at.known ≡ true) E (recorded_let a.item (yield_of t) n t) seen no_names a b G after
 
 -- an item `exception A of t` of which the constructor is there, with its name
 pub record IsExceptionNode (n : ℕ) (t : Tree) : Type 0 where
@@ -135,7 +140,7 @@ pub record IsExceptionNode (n : ℕ) (t : Tree) : Type 0 where
 abbrev pub GivesException : (a b : Parts) → (env after : List Entry) → (n : ℕ) → Tree → Type 0
 GivesException a b env after n t =
     (G : Letters) (E : Choice → Environment) (seen : Seen) (x : IsExceptionNode n t) → is_aloud a.telling ≡ true → (at : Outside as_declared (sight a) G env E) → HasConstants a → AreNoted at.older a →
-    ItemDone as_declared E (recorded_exception a.item n x.operand.number x.constructor) seen no_names a b G after
+    ItemDone as_declared ⊥ E (recorded_exception a.item n x.operand.number x.constructor) seen no_names a b G after
 
 -- an item whose conditions are carried: a `let` of which bindings are, `;;`, or an exception that has a name
 abbrev pub IsCarriedItem : ℕ → Tree → Type 0

@@ -10,6 +10,7 @@ use Rattle.typing_conditions.specs.Sights.{Sight, Letters}
 use Rattle.typing_conditions.specs.Frames.{Frame}
 use Rattle.typing_conditions.specs.Meanings.{Means}
 use Rattle.typing_conditions.specs.Carrying.{Asks, Scope, Carried}
+use Rattle.typing_conditions.specs.Hiding.{AreDone}
 use Rattle.typing_conditions.specs.Surroundings.{Declared, context_of}
 use Rattle.pattern_rows.specs.Bounds.{Bind, AllBound}
 use Rattle.binding_rows.specs.Decided.{IsAmong}
@@ -78,4 +79,5 @@ held_from level ns before k = if k == level then ns else before k
 pub record GroupToClose (D : Declared) (env : List Entry) (I : Frame) (scope : Scope) (asks : Asks) (b : Sight) (G : Letters) (c : Sight) (xs : List Binding) (ys : List ToClose) : Type 0 where
   pub own : Letters
   pub carried : Carried I scope asks b G c (own ++ G)
+  pub done : AreDone c carried.hidden own
   pub typed : AllToClose D env I c (own ++ G) xs ys

@@ -1,5 +1,5 @@
 -- What an item's own `let` is typed among, at the lowest level, and what is carried of items.
-use Rattle.std.specs.Prelude.{◌≡◌, ◌⊎◌, ℕ, true, false, List, [], ◌∷◌, ◌++◌, length, take, slice_get, Option, Some, None}
+use Rattle.std.specs.Prelude.{◌≡◌, ◌⊎◌, ℕ, Bool, true, false, List, [], ◌∷◌, ◌++◌, length, take, slice_get, Option, Some, None}
 use Rattle.type_model.specs.Types.{Path, occurs}
 use Rattle.type_model.specs.Types.{Typ as type, Typs as types}
 use Rattle.signature_model.specs.Declarations.{Name}
@@ -21,7 +21,7 @@ use Rattle.typing_conditions.specs.Sights.{Sight, Key, Report, number_in, Letter
 use Rattle.typing_conditions.specs.Judging.{Judgement, judgements, refused, AreKept, Follows, StartsWith, FallsShort, Meets}
 use Rattle.typing_conditions.specs.Carrying.{Asks, AreHidden}
 use Rattle.typing_conditions.specs.Hiding.{Keeps, HasCopy, Settles}
-use Rattle.typing_conditions.specs.Surroundings.{Declared, IsSteady}
+use Rattle.typing_conditions.specs.Surroundings.{Declared, IsSteady, KnowsNames}
 use Rattle.typing_rows.specs.Settled.{Fixes, AreFixed}
 
 -- A choice agrees with a state between items: it has the types of the nodes that are recorded, in which no unknown type stands, and of letters. Type variables
@@ -51,6 +51,7 @@ AreOf U N = (v n : ℕ) (o : Path) → N v ≡ type.Con (o ++ n ∷ []) types.Ni
 
 -- A state between items, where the code's names stand for those of the definitions: at each reading schemes both ways, under types that fit one way. Its level is the lowest,
 -- and the free variables of the names' types, which are weak, are of that level. The unknown types among the names are those of the type expressions `older`. `Surrounds` is the same inside an item.
+-- `known`: whether all that is to be known of names is, so that no letter of an item is in doubt.
 pub record Outside (D : Declared) (a : Sight) (G : Letters) (env : List Entry) (E : Choice → Environment) : Type 0 where
   pub sound : IsSound a.nodes
   pub level : a.level ≡ 0
@@ -62,6 +63,8 @@ pub record Outside (D : Declared) (a : Sight) (G : Letters) (env : List Entry) (
   pub steady : IsSteady D
   pub context : (J : Types) → IsOwn a.nodes J → IsContext a.nodes J roots a.level
   pub covered : Covers (D.declaration a.nodes roots names) (D.exception a.nodes roots names) roots env
+  pub known : Bool
+  pub knows : known ≡ true → KnowsNames D a.nodes roots names env
   pub reads : (J V : Types) (ch : Choice) → IsOwn a.nodes J → IsReading a.nodes V → AgreesOutside a G V ch → Stands SchemeReads (D.declaration a.nodes roots names) (D.exception a.nodes roots names) a.nodes J roots V env (E ch)
   pub fits : (J V : Types) (ch : Choice) → IsOwn a.nodes J → Loose a.nodes V → AgreesOutside a G V ch → Stands SchemeFits (D.declaration a.nodes roots names) (D.exception a.nodes roots names) a.nodes J roots V env (E ch)
 

@@ -11,6 +11,7 @@ use Rattle.typing_conditions.specs.Sights.{Sight, Letters}
 use Rattle.typing_conditions.specs.Frames.{Frame}
 use Rattle.typing_conditions.specs.Meanings.{Means, AllMean}
 use Rattle.typing_conditions.specs.Carrying.{Asks, Scope, Carried, CarriedTo}
+use Rattle.typing_conditions.specs.Hiding.{AreDone}
 use Rattle.typing_conditions.specs.Surroundings.{Surrounds}
 use Rattle.typing_steps.specs.States.{is_aloud, sight}
 use Rattle.typing_steps.specs.Typing.{as_declared}
@@ -23,6 +24,7 @@ use Rattle.binding_rows.specs.CaseScopes.{names_added}
 pub record ParametersAll (F : Frame) (scope : Scope) (a : Sight) (G : Letters) (b : Sight) (ps : List Pattern) (added : List Bind) (ms : List ℕ) : Type 0 where
   pub own : Letters
   pub carried : Carried F scope (λ c. matched_apart c ps) a G b (own ++ G)
+  pub done : AreDone b carried.hidden own
   pub means : AllMean F b (own ++ G) (types_at ps) ms
   pub names : AllBound F b (own ++ G) (all_names ps) added
 
@@ -43,6 +45,7 @@ pub record ParametersFirst (F : Frame) (scope : Scope) (a : Sight) (G : Letters)
   pub bounds : List Bound
   pub own : Letters
   pub carried : Carried F scope done a G b (own ++ G)
+  pub rows_done : AreDone b carried.hidden own
   pub means : AllMean F b (own ++ G) types ms
   pub names : AllBound F b (own ++ G) bounds added
   pub asks : (c : Context) → matched_apart c all ≡ done c ++ matched_apart c left

@@ -12,6 +12,7 @@ use Rattle.typing_conditions.specs.Sights.{Sight, Letters}
 use Rattle.typing_conditions.specs.Frames.{Frame}
 use Rattle.typing_conditions.specs.Meanings.{Means, AllMean}
 use Rattle.typing_conditions.specs.Carrying.{Asks, Scope, Carried, CarriedTo}
+use Rattle.typing_conditions.specs.Hiding.{AreDone}
 use Rattle.typing_conditions.specs.Surroundings.{Surrounds}
 use Rattle.typing_steps.specs.States.{is_aloud, sight}
 use Rattle.typing_steps.specs.Typing.{as_declared}
@@ -46,6 +47,7 @@ right_parts_ask c n ps o e = matched_apart c ps ++ read_annotation c o ++ e.type
 pub record AnnotationRead (F : Frame) (scope : Scope) (a : Sight) (G : Letters) (b : Sight) (o : Option TypeExpression) (m : Option ℕ) : Type 0 where
   pub own : Letters
   pub carried : Carried F scope (λ c. read_annotation c o) a G b (own ++ G)
+  pub done : AreDone b carried.hidden own
   pub means : MeansIf F b (own ++ G) (written_by o) m
 
 -- the same of a call, where faults are reported
@@ -72,6 +74,7 @@ TypesRightBody a b env e written ms right m = is_aloud a.telling ≡ true → (F
 pub record RightCarried (F : Frame) (scope : Scope) (asks : Asks) (a : Sight) (G : Letters) (b : Sight) (ps : List Pattern) (o : Option TypeExpression) (e : Expression) (right m : ℕ) : Type 0 where
   pub own : Letters
   pub typed : CarriedTo F scope asks a G b (own ++ G) (arrows_by (types_at ps) (right_by o e)) m
+  pub done : AreDone b typed.carried.hidden own
   pub right_means : Means F b (own ++ G) (λ ch. ch.type_at e.node) right
 
 -- the same of a call, for a binding of any number

@@ -47,10 +47,11 @@ pub record Declaration : Type 0 where
   pub name : Option Tok
   pub right : Right
 
--- a constructor, and a label, of a node with this number
+-- a constructor of a node with this number
 abbrev pub constructor_in : ℕ → Tree → Constructor
 constructor_in n t = record { number = n; name = token_in t 0; argument = first_in n t 2 }
 
+-- a label of a node with this number
 abbrev pub label_in : ℕ → Tree → Label
 label_in n t = record { number = n; is_mutable = is_some (token_in t 0); name = token_in t 1; body = filled_in n t 3 }
 
@@ -71,10 +72,11 @@ told_of variant_row n t = Some (constructors (nodes_as constructor_in (operands_
 told_of record_row n t = Some (labels (nodes_as label_in (operands_in n t 1)))
 told_of _ n t = None
 
--- the same of a node, and of a part
+-- what a node tells of values
 abbrev pub told_at : ℕ → Tree → Option Told
 told_at n (node r x ps) = told_of r n (node r x ps)
 
+-- what a part tells of values
 abbrev pub told_part : ℕ → Part → Option Told
 told_part n (taken t) = None
 told_part n (inner t) = told_at n t
@@ -85,6 +87,7 @@ abbrev pub alias_with : ℕ → Numbered → ℕ → Option Told → Right
 alias_with n ty m None = abbreviation n ty
 alias_with n ty m (Some k) = reexport n ty m k
 
+-- an alias by what is in its slot for what it tells
 abbrev pub alias_by : ℕ → Numbered → Option Numbered → Right
 alias_by n ty None = abbreviation n ty
 alias_by n ty (Some o) = alias_with n ty o.number (told_part o.number o.part)
@@ -109,16 +112,18 @@ right_part n (taken t) = abstract
 right_part n (inner (node r x ps)) = right_row r n (node r x ps)
 right_part n (missing at) = abstract
 
+-- the right side in a slot, which may be empty
 abbrev pub right_of : Option Numbered → Right
 right_of None = abstract
 right_of (Some o) = right_part o.number o.part
 
--- the parameters and the name in a head, which may be missing
+-- the parameters in a head, which may be missing
 abbrev pub parameters_in : Part → List Tok
 parameters_in (taken t) = []
 parameters_in (inner t) = tokens_in t 1
 parameters_in (missing at) = []
 
+-- the name in a head
 abbrev pub name_in : Part → Option Tok
 name_in (taken t) = None
 name_in (inner t) = token_in t 4
@@ -132,22 +137,26 @@ declaration_in n t = record { number = n; head = (filled_in n t 0).number; param
 abbrev pub declarations_in : ℕ → Tree → List Declaration
 declarations_in n t = nodes_as declaration_in (operands_in n t 2)
 
--- the parts of the code
+-- a constructor of the code
 abbrev pub constructor_view : ConstructorPart → Constructor
 constructor_view p = record { number = p.number; name = token_view p.name; argument = option_map operand_view p.argument }
 
+-- a label of the code
 abbrev pub label_view : LabelPart → Label
 label_view p = record { number = p.number; is_mutable = p.is_mutable; name = token_view p.name; body = operand_view p.body }
 
+-- what is told, of the code
 abbrev pub told_view : CodeTold → Told
 told_view (code_told.Constructors ps) = constructors (map constructor_view ps.items)
 told_view (code_told.Labels ps) = labels (map label_view ps.items)
 
+-- a right side of the code
 abbrev pub right_view : CodeRight → Right
 right_view code_right.Abstract = abstract
 right_view (code_right.Abbreviation n ty) = abbreviation n (operand_view ty)
 right_view (code_right.Reexport n ty m k) = reexport n (operand_view ty) m (told_view k)
 right_view (code_right.Own n k) = own n (told_view k)
 
+-- a declaration of the code
 abbrev pub declaration_view : DeclarationPart → Declaration
 declaration_view d = record { number = d.number; head = d.head; parameters = map (λ t. tok_of t.now) d.parameters.items; name = token_view d.name; right = right_view d.right }

@@ -59,7 +59,7 @@ abbrev pub DeclaresPartIf : (a b : Parts) → List Entry → Option Numbered →
 DeclaresPartIf a b env None e x = x ≡ None
 DeclaresPartIf a b env (Some o) e x = DeclaresPart a b env o.number o.part e x
 
--- an entry that may be there, alone, and in front of others
+-- an entry that may be there, alone, and before others
 abbrev pub alone : Option (Rc Entry Global) → List (Rc Entry Global)
 alone None = []
 alone (Some x) = x ∷ []

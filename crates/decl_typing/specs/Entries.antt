@@ -61,7 +61,7 @@ pub data AreTold (x : Declaration) : (place : ℕ) → List Name → List Entry 
   none_told : {k : ℕ} → AreTold x k [] []
   one_told : {k : ℕ} {n : Name} {ns : List Name} {e : Entry} {es : List Entry} → IsToldEntry x k n e → AreTold x (suc k) ns es → AreTold x k (n ∷ ns) (e ∷ es)
 
--- a name that may be missing, in front of others
+-- a name that may be missing, before others
 abbrev pub named_first : Option (Bor Token) → List Name → List Name
 named_first None ns = ns
 named_first (Some t) ns = str_bytes t.now.name ∷ ns
@@ -93,7 +93,7 @@ second_names ts = map (λ (t : ℕ × Bor Token). str_bytes t.1.now.name) ts
 abbrev pub values_of : List (Rc Entry Global) → List Entry
 values_of es = map (λ (e : Rc Entry Global). e.value) es
 
--- The entries of these names are put behind others, where their places are numbers of 32 bits.
+-- The entries of these names are added after others, where their places are numbers of 32 bits.
 abbrev pub AddsTold : Declaration → List Name → (before after : List (Rc Entry Global)) → Type 0
 AddsTold x ns before after = length ns < 2 ^ 32 → (es : List (Rc Entry Global)) × (after ≡ before ++ es) × AreTold x 0 ns (values_of es)
 
@@ -105,11 +105,11 @@ pub record EntriesOf (x : Declaration) (p : DeclarationPart) (es : List (Rc Entr
   pub are_told : AreTold x 0 (names_told_if (told_in p.right)) (values_of told)
   pub all : es ≡ alone type ++ told
 
--- they are put behind others
+-- they are added after others
 abbrev pub AddsEntries : Declaration → DeclarationPart → (before after : List (Rc Entry Global)) → Type 0
 AddsEntries x p before after = length (names_told_if (told_in p.right)) < 2 ^ 32 → (es : List (Rc Entry Global)) × (after ≡ before ++ es) × EntriesOf x p es
 
--- The names of declarations are put in front of others, in order, where they have some.
+-- The names of declarations are put before others, in order, where they have some.
 pub data EntersNames : List DeclarationPart → List (Rc Declaration Global) → (before after : List Entry) → Type 0 where
   no_parts : {ds : List (Rc Declaration Global)} {env : List Entry} → EntersNames [] ds env env
   no_more : {ps : List DeclarationPart} {env : List Entry} → EntersNames ps [] env env

@@ -15,7 +15,7 @@ use Rattle.decl_typing.specs.declared.decls.Declared.{Declared}
 use Rattle.decl_typing.specs.Owned.{AreOwnRights, DeclaresType}
 use Rattle.decl_typing.specs.Entries.{values_of, AddsEntries, QuietlyEntered}
 
--- A declaration that is a type of its own is declared in the scope `inner`, and then its entries are put behind others.
+-- A declaration that is a type of its own is declared in the scope `inner`, and then its entries are added after others.
 pub record DeclaresOwn (inner : List Entry) (a c : Parts) (p : DeclarationPart) (before after : List (Rc Entry Global)) : Type 0 where
   pub declaration : Declaration
   pub between : Parts

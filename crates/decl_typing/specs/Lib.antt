@@ -1,4 +1,4 @@
--- What is asked of the names of one declaration.
+-- What declarations of types and exceptions ask, what their nodes denote, and which entries they add.
 pub mod Fresh
 pub mod Settling
 pub mod Labels

@@ -153,7 +153,7 @@ fn opaque(at: &mut Parts, part: &DeclarationPart<'_>) -> Result<Rc<Declaration>,
     at.level = level;
     let root = made?;
     at.generalise(root)?;
-    // what is known of each store is made known by its length
+    // by the length of the store its invariant is known to the proof
     let _nodes = at.store.len();
     let declaration = Declaration {
         arity: number_of(part.parameters.len()),
@@ -471,7 +471,7 @@ fn generalise_declared(at: &mut Parts, root: NodeRef, shape: &Shape) -> Result<(
 {
     at.generalise(root)?;
     generalise_shape(at, shape)?;
-    // what is known of each store is made known by its length
+    // by the length of the store its invariant is known to the proof
     let _nodes = at.store.len();
     Ok(())
 }
@@ -962,7 +962,7 @@ pub fn group_env(
     with_names(at, parts, &declared, env)
 }
 
-/// The same quietly.
+/// The same, not reporting.
 fn group_env_quietly(
     at: &mut Parts,
     parts: &[DeclarationPart<'_>],
@@ -1219,7 +1219,7 @@ fn exception_type(
     at.level = level;
     let root = read?;
     at.generalise(root)?;
-    // what is known of each store is made known by its length
+    // by the length of the store its invariant is known to the proof
     let _nodes = at.store.len();
     Ok(root)
 }

@@ -32,14 +32,17 @@ adds_then {E} p q = record {
 pub items_added_one : {E : Choice → Environment} {m : Item} {seen names : Seen} {a b : Parts} {G : Letters} {after : List Entry} → ItemAdded E m seen names a b G after → ItemsAdded E (m ∷ []) seen (seen_too seen names) a b G after
 items_added_one {E} {G = G} p = record { done = done_one p.done; alike = one_outside p.done (λ H F o. AddsAlike E F G H) p.alike; untyped = p.untyped }
 
+never : ⊥ → ⊥
+never k = k
+
 -- items after others
 pub items_added_then : {E : Choice → Environment} {ms ns : List Item} {seen names last : Seen} {a b c : Parts} {G : Letters} {mid after : List Entry} → IsSound a.store.nodes → (p : ItemsAdded E ms seen names a b G mid) → ItemsAdded p.done.env ns names last b c p.done.letters after → ItemsAdded E (ms ++ ns) seen last a c G after
-items_added_then {E} {G = G} sound p q = record { done = done_then sound p.done q.done; alike = then_outside sound p.done q.done (λ H F o. AddsAlike E F G H) (adds_then p.alike q.alike); untyped = untyped_then p.untyped q.untyped }
+items_added_then {E} {G = G} sound p q = record { done = done_then sound p.done q.done never never; alike = then_outside sound p.done q.done never never (λ H F o. AddsAlike E F G H) (adds_then p.alike q.alike); untyped = untyped_then p.untyped q.untyped }
 
 -- no item, between others
 pub items_added_none : {E : Choice → Environment} {a b : Parts} {G : Letters} {env : List Entry} (seen : Seen) → OnlyBetween (sight a) (sight b) → (at : Outside as_declared (sight a) G env E) → HasConstants b → AreNoted at.older b → ItemsAdded E [] seen seen a b G env
 unfolding done_none
-items_added_none {E} {G = G} seen only at constants noted = record { done = done_none seen only at constants noted; alike = adds_none E G; untyped = record { types = only.types } }
+items_added_none {E} {G = G} seen only at constants noted = record { done = done_none seen only at constants noted (λ k. absurd k); alike = adds_none E G; untyped = record { types = only.types } }
 
 -- an item that was done from a state that differs only as between items
 pub item_added_between : {E : Choice → Environment} {m : Item} {seen names : Seen} {a b d : Parts} {G : Letters} {after : List Entry} → OnlyBetween (sight a) (sight b) → ItemAdded E m seen names b d G after → ItemAdded E m seen names a d G after

@@ -104,6 +104,8 @@ module _ (b d : Parts) {G : Letters} {env : List Entry} {E : Choice → Environm
           letters = G;
           env = λ ch. named_entry ∷ E ch;
           carried = items_treated N carried;
+          clear = λ k placed. absurd k;
+          knows = λ k. absurd k;
           owners = treated_owned N carried (settled_owned at on_types (own_types b at constants) (own_at b at constants) [] z.settled.settled (λ c. exception_asks c part) (λ c. refl) z.settled.reports (ap is_aloud goes.telling) (ap fixed_of goes.constants)
               (λ V fits. fits_declared (frame_declares b at constants) z.to.on.assigns z.closes V fits) N (recorded_exception b.item n k u) declared);
           outside = next_starts.outside;

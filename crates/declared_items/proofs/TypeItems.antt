@@ -254,6 +254,8 @@ module _ (b d : Parts) {G : Letters} {env : List Entry} {E : Choice → Environm
           env = λ ch. F ++ E ch;
           carried = whole;
           owners = owned_all whole.left (λ c. tt);
+          clear = λ k placed. absurd k;
+          knows = λ k. absurd k;
           outside = outside_between last next.outside;
           noted = subst (λ U. AreNoted U d) (sym (next.older ∙ declared_there.older)) (noted_on z.numbers z.noted one.own.notes);
           adds = λ V c same loose agrees met.

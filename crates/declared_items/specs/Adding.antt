@@ -24,13 +24,13 @@ pub record AddsAlike (E after : Choice → Environment) (G H : Letters) : Type 0
 
 -- an item is done, and what it adds is the same whatever is chosen; what is recorded for it has no type
 pub record ItemAdded (E : Choice → Environment) (m : Item) (seen names : Seen) (a b : Parts) (G : Letters) (after : List Entry) : Type 0 where
-  pub done : ItemDone as_declared E m seen names a b G after
+  pub done : ItemDone as_declared ⊥ E m seen names a b G after
   pub alike : AddsAlike E done.env G done.letters
   pub untyped : Untyped a b
 
 -- the same of items in order
 pub record ItemsAdded (E : Choice → Environment) (ms : List Item) (seen names : Seen) (a b : Parts) (G : Letters) (after : List Entry) : Type 0 where
-  pub done : ItemsDone as_declared E ms seen names a b G after
+  pub done : ItemsDone as_declared ⊥ E ms seen names a b G after
   pub alike : AddsAlike E done.env G done.letters
   pub untyped : Untyped a b
 

@@ -65,7 +65,7 @@ in_closed nodes I (s ∷ rs) (suc k) r e h = by (is_closed nodes I s) (in_closed
 
 -- the frame of a declaration that starts at a state: its roots are a node without variables and the closed ones of the names in scope
 abbrev pub declaring_frame : Sight → Types → List ℕ → ℕ → Frame
-declaring_frame a I roots n = record { start = a.nodes; types = I; roots = n ∷ closed_of a.nodes I roots; held = λ k. []; level = 1; owner = a.item }
+declaring_frame a I roots n = record { start = a.nodes; types = I; roots = n ∷ closed_of a.nodes I roots; held = λ k. []; level = 1; owner = a.item; known = false }
 
 module _ (a : Sight) (I : Types) (own : IsOwn a.nodes I) (roots : List ℕ) (inside : (k r : ℕ) → slice_get roots k ≡ Some r → r < length a.nodes) (n : ℕ) (n_inside : n < length a.nodes) (none : (v : ℕ) → occurs v (I n) ≡ true → ⊥) where
   abbrev F : Frame

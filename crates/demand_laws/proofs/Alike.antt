@@ -1,5 +1,5 @@
 -- Conditions that make the same demands whatever types stand in them, and contexts that differ in the types that are chosen.
-use Rattle.std.proofs.Common.{◌≡◌, ◌∙◌, ℕ, Bool, true, false, ◌&&◌, List, [], ◌∷◌, ◌++◌, Option, Some, None, refl, sym, ap, subst, if◌then◌else◌}
+use Rattle.std.proofs.Common.{◌≡◌, ◌∙◌, ℕ, Bool, true, false, ◌&&◌, List, [], ◌∷◌, ◌++◌, map, Option, Some, None, refl, sym, ap, subst, if◌then◌else◌}
 use Rattle.std.proofs.Math.Path.{fun_ext}
 use Rattle.tree_model.specs.Trees.{Place}
 use Rattle.type_model.specs.Types.{Typ, Path}
@@ -13,15 +13,39 @@ use Rattle.signature_model.specs.Records.{Written, path_for, is_label_of, has_la
 use Rattle.signature_model.specs.Records as labels
 use Rattle.typing_model.specs.Demands.{Site, Demand, Condition, same, instance, made, known, demand, treated}
 use Rattle.typing_model.specs.Demands as demands
+use Rattle.token_model.specs.Kinds.{Tok}
+use Rattle.typing_model.specs.Demands.{Word}
+use Rattle.typing_model.specs.Names.{lost_behind, is_no_scope, place_unbound, complaint_unbound, ask_bound}
+use Rattle.typing_model.specs.Parts as parts
 use Rattle.typing_model.specs.Contexts.{Choice, Context, Bound, entries_with, with_names, monomorphic}
-use Rattle.typing_conditions.specs.Judging.{is_closing, judgements, judged_at}
+use Rattle.query_model.specs.Faults.{TyperKind}
+use Rattle.query_model.specs.Faults as kinds
+use Rattle.fault_model.specs.Refused.{kind_of_complaint, kind_asked, Refused, refused_of}
+use Rattle.typing_conditions.specs.Judging.{is_closing, Judgement, judgements, judged_at}
+
+-- a demand that is made: its site, whether it is kept, where it stands, and its kind
+pub record Asked : Type 0 where
+  pub site : Site
+  pub kept : Bool
+  pub at : Place
+  pub kind : TyperKind
+
+-- the demands of conditions, in order
+abbrev pub asked_of : (Site → Bool) → List Condition → List Asked
+asked_of kept [] = []
+asked_of kept (same t u ∷ cs) = asked_of kept cs
+asked_of kept (instance s t ∷ cs) = asked_of kept cs
+asked_of kept (made n t ∷ cs) = asked_of kept cs
+asked_of kept (demands.known t ∷ cs) = asked_of kept cs
+asked_of kept (demand s at d ∷ cs) = record { site = s; kept = kept s; at = at; kind = kind_asked d } ∷ asked_of kept cs
+asked_of kept (treated n env ∷ cs) = asked_of kept cs
 
 -- the same demands are made, in order
 pub record Same (xs ys : List Condition) : Type 0 where
-  pub each : (kept : Site → Bool) → judgements kept xs ≡ judgements kept ys
+  pub each : (kept : Site → Bool) → asked_of kept xs ≡ asked_of kept ys
 
 -- conditions that differ in types alone
-pub alone : {xs ys : List Condition} → ((kept : Site → Bool) → judgements kept xs ≡ judgements kept ys) → Same xs ys
+pub alone : {xs ys : List Condition} → ((kept : Site → Bool) → asked_of kept xs ≡ asked_of kept ys) → Same xs ys
 alone h = record { each = h }
 
 -- conditions are alike with themselves
@@ -36,23 +60,89 @@ at_treated h = alone h.each
 pub at_known : {t u : Typ} {cs ds : List Condition} → Same cs ds → Same (demands.known t ∷ cs) (demands.known u ∷ ds)
 at_known h = alone h.each
 
-judged_all : (kept : Site → Bool) (xs ys : List Condition) → judgements kept (xs ++ ys) ≡ judgements kept xs ++ judgements kept ys
-judged_all kept [] ys = refl
-judged_all kept (same t u ∷ xs) ys = judged_all kept xs ys
-judged_all kept (instance s t ∷ xs) ys = judged_all kept xs ys
-judged_all kept (made n t ∷ xs) ys = judged_all kept xs ys
-judged_all kept (demands.known t ∷ xs) ys = judged_all kept xs ys
-judged_all kept (demand s at d ∷ xs) ys = ap (λ js. judged_at s (kept s) (is_closing d) ∷ js) (judged_all kept xs ys)
-judged_all kept (treated n env ∷ xs) ys = judged_all kept xs ys
+asked_all : (kept : Site → Bool) (xs ys : List Condition) → asked_of kept (xs ++ ys) ≡ asked_of kept xs ++ asked_of kept ys
+asked_all kept [] ys = refl
+asked_all kept (same t u ∷ xs) ys = asked_all kept xs ys
+asked_all kept (instance s t ∷ xs) ys = asked_all kept xs ys
+asked_all kept (made n t ∷ xs) ys = asked_all kept xs ys
+asked_all kept (demands.known t ∷ xs) ys = asked_all kept xs ys
+asked_all kept (demand s at d ∷ xs) ys = ap (λ js. record { site = s; kept = kept s; at = at; kind = kind_asked d } ∷ js) (asked_all kept xs ys)
+asked_all kept (treated n env ∷ xs) ys = asked_all kept xs ys
 
 -- and so are further ones behind
 pub behind : {xs ys us vs : List Condition} → Same xs ys → Same us vs → Same (xs ++ us) (ys ++ vs)
 behind {xs} {ys} {us} {vs} h g = alone (λ kept.
-    judged_all kept xs us ∙ ap (λ js. js ++ judgements kept us) (h.each kept) ∙ ap (λ js. judgements kept ys ++ js) (g.each kept) ∙ sym (judged_all kept ys vs))
+    asked_all kept xs us ∙ ap (λ js. js ++ asked_of kept us) (h.each kept) ∙ ap (λ js. asked_of kept ys ++ js) (g.each kept) ∙ sym (asked_all kept ys vs))
 
--- a demand in front
-pub at_demand : {s : Site} {p q : Place} {d e : Demand} {cs ds : List Condition} → is_closing d ≡ is_closing e → Same cs ds → Same (demand s p d ∷ cs) (demand s q e ∷ ds)
-at_demand {s} {p} {q} {d} {e} {cs} {ds} c h = alone (λ kept. ap (λ b. judged_at s (kept s) b ∷ judgements kept cs) c ∙ ap (λ js. judged_at s (kept s) (is_closing e) ∷ js) (h.each kept))
+-- a demand in front, of the same kind
+at_place : {s : Site} {p q : Place} {d e : Demand} {cs ds : List Condition} → p ≡ q → kind_asked d ≡ kind_asked e → Same cs ds → Same (demand s p d ∷ cs) (demand s q e ∷ ds)
+at_place {s} {p} {q} {d} {e} {cs} {ds} place c h = alone (λ kept. λ i. record { site = s; kept = kept s; at = place i; kind = c i } ∷ h.each kept i)
+
+-- and at the same place
+pub at_demand : {s : Site} {p : Place} {d e : Demand} {cs ds : List Condition} → kind_asked d ≡ kind_asked e → Same cs ds → Same (demand s p d ∷ cs) (demand s p e ∷ ds)
+at_demand c h = at_place refl c h
+
+-- whether a kind is that of what a body closes
+abbrev closes_body : TyperKind → Bool
+closes_body kinds.closing = true
+closes_body _ = false
+
+no_body_closed : (c : demands.Complaint) → closes_body (kind_of_complaint c) ≡ false
+no_body_closed (demands.unbound w x) = refl
+no_body_closed (demands.arity x n m) = refl
+no_body_closed demands.no_label = refl
+no_body_closed (demands.not_mutable x) = refl
+no_body_closed (demands.incomplete x) = refl
+no_body_closed (demands.twice x) = refl
+no_body_closed (demands.one_side x) = refl
+no_body_closed demands.too_large = refl
+no_body_closed (demands.cyclic x) = refl
+no_body_closed (demands.differs x) = refl
+no_body_closed demands.no_functor = refl
+no_body_closed (demands.no_abstract_type x n) = refl
+
+closing_by_kind : (d : Demand) → closes_body (kind_asked d) ≡ is_closing d
+closing_by_kind (demands.equal t u) = refl
+closing_by_kind (demands.test c b) = no_body_closed c
+closing_by_kind (demands.agrees c n s t) = no_body_closed c
+closing_by_kind (demands.matches a t) = refl
+closing_by_kind (demands.closes e s) = refl
+
+-- a demand as it is judged, and as a fault where it isn't kept
+abbrev judgement_of : Asked → Judgement
+judgement_of a = judged_at a.site a.kept (closes_body a.kind)
+
+abbrev refused_first : Asked → List Refused → List Refused
+refused_first a rs = if a.kept then rs else record { at = a.at; kind = a.kind } ∷ rs
+
+abbrev refused_among : List Asked → List Refused
+refused_among [] = []
+refused_among (a ∷ xs) = refused_first a (refused_among xs)
+
+judgements_are : (kept : Site → Bool) (cs : List Condition) → judgements kept cs ≡ map judgement_of (asked_of kept cs)
+judgements_are kept [] = refl
+judgements_are kept (same t u ∷ cs) = judgements_are kept cs
+judgements_are kept (instance s t ∷ cs) = judgements_are kept cs
+judgements_are kept (made n t ∷ cs) = judgements_are kept cs
+judgements_are kept (demands.known t ∷ cs) = judgements_are kept cs
+judgements_are kept (demand s at d ∷ cs) = λ i. judged_at s (kept s) (sym (closing_by_kind d) i) ∷ judgements_are kept cs i
+judgements_are kept (treated n env ∷ cs) = judgements_are kept cs
+
+refused_are : (kept : Site → Bool) (cs : List Condition) → refused_of kept cs ≡ refused_among (asked_of kept cs)
+refused_are kept [] = refl
+refused_are kept (same t u ∷ cs) = refused_are kept cs
+refused_are kept (instance s t ∷ cs) = refused_are kept cs
+refused_are kept (made n t ∷ cs) = refused_are kept cs
+refused_are kept (demands.known t ∷ cs) = refused_are kept cs
+refused_are kept (demand s at d ∷ cs) = ap (λ rs. if kept s then rs else record { at = at; kind = kind_asked d } ∷ rs) (refused_are kept cs)
+refused_are kept (treated n env ∷ cs) = refused_are kept cs
+
+-- So they are judged alike, and the same faults are left of them.
+pub judged_same : {xs ys : List Condition} → Same xs ys → (kept : Site → Bool) → judgements kept xs ≡ judgements kept ys
+judged_same {xs} {ys} h kept = judgements_are kept xs ∙ ap (map judgement_of) (h.each kept) ∙ sym (judgements_are kept ys)
+
+pub refused_same : {xs ys : List Condition} → Same xs ys → (kept : Site → Bool) → refused_of kept xs ≡ refused_of kept ys
+refused_same {xs} {ys} h kept = refused_are kept xs ∙ ap refused_among (h.each kept) ∙ sym (refused_are kept ys)
 
 -- what depends on one thing
 pub along : {A : Type 0} (f g : A → List Condition) {a b : A} → a ≡ b → Same (f a) (g a) → Same (f a) (g b)
@@ -201,3 +291,18 @@ record_alike {E} {F} ls g = by (each_scope is_there s ls) (each_scope is_there t
         ap (λ x. if x then (if c then first_label label_entries E s ls ls else a_hole) else nothing) i ∙
         ap (λ x. if b then (if x then first_label label_entries E s ls ls else a_hole) else nothing) j ∙
         ap (λ x. if b then (if d then x else a_hole) else nothing) (first_label_alike s t g h ls ls)
+
+-- the first qualifier that leads to no module is the same in both
+path_alike : {E F : Environment} (path : List Name) (n : Name) → NamesAlike E F → scope_behind E (path ++ n ∷ []) ≡ scope_behind F (path ++ n ∷ [])
+path_alike [] n h = scope_alike n [] h
+path_alike (m ∷ ms) n h = scope_alike m (ms ++ n ∷ []) h
+
+lost_alike : {E F : Environment} (path : List Name) (qs : List Tok) → NamesAlike E F → lost_behind E path qs ≡ lost_behind F path qs
+lost_alike path [] h = refl
+lost_alike path (q ∷ qs) h = (λ i. if is_no_scope (path_alike path q.name h i) then Some q else lost_alike (path ++ q.name ∷ []) qs h i)
+
+-- So the demand that a path is bound stands at one place.
+pub at_bound : (c : Two) (n k : ℕ) (kind : Kind) (w : Word) (p : parts.Written) (t : Tok) {cs ds : List Condition} → Same cs ds → Same (ask_bound (left c) n k kind w p t ++ cs) (ask_bound (right c) n k kind w p t ++ ds)
+at_bound c n k kind w p t h =
+    let lost : lost_behind (left c).env [] p.qualifiers ≡ lost_behind (right c).env [] p.qualifiers = lost_alike [] p.qualifiers c.names in
+    at_place (ap (λ l. place_unbound l t) lost) (ap (λ l. kind_of_complaint (complaint_unbound l w t)) lost) h

@@ -7,6 +7,7 @@ use Rattle.type_model.specs.Schemes.{Scheme}
 use Rattle.signature_model.specs.Declarations.{Name, Declaration, Label, type_of}
 use Rattle.signature_model.specs.Components.{same_name}
 use Rattle.signature_model.specs.Entries.{value_kind, label_kind}
+use Rattle.typing_model.specs.Demands.{value_word, label_word}
 use Rattle.typing_model.specs.Demands.{site, equal, test, not_mutable, Condition, instance}
 use Rattle.typing_model.specs.Contexts.{Context, type_at, letter, ask}
 use Rattle.typing_model.specs.Parts.{Written, Form, a_constructor, a_path, a_float, a_false, a_field, no_expression, other, Expression, Pattern, TypeExpression, Binding, Case, Field, no_expression_at, place_of, last_of}
@@ -17,7 +18,7 @@ use Rattle.typing_model.specs.Patterns.{built_by, ask_all, behind_first, kept_re
 use Rattle.typing_model.specs.Bindings.{generalises}
 use Rattle.typing_model.specs.Expressions.{expression, typed_all, all_values, has_type, is_of, value_asks, name_form, name_expression, constructor_expression, path_expression, literal_form, constant_expression, hole_expression, parenthesised, begun, first_type, each_has, list_expression, cons_expression, tuple_expression, applied_from, behind_constructor, behind_unbound, behind_argument, constructor_applied, application_asks, is_built_value, application, operator_applied, name_of, infix_expression, prefix_expression, under_sign, minus_asks, minus_expression, label_found, field_asks, field_expression, ask_mutable, set_expression, pun_asks, field_value_asks, is_some, fields_ask, labels_of, names_of_labels, is_record, record_asks, update_asks, first_field, before_labels, loose_value, all_field_values, none_mutable, is_constant_record, record_expression, update_expression, assert_asks, assert_expression, if_expression, sequence_expression, while_expression, loop_names, for_expression, guard_asks, case_asks, later_cases, cases_ask, cases_are_values, match_expression, try_expression, function_expression, fun_expression, all_generalise, let_expression}
 use Rattle.typing_laws.proofs.Steady.{Each, no_one, one_and, each_append, IfThere, absent, there}
-use Rattle.demand_laws.proofs.Alike.{Same, alone, one, at_treated, behind, at_demand, along, Two, left, right, more, lookup_alike}
+use Rattle.demand_laws.proofs.Alike.{Same, alone, one, at_treated, behind, at_demand, at_bound, along, Two, left, right, more, lookup_alike}
 use Rattle.demand_laws.proofs.Types.{AlikeType}
 use Rattle.demand_laws.proofs.Patterns.{AlikePattern, constant_alike, built_alike, constructor_alone_alike, applied_alike, ask_record_alike, declaration_alike, kept_record_alike, BothThere, neither, both, field_types}
 use Rattle.demand_laws.proofs.Bindings.{IsFormAlike, AlikeExpression, AlikeBinding, apart_alike, bindings_alike, generalises_alike, in_let}
@@ -76,7 +77,7 @@ value_alike c n j p t u = by p.last refl
   where
     by : (o : Option Tok) → p.last ≡ o → Same (value_asks (left c) n j p t) (value_asks (right c) n j p u)
     by None e = rw (e, value_asks) (alone (λ k. refl))
-    by (Some x) e = rw (e, value_asks) (at_demand refl (use_silent t u (scheme_found (left c) n j p x) (scheme_found (right c) n j p x)))
+    by (Some x) e = rw (e, value_asks) (at_bound c n j value_kind value_word p x (use_silent t u (scheme_found (left c) n j p x) (scheme_found (right c) n j p x)))
 
 name_form_alike : (p : Written) → IsFormAlike (name_form p)
 name_form_alike p = by p.last refl
@@ -249,7 +250,7 @@ field_asked c n e p s = by p.last refl
   where
     by : (o : Option Tok) → p.last ≡ o → Same (field_asks (left c) n e p) (field_asks (right c) n e p)
     by None g = rw (g, field_asks) (s.types c)
-    by (Some t) g = rw (g, field_asks) (behind (behind (s.types c) (alone (λ k. refl)))
+    by (Some t) g = rw (g, field_asks) (behind (behind (s.types c) (at_bound c n 0 label_kind label_word p t (alone (λ k. refl))))
         (along (field_behind (left c) n e) (field_behind (right c) n e) (ap (λ o. if c.first.kept (site n 0) then o else None) (label_alike c p)) (field_silent c n e (if c.first.kept (site n 0) then label_found (left c) p else None))))
 
 pub field_alike : (n : ℕ) (q : Place) (e : Expression) (p : Written) → AlikeExpression e → AlikeExpression (field_expression n q e p)

@@ -6,6 +6,7 @@ use Rattle.type_model.specs.Types.{Typ}
 use Rattle.signature_model.specs.Declarations.{Name, Declaration, Label, type_of}
 use Rattle.signature_model.specs.Entries.{Environment, constructor_kind}
 use Rattle.signature_model.specs.Lookups.{scope_behind}
+use Rattle.typing_model.specs.Demands.{constructor_word}
 use Rattle.typing_model.specs.Demands.{site, Demand, equal, Condition, same}
 use Rattle.typing_model.specs.Contexts.{Context, Bound, type_at, ask}
 use Rattle.typing_model.specs.Parts.{Written, Pattern, TypeExpression, FieldPattern, no_pattern_at}
@@ -14,7 +15,7 @@ use Rattle.typing_model.specs.BuiltIns.{constant, constant_by, exn_type}
 use Rattle.typing_model.specs.Records.{labels_of, ask_once, field_type, ask_record, first_lost, first_token, declaration_found, name_in, find_label, labels_in}
 use Rattle.typing_model.specs.Patterns.{matched_all, matched_each, ask_all, over, pname, pconst, pneg, with_built, built_by, constructor_alone, pcon, argument_has, of_one_type, applied_constructor, argument_type, papp, pparen, plist, pcons, ptuple, pas, find_bound, common_names, sides_differ, name_apart, sides_beside, por, each_has, first_type, behind_first, mentions_in_field, match_pun, match_field, match_fields, labels_of_fields, kept_record, precord}
 use Rattle.typing_laws.proofs.Steady.{Each, no_one, one_and, IfThere, absent, there}
-use Rattle.demand_laws.proofs.Alike.{Same, alone, one, at_treated, at_known, behind, at_demand, along, Two, NamesAlike, left, right, scope_alike, lookup_alike, record_alike}
+use Rattle.demand_laws.proofs.Alike.{Same, alone, one, at_treated, at_known, behind, at_demand, at_bound, along, Two, NamesAlike, left, right, scope_alike, lookup_alike, record_alike}
 use Rattle.demand_laws.proofs.Types.{AlikeType}
 
 -- a pattern makes the same demands in both of two contexts
@@ -93,7 +94,7 @@ constructor_alone_alike c n p = by p.last refl
 
     by : (o : Option Tok) → p.last ≡ o → Same (constructor_alone (left c) n p) (constructor_alone (right c) n p)
     by None e = rw (e, constructor_alone) (alone (λ k. refl))
-    by (Some t) e = rw (e, constructor_alone) (at_demand refl (along (alone_behind (left c) n t) (alone_behind (right c) n t) (built_alike c n p t) (found t (built_by (left c) n p t))))
+    by (Some t) e = rw (e, constructor_alone) (at_bound c n 0 constructor_kind constructor_word p t (along (alone_behind (left c) n t) (alone_behind (right c) n t) (built_alike c n p t) (found t (built_by (left c) n p t))))
 
 pub pcon_alike : (n : ℕ) (q : Place) (p : Written) → AlikePattern (pcon n q p)
 pcon_alike n q p = record { matches = λ c seen. constructor_alone_alike c n p }
@@ -121,7 +122,7 @@ applied_alike c n p head nodes xs ys j q t u h = by p.last refl
 
     by : (o : Option Tok) → p.last ≡ o → Same (applied_constructor (left c) n p head nodes xs (argument_has n j q t)) (applied_constructor (right c) n p head nodes ys (argument_has n j q u))
     by None e = rw (e, applied_constructor) (at_treated (at_known unfound))
-    by (Some x) e = rw (e, applied_constructor) (at_treated (at_known (at_demand refl (
+    by (Some x) e = rw (e, applied_constructor) (at_treated (at_known (at_bound c n 0 constructor_kind constructor_word p x (
         along (applied_behind (left c) n head nodes xs (argument_has n j q t) x) (applied_behind (right c) n head nodes ys (argument_has n j q u) x) (built_alike c n p x) (found x (built_by (left c) n p x))))))
 
 pub papp_alike : (n : ℕ) (q : Place) (head p : Pattern) → AlikePattern p → AlikePattern (papp n q head p)

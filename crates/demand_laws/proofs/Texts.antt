@@ -19,8 +19,9 @@ use Rattle.typing_model.specs.Plain.{is_let_row, has_lets_alone}
 use Rattle.typing_laws.proofs.Bools.{no_yes, and_cases}
 use Rattle.typing_laws.proofs.Steady.{Each, no_one, one_and, IfThere, absent, there}
 use Rattle.typing_laws.proofs.SteadyRows.{first_there}
+use Rattle.fault_model.specs.Refused.{refused_of}
 use Rattle.typing_conditions.specs.Judging.{judgements}
-use Rattle.demand_laws.proofs.Alike.{Same, alone, at_treated, at_known, behind, along, AddedAlike, names_added, in_front, as_one, Two, left, right}
+use Rattle.demand_laws.proofs.Alike.{Same, alone, judged_same, refused_same, at_treated, at_known, behind, along, AddedAlike, names_added, in_front, as_one, Two, left, right}
 use Rattle.demand_laws.proofs.Alike as alike
 use Rattle.demand_laws.proofs.Types.{AlikeType, no_type_alike}
 use Rattle.demand_laws.proofs.Patterns.{AlikePattern, AlikeFieldPattern, no_pattern_alike}
@@ -154,7 +155,14 @@ items_same c seen (i ∷ xs) (one_and s each) =
     behind (s.asks c seen) (along (λ names. items_ask (left (behind_item c i s)) (seen_too seen names) xs) (λ names. items_ask (right (behind_item c i s)) (seen_too seen names) xs) (s.named c)
     (items_same (behind_item c i s) (seen_too seen (i.named (left c))) xs each))
 
+-- What a text asks is the same but for the types in it, whatever types are chosen.
+same_asked : (env : Environment) (text : List Tree) → has_lets_alone text ≡ true → (kept : Site → Bool) (ch other : Choice) → Same (conditions_of env text kept ch) (conditions_of env text kept other)
+same_asked env text e kept ch other = items_same (record { first = outermost env kept ch; env = env; choice = other; names = as_one }) no_names (items_of text) (items_alike 1 text e)
+
 -- Which demands a text makes doesn't depend on the types that are chosen.
 pub asks_alike : (env : Environment) (text : List Tree) → has_lets_alone text ≡ true → (kept : Site → Bool) (ch other : Choice) → judgements kept (conditions_of env text kept ch) ≡ judgements kept (conditions_of env text kept other)
-asks_alike env text e kept ch other =
-    (items_same (record { first = outermost env kept ch; env = env; choice = other; names = as_one }) no_names (items_of text) (items_alike 1 text e)).each kept
+asks_alike env text e kept ch other = judged_same (same_asked env text e kept ch other) kept
+
+-- Nor do the places and kinds of those that aren't kept.
+pub refused_alike : (env : Environment) (text : List Tree) → has_lets_alone text ≡ true → (kept : Site → Bool) (ch other : Choice) → refused_of kept (conditions_of env text kept ch) ≡ refused_of kept (conditions_of env text kept other)
+refused_alike env text e kept ch other = refused_same (same_asked env text e kept ch other) kept

@@ -4,13 +4,14 @@ use Rattle.token_model.specs.Kinds.{Tok}
 use Rattle.tree_model.specs.Trees.{Place}
 use Rattle.signature_model.specs.Declarations.{Declaration}
 use Rattle.signature_model.specs.Entries.{type_kind}
+use Rattle.typing_model.specs.Demands.{type_word}
 use Rattle.typing_model.specs.Demands.{site}
 use Rattle.typing_model.specs.Contexts.{Variables, in_item, parameters, unresolved_in}
 use Rattle.typing_model.specs.Parts.{Written, TypeExpression, no_type_at}
 use Rattle.typing_model.specs.Names.{names_of, then_by, referent_of, found_by, declaration_in}
 use Rattle.typing_model.specs.TypeExpressions.{index_from, variable_asks, tvar, read_all, declared_type, constructor_asks, tcon, tapp, in_parentheses, equal_of_one, tparen, ttuple, tarrow}
 use Rattle.typing_laws.proofs.Steady.{Each, no_one, one_and}
-use Rattle.demand_laws.proofs.Alike.{Same, alone, behind, at_demand, along, Two, left, right, lookup_alike}
+use Rattle.demand_laws.proofs.Alike.{Same, alone, behind, at_demand, at_bound, along, Two, left, right, lookup_alike}
 
 -- a type expression makes the same demands in both of two contexts
 pub record AlikeType (t : TypeExpression) : Type 0 where
@@ -59,7 +60,7 @@ constructor_alike c n p ns = by p.last refl
   where
     by : (o : Option Tok) → p.last ≡ o → Same (constructor_asks (left c) n p ns) (constructor_asks (right c) n p ns)
     by None e = rw (e, constructor_asks) (unresolved_alike c n c.first.variables)
-    by (Some t) e = rw (e, constructor_asks) (at_demand refl (
+    by (Some t) e = rw (e, constructor_asks) (at_bound c n 0 type_kind type_word p t (
         along (declared_type (left c) n t ns) (declared_type (right c) n t ns)
         (ap (λ f. if c.first.kept (site n 0) then then_by (referent_of f) declaration_in else None) (lookup_alike (names_of p.qualifiers) type_kind t.name refl c.names))
         (declared_alike c n t ns (if c.first.kept (site n 0) then then_by (referent_of (found_by (left c) type_kind p t)) declaration_in else None))))

@@ -41,7 +41,8 @@ use Rattle.use_typing.specs.Uses.{GivenOrNew}
 use Rattle.use_typing.specs.Paths.{labels_of}
 use Rattle.use_typing.proofs.Recording.{named_among}
 use Rattle.record_steps.specs.Named.{labels_here}
-use Rattle.record_steps.proofs.Noted.{untyped_told}
+use Rattle.operand_laws.specs.Operands.{number_of}
+use Rattle.record_steps.proofs.Noted.{untyped_node}
 use Rattle.record_rows.specs.Fields.{RecordHere}
 use Rattle.record_rows.specs.Operands.{labels_at}
 use Rattle.record_rows.specs.Completing.{absent_here, AsksAbsent, AsksComplete, Completes}
@@ -91,10 +92,10 @@ pun_there (Err e) o t a b env k wanted some puns = tt
 pun_there (Ok x) o t a b env k wanted some puns = subst (λ q. PunsValue (token_view q) a b env k wanted) (sym some) puns
 
 -- the value of its name, and the record of its node
-pub pun_noted : (r : Result Unit AllocError) (a b d : Parts) (env : List Entry) (number k : ℕ) (t : Tok) (wanted : Option NodeRef) (seen : Seen) → seen.ty ≡ None → TakesName a b env t wanted → OnOk r (Noted b.telling b d number seen) → OnlyIndex b d → OnOk r (PunsLabel a d env k t wanted)
-pun_noted (Err e) a b d env number k t wanted seen none x noted rest = tt
-pun_noted (Ok u) a b d env number k t wanted seen none x noted rest =
-    record { used = x.used; asked = b; node = x.node; typed = x.typed k 1; goes = x.goes; equal = x.equal; noted = untyped_told b d number seen none noted rest }
+pub pun_noted : (r : Result Unit AllocError) (a b d : Parts) (env : List Entry) (number k : ℕ) (t : Tok) (wanted : Option NodeRef) (seen : Seen) → seen.ty ≡ None → number_of b.item number ≡ k → TakesName a b env t wanted → OnOk r (Noted b.telling b d number seen) → OnlyIndex b d → OnOk r (PunsLabel a d env k t wanted)
+pun_noted (Err e) a b d env number k t wanted seen none is x noted rest = tt
+pun_noted (Ok u) a b d env number k t wanted seen none is x noted rest =
+    record { used = x.used; asked = b; node = x.node; typed = x.typed k 1; goes = x.goes; equal = x.equal; noted = untyped_node b d k number seen none noted rest is }
 
 -- the type of a record
 pub record_given : (found : RecordType) (a b : Parts) (ty : NodeRef) → GivenOrNew (node_of found) a b ty → (node_of found ≡ None → TypesAny a b ty.0) → GivesRecord (here_of found) a b ty.0

@@ -1,5 +1,5 @@
 -- After declarations the names of the code are those of the definitions.
-use Rattle.std.proofs.Common.{◌≡◌, ◌⊎◌, ◌∙◌, ℕ, zero, suc, ◌<◌, true, List, [], ◌∷◌, ◌++◌, length, Option, Some, refl, sym, subst, inl, inr}
+use Rattle.std.proofs.Common.{◌≡◌, ◌⊎◌, ◌∙◌, ℕ, zero, suc, ◌<◌, true, false, List, [], ◌∷◌, ◌++◌, length, Option, Some, refl, sym, subst, inl, inr}
 use Rattle.std.specs.Prelude.{slice_get}
 use Rattle.type_model.specs.Types.{Typ, occurs}
 use Rattle.type_model.specs.Schemes.{Scheme}
@@ -17,6 +17,7 @@ use Rattle.typing_conditions.specs.Assumptions.{SchemeFits, SchemeReads}
 use Rattle.typing_conditions.specs.Environments.{EnvAs}
 use Rattle.typing_conditions.specs.Standing.{IsIn, Covers, Stands}
 use Rattle.typing_conditions.specs.Declared.{DeclaredAs, ExceptionAs}
+use Rattle.typing_laws.proofs.Bools.{no_yes}
 use Rattle.typing_conditions.specs.Sights.{Sight, Letters}
 use Rattle.typing_conditions.proofs.Own.{own_of}
 use Rattle.typing_conditions.proofs.Steps.{same_node}
@@ -107,6 +108,8 @@ outside_declared {a} {b} {G} {env} {more} {E} {F} at on new = record {
   covered = let own = own_of b.nodes on.sound in
       covers_more SchemeReads specified (DeclaredAs a.nodes at.roots at.names) (DeclaredAs b.nodes (new.new_roots ++ at.roots) new.new_names) (ExceptionAs a.nodes at.roots at.names) (ExceptionAs b.nodes (new.new_roots ++ at.roots) new.new_names)
       b.nodes new.new_roots at.roots more F new.are_bound new.entries (later own.0 own.1) (later_exception own.0 own.1) env (λ r sc h. h.root.among) at.covered;
+  known = false;
+  knows = λ known. absurd (no_yes known);
   reads = λ K V ch own reads g.
       stands_more SchemeReads specified (DeclaredAs a.nodes at.roots at.names) (DeclaredAs b.nodes (new.new_roots ++ at.roots) new.new_names) (ExceptionAs a.nodes at.roots at.names) (ExceptionAs b.nodes (new.new_roots ++ at.roots) new.new_names)
       b.nodes new.new_roots at.roots more F new.are_bound new.entries (later K own) (later_exception K own) K V env (E ch) (λ r sc h. (specified_reads K own h V reads, h.root.among)) own

@@ -104,6 +104,8 @@ outside_given given at = record {
   steady = at.steady;
   context = at.context;
   covered = at.covered;
+  known = at.known;
+  knows = at.knows;
   reads = λ J V ch own reads g. at.reads J V ch own reads (record { recorded = g.recorded; known = g.known; given = given V ch g.given });
   fits = λ J V ch own loose g. at.fits J V ch own loose (record { recorded = g.recorded; known = g.known; given = given V ch g.given });
 }

@@ -3,6 +3,7 @@ use Rattle.std.proofs.Common.{◌≡◌, ℕ, zero, suc, ◌+◌, ◌-◌, ◌*�
 use Rattle.std.specs.Prelude.{if◌then◌else◌, is_some}
 use Rattle.std.specs.Result.{OnOk, OnErr}
 use Rattle.std.specs.declared.result.Result.{Result}
+use Rattle.std.proofs.lemmas.Bool.{ltb-true, ltb-false}
 use Rattle.std.proofs.lemmas.Bool.Decides.{nat_tests}
 use Rattle.std.proofs.lemmas.List.{take-take, take_all, take-append-le, length-map, length-take, length-take-le}
 use Rattle.text_model.specs.Edits.{Edit, Outcome, Refusal, apply, changed, is_inside_char, outcome_between, outcome_of, text_limit}
@@ -11,8 +12,7 @@ use Rattle.text_model.specs.Positions.{offset}
 use Rattle.text_model.proofs.Positions.{offset-le}
 use Rattle.token_model.specs.Kinds.{Tok}
 use Rattle.token_model.specs.Tokens.{no_gap, FirstToken, Lex}
-use Rattle.syntax_tree.specs.Tallies.{Tallies, Grows, lexed_more, shifted_more}
-use Rattle.frame_parser.specs.Run.{shifted_by}
+use Rattle.syntax_tree.specs.Tallies.{Tallies, Grows, lexed_more}
 use Rattle.syntax_tree.specs.View.{tok_of}
 use Rattle.syntax_tree.specs.declared.tree.Token.{Token}
 use Rattle.ml_lexer.specs.Reached.{Reached, FirstReached, end_of, reach_of, reached_of}
@@ -124,6 +124,17 @@ read_known r text from same kept old new parse front all refused many h =
 pub steady_one : (text : List ℕ) (from : ℕ) (old new : List Reached) → AreLeft text from old → AreLeft text from new → steady reach_of from old ≡ steady reach_of from new
 steady_one text from old new h k = h.left ∙ same_steady FirstReached end_of reach_of reached_steady from h.read k.read (h.same ∙ sym k.same) 0 h.all k.all h.lexed k.lexed ∙ sym k.left
 
+-- of tokens no more end at a later place or behind
+pub fewer_end : (place later : ℕ) (ts : List Tok) → place ≤ later → ends_at tok_end later ts ≤ ends_at tok_end place ts
+fewer_end place later [] le = omega arith
+fewer_end place later (t ∷ ts) le = go (nat_lt t.end later) refl (nat_lt t.end place) refl (fewer_end place later ts le)
+  where
+    go : (c : Bool) → nat_lt t.end later ≡ c → (d : Bool) → nat_lt t.end place ≡ d → ends_at tok_end later ts ≤ ends_at tok_end place ts → (if c then 0 else 1) + ends_at tok_end later ts ≤ (if d then 0 else 1) + ends_at tok_end place ts
+    go true e true f rest = omega (arith, rest)
+    go true e false f rest = omega (arith, rest)
+    go false e false f rest = omega (arith, rest)
+    go false e true f rest = let least = ltb-false t.end later e in let less = ltb-true t.end place f in absurd (omega (arith, least, less, le))
+
 -- Where the parser knows the tokens that a change leaves, it knows all but those that are read behind it.
 pub known_most : (text : List ℕ) (from same : ℕ) (now : List Reached) (ts : List Tok) → AllTokens FirstReached end_of text 0 now → Lex text ts → length (steady reach_of from now) ≤ same → length ts - read_behind from ts ≤ same
 known_most text from same now ts lexed lex known =
@@ -137,36 +148,27 @@ known_most text from same now ts lexed lex known =
 same_place : (from place : ℕ) (noted other : Option ℕ) → noted ≡ Some from → noted ≡ other → other ≡ Some place → from ≡ place
 same_place from place noted other is same there = cc
 
--- so many shifted tokens more
-pub shifted_most : (n : ℕ) (a : Tallies) → (shifted_by n a).shifted ≤ a.shifted + n
-shifted_most zero a = omega arith
-shifted_most (suc n) a = omega (arith, shifted_most n (shifted_more a))
-
-pub shifted_within : (a b : Tallies) (n most : ℕ) → b ≡ shifted_by n a → n ≤ most → b.shifted ≤ a.shifted + most
-shifted_within a b n most is le = omega (arith, ap (λ (t : Tallies). t.shifted) is, shifted_most n a, le)
-
 -- what is lexed isn't shifted
 lexed_unshifted : (n : ℕ) (a : Tallies) → (lexed_by n a).shifted ≡ a.shifted
 lexed_unshifted zero a = refl
 lexed_unshifted (suc n) a = lexed_unshifted n a
 
 -- A refresh counts as shifted no more than it may shift: once the tokens are read, and once they are parsed, or could not be.
-pub read_shifts : (outside : Kept) (a b : Tallies) (n : ℕ) → b ≡ lexed_by n a → (place : ℕ) (ts : List Tok) → outside.changed ≡ Some place → Lex outside.text ts → b.shifted ≤ a.shifted + shifted_behind place ts
-read_shifts outside a b n is place ts there lex = omega (arith, ap (λ (t : Tallies). t.shifted) is, lexed_unshifted n a)
+pub read_shifts : (outside : Kept) (a b : Tallies) (n : ℕ) → b ≡ lexed_by n a → (from place : ℕ) (ts : List Tok) → outside.changed ≡ Some from → place ≤ from → Lex outside.text ts → b.shifted ≤ a.shifted + shifted_behind place ts
+read_shifts outside a b n is from place ts there le lex = omega (arith, ap (λ (t : Tallies). t.shifted) is, lexed_unshifted n a)
 
 pub parsed_shifts : (inside outside : Kept) (text : List ℕ) (from same n : ℕ) (tokens : List Token) (now : List Reached) (a b c : Tallies) → inside ≡ outside → inside.changed ≡ Some from → text ≡ inside.text → b ≡ lexed_by n a
     → AllTokens FirstReached end_of text 0 now → map reached_of tokens ≡ now → length (steady reach_of from now) ≤ same
     → ((k : ℕ) → k ≤ same → c.shifted ≤ b.shifted + (kept_behind program_text (take k (map tok_of tokens)) + 2 * (length tokens - k)))
-    → (place : ℕ) (ts : List Tok) → outside.changed ≡ Some place → Lex outside.text ts → c.shifted ≤ a.shifted + shifted_behind place ts
-parsed_shifts inside outside text from same n tokens now a b c view noted is counted all are known work place ts there lex =
+    → (noting place : ℕ) (ts : List Tok) → outside.changed ≡ Some noting → place ≤ noting → Lex outside.text ts → c.shifted ≤ a.shifted + shifted_behind place ts
+parsed_shifts inside outside text from same n tokens now a b c view noted is counted all are known work noting place ts there le lex =
     let own : Lex text ts = subst (λ (l : List ℕ). Lex l ts) (sym (is ∙ ap (λ (k : Kept). k.text) view)) lex in
-    let at : from ≡ place = same_place from place inside.changed outside.changed noted (ap (λ (k : Kept). k.changed) view) there in
+    let at : from ≡ noting = same_place from noting inside.changed outside.changed noted (ap (λ (k : Kept). k.changed) view) there in
     let one : map tok_of tokens ≡ ts = toks_are tokens now are ∙ lex_one text (toks_of now) ts (lex_of text now all) own in
-    let k = length ts - read_behind from ts in
-    let within = work k (known_most text from same now ts all own known) in
-    let most : c.shifted ≤ a.shifted + shifted_behind from ts =
-    omega (arith, within, ap (λ (l : List Tok). kept_behind program_text (take k l)) one, length-map tokens tok_of, ap length one, ap (λ (t : Tallies). t.shifted) counted, lexed_unshifted n a) in
-    subst (λ m. c.shifted ≤ a.shifted + shifted_behind m ts) at most
+    let k = length ts - read_behind place ts in
+    let fewer = fewer_end place from ts (omega (arith, le, at)) in
+    let within = work k (omega (arith, known_most text from same now ts all own known, fewer)) in
+    omega (arith, within, ap (λ (l : List Tok). kept_behind program_text (take k l)) one, length-map tokens tok_of, ap length one, ap (λ (t : Tallies). t.shifted) counted, lexed_unshifted n a)
 
 counted_one : (a b : Tallies) → Grows a b → Grows a (lexed_more b)
 counted_one a b g = let x = g.lexed in let y = g.shifted in let z = g.typed in record { lexed = omega arith; shifted = omega arith; typed = omega arith }

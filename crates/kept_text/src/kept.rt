@@ -97,15 +97,15 @@ impl KeptText {
 
     /// Brings the tokens and the tree up to the text: those from the first changed byte on are read and parsed, and at most 32 tokens
     /// that end before it are read once more. After `NoMemory` the next call does what is left. A token that is parsed counts as
-    /// shifted once for each time that the parser takes it, and it takes none more than twice. Answers how many items at the front are
-    /// known to be as they were, which are none after a call that failed.
+    /// shifted once for each time that the parser takes it, and it takes none more than twice; the bound on these holds by any place up
+    /// to that byte. Answers how many items at the front are known to be as they were, which are none after a call that failed.
     pub fn refresh<C: Counts>(&mut self, counts: &mut C) -> Result<usize, NoMemory>
         ensures text { self.new.text ≡ self.old.text }
         ensures current { OnOk result (self.new.changed ≡ None) }
         ensures refused { OnErr result (self.new.changed ≡ self.old.changed) }
         ensures front { IfOk result (λ n. SharesFront (trees_in self.old.tokens) (trees_in self.new.tokens) n) }
         ensures work { (from : ℕ) (ts : List Tok) → self.old.changed ≡ Some from → Lex self.old.text ts → (C.tallies counts.new).lexed ≤ (C.tallies counts.old).lexed + read_behind from ts }
-        ensures shifted { (from : ℕ) (ts : List Tok) → self.old.changed ≡ Some from → Lex self.old.text ts → (C.tallies counts.new).shifted ≤ (C.tallies counts.old).shifted + shifted_behind from ts }
+        ensures shifted { (from place : ℕ) (ts : List Tok) → self.old.changed ≡ Some from → place ≤ from → Lex self.old.text ts → (C.tallies counts.new).shifted ≤ (C.tallies counts.old).shifted + shifted_behind place ts }
         ensures idle { self.old.changed ≡ None → C.tallies counts.new ≡ C.tallies counts.old }
         ensures untyped { (C.tallies counts.new).typed ≡ (C.tallies counts.old).typed }
         ensures grows { Grows (C.tallies counts.old) (C.tallies counts.new) }

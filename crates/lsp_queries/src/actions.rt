@@ -200,7 +200,7 @@ fn terms_or_none(alloc: Global, terms: Option<Vec<Action>>) -> Vec<Action>
 }
 
 /// The terms at a place, where there are any, or else those for a missing part near the asked span.
-#[tactic(auto, using(crate::proofs::Near::others_found, crate::proofs::Near::others_empty))]
+#[tactic(auto, using(crate::proofs::Near::others_found))]
 fn terms_for<A: Analyser, C: Counts>(
     alloc: Global,
     session: &Session<A>,

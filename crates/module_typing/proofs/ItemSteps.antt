@@ -1,5 +1,6 @@
 -- What the calls for the items of a structure carry, from what each call in them does.
-use Rattle.std.proofs.Common.{inl, inr, ◌≡◌, ◌∙◌, ℕ, ◌+◌, ◌<◌, ◌≤◌, false, drop, length, slice_index_or, List, [], ◌∷◌, ◌++◌, map, Some, None, refl, sym, ap, subst, append_assoc, append-nil}
+use Rattle.std.proofs.Common.{inl, inr, ◌≡◌, ◌∙◌, ℕ, ◌+◌, ◌<◌, ◌≤◌, false, drop, length, slice_index_or, List, [], ◌∷◌, ◌++◌, map, Some, None, refl, sym, ap, subst, append_assoc, append-nil, true}
+use Rattle.tree_model.specs.Trees.{inner}
 use Rattle.std.specs.Prelude.{Result, Ok, Err, OnOk}
 use Rattle.std.proofs.lemmas.List.{drop_more, drop_all}
 use denote.Ref.{Bor}
@@ -20,6 +21,7 @@ use Rattle.typing_steps.specs.States.{is_aloud}
 use Rattle.typing_steps.specs.Typing.{as_declared}
 use Rattle.typing_steps.proofs.Starting.{constants_kept}
 use Rattle.core_typing.specs.Items.{IsCarriedPart, IsCarriedItemOperand, IsItemNode, IsExceptionNode, ItemsDone, GivesLet, GivesException, item_at, items_at}
+use Rattle.binding_rows.proofs.ItemOrders.{weaker}
 use Rattle.core_typing.proofs.ItemLaws.{done_none, done_then, let_done, idle_given, exception_done, noted_between, noted_on}
 use Rattle.module_steps.specs.declared.scenes.Scene.{Scene}
 use Rattle.module_steps.specs.Scenes.{has_name, SameNames}
@@ -27,15 +29,15 @@ use Rattle.signature_typing.specs.Specifications.{IsGiven}
 use Rattle.signature_typing.proofs.NodeRows.{row_there, only_exception}
 use Rattle.signature_typing.proofs.SpecificationSteps.{seen_same, there}
 use Rattle.module_typing.proofs.NodeRows.{only_let, only_break, break_there}
-use Rattle.module_typing.specs.Items.{GivesItem, GivesItems, NamesNone, GivesFirst, GivesItemsFirst}
+use Rattle.module_typing.specs.Items.{GivesItem, GivesItems, NamesNone, KeepsKnown, GivesFirst, GivesItemsFirst}
 
 -- what is missing is noted, and nothing else is done
 pub missing_given : {A F : Type 0} (r : Result A F) (a b : Parts) (s : Scene) (x : Operand) → x.node ≡ None → OnOk r (NotedNameless a b x.number s.env None) → OnlyIndex a b → Goes a b → OnOk r (GivesItem a b s s (operand_view x))
 missing_given (Err e) a b s x none noted rest goes = tt
 missing_given (Ok v) a b s x none noted rest goes = λ G E seen carried aloud at constants older standing.
-    subst (λ p. IsGiven E (item_at a.item (numbered x.number (place_of x.span) p)) seen a b G s) (sym (ap (λ o. part_of o x.span) none)) (record {
+    subst (λ p. IsGiven ((at.known ≡ true) × KeepsKnown p) E (item_at a.item (numbered x.number (place_of x.span) p)) seen a b G s) (sym (ap (λ o. part_of o x.span) none)) (record {
       names = seen;
-      done = done_none seen (noted_between a b x.number s.env noted rest) at (constants_kept a b goes constants) (noted_on at.older older goes);
+      done = done_none seen (noted_between a b x.number s.env noted rest) at (constants_kept a b goes constants) (noted_on at.older older goes) (λ k. k.0);
       standing = standing;
     })
 
@@ -43,9 +45,9 @@ missing_given (Ok v) a b s x none noted rest goes = λ G E seen carried aloud at
 pub break_given : {A F : Type 0} (r : Result A F) (a b : Parts) (s : Scene) (x : Operand) (nd : Bor Node) → x.node ≡ Some nd → (out-Node nd.now).row ≡ name.Break → OnOk r (NotedNameless a b x.number s.env None) → OnlyIndex a b → Goes a b → OnOk r (GivesItem a b s s (operand_view x))
 break_given (Err e) a b s x nd some row noted rest goes = tt
 break_given (Ok v) a b s x nd some row noted rest goes = λ G E seen carried aloud at constants older standing.
-    subst (λ p. IsGiven E (item_at a.item (numbered x.number (place_of x.span) p)) seen a b G s) (sym (there x nd some)) (record {
+    subst (λ p. IsGiven ((at.known ≡ true) × KeepsKnown p) E (item_at a.item (numbered x.number (place_of x.span) p)) seen a b G s) (sym (there x nd some)) (record {
       names = seen;
-      done = idle_given a b s.env x.number (place_of x.span) (node_view nd.now) G E seen (break_there nd.now row) (noted_between a b x.number s.env noted rest) at (constants_kept a b goes constants) (noted_on at.older older goes);
+      done = idle_given a b s.env x.number (place_of x.span) (node_view nd.now) G E seen (break_there nd.now row) (noted_between a b x.number s.env noted rest) at (constants_kept a b goes constants) (noted_on at.older older goes) (λ k. k.0);
       standing = standing;
     })
 
@@ -53,9 +55,9 @@ break_given (Ok v) a b s x nd some row noted rest goes = λ G E seen carried alo
 pub let_item_given : {A F : Type 0} (r : Result A F) (a b : Parts) (s s' : Scene) (x : Operand) (nd : Bor Node) → x.node ≡ Some nd → (out-Node nd.now).row ≡ name.Let → OnOk r (GivesLet a b s.env s'.env x.number (node_view nd.now)) → SameNames s s' → OnOk r (GivesItem a b s s' (operand_view x))
 let_item_given (Err e) a b s s' x nd some row gives same = tt
 let_item_given (Ok v) a b s s' x nd some row gives same = λ G E seen carried aloud at constants older standing.
-    subst (λ p. IsGiven E (item_at a.item (numbered x.number (place_of x.span) p)) seen a b G s') (sym (there x nd some)) (record {
+    subst (λ p. IsGiven ((at.known ≡ true) × KeepsKnown p) E (item_at a.item (numbered x.number (place_of x.span) p)) seen a b G s') (sym (there x nd some)) (record {
       names = seen;
-      done = let_done a b s.env s'.env x.number (place_of x.span) (node_view nd.now) G E seen (is_let carried) aloud at constants older gives;
+      done = weaker (λ k. k.0) (let_done a b s.env s'.env x.number (place_of x.span) (node_view nd.now) G E seen (is_let carried) aloud at constants older gives);
       standing = seen_same same standing;
     })
   where
@@ -72,12 +74,16 @@ let_item_given (Ok v) a b s s' x nd some row gives same = λ G E seen carried al
 pub exception_given : {A F : Type 0} (r : Result A F) (a b : Parts) (s s' : Scene) (x : Operand) (nd : Bor Node) → x.node ≡ Some nd → (out-Node nd.now).row ≡ name.Exception → OnOk r (GivesException a b s.env s'.env x.number (node_view nd.now)) → SameNames s s' → OnOk r (GivesItem a b s s' (operand_view x))
 exception_given (Err e) a b s s' x nd some row gives same = tt
 exception_given (Ok v) a b s s' x nd some row gives same = λ G E seen carried aloud at constants older standing.
-    subst (λ p. IsGiven E (item_at a.item (numbered x.number (place_of x.span) p)) seen a b G s') (sym (there x nd some)) (record {
+    subst (λ p. IsGiven ((at.known ≡ true) × KeepsKnown p) E (item_at a.item (numbered x.number (place_of x.span) p)) seen a b G s') (sym (there x nd some)) (record {
       names = seen;
-      done = exception_done a b s.env s'.env x.number (place_of x.span) (node_view nd.now) G E seen (is_exception carried) aloud at constants older gives;
+      done = weaker none_kept (exception_done a b s.env s'.env x.number (place_of x.span) (node_view nd.now) G E seen (is_exception carried) aloud at constants older gives);
       standing = seen_same same standing;
     })
   where
+    none_kept : {K : Type 0} → K × KeepsKnown (inner (node_view nd.now)) → ⊥
+    none_kept (k, inl let_is) = absurd (let b : name.Exception ≡ name.Let = sym row ∙ only_let (out-Node nd.now).row (sym (row_there nd.now) ∙ let_is) in cc)
+    none_kept (k, inr break_is) = absurd (let b : name.Exception ≡ name.Break = sym row ∙ only_break (out-Node nd.now).row (sym (row_there nd.now) ∙ break_is) in cc)
+
     is_exception : IsCarriedItemOperand (operand_view x) → IsExceptionNode x.number (node_view nd.now)
     is_exception carried = elim (subst (IsCarriedPart x.number) (there x nd some) carried) [
       | inl item ↦ absurd (let b : name.Exception ≡ name.Let = sym row ∙ only_let (out-Node nd.now).row (sym (row_there nd.now) ∙ item.row) in cc)
@@ -114,7 +120,7 @@ items_start a env s all same none G E carried aloud at constants older = record 
   items = [];
   given = record {
     names = no_names;
-    done = subst (λ es. ItemsDone as_declared E [] no_names no_names a a G es) (sym same) (done_none no_names (record { nodes = refl; types = λ i p. refl; noted = λ i p h. h; reports = refl; aloud = refl; level = refl; fixed = refl }) at constants older);
+    done = subst (λ es. ItemsDone as_declared ⊥ E [] no_names no_names a a G es) (sym same) (done_none no_names (record { nodes = refl; types = λ i p. refl; noted = λ i p h. h; reports = refl; aloud = refl; level = refl; fixed = refl }) at constants older (λ k. absurd k));
     standing = record { types = λ n. none kind.TypeName n; modules = λ n. none kind.Module n; module_types = λ n. none kind.ModuleType n };
   };
   splits = refl;
@@ -131,7 +137,7 @@ items_next a b d env s s' all os i x lt here goes first gives G E carried aloud 
     let whole : f.items ++ (item_at a.item (operand_view x) ++ items_at a.item (map operand_view (drop (i + 1) os))) ≡ items_at a.item all = f.splits in
     record {
       items = f.items ++ item_at b.item (operand_view x);
-      given = record { names = g.names; done = done_then {last = g.names} at.sound f.given.done g.done; standing = g.standing };
+      given = record { names = g.names; done = done_then {last = g.names} at.sound f.given.done g.done (λ k. absurd k) (λ k. absurd k); standing = g.standing };
       splits = append_assoc f.items (item_at b.item (operand_view x)) (items_at a.item (map operand_view (drop (i + 1) os)))
           ∙ ap (λ n. f.items ++ (item_at n (operand_view x) ++ items_at a.item (map operand_view (drop (i + 1) os)))) goes.item ∙ whole;
       carried = f.carried.1;
@@ -141,4 +147,4 @@ items_next a b d env s s' all os i x lt here goes first gives G E carried aloud 
 pub items_end : (a b : Parts) (env : List Entry) (s : Scene) (all : List Numbered) (os : List Operand) (i : ℕ) → length os ≤ i → GivesItemsFirst a b env s all (map operand_view (drop i os)) → GivesItems a b env all
 items_end a b env s all os i past first G E carried aloud at constants older =
     let f : GivesFirst E G a b s all [] = subst (λ us. GivesFirst E G a b s all (map operand_view us)) (drop_all i os past) (first G E carried aloud at constants older) in
-    (s.env, f.given.names, subst (λ ms. ItemsDone as_declared E ms no_names f.given.names a b G s.env) (sym (append-nil f.items) ∙ f.splits) f.given.done)
+    (s.env, f.given.names, subst (λ ms. ItemsDone as_declared ⊥ E ms no_names f.given.names a b G s.env) (sym (append-nil f.items) ∙ f.splits) f.given.done)

@@ -17,9 +17,20 @@ use Rattle.core_typing.specs.Items.{Outside, AreNoted, IsCarriedItemOperand, Ite
 use Rattle.module_steps.specs.declared.scenes.Scene.{Scene}
 pub use Rattle.signature_typing.specs.Specifications.{HasSeen, IsGiven}
 
+-- what leaves it open to say that all that is to be known of names is: a `let`, `;;`, and what is missing
+abbrev pub KeepsKnown : Part → Type 0
+KeepsKnown (taken t) = Unit {0}
+KeepsKnown (inner t) = (row_of t ≡ let_row) ⊎ (row_of t ≡ break_row)
+KeepsKnown (missing at) = Unit {0}
+
+-- all of some items do
+abbrev pub AllKeep : List Numbered → Type 0
+AllKeep [] = Unit {0}
+AllKeep (o ∷ os) = KeepsKnown o.part × AllKeep os
+
 -- What the call for an item of a structure gives where faults are reported, if the item is one that is carried: the definitions' own item is done.
 abbrev pub GivesItem : (a b : Parts) → (old new : Scene) → Numbered → Type 0
-GivesItem a b old new o = (G : Letters) (E : Choice → Environment) (seen : Seen) → IsCarriedItemOperand o → is_aloud a.telling ≡ true → (at : Outside as_declared (sight a) G old.env E) → HasConstants a → AreNoted at.older a → HasSeen old seen → IsGiven E (item_at a.item o) seen a b G new
+GivesItem a b old new o = (G : Letters) (E : Choice → Environment) (seen : Seen) → IsCarriedItemOperand o → is_aloud a.telling ≡ true → (at : Outside as_declared (sight a) G old.env E) → HasConstants a → AreNoted at.older a → HasSeen old seen → IsGiven ((at.known ≡ true) × KeepsKnown o.part) E (item_at a.item o) seen a b G new
 
 -- what names no type, module or module type where it is an item: a `let`, `;;`, an exception, and what is missing
 abbrev pub NamesNone : Part → Type 0
@@ -34,12 +45,12 @@ AreCarriedItems (o ∷ os) = IsCarriedItemOperand o × AreCarriedItems os
 
 -- the same of the items of a whole structure, in order, if all of them are carried
 abbrev pub GivesItems : (a b : Parts) → (env : List Entry) → List Numbered → Type 0
-GivesItems a b env os = (G : Letters) (E : Choice → Environment) → AreCarriedItems os → is_aloud a.telling ≡ true → (at : Outside as_declared (sight a) G env E) → HasConstants a → AreNoted at.older a → (after : List Entry) × (names : Seen) × ItemsDone as_declared E (items_at a.item os) no_names names a b G after
+GivesItems a b env os = (G : Letters) (E : Choice → Environment) → AreCarriedItems os → is_aloud a.telling ≡ true → (at : Outside as_declared (sight a) G env E) → HasConstants a → AreNoted at.older a → (after : List Entry) × (names : Seen) × ItemsDone as_declared ⊥ E (items_at a.item os) no_names names a b G after
 
 -- the first of some items are done, and these are left
 pub record GivesFirst (E : Choice → Environment) (G : Letters) (a b : Parts) (now : Scene) (all left : List Numbered) : Type 0 where
   pub items : List Item
-  pub given : IsGiven E items no_names a b G now
+  pub given : IsGiven ⊥ E items no_names a b G now
   pub splits : items ++ items_at a.item left ≡ items_at a.item all
   pub carried : AreCarriedItems left
 

@@ -27,12 +27,16 @@ use Rattle.typing_conditions.specs.Frames.{Frame}
 use Rattle.typing_conditions.specs.Meanings.{Means}
 use Rattle.typing_conditions.specs.Steps.{Records}
 use Rattle.typing_conditions.specs.Carrying.{Scope, Stays, Carried, CarriedTo}
+use Rattle.typing_conditions.specs.Hiding.{AreDone, Owns, IsAmong}
 use Rattle.typing_conditions.specs.Surroundings.{Surrounds}
-use Rattle.typing_conditions.proofs.Carried.{carried_as, carried_trans}
+use Rattle.typing_conditions.proofs.Judged.{given_left, given_right, nodes_left, nodes_right}
+use Rattle.typing_conditions.proofs.Carried.{carried_as, carried_trans, as_hides, done_then, done_last, done_as}
+use Rattle.typing_conditions.proofs.Hiding.{done_both, owns_after, owns_before, owns_node, owns_row}
+use Rattle.typing_conditions.proofs.Keeping.{all_among, among_after, among_before}
 use Rattle.typing_conditions.proofs.Meaning.{means_on}
 use Rattle.typing_conditions.proofs.Nodes.{same_made}
 use Rattle.typing_conditions.proofs.Recording.{ends_own, records_stay}
-use Rattle.typing_conditions.proofs.Branching.{carried_after}
+use Rattle.typing_conditions.proofs.Branching.{carried_after, after_hides}
 use Rattle.typing_conditions.proofs.Stays.{stays_trans, stays_closed, stays_opened}
 use Rattle.typing_conditions.proofs.Surrounding.{surrounds_on}
 use Rattle.typing_steps.specs.States.{is_aloud, sight}
@@ -45,7 +49,7 @@ use Rattle.operand_laws.specs.Operands.{number_of, pattern_of}
 use Rattle.operand_laws.proofs.SlotBySlot.{exactly_one}
 use Rattle.operand_laws.proofs.Standing.{pattern_of_stands}
 use Rattle.typing_rows.specs.CarriedRows.{sort_in}
-use Rattle.typing_rows.proofs.Own.{same_itself, own_recorded}
+use Rattle.typing_rows.proofs.Own.{same_itself, own_recorded, own_sure}
 use Rattle.pattern_rows.specs.Applied.{PatternAsked, MatchesAsIf, MatchesWanted, with_constructor, MatchesApplied, AppliesConstructor}
 use Rattle.pattern_rows.specs.Bounds.{Bind, Adds}
 use Rattle.pattern_rows.specs.CarriedPatterns.{IsCarriedPattern, MatchesNodeOf}
@@ -53,7 +57,7 @@ use Rattle.pattern_rows.specs.Contracts.{MatchesTo, Matches, MatchesRow, Matches
 use Rattle.pattern_rows.proofs.Going.{slot_patterns}
 use Rattle.pattern_rows.proofs.Matching.{row_matches, adds_as}
 use Rattle.pattern_rows.proofs.Naming.{all_bound_on}
-use Rattle.pattern_rows.proofs.Opened.{all_among, among_after, among_before}
+use Rattle.pattern_rows.proofs.Opened.{grouped_to_hides, recorded_done, done_recorded, carried_copied, copied_done, copied_more}
 use Rattle.pattern_rows.proofs.Ordered.{patterns_none, patterns_more, patterns_all}
 use Rattle.pattern_rows.proofs.Terms.{applied_term}
 use Rattle.pattern_rows.proofs.Typed.{over_row}
@@ -63,14 +67,16 @@ pub matches_as_if : (a b d : Parts) (env : List Entry) (p : Pattern) (at : Place
     MatchesAsIf a d env p seen added typed.opens (option_map (λ (w : NodeRef). w.0) wanted)
 matches_as_if a b d env p at seen added found None place typed goes asked = λ aloud F scope G s.
     subst (λ q. PatternAsked env F scope (sight a) G (sight q) p seen (λ c. []) added typed.opens) (sym asked)
-    (record { carried = carried_as (λ c. sym (append-nil (p.matched c seen))) (typed.typed aloud F scope G s).typed.carried; names = λ H r. (typed.typed aloud F scope H r).names })
+    (let x = typed.typed aloud F scope G s in record { carried = carried_as (λ c. sym (append-nil (p.matched c seen))) x.typed.carried; done = done_as _ x.typed.carried x.done; names = λ H r. (typed.typed aloud F scope H r).names })
 matches_as_if a b d env p at seen added found (Some wanted) place typed goes asked = λ aloud F scope G n k t s has.
     let loud : is_aloud b.telling ≡ true = ap is_aloud goes.telling ∙ aloud in
     let x = typed.typed aloud F scope G s in
     let y = means_on x.typed.carried.stays has in
     let z = asked loud F scope (typed.opens ++ G) (site n k) (λ ch. ch.type_at p.node) t x.typed.means y in
+    let w = subst (λ l. Carried F scope (λ c. ask n k l (equal (type_at c p.node) (t c.chosen))) (sight b) (typed.opens ++ G) (sight d) (typed.opens ++ G)) (sym place) z in
     record {
-      carried = carried_trans x.typed.carried (subst (λ l. Carried F scope (λ c. ask n k l (equal (type_at c p.node) (t c.chosen))) (sight b) (typed.opens ++ G) (sight d) (typed.opens ++ G)) (sym place) z);
+      carried = carried_trans x.typed.carried w;
+      done = done_then x.typed.carried w x.done;
       names = λ H r.
           let q = typed.typed aloud F scope H r in
           let K = typed.opens ++ H in
@@ -135,12 +141,28 @@ constructor_typed a b d f env n head number at qs last true p seen added opens m
       let x = argument_known b d env p seen added opens n head k.building.argument argument loud (surrounds_on k.carried.stays names) k.takes argued in
       let y = means_on x.carried.stays k.builds in
       let first = same_made {scope = scope} (own n) (λ t. tt) y in
-      let z = carried_trans x.carried (carried_trans first (same_made (own head) (λ t. tt) (means_on first.stays y))) in
+      let ends = carried_trans first (same_made (own head) (λ t. tt) (means_on first.stays y)) in
+      let z = carried_trans x.carried ends in
       let behind = carried_after k.carried (λ V c loose under agrees named kept. ap (behind_built c n head p seen) (ap (λ v. if v then building_in c.env w else None) (k.kept c kept) ∙ k.finds V c loose under agrees named)) z in
       let own_letters : Letters = (own head, m) ∷ (own n, m) ∷ (opens ++ (k.letters ++ G)) in
       let of_head : Means F (sight d) own_letters (λ ch. ch.type_at head) m = record { open_node = y.open_node; is = λ V ch loose g. g.given.0.is } in
       let of_row : Means F (sight d) own_letters (λ ch. ch.type_at n) m = record { open_node = y.open_node; is = λ V ch loose g. g.given.1.0.is } in
       let noted = records (ap is_aloud goes'.telling ∙ loud) in
+      let open_rows : AreDone (sight d) behind.hidden opens = subst (λ xs. AreDone (sight d) xs opens) (sym (after_hides k.carried _ z)) (done_last k.carried z (done_then x.carried ends x.done)) in
+      let here = own_recorded head place behind of_head noted in
+      let among : IsAmong k.letters own_letters = record {
+        given = λ V ch h. given_left V ch k.letters G (given_right V ch opens (k.letters ++ G) h.1.1);
+        inside = λ nodes h. nodes_left k.letters G nodes (nodes_right opens (k.letters ++ G) nodes h.1.1);
+      } in
+      let sure = own_sure k.letters head place behind of_head noted (owns_row k.of_row) in
+      let copied = carried_copied k.letters among here sure in
+      let last_as = λ (c : Context). constructor_splits c n head p seen qs last in
+      let whole : CarriedTo F scope asks (sight a) G (sight f) own_letters (λ ch. ch.type_at n) m = record { carried = carried_as last_as copied; means = means_on (records_stay noted y.open_node.inside) of_row } in
+      let same : own_letters ≡ ((own head, m) ∷ (own n, m) ∷ (opens ++ k.letters)) ++ G = ap (λ H. (own head, m) ∷ (own n, m) ∷ H) (sym (append_assoc opens k.letters G)) in
+      let typed_so = subst (λ H. CarriedTo F scope asks (sight a) G (sight f) H (λ ch. ch.type_at n) m) same whole in
+      let hides : typed_so.carried.hidden ≡ copied.hidden = grouped_to_hides same whole ∙ as_hides last_as copied in
+      let opens_there : AreDone (sight f) copied.hidden opens = copied_more k.letters among here sure (done_recorded head place behind of_head noted open_rows) in
+      let letters_there : AreDone (sight f) copied.hidden k.letters = copied_done k.letters among here sure k.of_row.sure in
       record {
         row = record {
           own = (own head, m) ∷ (own n, m) ∷ (opens ++ k.letters);
@@ -148,11 +170,13 @@ constructor_typed a b d f env n head number at qs last true p seen added opens m
           first = asks;
           ends = λ c. [];
           all = λ c. append-nil (asks c);
-          typed = subst (λ H. CarriedTo F scope asks (sight a) G (sight f) ((own head, m) ∷ (own n, m) ∷ H) (λ ch. ch.type_at n) m) (sym (append_assoc opens k.letters G))
-              (record { carried = carried_as (λ c. constructor_splits c n head p seen qs last) (own_recorded head place behind of_head noted); means = means_on (records_stay noted y.open_node.inside) of_row });
+          typed = typed_so;
+          owns = λ known. subst (λ xs. Owns n m (sight f) xs ((own head, m) ∷ (own n, m) ∷ (opens ++ k.letters))) (sym hides)
+              (owns_after (recorded_done place noted) (owns_before (owns_node (own n) refl refl) (done_both opens_there letters_there)));
           end = ends_own n;
         };
         among = among_after ((own head, m) ∷ (own n, m) ∷ []) (among_before k.letters (all_among opens));
+        done = subst (λ xs. AreDone (sight f) xs opens) (sym hides) opens_there;
         names = λ o st h always. all_bound_on (stays_trans (records_stay noted y.open_node.inside) st) (x.names G (surrounds_on (stays_closed k.letters k.carried.stays) names));
       };
 }
@@ -166,11 +190,23 @@ constructor_typed a b d f env n head number at qs last false p seen added opens 
       let x = (subst (MatchesAsIf b d env p seen added opens) typed.0 argued) loud F scope ((own head, m) ∷ G) (surrounds_on k.typed.carried.stays names) in
       let y : Means F (sight d) (opens ++ ((own head, m) ∷ G)) (λ ch. ch.type_at head) m = means_on x.carried.stays k.typed.means in
       let first = same_made {scope = scope} (own n) (λ t. tt) y in
-      let z = carried_trans (carried_as (λ c. append-nil (p.matched c seen)) x.carried) (carried_trans first (same_itself (λ ch. ch.type_at head))) in
+      let alone = carried_as (λ c. append-nil (p.matched c seen)) x.carried in
+      let ends = carried_trans first (same_itself (λ ch. ch.type_at head)) in
+      let z = carried_trans alone ends in
       let behind = carried_after k.typed.carried (λ V c loose under agrees named kept. ap (behind_built c n head p seen) (k.none V c loose under agrees named kept)) z in
       let own_letters : Letters = (own n, m) ∷ (opens ++ ((own head, m) ∷ G)) in
       let of_row : Means F (sight d) own_letters (λ ch. ch.type_at n) m = record { open_node = y.open_node; is = λ V ch loose g. g.given.0.is } in
       let noted = records (ap is_aloud goes'.telling ∙ loud) in
+      let open_rows : AreDone (sight d) behind.hidden opens =
+      subst (λ xs. AreDone (sight d) xs opens) (sym (after_hides k.typed.carried _ z)) (done_last k.typed.carried z (done_then alone ends (done_as (λ c. append-nil (p.matched c seen)) x.carried x.done))) in
+      let has_head = means_on first.stays y in
+      let here = own_recorded head place behind has_head noted in
+      let last_as = λ (c : Context). constructor_splits c n head p seen qs last in
+      let whole : CarriedTo F scope asks (sight a) G (sight f) own_letters (λ ch. ch.type_at n) m = record { carried = carried_as last_as here; means = means_on (records_stay noted y.open_node.inside) of_row } in
+      let same : own_letters ≡ ((own n, m) ∷ (opens ++ (own head, m) ∷ [])) ++ G = ap (λ H. (own n, m) ∷ H) (sym (append_assoc opens ((own head, m) ∷ []) G)) in
+      let typed_so = subst (λ H. CarriedTo F scope asks (sight a) G (sight f) H (λ ch. ch.type_at n) m) same whole in
+      let hides : typed_so.carried.hidden ≡ here.hidden = grouped_to_hides same whole ∙ as_hides last_as here in
+      let opens_there : AreDone (sight f) here.hidden opens = done_recorded head place behind has_head noted open_rows in
       record {
         row = record {
           own = (own n, m) ∷ (opens ++ (own head, m) ∷ []);
@@ -178,11 +214,12 @@ constructor_typed a b d f env n head number at qs last false p seen added opens 
           first = asks;
           ends = λ c. [];
           all = λ c. append-nil (asks c);
-          typed = subst (λ H. CarriedTo F scope asks (sight a) G (sight f) ((own n, m) ∷ H) (λ ch. ch.type_at n) m) (sym (append_assoc opens ((own head, m) ∷ []) G))
-              (record { carried = carried_as (λ c. constructor_splits c n head p seen qs last) (own_recorded head place behind (means_on first.stays y) noted); means = means_on (records_stay noted y.open_node.inside) of_row });
+          typed = typed_so;
+          owns = λ known. subst (λ xs. Owns n m (sight f) xs ((own n, m) ∷ (opens ++ (own head, m) ∷ []))) (sym hides) (owns_before (owns_node (own n) refl refl) (done_both opens_there (recorded_done place noted)));
           end = ends_own n;
         };
         among = among_after ((own n, m) ∷ []) (among_before ((own head, m) ∷ []) (all_among opens));
+        done = subst (λ xs. AreDone (sight f) xs opens) (sym hides) opens_there;
         names = λ o st h always. all_bound_on (stays_trans (records_stay noted y.open_node.inside) st) (x.names G (surrounds_on (stays_closed ((own head, m) ∷ []) k.typed.carried.stays) names));
       };
 }

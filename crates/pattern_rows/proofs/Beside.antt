@@ -22,7 +22,10 @@ use Rattle.typing_conditions.specs.Sights.{Sight, Letters}
 use Rattle.typing_conditions.specs.Frames.{Frame}
 use Rattle.typing_conditions.specs.Carrying.{Scope, Stays, Carried}
 use Rattle.typing_conditions.proofs.Recording.{ends_same}
-use Rattle.typing_conditions.proofs.Carried.{carried_refl, carried_trans, carried_as}
+use Rattle.typing_conditions.specs.Hiding.{AreDone}
+use Rattle.typing_conditions.proofs.Carried.{carried_refl, carried_trans, carried_as, done_then, done_last, done_as}
+use Rattle.typing_conditions.proofs.Hiding.{done_none, done_both, owns_done}
+use Rattle.typing_conditions.proofs.Keeping.{all_among}
 use Rattle.typing_conditions.proofs.Meaning.{means_on}
 use Rattle.typing_conditions.proofs.Stays.{stays_trans}
 use Rattle.typing_conditions.proofs.Surrounding.{surrounds_on}
@@ -35,7 +38,7 @@ use Rattle.pattern_rows.specs.Bounds.{Bind, IsBound, AllBound, none_bound, one_b
 use Rattle.pattern_rows.specs.Contracts.{row_pattern, patterns_of, MatchesTo, MatchesRow}
 use Rattle.pattern_rows.specs.Sides.{Side, IsSide, AllSides, no_side, one_more, MatchesSides, MatchesSidesFirst, AllAsked, find_bind, first_apart_here, name_apart_here, name_asks, AsksSides, AsksName, AsksNames, NamesFirst, AsksNamesFirst, AsksBeside, AsksLater, LaterFirst, AsksLaterFirst}
 use Rattle.pattern_rows.proofs.Naming.{all_bound_on}
-use Rattle.pattern_rows.proofs.Opened.{all_among}
+use Rattle.pattern_rows.proofs.Opened.{done_grouped}
 use Rattle.pattern_rows.proofs.Terms.{or_term}
 
 -- a side still stands for its pattern
@@ -54,7 +57,7 @@ side_more (one_more p ps) h = one_more p (side_more ps h)
 
 -- no side yet
 pub sides_none : (a : Parts) (env : List Entry) (ps : List Pattern) (seen : List Name) → MatchesSidesFirst a a env ps ps seen []
-sides_none a env ps seen = record { opens = []; typed = λ aloud F scope G s. record { done = λ c. []; front = []; carried = carried_refl; all = no_side; asks = λ c. refl; split = refl } }
+sides_none a env ps seen = record { opens = []; typed = λ aloud F scope G s. record { done = λ c. []; front = []; carried = carried_refl; rows_done = done_none; all = no_side; asks = λ c. refl; split = refl } }
 
 -- one side more, behind the names seen before all of them
 pub sides_more : (a b d : Parts) (env : List Entry) (ps left rest : List Pattern) (p : Pattern) (seen : List Name) (added : List Bind) (m : ℕ) (sides longer : List Side) → left ≡ p ∷ rest → longer ≡ sides ++ record { node = m; names = added } ∷ [] → Goes a b →
@@ -69,6 +72,7 @@ sides_more a b d env ps left rest p seen added m sides longer split grown goes f
         done = λ c. x.done c ++ p.matched c seen;
         front = x.front ++ p ∷ [];
         carried = subst (λ H. Carried F scope (λ c. x.done c ++ p.matched c seen) (sight a) G (sight d) H) same (carried_trans x.carried y.typed.carried);
+        rows_done = done_grouped same (carried_trans x.carried y.typed.carried) (done_both (done_last x.carried y.typed.carried y.done) (done_then x.carried y.typed.carried x.rows_done));
         all = subst (AllSides F (sight d) ((one.opens ++ first.opens) ++ G) (x.front ++ p ∷ [])) (sym grown)
             (subst (λ H. AllSides F (sight d) H (x.front ++ p ∷ []) (sides ++ record { node = m; names = added } ∷ [])) same (side_more (sides_on y.typed.carried.stays x.all) (record { means = y.typed.means; bound = y.names })));
         asks = λ c. x.asks c ∙ ap (λ qs. x.done c ++ matched_each c seen qs) split ∙ sym (append_assoc (x.done c) (p.matched c seen) (matched_each c seen rest));
@@ -84,6 +88,7 @@ sides_all a b env ps left seen sides none first = record {
       let x = first.typed aloud F scope G s in
       record {
         carried = carried_as (λ c. sym (append-nil (x.done c)) ∙ ap (λ qs. x.done c ++ matched_each c seen qs) (sym none) ∙ sym (x.asks c)) x.carried;
+        done = done_as _ x.carried x.rows_done;
         all = subst (λ qs. AllSides F (sight b) (first.opens ++ G) qs sides) (sym (append-nil x.front) ∙ ap (λ qs. x.front ++ qs) (sym none) ∙ sym x.split) x.all;
       };
 }
@@ -280,6 +285,7 @@ or_row a b d env n at p ps seen first sides matched goes asked = record {
       let x = matched.typed aloud F scope G s in
       let h = split_sides x.all in
       let y = asked (ap is_aloud goes.telling ∙ aloud) F scope (matched.opens ++ G) n 0 p h.head h.tail in
+      let ready : AreDone (sight d) (carried_trans x.carried y.carried).hidden matched.opens = done_then x.carried y.carried x.done in
       record {
         row = record {
           own = matched.opens;
@@ -288,9 +294,11 @@ or_row a b d env n at p ps seen first sides matched goes asked = record {
           ends = λ c. same (type_at c n) (type_at c p.node) ∷ [];
           all = λ c. refl;
           typed = record { carried = carried_trans x.carried y.carried; means = means_on y.carried.stays h.head.means };
+          owns = λ known. owns_done ready;
           end = ends_same n (λ ch. ch.type_at p.node);
         };
         among = all_among matched.opens;
+        done = ready;
         names = λ o st k known. all_bound_on (stays_trans y.carried.stays st) h.head.bound;
       };
 }

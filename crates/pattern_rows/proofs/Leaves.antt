@@ -23,6 +23,8 @@ use Rattle.typing_state.specs.Messages.{twice_text}
 use Rattle.typing_conditions.specs.Sights.{own}
 use Rattle.typing_conditions.specs.Carrying.{Carried}
 use Rattle.typing_conditions.specs.Surroundings.{IsEntry}
+use Rattle.typing_conditions.proofs.Hiding.{done_none, owns_node}
+use Rattle.typing_conditions.proofs.Keeping.{none_among}
 use Rattle.typing_conditions.proofs.Recording.{ends_own}
 use Rattle.typing_conditions.proofs.Answering.{to_then}
 use Rattle.typing_steps.specs.States.{is_aloud, sight}
@@ -36,7 +38,6 @@ use Rattle.operand_laws.specs.Operands.{number_of, path_of}
 use Rattle.typing_rows.proofs.Constructed.{alone_typed}
 use Rattle.pattern_rows.specs.Bounds.{Bind, AllBound, none_bound, one_bound}
 use Rattle.pattern_rows.specs.Contracts.{row_pattern, MatchesRow, AsksFresh}
-use Rattle.pattern_rows.proofs.Opened.{none_among}
 use Rattle.pattern_rows.proofs.Terms.{name_term, any_term, constant_term, minus_term, con_term, IsNoPattern, no_term}
 
 -- The demand that a name is new among those before: the call reports it where it isn't, and else leaves all as it was.
@@ -48,7 +49,7 @@ fresh_asked a b t at seen here tested = λ aloud F scope G n k.
 nameless : {a b : Parts} {env : List Entry} {p : Pattern} {seen : List Name} {n m : ℕ} → p.names ≡ [] → TypesRow a b env (λ c. p.matched c seen) n m → MatchesRow a b env p seen [] n m
 nameless {a} {b} {env} {p} {seen} {n} {m} none typed = record {
   opens = [];
-  typed = λ aloud F scope G s. let r = typed aloud F scope G s in record { row = r; among = none_among r.own; names = λ o st h known. subst (λ bs. AllBound F o G bs []) (sym none) none_bound };
+  typed = λ aloud F scope G s. let r = typed aloud F scope G s in record { row = r; among = none_among r.own; done = done_none; names = λ o st h known. subst (λ bs. AllBound F o G bs []) (sym none) none_bound };
 }
 
 -- x
@@ -67,9 +68,11 @@ named_row a b d env n at t ty e seen any goes fresh entry = record {
           ends = λ c. [];
           all = λ c. append-nil (ask_fresh n 0 seen t);
           typed = to_then x y;
+          owns = λ known. owns_node (own n) refl refl;
           end = ends_own n;
         };
         among = none_among ((own n, ty.0) ∷ []);
+        done = done_none;
         names = λ o st h known. one_bound (record { named = refl; placed = refl; chosen = λ c. refl; means = h; known = known; entry = entry }) none_bound;
       };
 }

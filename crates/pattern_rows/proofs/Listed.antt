@@ -1,5 +1,5 @@
 -- [ p; p ]: the patterns in order, each behind the first has its type.
-use Rattle.std.proofs.Common.{◌≡◌, ◌∙◌, ◌++◌, ℕ, ◌+◌, List, [], ◌∷◌, refl, sym, ap, subst, append_assoc, append-nil}
+use Rattle.std.proofs.Common.{◌≡◌, ◌∙◌, ◌++◌, ℕ, ◌+◌, List, [], ◌∷◌, refl, sym, ap, subst, append_assoc, append-nil, arith}
 use Rattle.std.specs.Prelude.{codes}
 use Rattle.tree_model.specs.Rows.{plist_row}
 use Rattle.tree_model.specs.Trees.{Place, Tree}
@@ -21,6 +21,7 @@ use Rattle.typing_conditions.specs.Sights.{Sight, letter, Letters}
 use Rattle.typing_conditions.specs.Frames.{Frame}
 use Rattle.typing_conditions.specs.Meanings.{Means, AllMean, one_means}
 use Rattle.typing_conditions.specs.Carrying.{Carried}
+use Rattle.typing_conditions.proofs.Hiding.{owns_row, below_none, below_more}
 use Rattle.typing_conditions.proofs.Recording.{ends_same}
 use Rattle.typing_conditions.proofs.Carried.{carried_refl, carried_trans, carried_as}
 use Rattle.typing_conditions.proofs.Meaning.{means_on, all_mean_on}
@@ -97,6 +98,7 @@ ends_list_none a b d env element m ms any made rest = λ aloud F scope G n s all
       ends = λ c. same (type_at c n) (list_type (contexts.letter c n 0)) ∷ [];
       all = λ c. refl;
       typed = record { carried = carried_trans x.carried z.carried; means = z.means };
+      owns = λ known. owns_row (below_more 0 1 element (omega arith) (omega arith) (below_none n 0)).of_row;
       end = ends_same n (λ ch. list_type (ch.letter n 0));
     }
 

@@ -1,137 +1,112 @@
 -- Letters that patterns open, and those that are closed at the end of a row.
-use Rattle.std.proofs.Common.{◌≡◌, ◌∙◌, ◌++◌, ℕ, Some, Bool, List, [], ◌∷◌, inl, inr, sym, ap, subst, append_assoc}
+use Rattle.std.proofs.Common.{◌≡◌, ◌∙◌, ◌++◌, ℕ, zero, suc, true, Some, Bool, [], ◌∷◌, inl, inr, sym, ap, subst, append_assoc, refl}
 use Rattle.std.specs.Prelude.{slice_get}
+use mathlib.Core.Path.{subst_refl, path_j}
+use Rattle.type_model.specs.Types.{Typ}
 use Rattle.typing_model.specs.Contexts.{Choice}
-use Rattle.type_nodes.specs.Nodes.{Node}
-use Rattle.type_nodes.specs.Readings.{Types}
-use Rattle.typing_conditions.specs.Sights.{Sight, Key, Letters, AreNodes}
+use Rattle.typing_conditions.specs.Sights.{Sight, Key, own, number_in, Letters}
 use Rattle.typing_conditions.specs.Frames.{Frame}
-use Rattle.typing_conditions.specs.Carrying.{Asks, Scope, Stays, GoesOn, Carried, CarriedTo}
-use Rattle.typing_conditions.proofs.Judged.{given_left, given_right, given_both, nodes_right, nodes_both}
-use Rattle.typing_conditions.proofs.Carried.{hidden_more, carried_trans}
+use Rattle.typing_conditions.specs.Meanings.{Means}
+use Rattle.typing_conditions.specs.Steps.{Records}
+use Rattle.typing_conditions.specs.Carrying.{Asks, Scope, Carried, CarriedTo}
+use Rattle.typing_conditions.specs.Hiding.{is_doubtful, marked, is_sure, HasTyped, ArePlaced, NoneDoubtful, AreDone, Owns, AreSure, IsAmong}
+use Rattle.typing_conditions.proofs.Judged.{given_left, given_both, nodes_both}
+use Rattle.typing_conditions.proofs.Carried.{carried_trans, done_then, owns_last}
+use Rattle.typing_conditions.proofs.Hiding.{given_marked, nodes_marked, settles_closed, copy_first, copy_second, marked_copy, keeps_same, done_copies, done_on, owns_before, sure_marked}
+use Rattle.typing_conditions.proofs.Keeping.{all_among, among_after}
+use Rattle.typing_conditions.proofs.Recording.{here_now, records_keep}
 use Rattle.typing_steps.specs.Typing.{RowCarried}
-use Rattle.pattern_rows.specs.Bounds.{IsAmong}
-use Rattle.typing_conditions.specs.Hiding.{marked, is_sure, HasCopy}
-use Rattle.typing_conditions.proofs.Hiding.{settles_closed, given_unmarked, copy_second, marked_copy}
+use Rattle.typing_rows.proofs.Own.{own_recorded}
 
--- letters are nodes where others are together with them
-pub nodes_left : (xs ys : Letters) (nodes : List Node) → AreNodes (xs ++ ys) nodes → AreNodes xs nodes
-nodes_left [] ys nodes h = tt
-nodes_left (x ∷ xs) ys nodes h = (h.0, nodes_left xs ys nodes h.1)
+-- letters that are open may be grouped in another way: what is hidden is the same
+pub grouped_hides : {F : Frame} {scope : Scope} {asks : Asks} {a b : Sight} {G H K : Letters} (same : H ≡ K) (p : Carried F scope asks a G b H) → (subst (λ J. Carried F scope asks a G b J) same p).hidden ≡ p.hidden
+grouped_hides {F} {scope} {asks} {a} {b} {G} same p =
+    path_j (λ K e. (subst (λ J. Carried F scope asks a G b J) e p).hidden ≡ p.hidden) (ap (λ (q : Carried F scope asks a G b _). q.hidden) (subst_refl (λ J. Carried F scope asks a G b J) p)) same
 
--- no letter is among any
-pub none_among : (own : Letters) → IsAmong [] own
-none_among own = record { given = λ V ch h. tt; inside = λ nodes h. tt }
+pub grouped_to_hides : {F : Frame} {scope : Scope} {asks : Asks} {a b : Sight} {G H K : Letters} {type : Choice → Typ} {m : ℕ} (same : H ≡ K) (p : CarriedTo F scope asks a G b H type m) → (subst (λ J. CarriedTo F scope asks a G b J type m) same p).carried.hidden ≡ p.carried.hidden
+grouped_to_hides {F} {scope} {asks} {a} {b} {G} {type = type} {m = m} same p =
+    path_j (λ K e. (subst (λ J. CarriedTo F scope asks a G b J type m) e p).carried.hidden ≡ p.carried.hidden) (ap (λ (q : CarriedTo F scope asks a G b _ type m). q.carried.hidden) (subst_refl (λ J. CarriedTo F scope asks a G b J type m) p)) same
 
--- letters are among themselves
-pub all_among : (own : Letters) → IsAmong own own
-all_among own = record { given = λ V ch h. h; inside = λ nodes h. h }
+-- so the rows of letters are done as they were
+pub done_grouped : {F : Frame} {scope : Scope} {asks : Asks} {a b : Sight} {G H K ys : Letters} (same : H ≡ K) (p : Carried F scope asks a G b H) → AreDone b p.hidden ys → AreDone b (subst (λ J. Carried F scope asks a G b J) same p).hidden ys
+done_grouped {b = b} {ys = ys} same p h = subst (λ xs. AreDone b xs ys) (sym (grouped_hides same p)) h
 
--- and after others
-pub among_after : (more : Letters) {opens own : Letters} → IsAmong opens own → IsAmong opens (more ++ own)
-among_after more {opens} {own} h = record { given = λ V ch g. h.given V ch (given_right V ch more own g); inside = λ nodes i. h.inside nodes (nodes_right more own nodes i) }
+-- the letter for the type of a node that is recorded
+pub recorded_done : {b d : Sight} {n p m : ℕ} {xs : Letters} → number_in b.item p ≡ n → Records b d p m → AreDone d xs ((own n, m) ∷ [])
+recorded_done {b} {d} {n} {p} {m} {xs} place r = record { sure = only; each = λ k x e. inl (typed k x e) }
+  where
+    only : NoneDoubtful ((own n, m) ∷ [])
+    only zero x e = let s : (own n, m) ≡ x = cc in ap (λ (y : Key × ℕ). is_doubtful y.0) (sym s)
+    only (suc k) x e = absurd (cc)
 
--- and before others
-pub among_before : (more : Letters) {opens own : Letters} → IsAmong opens own → IsAmong opens (own ++ more)
-among_before more {opens} {own} h = record { given = λ V ch g. h.given V ch (given_left V ch own more g); inside = λ nodes i. h.inside nodes (nodes_left own more nodes i) }
+    typed : (k : ℕ) (x : Key × ℕ) → slice_get ((own n, m) ∷ []) k ≡ Some x → HasTyped d x
+    typed zero x e = let s : (own n, m) ≡ x = cc in subst (HasTyped d) s (record { item = b.item; place = p; key = ap own (sym place); at = here_now r })
+    typed (suc k) x e = absurd (cc)
 
--- what stays where letters are open stays where only those are that are among them
-pub stays_kept : {F : Frame} {a b : Sight} (own opens : Letters) {G : Letters} → IsAmong opens own → Stays F a G b (own ++ G) → Stays F a G b (opens ++ G)
-stays_kept {F} {a} {b} own opens {G} among s = record {
-  longer = s.longer;
-  loose = s.loose;
-  reads = s.reads;
-  reaches = s.reaches;
-  writes = s.writes;
-  refines = s.refines;
-  recorded = s.recorded;
-  keeps = s.keeps;
-  written = s.written;
-  given = λ V ch h. given_right V ch opens G h;
-  inside = λ i.
-      let j = s.inside i in
-      record { recorded = j.recorded; written = j.written; given = nodes_both opens G b.nodes (among.inside b.nodes (nodes_left own G b.nodes j.given)) (nodes_right own G b.nodes j.given) };
-  aloud = s.aloud;
-  item = s.item;
-  level = s.level;
-  fixed = s.fixed;
-}
+-- what is recorded hides nothing more
+pub recorded_hides : {F : Frame} {scope : Scope} {asks : Asks} {a b d : Sight} {G H : Letters} (n : ℕ) {p m : ℕ} (place : number_in b.item p ≡ n) (it : Carried F scope asks a G b H) (means : Means F b H (λ ch. ch.type_at n) m) (r : Records b d p m) → (own_recorded n place it means r).hidden ≡ it.hidden
+unfolding own_recorded
+recorded_hides n place it means r = refl
 
--- types that go on where letters are open go on where only those are
-goes_kept : {F : Frame} {a b : Sight} (own opens G : Letters) {V W : Types} {ch : Choice} → IsAmong opens own → GoesOn F a b (own ++ G) V W ch → GoesOn F a b (opens ++ G) V W ch
-goes_kept own opens G {V} {W} {ch} among on = record {
-  fits = on.fits;
-  before = on.before;
-  agrees = record {
-    recorded = on.agrees.recorded;
-    known = on.agrees.known;
-    written = on.agrees.written;
-    given = given_both W ch opens G (among.given W ch (given_left W ch own G on.agrees.given)) (given_right W ch own G on.agrees.given);
-  };
-}
+-- so the rows of letters are done still
+pub done_recorded : {F : Frame} {scope : Scope} {asks : Asks} {a b d : Sight} {G H ys : Letters} (n : ℕ) {p m : ℕ} (place : number_in b.item p ≡ n) (it : Carried F scope asks a G b H) (means : Means F b H (λ ch. ch.type_at n) m) (r : Records b d p m) → AreDone b it.hidden ys → AreDone d (own_recorded n place it means r).hidden ys
+done_recorded {d = d} {ys = ys} n place it means r h = subst (λ xs. AreDone d xs ys) (sym (recorded_hides n place it means r)) (done_on (records_keep r) (λ x c. c) h)
 
--- Of the letters that a row has opened only those are kept that are among them; all are hidden, with a doubt at those that aren't sure.
-pub carried_kept : {F : Frame} {scope : Scope} {asks : Asks} {a b : Sight} (own opens : Letters) {G : Letters} → IsAmong opens own → Carried F scope asks a G b (own ++ G) → Carried F scope asks a G b (opens ++ G)
-carried_kept {F} {scope} {asks} {a} {b} own opens {G} among p = record {
-  stays = stays_kept own opens among p.stays;
-  hidden = p.hidden ++ marked test own;
-  settled = settles_closed p.hidden own p.settled;
+-- Some of the letters that are open are hidden too, and stay open.
+pub carried_copied : {F : Frame} {scope : Scope} {asks : Asks} {a b : Sight} {G H : Letters} (some : Letters) → IsAmong some H → (p : Carried F scope asks a G b H) → (F.known ≡ true → ArePlaced b → AreSure a b p.hidden some) → Carried F scope asks a G b H
+carried_copied {F} {scope} {asks} {a} {b} {G} {H} some among p are_sure = record {
+  stays = p.stays;
+  hidden = p.hidden ++ marked test some;
+  settled = settles_closed p.hidden some p.settled;
+  clear = λ known placed. sure_marked p.hidden (p.clear known placed) (are_sure known placed);
   judged = p.judged;
   told = p.told;
   reports = p.reports;
   counted = p.counted;
-  sound = λ r V c l. p.sound r V c (record {
-    under = l.under;
-    reads = l.reads;
-    agrees = record {
-      recorded = l.agrees.recorded;
-      known = l.agrees.known;
-      written = l.agrees.written;
-      given = given_both V c.chosen own G (given_unmarked test own V c.chosen (given_right V c.chosen p.hidden (marked test own) l.hidden_too)) (given_right V c.chosen opens G l.agrees.given);
-    };
-    hidden_too = given_left V c.chosen p.hidden (marked test own) l.hidden_too;
-    named = l.named;
-    unbound = l.unbound;
-    kept = l.kept;
-  });
-  follows = λ r V c l. p.follows r V c (record {
-    under = l.under;
-    reads = l.reads;
-    agrees = record {
-      recorded = l.agrees.recorded;
-      known = l.agrees.known;
-      written = l.agrees.written;
-      given = given_both V c.chosen own G (given_unmarked test own V c.chosen (given_right V c.chosen p.hidden (marked test own) l.hidden_too)) (given_right V c.chosen opens G l.agrees.given);
-    };
-    hidden_too = given_left V c.chosen p.hidden (marked test own) l.hidden_too;
-    named = l.named;
-    unbound = l.unbound;
-    kept = l.kept;
-  });
+  sound = λ r V c l. p.sound r V c (record { under = l.under; reads = l.reads; agrees = l.agrees; hidden_too = given_left V c.chosen p.hidden (marked test some) l.hidden_too; named = l.named; unbound = l.unbound; kept = l.kept });
+  follows = λ r V c l. p.follows r V c (record { under = l.under; reads = l.reads; agrees = l.agrees; hidden_too = given_left V c.chosen p.hidden (marked test some) l.hidden_too; named = l.named; unbound = l.unbound; kept = l.kept });
   complete = λ named V c e h. elim (p.complete named V c e h) [
-    | inl goes ↦ inl (record { same = goes.same; types = goes.types; on = goes_kept own opens G among goes.on; hidden_too = hidden_more test p.hidden own G b c.chosen goes.types (p.stays.inside e.inside).given goes.on.agrees.given goes.hidden_too })
+    | inl goes ↦ inl (record {
+      same = goes.same;
+      types = goes.types;
+      on = goes.on;
+      hidden_too = (
+        nodes_both p.hidden (marked test some) b.nodes goes.hidden_too.0 (nodes_marked test some b.nodes (among.inside b.nodes (p.stays.inside e.inside).given)),
+        given_both goes.types c.chosen p.hidden (marked test some) goes.hidden_too.1 (given_marked test some goes.types c.chosen (among.given goes.types c.chosen goes.on.agrees.given)),
+      );
+    })
     | inr short ↦ inr short
   ];
   first = p.first;
 }
   where
     test : Key × ℕ → Bool
-    test = is_sure a b (p.hidden ++ own)
+    test = is_sure a b (p.hidden ++ some)
 
--- each of them is hidden then
-pub kept_copies : {F : Frame} {scope : Scope} {asks : Asks} {a b : Sight} (own opens : Letters) {G : Letters} (among : IsAmong opens own) (p : Carried F scope asks a G b (own ++ G)) (k : ℕ) (x : Key × ℕ) → slice_get own k ≡ Some x → HasCopy (carried_kept own opens among p).hidden x
-unfolding carried_kept
-kept_copies {a = a} {b = b} own opens among p k x e = copy_second p.hidden (marked (is_sure a b (p.hidden ++ own)) own) (marked_copy (is_sure a b (p.hidden ++ own)) own k x e)
+-- their rows are done then, and those of other letters are so still
+pub copied_done : {F : Frame} {scope : Scope} {asks : Asks} {a b : Sight} {G H : Letters} (some : Letters) (among : IsAmong some H) (p : Carried F scope asks a G b H) (are_sure : F.known ≡ true → ArePlaced b → AreSure a b p.hidden some) → NoneDoubtful some →
+    AreDone b (carried_copied some among p are_sure).hidden some
+unfolding carried_copied
+copied_done {a = a} {b = b} some among p are_sure sure = done_copies sure (λ k x e. copy_second p.hidden (marked (is_sure a b (p.hidden ++ some)) some) (marked_copy (is_sure a b (p.hidden ++ some)) some k x e))
 
--- a row among whose letters are those that stay open
+pub copied_more : {F : Frame} {scope : Scope} {asks : Asks} {a b : Sight} {G H ys : Letters} (some : Letters) (among : IsAmong some H) (p : Carried F scope asks a G b H) (are_sure : F.known ≡ true → ArePlaced b → AreSure a b p.hidden some) → AreDone b p.hidden ys →
+    AreDone b (carried_copied some among p are_sure).hidden ys
+unfolding carried_copied
+copied_more {a = a} {b = b} some among p are_sure h = done_on keeps_same (λ x c. copy_first p.hidden (marked (is_sure a b (p.hidden ++ some)) some) c) h
+
+-- a row among whose letters are those that stay open, whose rows are done
 pub record RowOpened (F : Frame) (scope : Scope) (asks : Asks) (a : Sight) (G : Letters) (b : Sight) (n m : ℕ) (opens : Letters) : Type 0 where
   pub row : RowCarried F scope asks a G b n m
   pub among : IsAmong opens row.own
+  pub done : AreDone b row.typed.carried.hidden opens
 
 -- a row after other conditions, which open letters
-pub row_behind : {F : Frame} {scope : Scope} {before asks : Asks} {a b d : Sight} {G : Letters} {n m : ℕ} (opens : Letters) → Carried F scope before a G b (opens ++ G) → RowCarried F scope asks b (opens ++ G) d n m → RowOpened F scope (λ c. before c ++ asks c) a G d n m opens
-row_behind {F} {scope} {before} {asks} {a} {b} {d} {G} {n} {m} opens first row =
+pub row_behind : {F : Frame} {scope : Scope} {before asks : Asks} {a b d : Sight} {G : Letters} {n m : ℕ} (opens : Letters) (first : Carried F scope before a G b (opens ++ G)) → AreDone b first.hidden opens → RowCarried F scope asks b (opens ++ G) d n m → RowOpened F scope (λ c. before c ++ asks c) a G d n m opens
+row_behind {F} {scope} {before} {asks} {a} {b} {d} {G} {n} {m} opens first ready row =
     let same = sym (append_assoc row.own opens G) in
+    let both = carried_trans first row.typed.carried in
+    let behind : AreDone d both.hidden opens = done_then first row.typed.carried ready in
+    let here : CarriedTo F scope (λ c. before c ++ row.first c) a G d (row.own ++ (opens ++ G)) row.type m = record { carried = both; means = row.typed.means } in
     record {
       row = record {
         own = row.own ++ opens;
@@ -139,8 +114,10 @@ row_behind {F} {scope} {before} {asks} {a} {b} {d} {G} {n} {m} opens first row =
         first = λ c. before c ++ row.first c;
         ends = row.ends;
         all = λ c. append_assoc (before c) (row.first c) (row.ends c) ∙ ap (λ xs. before c ++ xs) (row.all c);
-        typed = subst (λ H. CarriedTo F scope (λ c. before c ++ row.first c) a G d H row.type m) same (record { carried = carried_trans first row.typed.carried; means = row.typed.means });
+        typed = subst (λ H. CarriedTo F scope (λ c. before c ++ row.first c) a G d H row.type m) same here;
+        owns = λ known. subst (λ xs. Owns n m d xs (row.own ++ opens)) (sym (grouped_to_hides same here)) (owns_before (owns_last first row.typed.carried (row.owns known)) behind);
         end = row.end;
       };
       among = among_after row.own (all_among opens);
+      done = subst (λ xs. AreDone d xs opens) (sym (grouped_to_hides same here)) behind;
     }

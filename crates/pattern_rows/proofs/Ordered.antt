@@ -9,13 +9,15 @@ use Rattle.typing_state.specs.declared.parts.Parts.{Parts}
 use Rattle.typing_state.specs.Goes.{Goes}
 use Rattle.typing_conditions.specs.Meanings.{AllMean, none_mean}
 use Rattle.typing_conditions.specs.Carrying.{Carried}
-use Rattle.typing_conditions.proofs.Carried.{carried_refl, carried_trans, carried_as}
+use Rattle.typing_conditions.proofs.Carried.{carried_refl, carried_trans, carried_as, done_then, done_last, done_as}
+use Rattle.typing_conditions.proofs.Hiding.{done_none, done_both}
 use Rattle.typing_conditions.proofs.Meaning.{all_mean_on, all_mean_more}
 use Rattle.typing_conditions.proofs.Surrounding.{surrounds_on}
 use Rattle.typing_steps.specs.States.{is_aloud, sight}
 use Rattle.pattern_rows.specs.Bounds.{Bind, AllBound, none_bound, Adds}
 use Rattle.pattern_rows.specs.Contracts.{types_at, MatchesTo, Matches, MatchesAll, MatchesFirst, MatchesInOrder, InOrderFirst}
 use Rattle.pattern_rows.proofs.Naming.{all_bound_on, all_bound_both, adds_none, adds_both}
+use Rattle.pattern_rows.proofs.Opened.{done_grouped}
 
 -- no pattern yet
 pub patterns_none : (a : Parts) (env : List Entry) (ps : List Pattern) (seen : List Name) (ms : List ℕ) → ms ≡ [] → MatchesFirst a a env ps ps seen seen [] ms
@@ -26,6 +28,7 @@ patterns_none a env ps seen ms none = record {
     types = [];
     bounds = [];
     carried = carried_refl;
+    rows_done = done_none;
     means = subst (AllMean F (sight a) G []) (sym none) none_mean;
     names = none_bound;
     asks = λ c. refl;
@@ -49,6 +52,7 @@ patterns_more a b d env all left rest p seen now then added more ms longer m spl
         types = x.types ++ type ∷ [];
         bounds = x.bounds ++ p.names;
         carried = subst (λ H. Carried F scope (λ c. x.done c ++ p.matched c now) (sight a) G (sight d) H) same (carried_trans x.carried y.typed.carried);
+        rows_done = done_grouped same (carried_trans x.carried y.typed.carried) (done_both (done_last x.carried y.typed.carried y.done) (done_then x.carried y.typed.carried x.rows_done));
         means = subst (AllMean F (sight d) ((one.opens ++ first.opens) ++ G) (x.types ++ type ∷ [])) (sym grown)
             (subst (λ H. AllMean F (sight d) H (x.types ++ type ∷ []) (ms ++ m ∷ [])) same (all_mean_more (all_mean_on y.typed.carried.stays x.means) y.typed.means));
         names = subst (λ H. AllBound F (sight d) H (x.bounds ++ p.names) (added ++ more)) same (all_bound_both (all_bound_on y.typed.carried.stays x.names) y.names);
@@ -68,6 +72,7 @@ patterns_all a b env all left seen now added ms none first = record {
       let x = first.typed aloud F scope G s in
       record {
         carried = carried_as (λ c. sym (append-nil (x.done c)) ∙ ap (λ ps. x.done c ++ matched_all c now ps) (sym none) ∙ sym (x.asks c)) x.carried;
+        done = done_as _ x.carried x.rows_done;
         means = subst (λ ts. AllMean F (sight b) (first.opens ++ G) ts ms) (sym (append-nil x.types) ∙ ap (λ ps. x.types ++ types_at ps) (sym none) ∙ sym x.gives) x.means;
         names = subst (λ bs. AllBound F (sight b) (first.opens ++ G) bs added) (sym (append-nil x.bounds) ∙ ap (λ ps. x.bounds ++ all_names ps) (sym none) ∙ sym x.binds) x.names;
       };

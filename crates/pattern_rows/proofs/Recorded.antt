@@ -22,37 +22,46 @@ use Rattle.typing_conditions.specs.Frames.{Frame}
 use Rattle.typing_conditions.specs.Steps.{Records}
 use Rattle.typing_conditions.specs.Meanings.{Means}
 use Rattle.typing_conditions.specs.Carrying.{Scope, Carried}
-use Rattle.typing_conditions.proofs.Carried.{carried_trans, carried_as}
+use Rattle.typing_conditions.specs.Hiding.{ArePlaced, AreDone, Owns, IsAmong}
+use Rattle.typing_conditions.proofs.Carried.{carried_trans, carried_as, done_then, done_as, owns_then, owns_as}
+use Rattle.typing_conditions.proofs.Hiding.{keeps_same, done_none, done_on, owns_also}
+use Rattle.typing_conditions.proofs.Keeping.{none_among, among_after, carried_kept, kept_hides}
 use Rattle.typing_conditions.proofs.Framing.{open_on}
 use Rattle.typing_conditions.proofs.Recording.{records_stay, here_now}
-use Rattle.typing_conditions.proofs.Answering.{to_as}
 use Rattle.typing_steps.specs.States.{is_aloud, sight}
 use Rattle.typing_steps.proofs.Rows.{row_any, var_any}
 use Rattle.typing_steps.proofs.Recording.{type_noted, nameless_noted}
 use Rattle.operand_laws.specs.Operands.{number_of, pattern_of}
 use Rattle.operand_laws.proofs.Standing.{pattern_of_stands}
 use Rattle.operand_laws.proofs.Sorts.{pattern_by_row}
-use Rattle.typing_rows.proofs.Own.{ends_made, own_recorded}
+use Rattle.typing_rows.proofs.Own.{ends_made, own_recorded, own_sure}
 use Rattle.pattern_rows.specs.Bounds.{Bind, none_bound, Adds}
 use Rattle.pattern_rows.specs.Contracts.{row_pattern, MatchedTo, MatchesTo, Matches, RowMatched, MatchesRow}
 use Rattle.pattern_rows.proofs.Naming.{adds_none}
-use Rattle.pattern_rows.proofs.Opened.{none_among, among_after, carried_kept}
+use Rattle.pattern_rows.proofs.Opened.{done_recorded}
 
 -- the row of a node, once its type is recorded
 pub row_recorded : {F : Frame} {scope : Scope} {a b d : Sight} {G : Letters} {p : Pattern} {seen : List Name} {added : List Bind} {n number m : ℕ} {opens : Letters} → number_in b.item number ≡ n → p.node ≡ n → RowMatched F scope a G b p seen added n m opens →
     Records b d number m → MatchedTo F scope a G d (recorded_pattern n p) seen added m opens
 row_recorded {F} {scope} {a} {b} {d} {G} {p} {seen} {added} {n} {number} {m} {opens} place node row r =
     let own_letters : Letters = (own n, m) ∷ row.row.own in
-    let ends = carried_as row.row.all (carried_trans row.row.typed.carried (ends_made row.row.typed.means row.row.end)) in
+    let end = ends_made row.row.typed.means row.row.end in
+    let both = carried_trans row.row.typed.carried end in
+    let ends = carried_as row.row.all both in
     let of_row : Means F b (own_letters ++ G) (λ ch. ch.type_at n) m = record { open_node = row.row.typed.means.open_node; is = λ V ch loose g. g.given.0.is } in
-    let whole : Carried F scope (λ c. tell_typed n c ++ p.matched c seen) a G d (opens ++ G) =
-    carried_kept own_letters opens (among_after ((own n, m) ∷ []) row.among) (own_recorded n place ends of_row r) in
+    let noted = own_recorded n place ends of_row r in
+    let among : IsAmong opens own_letters = among_after ((own n, m) ∷ []) row.among in
+    let owned : F.known ≡ true → Owns n m b ends.hidden own_letters = λ known. owns_as row.row.all both (owns_also (own n) refl refl (owns_then row.row.typed.carried end (row.row.owns known))) in
+    let sure = λ (known : F.known ≡ true) (placed : ArePlaced d). own_sure own_letters n place ends of_row r (owned known) known placed in
+    let whole : Carried F scope (λ c. tell_typed n c ++ p.matched c seen) a G d (opens ++ G) = carried_kept own_letters opens among noted sure in
+    let ready : AreDone d whole.hidden opens = done_on keeps_same (kept_hides own_letters opens among noted sure) (done_recorded n place ends of_row r (done_as row.row.all both (done_then row.row.typed.carried end row.done))) in
     let means : Means F d (opens ++ G) (λ ch. ch.type_at n) m = record {
       open_node = open_on (records_stay {G = opens ++ G} r row.row.typed.means.open_node.inside) row.row.typed.means.open_node;
       is = λ V ch loose g. ap ch.type_at (sym place) ∙ g.recorded b.item number m (here_now r);
     } in
     record {
-      typed = to_as (λ c. refl) (λ ch. ap ch.type_at (sym node)) (record { carried = whole; means = means });
+      typed = record { carried = whole; means = record { open_node = means.open_node; is = λ V ch loose g. ap ch.type_at node ∙ means.is V ch loose g } };
+      done = ready;
       names = row.names d (records_stay r row.row.typed.means.open_node.inside) means (λ V ch g. g.known b.item number m (here_now r));
     }
 
@@ -99,7 +108,7 @@ missing_matched a b d env o ty seen none made rest goes noted only = record {
       let n = number_of a.item o.number in
       let loud : is_aloud b.telling ≡ true = ap is_aloud goes.telling ∙ aloud in
       let r = row_any a b {env = env} n (var_any a b made rest) aloud F scope G s in
-      let row : RowMatched F scope (sight a) G (sight b) (no_pattern_at n (place_of o.span)) seen [] n ty.0 [] = record { row = r; among = none_among r.own; names = λ e st h known. none_bound } in
+      let row : RowMatched F scope (sight a) G (sight b) (no_pattern_at n (place_of o.span)) seen [] n ty.0 [] = record { row = r; among = none_among r.own; done = done_none; names = λ e st h known. none_bound } in
       let same : numbered o.number (place_of o.span) (missing (place_of o.span)) ≡ operand_view o = ap (λ m. numbered o.number (place_of o.span) (part_of m o.span)) (sym none) in
       subst (λ x. MatchedTo F scope (sight a) G (sight d) (pattern_of a.item x) seen [] ty.0 []) same
       (row_recorded (ap (λ i. number_in i o.number) goes.item) refl row (nameless_noted b d o.number env ty loud noted only));

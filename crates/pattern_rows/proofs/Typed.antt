@@ -24,10 +24,13 @@ use Rattle.typing_state.specs.Types.{list_path}
 use Rattle.typing_conditions.specs.Sights.{Sight, own, Letters}
 use Rattle.typing_conditions.specs.Frames.{Frame}
 use Rattle.typing_conditions.specs.Meanings.{Means, AllMean, one_means, types_by}
-use Rattle.typing_conditions.specs.Carrying.{Carried, CarriedTo}
+use Rattle.typing_conditions.specs.Carrying.{Carried}
 use Rattle.typing_conditions.specs.Surroundings.{IsEntry}
 use Rattle.typing_conditions.proofs.Recording.{ends_same}
-use Rattle.typing_conditions.proofs.Carried.{carried_refl, carried_trans, carried_as}
+use Rattle.typing_conditions.specs.Hiding.{AreDone}
+use Rattle.typing_conditions.proofs.Carried.{carried_refl, carried_trans, carried_as, done_then, done_as}
+use Rattle.typing_conditions.proofs.Hiding.{owns_done}
+use Rattle.typing_conditions.proofs.Keeping.{all_among}
 use Rattle.typing_conditions.proofs.Meaning.{means_on}
 use Rattle.typing_conditions.proofs.Stays.{stays_trans, stays_closed}
 use Rattle.typing_conditions.proofs.Surrounding.{surrounds_on}
@@ -40,11 +43,12 @@ use Rattle.operand_laws.proofs.SlotBySlot.{exactly_one}
 use Rattle.typing_rows.proofs.Ending.{row_of_type}
 use Rattle.typing_rows.proofs.Terms.{two_operands}
 use Rattle.typing_rows.specs.Operands.{Annotates}
+use Rattle.typing_rows.specs.TypeContracts.{ReadAs}
 use Rattle.typing_rows.proofs.Annotated.{row_written}
 use Rattle.pattern_rows.specs.Bounds.{Bind, AllBound, none_bound, one_bound}
 use Rattle.pattern_rows.specs.Contracts.{row_pattern, patterns_of, types_at, AsksFresh, MatchesRow, MatchesAll, EndsPatterns, cons_asks}
 use Rattle.pattern_rows.proofs.Naming.{all_bound_on, all_bound_both}
-use Rattle.pattern_rows.proofs.Opened.{all_among, row_behind}
+use Rattle.pattern_rows.proofs.Opened.{row_behind}
 use Rattle.pattern_rows.proofs.Terms.{paren_term, written_term, cons_term, tuple_term, as_term, one_operand}
 
 -- patterns in order, and then the end of their row
@@ -55,8 +59,8 @@ over_row a b d env n at ps seen added ms m asks all goes ends = record {
   typed = λ aloud F scope G s.
       let x = all.typed aloud F scope G s in
       let y = ends (ap is_aloud goes.telling ∙ aloud) F scope (all.opens ++ G) n (surrounds_on x.carried.stays s) x.means in
-      let r = row_behind all.opens x.carried y in
-      record { row = r.row; among = r.among; names = λ e st h known. all_bound_on (stays_trans (stays_closed y.own y.typed.carried.stays) st) x.names };
+      let r = row_behind all.opens x.carried x.done y in
+      record { row = r.row; among = r.among; done = r.done; names = λ e st h known. all_bound_on (stays_trans (stays_closed y.own y.typed.carried.stays) st) x.names };
 }
 
 -- the first node is that of the first pattern
@@ -90,7 +94,7 @@ written_asks p w c n = w.read c ++ ask n 0 p.at (equal (type_at c p.node) (type_
 pub ends_written : (a b : Parts) (env : List Entry) (p : Pattern) (w : TypeExpression) (at : Place) (ms : List ℕ) (found wanted : ℕ) → p.at ≡ at → slice_get ms 0 ≡ Some found → Annotates a b env w at found wanted → EndsPatterns a b env (written_asks p w) (p ∷ []) ms wanted
 ends_written a b env p w at ms found wanted place node written = λ aloud F scope G n s all.
     let x = written aloud F scope G n 0 (λ ch. ch.type_at p.node) s (first_means p [] ms found all node) in
-    let y = subst (λ l. CarriedTo F scope (λ c. w.read c ++ ask n 0 l (equal (type_at c p.node) (type_at c w.node))) (sight a) G (sight b) ((own w.node, wanted) ∷ G) (λ ch. ch.type_at w.node) wanted) (sym place) x in
+    let y = subst (λ l. ReadAs F scope (λ c. w.read c ++ ask n 0 l (equal (type_at c p.node) (type_at c w.node))) (sight a) G (sight b) w.node wanted) (sym place) x in
     row_written (λ c. w.read c ++ ask n 0 p.at (equal (type_at c p.node) (type_at c w.node))) w y (λ c. refl)
 
 -- ( p : t )
@@ -153,6 +157,8 @@ as_typed a b d env n at p t ty e seen added ms all node goes fresh entry = recor
       let x = all.typed aloud F scope G s in
       let h = first_means p [] ms ty.0 x.means node in
       let y = fresh (ap is_aloud goes.telling ∙ aloud) F scope (all.opens ++ G) n 0 in
+      let z = carried_as (λ c. append-nil (p.matched c seen)) x.carried in
+      let ready : AreDone (sight d) (carried_trans z y).hidden all.opens = done_then z y (done_as (λ c. append-nil (p.matched c seen)) x.carried x.done) in
       record {
         row = record {
           own = all.opens;
@@ -160,10 +166,12 @@ as_typed a b d env n at p t ty e seen added ms all node goes fresh entry = recor
           first = λ c. p.matched c seen ++ ask_fresh n 0 (seen ++ p.mentions) t;
           ends = λ c. same (type_at c n) (type_at c p.node) ∷ [];
           all = λ c. refl;
-          typed = record { carried = carried_trans (carried_as (λ c. append-nil (p.matched c seen)) x.carried) y; means = means_on y.stays h };
+          typed = record { carried = carried_trans z y; means = means_on y.stays h };
+          owns = λ known. owns_done ready;
           end = ends_same n (λ ch. ch.type_at p.node);
         };
         among = all_among all.opens;
+        done = ready;
         names = λ o st k known.
             all_bound_both (all_bound_on (stays_trans y.stays st) (subst (λ bs. AllBound F (sight b) (all.opens ++ G) bs added) (append-nil p.names) x.names))
             (one_bound (record { named = refl; placed = refl; chosen = λ c. refl; means = k; known = known; entry = entry }) none_bound);

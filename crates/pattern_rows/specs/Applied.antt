@@ -13,6 +13,7 @@ use Rattle.typing_conditions.specs.Sights.{Sight, Letters}
 use Rattle.typing_conditions.specs.Frames.{Frame}
 use Rattle.typing_conditions.specs.Meanings.{Means}
 use Rattle.typing_conditions.specs.Carrying.{Asks, Scope, Carried}
+use Rattle.typing_conditions.specs.Hiding.{AreDone}
 use Rattle.typing_conditions.specs.Surroundings.{Surrounds}
 use Rattle.typing_steps.specs.States.{is_aloud, sight}
 use Rattle.typing_steps.specs.Typing.{as_declared}
@@ -22,6 +23,7 @@ use Rattle.pattern_rows.specs.Contracts.{MatchesRow}
 -- A pattern was matched, which opens these letters, and something was asked of it. Its names stand for those that it binds, whatever other letters are open.
 pub record PatternAsked (env : List Entry) (F : Frame) (scope : Scope) (a : Sight) (G : Letters) (b : Sight) (p : Pattern) (seen : List Name) (asked : Asks) (added : List Bind) (opens : Letters) : Type 0 where
   pub carried : Carried F scope (λ c. p.matched c seen ++ asked c) a G b (opens ++ G)
+  pub done : AreDone b carried.hidden opens
   pub names : (H : Letters) → Surrounds as_declared F a H env scope → AllBound F b (opens ++ H) p.names added
 
 -- a pattern, which opens these letters, and the demand that it has a type, where one is wanted

@@ -6,10 +6,9 @@ use Rattle.signature_model.specs.Matching.{IsKnown}
 use Rattle.typing_model.specs.Contexts.{Choice, Context, Bound}
 use Rattle.typing_model.specs.Parts.{place_of}
 use Rattle.type_terms.specs.declared.types.NodeRef.{NodeRef}
-use Rattle.type_nodes.specs.Nodes.{Node}
 use Rattle.type_nodes.specs.Readings.{Types}
 use Rattle.env_table.specs.declared.entries.Entry.{Entry}
-use Rattle.typing_conditions.specs.Sights.{Sight, Letters, AreGiven, AreNodes, Agrees}
+use Rattle.typing_conditions.specs.Sights.{Sight, Letters, Agrees}
 use Rattle.typing_conditions.specs.Frames.{Frame}
 use Rattle.typing_conditions.specs.Meanings.{Means}
 use Rattle.typing_conditions.specs.Surroundings.{IsEntry, context_of}
@@ -43,8 +42,3 @@ pub data AllBound (F : Frame) (b : Sight) (G : Letters) : List Bound → List Bi
 pub record Adds (names names' added : List Bind) (seen seen' mentions : List Name) : Type 0 where
   pub binds : names' ≡ names ++ added
   pub sees : seen' ≡ seen ++ mentions
-
--- Letters that stay open are among others: what is given for the others is given for them, and they are nodes where the others are.
-pub record IsAmong (opens own : Letters) : Type 0 where
-  pub given : (V : Types) (ch : Choice) → AreGiven own V ch → AreGiven opens V ch
-  pub inside : (nodes : List Node) → AreNodes own nodes → AreNodes opens nodes

@@ -18,10 +18,11 @@ use Rattle.typing_conditions.specs.Sights.{Sight, Letters}
 use Rattle.typing_conditions.specs.Frames.{Frame}
 use Rattle.typing_conditions.specs.Meanings.{Means, AllMean}
 use Rattle.typing_conditions.specs.Carrying.{Asks, Scope, Stays, Carried, CarriedTo}
+use Rattle.typing_conditions.specs.Hiding.{AreDone, IsAmong}
 use Rattle.typing_conditions.specs.Surroundings.{Surrounds}
 use Rattle.typing_steps.specs.States.{is_aloud, sight}
 use Rattle.typing_steps.specs.Typing.{as_declared, RowCarried}
-use Rattle.pattern_rows.specs.Bounds.{Bind, AlwaysKnown, AllBound, Adds, IsAmong}
+use Rattle.pattern_rows.specs.Bounds.{Bind, AlwaysKnown, AllBound, Adds}
 
 -- a node of an item, as a pattern at a place, without what is recorded of it
 abbrev pub row_pattern : ℕ → ℕ → Place → Tree → Pattern
@@ -36,9 +37,10 @@ abbrev pub types_at : List Pattern → List (Choice → Typ)
 types_at ps = map (λ p ch. ch.type_at p.node) ps
 
 -- A pattern behind the names seen before: what it asks is carried, with letters that stay open for the types of its names; a node has its type, and these names
--- stand for those that it binds.
+-- stand for those that it binds. `done`: the rows of the letters that stay open are done, so that these are without doubt.
 pub record MatchedTo (F : Frame) (scope : Scope) (a : Sight) (G : Letters) (b : Sight) (p : Pattern) (seen : List Name) (added : List Bind) (m : ℕ) (opens : Letters) : Type 0 where
   pub typed : CarriedTo F scope (λ c. p.matched c seen) a G b (opens ++ G) (λ ch. ch.type_at p.node) m
+  pub done : AreDone b typed.carried.hidden opens
   pub names : AllBound F b (opens ++ G) p.names added
 
 -- the same of a call, where faults are reported; it opens the same letters whatever surrounds it
@@ -56,6 +58,7 @@ pub record Matches (a b : Parts) (env : List Entry) (p : Pattern) (names names' 
 pub record RowMatched (F : Frame) (scope : Scope) (a : Sight) (G : Letters) (b : Sight) (p : Pattern) (seen : List Name) (added : List Bind) (n m : ℕ) (opens : Letters) : Type 0 where
   pub row : RowCarried F scope (λ c. p.matched c seen) a G b n m
   pub among : IsAmong opens row.own
+  pub done : AreDone b row.typed.carried.hidden opens
   pub names : (d : Sight) → Stays F b (opens ++ G) d (opens ++ G) → Means F d (opens ++ G) (λ ch. ch.type_at n) m → AlwaysKnown F d (opens ++ G) m → AllBound F d (opens ++ G) p.names added
 
 -- the same of a call, where faults are reported; it opens the same letters whatever surrounds it
@@ -70,6 +73,7 @@ AsksFresh a b t seen = is_aloud a.telling ≡ true → (F : Frame) (scope : Scop
 -- patterns one after the other, each behind the names of those before, with the letters that they open
 pub record PatternsAll (F : Frame) (scope : Scope) (a : Sight) (G : Letters) (b : Sight) (ps : List Pattern) (seen : List Name) (added : List Bind) (ms : List ℕ) (opens : Letters) : Type 0 where
   pub carried : Carried F scope (λ c. matched_all c seen ps) a G b (opens ++ G)
+  pub done : AreDone b carried.hidden opens
   pub means : AllMean F b (opens ++ G) (types_at ps) ms
   pub names : AllBound F b (opens ++ G) (all_names ps) added
 
@@ -84,6 +88,7 @@ pub record PatternsFirst (F : Frame) (scope : Scope) (a : Sight) (G : Letters) (
   pub types : List (Choice → Typ)
   pub bounds : List Bound
   pub carried : Carried F scope done a G b (opens ++ G)
+  pub rows_done : AreDone b carried.hidden opens
   pub means : AllMean F b (opens ++ G) types ms
   pub names : AllBound F b (opens ++ G) bounds added
   pub asks : (c : Context) → matched_all c seen all ≡ done c ++ matched_all c now left

@@ -13,6 +13,7 @@ use Rattle.typing_conditions.specs.Sights.{Sight, Letters}
 use Rattle.typing_conditions.specs.Frames.{Frame}
 use Rattle.typing_conditions.specs.Meanings.{Means}
 use Rattle.typing_conditions.specs.Carrying.{Asks, Scope, Carried}
+use Rattle.typing_conditions.specs.Hiding.{AreDone}
 use Rattle.typing_conditions.specs.Surroundings.{Surrounds}
 use Rattle.typing_steps.specs.States.{is_aloud, sight}
 use Rattle.typing_steps.specs.Typing.{as_declared}
@@ -36,6 +37,7 @@ pub data AllSides (F : Frame) (b : Sight) (G : Letters) : List Pattern → List 
 -- patterns beside one another, each behind the names seen before all of them, with the letters that they open
 pub record SidesAll (F : Frame) (scope : Scope) (a : Sight) (G : Letters) (b : Sight) (ps : List Pattern) (seen : List Name) (sides : List Side) (opens : Letters) : Type 0 where
   pub carried : Carried F scope (λ c. matched_each c seen ps) a G b (opens ++ G)
+  pub done : AreDone b carried.hidden opens
   pub all : AllSides F b (opens ++ G) ps sides
 
 -- the same of a call
@@ -48,6 +50,7 @@ pub record SidesFirst (F : Frame) (scope : Scope) (a : Sight) (G : Letters) (b :
   pub done : Asks
   pub front : List Pattern
   pub carried : Carried F scope done a G b (opens ++ G)
+  pub rows_done : AreDone b carried.hidden opens
   pub all : AllSides F b (opens ++ G) front sides
   pub asks : (c : Context) → matched_each c seen ps ≡ done c ++ matched_each c seen left
   pub split : ps ≡ front ++ left

@@ -23,7 +23,7 @@ use Rattle.typing_state.specs.declared.parts.Parts.{Parts}
 use Rattle.typing_state.specs.Goes.{Goes}
 use Rattle.typing_steps.specs.Typing.{path_as, TypesAny}
 use Rattle.typing_steps.specs.Warning.{OnlyNotes}
-use Rattle.operand_laws.specs.Operands.{pattern_of}
+use Rattle.operand_laws.specs.Operands.{number_of, pattern_of}
 use Rattle.use_typing.specs.declared.record_types.RecordType.{RecordType}
 use Rattle.use_typing.specs.declared.record_types.RecordType.TheVariants as record_type
 use Rattle.use_typing.specs.Labels.{label_if, toks_of}
@@ -77,24 +77,24 @@ field_missing a env found o names seen labels none = subst (λ x. MatchesFieldPa
 
 -- one that is there, by its pattern
 pub field_by : (r : Result Unit AllocError) (a d : Parts) (env : List Entry) (found : RecordType) (o : Operand) (nd : Bor Node) (p : Option Numbered) (names names' : List Bind) (seen seen' labels labels' : List Name) → o.node ≡ Some nd → first_in o.number (node_view nd.now) 3 ≡ p →
-    OnOk r (MatchesFieldBy p a d env (here_of found) (path_as (path_at (operand_view o).part)) names names' seen seen' labels labels') → OnOk r (MatchesFieldPart a d env (here_of found) o.number (operand_view o).part names names' seen seen' labels labels')
+    OnOk r (MatchesFieldBy p a d env (here_of found) o.number (path_as (path_at (operand_view o).part)) names names' seen seen' labels labels') → OnOk r (MatchesFieldPart a d env (here_of found) o.number (operand_view o).part names names' seen seen' labels labels')
 field_by (Err e) a d env found o nd p names names' seen seen' labels labels' some there h = tt
 field_by (Ok x) a d env found o nd p names names' seen seen' labels labels' some there h =
     subst (λ x. MatchesFieldPart a d env (here_of found) o.number (part_of x o.span) names names' seen seen' labels labels') (sym some)
-    (subst (λ q. MatchesFieldBy q a d env (here_of found) (path_as (path_at (inner (node_view nd.now)))) names names' seen seen' labels labels') (sym there)
-    (subst (λ y. MatchesFieldBy p a d env (here_of found) (path_as (path_at (part_of y o.span))) names names' seen seen' labels labels') some h))
+    (subst (λ q. MatchesFieldBy q a d env (here_of found) o.number (path_as (path_at (inner (node_view nd.now)))) names names' seen seen' labels labels') (sym there)
+    (subst (λ y. MatchesFieldBy p a d env (here_of found) o.number (path_as (path_at (part_of y o.span))) names names' seen seen' labels labels') some h))
 
 -- a field whose label is its name
-pub punned_done : (r : Result Unit AllocError) (a mid d : Parts) (found : RecordType) (p q : operands.Written) (wanted : Option NodeRef) (names names' : List Bind) (seen seen' : List Name) (old new : List (Bor Token)) → p ≡ q →
-    of_code.BeginsField found a mid (names_seen old) (path_as p) (option_map (λ (n : NodeRef). n.0) wanted) → Goes a mid → toks_of new ≡ toks_of old ++ label_if p.last → OnOk r (Puns p.last mid d (option_map (λ (n : NodeRef). n.0) wanted) names names' seen seen') →
-    OnOk r (PunsWritten a d (here_of found) (path_as q) names names' seen seen' (names_seen old) (names_seen new))
-punned_done (Err e) a mid d found p q wanted names names' seen seen' old new same begins goes labelled puns = tt
-punned_done (Ok x) a mid d found p q wanted names names' seen seen' old new same begins goes labelled puns =
-    subst (λ w. PunsWritten a d (here_of found) (path_as w) names names' seen seen' (names_seen old) (names_seen new)) same (record {
+pub punned_done : (r : Result Unit AllocError) (a mid d : Parts) (n : ℕ) (found : RecordType) (p q : operands.Written) (wanted : Option NodeRef) (names names' : List Bind) (seen seen' : List Name) (old new : List (Bor Token)) → p ≡ q →
+    of_code.BeginsField found a mid (names_seen old) (path_as p) (option_map (λ (n : NodeRef). n.0) wanted) → Goes a mid → toks_of new ≡ toks_of old ++ label_if p.last → OnOk r (Puns p.last mid d (number_of mid.item n) (option_map (λ (n : NodeRef). n.0) wanted) names names' seen seen') →
+    OnOk r (PunsWritten a d (number_of a.item n) (here_of found) (path_as q) names names' seen seen' (names_seen old) (names_seen new))
+punned_done (Err e) a mid d n found p q wanted names names' seen seen' old new same begins goes labelled puns = tt
+punned_done (Ok x) a mid d n found p q wanted names names' seen seen' old new same begins goes labelled puns =
+    subst (λ w. PunsWritten a d (number_of a.item n) (here_of found) (path_as w) names names' seen seen' (names_seen old) (names_seen new)) same (record {
       mid = mid;
       type = option_map (λ (n : NodeRef). n.0) wanted;
       begins = begins_here found a mid (names_seen old) (path_as p) (option_map (λ (n : NodeRef). n.0) wanted) begins;
-      puns = puns;
+      puns = subst (λ i. Puns p.last mid d (number_of i n) (option_map (λ (n : NodeRef). n.0) wanted) names names' seen seen') goes.item puns;
       goes = goes;
       labelled = labels_more old new p.qualifiers p.last labelled;
     })

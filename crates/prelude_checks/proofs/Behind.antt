@@ -41,7 +41,10 @@ use Rattle.prelude_checks.proofs.Known.{choice_known, sure}
 use Rattle.prelude_checks.proofs.ModuleRows.{modules_carried}
 use Rattle.prelude_checks.proofs.Ones.{first_one}
 use Rattle.prelude_checks.proofs.Places.{starts_there}
+use Rattle.prelude_checks.proofs.FirstNames.{first_known}
+use Rattle.prelude_checks.proofs.Plain.{knows_names}
 use Rattle.prelude_checks.proofs.Prelude.{lexed}
+use Rattle.prelude_checks.proofs.Starts.{StartsKnown, starts_known}
 use Rattle.prelude_checks.proofs.Tokens.{tokens}
 use Rattle.prelude_checks.proofs.TypeRows.{types_carried}
 use Rattle.prelude_checks.proofs.Typed.{typed}
@@ -79,6 +82,10 @@ prelude_here = record {
 pub prelude_known : (ts : List Tok) → Lex prelude_text ts → (ch : Choice) × IsPreludeTyped ts ch
 prelude_known ts lex = subst (λ us. (ch : Choice) × IsPreludeTyped us ch) (lex_one prelude_text tokens ts lexed lex) (choice, prelude_here)
 
+-- All that is to be known of the first environment's names is.
+names_known : (env : Environment) → IsFirst env → knows_names env ≡ true
+names_known env is = ap knows_names (first_one env is) ∙ first_known
+
 -- Items that add the same names whatever is chosen, where one typing of the definitions is known: the next item starts among the names behind them, as names of the prelude.
 starts_behind : (a b : Parts) (now : Scene) (ms : List Item) (g : IsSpecified (λ ch. built_in_names) ms no_names a b [] now) (V : Types) (c : Context) → AllMet (λ ch. built_in_names) (sight a) [] (λ x. items_ask x no_names ms) V c →
     StartsAmong (sight b) [] now.env (λ ch. map entry_there (behind_items c ms)) g.added.done.outside.older
@@ -102,12 +109,16 @@ prelude_starts a b env now ts lex zero gives aloud at constants none quiet first
     let all_met = subst (λ ms. AllMet E (sight a) [] (λ x. items_ask x no_names ms) V c) (sym all) met in
     let starts = starts_behind a b now f.items f.given V c all_met in
     let stands : map entry_there (behind_items c f.items) ≡ first = ap (λ ms. map entry_there (behind_items c ms)) (all ∙ here) ∙ sym (k.stands first is) in
+    let none_typed : (i p : ℕ) → (sight b).types i p ≡ None = λ i p. f.given.added.untyped.types i p ∙ none i p in
+    let k : StartsKnown (sight b) now.env first f.given.added.done.outside.older =
+    starts_known (sight b) now.env first (names_known first is) none_typed (subst (λ F. StartsAmong (sight b) [] now.env (λ ch. F) f.given.added.done.outside.older) stands starts) in
     record {
       older = f.given.added.done.outside.older;
-      starts = subst (λ F. StartsAmong (sight b) [] now.env (λ ch. F) f.given.added.done.outside.older) stands starts;
+      starts = k.starts;
+      known = k.known;
       noted = f.given.added.done.noted;
       constants = f.given.added.done.constants;
-      untyped = λ i p. f.given.added.untyped.types i p ∙ none i p;
+      untyped = none_typed;
       quiet = met_silent f.given.added.done.carried V c all_met ∙ quiet;
     }
   where

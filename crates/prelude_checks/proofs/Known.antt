@@ -11,13 +11,14 @@ use Rattle.prelude_checks.proofs.Chosen.{type_in, chosen, choice}
 
 -- whether no unknown type stands in a type
 abbrev mutual
-  is_known_type : Typ → Bool
+  pub is_known_type : Typ → Bool
   is_known_type (Var v) = true
   is_known_type (Arrow a b) = is_known_type a && is_known_type b
   is_known_type (Tuple ts) = are_known_types ts
   is_known_type (Con o ts) = not (is_unknown o) && are_known_types ts
 
-  are_known_types : Typs → Bool
+  -- the same of several
+  pub are_known_types : Typs → Bool
   are_known_types Nil = true
   are_known_types (Cons t ts) = is_known_type t && are_known_types ts
 
@@ -26,7 +27,7 @@ not_true true h = absurd (cc)
 not_true false h = refl
 
 mutual
-  type_known : (t : Typ) → is_known_type t ≡ true → IsKnown t
+  pub type_known : (t : Typ) → is_known_type t ≡ true → IsKnown t
   type_known (Var v) h = tt
   type_known (Arrow a b) h = let r = both (is_known_type a) (is_known_type b) h in (type_known a r.0, type_known b r.1)
   type_known (Tuple ts) h = types_known ts h

@@ -14,5 +14,8 @@ pub mod Prelude
 pub mod Made
 pub mod Reference
 pub mod Ones
+pub mod Plain
+pub mod FirstNames
+pub mod Starts
 pub mod Behind
 pub mod Steps

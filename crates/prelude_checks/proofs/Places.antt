@@ -1,5 +1,5 @@
 -- Where names are defined isn't asked: the code's names stand for those of a text, and for the same names of the prelude.
-use Rattle.std.proofs.Common.{◌≡◌, ◌∙◌, ℕ, ◌||◌, List, [], ◌∷◌, ◌++◌, map, Option, Some, option_map, refl, ap, subst}
+use Rattle.std.proofs.Common.{◌≡◌, ◌∙◌, ℕ, ◌||◌, false, List, [], ◌∷◌, ◌++◌, map, Option, Some, option_map, refl, ap, subst}
 use Rattle.std.proofs.lemmas.List.{map-append}
 use Rattle.std.proofs.lemmas.Option.{slice_get-map}
 use Rattle.type_model.specs.Types.{Typ}
@@ -9,6 +9,7 @@ use Rattle.signature_model.specs.Signatures as sig
 use Rattle.signature_model.specs.Signatures.{Signature, Components, Template, Meaning}
 use Rattle.signature_model.specs.Entries.{Environment, Referent, a_value, a_constructor, an_exception, a_label, a_type, a_module, a_module_type, kind_of, entry, entries_of, entries_of_shape, entries_in, free_in, free_in_referent, free_in_signature, free_in_components, free_in_meaning}
 use Rattle.signature_model.specs.Entries.{Entry as Named}
+use Rattle.typing_laws.proofs.Bools.{no_yes}
 use Rattle.typing_model.specs.Contexts.{Choice}
 use Rattle.typing_model.specs.First.{place_there, constructor_there, label_there, shape_there, declaration_there, signature_there, components_there, meaning_there, referent_there, entry_there}
 use Rattle.type_nodes.specs.Nodes.{Node}
@@ -173,6 +174,8 @@ starts_there {b} {G} {H} {env} {E} {E'} given same at = record {
     steady = at.steady;
     context = at.context;
     covered = at.covered;
+    known = false;
+    knows = λ known. absurd (no_yes known);
     reads = λ J V ch own reads agrees. subst (λ F. Stands SchemeReads (DeclaredAs b.nodes at.roots at.names) (ExceptionAs b.nodes at.roots at.names) b.nodes J at.roots V env F) (same ch) (stands_there (at.reads J V ch own reads (before agrees)));
     fits = λ J V ch own loose agrees. subst (λ F. Stands SchemeFits (DeclaredAs b.nodes at.roots at.names) (ExceptionAs b.nodes at.roots at.names) b.nodes J at.roots V env F) (same ch) (stands_there (at.fits J V ch own loose (before agrees)));
   };

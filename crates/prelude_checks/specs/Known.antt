@@ -48,10 +48,11 @@ pub record IsFresh (a : Parts) : Type 0 where
   pub quiet : (sight a).reports ≡ []
   pub constants : HasConstants a
 
--- The next item starts among the names of the first environment, whatever is chosen, and no letter is open; no type is recorded, and nothing was reported.
+-- The next item starts among the names of the first environment, whatever is chosen, of which all that is to be known is, and no letter is open; no type is recorded, and nothing was reported.
 pub record StartsFirst (b : Parts) (env : List Entry) (first : Environment) : Type 0 where
   pub older : List ℕ
   pub starts : StartsAmong (sight b) [] env (λ ch. first) older
+  pub known : starts.outside.known ≡ true
   pub noted : AreNoted older b
   pub constants : HasConstants b
   pub untyped : (i p : ℕ) → (sight b).types i p ≡ None

@@ -24,7 +24,8 @@ ghost use Rattle.typing_model.specs.Meanings.{items_of};
 ghost use Rattle.typing_model.specs.Typings.{conditions_of, outermost, IsMostGeneralChoice};
 ghost use Rattle.typing_model.specs.First.{IsFirst, IsSetting, IsFound};
 ghost use Rattle.typing_model.specs.Demands.{Site};
-ghost use Rattle.typing_model.specs.Plain.{has_no_modules};
+ghost use Rattle.typing_model.specs.Plain.{has_no_modules, has_lets_alone};
+ghost use Rattle.fault_model.specs.Refused.{Refused, AreRefused};
 ghost use Rattle.typing_model.specs.PreludeText.{prelude_text};
 ghost use Rattle.model_checks.specs.Kept.{kept_at, reference_kept};
 ghost use Rattle.model_checks.specs.Open.{open_types};
@@ -61,6 +62,11 @@ pub fn a_setting_is_one()
 /// So the kept demands that are found of a text without modules are one.
 pub fn kept_demands_that_are_found_are_one()
     ensures { (text : List ℕ) (kept others : Site → Bool) (types shown : ℕ → Typ) (f : IsFound text kept types) → has_no_modules f.items ≡ true → IsFound text others shown → (s : Site) → kept s ≡ others s }
+{}
+
+/// The places and kinds of the faults of items that are `let` and `;;` alone are one.
+pub fn faults_of_lets_are_one()
+    ensures { (items : List Tree) (faults others : List Refused) → has_lets_alone items ≡ true → AreRefused items faults → AreRefused items others → faults ≡ others }
 {}
 
 /// And the types of its nodes print alike in two most general choices, where the weak variables are those that are free behind its items.

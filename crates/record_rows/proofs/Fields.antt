@@ -17,11 +17,14 @@ use Rattle.typing_conditions.specs.Sights.{Sight, Letters, AreNodes}
 use Rattle.typing_conditions.specs.Frames.{Frame}
 use Rattle.typing_conditions.specs.Carrying.{Scope, Stays, Carried}
 use Rattle.typing_conditions.specs.Surroundings.{Surrounds}
-use Rattle.typing_conditions.proofs.Carried.{carried_refl, carried_trans, carried_as}
+use Rattle.typing_conditions.specs.Hiding.{ArePlaced, AreDone, IsAmong}
+use Rattle.typing_conditions.proofs.Carried.{carried_refl, carried_trans, carried_as, done_as, done_then, done_last}
 use Rattle.typing_conditions.proofs.Meaning.{means_on, nodes_in}
 use Rattle.typing_conditions.proofs.Nodes.{told_first}
 use Rattle.typing_conditions.proofs.Stays.{stays_closed}
 use Rattle.typing_conditions.proofs.Surrounding.{surrounds_on}
+use Rattle.typing_conditions.proofs.Hiding.{keeps_same, done_none, done_both, done_on, done_sure}
+use Rattle.typing_conditions.proofs.Keeping.{all_among, among_before, carried_kept, kept_hides}
 use Rattle.typing_steps.specs.States.{is_aloud, sight}
 use Rattle.typing_steps.specs.Typing.{as_declared}
 use Rattle.typing_steps.specs.Building.{TakesAs, used_by}
@@ -29,10 +32,11 @@ use Rattle.record_steps.specs.Alike.{SameRecord}
 use Rattle.record_steps.specs.Recording.{AsksNothing, field_in}
 use Rattle.record_steps.proofs.Fielded.{stands_on}
 use Rattle.record_steps.proofs.Named.{same_field}
+use Rattle.record_steps.proofs.Uses.{use_on}
 use Rattle.pattern_rows.specs.Applied.{MatchesAsIf, MatchesWanted}
 use Rattle.pattern_rows.specs.Bounds.{Bind, AllBound, none_bound, Adds}
 use Rattle.pattern_rows.proofs.Naming.{all_bound_on, all_bound_both, adds_none, adds_both}
-use Rattle.pattern_rows.proofs.Opened.{all_among, among_before, carried_kept}
+use Rattle.pattern_rows.proofs.Opened.{done_grouped}
 use Rattle.record_rows.specs.Fields.{RecordHere, KnownAs, BeginsField, names_of_fields, mentions_of_fields, field_rest, FieldEnded, EndsField, FieldAdds, MatchesFields, MatchesFieldsFirst, FieldsInOrder, FieldsInOrderFirst}
 use Rattle.record_rows.proofs.Opened.{stays_more, stays_without}
 
@@ -41,7 +45,7 @@ pub known_on : {F : Frame} {a b : Sight} {G H : Letters} (n : ℕ) (here : Recor
 known_on n None None s h = tt
 known_on n None (Some e) s h = h
 known_on n (Some r) None s h = h
-known_on n (Some r) (Some e) s h = (stands_on s h.1.open_node.reached h.0, means_on s h.1)
+known_on n (Some r) (Some e) s h = (stands_on s h.1.open_node.reached h.0, means_on s h.1, λ known. use_on e r.1 s h.1.open_node.reached (h.2 known))
 
 -- whether there is one
 abbrev pub is_there : Option rules.Declaration → Bool
@@ -72,8 +76,8 @@ pattern_ends b d env k l p names names' seen seen' ty matched = record { added =
   where
     by : is_aloud b.telling ≡ true → (F : Frame) (scope : Scope) (G : Letters) (n : ℕ) (t : Option Typ) (ty : Option ℕ) → Surrounds as_declared F (sight b) G env scope → TakesAs F (sight b) G n t ty → MatchesAsIf b d env p seen matched.added matched.opens ty →
         FieldEnded env F scope (sight b) G (sight d) n (record { node = k; label = l; pattern = Some p }) seen t matched.added matched.opens
-    by aloud F scope G n None None s has typed = let x = typed aloud F scope G s in record { carried = x.carried; names = x.names }
-    by aloud F scope G n (Some t) (Some m) s has typed = let x = typed aloud F scope G k 1 (used_by n t) s has in record { carried = x.carried; names = x.names }
+    by aloud F scope G n None None s has typed = let x = typed aloud F scope G s in record { carried = x.carried; done = x.done; names = x.names }
+    by aloud F scope G n (Some t) (Some m) s has typed = let x = typed aloud F scope G k 1 (used_by n t) s has in record { carried = x.carried; done = x.done; names = x.names }
     by aloud F scope G n None (Some m) s has typed = absurd has
     by aloud F scope G n (Some t) None s has typed = absurd has
 
@@ -82,6 +86,7 @@ pub record FieldBegun (F : Frame) (scope : Scope) (a : Sight) (G : Letters) (b :
   pub letters : Letters
   pub inside : AreNodes letters b.nodes
   pub carried : Carried F scope (λ c. if is_there found then ask_once k 0 labels p else []) a G b (letters ++ G)
+  pub none : F.known ≡ true → letters ≡ []
   pub has_type : TakesAs F b (letters ++ G) n (type_in found p) ty
 
 pub field_begun : (a b : Parts) {F : Frame} {scope : Scope} {G : Letters} (n k : ℕ) (here : RecordHere) (found : Option rules.Declaration) (labels : List Name) (p : Written) (ty : Option ℕ) → is_aloud a.telling ≡ true → KnownAs F (sight a) G n here found → BeginsField here a b labels p ty →
@@ -90,13 +95,14 @@ field_begun a b {F} {scope} {G} n k None None labels p ty aloud known (none, sam
   letters = [];
   inside = tt;
   carried = subst (λ z. Carried F scope (λ c. []) (sight a) G (sight z) G) (sym same) carried_refl;
+  none = λ all_known. refl;
   has_type = subst (TakesAs F (sight b) G n None) (sym none) tt;
 }
 field_begun a b n k None (Some e) labels p ty aloud known begins = absurd known
 field_begun a b n k (Some r) None labels p ty aloud known begins = absurd known
 field_begun a b {F} {scope} {G} n k (Some r) (Some e) labels p ty aloud known begins =
-    let x = begins aloud F scope G n k e known.0 known.1 in
-    record { letters = x.letters; inside = x.inside; carried = x.carried; has_type = x.has_type }
+    let x = begins aloud F scope G n k e known.0 known.1 known.2 in
+    record { letters = x.letters; inside = x.inside; carried = x.carried; none = x.none; has_type = x.has_type }
 
 -- the type of a field stays
 pub takes_on : {F : Frame} {a b : Sight} {G H : Letters} (n : ℕ) (t : Option Typ) (ty : Option ℕ) → Stays F a G b H → TakesAs F a G n t ty → TakesAs F b H n t ty
@@ -117,7 +123,7 @@ field_asked c n found f labels now =
 pub fields_none : (a : Parts) (env : List Entry) (here : RecordHere) (fs : List FieldPattern) (seen : List Name) → MatchesFieldsFirst a a env here fs fs seen [] seen []
 fields_none a env here fs seen = record {
   opens = [];
-  typed = λ aloud F scope K G n found s nodes known. record { done = λ c. []; bounds = []; carried = carried_refl; names = none_bound; asks = λ c. refl; binds = refl };
+  typed = λ aloud F scope K G n found s nodes known. record { done = λ c. []; bounds = []; carried = carried_refl; rows_done = done_none; names = none_bound; asks = λ c. refl; binds = refl };
 }
 
 -- One field more: its beginning, the record of its node, and its rest.
@@ -138,18 +144,27 @@ fields_more a b mid told d env here all left rest f seen labels now after added 
       let begun = carried_trans (carried_trans (told_first {F = F} {scope = scope} {G = H} {a = sight b} f.node) y.carried) z in
       let w = ends.typed louder F scope (y.letters ++ H) n (type_in found f.label) (surrounds_on begun.stays (surrounds_on x.carried.stays outer)) has in
       let one = λ (c : Context). match_field c n (is_there found) f labels now (field_type c n found f.label) in
-      let whole = carried_as (λ c. field_asked c n found f labels now) (carried_trans begun w.carried) in
-      let step : Carried F scope one (sight b) H (sight d) (ends.opens ++ H) =
-      carried_kept (ends.opens ++ y.letters) ends.opens (among_before y.letters (all_among ends.opens)) (subst (λ J. Carried F scope one (sight b) H (sight d) J) (sym (append_assoc ends.opens y.letters H)) whole) in
+      let both = carried_trans begun w.carried in
+      let whole = carried_as (λ c. field_asked c n found f labels now) both in
+      let same = sym (append_assoc ends.opens y.letters H) in
+      let grouped = subst (λ J. Carried F scope one (sight b) H (sight d) J) same whole in
+      let ready : AreDone (sight d) grouped.hidden ends.opens = done_grouped same whole (done_as (λ c. field_asked c n found f labels now) both (done_last begun w.carried w.done)) in
+      let among : IsAmong ends.opens (ends.opens ++ y.letters) = among_before y.letters (all_among ends.opens) in
+      let sure = λ (all_known : F.known ≡ true) (placed : ArePlaced (sight d)). done_sure grouped.hidden grouped.settled placed (grouped.clear all_known placed)
+      (subst (λ zs. AreDone (sight d) grouped.hidden (ends.opens ++ zs)) (sym (y.none all_known)) (done_both ready done_none)) in
+      let step : Carried F scope one (sight b) H (sight d) (ends.opens ++ H) = carried_kept (ends.opens ++ y.letters) ends.opens among grouped sure in
+      let step_done : AreDone (sight d) step.hidden ends.opens = done_on keeps_same (kept_hides (ends.opens ++ y.letters) ends.opens among grouped sure) ready in
       let here_now : AreNodes K b.store.nodes = nodes_in K a.store.nodes b.store.nodes x.carried.stays.longer nodes in
       let closed : Stays F (sight b) (first.opens ++ G) (sight d) (ends.opens ++ (first.opens ++ G)) = stays_without first.opens K ends.opens G here_now step.stays in
       let told_closed : Stays F (sight b) (first.opens ++ G) (sight told) (first.opens ++ G) = stays_without first.opens K [] G here_now (stays_closed y.letters begun.stays) in
       let before : Stays F (sight a) G (sight b) (first.opens ++ G) = stays_without [] K first.opens G nodes x.carried.stays in
       let added_names = all_bound_both (all_bound_on closed x.names) (w.names (first.opens ++ G) (surrounds_on told_closed (surrounds_on before s))) in
+      let joined = carried_trans x.carried step in
       record {
         done = λ c. x.done c ++ one c;
         bounds = x.bounds ++ names_in_field n f;
-        carried = subst (λ J. Carried F scope (λ c. x.done c ++ one c) (sight a) (K ++ G) (sight d) J) (sym (append_assoc ends.opens first.opens (K ++ G))) (carried_trans x.carried step);
+        carried = subst (λ J. Carried F scope (λ c. x.done c ++ one c) (sight a) (K ++ G) (sight d) J) (sym (append_assoc ends.opens first.opens (K ++ G))) joined;
+        rows_done = done_grouped (sym (append_assoc ends.opens first.opens (K ++ G))) joined (done_both {xs = joined.hidden} (done_last x.carried step step_done) (done_then x.carried step x.rows_done));
         names = subst (λ J. AllBound F (sight d) J (x.bounds ++ names_in_field n f) (added ++ more)) (sym (append_assoc ends.opens first.opens G)) added_names;
         asks = λ c.
             x.asks c ∙ ap (λ fs. x.done c ++ match_fields c n found fs labels now) split ∙ sym (append_assoc (x.done c) (one c) (match_fields c n found rest (labels ++ name_in f.label) (now ++ mentions_in_field f))) ∙
@@ -166,6 +181,7 @@ fields_all a b env here all left seen labels now added none first = record {
       let x = first.typed aloud F scope K G n found s nodes known in
       record {
         carried = carried_as (λ c. sym (append-nil (x.done c)) ∙ ap (λ fs. x.done c ++ match_fields c n found fs labels now) (sym none) ∙ sym (x.asks c)) x.carried;
+        done = done_as _ x.carried x.rows_done;
         names = subst (λ bs. AllBound F (sight b) (first.opens ++ G) bs added) (sym (append-nil x.bounds) ∙ ap (λ fs. x.bounds ++ names_of_fields n fs) (sym none) ∙ sym x.binds) x.names;
       };
 }

@@ -13,7 +13,7 @@ use Rattle.env_table.specs.declared.entries.Entry.{Entry}
 use Rattle.typing_state.specs.declared.parts.Parts.{Parts}
 use Rattle.typing_state.specs.Goes.{Goes, OnlyIndex}
 use Rattle.typing_state.specs.Notes.{NotedNameless}
-use Rattle.typing_conditions.proofs.Carried.{carried_trans}
+use Rattle.typing_conditions.proofs.Carried.{carried_trans, done_last, owns_last}
 use Rattle.typing_conditions.proofs.Surrounding.{surrounds_on}
 use Rattle.typing_steps.specs.States.{is_aloud}
 use Rattle.typing_steps.specs.Typing.{TypesAny}
@@ -43,7 +43,8 @@ row_after a b d env p seen added n m nothing goes row = record {
       let none = nothing F scope G in
       let x = row.typed (ap is_aloud goes.telling ∙ aloud) F scope G (surrounds_on none.stays names) in
       record {
-        row = record { own = x.row.own; type = x.row.type; first = x.row.first; ends = x.row.ends; all = x.row.all; typed = record { carried = carried_trans none x.row.typed.carried; means = x.row.typed.means }; end = x.row.end };
+        row = record { own = x.row.own; type = x.row.type; first = x.row.first; ends = x.row.ends; all = x.row.all; typed = record { carried = carried_trans none x.row.typed.carried; means = x.row.typed.means }; owns = λ all_known. owns_last none x.row.typed.carried (x.row.owns all_known); end = x.row.end };
+        done = done_last none x.row.typed.carried x.done;
         among = x.among;
         names = x.names;
       };

@@ -84,7 +84,7 @@ unset_alike {F} {scope} {G} {env} a ps at V c loose under agrees named =
     let own = own_of a.nodes at.reached.sound in
     let stands = (at.fits own.0 V c.chosen own.1 loose agrees named).names in
     let R : ℕ → Scheme → Type 0 = λ r sc. SchemeFits a.nodes V r sc × IsIn at.roots r in
-    ap (λ E. unset_in (record c { env = E }) ps) under.env ∙ sym (found_so {R = R} (labels_alike R a.nodes at.roots at.names (labels_of ps) stands))
+    ap (λ E. unset_in (record c { env = E }) ps) under.env ∙ sym (found_so {R = R} (labels_alike R (DeclaredAs a.nodes at.roots at.names) (ExceptionAs a.nodes at.roots at.names) (λ d e h. h.defines) (labels_of ps) stands))
 
 -- the values of fields are non-expansive where their operands are
 values_so : (c : Context) (i : ℕ) (os : List Numbered) → AreFormedFields os → all_field_values c (value_fields_of i os) ≡ all_values c (expressions_of i (field_values os))

@@ -3,9 +3,8 @@ use Rattle.std.proofs.Common.{◌++◌, [], ◌∷◌}
 use Rattle.typing_conditions.specs.Sights.{Sight, Letters, AreNodes}
 use Rattle.typing_conditions.specs.Frames.{Frame}
 use Rattle.typing_conditions.specs.Carrying.{Stays}
-use Rattle.typing_conditions.proofs.Judged.{given_right, nodes_right, nodes_both}
+use Rattle.typing_conditions.proofs.Judged.{given_right, nodes_left, nodes_right, nodes_both}
 use Rattle.typing_conditions.proofs.Stays.{stays_refl, stays_trans, stays_opened}
-use Rattle.pattern_rows.proofs.Opened.{nodes_left}
 
 -- all that a state has stays where letters are opened for nodes of it
 pub stays_more : {F : Frame} {a : Sight} {G : Letters} (K : Letters) → AreNodes K a.nodes → Stays F a G a (K ++ G)

@@ -34,7 +34,7 @@ use Rattle.pattern_rows.specs.CarriedPatterns.{IsCarriedPattern}
 use Rattle.pattern_rows.specs.Contracts.{row_pattern}
 use Rattle.record_steps.specs.Recording.{AsksNothing}
 use Rattle.record_steps.proofs.Demanded.{nothing_asked, one_asked}
-use Rattle.record_rows.specs.Fields.{RecordHere, BeginsField, FieldAdds, FieldsInOrderFirst}
+use Rattle.record_rows.specs.Fields.{RecordHere, BeginsField, FieldAdds, FieldsInOrderFirst, Puns}
 use Rattle.record_rows.specs.Operands.{field_of, fields_of, labels_at, IsCarriedField, MatchesFieldBy, MatchesFieldPart}
 use Rattle.record_rows.proofs.Fields.{pattern_ends, in_order_more}
 use Rattle.record_rows.proofs.Punned.{pun_ends}
@@ -132,10 +132,10 @@ record FieldComes (a d : Parts) (env : List Entry) (here : RecordHere) (n : ℕ)
 
 -- by whether it has a pattern of its own
 field_comes : (a d : Parts) (env : List Entry) (here : RecordHere) (n : ℕ) (t : Tree) (names names' : List Bind) (seen seen' labels labels' : List Name) → IfSome (first_in n t 3) IsCarriedPattern →
-    MatchesFieldBy (first_in n t 3) a d env here (path_as (path_in t 0 1)) names names' seen seen' labels labels' → FieldComes a d env here n t names names' seen seen' labels labels'
+    MatchesFieldBy (first_in n t 3) a d env here n (path_as (path_in t 0 1)) names names' seen seen' labels labels' → FieldComes a d env here n t names names' seen seen' labels labels'
 field_comes a d env here n t names names' seen seen' labels labels' carried x = by (first_in n t 3) refl carried x
   where
-    by : (o : Option Numbered) → first_in n t 3 ≡ o → IfSome o IsCarriedPattern → MatchesFieldBy o a d env here (path_as (path_in t 0 1)) names names' seen seen' labels labels' → FieldComes a d env here n t names names' seen seen' labels labels'
+    by : (o : Option Numbered) → first_in n t 3 ≡ o → IfSome o IsCarriedPattern → MatchesFieldBy o a d env here n (path_as (path_in t 0 1)) names names' seen seen' labels labels' → FieldComes a d env here n t names names' seen seen' labels labels'
     by None is h x = record {
       mid = x.mid;
       told = x.mid;
@@ -143,7 +143,7 @@ field_comes a d env here n t names names' seen seen' labels labels' carried x = 
       begins = x.begins;
       noted = λ F scope G. carried_refl;
       adds = subst (λ p. FieldAdds x.mid d env (record { node = number_of x.mid.item n; label = path_as (path_in t 0 1); pattern = option_map (pattern_of x.mid.item) p }) names names' seen seen' x.type) (sym is)
-          (pun_ends x.mid d env (number_of x.mid.item n) (path_in t 0 1).qualifiers (path_in t 0 1).last names names' seen seen' x.type x.puns);
+          (pun_ends x.mid d env (number_of x.mid.item n) (path_in t 0 1).qualifiers (path_in t 0 1).last names names' seen seen' x.type (subst (λ i. Puns (path_in t 0 1).last x.mid d (number_of i n) x.type names names' seen seen') (sym x.goes.item) x.puns));
       goes_mid = x.goes;
       goes_told = goes_refl x.mid;
       labelled = x.labelled;

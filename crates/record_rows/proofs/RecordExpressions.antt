@@ -1,5 +1,5 @@
 -- { l = e }, { e with l = e }: the record type of the labels, the fields, that none is absent, and the record.
-use Rattle.std.proofs.Common.{◌≡◌, ◌∙◌, ◌++◌, ℕ, true, List, [], ◌∷◌, Option, Some, None, sym, ap, subst, append-nil}
+use Rattle.std.proofs.Common.{◌≡◌, ◌∙◌, ◌++◌, ℕ, true, List, [], ◌∷◌, Option, Some, None, refl, sym, ap, subst, append-nil}
 use Rattle.std.proofs.Common.{append_assoc}
 use Rattle.tree_model.specs.Trees.{Place}
 use Rattle.signature_model.specs.Declarations as rules
@@ -18,17 +18,20 @@ use Rattle.typing_state.specs.Goes.{Goes}
 use Rattle.typing_conditions.specs.Sights.{own, Letters}
 use Rattle.typing_conditions.specs.Meanings.{Means}
 use Rattle.typing_conditions.specs.Carrying.{Asks, Carried}
-use Rattle.typing_conditions.proofs.Carried.{carried_trans, carried_as}
-use Rattle.typing_conditions.proofs.Branching.{carried_after}
+use Rattle.typing_conditions.specs.Hiding.{AreDone}
+use Rattle.typing_conditions.proofs.Carried.{carried_trans, carried_as, done_as, done_then, done_last, owns_last}
+use Rattle.typing_conditions.proofs.Branching.{carried_after, after_hides}
 use Rattle.typing_conditions.proofs.Meaning.{means_on}
 use Rattle.typing_conditions.proofs.Nodes.{same_made}
 use Rattle.typing_conditions.proofs.Recording.{ends_own}
 use Rattle.typing_conditions.proofs.Surrounding.{surrounds_on}
+use Rattle.typing_conditions.proofs.Hiding.{owns_also, owns_after, owns_row, owns_done}
 use Rattle.typing_steps.specs.States.{is_aloud, sight}
 use Rattle.typing_steps.specs.Typing.{TypesTo, TypesAny, TypesRow, AsksEqual}
 use Rattle.typing_steps.specs.Building.{used_by}
 use Rattle.record_steps.specs.Alike.{SameRecord}
 use Rattle.record_steps.specs.Recording.{TypesRecord, TypesNoRecord, AsksNothing}
+use Rattle.pattern_rows.proofs.Opened.{done_grouped}
 use Rattle.record_rows.specs.Values.{TypesFields, Carries}
 use Rattle.record_rows.specs.Completing.{Completes}
 use Rattle.record_rows.proofs.Completing.{complete_same}
@@ -75,18 +78,34 @@ known_made_row a b e f d g env n at fs ps before loose decl m alike first goes t
     let k = typed aloud_b F scope G n 1 names_b in
     let names_e = surrounds_on k.carried.stays names_b in
     let l = more aloud_e F scope (k.letters ++ G) names_e in
-    let known_f = known_on n (Some (decl, m)) (Some k.owner) l.stays (k.stands, k.has_type) in
+    let known_f = known_on n (Some (decl, m)) (Some k.owner) l.stays (k.stands, k.has_type, k.use_of) in
     let x = fields aloud_f F scope (k.letters ++ G) n (Some k.owner) (surrounds_on l.stays names_e) known_f in
     let known_d = known_on n (Some (decl, m)) (Some k.owner) x.carried.stays known_f in
     let y = complete aloud_d F scope (x.letters ++ (k.letters ++ G)) n (Some k.owner) known_d in
     let there : Means F (sight g) (x.letters ++ (k.letters ++ G)) (used_by n (type_of k.owner)) m = means_on y.stays known_d.1 in
-    let z = carried_trans (carried_trans (carried_trans l x.carried) y) (same_made {scope = scope} (own n) (λ t. tt) there) in
+    let end = same_made {scope = scope} (own n) (λ t. tt) there in
+    let some = carried_trans l x.carried in
+    let more_of_it = carried_trans some y in
+    let z = carried_trans more_of_it end in
     let behind = carried_after k.carried (λ V c loosely under agrees named kept. let h = k.finds V c loosely under agrees named kept in ap (behind_made c n at (loose c) fs) h.is ∙ made_same c n at (loose c) fs h.declaration k.owner h.same) z in
     let letters : Letters = (own n, m) ∷ (x.letters ++ k.letters) in
+    let here : Carried F scope asks (sight a) G (sight g) ((own n, m) ∷ (x.letters ++ (k.letters ++ G))) = carried_as (λ c. made_asks c n at (before c) (loose c) fs ps alike) (carried_trans o behind) in
+    let grouped : (own n, m) ∷ (x.letters ++ (k.letters ++ G)) ≡ letters ++ G = ap (λ J. (own n, m) ∷ J) (sym (append_assoc x.letters k.letters G)) in
     let whole : Carried F scope asks (sight a) G (sight g) (letters ++ G) =
-    subst (λ J. Carried F scope asks (sight a) G (sight g) ((own n, m) ∷ J)) (sym (append_assoc x.letters k.letters G)) (carried_as (λ c. made_asks c n at (before c) (loose c) fs ps alike) (carried_trans o behind)) in
+    subst (λ J. Carried F scope asks (sight a) G (sight g) J) grouped here in
+    let ready = λ (all_known : F.known ≡ true). done_grouped grouped here (done_as (λ c. made_asks c n at (before c) (loose c) fs ps alike) (carried_trans o behind) (done_last o behind
+    (subst (λ zs. AreDone (sight g) zs x.letters) (sym (after_hides k.carried _ z)) (done_last k.carried z (done_then more_of_it end (done_then some y (done_last l x.carried (x.done all_known)))))))) in
     let of_row : Means F (sight g) (letters ++ G) (λ ch. ch.type_at n) m = record { open_node = there.open_node; is = λ V ch loosely h. h.given.0.is } in
-    record { own = letters; type = λ ch. ch.type_at n; first = asks; ends = λ c. []; all = λ c. append-nil (asks c); typed = record { carried = whole; means = of_row }; end = ends_own n }
+    record {
+      own = letters;
+      type = λ ch. ch.type_at n;
+      first = asks;
+      ends = λ c. [];
+      all = λ c. append-nil (asks c);
+      typed = record { carried = whole; means = of_row };
+      owns = λ all_known. owns_also (own n) refl refl (owns_after (ready all_known) (owns_row k.of_row));
+      end = ends_own n;
+    }
 
 -- One whose type isn't known has a type of its own.
 pub unknown_made_row : (a b e f d g v : Parts) (env : List Entry) (n : ℕ) (at : Place) (fs : List Field) (ps : List Written) (before loose : Asks) (m : ℕ) → AskAlike ps (labels_of fs) → Carries a b env before → Goes a b → TypesNoRecord b e env ps → Goes b e →
@@ -106,11 +125,24 @@ unknown_made_row a b e f d g v env n at fs ps before loose m alike first goes ty
     let x = fields aloud_f F scope G n None names_f tt in
     let y = complete aloud_d F scope (x.letters ++ G) n None tt in
     let w = any F scope (x.letters ++ G) (own n) (λ t. tt) (surrounds_on y.stays (surrounds_on x.carried.stays names_f)).reached in
-    let z = carried_trans (carried_trans (carried_trans l x.carried) y) w.carried in
+    let some = carried_trans l x.carried in
+    let more_of_it = carried_trans some y in
+    let z = carried_trans more_of_it w.carried in
     let behind = carried_after k.carried (λ V c loosely under agrees named kept. ap (behind_made c n at (loose c) fs) (k.none V c loosely under agrees named kept)) z in
     let letters : Letters = (own n, m) ∷ x.letters in
     let whole : Carried F scope asks (sight a) G (sight v) (letters ++ G) = carried_as (λ c. made_asks c n at (before c) (loose c) fs ps alike) (carried_trans o behind) in
-    record { own = letters; type = λ ch. ch.type_at n; first = asks; ends = λ c. []; all = λ c. append-nil (asks c); typed = record { carried = whole; means = w.means }; end = ends_own n }
+    let ready = λ (all_known : F.known ≡ true). done_as (λ c. made_asks c n at (before c) (loose c) fs ps alike) (carried_trans o behind) (done_last o behind
+    (subst (λ zs. AreDone (sight v) zs x.letters) (sym (after_hides k.carried _ z)) (done_last k.carried z (done_then more_of_it w.carried (done_then some y (done_last l x.carried (x.done all_known))))))) in
+    record {
+      own = letters;
+      type = λ ch. ch.type_at n;
+      first = asks;
+      ends = λ c. [];
+      all = λ c. append-nil (asks c);
+      typed = record { carried = whole; means = w.means };
+      owns = λ all_known. owns_also (own n) refl refl (owns_done (ready all_known));
+      end = ends_own n;
+    }
 
 -- what a record that is updated asks after the demand of its labels, by the declaration that is found
 abbrev pub behind_updated : Context → ℕ → Expression → List Field → Option rules.Declaration → List Condition
@@ -142,16 +174,30 @@ known_updated_row a b e f d env n whose w fs ps decl m alike first goes typed go
     let k = typed aloud_b F scope G n 1 names_b in
     let names_e = surrounds_on k.carried.stays names_b in
     let l = asked aloud_e F scope (k.letters ++ G) (site n 2) (λ ch. ch.type_at whose.node) (used_by n (type_of k.owner)) (means_on k.carried.stays o.means) k.has_type in
-    let known_f = known_on n (Some (decl, m)) (Some k.owner) l.stays (k.stands, k.has_type) in
+    let known_f = known_on n (Some (decl, m)) (Some k.owner) l.stays (k.stands, k.has_type, k.use_of) in
     let x = fields (ap is_aloud goes_e.telling ∙ aloud_e) F scope (k.letters ++ G) n (Some k.owner) (surrounds_on l.stays names_e) known_f in
     let there : Means F (sight d) (x.letters ++ (k.letters ++ G)) (used_by n (type_of k.owner)) m = means_on x.carried.stays known_f.1 in
-    let z = carried_trans (carried_trans l x.carried) (same_made {scope = scope} (own n) (λ t. tt) there) in
+    let end = same_made {scope = scope} (own n) (λ t. tt) there in
+    let some = carried_trans l x.carried in
+    let z = carried_trans some end in
     let behind = carried_after k.carried (λ V c loosely under agrees named kept. let h = k.finds V c loosely under agrees named kept in ap (behind_updated c n whose fs) h.is ∙ updated_same c n whose fs h.declaration k.owner h.same) z in
     let letters : Letters = (own n, m) ∷ (x.letters ++ k.letters) in
-    let whole : Carried F scope asks (sight a) G (sight d) (letters ++ G) =
-    subst (λ J. Carried F scope asks (sight a) G (sight d) ((own n, m) ∷ J)) (sym (append_assoc x.letters k.letters G)) (carried_as (λ c. updated_asks c n whose fs ps alike) (carried_trans o.carried behind)) in
+    let here : Carried F scope asks (sight a) G (sight d) ((own n, m) ∷ (x.letters ++ (k.letters ++ G))) = carried_as (λ c. updated_asks c n whose fs ps alike) (carried_trans o.carried behind) in
+    let grouped : (own n, m) ∷ (x.letters ++ (k.letters ++ G)) ≡ letters ++ G = ap (λ J. (own n, m) ∷ J) (sym (append_assoc x.letters k.letters G)) in
+    let whole : Carried F scope asks (sight a) G (sight d) (letters ++ G) = subst (λ J. Carried F scope asks (sight a) G (sight d) J) grouped here in
+    let ready = λ (all_known : F.known ≡ true). done_grouped grouped here (done_as (λ c. updated_asks c n whose fs ps alike) (carried_trans o.carried behind) (done_last o.carried behind
+    (subst (λ zs. AreDone (sight d) zs x.letters) (sym (after_hides k.carried _ z)) (done_last k.carried z (done_then some end (done_last l x.carried (x.done all_known))))))) in
     let of_row : Means F (sight d) (letters ++ G) (λ ch. ch.type_at n) m = record { open_node = there.open_node; is = λ V ch loosely h. h.given.0.is } in
-    record { own = letters; type = λ ch. ch.type_at n; first = asks; ends = λ c. []; all = λ c. append-nil (asks c); typed = record { carried = whole; means = of_row }; end = ends_own n }
+    record {
+      own = letters;
+      type = λ ch. ch.type_at n;
+      first = asks;
+      ends = λ c. [];
+      all = λ c. append-nil (asks c);
+      typed = record { carried = whole; means = of_row };
+      owns = λ all_known. owns_also (own n) refl refl (owns_after (ready all_known) (owns_row k.of_row));
+      end = ends_own n;
+    }
 
 -- One whose type isn't known has a type of its own.
 pub unknown_updated_row : (a b e d v : Parts) (env : List Entry) (n : ℕ) (whose : Expression) (w : ℕ) (fs : List Field) (ps : List Written) (m : ℕ) → AskAlike ps (labels_of fs) → TypesTo a b env whose.typed (λ ch. ch.type_at whose.node) w → Goes a b →
@@ -168,11 +214,22 @@ unknown_updated_row a b e d v env n whose w fs ps m alike first goes typed goes_
     let behind = carried_after k.carried (λ V c loosely under agrees named kept. ap (behind_updated c n whose fs) (k.none V c loosely under agrees named kept)) (carried_trans x.carried y.carried) in
     let letters : Letters = (own n, m) ∷ x.letters in
     let whole : Carried F scope asks (sight a) G (sight v) (letters ++ G) = carried_as (λ c. updated_asks c n whose fs ps alike) (carried_trans o.carried behind) in
-    record { own = letters; type = λ ch. ch.type_at n; first = asks; ends = λ c. []; all = λ c. append-nil (asks c); typed = record { carried = whole; means = y.means }; end = ends_own n }
+    let ready = λ (all_known : F.known ≡ true). done_as (λ c. updated_asks c n whose fs ps alike) (carried_trans o.carried behind) (done_last o.carried behind
+    (subst (λ zs. AreDone (sight v) zs x.letters) (sym (after_hides k.carried _ (carried_trans x.carried y.carried))) (done_last k.carried (carried_trans x.carried y.carried) (done_then x.carried y.carried (x.done all_known))))) in
+    record {
+      own = letters;
+      type = λ ch. ch.type_at n;
+      first = asks;
+      ends = λ c. [];
+      all = λ c. append-nil (asks c);
+      typed = record { carried = whole; means = y.means };
+      owns = λ all_known. owns_also (own n) refl refl (owns_done (ready all_known));
+      end = ends_own n;
+    }
 
 -- a row after a call that asks nothing
 pub row_behind : (a b d : Parts) (env : List Entry) (asks : Asks) (n m : ℕ) → AsksNothing a b → Goes a b → TypesRow b d env asks n m → TypesRow a d env asks n m
 row_behind a b d env asks n m nothing goes row = λ aloud F scope G names.
     let none = nothing F scope G in
     let x = row (ap is_aloud goes.telling ∙ aloud) F scope G (surrounds_on none.stays names) in
-    record { own = x.own; type = x.type; first = x.first; ends = x.ends; all = x.all; typed = record { carried = carried_trans none x.typed.carried; means = x.typed.means }; end = x.end }
+    record { own = x.own; type = x.type; first = x.first; ends = x.ends; all = x.all; typed = record { carried = carried_trans none x.typed.carried; means = x.typed.means }; owns = λ all_known. owns_last none x.typed.carried (x.owns all_known); end = x.end }

@@ -1,5 +1,5 @@
 -- { l = p }: the record type of the labels, the fields, and the record.
-use Rattle.std.proofs.Common.{◌≡◌, ◌∙◌, ◌++◌, ℕ, List, [], ◌∷◌, Option, Some, None, sym, ap, subst, append-nil}
+use Rattle.std.proofs.Common.{◌≡◌, ◌∙◌, ◌++◌, ℕ, List, [], ◌∷◌, Option, Some, None, refl, sym, ap, subst, append-nil}
 use Rattle.std.proofs.Common.{append_assoc}
 use Rattle.tree_model.specs.Trees.{Place}
 use Rattle.signature_model.specs.Declarations as rules
@@ -17,13 +17,16 @@ use Rattle.typing_state.specs.Goes.{Goes}
 use Rattle.typing_conditions.specs.Sights.{own, Letters}
 use Rattle.typing_conditions.specs.Meanings.{Means}
 use Rattle.typing_conditions.specs.Carrying.{Carried}
-use Rattle.typing_conditions.proofs.Carried.{carried_trans, carried_as}
-use Rattle.typing_conditions.proofs.Branching.{carried_after}
+use Rattle.typing_conditions.specs.Hiding.{AreDone}
+use Rattle.typing_conditions.proofs.Carried.{carried_trans, carried_as, done_as, done_then, done_last}
+use Rattle.typing_conditions.proofs.Branching.{carried_after, after_hides}
 use Rattle.typing_conditions.proofs.Meaning.{means_on}
 use Rattle.typing_conditions.proofs.Nodes.{same_made}
 use Rattle.typing_conditions.proofs.Recording.{ends_own}
 use Rattle.typing_conditions.proofs.Stays.{stays_closed}
 use Rattle.typing_conditions.proofs.Surrounding.{surrounds_on}
+use Rattle.typing_conditions.proofs.Hiding.{owns_also, owns_after, owns_row, owns_node}
+use Rattle.typing_conditions.proofs.Keeping.{all_among, among_after, among_before}
 use Rattle.typing_steps.specs.States.{is_aloud, sight}
 use Rattle.typing_steps.specs.Typing.{TypesAny}
 use Rattle.record_steps.specs.Alike.{SameRecord}
@@ -31,7 +34,7 @@ use Rattle.record_steps.specs.Recording.{TypesRecord, TypesNoRecord}
 use Rattle.pattern_rows.specs.Bounds.{Bind}
 use Rattle.pattern_rows.specs.Contracts.{MatchesRow}
 use Rattle.pattern_rows.proofs.Naming.{all_bound_on}
-use Rattle.pattern_rows.proofs.Opened.{all_among, among_after, among_before}
+use Rattle.pattern_rows.proofs.Opened.{done_grouped}
 use Rattle.record_rows.specs.Fields.{MatchesFields}
 use Rattle.record_rows.proofs.Fields.{fields_same}
 
@@ -62,13 +65,18 @@ known_row a b d env n at fs ps seen added decl m alike typed goes fields = recor
   typed = λ aloud F scope G names.
       let asks = λ (c : Context). (precord n at fs).matched c seen in
       let k = typed aloud F scope G n 0 names in
-      let x = fields.typed (ap is_aloud goes.telling ∙ aloud) F scope k.letters G n (Some k.owner) (surrounds_on (stays_closed k.letters k.carried.stays) names) k.inside (k.stands, k.has_type) in
+      let x = fields.typed (ap is_aloud goes.telling ∙ aloud) F scope k.letters G n (Some k.owner) (surrounds_on (stays_closed k.letters k.carried.stays) names) k.inside (k.stands, k.has_type, k.use_of) in
       let y = means_on x.carried.stays k.has_type in
-      let z = carried_trans x.carried (same_made {scope = scope} (own n) (λ t. tt) y) in
+      let end = same_made {scope = scope} (own n) (λ t. tt) y in
+      let z = carried_trans x.carried end in
       let behind = carried_after k.carried (λ V c loose under agrees named kept. let h = k.finds V c loose under agrees named kept in ap (behind_record c n fs seen) h.is ∙ behind_same c n fs seen h.declaration k.owner h.same) z in
       let letters : Letters = (own n, m) ∷ (fields.opens ++ k.letters) in
-      let whole : Carried F scope asks (sight a) G (sight d) (letters ++ G) =
-      subst (λ J. Carried F scope asks (sight a) G (sight d) ((own n, m) ∷ J)) (sym (append_assoc fields.opens k.letters G)) (carried_as (λ c. whole_asks c n at fs seen ps alike) behind) in
+      let as_asked = λ (c : Context). whole_asks c n at fs seen ps alike in
+      let here : Carried F scope asks (sight a) G (sight d) ((own n, m) ∷ (fields.opens ++ (k.letters ++ G))) = carried_as as_asked behind in
+      let grouped : (own n, m) ∷ (fields.opens ++ (k.letters ++ G)) ≡ letters ++ G = ap (λ J. (own n, m) ∷ J) (sym (append_assoc fields.opens k.letters G)) in
+      let whole : Carried F scope asks (sight a) G (sight d) (letters ++ G) = subst (λ J. Carried F scope asks (sight a) G (sight d) J) grouped here in
+      let ready : AreDone (sight d) whole.hidden fields.opens =
+      done_grouped grouped here (done_as as_asked behind (subst (λ zs. AreDone (sight d) zs fields.opens) (sym (after_hides k.carried _ z)) (done_last k.carried z (done_then x.carried end x.done)))) in
       let of_row : Means F (sight d) (letters ++ G) (λ ch. ch.type_at n) m = record { open_node = y.open_node; is = λ V ch loose g. g.given.0.is } in
       record {
         row = record {
@@ -78,9 +86,11 @@ known_row a b d env n at fs ps seen added decl m alike typed goes fields = recor
           ends = λ c. [];
           all = λ c. append-nil (asks c);
           typed = record { carried = whole; means = of_row };
+          owns = λ known. owns_also (own n) refl refl (owns_after ready (owns_row k.of_row));
           end = ends_own n;
         };
         among = among_after ((own n, m) ∷ []) (among_before k.letters (all_among fields.opens));
+        done = ready;
         names = λ o st h always. all_bound_on st x.names;
       };
 }
@@ -100,8 +110,12 @@ unknown_row a b v d env n at fs ps seen added m alike typed goes any goes' field
       let z = carried_trans w.carried x.carried in
       let behind = carried_after k.carried (λ V c loose under agrees named kept. ap (behind_record c n fs seen) (k.none V c loose under agrees named kept) ∙ append-nil (match_fields c n None fs [] seen)) z in
       let letters : Letters = fields.opens ++ own_letter in
-      let whole : Carried F scope asks (sight a) G (sight d) (letters ++ G) =
-      subst (λ J. Carried F scope asks (sight a) G (sight d) J) (sym (append_assoc fields.opens own_letter G)) (carried_as (λ c. whole_asks c n at fs seen ps alike) behind) in
+      let as_asked = λ (c : Context). whole_asks c n at fs seen ps alike in
+      let here : Carried F scope asks (sight a) G (sight d) (fields.opens ++ (own_letter ++ G)) = carried_as as_asked behind in
+      let grouped = sym (append_assoc fields.opens own_letter G) in
+      let whole : Carried F scope asks (sight a) G (sight d) (letters ++ G) = subst (λ J. Carried F scope asks (sight a) G (sight d) J) grouped here in
+      let ready : AreDone (sight d) whole.hidden fields.opens =
+      done_grouped grouped here (done_as as_asked behind (subst (λ zs. AreDone (sight d) zs fields.opens) (sym (after_hides k.carried _ z)) (done_last k.carried z (done_last w.carried x.carried x.done)))) in
       let of_row : Means F (sight d) (letters ++ G) (λ ch. ch.type_at n) m = subst (λ J. Means F (sight d) J (λ ch. ch.type_at n) m) (sym (append_assoc fields.opens own_letter G)) (means_on x.carried.stays w.means) in
       record {
         row = record {
@@ -111,9 +125,11 @@ unknown_row a b v d env n at fs ps seen added m alike typed goes any goes' field
           ends = λ c. [];
           all = λ c. append-nil (asks c);
           typed = record { carried = whole; means = of_row };
+          owns = λ known. owns_after ready (owns_node (own n) refl refl);
           end = ends_own n;
         };
         among = among_before own_letter (all_among fields.opens);
+        done = ready;
         names = λ o st h always. all_bound_on st x.names;
       };
 }

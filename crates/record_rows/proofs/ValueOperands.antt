@@ -1,6 +1,6 @@
 -- The operands of a record expression are its fields, in order; those that are missing ask nothing.
-use Rattle.std.proofs.Common.{◌≡◌, ◌∙◌, ℕ, List, [], ◌∷◌, Option, Some, None, option_map, refl, sym, ap, subst, append-nil}
-use Rattle.std.specs.Prelude.{◌++◌, All, IfSome}
+use Rattle.std.proofs.Common.{◌≡◌, ◌∙◌, ℕ, List, [], ◌∷◌, Option, Some, None, option_map, refl, sym, ap, subst}
+use Rattle.std.specs.Prelude.{All, IfSome}
 use Rattle.std.specs.List.{cons_option}
 use Rattle.std.proofs.lemmas.List.Elements.{All-head, All-tail}
 use Rattle.token_model.specs.Kinds.{Tok}
@@ -12,13 +12,13 @@ use Rattle.row_parts.specs.Numbered.{Numbered, numbered, first_in, path_in}
 use Rattle.typing_model.specs.Meanings as meanings
 use Rattle.typing_model.specs.Parts.{Written, Field}
 use Rattle.typing_model.specs.Expressions as expressions
-use Rattle.typing_model.specs.Names.{used_at}
 use Rattle.type_terms.specs.declared.types.NodeRef.{NodeRef}
 use Rattle.env_table.specs.declared.entries.Entry.{Entry}
 use Rattle.typing_state.specs.declared.parts.Parts.{Parts}
 use Rattle.typing_state.specs.Goes.{Goes}
 use Rattle.typing_state.proofs.Going.{goes_refl}
-use Rattle.typing_conditions.proofs.Carried.{carried_refl, carried_trans, carried_as}
+use Rattle.typing_conditions.proofs.Carried.{carried_refl}
+use Rattle.typing_conditions.proofs.Hiding.{done_none}
 use Rattle.typing_steps.specs.Typing.{path_as}
 use Rattle.operand_laws.specs.Formed.{row_of, IsFormed}
 use Rattle.operand_laws.specs.Operands.{number_of, parts_of, expression_of}
@@ -26,27 +26,19 @@ use Rattle.operand_laws.proofs.Sorts.{first_expression_stands}
 use Rattle.operand_laws.proofs.Tokens.{path_stands}
 use Rattle.typing_rows.specs.CarriedRows.{IsCarried}
 use Rattle.typing_rows.specs.Contracts.{TypesAsIf}
-use Rattle.record_steps.specs.Recording.{AsksNothing}
 use Rattle.record_rows.specs.Fields.{RecordHere}
 use Rattle.record_rows.specs.Operands.{labels_at}
-use Rattle.record_rows.specs.Values.{value_asked, TypesValue, TypesLabelled, FieldsWrittenFirst}
+use Rattle.record_rows.specs.Values.{TypesValue, TypesLabelled, FieldsWrittenFirst}
 use Rattle.record_rows.specs.ValueOperands.{labelled_field, value_field_of, value_fields_of, IsCarriedValuePart, IsCarriedValue, IsFormedFieldPart, AreFormedFields, PunsValue, TypesFieldBy, TypesFieldPart}
 use Rattle.record_rows.proofs.Operands.{AreLabels, no_labels, one_label, left_out, labels_ask}
 use Rattle.record_rows.proofs.Rows.{AskAlike}
 use Rattle.record_rows.proofs.Values.{given_value, punned_value, written_more}
 
--- a value, after which a call asks nothing
-value_before : (a b d : Parts) (env : List Entry) (f : Field) (ty : Option ℕ) → TypesValue a b env f ty → AsksNothing b d → TypesValue a d env f ty
-value_before a b d env f ty first nothing = λ aloud F scope G n t names has.
-    let x = first aloud F scope G n t names has in
-    record { letters = x.letters; carried = carried_as (λ c. append-nil (value_asked c f (option_map (used_at c n) t))) (carried_trans x.carried (nothing F scope (x.letters ++ G))) }
-
 -- the value of a field that has none of its own
 pub pun_value : (a d : Parts) (env : List Entry) (k : ℕ) (qs : List Tok) (last : Option Tok) (wanted : Option NodeRef) → PunsValue last a d env k wanted →
     TypesValue a d env (record { node = k; label = record { qualifiers = qs; last = last }; value = None }) (option_map (λ (w : NodeRef). w.0) wanted)
-pun_value a d env k qs None wanted nothing = λ aloud F scope G n t names has. record { letters = []; carried = nothing F scope G }
-pun_value a d env k qs (Some t) wanted x = value_before a x.asked d env (record { node = k; label = record { qualifiers = qs; last = Some t }; value = None }) (option_map (λ (w : NodeRef). w.0) wanted)
-    (punned_value a x.used x.asked env k qs t x.node wanted x.typed x.goes x.equal) x.noted
+pun_value a d env k qs None wanted nothing = λ aloud F scope G n t names has. record { letters = []; carried = nothing F scope G; done = done_none }
+pun_value a d env k qs (Some t) wanted x = punned_value a x.used x.asked d env k qs t x.node wanted x.typed x.goes x.equal x.noted
 
 -- What comes of it.
 pub field_comes : (o : Option Numbered) (a d : Parts) (env : List Entry) (here : RecordHere) (n : ℕ) (l : Written) (labels labels' : List Name) → IfSome o IsCarried → TypesFieldBy o a d env here n l labels labels' → TypesLabelled a d env here (labelled_field a.item n l o) labels labels'

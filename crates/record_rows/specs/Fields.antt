@@ -19,10 +19,11 @@ use Rattle.typing_conditions.specs.Frames.{Frame}
 use Rattle.typing_conditions.specs.Meanings.{Means}
 use Rattle.typing_conditions.specs.Carrying.{Asks, Scope, Carried}
 use Rattle.typing_conditions.specs.Surroundings.{Surrounds, IsEntry}
+use Rattle.typing_conditions.specs.Hiding.{AreDone}
 use Rattle.typing_steps.specs.States.{is_aloud, sight}
 use Rattle.typing_steps.specs.Typing.{as_declared, TypesAny}
 use Rattle.typing_steps.specs.Building.{used_by, TakesAs}
-use Rattle.record_steps.specs.Recording.{StandsFor, TypesField, AsksNothing}
+use Rattle.record_steps.specs.Recording.{StandsFor, IsUseOf, TypesField, AsksNothing, NotesNode}
 use Rattle.pattern_rows.specs.Bounds.{Bind, AllBound, Adds}
 use Rattle.pattern_rows.specs.Contracts.{AsksFresh}
 
@@ -30,12 +31,12 @@ use Rattle.pattern_rows.specs.Contracts.{AsksFresh}
 abbrev pub RecordHere : Type 0
 RecordHere = Option (Declaration × ℕ)
 
--- it stands for one of the definitions, whose type the node has as it is used at the record's node; or neither is known
+-- it stands for one of the definitions, whose type the node has as it is used at the record's node, and is a use of it where all of names is known; or neither is known
 abbrev pub KnownAs : Frame → Sight → Letters → ℕ → RecordHere → Option rules.Declaration → Type 0
 KnownAs F a G n None None = Unit {0}
 KnownAs F a G n None (Some e) = ⊥
 KnownAs F a G n (Some r) None = ⊥
-KnownAs F a G n (Some r) (Some e) = StandsFor F a r.0 e × Means F a G (used_by n (type_of e)) r.1
+KnownAs F a G n (Some r) (Some e) = StandsFor F a r.0 e × Means F a G (used_by n (type_of e)) r.1 × (F.known ≡ true → IsUseOf a e r.1)
 
 -- what the beginning of a field carries; where the record type isn't known, nothing is asked, and all is as before
 abbrev pub BeginsField : RecordHere → (a b : Parts) → List Name → Written → Option ℕ → Type 0
@@ -60,6 +61,7 @@ field_rest c f seen t = elim f.pattern [ None ↦ match_pun c f seen t | Some p 
 -- are open.
 pub record FieldEnded (env : List Entry) (F : Frame) (scope : Scope) (a : Sight) (G : Letters) (b : Sight) (n : ℕ) (f : FieldPattern) (seen : List Name) (t : Option Typ) (added : List Bind) (opens : Letters) : Type 0 where
   pub carried : Carried F scope (λ c. field_rest c f seen (option_map (used_at c n) t)) a G b (opens ++ G)
+  pub done : AreDone b carried.hidden opens
   pub names : (H : Letters) → Surrounds as_declared F a H env scope → AllBound F b (opens ++ H) (names_in_field n f) added
 
 -- the same of a call, where faults are reported; it opens the same letters whatever surrounds it
@@ -78,33 +80,34 @@ abbrev pub GivesType : Option ℕ → (a b : Parts) → ℕ → Type 0
 GivesType None a b m = TypesAny a b m
 GivesType (Some w) a b m = (m ≡ w) × (b ≡ a)
 
--- The name of a label is bound to a type: it is asked to be new, and stands behind the others.
-pub record BindsLabel (a d : Parts) (t : Tok) (ty : NodeRef) (names names' : List Bind) (seen seen' : List Name) : Type 0 where
+-- The name of a label is bound to a type: it is asked to be new, and stands behind the others; the node k of the field is noted then.
+pub record BindsLabel (a d : Parts) (k : ℕ) (t : Tok) (ty : NodeRef) (names names' : List Bind) (seen seen' : List Name) : Type 0 where
   pub between : Parts
   pub entry : Entry
   pub fresh : AsksFresh a between t seen
   pub goes : Goes a between
   pub is_entry : IsEntry entry t.name ty
-  pub noted : AsksNothing between d
+  pub noted : NotesNode between d k
   pub adds : Adds names names' (record { token = t; node = ty; entry = entry } ∷ []) seen seen' (t.name ∷ [])
 
 -- the same with the type of its field, or any type where that isn't known
-pub record PunsName (a d : Parts) (t : Tok) (wanted : Option ℕ) (names names' : List Bind) (seen seen' : List Name) : Type 0 where
+pub record PunsName (a d : Parts) (k : ℕ) (t : Tok) (wanted : Option ℕ) (names names' : List Bind) (seen seen' : List Name) : Type 0 where
   pub mid : Parts
   pub ty : NodeRef
   pub given : GivesType wanted a mid ty.0
   pub goes : Goes a mid
-  pub binds : BindsLabel mid d t ty names names' seen seen'
+  pub binds : BindsLabel mid d k t ty names names' seen seen'
 
--- what comes of a field without a pattern of its own, by the token of its label
-abbrev pub Puns : Option Tok → (a d : Parts) → (wanted : Option ℕ) → (names names' : List Bind) (seen seen' : List Name) → Type 0
-Puns None a d wanted names names' seen seen' = AsksNothing a d × (names' ≡ names) × (seen' ≡ seen)
-Puns (Some t) a d wanted names names' seen seen' = PunsName a d t wanted names names' seen seen'
+-- what comes of a field without a pattern of its own, with the node k, by the token of its label
+abbrev pub Puns : Option Tok → (a d : Parts) → (k : ℕ) → (wanted : Option ℕ) → (names names' : List Bind) (seen seen' : List Name) → Type 0
+Puns None a d k wanted names names' seen seen' = AsksNothing a d × (names' ≡ names) × (seen' ≡ seen)
+Puns (Some t) a d k wanted names names' seen seen' = PunsName a d k t wanted names names' seen seen'
 
 -- Fields were matched, among letters of the record that are open around them: what they ask is carried, with letters that stay open, and their names stand for those that they
 -- bind, also among the letters around the record.
 pub record FieldsMatched (F : Frame) (scope : Scope) (a : Sight) (K G : Letters) (b : Sight) (n : ℕ) (found : Option rules.Declaration) (fs : List FieldPattern) (seen : List Name) (added : List Bind) (opens : Letters) : Type 0 where
   pub carried : Carried F scope (λ c. match_fields c n found fs [] seen) a (K ++ G) b (opens ++ (K ++ G))
+  pub done : AreDone b carried.hidden opens
   pub names : AllBound F b (opens ++ G) (names_of_fields n fs) added
 
 -- the same of a call, where faults are reported; it opens the same letters whatever surrounds it
@@ -118,6 +121,7 @@ pub record FieldsFirst (F : Frame) (scope : Scope) (a : Sight) (K G : Letters) (
   pub done : Asks
   pub bounds : List Bound
   pub carried : Carried F scope done a (K ++ G) b (opens ++ (K ++ G))
+  pub rows_done : AreDone b carried.hidden opens
   pub names : AllBound F b (opens ++ G) bounds added
   pub asks : (c : Context) → match_fields c n found all [] seen ≡ done c ++ match_fields c n found left labels now
   pub binds : names_of_fields n all ≡ bounds ++ names_of_fields n left

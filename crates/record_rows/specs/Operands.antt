@@ -13,7 +13,7 @@ use Rattle.typing_state.specs.declared.parts.Parts.{Parts}
 use Rattle.typing_state.specs.Goes.{Goes}
 use Rattle.typing_steps.specs.Typing.{path_as}
 use Rattle.operand_laws.specs.Formed.{row_of, IsFormed}
-use Rattle.operand_laws.specs.Operands.{child_at, pattern_of}
+use Rattle.operand_laws.specs.Operands.{child_at, number_of, pattern_of}
 use Rattle.pattern_rows.specs.Applied.{MatchesWanted}
 use Rattle.pattern_rows.specs.Bounds.{Bind, Adds}
 use Rattle.pattern_rows.specs.CarriedPatterns.{IsCarriedPattern}
@@ -67,25 +67,25 @@ pub record MatchesWritten (a d : Parts) (env : List Entry) (here : RecordHere) (
   pub goes_told : Goes mid told
   pub labelled : labels' ≡ labels ++ name_in l
 
--- What a field without a pattern of its own does: its beginning, and the name of its label; its label is one of those written then.
-pub record PunsWritten (a d : Parts) (here : RecordHere) (l : Written) (names names' : List Bind) (seen seen' labels labels' : List Name) : Type 0 where
+-- What a field without a pattern of its own does, whose node is k: its beginning, and the name of its label; its label is one of those written then.
+pub record PunsWritten (a d : Parts) (k : ℕ) (here : RecordHere) (l : Written) (names names' : List Bind) (seen seen' labels labels' : List Name) : Type 0 where
   pub mid : Parts
   pub type : Option ℕ
   pub begins : BeginsField here a mid labels l type
-  pub puns : Puns l.last mid d type names names' seen seen'
+  pub puns : Puns l.last mid d k type names names' seen seen'
   pub goes : Goes a mid
   pub labelled : labels' ≡ labels ++ name_in l
 
--- a field with this label, by its pattern
-abbrev pub MatchesFieldBy : (o : Option Numbered) → (a d : Parts) → List Entry → RecordHere → Written → (names names' : List Bind) (seen seen' labels labels' : List Name) → Type 0
-MatchesFieldBy None a d env here l names names' seen seen' labels labels' = PunsWritten a d here l names names' seen seen' labels labels'
-MatchesFieldBy (Some o) a d env here l names names' seen seen' labels labels' = MatchesWritten a d env here l o names names' seen seen' labels labels'
+-- a field of this number with this label, by its pattern
+abbrev pub MatchesFieldBy : (o : Option Numbered) → (a d : Parts) → List Entry → RecordHere → (number : ℕ) → Written → (names names' : List Bind) (seen seen' labels labels' : List Name) → Type 0
+MatchesFieldBy None a d env here n l names names' seen seen' labels labels' = PunsWritten a d (number_of a.item n) here l names names' seen seen' labels labels'
+MatchesFieldBy (Some o) a d env here n l names names' seen seen' labels labels' = MatchesWritten a d env here l o names names' seen seen' labels labels'
 
 -- the same of what is at an operand; where it is missing all is as before
 abbrev pub MatchesFieldPart : (a d : Parts) → List Entry → RecordHere → ℕ → Part → (names names' : List Bind) (seen seen' labels labels' : List Name) → Type 0
 MatchesFieldPart a d env here n (taken t) names names' seen seen' labels labels' = (d ≡ a) × (names' ≡ names) × (seen' ≡ seen) × (labels' ≡ labels)
 MatchesFieldPart a d env here n (missing at) names names' seen seen' labels labels' = (d ≡ a) × (names' ≡ names) × (seen' ≡ seen) × (labels' ≡ labels)
-MatchesFieldPart a d env here n (inner t) names names' seen seen' labels labels' = MatchesFieldBy (first_in n t 3) a d env here (path_as (path_in t 0 1)) names names' seen seen' labels labels'
+MatchesFieldPart a d env here n (inner t) names names' seen seen' labels labels' = MatchesFieldBy (first_in n t 3) a d env here n (path_as (path_in t 0 1)) names names' seen seen' labels labels'
 
 -- What comes of a record pattern with some fields, whose own node isn't recorded yet, and the names that are added.
 pub record MatchesRecord (a d : Parts) (env : List Entry) (fs : List FieldPattern) (names names' : List Bind) (seen seen' : List Name) (m : ℕ) : Type 0 where

@@ -17,7 +17,7 @@ use Rattle.operand_laws.specs.Formed.{row_of, IsFormed}
 use Rattle.operand_laws.specs.Operands.{number_of, child_at, expression_of}
 use Rattle.typing_rows.specs.CarriedRows.{IsCarried}
 use Rattle.typing_rows.specs.Contracts.{TypesAsIf}
-use Rattle.record_steps.specs.Recording.{AsksNothing}
+use Rattle.record_steps.specs.Recording.{AsksNothing, NotesNode}
 use Rattle.record_rows.specs.Fields.{RecordHere, BeginsField}
 
 -- an operand of an item as a field of an expression, where it is one
@@ -63,7 +63,7 @@ IsCarriedValuePart n (missing at) = Unit {0}
 abbrev pub IsCarriedValue : Numbered → Type 0
 IsCarriedValue o = IsCarriedValuePart o.number o.part
 
--- What a field of the node k does that has no value of its own, by the token of its label: it takes the value of that name, which has the field's type, and then asks nothing.
+-- What a field of the node k does that has no value of its own, by the token of its label: it takes the value of that name, which has the field's type, and then its node is noted.
 pub record PunsLabel (a d : Parts) (env : List Entry) (k : ℕ) (t : Tok) (wanted : Option NodeRef) : Type 0 where
   pub used : Parts
   pub asked : Parts
@@ -71,7 +71,7 @@ pub record PunsLabel (a d : Parts) (env : List Entry) (k : ℕ) (t : Tok) (wante
   pub typed : TypesOwn a used env (λ c type. value_asks c k 1 (record { qualifiers = []; last = Some t }) type) node
   pub goes : Goes a used
   pub equal : AsksEqualIf used asked (place_of t) node wanted
-  pub noted : AsksNothing asked d
+  pub noted : NotesNode asked d k
 
 -- the same of a label whose token may be missing, where nothing is asked
 abbrev pub PunsValue : Option Tok → (a d : Parts) → List Entry → ℕ → Option NodeRef → Type 0

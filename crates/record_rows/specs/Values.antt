@@ -16,6 +16,7 @@ use Rattle.typing_conditions.specs.Sights.{Sight, Letters}
 use Rattle.typing_conditions.specs.Frames.{Frame}
 use Rattle.typing_conditions.specs.Carrying.{Asks, Scope, Carried}
 use Rattle.typing_conditions.specs.Surroundings.{Surrounds}
+use Rattle.typing_conditions.specs.Hiding.{AreDone}
 use Rattle.typing_steps.specs.States.{is_aloud, sight}
 use Rattle.typing_steps.specs.Typing.{as_declared}
 use Rattle.typing_steps.specs.Building.{TakesAs}
@@ -30,6 +31,7 @@ value_asked c f t = elim f.value [ None ↦ pun_asks c f t | Some e ↦ e.typed 
 pub record ValueTyped (F : Frame) (scope : Scope) (a : Sight) (G : Letters) (b : Sight) (f : Field) (n : ℕ) (t : Option Typ) : Type 0 where
   pub letters : Letters
   pub carried : Carried F scope (λ c. value_asked c f (option_map (used_at c n) t)) a G b (letters ++ G)
+  pub done : AreDone b carried.hidden letters
 
 -- the same of a call, whatever type of the record's node n the field has
 abbrev pub TypesValue : (a b : Parts) → List Entry → Field → Option ℕ → Type 0
@@ -39,6 +41,7 @@ TypesValue a b env f ty = is_aloud a.telling ≡ true → (F : Frame) (scope : S
 pub record FieldsTyped (F : Frame) (scope : Scope) (a : Sight) (G : Letters) (b : Sight) (n : ℕ) (found : Option rules.Declaration) (labels : List Name) (fs : List Field) : Type 0 where
   pub letters : Letters
   pub carried : Carried F scope (λ c. fields_ask c n found fs labels) a G b (letters ++ G)
+  pub done : F.known ≡ true → AreDone b carried.hidden letters
 
 -- the same of a call, where faults are reported
 abbrev pub TypesFields : (a b : Parts) → List Entry → RecordHere → List Name → List Field → Type 0
@@ -50,6 +53,7 @@ pub record ValuesFirst (F : Frame) (scope : Scope) (a : Sight) (G : Letters) (b 
   pub letters : Letters
   pub done : Asks
   pub carried : Carried F scope done a G b (letters ++ G)
+  pub rows_done : F.known ≡ true → AreDone b carried.hidden letters
   pub asks : (c : Context) → fields_ask c n found all labels ≡ done c ++ fields_ask c n found left now
 
 -- the same in a loop

@@ -2,6 +2,8 @@
 use Rattle.std.proofs.Common.{◌≡◌, ◌∙◌, ◌&&◌, ℕ, zero, suc, Bool, true, false, List, [], ◌∷◌, Option, Some, None, option_map, refl, sym, ap, subst, if◌then◌else◌}
 use Rattle.std.specs.declared.rc.Rc.{Rc}
 use Rattle.std.specs.declared.alloc.Global.{Global}
+use Rattle.type_terms.specs.Views.{path_of}
+use Rattle.type_terms.specs.declared.types.Origin.{Origin}
 use Rattle.type_model.specs.Types.{Path, Typ, Typs}
 use Rattle.type_model.specs.Types.{Typs as types}
 use Rattle.type_model.specs.Schemes.{Scheme}
@@ -11,11 +13,12 @@ use Rattle.signature_model.specs.Declarations.{Name, type_of, parameters_from}
 use Rattle.signature_model.specs.Entries.{Environment, label_kind}
 use Rattle.signature_model.specs.Entries.{Entry as Named, Referent, kind_of as kind_named}
 use Rattle.signature_model.specs.Lookups.{FoundAmong, an_entry, a_hole, nothing, ScopeOf, known, unknown_scope, no_scope, newest_by}
-use Rattle.signature_model.specs.Records.{Written, Labelled, is_there, is_known, each_scope, first_label, newest_label, has_name, belongs_to, record_by, record_of}
+use Rattle.signature_model.specs.Records.{Written, origin_of, Labelled, is_there, is_known, each_scope, first_label, newest_label, has_name, belongs_to, record_by, record_of}
 use Rattle.typing_model.specs.Names.{entry_of, then_by, label_in}
 use Rattle.typing_model.specs.Records.{labels_in}
 use Rattle.type_nodes.specs.Nodes.{Node}
 use Rattle.type_nodes.specs.Readings.{Types}
+use Rattle.env_table.specs.declared.entries.Constructor.{Constructor}
 use Rattle.env_table.specs.declared.entries.Declaration.{Declaration}
 use Rattle.env_table.specs.declared.entries.Label.{Label}
 use Rattle.env_table.specs.declared.entries.Shape.{Shape}
@@ -27,10 +30,10 @@ use Rattle.env_table.specs.declared.entries.What.{What}
 use Rattle.env_table.specs.declared.entries.What.TheVariants as what
 use Rattle.env_table.specs.Views.{kind_of}
 use Rattle.env_table.specs.Labels.{record_by_kind, labelled, scope_for}
-use Rattle.typing_conditions.specs.Environments.{WhatAs, of_value, of_constructor, of_exception, of_label, of_type, of_module, of_module_type, EntryAs, entry_as, EnvAs}
+use Rattle.typing_conditions.specs.Environments.{label_at, WhatAs, of_value, of_constructor, of_exception, of_label, of_type, of_module, of_module_type, EntryAs, entry_as, EnvAs}
 use Rattle.typing_conditions.specs.Locals.{IsOwn}
 use Rattle.typing_conditions.proofs.Environments.{ComesTo, to_entry, to_hole, to_nothing}
-use Rattle.typing_conditions.specs.Declared.{LabelAs, OneByOne, no_more, one_more, ShapeAs, tell_nothing, tell_constructors, tell_labels, DeclaredAs, ExceptionAs, and_last, with_parameters}
+use Rattle.typing_conditions.specs.Declared.{LabelAs, OneByOne, no_more, one_more, ShapeAs, tell_nothing, tell_constructors, tell_labels, OriginAs, DeclaredAs, and_last, with_parameters}
 use Rattle.typing_conditions.proofs.Finding.{same_label}
 use Rattle.record_steps.specs.Alike.{SameLabel, SameRecord}
 use Rattle.record_steps.proofs.Finding.{record_alike}
@@ -71,7 +74,13 @@ label_alone kind.TypeName w p e = absurd (cc)
 label_alone kind.Module w p e = absurd (cc)
 label_alone kind.ModuleType w p e = absurd (cc)
 
-module _ (R : ℕ → Scheme → Type 0) (nodes : List Node) (C : List ℕ) (N : Types) where
+-- where a label is the type has labels
+labels_there : (s : rules.Shape) (k : ℕ) (l : rules.Label) → label_at s k ≡ Some l → (ls : List rules.Label) × (s ≡ rules.Labels ls)
+labels_there rules.Opaque k l e = absurd (cc)
+labels_there (rules.Variant cs) k l e = absurd (cc)
+labels_there (rules.Labels ls) k l e = (ls, refl)
+
+module _ (R : ℕ → Scheme → Type 0) (D : Declaration → rules.Declaration → Type 0) (X : Constructor → Option Typ → Type 0) (origins : (d : Declaration) (e : rules.Declaration) → D d e → option_map path_of d.defines ≡ origin_of (type_of e)) where
   -- the declaration of a label, and that of the definitions' label
   record HasRecord (w : What) (f : Referent) : Type 0 where
     declared : Rc Declaration Global
@@ -80,13 +89,14 @@ module _ (R : ℕ → Scheme → Type 0) (nodes : List Node) (C : List ℕ) (N :
     owner : rules.Declaration
     named : rules.Label
     is : label_in f ≡ Some (owner, named)
-    alike : DeclaredAs nodes C N declared.value owner
+    alike : D declared.value owner
+    labels : (ls : List rules.Label) × (owner.shape ≡ rules.Labels ls)
 
-  what_record : {w : What} {f : Referent} → WhatAs R (DeclaredAs nodes C N) (ExceptionAs nodes C N) w f → kind_named f ≡ label_kind → HasRecord w f
+  what_record : {w : What} {f : Referent} → WhatAs R D X w f → kind_named f ≡ label_kind → HasRecord w f
   what_record (of_value e h) k = absurd (cc)
   what_record (of_constructor e h c) k = absurd (cc)
   what_record (of_exception e h) k = absurd (cc)
-  what_record (of_label {d = d} {place = place} {e = x} {l = l} is h at) k = record { declared = d; place = place; here = is; owner = x; named = l; is = refl; alike = h }
+  what_record (of_label {d = d} {place = place} {e = x} {l = l} is h at) k = record { declared = d; place = place; here = is; owner = x; named = l; is = refl; alike = h; labels = labels_there x.shape place l at }
   what_record (of_type e h) k = absurd (cc)
   what_record (of_module e h) k = absurd (cc)
   what_record (of_module_type e h) k = absurd (cc)
@@ -98,24 +108,25 @@ module _ (R : ℕ → Scheme → Type 0) (nodes : List Node) (C : List ℕ) (N :
     pub here : e.what ≡ what.Label declared place
     pub owner : rules.Declaration
     pub is : then_by (entry_of y) (λ f. option_map (λ r. r.0) (label_in f.stands_for)) ≡ Some owner
-    pub alike : DeclaredAs nodes C N declared.value owner
+    pub alike : D declared.value owner
+    pub labels : (ls : List rules.Label) × (owner.shape ≡ rules.Labels ls)
 
-  entry_record : {e : Entry} {f : Named} → EntryAs R (DeclaredAs nodes C N) (ExceptionAs nodes C N) e f → kind_of e.kind ≡ label_kind → FindsRecord e (an_entry f)
+  entry_record : {e : Entry} {f : Named} → EntryAs R D X e f → kind_of e.kind ≡ label_kind → FindsRecord e (an_entry f)
   entry_record (entry_as {f = f} n k w) is =
-      let h = what_record w (k ∙ is) in record { declared = h.declared; place = h.place; here = h.here; owner = h.owner; is = ap (option_map (λ (r : rules.Declaration × rules.Label). r.0)) h.is; alike = h.alike }
+      let h = what_record w (k ∙ is) in record { declared = h.declared; place = h.place; here = h.here; owner = h.owner; is = ap (option_map (λ (r : rules.Declaration × rules.Label). r.0)) h.is; alike = h.alike; labels = h.labels }
 
-  found_record : {x : FoundAmong Entry} {y : FoundAmong Named} (e : Entry) → x ≡ an_entry e → kind_of e.kind ≡ label_kind → ComesTo R (DeclaredAs nodes C N) (ExceptionAs nodes C N) x y → FindsRecord e y
+  found_record : {x : FoundAmong Entry} {y : FoundAmong Named} (e : Entry) → x ≡ an_entry e → kind_of e.kind ≡ label_kind → ComesTo R D X x y → FindsRecord e y
   found_record e f is (to_entry {e = d} {f = g} h) = let s : d ≡ e = cc in subst (λ z. FindsRecord z (an_entry g)) s (entry_record h (ap (λ (z : Entry). kind_of z.kind) s ∙ is))
   found_record e f is to_hole = absurd (cc)
   found_record e f is to_nothing = absurd (cc)
 
   -- labels come to the same
-  pub labels_alike : (ls : List Written) {es : List Entry} {fs : Environment} → EnvAs R (DeclaredAs nodes C N) (ExceptionAs nodes C N) es fs →
-      ComesTo R (DeclaredAs nodes C N) (ExceptionAs nodes C N) (record_by labelled es (scope_for es ls) ls) (record_of fs ls)
-  labels_alike ls h = record_alike R (DeclaredAs nodes C N) (ExceptionAs nodes C N) (λ d e k. k.defines) ls h
+  pub labels_alike : (ls : List Written) {es : List Entry} {fs : Environment} → EnvAs R D X es fs →
+      ComesTo R D X (record_by labelled es (scope_for es ls) ls) (record_of fs ls)
+  labels_alike ls h = record_alike R D X origins ls h
 
   -- so the definitions find the declaration
-  pub finds_record : (ls : List Written) (e : Entry) {es : List Entry} {fs : Environment} → record_by labelled es (scope_for es ls) ls ≡ an_entry e → EnvAs R (DeclaredAs nodes C N) (ExceptionAs nodes C N) es fs → FindsRecord e (record_of fs ls)
+  pub finds_record : (ls : List Written) (e : Entry) {es : List Entry} {fs : Environment} → record_by labelled es (scope_for es ls) ls ≡ an_entry e → EnvAs R D X es fs → FindsRecord e (record_of fs ls)
   finds_record ls e {es} f h = let has = record_has labelled es (scope_for es ls) ls e f in found_record e f (label_alone e.kind e.what has.0 has.1) (labels_alike ls h)
 
 -- a type after others
@@ -159,3 +170,12 @@ same_record {I = I} {e = e} {f = f} own p q =
       owner = body_alike e.arity (p.root.is I own ∙ sym (q.root.is I own) ∙ ap (λ k. with_parameters k (type_of f)) (sym as_many));
       labels = shape_one own p.shape q.shape;
     }
+
+-- and where one is a type of its own, so is the other
+pub own_too : {nodes : List Node} {C : List ℕ} {N : Types} {d : Declaration} {e f : rules.Declaration} → DeclaredAs nodes C N d e → DeclaredAs nodes C N d f → (o : Path) × (f.definition ≡ rules.Own o) → (o : Path) × (e.definition ≡ rules.Own o)
+own_too {d = d} {e = e} {f = f} p q own = by d.origin e.definition f.definition p.origin q.origin own
+  where
+    by : (x : Option Origin) (u v : rules.Definition) → OriginAs x u → OriginAs x v → (o : Path) × (v ≡ rules.Own o) → (o : Path) × (u ≡ rules.Own o)
+    by x (rules.Own o) v h k own = (o, refl)
+    by None (rules.Is t) v h k (o, is) = absurd (subst (OriginAs None) is k)
+    by (Some y) (rules.Is t) v h k own = absurd h

@@ -107,7 +107,7 @@ module _ {F : Frame} {scope : Scope} {G : Letters} {env : List Entry} (a : Parts
       let R : ℕ → Scheme → Type 0 = λ r sc. SchemeFits a.store.nodes V r sc × IsIn at.roots r in
       let lost : lost_of env ps ≡ first_lost c.env ps = lost_labels R a.store.nodes at.roots at.names env (scope.env c.chosen) stands ps ∙ ap (λ E. first_lost E ps) (sym under.env) in
       let found : is_found_here (found_here env ps) ≡ is_found (record_found c ps) =
-      found_so R (DeclaredAs a.store.nodes at.roots at.names) (ExceptionAs a.store.nodes at.roots at.names) (labels_alike R a.store.nodes at.roots at.names (labels_of ps) stands) ∙ ap (λ E. is_found (record_found (record c { env = E }) ps)) (sym under.env) in
+      found_so R (DeclaredAs a.store.nodes at.roots at.names) (ExceptionAs a.store.nodes at.roots at.names) (labels_alike R (DeclaredAs a.store.nodes at.roots at.names) (ExceptionAs a.store.nodes at.roots at.names) (λ d e h. h.defines) (labels_of ps) stands) ∙ ap (λ E. is_found (record_found (record c { env = E }) ps)) (sym under.env) in
       (λ i. demand (site n k) (place_unbound (lost i) t) (test (complaint_unbound (lost i) label_word t) (found i)) ∷ []) ∙ sym (one_asked c n k ps t first)
 
   -- they find something, a hole included

@@ -2,10 +2,12 @@
 use Rattle.std.proofs.Common.{◌≡◌, ◌∙◌, inl, inr, ◌++◌, ℕ, true, not, List, [], ◌∷◌, Option, Some, None, option_map, refl, sym, ap, subst, append-nil, ◌⊎◌}
 use Rattle.std.specs.Prelude.{slice_get}
 use Rattle.token_model.specs.Kinds.{Tok}
-use Rattle.type_model.specs.Types.{Typ}
+use Rattle.type_model.specs.Types.{Typ, occurs}
 use Rattle.type_model.specs.Types.{Typ as type}
+use Rattle.type_model.specs.Substitutions.{apply}
 use Rattle.signature_model.specs.Declarations as rules
-use Rattle.signature_model.specs.Declarations.{Name, type_of}
+use Rattle.signature_model.specs.Declarations.{Name, type_of, defined_type, parameters_from}
+use Rattle.typing_laws.proofs.Bools.{no_yes}
 use Rattle.typing_model.specs.Demands.{site, demand, test, twice}
 use Rattle.typing_model.specs.Contexts.{ask, Choice}
 use Rattle.typing_model.specs.Parts as parts
@@ -16,20 +18,25 @@ use Rattle.type_nodes.specs.Links.{reading}
 use Rattle.type_nodes.specs.Readings.{Types}
 use Rattle.level_unify.specs.Instances.{Instantiated}
 use Rattle.level_unify.specs.Solutions.{Loose}
+use Rattle.level_unify.specs.Unification.{NeverAlike}
+use Rattle.level_unify.proofs.Unified.{fits_loosely}
 use Rattle.env_table.specs.declared.entries.Declaration.{Declaration}
 use Rattle.env_table.specs.declared.entries.Label.{Label}
 use Rattle.typing_conditions.proofs.Own.{own_of}
-use Rattle.typing_conditions.specs.Declared.{LabelAs}
+use Rattle.typing_conditions.specs.Declared.{RootAs, LabelAs}
+use Rattle.typing_conditions.proofs.Roots.{own_reads}
 use Rattle.typing_conditions.proofs.DeclaredLater.{declared_after}
 use Rattle.typing_state.specs.declared.parts.Parts.{Parts}
 use Rattle.typing_state.specs.Goes.{OnlyStore}
 use Rattle.typing_conditions.specs.Sights.{Sight, Letters, AreNodes, AreGiven, Agrees}
-use Rattle.typing_conditions.specs.Frames.{Frame, Reaches, IsRoot}
+use Rattle.typing_conditions.specs.Frames.{Frame, Reaches, IsOpen, IsRoot}
 use Rattle.typing_conditions.specs.Meanings.{Means}
 use Rattle.typing_conditions.specs.Carrying.{Scope, Stays, Carried, CarriedTo}
+use Rattle.typing_conditions.specs.Hiding.{AreOfRow}
+use Rattle.typing_conditions.proofs.Hiding.{no_row}
 use Rattle.typing_conditions.proofs.Framing.{root_on, no_bound}
 use Rattle.typing_conditions.proofs.Carried.{carried_trans, carried_as, carried_dropped, means_dropped}
-use Rattle.typing_conditions.proofs.Meaning.{means_on, nodes_in}
+use Rattle.typing_conditions.proofs.Meaning.{means_on, nodes_in, open_unbound}
 use Rattle.typing_conditions.proofs.Stays.{stays_closed, agrees_before}
 use Rattle.typing_conditions.proofs.Steps.{true_or_false}
 use Rattle.typing_conditions.proofs.Equals.{loose_one}
@@ -38,14 +45,15 @@ use Rattle.typing_steps.specs.Building.{TakesAs, used_by}
 use Rattle.typing_steps.proofs.Seeing.{only_nodes, level_here}
 use Rattle.typing_steps.proofs.Still.{state_still}
 use Rattle.typing_steps.proofs.Testing.{new_asked}
-use Rattle.typing_steps.proofs.Taken.{TakenWith, root_taken}
+use Rattle.typing_steps.proofs.Taken.{TakenWith, root_taken, taken_covers}
 use Rattle.typing_steps.proofs.Labelling.{instance_splits}
-use Rattle.typing_steps.proofs.Sides.{from_means, to_means}
+use Rattle.typing_steps.proofs.Sides.{arrow_is, from_means, to_means}
 use Rattle.record_steps.specs.Named.{labels_here, label_here}
-use Rattle.record_steps.specs.Recording.{AsksOnce, label_written, GivesField, TakesField, StandsFor, FieldTyped, TypesField}
+use Rattle.record_steps.specs.Recording.{AsksOnce, label_written, GivesField, TakesField, IsPlainlyOwn, StandsFor, IsUseOf, FieldTyped, TypesField}
 use Rattle.record_steps.proofs.Joined.{join_carried}
 use Rattle.record_steps.proofs.Named.{shape_none, shape_some}
 use Rattle.record_steps.proofs.Typed.{UsedAs}
+use Rattle.record_steps.proofs.Uses.{use_on, instance_read, sides_unbound}
 
 -- what stands for a declaration does so after a call
 pub stands_on : {F : Frame} {a b : Sight} {G H : Letters} {d : Declaration} {e : rules.Declaration} → Stays F a G b H → Reaches F a → StandsFor F a d e → StandsFor F b d e
@@ -58,7 +66,13 @@ stands_on {a = a} {b = b} stays reached s =
       apart = s.apart;
       are_roots = λ k r e. root_on stays reached (s.are_roots k r e);
       is = declared_after own_a.1 (stays.refines reached own_b.0 own_b.1) (λ r i. i) s.is;
+      known = s.known;
     }
+
+-- a field's type as it is used at the record's node, with letters of that node; where all of names is known, there is none
+pub record FieldUsed (F : Frame) (scope : Scope) (G : Letters) (a b : Parts) (n m : ℕ) (t : Typ) : Type 0 where
+  pub used : UsedAs F scope G a b n m t
+  pub none : F.known ≡ true → used.own ≡ []
 
 -- An instance of a label's root, whose record is joined with the record's type, has the type of the field as it is used at the record's node; nothing is asked, and no letter
 -- is wanted for it where each variable of the field's type stands in the record's.
@@ -70,17 +84,32 @@ module _ (a b : Parts) {F : Frame} {l : Label} {k : rules.Label} {owner : Typ} {
   instance : Instantiated a.store.nodes takes.made.store.nodes l.root.0 F.level takes.node
   instance = subst (λ j. Instantiated a.store.nodes takes.made.store.nodes l.root.0 j takes.node) (level_here a reached) (takes.instance label_root.inside)
 
-  module _ {scope : Scope} {G : Letters} (n : ℕ) (q : Means F (sight a) G (used_by n owner) m) where
-    -- letters that have their types anyway are dropped
-    dropped : (own : Letters) → AreNodes own b.store.nodes → CarriedTo F scope (λ c. []) (sight a) G (sight b) (own ++ G) (used_by n k.body) field →
-        ((V : Types) (ch : Choice) → Loose b.store.nodes V → Agrees F.owner (sight b) G V ch → AreGiven own V ch) ⊎ Unit {0} → UsedAs F scope G a b n field k.body
-    dropped own inside typed (inl implied) = record { own = []; inside = tt; typed = record { carried = carried_dropped own implied typed.carried; means = means_dropped own implied typed.means } }
-    dropped own inside typed (inr other) = record { own = own; inside = inside; typed = typed }
+  -- where the record's node is a use of its declaration, which is a type of its own, the two are never kept apart
+  never_apart : (e : rules.Declaration) → owner ≡ type_of e → arity ≡ e.arity → IsPlainlyOwn N e → IsUseOf (sight a) e m → IsOpen F (sight a) m → reading takes.made.store.nodes takes.node ≡ Some (Arrow takes.from field) → NeverAlike takes.made.store.nodes takes.from m → ⊥
+  never_apart e same many own is_use open_node reads never =
+      let own_a = own_of a.store.nodes reached.sound in
+      let (s, is) = is_use own_a.0 own_a.1 in
+      let as_declared_root = subst (λ t. RootAs a.store.nodes C N arity l.root.0 (type.Arrow t k.body)) same alike.root in
+      let (W, reading_is, before, whole) = instance_read own_a.1 as_declared_root instance s (λ v bound. sides_unbound own many as_declared_root own_a.1 s v (ap (occurs v) (sym is) ∙ open_unbound open_node own_a.0 (own_reads a.store.nodes own_a.0 own_a.1) v bound)) in
+      let sides : type.Arrow (W takes.from) (W field) ≡ type.Arrow (apply s (type_of e)) (apply s k.body) = sym (arrow_is takes.made.store.nodes W takes.node takes.from field (fits_loosely takes.made.store.nodes W reading_is.fits) reads) ∙ whole in
+      let from_is : W takes.from ≡ apply s (type_of e) = cc in
+      never.never W reading_is (from_is ∙ sym is ∙ sym (before m open_node.inside))
 
-    joined_so : takes.joining ≡ takes.made → reading takes.made.store.nodes takes.node ≡ Some (Arrow takes.from field) → UsedAs F scope G a b n field k.body
+  module _ {scope : Scope} {G : Letters} (n : ℕ) (q : Means F (sight a) G (used_by n owner) m) (e : rules.Declaration) (same_owner : owner ≡ type_of e) (many : arity ≡ e.arity) (plainly : F.known ≡ true → IsPlainlyOwn N e) (is_use : F.known ≡ true → IsUseOf (sight a) e m) where
+    -- letters that have their types anyway are dropped
+    dropped : (own : Letters) → AreOfRow n own → AreNodes own b.store.nodes → CarriedTo F scope (λ c. []) (sight a) G (sight b) (own ++ G) (used_by n k.body) field →
+        ((V : Types) (ch : Choice) → Loose b.store.nodes V → Agrees F.owner (sight b) G V ch → AreGiven own V ch) ⊎ (F.known ≡ true → ⊥) → FieldUsed F scope G a b n field k.body
+    dropped own of_row inside typed (inl implied) = record {
+      used = record { own = []; of_row = no_row n; inside = tt; typed = record { carried = carried_dropped own implied typed.carried; means = means_dropped own implied typed.means } };
+      none = λ known. refl;
+    }
+    dropped own of_row inside typed (inr other) = record { used = record { own = own; of_row = of_row; inside = inside; typed = typed }; none = λ known. absurd (other known) }
+
+    joined_so : takes.joining ≡ takes.made → reading takes.made.store.nodes takes.node ≡ Some (Arrow takes.from field) → FieldUsed F scope G a b n field k.body
     joined_so same reads =
+        let rest = only_nodes a takes.made (subst (OnlyStore a) same takes.rest) in
         let taking : TakenWith F scope (sight a) G (sight takes.made) n (type.Arrow owner k.body) takes.node =
-        root_taken n reached label_root alike.root (takes.sound label_root.inside) instance (only_nodes a takes.made (subst (OnlyStore a) same takes.rest)) in
+        root_taken n reached label_root alike.root (takes.sound label_root.inside) instance rest in
         let here : Carried F scope (λ c. []) (sight a) G (sight takes.joining) (taking.own ++ G) = subst (λ z. Carried F scope (λ c. []) (sight a) G (sight z) (taking.own ++ G)) (sym same) taking.typed.carried in
         let p : Means F (sight takes.joining) (taking.own ++ G) (λ ch. type.Arrow (used_by n owner ch) (used_by n k.body ch)) takes.node =
         subst (λ z. Means F (sight z) (taking.own ++ G) (λ ch. type.Arrow (used_by n owner ch) (used_by n k.body ch)) takes.node) (sym same) taking.typed.means in
@@ -92,18 +121,20 @@ module _ (a b : Parts) {F : Frame} {l : Label} {k : rules.Label} {owner : Typ} {
         let whole : Carried F scope (λ c. []) (sight a) G (sight b) (taking.own ++ G) = carried_trans here join in
         let known : (V : Types) (ch : Choice) → Loose b.store.nodes V → Agrees F.owner (sight b) G V ch → V takes.from ≡ V m → used_by n owner ch ≡ V takes.from = λ V ch loose g one. q.is V ch (whole.stays.loose V loose) (agrees_before (stays_closed taking.own whole.stays) g) ∙ sym one in
         let at_made : (V : Types) → Loose b.store.nodes V → Loose takes.made.store.nodes V = λ V loose. subst (λ (z : Parts). Loose z.store.nodes V) same (join.stays.loose V loose) in
-        dropped taking.own (nodes_in taking.own takes.joining.store.nodes b.store.nodes join.stays.longer (subst (λ (z : Parts). AreNodes taking.own z.store.nodes) (sym same) taking.nodes))
+        dropped taking.own taking.of_row (nodes_in taking.own takes.joining.store.nodes b.store.nodes join.stays.longer (subst (λ (z : Parts). AreNodes taking.own z.store.nodes) (sym same) taking.nodes))
         (record { carried = whole; means = means_on join.stays (to_means {from = used_by n owner} {to = used_by n k.body} p there) })
         (elim (true_or_false taking.covered) [
           | inl covers ↦ elim joined [
             | inl one ↦ inl (λ V ch loose g. taking.implied covers owner k.body refl takes.from field reads V ch (at_made V loose)
                 (known V ch loose g (loose_one takes.joining.store.nodes b.store.nodes takes.from m takes.sound_after (one (no_bound from_here.open_node record_here.open_node)) V loose)))
-            | inr never ↦ inr tt
+            | inr (left, never) ↦ inr (λ all_known. never_apart e same_owner many (plainly all_known) (is_use all_known) q.open_node reads (subst (λ (z : Parts). NeverAlike z.store.nodes takes.from m) same (never (no_bound from_here.open_node record_here.open_node))))
           ]
-          | inr beside ↦ inr tt
+          | inr beside ↦ inr (λ all_known. absurd (no_yes (sym beside ∙
+              taken_covers scope G n reached label_root alike.root (takes.sound label_root.inside) instance rest (plainly all_known).own.0 k.body (plainly all_known).plain
+              (ap (λ t. type.Arrow t k.body) (same_owner ∙ ap (defined_type e.arity) (plainly all_known).own.1 ∙ ap (λ j. type.Con (plainly all_known).own.0 (parameters_from 0 j)) (sym many))))))
         ])
 
-    pub field_used : UsedAs F scope G a b n field k.body
+    pub field_used : FieldUsed F scope G a b n field k.body
     field_used = elim takes.sides [
       | inl (reads, same) ↦ joined_so same reads
       | inr none ↦ absurd (
@@ -122,7 +153,7 @@ once_asked a b {F} {scope} {G} field seen p aloud asks = by p.last asks
 
 -- The beginning of a field: its label is new, and its type is that of the label.
 pub field_typed : (a mid b : Parts) (d : Declaration) (m : ℕ) (seen : List Name) (p : parts.Written) (ty : Option ℕ) → AsksOnce seen p.last a mid → GivesField (label_written d p.last) mid b m ty → TypesField a b d m seen p ty
-field_typed a mid b d m seen p ty asks gives aloud F scope G n field e stands means = by (label_written d p.last) refl gives
+field_typed a mid b d m seen p ty asks gives aloud F scope G n field e stands means is_use = by (label_written d p.last) refl gives
   where
     asked : Carried F scope (λ c. ask_once field 0 seen p) (sight a) G (sight mid) G
     asked = once_asked a mid field seen p aloud asks
@@ -147,14 +178,17 @@ field_typed a mid b d m seen p ty asks gives aloud F scope G n field e stands me
       letters = [];
       inside = tt;
       carried = carried_as (λ c. append-nil (ask_once field 0 seen p)) (carried_trans asked (state_still mid b same));
+      none = λ known. refl;
       has_type = subst (λ x. TakesAs F (sight b) G n x ty) (sym (none_in p.last none)) (subst (TakesAs F (sight b) G n None) (sym nothing) tt);
     }
     by (Some l) some (f, is, takes) =
         let (k, found, alike) = one_in l p.last some in
-        let used = field_used mid b reached there.are_roots alike takes {scope = scope} n (means_on asked.stays means) in
+        let field_is = field_used mid b reached there.are_roots alike takes {scope = scope} n (means_on asked.stays means) e refl refl there.known (λ known. use_on e m asked.stays means.open_node.reached (is_use known)) in
+        let used = field_is.used in
         record {
           letters = used.own;
           inside = used.inside;
           carried = carried_as (λ c. append-nil (ask_once field 0 seen p)) (carried_trans asked used.typed.carried);
+          none = field_is.none;
           has_type = subst (λ x. TakesAs F (sight b) (used.own ++ G) n x ty) (sym found) (subst (TakesAs F (sight b) (used.own ++ G) n (Some k.body)) (sym is) used.typed.means);
         }

@@ -22,7 +22,7 @@ use Rattle.typing_conditions.proofs.Equals.{unified_stays}
 use Rattle.typing_conditions.proofs.Carried.{carried_refl, take_none}
 use Rattle.typing_steps.specs.States.{sight}
 use Rattle.typing_steps.proofs.Seeing.{only_nodes}
-use Rattle.typing_conditions.proofs.Hiding.{settles_none}
+use Rattle.typing_conditions.proofs.Hiding.{settles_none, none_doubtful}
 
 -- they are one from then on
 pub made_one : {F : Frame} {scope : Scope} {G : Letters} {type : Choice → Typ} {m n : ℕ} {a b : Sight} → IsSound b.nodes → Means F a G type m → Means F a G type n → OnlyNodes a b → Tightens a.nodes b.nodes → Unified a.nodes b.nodes m n → Carried F scope (λ c. []) a G b G
@@ -30,6 +30,7 @@ made_one {m = m} {n = n} {a = a} {b = b} sound p q rest tight one = record {
   stays = unified_stays sound rest tight p.open_node q.open_node one;
   hidden = [];
   settled = settles_none;
+  clear = λ known placed. none_doubtful;
   judged = [];
   told = [];
   reports = rest.reports ∙ sym (append-nil a.reports);

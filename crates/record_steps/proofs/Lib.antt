@@ -1,6 +1,7 @@
 -- The laws of records.
 pub mod Finding
 pub mod Declared
+pub mod Uses
 pub mod Tuples
 pub mod Demanded
 pub mod Typed

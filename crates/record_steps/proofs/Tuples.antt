@@ -1,5 +1,5 @@
 -- A root over parameters is a tuple whose last part is the declaration's type: an instance of it reads so, and its last part has the type of the use.
-use Rattle.std.proofs.Common.{◌≡◌, ◌∙◌, ℕ, zero, suc, ◌-◌, ◌<◌, true, List, [], ◌∷◌, length, map, get_or, Some, refl, sym, ap, subst, arith}
+use Rattle.std.proofs.Common.{◌≡◌, ◌∙◌, ℕ, zero, suc, ◌-◌, ◌<◌, true, false, List, [], ◌∷◌, length, map, get_or, Some, refl, sym, ap, subst, arith}
 use Rattle.std.specs.Prelude.{slice_get}
 use Rattle.std.proofs.lemmas.Option.{slice_get_within}
 use Rattle.type_model.specs.Types.{Path, Typ, Typs, types_of, occurs, occurs_any}
@@ -26,6 +26,7 @@ use Rattle.typing_conditions.specs.Sights.{Sight, Letters}
 use Rattle.typing_conditions.specs.Frames.{Frame, IsOpen}
 use Rattle.typing_conditions.specs.Meanings.{Means}
 use Rattle.record_steps.specs.Recording.{IsLast}
+use Rattle.record_steps.proofs.Uses.{IsPartOf}
 
 -- a node that reads as a tuple has the tuple of its parts' types
 tuple_is : (nodes : List Node) (V : Types) (m : ℕ) (ms : List ℕ) → Loose nodes V → reading nodes m ≡ Some (Tuple ms) → V m ≡ type.Tuple (types_of (map V ms))
@@ -136,6 +137,32 @@ tuple_inside {nodes} {I} {N} {C} {arity} {r} {t} ts e root_as owned = by (I r) r
     by (type.Tuple us) f = (us, f, let h : type.Tuple (apply_all N us) ≡ type.Tuple ts = sym (root_as.is I owned ∙ ap (apply N) f) ∙ e in cc)
     by (type.Con o us) f = absurd (let h : type.Con o (apply_all N us) ≡ type.Tuple ts = sym (root_as.is I owned ∙ ap (apply N) f) ∙ e in cc)
 
+-- the part of a tuple at the last place, by its named type
+record HasLastPart (N : Types) (us : Typs) (t : Typ) : Type 0 where
+  front : Typs
+  last : Typ
+  is : us ≡ and_last front last
+  named : apply N last ≡ t
+
+last_part : (N : Types) (us front : Typs) (t : Typ) → apply_all N us ≡ and_last front t → HasLastPart N us t
+last_part N types.Nil front t e = absurd (never_none front t (sym e))
+last_part N (types.Cons u types.Nil) types.Nil t e = record { front = types.Nil; last = u; is = refl; named = (let h : types.Cons (apply N u) types.Nil ≡ types.Cons t types.Nil = e in cc) }
+last_part N (types.Cons u types.Nil) (types.Cons x xs) t e = absurd (never_none xs t (let h : types.Cons (apply N u) types.Nil ≡ types.Cons x (and_last xs t) = e in let g : types.Nil ≡ and_last xs t = cc in sym g))
+last_part N (types.Cons u (types.Cons v us)) types.Nil t e = absurd (let h : types.Cons (apply N u) (types.Cons (apply N v) (apply_all N us)) ≡ types.Cons t types.Nil = e in cc)
+last_part N (types.Cons u (types.Cons v us)) (types.Cons x xs) t e =
+    let h : types.Cons (apply N u) (types.Cons (apply N v) (apply_all N us)) ≡ types.Cons x (and_last xs t) = e in
+    let g : apply_all N (types.Cons v us) ≡ and_last xs t = cc in
+    let p = last_part N (types.Cons v us) xs t g in
+    record { front = types.Cons u p.front; last = p.last; is = ap (types.Cons u) p.is; named = p.named }
+
+put_last : (s : Subst) (us : Typs) (t : Typ) → apply_all s (and_last us t) ≡ and_last (apply_all s us) (apply s t)
+put_last s types.Nil t = refl
+put_last s (types.Cons u us) t = ap (types.Cons (apply s u)) (put_last s us t)
+
+stands_last : (v : ℕ) (us : Typs) (t : Typ) → occurs v t ≡ true → occurs_any v (and_last us t) ≡ true
+stands_last v types.Nil t o = or_left (occurs v t) false o
+stands_last v (types.Cons u us) t o = or_right (occurs v u) (occurs_any v (and_last us t)) (stands_last v us t o)
+
 -- a list of nodes whose types are some has one of them where the types have
 none_applied : (N V u : Types) (us : Typs) (ms : List ℕ) (front : Typs) (t : Typ) → apply_all N us ≡ and_last front t → types_of (map V ms) ≡ apply_all u us → (z : ℕ) × IsLast ms z
 none_applied N V u us (m ∷ ms) front t e f = has_last m ms
@@ -155,3 +182,27 @@ instance_tuple {new = new} {I} {N} {m = m} k t before as_root sound taken =
     let same : types_of (map own.0 ms) ≡ apply_all u us = (let f : type.Tuple (types_of (map own.0 ms)) ≡ type.Tuple (apply_all u us) = sym (tuple_is new own.0 m ms own.1.loose reads) ∙ is in cc) in
     let last = none_applied N own.0 u us ms (parameters_from 0 (suc k)) t named same in
     (ms, reads, last.0, last.1)
+
+-- and its last part is a part of it whose named type is the last one
+pub instance_last : {old new : List Node} {I K N : Types} {C : List ℕ} {arity root level m z : ℕ} (k : ℕ) (t : Typ) (ms : List ℕ) → IsOwn old I → RootAs old C N arity root (with_parameters (suc k) t) → IsOwn new K → Instantiated old new root level m → reading new m ≡ Some (Tuple ms) → IsLast ms z →
+    IsPartOf I N root t (K z)
+instance_last {new = new} {I} {K} {N} {m = m} {z = z} k t ms before as_root own taken reads last =
+    let images = images_of before own taken (λ v o. named_bound (as_root.named I before v o)) in
+    let (us, inside, named) = tuple_inside (and_last (parameters_from 0 (suc k)) t) refl as_root before in
+    let put : Types = λ v. K (images.image v) in
+    let p = last_part N us (parameters_from 0 (suc k)) t named in
+    let same : type.Tuple (types_of (map K ms)) ≡ type.Tuple (apply_all put us) = sym (tuple_is new K m ms own.loose reads) ∙ images.is K own.loose ∙ ap (apply put) inside in
+    let listed : types_of (map K ms) ≡ apply_all put us = cc in
+    record {
+      part = p.last;
+      stands = λ v o. ap (occurs v) inside ∙ ap (occurs_any v) p.is ∙ stands_last v p.front p.last o;
+      named = p.named;
+      put = put;
+      is = sym (last_type K (apply_all put p.front) (apply put p.last) ms z (sym (put_last put p.front p.last) ∙ ap (apply_all put) (sym p.is) ∙ sym listed) last);
+    }
+
+-- without parameters it is all of it
+pub instance_whole : {old new : List Node} {I K N : Types} {C : List ℕ} {arity root level m : ℕ} {t : Typ} → IsOwn old I → RootAs old C N arity root t → IsOwn new K → Instantiated old new root level m → IsPartOf I N root t (K m)
+instance_whole {I = I} {K = K} {root = root} before as_root own taken =
+    let images = images_of before own taken (λ v o. named_bound (as_root.named I before v o)) in
+    record { part = I root; stands = λ v o. o; named = sym (as_root.is I before); put = λ v. K (images.image v); is = images.is K own.loose }

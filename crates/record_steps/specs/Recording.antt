@@ -3,7 +3,8 @@ use Rattle.std.specs.Prelude.{◌≡◌, ◌≢◌, ◌⊎◌, ℕ, true, not, L
 use Rattle.text_terms.specs.declared.Span.{Span}
 use Rattle.token_model.specs.Kinds.{Tok}
 use Rattle.syntax_tree.specs.View.{place_of}
-use Rattle.type_model.specs.Types.{Typ}
+use Rattle.type_model.specs.Types.{Path, Typ}
+use Rattle.type_model.specs.Substitutions.{Subst, apply}
 use Rattle.signature_model.specs.Declarations as rules
 use Rattle.signature_model.specs.Declarations.{Name, type_of}
 use Rattle.signature_model.specs.Lookups.{FoundAmong}
@@ -21,7 +22,7 @@ use Rattle.env_table.specs.declared.entries.Entry.{Entry}
 use Rattle.env_table.specs.declared.entries.Label.{Label}
 use Rattle.env_table.specs.declared.faults.FaultKind.TheVariants as fault
 use Rattle.env_table.specs.Labels.{labelled, scope_for}
-use Rattle.typing_conditions.specs.Declared.{UnknownApart, DeclaredAs}
+use Rattle.typing_conditions.specs.Declared.{UnknownApart, NoneUnknown, DeclaredAs}
 use Rattle.typing_state.specs.declared.parts.Parts.{Parts}
 use Rattle.typing_state.specs.declared.messages.Word.TheVariants as word
 use Rattle.typing_state.specs.Bound.{lost_among, TellsLost}
@@ -29,11 +30,13 @@ use Rattle.typing_state.specs.Goes.{faults_of, Goes, OnlyStore}
 use Rattle.typing_state.specs.Messages.{twice_text}
 use Rattle.typing_state.specs.Places.{place_of_tok}
 use Rattle.typing_state.specs.Types.{level_for, JoinedIfNodes}
+use Rattle.typing_conditions.specs.Locals.{IsOwn}
 use Rattle.typing_conditions.specs.Sights.{Sight, Letters, AreNodes}
 use Rattle.typing_conditions.specs.Frames.{Frame, IsRoot}
 use Rattle.typing_conditions.specs.Judging.{AreKept}
 use Rattle.typing_conditions.specs.Meanings.{Means}
 use Rattle.typing_conditions.specs.Carrying.{Scope, Carried}
+use Rattle.typing_conditions.specs.Hiding.{AreOfRow, NotesRow}
 use Rattle.typing_conditions.specs.Surroundings.{Surrounds}
 use Rattle.typing_steps.specs.States.{is_aloud, sight}
 use Rattle.typing_steps.specs.Demands.{TestedAs}
@@ -105,23 +108,35 @@ abbrev pub GivesField : Option Label → (a b : Parts) → (m : ℕ) → Option 
 GivesField None a b m ty = (ty ≡ None) × (b ≡ a)
 GivesField (Some l) a b m ty = (field : ℕ) × (ty ≡ Some field) × TakesField l a b m field
 
--- a declaration of the code stands for one of the definitions, by roots of the frame
+-- What is to be known of a declaration so that no letter of its fields is in doubt: no variable in its roots has an unknown type as its name, and it is a type of its own.
+pub record IsPlainlyOwn (names : Types) (e : rules.Declaration) : Type 0 where
+  pub plain : NoneUnknown names
+  pub own : (o : Path) × (e.definition ≡ rules.Own o)
+
+-- a declaration of the code stands for one of the definitions, by roots of the frame; `known`: what a frame says to be known of it
 pub record StandsFor (F : Frame) (b : Sight) (d : Declaration) (e : rules.Declaration) : Type 0 where
   pub roots : List ℕ
   pub names : Types
   pub apart : UnknownApart names
   pub are_roots : (k r : ℕ) → slice_get roots k ≡ Some r → IsRoot F b r
   pub is : DeclaredAs b.nodes roots names d e
+  pub known : F.known ≡ true → IsPlainlyOwn names e
+
+-- a node's own type is that of a declaration with types in the place of its parameters
+abbrev pub IsUseOf : Sight → rules.Declaration → ℕ → Type 0
+IsUseOf b e m = (K : Types) → IsOwn b.nodes K → (s : Subst) × (K m ≡ apply s (type_of e))
 
 -- The definitions find a declaration in each context, as far as their demand is kept: it is one with `owner`, for which that of the code stands. What they ask is
--- carried, with letters of the node n; a node has the type of the record as it is used there.
+-- carried, with letters of the node n alone; a node has the type of the record as it is used there.
 pub record RecordKnown (F : Frame) (scope : Scope) (a : Sight) (G : Letters) (b : Sight) (n k : ℕ) (ps : List parts.Written) (d : Declaration) (m : ℕ) : Type 0 where
   pub owner : rules.Declaration
   pub letters : Letters
   pub inside : AreNodes letters b.nodes
   pub carried : Carried F scope (λ c. ask_record c n k ps) a G b (letters ++ G)
   pub finds : InEach F scope a G (λ c. AreKept c.kept carried.judged → IsOneWith owner (kept_record c n k ps))
+  pub of_row : AreOfRow n letters
   pub has_type : Means F b (letters ++ G) (used_by n (type_of owner)) m
+  pub use_of : F.known ≡ true → IsUseOf b owner m
   pub stands : StandsFor F b d owner
 
 -- The definitions find no declaration, or not where their demand is kept.
@@ -142,17 +157,25 @@ abbrev pub field_in : List rules.Label → parts.Written → Option Typ
 field_in ls p = then_by p.last (λ t. option_map (λ l. l.body) (find_label t.name ls))
 
 -- A field's label is asked to be new among others, of which nothing else is asked; the node of its type has the type of its label as it is used at the record's node n.
+-- `none`: where all of names is known the record's letters are the field's.
 pub record FieldTyped (F : Frame) (scope : Scope) (a : Sight) (G : Letters) (b : Sight) (n field : ℕ) (seen : List Name) (p : parts.Written) (e : rules.Declaration) (ty : Option ℕ) : Type 0 where
   pub letters : Letters
   pub inside : AreNodes letters b.nodes
   pub carried : Carried F scope (λ c. ask_once field 0 seen p) a G b (letters ++ G)
+  pub none : F.known ≡ true → letters ≡ []
   pub has_type : TakesAs F b (letters ++ G) n (field_in (labels_in e.shape) p) ty
 
 -- What the beginning of a field carries, where faults are reported, of a record type that is known by a declaration, with the node of its type.
 abbrev pub TypesField : (a b : Parts) → Declaration → (m : ℕ) → List Name → parts.Written → Option ℕ → Type 0
 TypesField a b d m seen p ty = is_aloud a.telling ≡ true → (F : Frame) (scope : Scope) (G : Letters) (n field : ℕ) (e : rules.Declaration) → StandsFor F (sight a) d e → Means F (sight a) G (used_by n (type_of e)) m →
-    FieldTyped F scope (sight a) G (sight b) n field seen p e ty
+    (F.known ≡ true → IsUseOf (sight a) e m) → FieldTyped F scope (sight a) G (sight b) n field seen p e ty
 
 -- nothing that conditions see has changed, as where a node is recorded without a type
 abbrev pub AsksNothing : (a b : Parts) → Type 0
 AsksNothing a b = (F : Frame) (scope : Scope) (G : Letters) → Carried F scope (λ c. []) (sight a) G (sight b) G
+
+-- the same where the node k is noted without a type, for the first time, and nothing is hidden
+pub record NotesNode (a b : Parts) (k : ℕ) : Type 0 where
+  pub asks : AsksNothing a b
+  pub hides : (F : Frame) (scope : Scope) (G : Letters) → (asks F scope G).hidden ≡ []
+  pub notes : is_aloud a.telling ≡ true → (m : ℕ) → NotesRow (sight a) (sight b) k m

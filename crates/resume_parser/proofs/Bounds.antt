@@ -1,5 +1,5 @@
 -- What the steps behind the first tokens of a text take.
-use Rattle.std.proofs.Common.{◌≡◌, ℕ, ◌+◌, ◌-◌, ◌*◌, ◌≤◌, Bool, true, false, ◌&&◌, List, [], ◌∷◌, ◌++◌, length, take, drop, map, take-append-drop, Option, Some, None, refl, sym, ap, ◌∙◌, arith, if◌then◌else◌}
+use Rattle.std.proofs.Common.{◌≡◌, ℕ, zero, suc, ◌+◌, ◌-◌, ◌*◌, ◌≤◌, Bool, true, false, ◌&&◌, List, [], ◌∷◌, ◌++◌, length, take, drop, map, take-append-drop, Option, Some, None, refl, sym, ap, ◌∙◌, arith, if◌then◌else◌}
 use Rattle.std.proofs.lemmas.List.{length-append, length-drop, length-map, length-take, take-take}
 use Rattle.token_model.specs.Kinds.{Tok}
 use Rattle.grammar_model.specs.Machine.{Stack}
@@ -11,8 +11,8 @@ use Rattle.recovery_model.specs.Items.{State, Mark, sound, held, marked, Item, i
 use Rattle.recovery_model.specs.Recovery.{faulted, item_after, retake_all, with_token, step_sound, is_marked, step_item, step_by, step, start}
 use Rattle.recovery_laws.proofs.Counted.{IsSettled, Settled, all_settle}
 use Rattle.frame_steps.proofs.Chains.{laws}
-use Rattle.frame_parser.specs.Run.{run, run_on, shifts_sound, shifts_item, shifts_by, shifts, shifts_on, all_shifts}
-use Rattle.syntax_tree.specs.Tallies.{Tallies}
+use Rattle.frame_parser.specs.Run.{run, run_on, shifted_by, shifts_sound, shifts_item, shifts_by, shifts, shifts_on, all_shifts}
+use Rattle.syntax_tree.specs.Tallies.{Tallies, shifted_more}
 use Rattle.syntax_tree.specs.View.{tok_of}
 use Rattle.syntax_tree.specs.declared.tree.Token.{Token}
 use Rattle.resume_parser.specs.Kept.{IsCounted}
@@ -103,7 +103,7 @@ taken_behind text ts k =
     omega (arith, whole, on_bound text (drop k ts) p, length-drop k ts)
 
 -- the first tokens take no more than all
-fewer_taken : (text : Text) (ts : List Tok) (k : ℕ) → all_shifts text (take k ts) ≤ all_shifts text ts
+pub fewer_taken : (text : Text) (ts : List Tok) (k : ℕ) → all_shifts text (take k ts) ≤ all_shifts text ts
 unfolding all_shifts
 fewer_taken text ts k =
     let p = run_on (grammar text) (take k ts) (start (grammar text)) in
@@ -123,3 +123,15 @@ counted_first text same j tokens a b c least k le =
     let ts = map tok_of tokens in
     let first : take k (map tok_of (take j tokens)) ≡ take k ts = ap (take k) (sym (mapped_first tokens j)) ∙ take-take k j ts (omega (arith, le, least)) in
     omega (arith, counted_within text same k (map tok_of (take j tokens)) ts a b c le (omega (arith, length-map (take j tokens) tok_of, length-take j tokens, length-map tokens tok_of)) first, length-map tokens tok_of)
+
+-- by so many steps a counter grows
+pub shifted_most : (n : ℕ) (a : Tallies) → (shifted_by n a).shifted ≤ a.shifted + n
+shifted_most zero a = omega arith
+shifted_most (suc n) a = omega (arith, shifted_most n (shifted_more a))
+
+pub shifted_within : (a b : Tallies) (n most : ℕ) → b ≡ shifted_by n a → n ≤ most → b.shifted ≤ a.shifted + most
+shifted_within a b n most is le = omega (arith, ap (λ (t : Tallies). t.shifted) is, shifted_most n a, le)
+
+-- and by those of all tokens
+pub counted_all : (text : Text) (ts : List Tok) (a b : Tallies) → IsCounted text 0 ts a b → b.shifted ≤ a.shifted + all_shifts text ts
+counted_all text ts a b c = shifted_within a b c.steps (all_shifts text ts) c.counted (omega (arith, c.others))

@@ -1,5 +1,5 @@
 -- What is said of a text's structure: its outline, and its faults.
-use Rattle.std.specs.Prelude.{◌≡◌, ℕ, List, ◌++◌, codes, map, Bool, true, false}
+use Rattle.std.specs.Prelude.{◌≡◌, ℕ, List, [], ◌∷◌, ◌++◌, codes, map, Bool, true, false}
 use Rattle.text_model.specs.Positions.{position_of}
 use Rattle.token_model.specs.Kinds.{Tok}
 use Rattle.token_model.specs.Tokens.{Lex}
@@ -8,7 +8,9 @@ use Rattle.grammar_model.specs.Named.{named, items_of}
 use Rattle.recovery_model.specs.Recovery.{recover}
 use Rattle.grammar_model.specs.Ocaml.{grammar, program_text, row_name}
 use Rattle.query_model.specs.Outlines.{Kind, value, type_name, exception_name, module_name, module_type, Member, Members, member, no_members, also, members_of, outline}
-use Rattle.query_model.specs.Faults.{Fault, Listed, TyperFault, by_typer, told, page, has_more}
+use Rattle.query_model.specs.Faults.{Fault, Listed, TyperFault, warning, source_of, by_typer, told, page, has_more}
+use Rattle.typing_model.specs.Typable.{IsTypable}
+use Rattle.fault_model.specs.Refused.{standing, IsOfLets, AreRefused}
 use Rattle.service_model.specs.Replies as said
 use Rattle.service_model.specs.WellTyped.{is_well_typed}
 
@@ -54,13 +56,18 @@ OutlineIs text s = (tokens : List Tok) × Lex text tokens × (s ≡ outline_said
 abbrev pub shown_fault : List ℕ → Listed → said.Fault
 shown_fault text f = record { start = position_of text f.span.start; end = position_of text f.span.end; kind = f.kind; message = f.message; source = f.source }
 
+-- each of these is a warning, and none a fault
+abbrev pub AreWarnings : List TyperFault → Type 0
+AreWarnings [] = Unit {0}
+AreWarnings (f ∷ fs) = (source_of f.kind ≡ warning) × AreWarnings fs
+
 -- the page of these faults of a text
 abbrev pub faults_said : List ℕ → List Fault → said.Said
 faults_said text fs = said.faults (map (shown_fault text) (page fs)) (has_more fs)
 
--- the page of the parser's faults together with those of the typer, in the order of their demands; which these are stays open
+-- the page of the parser's faults together with those of the typer, in the order of their demands; which these are stays open, but that a text that can be typed has none but warnings, and that those of a text of `let` and `;;` stand at the demands that aren't kept, each of its kind
 abbrev pub FaultsAre : List ℕ → List Fault → said.Said → Type 0
-FaultsAre text parsed s = (typed : List TyperFault) × (s ≡ faults_said text (parsed ++ map by_typer typed))
+FaultsAre text parsed s = (typed : List TyperFault) × (IsTypable text → AreWarnings typed) × ((t : IsOfLets text) → ∥ AreRefused (items_in t.tokens) (standing typed) ∥₁) × (s ≡ faults_said text (parsed ++ map by_typer typed))
 
 -- of a text that is well typed so the parser's faults alone
 abbrev pub ErrorsBy : Bool → List ℕ → List Tok → said.Said → Type 0

@@ -71,7 +71,7 @@ pub fn served<A: Analyser, S: Source, K: Sink, C: Counts>(
     // A read or a write failed where the exit status says so.
     ensures read { result ≡ 3 → Rose (S.faults src.old) (S.faults src.new) }
     ensures write { result ≡ 4 → Rose (K.faults sink.old) (K.faults sink.new) }
-    // A session lexes no more tokens and types no more items than the lines may that were answered.
+    // A session lexes and parses no more tokens and types no more items than the lines may that were answered.
     ensures work { asks_editor_spec (texts words.now) ≡ false → items_asked (texts words.now) ≡ None → IfSome (S.left src.old) (λ input. SpentOver A.opens (C.tallies counts.old) (C.tallies counts.new) (K.held sink.old) (K.held sink.new) (request_lines input)) }
     // No number of the counter falls.
     ensures counted { Grows (C.tallies counts.old) (C.tallies counts.new) }

@@ -202,6 +202,52 @@ fn runs_over_ends_in_memory(rt: HostRuntime) -> Result<(), Fail> {
     none_wrong(wrong_run(rt.alloc()))
 }
 
+/// A line of four tokens in a request, and how many of them a text has.
+const ITEM: &[u8] = b"let a = 1\\n";
+
+const ITEMS: u32 = 1_000;
+
+const FAULTS: &[u8] = b"{\"query\":\"errors\"}\n";
+
+/// One line more.
+const BEHIND: &[u8] =
+    b"{\"query\":\"tell\",\"start\":{\"line\":1001,\"col\":0},\"end\":{\"line\":1001,\"col\":0},\"text\":\"let b = 2\"}\n";
+
+/// What ends the request, and those after it.
+const REST: [&[u8]; 4] = [b"\"}\n", FAULTS, BEHIND, FAULTS];
+
+/// The text is told, and its faults are asked for; then the same of one line more.
+fn lines(alloc: Global) -> Result<Vec<u8>, NoMemory> {
+    let mut bytes = joined(alloc, &[b"{\"query\":\"tell\",\"text\":\""])?;
+    for _ in 0..ITEMS {
+        bytes.extend_from_slice(ITEM)?;
+    }
+    for piece in &REST {
+        bytes.extend_from_slice(piece)?;
+    }
+    Ok(bytes)
+}
+
+/// Whether only the line is read and parsed that comes after the others.
+fn reads_the_last_line(alloc: Global) -> bool {
+    match lines(alloc) {
+        Ok(input) => {
+            let mut src = SureSource::new(input);
+            let report = served(alloc, &[], &mut src, &mut SureSink::new());
+            report.status == Status::Done && report.lexed == 4_004 && report.shifted == 4_004
+        }
+        Err(_) => false,
+    }
+}
+
+#[test]
+fn a_line_after_a_thousand_is_read_alone(rt: HostRuntime) -> Result<(), Fail> {
+    none_wrong(wrong_unless(
+        reads_the_last_line(rt.alloc()),
+        "4,004 tokens lexed and shifted",
+    ))
+}
+
 /// Words: what they are, the words, which put fails and how many bytes it puts before, the status, how many nodes are typed,
 /// and the output.
 type WordRow = (

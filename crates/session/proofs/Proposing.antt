@@ -1,11 +1,11 @@
 -- What is proposed to a query, and what is said of it.
-use Rattle.std.proofs.Common.{◌≡◌, ◌∙◌, All, List, [], length, ℕ, refl, sym, subst, ap, arith, Option, Some, None, Result, Ok, Err, IfOk, true, false}
+use Rattle.std.proofs.Common.{◌≡◌, ◌∙◌, ◌≤◌, All, List, [], length, ℕ, refl, sym, subst, ap, arith, Option, Some, None, Result, Ok, Err, IfOk, true, false}
 use Rattle.std.proofs.lemmas.List.{nil_from_length}
 use Rattle.std.proofs.lemmas.List.Elements.{All-contains, All-nil, All-weaker}
 use Rattle.std.specs.declared.alloc.AllocError.{AllocError}
 use Rattle.text_terms.specs.Bytes.{str_bytes}
 use Rattle.text_terms.specs.declared.Span.{Span}
-use Rattle.text_model.specs.Edits.{apply}
+use Rattle.text_model.specs.Edits.{apply, text_limit}
 use Rattle.tree_model.specs.Trees.{Place, Tree}
 use Rattle.query_model.specs.TypedNodes.{Typed, innermost_at}
 use Rattle.service_model.specs.Replies as said
@@ -70,16 +70,16 @@ pub all_placed : (n : Option Typed) (x : Span) (rs : List Replacement) → IsPla
 all_placed n x rs at all = All-weaker (IsAt x) (IsPlaced n) (λ r is. subst (λ (y : Span). IsPlacedAt y n) (sym is) at) rs all
 
 -- what a change leaves that goes in place of the node
-placed_left : (text : List ℕ) (o : ℕ) (p : Parsed) (r : Replacement) (c : List ℕ) → IsParsedAs text p → IsPlaced (innermost_at o (trees_of p.tree)) r → c ≡ replaced text r → IsTried text (Some o) c
-placed_left text o p r c h placed is = by (innermost_at o (trees_of p.tree)) refl placed
+placed_left : (text : List ℕ) (o : ℕ) (p : Parsed) (r : Replacement) (c : List ℕ) → IsParsedAs text p → IsPlaced (innermost_at o (trees_of p.tree)) r → (c ≡ replaced text r) × (length c ≤ text_limit) → IsTried text (Some o) c
+placed_left text o p r c h placed (is, short) = by (innermost_at o (trees_of p.tree)) refl placed
   where
     by : (n : Option Typed) → innermost_at o (trees_of p.tree) ≡ n → IsPlaced n r → IsTried text (Some o) c
     by None there at = absurd at
-    by (Some n) there at = (h.tokens, n, str_bytes r.text, h.lexed, ap (innermost_at o) (sym h.items) ∙ there, is ∙ ap (λ (x : Place). apply text x.start x.end (str_bytes r.text)) at)
+    by (Some n) there at = (h.tokens, n, str_bytes r.text, h.lexed, ap (innermost_at o) (sym h.items) ∙ there, is ∙ ap (λ (x : Place). apply text x.start x.end (str_bytes r.text)) at, short)
 
 placed_all : (text : List ℕ) (o : ℕ) (p : Parsed) (rs : List Replacement) (texts : List (List ℕ)) → IsParsedAs text p → All (IsPlaced (innermost_at o (trees_of p.tree))) rs → All (IsReplaced text rs) texts → All (IsTried text (Some o)) texts
 placed_all text o p rs texts h placed left =
-    All-weaker (IsReplaced text rs) (IsTried text (Some o)) (λ c made. placed_left text o p made.0 c h (All-contains (IsPlaced (innermost_at o (trees_of p.tree))) rs made.0 placed made.1) made.2) texts left
+    All-weaker (IsReplaced text rs) (IsTried text (Some o)) (λ c made. placed_left text o p made.0 c h (All-contains (IsPlaced (innermost_at o (trees_of p.tree))) rs made.0 placed made.1) (made.2, made.3)) texts left
 
 -- where no change is proposed, no text is tried
 no_text : (text : List ℕ) (rs : List Replacement) (texts : List (List ℕ)) → rs ≡ [] → AreReplaced text rs texts → texts ≡ []

@@ -1,20 +1,27 @@
 -- What is said of types and of faults.
-use Rattle.std.proofs.Common.{◌≡◌, ℕ, List, [], ◌++◌, length, map, append-nil, refl, sym, ◌∙◌, ap, subst, true, false, Result, Ok, Err, IfOk}
+use Rattle.std.proofs.Common.{◌≡◌, ℕ, List, [], ◌∷◌, ◌++◌, length, map, append-nil, refl, sym, ◌∙◌, ap, subst, Bool, true, false, ◌&&◌, Result, Ok, Err, IfOk}
 use Rattle.std.specs.Prelude.{Some, None, option_map, reverse}
 use Rattle.std.specs.declared.alloc.AllocError.{AllocError}
 use Rattle.tree_model.specs.Nodes.{nodes_at}
+use Rattle.tree_model.specs.Trees.{Tree}
 use Rattle.plain_model.specs.Plain.{AllSeenWithin}
 use Rattle.plain_model.proofs.Within.{seen_within}
-use Rattle.query_model.specs.Faults.{TyperFault, by_typer}
+use Rattle.query_model.specs.Faults.{TyperFault, by_typer, warning, source_of}
 use Rattle.query_model.specs.TypedNodes.{Typed}
+use Rattle.typing_model.specs.Typable.{AreTypable, IsTypable}
+use Rattle.fault_model.specs.Refused.{standing, AreOfLets, IsOfLets, AreRefused}
 use Rattle.service_model.specs.Replies as said
-use Rattle.service_model.specs.Structure.{faults_in, faults_said, items_in, ErrorsAre, ErrorsBy, FaultsAre}
+use Rattle.service_model.specs.Structure.{faults_in, faults_said, items_in, AreWarnings, ErrorsAre, ErrorsBy, FaultsAre}
 use Rattle.service_model.specs.Answers.{EnclosingBy, EnclosingIs, TypesAre, typed_among, typed_round, types_or_none}
 use Rattle.token_laws.proofs.Ones.{lex_one}
 use Rattle.syntax_tree.specs.View.{trees_of}
 use Rattle.frame_parser.specs.declared.whole.Parsed.{Parsed}
 use Rattle.plain_typing.specs.View.{seen_of}
-use Rattle.text_queries.specs.Faults.{fault_of}
+use Rattle.text_queries.specs.Faults.{fault_of, kind_of, typer_fault_of}
+use Rattle.env_table.specs.declared.faults.Fault as typer
+use Rattle.env_table.specs.declared.faults.FaultKind.{FaultKind}
+use Rattle.env_table.specs.declared.faults.FaultKind.TheVariants as kind
+use Rattle.analysis_api.specs.Warnings as api
 use Rattle.query_engine.specs.Typed.{IsNoNode}
 use Rattle.query_engine.specs.declared.asked.QueryFault.{QueryFault}
 use Rattle.query_engine.specs.declared.asked.QueryFault.TheVariants as fault
@@ -76,8 +83,59 @@ errors_typed text s (tokens, lexed, ill) (ts, lex, page) = (
 )
 
 -- the faults of a parsed text, with some of the typer
-pub faults_parsed : (text : List ℕ) (p : Parsed) (typed : List TyperFault) (s : said.Said) → IsParsedAs text p → s ≡ faults_said text (map fault_of p.faults.items ++ map by_typer typed) → AreFaultsOf text s
-faults_parsed text p typed s h page = (h.tokens, h.lexed, (typed, page ∙ ap (λ fs. faults_said text (fs ++ map by_typer typed)) h.faults))
+faults_parsed : (text : List ℕ) (p : Parsed) (typed : List TyperFault) (s : said.Said) → IsParsedAs text p → (IsTypable text → AreWarnings typed) → ((t : IsOfLets text) → ∥ AreRefused (items_in t.tokens) (standing typed) ∥₁) → s ≡ faults_said text (map fault_of p.faults.items ++ map by_typer typed) → AreFaultsOf text s
+faults_parsed text p typed s h silent refused page = (h.tokens, h.lexed, (typed, silent, refused, page ∙ ap (λ fs. faults_said text (fs ++ map by_typer typed)) h.faults))
+
+-- the items of a text that can be typed can
+typable_items : (text : List ℕ) (p : Parsed) → IsParsedAs text p → IsTypable text → AreTypable (trees_of p.tree)
+unfolding items_in
+typable_items text p h t = subst AreTypable (ap items_in (lex_one text t.tokens h.tokens t.lexed h.lexed) ∙ sym h.items) t.items
+
+no_yes : false ≡ true → ⊥
+no_yes e = cc e
+
+both : (p q : Bool) → (p && q) ≡ true → (p ≡ true) × (q ≡ true)
+both true q h = (refl, h)
+both false q h = absurd (no_yes h)
+
+-- what are warnings of the typer's are told as warnings
+warnings_told : (fs : List typer.Fault) → api.are_warnings fs ≡ true → AreWarnings (map typer_fault_of fs)
+warnings_told [] h = tt
+warnings_told (f ∷ fs) h = let (one, others) = both (api.is_warning f.kind) (api.are_warnings fs) h in (by f.kind one, warnings_told fs others)
+  where
+    by : (k : FaultKind) → api.is_warning k ≡ true → source_of (kind_of k) ≡ warning
+    by kind.Missed e = refl
+    by kind.Unused e = refl
+    by kind.Bound e = absurd (no_yes e)
+    by kind.Equal e = absurd (no_yes e)
+    by kind.Arity e = absurd (no_yes e)
+    by kind.Label e = absurd (no_yes e)
+    by kind.Mutable e = absurd (no_yes e)
+    by kind.Complete e = absurd (no_yes e)
+    by kind.Unique e = absurd (no_yes e)
+    by kind.Sides e = absurd (no_yes e)
+    by kind.Range e = absurd (no_yes e)
+    by kind.Cycle e = absurd (no_yes e)
+    by kind.Reexport e = absurd (no_yes e)
+    by kind.Functor e = absurd (no_yes e)
+    by kind.With e = absurd (no_yes e)
+    by kind.Closing e = absurd (no_yes e)
+    by kind.Match e = absurd (no_yes e)
+
+-- the items of a text of `let` and `;;` are its
+items_here : (text : List ℕ) (p : Parsed) → IsParsedAs text p → (t : IsOfLets text) → items_in t.tokens ≡ trees_of p.tree
+items_here text p h t = ap items_in (lex_one text t.tokens h.tokens t.lexed h.lexed) ∙ sym h.items
+
+lets_here : (text : List ℕ) (p : Parsed) → IsParsedAs text p → IsOfLets text → AreOfLets (trees_of p.tree)
+unfolding items_in
+lets_here text p h t = subst AreOfLets (items_here text p h t) t.items
+
+-- So the faults that a typer found of the items are those of the text: none but warnings where it can be typed, and of `let` and `;;` those of the demands that aren't kept.
+pub faults_found : (text : List ℕ) (p : Parsed) (items : List Tree) (found : List typer.Fault) (s : said.Said) → IsParsedAs text p → items ≡ trees_of p.tree → (AreTypable items → api.are_warnings found ≡ true) → (AreOfLets items → ∥ AreRefused items (standing (map typer_fault_of found)) ∥₁) →
+    s ≡ faults_said text (map fault_of p.faults.items ++ map by_typer (map typer_fault_of found)) → AreFaultsOf text s
+faults_found text p items found s h are silent refused page =
+    faults_parsed text p (map typer_fault_of found) s h (λ t. warnings_told found (silent (subst AreTypable (sym are) (typable_items text p h t))))
+    (λ t. subst (λ ts. ∥ AreRefused ts (standing (map typer_fault_of found)) ∥₁) (are ∙ sym (items_here text p h t)) (refused (subst AreOfLets (sym are) (lets_here text p h t)))) page
 
 -- where there is no typed node
 pub no_types : (text : List ℕ) (nodes : List Typed) (e : QueryFault) (s : said.Said) → IsNoNode e nodes → failure_in e ≡ Some s → TypesAre text (map (λ n. n.span) nodes) s

@@ -1,11 +1,11 @@
--- What a session keeps, and how many tokens its answers read and items they type.
+-- What a session keeps, and how many tokens its answers lex and parse and items they type.
 use Rattle.std.specs.Prelude.{◌≡◌, ◌⊎◌, All, ℕ, ◌+◌, ◌-◌, ◌≤◌, List, [], length, Bool, true, false, Option, Some, None, IfSome, if◌then◌else◌, refl}
 use Rattle.std.specs.Coded.{Coded, code_by, coded×, coded_bool, coded_list, coded_option, coded_ℕ}
 use Rattle.token_model.specs.Kinds.{Tok}
 use Rattle.token_model.specs.Tokens.{Lex}
 use Rattle.tree_model.specs.Trees.{Tree}
 use Rattle.service_model.specs.Requests.{Asked, asks}
-use Rattle.work_model.specs.Work.{Owed, AreLast, IsAnew, IsTried, RetypedOver, WorksAt}
+use Rattle.work_model.specs.Work.{more, Amount, Owed, AreLast, IsAnew, IsTried, RetypedOver, WorksAt}
 use Rattle.syntax_tree.specs.Tallies.{Tallies}
 use Rattle.analysis_api.specs.Typed.{more_typed, LongestFront, SameFront}
 use Rattle.text_reading.specs.Structures.{AreItemsOf}
@@ -42,9 +42,13 @@ pub record Owes (w : Owed) (s : Held) : Type 0 where
   pub text : w.text ≡ s.text
   pub noted : (n : ℕ) → s.changed ≡ Some n → (m : ℕ) × (w.since ≡ Some m) × (m ≤ n)
 
--- at most n tokens were lexed, and those of the prelude, of which there are p, until a typer has begun
-abbrev pub Lexes : ℕ → ℕ → Held → Held → Tallies → Tallies → Type 0
-Lexes p n old new before after = after.lexed + opening p new.begun ≤ before.lexed + opening p old.begun + n
+-- so many tokens are lexed, and as many taken by the parser
+abbrev pub alike : ℕ → Amount
+alike k = record { lexed = k; shifted = k }
+
+-- No more tokens were lexed and taken by the parser than this, and those of the prelude, of which there are p, until a typer has begun.
+abbrev pub Takes : ℕ → Amount → Held → Held → Tallies → Tallies → Type 0
+Takes p n old new before after = (after.lexed + opening p new.begun ≤ before.lexed + opening p old.begun + n.lexed) × (after.shifted + opening p new.begun ≤ before.shifted + opening p old.begun + n.shifted)
 
 -- the prelude's tokens, where they were read in vain
 abbrev pub in_vain : Bool → ℕ → ℕ
@@ -52,7 +56,7 @@ in_vain failed p = if failed then p else 0
 
 -- What is owed was read and no more, and a typer has begun, or failed to.
 abbrev pub Reads : List ℕ → Bool → Held → Held → Tallies → Tallies → Type 0
-Reads opens failed old new before after = (w : Owed) (ps : List Tok) → Owes w old → Lex opens ps → (n : ℕ) × IsAnew w.text w.since n × Lexes (length ps) (n + in_vain failed (length ps)) old new before after
+Reads opens failed old new before after = (w : Owed) (ps : List Tok) → Owes w old → Lex opens ps → (n : Amount) × IsAnew w.text w.since n × Takes (length ps) (more n (in_vain failed (length ps))) old new before after
 
 -- nothing is known to have changed, or what was
 abbrev pub Settles : Held → Held → Type 0
@@ -135,5 +139,5 @@ tries_texts _ = false
 -- a request is answered with a line and does the work that is owed
 abbrev pub RequestWorks : List ℕ → Asked → Line → Held → Held → Tallies → Tallies → Type 0
 RequestWorks opens a l old new before after = (w : Owed) (ps : List Tok) → Owes w old → Lex opens ps
-    → (v : Owed) × (n : ℕ) × WorksAt (length ps) w (asks a) (line_bytes l) v n × Owes v new × Lexes (length ps) n old new before after
+    → (v : Owed) × (n : Amount) × WorksAt (length ps) w (asks a) (line_bytes l) v n × Owes v new × Takes (length ps) n old new before after
     × Carries w v old new before after

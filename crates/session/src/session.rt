@@ -12,7 +12,7 @@ ghost use Rattle.plain_model.specs.Plain.{AllSeenWithin};
 ghost use Rattle.query_model.specs.Faults.{TyperFault, by_typer};
 ghost use Rattle.service_model.specs.Requests.{asks, reading, tell as tell_spec};
 ghost use Rattle.service_model.specs.Answers.{Answers, PlacedIs, EnclosingIs, TypesAre, tell_outcome, end_key, typed_among as typed_among_spec, typed_round, types_or_none};
-ghost use Rattle.work_model.specs.Work.{Owed, WorksAt};
+ghost use Rattle.work_model.specs.Work.{Amount, Owed, WorksAt};
 ghost use Rattle.syntax_tree.specs.Tallies.{Grows, Tallies};
 ghost use Rattle.syntax_tree.specs.View.{trees_of};
 ghost use Rattle.plain_typing.specs.View.{seen_of};
@@ -31,7 +31,7 @@ ghost use Rattle.text_reading.specs.Types.{items_in};
 ghost use Rattle.session.specs.Changes.{candidates_in, changes_in, is_said, ArePlaced, AreSaidOf, FitsText, IsSaidOf};
 ghost use Rattle.session.specs.Queries.{AreFaultsOf, AreTypesRound, IsAnswered, IsNotPlain, MayBeIllTyped};
 ghost use Rattle.session.specs.Lines.{line_bytes, refusal_in, IsWritten, RefusesBy, RefusesEditBy, RepliesBy, Says};
-ghost use Rattle.session.specs.Working.{tries_texts, Carries, Lexes, Owes, QuerySpends, QueryWorks, Reads, RequestWorks, Settles, TriesBy, TriesNone, TriesTexts, Types, TypesSome};
+ghost use Rattle.session.specs.Working.{alike, tries_texts, Carries, Owes, QuerySpends, QueryWorks, Reads, RequestWorks, Settles, Takes, TriesBy, TriesNone, TriesTexts, Types, TypesSome};
 
 use crate::changes::{Candidates, Proposal, try_all};
 use crate::queries::{Query, asked, failure_of, propose};
@@ -227,7 +227,7 @@ impl<A: Analyser> Session<A> {
     /// Answers one line that isn't blank. Only a `tell` that is accepted changes the text.
     pub fn answer<C: Counts>(&mut self, line: &[u8], counts: &mut C) -> Line
         ensures answers { Answers self.old.text line.now (line_bytes result) self.new.text }
-        ensures works { (w : Owed) (ps : List Tok) → Owes w self.old → Lex A.opens ps → (v : Owed) × (n : ℕ) × WorksAt (length ps) w (reading line.now) (line_bytes result) v n × Owes v self.new × Lexes (length ps) n self.old self.new (C.tallies counts.old) (C.tallies counts.new) × Carries w v self.old self.new (C.tallies counts.old) (C.tallies counts.new) }
+        ensures works { (w : Owed) (ps : List Tok) → Owes w self.old → Lex A.opens ps → (v : Owed) × (n : Amount) × WorksAt (length ps) w (reading line.now) (line_bytes result) v n × Owes v self.new × Takes (length ps) n self.old self.new (C.tallies counts.old) (C.tallies counts.new) × Carries w v self.old self.new (C.tallies counts.old) (C.tallies counts.new) }
         ensures counted { Grows (C.tallies counts.old) (C.tallies counts.new) }
     {
         match read_request(self.alloc, line) {
@@ -262,7 +262,7 @@ impl<A: Analyser> Session<A> {
     /// Makes an edit, or replaces the whole text. The reply is made before the text is changed.
     fn tell(&mut self, range: Option<(Pos, Pos)>, text: RcStr) -> Line
         ensures replies { RepliesBy self.old.text (tell_spec (option_map range_of range) (str_bytes text)) result self.new.text }
-        ensures owed { (w : Owed) (p : ℕ) → Owes w self.old → (v : Owed) × WorksAt p w (asks (tell_spec (option_map range_of range) (str_bytes text))) (line_bytes result) v 0 × Owes v self.new × ((c : Tallies) → Carries w v self.old self.new c c) }
+        ensures owed { (w : Owed) (p : ℕ) → Owes w self.old → (v : Owed) × WorksAt p w (asks (tell_spec (option_map range_of range) (str_bytes text))) (line_bytes result) v (alike 0) × Owes v self.new × ((c : Tallies) → Carries w v self.old self.new c c) }
         ensures begun { self.new.begun ≡ self.old.begun }
     {
         let edit = self.edit_for(range, text);
@@ -520,8 +520,8 @@ impl<A: Analyser> Session<A> {
         ensures rest { (self.new.text ≡ self.old.text) × (self.new.changed ≡ None) }
         ensures known { OnOk result (self.new.known ≡ true) }
         ensures begun { OnOk result (self.new.begun ≡ true) }
-        ensures lexes { (ps : List Tok) → Lex A.opens ps → OnOk result (Lexes (length ps) 0 self.old self.new (C.tallies counts.old) (C.tallies counts.new)) }
-        ensures fails { (ps : List Tok) → Lex A.opens ps → Lexes (length ps) (length ps) self.old self.new (C.tallies counts.old) (C.tallies counts.new) }
+        ensures takes { (ps : List Tok) → Lex A.opens ps → OnOk result (Takes (length ps) (alike 0) self.old self.new (C.tallies counts.old) (C.tallies counts.new)) }
+        ensures fails { (ps : List Tok) → Lex A.opens ps → Takes (length ps) (alike (length ps)) self.old self.new (C.tallies counts.old) (C.tallies counts.new) }
         ensures types { OnOk result (Types self.old self.new (C.tallies counts.old) (C.tallies counts.new)) }
         ensures goes { TypesSome self.old self.new (C.tallies counts.old) (C.tallies counts.new) }
         ensures counted { Grows (C.tallies counts.old) (C.tallies counts.new) }

@@ -4,47 +4,51 @@ use Rattle.std.specs.Io.KnownBytes.{Appends}
 use Rattle.std.proofs.KnownBytes.{Appends-nil, Appends-trans}
 use Rattle.std.proofs.lemmas.List.{append-nil, take_all}
 use Rattle.service_model.specs.Runs.{is_blank_line, last_line, request_lines, Step}
-use Rattle.work_model.specs.Work.{at_first, Owed, RetypedOver, RunWorks, WorksBy}
+use Rattle.work_model.specs.Work.{at_first, Amount, Owed, RetypedOver, RunWorks, WorksBy}
 use Rattle.syntax_tree.specs.Tallies.{Tallies}
 use Rattle.text_reading.specs.Types.{opening}
-use Rattle.session.specs.Working.{Held}
+use Rattle.session.specs.Working.{alike, Held}
 use Rattle.session_loop.specs.Spending.{LineSpends, Spends, SpendsOn, SpentOver}
 
+-- two amounts together
+abbrev both : Amount → Amount → Amount
+both n m = record { lexed = n.lexed + m.lexed; shifted = n.shifted + m.shifted }
+
 -- one line more
-works_more : (p : ℕ) (w : Owed) (lines : List (List ℕ)) (out : List ℕ) (mid : Owed) (line piece : List ℕ) (new : Owed) (n m : ℕ) → RunWorks p w lines out mid n → WorksBy (is_blank_line line) p mid line piece new m
-    → RunWorks p w (lines ++ line ∷ []) (out ++ piece) new (n + m)
+works_more : (p : ℕ) (w : Owed) (lines : List (List ℕ)) (out : List ℕ) (mid : Owed) (line piece : List ℕ) (new : Owed) (n m : Amount) → RunWorks p w lines out mid n → WorksBy (is_blank_line line) p mid line piece new m
+    → RunWorks p w (lines ++ line ∷ []) (out ++ piece) new (both n m)
 works_more p w [] out mid line piece new n m (none, same, zero) works = (
   piece,
   new,
   [],
   m,
-  0,
+  alike 0,
   subst (λ (x : Owed). WorksBy (is_blank_line line) p x line piece new m) same works,
-  (refl, refl, refl),
+  (refl, refl, (refl, refl)),
   ap (λ (o : List ℕ). o ++ piece) none ∙ sym (append-nil piece),
-  omega (arith, zero),
+  (omega (arith, zero.0), omega (arith, zero.1)),
 )
 works_more p w (l ∷ lines) out mid line piece new n m (first, next, rest, here, later, works_first, ran, is, count) works = (
   first,
   next,
   rest ++ piece,
   here,
-  later + m,
+  both later m,
   works_first,
   works_more p next lines rest mid line piece new later m ran works,
   ap (λ (o : List ℕ). o ++ piece) is ∙ append_assoc first rest piece,
-  omega (arith, count),
+  (omega (arith, count.0), omega (arith, count.1)),
 )
 
 pub spends_more : (opens : List ℕ) (start x y : Tallies) (s t : Held) (lines : List (List ℕ)) (line out piece : List ℕ) → SpendsOn opens start x s lines out → LineSpends opens line piece s t x y
     → SpendsOn opens start y t (lines ++ line ∷ []) (out ++ piece)
 spends_more opens start x y s t lines line out piece spends more = λ ps lex.
-    let (v, n, ran, owes, most, within) = spends ps lex in
-    let (u, m, works, owed, lexes, carries) = more v ps owes lex in
-    (u, n + m, works_more (length ps) at_first lines out v line piece u n m ran works, owed, omega (arith, most, lexes), carries start.typed within)
+    let (v, n, ran, owes, lexed, shifted, within) = spends ps lex in
+    let (u, m, works, owed, takes, carries) = more v ps owes lex in
+    (u, both n m, works_more (length ps) at_first lines out v line piece u n m ran works, owed, omega (arith, lexed, takes.0), omega (arith, shifted, takes.1), carries start.typed within)
 
 pub spends_end : (opens : List ℕ) (start x : Tallies) (s : Held) (lines : List (List ℕ)) (out : List ℕ) → SpendsOn opens start x s lines out → Spends opens start x lines out
-spends_end opens start x s lines out spends = λ ps lex. let (v, n, ran, owes, most, within) = spends ps lex in (v, n, ran, omega (arith, most), λ m over. (within m over).within)
+spends_end opens start x s lines out spends = λ ps lex. let (v, n, ran, owes, lexed, shifted, within) = spends ps lex in (v, n, ran, omega (arith, lexed), omega (arith, shifted), λ m over. (within m over).within)
 
 take_none : {T : Type 0} (xs : List T) → take 0 xs ≡ []
 take_none [] = refl
@@ -54,9 +58,10 @@ take_none (x ∷ xs) = refl
 pub spends_none : (opens : List ℕ) (x : Tallies) (s : Held) → s.text ≡ [] → s.begun ≡ false → SpendsOn opens x x s [] []
 spends_none opens x s text begun = λ ps lex. (
   at_first,
-  0,
-  (refl, refl, refl),
+  alike 0,
+  (refl, refl, (refl, refl)),
   record { text = sym text; noted = λ n is. (0, refl, omega arith) },
+  omega (arith, ap (opening (length ps)) begun),
   omega (arith, ap (opening (length ps)) begun),
   λ m none. record { within = omega arith; front = λ items empty. (0, record { left = omega arith; right = omega arith; same = take_none s.holds ∙ sym (take_none items) }, omega (arith, ap length empty)) },
 )
@@ -109,9 +114,9 @@ spent_last opens start x y before held now lines [] out piece s t step put puts 
   count = length out;
   put = subst (Appends before now) (ap (λ (p : List ℕ). out ++ p) step.0 ∙ append-nil out ∙ sym (take_all (length out) out (omega arith))) (Appends-trans before held now out piece put puts);
   spends = λ ps lex.
-      let (v, n, ran, owes, most, within) = spends ps lex in
-      let (u, m, works, owed, lexes, carries) = more v ps owes lex in
-      (v, n, ran, omega (arith, most, lexes, works.2), λ k over. (carries start.typed within k (subst (λ (o : Owed). RetypedOver o.asked k) (sym works.1) over)).within);
+      let (v, n, ran, owes, lexed, shifted, within) = spends ps lex in
+      let (u, m, works, owed, takes, carries) = more v ps owes lex in
+      (v, n, ran, omega (arith, lexed, takes.0, works.2.0), omega (arith, shifted, takes.1, works.2.1), λ k over. (carries start.typed within k (subst (λ (o : Owed). RetypedOver o.asked k) (sym works.1) over)).within);
 }
 spent_last opens start x y before held now lines (b ∷ bs) out piece s t step put puts spends more =
     spent_whole opens start y before now (lines ++ (b ∷ bs) ∷ []) (lines ++ (b ∷ bs) ∷ []) [] (out ++ piece) (sym (append-nil (lines ++ (b ∷ bs) ∷ []))) (Appends-trans before held now out piece put puts)
@@ -127,5 +132,5 @@ spent_none opens x (Some input) held = record {
   out = [];
   count = 0;
   put = Appends-nil held;
-  spends = λ ps lex. (at_first, 0, (refl, refl, refl), omega arith, λ m none. omega arith);
+  spends = λ ps lex. (at_first, alike 0, (refl, refl, (refl, refl)), omega arith, omega arith, λ m none. omega arith);
 }

@@ -15,9 +15,9 @@ use Rattle.session_loop.specs.Begun.{Holds, kept_limit}
 use Rattle.session_loop.specs.Outcomes.{RanOver}
 use Rattle.token_model.specs.Kinds.{Tok}
 use Rattle.token_model.specs.Tokens.{Lex}
-use Rattle.work_model.specs.Work.{Owed, WorksAt, WorksBy}
+use Rattle.work_model.specs.Work.{Amount, Owed, WorksAt, WorksBy}
 use Rattle.syntax_tree.specs.Tallies.{Tallies}
-use Rattle.session.specs.Working.{Carries, Held, Lexes, Owes}
+use Rattle.session.specs.Working.{alike, Carries, Held, Owes, Takes}
 use Rattle.session_loop.specs.Progress.{Cut, CutShort, SoFar}
 use Rattle.session_loop.specs.Spending.{LineSpends, SpendsOn, SpentOver}
 use Rattle.session_loop.specs.declared.begun.Begun.{Begun}
@@ -48,15 +48,15 @@ step_blank text line b holds blank = subst (λ t. StepBy t text line [] text) (s
 -- nothing is read for a blank line
 pub blank_spends : (opens line : List ℕ) (b : Begun) (s : Held) (x : Tallies) → Holds b line → b.blank ≡ true → LineSpends opens line [] s s x x
 blank_spends opens line b s x holds blank = λ w ps owes lex.
-    (w, 0, subst (λ t. WorksBy t (length ps) w line [] w 0) (sym blank ∙ holds.blank) (refl, refl, refl), owes, omega arith, λ first within. within)
+    (w, alike 0, subst (λ t. WorksBy t (length ps) w line [] w (alike 0)) (sym blank ∙ holds.blank) (refl, refl, (refl, refl)), owes, (omega arith, omega arith), λ first within. within)
 
 -- what the kept front of a line that isn't blank may read, the line may
 pub answered_spends : (opens front line piece : List ℕ) (b : Begun) (s t : Held) (x y : Tallies) → Holds b line → b.blank ≡ false → front ≡ b.bytes.items
-    → ((w : Owed) (ps : List Tok) → Owes w s → Lex opens ps → (v : Owed) × (n : ℕ) × WorksAt (length ps) w (reading front) piece v n × Owes v t × Lexes (length ps) n s t x y × Carries w v s t x y) → LineSpends opens line piece s t x y
+    → ((w : Owed) (ps : List Tok) → Owes w s → Lex opens ps → (v : Owed) × (n : Amount) × WorksAt (length ps) w (reading front) piece v n × Owes v t × Takes (length ps) n s t x y × Carries w v s t x y) → LineSpends opens line piece s t x y
 answered_spends opens front line piece b s t x y holds none is works = λ w ps owes lex.
     let same : reading front ≡ reading line = ap reading (is ∙ holds.bytes) ∙ same_reading line in
-    let (v, n, work, owed, lexes, carries) = works w ps owes lex in
-    (v, n, subst (λ k. WorksBy k (length ps) w line piece v n) (sym none ∙ holds.blank) (subst (λ r. WorksAt (length ps) w r piece v n) same work), owed, lexes, carries)
+    let (v, n, work, owed, takes, carries) = works w ps owes lex in
+    (v, n, subst (λ k. WorksBy k (length ps) w line piece v n) (sym none ∙ holds.blank) (subst (λ r. WorksAt (length ps) w r piece v n) same work), owed, takes, carries)
 
 -- a line feed, after the line before it was answered
 pub so_far_feed : (opens : List ℕ) (start x y : Tallies) (before held now : Option (List ℕ)) (taken piece : List ℕ) (s t : Held) (b c : Begun) (byte : ℕ) → byte ≡ line_feed → SoFar opens start x before held taken s b

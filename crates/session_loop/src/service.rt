@@ -164,8 +164,8 @@ pub fn serve<A: Analyser, S: Source, K: Sink, C: Counts>(
     ensures lexed { (C.tallies counts.new).lexed ≡ (C.tallies counts.old).lexed + result.lexed }
     ensures shifted { (C.tallies counts.new).shifted ≡ (C.tallies counts.old).shifted + result.shifted }
     ensures typed { (C.tallies counts.new).typed ≡ (C.tallies counts.old).typed + result.typed }
-    // In a session no more tokens are lexed than the lines may read that were answered, and those of the prelude, and no more items
-    // typed than these lines may type.
+    // In a session no more tokens are lexed and taken by the parser than the lines may read that were answered, and those of the
+    // prelude, and no more items typed than these lines may type.
     ensures work { items_asked (texts words.now) ≡ None → IfSome (S.left src.old) (λ input. SpentOver A.opens (C.tallies counts.old) (C.tallies counts.new) (K.held sink.old) (K.held sink.new) (request_lines input)) }
 {
     let lexed = counts.lexed();

@@ -74,7 +74,7 @@ use Rattle.signature_typing.proofs.ModuleTerms.{module_there}
 use Rattle.signature_typing.proofs.Asking.{starts_told, enters_same, name_asked, told_new, names_between, names_after}
 
 -- What holds in each context in which items are met holds in one that is known.
-in_met : {E : Choice → Environment} {ms : List Item} {seen names : Seen} {a b : Parts} {G : Letters} {after : List Entry} (p : ItemsDone as_declared E ms seen names a b G after) (V : Types) (c : Context) (P : Context → Type 0) → AllMet E (sight a) G (λ x. items_ask x seen ms) V c →
+in_met : {E : Choice → Environment} {ms : List Item} {seen names : Seen} {a b : Parts} {G : Letters} {after : List Entry} (p : ItemsDone as_declared ⊥ E ms seen names a b G after) (V : Types) (c : Context) (P : Context → Type 0) → AllMet E (sight a) G (λ x. items_ask x seen ms) V c →
     InEachMet E (λ x. items_ask x seen ms) (sight b) p.letters p.carried.judged P → P c
 in_met {ms = ms} {seen = seen} {b = b} p V c P m each = elim (p.carried.complete V c m.enters m.holds) [
   | inl goes ↦ each goes.types c m.enters.env (fits_loosely b.store.nodes goes.types goes.fits) goes.agrees (record { kept = subst (AreKept c.kept) goes.same (judged_kept c.kept (items_ask c seen ms)); holds = m.holds })

@@ -208,4 +208,4 @@ specifications_next a b d env s s' all os i x lt here goes first gives =
 pub specifications_end : (a b : Parts) (env : List Entry) (s : Scene) (all : List Numbered) (os : List Operand) (i : ℕ) → length os ≤ i → SpecifiesItemsFirst a b env s all (map operand_view (drop i os)) → GivesSpecifications a b env all
 specifications_end a b env s all os i past first G E carried aloud at constants older V c met known =
     let f : SpecifiesFirst E G c.chosen a b s all [] = subst (λ us. SpecifiesFirst E G c.chosen a b s all (map operand_view us)) (drop_all i os past) (first G E carried aloud at constants older V c met known) in
-    (s.env, f.given.names, subst (λ ms. ItemsDone as_declared E ms no_names f.given.names a b G s.env) (sym (append-nil f.items) ∙ f.splits) f.given.added.done)
+    (s.env, f.given.names, subst (λ ms. ItemsDone as_declared ⊥ E ms no_names f.given.names a b G s.env) (sym (append-nil f.items) ∙ f.splits) f.given.added.done)

@@ -121,11 +121,11 @@ first_met a E asks c sound none env holds sure =
     )
 
 -- After items the same typing goes on: other types fit, with which the choice enters the next ones.
-pub record MetAfter {E : Choice → Environment} {ms : List Item} {seen names : Seen} {a b : Parts} {G : Letters} {mid : List Entry} (p : ItemsDone as_declared E ms seen names a b G mid) (ns : List Item) (c : Context) : Type 0 where
+pub record MetAfter {E : Choice → Environment} {ms : List Item} {seen names : Seen} {a b : Parts} {G : Letters} {mid : List Entry} (p : ItemsDone as_declared ⊥ E ms seen names a b G mid) (ns : List Item) (c : Context) : Type 0 where
   pub types : Types
   pub met : AllMet p.env (sight b) p.letters (λ x. items_ask x names ns) types (under (behind_items c ms) c)
 
-pub met_after : {E : Choice → Environment} {ms : List Item} {seen names : Seen} {a b : Parts} {G : Letters} {mid : List Entry} (p : ItemsDone as_declared E ms seen names a b G mid) (ns : List Item) (V : Types) (c : Context) → AllMet E (sight a) G (λ x. items_ask x seen (ms ++ ns)) V c → MetAfter p ns c
+pub met_after : {E : Choice → Environment} {ms : List Item} {seen names : Seen} {a b : Parts} {G : Letters} {mid : List Entry} (p : ItemsDone as_declared ⊥ E ms seen names a b G mid) (ns : List Item) (V : Types) (c : Context) → AllMet E (sight a) G (λ x. items_ask x seen (ms ++ ns)) V c → MetAfter p ns c
 met_after {E} {ms} {seen} {names} {a} {b} {G} p ns V c m = elim (p.carried.complete V c m.enters (hold_left c.kept first rest held)) [
   | inl goes ↦ next goes
   | inr short ↦ absurd (never_sure (judgements c.kept first) p.carried.judged (sure_left (judgements c.kept first) (judgements c.kept rest) sure) short)

@@ -107,7 +107,7 @@ made_both x (m ∷ ms) ns =
 none_added : (a : Parts) {G : Letters} {env : List Entry} {E : Choice → Environment} (at : Outside as_declared (sight a) G env E) → HasConstants a → AreNoted at.older a → ValuesAdded a at [] a env []
 unfolding done_here
 none_added a {G} {E = E} at constants noted = record {
-  done = done_here no_names at constants noted;
+  done = done_here no_names at constants noted (λ k. absurd k);
   alike = adds_none E G;
   more = [];
   added = [];
@@ -134,18 +134,21 @@ one_added {a} {b} {G} {E = E} {at = at} {m = m} v = record {
   makes = λ c. ap (λ os. os ++ []) (v.makes c);
 }
 
+never : ⊥ → ⊥
+never k = k
+
 -- values after others
 pub added_then : {a b d : Parts} {G : Letters} {env mid after es fs : List Entry} {E : Choice → Environment} {at : Outside as_declared (sight a) G env E} {ms ns : List Item} (p : ValuesAdded a at ms b mid es) → ValuesAdded b p.done.outside ns d after fs → ValuesAdded a at (ms ++ ns) d after (es ++ fs)
 added_then {d = d} {G = G} {es = es} {fs = fs} {E = E} {at = at} {ms = ms} {ns = ns} p q = record {
-  done = done_then at.sound p.done q.done;
-  alike = then_outside at.sound p.done q.done (λ H E' o. AddsAlike E E' G H) (adds_then p.alike q.alike);
+  done = done_then at.sound p.done q.done never never;
+  alike = then_outside at.sound p.done q.done never never (λ H E' o. AddsAlike E E' G H) (adds_then p.alike q.alike);
   more = q.more ++ p.more;
   added = q.added ++ p.added;
-  grows = then_outside at.sound p.done q.done (λ H E' o. Grows at o (q.more ++ p.more) (q.added ++ p.added)) (grows_both p.grows q.grows);
+  grows = then_outside at.sound p.done q.done never never (λ H E' o. Grows at o (q.more ++ p.more) (q.added ++ p.added)) (grows_both p.grows q.grows);
   named = p.named ++ q.named;
-  entries = then_outside at.sound p.done q.done (λ H E' o. EnvAs (SpecifiedAs d.store.nodes o.roots o.names) (DeclaredAs d.store.nodes o.roots o.names) (ExceptionAs d.store.nodes o.roots o.names) (es ++ fs) (p.named ++ q.named))
+  entries = then_outside at.sound p.done q.done never never (λ H E' o. EnvAs (SpecifiedAs d.store.nodes o.roots o.names) (DeclaredAs d.store.nodes o.roots o.names) (ExceptionAs d.store.nodes o.roots o.names) (es ++ fs) (p.named ++ q.named))
       (env_append (SpecifiedAs d.store.nodes q.done.outside.roots q.done.outside.names) (DeclaredAs d.store.nodes q.done.outside.roots q.done.outside.names) (ExceptionAs d.store.nodes q.done.outside.roots q.done.outside.names) (entries_on q.grows p.entries) q.entries);
-  components = then_each at.sound p.done q.done (λ x h k. both_entries x ms ns ∙ (λ i. h i ++ k i)) p.components q.components;
+  components = then_each at.sound p.done q.done never never (λ x h k. both_entries x ms ns ∙ (λ i. h i ++ k i)) p.components q.components;
   values = λ c. values_both c ms ns (p.values c) (q.values (under (behind_items c ms) c));
   makes = λ c. made_both c ms ns ∙ ap (λ os. os ++ made_by_items (under (behind_items c ms) c) ns) (p.makes c) ∙ q.makes (under (behind_items c ms) c);
 }

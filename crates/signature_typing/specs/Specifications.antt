@@ -108,9 +108,9 @@ pub record HasSeen (s : Scene) (seen : Seen) : Type 0 where
   pub module_types : (n : Name) → has_name s kind.ModuleType n ≡ is_among n seen.module_types
 
 -- items are done where these names stand before them, and the scene after them has the names that then stand
-pub record IsGiven (E : Choice → Environment) (ms : List Item) (seen : Seen) (a b : Parts) (G : Letters) (after : Scene) : Type 0 where
+pub record IsGiven (K : Type 0) (E : Choice → Environment) (ms : List Item) (seen : Seen) (a b : Parts) (G : Letters) (after : Scene) : Type 0 where
   pub names : Seen
-  pub done : ItemsDone as_declared E ms seen names a b G after.env
+  pub done : ItemsDone as_declared K E ms seen names a b G after.env
   pub standing : HasSeen after names
 
 -- The same of items of a signature, which add the same names whatever is chosen.
@@ -129,7 +129,7 @@ GivesSpecification a b old new o =
 abbrev pub GivesSpecifications : (a b : Parts) → (env : List Entry) → List Numbered → Type 0
 GivesSpecifications a b env os =
     (G : Letters) (E : Choice → Environment) → AreCarriedSpecifications os → is_aloud a.telling ≡ true → (at : Outside as_declared (sight a) G env E) → HasConstants a → AreNoted at.older a →
-    (V : Types) (c : Context) → AllMet E (sight a) G (λ x. items_ask x no_names (specifications_at a.item os)) V c → AreKnownAt c.chosen a.item os → (after : List Entry) × (names : Seen) × ItemsDone as_declared E (specifications_at a.item os) no_names names a b G after
+    (V : Types) (c : Context) → AllMet E (sight a) G (λ x. items_ask x no_names (specifications_at a.item os)) V c → AreKnownAt c.chosen a.item os → (after : List Entry) × (names : Seen) × ItemsDone as_declared ⊥ E (specifications_at a.item os) no_names names a b G after
 
 -- the first of some items are done, and these are left
 pub record SpecifiesFirst (E : Choice → Environment) (G : Letters) (ch : Choice) (a b : Parts) (now : Scene) (all left : List Numbered) : Type 0 where

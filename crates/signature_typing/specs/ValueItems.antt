@@ -89,7 +89,7 @@ AllValues (Component n at (ModuleType made s) cs) = ⊥
 
 -- A value is an item that is done, and adds one entry, which stands for the one of its component, whatever is chosen.
 pub record ValueAdded (a : Parts) {G : Letters} {env : List Entry} {E : Choice → Environment} (at : Outside as_declared (sight a) G env E) (m : Item) (seen : Seen) (b : Parts) (after : List Entry) : Type 0 where
-  pub done : ItemDone as_declared E m seen no_names a b G after
+  pub done : ItemDone as_declared ⊥ E m seen no_names a b G after
   pub alike : AddsAlike E done.env G done.letters
   pub entry : Entry
   pub named : Named

@@ -45,7 +45,7 @@ AddsIf (Some t) old new = AddsNewest old new
 
 -- Items were done, which name no type and no module; the entries `shown` stand for those of their components, among the names that were added.
 pub record ValuesAdded (a : Parts) {G : Letters} {env : List Entry} {E : Choice → Environment} (at : Outside as_declared (sight a) G env E) (ms : List Item) (b : Parts) (after shown : List Entry) : Type 0 where
-  pub done : ItemsDone as_declared E ms no_names no_names a b G after
+  pub done : ItemsDone as_declared ⊥ E ms no_names no_names a b G after
   pub alike : AddsAlike E done.env G done.letters
   pub more : List Entry
   pub added : Environment

@@ -10,6 +10,8 @@ mod counts;
 #[cfg(test)]
 mod frames;
 #[cfg(test)]
+mod kept;
+#[cfg(test)]
 mod laws;
 #[cfg(test)]
 mod lexer;

@@ -1,6 +1,6 @@
 -- Items that are typed one after the other.
 use Rattle.std.proofs.Common.{◌≡◌, ◌∙◌, ℕ, ◌+◌, true, List, [], ◌∷◌, ◌++◌, length, Some, None, refl, sym, ap, subst, append_assoc, append-nil, arith}
-use Rattle.tree_model.specs.Trees.{Tree}
+use Rattle.tree_model.specs.Trees.{Tree, inner}
 use Rattle.type_model.specs.Types.{Typ}
 use Rattle.signature_model.specs.Entries.{Environment}
 use Rattle.type_terms.specs.declared.types.NodeRef.{NodeRef}
@@ -24,7 +24,7 @@ use Rattle.binding_rows.specs.ItemRows.{IsCarriedItemOperand, ItemsDone, item_if
 use Rattle.binding_rows.proofs.ItemOrders.{done_none, done_then}
 use Rattle.module_steps.specs.declared.scenes.Scene.{Scene}
 use Rattle.module_steps.specs.Scenes.{SameNames}
-use Rattle.module_typing.specs.Items.{IsGiven, GivesItem, AreCarriedItems}
+use Rattle.module_typing.specs.Items.{IsGiven, GivesItem, AreCarriedItems, KeepsKnown, AllKeep}
 use Rattle.text_analysis.specs.Given.{operands_of, Given, NoneStands, IsAs}
 
 -- the item of a tree, by its number in a text
@@ -54,6 +54,11 @@ items_more_of ts t = items_from_more 1 ts t ∙ ap (λ n. items_of ts ++ item_at
 pub carried_split : (ts : List Tree) (t : Tree) → AreCarriedItems (operands_of (ts ++ t ∷ [])) → AreCarriedItems (operands_of ts) × IsCarriedItemOperand (node_with 0 t)
 carried_split [] t c = (tt, c.0)
 carried_split (u ∷ ts) t c = let r = carried_split ts t c.1 in ((c.0, r.0), r.1)
+
+-- and so it is with those that leave open what is known of names
+kept_split : (ts : List Tree) (t : Tree) → AllKeep (operands_of (ts ++ t ∷ [])) → AllKeep (operands_of ts) × KeepsKnown (inner t)
+kept_split [] t k = (tt, k.0)
+kept_split (u ∷ ts) t k = let r = kept_split ts t k.1 in ((k.0, r.0), r.1)
 
 -- a state that is as another one has the same constants
 constants_alike : {a b : Parts} → IsAs a b → HasConstants a → HasConstants b
@@ -87,12 +92,12 @@ between_alike alike telling level = record {
 }
 
 -- What was done up to a state was done up to one that is as it.
-done_alike : {E : Choice → Environment} {ms : List Item} {first a b : Parts} {G : Letters} {s s' : Scene} → IsSound first.store.nodes → IsAs a b → is_aloud b.telling ≡ is_aloud a.telling → b.level ≡ a.level → s'.env ≡ s.env → SameNames s s' →
-    IsGiven E ms no_names first a G s → IsGiven E ms no_names first b G s'
-done_alike {E} {ms} {first} {a} {b} {G} {s} {s'} sound alike telling level scope same g = record {
+done_alike : {K : Type 0} {E : Choice → Environment} {ms : List Item} {first a b : Parts} {G : Letters} {s s' : Scene} → IsSound first.store.nodes → IsAs a b → is_aloud b.telling ≡ is_aloud a.telling → b.level ≡ a.level → s'.env ≡ s.env → SameNames s s' →
+    IsGiven K E ms no_names first a G s → IsGiven K E ms no_names first b G s'
+done_alike {K} {E} {ms} {first} {a} {b} {G} {s} {s'} sound alike telling level scope same g = record {
   names = g.names;
-  done = subst (λ es. ItemsDone as_declared E ms no_names g.names first b G es) (sym scope) (subst (λ ns. ItemsDone as_declared E ns no_names g.names first b G s.env) (append-nil ms)
-      (done_then {last = g.names} sound g.done (done_none g.names (between_alike alike telling level) g.done.outside (constants_alike alike g.done.constants) (noted_alike alike g.done.outside.older g.done.noted))));
+  done = subst (λ es. ItemsDone as_declared K E ms no_names g.names first b G es) (sym scope) (subst (λ ns. ItemsDone as_declared K E ns no_names g.names first b G s.env) (append-nil ms)
+      (done_then {last = g.names} sound g.done (done_none g.names (between_alike alike telling level) g.done.outside (constants_alike alike g.done.constants) (noted_alike alike g.done.outside.older g.done.noted) g.done.knows) (λ k. k) (λ k. k)));
   standing = record {
     types = λ n. same kind.TypeName n ∙ g.standing.types n;
     modules = λ n. same kind.Module n ∙ g.standing.modules n;
@@ -104,7 +109,7 @@ done_alike {E} {ms} {first} {a} {b} {G} {s} {s'} sound alike telling level scope
 pub given_none : (first : Parts) (env : List Entry) (s : Scene) → s.env ≡ env → NoneStands s → Given first env [] first s
 given_none first env s same none G E carried aloud at constants older = record {
   names = no_names;
-  done = subst (λ es. ItemsDone as_declared E [] no_names no_names first first G es) (sym same) (done_none no_names (between_alike {a = first} {b = first} (record { nodes = refl; index = λ i p. refl; faults = refl; constants = refl }) refl refl) at constants older);
+  done = subst (λ es. ItemsDone as_declared ((at.known ≡ true) × Unit {0}) E [] no_names no_names first first G es) (sym same) (done_none no_names (between_alike {a = first} {b = first} (record { nodes = refl; index = λ i p. refl; faults = refl; constants = refl }) refl refl) at constants older (λ k. k.0));
   standing = record { types = λ n. none kind.TypeName n; modules = λ n. none kind.Module n; module_types = λ n. none kind.ModuleType n };
 }
 
@@ -124,6 +129,7 @@ given_more {first} {a} {b} {d} {env} {s} {s'} items t given alike telling level 
     let items_are : items_of items ++ item_at b.item (node_with 0 t) ≡ items_of (items ++ t ∷ []) = ap (λ n. items_of items ++ item_at n (node_with 0 t)) number ∙ sym (items_more_of items t) in
     record {
       names = one.names;
-      done = subst (λ ms. ItemsDone as_declared E ms no_names one.names first d G s'.env) items_are (done_then {last = one.names} at.sound g.done one.done);
+      done = subst (λ ms. ItemsDone as_declared ((at.known ≡ true) × AllKeep (operands_of (items ++ t ∷ []))) E ms no_names one.names first d G s'.env) items_are
+          (done_then {last = one.names} at.sound g.done one.done (λ k. (k.0, (kept_split items t k.1).0)) (λ k. let kept = kept_split items t k.1 in (g.done.knows (k.0, kept.0), kept.1)));
       standing = one.standing;
     }

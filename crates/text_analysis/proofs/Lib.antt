@@ -12,8 +12,16 @@ mod Likeness
 mod OneName
 -- The points before items.
 mod PointLaws
+-- The state after the prelude.
+mod Opening
 -- What reading the prelude gives.
 mod Reading
+-- What the parser takes of the prelude.
+mod Shifting
+-- Faults of items that are `let` and `;;` alone.
+mod Refused
+-- Items that can be typed.
+mod Silent
 -- Parts of different sorts.
 mod Sorts
 -- Calls that type items.

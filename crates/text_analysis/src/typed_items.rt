@@ -24,7 +24,7 @@ use std::alloc::{AllocError, Global};
 use std::mem;
 use std::rc::Rc;
 use syntax_tree::{Counts, Node, RowName};
-use typing_state::{Depth, Env, NoMemory, NodeRef, Parts, Telling};
+use typing_state::{Depth, Env, NoMemory, NodeRef, Parts};
 
 /// The items of a text so far, typed in order on one store. Each call leaves them whole: where memory runs out in the middle of an
 /// item, the state before it is brought back.
@@ -120,15 +120,9 @@ impl TypedItems {
     /// No items yet, after a prelude that leaves these names in scope.
     pub fn new(parts: Parts, first: Env) -> TypedItems
         ensures items { result.items.items ≡ [] }
-        ensures opens { Opens result.parts first }
-        ensures typed { AreTyped result.parts first result }
+        ensures typed { Opens parts first → AreTyped parts first result }
     {
-        let mut parts = parts;
         let alloc = parts.alloc();
-        // The prelude leaves this as it is; said here, it need not be proved of each item of the prelude.
-        parts.index.truncate_to_item(1);
-        parts.level = 0;
-        parts.telling = Telling::Aloud;
         TypedItems {
             parts,
             scene: Scene::new(alloc, first),
@@ -284,6 +278,7 @@ impl TypedItems {
         ensures failed { OnErr result ((n : ℕ) × (place + n ≤ length items.now) × (views_of self.new.items.items ≡ take (place + n) (views_of items.now)) × ((C.tallies counts.new).typed ≡ more_typed n (C.tallies counts.old).typed)) }
         ensures typed { OnOk result ((C.tallies counts.new).typed ≡ more_typed (length items.now - place) (C.tallies counts.old).typed) }
         ensures unlexed { (C.tallies counts.new).lexed ≡ (C.tallies counts.old).lexed }
+        ensures unshifted { (C.tallies counts.new).shifted ≡ (C.tallies counts.old).shifted }
         ensures grows { Grows (C.tallies counts.old) (C.tallies counts.new) }
         ensures chained { (first : Parts) (env : List Entry) → AreTyped first env self.old → AreTyped first env self.new }
     {

@@ -22,12 +22,13 @@ use syntax_tree::{Counts, Tree};
 use token_store::TokenStore;
 use typing_state::{Depth, Env, NoMemory, Parts};
 
-/// The tree of the prelude, whose items are those of an interface of its tokens. No more than its own tokens are lexed, also where
-/// memory runs out.
+/// The tree of the prelude, whose items are those of an interface of its tokens. No more than its own tokens are lexed, and the parser
+/// takes each once at most, also where memory runs out.
 fn prelude_tree<C: Counts>(alloc: Global, counts: &mut C) -> Result<Tree, NoMemory>
     ensures tree { IfOk result (λ t. (ts : List Tok) → Lex prelude_text ts → trees_of t ≡ trees_behind interface_text ts) }
     ensures grows { Grows (C.tallies counts.old) (C.tallies counts.new) }
     ensures lexed { (ts : List Tok) → Lex prelude_text ts → (C.tallies counts.new).lexed ≤ (C.tallies counts.old).lexed + length ts }
+    ensures shifted { (ts : List Tok) → Lex prelude_text ts → (C.tallies counts.new).shifted ≤ (C.tallies counts.old).shifted + length ts }
     ensures untyped { (C.tallies counts.new).typed ≡ (C.tallies counts.old).typed }
 {
     let bytes = text().as_bytes();
@@ -46,6 +47,7 @@ fn prelude_tree<C: Counts>(alloc: Global, counts: &mut C) -> Result<Tree, NoMemo
 pub fn with_prelude<C: Counts>(at: &mut Parts, counts: &mut C) -> Result<Env, NoMemory>
     ensures grows { Grows (C.tallies counts.old) (C.tallies counts.new) }
     ensures lexed { (ts : List Tok) → Lex prelude_text ts → (C.tallies counts.new).lexed ≤ (C.tallies counts.old).lexed + length ts }
+    ensures shifted { (ts : List Tok) → Lex prelude_text ts → (C.tallies counts.new).shifted ≤ (C.tallies counts.old).shifted + length ts }
     ensures untyped { (C.tallies counts.new).typed ≡ (C.tallies counts.old).typed }
     ensures outside { IfOk result (λ env. IsNew at.old → (first : Environment) → IsFirst first → StartsFirst at.new env first) }
     ensures goes { Goes at.old at.new }

@@ -28,8 +28,8 @@ use Rattle.typing_model.specs.Meanings.{items_of}
 use Rattle.typing_model.specs.Plain.{has_lets_alone}
 use Rattle.site_laws.proofs.Texts.{AreSmall}
 use Rattle.text_laws.specs.Texts.{text_asks, IsTyped}
-use Rattle.typing_conditions.specs.Hiding.{plain_key, is_own, ArePlaced}
-use Rattle.text_laws.specs.Reading.{node_for, recorded_at, type_or, first_there, read_choice, NoneDoubtful, DoubtfulAreOne}
+use Rattle.typing_conditions.specs.Hiding.{plain_key, is_own, ArePlaced, NoneDoubtful}
+use Rattle.text_laws.specs.Reading.{node_for, recorded_at, type_or, first_there, read_choice, DoubtfulAreOne}
 use Rattle.text_laws.proofs.Kept.{met, enters}
 use Rattle.text_laws.proofs.Reading.{own_is, value_plain, text_typed, lets_typed, none_doubted}
 

@@ -28,9 +28,9 @@ use Rattle.typing_rows.specs.Settled.{AreFixed}
 use Rattle.binding_rows.specs.ItemRows.{AreOwned}
 use Rattle.binding_rows.specs.Outside.{Left, IsLeft, letters_left, AreLeft, ReadsItems, ItemsCarried}
 use Rattle.text_laws.specs.Texts.{AreApart, NoneCloses, text_asks, AsksOnce, IsTyped}
-use Rattle.typing_conditions.specs.Hiding.{plain_key, is_own, is_letter, is_filled, is_doubtful, HasCopy, ArePlaced, HaveOneNode}
+use Rattle.typing_conditions.specs.Hiding.{plain_key, is_own, is_letter, is_filled, is_doubtful, HasCopy, ArePlaced, HaveOneNode, NoneDoubtful}
 use Rattle.typing_conditions.proofs.Hiding.{split_get, in_first, in_second, copy_itself}
-use Rattle.text_laws.specs.Reading.{node_for, recorded_at, written_at, type_or, first_there, read_choice, OwnersApart, AreOne, NoneDoubtful, DoubtfulAreOne}
+use Rattle.text_laws.specs.Reading.{node_for, recorded_at, written_at, type_or, first_there, read_choice, OwnersApart, AreOne, DoubtfulAreOne}
 use Rattle.text_laws.proofs.Sites.{kept_as_judged, kept_among}
 use Rattle.text_laws.proofs.Orderly.{none_closing}
 use Rattle.text_laws.proofs.Owners.{owners_apart}

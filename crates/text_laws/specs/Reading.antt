@@ -52,10 +52,6 @@ pub record AreOne (V : Types) (b : Sight) (keys : Letters) : Type 0 where
   pub recorded : (i p m k : ℕ) (x : Key × ℕ) → b.types i p ≡ Some m → slice_get keys k ≡ Some x → plain_key x.0 ≡ own (number_in i p) → V x.1 ≡ V m
   pub places : (i p m : ℕ) → b.types i p ≡ Some m → p < 2 ^ 32
 
--- none of the letters may be that of another row too
-abbrev pub NoneDoubtful : Letters → Type 0
-NoneDoubtful xs = (k : ℕ) (x : Key × ℕ) → slice_get xs k ≡ Some x → is_doubtful x.0 ≡ false
-
 -- What is left of `AreOne` where letters without doubt have one node for one thing: doubtful ones of those that items left have the type of each letter with the same key, and of the node that is recorded.
 pub record DoubtfulAreOne (V : Types) (b : Sight) (left : Letters) : Type 0 where
   pub doubted : (j k : ℕ) (x y : Key × ℕ) → slice_get left j ≡ Some x → slice_get left k ≡ Some y → is_doubtful x.0 ≡ true → plain_key x.0 ≡ plain_key y.0 → V x.1 ≡ V y.1

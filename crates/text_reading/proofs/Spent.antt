@@ -10,7 +10,7 @@ use Rattle.tree_model.specs.Trees.{Tree}
 use Rattle.frame_parser.specs.declared.whole.Parsed.{Parsed}
 use Rattle.analysis_api.specs.Typed.{more_typed, GoesOn, LongestFront}
 use Rattle.text_reading.specs.Structures.{AreItemsOf}
-use Rattle.text_reading.specs.Trials.{Tried, Tries, TriesAll, TypesSome}
+use Rattle.text_reading.specs.Trials.{ReadsWhole, Tried, Tries, TriesAll, TypesSome}
 use Rattle.text_reading.specs.Types.{has_begun, held, known, opening}
 use Rattle.text_reading.specs.declared.types.KeptTypes.{KeptTypes}
 use Rattle.text_reading.proofs.Knowing.{known_held}
@@ -36,26 +36,27 @@ typed_some items (Ok x) before after text p a b are there (n, longest, typed) fa
 typed_some items (Err e) before after text p a b are there typed failed = inr (trees_of p.tree, are, failed)
 
 -- a text of which nothing was typed
-pub tries_idle : (opens text : List ℕ) (old new : Tried) (a b : Tallies) → (new.begun ≡ old.begun) × (new.holds ≡ old.holds) → b.typed ≡ a.typed → ((ts : List Tok) → Lex text ts → b.lexed ≤ a.lexed + (32 + length ts)) → Tries opens text old new a b
-tries_idle opens text old new a b (begun, holds) typed read = record { types = inl (holds, typed); begun = λ is. begun ∙ is; lexed = λ is ps ts first lex. read ts lex }
+pub tries_idle : (opens text : List ℕ) (old new : Tried) (a b : Tallies) → (new.begun ≡ old.begun) × (new.holds ≡ old.holds) → b.typed ≡ a.typed → ReadsWhole text a b → Tries opens text old new a b
+tries_idle opens text old new a b (begun, holds) typed read = record { types = inl (holds, typed); begun = λ is. begun ∙ is; reads = λ is ps first. read }
 
 -- one that was read, and then typed
-pub tries_typed : (opens text : List ℕ) (old new : Tried) (a b c : Tallies) → b.typed ≡ a.typed → TypesSome text old.holds new.holds b.typed c.typed → (old.begun ≡ true → new.begun ≡ true) → ((ts : List Tok) → Lex text ts → b.lexed ≤ a.lexed + (32 + length ts))
-    → (old.begun ≡ true → (ps : List Tok) → Lex opens ps → c.lexed ≤ b.lexed) → Tries opens text old new a c
+pub tries_typed : (opens text : List ℕ) (old new : Tried) (a b c : Tallies) → b.typed ≡ a.typed → TypesSome text old.holds new.holds b.typed c.typed → (old.begun ≡ true → new.begun ≡ true) → ReadsWhole text a b
+    → (old.begun ≡ true → (ps : List Tok) → Lex opens ps → (c.lexed ≤ b.lexed) × (c.shifted ≤ b.shifted)) → Tries opens text old new a c
 tries_typed opens text old new a b c typed types begun read unread = record {
   types = subst (λ (n : ℕ). TypesSome text old.holds new.holds n c.typed) typed types;
   begun = begun;
-  lexed = λ is ps ts first lex. omega (arith, read ts lex, unread is ps first);
+  reads = λ is ps first ts lex. let (lexed, shifted) = read ts lex in let (unlexed, unshifted) = unread is ps first in (omega (arith, lexed, unlexed), omega (arith, shifted, unshifted));
 }
 
 -- one whose tree the typer was given
 pub tries_refreshed : {A T E : Type 0} (items : A → List Tree) (r : Result T E) (opens text own : List ℕ) (ready : Bool) (old : Tried) (mid after : KeptTypes A) (p : Parsed) (a b c : Tallies) → AreItemsOf text (trees_of p.tree) → held items mid ≡ old.holds → has_begun mid ≡ old.begun
     → OnOk r (known items after ≡ Some (trees_of p.tree)) → OnOk r ((n : ℕ) × LongestFront (held items mid) (trees_of p.tree) n × (c.typed ≡ more_typed (length p.tree.items.items - n) b.typed))
-    → OnErr r (GoesOn (held items mid) (trees_of p.tree) (held items after) b.typed c.typed) → b.typed ≡ a.typed → ((ts : List Tok) → Lex text ts → b.lexed ≤ a.lexed + (32 + length ts)) → (has_begun mid ≡ true → has_begun after ≡ true)
-    → ((ps : List Tok) → Lex opens ps → c.lexed ≤ b.lexed + opening (length ps) (has_begun mid)) → Tries opens text old (record { text = own; begun = has_begun after; ready = ready; holds = held items after }) a c
-tries_refreshed items r opens text own ready old mid after p a b c are holds begun there typed failed untyped read stays lexed =
+    → OnErr r (GoesOn (held items mid) (trees_of p.tree) (held items after) b.typed c.typed) → b.typed ≡ a.typed → ReadsWhole text a b → (has_begun mid ≡ true → has_begun after ≡ true)
+    → ((ps : List Tok) → Lex opens ps → c.lexed ≤ b.lexed + opening (length ps) (has_begun mid)) → ((ps : List Tok) → Lex opens ps → c.shifted ≤ b.shifted + opening (length ps) (has_begun mid)) → Tries opens text old (record { text = own; begun = has_begun after; ready = ready; holds = held items after }) a c
+tries_refreshed items r opens text own ready old mid after p a b c are holds begun there typed failed untyped read stays lexed shifted =
     tries_typed opens text old (record { text = own; begun = has_begun after; ready = ready; holds = held items after }) a b c untyped
-    (subst (λ (hs : List Tree). TypesSome text hs (held items after) b.typed c.typed) holds (typed_some items r mid after text p b c are there typed failed)) (λ is. stays (begun ∙ is)) read (λ is ps lex. omega (arith, lexed ps lex, ap (opening (length ps)) (begun ∙ is)))
+    (subst (λ (hs : List Tree). TypesSome text hs (held items after) b.typed c.typed) holds (typed_some items r mid after text p b c are there typed failed)) (λ is. stays (begun ∙ is)) read
+    (λ is ps lex. let here = ap (opening (length ps)) (begun ∙ is) in (omega (arith, lexed ps lex, here), omega (arith, shifted ps lex, here)))
 
 -- where these texts were tried and then those, all of them were
 pub tries_join : (opens : List ℕ) (s t u : Tried) (xs ys : List (List ℕ)) (a b c : Tallies) → TriesAll opens xs s t a b → TriesAll opens ys t u b c → TriesAll opens (ys ++ xs) s u a c

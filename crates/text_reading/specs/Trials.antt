@@ -1,5 +1,5 @@
 -- What is seen of a text that is tried, and what it takes to try texts.
-use Rattle.std.specs.Prelude.{◌≡◌, ◌⊎◌, ℕ, ◌+◌, ◌≤◌, List, [], ◌∷◌, length, Bool, true, Option, IfSome, refl}
+use Rattle.std.specs.Prelude.{◌≡◌, ◌⊎◌, ℕ, ◌+◌, ◌*◌, ◌≤◌, List, [], ◌∷◌, length, Bool, true, Option, IfSome, refl}
 use Rattle.std.specs.Coded.{Coded, code_by, coded×, coded_bool, coded_list, coded_ℕ}
 use Rattle.token_model.specs.Kinds.{Tok}
 use Rattle.token_model.specs.Tokens.{Lex}
@@ -29,11 +29,15 @@ pub record IsBound (tree : List Tree) (known : Option (List Tree)) (holds : List
 abbrev pub TypesSome : List ℕ → List Tree → List Tree → ℕ → ℕ → Type 0
 TypesSome text olds news before after = ((news ≡ olds) × (after ≡ before)) ⊎ ((items : List Tree) × AreItemsOf text items × GoesOn olds items news before after)
 
--- What it takes to try a text: some of its items are typed, and at most 32 tokens more are read than it has. Where a typer has begun, it has begun still, and the prelude isn't read, whose bytes are the first ones.
+-- at most 32 tokens more are read than a text has, and the parser takes each twice at most
+abbrev pub ReadsWhole : List ℕ → Tallies → Tallies → Type 0
+ReadsWhole text before after = (ts : List Tok) → Lex text ts → (after.lexed ≤ before.lexed + (32 + length ts)) × (after.shifted ≤ before.shifted + 2 * (32 + length ts))
+
+-- What it takes to try a text: some of its items are typed, and it is read, some of its tokens twice. Where a typer has begun, it has begun still, and the prelude isn't read, whose bytes are the first ones.
 pub record Tries (opens text : List ℕ) (old new : Tried) (before after : Tallies) : Type 0 where
   pub types : TypesSome text old.holds new.holds before.typed after.typed
   pub begun : old.begun ≡ true → new.begun ≡ true
-  pub lexed : old.begun ≡ true → (ps ts : List Tok) → Lex opens ps → Lex text ts → after.lexed ≤ before.lexed + (32 + length ts)
+  pub reads : old.begun ≡ true → (ps : List Tok) → Lex opens ps → ReadsWhole text before after
 
 -- the same of texts that are tried one after the other, the last one first
 abbrev pub TriesAll : List ℕ → List (List ℕ) → Tried → Tried → Tallies → Tallies → Type 0

@@ -185,7 +185,7 @@ impl<A: Analyser> TriedText<A> {
     }
 
     /// Reads and types a text, which is the one that is tried from then on. Where the typer has begun, at most 32 tokens more are read
-    /// than the text has; else the prelude is read too. Nothing is typed, or the first of its items after the longest front of what the
+    /// than the text has, and the parser takes none of them more than twice; else the prelude is read too. Nothing is typed, or the first of its items after the longest front of what the
     /// typer held. Both hold after want of memory too.
     pub fn type_text<C: Counts>(&mut self, text: &str, counts: &mut C) -> Result<(), NoMemory>
         requires short { length text.now ≤ text_limit }

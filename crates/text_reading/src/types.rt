@@ -1,11 +1,15 @@
 //! What is found of the types and names of a text, kept from one query to the next.
-ghost use Rattle.std.specs.Prelude.{◌≡◌, ◌+◌, ◌-◌, ◌≤◌, ℕ, List, [], None, Some, false, true, is_some, length, min, take, option_map, IfOk, IfSome, OnErr, OnOk};
+ghost use Rattle.std.specs.Prelude.{◌≡◌, ◌+◌, ◌-◌, ◌≤◌, ℕ, List, [], None, Some, false, true, is_some, length, map, min, take, option_map, IfOk, IfSome, OnErr, OnOk};
 ghost use Rattle.token_model.specs.Kinds.{Tok};
 ghost use Rattle.token_model.specs.Tokens.{Lex};
+ghost use Rattle.typing_model.specs.Typable.{AreTypable};
+ghost use Rattle.fault_model.specs.Refused.{standing, AreOfLets, AreRefused};
 ghost use Rattle.syntax_tree.specs.Tallies.{Grows};
 ghost use Rattle.syntax_tree.specs.View.{trees_of};
 ghost use Rattle.analysis_api.specs.Typed.{more_typed, GoesOn, LongestFront, SameFront};
-ghost use Rattle.kept_text.specs.Keeping.{read_behind, trees_in};
+ghost use Rattle.analysis_api.specs.Faults.{typer_fault_of};
+ghost use Rattle.analysis_api.specs.Warnings.{are_warnings};
+ghost use Rattle.kept_text.specs.Keeping.{read_behind, shifted_behind, trees_in};
 ghost use Rattle.text_reading.specs.Types.{has_begun, held, items_in, known, known_front, opening, IsOf};
 
 use analysis_api::{Analyser, Analysis};
@@ -24,7 +28,9 @@ pub enum Found<'a, A: Analyser> {
 impl<'a, A: Analyser> Found<'a, A> {
     /// What was found.
     pub fn analysis(&self) -> Analysis<'_>
-        ensures { IsOf A.items A.finds (items_in A.items self.now) result }
+        ensures found { IsOf A.items A.finds (items_in A.items self.now) result }
+        ensures silent { AreTypable (items_in A.items self.now) → are_warnings result.faults.now.list.items ≡ true }
+        ensures refused { AreOfLets (items_in A.items self.now) → ∥ AreRefused (items_in A.items self.now) (standing (map typer_fault_of result.faults.now.list.items)) ∥₁ }
     {
         match self {
             Found::Kept(typer) => typer.found(),
@@ -135,6 +141,7 @@ impl<A: Analyser> KeptTypes<A> {
         ensures current { OnOk result (kept.new.changed ≡ None) }
         ensures refused { OnErr result (kept.new.changed ≡ kept.old.changed) }
         ensures work { (from : ℕ) (ts : List Tok) → kept.old.changed ≡ Some from → Lex kept.old.text ts → (C.tallies counts.new).lexed ≤ (C.tallies counts.old).lexed + read_behind from ts }
+        ensures shifted { (from place : ℕ) (ts : List Tok) → kept.old.changed ≡ Some from → place ≤ from → Lex kept.old.text ts → (C.tallies counts.new).shifted ≤ (C.tallies counts.old).shifted + shifted_behind place ts }
         ensures idle { kept.old.changed ≡ None → C.tallies counts.new ≡ C.tallies counts.old }
         ensures untyped { (C.tallies counts.new).typed ≡ (C.tallies counts.old).typed }
         ensures grows { Grows (C.tallies counts.old) (C.tallies counts.new) }
@@ -169,6 +176,7 @@ impl<A: Analyser> KeptTypes<A> {
         ensures untyped { (C.tallies counts.new).typed ≡ (C.tallies counts.old).typed }
         ensures unknown { known A.items self.new ≡ None }
         ensures lexed { (ts : List Tok) → Lex A.opens ts → (C.tallies counts.new).lexed ≤ (C.tallies counts.old).lexed + opening (length ts) (has_begun self.old) }
+        ensures shifted { (ts : List Tok) → Lex A.opens ts → (C.tallies counts.new).shifted ≤ (C.tallies counts.old).shifted + opening (length ts) (has_begun self.old) }
         ensures fails { OnErr result (has_begun self.old ≡ false) }
         ensures front { known_front self.new ≡ known_front self.old }
         ensures grows { Grows (C.tallies counts.old) (C.tallies counts.new) }
@@ -182,7 +190,7 @@ impl<A: Analyser> KeptTypes<A> {
 
     /// Brings what is found up to a text with this tree: the items at the front that are as they were stay, and the others are
     /// typed. After `NoMemory` it holds those that stay and some after them, which were typed, and the next call does what is left. It lexes
-    /// nothing but the prelude, until a typer has begun. The items that are known to be those of the tree aren't compared.
+    /// and parses nothing but the prelude, until a typer has begun. The items that are known to be those of the tree aren't compared.
     pub fn refresh<C: Counts>(
         &mut self,
         alloc: Global,
@@ -196,6 +204,7 @@ impl<A: Analyser> KeptTypes<A> {
         ensures unknown { OnErr result (known A.items self.new ≡ None) }
         ensures failed { OnErr result (GoesOn (held A.items self.old) (trees_of tree.now) (held A.items self.new) (C.tallies counts.old).typed (C.tallies counts.new).typed) }
         ensures lexed { (ts : List Tok) → Lex A.opens ts → (C.tallies counts.new).lexed ≤ (C.tallies counts.old).lexed + opening (length ts) (has_begun self.old) }
+        ensures shifted { (ts : List Tok) → Lex A.opens ts → (C.tallies counts.new).shifted ≤ (C.tallies counts.old).shifted + opening (length ts) (has_begun self.old) }
         ensures begun { OnOk result (has_begun self.new ≡ true) }
         ensures stays_begun { has_begun self.old ≡ true → has_begun self.new ≡ true }
         ensures grows { Grows (C.tallies counts.old) (C.tallies counts.new) }

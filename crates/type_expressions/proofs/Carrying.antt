@@ -29,8 +29,8 @@ use Rattle.typing_state.specs.declared.demands.Verdict.{Verdict}
 use Rattle.typing_state.specs.Demands.{ArityIs}
 use Rattle.typing_state.specs.Notes.{Noted, NotedNameless}
 use Rattle.typing_state.specs.Types.{MakesVar, any_scope}
-use Rattle.typing_conditions.proofs.Carried.{carried_trans, carried_as}
-use Rattle.typing_conditions.specs.Sights.{own}
+use Rattle.typing_conditions.proofs.Carried.{carried_trans, carried_as, done_as, done_then, done_last}
+use Rattle.typing_conditions.specs.Sights.{own, number_in}
 use Rattle.typing_conditions.proofs.Meaning.{means_on}
 use Rattle.typing_conditions.proofs.Surrounding.{surrounds_on}
 use Rattle.typing_steps.specs.States.{is_aloud}
@@ -42,7 +42,7 @@ use Rattle.operand_laws.proofs.Standing.{type_of_stands}
 use Rattle.typing_rows.specs.TypeContracts.{ReadsTo, ReadsAll, ReadsFirst, EndsRead}
 use Rattle.typing_rows.specs.Rows.{row_type, types_read, front_nodes, front_asks, end_asks}
 use Rattle.typing_rows.specs.Operands.{IsTypeOperand, part_asks, ReadsOperand, ReadsPart, ReadsOperands, ReadsGiven, ReadsFront, EndsRow, ReadsVariable, EndsParentheses, MakesArrowOver, Annotates}
-use Rattle.typing_rows.proofs.Reading.{unresolved_reads, noted_reads, row_reads, reads_as}
+use Rattle.typing_rows.proofs.Reading.{unresolved_reads, noted_reads, row_reads, reads_to_as}
 use Rattle.typing_rows.proofs.TypeOrdered.{one_read, alone_read}
 use Rattle.typing_rows.proofs.Composed.{ends_empty, ends_single, ends_several}
 use Rattle.typing_rows.proofs.TypeTerms.{TypeRow, a_variable, a_constructor, in_parentheses, an_application, a_tuple, an_arrow, another, type_row_is, IsNoType, node_term}
@@ -59,13 +59,13 @@ part_read i n at (inner t) c formed = node_term i n at t formed c
 part_read i n at (missing q) c formed = refl
 
 -- a type expression, once its node is recorded
-pub operand_reads : (a b d : Parts) (env : List Entry) (o : Operand) (m : ℕ) (seen : Seen) → ReadsPart a b env o.number (place_of o.span) (part_of o.node o.span) m → seen.ty ≡ None → Noted b.telling b d o.number seen → OnlyIndex b d → ReadsOperand a d env (operand_view o) m
-operand_reads a b d env o m seen read none noted rest operand =
+pub operand_reads : (a b d : Parts) (env : List Entry) (o : Operand) (m : ℕ) (seen : Seen) → Goes a b → ReadsPart a b env o.number (place_of o.span) (part_of o.node o.span) m → seen.ty ≡ None → Noted b.telling b d o.number seen → OnlyIndex b d → ReadsOperand a d env (operand_view o) m
+operand_reads a b d env o m seen goes read none noted rest operand =
     let n = number_of a.item o.number in
     let asks : Context → List _ = λ c. part_asks a.item o.number (place_of o.span) (part_of o.node o.span) c in
     subst (λ k. ReadsTo a d env (λ c. (type_of a.item (operand_view o)).read c) k m) (sym (type_of_stands a.item (operand_view o)).number)
-    (reads_as a d env (λ c. tell n c ++ asks c) (λ c. (type_of a.item (operand_view o)).read c) n m (λ c. part_read a.item o.number (place_of o.span) (part_of o.node o.span) c operand.formed)
-    (noted_reads a b d env asks n m o.number seen none (read operand.formed operand.placed) noted rest))
+    (reads_to_as a d env (λ c. tell n c ++ asks c) (λ c. (type_of a.item (operand_view o)).read c) n m (λ c. part_read a.item o.number (place_of o.span) (part_of o.node o.span) c operand.formed)
+    (noted_reads a b d env asks n m o.number seen none (ap (λ i. number_in i o.number) goes.item) goes (read operand.formed operand.placed) noted rest))
 
 -- a type expression that is missing
 pub missing_reads : (a b : Parts) (env : List Entry) (o : Operand) (m : ℕ) → o.node ≡ None → MakesVar a b m any_scope → OnlyStore a b → ReadsPart a b env o.number (place_of o.span) (part_of o.node o.span) m
@@ -135,7 +135,7 @@ alone_reads a b env o m none read operand =
     let alone = alone_operand a.item o none operand.formed in
     let one = alone_read a b env (λ c. (type_of a.item o).read c) (type_of a.item o).node m (read operand) in
     subst (λ ns. ReadsAll a b env (λ c. (type_of a.item o).grouped_read c) ns (m ∷ [])) (sym alone.grouped) (λ aloud F scope G s.
-    let x = one aloud F scope G s in record { letters = x.letters; carried = carried_as (λ c. sym (alone.read c)) x.carried; means = x.means })
+    let x = one aloud F scope G s in record { letters = x.letters; carried = carried_as (λ c. sym (alone.read c)) x.carried; done = done_as (λ c. sym (alone.read c)) x.carried x.done; means = x.means })
 
 -- several type expressions in parentheses are given in front of a constructor one by one
 pub record SeveralGiven (i : ℕ) (o : Numbered) (os : List Numbered) : Type 0 where
@@ -182,7 +182,8 @@ several_reads a b d env o os ms some noted only goes read operand =
     subst (λ ns. ReadsAll a d env (λ c. (type_of a.item o).grouped_read c) ns ms) (sym h.nodes) (λ aloud F scope G s.
     let first = plain_noted a b {F = F} {scope = scope} {G = G} o.number env (number_of a.item o.number) (λ c. c.env) noted only in
     let z = all (first.stays.aloud ∙ aloud) F scope G (surrounds_on first.stays s) in
-    record { letters = z.letters; carried = carried_as (λ c. sym (h.asks c)) (carried_trans first z.carried); means = z.means })
+    let both = carried_trans first z.carried in
+    record { letters = z.letters; carried = carried_as (λ c. sym (h.asks c)) both; done = done_as (λ c. sym (h.asks c)) both (done_last first z.carried z.done); means = z.means })
 
 -- the numbers of nodes and one more
 pub numbers_more : (ms : List NodeRef) (m : NodeRef) → numbers (ms ++ m ∷ []) ≡ numbers ms ++ m.0 ∷ []
@@ -257,7 +258,7 @@ annotated a b d env o place found m read goes asked operand = λ aloud F scope G
     let w = type_of a.item o in
     let x = read operand aloud F scope G s in
     let y = asked (ap is_aloud goes.telling ∙ aloud) F scope ((own w.node, m) ∷ G) (site n k) is (λ ch. ch.type_at w.node) (means_on x.carried.stays has) x.means in
-    record { carried = carried_trans x.carried y; means = means_on y.stays x.means }
+    record { carried = carried_trans x.carried y; means = means_on y.stays x.means; done = done_then x.carried y x.done }
 
 -- parentheses around nothing
 pub empty_end : (a b : Parts) (at : Place) (m : ℕ) (xs : List NodeRef) → length xs < 1 → MakesVar a b m any_scope → OnlyStore a b → EndsParentheses a b at (numbers xs) m

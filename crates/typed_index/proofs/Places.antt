@@ -3,7 +3,7 @@ use Rattle.std.proofs.Common.{◌≡◌, ◌≢◌, ◌⊎◌, inl, inr, ℕ, ze
 use Rattle.std.proofs.lemmas.Bool.Decides.{eqb_tells, leb_tells}
 use Rattle.std.specs.declared.vec.Vec.{Vec}
 use Rattle.std.specs.declared.alloc.Global.{Global}
-use Rattle.typed_index.specs.Seen.{seen_in, seen_among, at_number, with_note, before_item}
+use Rattle.typed_index.specs.Lists.{seen_in, seen_among, at_number, with_note, before_item}
 
 -- what is recorded for a number is the element there, and nothing behind the end
 pub in_there : {S : Type 0} (nodes : List (Option S)) (p : ℕ) (s : Option S) → p < length nodes → s ≡ get_or nodes p s → s ≡ seen_in nodes p

@@ -1,2 +1,3 @@
 -- What an index has for each node.
+pub mod Lists
 pub mod Seen

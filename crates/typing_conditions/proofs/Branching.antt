@@ -1,5 +1,5 @@
 -- Conditions that depend on which demands before them are kept.
-use Rattle.std.proofs.Common.{◌≡◌, ◌++◌, ◌⊎◌, inl, inr, ℕ, ◌+◌, ◌≤◌, Bool, false, if◌then◌else◌, List, [], ◌∷◌, take, length, sym, ap, subst, ◌∙◌}
+use Rattle.std.proofs.Common.{◌≡◌, ◌++◌, ◌⊎◌, inl, inr, ℕ, ◌+◌, ◌≤◌, Bool, false, if◌then◌else◌, List, [], ◌∷◌, take, length, refl, sym, ap, subst, ◌∙◌}
 use Rattle.std.proofs.lemmas.List.{take-append-le}
 use Rattle.std.proofs.Math.Seq.{take-append-add}
 use Rattle.typing_model.specs.Demands.{Site, Condition, AllHold}
@@ -24,6 +24,7 @@ carried_after {F} {scope} {asks} {further} {actual} {a} {b} {d} {G} {H} {K} p by
   stays = both.stays;
   hidden = both.hidden;
   settled = both.settled;
+  clear = both.clear;
   judged = p.judged ++ q.judged;
   told = both.told;
   reports = both.reports;
@@ -91,10 +92,20 @@ carried_after {F} {scope} {asks} {further} {actual} {a} {b} {d} {G} {H} {K} p by
           | inr short ↦ subst (Decides c both.judged) (sym at) (inr (short_in_first c (take n (further c)) short))
         ]
 
+-- it hides what the two hide one after the other
+pub after_hides : {F : Frame} {scope : Scope} {asks further actual : Asks} {a b d : Sight} {G H K : Letters} (p : Carried F scope asks a G b H)
+    (by_kept : (V : Types) (c : Context) → Loose a.nodes V → IsUnder scope c → Agrees F.owner a G V c.chosen → HoldsWritten scope a → AreKept c.kept p.judged → further c ≡ actual c) (q : Carried F scope actual b H d K) → (carried_after p by_kept q).hidden ≡ (carried_trans p q).hidden
+unfolding carried_after
+after_hides p by_kept q = refl
+
 -- the same where the judgements alone decide
 unfoldable pub carried_then : {F : Frame} {scope : Scope} {asks further actual : Asks} {a b d : Sight} {G H K : Letters} (p : Carried F scope asks a G b H) → ((c : Context) → AreKept c.kept p.judged → further c ≡ actual c) →
     Carried F scope actual b H d K → Carried F scope (λ c. asks c ++ further c) a G d K
 carried_then p by_kept q = carried_after p (λ V c loose under agrees named h. by_kept c h) q
+
+pub then_hides : {F : Frame} {scope : Scope} {asks further actual : Asks} {a b d : Sight} {G H K : Letters} (p : Carried F scope asks a G b H) (by_kept : (c : Context) → AreKept c.kept p.judged → further c ≡ actual c) (q : Carried F scope actual b H d K) → (carried_then p by_kept q).hidden ≡ (carried_trans p q).hidden
+unfolding carried_then carried_after
+then_hides p by_kept q = refl
 
 -- after one demand: what is asked where it is kept, or what is asked where it isn't
 pub carried_if : {F : Frame} {scope : Scope} {asks : Asks} {a b d : Sight} {G H K : Letters} (kept_so other : Asks) (s : Site) (v : Bool) (p : Carried F scope asks a G b H) → p.judged ≡ judged_at s v false ∷ [] →

@@ -15,8 +15,8 @@ use Rattle.typing_conditions.specs.Carrying.{Asks, Scope, HoldsWritten, IsUnder,
 use Rattle.typing_conditions.proofs.Judged.{hold_both, hold_left, hold_right, judged_both, counted_both, kept_left, kept_right, given_left, given_right, given_both, nodes_left, nodes_both, tell_both, follows_both, short_left, short_right, short_of_more, starts_all, starts_left, starts_right}
 use Rattle.typing_conditions.proofs.Meaning.{nodes_in, given_same}
 use Rattle.typing_conditions.proofs.Stays.{stays_refl, stays_trans, stays_closed, agrees_before, named_before, bounds_before, enters_next, goes_further}
-use Rattle.typing_conditions.specs.Hiding.{marked}
-use Rattle.typing_conditions.proofs.Hiding.{settles_none, settles_both, given_marked, nodes_marked}
+use Rattle.typing_conditions.specs.Hiding.{marked, HasCopy, AreDone, Owns}
+use Rattle.typing_conditions.proofs.Hiding.{settles_none, settles_both, given_marked, nodes_marked, placed_before, none_doubtful, none_both, copy_first, copy_second, keeps_same, done_on, owns_on}
 use Rattle.typing_conditions.specs.Meanings.{Means}
 use Rattle.level_unify.proofs.Unified.{fits_loosely}
 use Rattle.level_unify.specs.Solutions.{Loose}
@@ -44,6 +44,7 @@ carried_refl {F} {scope} {a} {G} = record {
   stays = stays_refl;
   hidden = [];
   settled = settles_none;
+  clear = λ known placed. none_doubtful;
   judged = [];
   told = [];
   reports = sym (append-nil a.reports);
@@ -67,6 +68,7 @@ carried_trans {F} {scope} {asks} {further} {a} {b} {c} {G} {H} {K} p q = record 
   stays = stays_trans p.stays q.stays;
   hidden = p.hidden ++ q.hidden;
   settled = settles_both p.hidden q.hidden p.stays.keeps q.stays.keeps p.settled q.settled;
+  clear = λ known placed. none_both p.hidden q.hidden (p.clear known (placed_before q.stays.keeps placed)) (q.clear known placed);
   judged = p.judged ++ q.judged;
   told = p.told ++ q.told;
   reports = q.reports ∙ ap (λ rs. rs ++ q.told) p.reports ∙ append_assoc a.reports p.told q.told;
@@ -155,6 +157,25 @@ carried_trans {F} {scope} {asks} {further} {a} {b} {c} {G} {H} {K} p q = record 
           | inr short ↦ inr (falls_first x (take n (further x)) short)
         ])
 
+-- what either hides is hidden then
+pub trans_hides : {F : Frame} {scope : Scope} {asks further : Asks} {a b c : Sight} {G H K : Letters} (p : Carried F scope asks a G b H) (q : Carried F scope further b H c K) → ((x : Key × ℕ) → HasCopy p.hidden x → HasCopy (carried_trans p q).hidden x) × ((x : Key × ℕ) → HasCopy q.hidden x → HasCopy (carried_trans p q).hidden x)
+unfolding carried_trans
+trans_hides p q = ((λ x h. copy_first p.hidden q.hidden h), (λ x h. copy_second p.hidden q.hidden h))
+
+-- so letters of rows that are done are so after further calls
+pub done_then : {F : Frame} {scope : Scope} {asks further : Asks} {a b c : Sight} {G H K : Letters} (p : Carried F scope asks a G b H) (q : Carried F scope further b H c K) {ys : Letters} → AreDone b p.hidden ys → AreDone c (carried_trans p q).hidden ys
+done_then p q o = done_on q.stays.keeps (trans_hides p q).0 o
+
+pub owns_then : {F : Frame} {scope : Scope} {asks further : Asks} {a b c : Sight} {G H K : Letters} (p : Carried F scope asks a G b H) (q : Carried F scope further b H c K) {n m : ℕ} {ys : Letters} → Owns n m b p.hidden ys → Owns n m c (carried_trans p q).hidden ys
+owns_then p q o = owns_on q.stays.keeps (trans_hides p q).0 o
+
+-- and so are those of the last call
+pub done_last : {F : Frame} {scope : Scope} {asks further : Asks} {a b c : Sight} {G H K : Letters} (p : Carried F scope asks a G b H) (q : Carried F scope further b H c K) {ys : Letters} → AreDone c q.hidden ys → AreDone c (carried_trans p q).hidden ys
+done_last p q o = done_on keeps_same (trans_hides p q).1 o
+
+pub owns_last : {F : Frame} {scope : Scope} {asks further : Asks} {a b c : Sight} {G H K : Letters} (p : Carried F scope asks a G b H) (q : Carried F scope further b H c K) {n m : ℕ} {ys : Letters} → Owns n m c q.hidden ys → Owns n m c (carried_trans p q).hidden ys
+owns_last p q o = owns_on keeps_same (trans_hides p q).1 o
+
 -- what is asked in one context, by what is asked in another that the first one decides, of a scope that holds the same type variables
 pub carried_under : {F : Frame} {scope inner : Scope} {asks : Asks} {a b : Sight} {G H : Letters} (into : Context → Context) → inner.held ≡ scope.held → ((c : Context) → ((into c).kept ≡ c.kept) × ((into c).chosen ≡ c.chosen)) →
     ((c : Context) → IsUnder scope c → IsUnder inner (into c)) → Carried F inner asks a G b H → Carried F scope (λ c. asks (into c)) a G b H
@@ -162,6 +183,7 @@ carried_under {F} {scope} {inner} {asks} {a} {b} {G} {H} into held still has p =
   stays = p.stays;
   hidden = p.hidden;
   settled = p.settled;
+  clear = p.clear;
   judged = p.judged;
   told = p.told;
   reports = p.reports;
@@ -214,6 +236,7 @@ carried_dropped {F} {scope} {asks} {a} {b} own {G} implied p = record {
   stays = stays_closed own p.stays;
   hidden = p.hidden;
   settled = p.settled;
+  clear = p.clear;
   judged = p.judged;
   told = p.told;
   reports = p.reports;
@@ -257,6 +280,7 @@ carried_as {F} {scope} {asks} {others} {a} {b} {G} {H} e p = record {
   stays = p.stays;
   hidden = p.hidden;
   settled = p.settled;
+  clear = p.clear;
   judged = p.judged;
   told = p.told;
   reports = p.reports;
@@ -269,3 +293,26 @@ carried_as {F} {scope} {asks} {others} {a} {b} {G} {H} e p = record {
   ];
   first = λ named k V c en h. subst (λ cs. Decides c p.judged (take k cs)) (e c) (p.first named k V c en (subst (λ cs. AllHold c.kept (take k cs)) (sym (e c)) h));
 }
+
+-- they hide the same then
+pub as_hides : {F : Frame} {scope : Scope} {asks others : Asks} {a b : Sight} {G H : Letters} (e : (c : Context) → asks c ≡ others c) (p : Carried F scope asks a G b H) → (carried_as e p).hidden ≡ p.hidden
+unfolding carried_as
+as_hides e p = refl
+
+-- and so in a context further in
+pub under_hides : {F : Frame} {scope inner : Scope} {asks : Asks} {a b : Sight} {G H : Letters} (into : Context → Context) (held : inner.held ≡ scope.held) (still : (c : Context) → ((into c).kept ≡ c.kept) × ((into c).chosen ≡ c.chosen))
+    (has : (c : Context) → IsUnder scope c → IsUnder inner (into c)) (p : Carried F inner asks a G b H) → (carried_under into held still has p).hidden ≡ p.hidden
+unfolding carried_under
+under_hides into held still has p = refl
+
+-- and where letters are dropped
+pub dropped_hides : {F : Frame} {scope : Scope} {asks : Asks} {a b : Sight} (own : Letters) {G : Letters} (implied : (V : Types) (ch : Choice) → Loose b.nodes V → Agrees F.owner b G V ch → AreGiven own V ch) (p : Carried F scope asks a G b (own ++ G)) → (carried_dropped own implied p).hidden ≡ p.hidden
+unfolding carried_dropped
+dropped_hides own implied p = refl
+
+-- so what is so of letters of rows that are done, and of those that are open over a row, is so then
+pub done_as : {F : Frame} {scope : Scope} {asks others : Asks} {a b : Sight} {G H ys : Letters} (e : (c : Context) → asks c ≡ others c) (p : Carried F scope asks a G b H) → AreDone b p.hidden ys → AreDone b (carried_as e p).hidden ys
+done_as {b = b} {ys = ys} e p o = subst (λ xs. AreDone b xs ys) (sym (as_hides e p)) o
+
+pub owns_as : {F : Frame} {scope : Scope} {asks others : Asks} {a b : Sight} {G H ys : Letters} {n m : ℕ} (e : (c : Context) → asks c ≡ others c) (p : Carried F scope asks a G b H) → Owns n m b p.hidden ys → Owns n m b (carried_as e p).hidden ys
+owns_as {b = b} {ys = ys} {n = n} {m = m} e p o = subst (λ xs. Owns n m b xs ys) (sym (as_hides e p)) o

@@ -174,6 +174,10 @@ module _ {D : Declared} {F : Frame} {scope : Scope} {asks : Asks} {a b c d : Sig
     steady = rest.at.steady;
     are_roots = joined_roots closed rest.at.roots rest.at.are_roots;
     covered = let own = own_of d.nodes l.out.sound in covers_declared (joined ns rest.at.roots) (declared_more own.0 own.1 closed) (excepted_more own.0 own.1 closed) (joined_covers closed rest.at.roots env rest.at.covered);
+    known = λ known.
+        let own = own_of d.nodes l.out.sound in
+        let names = rest.at.known known in
+        record { plain = names.plain; covered = covers_declared (joined ns rest.at.roots) (λ x e h. (declared_more own.0 own.1 closed x e h.0, h.1)) (excepted_more own.0 own.1 closed) (joined_covers closed rest.at.roots env names.covered) };
     reads = λ M V ch own reads g named unbound.
         let s = rest.at.reads M V ch own reads g named unbound in
         stands_declared (declared_more M own closed) (excepted_more M own closed) (stands_names SchemeReads (D.declaration d.nodes rest.at.roots rest.at.names) (D.exception d.nodes rest.at.roots rest.at.names) d.nodes M V (generalised_in (scope.env ch) (types ch)) (context_of ch) own (names_read named M V ch unbound own reads g s closed) rest.at.roots env (scope.env ch) s);

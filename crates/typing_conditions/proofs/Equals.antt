@@ -25,7 +25,7 @@ use Rattle.typing_conditions.proofs.Framing.{no_bound, reaches_unified, reaches_
 use Rattle.typing_conditions.proofs.Meaning.{agrees_same, inside_longer}
 use Rattle.typing_conditions.proofs.First.{first_one}
 use Rattle.typing_conditions.proofs.Refusing.{never_fit}
-use Rattle.typing_conditions.proofs.Hiding.{keeps_as, settles_none}
+use Rattle.typing_conditions.proofs.Hiding.{keeps_as, settles_none, none_doubtful}
 use Rattle.typing_conditions.proofs.Roots.{own_reads}
 
 -- where at most something is reported everything stays
@@ -113,6 +113,7 @@ equal_kept {F} {scope} {G} {found} {wanted} {m} {n} {a} {b} s at sound p q rest 
   stays = stays;
   hidden = [];
   settled = settles_none;
+  clear = λ known placed. none_doubtful;
   judged = judged_as s true;
   told = [];
   reports = rest.reports ∙ sym (append-nil a.reports);
@@ -162,6 +163,7 @@ equal_told {F} {scope} {G} {found} {wanted} {m} {n} {a} {b} s at p q rest tells 
   stays = reports_stay rest;
   hidden = [];
   settled = settles_none;
+  clear = λ known placed. none_doubtful;
   judged = judged_as s false;
   told = tells.report ∷ [];
   reports = tells.reports;

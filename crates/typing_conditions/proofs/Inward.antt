@@ -19,7 +19,7 @@ use Rattle.typing_conditions.specs.Frames.{Frame, Reaches, IsOpenAt, IsRoot, inn
 use Rattle.typing_conditions.specs.Meanings.{Means, KnowsFixed, KnowsWritten}
 use Rattle.typing_conditions.specs.Steps.{OnlyLevel}
 use Rattle.typing_conditions.specs.Carrying.{Scope, HoldsWritten, HoldsUnbound}
-use Rattle.typing_conditions.specs.Surroundings.{Declared, Surrounds}
+use Rattle.typing_conditions.specs.Surroundings.{Declared, KnowsNames, Surrounds}
 use Rattle.typing_conditions.proofs.Framing.{open_lower, reached_start}
 
 -- A choice agrees with a state where the same is recorded and written.
@@ -118,6 +118,7 @@ module _ {F : Frame} {a b : Sight} {J : Types} {roots : List ℕ} {held : ℕ �
     steady = at.steady;
     are_roots = λ k r e. root_inward r (names k r e) (at.are_roots k r e);
     covered = subst (λ ns. Covers (D.declaration ns at.roots at.names) (D.exception ns at.roots at.names) at.roots env) (sym only.nodes) at.covered;
+    known = λ known. subst (λ ns. KnowsNames D ns at.roots at.names env) (sym only.nodes) (at.known known);
     reads = λ M V ch own reads agrees named unbound.
         subst (λ ns. Stands SchemeReads (D.declaration ns at.roots at.names) (D.exception ns at.roots at.names) ns M at.roots V env (scope.env ch)) (sym only.nodes)
         (at.reads M V ch (same_own M own) (subst (λ ns. IsReading ns V) only.nodes reads) (back V ch agrees) (named_back named) (unbound_back ch unbound));

@@ -45,3 +45,4 @@ pub mod Inward
 pub mod Outward
 pub mod Closed
 pub mod Hiding
+pub mod Keeping

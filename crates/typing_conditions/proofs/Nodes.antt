@@ -28,7 +28,7 @@ use Rattle.typing_conditions.proofs.Framing.{open_var, open_made, written_next}
 use Rattle.typing_conditions.proofs.First.{first_none, first_one, nothing_met}
 use Rattle.typing_conditions.proofs.Making.{with_type, at_own, at_older, in_any_scope, makes_extends, made_here, loose_before, reading_before, fits_made}
 use Rattle.typing_conditions.proofs.Meaning.{all_open, all_types, agrees_same, inside_longer}
-use Rattle.typing_conditions.proofs.Hiding.{keeps_as, settles_none}
+use Rattle.typing_conditions.proofs.Hiding.{keeps_as, settles_none, none_doubtful}
 
 -- where a node was made everything stays
 pub made_stays : {F : Frame} {G : Letters} {a b : Sight} {s t : List Change} {n : ℕ} {c : Node} (more : Letters) → IsOpen F b n → Makes (state a.nodes s) (state b.nodes t) n c → OnlyNodes a b → AreNodes more b.nodes → Stays F a G b (more ++ G)
@@ -64,6 +64,7 @@ letter_made {F} {scope} {G} {a} {b} {s} {t} {n} key free r made rest = record {
     stays = made_stays ((key, n) ∷ []) opened made rest (opened.inside, tt);
     hidden = [];
     settled = settles_none;
+    clear = λ known placed. none_doubtful;
     judged = [];
     told = [];
     reports = rest.reports ∙ sym (append-nil a.reports);
@@ -99,6 +100,7 @@ node_made {F} {scope} {G} {a} {b} {s} {t} {n} {c} build r opened made rest build
   stays = made_stays [] opened made rest tt;
   hidden = [];
   settled = settles_none;
+  clear = λ known placed. none_doubtful;
   judged = [];
   told = [];
   reports = rest.reports ∙ sym (append-nil a.reports);
@@ -184,6 +186,7 @@ key_known {F} {scope} {G} {a} {m} key p = record {
   stays = stays_opened (without_unknown key) p.open_node.inside;
   hidden = [];
   settled = settles_none;
+  clear = λ known placed. none_doubtful;
   judged = [];
   told = [];
   reports = sym (append-nil a.reports);
@@ -213,6 +216,7 @@ same_made {F} {scope} {G} {a} {m} {type} key free p = record {
   stays = stays_opened key p.open_node.inside;
   hidden = [];
   settled = settles_none;
+  clear = λ known placed. none_doubtful;
   judged = [];
   told = [];
   reports = sym (append-nil a.reports);
@@ -243,6 +247,7 @@ told_first {F} {scope} {G} {a} n = record {
   stays = stays_refl;
   hidden = [];
   settled = settles_none;
+  clear = λ known placed. none_doubtful;
   judged = [];
   told = [];
   reports = sym (append-nil a.reports);

@@ -23,9 +23,10 @@ use Rattle.typing_conditions.specs.Frames.{Frame, Reaches, IsHeld, IsOpenAt, IsO
 use Rattle.typing_conditions.specs.Meanings.{KnowsWritten}
 use Rattle.typing_conditions.specs.Steps.{OnlyLevel}
 use Rattle.typing_conditions.specs.Carrying.{Asks, Scope, HoldsWritten, Enters, Stays, Carried}
+use Rattle.typing_conditions.specs.Hiding.{AreDone}
 use Rattle.typing_conditions.proofs.Meaning.{inside_longer, nodes_in}
 use Rattle.typing_conditions.proofs.Inward.{agrees_as, reached_inward, written_inward}
-use Rattle.typing_conditions.proofs.Hiding.{keeps_as, keeps_both, settles_as}
+use Rattle.typing_conditions.proofs.Hiding.{keeps_as, keeps_both, settles_as, placed_before, done_on}
 
 -- What is done at the end: the level is the outer one again, and of the variables above it exactly those of these names are bound. The names are open nodes of the
 -- frame further in, and what is held for the outer level is of at most that level.
@@ -232,6 +233,7 @@ module _ {F : Frame} {scope : Scope} {asks : Asks} {a b c d : Sight} {J : Types}
     stays = group_stays;
     hidden = l.part.hidden;
     settled = settles_as l.part.hidden (keeps_as l.only.noted l.only.types) (keeps_as l.out.noted l.out.types) l.part.settled;
+    clear = λ known placed. l.part.clear known (placed_before (keeps_as l.out.noted l.out.types) placed);
     judged = l.part.judged;
     told = l.part.told;
     reports = l.out.reports ∙ l.part.reports ∙ ap (λ rs. rs ++ l.part.told) l.only.reports;
@@ -280,3 +282,8 @@ module _ {F : Frame} {scope : Scope} {asks : Asks} {a b c d : Sight} {J : Types}
           let (K, own_k, closes) = any_closing in
           bound_there d.nodes v (Var bound_level scope)
           (closes.stays v (λ l o e free above stands. absurd (free (same_node c.nodes v l o bound_level scope e at))) ∙ at) refl
+
+  -- what it hides is what the part does, so the rows of letters are done still
+  pub done_out : {ys : Letters} → AreDone c l.part.hidden ys → AreDone d carried_out.hidden ys
+  unfolding carried_out
+  done_out h = done_on (keeps_as l.out.noted l.out.types) (λ x k. k) h

@@ -25,8 +25,8 @@ use Rattle.typing_conditions.proofs.Stays.{stays_trans, stays_closed, named_befo
 use Rattle.typing_conditions.proofs.Framing.{open_on, reaches_same, written_next}
 use Rattle.typing_conditions.proofs.Carried.{Decides, hidden_more, take_none, less_or_more}
 use Rattle.typing_conditions.proofs.First.{starts_none}
-use Rattle.typing_conditions.specs.Hiding.{Keeps, marked, is_sure}
-use Rattle.typing_conditions.proofs.Hiding.{one_some, settles_on, settles_closed, given_unmarked}
+use Rattle.typing_conditions.specs.Hiding.{Keeps, marked, is_sure, Owns, NotesRow}
+use Rattle.typing_conditions.proofs.Hiding.{one_some, placed_before, settles_on, settles_closed, given_unmarked, owns_sure, sure_marked}
 
 -- what is recorded now is the new node, or was recorded before
 pub now_or_before : {a b : Sight} {p m : ℕ} → Records a b p m → (i q x : ℕ) → b.types i q ≡ Some x → ((a.item ≡ i) × (p ≡ q) × (m ≡ x)) ⊎ (a.types i q ≡ Some x)
@@ -119,14 +119,21 @@ ends_own n = record {
   reports_none = λ c. refl;
 }
 
+-- the node is noted with its type
+pub records_note : {a b : Sight} {n p m : ℕ} → number_in a.item p ≡ n → Records a b p m → NotesRow a b n m
+records_note {a} {b} {n} {p} {m} number r = record { place = p; number = sym number; keeps = records_keep r; none = r.fresh; untyped = r.none; now = r.now; only = λ k e. sym (one_some m k (sym (here_now r) ∙ e)) }
+
 -- A whole row: what its node tells first, what it asks, and that its node has its type, where the type is recorded. The row's own letters are hidden then.
-pub row_recorded : {F : Frame} {scope : Scope} {asks ends : Asks} {type : Choice → Typ} {a b d : Sight} {G : Letters} (own : Letters) (n : ℕ) {p m : ℕ} → number_in b.item p ≡ n → CarriedTo F scope asks a G b (own ++ G) type m → EndsAs n type ends →
-    Records b d p m → CarriedTo F scope (λ c. tell_typed n c ++ (asks c ++ ends c)) a G d G (λ ch. ch.type_at n) m
-row_recorded {F} {scope} {asks} {ends} {type} {a} {b} {d} {G} own n {p} {m} number row end r = record {
+pub row_recorded : {F : Frame} {scope : Scope} {asks ends : Asks} {type : Choice → Typ} {a b d : Sight} {G : Letters} (own : Letters) (n : ℕ) {p m : ℕ} → number_in b.item p ≡ n → (row : CarriedTo F scope asks a G b (own ++ G) type m) → EndsAs n type ends →
+    Records b d p m → (F.known ≡ true → Owns n m b row.carried.hidden own) → CarriedTo F scope (λ c. tell_typed n c ++ (asks c ++ ends c)) a G d G (λ ch. ch.type_at n) m
+row_recorded {F} {scope} {asks} {ends} {type} {a} {b} {d} {G} own n {p} {m} number row end r owned = record {
   carried = record {
     stays = stays_closed own (stays_trans it.stays (recorded (own ++ G)));
     hidden = it.hidden ++ mine;
     settled = settles_closed it.hidden own (settles_on it.hidden (records_keep r) it.settled);
+    clear = λ known placed.
+        let clear = it.clear known (placed_before (records_keep r) placed) in
+        sure_marked it.hidden clear (owns_sure it.hidden it.stays.keeps it.settled placed clear (records_note number r) (owned known));
     judged = it.judged;
     told = it.told;
     reports = r.reports ∙ it.reports;

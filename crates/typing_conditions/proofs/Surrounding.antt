@@ -65,6 +65,7 @@ surrounds_none {D} {F} {a} {G} {scope} steady none reached inside fixed written 
   steady = steady;
   are_roots = λ k r e. absurd (cc);
   covered = ([], no_names);
+  known = λ known. record { plain = λ v o unknown e. absurd (cc); covered = ([], no_names) };
   reads = λ J V ch own reads g named unbound. subst (Stands SchemeReads (D.declaration a.nodes [] type.Var) (D.exception a.nodes [] type.Var) a.nodes J [] V []) (sym (none ch)) (record { names = no_names; brings = λ u w free h o. absurd (no_yes h) });
   fits = λ J V ch own loose g named. subst (Stands SchemeFits (D.declaration a.nodes [] type.Var) (D.exception a.nodes [] type.Var) a.nodes J [] V []) (sym (none ch)) (record { names = no_names; brings = λ u w free h o. absurd (no_yes h) });
 }
@@ -83,6 +84,10 @@ surrounds_on {D} {F} {a} {b} {G} {H} {env} {scope} s at = record {
   steady = at.steady;
   are_roots = λ k r e. root_on s at.reached (at.are_roots k r e);
   covered = let own = own_of b.nodes (s.reaches at.reached).sound in covers_declared at.roots (declared own.0 own.1) (excepted own.0 own.1) at.covered;
+  known = λ known.
+      let own = own_of b.nodes (s.reaches at.reached).sound in
+      let names = at.known known in
+      record { plain = names.plain; covered = covers_declared at.roots (λ d e h. (declared own.0 own.1 d e h.0, h.1)) (excepted own.0 own.1) names.covered };
   reads = λ K V ch own reads g named unbound.
       let before = own_of a.nodes at.reached.sound in
       stands_declared (declared K own) (excepted K own) (stands_reads_on (D.declaration a.nodes at.roots at.names) (D.exception a.nodes at.roots at.names) a.nodes b.nodes before.0 K at.roots before.1 own (s.refines at.reached K own) (λ k c e. (at.are_roots k c e).inside) V env (scope.env ch) reads
@@ -113,12 +118,11 @@ surrounds_named {D} {F} {a} {G} {env} {scope} {type} {e} {x} {n} place is p know
   apart = at.apart;
   steady = at.steady;
   are_roots = are_roots;
-  covered = (
-    entry x place (a_value (monomorphic (type no_types))) ∷ at.covered.0,
-    newest (entry_as is.named (sym is.kind) (of_value is.is (zero, refl)))
-        (env_map (λ r sc. IsIn at.roots r) (λ r sc. IsIn (n.0 ∷ at.roots) r) (D.declaration a.nodes at.roots at.names) (D.declaration a.nodes (n.0 ∷ at.roots) at.names) (D.exception a.nodes at.roots at.names) (D.exception a.nodes (n.0 ∷ at.roots) at.names)
-        (λ r sc h. more_in at.roots n.0 r h) (let own = own_of a.nodes at.reached.sound in declared own.0 own.1) (let own = own_of a.nodes at.reached.sound in excepted own.0 own.1) at.covered.1),
-  );
+  covered = let own = own_of a.nodes at.reached.sound in one_more (declared own.0 own.1) (excepted own.0 own.1) at.covered;
+  known = λ known.
+      let own = own_of a.nodes at.reached.sound in
+      let names = at.known known in
+      record { plain = names.plain; covered = one_more (λ d f h. (declared own.0 own.1 d f h.0, h.1)) (excepted own.0 own.1) names.covered };
   reads = λ J V ch own reads g named unbound.
       let loose = fits_loosely a.nodes V reads.fits in
       let scheme = one_type_reads a.nodes J V n.0 own reads p.open_node.inside (known V ch loose g) (λ v o. free J own v o) in
@@ -138,6 +142,13 @@ surrounds_named {D} {F} {a} {G} {env} {scope} {type} {e} {x} {n} place is p know
 
     no_types : Choice
     no_types = no_choice
+
+    -- roots with that of the name
+    one_more : {P P' : Declaration → rules.Declaration → Type 0} {Q Q' : Constructor → Option Typ → Type 0} → ((d : Declaration) (f : rules.Declaration) → P d f → P' d f) → ((c : Constructor) (o : Option Typ) → Q c o → Q' c o) → Covers P Q at.roots env → Covers P' Q' (n.0 ∷ at.roots) (e ∷ env)
+    one_more {P} {P'} {Q} {Q'} more also (E, h) = (
+      entry x place (a_value (monomorphic (type no_types))) ∷ E,
+      newest (entry_as is.named (sym is.kind) (of_value is.is (zero, refl))) (env_map (λ r sc. IsIn at.roots r) (λ r sc. IsIn (n.0 ∷ at.roots) r) P P' Q Q' (λ r sc k. more_in at.roots n.0 r k) more also h),
+    )
 
     free : (J : Types) → IsOwn a.nodes J → (v : ℕ) → occurs v (J n.0) ≡ true → IsFreeVar a.nodes v
     free J own v o = let low = p.open_node.free J own v o in record { level = low.level; scope = low.scope; at = low.at; free = low.free }

@@ -15,7 +15,7 @@ use Rattle.typing_conditions.specs.Steps.{OnlyReports, IsTold}
 use Rattle.typing_conditions.specs.Carrying.{Scope, IsUnder, Enters, Continues, Carried}
 use Rattle.typing_conditions.proofs.First.{first_one}
 use Rattle.typing_conditions.proofs.Equals.{reports_stay, goes_as, judged_as, falls_short, not_both}
-use Rattle.typing_conditions.proofs.Hiding.{settles_none}
+use Rattle.typing_conditions.proofs.Hiding.{settles_none, none_doubtful}
 
 -- what a test is in the contexts of a scope: whether it holds, where it is reported, and as which kind of fault
 pub record TestIs (scope : Scope) (complaint : Context → Complaint) (holds : Context → Bool) (at : Context → Place) (v : Bool) (place : Place) (kind : FaultKind) : Type 0 where
@@ -30,6 +30,7 @@ test_judged {F} {scope} {G} {complaint} {holds} {at} {kind} {place} {a} {b} s tr
   stays = reports_stay rest;
   hidden = [];
   settled = settles_none;
+  clear = λ known placed. none_doubtful;
   judged = judged_as s true;
   told = [];
   reports = tells ∙ sym (append-nil a.reports);
@@ -52,6 +53,7 @@ test_judged {F} {scope} {G} {complaint} {holds} {at} {kind} {place} {a} {b} s fa
   stays = reports_stay rest;
   hidden = [];
   settled = settles_none;
+  clear = λ known placed. none_doubtful;
   judged = judged_as s false;
   told = tells.report ∷ [];
   reports = tells.reports;
@@ -99,6 +101,7 @@ closing_judged {F} {scope} {G} {env} {body} {a} {b} s at v rest tells = by v tel
       stays = reports_stay rest;
       hidden = [];
       settled = settles_none;
+      clear = λ known placed. none_doubtful;
       judged = closing_as s true;
       told = [];
       reports = tells ∙ sym (append-nil a.reports);
@@ -112,6 +115,7 @@ closing_judged {F} {scope} {G} {env} {body} {a} {b} s at v rest tells = by v tel
       stays = reports_stay rest;
       hidden = [];
       settled = settles_none;
+      clear = λ known placed. none_doubtful;
       judged = closing_as s false;
       told = tells.report ∷ [];
       reports = tells.reports;

@@ -36,7 +36,7 @@ use Rattle.typing_conditions.proofs.Carried.{take_none}
 use Rattle.typing_conditions.proofs.First.{starts_none}
 use Rattle.typing_conditions.proofs.Making.{loose_before, reading_before}
 use Rattle.typing_conditions.proofs.Meaning.{agrees_same, inside_longer}
-use Rattle.typing_conditions.proofs.Hiding.{keeps_as, settles_none}
+use Rattle.typing_conditions.proofs.Hiding.{keeps_as, settles_none, none_doubtful}
 
 -- the scheme of the value that a path finds, if it finds one
 abbrev pub scheme_found : Environment → List Name → Name → Option Scheme
@@ -83,6 +83,7 @@ name_used {D} {F} {scope} {G} {env} {a} {b} {ms} {x} {m} key free at it = record
     stays = stays;
     hidden = [];
     settled = settles_none;
+    clear = λ known placed. none_doubtful;
     judged = [];
     told = [];
     reports = it.rest.reports ∙ sym (append-nil a.reports);

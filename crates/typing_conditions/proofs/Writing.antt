@@ -28,7 +28,7 @@ use Rattle.typing_conditions.proofs.Framing.{open_from, open_next, open_lower, s
 use Rattle.typing_conditions.proofs.First.{first_none, nothing_met}
 use Rattle.typing_conditions.proofs.Making.{with_type, at_own, at_older, in_any_scope, makes_extends, made_here, loose_before, reading_before, fits_made}
 use Rattle.typing_conditions.proofs.Meaning.{given_same, nodes_in}
-use Rattle.typing_conditions.proofs.Hiding.{keeps_as, settles_none}
+use Rattle.typing_conditions.proofs.Hiding.{keeps_as, settles_none, none_doubtful}
 
 low_level : (l m : ℕ) → min l 1 ≤ m → m < l → 1 ≤ m
 low_level l m le lt = grind arith
@@ -111,6 +111,7 @@ module _ (F : Frame) (a b : Sight) (s t : List Change) (n : ℕ) (x : Name) (r :
       stays = stays;
       hidden = [];
       settled = settles_none;
+      clear = λ known placed. none_doubtful;
       judged = [];
       told = [];
       reports = w.reports ∙ sym (append-nil a.reports);

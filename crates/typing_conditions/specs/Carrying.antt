@@ -11,7 +11,7 @@ use Rattle.level_unify.specs.Instances.{is_bound}
 use Rattle.typing_conditions.specs.Locals.{IsOwn, Refines}
 use Rattle.typing_conditions.specs.Sights.{Report, Sight, Letters, AreGiven, AreNodes, Agrees, IsInside, SameAt}
 use Rattle.typing_conditions.specs.Frames.{Frame, Reaches}
-use Rattle.typing_conditions.specs.Hiding.{Keeps, Settles}
+use Rattle.typing_conditions.specs.Hiding.{Keeps, ArePlaced, NoneDoubtful, Settles}
 use Rattle.typing_conditions.specs.Meanings.{Means, KnowsWritten}
 use Rattle.typing_conditions.specs.Judging.{Judgement, judgements, refused, AreKept, Follows, StartsWith, FallsShort, TellAll, Meets}
 
@@ -100,11 +100,13 @@ pub record Continues (F : Frame) (asks : Asks) (a b : Sight) (G hidden : Letters
 -- keep one that was kept. So a demand that wasn't kept never is, together with those before it.
 -- `first`: the same of the demands alone for the first conditions, where only they are met.
 -- `settled`: hidden letters without doubt belong to rows that were noted between, and those with one key have one node.
+-- `clear`: where the frame says that all of names is known, no hidden letter is in doubt.
 -- All are for scopes that hold the type variables that are written after it.
 pub record Carried (F : Frame) (scope : Scope) (asks : Asks) (a : Sight) (G : Letters) (b : Sight) (G' : Letters) : Type 0 where
   pub stays : Stays F a G b G'
   pub hidden : Letters
   pub settled : Settles a b hidden
+  pub clear : F.known ≡ true → ArePlaced b → NoneDoubtful hidden
   pub judged : List Judgement
   pub told : List Report
   pub reports : b.reports ≡ a.reports ++ told

@@ -34,6 +34,10 @@ pub data IsNamed (nodes : List Node) (N : Types) (arity v : ℕ) : Type 0 where
 abbrev pub UnknownApart : Types → Type 0
 UnknownApart N = (v w : ℕ) (o : Path) → is_unknown o ≡ true → N v ≡ type.Con o types.Nil → N w ≡ type.Con o types.Nil → v ≡ w
 
+-- no variable has an unknown type as its name
+abbrev pub NoneUnknown : Types → Type 0
+NoneUnknown N = (v : ℕ) (o : Path) → is_unknown o ≡ true → N v ≡ type.Con o types.Nil → ⊥
+
 -- One of the roots C stands for a type of a declaration: that type is its own, with the name of each variable in it; no two have one name.
 pub record RootAs (nodes : List Node) (C : List ℕ) (N : Types) (arity r : ℕ) (t : Typ) : Type 0 where
   pub inside : r < length nodes

@@ -1,5 +1,5 @@
 -- The frame in which a row is typed: what it may touch, and at which level it stands.
-use Rattle.std.specs.Prelude.{◌≡◌, ◌≢◌, ◌⊎◌, ℕ, suc, ◌<◌, ◌≤◌, true, List, slice_get, Some}
+use Rattle.std.specs.Prelude.{◌≡◌, ◌≢◌, ◌⊎◌, ℕ, suc, ◌<◌, ◌≤◌, Bool, true, List, slice_get, Some}
 use Rattle.type_model.specs.Types.{occurs}
 use Rattle.signature_model.specs.Declarations.{Name}
 use Rattle.type_nodes.specs.Nodes.{Node, Var, bound_level, IsSound, IsNode}
@@ -9,7 +9,7 @@ use Rattle.typing_conditions.specs.Standing.{IsIn}
 use Rattle.typing_conditions.specs.Sights.{Sight}
 
 -- The nodes at a row's start, with their own types; the roots from which it may change nodes; for each lower level the nodes that are held there;
--- its level, and the item whose type variables are written in it.
+-- its level, the item whose type variables are written in it, and whether all that is known of names is (`KnowsNames`), so that no letter is in doubt.
 pub record Frame : Type 0 where
   pub start : List Node
   pub types : Types
@@ -17,6 +17,7 @@ pub record Frame : Type 0 where
   pub held : ℕ → List ℕ
   pub level : ℕ
   pub owner : ℕ
+  pub known : Bool
 
 -- the free variables of the roots are of at most the frame's level, which isn't that of bound variables
 pub record IsFrame (F : Frame) : Type 0 where
@@ -64,7 +65,7 @@ pub record IsRoot (F : Frame) (a : Sight) (n : ℕ) : Type 0 where
 
 -- the frame one level further in that starts at a state, as the right sides of a `let` are typed in it
 abbrev pub inner_frame : Frame → Sight → Types → List ℕ → (ℕ → List ℕ) → Frame
-inner_frame F a J roots held = record { start = a.nodes; types = J; roots = roots; held = held; level = suc F.level; owner = F.owner }
+inner_frame F a J roots held = record { start = a.nodes; types = J; roots = roots; held = held; level = suc F.level; owner = F.owner; known = F.known }
 
 -- What such a frame needs: it starts at a state that is reached, J are the nodes' own types, its roots are roots of the frame around it, with the nodes of all
 -- written type variables, and below the outer level nothing more is held.

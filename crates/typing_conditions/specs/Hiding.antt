@@ -1,8 +1,11 @@
 -- Which of the letters that are hidden are known to belong to one row alone, and what follows for their nodes.
-use Rattle.std.specs.Prelude.{◌≡◌, ◌⊎◌, ℕ, ◌^◌, ◌/◌, ◌%◌, ◌<◌, ◌==◌, ◌&&◌, ◌||◌, not, Bool, true, false, [], ◌∷◌, slice_get, Option, Some, None, if◌then◌else◌}
+use Rattle.std.specs.Prelude.{◌≡◌, ◌⊎◌, ℕ, ◌^◌, ◌/◌, ◌%◌, ◌<◌, ◌==◌, ◌&&◌, ◌||◌, not, Bool, true, false, List, [], ◌∷◌, ◌++◌, slice_get, Option, Some, None, if◌then◌else◌}
 use Rattle.type_model.specs.Types.{Path}
 use Rattle.type_model.specs.Origins.{same_path}
-use Rattle.typing_conditions.specs.Sights.{Sight, Key, own, letter, filled, without_unknown, doubtful, Letters, number_in}
+use Rattle.typing_model.specs.Contexts.{Choice}
+use Rattle.type_nodes.specs.Nodes.{Node}
+use Rattle.type_nodes.specs.Readings.{Types}
+use Rattle.typing_conditions.specs.Sights.{Sight, Key, own, letter, filled, without_unknown, doubtful, Letters, AreGiven, AreNodes, number_in}
 
 -- a key without what it says of unknown types and of doubt
 abbrev pub plain_key : Key → Key
@@ -160,3 +163,62 @@ pub record HaveOneNode (b : Sight) (xs : Letters) : Type 0 where
 pub record Settles (a b : Sight) (xs : Letters) : Type 0 where
   pub belongs : (k : ℕ) (x : Key × ℕ) → slice_get xs k ≡ Some x → is_doubtful x.0 ≡ false → IsBetween a b (row_of x.0) ⊎ HasTyped b x
   pub one : ArePlaced b → HaveOneNode b xs
+
+-- no letter is in doubt
+abbrev pub NoneDoubtful : Letters → Type 0
+NoneDoubtful xs = (k : ℕ) (x : Key × ℕ) → slice_get xs k ≡ Some x → is_doubtful x.0 ≡ false
+
+-- Letters belong to the row n alone: none of them is in doubt or for the type of a node, and those with one key have one node.
+pub record AreOfRow (n : ℕ) (xs : Letters) : Type 0 where
+  pub row : (k : ℕ) (x : Key × ℕ) → slice_get xs k ≡ Some x → row_of x.0 ≡ n
+  pub sure : NoneDoubtful xs
+  pub other : (k : ℕ) (x : Key × ℕ) (h : ℕ) → slice_get xs k ≡ Some x → plain_key x.0 ≡ own h → ⊥
+  pub one : (j k : ℕ) (x y : Key × ℕ) → slice_get xs j ≡ Some x → slice_get xs k ≡ Some y → plain_key x.0 ≡ plain_key y.0 → x.1 ≡ y.1
+
+-- the same of a row's letters, whose places are below j
+pub record AreBelow (n j : ℕ) (xs : Letters) : Type 0 where
+  pub of_row : AreOfRow n xs
+  pub below : (k i : ℕ) (x : Key × ℕ) → slice_get xs k ≡ Some x → plain_key x.0 ≡ letter n i → i < j
+
+-- a letter is one of a row that is done: it is for the type of a node, and has the node that is recorded for it; or it is among those that are hidden
+abbrev pub IsDone : Sight → Letters → Key × ℕ → Type 0
+IsDone b hidden x = HasTyped b x ⊎ HasCopy hidden x
+
+-- the same of each of some letters
+pub record AreDone (b : Sight) (hidden ys : Letters) : Type 0 where
+  pub sure : NoneDoubtful ys
+  pub each : (k : ℕ) (x : Key × ℕ) → slice_get ys k ≡ Some x → IsDone b hidden x
+
+-- Why a letter that is open over the row n, whose node is m, is without doubt once the row is done: it belongs to the row alone; it is for the type of the row's node, and
+-- has the node m; or its own row is done.
+pub data IsOwned (n m : ℕ) (b : Sight) (hidden mine : Letters) (x : Key × ℕ) : Type 0 where
+  of_row : (k : ℕ) → slice_get mine k ≡ Some x → IsOwned n m b hidden mine x
+  of_node : plain_key x.0 ≡ own n → x.1 ≡ m → IsOwned n m b hidden mine x
+  of_done : IsDone b hidden x → IsOwned n m b hidden mine x
+
+-- each of the letters ys is one of these, where `mine` are those of the row alone
+pub record Owns (n m : ℕ) (b : Sight) (hidden ys : Letters) : Type 0 where
+  pub sure : NoneDoubtful ys
+  pub mine : Letters
+  pub of_row : AreOfRow n mine
+  pub each : (k : ℕ) (x : Key × ℕ) → slice_get ys k ≡ Some x → IsOwned n m b hidden mine x
+
+-- The node n is noted from the state b to the state d, for the first time: with the type of the node m, or without a type.
+pub record NotesRow (b d : Sight) (n m : ℕ) : Type 0 where
+  pub place : ℕ
+  pub number : n ≡ number_in b.item place
+  pub keeps : Keeps b d
+  pub none : b.noted b.item place ≡ false
+  pub untyped : b.types b.item place ≡ None
+  pub now : d.noted b.item place ≡ true
+  pub only : (k : ℕ) → d.types b.item place ≡ Some k → k ≡ m
+
+-- Letters that are closed from a state a to a state d, where others are hidden already, pass the test of those without doubt.
+pub record AreSure (a d : Sight) (hidden ys : Letters) : Type 0 where
+  pub sure : NoneDoubtful ys
+  pub pass : (k : ℕ) (x : Key × ℕ) → slice_get ys k ≡ Some x → is_sure a d (hidden ++ ys) x ≡ true
+
+-- Letters that stay open are among others: what is given for the others is given for them, and they are nodes where the others are.
+pub record IsAmong (opens own : Letters) : Type 0 where
+  pub given : (V : Types) (ch : Choice) → AreGiven own V ch → AreGiven opens V ch
+  pub inside : (nodes : List Node) → AreNodes own nodes → AreNodes opens nodes

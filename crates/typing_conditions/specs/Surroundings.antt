@@ -1,7 +1,7 @@
 -- What a part is typed among: the names of the code's environment stand for those of the definitions; and the scopes with further names.
-use Rattle.std.specs.Prelude.{◌≡◌, ℕ, ◌≤◌, false, List, [], ◌∷◌, slice_get, Option, Some}
+use Rattle.std.specs.Prelude.{◌≡◌, ℕ, ◌≤◌, true, false, List, [], ◌∷◌, slice_get, Option, Some}
 use Rattle.text_terms.specs.Bytes.{str_bytes}
-use Rattle.type_model.specs.Types.{Typ}
+use Rattle.type_model.specs.Types.{Path, Typ}
 use Rattle.signature_model.specs.Declarations as rules
 use Rattle.signature_model.specs.Declarations.{Name}
 use Rattle.signature_model.specs.Entries.{entry, a_value, value_kind}
@@ -18,7 +18,7 @@ use Rattle.env_table.specs.Views.{kind_of}
 use Rattle.typing_conditions.specs.Locals.{IsOwn, Refines}
 use Rattle.typing_conditions.specs.Assumptions.{SchemeFits, SchemeReads}
 use Rattle.typing_conditions.specs.Standing.{IsIn, Covers, Stands}
-use Rattle.typing_conditions.specs.Declared.{UnknownApart}
+use Rattle.typing_conditions.specs.Declared.{UnknownApart, NoneUnknown}
 use Rattle.typing_conditions.specs.Sights.{Sight, Letters, Agrees}
 use Rattle.typing_conditions.specs.Frames.{Frame, Reaches, IsRoot}
 use Rattle.typing_conditions.specs.Meanings.{KnowsFixed, KnowsWritten}
@@ -35,9 +35,19 @@ pub record IsSteady (D : Declared) : Type 0 where
   pub declaration : {old new : List Node} {I J N : Types} {C C' : List ℕ} {d : Declaration} {e : rules.Declaration} → IsOwn old I → Refines old new J → ((r : ℕ) → IsIn C r → IsIn C' r) → D.declaration old C N d e → D.declaration new C' N d e
   pub exception : {old new : List Node} {I J N : Types} {C C' : List ℕ} {c : Constructor} {o : Option Typ} → IsOwn old I → Refines old new J → ((r : ℕ) → IsIn C r → IsIn C' r) → D.exception old C N c o → D.exception new C' N c o
 
+-- a type with labels is a type of its own
+abbrev pub HasOwnLabels : rules.Declaration → Type 0
+HasOwnLabels e = (ls : List rules.Label) → e.shape ≡ rules.Labels ls → (o : Path) × (e.definition ≡ rules.Own o)
+
+-- What is to be known of names so that no letter is in doubt: no variable in the roots of declarations has an unknown type as its name, and each type with labels is a type of its own.
+pub record KnowsNames (D : Declared) (nodes : List Node) (roots : List ℕ) (names : Types) (env : List Entry) : Type 0 where
+  pub plain : NoneUnknown names
+  pub covered : Covers (λ d e. D.declaration nodes roots names d e × HasOwnLabels e) (D.exception nodes roots names) roots env
+
 -- A state that the frame allows, where the code's names stand for those of the scope: at each reading schemes both ways, under types that fit one way.
 -- `roots` are those of the schemes and of the declarations, and `names` what the bound variables of declarations are in the definitions. Written type variables
 -- are those of the frame's item; `apart`: so an unknown type belongs to one root. `inside`: only expressions and patterns inside an item are typed among such names, and the item's own level is below theirs.
+-- `known`: what a frame says to be known of them.
 -- The names stand for those of the scope where it holds the type variables that are written; and at a reading, where nothing that it holds is bound.
 pub record Surrounds (D : Declared) (F : Frame) (a : Sight) (G : Letters) (env : List Entry) (scope : Scope) : Type 0 where
   pub reached : Reaches F a
@@ -51,6 +61,7 @@ pub record Surrounds (D : Declared) (F : Frame) (a : Sight) (G : Letters) (env :
   pub steady : IsSteady D
   pub are_roots : (k r : ℕ) → slice_get roots k ≡ Some r → IsRoot F a r
   pub covered : Covers (D.declaration a.nodes roots names) (D.exception a.nodes roots names) roots env
+  pub known : F.known ≡ true → KnowsNames D a.nodes roots names env
   pub reads : (J V : Types) (ch : Choice) → IsOwn a.nodes J → IsReading a.nodes V → Agrees F.owner a G V ch → HoldsWritten scope a → HoldsUnbound F scope a ch → Stands SchemeReads (D.declaration a.nodes roots names) (D.exception a.nodes roots names) a.nodes J roots V env (scope.env ch)
   pub fits : (J V : Types) (ch : Choice) → IsOwn a.nodes J → Loose a.nodes V → Agrees F.owner a G V ch → HoldsWritten scope a → Stands SchemeFits (D.declaration a.nodes roots names) (D.exception a.nodes roots names) a.nodes J roots V env (scope.env ch)
 

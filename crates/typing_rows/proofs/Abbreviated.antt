@@ -1,10 +1,11 @@
 -- An abbreviation over arguments: an instance of its root, whose parameters are made one with them.
-use Rattle.std.proofs.Common.{◌≡◌, ◌∙◌, ◌++◌, ℕ, zero, suc, ◌+◌, ◌<◌, List, [], ◌∷◌, length, map, Some, refl, sym, ap, subst, arith, if◌then◌else◌}
+use Rattle.std.proofs.Common.{◌≡◌, ◌∙◌, ◌++◌, inl, inr, ℕ, zero, suc, ◌+◌, ◌<◌, Bool, true, List, [], ◌∷◌, length, map, Some, refl, sym, ap, subst, arith, if◌then◌else◌}
 use Rattle.std.specs.Prelude.{slice_get}
 use Rattle.type_model.specs.Types.{Path, Typ, Typs, types_of, occurs}
 use Rattle.type_model.specs.Types.{Typ as type, Typs as types}
 use Rattle.type_model.specs.Substitutions.{Subst, apply, apply_all}
 use Rattle.type_model.proofs.Applying.{eqb_same}
+use Rattle.typing_laws.proofs.Bools.{no_yes}
 use Rattle.signature_model.specs.Declarations as rules
 use Rattle.signature_model.specs.Declarations.{type_of, parameters_from}
 use Rattle.signature_model.specs.Changes.{argument}
@@ -19,24 +20,30 @@ use Rattle.env_table.specs.declared.entries.Declaration.{Declaration}
 use Rattle.typing_state.specs.declared.parts.Parts.{Parts}
 use Rattle.typing_state.specs.Goes.{OnlyStore}
 use Rattle.typing_state.specs.Types.{level_for}
-use Rattle.typing_conditions.specs.Locals.{IsOwn}
+use Rattle.typing_conditions.specs.Locals.{IsOwn, all_pass}
+use Rattle.level_unify.specs.Solutions.{Loose}
+use Rattle.typing_conditions.proofs.Regions.{passes, passed}
+use Rattle.typing_conditions.proofs.Steps.{true_or_false}
+use Rattle.typing_conditions.proofs.Stays.{stays_closed}
+use Rattle.typing_conditions.proofs.Hiding.{no_row}
 use Rattle.typing_conditions.proofs.Own.{own_of}
-use Rattle.typing_conditions.specs.Declared.{IsNamed, a_parameter, an_unknown, RootAs, and_last, with_parameters, DeclaredAs}
+use Rattle.typing_conditions.specs.Declared.{NoneUnknown, IsNamed, a_parameter, an_unknown, RootAs, and_last, with_parameters, DeclaredAs}
 use Rattle.typing_conditions.proofs.Roots.{own_reads}
 use Rattle.typing_conditions.proofs.Taking.{take_complete}
-use Rattle.typing_conditions.specs.Sights.{Sight, Key, own, value_of, Letters, IsKnownFor}
+use Rattle.typing_conditions.specs.Sights.{Sight, Key, own, value_of, Letters, IsKnownFor, AreGiven, Agrees}
 use Rattle.typing_conditions.specs.Frames.{Frame, Reaches, IsRoot}
 use Rattle.typing_conditions.specs.Meanings.{Means, AllMean, none_mean, one_means, types_by}
-use Rattle.typing_conditions.specs.Carrying.{Scope}
-use Rattle.typing_conditions.proofs.Carried.{carried_trans}
+use Rattle.typing_conditions.specs.Carrying.{Scope, Carried}
+use Rattle.typing_conditions.proofs.Carried.{carried_trans, carried_dropped, means_dropped}
 use Rattle.typing_conditions.proofs.Meaning.{means_on, all_mean_on, all_open}
 use Rattle.typing_steps.specs.States.{sight}
 use Rattle.typing_steps.proofs.Seeing.{only_nodes, level_here}
 use Rattle.typing_rows.specs.TypeContracts.{types_at}
 use Rattle.typing_rows.specs.Declaring.{applied_by, AppliedAs, AppliesTo}
 use Rattle.typing_rows.proofs.Composed.{as_many}
+use Rattle.typing_rows.proofs.Parameters.{is_parameter, last_is_more, parameter_at, argument_means, same_there}
 use Rattle.typing_rows.proofs.Used.{UsedWith, key_by, root_used}
-use Rattle.typing_rows.proofs.Filled.{reads_tuple, types_same, tuple_is, tuple_means, JoinsEach, each_joined}
+use Rattle.typing_rows.proofs.Filled.{reads_tuple, types_same, tuple_is, tuple_means, JoinsEach, each_joined, each_alike}
 use Rattle.typing_rows.proofs.Declared.{node_at, argument_at, parameters_used}
 
 -- types with one more behind them, as a list
@@ -193,7 +200,7 @@ module _ (a b d : Parts) (decl : Declaration) (tup x : ℕ) (xs : List ℕ) (m :
     sound_b : IsSound b.store.nodes
     sound_b = sound root_is.inside
 
-    uses : UsedWith F scope (sight a) G (sight b) decl.root.0 (λ ch. used (argument (types_of (map ch.type_at ns))) (ch.filled n) (with_parameters (suc (length xs)) (type_of e))) tup
+    uses : UsedWith (λ v. key_for n ns (names v)) F scope (sight a) G (sight b) decl.root.0 (λ ch. used (argument (types_of (map ch.type_at ns))) (ch.filled n) (with_parameters (suc (length xs)) (type_of e))) tup
     uses = root_used {scope = scope} (λ v. key_for n ns (names v)) (λ v t. known_for n ns (names v) t) (λ ch. argument (types_of (map ch.type_at ns))) (λ ch. ch.filled n) (λ ch J o v h. named_for n ns ch (root_as.named J o v h)) reached root_is root_as sound_b instance (only_nodes a b rest)
 
     abbrev types_all : List (Choice → Typ)
@@ -249,13 +256,57 @@ module _ (a b d : Parts) (decl : Declaration) (tup x : ℕ) (xs : List ℕ) (m :
         types_same (map W (split.front ++ split.last ∷ [])) (map I args ++ used s f (type_of e) ∷ []) (let g : types_of (map W (split.front ++ split.last ∷ [])) ≡ types_of (map I args ++ used s f (type_of e) ∷ []) = cc in g) in
         (W, fits, front_same W split.front split.last (map I args) (used s f (type_of e)) (split.many ∙ sym (length_map I args)) listed ∙ map_same I W (length a.store.nodes) args same (λ i k at. (all_open all i k at).inside))
 
-    pub filled_applied : AppliedAs F scope (sight a) G (sight d) n ns (type_of e) m
-    filled_applied =
-        let joined = each_joined {scope = scope} (types_at ns) split.front args witness.0 witness.1 witness.2 typed.front (all_mean_on uses.typed.carried.stays all) filled_so.0 in
-        record {
-          letters = uses.letters;
-          typed = record { carried = carried_trans uses.typed.carried joined; means = subst (λ k. Means F (sight d) (uses.letters ++ G) (applied_by n ns (type_of e)) k) (sym filled_so.1) (means_on joined.stays typed.last) };
-        }
+    joined : Carried F scope (λ c. []) (sight b) (uses.letters ++ G) (sight d) (uses.letters ++ G)
+    joined = each_joined {scope = scope} (types_at ns) split.front args witness.0 witness.1 witness.2 typed.front (all_mean_on uses.typed.carried.stays all) filled_so.0
+
+    whole : Carried F scope (λ c. []) (sight a) G (sight d) (uses.letters ++ G)
+    whole = carried_trans uses.typed.carried joined
+
+    means : Means F (sight d) (uses.letters ++ G) (applied_by n ns (type_of e)) m
+    means = subst (λ k. Means F (sight d) (uses.letters ++ G) (applied_by n ns (type_of e)) k) (sym filled_so.1) (means_on joined.stays typed.last)
+
+    -- whether each variable of the root is a parameter
+    abbrev test : Bool
+    test = all_pass (λ v. is_parameter (names v)) (uses.types decl.root.0)
+
+    -- a variable of the root that is a parameter has the type of its argument
+    as_argument : (V : Types) (ch : Choice) → Loose d.store.nodes V → Agrees F.owner (sight d) G V ch → (v k : ℕ) → occurs v (uses.types decl.root.0) ≡ true → k < length ns → names v ≡ type.Var k → value_of ch (key_for n ns (names v)) ≡ V (uses.image v)
+    as_argument V ch loose g v k o lt is =
+        let loose_b = joined.stays.loose V loose in
+        let (us, inside, applied) = tuple_inside (and_last (parameters_from 0 (suc (length xs))) (type_of e)) refl root_as uses.own_types in
+        let u : Subst = λ w. V (uses.image w) in
+        let listed : types_of (map V (split.front ++ split.last ∷ [])) ≡ apply_all u us =
+        (let f : type.Tuple (types_of (map V (split.front ++ split.last ∷ []))) ≡ type.Tuple (apply_all u us) = sym (tuple_is b.store.nodes V tup (split.front ++ split.last ∷ []) loose_b reads_split) ∙ uses.copy V loose_b ∙ ap (apply u) inside in cc) in
+        let less : k < suc (length xs) = (let c = counted in omega arith) in
+        let (w, there, named, has) = parameter_at names V u us 0 (suc (length xs)) (types.Cons (type_of e) types.Nil) split.front (split.last ∷ []) (applied ∙ last_is_more (parameters_from 0 (suc (length xs))) (type_of e)) listed split.many k less in
+        let one : w ≡ v = root_as.apart uses.types uses.own_types w v (ap (occurs w) inside ∙ there) o (named ∙ ap (λ z. type.Var z) (let f : 0 + k ≡ k = omega arith in f) ∙ sym is) in
+        let alike = each_alike (sight d) (types_at ns) split.front args witness.0 witness.1 witness.2 typed.front (all_mean_on uses.typed.carried.stays all) filled_so.0 scope V loose in
+        ap (λ x. value_of ch (key_for n ns x)) is ∙ argument_means ns args (all_mean_on (stays_closed uses.letters whole.stays) all) k lt V ch loose g ∙
+        sym (same_there V split.front args alike k (let c = split.many in omega arith)) ∙ has ∙ ap u one
+
+    named_parameter : (v : ℕ) → is_parameter (names v) ≡ true → IsNamed a.store.nodes names (length ns) v → (k : ℕ) × (k < length ns) × (names v ≡ type.Var k)
+    named_parameter v h (a_parameter scope k at other lt is) = (k, lt, is)
+    named_parameter v h (an_unknown o at u is) = absurd (no_yes (sym (ap is_parameter is) ∙ h))
+
+    -- so no letter is wanted
+    implied : test ≡ true → (V : Types) (ch : Choice) → Loose d.store.nodes V → Agrees F.owner (sight d) G V ch → AreGiven uses.letters V ch
+    implied h V ch loose g = uses.given V ch (λ v o.
+        let (k, lt, is) = named_parameter v (passed (λ w. is_parameter (names w)) (uses.types decl.root.0) v h o) (root_as.named uses.types uses.own_types v o) in
+        as_argument V ch loose g v k o lt is)
+
+    -- where no name is an unknown type each variable is one
+    all_parameters : NoneUnknown names → test ≡ true
+    all_parameters plain = passes (λ w. is_parameter (names w)) (uses.types decl.root.0) (λ v o. by v (root_as.named uses.types uses.own_types v o))
+      where
+        by : (v : ℕ) → IsNamed a.store.nodes names (length ns) v → is_parameter (names v) ≡ true
+        by v (a_parameter scope k at other lt is) = ap is_parameter is
+        by v (an_unknown o at u is) = absurd (plain v o u is)
+
+    pub filled_applied : AppliedAs names F scope (sight a) G (sight d) n ns (type_of e) m
+    filled_applied = elim (true_or_false test) [
+      | inl h ↦ record { letters = []; typed = record { carried = carried_dropped uses.letters (implied h) whole; means = means_dropped uses.letters (implied h) means }; of_row = λ plain. no_row n }
+      | inr h ↦ record { letters = uses.letters; typed = record { carried = whole; means = means }; of_row = λ plain. absurd (no_yes (sym h ∙ all_parameters plain)) }
+    ]
 
 -- so a call that does this applies the declaration
 pub arguments_applied : (a b d : Parts) (decl : Declaration) (tup x : ℕ) (xs : List ℕ) (m : ℕ) → (IsNode a.store.nodes decl.root.0 → Instantiated a.store.nodes b.store.nodes decl.root.0 (level_for a.level) tup) → (IsNode a.store.nodes decl.root.0 → IsSound b.store.nodes) → OnlyStore a b →

@@ -14,7 +14,9 @@ use Rattle.typing_state.specs.declared.parts.Parts.{Parts}
 use Rattle.typing_state.specs.Goes.{Goes}
 use Rattle.typing_conditions.specs.Sights.{Sight, own, Letters}
 use Rattle.typing_conditions.specs.Frames.{Frame}
-use Rattle.typing_conditions.specs.Carrying.{Asks, Scope, CarriedTo}
+use Rattle.typing_conditions.specs.Carrying.{Asks, Scope}
+use Rattle.typing_conditions.proofs.Hiding.{owns_done}
+use Rattle.typing_rows.specs.TypeContracts.{ReadAs}
 use Rattle.typing_conditions.proofs.Recording.{ends_same}
 use Rattle.typing_conditions.proofs.Surrounding.{surrounds_on}
 use Rattle.typing_steps.specs.States.{is_aloud, sight}
@@ -28,10 +30,10 @@ use Rattle.typing_rows.proofs.Terms.{one, as_row}
 use Rattle.typing_rows.specs.Operands.{Annotates}
 
 -- a row that has the written type, which is a letter of its own
-pub row_written : {F : Frame} {scope : Scope} {asks : Asks} {a b : Sight} {G : Letters} {n m : ℕ} (front : Asks) (w : TypeExpression) → CarriedTo F scope front a G b ((own w.node, m) ∷ G) (λ ch. ch.type_at w.node) m →
+pub row_written : {F : Frame} {scope : Scope} {asks : Asks} {a b : Sight} {G : Letters} {n m : ℕ} (front : Asks) (w : TypeExpression) → ReadAs F scope front a G b w.node m →
     ((c : Context) → front c ++ is_of c n (type_at c w.node) ≡ asks c) → RowCarried F scope asks a G b n m
 row_written {n = n} {m = m} front w typed is =
-    record { own = (own w.node, m) ∷ []; type = λ ch. ch.type_at w.node; first = front; ends = λ c. is_of c n (type_at c w.node); all = is; typed = typed; end = ends_same n (λ ch. ch.type_at w.node) }
+    record { own = (own w.node, m) ∷ []; type = λ ch. ch.type_at w.node; first = front; ends = λ c. is_of c n (type_at c w.node); all = is; typed = record { carried = typed.carried; means = typed.means }; owns = λ known. owns_done typed.done; end = ends_same n (λ ch. ch.type_at w.node) }
 
 -- ( e : t )
 annotated_term : (i n : ℕ) (at : Place) (t : Tree) (o : Numbered) → IsFormed n t → row_of t ≡ eparen_row → first_in n t 3 ≡ Some o → row_expression i n at t ≡ parenthesised (number_of i n) at (expression_of i (filled_in n t 1)) (Some (type_of i o))
@@ -54,6 +56,6 @@ annotated_typed a b d env n at place t o found wanted formed row some typed goes
     let w = type_of a.item o in
     let x = typed aloud F scope G s in
     let y = subst (λ i. Annotates b d env (type_of i o) place found wanted) goes.item written (ap is_aloud goes.telling ∙ aloud) F scope G m 0 (λ ch. ch.type_at e.node) (surrounds_on x.carried.stays s) x.means in
-    let z = subst (λ p. CarriedTo F scope (λ c. w.read c ++ ask m 0 p (equal (type_at c e.node) (type_at c w.node))) (sight b) G (sight d) ((own w.node, wanted) ∷ G) (λ ch. ch.type_at w.node) wanted) (sym here) y in
+    let z = subst (λ p. ReadAs F scope (λ c. w.read c ++ ask m 0 p (equal (type_at c e.node) (type_at c w.node))) (sight b) G (sight d) w.node wanted) (sym here) y in
     row_as (λ c. grouped (e.typed c) (w.read c) (has_type c m 0 e (type_at c w.node)) (is_of c m (type_at c w.node)) ∙ ap (λ x. x.typed c) (sym (annotated_term a.item n at t o formed row some)))
     (row_after x.carried (row_written (λ c. w.read c ++ has_type c m 0 e (type_at c w.node)) w z (λ c. refl)))

@@ -19,28 +19,34 @@ use Rattle.typing_model.specs.Expressions.{is_some, behind_argument, constructor
 use Rattle.env_table.specs.declared.entries.Entry.{Entry}
 use Rattle.typing_state.specs.declared.parts.Parts.{Parts}
 use Rattle.typing_state.specs.Goes.{Goes}
-use Rattle.typing_conditions.specs.Sights.{own, number_in, Letters}
-use Rattle.typing_conditions.specs.Frames.{Frame}
+use Rattle.typing_conditions.specs.Sights.{Sight, own, number_in, Letters, Agrees}
+use Rattle.typing_conditions.specs.Frames.{Frame, IsOpen}
 use Rattle.typing_conditions.specs.Meanings.{Means}
 use Rattle.typing_conditions.specs.Steps.{Records}
-use Rattle.typing_conditions.specs.Carrying.{Scope, Carried, CarriedTo}
+use Rattle.typing_conditions.specs.Carrying.{Asks, Scope, HoldsWritten, IsUnder, Carried}
 use Rattle.typing_conditions.specs.Surroundings.{Surrounds}
+use Rattle.type_nodes.specs.Readings.{Types}
+use Rattle.level_unify.specs.Solutions.{Loose}
+use Rattle.typing_conditions.specs.Judging.{AreKept}
 use Rattle.typing_conditions.proofs.Judged.{kept_left}
-use Rattle.typing_conditions.proofs.Carried.{carried_as, carried_refl, carried_trans}
+use Rattle.typing_conditions.proofs.Carried.{carried_as, carried_refl, carried_trans, done_as, done_then, owns_as, owns_then, owns_last}
+use Rattle.typing_conditions.proofs.Keeping.{carried_kept}
+use Rattle.typing_conditions.specs.Hiding.{Owns}
+use Rattle.typing_conditions.proofs.Hiding.{below_none, owns_also, owns_row, owns_node, owns_before}
 use Rattle.typing_conditions.proofs.Meaning.{means_on}
 use Rattle.typing_conditions.proofs.Nodes.{same_made}
-use Rattle.typing_conditions.proofs.Recording.{ends_own, records_stay}
-use Rattle.typing_conditions.proofs.Branching.{carried_after}
+use Rattle.typing_conditions.proofs.Recording.{ends_own}
+use Rattle.typing_conditions.proofs.Branching.{carried_after, after_hides}
 use Rattle.typing_conditions.proofs.Surrounding.{surrounds_on}
 use Rattle.typing_steps.specs.States.{is_aloud, sight}
-use Rattle.typing_steps.specs.Typing.{as_declared, TypesTo, TypesRow, AsksEqualIf}
+use Rattle.typing_steps.specs.Typing.{as_declared, TypesTo, RowCarried, TypesRow, AsksEqualIf}
 use Rattle.typing_steps.specs.Building.{used_by, building_in, construction_asks, TakesAs, TypesConstructor}
 use Rattle.operand_laws.specs.Formed.{row_of, is_needed, IsFormed}
 use Rattle.operand_laws.specs.Operands.{number_of, expression_of}
 use Rattle.operand_laws.proofs.There.{filled_first}
 use Rattle.typing_rows.specs.Asked.{row_expression, expressions_of, head_asks, later_asks}
 use Rattle.typing_rows.specs.Contracts.{TypesEach, TypesGiven, TypesAsIf, TypesHead, TypesLater, EndsUnknown, TypesConstructed}
-use Rattle.typing_rows.proofs.Own.{same_itself, ends_made, own_recorded}
+use Rattle.typing_rows.proofs.Own.{same_itself, ends_made, own_recorded, head_noted}
 use Rattle.typing_rows.proofs.Given.{applied_row, types_as}
 use Rattle.typing_rows.proofs.Ending.{row_of_type, row_as}
 use Rattle.typing_rows.proofs.Terms.{application_term}
@@ -90,7 +96,7 @@ argument_known b d env e n head (Some t) None aloud names has typed = absurd has
 -- A constructor with its first argument: its use, the argument, and the record of its node.
 pub head_typed : (a b d f : Parts) (env : List Entry) (n head number : ℕ) (qs : List Tok) (last : Option Tok) (known : Bool) (e : Expression) (m : ℕ) (argument : Option ℕ) → TypesConstructor a b env (record { qualifiers = qs; last = last }) 1 known m argument → Goes a b →
     TypesAsIf b d env e argument → Goes b d → number_in d.item number ≡ head → (is_aloud d.telling ≡ true → Records (sight d) (sight f) number m) → TypesHead a f env n head (record { qualifiers = qs; last = last }) known e m
-unfolding own_recorded carried_after carried_as
+unfolding head_noted carried_kept own_recorded carried_after carried_as
 head_typed a b d f env n head number qs last true e m argument typed goes argued goes' place records aloud F scope G names =
     let p : Written = record { qualifiers = qs; last = last } in
     let k = typed aloud F scope G n head names in
@@ -101,9 +107,11 @@ head_typed a b d f env n head number qs last true e m argument typed goes argued
     let behind = carried_after k.carried (λ V c loose under agrees named kept. ap (behind_head c n head e) (ap (λ v. if v then building_in c.env p else None) (k.kept c kept) ∙ k.finds V c loose under agrees named)) z in
     let means : Means F (sight d) ((own head, m) ∷ (k.letters ++ G)) (λ ch. ch.type_at head) m = record { open_node = y.open_node; is = λ V ch loose g. g.given.0.is } in
     let noted = records (ap is_aloud goes'.telling ∙ loud) in
+    let there = head_noted ((own head, m) ∷ k.letters) head place behind means noted (owns_also (own head) refl refl (owns_row k.of_row)) in
     record {
       own = (own head, m) ∷ k.letters;
-      typed = record { carried = carried_as (λ c. head_splits c n head e qs last) (own_recorded head place behind means noted); means = means_on (records_stay noted means.open_node.inside) means };
+      typed = record { carried = carried_as (λ c. head_splits c n head e qs last) there.carried; means = there.means };
+      done = done_as (λ c. head_splits c n head e qs last) there.carried there.done;
       found = λ V c loose under agrees named kept. found_as c n qs last true
           (ap is_some (ap (λ v. if v then building_in c.env p else None) (k.kept c (kept_left c.kept k.carried.judged z.judged kept)) ∙ k.finds V c loose under agrees named));
     }
@@ -116,15 +124,17 @@ head_typed a b d f env n head number qs last false e m argument typed goes argue
     let z = carried_trans (carried_as (λ c. append-nil (e.typed c)) x) (same_itself (λ ch. ch.type_at head)) in
     let behind = carried_after k.typed.carried (λ V c loose under agrees named kept. ap (behind_head c n head e) (k.none V c loose under agrees named kept)) z in
     let noted = records (ap is_aloud goes'.telling ∙ loud) in
+    let there = head_noted ((own head, m) ∷ []) head place behind means noted (owns_node (own head) refl refl) in
     record {
       own = (own head, m) ∷ [];
-      typed = record { carried = carried_as (λ c. head_splits c n head e qs last) (own_recorded head place behind means noted); means = means_on (records_stay noted means.open_node.inside) means };
+      typed = record { carried = carried_as (λ c. head_splits c n head e qs last) there.carried; means = there.means };
+      done = done_as (λ c. head_splits c n head e qs last) there.carried there.done;
       found = λ V c loose under agrees named kept. found_as c n qs last false (ap is_some (k.none V c loose under agrees named (kept_left c.kept k.typed.carried.judged z.judged kept)));
     }
 
 -- the arguments after the first one of a constructor that is known
 pub later_known : (a b : Parts) (env : List Entry) (at : Place) (es : List Expression) (head m : ℕ) → TypesGiven a b env at es head m → TypesLater a b env true at es head m
-later_known a b env at es head m given aloud F scope G n h names has = applied_row [] (record { carried = carried_refl; means = has }) (given aloud F scope G n 3 0 h names has)
+later_known a b env at es head m given aloud F scope G n h names has = applied_row [] (below_none n 0) (record { carried = carried_refl; means = has }) (given aloud F scope G n 3 0 h names has)
 
 -- those of one that isn't known
 pub later_unknown : (a b d : Parts) (env : List Entry) (at : Place) (es : List Expression) (head m : ℕ) → TypesEach a b env es → Goes a b → EndsUnknown b d es head m → TypesLater a d env false at es head m
@@ -143,6 +153,24 @@ behind_found c n head (e ∷ es) (Some b) true h = refl
 behind_found c n head es None true h = absurd (cc)
 behind_found c n head es (Some b) false h = absurd (cc)
 
+-- a row whose node's type is its own, with further letters, whatever is open after it
+record OpenRow (F : Frame) (scope : Scope) (asks : Asks) (a : Sight) (G : Letters) (b : Sight) (n m : ℕ) (letters H : Letters) : Type 0 where
+  carried : Carried F scope asks a G b ((own n, m) ∷ H)
+  opened : IsOpen F b m
+  owns : F.known ≡ true → Owns n m b carried.hidden ((own n, m) ∷ letters)
+
+own_row : {F : Frame} {scope : Scope} {a b : Sight} {G : Letters} {n m : ℕ} (letters : Letters) (asks : Asks) → OpenRow F scope asks a G b n m letters (letters ++ G) → RowCarried F scope asks a G b n m
+own_row {n = n} {m = m} letters asks x = record {
+  own = (own n, m) ∷ letters;
+  type = λ ch. ch.type_at n;
+  first = asks;
+  ends = λ c. [];
+  all = λ c. append-nil (asks c);
+  typed = record { carried = x.carried; means = record { open_node = x.opened; is = λ V ch loose g. g.given.0.is } };
+  owns = x.owns;
+  end = ends_own n;
+}
+
 -- A constructor with its arguments, as a row: its node's type is its own.
 pub constructed_typed : (a b d : Parts) (env : List Entry) (n : ℕ) (p : Written) (head e : Expression) (es : List Expression) (at : Place) (known : Bool) (ty m : ℕ) → head.at ≡ at → TypesHead a b env n head.node p known e ty → Goes a b → TypesLater b d env known at es ty m →
     TypesConstructed a d env n p head (e ∷ es) m
@@ -150,18 +178,17 @@ constructed_typed a b d env n p head e es at known ty m place typed goes later a
     let h = typed aloud F scope G names in
     let loud : is_aloud b.telling ≡ true = ap is_aloud goes.telling ∙ aloud in
     let r = (subst (λ q. TypesLater b d env known q es ty m) (sym place) later) loud F scope (h.own ++ G) n (λ ch. ch.type_at head.node) (surrounds_on h.typed.carried.stays names) h.typed.means in
-    let end = carried_as r.all (carried_trans r.typed.carried (ends_made r.typed.means r.end)) in
-    let whole = carried_after h.typed.carried (λ V c loose under agrees named kept. sym (behind_found c n head es (then_by p.last (built_by c n p)) known (h.found V c loose under agrees named kept))) end in
-    record {
-      own = (own n, m) ∷ (r.own ++ h.own);
-      type = λ ch. ch.type_at n;
-      first = λ c. constructor_applied c n p head (e ∷ es);
-      ends = λ c. [];
-      all = λ c. append-nil (constructor_applied c n p head (e ∷ es));
-      typed = subst (λ H. CarriedTo F scope (λ c. constructor_applied c n p head (e ∷ es)) (sight a) G (sight d) ((own n, m) ∷ H) (λ ch. ch.type_at n) m) (sym (append_assoc r.own h.own G))
-          (record { carried = whole; means = record { open_node = r.typed.means.open_node; is = λ V ch loose g. g.given.0.is } });
-      end = ends_own n;
-    }
+    let made = ends_made r.typed.means r.end in
+    let both = carried_trans r.typed.carried made in
+    let end = carried_as r.all both in
+    let by_kept : (V : Types) (c : Context) → Loose (sight a).nodes V → IsUnder scope c → Agrees F.owner (sight a) G V c.chosen → HoldsWritten scope (sight a) → AreKept c.kept h.typed.carried.judged → behind_argument c n head es (then_by p.last (built_by c n p)) ≡ later_asks known c n head.at (type_at c head.node) es =
+    λ V c loose under agrees named kept. sym (behind_found c n head es (then_by p.last (built_by c n p)) known (h.found V c loose under agrees named kept)) in
+    let whole = carried_after h.typed.carried by_kept end in
+    let owned : F.known ≡ true → Owns n m (sight d) whole.hidden ((own n, m) ∷ (r.own ++ h.own)) = λ is_known. subst (λ xs. Owns n m (sight d) xs ((own n, m) ∷ (r.own ++ h.own))) (sym (after_hides h.typed.carried by_kept end))
+    (owns_also (own n) refl refl (owns_before (owns_last h.typed.carried end (owns_as r.all both (owns_then r.typed.carried made (r.owns is_known)))) (done_then h.typed.carried end h.done))) in
+    own_row (r.own ++ h.own) (λ c. constructor_applied c n p head (e ∷ es))
+    (subst (OpenRow F scope (λ c. constructor_applied c n p head (e ∷ es)) (sight a) G (sight d) n m (r.own ++ h.own)) (sym (append_assoc r.own h.own G))
+    (record { carried = whole; opened = r.typed.means.open_node; owns = owned }))
 
 -- an expression that has the type that may be wanted
 pub types_as_if : (a b d : Parts) (env : List Entry) (e : Expression) (at : Place) (found : ℕ) (wanted : Option NodeRef) → e.at ≡ at → TypesTo a b env (λ c. e.typed c) (λ ch. ch.type_at e.node) found → Goes a b → AsksEqualIf b d at found wanted →

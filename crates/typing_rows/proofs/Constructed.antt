@@ -17,6 +17,7 @@ use Rattle.typing_conditions.specs.Sights.{own}
 use Rattle.typing_conditions.proofs.Carried.{carried_as, carried_refl}
 use Rattle.typing_conditions.proofs.Nodes.{same_made}
 use Rattle.typing_conditions.proofs.Recording.{ends_own}
+use Rattle.typing_conditions.proofs.Hiding.{owns_also, owns_node, owns_row}
 use Rattle.typing_conditions.proofs.Branching.{carried_after}
 use Rattle.typing_steps.specs.Typing.{TypesRow}
 use Rattle.typing_steps.specs.Building.{building_in, construction_asks, TypesConstructor}
@@ -68,6 +69,7 @@ alone_typed a b {env} qs last true m argument n typed aloud F scope G names =
             (λ V c loose under agrees named kept. ap (ends_as_built c n) (ap (λ v. if v then building_in c.env (record { qualifiers = qs; last = last }) else None) (k.kept c kept) ∙ k.finds V c loose under agrees named)) (same_made (own n) (λ t. tt) k.builds));
         means = record { open_node = k.builds.open_node; is = λ V ch loose g. g.given.0.is };
       };
+      owns = λ is_known. owns_also (own n) refl refl (owns_row k.of_row);
       end = ends_own n;
     }
 alone_typed a b {env} qs last false m argument n typed aloud F scope G names =
@@ -82,6 +84,7 @@ alone_typed a b {env} qs last false m argument n typed aloud F scope G names =
         carried = carried_as (λ c. alone_splits c n qs last) (carried_after k.typed.carried (λ V c loose under agrees named kept. ap (ends_as_built c n) (k.none V c loose under agrees named kept)) carried_refl);
         means = k.typed.means;
       };
+      owns = λ is_known. owns_node (own n) refl refl;
       end = ends_own n;
     }
 

@@ -34,8 +34,10 @@ use Rattle.typing_state.specs.Types.{level_for}
 use Rattle.typing_conditions.specs.Locals.{IsOwn}
 use Rattle.typing_conditions.specs.Environments.{WhatAs, of_value, of_constructor, of_exception, of_label, of_type, of_module, of_module_type, EntryAs, entry_as, EnvAs}
 use Rattle.typing_conditions.proofs.Environments.{ComesTo, to_entry, to_hole, to_nothing, lookup_alike}
-use Rattle.typing_conditions.specs.Declared.{IsNamed, a_parameter, an_unknown, RootAs, and_last, with_parameters, OriginAs, DeclaredAs, ExceptionAs}
-use Rattle.typing_conditions.specs.Sights.{own, value_of, Letters, IsKnownFor}
+use Rattle.typing_conditions.specs.Declared.{NoneUnknown, IsNamed, a_parameter, an_unknown, RootAs, and_last, with_parameters, OriginAs, DeclaredAs, ExceptionAs}
+use Rattle.typing_conditions.specs.Sights.{Key, own, value_of, Letters, IsKnownFor}
+use Rattle.typing_conditions.specs.Hiding.{AreOfRow}
+use Rattle.typing_conditions.proofs.Hiding.{no_row}
 use Rattle.typing_conditions.specs.Frames.{Frame, Reaches, IsRoot}
 use Rattle.typing_conditions.specs.Meanings.{AllMean}
 use Rattle.typing_conditions.specs.Carrying.{Scope}
@@ -137,7 +139,7 @@ own_used n ns o ch plain =
 pub origin_applied : (a b : Parts) (d : Declaration) (p : Origin) (ms : List ℕ) (m : ℕ) → d.origin ≡ Some p → is_unknown p.path.items ≡ false → (All (IsNode a.store.nodes) ms → Makes a.store b.store m (Con p.path.items (str_bytes p.name) ms)) → OnlyStore a b → AppliesTo a b d ms m
 origin_applied a b d p ms m makes plain made rest = λ F scope G n ns roots names e reached alike are_roots many all.
     let x = con_over a b {scope = scope} p.path.items (str_bytes p.name) reached all made rest in
-    record { letters = []; typed = to_as (λ c. refl) (λ ch. ap (λ ts. type.Con p.path.items (types_of ts)) (types_by_nodes ch ns) ∙ own_used n ns p.path.items ch plain ∙ ap (λ t. applied_by n ns t ch) (same ns e many (subst (λ o. OriginAs o e.definition) makes alike.origin))) x }
+    record { letters = []; of_row = λ plain. no_row n; typed = to_as (λ c. refl) (λ ch. ap (λ ts. type.Con p.path.items (types_of ts)) (types_by_nodes ch ns) ∙ own_used n ns p.path.items ch plain ∙ ap (λ t. applied_by n ns t ch) (same ns e many (subst (λ o. OriginAs o e.definition) makes alike.origin))) x }
   where
     same : (ns : List ℕ) (e : rules.Declaration) → length ns ≡ e.arity → OriginAs (Some p) e.definition → defined_type (length ns) (rules.Own p.path.items) ≡ type_of e
     same ns e many h = ap (λ k. defined_type k (rules.Own p.path.items)) many ∙ by e.definition h
@@ -151,7 +153,7 @@ pub alone_applied : (a b : Parts) (d : Declaration) (m : ℕ) → (IsNode a.stor
 alone_applied a b d m taken sound rest = λ F scope G n ns roots names e reached alike are_roots many all. by ns many all alike are_roots reached
   where
     by : {F : Frame} {scope : Scope} {G : Letters} {n : ℕ} {roots : List ℕ} {names : Types} {e : rules.Declaration} (ns : List ℕ) → length ns ≡ e.arity → AllMean F (sight a) G (types_at ns) [] → DeclaredAs a.store.nodes roots names d e →
-        ((k r : ℕ) → slice_get roots k ≡ Some r → IsRoot F (sight a) r) → Reaches F (sight a) → AppliedAs F scope (sight a) G (sight b) n ns (type_of e) m
+        ((k r : ℕ) → slice_get roots k ≡ Some r → IsRoot F (sight a) r) → Reaches F (sight a) → AppliedAs names F scope (sight a) G (sight b) n ns (type_of e) m
     by {F = F} {G = G} (k ∷ ns) many all alike are_roots reached = elim all [ ]
     by {F} {scope} {G} {n} {roots} {names} {e} [] many all alike are_roots reached =
         let (i, at) = alike.root.among in
@@ -160,8 +162,16 @@ alone_applied a b d m taken sound rest = λ F scope G n ns roots names e reached
         let x = root_used {scope = scope} (λ v. key_by (λ k. own 0) n (names v)) (λ v t. known_here n (names v) t) (λ ch. argument types.Nil) (λ ch. ch.filled n)
         (λ ch J o v h. named_here n ch (subst (λ k. IsNamed a.store.nodes names k v) (sym many) (alike.root.named J o v h))) reached root as_root (sound root.inside)
         (subst (λ l. Instantiated a.store.nodes b.store.nodes d.root.0 l m) (level_here a reached) (taken root.inside)) (only_nodes a b rest) in
-        record { letters = x.letters; typed = x.typed }
+        record { letters = x.letters; typed = x.typed; of_row = λ plain. none_there n x.letters (λ j z e. let (v, o, is) = x.each j z e in none_named plain (subst (λ k. IsNamed a.store.nodes names k v) (sym many) (alike.root.named x.types x.own_types v o))) }
       where
+        none_named : {v : ℕ} → NoneUnknown names → IsNamed a.store.nodes names 0 v → ⊥
+        none_named plain (a_parameter scope k at other lt is) = omega arith
+        none_named {v} plain (an_unknown o at u is) = plain v o u is
+
+        none_there : (n : ℕ) (xs : Letters) → ((j : ℕ) (z : Key × ℕ) → slice_get xs j ≡ Some z → ⊥) → AreOfRow n xs
+        none_there n [] none = no_row n
+        none_there n (x ∷ xs) none = absurd (none zero x refl)
+
         known_here : (n : ℕ) (name t : Typ) → IsKnownFor (key_by (λ k. own 0) n name) t
         known_here n (type.Var k) t = tt
         known_here n (type.Arrow x y) t = tt

@@ -22,7 +22,6 @@ use Rattle.typing_state.specs.Types.{MakesVar, any_scope}
 use Rattle.typing_conditions.specs.Sights.{Letters}
 use Rattle.typing_conditions.specs.Frames.{Frame}
 use Rattle.typing_conditions.specs.Meanings.{AllMean, none_mean, one_means}
-use Rattle.typing_conditions.proofs.Carried.{carried_as}
 use Rattle.typing_steps.specs.States.{sight}
 use Rattle.operand_laws.specs.Formed.{row_of}
 use Rattle.operand_laws.specs.Operands.{number_of, type_of, path_of}
@@ -30,6 +29,7 @@ use Rattle.typing_rows.specs.TypeContracts.{types_at, EndsRead}
 use Rattle.typing_rows.specs.Rows.{types_read, front_nodes, end_asks}
 use Rattle.typing_rows.specs.Operands.{IsPartPlaced, EndsRow, ReadsVariable, EndsName, EndsParentheses, MakesArrowOver, HasNoConstructor, EndsPlainRow}
 use Rattle.typing_rows.proofs.TypeTerms.{IsNoType, arrow_sides}
+use Rattle.typing_rows.proofs.Reading.{read_as}
 use Rattle.typing_rows.proofs.Composed.{ends_tuple, ends_arrow, ends_other, ends_alone}
 
 -- the row of a node of the code
@@ -110,7 +110,7 @@ other_ends a b nd ms m v p t x made rest plain env number at formed placed = λ 
     let row = view_row nd (out-Node nd).row refl in
     let none = subst IsNoType (sym row) (no_type (out-Node nd).row v p t x (subst HasNoConstructor row plain)) in
     let y = ends_other a b env [] [] (number_of a.item number) m made rest aloud F scope G s none_mean in
-    record { carried = carried_as (λ c. no_end (row_of (node_view nd)) a.item number at (node_view nd) c none) y.carried; means = y.means }
+    read_as (λ c. no_end (row_of (node_view nd)) a.item number at (node_view nd) c none) y
 
 no_constructor : (r : RowName) → (r ≡ name.Tcon → ⊥) → (r ≡ name.Tapp → ⊥) → HasNoConstructor (names.row_of r)
 unfolding names.row_of

@@ -1,5 +1,5 @@
 -- The end of a row whose parts are typed: its type, and what is asked besides.
-use Rattle.std.proofs.Common.{◌≡◌, ◌∙◌, ◌++◌, ℕ, zero, suc, ◌+◌, true, List, [], ◌∷◌, map, Some, None, refl, sym, ap, subst, append_assoc, append-nil}
+use Rattle.std.proofs.Common.{◌≡◌, ◌∙◌, ◌++◌, ℕ, zero, suc, ◌+◌, true, List, [], ◌∷◌, map, Some, None, refl, sym, ap, subst, append_assoc, append-nil, arith}
 use Rattle.std.specs.Prelude.{All, codes, slice_get}
 use Rattle.tree_model.specs.Rows.{Row}
 use Rattle.tree_model.specs.Trees.{Place}
@@ -24,9 +24,10 @@ use Rattle.typing_conditions.specs.Meanings.{Means, AllMean, none_mean, one_mean
 use Rattle.typing_conditions.specs.Carrying.{Asks, Scope, Carried}
 use Rattle.typing_conditions.specs.Surroundings.{Surrounds}
 use Rattle.typing_conditions.proofs.Recording.{ends_same}
-use Rattle.typing_conditions.proofs.Carried.{carried_refl, carried_trans, carried_as}
+use Rattle.typing_conditions.proofs.Carried.{owns_last, carried_refl, carried_trans, carried_as}
 use Rattle.typing_conditions.proofs.Meaning.{means_on, means_more, all_mean_on}
 use Rattle.typing_conditions.proofs.Surrounding.{surrounds_on}
+use Rattle.typing_conditions.proofs.Hiding.{below_none, below_more, owns_none, owns_row}
 use Rattle.typing_steps.specs.States.{is_aloud, sight}
 use Rattle.typing_steps.specs.Typing.{as_declared, RowCarried, TypesRow, AsksEqual, TypesAny}
 use Rattle.typing_steps.proofs.Making.{tuple_over, list_over}
@@ -36,11 +37,11 @@ use Rattle.typing_rows.specs.Contracts.{types_at, TypesParts, AsksAt, AsksLater,
 
 -- a row that has a type once something was asked
 pub row_of_type : {F : Frame} {scope : Scope} {asks : Asks} {a b : Sight} {G : Letters} {n m : ℕ} (front : Asks) (type : Choice → Typ) → Carried F scope front a G b G → Means F b G type m → ((c : Context) → front c ++ is_of c n (type c.chosen) ≡ asks c) → RowCarried F scope asks a G b n m
-row_of_type {n = n} front type carried means is = record { own = []; type = type; first = front; ends = λ c. is_of c n (type c.chosen); all = is; typed = record { carried = carried; means = means }; end = ends_same n type }
+row_of_type {n = n} front type carried means is = record { own = []; type = type; first = front; ends = λ c. is_of c n (type c.chosen); all = is; typed = record { carried = carried; means = means }; owns = λ known. owns_none; end = ends_same n type }
 
 -- what a row asks may be written in another way
 pub row_as : {F : Frame} {scope : Scope} {asks others : Asks} {a b : Sight} {G : Letters} {n m : ℕ} → ((c : Context) → asks c ≡ others c) → RowCarried F scope asks a G b n m → RowCarried F scope others a G b n m
-row_as e row = record { own = row.own; type = row.type; first = row.first; ends = row.ends; all = λ c. row.all c ∙ e c; typed = row.typed; end = row.end }
+row_as e row = record { own = row.own; type = row.type; first = row.first; ends = row.ends; all = λ c. row.all c ∙ e c; typed = row.typed; owns = row.owns; end = row.end }
 
 -- a row after other conditions
 pub row_after : {F : Frame} {scope : Scope} {before asks : Asks} {a b d : Sight} {G : Letters} {n m : ℕ} → Carried F scope before a G b G → RowCarried F scope asks b G d n m → RowCarried F scope (λ c. before c ++ asks c) a G d n m
@@ -51,6 +52,7 @@ row_after {before = before} first row = record {
   ends = row.ends;
   all = λ c. append_assoc (before c) (row.first c) (row.ends c) ∙ ap (λ xs. before c ++ xs) (row.all c);
   typed = record { carried = carried_trans first row.typed.carried; means = row.typed.means };
+  owns = λ known. owns_last first row.typed.carried (row.owns known);
   end = row.end;
 }
 
@@ -214,6 +216,7 @@ ends_list_none a b d e env es ms element m none any goes later made rest = λ al
           ends = λ c. is_of c n (list_type (contexts.letter c n 0));
           all = λ c. refl;
           typed = record { carried = carried_trans (carried_trans x.carried y) z.carried; means = z.means };
+          owns = λ known. owns_row (below_more 0 1 element (omega arith) (omega arith) (below_none n 0)).of_row;
           end = ends_same n (λ ch. list_type (ch.letter n 0));
         }
       where

@@ -1,5 +1,5 @@
 -- A field of a record, from what its label and its part carry.
-use Rattle.std.proofs.Common.{◌≡◌, ◌∙◌, ◌++◌, ℕ, Bool, List, [], ◌∷◌, Option, ap, append-nil, if◌then◌else◌}
+use Rattle.std.proofs.Common.{◌≡◌, ◌∙◌, ◌++◌, ℕ, Bool, List, [], ◌∷◌, Option, ap, append-nil, if◌then◌else◌, refl}
 use Rattle.std.specs.Prelude.{None, slice_get}
 use Rattle.type_model.specs.Types.{Typ}
 use Rattle.signature_model.specs.Declarations.{Declaration, Label}
@@ -15,6 +15,7 @@ use Rattle.typing_conditions.proofs.Carried.{carried_trans}
 use Rattle.typing_conditions.proofs.Meaning.{means_on, all_mean_on}
 use Rattle.typing_conditions.proofs.Nodes.{same_made}
 use Rattle.typing_conditions.proofs.Recording.{ends_own}
+use Rattle.typing_conditions.proofs.Hiding.{owns_also, owns_node, owns_row}
 use Rattle.typing_conditions.proofs.Branching.{carried_after}
 use Rattle.typing_conditions.proofs.Surrounding.{surrounds_on}
 use Rattle.typing_steps.specs.States.{is_aloud}
@@ -45,6 +46,7 @@ ends_field a b d env es ms p record_node field mutable label goes asked = λ alo
       ends = λ c. [];
       all = λ c. append-nil (field_ends p es c n);
       typed = record { carried = behind; means = record { open_node = (means_on q.stays k.of_field).open_node; is = λ V ch loose g. g.given.0.is } };
+      owns = λ is_known. owns_also (own n) refl refl (owns_row k.of_row);
       end = ends_own n;
     }
 
@@ -60,5 +62,6 @@ ends_field_unknown a b d env es ms p m label goes any = λ aloud F scope G n nam
       ends = λ c. [];
       all = λ c. append-nil (field_ends p es c n);
       typed = record { carried = carried_after k.carried (λ V c loose under agrees named kept. ap (label_ends c n es) (k.none V c loose under agrees named kept)) v.carried; means = v.means };
+      owns = λ is_known. owns_node (own n) refl refl;
       end = ends_own n;
     }

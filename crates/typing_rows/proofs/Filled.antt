@@ -27,9 +27,9 @@ use Rattle.typing_conditions.proofs.Carried.{carried_refl, carried_trans, take_n
 use Rattle.typing_conditions.proofs.First.{starts_none}
 use Rattle.typing_conditions.proofs.Framing.{no_bound}
 use Rattle.typing_conditions.proofs.Meaning.{all_mean_on, agrees_same}
-use Rattle.typing_conditions.proofs.Equals.{unified_stays}
+use Rattle.typing_conditions.proofs.Equals.{loose_one, unified_stays}
 use Rattle.typing_conditions.proofs.Refusing.{never_fit}
-use Rattle.typing_conditions.proofs.Hiding.{settles_none}
+use Rattle.typing_conditions.proofs.Hiding.{settles_none, none_doubtful}
 
 -- a node that reads as a tuple has the tuple of its parts' types
 pub tuple_is : (nodes : List Node) (V : Types) (m : ℕ) (ms : List ℕ) → Loose nodes V → reading nodes m ≡ Some (Tuple ms) → V m ≡ type.Tuple (types_of (map V ms))
@@ -120,6 +120,7 @@ joined_means {F} {scope} {G} {type} {p} {q} {a} {b} W fits same h k j = by (j.jo
         stays = unified_stays j.sound j.rest j.tight h.open_node k.open_node one;
         hidden = [];
         settled = settles_none;
+        clear = λ known placed. none_doubtful;
         judged = [];
         told = [];
         reports = j.rest.reports ∙ sym (append-nil a.reports);
@@ -140,6 +141,13 @@ joined_means {F} {scope} {G} {type} {p} {q} {a} {b} W fits same h k j = by (j.jo
       under_fits (λ v. 0) b.nodes W (one.fits (λ v. 0) W (fits_under a.nodes W fits) same),
     )
 
+-- they have one type then
+joined_alike : {F : Frame} {G : Letters} {type : Choice → Typ} {p q : ℕ} {a b : Sight} (W : Types) → Fits a.nodes W → W p ≡ W q → Means F a G type p → Means F a G type q → JoinsTwo a b p q → (V : Types) → Loose b.nodes V → V p ≡ V q
+joined_alike {p = p} {q = q} {a = a} {b = b} W fits same h k j V loose = elim (j.joined h.open_node k.open_node) [
+  | inl one ↦ loose_one a.nodes b.nodes p q j.sound one V loose
+  | inr never ↦ absurd (never_fit a.nodes p q h.open_node.reached.sound h.open_node.inside k.open_node.inside (no_bound h.open_node h.open_node) (no_bound k.open_node k.open_node) never W fits same)
+]
+
 -- each of some nodes was made one with another, in order
 abbrev pub JoinsEach : (a b : Sight) → (ps qs : List ℕ) → Type 0
 JoinsEach a b [] [] = b ≡ a
@@ -156,3 +164,17 @@ each_joined {a = a} {b = b} [] (p ∷ ps) (q ∷ qs) W fits same hs ks j = elim 
 each_joined {scope = scope} (t ∷ ts) (p ∷ ps) (q ∷ qs) W fits same (one_means h hs) (one_means k ks) (mid, two, rest) =
     let x = joined_means {scope = scope} W fits (let f : W p ≡ W q = cc in f) h k two in
     carried_trans x.0 (each_joined ts ps qs W x.1 (let f : map W ps ≡ map W qs = cc in f) (all_mean_on x.0.stays hs) (all_mean_on x.0.stays ks) rest)
+
+-- and they have the same types then
+pub each_alike : {F : Frame} {G : Letters} {a : Sight} (b : Sight) (all : List (Choice → Typ)) (ps qs : List ℕ) (W : Types) → Fits a.nodes W → map W ps ≡ map W qs → AllMean F a G all ps → AllMean F a G all qs → JoinsEach a b ps qs → (scope : Scope) (V : Types) → Loose b.nodes V → map V ps ≡ map V qs
+each_alike b all [] [] W fits same hs ks j scope V loose = refl
+each_alike b all [] (q ∷ qs) W fits same hs ks j scope V loose = absurd j
+each_alike b all (p ∷ ps) [] W fits same hs ks j scope V loose = absurd j
+each_alike {F} {G} {a} b [] (p ∷ ps) (q ∷ qs) W fits same hs ks j scope V loose = elim hs [ ]
+each_alike b (t ∷ ts) (p ∷ ps) (q ∷ qs) W fits same (one_means h hs) (one_means k ks) (mid, two, rest) scope V loose =
+    let x = joined_means {scope = scope} W fits (let f : W p ≡ W q = cc in f) h k two in
+    let others = (let f : map W ps ≡ map W qs = cc in f) in
+    let tail = each_joined {scope = scope} ts ps qs W x.1 others (all_mean_on x.0.stays hs) (all_mean_on x.0.stays ks) rest in
+    let first = joined_alike W fits (let f : W p ≡ W q = cc in f) h k two V (tail.stays.loose V loose) in
+    let later = each_alike b ts ps qs W x.1 others (all_mean_on x.0.stays hs) (all_mean_on x.0.stays ks) rest scope V loose in
+    (λ i. first i ∷ later i)

@@ -1,5 +1,5 @@
 -- Parts of an application's row: what is asked of a head and its arguments, one after the other.
-use Rattle.std.proofs.Common.{◌≡◌, ◌∙◌, ◌++◌, ℕ, ◌+◌, true, List, [], ◌∷◌, refl, sym, ap, subst, append_assoc, append-nil}
+use Rattle.std.proofs.Common.{◌≡◌, ◌∙◌, ◌++◌, ℕ, ◌+◌, true, List, [], ◌∷◌, refl, sym, ap, subst, append_assoc, append-nil, arith}
 use Rattle.tree_model.specs.Trees.{Place}
 use Rattle.type_model.specs.Types.{Typ}
 use Rattle.type_model.specs.Types.{Typ as type}
@@ -16,6 +16,8 @@ use Rattle.typing_state.specs.Goes.{Goes, OnlyStore}
 use Rattle.typing_state.specs.Types.{MakesVar, any_scope}
 use Rattle.typing_conditions.specs.Sights.{Sight, letter, Letters}
 use Rattle.typing_conditions.specs.Frames.{Frame}
+use Rattle.typing_conditions.specs.Hiding.{AreBelow}
+use Rattle.typing_conditions.proofs.Hiding.{below_more, owns_row}
 use Rattle.typing_conditions.specs.Carrying.{Asks, Scope, Carried, CarriedTo}
 use Rattle.typing_conditions.proofs.Carried.{carried_refl, carried_trans, carried_as}
 use Rattle.typing_conditions.proofs.Meaning.{means_on}
@@ -60,7 +62,7 @@ types_argument a b d env at e head from to arrow goes typed = λ aloud F scope G
 
 -- no argument yet
 pub given_none : (a : Parts) (env : List Entry) (at : Place) (es : List Expression) (head : ℕ) → TypesGivenFirst a a env at es es head head
-given_none a env at es head = λ aloud F scope G n k j h s has. record { own = []; k' = k; j' = j; type = h; done = λ c. []; typed = record { carried = carried_refl; means = has }; asks = λ c. refl; gives = λ ch. refl }
+given_none a env at es head = λ aloud F scope G n k j h s has. record { own = []; k' = k; j' = j; below = λ mine b. b; type = h; done = λ c. []; typed = record { carried = carried_refl; means = has }; asks = λ c. refl; gives = λ ch. refl }
 
 -- one argument more
 pub given_more : (a b d : Parts) (env : List Entry) (at : Place) (all left rest : List Expression) (e : Expression) (head m to : ℕ) → left ≡ e ∷ rest → Goes a b → TypesGivenFirst a b env at all left head m → TypesArgument b d env at e m to →
@@ -72,6 +74,7 @@ given_more a b d env at all left rest e head m to split goes first one = λ alou
       own = (letter n (p.j' + 1), to) ∷ (letter n p.j', from) ∷ p.own;
       k' = p.k' + 2;
       j' = p.j' + 2;
+      below = λ mine b. below_more (p.j' + 1) (p.j' + 2) to (omega arith) (omega arith) (below_more p.j' (p.j' + 1) from (omega arith) (omega arith) (p.below mine b));
       type = λ ch. ch.letter n (p.j' + 1);
       done = λ c. p.done c ++ argument_asks c n p.k' p.j' at (p.type c.chosen) e;
       typed = record { carried = carried_trans p.typed.carried q.carried; means = q.means };
@@ -86,6 +89,7 @@ given_all a b env at all left head m none first = λ aloud F scope G n k j h s h
     let p = first aloud F scope G n k j h s has in
     record {
       own = p.own;
+      of_row = λ mine b. (p.below mine b).of_row;
       typed = to_as (λ c. sym (append-nil (p.done c)) ∙ ap (λ es. p.done c ++ given_from c n p.k' p.j' at (p.type c.chosen) es) (sym none) ∙ sym (p.asks c))
           (λ ch. ap (λ es. result_of ch n p.j' (p.type ch) es) (sym none) ∙ sym (p.gives ch)) p.typed;
     }
@@ -98,15 +102,16 @@ given_ends c n k j at head (e ∷ es) =
     ap (λ xs. argument_asks c n k j at head e ++ xs) (given_ends c n (k + 2) (j + 2) at (contexts.letter c n (j + 1)) es)
 
 -- a head, with letters of the row, and its arguments
-pub applied_row : {F : Frame} {scope : Scope} {a b d : Sight} {G : Letters} {front : Asks} {h : Choice → Typ} {n k j : ℕ} {at : Place} {es : List Expression} {m to : ℕ} (mine : Letters) → CarriedTo F scope front a G b (mine ++ G) h m → GivenAll F scope b (mine ++ G) d h n k j at es to →
+pub applied_row : {F : Frame} {scope : Scope} {a b d : Sight} {G : Letters} {front : Asks} {h : Choice → Typ} {n k j : ℕ} {at : Place} {es : List Expression} {m to : ℕ} (mine : Letters) → AreBelow n j mine → CarriedTo F scope front a G b (mine ++ G) h m → GivenAll F scope b (mine ++ G) d h n k j at es to →
     RowCarried F scope (λ c. front c ++ applied_from c n k j at (h c.chosen) es) a G d n to
-applied_row {F} {scope} {a} {b} {d} {G} {front} {h} {n} {k} {j} {at} {es} {m} {to} mine head given = record {
+applied_row {F} {scope} {a} {b} {d} {G} {front} {h} {n} {k} {j} {at} {es} {m} {to} mine are_below head given = record {
   own = given.own ++ mine;
   type = λ ch. result_of ch n j (h ch) es;
   first = λ c. front c ++ given_from c n k j at (h c.chosen) es;
   ends = λ c. same (type_at c n) (result_of c.chosen n j (h c.chosen) es) ∷ [];
   all = λ c. append_assoc (front c) (given_from c n k j at (h c.chosen) es) (same (type_at c n) (result_of c.chosen n j (h c.chosen) es) ∷ []) ∙ ap (λ xs. front c ++ xs) (given_ends c n k j at (h c.chosen) es);
   typed = subst (λ H. CarriedTo F scope (λ c. front c ++ given_from c n k j at (h c.chosen) es) a G d H (λ ch. result_of ch n j (h ch) es) to) (sym (append_assoc given.own mine G)) (then_to head.carried given.typed);
+  owns = λ known. owns_row (given.of_row mine are_below);
   end = ends_same n (λ ch. result_of ch n j (h ch) es);
 }
 

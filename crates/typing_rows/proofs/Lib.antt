@@ -20,6 +20,7 @@ pub mod Composed
 pub mod Used
 pub mod Filled
 pub mod Declared
+pub mod Parameters
 pub mod Abbreviated
 pub mod Named
 pub mod Noted

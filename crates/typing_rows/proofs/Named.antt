@@ -33,7 +33,7 @@ use Rattle.typing_conditions.specs.Assumptions.{SchemeFits}
 use Rattle.typing_conditions.specs.Standing.{IsIn}
 use Rattle.typing_conditions.proofs.Own.{own_of}
 use Rattle.typing_conditions.proofs.Environments.{lookup_alike}
-use Rattle.typing_conditions.specs.Declared.{DeclaredAs, ExceptionAs}
+use Rattle.typing_conditions.specs.Declared.{NoneUnknown, DeclaredAs, ExceptionAs}
 use Rattle.typing_conditions.proofs.DeclaredLater.{declared_after}
 use Rattle.typing_conditions.specs.Sights.{Letters, Agrees}
 use Rattle.typing_conditions.specs.Frames.{Frame}
@@ -43,7 +43,10 @@ use Rattle.typing_conditions.specs.Carrying.{Scope, HoldsWritten, IsUnder}
 use Rattle.typing_conditions.specs.Surroundings.{Surrounds}
 use Rattle.typing_conditions.proofs.Framing.{root_on}
 use Rattle.typing_conditions.proofs.Meaning.{all_mean_on}
-use Rattle.typing_conditions.proofs.Branching.{carried_after}
+use Rattle.typing_conditions.proofs.Branching.{carried_after, after_hides}
+use Rattle.typing_conditions.proofs.Carried.{trans_hides}
+use Rattle.typing_conditions.specs.Hiding.{HasCopy}
+use Rattle.typing_conditions.proofs.Hiding.{keeps_same, owns_on}
 use Rattle.typing_steps.specs.States.{is_aloud, sight}
 use Rattle.typing_steps.specs.Demands.{JudgedAs, is_found_here, bound_asks}
 use Rattle.typing_steps.specs.Demands as verdicts
@@ -52,9 +55,9 @@ use Rattle.typing_steps.proofs.Testing.{carried_here, arity_asked, judged_if}
 use Rattle.typing_steps.proofs.Finding.{bound_asked}
 use Rattle.typing_steps.proofs.Valued.{found_of_kind}
 use Rattle.typing_steps.proofs.Constructing.{hole_none}
-use Rattle.typing_rows.specs.TypeContracts.{types_at, ReadAs, EndsRead}
+use Rattle.typing_rows.specs.TypeContracts.{RowReadIf, RowRead, types_at, EndsRead}
 use Rattle.typing_rows.specs.Declaring.{declared_in, AppliesTo, DeclaresTo, NamesTo}
-use Rattle.typing_rows.proofs.Reading.{read_closed, same_read, unresolved_read}
+use Rattle.typing_rows.proofs.Reading.{row_read, alone_row, same_carried, unresolved_made, unresolved_read}
 use Rattle.typing_rows.proofs.Composed.{as_many}
 use Rattle.typing_rows.proofs.Declared.{same_declared, FindsDeclaration, finds_declaration}
 
@@ -77,7 +80,7 @@ declared_kept a b d t x decl ms m span place here is only applies aloud F scope 
     one : decl' ≡ decl
     one = let f : Some decl' ≡ Some decl = sym there ∙ here in cc
 
-    by : decl' ≡ decl → ReadAs F scope (λ c. declared_type c n t ns (Some e)) (sight a) G (sight d) n m
+    by : decl' ≡ decl → RowReadIf (NoneUnknown names) F scope (λ c. declared_type c n t ns (Some e)) (sight a) G (sight d) n m
     by same_one =
         let as_decl = subst (λ z. DeclaredAs a.store.nodes roots names z e) same_one alike in
         let many : length ns ≡ length ms = as_many ns ms all in
@@ -90,12 +93,9 @@ declared_kept a b d t x decl ms m span place here is only applies aloud F scope 
         let own_b = own_of b.store.nodes (stays.reaches reached).sound in
         let later = declared_after own_a.1 (stays.refines reached own_b.0 own_b.1) (λ r i. i) as_decl in
         let typed = applies F scope G n ns roots names e (stays.reaches reached) later (λ k r f. root_on stays reached (are_roots k r f)) (many ∙ sym is.0 ∙ arity_is) (all_mean_on stays all) in
-        let ended = read_closed typed.letters (same_read {H = typed.letters ++ G} n typed.typed) in
+        let ended = same_carried n typed.letters typed.typed in
         let asked = carried_here (λ V c loose under g named. ap (λ f. same (type_at c n) (used (argument (types_of (types_of_nodes c ns))) f (type_of e)) ∷ []) (sym (ap (λ v. filled_in c n v) (under.variables ∙ item)))) ended.carried in
-        record {
-          carried = judged_if (λ c. same (type_at c n) (used (argument (types_of (types_of_nodes c ns))) (filled_at c n) (type_of e)) ∷ []) (λ c. unresolved c n) judged asked;
-          means = ended.means;
-        }
+        row_read n typed.letters (judged_if (λ c. same (type_at c n) (used (argument (types_of (types_of_nodes c ns))) (filled_at c n) (type_of e)) ∷ []) (λ c. unresolved c n) judged asked) ended.means.open_node typed.of_row
 
 -- Else that is reported, and the type is any one.
 pub declared_reported : (a b d : Parts) (t : Tok) (x : Entry) (decl : Declaration) (ms : List ℕ) (m : ℕ) (span : Span) → place_of span ≡ parts.place_of t → declared_in x.what ≡ Some decl → ArityIs Reported a b span t.name decl.arity (length ms) → OnlyFaults a b →
@@ -105,7 +105,7 @@ declared_reported a b d t x decl ms m span place here is only made rest aloud F 
     one : decl' ≡ decl
     one = let f : Some decl' ≡ Some decl = sym there ∙ here in cc
 
-    by : decl' ≡ decl → ReadAs F scope (λ c. declared_type c n t ns (Some e)) (sight a) G (sight d) n m
+    by : decl' ≡ decl → RowReadIf (NoneUnknown names) F scope (λ c. declared_type c n t ns (Some e)) (sight a) G (sight d) n m
     by same_one =
         let as_decl = subst (λ z. DeclaredAs a.store.nodes roots names z e) same_one alike in
         let many : length ns ≡ length ms = as_many ns ms all in
@@ -113,11 +113,8 @@ declared_reported a b d t x decl ms m span place here is only made rest aloud F 
         let judged = subst (λ k. JudgedAs F scope (λ c. ask n 1 (parts.place_of t) (test (arity t.name e.arity k) (e.arity == k))) (sight a) G (sight b) G (site n 1) false) (sym many)
         (subst (λ k. JudgedAs F scope (λ c. ask n 1 (parts.place_of t) (test (arity t.name k (length ms)) (k == length ms))) (sight a) G (sight b) G (site n 1) false) arity_is
         (counted a b {F = F} {scope = scope} {G = G} t n decl.arity (length ms) span Reported place aloud is only)) in
-        let ended = unresolved_read b d {F = F} {scope = scope} {G = G} n (judged.carried.stays.reaches reached) item made rest in
-        record {
-          carried = judged_if (λ c. same (type_at c n) (used (argument (types_of (types_of_nodes c ns))) (filled_at c n) (type_of e)) ∷ []) (λ c. unresolved c n) judged ended.carried;
-          means = ended.means;
-        }
+        let ended = unresolved_made b d {F = F} {scope = scope} {G = G} n (judged.carried.stays.reaches reached) item made rest in
+        alone_row n (judged_if (λ c. same (type_at c n) (used (argument (types_of (types_of_nodes c ns))) (filled_at c n) (type_of e)) ∷ []) (λ c. unresolved c n) judged ended.carried) ended.means.open_node
 
 -- the path of a name that is there
 abbrev pub path_to : List Tok → Tok → parts.Written
@@ -141,12 +138,12 @@ module _ (a b e : Parts) (env : List Entry) (given : Option Entry) (qs : List To
 
   -- nothing is known of the name
   unknown : (actual : (c : Context) → AreKept c.kept judged.carried.judged → (V : Types) → Loose a.store.nodes V → IsUnder scope c → Agrees F.owner (sight a) G V c.chosen → HoldsWritten scope (sight a) → after_lookup c n qs t ns ≡ unresolved c n) → NamesTo None b e t ms m →
-      ReadAs F scope (λ c. constructor_asks c n (path_to qs t) ns) (sight a) G (sight e) n m
+      RowRead F scope (λ c. constructor_asks c n (path_to qs t) ns) (sight a) G (sight e) n m
   unknown actual to =
-      let x = unresolved_read b e {F = F} {scope = scope} {G = G} n (judged.carried.stays.reaches names.reached) names.item to.0 to.1 in
-      record { carried = carried_after judged.carried (λ V c loose under g named h. actual c h V loose under g named) x.carried; means = x.means }
+      let x = unresolved_made b e {F = F} {scope = scope} {G = G} n (judged.carried.stays.reaches names.reached) names.item to.0 to.1 in
+      alone_row n (carried_after judged.carried (λ V c loose under g named h. actual c h V loose under g named) x.carried) x.means.open_node
 
-  pub by_found : (f : FoundAmong Entry) → found_at env qs kind.TypeName t ≡ f → BoundIs f given a b (lost_among env qs) t word.Type → ReadAs F scope (λ c. constructor_asks c n (path_to qs t) ns) (sight a) G (sight e) n m
+  pub by_found : (f : FoundAmong Entry) → found_at env qs kind.TypeName t ≡ f → BoundIs f given a b (lost_among env qs) t word.Type → RowRead F scope (λ c. constructor_asks c n (path_to qs t) ns) (sight a) G (sight e) n m
   by_found nothing finds is = unknown (λ c h V loose under g named. ap (λ v. declared_type c n t ns (if v then then_by (referent_of (lookup c.env (names_of qs) type_kind t.name)) declaration_in else None)) (kept_as c false (ap is_found_here finds) h)) (subst (λ o. NamesTo o b e t ms m) is.0 names_to)
   by_found a_hole finds is = unknown (λ c h V loose under g named.
       ap (λ v. declared_type c n t ns (if v then then_by (referent_of (lookup c.env (names_of qs) type_kind t.name)) declaration_in else None)) (kept_as c true (ap is_found_here finds) h) ∙
@@ -177,12 +174,17 @@ module _ (a b e : Parts) (env : List Entry) (given : Option Entry) (qs : List To
       alike_b : DeclaredAs b.store.nodes names.roots names.names here.declaration here.named
       alike_b = let own_b = own_of b.store.nodes (judged.carried.stays.reaches names.reached).sound in declared_after own_a.1 (judged.carried.stays.refines names.reached own_b.0 own_b.1) (λ r i. i) here.alike
 
-      found : ReadAs F scope (λ c. constructor_asks c n (path_to qs t) ns) (sight a) G (sight e) n m
+      found : RowRead F scope (λ c. constructor_asks c n (path_to qs t) ns) (sight a) G (sight e) n m
       found =
           let st = judged.carried.stays in
           let y = to (st.aloud ∙ aloud) F scope G n ns names.roots names.names here.declaration here.named (st.reaches names.reached) names.item here.here alike_b
           (λ k r f. root_on st names.reached (names.are_roots k r f)) (all_mean_on st all) in
-          record { carried = carried_after judged.carried each y.carried; means = y.means }
+          record {
+            letters = y.letters;
+            carried = carried_after judged.carried each y.carried;
+            means = y.means;
+            owns = λ known. owns_on keeps_same (λ z h. subst (λ xs. HasCopy xs z) (sym (after_hides judged.carried each y.carried)) ((trans_hides judged.carried y.carried).1 z h)) (y.owns (names.known known).plain);
+          }
 
 -- A constructor of types whose name is there.
 pub name_ends : (a b e : Parts) (env : List Entry) (given : Option Entry) (qs : List Tok) (t : Tok) (ns ms : List ℕ) (n m : ℕ) → BoundIs (found_at env qs kind.TypeName t) given a b (lost_among env qs) t word.Type → NamesTo given b e t ms m →

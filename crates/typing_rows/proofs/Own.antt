@@ -1,5 +1,5 @@
 -- A node whose type is what the choice has for it: at the end of its row, and where it is recorded.
-use Rattle.std.proofs.Common.{◌≡◌, ◌∙◌, ◌⊎◌, inl, inr, ℕ, zero, suc, [], ◌∷◌, ◌++◌, take, refl, sym, ap, subst, append-nil}
+use Rattle.std.proofs.Common.{◌≡◌, ◌∙◌, ◌⊎◌, inl, inr, ℕ, zero, suc, true, [], ◌∷◌, ◌++◌, take, refl, sym, ap, subst, append-nil}
 use Rattle.type_model.specs.Types.{Typ}
 use Rattle.signature_model.specs.Matching.{IsKnown}
 use Rattle.typing_model.specs.Demands.{same, AllHold}
@@ -16,8 +16,11 @@ use Rattle.typing_conditions.proofs.Judged.{follows_silent, starts_all}
 use Rattle.typing_conditions.proofs.Stays.{stays_refl, stays_trans, stays_opened, agrees_before, named_before, bounds_before}
 use Rattle.typing_conditions.proofs.First.{first_one, starts_none}
 use Rattle.typing_conditions.proofs.Carried.{Decides}
-use Rattle.typing_conditions.proofs.Recording.{now_or_before, here_now, records_stay}
-use Rattle.typing_conditions.proofs.Hiding.{settles_none, settles_on}
+use Rattle.typing_conditions.specs.Hiding.{ArePlaced, AreDone, Owns, AreSure}
+use Rattle.typing_conditions.proofs.Keeping.{all_among, carried_kept, kept_done}
+use Rattle.typing_conditions.proofs.Meaning.{means_on}
+use Rattle.typing_conditions.proofs.Recording.{now_or_before, here_now, records_stay, records_note}
+use Rattle.typing_conditions.proofs.Hiding.{placed_before, settles_none, settles_on, owns_sure, none_doubtful}
 
 -- a type is itself
 pub same_itself : {F : Frame} {scope : Scope} {G : Letters} {a : Sight} (type : Choice → Typ) → Carried F scope (λ c. same (type c.chosen) (type c.chosen) ∷ []) a G a G
@@ -25,6 +28,7 @@ same_itself {F} {scope} {G} {a} type = record {
   stays = stays_refl;
   hidden = [];
   settled = settles_none;
+  clear = λ known placed. none_doubtful;
   judged = [];
   told = [];
   reports = sym (append-nil a.reports);
@@ -45,6 +49,7 @@ ends_made {F} {scope} {G} {a} {n} {m} {type} {ends} p end = record {
   stays = stays_opened (own n) p.open_node.inside;
   hidden = [];
   settled = settles_none;
+  clear = λ known placed. none_doubtful;
   judged = [];
   told = [];
   reports = sym (append-nil a.reports);
@@ -75,6 +80,7 @@ own_recorded {F} {scope} {asks} {a} {b} {d} {G} {H} n {p} {m} number it means r 
   stays = stays_trans it.stays later;
   hidden = it.hidden;
   settled = settles_on it.hidden later.keeps it.settled;
+  clear = λ known placed. it.clear known (placed_before later.keeps placed);
   judged = it.judged;
   told = it.told;
   reports = r.reports ∙ it.reports;
@@ -133,3 +139,22 @@ own_recorded {F} {scope} {asks} {a} {b} {d} {G} {H} n {p} {m} number it means r 
     first named zero V c e h = inl (starts_none it.judged)
     first named (suc zero) V c e h = inl (starts_none it.judged)
     first named (suc (suc k)) V c e h = it.first named k V c e h.1.1
+
+-- The letters of its row stay open, as those of a row that is done.
+pub record HeadNoted (F : Frame) (scope : Scope) (asks : Asks) (a : Sight) (G : Letters) (d : Sight) (letters : Letters) (type : Choice → Typ) (m : ℕ) : Type 0 where
+  pub carried : Carried F scope asks a G d (letters ++ G)
+  pub means : Means F d (letters ++ G) type m
+  pub done : AreDone d carried.hidden letters
+
+-- where they are without doubt once it is noted
+pub own_sure : {F : Frame} {scope : Scope} {asks : Asks} {a b d : Sight} {G H : Letters} (letters : Letters) (n : ℕ) {p m : ℕ} (place : number_in b.item p ≡ n) (it : Carried F scope asks a G b H) (means : Means F b H (λ ch. ch.type_at n) m) (r : Records b d p m) →
+    Owns n m b it.hidden letters → F.known ≡ true → ArePlaced d → AreSure a d (own_recorded n place it means r).hidden letters
+unfolding own_recorded
+own_sure letters n place it means r owned known placed = owns_sure it.hidden it.stays.keeps it.settled placed (it.clear known (placed_before (records_note place r).keeps placed)) (records_note place r) owned
+
+unfoldable pub head_noted : {F : Frame} {scope : Scope} {asks : Asks} {a b d : Sight} {G : Letters} (letters : Letters) (n : ℕ) {p m : ℕ} → number_in b.item p ≡ n → (it : Carried F scope asks a G b (letters ++ G)) → Means F b (letters ++ G) (λ ch. ch.type_at n) m → Records b d p m →
+    Owns n m b it.hidden letters → HeadNoted F scope (λ c. tell_typed n c ++ asks c) a G d letters (λ ch. ch.type_at n) m
+head_noted letters n place it means r owned =
+    let whole = own_recorded n place it means r in
+    let sure = own_sure letters n place it means r owned in
+    record { carried = carried_kept letters letters (all_among letters) whole sure; means = means_on (records_stay r means.open_node.inside) means; done = kept_done letters whole sure owned.sure }

@@ -28,6 +28,7 @@ use Rattle.typing_conditions.proofs.Carried.{carried_refl, carried_trans, carrie
 use Rattle.typing_conditions.proofs.Meaning.{means_on, means_more, all_mean_on}
 use Rattle.typing_conditions.proofs.Nodes.{same_made}
 use Rattle.typing_conditions.proofs.Recording.{ends_own}
+use Rattle.typing_conditions.proofs.Hiding.{owns_also, owns_node, owns_row}
 use Rattle.typing_conditions.proofs.Branching.{carried_after}
 use Rattle.typing_conditions.proofs.Surrounding.{surrounds_on}
 use Rattle.typing_steps.specs.States.{is_aloud, sight}
@@ -99,6 +100,7 @@ ends_settable a b d f env es ms p record_node field mutable label goes asked goe
         carried = carried_as (λ c. sym (append_assoc (label_asks c m p) (label_ends c m es (if is_kept c m 0 then label_in_scope c.env p else None)) (mutable_asks c n m p))) behind;
         means = record { open_node = have'.open_node; is = λ V ch loose g. g.given.0.is };
       };
+      owns = λ is_known. owns_also (own m) refl refl (owns_row k.of_row);
       end = ends_own m;
     }
 
@@ -120,6 +122,7 @@ ends_settable_unknown a b d env es ms p ty label goes any = λ aloud F scope G n
         carried = carried_as (λ c. sym (append_assoc (label_asks c m p) (label_ends c m es (if is_kept c m 0 then label_in_scope c.env p else None)) (mutable_asks c n m p))) behind;
         means = v.means;
       };
+      owns = λ is_known. owns_node (own m) refl refl;
       end = ends_own m;
     }
 

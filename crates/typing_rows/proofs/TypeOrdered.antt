@@ -9,7 +9,8 @@ use Rattle.typing_state.specs.Goes.{Goes}
 use Rattle.typing_conditions.specs.Sights.{own}
 use Rattle.typing_conditions.specs.Meanings.{AllMean, none_mean, one_means, types_by}
 use Rattle.typing_conditions.specs.Carrying.{Asks}
-use Rattle.typing_conditions.proofs.Carried.{carried_refl, carried_trans, carried_as}
+use Rattle.typing_conditions.proofs.Carried.{carried_refl, carried_trans, carried_as, done_then, done_last, done_as}
+use Rattle.typing_conditions.proofs.Hiding.{done_none, done_both}
 use Rattle.typing_conditions.proofs.Meaning.{all_mean_on, all_mean_more}
 use Rattle.typing_conditions.proofs.Surrounding.{surrounds_on}
 use Rattle.typing_steps.specs.States.{is_aloud, sight}
@@ -25,7 +26,7 @@ pub none_read : (a : Parts) (env : List Entry) (all : List TypeExpression) → R
 none_read a env all = λ aloud F scope G s. record {
   done = λ c. [];
   nodes = [];
-  read = record { letters = []; carried = carried_refl; means = none_mean };
+  read = record { letters = []; carried = carried_refl; done = done_none; means = none_mean };
   asks = λ c. refl;
   gives = refl;
 }
@@ -41,6 +42,7 @@ one_read a b d env all left t ms m first goes read = λ aloud F scope G s.
       read = record {
         letters = (own t.node, m) ∷ x.read.letters;
         carried = carried_trans x.read.carried y.carried;
+        done = done_both (done_last x.read.carried y.carried y.done) (done_then x.read.carried y.carried x.read.done);
         means = subst (λ types. AllMean F (sight d) ((own t.node, m) ∷ (x.read.letters ++ G)) types (ms ++ m ∷ [])) (sym (types_more x.nodes t.node)) (all_mean_more (all_mean_on y.carried.stays x.read.means) y.means);
       };
       asks = λ c. x.asks c ∙ sym (append_assoc (x.done c) (t.read c) (read_all c left));
@@ -54,16 +56,17 @@ all_read a b env all ms first = λ aloud F scope G s.
     record {
       letters = x.read.letters;
       carried = carried_as (λ c. sym (x.asks c ∙ append-nil (x.done c))) x.read.carried;
+      done = done_as (λ c. sym (x.asks c ∙ append-nil (x.done c))) x.read.carried x.read.done;
       means = subst (λ ns. AllMean F (sight b) (x.read.letters ++ G) (types_at ns) ms) (sym (x.gives ∙ append-nil x.nodes)) x.read.means;
     }
 
 -- no part at all
 pub no_parts_read : (a : Parts) (env : List Entry) → ReadsAll a a env (λ c. []) [] []
-no_parts_read a env = λ aloud F scope G s. record { letters = []; carried = carried_refl; means = none_mean }
+no_parts_read a env = λ aloud F scope G s. record { letters = []; carried = carried_refl; done = done_none; means = none_mean }
 
 -- a single type expression in front of a constructor
 pub alone_read : (a b : Parts) (env : List Entry) (asks : Asks) (n m : ℕ) → ReadsTo a b env asks n m → ReadsAll a b env asks (n ∷ []) (m ∷ [])
-alone_read a b env asks n m read = λ aloud F scope G s. let x = read aloud F scope G s in record { letters = (own n, m) ∷ []; carried = x.carried; means = one_means x.means none_mean }
+alone_read a b env asks n m read = λ aloud F scope G s. let x = read aloud F scope G s in record { letters = (own n, m) ∷ []; carried = x.carried; done = x.done; means = one_means x.means none_mean }
 
 -- the types of nodes by a choice
 pub types_by_nodes : (ch : Choice) (ns : List ℕ) → types_by ch (types_at ns) ≡ map ch.type_at ns

@@ -1,5 +1,5 @@
 -- Whole rows from what their functions carry.
-use Rattle.std.proofs.Common.{◌≡◌, ◌∙◌, ◌++◌, ℕ, Bool, true, false, List, [], ◌∷◌, Option, Some, None, refl, sym, ap, subst, append-nil, if◌then◌else◌}
+use Rattle.std.proofs.Common.{◌≡◌, ◌∙◌, ◌++◌, ℕ, Bool, true, false, List, [], ◌∷◌, Option, Some, None, refl, sym, ap, subst, append-nil, if◌then◌else◌, arith}
 use Rattle.std.specs.Prelude.{codes}
 use Rattle.token_model.specs.Kinds.{Tok, Kind, upper}
 use Rattle.tree_model.specs.Rows.{Row, name_row, epath_row, econst_row, hole_row, eparen_row, ebegin_row, erecord_row, prefix_row, eapp_row, eneg_row, infix_row, eif_row}
@@ -20,6 +20,7 @@ use Rattle.typing_conditions.specs.Steps.{Records}
 use Rattle.typing_conditions.proofs.Carried.{carried_refl}
 use Rattle.typing_conditions.proofs.Meaning.{means_on, means_more}
 use Rattle.typing_conditions.proofs.Surrounding.{surrounds_on}
+use Rattle.typing_conditions.proofs.Hiding.{below_none, below_more}
 use Rattle.typing_steps.specs.States.{is_aloud, sight}
 use Rattle.typing_steps.specs.Rows.{IsNoConstructor}
 use Rattle.typing_steps.specs.Typing.{TypesTo, TypesOwn, TypesAny, TypesRow, RowCarried}
@@ -89,7 +90,7 @@ pub applied_typed : (a b d : Parts) (env : List Entry) (head : Expression) (es :
 applied_typed a b d env head es at ty to n place typed goes given = λ aloud F scope G s.
     let x = typed aloud F scope G s in
     let here : TypesGiven b d env head.at (es a.item) ty to = subst (λ p. TypesGiven b d env p (es a.item) ty to) (sym place) (subst (λ j. TypesGiven b d env at (es j) ty to) goes.item given) in
-    applied_row [] x (here (ap is_aloud goes.telling ∙ aloud) F scope G n 0 0 (λ ch. ch.type_at head.node) (surrounds_on x.carried.stays s) x.means)
+    applied_row [] (below_none n 0) x (here (ap is_aloud goes.telling ∙ aloud) F scope G n 0 0 (λ ch. ch.type_at head.node) (surrounds_on x.carried.stays s) x.means)
 
 -- an operator, with its arguments
 pub operated_typed : (a b d : Parts) (env : List Entry) (t : Tok) (es : ℕ → List Expression) (ty to n : ℕ) → TypesOwn a b env (λ c u. value_asks c n 0 (record { qualifiers = []; last = Some t }) u) ty → Goes a b → TypesGiven b d env (parts.place_of t) (es b.item) ty to →
@@ -97,7 +98,7 @@ pub operated_typed : (a b d : Parts) (env : List Entry) (t : Tok) (es : ℕ → 
 operated_typed a b d env t es ty to n typed goes given = λ aloud F scope G s.
     let x = typed aloud F scope G (key.letter n 0) (λ u. tt) s in
     let here : TypesGiven b d env (parts.place_of t) (es a.item) ty to = subst (λ j. TypesGiven b d env (parts.place_of t) (es j) ty to) goes.item given in
-    applied_row ((key.letter n 0, ty) ∷ []) x (here (ap is_aloud goes.telling ∙ aloud) F scope ((key.letter n 0, ty) ∷ G) n 1 1 (λ ch. ch.letter n 0) (surrounds_on x.carried.stays s) x.means)
+    applied_row ((key.letter n 0, ty) ∷ []) (below_more 0 1 ty (omega arith) (omega arith) (below_none n 0)) x (here (ap is_aloud goes.telling ∙ aloud) F scope ((key.letter n 0, ty) ∷ G) n 1 1 (λ ch. ch.letter n 0) (surrounds_on x.carried.stays s) x.means)
 
 -- a row that asks the same under a minus
 abbrev pub IsUsual : Row → Type 0

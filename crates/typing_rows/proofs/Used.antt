@@ -1,5 +1,6 @@
 -- An instance of a declaration's root whose parameters and unknown types have any keys: the copy has the type of the use.
-use Rattle.std.proofs.Common.{◌≡◌, ◌∙◌, ◌++◌, inl, inr, ℕ, ◌<◌, true, List, [], ◌∷◌, length, refl, sym, ap, subst, append-nil}
+use Rattle.std.proofs.Common.{◌≡◌, ◌∙◌, ◌++◌, inl, inr, ℕ, zero, suc, Some, ◌<◌, true, List, [], ◌∷◌, length, refl, sym, ap, subst, append-nil}
+use Rattle.std.specs.Prelude.{slice_get}
 use Rattle.std.proofs.lemmas.Bool.{eqb-true}
 use Rattle.type_model.specs.Types.{Path, Typ, Typs, occurs, occurs_any}
 use Rattle.type_model.specs.Types.{Typ as type, Typs as types}
@@ -11,6 +12,7 @@ use Rattle.typing_model.specs.Contexts.{Choice, Context}
 use Rattle.type_nodes.specs.Nodes.{Node, IsSound}
 use Rattle.type_nodes.specs.Readings.{Types}
 use Rattle.level_unify.specs.Instances.{Instantiated}
+use Rattle.level_unify.specs.Solutions.{Loose}
 use Rattle.level_unify.proofs.Unified.{fits_loosely}
 use Rattle.typing_conditions.specs.Locals.{IsOwn, Refines}
 use Rattle.typing_conditions.proofs.Own.{own_of}
@@ -29,7 +31,7 @@ use Rattle.typing_conditions.proofs.Carried.{take_none}
 use Rattle.typing_conditions.proofs.First.{starts_none}
 use Rattle.typing_conditions.proofs.Making.{loose_before, reading_before}
 use Rattle.typing_conditions.proofs.Meaning.{agrees_same, inside_longer}
-use Rattle.typing_conditions.proofs.Hiding.{keeps_as, settles_none}
+use Rattle.typing_conditions.proofs.Hiding.{split_get, keeps_as, settles_none, none_doubtful}
 
 -- what is chosen for a name: for a parameter by its number, for an unknown type at the node n
 abbrev pub key_by : (ℕ → Key) → ℕ → Typ → Key
@@ -95,16 +97,42 @@ module _ (key : ℕ → Key) (image : ℕ → ℕ) (nodes : List Node) where
     nodes_at_all types.Nil h = tt
     nodes_at_all (types.Cons t ts) h = nodes_both (images_by key image t) (images_by_all key image ts) nodes (nodes_at t (λ v o. h v (or_left (occurs v t) (occurs_any v ts) o))) (nodes_at_all ts (λ v o. h v (or_right (occurs v t) (occurs_any v ts) o)))
 
--- the letters of a use, and what it carries: nothing is asked, and its node has the type of the use; a copy has other types in the place of the root's variables
-pub record UsedWith (F : Frame) (scope : Scope) (a : Sight) (G : Letters) (b : Sight) (root : ℕ) (type : Choice → Typ) (m : ℕ) : Type 0 where
+mutual
+  -- each is the image of a variable that stands in the type
+  image_by : (key : ℕ → Key) (image : ℕ → ℕ) (t : Typ) (k : ℕ) (x : Key × ℕ) → slice_get (images_by key image t) k ≡ Some x → (v : ℕ) × (occurs v t ≡ true) × (x.0 ≡ key v)
+  image_by key image (type.Var v) zero x e = let s : (key v, image v) ≡ x = cc in (v, eqb_same v, ap (λ (y : Key × ℕ). y.0) (sym s))
+  image_by key image (type.Var v) (suc k) x e = absurd (cc)
+  image_by key image (type.Arrow a b) k x e = elim (split_get (images_by key image a) (images_by key image b) k x e) [
+    | inl (j, f) ↦ let (v, o, p) = image_by key image a j x f in (v, or_left (occurs v a) (occurs v b) o, p)
+    | inr (j, f) ↦ let (v, o, p) = image_by key image b j x f in (v, or_right (occurs v a) (occurs v b) o, p)
+  ]
+  image_by key image (type.Tuple ts) k x e = image_by_all key image ts k x e
+  image_by key image (type.Con c ts) k x e = image_by_all key image ts k x e
+
+  image_by_all : (key : ℕ → Key) (image : ℕ → ℕ) (ts : Typs) (k : ℕ) (x : Key × ℕ) → slice_get (images_by_all key image ts) k ≡ Some x → (v : ℕ) × (occurs_any v ts ≡ true) × (x.0 ≡ key v)
+  image_by_all key image types.Nil k x e = absurd (cc)
+  image_by_all key image (types.Cons t ts) k x e = elim (split_get (images_by key image t) (images_by_all key image ts) k x e) [
+    | inl (j, f) ↦ let (v, o, p) = image_by key image t j x f in (v, or_left (occurs v t) (occurs_any v ts) o, p)
+    | inr (j, f) ↦ let (v, o, p) = image_by_all key image ts j x f in (v, or_right (occurs v t) (occurs_any v ts) o, p)
+  ]
+
+-- the letters of a use, and what it carries: nothing is asked, and its node has the type of the use; a copy has other types in the place of the root's variables.
+-- The letters are the images of the root's variables, each with its key.
+pub record UsedWith (key : ℕ → Key) (F : Frame) (scope : Scope) (a : Sight) (G : Letters) (b : Sight) (root : ℕ) (type : Choice → Typ) (m : ℕ) : Type 0 where
   pub letters : Letters
   pub typed : CarriedTo F scope (λ c. []) a G b (letters ++ G) type m
+  pub types : Types
+  pub own_types : IsOwn a.nodes types
+  pub image : ℕ → ℕ
+  pub each : (k : ℕ) (x : Key × ℕ) → slice_get letters k ≡ Some x → (v : ℕ) × (occurs v (types root) ≡ true) × (x.0 ≡ key v)
+  pub given : (V : Types) (ch : Choice) → ((v : ℕ) → occurs v (types root) ≡ true → value_of ch (key v) ≡ V (image v)) → AreGiven letters V ch
+  pub copy : (V : Types) → Loose b.nodes V → V m ≡ apply (λ v. V (image v)) (types root)
   pub copies : (I K : Types) → IsOwn a.nodes I → IsOwn b.nodes K → (u : Subst) × (K m ≡ apply u (I root))
 
 -- An instance of a root that stands for a type has that type as it is used with these arguments and these types for the unknown ones, where the keys are chosen so.
 pub root_used : {F : Frame} {scope : Scope} {G : Letters} {a b : Sight} {C : List ℕ} {N : Types} {arity root m : ℕ} {t : Typ} (key : ℕ → Key) → ((v : ℕ) (x : Typ) → IsKnownFor (key v) x) → (s : Choice → Subst) (f : Choice → Path → Typ) →
     ((ch : Choice) (J : Types) → IsOwn a.nodes J → (v : ℕ) → occurs v (J root) ≡ true → value_of ch (key v) ≡ used (s ch) (f ch) (N v)) → Reaches F a → IsRoot F a root → RootAs a.nodes C N arity root t →
-    IsSound b.nodes → Instantiated a.nodes b.nodes root F.level m → OnlyNodes a b → UsedWith F scope a G b root (λ ch. used (s ch) (f ch) t) m
+    IsSound b.nodes → Instantiated a.nodes b.nodes root F.level m → OnlyNodes a b → UsedWith key F scope a G b root (λ ch. used (s ch) (f ch) t) m
 root_used {F} {scope} {G} {a} {b} {C} {N} {arity} {root} {m} {t} key free s f named reached is_root as_root sound taken rest = record {
   letters = letters;
   typed = record {
@@ -112,6 +140,7 @@ root_used {F} {scope} {G} {a} {b} {C} {N} {arity} {root} {m} {t} key free s f na
       stays = stays;
       hidden = [];
       settled = settles_none;
+      clear = λ known placed. none_doubtful;
       judged = [];
       told = [];
       reports = rest.reports ∙ sym (append-nil a.reports);
@@ -126,6 +155,12 @@ root_used {F} {scope} {G} {a} {b} {C} {N} {arity} {root} {m} {t} key free s f na
       is = λ V ch loose g. take_sound own_a.1 as_root images V (s ch) (f ch) loose (λ v o. sym (named ch own_a.0 own_a.1 v o) ∙ given_at key free images.image V ch (own_a.0 root) (given_left V ch letters G g.given) v o);
     };
   };
+  types = own_a.0;
+  own_types = own_a.1;
+  image = images.image;
+  each = λ k x e. image_by key images.image (own_a.0 root) k x e;
+  given = λ V ch h. at_given key free images.image V ch (own_a.0 root) h;
+  copy = images.is;
   copies = λ I K own_i own_k. let i = images_of own_i own_k taken (λ v o. named_bound (as_root.named I own_i v o)) in ((λ v. K (i.image v)), i.is K own_k.loose);
 }
   where

@@ -17,6 +17,7 @@ use Rattle.typing_conditions.specs.Frames.{Frame, Reaches}
 use Rattle.typing_conditions.specs.Judging.{AreKept}
 use Rattle.typing_conditions.specs.Meanings.{Means, AllMean}
 use Rattle.typing_conditions.specs.Carrying.{Asks, Scope, Carried, CarriedTo}
+use Rattle.typing_conditions.specs.Hiding.{AreOfRow, AreBelow, AreDone}
 use Rattle.typing_conditions.specs.Surroundings.{Surrounds}
 use Rattle.typing_steps.specs.States.{is_aloud, sight}
 use Rattle.typing_steps.specs.Rows.{MakesTwo, AsksArrow, argument_asks, given_from, result_of}
@@ -56,9 +57,10 @@ abbrev pub TypesAs : (a b : Parts) → List Entry → Expression → (wanted : �
 TypesAs a b env e wanted = is_aloud a.telling ≡ true → (F : Frame) (scope : Scope) (G : Letters) (n k : ℕ) (t : Choice → Typ) → Surrounds as_declared F (sight a) G env scope → Means F (sight a) G t wanted →
     Carried F scope (λ c. e.typed c ++ has_type c n k e (t c.chosen)) (sight a) G (sight b) G
 
--- of a head's arguments all were typed
+-- of a head's arguments all were typed; their letters belong to the row alone, with others of places before
 pub record GivenAll (F : Frame) (scope : Scope) (a : Sight) (G : Letters) (b : Sight) (head : Choice → Typ) (n k j : ℕ) (at : Place) (es : List Expression) (m : ℕ) : Type 0 where
   pub own : Letters
+  pub of_row : (mine : Letters) → AreBelow n j mine → AreOfRow n (own ++ mine)
   pub typed : CarriedTo F scope (λ c. given_from c n k j at (head c.chosen) es) a G b (own ++ G) (λ ch. result_of ch n j (head ch) es) m
 
 -- the first ones were, and some are left
@@ -66,6 +68,7 @@ pub record GivenFirst (F : Frame) (scope : Scope) (a : Sight) (G : Letters) (b :
   pub own : Letters
   pub k' : ℕ
   pub j' : ℕ
+  pub below : (mine : Letters) → AreBelow n j mine → AreBelow n j' (own ++ mine)
   pub type : Choice → Typ
   pub done : Asks
   pub typed : CarriedTo F scope done a G b (own ++ G) type m
@@ -160,6 +163,7 @@ TypesAsIf a b env e (Some wanted) = TypesAs a b env e wanted
 pub record HeadCarried (F : Frame) (scope : Scope) (a : Sight) (G : Letters) (b : Sight) (n head : ℕ) (p : Written) (known : Bool) (e : Expression) (m : ℕ) : Type 0 where
   pub own : Letters
   pub typed : CarriedTo F scope (λ c. head_asks c n p head e) a G b (own ++ G) (λ ch. ch.type_at head) m
+  pub done : AreDone b typed.carried.hidden own
   pub found : InEach F scope a G (λ c. AreKept c.kept typed.carried.judged → is_some (then_by p.last (built_by c n p)) ≡ known)
 
 -- a constructor with its first argument

@@ -16,13 +16,14 @@ use Rattle.env_table.specs.declared.entries.What.TheVariants as what
 use Rattle.typing_state.specs.declared.parts.Parts.{Parts}
 use Rattle.typing_state.specs.Goes.{OnlyStore}
 use Rattle.typing_state.specs.Types.{MakesVar, any_scope}
-use Rattle.typing_conditions.specs.Declared.{DeclaredAs}
+use Rattle.typing_conditions.specs.Declared.{NoneUnknown, DeclaredAs}
 use Rattle.typing_conditions.specs.Sights.{Sight, Letters}
 use Rattle.typing_conditions.specs.Frames.{Frame, Reaches, IsRoot}
 use Rattle.typing_conditions.specs.Meanings.{AllMean}
 use Rattle.typing_conditions.specs.Carrying.{Scope, CarriedTo}
+use Rattle.typing_conditions.specs.Hiding.{AreOfRow}
 use Rattle.typing_steps.specs.States.{is_aloud, sight}
-use Rattle.typing_rows.specs.TypeContracts.{types_at, ReadAs}
+use Rattle.typing_rows.specs.TypeContracts.{types_at, RowReadIf}
 
 -- the declaration of a type's entry
 abbrev pub declared_in : What → Option Declaration
@@ -33,21 +34,23 @@ declared_in _ = None
 abbrev pub applied_by : ℕ → List ℕ → Typ → Choice → Typ
 applied_by n ns t ch = used (argument (types_of (map ch.type_at ns))) (ch.filled n) t
 
--- nothing is asked, and a node has the type of a declaration over the types of the nodes ns; there are letters for its unknown types
-pub record AppliedAs (F : Frame) (scope : Scope) (a : Sight) (G : Letters) (b : Sight) (n : ℕ) (ns : List ℕ) (t : Typ) (m : ℕ) : Type 0 where
+-- Nothing is asked, and a node has the type of a declaration over the types of the nodes ns; there are letters for its unknown types, which belong to the row alone where no
+-- name is an unknown type.
+pub record AppliedAs (names : Types) (F : Frame) (scope : Scope) (a : Sight) (G : Letters) (b : Sight) (n : ℕ) (ns : List ℕ) (t : Typ) (m : ℕ) : Type 0 where
   pub letters : Letters
   pub typed : CarriedTo F scope (λ c. []) a G b (letters ++ G) (applied_by n ns t) m
+  pub of_row : NoneUnknown names → AreOfRow n letters
 
 -- A call gives a declaration of the code these arguments: its node has the type of the definitions' declaration over the types of their nodes.
 abbrev pub AppliesTo : (a b : Parts) → Declaration → List ℕ → ℕ → Type 0
 AppliesTo a b d ms m = (F : Frame) (scope : Scope) (G : Letters) (n : ℕ) (ns roots : List ℕ) (names : Types) (e : rules.Declaration) → Reaches F (sight a) → DeclaredAs a.store.nodes roots names d e →
-    ((k r : ℕ) → slice_get roots k ≡ Some r → IsRoot F (sight a) r) → length ns ≡ e.arity → AllMean F (sight a) G (types_at ns) ms → AppliedAs F scope (sight a) G (sight b) n ns (type_of e) m
+    ((k r : ℕ) → slice_get roots k ≡ Some r → IsRoot F (sight a) r) → length ns ≡ e.arity → AllMean F (sight a) G (types_at ns) ms → AppliedAs names F scope (sight a) G (sight b) n ns (type_of e) m
 
 -- Where faults are reported, a call carries what the definitions ask of the name t of the type with this entry, over arguments.
 abbrev pub DeclaresTo : (a b : Parts) → Tok → Entry → List ℕ → ℕ → Type 0
 DeclaresTo a b t x ms m = is_aloud a.telling ≡ true → (F : Frame) (scope : Scope) (G : Letters) (n : ℕ) (ns roots : List ℕ) (names : Types) (d : Declaration) (e : rules.Declaration) → Reaches F (sight a) → scope.variables ≡ in_item F.owner →
     declared_in x.what ≡ Some d → DeclaredAs a.store.nodes roots names d e → ((k r : ℕ) → slice_get roots k ≡ Some r → IsRoot F (sight a) r) → AllMean F (sight a) G (types_at ns) ms →
-    ReadAs F scope (λ c. declared_type c n t ns (Some e)) (sight a) G (sight b) n m
+    RowReadIf (NoneUnknown names) F scope (λ c. declared_type c n t ns (Some e)) (sight a) G (sight b) n m
 
 -- the same where an entry is found; else the type is a new one
 abbrev pub NamesTo : Option Entry → (a b : Parts) → Tok → List ℕ → ℕ → Type 0

@@ -14,16 +14,16 @@ use Rattle.type_nodes.specs.Changes.{Makes}
 use Rattle.env_table.specs.declared.entries.Entry.{Entry}
 use Rattle.typing_state.specs.declared.parts.Parts.{Parts}
 use Rattle.typing_state.specs.Goes.{OnlyStore}
-use Rattle.typing_conditions.specs.Sights.{own, Letters}
+use Rattle.typing_conditions.specs.Sights.{Letters}
 use Rattle.typing_conditions.specs.Frames.{Frame}
 use Rattle.typing_conditions.specs.Meanings.{Means}
-use Rattle.typing_conditions.specs.Carrying.{Scope, CarriedTo}
+use Rattle.typing_conditions.specs.Carrying.{Scope}
 use Rattle.typing_conditions.specs.Surroundings.{Surrounds}
 use Rattle.typing_steps.specs.States.{is_aloud, sight}
 use Rattle.typing_steps.specs.Typing.{as_declared}
 use Rattle.operand_laws.specs.Formed.{row_of, IsFormed, IsPartFormed, IsOperandFormed}
 use Rattle.operand_laws.specs.Operands.{number_of, type_of}
-use Rattle.typing_rows.specs.TypeContracts.{ReadsTo, ReadsAll, EndsRead}
+use Rattle.typing_rows.specs.TypeContracts.{ReadAs, ReadsRow, ReadsTo, ReadsAll, EndsRead}
 use Rattle.typing_rows.specs.Rows.{types_read, front_nodes, front_asks, end_asks}
 
 -- a node's place is that of its extent
@@ -53,7 +53,7 @@ ReadsOperand a b env o m = IsTypeOperand o → ReadsTo a b env (λ c. (type_of a
 
 -- the same of a part, up to the record of its node
 abbrev pub ReadsPart : (a b : Parts) → List Entry → (number : ℕ) → Place → Part → ℕ → Type 0
-ReadsPart a b env number at p m = IsPartFormed number p → IsPartPlaced at p → ReadsTo a b env (λ c. part_asks a.item number at p c) (number_of a.item number) m
+ReadsPart a b env number at p m = IsPartFormed number p → IsPartPlaced at p → ReadsRow a b env (λ c. part_asks a.item number at p c) (number_of a.item number) m
 
 -- the same of operands in order
 abbrev pub ReadsOperands : (a b : Parts) → List Entry → List Numbered → List ℕ → Type 0
@@ -74,7 +74,7 @@ EndsRow a b env t ms m = (number : ℕ) (at : Place) → IsFormed number t → I
 
 -- a type variable, which may be missing, among any names and for any node
 abbrev pub ReadsVariable : (a b : Parts) → Option Tok → ℕ → Type 0
-ReadsVariable a b o m = (env : List Entry) (n : ℕ) (at : Place) → ReadsTo a b env (λ c. (tvar n at o).read c) n m
+ReadsVariable a b o m = (env : List Entry) (n : ℕ) (at : Place) → ReadsRow a b env (λ c. (tvar n at o).read c) n m
 
 -- a constructor of types behind its arguments, for any node
 abbrev pub EndsName : (a b : Parts) → List Entry → Written → List ℕ → ℕ → Type 0
@@ -103,4 +103,4 @@ EndsPlainRow a b t ms m = HasNoConstructor (row_of t) → (env : List Entry) (nu
 -- a part with the type `is` has the type w that is written behind it, whose node has a letter then; it is demanded for any site
 abbrev pub Annotates : (a b : Parts) → List Entry → TypeExpression → Place → (found m : ℕ) → Type 0
 Annotates a b env w place found m = is_aloud a.telling ≡ true → (F : Frame) (scope : Scope) (G : Letters) (n k : ℕ) (is : Choice → Typ) → Surrounds as_declared F (sight a) G env scope → Means F (sight a) G is found →
-    CarriedTo F scope (λ c. w.read c ++ ask n k place (equal (is c.chosen) (type_at c w.node))) (sight a) G (sight b) ((own w.node, m) ∷ G) (λ ch. ch.type_at w.node) m
+    ReadAs F scope (λ c. w.read c ++ ask n k place (equal (is c.chosen) (type_at c w.node))) (sight a) G (sight b) w.node m

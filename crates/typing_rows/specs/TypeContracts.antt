@@ -1,5 +1,5 @@
 -- What functions that read type expressions of an item carry.
-use Rattle.std.specs.Prelude.{◌≡◌, ℕ, true, List, ◌∷◌, ◌++◌, map}
+use Rattle.std.specs.Prelude.{◌≡◌, ℕ, true, List, [], ◌∷◌, ◌++◌, map}
 use Rattle.type_model.specs.Types.{Typ}
 use Rattle.typing_model.specs.Contexts.{Choice, Context}
 use Rattle.typing_model.specs.Parts.{TypeExpression}
@@ -8,17 +8,36 @@ use Rattle.env_table.specs.declared.entries.Entry.{Entry}
 use Rattle.typing_state.specs.declared.parts.Parts.{Parts}
 use Rattle.typing_conditions.specs.Sights.{Sight, own, Letters}
 use Rattle.typing_conditions.specs.Frames.{Frame}
-use Rattle.typing_conditions.specs.Meanings.{AllMean}
-use Rattle.typing_conditions.specs.Carrying.{Asks, Scope, Carried, CarriedTo}
+use Rattle.typing_conditions.specs.Meanings.{Means, AllMean}
+use Rattle.typing_conditions.specs.Carrying.{Asks, Scope, Carried}
+use Rattle.typing_conditions.specs.Hiding.{AreDone, Owns}
 use Rattle.typing_conditions.specs.Surroundings.{Surrounds}
 use Rattle.typing_steps.specs.States.{is_aloud, sight}
 use Rattle.typing_steps.specs.Typing.{as_declared}
 
--- conditions are carried, and then the choice has for the node n the type of m: as no type is recorded for n, the two are a letter
-abbrev pub ReadAs : Frame → Scope → Asks → Sight → Letters → Sight → (n m : ℕ) → Type 0
-ReadAs F scope asks a G b n m = CarriedTo F scope asks a G b ((own n, m) ∷ G) (λ ch. ch.type_at n) m
+-- Conditions of a type expression whose node n isn't noted yet are carried, and then the choice has for it the type of m: as no type is recorded for n, the two are a letter;
+-- there are further letters of its row. `owns`: they are without doubt once the node is noted, where this is `sure`.
+pub record RowReadIf (sure : Type 0) (F : Frame) (scope : Scope) (asks : Asks) (a : Sight) (G : Letters) (b : Sight) (n m : ℕ) : Type 0 where
+  pub letters : Letters
+  pub carried : Carried F scope asks a G b ((own n, m) ∷ letters ++ G)
+  pub means : Means F b ((own n, m) ∷ letters ++ G) (λ ch. ch.type_at n) m
+  pub owns : sure → Owns n m b carried.hidden ((own n, m) ∷ letters)
 
--- Where faults are reported, a call carries these conditions of a type expression with the node n, whatever the frame, the names in scope and the letters around it.
+-- that is where all of names is known
+abbrev pub RowRead : Frame → Scope → Asks → Sight → Letters → Sight → (n m : ℕ) → Type 0
+RowRead F scope asks a G b n m = RowReadIf (F.known ≡ true) F scope asks a G b n m
+
+-- where faults are reported, a call carries these conditions of a type expression whose node n is noted later, whatever the frame, the names in scope and the letters around it
+abbrev pub ReadsRow : (a b : Parts) → List Entry → Asks → (n m : ℕ) → Type 0
+ReadsRow a b env asks n m = is_aloud a.telling ≡ true → (F : Frame) (scope : Scope) (G : Letters) → Surrounds as_declared F (sight a) G env scope → RowRead F scope asks (sight a) G (sight b) n m
+
+-- The same once the node is noted: the letter is one of a row that is done, and the others are closed.
+pub record ReadAs (F : Frame) (scope : Scope) (asks : Asks) (a : Sight) (G : Letters) (b : Sight) (n m : ℕ) : Type 0 where
+  pub carried : Carried F scope asks a G b ((own n, m) ∷ G)
+  pub means : Means F b ((own n, m) ∷ G) (λ ch. ch.type_at n) m
+  pub done : AreDone b carried.hidden ((own n, m) ∷ [])
+
+-- where faults are reported, a call carries these conditions of a type expression with the node n
 abbrev pub ReadsTo : (a b : Parts) → List Entry → Asks → (n m : ℕ) → Type 0
 ReadsTo a b env asks n m = is_aloud a.telling ≡ true → (F : Frame) (scope : Scope) (G : Letters) → Surrounds as_declared F (sight a) G env scope → ReadAs F scope asks (sight a) G (sight b) n m
 
@@ -30,6 +49,7 @@ types_at ns = map (λ (n : ℕ) (ch : Choice). ch.type_at n) ns
 pub record AllRead (F : Frame) (scope : Scope) (asks : Asks) (a : Sight) (G : Letters) (b : Sight) (ns ms : List ℕ) : Type 0 where
   pub letters : Letters
   pub carried : Carried F scope asks a G b (letters ++ G)
+  pub done : AreDone b carried.hidden letters
   pub means : AllMean F b (letters ++ G) (types_at ns) ms
 
 -- where faults are reported, a call carries the conditions of several type expressions
@@ -51,4 +71,4 @@ ReadsFirst a b env all left ms = is_aloud a.telling ≡ true → (F : Frame) (sc
 -- the end of a type expression with the node n, once the parts with the nodes ns are read and have the types of ms
 abbrev pub EndsRead : (a b : Parts) → List Entry → Asks → (ns ms : List ℕ) → (n m : ℕ) → Type 0
 EndsRead a b env asks ns ms n m = is_aloud a.telling ≡ true → (F : Frame) (scope : Scope) (G : Letters) → Surrounds as_declared F (sight a) G env scope → AllMean F (sight a) G (types_at ns) ms →
-    ReadAs F scope asks (sight a) G (sight b) n m
+    RowRead F scope asks (sight a) G (sight b) n m

@@ -1,5 +1,5 @@
 -- A state in which nothing has been typed yet.
-use Rattle.std.specs.Prelude.{◌≡◌, ℕ, List, [], ◌∷◌, None}
+use Rattle.std.specs.Prelude.{◌≡◌, ℕ, [], ◌∷◌, None}
 use Rattle.type_nodes.specs.Nodes.{Con}
 use Rattle.type_nodes.specs.States.{State, state}
 use Rattle.type_nodes.specs.Changes.{Makes}

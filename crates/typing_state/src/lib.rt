@@ -17,7 +17,7 @@ mod parts;
 pub use built_ins::{BuiltIn, Constants};
 pub use demands::Verdict;
 pub use depth::Depth;
-pub use entries::{declaration_of, new_entry, share_entry};
+pub use entries::{declaration_of, share_entry};
 pub use env_table::{Entry, Env, Faults};
 pub use messages::Word;
 pub use names::{modules_of, path_of};

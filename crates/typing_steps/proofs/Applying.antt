@@ -1,5 +1,5 @@
 -- The row of an application whose head is no constructor: the head, one argument after the other, and the record of its node.
-use Rattle.std.proofs.Common.{◌≡◌, ◌∙◌, ◌++◌, ℕ, ◌+◌, List, [], ◌∷◌, refl, sym, ap, append_assoc, append-nil}
+use Rattle.std.proofs.Common.{◌≡◌, ◌∙◌, ◌++◌, ℕ, ◌+◌, List, [], ◌∷◌, refl, sym, ap, append_assoc, append-nil, arith}
 use Rattle.tree_model.specs.Trees.{Place}
 use Rattle.type_model.specs.Types.{Typ}
 use Rattle.typing_model.specs.Demands.{same}
@@ -17,10 +17,11 @@ use Rattle.typing_conditions.proofs.Carried.{carried_refl, carried_trans}
 use Rattle.typing_conditions.proofs.Recording.{ends_same, row_recorded}
 use Rattle.typing_conditions.proofs.Answering.{then_to, to_as}
 use Rattle.typing_steps.specs.Rows.{argument_asks, given_from, result_of, TypesSome, IsNoConstructor}
+use Rattle.typing_conditions.proofs.Hiding.{below_none, below_more, owns_row}
 
 -- no argument yet
 pub some_none : {F : Frame} {scope : Scope} {a : Sight} {G : Letters} {head : Choice → Typ} {m : ℕ} (n : ℕ) (at : Place) (es : List Expression) → Means F a G head m → TypesSome F scope a G a head n at es es m
-some_none {head = head} n at es has = record { own = []; k' = 0; j' = 0; type = head; done = λ c. []; carried = carried_refl; means = has; asks = λ c. refl; gives = λ ch. refl }
+some_none {head = head} n at es has = record { own = []; k' = 0; j' = 0; below = below_none n 0; type = head; done = λ c. []; carried = carried_refl; means = has; asks = λ c. refl; gives = λ ch. refl }
 
 -- one argument more
 pub some_more : {F : Frame} {scope : Scope} {a b d : Sight} {G : Letters} {head : Choice → Typ} {n : ℕ} {at : Place} {all left : List Expression} {m from to : ℕ} (e : Expression) (p : TypesSome F scope a G b head n at all (e ∷ left) m) →
@@ -29,6 +30,7 @@ some_more {n = n} {at = at} {left = left} {from = from} {to = to} e p q = record
   own = (letter n (p.j' + 1), to) ∷ (letter n p.j', from) ∷ p.own;
   k' = p.k' + 2;
   j' = p.j' + 2;
+  below = below_more (p.j' + 1) (p.j' + 2) to (omega arith) (omega arith) (below_more p.j' (p.j' + 1) from (omega arith) (omega arith) p.below);
   type = λ ch. ch.letter n (p.j' + 1);
   done = λ c. p.done c ++ argument_asks c n p.k' p.j' at (p.type c.chosen) e;
   carried = carried_trans p.carried q.carried;
@@ -65,6 +67,6 @@ pub application_recorded : {F : Frame} {scope : Scope} {a b d e : Sight} {G : Le
     CarriedTo F scope (λ c. (recorded_expression n (application n at head es)).typed c) a G e G (λ ch. ch.type_at n) m
 application_recorded {n = n} at head es number plain first p r =
     let given = then_to first.carried (some_all p) in
-    let whole = row_recorded p.own n number given (ends_same n (λ ch. result_of ch n 0 (ch.type_at head.node) es)) r in
+    let whole = row_recorded p.own n number given (ends_same n (λ ch. result_of ch n 0 (ch.type_at head.node) es)) r (λ known. owns_row p.below.of_row) in
     to_as (λ c. ap (λ xs. contexts.tell_typed n c ++ xs) (append_assoc (head.typed c) (given_from c n 0 0 head.at (type_at c head.node) es) (same (type_at c n) (result_of c.chosen n 0 (type_at c head.node) es) ∷ []) ∙
     ap (λ xs. head.typed c ++ xs) (applied_split c n 0 0 head.at (type_at c head.node) es) ∙ application_as c n head es head.form plain)) (λ ch. refl) whole

@@ -206,7 +206,7 @@ module _ (a b : Parts) {F : Frame} {scope : Scope} {G : Letters} {env : List Ent
     pub constructor_known : BuildsKnown F scope (sight a) G (sight e) n own given path m argument
     constructor_known =
         let sides = sides_typed e own found.result found.argument makes.takes taking.splits taking.typed.means split in
-        record { building = found; letters = taking.own; carried = whole; kept = kept_whole; finds = finds_each; builds = sides.0; takes = sides.1 }
+        record { building = found; letters = taking.own; of_row = taking.of_row; carried = whole; kept = kept_whole; finds = finds_each; builds = sides.0; takes = sides.1 }
 
   -- No constructor is known: what is built has a type of its own.
   module _ (e : Parts) {m : ℕ} (key : Key) (free : (z : Typ) → IsKnownFor key z) (made : MakesVar b e m any_scope) (rest : OnlyStore b e) where

@@ -38,7 +38,7 @@ use Rattle.typing_conditions.proofs.Nodes.{made_stays}
 use Rattle.typing_steps.specs.States.{sight}
 use Rattle.typing_steps.proofs.Seeing.{only_nodes, level_here}
 use Rattle.typing_steps.proofs.Limiting.{LimitAsks, Limited}
-use Rattle.typing_conditions.proofs.Hiding.{settles_none}
+use Rattle.typing_conditions.proofs.Hiding.{settles_none, none_doubtful}
 
 -- two open types were made one: they are the same
 pub same_joined : {F : Frame} {scope : Scope} {G : Letters} {first second : Choice → Typ} {m n : ℕ} {a b : Sight} → IsSound b.nodes → Means F a G first m → Means F a G second n → OnlyNodes a b → Tightens a.nodes b.nodes → Unified a.nodes b.nodes m n →
@@ -47,6 +47,7 @@ same_joined {F} {scope} {G} {first} {second} {m} {n} {a} {b} sound p q rest tigh
   stays = stays;
   hidden = [];
   settled = settles_none;
+  clear = λ known placed. none_doubtful;
   judged = [];
   told = [];
   reports = rest.reports ∙ sym (append-nil a.reports);
@@ -110,6 +111,7 @@ scoped_letter {F} {scope} {G} {a} {b} {s} {t} {n} {o} {asks} key free limits r m
     stays = made_stays ((key, n) ∷ []) opened makes rest (opened.inside, tt);
     hidden = [];
     settled = settles_none;
+    clear = λ known placed. none_doubtful;
     judged = [];
     told = [];
     reports = rest.reports ∙ sym (append-nil a.reports);

@@ -52,7 +52,8 @@ use Rattle.typing_steps.proofs.Seeing.{only_nodes, level_here}
 use Rattle.typing_steps.proofs.Still.{state_still}
 use Rattle.typing_steps.proofs.Finding.{bound_asked}
 use Rattle.typing_steps.proofs.Valued.{found_of_kind}
-use Rattle.typing_steps.proofs.Taken.{TakenWith, root_taken, arrow_inside}
+use Rattle.typing_steps.proofs.Images.{arrow_inside}
+use Rattle.typing_steps.proofs.Taken.{TakenWith, root_taken}
 use Rattle.typing_steps.proofs.Sides.{reads_arrow, from_means, to_means}
 use Rattle.typing_steps.proofs.Constructing.{hole_none, if_none}
 
@@ -150,6 +151,7 @@ module _ (a b : Parts) {F : Frame} {scope : Scope} {G : Letters} {env : List Ent
         owner = type_of here.owner;
         body = here.named.body;
         letters = taking.own;
+        of_row = taking.of_row;
         carried = whole;
         kept = kept_whole;
         finds = finds_each;

@@ -17,6 +17,8 @@ pub mod Valued
 pub mod Applying
 pub mod Writing
 pub mod Listing
+pub mod Images
+pub mod Covering
 pub mod Taken
 pub mod Sides
 pub mod Constructing

@@ -39,7 +39,7 @@ use Rattle.typing_conditions.proofs.First.{starts_none}
 use Rattle.typing_conditions.proofs.Framing.{sound_made, written_next}
 use Rattle.typing_conditions.proofs.Making.{with_type, at_own, at_older, in_any_scope, makes_extends, made_here, reading_before, fits_made}
 use Rattle.typing_conditions.proofs.Meaning.{agrees_same, inside_longer}
-use Rattle.typing_conditions.proofs.Hiding.{keeps_as, settles_none}
+use Rattle.typing_conditions.proofs.Hiding.{keeps_as, settles_none, none_doubtful}
 
 -- What is asked of a type that is limited to a scope: that its origins are in the scope.
 pub record LimitAsks (scope : ℕ) (type : Choice → Typ) (asks : Asks) : Type 0 where
@@ -202,6 +202,7 @@ limit_asked {F} {a} {b} {mid} {v} {l} {o} {m} {scope} {G} {type} {asks} at p lim
   stays = stays;
   hidden = [];
   settled = settles_none;
+  clear = λ known placed. none_doubtful;
   judged = [];
   told = [];
   reports = at.rest.reports ∙ sym (append-nil a.reports);

@@ -20,6 +20,7 @@ use Rattle.typing_conditions.specs.Carrying.{Scope, Carried, CarriedTo}
 use Rattle.typing_conditions.proofs.Carried.{carried_refl, carried_trans, carried_as}
 use Rattle.typing_conditions.proofs.Meaning.{all_mean_on, all_mean_more}
 use Rattle.typing_conditions.proofs.Recording.{ends_same, row_recorded}
+use Rattle.typing_conditions.proofs.Hiding.{owns_none}
 use Rattle.typing_conditions.proofs.Answering.{then_made, to_as}
 use Rattle.typing_steps.specs.States.{sight}
 use Rattle.typing_steps.specs.Rows.{TypesParts}
@@ -59,4 +60,4 @@ tuple_recorded b d {F} {scope} {a} {e} {G} {ms} {n} {number} {m} at es place rea
     let whole = then_made (parts_all p) (tuple_over b d {scope = scope} reached p.means made rest) in
     let typed : CarriedTo F scope (λ c. typed_all c es) a G (sight d) G (λ ch. type.Tuple (types_of (map (λ (f : Expression). ch.type_at f.node) es))) m =
     to_as (λ c. refl) (λ ch. ap (λ ts. type.Tuple (types_of ts)) (sym (append-nil (types_by ch p.types)) ∙ sym (p.gives ch))) whole in
-    row_recorded [] n place typed (ends_same n (λ ch. type.Tuple (types_of (map (λ (f : Expression). ch.type_at f.node) es)))) r
+    row_recorded [] n place typed (ends_same n (λ ch. type.Tuple (types_of (map (λ (f : Expression). ch.type_at f.node) es)))) r (λ known. owns_none)

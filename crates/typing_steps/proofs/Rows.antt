@@ -17,6 +17,7 @@ use Rattle.typing_conditions.specs.Frames.{Frame}
 use Rattle.typing_conditions.specs.Steps.{Records}
 use Rattle.typing_conditions.specs.Carrying.{Asks, Scope, CarriedTo}
 use Rattle.typing_conditions.proofs.Recording.{ends_own, row_recorded}
+use Rattle.typing_conditions.proofs.Hiding.{owns_node}
 use Rattle.typing_conditions.proofs.Answering.{to_as}
 use Rattle.typing_steps.specs.Typing.{TypesOwn, TypesAny, RowCarried, TypesRow, AsksEqual}
 use Rattle.typing_steps.proofs.Making.{var_made}
@@ -25,13 +26,13 @@ use Rattle.typing_steps.proofs.Comparing.{equal_asked}
 -- A row whose type is recorded then carries what its node asks in all, and its node has its type.
 pub row_carried : {F : Frame} {scope : Scope} {asks : Asks} {a b d : Sight} {G : Letters} {n number m : ℕ} → number_in b.item number ≡ n → RowCarried F scope asks a G b n m → Records b d number m →
     CarriedTo F scope (λ c. tell_typed n c ++ asks c) a G d G (λ ch. ch.type_at n) m
-row_carried {n = n} number row r = to_as (λ c. ap (λ cs. tell_typed n c ++ cs) (row.all c)) (λ ch. refl) (row_recorded row.own n number row.typed row.end r)
+row_carried {n = n} number row r = to_as (λ c. ap (λ cs. tell_typed n c ++ cs) (row.all c)) (λ ch. refl) (row_recorded row.own n number row.typed row.end r row.owns)
 
 -- what a row asks may be written in another way
 pub row_asks : (a b : Parts) {env : List Entry} {asks others : Asks} {n m : ℕ} → ((c : Context) → asks c ≡ others c) → TypesRow a b env asks n m → TypesRow a b env others n m
 row_asks a b e row aloud F scope G at =
     let r = row aloud F scope G at in
-    record { own = r.own; type = r.type; first = r.first; ends = r.ends; all = λ c. r.all c ∙ e c; typed = r.typed; end = r.end }
+    record { own = r.own; type = r.type; first = r.first; ends = r.ends; all = λ c. r.all c ∙ e c; typed = r.typed; owns = r.owns; end = r.end }
 
 -- a row whose type is its own, as that of a name
 pub row_own : (a b : Parts) {env : List Entry} {m : ℕ} (asks : Context → Typ → List Condition) (n : ℕ) → TypesOwn a b env asks m → TypesRow a b env (λ c. asks c (c.chosen.type_at n)) n m
@@ -42,6 +43,7 @@ row_own a b {m = m} asks n typed aloud F scope G at = record {
   ends = λ c. [];
   all = λ c. append-nil (asks c (c.chosen.type_at n));
   typed = typed aloud F scope G (own n) (λ t. tt) at;
+  owns = λ known. owns_node (own n) refl refl;
   end = ends_own n;
 }
 

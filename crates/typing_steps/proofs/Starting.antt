@@ -1,5 +1,5 @@
 -- The state at an item's start, and the nodes of the built-in types.
-use Rattle.std.proofs.Common.{◌≡◌, ◌≤◌, ◌∙◌, ℕ, ◌<◌, false, List, [], Some, None, refl, sym, ap, subst, arith}
+use Rattle.std.proofs.Common.{◌≡◌, ◌≤◌, ◌∙◌, ℕ, ◌<◌, Bool, true, false, List, [], Some, None, refl, sym, ap, subst, arith}
 use Rattle.std.specs.Prelude.{slice_get, option_map, string_bytes}
 use Rattle.std.specs.Map.{lookup}
 use Rattle.std.specs.Str.{bytes_eq}
@@ -31,7 +31,7 @@ use Rattle.typing_conditions.specs.Frames.{Frame, Reaches, IsRoot}
 use Rattle.typing_conditions.specs.Meanings.{Means, KnowsFixed, KnowsWritten}
 use Rattle.typing_conditions.specs.Carrying.{Scope, HoldsWritten, HoldsUnbound}
 use Rattle.typing_conditions.proofs.DeclaredLater.{declared_after, exception_after}
-use Rattle.typing_conditions.specs.Surroundings.{Declared, IsSteady, Surrounds}
+use Rattle.typing_conditions.specs.Surroundings.{Declared, IsSteady, KnowsNames, Surrounds}
 use Rattle.typing_steps.specs.Typing.{as_declared}
 use Rattle.typing_conditions.proofs.Inward.{fixed_nodes}
 use Rattle.typing_conditions.proofs.Making.{makes_extends, made_here, loose_before}
@@ -112,12 +112,12 @@ pub declared_steady : IsSteady as_declared
 declared_steady = record { declaration = λ before step more h. declared_after before step more h; exception = λ before step more h. exception_after before step more h }
 
 -- The start of an item, where the free variables of the roots are of at most its level.
-module _ (a : Sight) (J : Types) (roots : List ℕ) (sound : IsSound a.nodes) (own : IsOwn a.nodes J) (context : IsContext a.nodes J roots a.level) (free : a.level < bound_level) where
+module _ (a : Sight) (J : Types) (roots : List ℕ) (sound : IsSound a.nodes) (own : IsOwn a.nodes J) (context : IsContext a.nodes J roots a.level) (free : a.level < bound_level) (known : Bool) where
   none_in : (k n : ℕ) → slice_get [] k ≡ Some n → ⊥
   none_in k n e = cc
 
   -- the item's frame reaches it
-  pub start_reached : Reaches (frame_at a J roots) a
+  pub start_reached : Reaches (frame_at a J roots known) a
   start_reached = record {
     frame = record { own = own; context = context; free = free };
     sound = sound;
@@ -129,7 +129,7 @@ module _ (a : Sight) (J : Types) (roots : List ℕ) (sound : IsSound a.nodes) (o
   }
 
   -- its roots are roots
-  pub start_roots : (k r : ℕ) → slice_get roots k ≡ Some r → IsRoot (frame_at a J roots) a r
+  pub start_roots : (k r : ℕ) → slice_get roots k ≡ Some r → IsRoot (frame_at a J roots known) a r
   start_roots k r e = record {
     inside = context.inside k r e;
     within = root_within a.nodes roots k r e;
@@ -137,18 +137,18 @@ module _ (a : Sight) (J : Types) (roots : List ℕ) (sound : IsSound a.nodes) (o
   }
 
   -- no type variable is written yet
-  pub start_written : ((x : Name) → a.written x ≡ None) → KnowsWritten (frame_at a J roots) a
+  pub start_written : ((x : Name) → a.written x ≡ None) → KnowsWritten (frame_at a J roots known) a
   start_written none = record { each = λ x m e. absurd (none_there x m e); names = []; listed = λ x m e. absurd (none_there x m e) }
     where
       none_there : (x : Name) (m : ℕ) → a.written x ≡ Some m → ⊥
       none_there x m e = let f : Some m ≡ None = sym e ∙ none x in cc
 
   -- the names of an environment whose roots are among the item's are those of the scope
-  pub start_surrounds : {D : Declared} {G : Letters} {env : List Entry} {scope : Scope} (names : List ℕ) (N : Types) → UnknownApart N → IsSteady D → 1 ≤ a.level → KnowsFixed (frame_at a J roots) a → ((x : Name) → a.written x ≡ None) → ((k r : ℕ) → slice_get names k ≡ Some r → IsIn roots r) →
-      Covers (D.declaration a.nodes names N) (D.exception a.nodes names N) names env →
-      ((M V : Types) (ch : Choice) → IsOwn a.nodes M → IsReading a.nodes V → Agrees a.item a G V ch → HoldsWritten scope a → HoldsUnbound (frame_at a J roots) scope a ch → Stands SchemeReads (D.declaration a.nodes names N) (D.exception a.nodes names N) a.nodes M names V env (scope.env ch)) →
-      ((M V : Types) (ch : Choice) → IsOwn a.nodes M → Loose a.nodes V → Agrees a.item a G V ch → HoldsWritten scope a → Stands SchemeFits (D.declaration a.nodes names N) (D.exception a.nodes names N) a.nodes M names V env (scope.env ch)) → scope.variables ≡ in_item a.item → Surrounds D (frame_at a J roots) a G env scope
-  start_surrounds names N apart steady inside fixed none among covered reads fits item = record {
+  pub start_surrounds : {D : Declared} {G : Letters} {env : List Entry} {scope : Scope} (names : List ℕ) (N : Types) → UnknownApart N → IsSteady D → 1 ≤ a.level → KnowsFixed (frame_at a J roots known) a → ((x : Name) → a.written x ≡ None) → ((k r : ℕ) → slice_get names k ≡ Some r → IsIn roots r) →
+      Covers (D.declaration a.nodes names N) (D.exception a.nodes names N) names env → (known ≡ true → KnowsNames D a.nodes names N env) →
+      ((M V : Types) (ch : Choice) → IsOwn a.nodes M → IsReading a.nodes V → Agrees a.item a G V ch → HoldsWritten scope a → HoldsUnbound (frame_at a J roots known) scope a ch → Stands SchemeReads (D.declaration a.nodes names N) (D.exception a.nodes names N) a.nodes M names V env (scope.env ch)) →
+      ((M V : Types) (ch : Choice) → IsOwn a.nodes M → Loose a.nodes V → Agrees a.item a G V ch → HoldsWritten scope a → Stands SchemeFits (D.declaration a.nodes names N) (D.exception a.nodes names N) a.nodes M names V env (scope.env ch)) → scope.variables ≡ in_item a.item → Surrounds D (frame_at a J roots known) a G env scope
+  start_surrounds names N apart steady inside fixed none among covered knows reads fits item = record {
     reached = start_reached;
     inside = inside;
     fixed = fixed;
@@ -160,6 +160,7 @@ module _ (a : Sight) (J : Types) (roots : List ℕ) (sound : IsSound a.nodes) (o
     steady = steady;
     are_roots = λ k r e. let (i, f) = among k r e in start_roots i r f;
     covered = covered;
+    known = knows;
     reads = reads;
     fits = fits;
   }

@@ -21,7 +21,8 @@ use Rattle.typing_state.specs.declared.demands.Verdict.TheVariants.{Kept, Report
 use Rattle.typing_state.specs.Goes.{faults_of, OnlyIndex, OnlyStoreAndFaults, Goes, Told}
 use Rattle.typing_state.specs.Notes.{NotedFirst, Noted, NotedNameless}
 use Rattle.typing_state.specs.Demands.{EqualIs}
-use Rattle.typing_conditions.specs.Sights.{Sight, Letters}
+use Rattle.typing_conditions.specs.Sights.{Sight, number_in, Letters}
+use Rattle.typing_conditions.specs.Hiding.{NotesRow}
 use Rattle.typing_conditions.specs.Frames.{Frame, IsOpen}
 use Rattle.typing_conditions.specs.Judging.{judgements, StartsWith, TellAll}
 use Rattle.typing_conditions.specs.Steps.{OnlyReports}
@@ -34,8 +35,8 @@ use Rattle.typing_conditions.proofs.Equals.{reports_stay, goes_as, unified_stays
 use Rattle.typing_steps.specs.States.{type_in, is_noted, is_aloud, reports_of, written_in, fixed_of, sight}
 use Rattle.typing_steps.specs.Warning.{OnlyNotes}
 use Rattle.typing_steps.proofs.Seeing.{same_state, nodes_of_both, reports_of_both}
-use Rattle.typing_steps.proofs.Recording.{noted_still}
-use Rattle.typing_conditions.proofs.Hiding.{settles_none}
+use Rattle.typing_steps.proofs.Recording.{noted_still, noted_now}
+use Rattle.typing_conditions.proofs.Hiding.{keeps_as, settles_none, none_doubtful}
 
 -- conditions that hold in any case, of which none is a demand
 pub record IsIdle (asks : Asks) : Type 0 where
@@ -50,6 +51,7 @@ carried_idle {F} {scope} {asks} {a} {b} {G} idle rest same = record {
   stays = reports_stay rest;
   hidden = [];
   settled = settles_none;
+  clear = λ known placed. none_doubtful;
   judged = [];
   told = [];
   reports = same ∙ sym (append-nil a.reports);
@@ -59,6 +61,11 @@ carried_idle {F} {scope} {asks} {a} {b} {G} idle rest same = record {
   complete = λ named V c e h. inl (record { same = idle.silent c; types = V; on = goes_as rest e; hidden_too = (tt, tt) });
   first = λ named k V c e h. inl (subst (StartsWith []) (sym (idle.silent_first k c)) (starts_none []));
 }
+
+-- and nothing is hidden
+pub idle_hides : (F : Frame) (scope : Scope) (G : Letters) {asks : Asks} {a b : Sight} (idle : IsIdle asks) (rest : OnlyReports a b) (same : b.reports ≡ a.reports) → (carried_idle {F = F} {scope = scope} {G = G} idle rest same).hidden ≡ []
+unfolding carried_idle
+idle_hides F scope G idle rest same = refl
 
 -- where nothing is asked
 pub none_idle : IsIdle (λ c. [])
@@ -107,6 +114,22 @@ untyped_noted a b number seen none noted rest = record {
     still : (t : Telling) → Noted t a b number seen → (i p : ℕ) → is_noted (seen_at a.index i p) ≡ true → is_noted (seen_at b.index i p) ≡ true
     still Quiet h i p k = ap (λ x. is_noted (seen_at x i p)) h ∙ k
     still Aloud h i p k = noted_still a b number seen h i p k
+
+-- so the row of a node is noted without a type
+pub untyped_row : (a b : Parts) (n m number : ℕ) (seen : Seen) → seen.ty ≡ None → is_aloud a.telling ≡ true → Noted a.telling a b number seen → OnlyIndex a b → number_in a.item number ≡ n → NotesRow (sight a) (sight b) n m
+untyped_row a b n m number seen none aloud noted rest is = by a.telling aloud noted
+  where
+    by : (t : Telling) → is_aloud t ≡ true → Noted t a b number seen → NotesRow (sight a) (sight b) n m
+    by Quiet e h = absurd (cc)
+    by Aloud e h = record {
+      place = number;
+      number = sym is;
+      keeps = keeps_as (noted_still a b number seen h) (untyped_as a b number seen none h);
+      none = ap is_noted h.before;
+      untyped = ap type_in h.before;
+      now = noted_now a b number seen h;
+      only = λ k e. absurd (let f : None ≡ Some k = sym (untyped_as a b number seen none h a.item number ∙ ap type_in h.before) ∙ e in cc);
+    }
 
 -- `note_plain`: it is recorded in which environment a node is treated
 pub plain_noted : (a b : Parts) {F : Frame} {scope : Scope} {G : Letters} (number : ℕ) (env : List Entry) (n : ℕ) (told : Context → Environment) → NotedNameless a b number env None → OnlyIndex a b →

@@ -44,6 +44,7 @@ carried_here {F} {scope} {asks} {others} {a} {b} {G} {H} e p = record {
   stays = p.stays;
   hidden = p.hidden;
   settled = p.settled;
+  clear = p.clear;
   judged = p.judged;
   told = p.told;
   reports = p.reports;
@@ -62,6 +63,11 @@ carried_here {F} {scope} {asks} {others} {a} {b} {G} {H} e p = record {
 
     at_end : (js : List Judgement) (V : Types) (c : Context) → ReadsOff F scope b H p.hidden js V c → asks c ≡ others c
     at_end js V c l = e V c (p.stays.loose V (fits_loosely b.nodes V l.reads.fits)) l.under (agrees_before p.stays l.agrees) (named_before scope p.stays l.named)
+
+-- they hide the same then
+pub here_hides : {F : Frame} {scope : Scope} {asks others : Asks} {a b : Sight} {G H : Letters} (e : AreSameHere F scope a G asks others) (p : Carried F scope asks a G b H) → (carried_here e p).hidden ≡ p.hidden
+unfolding carried_here
+here_hides e p = refl
 
 -- and their demand is judged so
 pub judged_here : {F : Frame} {scope : Scope} {asks others : Asks} {a b : Sight} {G H : Letters} {s : Site} {v : Bool} → AreSameHere F scope a G asks others → JudgedAs F scope asks a G b H s v → JudgedAs F scope others a G b H s v

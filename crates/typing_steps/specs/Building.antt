@@ -20,6 +20,7 @@ use Rattle.typing_conditions.specs.Frames.{Frame}
 use Rattle.typing_conditions.specs.Judging.{AreKept}
 use Rattle.typing_conditions.specs.Meanings.{Means}
 use Rattle.typing_conditions.specs.Carrying.{Scope, HoldsWritten, IsUnder, Carried, CarriedTo}
+use Rattle.typing_conditions.specs.Hiding.{AreOfRow}
 use Rattle.typing_conditions.specs.Surroundings.{Surrounds}
 use Rattle.typing_steps.specs.States.{is_aloud, sight}
 use Rattle.typing_steps.specs.Typing.{as_declared}
@@ -56,6 +57,7 @@ TakesAs F b G n (Some t) (Some m) = Means F b G (used_by n t) m
 pub record BuildsKnown (F : Frame) (scope : Scope) (a : Sight) (G : Letters) (b : Sight) (n own given : ℕ) (p : Written) (m : ℕ) (argument : Option ℕ) : Type 0 where
   pub building : Built
   pub letters : Letters
+  pub of_row : AreOfRow own letters
   pub carried : Carried F scope (λ c. construction_asks c n p given) a G b (letters ++ G)
   pub kept : (c : Context) → AreKept c.kept carried.judged → is_kept c n 0 ≡ true
   pub finds : InEach F scope a G (λ c. building_in c.env p ≡ Some building)
@@ -97,6 +99,7 @@ pub record LabelKnown (F : Frame) (scope : Scope) (a : Sight) (G : Letters) (b :
   pub owner : Typ
   pub body : Typ
   pub letters : Letters
+  pub of_row : AreOfRow own letters
   pub carried : Carried F scope (λ c. label_asks c n p) a G b (letters ++ G)
   pub kept : (c : Context) → AreKept c.kept carried.judged → is_kept c n 0 ≡ true
   pub finds : InEach F scope a G (λ c. IsLabelOf owner body mutable (label_in_scope c.env p))

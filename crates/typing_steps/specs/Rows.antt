@@ -11,6 +11,7 @@ use Rattle.typing_conditions.specs.Sights.{Sight, Key, letter, value_of, Letters
 use Rattle.typing_conditions.specs.Frames.{Frame}
 use Rattle.typing_conditions.specs.Meanings.{Means, AllMean, types_by}
 use Rattle.typing_conditions.specs.Carrying.{Asks, Scope, Carried}
+use Rattle.typing_conditions.specs.Hiding.{AreBelow}
 
 -- two new variables stand for two keys
 pub record MakesTwo (F : Frame) (scope : Scope) (a : Sight) (G : Letters) (b : Sight) (first second : Key) (m n : ℕ) : Type 0 where
@@ -43,6 +44,7 @@ pub record TypesSome (F : Frame) (scope : Scope) (a : Sight) (G : Letters) (b : 
   pub own : Letters
   pub k' : ℕ
   pub j' : ℕ
+  pub below : AreBelow n j' own
   pub type : Choice → Typ
   pub done : Asks
   pub carried : Carried F scope done a G b (own ++ G)

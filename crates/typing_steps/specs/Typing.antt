@@ -14,6 +14,7 @@ use Rattle.typing_conditions.specs.Sights.{Sight, Key, value_of, Letters, IsKnow
 use Rattle.typing_conditions.specs.Frames.{Frame, Reaches}
 use Rattle.typing_conditions.specs.Meanings.{Means}
 use Rattle.typing_conditions.specs.Carrying.{Asks, Scope, Carried, CarriedTo, EndsAs}
+use Rattle.typing_conditions.specs.Hiding.{Owns}
 use Rattle.typing_conditions.specs.Surroundings.{Declared, Surrounds}
 use Rattle.typing_steps.specs.States.{is_aloud, sight}
 
@@ -36,7 +37,7 @@ TypesAny a b m = (F : Frame) (scope : Scope) (G : Letters) (key : Key) → ((t :
     CarriedTo F scope (λ c. []) (sight a) G (sight b) ((key, m) ∷ G) (λ ch. value_of ch key) m
 
 -- A row whose type isn't recorded yet for its node n: `first` of what it asks is carried, with letters of its own, and then a node has its type;
--- `ends` is what it asks of n at its end, which is met where that type is recorded.
+-- `ends` is what it asks of n at its end, which is met where that type is recorded. `owns`: where all of names is known, its letters are without doubt once the node is noted.
 pub record RowCarried (F : Frame) (scope : Scope) (asks : Asks) (a : Sight) (G : Letters) (b : Sight) (n m : ℕ) : Type 0 where
   pub own : Letters
   pub type : Choice → Typ
@@ -44,6 +45,7 @@ pub record RowCarried (F : Frame) (scope : Scope) (asks : Asks) (a : Sight) (G :
   pub ends : Asks
   pub all : (c : Context) → first c ++ ends c ≡ asks c
   pub typed : CarriedTo F scope first a G b (own ++ G) type m
+  pub owns : F.known ≡ true → Owns n m b typed.carried.hidden own
   pub end : EndsAs n type ends
 
 -- Where faults are reported, a call carries a row with these conditions so far.

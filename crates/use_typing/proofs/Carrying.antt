@@ -1,5 +1,5 @@
 -- What uses of values and constants carry of the conditions that the definitions ask.
-use Rattle.std.proofs.Common.{◌≡◌, ◌∙◌, ◌⊎◌, inl, inr, ◌++◌, ℕ, Bool, true, false, List, [], ◌∷◌, Option, Some, None, refl, sym, subst}
+use Rattle.std.proofs.Common.{◌≡◌, ◌∙◌, ◌⊎◌, inl, inr, ◌++◌, ℕ, Bool, true, false, List, [], ◌∷◌, Option, Some, None, refl, sym, subst, arith}
 use Rattle.std.specs.Prelude.{option_map, option_and_then}
 use Rattle.std.specs.Prelude.{Result, Ok, Err, IfOk}
 use Rattle.text_terms.specs.declared.Span.{Span}
@@ -38,6 +38,7 @@ use Rattle.typing_conditions.specs.Frames.{Frame}
 use Rattle.typing_conditions.specs.Meanings.{Means}
 use Rattle.typing_conditions.specs.Carrying.{Asks, Scope, Carried, CarriedTo}
 use Rattle.typing_conditions.proofs.Carried.{carried_refl}
+use Rattle.typing_conditions.proofs.Hiding.{below_none, below_more, owns_none, owns_row}
 use Rattle.typing_conditions.proofs.Meaning.{means_more, fixed_on}
 use Rattle.typing_conditions.proofs.Recording.{ends_same}
 use Rattle.typing_conditions.proofs.Answering.{then_made}
@@ -81,6 +82,7 @@ fixed_row {first = first} {t = t} n carried means = record {
   ends = λ c. same (type_at c n) t ∷ [];
   all = λ c. refl;
   typed = record { carried = carried; means = means_more means };
+  owns = λ known. owns_none;
   end = ends_same n (λ ch. t);
 }
 
@@ -245,6 +247,7 @@ list_typed (Ok m) a b d v made rest over rest' = λ env n aloud F scope G s.
       ends = λ c. same (type_at c n) (list_type (letter c n 0)) ∷ [];
       all = λ c. refl;
       typed = then_made element.carried (list_over b d element.means over rest');
+      owns = λ known. owns_row (below_more 0 1 v (omega arith) (omega arith) (below_none n 0)).of_row;
       end = ends_same n (λ ch. list_type (ch.letter n 0));
     }
 

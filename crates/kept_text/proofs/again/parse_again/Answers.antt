@@ -4,9 +4,10 @@ use Rattle.std.proofs.lemmas.List.{length-map}
 use Rattle.grammar_model.specs.Ocaml.{Text}
 use Rattle.syntax_tree.specs.View.{tok_of}
 use Rattle.resume_parser.specs.Retaken.{kept_behind}
+use Rattle.resume_parser.proofs.Bounds.{shifted_within}
 use Rattle.resume_parser.specs.declared.kept.KeptParse.{KeptParse}
 use Rattle.kept_text.specs.Keeping.{IsParsedUpTo}
-use Rattle.kept_text.proofs.Keeps.{none_known, resumed, resumed_known, resumed_whole, shifted_within, whole_parsed}
+use Rattle.kept_text.proofs.Keeps.{none_known, resumed, resumed_known, resumed_whole, whole_parsed}
 use Rattle.kept_text.proofs.again.parse_again.Goals as goal
 
 pub refresh-requires : goal.refresh-requires

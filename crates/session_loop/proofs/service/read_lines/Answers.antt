@@ -74,7 +74,7 @@ returns-clause-outcome g c =
       ran_over _ _ _ _ _ so_far.0 _ _ so_far.3,
     )
 
--- no more was lexed than the lines may read that were answered
+-- no more was lexed and parsed than the lines may read that were answered
 pub returns-in-Ok-clause-spent : goal.returns-in-Ok-clause-spent
 returns-in-Ok-clause-spent g c =
     let so_far = c.loop-total.invariant.0 in

@@ -15,8 +15,8 @@ returns-in-Err-clause-answers g c = answers_refused c.args.self.now.text c.args.
 
 pub returns-in-Ok-clause-works : goal.returns-in-Ok-clause-works
 returns-in-Ok-clause-works g c = λ w ps owes lex.
-    let (v, n, works, owed, lexes, carries) = c.reply_to.ensures.works w ps owes lex in
-    (v, n, subst (λ (r : Reading). WorksAt (length ps) w r (line_bytes c.reply_to.result) v n) (sym c.in-Ok.ensures) works, owed, lexes, carries)
+    let (v, n, works, owed, takes, carries) = c.reply_to.ensures.works w ps owes lex in
+    (v, n, subst (λ (r : Reading). WorksAt (length ps) w r (line_bytes c.reply_to.result) v n) (sym c.in-Ok.ensures) works, owed, takes, carries)
 
 pub returns-in-Err-clause-works : goal.returns-in-Err-clause-works
 returns-in-Err-clause-works g c = λ w ps owes lex. malformed_works c.args.line.now (refusal_of c.in-Err.malformed) c.malformed_line.result c.args.self.now w (length ps) (g.C.Counts.tallies c.args.counts.now) owes c.in-Err.ensures c.malformed_line.ensures

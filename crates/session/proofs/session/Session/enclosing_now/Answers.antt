@@ -27,22 +27,22 @@ pub returns-in_err-read_again-clause-fails : goal.returns-in_err-read_again-clau
 returns-in_err-read_again-clause-fails g c = reads_more g.A.Analyser.opens true c.args.self.now c.read_again.new.self (g.C.Counts.tallies c.args.counts.now) (g.C.Counts.tallies c.read_again.new.counts) (c.read_again.ensures.reads)
 
 pub returns-in_err-reply-clause-fails : goal.returns-in_err-reply-clause-fails
-returns-in_err-reply-clause-fails g c = reads_more g.A.Analyser.opens true c.args.self.now c.read_again.new.self (g.C.Counts.tallies c.args.counts.now) (g.C.Counts.tallies c.plain_enclosing.new.counts) (reads_idle g.A.Analyser.opens false c.args.self.now c.read_again.new.self c.read_again.new.self (g.C.Counts.tallies c.args.counts.now) (g.C.Counts.tallies c.read_again.new.counts) (g.C.Counts.tallies c.plain_enclosing.new.counts) c.read_again.ensures.reads refl (ap (λ (t : Tallies). t.lexed) (c.plain_enclosing.ensures.idle c.in_ok-read_again.ensures.current)))
+returns-in_err-reply-clause-fails g c = reads_more g.A.Analyser.opens true c.args.self.now c.read_again.new.self (g.C.Counts.tallies c.args.counts.now) (g.C.Counts.tallies c.plain_enclosing.new.counts) (reads_idle g.A.Analyser.opens false c.args.self.now c.read_again.new.self c.read_again.new.self (g.C.Counts.tallies c.args.counts.now) (g.C.Counts.tallies c.read_again.new.counts) (g.C.Counts.tallies c.plain_enclosing.new.counts) c.read_again.ensures.reads refl (c.plain_enclosing.ensures.idle c.in_ok-read_again.ensures.current))
 
 pub returns-in-Some-clause-reads : goal.returns-in-Some-clause-reads
-returns-in-Some-clause-reads g c = (reads_idle g.A.Analyser.opens false c.args.self.now c.read_again.new.self c.read_again.new.self (g.C.Counts.tallies c.args.counts.now) (g.C.Counts.tallies c.read_again.new.counts) (g.C.Counts.tallies c.plain_enclosing.new.counts) c.read_again.ensures.reads refl (ap (λ (t : Tallies). t.lexed) (c.plain_enclosing.ensures.idle c.in_ok-read_again.ensures.current)))
+returns-in-Some-clause-reads g c = (reads_idle g.A.Analyser.opens false c.args.self.now c.read_again.new.self c.read_again.new.self (g.C.Counts.tallies c.args.counts.now) (g.C.Counts.tallies c.read_again.new.counts) (g.C.Counts.tallies c.plain_enclosing.new.counts) c.read_again.ensures.reads refl (c.plain_enclosing.ensures.idle c.in_ok-read_again.ensures.current))
 
 pub returns-in-Some-clause-fails : goal.returns-in-Some-clause-fails
-returns-in-Some-clause-fails g c = reads_more g.A.Analyser.opens true c.args.self.now c.read_again.new.self (g.C.Counts.tallies c.args.counts.now) (g.C.Counts.tallies c.plain_enclosing.new.counts) (reads_idle g.A.Analyser.opens false c.args.self.now c.read_again.new.self c.read_again.new.self (g.C.Counts.tallies c.args.counts.now) (g.C.Counts.tallies c.read_again.new.counts) (g.C.Counts.tallies c.plain_enclosing.new.counts) c.read_again.ensures.reads refl (ap (λ (t : Tallies). t.lexed) (c.plain_enclosing.ensures.idle c.in_ok-read_again.ensures.current)))
+returns-in-Some-clause-fails g c = reads_more g.A.Analyser.opens true c.args.self.now c.read_again.new.self (g.C.Counts.tallies c.args.counts.now) (g.C.Counts.tallies c.plain_enclosing.new.counts) (reads_idle g.A.Analyser.opens false c.args.self.now c.read_again.new.self c.read_again.new.self (g.C.Counts.tallies c.args.counts.now) (g.C.Counts.tallies c.read_again.new.counts) (g.C.Counts.tallies c.plain_enclosing.new.counts) c.read_again.ensures.reads refl (c.plain_enclosing.ensures.idle c.in_ok-read_again.ensures.current))
 
 pub returns-in_err-type_again-clause-fails : goal.returns-in_err-type_again-clause-fails
-returns-in_err-type_again-clause-fails g c = reads_typed g.A.Analyser.opens true c.args.self.now c.read_again.new.self c.type_again.new.self (g.C.Counts.tallies c.args.counts.now) (g.C.Counts.tallies c.plain_enclosing.new.counts) (g.C.Counts.tallies c.type_again.new.counts) (reads_idle g.A.Analyser.opens false c.args.self.now c.read_again.new.self c.read_again.new.self (g.C.Counts.tallies c.args.counts.now) (g.C.Counts.tallies c.read_again.new.counts) (g.C.Counts.tallies c.plain_enclosing.new.counts) c.read_again.ensures.reads refl (ap (λ (t : Tallies). t.lexed) (c.plain_enclosing.ensures.idle c.in_ok-read_again.ensures.current))) c.type_again.ensures.fails
+returns-in_err-type_again-clause-fails g c = reads_typed g.A.Analyser.opens true c.args.self.now c.read_again.new.self c.type_again.new.self (g.C.Counts.tallies c.args.counts.now) (g.C.Counts.tallies c.plain_enclosing.new.counts) (g.C.Counts.tallies c.type_again.new.counts) (reads_idle g.A.Analyser.opens false c.args.self.now c.read_again.new.self c.read_again.new.self (g.C.Counts.tallies c.args.counts.now) (g.C.Counts.tallies c.read_again.new.counts) (g.C.Counts.tallies c.plain_enclosing.new.counts) c.read_again.ensures.reads refl (c.plain_enclosing.ensures.idle c.in_ok-read_again.ensures.current)) c.type_again.ensures.fails
 
 pub returns-clause-reads : goal.returns-clause-reads
-returns-clause-reads g c = on_ok c.typed_enclosing.result (reads_idle g.A.Analyser.opens false c.args.self.now c.type_again.new.self c.type_again.new.self (g.C.Counts.tallies c.args.counts.now) (g.C.Counts.tallies c.type_again.new.counts) (g.C.Counts.tallies c.typed_enclosing.new.counts) (reads_typed g.A.Analyser.opens false c.args.self.now c.read_again.new.self c.type_again.new.self (g.C.Counts.tallies c.args.counts.now) (g.C.Counts.tallies c.plain_enclosing.new.counts) (g.C.Counts.tallies c.type_again.new.counts) (reads_idle g.A.Analyser.opens false c.args.self.now c.read_again.new.self c.read_again.new.self (g.C.Counts.tallies c.args.counts.now) (g.C.Counts.tallies c.read_again.new.counts) (g.C.Counts.tallies c.plain_enclosing.new.counts) c.read_again.ensures.reads refl (ap (λ (t : Tallies). t.lexed) (c.plain_enclosing.ensures.idle c.in_ok-read_again.ensures.current))) c.in_ok-type_again.ensures.lexes) refl (ap (λ (t : Tallies). t.lexed) (c.typed_enclosing.ensures.idle c.type_again.ensures.rest.1 c.in_ok-type_again.ensures.known)))
+returns-clause-reads g c = on_ok c.typed_enclosing.result (reads_idle g.A.Analyser.opens false c.args.self.now c.type_again.new.self c.type_again.new.self (g.C.Counts.tallies c.args.counts.now) (g.C.Counts.tallies c.type_again.new.counts) (g.C.Counts.tallies c.typed_enclosing.new.counts) (reads_typed g.A.Analyser.opens false c.args.self.now c.read_again.new.self c.type_again.new.self (g.C.Counts.tallies c.args.counts.now) (g.C.Counts.tallies c.plain_enclosing.new.counts) (g.C.Counts.tallies c.type_again.new.counts) (reads_idle g.A.Analyser.opens false c.args.self.now c.read_again.new.self c.read_again.new.self (g.C.Counts.tallies c.args.counts.now) (g.C.Counts.tallies c.read_again.new.counts) (g.C.Counts.tallies c.plain_enclosing.new.counts) c.read_again.ensures.reads refl (c.plain_enclosing.ensures.idle c.in_ok-read_again.ensures.current)) c.in_ok-type_again.ensures.takes) refl (c.typed_enclosing.ensures.idle c.type_again.ensures.rest.1 c.in_ok-type_again.ensures.known))
 
 pub returns-clause-fails : goal.returns-clause-fails
-returns-clause-fails g c = reads_more g.A.Analyser.opens true c.args.self.now c.type_again.new.self (g.C.Counts.tallies c.args.counts.now) (g.C.Counts.tallies c.typed_enclosing.new.counts) (reads_idle g.A.Analyser.opens false c.args.self.now c.type_again.new.self c.type_again.new.self (g.C.Counts.tallies c.args.counts.now) (g.C.Counts.tallies c.type_again.new.counts) (g.C.Counts.tallies c.typed_enclosing.new.counts) (reads_typed g.A.Analyser.opens false c.args.self.now c.read_again.new.self c.type_again.new.self (g.C.Counts.tallies c.args.counts.now) (g.C.Counts.tallies c.plain_enclosing.new.counts) (g.C.Counts.tallies c.type_again.new.counts) (reads_idle g.A.Analyser.opens false c.args.self.now c.read_again.new.self c.read_again.new.self (g.C.Counts.tallies c.args.counts.now) (g.C.Counts.tallies c.read_again.new.counts) (g.C.Counts.tallies c.plain_enclosing.new.counts) c.read_again.ensures.reads refl (ap (λ (t : Tallies). t.lexed) (c.plain_enclosing.ensures.idle c.in_ok-read_again.ensures.current))) c.in_ok-type_again.ensures.lexes) refl (ap (λ (t : Tallies). t.lexed) (c.typed_enclosing.ensures.idle c.type_again.ensures.rest.1 c.in_ok-type_again.ensures.known)))
+returns-clause-fails g c = reads_more g.A.Analyser.opens true c.args.self.now c.type_again.new.self (g.C.Counts.tallies c.args.counts.now) (g.C.Counts.tallies c.typed_enclosing.new.counts) (reads_idle g.A.Analyser.opens false c.args.self.now c.type_again.new.self c.type_again.new.self (g.C.Counts.tallies c.args.counts.now) (g.C.Counts.tallies c.type_again.new.counts) (g.C.Counts.tallies c.typed_enclosing.new.counts) (reads_typed g.A.Analyser.opens false c.args.self.now c.read_again.new.self c.type_again.new.self (g.C.Counts.tallies c.args.counts.now) (g.C.Counts.tallies c.plain_enclosing.new.counts) (g.C.Counts.tallies c.type_again.new.counts) (reads_idle g.A.Analyser.opens false c.args.self.now c.read_again.new.self c.read_again.new.self (g.C.Counts.tallies c.args.counts.now) (g.C.Counts.tallies c.read_again.new.counts) (g.C.Counts.tallies c.plain_enclosing.new.counts) c.read_again.ensures.reads refl (c.plain_enclosing.ensures.idle c.in_ok-read_again.ensures.current)) c.in_ok-type_again.ensures.takes) refl (c.typed_enclosing.ensures.idle c.type_again.ensures.rest.1 c.in_ok-type_again.ensures.known))
 
 -- ---- what is typed
 

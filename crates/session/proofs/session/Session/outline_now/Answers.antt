@@ -1,5 +1,4 @@
-use Rattle.std.proofs.Common.{ap, refl, true, false}
-use Rattle.syntax_tree.specs.Tallies.{Tallies}
+use Rattle.std.proofs.Common.{refl, true, false}
 use Rattle.session.proofs.Carrying.{some_none}
 use Rattle.session.proofs.Works.{reads_idle, reads_more}
 use Rattle.session.proofs.session.Session.outline_now.Goals as goal
@@ -8,13 +7,13 @@ pub returns-in_err-read_again-clause-fails : goal.returns-in_err-read_again-clau
 returns-in_err-read_again-clause-fails g c = reads_more g.A.Analyser.opens true c.args.self.now c.read_again.new.self (g.C.Counts.tallies c.args.counts.now) (g.C.Counts.tallies c.read_again.new.counts) c.read_again.ensures.reads
 
 pub returns-in_err-outline-clause-fails : goal.returns-in_err-outline-clause-fails
-returns-in_err-outline-clause-fails g c = reads_more g.A.Analyser.opens true c.args.self.now c.read_again.new.self (g.C.Counts.tallies c.args.counts.now) (g.C.Counts.tallies c.outline.new.counts) (reads_idle g.A.Analyser.opens false c.args.self.now c.read_again.new.self c.read_again.new.self (g.C.Counts.tallies c.args.counts.now) (g.C.Counts.tallies c.read_again.new.counts) (g.C.Counts.tallies c.outline.new.counts) c.read_again.ensures.reads refl (ap (λ (t : Tallies). t.lexed) (c.outline.ensures.idle c.in_ok-read_again.ensures.current)))
+returns-in_err-outline-clause-fails g c = reads_more g.A.Analyser.opens true c.args.self.now c.read_again.new.self (g.C.Counts.tallies c.args.counts.now) (g.C.Counts.tallies c.outline.new.counts) (reads_idle g.A.Analyser.opens false c.args.self.now c.read_again.new.self c.read_again.new.self (g.C.Counts.tallies c.args.counts.now) (g.C.Counts.tallies c.read_again.new.counts) (g.C.Counts.tallies c.outline.new.counts) c.read_again.ensures.reads refl (c.outline.ensures.idle c.in_ok-read_again.ensures.current))
 
 pub returns-clause-reads : goal.returns-clause-reads
-returns-clause-reads g c = reads_idle g.A.Analyser.opens false c.args.self.now c.read_again.new.self c.read_again.new.self (g.C.Counts.tallies c.args.counts.now) (g.C.Counts.tallies c.read_again.new.counts) (g.C.Counts.tallies c.outline.new.counts) c.read_again.ensures.reads refl (ap (λ (t : Tallies). t.lexed) (c.outline.ensures.idle c.in_ok-read_again.ensures.current))
+returns-clause-reads g c = reads_idle g.A.Analyser.opens false c.args.self.now c.read_again.new.self c.read_again.new.self (g.C.Counts.tallies c.args.counts.now) (g.C.Counts.tallies c.read_again.new.counts) (g.C.Counts.tallies c.outline.new.counts) c.read_again.ensures.reads refl (c.outline.ensures.idle c.in_ok-read_again.ensures.current)
 
 pub returns-clause-fails : goal.returns-clause-fails
-returns-clause-fails g c = reads_more g.A.Analyser.opens true c.args.self.now c.read_again.new.self (g.C.Counts.tallies c.args.counts.now) (g.C.Counts.tallies c.outline.new.counts) (reads_idle g.A.Analyser.opens false c.args.self.now c.read_again.new.self c.read_again.new.self (g.C.Counts.tallies c.args.counts.now) (g.C.Counts.tallies c.read_again.new.counts) (g.C.Counts.tallies c.outline.new.counts) c.read_again.ensures.reads refl (ap (λ (t : Tallies). t.lexed) (c.outline.ensures.idle c.in_ok-read_again.ensures.current)))
+returns-clause-fails g c = reads_more g.A.Analyser.opens true c.args.self.now c.read_again.new.self (g.C.Counts.tallies c.args.counts.now) (g.C.Counts.tallies c.outline.new.counts) (reads_idle g.A.Analyser.opens false c.args.self.now c.read_again.new.self c.read_again.new.self (g.C.Counts.tallies c.args.counts.now) (g.C.Counts.tallies c.read_again.new.counts) (g.C.Counts.tallies c.outline.new.counts) c.read_again.ensures.reads refl (c.outline.ensures.idle c.in_ok-read_again.ensures.current))
 
 pub returns-in_err-read_again-clause-goes : goal.returns-in_err-read_again-clause-goes
 returns-in_err-read_again-clause-goes g c = some_none c.args.self.now c.read_again.new.self (g.C.Counts.tallies c.args.counts.now) (g.C.Counts.tallies c.read_again.new.counts) (g.C.Counts.tallies c.read_again.new.counts) c.read_again.ensures.rest.3 c.read_again.ensures.untyped refl

@@ -26,7 +26,7 @@ propose-requires g c =
     let here = subst (λ (t : List ℕ). IsParsedAs t parsed) (ap (λ (h : Held). h.text) c.self.view_is) are in
     record {
       parsed = subst (λ (t : List ℕ). IsParsedAs t parsed) (sym c.text.ensures) here;
-      found = subst (λ (ts : List Tree). IsOf g.A.Analyser.items g.A.Analyser.finds ts c.analysis-analysis.result) c.in_ok-found.ensures.items c.analysis-analysis.ensures;
+      found = subst (λ (ts : List Tree). IsOf g.A.Analyser.items g.A.Analyser.finds ts c.analysis-analysis.result) c.in_ok-found.ensures.items c.analysis-analysis.ensures.found;
     }
 
 pub returns-clause-answers : goal.returns-clause-answers

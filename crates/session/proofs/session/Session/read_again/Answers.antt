@@ -25,3 +25,4 @@ returns-clause-reads g c =
     reads_again g.A.Analyser.opens c.args.self.now (record { text = c.follow.new.kept.text; changed = c.follow.new.kept.changed; begun = has_begun types; known = is_some (known items types); holds = held items types }) (g.C.Counts.tallies c.args.counts.now) (g.C.Counts.tallies c.follow.new.counts) (c.follow.ensures.begun ∙ ap (λ (h : Held). h.begun) view)
     (λ is. c.follow.ensures.idle (ap (λ (h : Held). h.changed) view ∙ is))
     (λ from ts is lex. c.follow.ensures.work from ts (ap (λ (h : Held). h.changed) view ∙ is) (subst (λ (l : List ℕ). Lex l ts) (sym (ap (λ (h : Held). h.text) view)) lex))
+    (λ from place ts is le lex. c.follow.ensures.shifted from place ts (ap (λ (h : Held). h.changed) view ∙ is) le (subst (λ (l : List ℕ). Lex l ts) (sym (ap (λ (h : Held). h.text) view)) lex))

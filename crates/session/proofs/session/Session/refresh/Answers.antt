@@ -5,7 +5,7 @@ use Rattle.session.proofs.session.Session.refresh.Goals as goal
 
 pub returns-clause-reads : goal.returns-clause-reads
 returns-clause-reads g c = reads_typed_ok c.type_again.result g.A.Analyser.opens c.args.self.now c.read_again.new.self c.type_again.new.self (g.C.Counts.tallies c.args.counts.now) (g.C.Counts.tallies c.read_again.new.counts) (g.C.Counts.tallies c.type_again.new.counts)
-    c.read_again.ensures.reads c.type_again.ensures.lexes
+    c.read_again.ensures.reads c.type_again.ensures.takes
 
 pub returns-clause-fails : goal.returns-clause-fails
 returns-clause-fails g c = reads_typed g.A.Analyser.opens true c.args.self.now c.read_again.new.self c.type_again.new.self (g.C.Counts.tallies c.args.counts.now) (g.C.Counts.tallies c.read_again.new.counts) (g.C.Counts.tallies c.type_again.new.counts)

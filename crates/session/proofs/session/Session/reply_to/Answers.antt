@@ -5,7 +5,7 @@ use Rattle.json_lines.specs.Meets.{asked_of}
 use Rattle.json_lines.specs.declared.request.Request.{Request}
 use Rattle.text_reading.specs.Types.{opening}
 use Rattle.session.specs.Lines.{RepliesBy}
-use Rattle.session.specs.Working.{RequestWorks}
+use Rattle.session.specs.Working.{alike, RequestWorks}
 use Rattle.session.proofs.Answering.{replies_query}
 use Rattle.session.proofs.Works.{request_works}
 use Rattle.session.proofs.session.Session.reply_to.Goals as goal
@@ -76,4 +76,4 @@ returns-in-Construct-clause-works g c = subst (λ (r : Request). RequestWorks g.
 
 pub returns-in-Tell-clause-works : goal.returns-in-Tell-clause-works
 returns-in-Tell-clause-works g c = subst (λ (r : Request). RequestWorks g.A.Analyser.opens (asked_of r) c.tell.result c.args.self.now c.tell.new.self (g.C.Counts.tallies c.args.counts.now) (g.C.Counts.tallies c.args.counts.now)) (sym c.in-Tell.is)
-    (λ w ps owes lex. let (v, works, owed, carries) = c.tell.ensures.owed w (length ps) owes in (v, 0, works, owed, omega (arith, ap (opening (length ps)) c.tell.ensures.begun), carries (g.C.Counts.tallies c.args.counts.now)))
+    (λ w ps owes lex. let (v, works, owed, carries) = c.tell.ensures.owed w (length ps) owes in let same = ap (opening (length ps)) c.tell.ensures.begun in (v, alike 0, works, owed, (omega (arith, same), omega (arith, same)), carries (g.C.Counts.tallies c.args.counts.now)))

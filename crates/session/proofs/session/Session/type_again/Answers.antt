@@ -1,4 +1,4 @@
-use Rattle.std.proofs.Common.{◌+◌, ◌≤◌, ◌∙◌, List, length, ap, refl, sym, subst, Bool}
+use Rattle.std.proofs.Common.{◌≡◌, ◌+◌, ◌≤◌, ◌∙◌, true, List, length, ap, refl, sym, subst, Bool}
 use Rattle.std.specs.Prelude.{is_some}
 use Rattle.tree_model.specs.Trees.{Tree}
 use Rattle.syntax_tree.specs.View.{trees_of}
@@ -11,7 +11,7 @@ use Rattle.text_reading.proofs.Parsing.{parsed_as}
 use Rattle.text_reading.proofs.Spent.{typed_some}
 use Rattle.session.specs.Working.{Held}
 use Rattle.session.proofs.Carrying.{types_anew}
-use Rattle.session.proofs.Works.{opened, opened_in_vain}
+use Rattle.session.proofs.Works.{both_ok, opened, opened_in_vain}
 use Rattle.session.proofs.session.Session.type_again.Goals as goal
 
 pub refresh-requires : goal.refresh-requires
@@ -30,11 +30,24 @@ invariant_of-self g c =
       of_tree = subst (λ (ts : List Tree). SameFront (held g.A.Analyser.items types) ts (known_front types)) there.tree c.refresh.ensures.front;
     }
 
-pub returns-clause-lexes : goal.returns-clause-lexes
-returns-clause-lexes g c = λ ps lex. opened c.refresh.result (length ps) c.args.self.now.begun (has_begun c.refresh.new.self) _ _ (subst (λ (b : Bool). (g.C.Counts.tallies c.refresh.new.counts).lexed ≤ (g.C.Counts.tallies c.args.counts.now).lexed + opening (length ps) b) (ap (λ (h : Held). h.begun) c.self.view_is) (c.refresh.ensures.lexed ps lex)) c.refresh.ensures.begun
+pub returns-clause-takes : goal.returns-clause-takes
+returns-clause-takes g c = λ ps lex.
+    let was = ap (λ (h : Held). h.begun) c.self.view_is in
+    let a = g.C.Counts.tallies c.args.counts.now in
+    let b = g.C.Counts.tallies c.refresh.new.counts in
+    both_ok _ _ c.refresh.result
+    (opened c.refresh.result (length ps) c.args.self.now.begun (has_begun c.refresh.new.self) a.lexed b.lexed (subst (λ (x : Bool). b.lexed ≤ a.lexed + opening (length ps) x) was (c.refresh.ensures.lexed ps lex)) c.refresh.ensures.begun)
+    (opened c.refresh.result (length ps) c.args.self.now.begun (has_begun c.refresh.new.self) a.shifted b.shifted (subst (λ (x : Bool). b.shifted ≤ a.shifted + opening (length ps) x) was (c.refresh.ensures.shifted ps lex)) c.refresh.ensures.begun)
 
 pub returns-clause-fails : goal.returns-clause-fails
-returns-clause-fails g c = λ ps lex. opened_in_vain (length ps) c.args.self.now.begun (has_begun c.refresh.new.self) _ _ (subst (λ (b : Bool). (g.C.Counts.tallies c.refresh.new.counts).lexed ≤ (g.C.Counts.tallies c.args.counts.now).lexed + opening (length ps) b) (ap (λ (h : Held). h.begun) c.self.view_is) (c.refresh.ensures.lexed ps lex)) (λ is. c.refresh.ensures.stays_begun (ap (λ (h : Held). h.begun) c.self.view_is ∙ is))
+returns-clause-fails g c = λ ps lex.
+    let was = ap (λ (h : Held). h.begun) c.self.view_is in
+    let a = g.C.Counts.tallies c.args.counts.now in
+    let b = g.C.Counts.tallies c.refresh.new.counts in
+    let stays : c.args.self.now.begun ≡ true → has_begun c.refresh.new.self ≡ true = λ is. c.refresh.ensures.stays_begun (was ∙ is) in (
+      opened_in_vain (length ps) c.args.self.now.begun (has_begun c.refresh.new.self) a.lexed b.lexed (subst (λ (x : Bool). b.lexed ≤ a.lexed + opening (length ps) x) was (c.refresh.ensures.lexed ps lex)) stays,
+      opened_in_vain (length ps) c.args.self.now.begun (has_begun c.refresh.new.self) a.shifted b.shifted (subst (λ (x : Bool). b.shifted ≤ a.shifted + opening (length ps) x) was (c.refresh.ensures.shifted ps lex)) stays,
+    )
 
 pub returns-clause-types : goal.returns-clause-types
 returns-clause-types g c =

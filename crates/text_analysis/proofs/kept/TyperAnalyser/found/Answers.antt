@@ -1,11 +1,15 @@
 use Rattle.std.proofs.Common.{refl, arith}
-use Rattle.std.proofs.Math.Logic.{∥∥₁_map}
+use mathlib.Core.Bool.{Bool-set}
+use Rattle.std.proofs.Math.Logic.{∥∥₁_elim, ∥∥₁_map}
 use Rattle.text_analysis.specs.Items.{views_of}
 use Rattle.text_analysis.proofs.PointLaws.{points_fronts}
+use Rattle.text_analysis.proofs.Refused.{items_refused}
+use Rattle.text_analysis.proofs.Silent.{items_silent}
+use Rattle.prelude_checks.proofs.Prelude.{first_names, is_first}
 use Rattle.text_analysis.proofs.kept.TyperAnalyser.found.Goals as goal
 
-pub returns : goal.returns
-returns c =
+pub returns-clause-found : goal.returns-clause-found
+returns-clause-found c =
     let t = c.args.self.now in
     record {
       store = refl;
@@ -27,3 +31,9 @@ returns c =
         end = refl;
       });
     }
+
+pub returns-clause-silent : goal.returns-clause-silent
+returns-clause-silent c = λ typable. ∥∥₁_elim c.args.self.now.known (Bool-set _ _) (λ k. items_silent k.3.ends.given k.2 typable)
+
+pub returns-clause-refused : goal.returns-clause-refused
+returns-clause-refused c = λ lets. ∥∥₁_map c.args.self.now.known (λ k. items_refused k.3.ends.given k.2 c.len-nodes.ensures.plain first_names is_first lets)

@@ -13,5 +13,6 @@ invariant-loop-k g l =
     (views_of l.self.items.items ≡ take l.k (views_of l.items))
     × ((g.C.Counts.tallies l.counts).typed ≡ more_typed (l.k - l.place) (g.C.Counts.tallies l.fn.counts).typed)
     × ((g.C.Counts.tallies l.counts).lexed ≡ (g.C.Counts.tallies l.fn.counts).lexed)
+    × ((g.C.Counts.tallies l.counts).shifted ≡ (g.C.Counts.tallies l.fn.counts).shifted)
     × Grows (g.C.Counts.tallies l.fn.counts) (g.C.Counts.tallies l.counts)
     × ((first : Parts) (env : List Entry) → AreTyped first env l.fn.self → AreTyped first env l.self)

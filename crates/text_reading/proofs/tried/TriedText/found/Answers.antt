@@ -19,4 +19,4 @@ pub returns-clause-found : goal.returns-clause-found
 returns-clause-found g c =
     let typer = c.in-Some-Some.typer.now in
     let holds = bound_items (g.A.Analyser.items typer) (trees_in c.self.inside.kept.tokens) (known g.A.Analyser.items c.self.inside.types) c.in-Some-Some.ensures' c.self.invariant.are in
-    (typer, holds ∙ sym c.in-Some-Some.ensures.tree, c.found.ensures)
+    (typer, holds ∙ sym c.in-Some-Some.ensures.tree, c.found.ensures.found)

@@ -51,14 +51,14 @@ returns-clause-tries g c =
     let are = items_parsed c.args.text.now tree (subst (λ (t : List ℕ). IsParsedAs t tree) own (parsed_as kept.text (toks_of kept.tokens) tree c.in-Some.ensures.lexed c.in-Some.ensures.tree c.in-Some.ensures.faults)) in
     let begun = c.follow.ensures.begun ∙ c.outdate.ensures.begun ∙ ap (λ (t : Tried). t.begun) c.self.view_is ∙ c.take.ensures.typer.0 in
     let holds = c.follow.ensures.stays ∙ c.outdate.ensures.stays ∙ ap (λ (t : Tried). t.holds) c.self.view_is ∙ c.take.ensures.typer.1 in
-    let read = read_most c.args.text.now c.self.inside.kept.text c.self.inside.kept.changed a b (ap (λ (t : Tried). t.text) c.self.view_is ∙ c.in_ok-take.ensures.text) c.follow.ensures.idle c.follow.ensures.work in
+    let read = read_most c.args.text.now c.self.inside.kept.text c.self.inside.kept.changed a b (ap (λ (t : Tried). t.text) c.self.view_is ∙ c.in_ok-take.ensures.text) c.follow.ensures.idle c.follow.ensures.work c.follow.ensures.shifted in
     tries_refreshed g.A.Analyser.items c.refresh.result g.A.Analyser.opens c.args.text.now kept.text (is_none kept.changed && is_some (known g.A.Analyser.items c.refresh.new.self)) c.args.self.now c.follow.new.self c.refresh.new.self tree a b (g.C.Counts.tallies c.refresh.new.counts)
-    are holds begun c.refresh.ensures.known c.refresh.ensures.typed c.refresh.ensures.failed c.follow.ensures.untyped read c.refresh.ensures.stays_begun c.refresh.ensures.lexed
+    are holds begun c.refresh.ensures.known c.refresh.ensures.typed c.refresh.ensures.failed c.follow.ensures.untyped read c.refresh.ensures.stays_begun c.refresh.ensures.lexed c.refresh.ensures.shifted
 
 pub returns-in_err-take-clause-tries : goal.returns-in_err-take-clause-tries
 returns-in_err-take-clause-tries g c =
     let a = g.C.Counts.tallies c.args.counts.now in
-    tries_idle g.A.Analyser.opens c.args.text.now c.args.self.now c.take.new.self a a c.take.ensures.typer refl (λ ts lex. omega arith)
+    tries_idle g.A.Analyser.opens c.args.text.now c.args.self.now c.take.new.self a a c.take.ensures.typer refl (λ ts lex. (omega arith, omega arith))
 
 pub returns-in_err-follow-clause-tries : goal.returns-in_err-follow-clause-tries
 returns-in_err-follow-clause-tries g c =
@@ -68,6 +68,6 @@ returns-in_err-follow-clause-tries g c =
     let types = c.follow.new.self in
     let begun = c.follow.ensures.begun ∙ c.outdate.ensures.begun ∙ ap (λ (t : Tried). t.begun) c.self.view_is ∙ c.take.ensures.typer.0 in
     let holds = c.follow.ensures.stays ∙ c.outdate.ensures.stays ∙ ap (λ (t : Tried). t.holds) c.self.view_is ∙ c.take.ensures.typer.1 in
-    let read = read_most c.args.text.now c.self.inside.kept.text c.self.inside.kept.changed a b (ap (λ (t : Tried). t.text) c.self.view_is ∙ c.in_ok-take.ensures.text) c.follow.ensures.idle c.follow.ensures.work in
+    let read = read_most c.args.text.now c.self.inside.kept.text c.self.inside.kept.changed a b (ap (λ (t : Tried). t.text) c.self.view_is ∙ c.in_ok-take.ensures.text) c.follow.ensures.idle c.follow.ensures.work c.follow.ensures.shifted in
     let new : Tried = record { text = kept.text; begun = has_begun types; ready = is_none kept.changed && is_some (known g.A.Analyser.items types); holds = held g.A.Analyser.items types } in
     tries_idle g.A.Analyser.opens c.args.text.now c.args.self.now new a b (begun, holds) c.follow.ensures.untyped read

@@ -1,0 +1,2 @@
+-- The faults of the types and names of a text.
+pub mod Refused

@@ -1,0 +1,86 @@
+-- The demands of a text that aren't kept: where each stands, and which kind of fault it is.
+use Rattle.std.specs.Prelude.{◌≡◌, ℕ, ◌<◌, ◌^◌, Bool, true, false, List, [], ◌∷◌, All, if◌then◌else◌}
+use Rattle.token_model.specs.Kinds.{Tok}
+use Rattle.token_model.specs.Tokens.{Lex}
+use Rattle.tree_model.specs.Trees.{Place, Tree, size_of}
+use Rattle.query_model.specs.Faults.{TyperKind, TyperFault}
+use Rattle.query_model.specs.Faults as fault
+use Rattle.signature_model.specs.Entries.{Environment}
+use Rattle.typing_model.specs.Demands.{Site, Complaint, unbound, arity, no_label, not_mutable, incomplete, twice, one_side, too_large, cyclic, differs, no_functor, no_abstract_type, Demand, equal, test, agrees, matches, closes, Condition, same, instance, made, known, demand, treated, AllHold}
+use Rattle.typing_model.specs.Contexts.{Choice}
+use Rattle.typing_model.specs.Typings.{conditions_of, IsKept, IsPrincipal}
+use Rattle.typing_model.specs.First.{program_items, IsFirst}
+use Rattle.typing_model.specs.Plain.{has_lets_alone}
+
+-- the kind of fault that a complaint is
+abbrev pub kind_of_complaint : Complaint → TyperKind
+kind_of_complaint (unbound w x) = fault.bound
+kind_of_complaint (arity x n m) = fault.arity
+kind_of_complaint no_label = fault.label
+kind_of_complaint (not_mutable x) = fault.mutable
+kind_of_complaint (incomplete x) = fault.complete
+kind_of_complaint (twice x) = fault.unique
+kind_of_complaint (one_side x) = fault.sides
+kind_of_complaint too_large = fault.range
+kind_of_complaint (cyclic x) = fault.cycle
+kind_of_complaint (differs x) = fault.reexport
+kind_of_complaint no_functor = fault.functor
+kind_of_complaint (no_abstract_type x n) = fault.with
+
+-- the kind of fault that a demand is where it isn't kept
+abbrev pub kind_asked : Demand → TyperKind
+kind_asked (equal t u) = fault.equal
+kind_asked (test c b) = kind_of_complaint c
+kind_asked (agrees c n s t) = kind_of_complaint c
+kind_asked (matches A t) = fault.matching
+kind_asked (closes env s) = fault.closing
+
+-- where a fault stands, and of which kind it is
+pub record Refused : Type 0 where
+  pub at : Place
+  pub kind : TyperKind
+
+-- the demands that aren't kept, in order
+abbrev pub refused_of : (Site → Bool) → List Condition → List Refused
+refused_of kept [] = []
+refused_of kept (same t u ∷ cs) = refused_of kept cs
+refused_of kept (instance s t ∷ cs) = refused_of kept cs
+refused_of kept (made n t ∷ cs) = refused_of kept cs
+refused_of kept (known t ∷ cs) = refused_of kept cs
+refused_of kept (demand s at d ∷ cs) = if kept s then refused_of kept cs else record { at = at; kind = kind_asked d } ∷ refused_of kept cs
+refused_of kept (treated n env ∷ cs) = refused_of kept cs
+
+-- whether a kind is that of a warning
+abbrev pub is_warning : TyperKind → Bool
+is_warning fault.missed = true
+is_warning fault.unused = true
+is_warning _ = false
+
+-- the places and kinds of what is told, but for the warnings among it
+abbrev pub standing : List TyperFault → List Refused
+standing [] = []
+standing (f ∷ fs) = if is_warning f.kind then standing fs else record { at = f.span; kind = f.kind } ∷ standing fs
+
+-- items of a text that are `let` and `;;` alone, each of fewer than 2^32 nodes
+pub record AreOfLets (items : List Tree) : Type 0 where
+  pub tokens : List Tok
+  pub parsed : items ≡ program_items tokens
+  pub few : All (λ t. size_of t < 2 ^ 32) items
+  pub lets : has_lets_alone items ≡ true
+
+-- the same of the items of a text
+pub record IsOfLets (text : List ℕ) : Type 0 where
+  pub tokens : List Tok
+  pub lexed : Lex text tokens
+  pub items : AreOfLets (program_items tokens)
+
+-- What of the faults of items is fixed by a principal typing with the kept demands: the place and the kind of each, in the order of the demands.
+pub record AreRefused (items : List Tree) (faults : List Refused) : Type 0 where
+  pub env : Environment
+  pub first : IsFirst env
+  pub kept : Site → Bool
+  pub keeps : IsKept env items kept
+  pub choice : Choice
+  pub principal : IsPrincipal env items kept choice.type_at
+  pub holds : AllHold kept (conditions_of env items kept choice)
+  pub are : faults ≡ refused_of kept (conditions_of env items kept choice)

@@ -1,0 +1,36 @@
+use Rattle.std.proofs.Common.{◌≡◌, ◌∙◌, Bool, true, List, [], ◌∷◌, refl, sym, ap, subst}
+use Rattle.std.proofs.Math.Path.{fun_ext}
+use Rattle.tree_model.specs.Rows.{Row, let_row, break_row}
+use Rattle.tree_model.specs.Trees.{Tree, node}
+use Rattle.signature_model.specs.Entries.{Environment}
+use Rattle.typing_model.specs.Contexts.{Choice}
+use Rattle.typing_model.specs.Demands.{Site}
+use Rattle.typing_model.specs.Plain.{is_let_row, is_plain_row, has_lets_alone, has_no_modules}
+use Rattle.typing_model.specs.Typings.{conditions_of, IsKept}
+use Rattle.fault_model.specs.Refused.{refused_of}
+use Rattle.typing_laws.proofs.Bools.{no_yes, and_cases, and_both}
+use Rattle.typing_laws.proofs.Decided.{are_one}
+use Rattle.typing_laws.proofs.QuietTexts.{no_closings}
+use Rattle.demand_laws.proofs.Texts.{refused_alike}
+use Rattle.prelude_checks.proofs.Ones.{firsts_one}
+use Rattle.prelude_checks.proofs.faults_of_lets_are_one.Goals as goal
+
+row_plain : (r : Row) → is_let_row r ≡ true → is_plain_row r ≡ true
+row_plain let_row e = refl
+row_plain break_row e = refl
+row_plain _ e = absurd (no_yes e)
+
+plain : (ts : List Tree) → has_lets_alone ts ≡ true → has_no_modules ts ≡ true
+plain [] e = refl
+plain (node r x ps ∷ ts) e = let (first, others) = and_cases (is_let_row r) (has_lets_alone ts) e in and_both (is_plain_row r) (has_no_modules ts) (row_plain r first) (plain ts others)
+
+-- from one environment, with the same demands kept
+one : (items : List Tree) (env : Environment) (kept others : Site → Bool) (ch choice : Choice) → has_lets_alone items ≡ true → IsKept env items kept → IsKept env items others → refused_of kept (conditions_of env items kept ch) ≡ refused_of others (conditions_of env items others choice)
+one items env kept others ch choice lets k o =
+    let same : kept ≡ others = fun_ext (are_one env items kept others k o (λ s x y same. absurd (no_yes (sym (no_closings env items kept (plain items lets) s) ∙ x)))) in
+    ap (λ k. refused_of k (conditions_of env items k ch)) same ∙ refused_alike env items lets others ch choice
+
+pub returns : goal.returns
+returns c = λ items faults others lets f g.
+    let here : IsKept f.env items g.kept = subst (λ E. IsKept E items g.kept) (sym (firsts_one f.env g.env f.first g.first)) g.keeps in
+    f.are ∙ one items f.env f.kept g.kept f.choice g.choice lets f.keeps here ∙ ap (λ E. refused_of g.kept (conditions_of E items g.kept g.choice)) (firsts_one f.env g.env f.first g.first) ∙ sym g.are

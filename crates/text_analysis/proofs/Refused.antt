@@ -1,0 +1,162 @@
+-- The faults of items that are `let` and `;;` alone: those of the demands that aren't kept, in order.
+use Rattle.std.proofs.Common.{◌≡◌, ◌∙◌, ◌⊎◌, inl, inr, ℕ, ◌<◌, ◌^◌, Bool, true, false, Option, None, Some, List, [], ◌∷◌, ◌++◌, map, refl, sym, ap, subst, arith, if◌then◌else◌}
+use Rattle.std.specs.Prelude.{All}
+use Rattle.std.proofs.lemmas.List.Elements.{All-head, All-tail}
+use Rattle.tree_model.specs.Rows as rows
+use Rattle.tree_model.specs.Rows.{Row}
+use Rattle.tree_model.specs.Trees.{Tree, node, size_of}
+use Rattle.signature_model.specs.Entries.{Environment}
+use Rattle.typing_laws.proofs.Bools.{no_yes, and_cases}
+use Rattle.typing_model.specs.First.{IsFirst}
+use Rattle.typing_model.specs.Plain.{is_let_row, has_lets_alone}
+use Rattle.typing_model.specs.Typings.{conditions_of}
+use Rattle.type_nodes.specs.Nodes.{IsPlain}
+use Rattle.typing_model.specs.Demands.{Site, Complaint, Demand, equal, test, agrees, matches, closes, Condition, same, instance, made, known, demand, treated}
+use Rattle.typing_model.specs.Demands as complaint
+use Rattle.fault_model.specs.Refused as fault
+use Rattle.fault_model.specs.Refused.{kind_of_complaint, kind_asked, Refused, refused_of, standing, AreOfLets, AreRefused}
+use Rattle.env_table.specs.declared.entries.Entry.{Entry}
+use Rattle.env_table.specs.declared.faults.Fault.{Fault}
+use Rattle.env_table.specs.declared.faults.FaultKind.{FaultKind}
+use Rattle.env_table.specs.declared.faults.FaultKind.TheVariants as kind
+use Rattle.analysis_api.specs.Faults as api
+use Rattle.env_table.specs.declared.seen.Seen.{Seen}
+use Rattle.typed_index.specs.Seen.{seen_at}
+use Rattle.typing_state.specs.declared.parts.Parts.{Parts}
+use Rattle.typing_state.specs.Goes.{faults_of}
+use Rattle.typing_conditions.specs.Sights.{Report}
+use Rattle.typing_conditions.specs.Hiding.{ArePlaced}
+use Rattle.typing_conditions.specs.Judging.{kind_of, kind_of_demand, TellBy, TellAll}
+use Rattle.typing_steps.specs.States.{is_warning, report_of, reports_of, sight, is_noted, type_in}
+use Rattle.typing_steps.proofs.Schemes.{plain_nodes}
+use Rattle.typing_rows.specs.Noted.{AreNoted}
+use Rattle.site_laws.proofs.Texts.{AreSmall}
+use Rattle.text_laws.proofs.Orderly.{lets_orderly}
+use Rattle.text_laws.proofs.Kept.{met, text_kept}
+use Rattle.text_laws.proofs.Principal.{sure_principal}
+use Rattle.typing_conditions.proofs.Adequate.{kept_of}
+use Rattle.module_steps.specs.declared.scenes.Scene.{Scene}
+use Rattle.module_typing.specs.Items.{AllKeep}
+use Rattle.text_analysis.specs.Given.{operands_of, Given, Opens}
+use Rattle.text_analysis.proofs.Silent.{lets_are_carried}
+
+-- a report by its place and kind alone
+abbrev refused_at : Report → Refused
+refused_at r = record { at = r.at; kind = api.kind_of r.kind }
+
+complaint_kind : (c : Complaint) → api.kind_of (kind_of c) ≡ kind_of_complaint c
+complaint_kind (complaint.unbound w x) = refl
+complaint_kind (complaint.arity x n m) = refl
+complaint_kind complaint.no_label = refl
+complaint_kind (complaint.not_mutable x) = refl
+complaint_kind (complaint.incomplete x) = refl
+complaint_kind (complaint.twice x) = refl
+complaint_kind (complaint.one_side x) = refl
+complaint_kind complaint.too_large = refl
+complaint_kind (complaint.cyclic x) = refl
+complaint_kind (complaint.differs x) = refl
+complaint_kind complaint.no_functor = refl
+complaint_kind (complaint.no_abstract_type x n) = refl
+
+demand_kind : (d : Demand) → api.kind_of (kind_of_demand d) ≡ kind_asked d
+demand_kind (equal t u) = refl
+demand_kind (test c b) = complaint_kind c
+demand_kind (agrees c n s t) = complaint_kind c
+demand_kind (matches A t) = refl
+demand_kind (closes env s) = refl
+
+-- the reports of conditions are what isn't kept of them
+told_refused : (kept : Site → Bool) (cs : List Condition) (rs : List Report) → TellAll kept cs rs → map refused_at rs ≡ refused_of kept cs
+told_refused kept [] rs h = ap (map refused_at) h
+told_refused kept (same t u ∷ cs) rs h = told_refused kept cs rs h
+told_refused kept (instance s t ∷ cs) rs h = told_refused kept cs rs h
+told_refused kept (made n t ∷ cs) rs h = told_refused kept cs rs h
+told_refused kept (known t ∷ cs) rs h = told_refused kept cs rs h
+told_refused kept (demand s at d ∷ cs) rs h = by (λ us told. told_refused kept cs us told) (kept s) h
+  where
+    by : ((us : List Report) → TellAll kept cs us → map refused_at us ≡ refused_of kept cs) → (k : Bool) → TellBy k at d (λ later. TellAll kept cs later) rs → map refused_at rs ≡ (if k then refused_of kept cs else record { at = at; kind = kind_asked d } ∷ refused_of kept cs)
+    by others true h = others rs h
+    by others false (r, later, is, of, rest) =
+        let here : refused_at r ≡ record { at = at; kind = kind_asked d } = (λ i. record { at = of.place i; kind = (ap api.kind_of of.kind ∙ demand_kind d) i }) in
+        ap (map refused_at) is ∙ (λ i. here i ∷ others later rest i)
+told_refused kept (treated n env ∷ cs) rs h = told_refused kept cs rs h
+
+-- what is told but for warnings are the reports, by place and kind alone
+warnings_alike : (k : FaultKind) → fault.is_warning (api.kind_of k) ≡ is_warning k
+warnings_alike kind.Bound = refl
+warnings_alike kind.Equal = refl
+warnings_alike kind.Arity = refl
+warnings_alike kind.Label = refl
+warnings_alike kind.Mutable = refl
+warnings_alike kind.Complete = refl
+warnings_alike kind.Unique = refl
+warnings_alike kind.Sides = refl
+warnings_alike kind.Range = refl
+warnings_alike kind.Cycle = refl
+warnings_alike kind.Reexport = refl
+warnings_alike kind.Functor = refl
+warnings_alike kind.With = refl
+warnings_alike kind.Closing = refl
+warnings_alike kind.Match = refl
+warnings_alike kind.Missed = refl
+warnings_alike kind.Unused = refl
+
+reports_stand : (fs : List Fault) → standing (map api.typer_fault_of fs) ≡ map refused_at (reports_of fs)
+reports_stand [] = refl
+reports_stand (f ∷ fs) = ap (λ b. if b then standing (map api.typer_fault_of fs) else refused_at (report_of f) ∷ standing (map api.typer_fault_of fs)) (warnings_alike f.kind) ∙ by (is_warning f.kind) (reports_stand fs)
+  where
+    by : (b : Bool) → standing (map api.typer_fault_of fs) ≡ map refused_at (reports_of fs) → (if b then standing (map api.typer_fault_of fs) else refused_at (report_of f) ∷ standing (map api.typer_fault_of fs)) ≡ map refused_at (if b then reports_of fs else report_of f ∷ reports_of fs)
+    by true others = others
+    by false others = ap (λ rs. refused_at (report_of f) ∷ rs) others
+
+-- no item is too large
+are_small : (ts : List Tree) → All (λ t. size_of t < 2 ^ 32) ts → AreSmall ts
+are_small [] few = tt
+are_small (t ∷ ts) few = (let lt = All-head (λ u. size_of u < 2 ^ 32) t ts few in omega arith, are_small ts (All-tail (λ u. size_of u < 2 ^ 32) t ts few))
+
+-- items that are `let` and `;;` alone leave it open to say that all is known of names
+all_keep : (ts : List Tree) → has_lets_alone ts ≡ true → AllKeep (operands_of ts)
+all_keep [] e = tt
+all_keep (node r x ps ∷ ts) e = let (first, others) = and_cases (is_let_row r) (has_lets_alone ts) e in (by r first, all_keep ts others)
+  where
+    by : (r : Row) → is_let_row r ≡ true → (r ≡ rows.let_row) ⊎ (r ≡ rows.break_row)
+    by rows.let_row h = inl refl
+    by rows.break_row h = inr refl
+    by _ h = absurd (no_yes h)
+
+-- Numbers in an item are below 2^32.
+all_placed : (at : Parts) → ArePlaced (sight at)
+all_placed at = record {
+  noted = λ i p h. noted_low i p (seen_at at.index i p) refl h;
+  recorded = λ i p m e. typed_low i p m (seen_at at.index i p) refl e;
+}
+  where
+    noted_low : (i p : ℕ) (o : Option Seen) → seen_at at.index i p ≡ o → is_noted o ≡ true → p < 2 ^ 32
+    noted_low i p None e h = absurd (no_yes h)
+    noted_low i p (Some z) e h = at.index.low i p z e
+
+    typed_low : (i p m : ℕ) (o : Option Seen) → seen_at at.index i p ≡ o → type_in o ≡ Some m → p < 2 ^ 32
+    typed_low i p m None e h = absurd (let z : None ≡ Some m = h in cc)
+    typed_low i p m (Some z) e h = at.index.low i p z e
+
+-- So where items that are `let` and `;;` alone were typed from the state after the prelude, the faults are those of the demands that aren't kept, each at its place and of its kind.
+pub items_refused : {first : Parts} {env : List Entry} {items : List Tree} {last : Parts} {now : Scene} → Given first env items last now → Opens first env → IsPlain last.store.nodes → (names : Environment) → IsFirst names → AreOfLets items → AreRefused items (standing (map api.typer_fault_of (faults_of last)))
+items_refused {first} {env} {items} {last} {now} given o plain names is_first t =
+    let at = o.starts names is_first in
+    let outside = at.starts.outside in
+    let noted : AreNoted outside.older first = subst (λ U. AreNoted U first) (sym at.starts.older) at.noted in
+    let done = (given [] (λ ch. names) (lets_are_carried items t) o.aloud outside at.constants noted).done in
+    let sure = done.clear (at.known, all_keep items t.lets) (all_placed last) in
+    let (h, principal) = sure_principal {env = names} {text = items} done.carried done.owners at.untyped outside.sound t.lets (are_small items t.few) (plain_nodes last.store.nodes plain) sure (all_placed last) in
+    let orderly = lets_orderly {env = names} {text = items} t.lets in
+    let meets = met h in
+    record {
+      env = names;
+      first = is_first;
+      kept = kept_of done.carried.judged;
+      keeps = text_kept orderly h;
+      choice = h.choice;
+      principal = principal;
+      holds = meets.holds;
+      are = reports_stand (faults_of last) ∙ ap (map refused_at) (h.carried.reports ∙ ap (λ rs. rs ++ h.carried.told) at.quiet) ∙ told_refused (kept_of done.carried.judged) (conditions_of names items (kept_of done.carried.judged) h.choice) h.carried.told meets.tells;
+    }
